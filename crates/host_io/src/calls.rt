@@ -5,9 +5,8 @@ ghost use Rattle.base_core.specs.Counts.{Rose};
 ghost use Rattle.host_io.specs.Calls.{IsListed, counted, failed, passed, unused};
 ghost use Rattle.host_io.specs.Causes.{HasCause};
 
-use std::marker::Model;
-
 use crate::stops::Failed;
+use std::marker::Model;
 
 /// Numbers calls from 1 on. Those whose number is listed fail.
 #[derive(Debug, Drop)]

@@ -3,17 +3,16 @@
 ghost use Rattle.std.specs.Prelude.{◌≡◌, ◌≤◌, None};
 ghost use Rattle.base_core.specs.Counts.{Rose};
 
-use std::fs;
-use std::io::{self, Read, Seek, SeekFrom};
-use std::fs::OpenFile;
-use std::marker::Model;
-
 use crate::files::Files;
 use crate::stops::{Failed, WriteStop};
+use std::fs::OpenFile;
+use std::io::{Read, Seek, SeekFrom};
+use std::marker::Model;
+use std::{fs, io};
 
 /// The files of the system. They tell nothing of their contents. Each error is a fault, and so are
 /// a name that no file has, and a range outside the file.
-#[derive(Drop)]
+#[derive(Debug, Drop)]
 pub struct HostFiles<R> {
     rt: R,
     faults: u64,

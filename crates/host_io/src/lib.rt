@@ -10,6 +10,8 @@ mod memory_files;
 mod sink;
 mod source;
 mod stops;
+#[cfg(test)]
+mod tests;
 
 pub use files::Files;
 pub use host_files::HostFiles;

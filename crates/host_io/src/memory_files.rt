@@ -6,12 +6,11 @@ ghost use Rattle.host_io.specs.Causes.{HasCause, HasWriteCause};
 ghost use Rattle.host_io.specs.Contents.{ChangesOnly, HasRange, Holds, TellsRange, TellsSize, bytes_in, pairs_of, place_in};
 ghost use Rattle.host_io.specs.declared.stops.WriteStop.TheVariants as stop;
 
-use std::alloc::{AllocError, Global};
-use std::marker::Model;
-
 use crate::calls::CallCounter;
 use crate::files::Files;
 use crate::stops::{Failed, WriteStop};
+use std::alloc::{AllocError, Global};
+use std::marker::Model;
 
 // The place of a name, or the number of files.
 fn place(files: &[(String, Vec<u8>)], name: &str) -> usize
@@ -61,7 +60,7 @@ fn put_bytes(
 }
 
 /// Files in memory.
-#[derive(Drop)]
+#[derive(Debug, Drop)]
 pub struct MemoryFiles {
     alloc: Global,
     files: Vec<(String, Vec<u8>)>,

@@ -8,12 +8,11 @@ ghost use Rattle.host_io.specs.Causes.{HasCause, HasWriteCause};
 ghost use Rattle.host_io.specs.Contents.{StopsAt};
 ghost use Rattle.host_io.specs.declared.stops.WriteStop.TheVariants as stop;
 
+use crate::calls::CallCounter;
+use crate::stops::{Failed, WriteStop};
 use std::alloc::Global;
 use std::io::Write;
 use std::marker::Model;
-
-use crate::calls::CallCounter;
-use crate::stops::{Failed, WriteStop};
 
 /// A place for bytes.
 pub trait Sink {
@@ -129,14 +128,9 @@ impl<W: Write> StdSink<W> {
         ensures cause { HasCause self.old.faults self.new.faults result }
     {
         match self.writer.write(piece) {
-            Ok(count) => {
-                if count != 0 {
-                    return Ok(count);
-                }
-            }
-            Err(_) => {}
+            Ok(count) if count > 0 => Ok(count),
+            _ => Err(self.fail()),
         }
-        Err(self.fail())
     }
 
     // Sends on what the writer has kept back.

@@ -6,11 +6,10 @@ ghost use Rattle.std.specs.Io.KnownBytes.{ReadConsumes};
 ghost use Rattle.host_io.specs.Calls.{IsListed, counted, unused};
 ghost use Rattle.host_io.specs.Causes.{HasCause};
 
-use std::io::Read;
-use std::marker::Model;
-
 use crate::calls::CallCounter;
 use crate::stops::Failed;
+use std::io::Read;
+use std::marker::Model;
 
 /// Bytes that come in pieces.
 pub trait Source {

@@ -3,9 +3,8 @@
 ghost use Rattle.std.specs.Prelude.{◌≡◌};
 ghost use Rattle.host_io.specs.declared.stops.WriteStop.TheVariants as stop;
 
-use std::alloc::AllocError;
-
 use base_core::NoMemory;
+use std::alloc::AllocError;
 
 /// A call on the outside failed, and its object counted a fault.
 #[derive(Clone, Copy, Debug, PartialEq, Eq)]
