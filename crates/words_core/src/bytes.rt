@@ -2,7 +2,7 @@
 ghost use Rattle.std.specs.Prelude.{◌≡◌, IfOk, option_map};
 ghost use Rattle.fwu_model.specs.Script.{bytes_of};
 
-use crate::names::is;
+use crate::names::is_word;
 use base_core::NoMemory;
 use hex::FromHexError;
 use std::alloc::Global;
@@ -11,7 +11,7 @@ use std::alloc::Global;
 pub fn hex_bytes(alloc: Global, word: &[u8]) -> Result<Option<Vec<u8>>, NoMemory>
     ensures { IfOk result (λ found. option_map (λ v. v.items) found ≡ bytes_of word.now) }
 {
-    if is(word, b"-") {
+    if is_word(word, b"-") {
         return Ok(Some(Vec::new(alloc)));
     }
     if word.is_empty() {

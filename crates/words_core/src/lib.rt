@@ -6,7 +6,7 @@ mod names;
 mod numbers;
 
 pub use bytes::hex_bytes;
-pub use names::{guid_named, is_file_name};
+pub use names::{guid_named, guid_spelled, is_file_name, is_word};
 pub use numbers::number;
 
 #[cfg(test)]

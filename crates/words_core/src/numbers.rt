@@ -2,7 +2,7 @@
 ghost use Rattle.std.specs.Prelude.{◌≡◌, ◌≤◌, length};
 ghost use Rattle.fwu_model.specs.Script.{digits_value, number_of};
 
-use crate::names::is;
+use crate::names::is_word;
 use itoa::Buffer;
 
 fn value_of(word: &[u8]) -> u64
@@ -27,7 +27,7 @@ pub fn number(word: &[u8]) -> Option<u32>
         return None;
     };
     let mut digits = Buffer::new();
-    if is(word, digits.format(value).as_bytes()) {
+    if is_word(word, digits.format(value).as_bytes()) {
         Some(value)
     } else {
         None
