@@ -85,7 +85,7 @@ module _ (L : Layout) (m : Meta) (fits : IsTrue (fits_meta L m)) where
 
 -- ---- what is read is of the layout
 
-same-Ok : {X F : Type 0} (x y : X) → ◌≡◌ {A = Result X F} (Ok x) (Ok y) → x ≡ y
+pub same-Ok : {X F : Type 0} (x y : X) → ◌≡◌ {A = Result X F} (Ok x) (Ok y) → x ≡ y
 same-Ok x y e = cc
 
 bits-length : (L : Layout) (from : ℕ) (block : List ℕ) (bank : ℕ) → length (bits_from L from block bank) ≡ length L.rows

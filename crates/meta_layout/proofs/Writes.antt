@@ -105,7 +105,7 @@ entry-bytes L m image row rows banks is same lt count =
     ap (λ (r : ImageRow). r.guid) (is ∙ get_or_default rows image row none lt ∙ ap (λ l. get_or l image none) same) in
     rw (guid, count) refl
 
-map-last : (xs : List BankState) (x : BankState) → map state_byte (xs ++ x ∷ []) ≡ map state_byte xs ++ state_byte x ∷ []
+pub map-last : (xs : List BankState) (x : BankState) → map state_byte (xs ++ x ∷ []) ≡ map state_byte xs ++ state_byte x ∷ []
 map-last [] x = refl
 map-last (y ∷ xs) x = ap (λ l. state_byte y ∷ l) (map-last xs x)
 
