@@ -7,3 +7,4 @@ pub mod Metas
 pub mod Writes
 pub mod Firsts
 pub mod OneSpelling
+pub mod Same

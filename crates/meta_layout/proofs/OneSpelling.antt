@@ -1,16 +1,18 @@
 -- What is read in version 2 has one spelling: the bytes of a block follow from the value.
-use Rattle.std.proofs.Common.{◌≡◌, ℕ, zero, suc, ◌+◌, ◌-◌, ◌*◌, ◌/◌, ◌%◌, ◌<◌, ◌≤◌, ◌⊎◌, inl, inr, Bool, true, false, not, ◌&&◌, ◌||◌, ◌==◌, IsTrue, ltb, eqb, eqb-true, ltb-true, ltb-false, List, [], ◌∷◌, ◌++◌, length, get_or, take, drop, drop-cons, map, replicate, Result, Ok, Err, refl, sym, ap, subst, ◌∙◌, arith, length-drop, zero-add}
+use Rattle.std.proofs.Common.{◌≡◌, ℕ, zero, suc, ◌+◌, ◌-◌, ◌*◌, ◌/◌, ◌%◌, ◌<◌, ◌≤◌, ◌⊎◌, inl, inr, Bool, true, false, not, ◌&&◌, ◌||◌, ◌==◌, IsTrue, ltb, leb, leb-true, eqb, eqb-true, ltb-true, ltb-false, List, [], ◌∷◌, ◌++◌, length, get_or, take, drop, drop-cons, map, replicate, Result, Ok, Err, refl, sym, ap, subst, ◌∙◌, arith, length-drop, zero-add}
 use Rattle.std.specs.Prelude.{flat_map, nat_lt}
 use Rattle.std.specs.List.{list_all, range_with_len}
 use Rattle.std.proofs.Math.Nat.{suc-mul}
 use Rattle.std.proofs.Math.Seq.{take-add}
 use Rattle.std.proofs.lemmas.Bool.{and_parts, and_from, not-false, cond_both, cases_lt}
 use Rattle.std.proofs.lemmas.List.{drop-drop, length-take-le, get_or-take, get_or-drop}
-use Rattle.std.proofs.lemmas.List.FromFn.{get_or-map-range_with_len, map-range_with_len_more}
+use Rattle.std.proofs.lemmas.List.FromFn.{get_or-map-range_with_len, length-map-range_with_len, map-range_with_len_more}
 use Rattle.base_core.specs.Bytes.{num, le, num_at, part, same_bytes, listed, are_bytes}
 use Rattle.base_core.specs.Crc.{crc}
 use Rattle.base_core.proofs.Spelled.{same_is}
-use Rattle.fwu_model.specs.Layout.{Layout, ImageRow, nil_guid, fits_layout}
+use Rattle.fwu_model.specs.Layout.{Layout, nil_guid, fits_layout, blocks_needed, layout_magic, layout_of, layout_at, layout_size, layout_body, layout_bytes, row_bytes, has_zeros}
+use Rattle.fwu_model.specs.declared.kinds.LayoutFault.{LayoutFault}
+use Rattle.meta_layout.specs.Rows.{row_at}
 use Rattle.fwu_model.specs.Metadata.{Meta, MetaRead, meta_of, meta_bytes, meta_body, meta_size, meta_size_v1, entry_size, entry_place, entry_bytes, entries_bytes, bit_at, bit_number, bits_from, has_bank_entry, has_entry, has_entries, has_states, has_indices, has_fields, header_fields, is_state_byte, state_byte, state_of_byte, meta_at, meta_at_v1, read_v2, read_v1, fits_v2, fits_v1}
 use Rattle.fwu_model.specs.declared.kinds.BankState.{BankState}
 use Rattle.fwu_model.specs.declared.kinds.MetaFault.{MetaFault}
@@ -40,9 +42,9 @@ le-num (b ∷ bytes) h =
     let high : (b + 256 * num bytes) / 256 ≡ num bytes = omega (arith, small) in
     rw (low, high) (ap (λ l. b ∷ l) (le-num bytes both.1))
 
-all-erased : (bytes : List ℕ) → IsTrue (list_all (λ b. b == 0xFF) bytes) → bytes ≡ replicate (length bytes) 0xFF
-all-erased [] h = refl
-all-erased (b ∷ bytes) h = let both = and_parts (b == 0xFF) _ h in let first = eqb-true b 0xFF both.0 in let rest = all-erased bytes both.1 in cc
+all-one : (v : ℕ) (bytes : List ℕ) → IsTrue (list_all (λ b. b == v) bytes) → bytes ≡ replicate (length bytes) v
+all-one v [] h = refl
+all-one v (b ∷ bytes) h = let both = and_parts (b == v) _ h in let first = eqb-true b v both.0 in let rest = all-one v bytes both.1 in cc
 
 small-bit : (v : ℕ) → v < 2 → bit_number (v == 1) ≡ v
 small-bit zero h = refl
@@ -129,7 +131,7 @@ module _ (block : List ℕ) (bytes : IsTrue (are_bytes block)) where
       let n : 28 - (24 + banks) ≡ 4 - banks = omega arith in
       let erased : IsTrue (list_all (λ b. b == 0xFF) (take (4 - banks) (drop (24 + banks) block))) = subst (λ (k : ℕ). IsTrue (list_all (λ b. b == 0xFF) (take k (drop (24 + banks) block)))) n h in
       let long : length (take (4 - banks) (drop (24 + banks) block)) ≡ 4 - banks = length-take-le (4 - banks) (drop (24 + banks) block) (omega (arith, length-drop (24 + banks) block, room, few)) in
-      all-erased _ erased ∙ ap (λ k. replicate k 0xFF) long
+      all-one 0xFF _ erased ∙ ap (λ k. replicate k 0xFF) long
 
   module _ (L : Layout) (fits : IsTrue (fits_layout L)) (room : meta_size L ≤ length block) where
     abbrev m : Meta
@@ -246,3 +248,76 @@ one-spelling L m block fits bytes e =
         let f = was_not_refused (not (fits_v1 L block)) _ _ r d.1 in
         let forms : 1 ≡ 2 = ap (λ (x : MetaRead). x.form) (same-Ok {F = MetaFault} (record { form = 1; meta = meta_at_v1 L block }) r f.1) in
         omega (arith, forms)
+
+-- ---- layouts
+
+flat-map : {X Y : Type 0} (f : Y → List ℕ) (g : X → Y) (xs : List X) → flat_map f (map g xs) ≡ flat_map (λ x. f (g x)) xs
+flat-map f g [] = refl
+flat-map f g (x ∷ xs) = ap (λ l. f (g x) ++ l) (flat-map f g xs)
+
+module _ (block : List ℕ) (bytes : IsTrue (are_bytes block)) (images : ℕ) (few : images ≤ 16) (room : 32 + 24 * images ≤ length block) where
+  row-spelled : (i : ℕ) → i < images → num_at 4 block (52 + 24 * i) ≡ 0 → take 24 (drop (32 + i * 24) block) ≡ row_bytes (row_at block i)
+  row-spelled i lt zeros =
+      let p = 32 + 24 * i in
+      let place : 32 + i * 24 ≡ p = omega arith in
+      let slots : num_at 4 block (p + 16) ≡ num_at 4 block (48 + 24 * i) = ap (num_at 4 block) (omega arith) in
+      let rest : num_at 4 block (p + 20) ≡ 0 = ap (num_at 4 block) (omega arith) ∙ zeros in
+      ap (λ (k : ℕ). take 24 (drop k block)) place
+      ∙ next-num block bytes p 20 4 0 (take 16 (drop p block) ++ le 4 (num_at 4 block (48 + 24 * i))) (omega (arith, lt, room))
+      (next-num block bytes p 16 4 (num_at 4 block (48 + 24 * i)) (take 16 (drop p block)) (omega (arith, lt, room)) refl slots) rest
+
+  rows-spelled : IsTrue (list_all (λ i. num_at 4 block (52 + 24 * i) == 0) (range_with_len 0 images)) → take (images * 24) (drop 32 block) ≡ flat_map row_bytes (listed images (row_at block))
+  rows-spelled zeros =
+      pieces block bytes (λ i. row_bytes (row_at block i)) 32 24 images (λ i lt. row-spelled i lt (eqb-true _ 0 (at-range (λ k. num_at 4 block (52 + 24 * k) == 0) 0 images i zeros (omega arith) (omega (arith, lt)))))
+      ∙ flat-map (λ i. row_bytes (row_at block i)) (λ (k : ℕ). k) (range_with_len 0 images) ∙ sym (flat-map row_bytes (row_at block) (range_with_len 0 images))
+
+  layout_body-spelled : num_at 4 block 4 ≡ layout_magic → num_at 4 block 12 ≡ images → num_at 4 block 16 ≡ 32 + 24 * images → IsTrue (has_zeros block) → part block 4 (32 + 24 * images) ≡ layout_body (layout_at block)
+  layout_body-spelled magic count size zeros =
+      let L = layout_at block in
+      let z = and_parts (list_all (λ b. b == 0) (part block 20 32)) _ zeros in
+      let gap : part block 20 32 ≡ replicate 12 0 = all-one 0 (part block 20 32) z.0 ∙ ap (λ k. replicate k 0) (length-take-le 12 (drop 20 block) (omega (arith, length-drop 20 block, room))) in
+      let rows : length L.rows ≡ images = length-map-range_with_len (row_at block) 0 (num_at 4 block 12) ∙ count in
+      let whole : 32 + 24 * images ≡ layout_size L = omega (arith, rows) in
+      let a = next-num block bytes 4 0 4 layout_magic [] (omega (arith, room)) refl magic in
+      let b = next-num block bytes 4 4 4 L.banks _ (omega (arith, room)) a refl in
+      let c = next-num block bytes 4 8 4 (length L.rows) _ (omega (arith, room)) b (count ∙ sym rows) in
+      let d = next-num block bytes 4 12 4 (layout_size L) _ (omega (arith, room)) c (size ∙ whole) in
+      let e = next block bytes 4 16 12 _ (replicate 12 0) d gap in
+      let zero-rows : IsTrue (list_all (λ i. num_at 4 block (52 + 24 * i) == 0) (range_with_len 0 images)) = subst (λ (k : ℕ). IsTrue (list_all (λ i. num_at 4 block (52 + 24 * i) == 0) (range_with_len 0 k))) count z.1 in
+      let f = next block bytes 4 28 (images * 24) _ (flat_map row_bytes L.rows) e (rows-spelled zero-rows ∙ ap (λ (k : ℕ). flat_map row_bytes (listed k (row_at block))) (sym count)) in
+      let n : 32 + 24 * images - 4 ≡ 28 + images * 24 = omega arith in
+      ap (λ (k : ℕ). take k (drop 4 block)) n ∙ f
+
+  layout_block-spelled : num_at 4 block 4 ≡ layout_magic → num_at 4 block 12 ≡ images → num_at 4 block 16 ≡ 32 + 24 * images → num_at 4 block 0 ≡ crc (part block 4 (32 + 24 * images)) → IsTrue (has_zeros block)
+      → take (layout_size (layout_at block)) block ≡ layout_bytes (layout_at block)
+  unfolding layout_bytes
+  layout_block-spelled magic count size sum zeros =
+      let L = layout_at block in
+      let body = layout_body-spelled magic count size zeros in
+      let rows : length L.rows ≡ images = length-map-range_with_len (row_at block) 0 (num_at 4 block 12) ∙ count in
+      let n : layout_size L ≡ 4 + (32 + 24 * images - 4) = omega (arith, rows) in
+      ap (λ (k : ℕ). take k block) n ∙ take-add 4 (32 + 24 * images - 4) block
+      ∙ ap (λ l. l ++ part block 4 (32 + 24 * images)) (field block bytes 0 4 (omega (arith, room)) ∙ ap (le 4) (sum ∙ ap crc body)) ∙ ap (λ l. le 4 (crc (layout_body L)) ++ l) body
+
+-- a layout has one spelling
+pub one-layout-spelling : (L : Layout) (blocks : ℕ) (block : List ℕ) → IsTrue (are_bytes block) → layout_of block blocks ≡ Ok L → take (layout_size L) block ≡ layout_bytes L
+unfolding layout_of
+one-layout-spelling L blocks block bytes e =
+    let images = num_at 4 block 12 in
+    let size = num_at 4 block 16 in
+    let a = was_not_refused (ltb (length block) 32) _ _ L e in
+    let b = was_not_refused (not (num_at 4 block 4 == layout_magic)) _ _ L a.1 in
+    let c = was_not_refused (not (leb 2 images && leb images 16 && (size == 32 + 24 * images))) _ _ L b.1 in
+    let d = was_not_refused (ltb (length block) size) _ _ L c.1 in
+    let f = was_not_refused (not (num_at 4 block 0 == crc (part block 4 size))) _ _ L d.1 in
+    let g = was_not_refused (not (fits_layout (layout_at block) && has_zeros block)) _ _ L f.1 in
+    let h = was_not_refused (ltb blocks (blocks_needed (layout_at block))) _ _ L g.1 in
+    let same : layout_at block ≡ L = same-Ok {F = LayoutFault} (layout_at block) L h.1 in
+    let sized = and_parts (leb 2 images && leb images 16) (eqb size (32 + 24 * images)) (not-false _ c.0) in
+    let is = eqb-true size (32 + 24 * images) sized.1 in
+    let few = leb-true images 16 (and_parts (leb 2 images) (leb images 16) sized.0).1 in
+    let room = ltb-false (length block) size d.0 in
+    let sum : num_at 4 block 0 ≡ crc (part block 4 (32 + 24 * images)) = eqb-true _ _ (not-false _ f.0) ∙ ap (λ (k : ℕ). crc (part block 4 k)) is in
+    let zeros = (and_parts (fits_layout (layout_at block)) (has_zeros block) (not-false _ g.0)).1 in
+    subst (λ (x : Layout). take (layout_size x) block ≡ layout_bytes x) same
+    (layout_block-spelled block bytes images few (omega (arith, is, room)) (eqb-true _ layout_magic (not-false _ b.0)) refl is sum zeros)

@@ -16,7 +16,7 @@ mod rows;
 mod write;
 
 pub use fwu_model::{BankState, LayoutFault, MetaFault};
-pub use laws::metadata_has_one_spelling;
+pub use laws::{layouts_have_one_spelling, metadata_has_one_spelling};
 pub use layout::Layout;
 pub use lists::{BankBits, Bits, States};
 pub use meta::Meta;

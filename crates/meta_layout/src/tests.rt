@@ -179,7 +179,7 @@ fn the_first_metadata_of_two_banks_has_its_bytes(rt: HostRuntime) -> Result<(), 
     );
     assert_eq!(rt; &block[280..288], [0xff; 8].as_slice());
     let again = Meta::read(&layout, &block).ok().ok_or("not read")?;
-    assert!(rt; again == meta);
+    assert!(rt; again.is(&meta));
     block[26] = 0xfc;
     assert_eq!(rt; Meta::read(&layout, &block).err(), Some(MetaFault::BadCrc));
     Ok(())
@@ -209,7 +209,7 @@ fn the_first_metadata_of_three_banks_has_its_bytes(rt: HostRuntime) -> Result<()
     let mut again = Meta::read(&layout, &block).ok().ok_or("not read")?;
     assert_eq!(rt; again.form(), 1);
     again.migrate();
-    assert!(rt; again == meta);
+    assert!(rt; again.is(&meta));
     Ok(())
 }
 
@@ -277,8 +277,8 @@ fn each_part_is_set_alone(rt: HostRuntime) -> Result<(), Fail> {
         (true, false, true)
     );
     states.set(1, BankState::Invalid);
-    assert!(rt; *meta.states() == states);
-    assert!(rt; *meta.bits() != all);
+    assert!(rt; meta.states().is(&states));
+    assert!(rt; !meta.bits().is(&all));
     assert_eq!(rt; (states.len(), all.len(), bits.len()), (2, 2, 2));
     Ok(())
 }
