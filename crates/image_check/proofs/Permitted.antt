@@ -1,6 +1,6 @@
 -- Good verdicts and permitted packages.
-use Rattle.std.proofs.Common.{◌≡◌, ℕ, suc, ◌+◌, ◌-◌, ◌≤◌, ◌<◌, Bool, true, false, ◌&&◌, List, [], ◌∷◌, length, get_or, take, Result, Ok, Err, Option, Some, None, is_none, is_ok, refl, sym, ap, ◌∙◌, subst, arith, add-one, eqb, eq-eqb, leb, leb-true, le-leb, ltb}
-use Rattle.std.proofs.lemmas.Bool.{and_parts, and_from, cond_both, le-ltb, ltb-false}
+use Rattle.std.proofs.Common.{◌≡◌, ℕ, suc, ◌+◌, ◌-◌, ◌≤◌, ◌<◌, Bool, true, false, ◌&&◌, List, [], ◌∷◌, length, get_or, take, Result, Ok, Err, Option, Some, None, is_none, is_ok, refl, sym, ap, ◌∙◌, subst, arith, add-one, eqb, eq-eqb, inl, inr, leb, leb-true, le-leb, ltb}
+use Rattle.std.proofs.lemmas.Bool.{cases_Bool, and_parts, and_from, cond_both, le-ltb, ltb-false}
 use Rattle.std.proofs.lemmas.List.{length-take-le}
 use Rattle.std.proofs.lemmas.List.FromFn.{length-map-range_with_len}
 use Rattle.std.proofs.lemmas.Option.{same_Some}
@@ -9,14 +9,15 @@ use Rattle.base_core.specs.Bytes.{num_at, listed}
 use Rattle.fwu_model.specs.Layout.{Layout, fits_layout}
 use Rattle.fwu_model.specs.Manifest.{Row, Manifest, manifest_of, manifest_at, manifest_size, row_at, all_paired, is_image_of, is_complete, version, manifest_part}
 use Rattle.fwu_model.specs.Flash.{slot, images_in, package_by, package_in}
-use Rattle.fwu_model.specs.Sound.{Setting, is_permitted}
+use Rattle.fwu_model.specs.Sound.{Setting, is_permitted, holds_permitted}
 use Rattle.fwu_model.specs.declared.kinds.ManifestFault.{ManifestFault}
 use Rattle.fwu_model.proofs.SealLaws.{limits}
 use Rattle.manifest_core.proofs.InTurn.{of_front, num_front}
 use Rattle.manifest_core.proofs.Passed.{manifest_passed}
 use Rattle.image_check.specs.declared.bank.Verdict.TheVariants as verdict
 use Rattle.image_check.specs.Verdict.{lowest_bad, by_images, by_manifest, has_image, verdict_on}
-use Rattle.image_check.specs.Law.{GoodIsPermitted, PermittedIsGood}
+use Rattle.image_check.specs.Law.{GoodIsHeld, GoodIsPermitted, PermittedIsGood, may_start}
+use Rattle.image_check.specs.declared.bank.Verdict.{Verdict}
 
 -- ---- a package is complete where no image is bad
 
@@ -149,3 +150,36 @@ good E counter image bank v fits e = from-good E counter image bank v fits (mani
 pub permitted : PermittedIsGood
 unfolding verdict_on package_in
 permitted E counter image bank v fits h = from-permitted E counter image bank v fits (manifest_of E.layout.rows (slot E.layout image bank 0)) refl h.0 h.1 h.2 h.3
+
+-- ---- the same as a test
+
+started : (w : Verdict) → may_start w ≡ true → (v : ℕ) × (w ≡ verdict.Good v)
+started (verdict.Good v) h = (v, refl)
+started verdict.BadManifest h = absurd cc
+started verdict.NotAccepted h = absurd cc
+started (verdict.BadImage image) h = absurd cc
+started (verdict.BelowCounter v counter) h = absurd cc
+
+held-parts : (E : Setting) (counter : ℕ) (o : Option (List (List ℕ))) → holds_permitted E counter o ≡ true → (p : List (List ℕ)) × (o ≡ Some p) × IsTrue (is_permitted E counter p)
+held-parts E counter None h = absurd cc
+held-parts E counter (Some p) h = (p, refl, h)
+
+pub held : GoodIsHeld
+held E counter image bank fits =
+    let w = verdict_on E.passes counter E.layout image bank in
+    let o = package_in E.layout image bank in
+    elim (cases_Bool (may_start w)) [
+      | inl yes-good ↦
+          let said = started w yes-good in
+          let h = good E counter image bank said.0 fits said.1 in
+          yes-good ∙ sym (ap (holds_permitted E counter) h.1 ∙ h.2)
+      | inr not-good ↦
+          elim (cases_Bool (holds_permitted E counter o)) [
+            | inl holds ↦
+                let h = held-parts E counter o holds in
+                let says = permitted E counter image bank (version h.0) fits (h.0, h.1, h.2, refl) in
+                let yes-good : may_start w ≡ true = ap may_start says in
+                absurd cc
+            | inr holds-not ↦ not-good ∙ sym holds-not
+          ]
+    ]
