@@ -1,5 +1,5 @@
 -- What each exit of `store` leaves: one replica after the other.
-use Rattle.std.proofs.Common.{◌≡◌, inl, inr, ℕ, ◌+◌, ◌*◌, ◌≤◌, List, length, Some, sym, ◌∙◌, ap, arith, IsTrue}
+use Rattle.std.proofs.Common.{◌≡◌, inl, inr, ℕ, ◌+◌, ◌*◌, ◌≤◌, List, length, Some, ◌∙◌, ap, arith, IsTrue}
 use Rattle.std.proofs.lemmas.Result.{on_ok_weaker}
 use Rattle.std.specs.Prelude.{Result, Ok, Err, OnOk}
 use Rattle.base_core.specs.Block.{block}
@@ -10,7 +10,6 @@ use Rattle.flash_core.specs.Replaces.{padded, IsOldOrNew, IsSettled, Replaces}
 use Rattle.flash_core.proofs.Calls.{keeps_wider, keeps_then, block_kept, now_kept, quiet_fresh}
 use Rattle.fwu_model.specs.Layout.{Layout, fits_layout}
 use Rattle.fwu_model.specs.Metadata.{Meta, MetaRead, meta_read, fits_meta, replica_bytes}
-use Rattle.fwu_model.specs.Flash.{deciding}
 use Rattle.fwu_model.specs.Replica.{BothHold, Decides, in_version}
 use Rattle.replicas.specs.Stores.{IsBetween, IsBacked, WritesBoth, Stores}
 use Rattle.replicas.proofs.Reading.{by_zero, by_one, deciding_of, unread, replica_read}

@@ -1,9 +1,8 @@
 -- When two values of metadata are found equal: lists in arrays are compared by their lengths and by the arrays.
-use Rattle.std.proofs.Common.{◌≡◌, ℕ, ◌-◌, suc, zero, ◌&&◌, Bool, true, false, List, [], ◌∷◌, ◌++◌, length, replicate, refl, sym, ap, ◌∙◌, arith, subst, eqb, eqb-true, eq-eqb, IsTrue}
+use Rattle.std.proofs.Common.{◌≡◌, ℕ, ◌-◌, ◌&&◌, Bool, true, List, [], ◌∷◌, ◌++◌, length, replicate, refl, sym, ap, ◌∙◌, arith, subst, eqb, eqb-true, eq-eqb, IsTrue}
 use Rattle.std.proofs.lemmas.Bool.{and_parts, and_from}
 use lib.Pointwise.{pointwise}
 use Rattle.fwu_model.specs.declared.kinds.BankState.{BankState}
-use Rattle.fwu_model.specs.declared.kinds.BankState.TheVariants.{Invalid, Valid, Accepted}
 use Rattle.fwu_model.specs.Metadata.{MetaRead}
 
 -- the test tells what is equal

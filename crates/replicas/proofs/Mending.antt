@@ -1,24 +1,24 @@
 -- What each exit of `repair` leaves.
-use Rattle.std.proofs.Common.{◌≡◌, ◌⊎◌, inl, inr, ℕ, ◌+◌, ◌*◌, ◌≤◌, List, length, Option, Some, None, refl, sym, ◌∙◌, ap, arith, IsTrue}
+use Rattle.std.proofs.Common.{◌≡◌, inl, inr, ℕ, ◌≤◌, List, length, Option, Some, None, refl, sym, ◌∙◌, ap, arith, IsTrue}
 use Rattle.std.proofs.lemmas.Option.{same_Some}
 use Rattle.std.proofs.lemmas.Result.{on_ok_weaker}
 use Rattle.std.specs.Prelude.{Result, Ok, Err, OnOk}
 use Rattle.base_core.specs.Block.{block}
 use Rattle.flash_core.specs.declared.flash.FlashStop.{FlashStop}
 use Rattle.flash_core.specs.Told.{Told}
-use Rattle.flash_core.specs.May.{May, Guards, Keeps, Quiet}
+use Rattle.flash_core.specs.May.{May, Guards, Quiet}
 use Rattle.flash_core.specs.Replaces.{IsOldOrNew, IsSettled, Replaces}
 use Rattle.flash_core.proofs.Calls.{keeps_same, block_quiet, keeps_wider, keeps_then, block_kept, now_kept, guards_kept, quiet_fresh}
 use Rattle.fwu_model.specs.Layout.{Layout, fits_layout}
 use Rattle.fwu_model.specs.Metadata.{MetaRead, meta_read}
 use Rattle.fwu_model.specs.Flash.{deciding}
 use Rattle.fwu_model.specs.Replica.{BothHold, Decides, in_version}
-use Rattle.replicas.specs.Stores.{IsBacked, WritesBoth}
+use Rattle.replicas.specs.Stores.{WritesBoth}
 use Rattle.replicas.specs.Which.{Loads}
 use Rattle.replicas.specs.Repairs.{Repairs}
 use Rattle.replicas.specs.declared.which.Which.TheVariants.{Same, RepairZero, RepairOne, MigrateZero, MigrateOne}
 use Rattle.replicas.proofs.Reading.{by_zero, by_one, deciding_of, unread}
-use Rattle.replicas.proofs.Both.{quiet_zero, quiet_one, guard_zero, guard_one, zero_either, written_either, written_both}
+use Rattle.replicas.proofs.Both.{quiet_zero, quiet_one, guard_zero, written_either, written_both}
 
 -- metadata of version 2 is what is written of it
 as_two : (r : MetaRead) → r.form ≡ 2 → in_version 2 r.meta ≡ r

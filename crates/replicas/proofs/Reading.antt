@@ -1,7 +1,6 @@
 -- What reads as metadata, and what decides.
-use Rattle.std.proofs.Common.{◌≡◌, ◌⊎◌, inl, inr, cond, ℕ, Bool, true, false, List, ◌++◌, length, replicate, Option, Some, None, Result, Ok, Err, refl, sym, ap, subst, ◌∙◌, IsTrue, append_assoc}
-use Rattle.std.proofs.lemmas.Bool.{cases_Bool}
-use Rattle.std.specs.Prelude.{not, ◌==◌, ◌-◌, ◌%◌, nat_lt, ◌<◌}
+use Rattle.std.proofs.Common.{◌≡◌, inl, inr, cond, ℕ, Bool, true, false, List, ◌++◌, length, replicate, Option, Some, None, Result, Ok, Err, refl, sym, ap, subst, ◌∙◌, IsTrue, append_assoc}
+use Rattle.std.specs.Prelude.{not, ◌==◌, ◌-◌, ◌%◌}
 use Rattle.base_core.specs.Bytes.{num_at, part}
 use Rattle.base_core.specs.Crc.{crc}
 use Rattle.base_core.specs.Block.{block, blank}

@@ -4,6 +4,8 @@
 mod loading;
 mod repairing;
 mod storing;
+#[cfg(test)]
+mod tests;
 mod which;
 
 pub use loading::load;
