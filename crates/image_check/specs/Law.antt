@@ -1,0 +1,21 @@
+-- A bank is good exactly where it holds a complete package that is permitted.
+use Rattle.std.specs.Prelude.{◌≡◌, ℕ, List, Some, IsTrue}
+use Rattle.fwu_model.specs.Layout.{fits_layout}
+use Rattle.fwu_model.specs.Manifest.{version}
+use Rattle.fwu_model.specs.Flash.{package_in}
+use Rattle.fwu_model.specs.Sound.{Setting, is_permitted}
+use Rattle.image_check.specs.declared.bank.Verdict.TheVariants.{Good}
+use Rattle.image_check.specs.Verdict.{verdict_on}
+
+-- the bank holds a permitted package of this version
+abbrev pub HoldsPermitted : Setting → ℕ → List ℕ → ℕ → ℕ → Type 0
+HoldsPermitted E counter image bank v =
+    (p : List (List ℕ)) × (package_in E.layout image bank ≡ Some p) × IsTrue (is_permitted E counter p) × (version p ≡ v)
+
+abbrev pub GoodIsPermitted : Type 0
+GoodIsPermitted = (E : Setting) (counter : ℕ) (image : List ℕ) (bank v : ℕ) → IsTrue (fits_layout E.layout)
+    → verdict_on E.passes counter E.layout image bank ≡ Good v → HoldsPermitted E counter image bank v
+
+abbrev pub PermittedIsGood : Type 0
+PermittedIsGood = (E : Setting) (counter : ℕ) (image : List ℕ) (bank v : ℕ) → IsTrue (fits_layout E.layout)
+    → HoldsPermitted E counter image bank v → verdict_on E.passes counter E.layout image bank ≡ Good v
