@@ -139,7 +139,8 @@ impl<D: Flash> Booted<D> {
         self.lengths.get(image as usize)
     }
 
-    /// The device, which is on, the layout, and the metadata that decides. Interim: not both replicas need hold that metadata.
+    /// The device, which is on, the layout, and the metadata that decides.
+    // Interim: not both replicas need hold that metadata, and it may be of version 1.
     pub fn into_parts(self) -> (D, Layout, Meta)
         ensures device { result.0 ≡ device self }
         ensures power { IsTrue (D.on result.0) }

@@ -11,10 +11,11 @@ use crate::showing::{Unshown, read_shown};
 use flash_core::{Flash, FlashStop};
 use verify_core::Verifier;
 
-// Interim: each bank on trial counts as started so often, and so is never started. Else it is the number that the flash shows.
+// Interim: an active bank on trial counts as started so often, whatever the flash shows, and so is never started.
 const TRIED: u32 = 3;
 
-/// The flash stopped the boot. Interim: nothing was written before, so there are no numbers.
+/// The flash stopped the boot.
+// Interim: nothing was written before, so there are no numbers.
 fn stopped<D: Flash>(flash: D, stop: FlashStop) -> BootEnd<D>
     ensures device { device_of result ≡ flash }
     ensures ended { ended result ≡ stopped_by stop }
@@ -42,6 +43,7 @@ pub fn boot<D: Flash, V: Verifier>(flash: D, verifier: &V) -> BootEnd<D>
     ensures content { IsTrue D.tells → D.told (device_of result) ≡ D.told flash }
     // On any flash that tells its content, sound or not: which end it is.
     ensures by_bytes { IsTrue D.tells → EndsByBytes (V.passes verifier.now) (D.told flash).now (ended result) }
+    // Interim: a stop has no numbers.
     ensures unwritten { StopsUnwritten (ended result) }
 {
     let mut flash = flash;
