@@ -4,13 +4,18 @@
 
 mod entries;
 mod reader;
+mod faults;
+mod frame;
 mod laws;
+mod outline;
 mod read;
 mod stream;
 mod toc;
 
 pub use entries::{Entries, Entry};
+pub use faults::{PackFault, PackStop};
 pub use laws::fronts_decide;
+pub use outline::Outline;
 pub use read::{payload_at, read_toc};
 pub use stream::StreamToc;
 pub use toc::{Toc, TocStop};
