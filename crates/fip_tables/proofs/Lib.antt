@@ -9,3 +9,4 @@ pub mod Feeding
 pub mod Firsts
 pub mod Plans
 pub mod Filled
+pub mod Zeros
