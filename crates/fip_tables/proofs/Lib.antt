@@ -6,3 +6,7 @@ pub mod Ends
 pub mod Stand
 pub mod Told
 pub mod Feeding
+pub mod Firsts
+pub mod Plans
+pub mod Filled
+pub mod Zeros

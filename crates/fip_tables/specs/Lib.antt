@@ -3,3 +3,5 @@ pub mod Decoded
 pub mod Files
 pub mod Stream
 pub mod Law
+pub mod Packing
+pub mod Frame

@@ -4,13 +4,21 @@
 
 mod entries;
 mod reader;
+mod faults;
+mod frame;
 mod laws;
+mod outline;
+mod payloads;
 mod read;
 mod stream;
 mod toc;
 
 pub use entries::{Entries, Entry};
+pub use faults::{PackFault, PackStop};
+pub use frame::Frame;
 pub use laws::fronts_decide;
+pub use outline::Outline;
+pub use payloads::{Part, Parts, pack};
 pub use read::{payload_at, read_toc};
 pub use stream::StreamToc;
 pub use toc::{Toc, TocStop};

@@ -1,0 +1,44 @@
+//! Why parts are not packed.
+
+ghost use Rattle.std.specs.Prelude.{◌≡◌};
+ghost use Rattle.fip_tables.specs.declared.faults.PackStop.TheVariants as stop;
+
+use std::alloc::AllocError;
+
+/// Why parts cannot be packed, the first fault.
+#[derive(Clone, Copy, Debug, PartialEq, Eq)]
+pub enum PackFault {
+    /// More than 64 parts.
+    TooMany,
+    /// The lowest part that has the type of an earlier one.
+    Duplicate(u32),
+    /// The lowest part that has the nil UUID.
+    NilGuid(u32),
+    /// The alignment is no power of two from 1 to 4096.
+    BadAlign,
+    /// The package would have more than 67,108,864 bytes.
+    TooLarge,
+}
+
+/// Why no package was made.
+#[derive(Clone, Copy, Debug, PartialEq, Eq)]
+pub enum PackStop {
+    Fault(PackFault),
+    NoMemory,
+}
+
+impl From<PackFault> for PackStop {
+    ghost from_gives = { λ fault result. result ≡ stop.Fault fault };
+
+    fn from(fault: PackFault) -> PackStop {
+        PackStop::Fault(fault)
+    }
+}
+
+impl From<AllocError> for PackStop {
+    ghost from_gives = { λ _ result. result ≡ stop.NoMemory };
+
+    fn from(_: AllocError) -> PackStop {
+        PackStop::NoMemory
+    }
+}

@@ -1,0 +1,79 @@
+//! Packages made from payloads in memory.
+
+ghost use Rattle.std.specs.Prelude.{◌≡◌, Some, None, Err, IfOk, OnOk, map};
+ghost use Rattle.fwu_model.specs.Package.{packed};
+ghost use Rattle.fip_tables.specs.Packing.{pack_fault, zeroed};
+ghost use Rattle.fip_tables.specs.declared.faults.PackFault.{PackFault};
+ghost use Rattle.fip_tables.specs.declared.faults.PackStop.TheVariants as stop;
+
+use crate::faults::PackStop;
+use crate::frame::Frame;
+use crate::outline::Outline;
+use base_core::Guid;
+use std::alloc::{AllocError, Global};
+use std::marker::Model;
+
+/// A payload with its type and its flags.
+#[derive(Debug, Drop)]
+pub struct Part {
+    pub guid: Guid,
+    pub flags: u64,
+    pub bytes: Vec<u8>,
+}
+
+impl Model for Part {
+    ghost use Rattle.fwu_model.specs.Package.{Part as Payload};
+
+    ghost Value = { Payload };
+
+    ghost view = { λ p. record { guid = p.guid; flags = p.flags; bytes = p.bytes.items } };
+}
+
+/// What a package is made of. Its serial number is not to be zero: no reader takes such a package.
+#[derive(Debug, Drop)]
+pub struct Parts {
+    pub serial: u32,
+    pub flags: u64,
+    pub parts: Vec<Part>,
+}
+
+impl Part {
+    // The part by the size of its payload.
+    fn outline(&self) -> Outline
+        ensures { result ≡ zeroed self.now }
+    {
+        Outline {
+            guid: self.guid,
+            flags: self.flags,
+            size: self.bytes.len() as u64,
+        }
+    }
+}
+
+fn outlines(alloc: Global, parts: &[Part]) -> Result<Vec<Outline>, AllocError>
+    ensures { IfOk result (λ v. v.items ≡ map zeroed parts.now) }
+{
+    parts.iter().map(|part| part.outline()).collect(alloc)
+}
+
+/// The package of these parts: each payload begins at the next multiple of the alignment, in bytes.
+pub fn pack(alloc: Global, parts: &Parts, align: u32) -> Result<Vec<u8>, PackStop>
+    ensures ok { IfOk result (λ v. v.items ≡ packed parts.now.serial parts.now.flags parts.now.parts.items align) }
+    ensures fits { OnOk result (pack_fault parts.now.parts.items align ≡ None) }
+    ensures err { (f : PackFault) → result ≡ Err (stop.Fault f) → pack_fault parts.now.parts.items align ≡ Some f }
+{
+    let all = match outlines(alloc, parts.parts.as_slice()) {
+        Ok(all) => all,
+        Err(_) => return Err(PackStop::NoMemory),
+    };
+    let mut frame = match Frame::new(alloc, parts.serial, parts.flags, all.as_slice(), align) {
+        Ok(frame) => frame,
+        Err(stop) => return Err(stop),
+    };
+    let payloads = parts.parts.as_slice();
+    for i in 0..payloads.len() {
+        let part = &payloads[i];
+        frame.put(i, part.bytes.as_slice());
+    }
+    Ok(frame.into_bytes())
+}
