@@ -1,11 +1,11 @@
 -- Metadata that is of a layout: its parts, what is read, and what stays when a part is set.
-use Rattle.std.proofs.Common.{◌≡◌, ℕ, zero, suc, ◌+◌, ◌<◌, Bool, false, not, ◌&&◌, ◌==◌, IsTrue, eq-eqb, eqb-true, List, [], ◌∷◌, length, get_or, set, map, Result, Ok, Err, refl, sym, ap, subst, ◌∙◌, arith, ltb}
-use Rattle.std.specs.Prelude.{IfOk, nat_lt}
+use Rattle.std.proofs.Common.{◌≡◌, ℕ, zero, suc, ◌+◌, ◌<◌, Bool, false, not, ◌==◌, IsTrue, eq-eqb, eqb-true, List, [], ◌∷◌, length, get_or, set, map, Result, Ok, Err, refl, sym, subst, ◌∙◌, arith, ltb}
+use Rattle.std.specs.Prelude.{IfOk}
 use Rattle.std.specs.List.{list_all, range_with_len}
 use Rattle.std.proofs.lemmas.Bool.{and_parts, and_from, lt-ltb, ltb-true, not-false, cond_both}
 use Rattle.std.proofs.lemmas.List.{length-set, length-map}
 use Rattle.std.proofs.lemmas.List.FromFn.{length-map-range_with_len}
-use Rattle.base_core.specs.Bytes.{num_at, part, listed}
+use Rattle.base_core.specs.Bytes.{num_at, part}
 use Rattle.base_core.specs.Crc.{crc}
 use Rattle.fwu_model.specs.Layout.{Layout}
 use Rattle.fwu_model.specs.Metadata.{Meta, MetaRead, fits_meta, meta_of, read_v2, read_v1, meta_at, meta_at_v1, meta_size, meta_size_v1, fits_v2, fits_v1, has_fields, header_fields, has_indices, has_states, has_entries, bits_from, bits_v1, state_at_v1, state_of_byte}
@@ -85,7 +85,7 @@ module _ (L : Layout) (m : Meta) (fits : IsTrue (fits_meta L m)) where
 
 -- ---- what is read is of the layout
 
-same-Ok : {X F : Type 0} (x y : X) → ◌≡◌ {A = Result X F} (Ok x) (Ok y) → x ≡ y
+pub same-Ok : {X F : Type 0} (x y : X) → ◌≡◌ {A = Result X F} (Ok x) (Ok y) → x ≡ y
 same-Ok x y e = cc
 
 bits-length : (L : Layout) (from : ℕ) (block : List ℕ) (bank : ℕ) → length (bits_from L from block bank) ≡ length L.rows

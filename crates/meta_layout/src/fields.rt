@@ -6,24 +6,12 @@ ghost use Rattle.fwu_model.specs.Layout.{fits_layout};
 ghost use Rattle.fwu_model.specs.Metadata.{entry_size, meta_size, meta_size_v1, header_fields, has_fields, has_indices, has_states, is_state_byte, state_of_byte, bits_from, fits_v2, fits_v1};
 ghost use Rattle.meta_layout.specs.Entries.{bit_from, state_from};
 
-use crate::bytes::{byte_at, le16_at};
+use crate::bytes::{all_four, both, byte_at, le16_at};
 use crate::entries::{are_entries, entry_at};
 use crate::layout::Layout;
 use crate::lists::{BankBits, Bits, States};
 use base_core::le32_at;
 use fwu_model::BankState;
-
-fn both(one: bool, other: bool) -> bool
-    ensures { result ≡ (one && other) }
-{
-    one && other
-}
-
-fn all_four(first: bool, second: bool, third: bool, fourth: bool) -> bool
-    ensures { result ≡ (first && second && third && fourth) }
-{
-    first && second && third && fourth
-}
 
 /// The bytes of all entries.
 pub fn entries_size(layout: &Layout) -> usize

@@ -6,6 +6,7 @@ mod bytes;
 mod entries;
 mod fields;
 mod first;
+mod laws;
 mod layout;
 mod lists;
 mod meta;
@@ -15,6 +16,7 @@ mod rows;
 mod write;
 
 pub use fwu_model::{BankState, LayoutFault, MetaFault};
+pub use laws::{layouts_have_one_spelling, metadata_has_one_spelling};
 pub use layout::Layout;
 pub use lists::{BankBits, Bits, States};
 pub use meta::Meta;

@@ -1,5 +1,5 @@
 //! Lists of few elements that take no memory: bits, bank states, rows of bits, image rows.
-ghost use Rattle.std.specs.Prelude.{◌≡◌, ◌+◌, ◌<◌, ◌≤◌, ◌++◌, [], ◌∷◌, false, length, map, slice_index_or, slice_set};
+ghost use Rattle.std.specs.Prelude.{◌≡◌, ◌+◌, ◌<◌, ◌≤◌, ◌++◌, [], ◌∷◌, false, length, map, slice_index_or, slice_set, ◌↔◌, IsTrue};
 ghost use Rattle.std.specs.List.{list_all};
 ghost use Rattle.fwu_model.specs.declared.kinds.BankState.TheVariants.{Invalid};
 
@@ -71,6 +71,13 @@ impl Bits {
         self.bits[image] = bit;
     }
 
+    /// Whether two lists are one.
+    pub fn is(&self, other: &Bits) -> bool
+        ensures { IsTrue result ↔ (self.now ≡ other.now) }
+    {
+        self == other
+    }
+
     /// As many clear bits.
     pub fn cleared(&self) -> Bits
         ensures { result ≡ map (λ bit. false) self.now }
@@ -131,6 +138,13 @@ impl States {
         ensures few { result ≤ 4 }
     {
         self.count
+    }
+
+    /// Whether two lists are one.
+    pub fn is(&self, other: &States) -> bool
+        ensures { IsTrue result ↔ (self.now ≡ other.now) }
+    {
+        self == other
     }
 
     pub fn push(&mut self, state: BankState)
@@ -196,6 +210,13 @@ impl BankBits {
         ensures few { result ≤ 4 }
     {
         self.count
+    }
+
+    /// Whether two lists are one.
+    pub fn is(&self, other: &BankBits) -> bool
+        ensures { IsTrue result ↔ (self.now ≡ other.now) }
+    {
+        self == other
     }
 
     pub fn push(&mut self, bits: Bits)

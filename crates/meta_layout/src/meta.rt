@@ -1,8 +1,9 @@
 //! The metadata of a firmware store as a value: its parts, told and set.
-ghost use Rattle.std.specs.Prelude.{◌≡◌, ◌<◌, ◌≤◌, [], length, slice_index_or, slice_set, IsTrue};
+ghost use Rattle.std.specs.Prelude.{◌≡◌, ◌<◌, ◌≤◌, ◌==◌, [], length, slice_index_or, slice_set, ◌↔◌, IsTrue};
 ghost use Rattle.fwu_model.specs.Layout.{Layout as LayoutValue};
 ghost use Rattle.fwu_model.specs.Metadata.{fits_meta, state_at, bit_at};
 
+use crate::bytes::{all_four, both};
 use crate::lists::{BankBits, Bits, States};
 use fwu_model::BankState;
 use std::marker::Model;
@@ -26,6 +27,12 @@ impl Model for Meta {
     ghost view = { λ m. record { form = m.form; meta = record { active = m.active; previous = m.previous; states = m.states; bits = m.bits } } };
 
     ghost inverse = { λ m. record { form = m.form; active = m.meta.active; previous = m.meta.previous; states = m.meta.states; bits = m.meta.bits } };
+}
+
+fn are_equal(one: u32, other: u32) -> bool
+    ensures { result ≡ (one == other) }
+{
+    one == other
 }
 
 impl Meta {
@@ -99,6 +106,18 @@ impl Meta {
         ensures { result ≡ bit_at self.now.meta bank image }
     {
         self.bits.get(bank as usize).get(image as usize)
+    }
+
+    /// Whether two are one, their versions too.
+    pub fn is(&self, other: &Meta) -> bool
+        ensures { IsTrue result ↔ (self.now ≡ other.now) }
+    {
+        let versions = are_equal(self.form(), other.form());
+        let active = are_equal(self.active(), other.active());
+        let previous = are_equal(self.previous(), other.previous());
+        let states = self.states().is(other.states());
+        let bits = self.bits().is(other.bits());
+        all_four(both(versions, active), previous, states, bits)
     }
 
     /// Makes it that of a block of version 2.

@@ -1,6 +1,5 @@
 use Rattle.std.proofs.Common.{◌++◌, take, ap, ◌∙◌}
 use Rattle.base_core.specs.Bytes.{le}
-use Rattle.fwu_model.specs.Layout.{ImageRow, row_bytes}
 use Rattle.meta_layout.proofs.Writes.{three}
 use Rattle.meta_layout.proofs.rows.put_row.Goals as goal
 

@@ -1,6 +1,6 @@
-use Rattle.std.proofs.Common.{◌≡◌, ◌+◌, ◌*◌, List, length, ap, sym, subst, ◌∙◌, arith, IsTrue}
+use Rattle.std.proofs.Common.{List, sym, subst, IsTrue}
 use Rattle.std.specs.List.{list_all}
-use Rattle.fwu_model.specs.Layout.{ImageRow, is_row, slot_total}
+use Rattle.fwu_model.specs.Layout.{ImageRow, is_row}
 use Rattle.fwu_model.proofs.Written.{rows-fit}
 use Rattle.meta_layout.proofs.layout.Layout.blocks.Goals as goal
 

@@ -1,6 +1,5 @@
-use Rattle.std.proofs.Common.{◌≡◌, ◌+◌, ◌*◌, Bool, List, length, sym, ap, subst, ◌∙◌, arith, IsTrue}
-use Rattle.std.specs.List.{list_all}
-use Rattle.fwu_model.specs.Layout.{Layout, ImageRow, fits_layout, blocks_needed, is_row, slot_total}
+use Rattle.std.proofs.Common.{◌≡◌, ◌+◌, ◌*◌, List, length, sym, ap, subst, ◌∙◌, arith, IsTrue}
+use Rattle.fwu_model.specs.Layout.{Layout, ImageRow, fits_layout, blocks_needed, slot_total}
 use Rattle.fwu_model.proofs.SealLaws.{limits}
 use Rattle.fwu_model.proofs.Written.{rows-fit}
 use Rattle.meta_layout.proofs.Layouts.{fitted-bad, fitted-beyond, fitted-ok}

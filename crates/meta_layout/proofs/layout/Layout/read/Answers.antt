@@ -1,4 +1,4 @@
-use Rattle.std.proofs.Common.{refl, ◌≡◌, ℕ, ◌≤◌, ◌&&◌, ◌==◌, List, length, take, sym, ap, ◌∙◌, arith}
+use Rattle.std.proofs.Common.{refl, ◌≡◌, ℕ, ◌≤◌, ◌&&◌, ◌==◌, List, length, sym, ap, ◌∙◌, arith}
 use Rattle.base_core.specs.Bytes.{num_at, part, listed}
 use Rattle.base_core.specs.Crc.{crc}
 use Rattle.fwu_model.specs.Layout.{Layout, ImageRow, layout_at, are_zero}

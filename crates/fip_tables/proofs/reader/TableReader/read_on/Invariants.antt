@@ -1,0 +1,10 @@
+use Rattle.std.proofs.Common.{◌≡◌, ◌≤◌, ◌<◌, ◌-◌, ◌++◌, ℕ, List, length, take}
+use Rattle.fip_tables.specs.Stream.{Holds, group_size}
+use Rattle.fip_tables.proofs.Kept.{HasReadOn}
+use Rattle.fip_tables.proofs.reader.TableReader.read_on.Given as goal
+
+abbrev pub invariant-loop-at : goal.invariant-loop-at
+invariant-loop-at l = HasReadOn l.fn.self l.self l.piece l.at
+
+abbrev pub decreases-loop-at : goal.decreases-loop-at
+decreases-loop-at l = length l.piece - l.at

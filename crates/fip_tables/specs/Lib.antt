@@ -1,0 +1,5 @@
+pub mod Answers
+pub mod Decoded
+pub mod Files
+pub mod Stream
+pub mod Law
