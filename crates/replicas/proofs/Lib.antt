@@ -1,4 +1,3 @@
-pub mod Equal
 pub mod Reading
 pub mod Both
 pub mod Mending

@@ -1,5 +1,5 @@
 //! Reading the metadata that decides.
-ghost use Rattle.std.specs.Prelude.{◌≡◌, ◌↔◌, ◌<◌, None, is_ok, IsTrue, IsErrOf, IfOk, IfSome, IfNone};
+ghost use Rattle.std.specs.Prelude.{◌≡◌, ◌<◌, None, is_ok, IsTrue, IsErrOf, IfOk, IfSome, IfNone};
 ghost use Rattle.std.specs.Option.{ForSome};
 ghost use Rattle.base_core.specs.Block.{block};
 ghost use Rattle.flash_core.specs.Counts.{Spends};
@@ -36,13 +36,6 @@ pub fn read_replica<D: Flash>(
     }
 }
 
-/// Whether both say the same, in the same version.
-pub fn is_same(meta: &Meta, other: &Meta) -> bool
-    ensures { IsTrue result ↔ (meta.now ≡ other.now) }
-{
-    *meta == *other
-}
-
 /// Which of what the two replicas read as decides, and what is to be done.
 fn decide(zero: Option<Meta>, one: Option<Meta>) -> Option<(Meta, Which)>
     requires zero_form { ForSome zero HasForm }
@@ -64,7 +57,7 @@ fn decide(zero: Option<Meta>, one: Option<Meta>) -> Option<(Meta, Which)>
         return Some((meta, Which::MigrateZero));
     }
     match one {
-        Some(other) if is_same(&other, &meta) => Some((meta, Which::Same)),
+        Some(other) if other.is(&meta) => Some((meta, Which::Same)),
         _ => Some((meta, Which::RepairOne)),
     }
 }

@@ -10,7 +10,7 @@ ghost use Rattle.replicas.specs.Which.{Loads};
 ghost use Rattle.replicas.specs.Repairs.{Repairs};
 ghost use Rattle.replicas.specs.declared.which.Which.TheVariants.{MigrateZero};
 
-use crate::loading::{is_same, read_replica};
+use crate::loading::read_replica;
 use crate::storing::{spell, write_both};
 use crate::which::Which;
 use flash_core::{Flash, FlashStop, replace};
@@ -29,7 +29,7 @@ fn holds<D: Flash>(flash: &mut D, layout: &Layout, meta: &Meta) -> Result<bool, 
     let mut migrated = *meta;
     migrated.migrate();
     match read_replica(flash, layout, 2)? {
-        Some(other) => Ok(is_same(&other, &migrated)),
+        Some(other) => Ok(other.is(&migrated)),
         None => Ok(false),
     }
 }
