@@ -20,7 +20,7 @@ returns-then-all_erased-clause-marks g c tells =
 pub loop-place-preserved : goal.loop-place-preserved
 loop-place-preserved g c = record {
   on = c.in_ok-read.ensures.power;
-  blocks = c.in_ok-read.ensures.size ∙ c.loop-place.invariant.blocks;
+  same_size = c.in_ok-read.ensures.size ∙ c.loop-place.invariant.same_size;
   told = λ tells. c.in_ok-read.ensures.content tells ∙ c.loop-place.invariant.told tells;
   costs = spends_then (Ok tt) (Ok tt) _ _ _ c.loop-place.invariant.costs c.in_ok-read.ensures.counts;
   size = search rules;

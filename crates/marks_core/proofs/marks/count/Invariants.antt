@@ -8,7 +8,7 @@ use Rattle.marks_core.proofs.marks.count.Given as goal
 abbrev pub invariant-loop-place : goal.invariant-loop-place
 invariant-loop-place g l = record {
   on : IsTrue (g.D.Flash.on l.flash);
-  blocks : g.D.Flash.blocks l.flash ≡ g.D.Flash.blocks l.fn.flash;
+  same_size : g.D.Flash.blocks l.flash ≡ g.D.Flash.blocks l.fn.flash;
   told : IsTrue g.D.Flash.tells → g.D.Flash.told l.flash ≡ g.D.Flash.told l.fn.flash;
   costs : Spends {T = Unit {0}} (Ok tt) (g.D.Flash.counts l.fn.flash) (g.D.Flash.counts l.flash);
   size : length l.bytes ≡ 16;

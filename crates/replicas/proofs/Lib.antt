@@ -1,0 +1,4 @@
+pub mod Equal
+pub mod Reading
+pub mod Both
+pub mod Mending
