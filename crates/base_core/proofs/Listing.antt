@@ -1,5 +1,5 @@
 -- Lists of bytes, compared and cut.
-use Rattle.std.proofs.Common.{suc, length-take, get_or, drop, arith, ltb, le-leb, ◌≡◌, ℕ, ◌+◌, ◌<◌, ◌≤◌, Bool, true, false, ◌&&◌, IsTrue, eqb, List, [], ◌∷◌, length, take, refl, ap, sym, ◌∙◌}
+use Rattle.std.proofs.Common.{suc, length-take, get_or, drop, arith, ltb, le-leb, ◌≡◌, ℕ, ◌+◌, ◌<◌, true, ◌&&◌, IsTrue, eqb, List, [], ◌∷◌, length, take, refl, ap}
 use Rattle.std.proofs.lemmas.List.{get_or-take, get_or-drop}
 use Rattle.base_core.specs.Bytes.{same_bytes, are_bytes}
 use lib.Pointwise.{pointwise}

@@ -1,0 +1,6 @@
+pub mod Lookups
+pub mod Choices
+pub mod Shapes
+pub mod Verdicts
+pub mod Endings
+pub mod Exact

@@ -1,0 +1,7 @@
+pub mod AnswerLemmas
+pub mod Refusals
+pub mod SplitLemmas
+pub mod PlainWords
+pub mod Unpacked
+pub mod Distinct
+pub mod FoundLemmas

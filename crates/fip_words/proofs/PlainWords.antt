@@ -1,0 +1,81 @@
+-- Plain words are taken as they stand.
+use Rattle.std.proofs.Common.{◌≡◌, ◌==◌, false, [], ◌∷◌, Some, None, refl, codes, arith}
+use Rattle.std.specs.Str.{bytes_eq}
+use Rattle.std.proofs.lemmas.Bool.Decides.{nat_tests}
+use Rattle.clap.specs.Lexer.{long_of, short_of}
+use Rattle.clap.specs.Words.{Text}
+use Rattle.clap.proofs.OnLiterals.{clap_on_literals}
+use Rattle.fip_words.specs.Order.{asked, create_by, info_by, manifest_by, remove_by, unpack_by, update_by}
+use Rattle.fip_words.specs.Plain.{IsPlain}
+use Rattle.fip_words.specs.Values.{file_named, names_of, number_read, parts_of, rows_of}
+
+-- what `clap` sees of a word that is no flag
+record IsNoFlag (word : Text) : Type 0 where
+  long : long_of word ≡ None
+  short : short_of word ≡ None
+  dashes : bytes_eq word (45 ∷ 45 ∷ []) ≡ false
+
+plain_is_no_flag : (word : Text) → IsPlain word → IsNoFlag word
+plain_is_no_flag [] h = record { long = refl; short = refl; dashes = refl }
+plain_is_no_flag (c ∷ word) h =
+    let other : (c == 45) ≡ false = grind (arith, nat_tests) in
+    record { long = rw other refl; short = rw other refl; dashes = rw other refl }
+
+info_taken : (a : Text) → IsNoFlag a → asked (codes "info" ∷ a ∷ []) ≡ info_by (file_named a)
+unfolding clap_on_literals
+info_taken a p = simp (p.long, p.short, p.dashes)
+
+create_taken : (a b : Text) → IsNoFlag a → IsNoFlag b → asked (codes "create" ∷ a ∷ b ∷ []) ≡ create_by (Some 1) (file_named a) (parts_of (b ∷ []))
+unfolding clap_on_literals
+create_taken a b p q = simp (p.long, p.short, p.dashes) (simp (q.long, q.short, q.dashes))
+
+aligned_taken : (n a b : Text) → IsNoFlag n → IsNoFlag a → IsNoFlag b
+    → asked (codes "create" ∷ codes "--align" ∷ n ∷ a ∷ b ∷ []) ≡ create_by (number_read n) (file_named a) (parts_of (b ∷ []))
+unfolding clap_on_literals
+aligned_taken n a b o p q = simp (o.long, o.short, o.dashes) (simp (p.long, p.short, p.dashes) (rw (q.long, q.short, q.dashes) refl))
+
+update_taken : (a b c : Text) → IsNoFlag a → IsNoFlag b → IsNoFlag c
+    → asked (codes "update" ∷ a ∷ b ∷ c ∷ []) ≡ update_by (Some 1) (file_named a) (file_named b) (parts_of (c ∷ []))
+unfolding clap_on_literals
+update_taken a b c o p q = simp (o.long, o.short, o.dashes) (simp (p.long, p.short, p.dashes) (rw (q.long, q.short, q.dashes) refl))
+
+remove_taken : (a b c : Text) → IsNoFlag a → IsNoFlag b → IsNoFlag c
+    → asked (codes "remove" ∷ a ∷ b ∷ c ∷ []) ≡ remove_by (Some 1) (file_named a) (file_named b) (names_of (c ∷ []))
+unfolding clap_on_literals
+remove_taken a b c o p q = simp (o.long, o.short, o.dashes) (simp (p.long, p.short, p.dashes) (rw (q.long, q.short, q.dashes) refl))
+
+unpack_taken : (a b c : Text) → IsNoFlag a → IsNoFlag b → IsNoFlag c
+    → asked (codes "unpack" ∷ a ∷ b ∷ c ∷ []) ≡ unpack_by (file_named a) (file_named b) (names_of (c ∷ []))
+unfolding clap_on_literals
+unpack_taken a b c o p q = simp (o.long, o.short, o.dashes) (simp (p.long, p.short, p.dashes) (rw q.long (rw q.short (rw q.dashes refl))))
+
+manifest_taken : (a b c : Text) → IsNoFlag a → IsNoFlag b → IsNoFlag c
+    → asked (codes "manifest" ∷ a ∷ b ∷ c ∷ []) ≡ manifest_by (file_named a) (number_read b) (rows_of (c ∷ []))
+unfolding clap_on_literals
+manifest_taken a b c o p q = simp (o.long, o.short, o.dashes) (simp (p.long, p.short, p.dashes) (rw (q.long, q.short, q.dashes) refl))
+
+pub plain_info : (a : Text) → IsPlain a → asked (codes "info" ∷ a ∷ []) ≡ info_by (file_named a)
+plain_info a p = info_taken a (plain_is_no_flag a p)
+
+pub plain_create : (a b : Text) → IsPlain a → IsPlain b → asked (codes "create" ∷ a ∷ b ∷ []) ≡ create_by (Some 1) (file_named a) (parts_of (b ∷ []))
+plain_create a b p q = create_taken a b (plain_is_no_flag a p) (plain_is_no_flag b q)
+
+pub plain_aligned : (n a b : Text) → IsPlain n → IsPlain a → IsPlain b
+    → asked (codes "create" ∷ codes "--align" ∷ n ∷ a ∷ b ∷ []) ≡ create_by (number_read n) (file_named a) (parts_of (b ∷ []))
+plain_aligned n a b o p q = aligned_taken n a b (plain_is_no_flag n o) (plain_is_no_flag a p) (plain_is_no_flag b q)
+
+pub plain_update : (a b c : Text) → IsPlain a → IsPlain b → IsPlain c
+    → asked (codes "update" ∷ a ∷ b ∷ c ∷ []) ≡ update_by (Some 1) (file_named a) (file_named b) (parts_of (c ∷ []))
+plain_update a b c o p q = update_taken a b c (plain_is_no_flag a o) (plain_is_no_flag b p) (plain_is_no_flag c q)
+
+pub plain_remove : (a b c : Text) → IsPlain a → IsPlain b → IsPlain c
+    → asked (codes "remove" ∷ a ∷ b ∷ c ∷ []) ≡ remove_by (Some 1) (file_named a) (file_named b) (names_of (c ∷ []))
+plain_remove a b c o p q = remove_taken a b c (plain_is_no_flag a o) (plain_is_no_flag b p) (plain_is_no_flag c q)
+
+pub plain_unpack : (a b c : Text) → IsPlain a → IsPlain b → IsPlain c
+    → asked (codes "unpack" ∷ a ∷ b ∷ c ∷ []) ≡ unpack_by (file_named a) (file_named b) (names_of (c ∷ []))
+plain_unpack a b c o p q = unpack_taken a b c (plain_is_no_flag a o) (plain_is_no_flag b p) (plain_is_no_flag c q)
+
+pub plain_manifest : (a b c : Text) → IsPlain a → IsPlain b → IsPlain c
+    → asked (codes "manifest" ∷ a ∷ b ∷ c ∷ []) ≡ manifest_by (file_named a) (number_read b) (rows_of (c ∷ []))
+plain_manifest a b c o p q = manifest_taken a b c (plain_is_no_flag a o) (plain_is_no_flag b p) (plain_is_no_flag c q)

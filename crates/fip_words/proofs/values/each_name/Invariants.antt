@@ -1,0 +1,8 @@
+use Rattle.std.proofs.Common.{◌≡◌, ◌++◌, map, drop, option_map}
+use Rattle.fip_words.specs.Values.{each, name_of}
+use Rattle.fip_words.proofs.values.each_name.Given as goal
+
+-- what was read so far, and what is left to read, are all
+abbrev pub invariant-loop-text : goal.invariant-loop-text
+invariant-loop-text l = option_map (λ gs. l.guids.items ++ gs) (each name_of (map (λ w. w.now) (drop l.text-index l.texts)))
+    ≡ each name_of (map (λ w. w.now) l.texts)

@@ -1,0 +1,5 @@
+pub mod Words
+pub mod Commands
+pub mod Values
+pub mod Order
+pub mod Plain

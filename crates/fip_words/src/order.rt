@@ -1,0 +1,250 @@
+//! What the words ask for.
+ghost use Rattle.std.specs.Prelude.{codes, map, option_and_then, option_map, string_bytes};
+ghost use Rattle.clap.specs.Words.{first_of, found_of, rows_of, subcommand_rows_of};
+ghost use Rattle.fip_words.specs.Order.{Answers, align_in, asked, create_of, file_in, info_of, manifest_of, order_of, image_view, part_view, remove_of, unpack_of, update_of, values_of, view};
+ghost use Rattle.fip_words.specs.Values as value;
+
+use crate::UsageStop;
+use crate::commands::fip_command;
+use crate::matches::{given, given_all, matches};
+use crate::values::{
+    ImageWord, Part, align_value, file_value, is_unpacked_file, names, parts, read_number, rows,
+};
+use base_core::Guid;
+use clap::ArgMatches;
+use std::alloc::Global;
+use words_core::is_word;
+
+/// What the words of `fip` ask for. Files are named as they stand in the words.
+#[derive(Debug, Drop)]
+pub enum FipOrder<'a> {
+    /// Lists a package.
+    Info {
+        file: &'a str,
+    },
+    /// Lists the package that comes from the source.
+    InfoOfSource,
+    /// Packs payloads, each at a multiple of `align` bytes.
+    Create {
+        align: u32,
+        out: &'a str,
+        parts: Vec<Part<'a>>,
+    },
+    /// Replaces payloads in place.
+    Update {
+        align: u32,
+        from: &'a str,
+        out: &'a str,
+        parts: Vec<Part<'a>>,
+    },
+    /// Drops entries.
+    Remove {
+        align: u32,
+        from: &'a str,
+        out: &'a str,
+        names: Vec<Guid>,
+    },
+    /// Writes each payload, or the named ones where some are named, to a file of its own.
+    Unpack {
+        from: &'a str,
+        prefix: &'a str,
+        names: Vec<Guid>,
+    },
+    /// Makes a manifest.
+    Manifest {
+        out: &'a str,
+        security: u32,
+        rows: Vec<ImageWord<'a>>,
+    },
+}
+
+fn given_file<'a>(found: &ArgMatches<'a>, id: &str) -> Result<&'a str, UsageStop>
+    ensures { Answers (λ s. s.now) result (file_in id.now (rows_of (found_of found.now))) }
+{
+    let Some(text) = given(found, id) else {
+        return Err(UsageStop::Usage);
+    };
+    match file_value(text) {
+        Some(file) => Ok(file),
+        None => Err(UsageStop::Usage),
+    }
+}
+
+fn given_align<'a>(found: &ArgMatches<'a>) -> Result<u32, UsageStop>
+    ensures { Answers (λ n. n) result (align_in (rows_of (found_of found.now))) }
+{
+    match align_value(given(found, "align")) {
+        Some(align) => Ok(align),
+        None => Err(UsageStop::Usage),
+    }
+}
+
+fn given_number<'a>(found: &ArgMatches<'a>, id: &str) -> Result<u32, UsageStop>
+    ensures { Answers (λ n. n) result (option_and_then value.number_read (first_of id.now (rows_of (found_of found.now)))) }
+{
+    let Some(text) = given(found, id) else {
+        return Err(UsageStop::Usage);
+    };
+    match read_number(text) {
+        Some(value) => Ok(value),
+        None => Err(UsageStop::Usage),
+    }
+}
+
+fn given_parts<'a>(alloc: Global, found: &ArgMatches<'a>) -> Result<Vec<Part<'a>>, UsageStop>
+    ensures { Answers (λ v. map part_view v.items) result (value.parts_of (values_of (codes "parts") (rows_of (found_of found.now)))) }
+{
+    match given_all(alloc, found, "parts") {
+        Ok(texts) => parts(alloc, texts.as_slice()),
+        Err(_) => Err(UsageStop::NoMemory),
+    }
+}
+
+fn given_names<'a>(alloc: Global, found: &ArgMatches<'a>, id: &str) -> Result<Vec<Guid>, UsageStop>
+    ensures { Answers (λ v. v.items) result (value.names_of (values_of id.now (rows_of (found_of found.now)))) }
+{
+    match given_all(alloc, found, id) {
+        Ok(texts) => names(alloc, texts.as_slice()),
+        Err(_) => Err(UsageStop::NoMemory),
+    }
+}
+
+fn given_rows<'a>(alloc: Global, found: &ArgMatches<'a>) -> Result<Vec<ImageWord<'a>>, UsageStop>
+    ensures { Answers (λ v. map image_view v.items) result (value.rows_of (values_of (codes "rows") (rows_of (found_of found.now)))) }
+{
+    match given_all(alloc, found, "rows") {
+        Ok(texts) => rows(alloc, texts.as_slice()),
+        Err(_) => Err(UsageStop::NoMemory),
+    }
+}
+
+fn info_order<'a>(found: &ArgMatches<'a>) -> Result<FipOrder<'a>, UsageStop>
+    ensures { Answers view result (info_of (rows_of (found_of found.now))) }
+{
+    let file = given_file(found, "file")?;
+    if is_word(file.as_bytes(), b"-") {
+        Ok(FipOrder::InfoOfSource)
+    } else {
+        Ok(FipOrder::Info { file })
+    }
+}
+
+fn create_order<'a>(alloc: Global, found: &ArgMatches<'a>) -> Result<FipOrder<'a>, UsageStop>
+    ensures { Answers view result (create_of (rows_of (found_of found.now))) }
+{
+    let align = given_align(found)?;
+    let out = given_file(found, "out")?;
+    let parts = given_parts(alloc, found)?;
+    Ok(FipOrder::Create { align, out, parts })
+}
+
+fn update_order<'a>(alloc: Global, found: &ArgMatches<'a>) -> Result<FipOrder<'a>, UsageStop>
+    ensures { Answers view result (update_of (rows_of (found_of found.now))) }
+{
+    let align = given_align(found)?;
+    let from = given_file(found, "in")?;
+    let out = given_file(found, "out")?;
+    let parts = given_parts(alloc, found)?;
+    Ok(FipOrder::Update {
+        align,
+        from,
+        out,
+        parts,
+    })
+}
+
+fn remove_order<'a>(alloc: Global, found: &ArgMatches<'a>) -> Result<FipOrder<'a>, UsageStop>
+    ensures { Answers view result (remove_of (rows_of (found_of found.now))) }
+{
+    let align = given_align(found)?;
+    let from = given_file(found, "in")?;
+    let out = given_file(found, "out")?;
+    let names = given_names(alloc, found, "parts")?;
+    Ok(FipOrder::Remove {
+        align,
+        from,
+        out,
+        names,
+    })
+}
+
+fn unpack_order<'a>(alloc: Global, found: &ArgMatches<'a>) -> Result<FipOrder<'a>, UsageStop>
+    ensures { Answers view result (unpack_of (rows_of (found_of found.now))) }
+{
+    let from = given_file(found, "in")?;
+    let prefix = given_file(found, "prefix")?;
+    let names = given_names(alloc, found, "names")?;
+    if is_unpacked_file(prefix.as_bytes(), from.as_bytes()) {
+        return Err(UsageStop::Usage);
+    }
+    Ok(FipOrder::Unpack {
+        from,
+        prefix,
+        names,
+    })
+}
+
+fn manifest_order<'a>(alloc: Global, found: &ArgMatches<'a>) -> Result<FipOrder<'a>, UsageStop>
+    ensures { Answers view result (manifest_of (rows_of (found_of found.now))) }
+{
+    let out = given_file(found, "out")?;
+    let security = given_number(found, "security")?;
+    let rows = given_rows(alloc, found)?;
+    Ok(FipOrder::Manifest {
+        out,
+        security,
+        rows,
+    })
+}
+
+fn named_order<'a>(
+    alloc: Global,
+    name: &str,
+    found: &ArgMatches<'a>,
+) -> Result<FipOrder<'a>, UsageStop>
+    ensures { Answers view result (order_of name.now (rows_of (found_of found.now))) }
+{
+    let name = name.as_bytes();
+    if is_word(name, b"info") {
+        info_order(found)
+    } else if is_word(name, b"create") {
+        create_order(alloc, found)
+    } else if is_word(name, b"update") {
+        update_order(alloc, found)
+    } else if is_word(name, b"remove") {
+        remove_order(alloc, found)
+    } else if is_word(name, b"unpack") {
+        unpack_order(alloc, found)
+    } else if is_word(name, b"manifest") {
+        manifest_order(alloc, found)
+    } else {
+        Err(UsageStop::Usage)
+    }
+}
+
+// The order of the matches.
+fn found_order<'a>(alloc: Global, found: &ArgMatches<'a>) -> Result<FipOrder<'a>, UsageStop>
+    ensures { Answers view result
+        (option_and_then (λ p. order_of p.0 p.1) (subcommand_rows_of found.now)) }
+{
+    match found.subcommand() {
+        Some((name, below)) => named_order(alloc, name, below),
+        None => Err(UsageStop::Usage),
+    }
+}
+
+/// What the words, without the program's name, ask for. `Usage` comes exactly where they ask for nothing: where `clap` refuses
+/// them, where a value is not in its grammar, where a type is named twice, and for `unpack` where IN is a file that may be
+/// written.
+pub fn fip_order<'a>(alloc: Global, words: &'a [String]) -> Result<FipOrder<'a>, UsageStop>
+    ensures { Answers view result (asked (map string_bytes words.entry.now)) }
+{
+    let command = match fip_command(alloc) {
+        Ok(command) => command,
+        Err(_) => return Err(UsageStop::NoMemory),
+    };
+    match matches(command, words) {
+        Ok(found) => found_order(alloc, &found),
+        Err(stop) => Err(stop),
+    }
+}

@@ -1,0 +1,23 @@
+-- What a stop leaves to the next power-on of a memory device.
+use Rattle.std.specs.Prelude.{ℕ, Bool, false, ◌&&◌, if◌then◌else◌, Option, None, Some, slice_index}
+use Rattle.flash_core.specs.Told.{Told, Operation, is_within, finished}
+
+-- So many of the first bytes of the operation under way take effect, and the other dirty ranges go back to what was stable, or keep what is now.
+pub record Loss : Type 0 where
+  pub landed : ℕ
+  pub back : Bool
+
+-- nothing takes effect, and nothing goes back
+abbrev pub no_loss : Loss
+no_loss = record { landed = 0; back = false }
+
+-- whether byte i is one of the first bytes of the operation under way
+abbrev pub is_landed : Option Operation → ℕ → ℕ → Bool
+is_landed None landed i = false
+is_landed (Some op) landed i = is_within op.at landed i
+
+-- the byte that the power-on leaves at a place
+abbrev pub left_at : Told → Loss → ℕ → ℕ
+left_at t loss i =
+    if is_landed t.under loss.landed i then slice_index (finished t) i
+    else (if loss.back && t.dirty i then slice_index t.stable i else slice_index t.now i)

@@ -1,0 +1,23 @@
+-- What is seen of the objects in memory.
+use Rattle.std.specs.Prelude.{ℕ, List}
+use Rattle.host_io.specs.Calls.{Calls}
+
+-- a source: the bytes that are left
+pub record HeldSource : Type 0 where
+  pub left : List ℕ
+  pub calls : Calls
+
+-- a sink: the bytes that it has
+pub record HeldSink : Type 0 where
+  pub taken : List ℕ
+  pub calls : Calls
+
+-- files: names with their bytes, of which the first of a name counts
+pub record HeldFiles : Type 0 where
+  pub files : List (List ℕ × List ℕ)
+  pub calls : Calls
+
+-- an adapter: the reader, the writer or the files of the system that it goes to, and how many calls failed
+pub record Adapted (T : Type 0) : Type 0 where
+  pub inner : T
+  pub faults : ℕ

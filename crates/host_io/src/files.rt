@@ -1,0 +1,39 @@
+//! Files by their names.
+
+use crate::stops::{Failed, WriteStop};
+
+/// Files by their names.
+pub trait Files {
+    ghost use Rattle.std.specs.Prelude.{◌≡◌, ℕ, Option, Err, IfOk, OnOk, length};
+    ghost use Rattle.host_io.specs.Causes.{HasCause, HasWriteCause};
+    ghost use Rattle.host_io.specs.Contents.{ChangesOnly, Directory, HasRange, Holds, TellsRange, TellsSize};
+    ghost use Rattle.host_io.specs.declared.stops.WriteStop.TheVariants as stop;
+
+    /// The bytes of each name, where they are told.
+    ghost contents: { Self → Option Directory };
+
+    /// How many calls failed.
+    ghost faults: { Self → ℕ };
+
+    /// How many bytes the file has. `None` says that no file has the name; files that are not told
+    /// answer `Failed` there.
+    fn size(&mut self, name: &str) -> Result<Option<u64>, Failed>
+        ensures size { IfOk result (TellsSize (contents self.old) name.now) }
+        ensures same { contents self.new ≡ contents self.old }
+        ensures cause { HasCause (faults self.old) (faults self.new) result };
+
+    /// Fills `out` with the bytes of the file from place `at` on.
+    fn read_at(&mut self, name: &str, at: u64, out: &mut [u8]) -> Result<(), Failed>
+        requires { HasRange (contents self.old) name.now at (length out.old) }
+        ensures bytes { OnOk result (TellsRange (contents self.old) name.now at out.new) }
+        ensures same { contents self.new ≡ contents self.old }
+        ensures cause { HasCause (faults self.old) (faults self.new) result };
+
+    /// Makes the file anew, of these bytes, or writes over all of an old one. After `Failed` nothing
+    /// is known of this name, and no other changed.
+    fn write_whole(&mut self, name: &str, bytes: &[u8]) -> Result<(), WriteStop>
+        ensures written { OnOk result (Holds (contents self.new) name.now bytes.now) }
+        ensures others { ChangesOnly (contents self.old) (contents self.new) name.now }
+        ensures memory { result ≡ Err stop.NoMemory → contents self.new ≡ contents self.old }
+        ensures cause { HasWriteCause (faults self.old) (faults self.new) result };
+}

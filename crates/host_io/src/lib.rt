@@ -1,0 +1,21 @@
+//! What a program reads and writes besides a flash: files by their names, a source of bytes, and a
+//! sink for bytes. Each counts its faults. The forms in memory tell what they hold, and fail at
+//! listed calls alone; the adapters over the system's files, readers and writers do not.
+#![tactic(auto)]
+
+mod calls;
+mod files;
+mod host_files;
+mod memory_files;
+mod sink;
+mod source;
+mod stops;
+#[cfg(test)]
+mod tests;
+
+pub use files::Files;
+pub use host_files::HostFiles;
+pub use memory_files::MemoryFiles;
+pub use sink::{MemorySink, Sink, StdSink};
+pub use source::{MemorySource, Source, StdSource};
+pub use stops::{Failed, WriteStop};

@@ -1,0 +1,153 @@
+//! Files in memory.
+
+ghost use Rattle.std.specs.Prelude.{◌≡◌, ◌≢◌, ◌↔◌, ℕ, List, Some, Err, IsErr, IfOk, OnOk, OnErr, length, option_map};
+ghost use Rattle.host_io.specs.Calls.{IsListed, counted, unused, write_counted};
+ghost use Rattle.host_io.specs.Causes.{HasCause, HasWriteCause};
+ghost use Rattle.host_io.specs.Contents.{ChangesOnly, HasRange, Holds, TellsRange, TellsSize, bytes_in, pairs_of, place_in};
+ghost use Rattle.host_io.specs.declared.stops.WriteStop.TheVariants as stop;
+
+use crate::calls::CallCounter;
+use crate::files::Files;
+use crate::stops::{Failed, WriteStop};
+use std::alloc::{AllocError, Global};
+use std::marker::Model;
+
+// The place of a name, or the number of files.
+fn place(files: &[(String, Vec<u8>)], name: &str) -> usize
+    ensures { result ≡ place_in (pairs_of files.now) name.now }
+{
+    for (i, file) in files.iter().enumerate() {
+        if file.0.as_str() == name {
+            return i;
+        }
+    }
+    files.len()
+}
+
+// The bytes of a name.
+fn bytes_of<'a>(files: &'a [(String, Vec<u8>)], name: &str) -> Option<&'a [u8]>
+    ensures { option_map (λ bytes. bytes.now) result ≡ bytes_in (pairs_of files.now) name.now }
+{
+    let i = place(files, name);
+    if i < files.len() {
+        Some(files[i].1.as_slice())
+    } else {
+        None
+    }
+}
+
+// Puts the bytes in the place of a name's, or at the end. An `Err` changes nothing.
+fn put_bytes(
+    alloc: Global,
+    files: &mut Vec<(String, Vec<u8>)>,
+    name: &str,
+    bytes: &[u8],
+) -> Result<(), AllocError>
+    ensures written { OnOk result (bytes_in (pairs_of files.new.items) name.now ≡ Some bytes.now) }
+    ensures others { OnOk result ((other : List ℕ) → other ≢ name.now
+        → bytes_in (pairs_of files.new.items) other ≡ bytes_in (pairs_of files.old.items) other) }
+    ensures err { OnErr result (files.new.items ≡ files.old.items) }
+{
+    let copy = Vec::from_slice(alloc, bytes)?;
+    let key = String::from_str(alloc, name)?;
+    let i = place(files, name);
+    if i < files.len() {
+        files[i] = (key, copy);
+    } else {
+        files.push((key, copy))?;
+    }
+    Ok(())
+}
+
+/// Files in memory.
+#[derive(Debug, Drop)]
+pub struct MemoryFiles {
+    alloc: Global,
+    files: Vec<(String, Vec<u8>)>,
+    calls: CallCounter,
+}
+
+impl Model for MemoryFiles {
+    ghost use Rattle.host_io.specs.Contents.{pairs_of};
+    ghost use Rattle.host_io.specs.Held.{HeldFiles};
+
+    ghost Value = { HeldFiles };
+
+    ghost view = { λ m. record { files = pairs_of m.files.items; calls = m.calls } };
+}
+
+impl MemoryFiles {
+    /// Files of these names and bytes, whose calls of these numbers, counted from 1, fail. The names
+    /// should differ: of several files of one name the first is seen.
+    pub fn new(alloc: Global, files: Vec<(String, Vec<u8>)>, fails: Vec<u64>) -> MemoryFiles
+        ensures { result ≡ record { files = pairs_of files.items; calls = unused fails.items } }
+    {
+        MemoryFiles {
+            alloc,
+            files,
+            calls: CallCounter::new(fails),
+        }
+    }
+
+    /// The bytes of the file of this name. `None` says that no file has it.
+    pub fn get(&self, name: &str) -> Option<&[u8]>
+        ensures { option_map (λ bytes. bytes.now) result ≡ bytes_in self.now.files name.now }
+    {
+        bytes_of(self.files.as_slice(), name)
+    }
+}
+
+impl Files for MemoryFiles {
+    ghost contents = { λ m. Some (bytes_in m.files) };
+
+    ghost faults = { λ m. m.calls.faults };
+
+    /// Besides what the trait says, it fails exactly at the listed calls.
+    fn size(&mut self, name: &str) -> Result<Option<u64>, Failed>
+        ensures size { IfOk result (TellsSize (Some (bytes_in self.old.files)) name.now) }
+        ensures same { Some (bytes_in self.new.files) ≡ Some (bytes_in self.old.files) }
+        ensures cause { HasCause self.old.calls.faults self.new.calls.faults result }
+        ensures listed { IsErr result ↔ IsListed self.old.calls }
+        ensures calls { self.new.calls ≡ counted result self.old.calls }
+    {
+        self.calls.count()?;
+        Ok(bytes_of(self.files.as_slice(), name).map(|bytes| bytes.len() as u64))
+    }
+
+    /// Besides what the trait says, it fails exactly at the listed calls.
+    fn read_at(&mut self, name: &str, at: u64, out: &mut [u8]) -> Result<(), Failed>
+        requires { HasRange (Some (bytes_in self.old.files)) name.now at (length out.old) }
+        ensures bytes { OnOk result (TellsRange (Some (bytes_in self.old.files)) name.now at out.new) }
+        ensures same { Some (bytes_in self.new.files) ≡ Some (bytes_in self.old.files) }
+        ensures cause { HasCause self.old.calls.faults self.new.calls.faults result }
+        ensures listed { IsErr result ↔ IsListed self.old.calls }
+        ensures calls { self.new.calls ≡ counted result self.old.calls }
+    {
+        self.calls.count()?;
+        if let Some(bytes) = bytes_of(self.files.as_slice(), name) {
+            let start = at as usize;
+            out.copy_from_slice(&bytes[start..start + out.len()]);
+        }
+        Ok(())
+    }
+
+    /// Besides what the trait says, it fails exactly at the listed calls, and then changes nothing. A
+    /// call that finds no memory has no number.
+    fn write_whole(&mut self, name: &str, bytes: &[u8]) -> Result<(), WriteStop>
+        ensures written { OnOk result (Holds (Some (bytes_in self.new.files)) name.now bytes.now) }
+        ensures others { ChangesOnly (Some (bytes_in self.old.files)) (Some (bytes_in self.new.files)) name.now }
+        ensures memory { result ≡ Err stop.NoMemory → Some (bytes_in self.new.files) ≡ Some (bytes_in self.old.files) }
+        ensures cause { HasWriteCause self.old.calls.faults self.new.calls.faults result }
+        ensures listed { (result ≡ Err stop.Failed) ↔ IsListed self.old.calls }
+        ensures calls { self.new.calls ≡ write_counted result self.old.calls }
+        ensures unchanged { OnErr result (self.new.files ≡ self.old.files) }
+    {
+        if self.calls.fails_next() {
+            self.calls.fail();
+            return Err(WriteStop::Failed);
+        }
+        put_bytes(self.alloc, &mut self.files, name, bytes)?;
+        self.calls.pass();
+        Ok(())
+    }
+}

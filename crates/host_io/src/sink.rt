@@ -1,0 +1,162 @@
+//! A place for bytes.
+
+ghost use Rattle.std.specs.Prelude.{◌≡◌, ◌↔◌, ◌<◌, ◌≤◌, ℕ, List, Option, Some, Err, IfOk, MatchResult, OnErr, length};
+ghost use Rattle.std.specs.Io.KnownBytes.{Appends, Keeps, WriteAppends};
+ghost use Rattle.base_core.specs.Counts.{Rose};
+ghost use Rattle.host_io.specs.Calls.{IsListed, unused, write_counted};
+ghost use Rattle.host_io.specs.Causes.{HasCause, HasWriteCause};
+ghost use Rattle.host_io.specs.Contents.{StopsAt};
+ghost use Rattle.host_io.specs.declared.stops.WriteStop.TheVariants as stop;
+
+use crate::calls::CallCounter;
+use crate::stops::{Failed, WriteStop};
+use std::alloc::Global;
+use std::io::Write;
+use std::marker::Model;
+
+/// A place for bytes.
+pub trait Sink {
+    /// The bytes that were taken, where they are told.
+    ghost taken: { Self → Option (List ℕ) };
+
+    /// How many calls failed.
+    ghost faults: { Self → ℕ };
+
+    /// Adds the bytes at the end. After `Failed` a front of them was added, after `NoMemory` none.
+    fn put(&mut self, bytes: &[u8]) -> Result<(), WriteStop>
+        ensures bytes { MatchResult result (λ _. Appends (taken self.old) (taken self.new) bytes.now)
+            (λ stopped. StopsAt stopped (taken self.old) (taken self.new) bytes.now) }
+        ensures cause { HasWriteCause (faults self.old) (faults self.new) result };
+}
+
+/// A sink in memory.
+#[derive(Debug, Drop)]
+pub struct MemorySink {
+    bytes: Vec<u8>,
+    calls: CallCounter,
+}
+
+impl Model for MemorySink {
+    ghost use Rattle.host_io.specs.Held.{HeldSink};
+
+    ghost Value = { HeldSink };
+
+    ghost view = { λ s. record { taken = s.bytes.items; calls = s.calls } };
+}
+
+impl MemorySink {
+    /// A sink that has these bytes, whose calls of these numbers, counted from 1, fail.
+    pub fn new(_alloc: Global, bytes: Vec<u8>, fails: Vec<u64>) -> MemorySink
+        ensures { result ≡ record { taken = bytes.items; calls = unused fails.items } }
+    {
+        MemorySink {
+            bytes,
+            calls: CallCounter::new(fails),
+        }
+    }
+
+    /// All bytes that it has.
+    pub fn bytes(&self) -> &[u8]
+        ensures { result.now ≡ self.now.taken }
+    {
+        self.bytes.as_slice()
+    }
+}
+
+impl Sink for MemorySink {
+    ghost taken = { λ s. Some s.taken };
+
+    ghost faults = { λ s. s.calls.faults };
+
+    /// Besides what the trait says, it fails exactly at the listed calls, and then takes nothing. A
+    /// call that finds no memory has no number.
+    fn put(&mut self, bytes: &[u8]) -> Result<(), WriteStop>
+        ensures bytes { MatchResult result (λ _. Appends (Some self.old.taken) (Some self.new.taken) bytes.now)
+            (λ stopped. StopsAt stopped (Some self.old.taken) (Some self.new.taken) bytes.now) }
+        ensures cause { HasWriteCause self.old.calls.faults self.new.calls.faults result }
+        ensures listed { (result ≡ Err stop.Failed) ↔ IsListed self.old.calls }
+        ensures calls { self.new.calls ≡ write_counted result self.old.calls }
+        ensures same { OnErr result (self.new.taken ≡ self.old.taken) }
+    {
+        if self.calls.fails_next() {
+            self.calls.fail();
+            return Err(WriteStop::Failed);
+        }
+        self.bytes.extend_from_slice(bytes)?;
+        self.calls.pass();
+        Ok(())
+    }
+}
+
+/// A sink over a writer. Each error of the writer, and each time that it takes nothing, is a fault.
+#[derive(Debug, Drop)]
+pub struct StdSink<W> {
+    writer: W,
+    faults: u64,
+}
+
+impl<W> Model for StdSink<W> {
+    ghost use Rattle.host_io.specs.Held.{Adapted};
+
+    ghost Value = { Adapted W };
+
+    ghost view = { λ s. record { inner = s.writer; faults = s.faults } };
+}
+
+impl<W: Write> StdSink<W> {
+    /// A sink that gives all to the writer.
+    pub fn new(writer: W) -> StdSink<W>
+        ensures { result ≡ record { inner = writer; faults = 0 } }
+    {
+        StdSink { writer, faults: 0 }
+    }
+
+    // Counts a fault.
+    fn fail(&mut self) -> Failed
+        ensures inner { self.new.inner ≡ self.old.inner }
+        ensures rose { Rose self.old.faults self.new.faults }
+        ensures later { self.old.faults ≤ self.new.faults }
+    {
+        self.faults = self.faults.saturating_add(1);
+        Failed
+    }
+
+    // Writes a front of the piece, of one byte at least.
+    fn write_some(&mut self, piece: &[u8]) -> Result<usize, Failed>
+        ensures some { IfOk result (λ count. (0 < count) × (count ≤ length piece.now)) }
+        ensures bytes { WriteAppends (W.contents self.old.inner) (W.contents self.new.inner) result piece.now }
+        ensures cause { HasCause self.old.faults self.new.faults result }
+    {
+        match self.writer.write(piece) {
+            Ok(count) if count > 0 => Ok(count),
+            _ => Err(self.fail()),
+        }
+    }
+
+    // Sends on what the writer has kept back.
+    fn flush(&mut self) -> Result<(), Failed>
+        ensures bytes { Keeps (W.contents self.old.inner) (W.contents self.new.inner) }
+        ensures cause { HasCause self.old.faults self.new.faults result }
+    {
+        match self.writer.flush() {
+            Ok(()) => Ok(()),
+            Err(_) => Err(self.fail()),
+        }
+    }
+}
+
+impl<W: Write> Sink for StdSink<W> {
+    ghost taken = { λ s. W.contents s.inner };
+
+    ghost faults = { λ s. s.faults };
+
+    fn put(&mut self, bytes: &[u8]) -> Result<(), WriteStop> {
+        let mut rest = bytes;
+        while !rest.is_empty() {
+            let count = self.write_some(rest)?;
+            rest = &rest[count..];
+        }
+        self.flush()?;
+        Ok(())
+    }
+}

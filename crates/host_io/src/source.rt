@@ -1,0 +1,122 @@
+//! Bytes that come in pieces.
+
+ghost use Rattle.std.specs.Prelude.{◌≡◌, ◌↔◌, ◌≤◌, ℕ, List, Option, Some, IsErr, drop, length};
+ghost use Rattle.std.specs.Io.{ReadsAtMost};
+ghost use Rattle.std.specs.Io.KnownBytes.{ReadConsumes};
+ghost use Rattle.host_io.specs.Calls.{IsListed, counted, unused};
+ghost use Rattle.host_io.specs.Causes.{HasCause};
+
+use crate::calls::CallCounter;
+use crate::stops::Failed;
+use std::io::Read;
+use std::marker::Model;
+
+/// Bytes that come in pieces.
+pub trait Source {
+    /// The bytes that are left, where they are told.
+    ghost left: { Self → Option (List ℕ) };
+
+    /// How many calls failed.
+    ghost faults: { Self → ℕ };
+
+    /// Reads some bytes to the front of `out`, and gives their number. Zero, for a room that is not
+    /// empty, is the end. A call that fails reads nothing.
+    fn read(&mut self, out: &mut [u8]) -> Result<usize, Failed>
+        ensures bound { ReadsAtMost result out.new }
+        ensures bytes { ReadConsumes (left self.old) (left self.new) result out.new }
+        ensures cause { HasCause (faults self.old) (faults self.new) result };
+}
+
+/// A source in memory.
+#[derive(Debug, Drop)]
+pub struct MemorySource {
+    bytes: Vec<u8>,
+    at: usize,
+    calls: CallCounter,
+}
+
+impl Model for MemorySource {
+    ghost use Rattle.std.specs.Prelude.{◌≤◌, drop, length};
+    ghost use Rattle.host_io.specs.Held.{HeldSource};
+
+    ghost Value = { HeldSource };
+
+    ghost view = { λ s. record { left = drop s.at s.bytes.items; calls = s.calls } };
+
+    ghost invariant = { λ s. s.at ≤ length s.bytes.items };
+}
+
+impl MemorySource {
+    /// A source of these bytes, whose calls of these numbers, counted from 1, fail.
+    pub fn new(bytes: Vec<u8>, fails: Vec<u64>) -> MemorySource
+        ensures { result ≡ record { left = bytes.items; calls = unused fails.items } }
+    {
+        MemorySource {
+            bytes,
+            at: 0,
+            calls: CallCounter::new(fails),
+        }
+    }
+}
+
+impl Source for MemorySource {
+    ghost left = { λ s. Some s.left };
+
+    ghost faults = { λ s. s.calls.faults };
+
+    /// Besides what the trait says, it fails exactly at the listed calls.
+    fn read(&mut self, out: &mut [u8]) -> Result<usize, Failed>
+        ensures bound { ReadsAtMost result out.new }
+        ensures bytes { ReadConsumes (Some self.old.left) (Some self.new.left) result out.new }
+        ensures cause { HasCause self.old.calls.faults self.new.calls.faults result }
+        ensures listed { IsErr result ↔ IsListed self.old.calls }
+        ensures calls { self.new.calls ≡ counted result self.old.calls }
+    {
+        self.calls.count()?;
+        let rest = &self.bytes[self.at..];
+        let count = rest.len().min(out.len());
+        out[..count].copy_from_slice(&rest[..count]);
+        self.at += count;
+        Ok(count)
+    }
+}
+
+/// A source over a reader. Each error of the reader is a fault.
+#[derive(Debug, Drop)]
+pub struct StdSource<R> {
+    reader: R,
+    faults: u64,
+}
+
+impl<R> Model for StdSource<R> {
+    ghost use Rattle.host_io.specs.Held.{Adapted};
+
+    ghost Value = { Adapted R };
+
+    ghost view = { λ s. record { inner = s.reader; faults = s.faults } };
+}
+
+impl<R: Read> StdSource<R> {
+    /// A source of what the reader gives.
+    pub fn new(reader: R) -> StdSource<R>
+        ensures { result ≡ record { inner = reader; faults = 0 } }
+    {
+        StdSource { reader, faults: 0 }
+    }
+}
+
+impl<R: Read> Source for StdSource<R> {
+    ghost left = { λ s. R.remaining s.inner };
+
+    ghost faults = { λ s. s.faults };
+
+    fn read(&mut self, out: &mut [u8]) -> Result<usize, Failed> {
+        match self.reader.read(out) {
+            Ok(count) => Ok(count),
+            Err(_) => {
+                self.faults = self.faults.saturating_add(1);
+                Err(Failed)
+            }
+        }
+    }
+}

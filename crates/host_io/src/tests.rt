@@ -1,0 +1,157 @@
+//! Each form once, with a failing call among others.
+
+use super::*;
+use std::alloc::{AllocError, Global};
+use std::io::{Cursor, ErrorKind, Read};
+use std::process::Abort;
+use std::test::Fail;
+use std::{fs, io};
+
+// What reads of at most four bytes give, one after another, up to the end, with `!` for each that
+// failed.
+fn drained<I: Source>(alloc: Global, source: &mut I) -> Result<Vec<u8>, AllocError> {
+    let mut all = Vec::new(alloc);
+    for _ in 0..20 {
+        let mut room = [0; 4];
+        match source.read(&mut room) {
+            Ok(0) => break,
+            Ok(count) => {
+                all.extend_from_slice(&room[..count])?;
+            }
+            Err(Failed) => {
+                all.push(b'!')?;
+            }
+        }
+    }
+    Ok(all)
+}
+
+// What becomes of a put of each word.
+fn put_words<O: Sink>(rt: &impl Abort, sink: &mut O, want: &[Result<(), WriteStop>]) {
+    let words = ["one ", "two ", "three "];
+    for (word, end) in words.iter().zip(want) {
+        assert_eq!(rt; sink.put(word.as_bytes()), *end);
+    }
+}
+
+// A reader that gives a byte, fails, and so on.
+#[derive(Drop)]
+struct Faulty(u8);
+
+impl Read for Faulty {
+    fn read(&mut self, out: &mut [u8]) -> io::Result<usize> {
+        if out.is_empty() || self.0 >= 4 {
+            return Ok(0);
+        }
+        self.0 += 1;
+        if self.0 % 2 == 0 {
+            return Err(io::Error::from(ErrorKind::Other));
+        }
+        out[0] = b'x';
+        Ok(1)
+    }
+}
+
+#[test]
+fn sources(rt: HostRuntime) -> Result<(), Fail> {
+    let bytes = b"firmware".to_vec(rt.alloc())?;
+    let fails = [2].to_vec(rt.alloc())?;
+    let mut memory = MemorySource::new(bytes, fails);
+    assert_eq!(rt;
+        drained(rt.alloc(), &mut memory)?.as_slice(),
+        b"firm!ware".as_slice()
+    );
+    let mut over = StdSource::new(Cursor::new(b"firmware".as_slice()));
+    assert_eq!(rt;
+        drained(rt.alloc(), &mut over)?.as_slice(),
+        b"firmware".as_slice()
+    );
+    let mut faulty = StdSource::new(Faulty(0));
+    assert_eq!(rt;
+        drained(rt.alloc(), &mut faulty)?.as_slice(),
+        b"x!x!".as_slice()
+    );
+    Ok(())
+}
+
+#[test]
+fn sinks(rt: HostRuntime) -> Result<(), Fail> {
+    let start = b"zero ".to_vec(rt.alloc())?;
+    let fails = [2].to_vec(rt.alloc())?;
+    let mut memory = MemorySink::new(rt.alloc(), start, fails);
+    put_words(&rt, &mut memory, &[Ok(()), Err(WriteStop::Failed), Ok(())]);
+    assert_eq!(rt; memory.bytes(), b"zero one three ".as_slice());
+    let mut bytes = Vec::new(rt.alloc());
+    let mut over = StdSink::new(&mut bytes);
+    put_words(&rt, &mut over, &[Ok(()), Ok(()), Ok(())]);
+    assert_eq!(rt; bytes.as_slice(), b"one two three ".as_slice());
+    // Room for six bytes: the writer then takes nothing.
+    let mut small = StdSink::new(Cursor::new([0; 6]));
+    let full = Err(WriteStop::Failed);
+    put_words(&rt, &mut small, &[Ok(()), full, full]);
+    Ok(())
+}
+
+// Writes a file, and gives its size afterwards.
+fn stored<H: Files>(files: &mut H, name: &str, bytes: &[u8]) -> Result<Option<u64>, WriteStop> {
+    files.write_whole(name, bytes)?;
+    Ok(files.size(name)?)
+}
+
+// Reads a range, where the file has it.
+fn range(files: &mut MemoryFiles, name: &str, at: usize, out: &mut [u8]) -> Result<bool, Failed> {
+    let len = match files.get(name) {
+        Some(bytes) => bytes.len(),
+        None => return Ok(false),
+    };
+    if at > len || out.len() > len - at {
+        return Ok(false);
+    }
+    files.read_at(name, at as u64, out)?;
+    Ok(true)
+}
+
+#[test]
+fn files_in_memory(rt: HostRuntime) -> Result<(), Fail> {
+    let mut list = Vec::new(rt.alloc());
+    list.push((
+        String::from_str(rt.alloc(), "a")?,
+        b"abcdef".to_vec(rt.alloc())?,
+    ))?;
+    list.push((String::from_str(rt.alloc(), "empty")?, Vec::new(rt.alloc())))?;
+    let fails = [4].to_vec(rt.alloc())?;
+    let mut files = MemoryFiles::new(rt.alloc(), list, fails);
+    let mut out = [0; 3];
+    assert_eq!(rt; files.size("a"), Ok(Some(6)));
+    assert_eq!(rt; files.size("b"), Ok(None));
+    assert_eq!(rt; range(&mut files, "a", 2, &mut out), Ok(true));
+    assert_eq!(rt; out.as_slice(), b"cde".as_slice());
+    assert_eq!(rt; stored(&mut files, "b", b"xy"), Err(WriteStop::Failed));
+    assert_eq!(rt; files.get("b"), None);
+    assert_eq!(rt; stored(&mut files, "b", b"xy"), Ok(Some(2)));
+    assert_eq!(rt; stored(&mut files, "a", b"z"), Ok(Some(1)));
+    for (name, bytes) in [("a", "z"), ("b", "xy"), ("empty", "")] {
+        assert_eq!(rt; files.get(name), Some(bytes.as_bytes()), "at {name}");
+    }
+    Ok(())
+}
+
+#[test]
+fn files_of_the_system(rt: HostRuntime) -> Result<(), Fail> {
+    let name = "host_io_test.tmp";
+    let mut files = HostFiles::new(&rt);
+    let mut out = [0; 4];
+    assert_eq!(rt; stored(&mut files, name, b"firmware"), Ok(Some(8)));
+    assert_eq!(rt; files.read_at(name, 4, &mut out), Ok(()));
+    assert_eq!(rt; out.as_slice(), b"ware".as_slice());
+    assert_eq!(rt; files.read_at(name, 5, &mut out), Err(Failed));
+    assert_eq!(rt; files.read_at(name, 9, &mut []), Err(Failed));
+    fs::remove_file(&rt, name)?;
+    assert_eq!(rt; files.size(name), Err(Failed));
+    assert_eq!(rt; files.read_at(name, 0, &mut out), Err(Failed));
+    assert_eq!(rt;
+        stored(&mut files, "no_folder/file", b"x"),
+        Err(WriteStop::Failed)
+    );
+    Ok(())
+}

@@ -1,0 +1,53 @@
+use Rattle.std.proofs.Common.{◌≡◌, ◌+◌, ◌-◌, ◌<◌, ◌∙◌, sym, arith, length, false}
+use Rattle.image_check.specs.Found.{is_good}
+use Rattle.image_check.proofs.Sums.{no_row, total_more, total_more_le}
+use Rattle.image_check.proofs.Stays.{stays_then}
+use Rattle.image_check.proofs.Lowest.{none_bad, one_bad, passed_more, seen_good}
+use Rattle.image_check.proofs.images.first_bad.Goals as goal
+
+pub overflow_add-block : goal.overflow_add-block
+overflow_add-block g c =
+    let within : c.loop-k.k < length c.args.rows.now = omega arith in
+    let more = total_more_le c.args.rows.now c.loop-k.k c.index-rows-k.result within in
+    let most = (g.met.D.Flash.sizes c.args.flash.now).1 in
+    let place = c.loop-k.invariant.place in
+    omega (arith, more, most, place, c.requires.inside)
+
+pub is_image_good-requires-clause-inside : goal.is_image_good-requires-clause-inside
+is_image_good-requires-clause-inside g c =
+    let within : c.loop-k.k < length c.args.rows.now = omega arith in
+    let next : c.loop-k.k + 1 < length c.args.rows.now = omega arith in
+    let step = total_more c.args.rows.now c.loop-k.k c.index-rows-k.result within in
+    let more = total_more_le c.args.rows.now (c.loop-k.k + 1) no_row next in
+    let fits = c.requires.sizes c.loop-k.k no_row next in
+    let same = c.loop-k.invariant.stays.size in
+    let place = c.loop-k.invariant.place in
+    omega (arith, step, more, fits, same, place, c.requires.inside)
+
+pub returns-then-not-branch-clause-bad : goal.returns-then-not-branch-clause-bad
+returns-then-not-branch-clause-bad g c = λ tells.
+    let within : c.loop-k.k < length c.args.rows.now = omega arith in
+    let good = is_good (g.D.Flash.told c.args.flash.now).now c.args.rows.now c.args.first c.args.manifest.now in
+    let here = seen_good c.args.rows.now _ c.args.first c.loop-k.block c.loop-k.k c.args.manifest.now _ _ _ within c.loop-k.invariant.place (c.loop-k.invariant.stays.content tells) (c.in_ok-is_image_good.ensures.good tells) in
+    let bad : good c.loop-k.k ≡ false = sym here ∙ c.if-not-branch.true in
+    one_bad good 0 (length c.args.rows.now - 1) c.loop-k.k (omega arith) (omega arith) bad (λ j low below. c.loop-k.invariant.all_good tells j below)
+
+pub loop-k-preserved : goal.loop-k-preserved
+loop-k-preserved g c =
+    let within : c.loop-k.k < length c.args.rows.now = omega arith in
+    let step = total_more c.args.rows.now c.loop-k.k c.index-rows-k.result within in
+    let good = is_good (g.D.Flash.told c.args.flash.now).now c.args.rows.now c.args.first c.args.manifest.now in
+    let stays = c.loop-k.invariant.stays in
+    let place = c.loop-k.invariant.place in
+    record {
+      stays = stays_then g.D.Flash.tells _ _ _ _ _ _ _ _ _ _ _ _ _ _ _ stays c.in_ok-is_image_good.ensures.content c.in_ok-is_image_good.ensures.power c.in_ok-is_image_good.ensures.size c.in_ok-is_image_good.ensures.costs c.in_ok-is_image_good.ensures.reached c.in_ok-is_image_good.ensures.arming;
+      place = omega (arith, step, place);
+      all_good = λ tells.
+          let here = seen_good c.args.rows.now _ c.args.first c.loop-k.block c.loop-k.k c.args.manifest.now _ _ _ within place (stays.content tells) (c.in_ok-is_image_good.ensures.good tells) in
+          passed_more good c.loop-k.k (c.loop-k.invariant.all_good tells) (sym here ∙ c.if-not-branch.false);
+    }
+
+pub returns-clause-bad : goal.returns-clause-bad
+returns-clause-bad g c = λ tells.
+    let good = is_good (g.D.Flash.told c.args.flash.now).now c.args.rows.now c.args.first c.args.manifest.now in
+    none_bad good 0 (length c.args.rows.now - 1) (λ i low high. c.loop-k.invariant.all_good tells i (omega arith))

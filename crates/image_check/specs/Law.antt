@@ -1,0 +1,34 @@
+-- A bank is good exactly where it holds a complete package that is permitted.
+use Rattle.std.specs.Prelude.{◌≡◌, ℕ, Bool, true, false, List, Some, IsTrue}
+use Rattle.fwu_model.specs.Layout.{fits_layout}
+use Rattle.fwu_model.specs.Manifest.{version}
+use Rattle.fwu_model.specs.Flash.{package_in}
+use Rattle.fwu_model.specs.Sound.{Setting, is_permitted, holds_permitted}
+use Rattle.image_check.specs.declared.bank.Verdict.{Verdict}
+use Rattle.image_check.specs.declared.bank.Verdict.TheVariants.{Good, BadManifest, NotAccepted, BadImage, BelowCounter}
+use Rattle.image_check.specs.Verdict.{verdict_on}
+
+-- the bank holds a permitted package of this version
+abbrev pub HoldsPermitted : Setting → ℕ → List ℕ → ℕ → ℕ → Type 0
+HoldsPermitted E counter image bank v =
+    (p : List (List ℕ)) × (package_in E.layout image bank ≡ Some p) × IsTrue (is_permitted E counter p) × (version p ≡ v)
+
+abbrev pub GoodIsPermitted : Type 0
+GoodIsPermitted = (E : Setting) (counter : ℕ) (image : List ℕ) (bank v : ℕ) → IsTrue (fits_layout E.layout)
+    → verdict_on E.passes counter E.layout image bank ≡ Good v → HoldsPermitted E counter image bank v
+
+abbrev pub PermittedIsGood : Type 0
+PermittedIsGood = (E : Setting) (counter : ℕ) (image : List ℕ) (bank v : ℕ) → IsTrue (fits_layout E.layout)
+    → HoldsPermitted E counter image bank v → verdict_on E.passes counter E.layout image bank ≡ Good v
+
+-- the bank may be started
+abbrev pub may_start : Verdict → Bool
+may_start (Good v) = true
+may_start BadManifest = false
+may_start NotAccepted = false
+may_start (BadImage image) = false
+may_start (BelowCounter v counter) = false
+
+abbrev pub GoodIsHeld : Type 0
+GoodIsHeld = (E : Setting) (counter : ℕ) (image : List ℕ) (bank : ℕ) → IsTrue (fits_layout E.layout)
+    → may_start (verdict_on E.passes counter E.layout image bank) ≡ holds_permitted E counter (package_in E.layout image bank)

@@ -1,0 +1,37 @@
+-- The verdict on a bank, by what a flash holds.
+use Rattle.std.specs.Prelude.{ℕ, zero, suc, ◌+◌, Bool, not, nat_lt, if◌then◌else◌, List, [], length, Option, Some, None, Result, Ok, Err, slice_index_or}
+use Rattle.fwu_model.specs.Layout.{Layout}
+use Rattle.fwu_model.specs.Manifest.{Manifest, manifest_of, manifest_part, is_image_of}
+use Rattle.fwu_model.specs.Flash.{slot, images_in}
+use Rattle.fwu_model.specs.declared.kinds.ManifestFault.{ManifestFault}
+use Rattle.image_check.specs.declared.bank.Verdict.{Verdict}
+use Rattle.image_check.specs.declared.bank.Verdict.TheVariants as verdict
+
+-- the lowest image after the manifest that isn't good, of n from row k on; row k is that of image k + 1
+abbrev pub lowest_bad : (ℕ → Bool) → ℕ → ℕ → Option ℕ
+lowest_bad good k zero = None
+lowest_bad good k (suc n) = if good k then lowest_bad good (k + 1) n else Some (k + 1)
+
+-- a version equal to the counter is not below it
+abbrev pub by_counter : ℕ → ℕ → Verdict
+by_counter counter version = if nat_lt version counter then verdict.BelowCounter version counter else verdict.Good version
+
+abbrev pub by_images : ℕ → ℕ → Option ℕ → Verdict
+by_images counter version None = by_counter counter version
+by_images counter version (Some image) = verdict.BadImage image
+
+-- whether image j + 1 of the package is what row j says
+abbrev pub has_image : Manifest → List (List ℕ) → ℕ → Bool
+has_image m p j = is_image_of (slice_index_or m.rows j (record { guid = []; size = 0; version = 0; digest = [] })) (slice_index_or p (j + 1) [])
+
+abbrev pub by_package : (List ℕ → Bool) → ℕ → Manifest → List (List ℕ) → Verdict
+by_package passes counter m p =
+    if not (passes (manifest_part p)) then verdict.NotAccepted else by_images counter m.security (lowest_bad (has_image m p) 0 (length m.rows))
+
+abbrev pub by_manifest : (List ℕ → Bool) → ℕ → Layout → List ℕ → ℕ → Result Manifest ManifestFault → Verdict
+by_manifest passes counter L image bank (Err e) = verdict.BadManifest
+by_manifest passes counter L image bank (Ok m) = by_package passes counter m (images_in L image bank m)
+
+-- the verdict on a bank of a flash
+unfoldable pub verdict_on : (List ℕ → Bool) → ℕ → Layout → List ℕ → ℕ → Verdict
+verdict_on passes counter L image bank = by_manifest passes counter L image bank (manifest_of L.rows (slot L image bank 0))

@@ -1,0 +1,131 @@
+//! The verdict on a bank.
+ghost use Rattle.std.specs.Prelude.{◌≡◌, ◌+◌, ◌-◌, ◌<◌, ◌≤◌, length, is_ok, IsTrue, IfOk};
+ghost use Rattle.flash_core.specs.Counts.{Spends, arming_kept};
+ghost use Rattle.fwu_model.specs.Layout.{slot_total, blocks_needed};
+ghost use Rattle.fwu_model.specs.Manifest as model;
+ghost use Rattle.image_check.specs.Found.{found, front_of};
+ghost use Rattle.image_check.specs.Verdict.{by_counter, verdict_on};
+
+use crate::images::first_bad;
+use base_core::ImageRow;
+use flash_core::{Flash, FlashStop};
+use manifest_core::{manifest_size, test};
+use meta_layout::Layout;
+use verify_core::Verifier;
+
+/// What is found of a bank, the first of these that is so: its manifest is none of the layout's images; the verifier
+/// refuses the manifest; an image, the lowest, has not the digest that its row says; the security version is below the
+/// counter. Else it is good.
+#[derive(Clone, Copy, Debug, PartialEq, Eq)]
+pub enum Verdict {
+    Good { version: u32 },
+    BadManifest,
+    NotAccepted,
+    BadImage { image: u32 },
+    BelowCounter { version: u32, counter: u32 },
+}
+
+fn of_counter(version: u32, counter: u32) -> Verdict
+    ensures { result ≡ by_counter counter version }
+{
+    if version < counter {
+        Verdict::BelowCounter { version, counter }
+    } else {
+        Verdict::Good { version }
+    }
+}
+
+/// The verdict on a bank that has this manifest at its front.
+fn check_manifest<D: Flash, V: Verifier>(
+    flash: &mut D,
+    rows: &[ImageRow],
+    first: u32,
+    manifest: &[u8],
+    counter: u32,
+    buf: &mut [u8],
+    verifier: &V,
+) -> Result<Verdict, FlashStop>
+    requires on { IsTrue (D.on flash.old) }
+    requires room { 0 < length buf.old }
+    requires some { 1 ≤ length rows.now }
+    requires few { length rows.now ≤ 16 }
+    requires manifest { length manifest.now ≡ model.manifest_size (length rows.now - 1) }
+    requires inside { first + slot_total rows.now ≤ D.blocks flash.old }
+    ensures verdict { IfOk result (λ verdict. IsTrue D.tells → verdict ≡ found (V.passes verifier.now) counter (D.told flash.old).now rows.now first manifest.now) }
+    ensures content { IsTrue D.tells → D.told flash.new ≡ D.told flash.old }
+    ensures power { D.on flash.new ≡ is_ok result }
+    ensures size { D.blocks flash.new ≡ D.blocks flash.old }
+    ensures costs { Spends result (D.counts flash.old) (D.counts flash.new) }
+    ensures reached { (D.counts flash.new).reached ≡ (D.counts flash.old).reached }
+    ensures arming { D.arming flash.new ≡ arming_kept result (D.arming flash.old) }
+{
+    let version = match test(manifest, rows) {
+        Ok(version) => version,
+        Err(_) => return Ok(Verdict::BadManifest),
+    };
+    if !verifier.accepts(manifest) {
+        return Ok(Verdict::NotAccepted);
+    }
+    match first_bad(flash, rows, first, manifest, buf)? {
+        Some(image) => Ok(Verdict::BadImage { image }),
+        None => Ok(of_counter(version, counter)),
+    }
+}
+
+/// The verdict on a bank that begins at this block.
+fn check_at<D: Flash, V: Verifier>(
+    flash: &mut D,
+    rows: &[ImageRow],
+    first: u32,
+    counter: u32,
+    buf: &mut [u8],
+    verifier: &V,
+) -> Result<Verdict, FlashStop>
+    requires on { IsTrue (D.on flash.old) }
+    requires room { 0 < length buf.old }
+    requires some { 1 ≤ length rows.now }
+    requires few { length rows.now ≤ 16 }
+    requires block { first < D.blocks flash.old }
+    requires inside { first + slot_total rows.now ≤ D.blocks flash.old }
+    ensures verdict { IfOk result (λ verdict. IsTrue D.tells → verdict ≡ found (V.passes verifier.now) counter (D.told flash.old).now rows.now first (front_of (D.told flash.old).now rows.now first)) }
+    ensures content { IsTrue D.tells → D.told flash.new ≡ D.told flash.old }
+    ensures power { D.on flash.new ≡ is_ok result }
+    ensures size { D.blocks flash.new ≡ D.blocks flash.old }
+    ensures costs { Spends result (D.counts flash.old) (D.counts flash.new) }
+    ensures reached { (D.counts flash.new).reached ≡ (D.counts flash.old).reached }
+    ensures arming { D.arming flash.new ≡ arming_kept result (D.arming flash.old) }
+{
+    let mut front = [0; 888];
+    let manifest = &mut front[..manifest_size(rows)];
+    flash.read(4096 * first, manifest)?;
+    check_manifest(flash, rows, first, manifest, counter, buf, verifier)
+}
+
+/// The verdict on a bank, by what the flash holds. The bank's manifest stands at the front of the slot of image 0, and
+/// its images are the first bytes of their slots, of the lengths that their rows say. The verifier is asked only of a
+/// manifest that passes, and given exactly its bytes. The images are read through the buffer, of at least 4096 bytes,
+/// and the flash is only read. No memory is taken.
+pub fn check<D: Flash, V: Verifier>(
+    flash: &mut D,
+    layout: &Layout,
+    bank: u32,
+    counter: u32,
+    buf: &mut [u8],
+    verifier: &V,
+) -> Result<Verdict, FlashStop>
+    requires on { IsTrue (D.on flash.old) }
+    requires room { 4096 ≤ length buf.old }
+    requires fits { blocks_needed layout.now ≤ D.blocks flash.old }
+    requires bank { bank < layout.now.banks }
+    ensures verdict { IfOk result (λ verdict. IsTrue D.tells → verdict ≡ verdict_on (V.passes verifier.now) counter layout.now (D.told flash.old).now bank) }
+    ensures content { IsTrue D.tells → D.told flash.new ≡ D.told flash.old }
+    ensures power { D.on flash.new ≡ is_ok result }
+    ensures size { D.blocks flash.new ≡ D.blocks flash.old }
+    ensures costs { Spends result (D.counts flash.old) (D.counts flash.new) }
+    ensures reached { (D.counts flash.new).reached ≡ (D.counts flash.old).reached }
+    ensures arming { D.arming flash.new ≡ arming_kept result (D.arming flash.old) }
+{
+    let rows = layout.rows();
+    let first = layout.start(bank, 0);
+    check_at(flash, rows, first, counter, buf, verifier)
+}

@@ -1,0 +1,11 @@
+//! Whether a bank may be started: its manifest, whether that is accepted, its images, and the anti-rollback counter.
+#![tactic(auto)]
+
+mod bank;
+mod images;
+mod laws;
+#[cfg(test)]
+mod tests;
+
+pub use bank::{Verdict, check};
+pub use laws::good_is_permitted;

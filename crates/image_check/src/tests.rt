@@ -1,0 +1,189 @@
+ghost use Rattle.std.specs.Prelude.{◌<◌, Bool, false, List, [], IsTrue};
+ghost use Rattle.std.proofs.Common.{lit≤};
+ghost use Rattle.std.proofs.lemmas.Bool.{false≢true};
+ghost use Rattle.flash_core.specs.Told.{fresh};
+
+use super::*;
+use base_core::{Guid, ImageRow};
+use flash_core::{Arming, Counts, Flash, FlashStop};
+use meta_layout::Layout;
+use verify_core::{AnyManifest, Verifier};
+
+// A manifest of one image, "abc", with security version 7, as Python's struct and hashlib make it.
+const MANIFEST: [u8; 104] = [
+    0x46, 0x57, 0x4D, 0x46, 0x01, 0x00, 0x00, 0x00, 0x07, 0x00, 0x00, 0x00, 0x01, 0x00, 0x00, 0x00,
+    0x01, 0x02, 0x03, 0x04, 0x05, 0x06, 0x07, 0x08, 0x09, 0x0A, 0x0B, 0x0C, 0x0D, 0x0E, 0x0F, 0x10,
+    0x03, 0x00, 0x00, 0x00, 0x09, 0x00, 0x00, 0x00, 0xBA, 0x78, 0x16, 0xBF, 0x8F, 0x01, 0xCF, 0xEA,
+    0x41, 0x41, 0x40, 0xDE, 0x5D, 0xAE, 0x22, 0x23, 0xB0, 0x03, 0x61, 0xA3, 0x96, 0x17, 0x7A, 0x9C,
+    0xB4, 0x10, 0xFF, 0x61, 0xF2, 0x00, 0x15, 0xAD, 0xD6, 0x74, 0xF6, 0x6D, 0x3F, 0xC3, 0xCE, 0x3C,
+    0x53, 0xB4, 0x3C, 0xA7, 0xBE, 0xCD, 0x04, 0x1C, 0x9E, 0xFE, 0x0A, 0x87, 0x73, 0xA0, 0x04, 0xC8,
+    0xE1, 0xE6, 0x7B, 0x59, 0x77, 0xFD, 0x2B, 0xB9,
+];
+
+fn rows() -> [ImageRow; 2] {
+    [
+        ImageRow {
+            guid: Guid::of([0xAA; 16]),
+            slots: 1,
+        },
+        ImageRow {
+            guid: Guid::of([1, 2, 3, 4, 5, 6, 7, 8, 9, 10, 11, 12, 13, 14, 15, 16]),
+            slots: 1,
+        },
+    ]
+}
+
+// A device that is only read: three banks of two blocks have the manifest, the first of them the image, and the
+// third one a fault in its manifest.
+struct Rom {
+    on: bool,
+    arming: Option<Arming>,
+    counts: Counts,
+}
+
+fn byte_at(at: u32) -> u8 {
+    let place = (at % 8192) as usize;
+    if place < 104 {
+        if at / 8192 == 6 {
+            MANIFEST[place] ^ 1
+        } else {
+            MANIFEST[place]
+        }
+    } else if place == 4096 && at / 8192 == 4 {
+        b'a'
+    } else if place == 4097 && at / 8192 == 4 {
+        b'b'
+    } else {
+        b'c'
+    }
+}
+
+impl Rom {
+    fn new() -> Rom
+        ensures { IsTrue result.on }
+    {
+        Rom {
+            on: true,
+            arming: None,
+            counts: Counts {
+                faults: 0,
+                cuts: 0,
+                chances: 0,
+                made: 0,
+                reached: 0,
+            },
+        }
+    }
+}
+
+impl Flash for Rom {
+    ghost on = { λ rom. rom.on };
+
+    ghost blocks = { λ rom. 14 };
+
+    ghost tells = { false };
+
+    ghost told = { λ rom. fresh [] [] };
+
+    ghost landed = { λ rom. 0 };
+
+    ghost arming = { λ rom. rom.arming };
+
+    ghost counts = { λ rom. rom.counts };
+
+    fn blocks(&self) -> u32 {
+        14
+    }
+
+    fn is_on(&self) -> bool {
+        self.on
+    }
+
+    fn read(&mut self, at: u32, out: &mut [u8]) -> Result<(), FlashStop> {
+        for i in 0..out.len() {
+            out[i] = byte_at(at + i as u32);
+        }
+        Ok(())
+    }
+
+    fn erase(&mut self, _block: u32) -> Result<(), FlashStop> {
+        self.on = false;
+        self.counts.faults = self.counts.faults.saturating_add(1);
+        Err(FlashStop::Failed)
+    }
+
+    fn program(&mut self, _at: u32, _bytes: &[u8]) -> Result<(), FlashStop> {
+        self.on = false;
+        self.counts.faults = self.counts.faults.saturating_add(1);
+        Err(FlashStop::Failed)
+    }
+
+    fn barrier(&mut self) -> Result<(), FlashStop> {
+        Ok(())
+    }
+
+    fn arm(&mut self, n: u32, k: u32) {
+        self.arming = Some(Arming { n, k });
+        self.counts.made = self.counts.made.saturating_add(1);
+    }
+
+    fn power_on(&mut self) {
+        self.on = true;
+    }
+
+    ghost sizes = { λ rom. (lit≤ tt, lit≤ tt) };
+
+    ghost sound = { λ rom tells. absurd (false≢true tells) };
+}
+
+// It refuses each manifest.
+struct NoManifest;
+
+impl Verifier for NoManifest {
+    ghost passes = { λ no manifest. false };
+
+    fn accepts(&self, _manifest: &[u8]) -> bool {
+        false
+    }
+}
+
+// The verdict by the device and its layout of three banks.
+fn verdict<V: Verifier>(bank: u32, counter: u32, verifier: &V) -> Option<Verdict> {
+    let layout = Layout::make(&rows(), 3, 14).ok()?;
+    if layout.blocks() > 14 || bank >= layout.banks() {
+        return None;
+    }
+    let mut rom = Rom::new();
+    let mut buf = [0; 4096];
+    let result = check(&mut rom, &layout, bank, counter, &mut buf, verifier);
+    let Rom {
+        on: _,
+        arming: _,
+        counts: _,
+    } = rom;
+    result.ok()
+}
+
+#[test]
+fn verdicts(rt: HostRuntime) {
+    assert_eq!(rt;
+        verdict(0, 7, &AnyManifest),
+        Some(Verdict::Good { version: 7 })
+    );
+    assert_eq!(rt;
+        verdict(0, 8, &AnyManifest),
+        Some(Verdict::BelowCounter {
+            version: 7,
+            counter: 8
+        })
+    );
+    assert_eq!(rt;
+        verdict(1, 8, &AnyManifest),
+        Some(Verdict::BadImage { image: 1 })
+    );
+    assert_eq!(rt; verdict(2, 8, &AnyManifest), Some(Verdict::BadManifest));
+    let no = NoManifest;
+    assert_eq!(rt; verdict(1, 8, &no), Some(Verdict::NotAccepted));
+    assert_eq!(rt; verdict(2, 8, &no), Some(Verdict::BadManifest));
+    let NoManifest = no;
+}

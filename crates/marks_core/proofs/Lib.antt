@@ -1,0 +1,4 @@
+pub mod Granules
+pub mod Counting
+pub mod Clearing
+pub mod Recording

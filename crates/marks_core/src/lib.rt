@@ -1,0 +1,11 @@
+//! Counts that a flash keeps: marks in a block, and the anti-rollback counter.
+#![tactic(auto)]
+
+mod marks;
+mod record;
+mod rollback;
+#[cfg(test)]
+mod tests;
+
+pub use marks::{add, clear, count};
+pub use rollback::{counter, raise};

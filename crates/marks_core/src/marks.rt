@@ -1,0 +1,88 @@
+//! Marks: granules of 16 bytes that aren't blank. A block of 4096 bytes has 256 of them.
+ghost use Rattle.std.specs.Prelude.{◌≡◌, ◌+◌, ◌*◌, ◌<◌, ◌≤◌, is_ok, IsTrue, IfOk, length};
+ghost use Rattle.base_core.specs.Block.{granule};
+ghost use Rattle.flash_core.specs.Counts.{Spends};
+ghost use Rattle.fwu_model.specs.Flash.{is_blank, marks};
+ghost use Rattle.marks_core.specs.Marks.{Adds, Clears};
+
+use flash_core::{Flash, FlashStop, read_block};
+
+fn all_erased(bytes: &[u8]) -> bool
+    ensures { result ≡ is_blank bytes.now }
+{
+    bytes.iter().all(|byte| *byte == 0xFF)
+}
+
+/// The number of marks in a block: its granules before the first blank one, of which no more than the limit count.
+/// It reads granule by granule, and no further than that blank one.
+pub fn count<D: Flash>(flash: &mut D, block: u32, limit: u32) -> Result<u32, FlashStop>
+    requires on { IsTrue (D.on flash.old) }
+    requires inside { block < D.blocks flash.old }
+    requires limit { limit ≤ 256 }
+
+    ensures marks { IfOk result (λ n. IsTrue D.tells → n ≡ marks (D.told flash.old).now block limit) }
+    ensures within { IfOk result (λ n. n ≤ limit) }
+    ensures content { IsTrue D.tells → D.told flash.new ≡ D.told flash.old }
+    ensures power { D.on flash.new ≡ is_ok result }
+    ensures size { D.blocks flash.new ≡ D.blocks flash.old }
+    ensures costs { Spends result (D.counts flash.old) (D.counts flash.new) }
+{
+    let mut bytes = [0; 16];
+    for place in 0..limit {
+        flash.read(4096 * block + 16 * place, &mut bytes)?;
+        if all_erased(&bytes) {
+            return Ok(place);
+        }
+    }
+    Ok(limit)
+}
+
+/// Programs 16 zero bytes into granule `at` of a block, which is blank, and makes a barrier.
+pub fn add<D: Flash>(flash: &mut D, block: u32, at: u32) -> Result<(), FlashStop>
+    requires on { IsTrue (D.on flash.old) }
+    requires inside { block < D.blocks flash.old }
+    requires place { at ≤ 255 }
+    requires blank { IsTrue D.tells → IsTrue (is_blank (granule block at (D.told flash.old).now)) }
+
+    ensures adds { IsTrue D.tells → Adds result block at (D.told flash.old) (D.told flash.new) }
+    ensures power { D.on flash.new ≡ is_ok result }
+    ensures size { D.blocks flash.new ≡ D.blocks flash.old }
+    ensures costs { Spends result (D.counts flash.old) (D.counts flash.new) }
+{
+    flash.program(4096 * block + 16 * at, &[0; 16])?;
+    flash.barrier()
+}
+
+/// Erases a block and makes a barrier, unless the block is blank. The first 4096 bytes of the buffer are used.
+pub fn clear<D: Flash>(flash: &mut D, block: u32, buf: &mut [u8]) -> Result<(), FlashStop>
+    requires on { IsTrue (D.on flash.old) }
+    requires inside { block < D.blocks flash.old }
+    requires room { 4096 ≤ length buf.old }
+
+    ensures clears { IsTrue D.tells → Clears result block (D.told flash.old) (D.told flash.new) }
+    ensures power { D.on flash.new ≡ is_ok result }
+    ensures size { D.blocks flash.new ≡ D.blocks flash.old }
+    ensures costs { Spends result (D.counts flash.old) (D.counts flash.new) }
+    ensures buffer { length buf.new ≡ length buf.old }
+{
+    clear_by(flash, block, &mut buf[..4096])
+}
+
+fn clear_by<D: Flash>(flash: &mut D, block: u32, buf: &mut [u8]) -> Result<(), FlashStop>
+    requires on { IsTrue (D.on flash.old) }
+    requires inside { block < D.blocks flash.old }
+    requires room { length buf.old ≡ 4096 }
+
+    ensures clears { IsTrue D.tells → Clears result block (D.told flash.old) (D.told flash.new) }
+    ensures power { D.on flash.new ≡ is_ok result }
+    ensures size { D.blocks flash.new ≡ D.blocks flash.old }
+    ensures costs { Spends result (D.counts flash.old) (D.counts flash.new) }
+    ensures buffer { length buf.new ≡ length buf.old }
+{
+    read_block(flash, block, buf)?;
+    if all_erased(buf) {
+        return Ok(());
+    }
+    flash.erase(block)?;
+    flash.barrier()
+}

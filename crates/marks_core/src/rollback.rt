@@ -1,0 +1,98 @@
+//! The anti-rollback counter: marks in block 4, an older form, and records in blocks 5 and 6, an own format.
+ghost use Rattle.std.specs.Prelude.{◌≡◌, ◌<◌, ◌≤◌, length, is_ok, IsTrue, IfOk, max, unwrap_or};
+ghost use Rattle.base_core.specs.Block.{block};
+ghost use Rattle.flash_core.specs.Counts.{Spends};
+ghost use Rattle.fwu_model.specs.Counter.{counter_in};
+ghost use Rattle.marks_core.specs.Raises.{value_in, place_for, record_place, Raises};
+
+use crate::marks::count;
+use crate::record::{record_bytes, value_in};
+use flash_core::{Flash, FlashStop, read_block, replace};
+
+/// The value of the record in a block.
+fn record_at<D: Flash>(flash: &mut D, b: u32, buf: &mut [u8]) -> Result<Option<u32>, FlashStop>
+    requires on { IsTrue (D.on flash.old) }
+    requires inside { b < D.blocks flash.old }
+    requires room { length buf.old ≡ 4096 }
+
+    ensures value { IfOk result (λ r. IsTrue D.tells → r ≡ value_in (block b (D.told flash.old).now)) }
+    ensures content { IsTrue D.tells → D.told flash.new ≡ D.told flash.old }
+    ensures power { D.on flash.new ≡ is_ok result }
+    ensures size { D.blocks flash.new ≡ D.blocks flash.old }
+    ensures costs { Spends result (D.counts flash.old) (D.counts flash.new) }
+    ensures buffer { length buf.new ≡ length buf.old }
+{
+    read_block(flash, b, buf)?;
+    Ok(value_in(buf))
+}
+
+fn greatest(marks: u32, first: Option<u32>, second: Option<u32>) -> u32
+    ensures { result ≡ max marks (max (unwrap_or first 0) (unwrap_or second 0)) }
+{
+    marks.max(first.unwrap_or(0).max(second.unwrap_or(0)))
+}
+
+/// The counter: the greatest of the first 223 marks of block 4 and of the records in blocks 5 and 6, and 0 where there is none.
+pub fn counter<D: Flash>(flash: &mut D) -> Result<u32, FlashStop>
+    requires { IsTrue (D.on flash.old) }
+
+    ensures counter { IfOk result (λ n. IsTrue D.tells → n ≡ counter_in (D.told flash.old).now) }
+    ensures content { IsTrue D.tells → D.told flash.new ≡ D.told flash.old }
+    ensures power { D.on flash.new ≡ is_ok result }
+    ensures size { D.blocks flash.new ≡ D.blocks flash.old }
+    ensures costs { Spends result (D.counts flash.old) (D.counts flash.new) }
+{
+    let mut block = [0; 4096];
+    let marks = count(flash, 4, 223)?;
+    let first = record_at(flash, 5, &mut block)?;
+    let second = record_at(flash, 6, &mut block)?;
+    Ok(greatest(marks, first, second))
+}
+
+/// Where a new record goes: to block 5 or 6.
+fn place_for(first: Option<u32>, second: Option<u32>) -> u32
+    ensures value { result ≡ place_for first second }
+    ensures inside { (5 ≤ result) × (result ≤ 6) }
+{
+    let Some(a) = first else {
+        return 5;
+    };
+    let Some(b) = second else {
+        return 6;
+    };
+    if b < a { 6 } else { 5 }
+}
+
+fn record_place<D: Flash>(flash: &mut D, buf: &mut [u8]) -> Result<u32, FlashStop>
+    requires on { IsTrue (D.on flash.old) }
+    requires room { length buf.old ≡ 4096 }
+
+    ensures place { IfOk result (λ r. IsTrue D.tells → r ≡ record_place (D.told flash.old).now) }
+    ensures inside { IfOk result (λ r. (5 ≤ r) × (r ≤ 6)) }
+    ensures content { IsTrue D.tells → D.told flash.new ≡ D.told flash.old }
+    ensures power { D.on flash.new ≡ is_ok result }
+    ensures size { D.blocks flash.new ≡ D.blocks flash.old }
+    ensures costs { Spends result (D.counts flash.old) (D.counts flash.new) }
+    ensures buffer { length buf.new ≡ length buf.old }
+{
+    let first = record_at(flash, 5, buf)?;
+    let second = record_at(flash, 6, buf)?;
+    Ok(place_for(first, second))
+}
+
+/// Raises the counter to a value above it: one record, by erase, program and barrier, into block 5 where neither or only block 6 is a record,
+/// into block 6 where only block 5 is, else over the lower value (5 at a tie). The first 4096 bytes of the buffer are used.
+pub fn raise<D: Flash>(flash: &mut D, v: u32, buf: &mut [u8]) -> Result<(), FlashStop>
+    requires on { IsTrue (D.on flash.old) }
+    requires room { 4096 ≤ length buf.old }
+    requires above { IsTrue D.tells → counter_in (D.told flash.old).now < v }
+
+    ensures raises { IsTrue D.tells → Raises result v (D.told flash.old) (D.told flash.new) }
+    ensures power { D.on flash.new ≡ is_ok result }
+    ensures size { D.blocks flash.new ≡ D.blocks flash.old }
+    ensures costs { Spends result (D.counts flash.old) (D.counts flash.new) }
+    ensures buffer { length buf.new ≡ length buf.old }
+{
+    let place = record_place(flash, &mut buf[..4096])?;
+    replace(flash, place, &record_bytes(v))
+}

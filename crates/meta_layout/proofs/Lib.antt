@@ -1,0 +1,10 @@
+pub mod Arrays
+pub mod ImageRows
+pub mod Layouts
+pub mod Places
+pub mod Fits
+pub mod Metas
+pub mod Writes
+pub mod Firsts
+pub mod OneSpelling
+pub mod Same

@@ -1,0 +1,323 @@
+-- What is read in version 2 has one spelling: the bytes of a block follow from the value.
+use Rattle.std.proofs.Common.{◌≡◌, ℕ, zero, suc, ◌+◌, ◌-◌, ◌*◌, ◌/◌, ◌%◌, ◌<◌, ◌≤◌, ◌⊎◌, inl, inr, Bool, true, false, not, ◌&&◌, ◌||◌, ◌==◌, IsTrue, ltb, leb, leb-true, eqb, eqb-true, ltb-true, ltb-false, List, [], ◌∷◌, ◌++◌, length, get_or, take, drop, drop-cons, map, replicate, Result, Ok, Err, refl, sym, ap, subst, ◌∙◌, arith, length-drop, zero-add}
+use Rattle.std.specs.Prelude.{flat_map, nat_lt}
+use Rattle.std.specs.List.{list_all, range_with_len}
+use Rattle.std.proofs.Math.Nat.{suc-mul}
+use Rattle.std.proofs.Math.Seq.{take-add}
+use Rattle.std.proofs.lemmas.Bool.{and_parts, and_from, not-false, cond_both, cases_lt}
+use Rattle.std.proofs.lemmas.List.{drop-drop, length-take-le, get_or-take, get_or-drop}
+use Rattle.std.proofs.lemmas.List.FromFn.{get_or-map-range_with_len, length-map-range_with_len, map-range_with_len_more}
+use Rattle.base_core.specs.Bytes.{num, le, num_at, part, same_bytes, listed, are_bytes}
+use Rattle.base_core.specs.Crc.{crc}
+use Rattle.base_core.proofs.Spelled.{same_is}
+use Rattle.fwu_model.specs.Layout.{Layout, nil_guid, fits_layout, blocks_needed, layout_magic, layout_of, layout_at, layout_size, layout_body, layout_bytes, row_bytes, has_zeros}
+use Rattle.fwu_model.specs.declared.kinds.LayoutFault.{LayoutFault}
+use Rattle.meta_layout.specs.Rows.{row_at}
+use Rattle.fwu_model.specs.Metadata.{Meta, MetaRead, meta_of, meta_bytes, meta_body, meta_size, meta_size_v1, entry_size, entry_place, entry_bytes, entries_bytes, bit_at, bit_number, bits_from, has_bank_entry, has_entry, has_entries, has_states, has_indices, has_fields, header_fields, is_state_byte, state_byte, state_of_byte, meta_at, meta_at_v1, read_v2, read_v1, fits_v2, fits_v1}
+use Rattle.fwu_model.specs.declared.kinds.BankState.{BankState}
+use Rattle.fwu_model.specs.declared.kinds.MetaFault.{MetaFault}
+use Rattle.fwu_model.specs.declared.kinds.MetaFault.TheVariants as fault
+use Rattle.fwu_model.proofs.SealLaws.{was_not_refused, limits}
+use Rattle.meta_layout.proofs.Fits.{all-at, same-Ok}
+use Rattle.meta_layout.proofs.Places.{within}
+use Rattle.meta_layout.proofs.Writes.{listed-more, map-last}
+
+all-take : {X : Type 0} (test : X → Bool) (n : ℕ) (xs : List X) → IsTrue (list_all test xs) → IsTrue (list_all test (take n xs))
+all-take test zero xs h = refl
+all-take test (suc n) [] h = refl
+all-take test (suc n) (x ∷ xs) h = let both = and_parts (test x) _ h in and_from _ _ both.0 (all-take test n xs both.1)
+
+all-drop : {X : Type 0} (test : X → Bool) (n : ℕ) (xs : List X) → IsTrue (list_all test xs) → IsTrue (list_all test (drop n xs))
+all-drop test zero xs h = h
+all-drop test (suc n) [] h = refl
+all-drop test (suc n) (x ∷ xs) h = all-drop test n xs (and_parts (test x) _ h).1
+
+-- bytes are the spelling of their number
+le-num : (bytes : List ℕ) → IsTrue (are_bytes bytes) → le (length bytes) (num bytes) ≡ bytes
+le-num [] h = refl
+le-num (b ∷ bytes) h =
+    let both = and_parts (ltb b 256) (are_bytes bytes) h in
+    let small = ltb-true b 256 both.0 in
+    let low : (b + 256 * num bytes) % 256 ≡ b = omega (arith, small) in
+    let high : (b + 256 * num bytes) / 256 ≡ num bytes = omega (arith, small) in
+    rw (low, high) (ap (λ l. b ∷ l) (le-num bytes both.1))
+
+all-one : (v : ℕ) (bytes : List ℕ) → IsTrue (list_all (λ b. b == v) bytes) → bytes ≡ replicate (length bytes) v
+all-one v [] h = refl
+all-one v (b ∷ bytes) h = let both = and_parts (b == v) _ h in let first = eqb-true b v both.0 in let rest = all-one v bytes both.1 in cc
+
+small-bit : (v : ℕ) → v < 2 → bit_number (v == 1) ≡ v
+small-bit zero h = refl
+small-bit (suc zero) h = refl
+small-bit (suc (suc v)) h = absurd (omega (arith, h))
+
+record IsState (v : ℕ) : Type 0 where
+  back : state_byte (state_of_byte v) ≡ v
+  small : v < 256
+
+either : (a b : Bool) → IsTrue (a || b) → IsTrue a ⊎ IsTrue b
+either true b h = inl refl
+either false b h = inr h
+
+a-state : (v : ℕ) → IsTrue (is_state_byte v) → IsState v
+a-state v h = elim (either ((v == 0xFF) || (v == 0xFE)) (v == 0xFC) h) [
+  | inl first ↦ elim (either (v == 0xFF) (v == 0xFE) first) [
+    | inl is ↦ subst IsState (sym (eqb-true v 0xFF is)) (record { back = refl; small = omega arith })
+    | inr is ↦ subst IsState (sym (eqb-true v 0xFE is)) (record { back = refl; small = omega arith })
+  ]
+  | inr is ↦ subst IsState (sym (eqb-true v 0xFC is)) (record { back = refl; small = omega arith })
+]
+
+-- a test that holds in a range
+at-range : (test : ℕ → Bool) (from n i : ℕ) → IsTrue (list_all test (range_with_len from n)) → from ≤ i → i < from + n → IsTrue (test i)
+at-range test from zero i h low high = absurd (omega (arith, low, high))
+at-range test from (suc n) i h low high =
+    let both = and_parts (test from) _ h in
+    elim (cases_lt from i) [
+      | inl below ↦ at-range test (from + 1) n i both.1 (omega (arith, below)) (omega (arith, high))
+      | inr same ↦ let here : from ≡ i = omega (arith, low, same) in subst (λ (k : ℕ). IsTrue (test k)) here both.0
+    ]
+
+module _ (block : List ℕ) (bytes : IsTrue (are_bytes block)) where
+  field : (at n : ℕ) → at + n ≤ length block → take n (drop at block) ≡ le n (num_at n block at)
+  field at n room =
+      let long : length (take n (drop at block)) ≡ n = length-take-le n (drop at block) (omega (arith, length-drop at block, room)) in
+      let fit : IsTrue (are_bytes (take n (drop at block))) = all-take (λ b. nat_lt b 256) n (drop at block) (all-drop (λ b. nat_lt b 256) at block bytes) in
+      sym (le-num (take n (drop at block)) fit) ∙ ap (λ k. le k (num_at n block at)) long
+
+  -- one piece more, behind those from a place on
+  next : (from at n : ℕ) (front piece : List ℕ) → take at (drop from block) ≡ front → take n (drop (from + at) block) ≡ piece → take (at + n) (drop from block) ≡ front ++ piece
+  next from at n front piece so is =
+      take-add at n (drop from block) ∙ ap (λ l. l ++ take n (drop at (drop from block))) so ∙ ap (λ (l : List ℕ). front ++ take n l) (drop-drop at from block) ∙ ap (λ l. front ++ l) is
+
+  next-num : (from at n v : ℕ) (front : List ℕ) → from + at + n ≤ length block → take at (drop from block) ≡ front → num_at n block (from + at) ≡ v → take (at + n) (drop from block) ≡ front ++ le n v
+  next-num from at n v front room so is = next from at n front (le n v) so (field (from + at) n room ∙ ap (le n) is)
+
+  pieces : (f : ℕ → List ℕ) (from size count : ℕ) → ((i : ℕ) → i < count → take size (drop (from + i * size) block) ≡ f i) → take (count * size) (drop from block) ≡ flat_map f (listed count (λ k. k))
+  pieces f from size zero h = let none : 0 * size ≡ 0 = omega arith in ap (λ (k : ℕ). take k (drop from block)) none
+  pieces f from size (suc n) h =
+      let so = pieces f from size n (λ i lt. h i (omega arith)) in
+      let more : suc n * size ≡ n * size + size = suc-mul n size ∙ omega arith in
+      let all = next from (n * size) size (flat_map f (listed n (λ k. k))) (f n) so (h n (omega arith)) in
+      let one : n + 1 ≡ suc n = omega arith in
+      ap (λ (k : ℕ). take k (drop from block)) more ∙ listed-more f n [] (flat_map f (listed n (λ k. k))) (take (n * size + size) (drop from block)) refl all ∙ ap (λ (k : ℕ). flat_map f (listed k (λ x. x))) one
+
+  one-at : (at : ℕ) → at < length block → num_at 1 block at ≡ get_or block at 0
+  one-at at lt = ap (λ (l : List ℕ). num (take 1 l)) (drop-cons block at 0 lt) ∙ omega arith
+
+  -- ---- the states
+
+  state-at : (banks bank : ℕ) → 24 + banks ≤ length block → IsTrue (list_all is_state_byte (take banks (drop 24 block))) → bank < banks → IsState (num_at 1 block (24 + bank))
+  state-at banks bank room h lt =
+      let long : length (take banks (drop 24 block)) ≡ banks = length-take-le banks (drop 24 block) (omega (arith, length-drop 24 block, room)) in
+      let here : get_or (take banks (drop 24 block)) bank 0 ≡ num_at 1 block (24 + bank) = get_or-take banks (drop 24 block) bank 0 lt ∙ get_or-drop 24 block bank 0 ∙ sym (one-at (24 + bank) (omega (arith, lt, room))) in
+      subst IsState here (a-state _ (all-at is_state_byte (take banks (drop 24 block)) bank 0 h (omega (arith, long, lt))))
+
+  states-spelled : (banks n : ℕ) → 24 + banks ≤ length block → IsTrue (list_all is_state_byte (take banks (drop 24 block))) → n ≤ banks
+      → take n (drop 24 block) ≡ map state_byte (listed n (λ bank. state_of_byte (num_at 1 block (24 + bank))))
+  states-spelled banks zero room h few = refl
+  states-spelled banks (suc n) room h few =
+      let g : ℕ → BankState = λ bank. state_of_byte (num_at 1 block (24 + bank)) in
+      let so = states-spelled banks n room h (omega (arith, few)) in
+      let s = state-at banks n room h (omega (arith, few)) in
+      let low : num_at 1 block (24 + n) % 256 ≡ num_at 1 block (24 + n) = omega (arith, s.small) in
+      let piece : take 1 (drop (24 + n) block) ≡ state_byte (g n) ∷ [] = field (24 + n) 1 (omega (arith, few, room)) ∙ ap (λ (v : ℕ). v ∷ []) (low ∙ sym s.back) in
+      let one : suc n ≡ n + 1 = omega arith in
+      ap (λ (k : ℕ). take k (drop 24 block)) one ∙ next 24 n 1 (map state_byte (listed n g)) (state_byte (g n) ∷ []) so piece
+      ∙ sym (map-last (listed n g) (g n)) ∙ ap (map state_byte) (sym (map-range_with_len_more g 0 n n (zero-add n))) ∙ ap (λ (k : ℕ). map state_byte (listed k g)) (sym one)
+
+  unused-spelled : (banks : ℕ) → banks ≤ 4 → 28 ≤ length block → IsTrue (list_all (λ b. b == 0xFF) (part block (24 + banks) 28)) → take (4 - banks) (drop (24 + banks) block) ≡ replicate (4 - banks) 0xFF
+  unused-spelled banks few room h =
+      let n : 28 - (24 + banks) ≡ 4 - banks = omega arith in
+      let erased : IsTrue (list_all (λ b. b == 0xFF) (take (4 - banks) (drop (24 + banks) block))) = subst (λ (k : ℕ). IsTrue (list_all (λ b. b == 0xFF) (take k (drop (24 + banks) block)))) n h in
+      let long : length (take (4 - banks) (drop (24 + banks) block)) ≡ 4 - banks = length-take-le (4 - banks) (drop (24 + banks) block) (omega (arith, length-drop (24 + banks) block, room, few)) in
+      all-one 0xFF _ erased ∙ ap (λ k. replicate k 0xFF) long
+
+  module _ (L : Layout) (fits : IsTrue (fits_layout L)) (room : meta_size L ≤ length block) where
+    abbrev m : Meta
+    m = meta_at L block
+
+    abbrev guid_of : ℕ → List ℕ
+    guid_of image = (get_or L.rows image (record { guid = nil_guid; slots = 0 })).guid
+
+    abbrev bank_bytes : ℕ → ℕ → List ℕ
+    bank_bytes image bank = guid_of image ++ le 4 (bit_number (bit_at m bank image)) ++ le 4 0
+
+    bit-is : (image bank : ℕ) → image < length L.rows → bank < L.banks → bit_at m bank image ≡ (num_at 4 block (entry_place L 0x28 image + 32 + 24 * bank + 16) == 1)
+    bit-is image bank lt below =
+        ap (λ (l : List Bool). get_or l image false) (get_or-map-range_with_len (bits_from L 0x28 block) 0 L.banks bank bank [] below (omega arith))
+        ∙ get_or-map-range_with_len (λ (i : ℕ). num_at 4 block (entry_place L 0x28 i + 32 + 24 * bank + 16) == 1) 0 (length L.rows) image image false lt (omega arith)
+
+    bank-spelled : (image bank : ℕ) → image < length L.rows → bank < L.banks → entry_place L 0x28 image + entry_size L ≤ length block
+        → IsTrue (has_bank_entry (guid_of image) block (entry_place L 0x28 image + 32 + 24 * bank)) → take 24 (drop (entry_place L 0x28 image + 32 + 24 * bank) block) ≡ bank_bytes image bank
+    bank-spelled image bank lt below inside h =
+        let p = entry_place L 0x28 image + 32 + 24 * bank in
+        let outer = and_parts _ (num_at 4 block (p + 20) == 0) h in
+        let inner = and_parts (same_bytes (take 16 (drop p block)) (guid_of image)) (ltb (num_at 4 block (p + 16)) 2) outer.0 in
+        let bit : num_at 4 block (p + 16) ≡ bit_number (bit_at m bank image) = sym (small-bit (num_at 4 block (p + 16)) (ltb-true _ 2 inner.1)) ∙ ap bit_number (sym (bit-is image bank lt below)) in
+        let typed = same_is (take 16 (drop p block)) (guid_of image) inner.0 in
+        next-num p 20 4 0 (guid_of image ++ le 4 (bit_number (bit_at m bank image))) (omega (arith, below, inside)) (next-num p 16 4 (bit_number (bit_at m bank image)) (guid_of image) (omega (arith, below, inside)) typed bit) (eqb-true _ 0 outer.1)
+
+    entry-spelled : (image : ℕ) → image < length L.rows → entry_place L 0x28 image + entry_size L ≤ length block → IsTrue (has_entry L 0x28 block image) → take (entry_size L) (drop (entry_place L 0x28 image) block) ≡ entry_bytes L m image
+    entry-spelled image lt inside h =
+        let at = entry_place L 0x28 image in
+        let outer = and_parts _ (list_all (λ bank. has_bank_entry (guid_of image) block (at + 32 + 24 * bank)) (range_with_len 0 L.banks)) h in
+        let inner = and_parts (same_bytes (take 16 (drop at block)) (guid_of image)) (same_bytes (take 16 (drop (at + 16) block)) nil_guid) outer.0 in
+        let typed = same_is (take 16 (drop at block)) (guid_of image) inner.0 in
+        let nowhere = same_is (take 16 (drop (at + 16) block)) nil_guid inner.1 in
+        let banked = pieces (bank_bytes image) (at + 32) 24 L.banks (λ bank below.
+        ap (λ (k : ℕ). take 24 (drop k block)) (omega arith) ∙ bank-spelled image bank lt below inside (at-range (λ bank. has_bank_entry (guid_of image) block (at + 32 + 24 * bank)) 0 L.banks bank outer.1 (omega arith) (omega (arith, below)))) in
+        let size : entry_size L ≡ 32 + L.banks * 24 = omega arith in
+        ap (λ (k : ℕ). take k (drop at block)) size ∙ next at 32 (L.banks * 24) (guid_of image ++ nil_guid) (flat_map (bank_bytes image) (listed L.banks (λ bank. bank))) (next at 16 16 (guid_of image) nil_guid typed nowhere) banked
+
+    entries-spelled : IsTrue (has_entries L 0x28 block) → take (length L.rows * entry_size L) (drop 0x28 block) ≡ entries_bytes L m
+    entries-spelled h =
+        pieces (entry_bytes L m) 0x28 (entry_size L) (length L.rows) (λ image lt.
+        entry-spelled image lt (let h = within image (length L.rows) (entry_size L) lt in omega (arith, h, room)) (at-range (has_entry L 0x28 block) 0 (length L.rows) image h (omega arith) (omega (arith, lt))))
+
+    body-spelled : num_at 4 block 4 ≡ 2 → num_at 4 block 16 ≡ meta_size L → IsTrue (fits_v2 L block) → part block 4 (meta_size L) ≡ meta_body L m
+    body-spelled version size h =
+        let limit = limits L fits in
+        let e = and_parts _ (has_entries L 0x28 block) h in
+        let s = and_parts _ (has_states L block) e.0 in
+        let i = and_parts (has_fields (header_fields L) block) (has_indices L block) s.0 in
+        let h1 = and_parts (num_at 2 block 0x14 == 0x20) _ i.0 in
+        let h2 = and_parts (num_at 2 block 0x16 == 0) _ h1.1 in
+        let h3 = and_parts (num_at 4 block 0x1C == 0) _ h2.1 in
+        let h4 = and_parts (num_at 1 block 0x20 == L.banks) _ h3.1 in
+        let h5 = and_parts (num_at 1 block 0x21 == 0) _ h4.1 in
+        let h6 = and_parts (num_at 2 block 0x22 == length L.rows) _ h5.1 in
+        let h7 = and_parts (num_at 2 block 0x24 == entry_size L) _ h6.1 in
+        let h8 = and_parts (num_at 2 block 0x26 == 24) _ h7.1 in
+        let st = and_parts (list_all is_state_byte (take L.banks (drop 0x18 block))) _ s.1 in
+        let few : L.banks ≤ 4 = limit.most_banks in
+        let a = next-num 4 0 4 2 [] (omega (arith, room)) refl version in
+        let b = next-num 4 4 4 m.active _ (omega (arith, room)) a refl in
+        let c = next-num 4 8 4 m.previous _ (omega (arith, room)) b refl in
+        let d = next-num 4 12 4 (meta_size L) _ (omega (arith, room)) c size in
+        let f = next-num 4 16 2 0x20 _ (omega (arith, room)) d (eqb-true _ 0x20 h1.0) in
+        let g = next-num 4 18 2 0 _ (omega (arith, room)) f (eqb-true _ 0 h2.0) in
+        let states = next 4 20 L.banks _ (map state_byte m.states) g (states-spelled L.banks L.banks (omega (arith, room, few)) st.0 (omega arith)) in
+        let place : 4 + (20 + L.banks) ≡ 24 + L.banks = omega arith in
+        let erased = next 4 (20 + L.banks) (4 - L.banks) _ (replicate (4 - L.banks) 0xFF) states
+        (ap (λ (k : ℕ). take (4 - L.banks) (drop k block)) place ∙ unused-spelled L.banks few (omega (arith, room)) st.1) in
+        let whole : 24 ≡ 20 + L.banks + (4 - L.banks) = omega (arith, few) in
+        let o = next-num 4 24 4 0 _ (omega (arith, room)) (ap (λ (k : ℕ). take k (drop 4 block)) whole ∙ erased) (eqb-true _ 0 h3.0) in
+        let p = next-num 4 28 1 L.banks _ (omega (arith, room)) o (eqb-true _ L.banks h4.0) in
+        let q = next-num 4 29 1 0 _ (omega (arith, room)) p (eqb-true _ 0 h5.0) in
+        let r = next-num 4 30 2 (length L.rows) _ (omega (arith, room)) q (eqb-true _ (length L.rows) h6.0) in
+        let u = next-num 4 32 2 (entry_size L) _ (omega (arith, room)) r (eqb-true _ (entry_size L) h7.0) in
+        let v = next-num 4 34 2 24 _ (omega (arith, room)) u (eqb-true _ 24 h8.0) in
+        let w = next 4 36 (length L.rows * entry_size L) _ (entries_bytes L m) v (entries-spelled e.1) in
+        let n : meta_size L - 4 ≡ 36 + length L.rows * entry_size L = omega arith in
+        ap (λ (k : ℕ). take k (drop 4 block)) n ∙ w
+
+    block-spelled : num_at 4 block 4 ≡ 2 → num_at 4 block 16 ≡ meta_size L → num_at 4 block 0 ≡ crc (part block 4 (meta_size L)) → IsTrue (fits_v2 L block) → take (meta_size L) block ≡ meta_bytes L m
+    unfolding meta_bytes
+    block-spelled version size sum h =
+        let body = body-spelled version size h in
+        let n : meta_size L ≡ 4 + (meta_size L - 4) = omega arith in
+        ap (λ (k : ℕ). take k block) n ∙ take-add 4 (meta_size L - 4) block ∙ ap (λ l. l ++ part block 4 (meta_size L)) (field 0 4 (omega (arith, room)) ∙ ap (le 4) (sum ∙ ap crc body)) ∙ ap (λ l. le 4 (crc (meta_body L m)) ++ l) body
+
+-- metadata of version 2 has one spelling
+pub one-spelling : (L : Layout) (m : Meta) (block : List ℕ) → IsTrue (fits_layout L) → IsTrue (are_bytes block) → meta_of L block ≡ Ok (record { form = 2; meta = m }) → take (meta_size L) block ≡ meta_bytes L m
+unfolding meta_of
+one-spelling L m block fits bytes e =
+    let r : MetaRead = record { form = 2; meta = m } in
+    let a = was_not_refused (ltb (length block) (meta_size L)) fault.Short _ r e in
+    let room = ltb-false (length block) (meta_size L) a.0 in
+    cond_both (num_at 4 block 4 == 2) (read_v2 L block) _ (λ (x : Result MetaRead MetaFault). x ≡ Ok r → take (meta_size L) block ≡ meta_bytes L m)
+    (λ two h. from-two room (eqb-true (num_at 4 block 4) 2 two) h)
+    (λ not_two h. cond_both (num_at 4 block 4 == 1) (read_v1 L block) (Err fault.NotTwo) (λ (x : Result MetaRead MetaFault). x ≡ Ok r → take (meta_size L) block ≡ meta_bytes L m)
+    (λ one g. absurd (not-one g))
+    (λ not_v1 g. absurd cc) h) a.1
+  where
+    from-two : meta_size L ≤ length block → num_at 4 block 4 ≡ 2 → read_v2 L block ≡ Ok (record { form = 2; meta = m }) → take (meta_size L) block ≡ meta_bytes L m
+    from-two room version h =
+        let r : MetaRead = record { form = 2; meta = m } in
+        let c = was_not_refused (not (num_at 4 block 16 == meta_size L)) _ _ r h in
+        let d = was_not_refused (not (num_at 4 block 0 == crc (part block 4 (meta_size L)))) _ _ r c.1 in
+        let f = was_not_refused (not (fits_v2 L block)) _ _ r d.1 in
+        let same : meta_at L block ≡ m = ap (λ (x : MetaRead). x.meta) (same-Ok {F = MetaFault} (record { form = 2; meta = meta_at L block }) r f.1) in
+        block-spelled block bytes L fits room version (eqb-true _ (meta_size L) (not-false _ c.0)) (eqb-true _ _ (not-false _ d.0)) (not-false _ f.0) ∙ ap (meta_bytes L) same
+
+    not-one : read_v1 L block ≡ Ok (record { form = 2; meta = m }) → ⊥
+    not-one h =
+        let r : MetaRead = record { form = 2; meta = m } in
+        let d = was_not_refused (not (num_at 4 block 0 == crc (part block 4 (meta_size_v1 L)))) _ _ r h in
+        let f = was_not_refused (not (fits_v1 L block)) _ _ r d.1 in
+        let forms : 1 ≡ 2 = ap (λ (x : MetaRead). x.form) (same-Ok {F = MetaFault} (record { form = 1; meta = meta_at_v1 L block }) r f.1) in
+        omega (arith, forms)
+
+-- ---- layouts
+
+flat-map : {X Y : Type 0} (f : Y → List ℕ) (g : X → Y) (xs : List X) → flat_map f (map g xs) ≡ flat_map (λ x. f (g x)) xs
+flat-map f g [] = refl
+flat-map f g (x ∷ xs) = ap (λ l. f (g x) ++ l) (flat-map f g xs)
+
+module _ (block : List ℕ) (bytes : IsTrue (are_bytes block)) (images : ℕ) (few : images ≤ 16) (room : 32 + 24 * images ≤ length block) where
+  row-spelled : (i : ℕ) → i < images → num_at 4 block (52 + 24 * i) ≡ 0 → take 24 (drop (32 + i * 24) block) ≡ row_bytes (row_at block i)
+  row-spelled i lt zeros =
+      let p = 32 + 24 * i in
+      let place : 32 + i * 24 ≡ p = omega arith in
+      let slots : num_at 4 block (p + 16) ≡ num_at 4 block (48 + 24 * i) = ap (num_at 4 block) (omega arith) in
+      let rest : num_at 4 block (p + 20) ≡ 0 = ap (num_at 4 block) (omega arith) ∙ zeros in
+      ap (λ (k : ℕ). take 24 (drop k block)) place
+      ∙ next-num block bytes p 20 4 0 (take 16 (drop p block) ++ le 4 (num_at 4 block (48 + 24 * i))) (omega (arith, lt, room))
+      (next-num block bytes p 16 4 (num_at 4 block (48 + 24 * i)) (take 16 (drop p block)) (omega (arith, lt, room)) refl slots) rest
+
+  rows-spelled : IsTrue (list_all (λ i. num_at 4 block (52 + 24 * i) == 0) (range_with_len 0 images)) → take (images * 24) (drop 32 block) ≡ flat_map row_bytes (listed images (row_at block))
+  rows-spelled zeros =
+      pieces block bytes (λ i. row_bytes (row_at block i)) 32 24 images (λ i lt. row-spelled i lt (eqb-true _ 0 (at-range (λ k. num_at 4 block (52 + 24 * k) == 0) 0 images i zeros (omega arith) (omega (arith, lt)))))
+      ∙ flat-map (λ i. row_bytes (row_at block i)) (λ (k : ℕ). k) (range_with_len 0 images) ∙ sym (flat-map row_bytes (row_at block) (range_with_len 0 images))
+
+  layout_body-spelled : num_at 4 block 4 ≡ layout_magic → num_at 4 block 12 ≡ images → num_at 4 block 16 ≡ 32 + 24 * images → IsTrue (has_zeros block) → part block 4 (32 + 24 * images) ≡ layout_body (layout_at block)
+  layout_body-spelled magic count size zeros =
+      let L = layout_at block in
+      let z = and_parts (list_all (λ b. b == 0) (part block 20 32)) _ zeros in
+      let gap : part block 20 32 ≡ replicate 12 0 = all-one 0 (part block 20 32) z.0 ∙ ap (λ k. replicate k 0) (length-take-le 12 (drop 20 block) (omega (arith, length-drop 20 block, room))) in
+      let rows : length L.rows ≡ images = length-map-range_with_len (row_at block) 0 (num_at 4 block 12) ∙ count in
+      let whole : 32 + 24 * images ≡ layout_size L = omega (arith, rows) in
+      let a = next-num block bytes 4 0 4 layout_magic [] (omega (arith, room)) refl magic in
+      let b = next-num block bytes 4 4 4 L.banks _ (omega (arith, room)) a refl in
+      let c = next-num block bytes 4 8 4 (length L.rows) _ (omega (arith, room)) b (count ∙ sym rows) in
+      let d = next-num block bytes 4 12 4 (layout_size L) _ (omega (arith, room)) c (size ∙ whole) in
+      let e = next block bytes 4 16 12 _ (replicate 12 0) d gap in
+      let zero-rows : IsTrue (list_all (λ i. num_at 4 block (52 + 24 * i) == 0) (range_with_len 0 images)) = subst (λ (k : ℕ). IsTrue (list_all (λ i. num_at 4 block (52 + 24 * i) == 0) (range_with_len 0 k))) count z.1 in
+      let f = next block bytes 4 28 (images * 24) _ (flat_map row_bytes L.rows) e (rows-spelled zero-rows ∙ ap (λ (k : ℕ). flat_map row_bytes (listed k (row_at block))) (sym count)) in
+      let n : 32 + 24 * images - 4 ≡ 28 + images * 24 = omega arith in
+      ap (λ (k : ℕ). take k (drop 4 block)) n ∙ f
+
+  layout_block-spelled : num_at 4 block 4 ≡ layout_magic → num_at 4 block 12 ≡ images → num_at 4 block 16 ≡ 32 + 24 * images → num_at 4 block 0 ≡ crc (part block 4 (32 + 24 * images)) → IsTrue (has_zeros block)
+      → take (layout_size (layout_at block)) block ≡ layout_bytes (layout_at block)
+  unfolding layout_bytes
+  layout_block-spelled magic count size sum zeros =
+      let L = layout_at block in
+      let body = layout_body-spelled magic count size zeros in
+      let rows : length L.rows ≡ images = length-map-range_with_len (row_at block) 0 (num_at 4 block 12) ∙ count in
+      let n : layout_size L ≡ 4 + (32 + 24 * images - 4) = omega (arith, rows) in
+      ap (λ (k : ℕ). take k block) n ∙ take-add 4 (32 + 24 * images - 4) block
+      ∙ ap (λ l. l ++ part block 4 (32 + 24 * images)) (field block bytes 0 4 (omega (arith, room)) ∙ ap (le 4) (sum ∙ ap crc body)) ∙ ap (λ l. le 4 (crc (layout_body L)) ++ l) body
+
+-- a layout has one spelling
+pub one-layout-spelling : (L : Layout) (blocks : ℕ) (block : List ℕ) → IsTrue (are_bytes block) → layout_of block blocks ≡ Ok L → take (layout_size L) block ≡ layout_bytes L
+unfolding layout_of
+one-layout-spelling L blocks block bytes e =
+    let images = num_at 4 block 12 in
+    let size = num_at 4 block 16 in
+    let a = was_not_refused (ltb (length block) 32) _ _ L e in
+    let b = was_not_refused (not (num_at 4 block 4 == layout_magic)) _ _ L a.1 in
+    let c = was_not_refused (not (leb 2 images && leb images 16 && (size == 32 + 24 * images))) _ _ L b.1 in
+    let d = was_not_refused (ltb (length block) size) _ _ L c.1 in
+    let f = was_not_refused (not (num_at 4 block 0 == crc (part block 4 size))) _ _ L d.1 in
+    let g = was_not_refused (not (fits_layout (layout_at block) && has_zeros block)) _ _ L f.1 in
+    let h = was_not_refused (ltb blocks (blocks_needed (layout_at block))) _ _ L g.1 in
+    let same : layout_at block ≡ L = same-Ok {F = LayoutFault} (layout_at block) L h.1 in
+    let sized = and_parts (leb 2 images && leb images 16) (eqb size (32 + 24 * images)) (not-false _ c.0) in
+    let is = eqb-true size (32 + 24 * images) sized.1 in
+    let few = leb-true images 16 (and_parts (leb 2 images) (leb images 16) sized.0).1 in
+    let room = ltb-false (length block) size d.0 in
+    let sum : num_at 4 block 0 ≡ crc (part block 4 (32 + 24 * images)) = eqb-true _ _ (not-false _ f.0) ∙ ap (λ (k : ℕ). crc (part block 4 k)) is in
+    let zeros = (and_parts (fits_layout (layout_at block)) (has_zeros block) (not-false _ g.0)).1 in
+    subst (λ (x : Layout). take (layout_size x) block ≡ layout_bytes x) same
+    (layout_block-spelled block bytes images few (omega (arith, is, room)) (eqb-true _ layout_magic (not-false _ b.0)) refl is sum zeros)

@@ -1,0 +1,135 @@
+-- Bytes that are written one after another.
+use Rattle.std.proofs.Common.{◌%◌, IsTrue, map, ◌≡◌, ℕ, ◌+◌, ◌-◌, ◌≤◌, ◌<◌, List, [], ◌∷◌, ◌++◌, length, get_or, take, drop, replicate, refl, sym, ap, ◌∙◌, arith, append_assoc, append-nil, length-append, zero-add}
+use Rattle.std.proofs.Math.Seq.{take-append-add}
+use Rattle.std.proofs.lemmas.List.{take-replicate, length-replicate, take_all, drop-replicate, get_or_default, length-drop, drop_all, drop-take, drop-append-le, length-take-le, take_at, drop_at, take_more}
+use Rattle.std.specs.Prelude.{flat_map}
+use Rattle.fwu_model.specs.Metadata.{Meta, meta_size, entry_size, state_byte, fits_meta, entry_bytes}
+use Rattle.fwu_model.specs.declared.kinds.BankState.{BankState}
+use Rattle.fwu_model.specs.declared.kinds.BankState.TheVariants.{Invalid}
+use Rattle.meta_layout.proofs.Fits.{meta-fits, row-length}
+use Rattle.meta_layout.specs.Entries.{HasBits, entry_of, front_bytes}
+use Rattle.std.proofs.lemmas.List.FromFn.{map-range_with_len_more}
+use Rattle.base_core.specs.Bytes.{overwritten, le, part, listed}
+use Rattle.base_core.specs.Crc.{crc}
+use Rattle.fwu_model.specs.Layout.{ImageRow, Layout, nil_guid, row_bytes, layout_magic, layout_size, layout_body}
+
+pub front : (at : ℕ) (bytes image : List ℕ) → at + length bytes ≤ length image → take (at + length bytes) (overwritten at bytes image) ≡ take at image ++ bytes
+unfolding overwritten
+front at bytes image fits =
+    let n : length (take at image ++ bytes) ≡ at + length bytes = length-append (take at image) bytes ∙ ap (λ k. k + length bytes) (length-take-le at image (omega arith)) in
+    take_at (take at image ++ bytes) (drop (at + length bytes) image) (at + length bytes) n
+
+pub three : (first a b c : List ℕ) → ((first ++ a) ++ b) ++ c ≡ first ++ ((a ++ b) ++ c)
+three first a b c = simp append_assoc
+
+flat-end : (rows : List ImageRow) (r : ImageRow) → flat_map row_bytes (rows ++ r ∷ []) ≡ flat_map row_bytes rows ++ row_bytes r
+flat-end [] r = append-nil (row_bytes r)
+flat-end (x ∷ rows) r = ap (λ l. row_bytes x ++ l) (flat-end rows r) ∙ sym (append_assoc (row_bytes x) (flat_map row_bytes rows) (row_bytes r))
+
+pub rows-more : (rows : List ImageRow) (i : ℕ) (d r : ImageRow) (first before after : List ℕ) → i < length rows → r ≡ get_or rows i d → before ≡ first ++ flat_map row_bytes (take i rows)
+    → after ≡ before ++ row_bytes r → after ≡ first ++ flat_map row_bytes (take (i + 1) rows)
+rows-more rows i d r first before after lt is so next =
+    next ∙ ap (λ l. l ++ row_bytes r) so ∙ append_assoc first (flat_map row_bytes (take i rows)) (row_bytes r)
+    ∙ ap (λ l. first ++ l) (ap (λ z. flat_map row_bytes (take i rows) ++ row_bytes z) is ∙ sym (flat-end (take i rows) (get_or rows i d)) ∙ ap (flat_map row_bytes) (sym (take_more rows i d lt)))
+
+-- the layout's bytes from place 4 on
+pub body-is : (L : Layout) (banks images size : ℕ) (rows : List ImageRow) (a b c d e f : List ℕ)
+    → a ≡ le 4 layout_magic → b ≡ a ++ le 4 banks → c ≡ b ++ le 4 images → d ≡ c ++ le 4 size → e ≡ d ++ replicate 12 0 → f ≡ e ++ flat_map row_bytes rows
+    → banks ≡ L.banks → images ≡ length L.rows → size ≡ layout_size L → rows ≡ L.rows → f ≡ layout_body L
+body-is L banks images size rows a b c d e f ea eb ec ed ee ef banked counted sized rowed = rw (ef, ee, ed, ec, eb, ea, sized, counted, banked, rowed) refl
+
+pub seal-is : (out blanked new : List ℕ) (size sum : ℕ) → 4 ≤ size → size ≤ length out → new ≡ overwritten 0 (le 4 sum) blanked → sum ≡ crc (part out 4 size)
+    → blanked ≡ take size out ++ replicate (length out - size) 0xFF → new ≡ le 4 (crc (part out 4 size)) ++ part out 4 size ++ replicate (length out - size) 0xFF
+unfolding overwritten
+seal-is out blanked new size sum low room is summed blank =
+    let whole : length (take size out) ≡ size = length-take-le size out room in
+    let long : 4 ≤ length (take size out) = omega arith in
+    let n : size ≡ 4 + (size - 4) = omega arith in
+    let tail : drop 4 (take size out) ≡ part out 4 size = ap (λ (k : ℕ). drop 4 (take k out)) n ∙ drop-take 4 (size - 4) out in
+    let rest : drop 4 (take size out ++ replicate (length out - size) 0xFF) ≡ part out 4 size ++ replicate (length out - size) 0xFF =
+    drop-append-le 4 (take size out) (replicate (length out - size) 0xFF) long ∙ ap (λ l. l ++ replicate (length out - size) 0xFF) tail in
+    is ∙ ap (λ l. le 4 sum ++ drop 4 l) blank ∙ ap (λ l. le 4 sum ++ l) rest ∙ ap (λ s. le 4 s ++ (part out 4 size ++ replicate (length out - size) 0xFF)) summed
+    ∙ sym (append_assoc (le 4 (crc (part out 4 size))) (part out 4 size) (replicate (length out - size) 0xFF))
+
+pub blank-tail : (out ys : List ℕ) (size : ℕ) → size ≤ length out → ys ≡ replicate (length (take (length out - size) (drop size out))) 0xFF
+    → take size out ++ (ys ++ drop (length out - size) (drop size out)) ≡ take size out ++ replicate (length out - size) 0xFF
+blank-tail out ys size room is =
+    let behind : length (drop size out) ≡ length out - size = length-drop size out in
+    let count : length (take (length out - size) (drop size out)) ≡ length out - size = length-take-le (length out - size) (drop size out) (omega arith) in
+    let none : drop (length out - size) (drop size out) ≡ [] = drop_all (length out - size) (drop size out) (omega arith) in
+    ap (λ l. take size out ++ (ys ++ l)) none ∙ ap (λ l. take size out ++ l) (append-nil ys ∙ is ∙ ap (λ n. replicate n 0xFF) count)
+
+-- a body that was written from place 4 on, and sealed
+pub written : (body out w new : List ℕ) (size : ℕ) → 4 ≤ size → size ≤ length out → length w ≡ length out - 4 → take (size - 4) w ≡ body
+    → (let one : List ℕ = take 4 out ++ (w ++ drop (length out - 4) (drop 4 out)) in new ≡ le 4 (crc (part one 4 size)) ++ part one 4 size ++ replicate (length one - size) 0xFF)
+    → new ≡ (le 4 (crc body) ++ body) ++ replicate (length out - size) 0xFF
+written body out w new size low room long is so =
+    let one : List ℕ = take 4 out ++ (w ++ drop (length out - 4) (drop 4 out)) in
+    let four : length (take 4 out) ≡ 4 = length-take-le 4 out (omega arith) in
+    let none : drop (length out - 4) (drop 4 out) ≡ [] = drop_all (length out - 4) (drop 4 out) (omega (arith, length-drop 4 out)) in
+    let plain : one ≡ take 4 out ++ w = ap (λ l. take 4 out ++ (w ++ l)) none ∙ ap (λ l. take 4 out ++ l) (append-nil w) in
+    let count : length one ≡ length out = ap (λ (l : List ℕ). length l) plain ∙ length-append (take 4 out) w ∙ omega arith in
+    let inner : part one 4 size ≡ body = ap (λ (l : List ℕ). take (size - 4) (drop 4 l)) plain ∙ ap (take (size - 4)) (drop_at (take 4 out) w 4 four) ∙ is in
+    so ∙ ap (λ l. le 4 (crc l) ++ l ++ replicate (length one - size) 0xFF) inner ∙ ap (λ n. le 4 (crc body) ++ body ++ replicate (n - size) 0xFF) count
+
+flat-last : {X : Type 0} (f : X → List ℕ) (xs : List X) (x : X) → flat_map f (xs ++ x ∷ []) ≡ flat_map f xs ++ f x
+flat-last f [] x = append-nil (f x)
+flat-last f (y ∷ xs) x = ap (λ l. f y ++ l) (flat-last f xs x) ∙ sym (append_assoc (f y) (flat_map f xs) (f x))
+
+-- one more piece of a loop that writes the pieces of 0, 1, ..
+pub listed-more : (f : ℕ → List ℕ) (i : ℕ) (first before after : List ℕ) → before ≡ first ++ flat_map f (listed i (λ k. k)) → after ≡ before ++ f i → after ≡ first ++ flat_map f (listed (i + 1) (λ k. k))
+listed-more f i first before after so next =
+    next ∙ ap (λ l. l ++ f i) so ∙ append_assoc first (flat_map f (listed i (λ k. k))) (f i)
+    ∙ ap (λ l. first ++ l) (sym (flat-last f (listed i (λ k. k)) i) ∙ ap (flat_map f) (sym (map-range_with_len_more (λ k. k) 0 i i (zero-add i))))
+
+pub listed-all : (f : ℕ → List ℕ) (i n : ℕ) (first after : List ℕ) → i ≡ n → after ≡ first ++ flat_map f (listed i (λ k. k)) → after ≡ first ++ flat_map f (listed n (λ k. k))
+listed-all f i n first after e so = so ∙ ap (λ k. first ++ flat_map f (listed k (λ x. x))) e
+
+-- ---- metadata that fits
+
+pub has-bits : (L : Layout) (m : Meta) (image banks : ℕ) → IsTrue (fits_meta L m) → banks ≡ L.banks → image < length L.rows → HasBits m banks image
+has-bits L m image banks fit same lt =
+    let f = meta-fits L m fit in
+    record {
+      count = f.bits ∙ sym same;
+      within = λ bank below. omega (arith, row-length L m bank f (omega (arith, same, below)), lt);
+    }
+
+pub entry-bytes : (L : Layout) (m : Meta) (image : ℕ) (row : ImageRow) (rows : List ImageRow) (banks : ℕ)
+    → row ≡ get_or rows image row → rows ≡ L.rows → image < length rows → banks ≡ L.banks → entry_of banks row.guid m image ≡ entry_bytes L m image
+entry-bytes L m image row rows banks is same lt count =
+    let none : ImageRow = record { guid = nil_guid; slots = 0 } in
+    let guid : row.guid ≡ (get_or L.rows image none).guid =
+    ap (λ (r : ImageRow). r.guid) (is ∙ get_or_default rows image row none lt ∙ ap (λ l. get_or l image none) same) in
+    rw (guid, count) refl
+
+pub map-last : (xs : List BankState) (x : BankState) → map state_byte (xs ++ x ∷ []) ≡ map state_byte xs ++ state_byte x ∷ []
+map-last [] x = refl
+map-last (y ∷ xs) x = ap (λ l. state_byte y ∷ l) (map-last xs x)
+
+pub states-more : (states : List BankState) (i v : ℕ) (s : BankState) (first before after : List ℕ) → i < length states → s ≡ get_or states i Invalid → v ≡ state_byte s
+    → v < 256 → before ≡ first ++ map state_byte (take i states) → after ≡ before ++ le 1 v → after ≡ first ++ map state_byte (take (i + 1) states)
+states-more states i v s first before after lt is byte small so next =
+    let low : v % 256 ≡ v = omega arith in
+    next ∙ ap (λ n. before ++ n ∷ []) (low ∙ byte) ∙ ap (λ l. l ++ state_byte s ∷ []) so ∙ append_assoc first (map state_byte (take i states)) (state_byte s ∷ [])
+    ∙ ap (λ l. first ++ l) (sym (map-last (take i states) s) ∙ ap (λ z. map state_byte (take i states ++ z ∷ [])) is ∙ ap (map state_byte) (sym (take_more states i Invalid lt)))
+
+pub unused : (banks : ℕ) → banks ≤ 4 → (let four : List ℕ = 255 ∷ 255 ∷ 255 ∷ 255 ∷ [] in take (4 - banks) (drop banks four) ≡ replicate (4 - banks) 255)
+unused banks h = ap (λ (l : List ℕ). take (4 - banks) l) (drop-replicate banks 4 255) ∙ take_all (4 - banks) (replicate (4 - banks) 255) (omega (arith, length-replicate {A = ℕ} (4 - banks) 255))
+
+pub front-is : (L : Layout) (m : Meta) (size banks : ℕ) (a b c d e f g h : List ℕ)
+    → a ≡ le 4 2 → b ≡ a ++ le 4 m.active → c ≡ b ++ le 4 m.previous → d ≡ c ++ le 4 size → e ≡ d ++ le 2 0x20 → f ≡ e ++ le 2 0
+    → g ≡ f ++ map state_byte m.states → h ≡ g ++ replicate (4 - banks) 0xFF → size ≡ meta_size L → banks ≡ L.banks → h ≡ front_bytes L m
+front-is L m size banks a b c d e f g h ea eb ec ed ee ef eg eh sized banked = rw (eh, eg, ef, ee, ed, ec, eb, ea, sized, banked) refl
+
+pub rest-is : (L : Layout) (banks images entry : ℕ) (z a b c d e f : List ℕ)
+    → a ≡ z ++ le 4 0 → b ≡ a ++ le 1 banks → c ≡ b ++ le 1 0 → d ≡ c ++ le 2 images → e ≡ d ++ le 2 entry → f ≡ e ++ le 2 24
+    → banks ≡ L.banks → images ≡ length L.rows → entry ≡ entry_size L → f ≡ z ++ le 4 0 ++ le 1 L.banks ++ le 1 0 ++ le 2 (length L.rows) ++ le 2 (entry_size L) ++ le 2 24
+rest-is L banks images entry z a b c d e f ea eb ec ed ee ef banked counted sized = rw (ef, ee, ed, ec, eb, ea, sized, counted, banked) refl
+
+-- bytes with so many 0xFF behind them, cut from a longer run of these
+pub padded : (bytes out : List ℕ) (size more room : ℕ) → length bytes ≡ size → size + more ≤ room → out ≡ bytes ++ replicate (room - size) 0xFF → take (size + more) out ≡ bytes ++ replicate more 0xFF
+padded bytes out size more room is fits so =
+    let n : size + more ≡ length bytes + more = omega (arith, is) in
+    ap (take (size + more)) so ∙ ap (λ (k : ℕ). take k (bytes ++ replicate (room - size) 0xFF)) n ∙ take-append-add bytes (replicate (room - size) 0xFF) more
+    ∙ ap (λ l. bytes ++ l) (take-replicate more (room - size) 0xFF (omega (arith, fits)))

@@ -1,0 +1,19 @@
+use Rattle.std.proofs.Common.{map}
+use Rattle.fwu_model.specs.Layout.{are_distinct}
+use Rattle.meta_layout.proofs.ImageRows.{apart-more, apart-not, apart-end}
+use Rattle.meta_layout.proofs.rows.are_apart.Goals as goal
+
+pub loop-index-preserved : goal.loop-index-preserved
+loop-index-preserved c =
+    apart-more c.args.rows.now c.loop-index.index c.index-rows-index.result c.has_type.result c.loop-index-test.true
+    c.index-rows-index.is
+    c.has_type.ensures (are_distinct (map (λ r. r.guid) c.args.rows.now)) c.loop-index.invariant c.if-has_type.false
+
+pub returns-then-has_type : goal.returns-then-has_type
+returns-then-has_type c =
+    apart-not c.args.rows.now c.loop-index.index c.index-rows-index.result c.has_type.result c.loop-index-test.true
+    c.index-rows-index.is
+    c.has_type.ensures (are_distinct (map (λ r. r.guid) c.args.rows.now)) c.loop-index.invariant c.if-has_type.true
+
+pub returns : goal.returns
+returns c = apart-end c.args.rows.now c.loop-index.index _ c.loop-index-test.false c.loop-index.invariant

@@ -1,0 +1,49 @@
+use Rattle.std.proofs.Common.{◌≡◌, ◌+◌, ◌*◌, ◌<◌, ◌≤◌, ◌++◌, ℕ, List, length, take, ap, sym, subst, ◌∙◌, arith}
+use Rattle.fwu_model.specs.Layout.{ImageRow}
+use Rattle.fwu_model.specs.Metadata.{entry_bytes}
+use Rattle.meta_layout.proofs.Places.{within}
+use Rattle.meta_layout.proofs.Writes.{has-bits, entry-bytes, listed-more, listed-all}
+use Rattle.meta_layout.proofs.write.put_entries.Goals as goal
+
+pub put_entry-end-requires-clause-bits : goal.put_entry-end-requires-clause-bits
+put_entry-end-requires-clause-bits c =
+    let rows : length c.rows-rows.result.now ≡ length c.args.layout.now.rows = ap (λ (l : List ImageRow). length l) c.rows-rows.ensures.value in
+    let below : c.loop-image.image < length c.rows-rows.result.now = c.loop-image-test.true in
+    has-bits c.args.layout.now c.args.meta.now.meta c.loop-image.image c.banks-banks.result c.requires.fit c.banks-banks.ensures.value (omega (arith, rows, below))
+
+pub put_entry-end-requires-clause-room : goal.put_entry-end-requires-clause-room
+put_entry-end-requires-clause-room c =
+    let rows : length c.rows-rows.result.now ≡ length c.args.layout.now.rows = ap (λ (l : List ImageRow). length l) c.rows-rows.ensures.value in
+    let below : c.loop-image.image < length c.rows-rows.result.now = c.loop-image-test.true in
+    let room : c.args.at + length c.args.layout.now.rows * (32 + 24 * c.banks-banks.result) ≤ length c.args.out.now =
+    subst (λ (n : ℕ). c.args.at + length c.args.layout.now.rows * (32 + 24 * n) ≤ length c.args.out.now) (sym c.banks-banks.ensures.value) c.requires.room in
+    let fits : c.loop-image.image * (32 + 24 * c.banks-banks.result) + (32 + 24 * c.banks-banks.result) ≤ length c.args.layout.now.rows * (32 + 24 * c.banks-banks.result) =
+    within c.loop-image.image (length c.args.layout.now.rows) (32 + 24 * c.banks-banks.result) (omega (arith, rows, below)) in
+    omega (arith, room, fits, c.loop-image.invariant.place, c.loop-image.auto.out)
+
+pub put_entry-end-requires-clause-small : goal.put_entry-end-requires-clause-small
+put_entry-end-requires-clause-small c =
+    let rows : length c.rows-rows.result.now ≡ length c.args.layout.now.rows = ap (λ (l : List ImageRow). length l) c.rows-rows.ensures.value in
+    omega (arith, rows, c.loop-image-test.true, c.rows-rows.ensures.high)
+
+pub loop-image-preserved : goal.loop-image-preserved
+loop-image-preserved c = record {
+  place = omega (arith, c.put_entry-end.ensures.next, c.loop-image.invariant.place);
+  front = listed-more (entry_bytes c.args.layout.now c.args.meta.now.meta) c.loop-image.image (take c.args.at c.args.out.now) (take c.loop-image.end c.loop-image.out) (take c.put_entry-end.result c.put_entry-end.new.out)
+      c.loop-image.invariant.front
+      (c.put_entry-end.ensures.front
+      ∙ ap (λ l. take c.loop-image.end c.loop-image.out ++ l)
+      (entry-bytes c.args.layout.now c.args.meta.now.meta c.loop-image.image c.index-rows-image.result c.rows-rows.result.now c.banks-banks.result
+      c.index-rows-image.is c.rows-rows.ensures.value c.loop-image-test.true c.banks-banks.ensures.value));
+}
+
+pub returns : goal.returns
+returns c =
+    let rows : length c.rows-rows.result.now ≡ length c.args.layout.now.rows = ap (λ (l : List ImageRow). length l) c.rows-rows.ensures.value in
+    let low : c.loop-image.image ≤ length c.rows-rows.result.now = c.loop-image.auto.image-end in
+    let high : length c.rows-rows.result.now ≤ c.loop-image.image = c.loop-image-test.false in
+    let same : c.loop-image.image ≡ length c.args.layout.now.rows = omega (arith, rows, low, high) in
+    record {
+      next = c.loop-image.invariant.place ∙ ap (λ n. c.args.at + n * (32 + 24 * c.banks-banks.result)) same ∙ ap (λ n. c.args.at + length c.args.layout.now.rows * (32 + 24 * n)) c.banks-banks.ensures.value;
+      front = listed-all (entry_bytes c.args.layout.now c.args.meta.now.meta) c.loop-image.image (length c.args.layout.now.rows) (take c.args.at c.args.out.now) (take c.loop-image.end c.loop-image.out) same c.loop-image.invariant.front;
+    }

@@ -1,0 +1,45 @@
+//! Short numbers in a block, its checksum, and tests joined.
+ghost use Rattle.std.specs.Prelude.{◌≡◌, ◌+◌, ◌≤◌, ◌==◌, ◌&&◌, length};
+ghost use Rattle.base_core.specs.Bytes.{num_at, part};
+ghost use Rattle.base_core.specs.Crc.{crc};
+
+use base_core::{crc32, le32_at};
+
+/// The number of two bytes at a place.
+pub fn le16_at(bytes: &[u8], at: usize) -> u16
+    requires { at + 2 ≤ length bytes.now }
+    ensures { result ≡ num_at 2 bytes.now at }
+{
+    u16::from_le_bytes([bytes[at], bytes[at + 1]])
+}
+
+/// The number of one byte at a place.
+pub fn byte_at(bytes: &[u8], at: usize) -> u8
+    requires { at + 1 ≤ length bytes.now }
+    ensures { result ≡ num_at 1 bytes.now at }
+{
+    u8::from_le_bytes([bytes[at]])
+}
+
+/// Whether a block begins with the checksum of its bytes from 4 to a size.
+pub fn is_checked(block: &[u8], size: usize) -> bool
+    requires low { 4 ≤ size }
+    requires room { size ≤ length block.now }
+    ensures { result ≡ (num_at 4 block.now 0 == crc (part block.now 4 size)) }
+{
+    le32_at(block, 0) == crc32(&block[4..size])
+}
+
+/// The conjunction, as one goal of a proof.
+pub fn both(one: bool, other: bool) -> bool
+    ensures { result ≡ (one && other) }
+{
+    one && other
+}
+
+/// The conjunction of four.
+pub fn all_four(first: bool, second: bool, third: bool, fourth: bool) -> bool
+    ensures { result ≡ (first && second && third && fourth) }
+{
+    first && second && third && fourth
+}

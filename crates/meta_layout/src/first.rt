@@ -1,0 +1,60 @@
+//! The metadata after a format.
+ghost use Rattle.std.specs.Prelude.{◌≡◌, ◌+◌, ◌-◌, ◌<◌, ◌≤◌, ◌∷◌, true, false, replicate, IsTrue};
+ghost use Rattle.fwu_model.specs.Metadata.{first_meta, fits_meta};
+ghost use Rattle.fwu_model.specs.declared.kinds.BankState.TheVariants.{Invalid, Accepted};
+
+use crate::layout::Layout;
+use crate::lists::{BankBits, Bits, States};
+use crate::meta::Meta;
+use fwu_model::BankState;
+
+fn same_bits(count: usize, bit: bool) -> Bits
+    requires { count ≤ 16 }
+    ensures { result ≡ replicate count bit }
+{
+    let mut bits = Bits::new();
+    for done in 0..count {
+        bits.push(bit);
+    }
+    bits
+}
+
+fn first_states(banks: usize) -> States
+    requires low { 1 ≤ banks }
+    requires high { banks ≤ 4 }
+    ensures { result ≡ Accepted ∷ replicate (banks - 1) Invalid }
+{
+    let mut states = States::new();
+    states.push(BankState::Accepted);
+    for done in 0..banks - 1 {
+        states.push(BankState::Invalid);
+    }
+    states
+}
+
+fn first_bits(banks: usize, images: usize) -> BankBits
+    requires low { 1 ≤ banks }
+    requires high { banks ≤ 4 }
+    requires few { images ≤ 16 }
+    ensures { result ≡ replicate images true ∷ replicate (banks - 1) (replicate images false) }
+{
+    let mut bits = BankBits::new();
+    bits.push(same_bits(images, true));
+    for done in 0..banks - 1 {
+        bits.push(same_bits(images, false));
+    }
+    bits
+}
+
+impl Meta {
+    /// The metadata after a format, in version 2: bank 0 is active and before, accepted with all bits set, and the others are
+    /// invalid with all bits clear.
+    pub fn first(layout: &Layout) -> Meta
+        ensures value { result ≡ record { form = 2; meta = first_meta layout.now } }
+        ensures fits { IsTrue (fits_meta layout.now result.meta) }
+    {
+        let banks = layout.banks() as usize;
+        let images = layout.rows().len();
+        Meta::of(2, 0, 0, first_states(banks), first_bits(banks, images))
+    }
+}

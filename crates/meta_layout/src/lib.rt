@@ -1,0 +1,26 @@
+//! The layout of a flash (own format), and the metadata of its firmware store (DEN0118), versions 2 and 1:
+//! blocks are read exactly, with the first fault, and written in their one spelling. Nothing here takes memory.
+#![tactic(auto)]
+
+mod bytes;
+mod entries;
+mod fields;
+mod first;
+mod laws;
+mod layout;
+mod lists;
+mod meta;
+mod put;
+mod read;
+mod rows;
+mod write;
+
+pub use fwu_model::{BankState, LayoutFault, MetaFault};
+pub use laws::{layouts_have_one_spelling, metadata_has_one_spelling};
+pub use layout::Layout;
+pub use lists::{BankBits, Bits, States};
+pub use meta::Meta;
+pub use rows::directory_guid;
+
+#[cfg(test)]
+mod tests;

@@ -1,0 +1,305 @@
+//! Lists of few elements that take no memory: bits, bank states, rows of bits, image rows.
+ghost use Rattle.std.specs.Prelude.{◌≡◌, ◌+◌, ◌<◌, ◌≤◌, ◌++◌, [], ◌∷◌, false, length, map, slice_index_or, slice_set, ◌↔◌, IsTrue};
+ghost use Rattle.std.specs.List.{list_all};
+ghost use Rattle.fwu_model.specs.declared.kinds.BankState.TheVariants.{Invalid};
+
+use base_core::{Guid, ImageRow};
+use fwu_model::BankState;
+use std::marker::Model;
+
+/// A list of at most 16 bits, one for each image. A contract sees the list.
+#[derive(Clone, Copy, Debug, PartialEq, Eq)]
+pub struct Bits {
+    count: usize,
+    bits: [bool; 16],
+}
+
+impl Model for Bits {
+    ghost use Rattle.std.specs.Prelude.{◌-◌, ◌++◌, List, Bool, false, length, take, replicate};
+    ghost use Rattle.std.proofs.Common.{ap, ◌∙◌};
+    ghost use Rattle.meta_layout.specs.Padded.{IsPadded, length-padded, array-padded};
+
+    ghost Value = { List Bool };
+
+    ghost view = { λ b. take b.count b.bits };
+
+    ghost invariant = { λ b. IsPadded 16 false b.count b.bits };
+
+    ghost inverse = { λ bits. record { count = length bits; bits = bits ++ replicate (16 - length bits) false } };
+
+    ghost inverse_ok = { λ b is. ap (λ n. record { count = n; bits = take b.count b.bits ++ replicate (16 - length (take b.count b.bits)) false }) (length-padded 16 false b.count b.bits is)
+        ∙ ap (λ l. record { count = b.count; bits = l }) (array-padded 16 false b.count b.bits is) };
+}
+
+impl Bits {
+    /// No bits.
+    pub fn new() -> Bits
+        ensures { result ≡ [] }
+    {
+        Bits {
+            count: 0,
+            bits: [false; 16],
+        }
+    }
+
+    pub fn len(&self) -> usize
+        ensures value { result ≡ length self.now }
+        ensures few { result ≤ 16 }
+    {
+        self.count
+    }
+
+    pub fn push(&mut self, bit: bool)
+        requires { length self.old < 16 }
+        ensures { self.new ≡ self.old ++ bit ∷ [] }
+    {
+        self.bits[self.count] = bit;
+        self.count += 1;
+    }
+
+    pub fn get(&self, image: usize) -> bool
+        requires { image < length self.now }
+        ensures { result ≡ slice_index_or self.now image false }
+    {
+        self.bits[image]
+    }
+
+    pub fn set(&mut self, image: usize, bit: bool)
+        requires { image < length self.old }
+        ensures { self.new ≡ slice_set self.old image bit }
+    {
+        self.bits[image] = bit;
+    }
+
+    /// Whether two lists are one.
+    pub fn is(&self, other: &Bits) -> bool
+        ensures { IsTrue result ↔ (self.now ≡ other.now) }
+    {
+        self == other
+    }
+
+    /// As many clear bits.
+    pub fn cleared(&self) -> Bits
+        ensures { result ≡ map (λ bit. false) self.now }
+    {
+        Bits {
+            count: self.count,
+            bits: [false; 16],
+        }
+    }
+
+    /// Whether every bit is set.
+    pub fn are_all_set(&self) -> bool
+        ensures { result ≡ list_all (λ bit. bit) self.now }
+    {
+        self.bits[..self.count].iter().all(|bit| *bit)
+    }
+}
+
+/// A list of at most 4 bank states. A contract sees the list.
+#[derive(Clone, Copy, Debug, PartialEq, Eq)]
+pub struct States {
+    count: usize,
+    states: [BankState; 4],
+}
+
+impl Model for States {
+    ghost use Rattle.std.specs.Prelude.{◌-◌, ◌++◌, List, length, take, replicate};
+    ghost use Rattle.std.proofs.Common.{ap, ◌∙◌};
+    ghost use Rattle.fwu_model.specs.declared.kinds.BankState.{BankState};
+    ghost use Rattle.fwu_model.specs.declared.kinds.BankState.TheVariants.{Invalid};
+    ghost use Rattle.meta_layout.specs.Padded.{IsPadded, length-padded, array-padded};
+
+    ghost Value = { List BankState };
+
+    ghost view = { λ s. take s.count s.states };
+
+    ghost invariant = { λ s. IsPadded 4 Invalid s.count s.states };
+
+    ghost inverse = { λ states. record { count = length states; states = states ++ replicate (4 - length states) Invalid } };
+
+    ghost inverse_ok = { λ s is. ap (λ n. record { count = n; states = take s.count s.states ++ replicate (4 - length (take s.count s.states)) Invalid }) (length-padded 4 Invalid s.count s.states is)
+        ∙ ap (λ l. record { count = s.count; states = l }) (array-padded 4 Invalid s.count s.states is) };
+}
+
+impl States {
+    /// No states.
+    pub fn new() -> States
+        ensures { result ≡ [] }
+    {
+        States {
+            count: 0,
+            states: [BankState::Invalid; 4],
+        }
+    }
+
+    pub fn len(&self) -> usize
+        ensures value { result ≡ length self.now }
+        ensures few { result ≤ 4 }
+    {
+        self.count
+    }
+
+    /// Whether two lists are one.
+    pub fn is(&self, other: &States) -> bool
+        ensures { IsTrue result ↔ (self.now ≡ other.now) }
+    {
+        self == other
+    }
+
+    pub fn push(&mut self, state: BankState)
+        requires { length self.old < 4 }
+        ensures { self.new ≡ self.old ++ state ∷ [] }
+    {
+        self.states[self.count] = state;
+        self.count += 1;
+    }
+
+    pub fn get(&self, bank: usize) -> BankState
+        requires { bank < length self.now }
+        ensures { result ≡ slice_index_or self.now bank Invalid }
+    {
+        self.states[bank]
+    }
+
+    pub fn set(&mut self, bank: usize, state: BankState)
+        requires { bank < length self.old }
+        ensures { self.new ≡ slice_set self.old bank state }
+    {
+        self.states[bank] = state;
+    }
+}
+
+/// A list of the bits of at most 4 banks. A contract sees the list of lists.
+#[derive(Clone, Copy, Debug, PartialEq, Eq)]
+pub struct BankBits {
+    count: usize,
+    banks: [Bits; 4],
+}
+
+impl Model for BankBits {
+    ghost use Rattle.std.specs.Prelude.{◌-◌, ◌++◌, List, [], Bool, length, take, replicate};
+    ghost use Rattle.std.proofs.Common.{ap, ◌∙◌};
+    ghost use Rattle.meta_layout.specs.Padded.{IsPadded, length-padded, array-padded};
+
+    ghost Value = { List (List Bool) };
+
+    ghost view = { λ b. take b.count b.banks };
+
+    ghost invariant = { λ b. IsPadded 4 [] b.count b.banks };
+
+    ghost inverse = { λ banks. record { count = length banks; banks = banks ++ replicate (4 - length banks) [] } };
+
+    ghost inverse_ok = { λ b is. ap (λ n. record { count = n; banks = take b.count b.banks ++ replicate (4 - length (take b.count b.banks)) [] }) (length-padded 4 [] b.count b.banks is)
+        ∙ ap (λ l. record { count = b.count; banks = l }) (array-padded 4 [] b.count b.banks is) };
+}
+
+impl BankBits {
+    /// No banks.
+    pub fn new() -> BankBits
+        ensures { result ≡ [] }
+    {
+        BankBits {
+            count: 0,
+            banks: [Bits::new(); 4],
+        }
+    }
+
+    pub fn len(&self) -> usize
+        ensures value { result ≡ length self.now }
+        ensures few { result ≤ 4 }
+    {
+        self.count
+    }
+
+    /// Whether two lists are one.
+    pub fn is(&self, other: &BankBits) -> bool
+        ensures { IsTrue result ↔ (self.now ≡ other.now) }
+    {
+        self == other
+    }
+
+    pub fn push(&mut self, bits: Bits)
+        requires { length self.old < 4 }
+        ensures { self.new ≡ self.old ++ bits ∷ [] }
+    {
+        self.banks[self.count] = bits;
+        self.count += 1;
+    }
+
+    /// A bank's bits.
+    pub fn get(&self, bank: usize) -> &Bits
+        requires { bank < length self.now }
+        ensures { result.now ≡ slice_index_or self.now bank [] }
+    {
+        let _count = self.count;
+        &self.banks[bank]
+    }
+
+    /// Sets an image's bit in a bank.
+    pub fn set(&mut self, bank: usize, image: usize, bit: bool)
+        requires below { bank < length self.old }
+        requires within { image < length (slice_index_or self.old bank []) }
+        ensures { self.new ≡ slice_set self.old bank (slice_set (slice_index_or self.old bank []) image bit) }
+    {
+        let mut bits = *self.get(bank);
+        bits.set(image, bit);
+        self.banks[bank] = bits;
+    }
+}
+
+/// A list of at most 16 image rows. A contract sees the list.
+#[derive(Clone, Copy, Debug, PartialEq, Eq)]
+pub struct Rows {
+    count: usize,
+    rows: [ImageRow; 16],
+}
+
+impl Model for Rows {
+    ghost use Rattle.std.specs.Prelude.{◌-◌, ◌++◌, List, length, take, replicate};
+    ghost use Rattle.std.proofs.Common.{ap, ◌∙◌};
+    ghost use Rattle.base_core.specs.declared.rows.ImageRow.{ImageRow};
+    ghost use Rattle.meta_layout.specs.Padded.{IsPadded, length-padded, array-padded};
+    ghost use Rattle.meta_layout.specs.Rows.{no_row};
+
+    ghost Value = { List ImageRow };
+
+    ghost view = { λ r. take r.count r.rows };
+
+    ghost invariant = { λ r. IsPadded 16 no_row r.count r.rows };
+
+    ghost inverse = { λ rows. record { count = length rows; rows = rows ++ replicate (16 - length rows) no_row } };
+
+    ghost inverse_ok = { λ r is. ap (λ n. record { count = n; rows = take r.count r.rows ++ replicate (16 - length (take r.count r.rows)) no_row }) (length-padded 16 no_row r.count r.rows is)
+        ∙ ap (λ l. record { count = r.count; rows = l }) (array-padded 16 no_row r.count r.rows is) };
+}
+
+impl Rows {
+    pub fn new() -> Rows
+        ensures { result ≡ [] }
+    {
+        let none = ImageRow {
+            guid: Guid::nil(),
+            slots: 0,
+        };
+        Rows {
+            count: 0,
+            rows: [none; 16],
+        }
+    }
+
+    pub fn push(&mut self, row: ImageRow)
+        requires { length self.old < 16 }
+        ensures { self.new ≡ self.old ++ row ∷ [] }
+    {
+        self.rows[self.count] = row;
+        self.count += 1;
+    }
+
+    pub fn as_slice(&self) -> &[ImageRow]
+        ensures value { result.now ≡ self.now }
+        ensures few { length self.now ≤ 16 }
+    {
+        &self.rows[..self.count]
+    }
+}

@@ -1,0 +1,18 @@
+use Rattle.std.proofs.Common.{◌≤◌, length, arith}
+use Rattle.std.proofs.lemmas.Result.{IfOk-from_err}
+use Rattle.flash_core.specs.Replaces.{padded}
+use Rattle.replicas.proofs.Both.{zero_written, one_written}
+use Rattle.replicas.proofs.storing.write_both.Goals as goal
+
+pub returns-in_err-replace-clause-writes : goal.returns-in_err-replace-clause-writes
+returns-in_err-replace-clause-writes g c tells =
+    let s = g.D.Flash.told c.args.flash.now in
+    let room : 12288 ≤ length s.now = omega (arith, (g.met.D.Flash.sizes c.args.flash.now).0, (g.met.D.Flash.sound c.args.flash.now tells).size) in
+    zero_written _ c.from_residual.result (padded c.args.bytes.now) s _ room (c.replace.ensures.replaces tells) (λ A. IfOk-from_err c.from_residual.result (λ x. A) c.from_residual.ensures.0)
+
+pub returns-clause-writes : goal.returns-clause-writes
+returns-clause-writes g c tells =
+    let first = c.in_ok-replace.ensures.replaces tells in
+    let m = g.D.Flash.told c.replace.new.flash in
+    let room : 12288 ≤ length m.now = omega (arith, (g.met.D.Flash.sizes c.replace.new.flash).0, (g.met.D.Flash.sound c.replace.new.flash tells).size) in
+    one_written _ c.replace-2.result (padded c.args.bytes.now) (g.D.Flash.told c.args.flash.now) m _ room first first.ok (c.replace-2.ensures.replaces tells)

@@ -1,0 +1,14 @@
+//! Two replicas of the metadata, in blocks 1 and 2, of which one at least is whole at any moment.
+#![tactic(auto)]
+
+mod loading;
+mod repairing;
+mod storing;
+#[cfg(test)]
+mod tests;
+mod which;
+
+pub use loading::load;
+pub use repairing::repair;
+pub use storing::store;
+pub use which::{ReplicaStop, Which};

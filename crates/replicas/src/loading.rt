@@ -1,0 +1,84 @@
+//! Reading the metadata that decides.
+ghost use Rattle.std.specs.Prelude.{◌≡◌, ◌<◌, None, is_ok, IsTrue, IsErrOf, IfOk, IfSome, IfNone};
+ghost use Rattle.std.specs.Option.{ForSome};
+ghost use Rattle.base_core.specs.Block.{block};
+ghost use Rattle.flash_core.specs.Counts.{Spends};
+ghost use Rattle.fwu_model.specs.Metadata.{fits_meta, meta_read};
+ghost use Rattle.fwu_model.specs.Flash.{deciding};
+ghost use Rattle.replicas.specs.Which.{HasForm, Finds, Loads, flash_result};
+
+use crate::which::{ReplicaStop, Which};
+use flash_core::{Flash, FlashStop, read_block};
+use meta_layout::{Layout, Meta};
+
+/// The metadata that a block is.
+pub fn read_replica<D: Flash>(
+    flash: &mut D,
+    layout: &Layout,
+    b: u32,
+) -> Result<Option<Meta>, FlashStop>
+    requires on { IsTrue (D.on flash.old) }
+    requires inside { b < D.blocks flash.old }
+
+    ensures value { IfOk result (λ r. IsTrue D.tells → r ≡ meta_read layout.now (block b (D.told flash.old).now)) }
+    ensures form { IfOk result (λ r. ForSome r HasForm) }
+    ensures fits { IfOk result (λ r. ForSome r (λ m. IsTrue (fits_meta layout.now m.meta))) }
+    ensures content { IsTrue D.tells → D.told flash.new ≡ D.told flash.old }
+    ensures power { D.on flash.new ≡ is_ok result }
+    ensures size { D.blocks flash.new ≡ D.blocks flash.old }
+    ensures costs { Spends result (D.counts flash.old) (D.counts flash.new) }
+{
+    let mut bytes = [0; 4096];
+    read_block(flash, b, &mut bytes)?;
+    match Meta::read(layout, &bytes) {
+        Ok(meta) => Ok(Some(meta)),
+        Err(_) => Ok(None),
+    }
+}
+
+/// Which of what the two replicas read as decides, and what is to be done.
+fn decide(zero: Option<Meta>, one: Option<Meta>) -> Option<(Meta, Which)>
+    requires zero_form { ForSome zero HasForm }
+    requires one_form { ForSome one HasForm }
+
+    ensures some { IfSome result (λ r. Finds r.1 r.0 zero one) }
+    ensures none { IfNone result ((zero ≡ None) × (one ≡ None)) }
+{
+    let Some(meta) = zero else {
+        let Some(meta) = one else {
+            return None;
+        };
+        if meta.form() == 2 {
+            return Some((meta, Which::RepairZero));
+        }
+        return Some((meta, Which::MigrateOne));
+    };
+    if meta.form() != 2 {
+        return Some((meta, Which::MigrateZero));
+    }
+    match one {
+        Some(other) if other.is(&meta) => Some((meta, Which::Same)),
+        _ => Some((meta, Which::RepairOne)),
+    }
+}
+
+/// Reads the metadata that decides, and says what a repair would write: replica 0 decides where it is metadata of the layout, in
+/// version 2 or 1, else replica 1. `NoMetadata` where neither is. A sealed block with a bad field is no metadata.
+pub fn load<D: Flash>(flash: &mut D, layout: &Layout) -> Result<(Meta, Which), ReplicaStop>
+    requires on { IsTrue (D.on flash.old) }
+
+    ensures loads { IfOk result (λ r. IsTrue D.tells → Loads layout.now r.1 r.0 (D.told flash.old).now) }
+    ensures none { IsErrOf result ReplicaStop.NoMetadata → IsTrue D.tells → deciding layout.now (D.told flash.old).now ≡ None }
+    ensures fits { IfOk result (λ r. IsTrue (fits_meta layout.now r.0.meta)) }
+    ensures content { IsTrue D.tells → D.told flash.new ≡ D.told flash.old }
+    ensures power { D.on flash.new ≡ is_ok (flash_result result) }
+    ensures size { D.blocks flash.new ≡ D.blocks flash.old }
+    ensures costs { Spends (flash_result result) (D.counts flash.old) (D.counts flash.new) }
+{
+    let zero = read_replica(flash, layout, 1)?;
+    let one = read_replica(flash, layout, 2)?;
+    match decide(zero, one) {
+        Some(found) => Ok(found),
+        None => Err(ReplicaStop::NoMetadata),
+    }
+}

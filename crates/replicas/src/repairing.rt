@@ -1,0 +1,93 @@
+//! Writing the metadata that decides over the replica that lacks it.
+ghost use Rattle.std.specs.Prelude.{◌≡◌, ◌↔◌, ◌%◌, ◌<◌, ◌≤◌, Some, length, is_ok, IsTrue, IfOk};
+ghost use Rattle.base_core.specs.Block.{block};
+ghost use Rattle.flash_core.specs.Counts.{Spends};
+ghost use Rattle.flash_core.specs.Replaces.{padded};
+ghost use Rattle.fwu_model.specs.Layout.{fits_layout};
+ghost use Rattle.fwu_model.specs.Metadata.{fits_meta, meta_read};
+ghost use Rattle.fwu_model.specs.Replica.{in_version};
+ghost use Rattle.replicas.specs.Which.{Loads};
+ghost use Rattle.replicas.specs.Repairs.{Repairs};
+ghost use Rattle.replicas.specs.declared.which.Which.TheVariants.{MigrateZero};
+
+use crate::loading::read_replica;
+use crate::storing::{spell, write_both};
+use crate::which::Which;
+use flash_core::{Flash, FlashStop, replace};
+use meta_layout::{Layout, Meta};
+
+/// Whether replica 1 holds the metadata in version 2.
+fn holds<D: Flash>(flash: &mut D, layout: &Layout, meta: &Meta) -> Result<bool, FlashStop>
+    requires on { IsTrue (D.on flash.old) }
+
+    ensures held { IfOk result (λ held. IsTrue D.tells → IsTrue held ↔ (meta_read layout.now (block 2 (D.told flash.old).now) ≡ Some (in_version 2 meta.now.meta))) }
+    ensures content { IsTrue D.tells → D.told flash.new ≡ D.told flash.old }
+    ensures power { D.on flash.new ≡ is_ok result }
+    ensures size { D.blocks flash.new ≡ D.blocks flash.old }
+    ensures costs { Spends result (D.counts flash.old) (D.counts flash.new) }
+{
+    let mut migrated = *meta;
+    migrated.migrate();
+    match read_replica(flash, layout, 2)? {
+        Some(other) => Ok(other.is(&migrated)),
+        None => Ok(false),
+    }
+}
+
+/// Writes over replica 1 and then over replica 0, which decides and is version 1. A replica 1 that holds the metadata in version 2 stays.
+fn migrate_zero<D: Flash>(
+    flash: &mut D,
+    layout: &Layout,
+    meta: &Meta,
+    bytes: &[u8],
+) -> Result<(), FlashStop>
+    requires on { IsTrue (D.on flash.old) }
+    requires granules { length bytes.now % 16 ≡ 0 }
+    requires some { 0 < length bytes.now }
+    requires fits { length bytes.now ≤ 4096 }
+    requires layout { IsTrue (fits_layout layout.now) }
+    requires spelled { meta_read layout.now (padded bytes.now) ≡ Some (in_version 2 meta.now.meta) }
+    requires loaded { IsTrue D.tells → Loads layout.now MigrateZero meta.now (D.told flash.old).now }
+
+    ensures repairs { IsTrue D.tells → Repairs result layout.now meta.now (D.told flash.old) (D.told flash.new) }
+    ensures power { D.on flash.new ≡ is_ok result }
+    ensures size { D.blocks flash.new ≡ D.blocks flash.old }
+    ensures costs { Spends result (D.counts flash.old) (D.counts flash.new) }
+{
+    if holds(flash, layout, meta)? {
+        return replace(flash, 1, bytes);
+    }
+    replace(flash, 2, bytes)?;
+    replace(flash, 1, bytes)
+}
+
+/// Writes the metadata that `load` gave over the replica that lacks it, or, where version 1 decides, over the other replica, unless it
+/// holds the metadata in version 2, and then over the deciding one; each by erase, program and barrier. The first 4096 bytes of the buffer are used.
+pub fn repair<D: Flash>(
+    flash: &mut D,
+    layout: &Layout,
+    meta: &Meta,
+    which: Which,
+    buf: &mut [u8],
+) -> Result<(), FlashStop>
+    requires on { IsTrue (D.on flash.old) }
+    requires fits { IsTrue (fits_meta layout.now meta.now.meta) }
+    requires room { 4096 ≤ length buf.old }
+    requires loaded { IsTrue D.tells → Loads layout.now which meta.now (D.told flash.old).now }
+
+    ensures repairs { IsTrue D.tells → Repairs result layout.now meta.now (D.told flash.old) (D.told flash.new) }
+    ensures power { D.on flash.new ≡ is_ok result }
+    ensures size { D.blocks flash.new ≡ D.blocks flash.old }
+    ensures costs { Spends result (D.counts flash.old) (D.counts flash.new) }
+    ensures buffer { length buf.new ≡ length buf.old }
+{
+    let size = spell(layout, meta, buf);
+    let bytes = &buf[..size];
+    match which {
+        Which::Same => Ok(()),
+        Which::RepairZero => replace(flash, 1, bytes),
+        Which::RepairOne => replace(flash, 2, bytes),
+        Which::MigrateZero => migrate_zero(flash, layout, meta, bytes),
+        Which::MigrateOne => write_both(flash, bytes),
+    }
+}

@@ -1,0 +1,66 @@
+//! Writing metadata over both replicas.
+ghost use Rattle.std.specs.Prelude.{◌≡◌, ◌%◌, ◌<◌, ◌≤◌, length, take, is_ok, IsTrue};
+ghost use Rattle.flash_core.specs.Counts.{Spends};
+ghost use Rattle.flash_core.specs.Replaces.{padded};
+ghost use Rattle.fwu_model.specs.Layout.{fits_layout};
+ghost use Rattle.fwu_model.specs.Metadata.{fits_meta, replica_bytes};
+ghost use Rattle.replicas.specs.Stores.{WritesBoth, Stores};
+
+use flash_core::{Flash, FlashStop, replace};
+use meta_layout::{Layout, Meta};
+
+/// Writes bytes over replica 0, then over replica 1.
+pub fn write_both<D: Flash>(flash: &mut D, bytes: &[u8]) -> Result<(), FlashStop>
+    requires on { IsTrue (D.on flash.old) }
+    requires granules { length bytes.now % 16 ≡ 0 }
+    requires some { 0 < length bytes.now }
+    requires fits { length bytes.now ≤ 4096 }
+
+    ensures writes { IsTrue D.tells → WritesBoth result (padded bytes.now) (D.told flash.old) (D.told flash.new) }
+    ensures power { D.on flash.new ≡ is_ok result }
+    ensures size { D.blocks flash.new ≡ D.blocks flash.old }
+    ensures costs { Spends result (D.counts flash.old) (D.counts flash.new) }
+{
+    replace(flash, 1, bytes)?;
+    replace(flash, 2, bytes)
+}
+
+/// Spells metadata in version 2 at the front of a buffer, up to a whole granule. How many bytes that takes.
+pub fn spell(layout: &Layout, meta: &Meta, buf: &mut [u8]) -> usize
+    requires fits { IsTrue (fits_meta layout.now meta.now.meta) }
+    requires room { 4096 ≤ length buf.old }
+
+    ensures spelled { take result buf.new ≡ replica_bytes layout.now meta.now.meta }
+    ensures layout { IsTrue (fits_layout layout.now) }
+    ensures granules { result % 16 ≡ 0 }
+    ensures some { 0 < result }
+    ensures short { result ≤ 2096 }
+    ensures buffer { length buf.new ≡ length buf.old }
+{
+    let _rows = layout.rows();
+    let size = Meta::replica_size(layout);
+    meta.write(layout, buf);
+    size
+}
+
+/// Writes metadata of the layout in version 2 over replica 0, then over replica 1, each by erase, program and barrier. Where both replicas
+/// held the same metadata, a loss of power leaves that or the new one. The first 4096 bytes of the buffer are used.
+pub fn store<D: Flash>(
+    flash: &mut D,
+    layout: &Layout,
+    meta: &Meta,
+    buf: &mut [u8],
+) -> Result<(), FlashStop>
+    requires on { IsTrue (D.on flash.old) }
+    requires fits { IsTrue (fits_meta layout.now meta.now.meta) }
+    requires room { 4096 ≤ length buf.old }
+
+    ensures stores { IsTrue D.tells → Stores result layout.now meta.now.meta (D.told flash.old) (D.told flash.new) }
+    ensures power { D.on flash.new ≡ is_ok result }
+    ensures size { D.blocks flash.new ≡ D.blocks flash.old }
+    ensures costs { Spends result (D.counts flash.old) (D.counts flash.new) }
+    ensures buffer { length buf.new ≡ length buf.old }
+{
+    let size = spell(layout, meta, buf);
+    write_both(flash, &buf[..size])
+}

@@ -1,0 +1,9 @@
+pub mod Room
+pub mod Shown
+pub mod Words
+pub mod Printed
+pub mod Booting
+pub mod BootReply
+pub mod BootsBy
+pub mod Ends
+pub mod Ran

@@ -1,0 +1,10 @@
+//! Whose manifests pass: a test beside their format, that the caller of the updater hands in.
+#![tactic(auto)]
+
+mod list;
+#[cfg(test)]
+mod tests;
+mod verifier;
+
+pub use list::{DigestList, ListFault};
+pub use verifier::{AnyManifest, Both, Verifier};

@@ -1,0 +1,106 @@
+//! Lists of the SHA-256 (FIPS 180-4) of the manifests that pass, an own format.
+ghost use Rattle.std.specs.Prelude.{◌≡◌, ◌+◌, ◌<◌, ◌==◌, ℕ, List, Ok, IfOk, IfErr, drop, length, position};
+ghost use Rattle.std.specs.List.{list_any};
+ghost use Rattle.base_core.specs.Bytes.{same_bytes};
+ghost use Rattle.fwu_model.specs.Allow.{digests_of, digest_of, passes_listed};
+ghost use Rattle.verify_core.specs.Shown.{IsFaultOf};
+
+use crate::verifier::Verifier;
+use hex::FromHex;
+use sha2::{Digest, Sha256};
+use std::alloc::Global;
+use std::marker::Model;
+
+/// Why bytes are no list: the first line, from 1, that is not 64 hexadecimal digits and a line end.
+#[derive(Clone, Copy, Debug, PartialEq, Eq)]
+pub enum ListFault {
+    BadLine(u64),
+    NoMemory,
+}
+
+/// The manifests pass whose SHA-256 is listed. A contract sees the list of the digests.
+#[derive(Debug, Drop)]
+pub struct DigestList {
+    digests: Vec<[u8; 32]>,
+}
+
+impl Model for DigestList {
+    ghost use Rattle.std.specs.Prelude.{List, ℕ};
+
+    ghost Value = { List (List ℕ) };
+
+    ghost view = { λ list. list.digests.items };
+}
+
+/// The digest of a line of 64 hexadecimal digits, letters of either case.
+fn digest_in(line: &[u8]) -> Option<[u8; 32]>
+    ensures { result ≡ digest_of line.now }
+{
+    match <[u8; 32] as FromHex>::from_hex(line) {
+        Ok(digest) => Some(digest),
+        Err(_) => None,
+    }
+}
+
+/// The place of the first line end.
+fn line_end(text: &[u8]) -> Option<usize>
+    ensures { result ≡ position (λ b. b == 10) text.now }
+{
+    text.iter().position(|byte| *byte == b'\n')
+}
+
+/// What follows a place.
+fn after(text: &[u8], place: usize) -> &[u8]
+    requires { place < length text.now }
+    ensures { result.now ≡ drop (place + 1) text.now }
+{
+    &text[place + 1..]
+}
+
+fn is_same(bytes: &[u8], other: &[u8]) -> bool
+    ensures { result ≡ same_bytes bytes.now other.now }
+{
+    bytes == other
+}
+
+fn is_listed(digest: &[u8], digests: &[[u8; 32]]) -> bool
+    ensures { result ≡ list_any (same_bytes digest.now) digests.now }
+{
+    digests.iter().any(|listed| is_same(digest, listed))
+}
+
+impl DigestList {
+    /// The digests of a file whose lines are 64 hexadecimal digits, letters of either case, each ended by a byte 0x0A.
+    /// The first other line is the fault, and so is a last line without its end. The empty file is the empty list.
+    pub fn read(alloc: Global, bytes: &[u8]) -> Result<DigestList, ListFault>
+        ensures ok { IfOk result (λ list. digests_of bytes.now ≡ Ok list) }
+        ensures fault { IfErr result (λ fault. IsFaultOf (digests_of bytes.now) fault) }
+    {
+        let mut digests = Vec::new(alloc);
+        let mut rest = bytes;
+        let mut line = 1u64;
+        while !rest.is_empty() {
+            let Some(end) = line_end(rest) else {
+                return Err(ListFault::BadLine(line));
+            };
+            let Some(digest) = digest_in(&rest[..end]) else {
+                return Err(ListFault::BadLine(line));
+            };
+            if digests.push(digest).is_err() {
+                return Err(ListFault::NoMemory);
+            }
+            rest = after(rest, end);
+            line += 1;
+        }
+        Ok(DigestList { digests })
+    }
+}
+
+impl Verifier for DigestList {
+    ghost passes = { λ list manifest. passes_listed list manifest };
+
+    #[tactic(auto, unfolding(fwu_model::specs::Allow::passes_listed))]
+    fn accepts(&self, manifest: &[u8]) -> bool {
+        is_listed(&Sha256::digest(manifest), self.digests.as_slice())
+    }
+}
