@@ -1,11 +1,11 @@
 -- A payload that is put in.
-use Rattle.std.proofs.Common.{◌≡◌, ◌≤◌, ◌<◌, ◌+◌, ◌-◌, ◌*◌, ℕ, zero, suc, List, [], ◌∷◌, ◌++◌, length, get_or, take, drop, replicate, refl, sym, ap, subst, ◌∙◌, arith, length-append, append_assoc}
+use Rattle.std.proofs.Common.{◌≡◌, ◌≤◌, ◌<◌, ◌+◌, ◌-◌, ◌*◌, ℕ, zero, suc, List, [], ◌∷◌, ◌++◌, length, get_or, take, drop, replicate, refl, sym, ap, ◌∙◌, arith, length-append, append_assoc}
 use Rattle.std.proofs.lemmas.List.{length-replicate}
 use Rattle.std.proofs.Math.Seq.{drop-append_seam, drop-append-add, take-append_seam}
 use Rattle.std.specs.Int.{next_multiple_of}
 use Rattle.base_core.specs.Bytes.{le, overwritten}
 use Rattle.fwu_model.specs.Package.{Entry, Part, fip_name, packed, packed_entries, payloads, table_bytes}
-use Rattle.fip_tables.specs.Frame.{AreInside, AreSixteen, Filling, IsFrame, last_end, table_end, with_bytes}
+use Rattle.fip_tables.specs.Frame.{AreSixteen, Filling, IsFrame, last_end, table_end, with_bytes}
 use Rattle.fip_tables.proofs.Plans.{end-le-last, table-length}
 
 pub overwritten-seam : (x y z b : List ℕ) (at : ℕ) → length x ≡ at → length b ≡ length y → overwritten at b (x ++ (y ++ z)) ≡ (x ++ b) ++ z

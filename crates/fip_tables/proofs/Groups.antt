@@ -1,14 +1,14 @@
 -- What the reader holds after one more whole group.
-use Rattle.std.proofs.Common.{◌≡◌, ◌≢◌, ℕ, zero, suc, ◌+◌, ◌-◌, ◌*◌, ◌<◌, ◌≤◌, Bool, true, false, List, [], ◌∷◌, ◌++◌, length, take, drop, Result, Ok, Err, refl, sym, ap, subst, ◌∙◌, arith, append_assoc, append-nil, length-append, length-drop}
+use Rattle.std.proofs.Common.{◌≡◌, ◌≢◌, ℕ, suc, ◌+◌, ◌-◌, ◌*◌, ◌≤◌, Bool, true, false, List, [], ◌∷◌, ◌++◌, length, Ok, Err, refl, sym, ap, subst, ◌∙◌, arith, length-append, length-drop}
 use Rattle.std.proofs.Math.ListN.{drop_of_length-le}
 use Rattle.std.specs.List.{list_any}
-use Rattle.base_core.specs.Bytes.{num_at, same_bytes}
+use Rattle.base_core.specs.Bytes.{same_bytes}
 use Rattle.fwu_model.specs.Layout.{nil_guid}
-use Rattle.fwu_model.specs.Package.{Entry, Toc, entry_at, entry_limit, entries_from, fip_name, has_guid, toc_of}
+use Rattle.fwu_model.specs.Package.{Entry, Toc, entry_at, entry_limit, entries_from, has_guid}
 use Rattle.fwu_model.specs.declared.kinds.FipFault.{FipFault}
 use Rattle.fwu_model.specs.declared.kinds.FipFault.TheVariants as fault
 use Rattle.fip_tables.specs.Decoded.{entry_from, IsHeaderOf}
-use Rattle.fip_tables.specs.Stream.{BeginsWith, HasHeader, HasLastingFault, HoldsAt, IsAmongEntries, IsPastMarker}
+use Rattle.fip_tables.specs.Stream.{BeginsWith, HasLastingFault, HoldsAt, IsAmongEntries, IsPastMarker}
 use Rattle.fip_tables.specs.declared.reader.Stage.{Stage}
 use Rattle.fip_tables.specs.declared.reader.Stage.TheVariants.{Header, Table, Whole, Faulty}
 use Rattle.fip_tables.proofs.Fronts.{entry-front, entry-of-group, header-front, num-front}

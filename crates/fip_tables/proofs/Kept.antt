@@ -15,4 +15,3 @@ take-further i n xs le = ap (λ (ys : List ℕ). take i xs ++ ys) (take-take n (
 
 pub take-rest : (i : ℕ) (bytes xs : List ℕ) → (bytes ++ take i xs) ++ drop i xs ≡ bytes ++ xs
 take-rest i bytes xs = append_assoc bytes (take i xs) (drop i xs) ∙ ap (λ (ys : List ℕ). bytes ++ ys) (take-append-drop i xs)
-

@@ -1,12 +1,11 @@
 -- Where the payloads of a package go.
-use Rattle.std.proofs.Common.{◌≡◌, ◌≤◌, ◌<◌, ◌+◌, ◌-◌, ◌*◌, ℕ, zero, suc, List, [], ◌∷◌, ◌++◌, length, get_or, take, drop, replicate, refl, sym, ap, subst, ◌∙◌, arith, length-append, append_assoc}
+use Rattle.std.proofs.Common.{◌≡◌, ◌≤◌, ◌<◌, ◌+◌, ◌-◌, ◌*◌, ℕ, suc, List, [], ◌∷◌, ◌++◌, length, get_or, take, drop, replicate, refl, sym, ap, subst, ◌∙◌, arith, length-append, append_assoc}
 use Rattle.std.proofs.lemmas.List.{length-replicate, replicate-append-replicate, take_all}
 use Rattle.std.proofs.Math.Seq.{drop-cons}
 use Rattle.std.specs.Int.{next_multiple_of}
 use Rattle.base_core.specs.Bytes.{le}
-use Rattle.base_core.specs.Guid.{nil_guid}
 use Rattle.fwu_model.specs.Package.{Entry, Part, fip_name, packed, packed_entries, payloads, table_bytes}
-use Rattle.fip_tables.specs.Packing.{IsOutline, AreOutlines, part_at}
+use Rattle.fip_tables.specs.Packing.{AreOutlines}
 use Rattle.std.specs.Prelude.{flat_map}
 use Rattle.fip_tables.specs.Frame.{AreSixteen, entry_bytes, framed, last_end, marker, table_end}
 

@@ -1,5 +1,5 @@
 -- What the front of a package decides.
-use Rattle.std.proofs.Common.{◌≡◌, ◌≢◌, ◌⊎◌, ℕ, zero, suc, ◌+◌, ◌*◌, ◌<◌, ◌≤◌, Bool, true, false, List, [], ◌∷◌, ◌++◌, length, Option, Some, None, Result, Ok, Err, refl, sym, ap, subst, ◌∙◌, arith, inl, inr, length-append, true≢false, eqb, eqb-true, ltb}
+use Rattle.std.proofs.Common.{◌≡◌, ◌≢◌, ◌⊎◌, ℕ, zero, suc, ◌+◌, ◌*◌, ◌<◌, ◌≤◌, Bool, true, false, List, [], ◌∷◌, ◌++◌, length, Option, Some, None, Result, Ok, Err, refl, sym, ap, ◌∙◌, arith, inl, inr, length-append, true≢false, eqb, eqb-true, ltb}
 use Rattle.std.proofs.lemmas.Bool.{cases_Bool, cases_lt}
 use Rattle.std.specs.List.{list_any}
 use Rattle.std.specs.Prelude.{position, IsTrue}
@@ -137,11 +137,11 @@ faults-stand bytes rest f e =
     by-header bytes (toc_of (bytes ++ rest) ≡ Err f)
     (λ lt. let none : ◌≡◌ {A = Result (Unit {0}) FipFault} (Ok tt) (Err f) = sym (ap decided (short-header bytes lt)) ∙ e in absurd cc)
     (λ long other.
-        let same : fault.BadName ≡ f = lasting-is fault.BadName f (sym (ap decided (bad-name bytes long other)) ∙ e) in
-        bad-name (bytes ++ rest) (omega (arith, long, length-append bytes rest)) (λ n. other (sym (num-front 4 bytes rest 0 (omega (arith, long))) ∙ n)) ∙ ap Err same)
+    let same : fault.BadName ≡ f = lasting-is fault.BadName f (sym (ap decided (bad-name bytes long other)) ∙ e) in
+    bad-name (bytes ++ rest) (omega (arith, long, length-append bytes rest)) (λ n. other (sym (num-front 4 bytes rest 0 (omega (arith, long))) ∙ n)) ∙ ap Err same)
     (λ long name none.
-        let same : fault.ZeroSerial ≡ f = lasting-is fault.ZeroSerial f (sym (ap decided (zero-serial bytes long name none)) ∙ e) in
-        zero-serial (bytes ++ rest) (omega (arith, long, length-append bytes rest)) (num-front 4 bytes rest 0 (omega (arith, long)) ∙ name) (num-front 4 bytes rest 4 (omega (arith, long)) ∙ none) ∙ ap Err same)
+    let same : fault.ZeroSerial ≡ f = lasting-is fault.ZeroSerial f (sym (ap decided (zero-serial bytes long name none)) ∙ e) in
+    zero-serial (bytes ++ rest) (omega (arith, long, length-append bytes rest)) (num-front 4 bytes rest 0 (omega (arith, long)) ∙ name) (num-front 4 bytes rest 4 (omega (arith, long)) ∙ none) ∙ ap Err same)
     (λ toc h. faults-by-entries bytes rest toc f h e (entries_from bytes [] 0 entry_limit) refl)
 
 -- ---- whole tables

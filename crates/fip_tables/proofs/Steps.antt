@@ -1,6 +1,5 @@
 -- One more group of the table: what it makes of the entries so far.
-use Rattle.std.proofs.Common.{◌≡◌, ◌≢◌, ℕ, zero, suc, ◌+◌, ◌*◌, ◌<◌, ◌≤◌, Bool, true, false, cond, not, ◌==◌, List, [], ◌∷◌, ◌++◌, length, take, drop, Result, Ok, Err, refl, sym, ap, subst, ◌∙◌, arith, inl, inr, ltb, eqb, le-ltb, eqb-true, append_assoc, append-nil, length-append}
-use Rattle.std.proofs.lemmas.Bool.{cases_Bool}
+use Rattle.std.proofs.Common.{◌≡◌, ◌≢◌, ℕ, zero, suc, ◌+◌, ◌*◌, ◌<◌, ◌≤◌, Bool, true, false, cond, not, ◌==◌, List, [], ◌∷◌, ◌++◌, length, Ok, Err, refl, sym, ap, ◌∙◌, arith, ltb, le-ltb}
 use Rattle.std.specs.List.{list_any}
 use Rattle.std.specs.Prelude.{position}
 use Rattle.base_core.specs.Bytes.{num_at, same_bytes}
@@ -8,8 +7,7 @@ use Rattle.fwu_model.specs.Layout.{nil_guid}
 use Rattle.fwu_model.specs.Package.{Entry, Toc, entry_at, entry_limit, entries_from, fip_name, has_guid, is_beyond, toc_of, with_entries, within}
 use Rattle.fwu_model.specs.declared.kinds.FipFault.{FipFault}
 use Rattle.fwu_model.specs.declared.kinds.FipFault.TheVariants as fault
-use Rattle.fip_tables.specs.Stream.{BeginsWith, HasHeader, HasLastingFault}
-use Rattle.fip_tables.proofs.Fronts.{entry-front, header-front, num-front}
+use Rattle.fip_tables.specs.Stream.{HasHeader}
 
 pub takes : {X : Type 0} (b : Bool) (x y z : X) → b ≡ true → x ≡ z → cond b x y ≡ z
 takes b x y z e h = rw e h

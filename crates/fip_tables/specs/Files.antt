@@ -1,8 +1,8 @@
 -- A package in a file whose bytes may be told.
-use Rattle.std.specs.Prelude.{◌≡◌, ◌⊎◌, ◌≤◌, ◌<◌, ◌+◌, ◌^◌, ℕ, List, Option, Some, None, Result, Ok, Err, length, take}
+use Rattle.std.specs.Prelude.{◌≡◌, ◌⊎◌, ◌≤◌, ◌<◌, ◌^◌, ℕ, List, Option, Some, None, Result, Ok, Err, length, take}
 use Rattle.base_core.specs.Counts.{Rose}
 use Rattle.host_io.specs.Contents.{Directory}
-use Rattle.fwu_model.specs.Package.{Entry, Toc, toc_of}
+use Rattle.fwu_model.specs.Package.{Toc, toc_of}
 use Rattle.fwu_model.specs.declared.kinds.FipFault.{FipFault}
 use Rattle.fip_tables.specs.Stream.{Fed, Stream}
 use Rattle.fip_tables.specs.declared.toc.TocStop.{TocStop}

@@ -1,6 +1,6 @@
 -- Laws of the table, which hold whatever the code does.
-use Rattle.std.specs.Prelude.{◌≡◌, ◌≤◌, ◌<◌, ◌+◌, ℕ, List, ◌++◌, Result, Ok, Err, IsTrue, length}
-use Rattle.fwu_model.specs.Package.{Toc, toc_of}
+use Rattle.std.specs.Prelude.{◌≡◌, ℕ, List, ◌++◌, Err, IsTrue, length}
+use Rattle.fwu_model.specs.Package.{toc_of}
 use Rattle.fwu_model.specs.declared.kinds.FipFault.{FipFault}
 use Rattle.fip_tables.specs.Answers.{decided, has_marker}
 

@@ -1,5 +1,5 @@
 -- Why parts cannot be packed: their first fault.
-use Rattle.std.specs.Prelude.{◌≡◌, ◌<◌, ◌≤◌, ℕ, Bool, true, ◌&&◌, not, nat_le, nat_lt, if◌then◌else◌, List, [], length, take, Option, Some, None, option_map, position, slice_index_or, Result, Ok, Err, Vec, replicate}
+use Rattle.std.specs.Prelude.{◌≡◌, ◌<◌, ◌≤◌, ℕ, Bool, true, ◌&&◌, not, nat_le, nat_lt, if◌then◌else◌, List, [], length, take, Option, Some, None, option_map, position, slice_index_or, replicate}
 use Rattle.std.specs.List.{list_any, range_with_len}
 use Rattle.std.specs.Int.{is_power_of_two}
 use Rattle.base_core.specs.Bytes.{same_bytes}

@@ -3,13 +3,13 @@
 #![tactic(auto)]
 
 mod entries;
-mod reader;
 mod faults;
 mod frame;
 mod laws;
 mod outline;
 mod payloads;
 mod read;
+mod reader;
 mod stream;
 mod toc;
 
@@ -22,3 +22,6 @@ pub use payloads::{Part, Parts, pack};
 pub use read::{payload_at, read_toc};
 pub use stream::StreamToc;
 pub use toc::{Toc, TocStop};
+
+#[cfg(test)]
+mod tests;

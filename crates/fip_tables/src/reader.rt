@@ -3,7 +3,6 @@
 ghost use Rattle.std.specs.Prelude.{◌≡◌, ◌≢◌, ◌+◌, ◌*◌, ◌<◌, ◌≤◌, ◌^◌, ◌++◌, ℕ, List, [], Option, IsTrue, IsNone, OnOk, ◌↔◌, length, take, MatchResult, Ok, Err};
 ghost use Rattle.fwu_model.specs.Package.{toc_of};
 ghost use Rattle.fip_tables.specs.Decoded.{IsHeaderOf};
-
 ghost use Rattle.fip_tables.specs.Stream.{HoldsAt, IsGroup};
 ghost use Rattle.fip_tables.specs.declared.reader.Stage.TheVariants as stage;
 

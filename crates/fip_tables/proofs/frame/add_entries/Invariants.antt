@@ -1,4 +1,3 @@
-use Rattle.std.proofs.Common.{◌≡◌, ◌++◌, ◌*◌, length, take}
 use Rattle.fip_tables.proofs.Plans.{HasAdded}
 use Rattle.fip_tables.proofs.frame.add_entries.Given as goal
 

@@ -1,4 +1,4 @@
-use Rattle.std.proofs.Common.{◌≡◌, ◌∙◌, ◌++◌, ap, sym, ℕ, List}
+use Rattle.std.proofs.Common.{◌∙◌, ◌++◌, ap, ℕ, List}
 use Rattle.base_core.proofs.Spelled.{eight_spelled}
 use Rattle.base_core.specs.Bytes.{le}
 use Rattle.fwu_model.specs.Package.{Entry}

@@ -1,4 +1,4 @@
-use Rattle.std.proofs.Common.{◌≡◌, ◌∙◌, ◌<◌, ◌+◌, ℕ, ap, sym, arith, length, refl}
+use Rattle.std.proofs.Common.{◌≡◌, ◌∙◌, ◌<◌, ℕ, ap, sym, arith, length, refl}
 use Rattle.std.proofs.lemmas.List.{length-replicate}
 use Rattle.fwu_model.specs.Package.{Part}
 use Rattle.fip_tables.specs.Frame.{last_end, table_end}

@@ -1,4 +1,4 @@
-use Rattle.std.proofs.Common.{◌≡◌, ◌∙◌, ◌++◌, ◌-◌, ◌*◌, ap, sym, subst, ℕ, List, length, take, replicate}
+use Rattle.std.proofs.Common.{◌≡◌, ◌∙◌, ◌++◌, ◌-◌, ◌*◌, ap, subst, ℕ, List, length, take, replicate}
 use Rattle.std.specs.Prelude.{flat_map}
 use Rattle.fwu_model.specs.Package.{Entry}
 use Rattle.fip_tables.specs.Frame.{entry_bytes}

@@ -1,4 +1,4 @@
-use Rattle.std.proofs.Common.{◌≡◌, ◌∙◌, ◌≤◌, sym, arith, length}
+use Rattle.std.proofs.Common.{◌∙◌, sym, arith}
 use Rattle.fip_tables.proofs.Firsts.{align-fault, nil-fault, repeat-fault, too-many}
 use Rattle.fip_tables.proofs.outline.check.Goals as goal
 

@@ -1,7 +1,6 @@
-use Rattle.std.proofs.Common.{◌≡◌, ◌∙◌, ◌<◌, ℕ, ap, false, arith, length, sym}
+use Rattle.std.proofs.Common.{◌∙◌, ap, arith, sym}
 use Rattle.std.proofs.lemmas.List.{get_or_default}
-use Rattle.fwu_model.specs.Package.{Part}
-use Rattle.fip_tables.specs.Packing.{is_nil, part_at}
+use Rattle.fip_tables.specs.Packing.{is_nil}
 use Rattle.fip_tables.proofs.Firsts.{position-at, position-none}
 use Rattle.fip_tables.proofs.outline.first_nil.Goals as goal
 

@@ -1,4 +1,3 @@
-use Rattle.std.proofs.Common.{◌≡◌, ◌<◌, ℕ, false}
 use Rattle.fip_tables.proofs.Firsts.{HasNoneNil}
 use Rattle.fip_tables.proofs.outline.first_nil.Given as goal
 

@@ -1,5 +1,4 @@
-use Rattle.std.proofs.Common.{◌≡◌, ◌∙◌, ◌<◌, ℕ, false, arith, length, sym}
-use Rattle.fip_tables.specs.Packing.{is_repeat}
+use Rattle.std.proofs.Common.{◌∙◌, arith, sym}
 use Rattle.fip_tables.proofs.Firsts.{none-repeats, repeats-at}
 use Rattle.fip_tables.proofs.outline.first_repeat.Goals as goal
 

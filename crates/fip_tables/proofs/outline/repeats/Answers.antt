@@ -1,4 +1,4 @@
-use Rattle.std.proofs.Common.{◌≡◌, ◌∙◌, ap, sym, ℕ, List, take}
+use Rattle.std.proofs.Common.{◌∙◌, ap, ℕ, List, take}
 use Rattle.std.proofs.lemmas.List.{get_or_default}
 use Rattle.std.specs.List.{list_any}
 use Rattle.base_core.specs.Bytes.{same_bytes}

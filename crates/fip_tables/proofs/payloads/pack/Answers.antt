@@ -1,11 +1,9 @@
-use Rattle.std.proofs.Common.{◌≡◌, ◌∙◌, ◌<◌, ap, sym, subst, arith, ℕ, List, Option, Some, None, Result, Err, [], map, length, get_or}
-use Rattle.std.proofs.lemmas.List.{get_or_default}
+use Rattle.std.proofs.Common.{◌≡◌, ◌∙◌, ◌<◌, ap, sym, subst, arith, List, Result, Err, [], map, length, get_or}
 use Rattle.fwu_model.specs.Package.{Entry, Part, packed}
 use Rattle.fip_tables.specs.Packing.{pack_fault, zeroed}
 use Rattle.fip_tables.specs.Frame.{IsFrame, table_end, with_bytes}
 use Rattle.fip_tables.specs.declared.faults.PackStop.{PackStop}
 use Rattle.fip_tables.specs.declared.faults.PackStop.TheVariants as stop
-use Rattle.fip_tables.specs.declared.faults.PackFault.{PackFault}
 use Rattle.fip_tables.proofs.Filled.{entries-count}
 use Rattle.fip_tables.proofs.Zeros.{length-partly, partly, partly-all, partly-more, partly-none, partly-size, zeros-decide}
 use Rattle.fip_tables.proofs.payloads.pack.Goals as goal

@@ -1,4 +1,4 @@
-use Rattle.std.proofs.Common.{◌≡◌, ◌∙◌, ◌+◌, ◌-◌, ◌≤◌, ◌++◌, ap, sym, subst, arith, ℕ, List, length, take, drop, replicate, length-append, length-drop}
+use Rattle.std.proofs.Common.{◌∙◌, ◌-◌, ◌++◌, subst, arith, ℕ, drop, replicate, length-append, length-drop}
 use Rattle.std.proofs.lemmas.List.{length-replicate}
 use Rattle.fip_tables.specs.Stream.{Fed}
 use Rattle.fip_tables.proofs.Told.{front_and_rest, size_is}

@@ -1,4 +1,4 @@
-use Rattle.std.proofs.Common.{◌≡◌, sym, subst, ap, Option}
+use Rattle.std.proofs.Common.{sym, subst, Option}
 use Rattle.host_io.specs.Contents.{Directory}
 use Rattle.fip_tables.specs.Files.{Tells}
 use Rattle.fip_tables.proofs.Feeding.{stopped-some, stopped-told}

@@ -1,6 +1,5 @@
-use Rattle.std.proofs.Common.{◌≡◌, ◌∙◌, ◌≤◌, ◌<◌, ◌+◌, ◌*◌, ap, sym, subst, arith, ℕ, List, length, get_or, Option, Some, None, Result, Err}
-use Rattle.fwu_model.specs.Package.{Entry, packed, packed_entries}
-use Rattle.fip_tables.specs.Packing.{pack_fault}
+use Rattle.std.proofs.Common.{◌≡◌, ◌∙◌, ◌≤◌, ◌<◌, ◌+◌, ap, sym, subst, arith, ℕ, List, length, get_or, Some, Result, Err}
+use Rattle.fwu_model.specs.Package.{Entry, packed_entries}
 use Rattle.fip_tables.specs.Frame.{framed, last_end, table_end}
 use Rattle.fip_tables.specs.declared.faults.PackFault.{PackFault}
 use Rattle.fip_tables.specs.declared.faults.PackStop.{PackStop}

@@ -1,4 +1,4 @@
-use Rattle.std.proofs.Common.{◌≡◌, ◌∙◌, ap, arith, ℕ, List, length, get_or}
+use Rattle.std.proofs.Common.{◌≡◌, ◌∙◌, ap, arith, List, length, get_or}
 use Rattle.std.proofs.lemmas.List.{get_or_default}
 use Rattle.base_core.specs.Bytes.{overwritten}
 use Rattle.fwu_model.specs.Package.{Entry}

@@ -1,8 +1,8 @@
-use Rattle.std.proofs.Common.{◌≡◌, ◌∙◌, ◌+◌, ◌-◌, ap, arith, ℕ, List, length, get_or}
+use Rattle.std.proofs.Common.{◌≡◌, ◌∙◌, ◌+◌, ◌-◌, ap, arith, List, length, get_or}
 use Rattle.std.proofs.lemmas.List.{get_or_default}
 use Rattle.base_core.specs.Bytes.{overwritten}
 use Rattle.fwu_model.specs.Package.{Entry}
-use Rattle.fip_tables.specs.Frame.{Filling, payload_entry}
+use Rattle.fip_tables.specs.Frame.{Filling}
 use Rattle.fip_tables.proofs.Filled.{frame-filled}
 use Rattle.fip_tables.proofs.frame.Frame.read.Goals as goal
 

@@ -1,8 +1,8 @@
-use Rattle.std.proofs.Common.{◌≡◌, ◌∙◌, ap, sym, subst, ℕ, List, length, Ok, Err, Option, Some, None, ◌+◌}
+use Rattle.std.proofs.Common.{◌≡◌, ◌∙◌, ap, sym, subst, ℕ, List, length, Err, Option, Some, None, ◌+◌}
 use Rattle.std.specs.Prelude.{nat_lt, position}
 use Rattle.fwu_model.specs.Package.{Toc, is_beyond, toc_of}
 use Rattle.fwu_model.specs.declared.kinds.FipFault.TheVariants as fault
-use Rattle.fip_tables.specs.Stream.{HoldsAt, Holds, IsPartial, Reader, group_size}
+use Rattle.fip_tables.specs.Stream.{Holds, IsPartial, Reader}
 use Rattle.fip_tables.specs.declared.reader.Stage.{Stage}
 use Rattle.fip_tables.specs.declared.reader.Stage.TheVariants as stage
 use Rattle.fip_tables.proofs.Ends.{answer_at, answers, within-none, within-some}

@@ -1,5 +1,4 @@
-use Rattle.std.proofs.Common.{◌≡◌, ◌≤◌, ◌<◌, ◌-◌, ◌++◌, ℕ, List, length, take}
-use Rattle.fip_tables.specs.Stream.{Holds, group_size}
+use Rattle.std.proofs.Common.{◌-◌, length}
 use Rattle.fip_tables.proofs.Kept.{HasReadOn}
 use Rattle.fip_tables.proofs.reader.TableReader.read_on.Given as goal
 

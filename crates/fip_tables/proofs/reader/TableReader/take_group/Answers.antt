@@ -1,10 +1,9 @@
-use Rattle.std.proofs.Common.{◌≡◌, ◌≢◌, ◌∙◌, ap, sym, subst, ℕ, List, [], length, refl, take, Result, Ok, Err}
+use Rattle.std.proofs.Common.{sym, subst, ℕ, [], take, Result}
 use Rattle.fwu_model.specs.Package.{Toc}
 use Rattle.fwu_model.specs.declared.kinds.FipFault.{FipFault}
 use Rattle.fip_tables.specs.Decoded.{IsHeaderOf}
 use Rattle.fip_tables.specs.Stream.{Holds, HoldsAt, IsGroup, Reader}
 use Rattle.fip_tables.specs.declared.reader.Stage.{Stage}
-use Rattle.fip_tables.specs.declared.reader.Stage.TheVariants as stage
 use Rattle.fip_tables.proofs.Groups.{after-bad-header, after-header, nothing-pending}
 use Rattle.fip_tables.proofs.reader.TableReader.take_group.Goals.{in-Header+in-Ok, in-Header+in-Err, in-Table, in_default}
 use Rattle.fip_tables.proofs.reader.TableReader.take_group.Goals as goal

@@ -1,5 +1,5 @@
-use Rattle.std.proofs.Common.{◌≡◌, ◌∙◌, ap, sym, subst, ℕ, List, ◌++◌}
-use Rattle.fip_tables.specs.Stream.{Fed, Stream, Holds}
+use Rattle.std.proofs.Common.{◌∙◌, sym, subst, ◌++◌}
+use Rattle.fip_tables.specs.Stream.{Stream, Holds}
 use Rattle.fip_tables.proofs.Ends.{met-decided}
 use Rattle.fip_tables.proofs.stream.StreamToc.feed.Goals as goal
 

@@ -1,6 +1,6 @@
-use Rattle.std.proofs.Common.{◌≡◌, ◌∙◌, ap, sym, subst, ℕ, List, Bool, true, false, inl, inr, true≢false}
+use Rattle.std.proofs.Common.{◌∙◌, sym, subst, inl, inr, true≢false}
 use Rattle.std.proofs.lemmas.Bool.{cases_Bool}
-use Rattle.fip_tables.specs.Stream.{Fed, Stream, Holds, HoldsAt, IsPartial}
+use Rattle.fip_tables.specs.Stream.{Stream, Holds, HoldsAt, IsPartial}
 use Rattle.fip_tables.specs.declared.reader.Stage.{Stage}
 use Rattle.fip_tables.proofs.Ends.{other-unmarked, whole-marked}
 use Rattle.fip_tables.proofs.stream.StreamToc.is_whole.Goals as goal

@@ -1,0 +1,158 @@
+//! Worked packages, whose bytes are written out by hand.
+
+ghost use Rattle.std.specs.Prelude.{◌≤◌, ◌<◌, ◌^◌, length};
+
+use super::*;
+use base_core::Guid;
+use fwu_model::FipFault;
+use host_io::{Files, MemoryFiles};
+use std::alloc::{AllocError, Global};
+use std::test::Fail;
+
+// One entry, `hello`, and no alignment.
+const HELLO: [u8; 101] = [
+    0x01, 0x00, 0x64, 0xaa, 0x78, 0x56, 0x34, 0x12, 0, 0, 0, 0, 0, 0, 0, 0, 0x5f, 0xf9, 0xec, 0x0b,
+    0x4d, 0x22, 0x3e, 0x4d, 0xa5, 0x44, 0xc3, 0x9d, 0x81, 0xc7, 0x3f, 0x0a, 0x60, 0, 0, 0, 0, 0, 0,
+    0, 5, 0, 0, 0, 0, 0, 0, 0, 0, 0, 0, 0, 0, 0, 0, 0, 0, 0, 0, 0, 0, 0, 0, 0, 0, 0, 0, 0, 0, 0, 0,
+    0, 0x65, 0, 0, 0, 0, 0, 0, 0, 0, 0, 0, 0, 0, 0, 0, 0, 0, 0, 0, 0, 0, 0, 0, 0, b'h', b'e', b'l',
+    b'l', b'o',
+];
+
+// No entry.
+const EMPTY: [u8; 56] = [
+    0x01, 0x00, 0x64, 0xaa, 0x78, 0x56, 0x34, 0x12, 0, 0, 0, 0, 0, 0, 0, 0, 0, 0, 0, 0, 0, 0, 0, 0,
+    0, 0, 0, 0, 0, 0, 0, 0, 0x38, 0, 0, 0, 0, 0, 0, 0, 0, 0, 0, 0, 0, 0, 0, 0, 0, 0, 0, 0, 0, 0, 0,
+    0,
+];
+
+fn first_guid() -> Guid {
+    Guid::of([
+        0x5f, 0xf9, 0xec, 0x0b, 0x4d, 0x22, 0x3e, 0x4d, 0xa5, 0x44, 0xc3, 0x9d, 0x81, 0xc7, 0x3f,
+        0x0a,
+    ])
+}
+
+fn part(alloc: Global, guid: Guid, text: &str) -> Result<Part, AllocError> {
+    Ok(Part {
+        guid,
+        flags: 0,
+        bytes: text.as_bytes().to_vec(alloc)?,
+    })
+}
+
+fn package(alloc: Global, parts: Vec<Part>, align: u32) -> Result<Vec<u8>, PackStop> {
+    let parts = Parts {
+        serial: 0x1234_5678,
+        flags: 0,
+        parts,
+    };
+    pack(alloc, &parts, align)
+}
+
+// The table of bytes that are fed in two pieces.
+fn fed(bytes: &[u8], cut: usize) -> Result<Toc, FipFault>
+    requires inside { cut ≤ length bytes.now }
+    requires small { length bytes.now < 2 ^ 32 }
+{
+    let mut stream = StreamToc::new();
+    stream.feed(&bytes[..cut])?;
+    stream.feed(&bytes[cut..])?;
+    stream.end()
+}
+
+#[test]
+fn bytes_of_packages(rt: HostRuntime) -> Result<(), Fail> {
+    let alloc = rt.alloc();
+    let empty = package(alloc, Vec::new(alloc), 1)?;
+    assert_eq!(rt; empty.as_slice(), EMPTY.as_slice());
+    let mut one = Vec::new(alloc);
+    one.push(part(alloc, first_guid(), "hello")?)?;
+    let hello = package(alloc, one, 1)?;
+    assert_eq!(rt; hello.as_slice(), HELLO.as_slice());
+    Ok(())
+}
+
+#[test]
+fn aligned_package(rt: HostRuntime) -> Result<(), Fail> {
+    let alloc = rt.alloc();
+    let mut two = Vec::new(alloc);
+    two.push(part(alloc, first_guid(), "hello")?)?;
+    two.push(part(alloc, Guid::of([7; 16]), "xyz")?)?;
+    let bytes = package(alloc, two, 16)?;
+    assert_eq!(rt; bytes.len(), 176);
+    let toc = fed(bytes.as_slice(), 100).map_err(|_| "no package")?;
+    let entries = toc.entries.as_slice();
+    assert_eq!(rt; entries.len(), 2);
+    let (first, second) = (&entries[0], &entries[1]);
+    assert_eq!(rt; first.offset, 144);
+    assert_eq!(rt; second.offset, 160);
+    assert_eq!(rt; &bytes[160..], b"xyz\0\0\0\0\0\0\0\0\0\0\0\0\0".as_slice());
+    Ok(())
+}
+
+#[test]
+fn faults_of_packages(rt: HostRuntime) {
+    let cases: [(&[u8], Option<FipFault>); 5] = [
+        (&HELLO, None),
+        (&HELLO[..95], Some(FipFault::NoEnd(1))),
+        (&HELLO[..100], Some(FipFault::Beyond(0))),
+        (&HELLO[..15], Some(FipFault::ShortHeader)),
+        (b"a name that is other", Some(FipFault::BadName)),
+    ];
+    for (bytes, fault) in cases {
+        if bytes.len() < 200 {
+            assert_eq!(rt; fed(bytes, bytes.len() / 2).err(), fault);
+        }
+    }
+}
+
+#[test]
+fn package_in_a_file(rt: HostRuntime) -> Result<(), Fail> {
+    let alloc = rt.alloc();
+    let mut names = Vec::new(alloc);
+    names.push((
+        String::from_str(alloc, "a.fip")?,
+        HELLO.as_slice().to_vec(alloc)?,
+    ))?;
+    let mut files = MemoryFiles::new(alloc, names, Vec::new(alloc));
+    let toc = read_toc(&mut files, "a.fip").map_err(|_| "no table")?;
+    assert_eq!(rt; toc.serial, 0x1234_5678);
+    assert_eq!(rt; toc.entries.len(), 1);
+    assert_eq!(rt;
+        read_toc(&mut files, "b.fip").err(),
+        Some(TocStop::ReadFailed)
+    );
+    Ok(())
+}
+
+// A package of one file.
+fn packed_file<H: Files>(alloc: Global, files: &mut H, name: &str) -> Result<Vec<u8>, PackStop> {
+    let size = match files.size(name) {
+        Ok(Some(size)) => size,
+        Ok(None) | Err(_) => return Ok(Vec::new(alloc)),
+    };
+    let parts = [Outline {
+        guid: first_guid(),
+        flags: 0,
+        size,
+    }];
+    let mut frame = match Frame::new(alloc, 0x1234_5678, 0, &parts, 1) {
+        Ok(frame) => frame,
+        Err(stop) => return Err(stop),
+    };
+    match frame.read(0, files, name, 0) {
+        Ok(()) => Ok(frame.into_bytes()),
+        Err(_) => Ok(Vec::new(alloc)),
+    }
+}
+
+#[test]
+fn frame_filled_from_a_file(rt: HostRuntime) -> Result<(), Fail> {
+    let alloc = rt.alloc();
+    let mut names = Vec::new(alloc);
+    names.push((String::from_str(alloc, "hello")?, b"hello".to_vec(alloc)?))?;
+    let mut files = MemoryFiles::new(alloc, names, Vec::new(alloc));
+    let bytes = packed_file(alloc, &mut files, "hello")?;
+    assert_eq!(rt; bytes.as_slice(), HELLO.as_slice());
+    Ok(())
+}
