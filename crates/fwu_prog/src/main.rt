@@ -5,12 +5,13 @@
 //! status is the program's. Without any word the program prints nothing and ends with 0.
 #![tactic(auto)]
 
-ghost use Rattle.std.specs.Prelude.{IfSome};
+ghost use Rattle.std.specs.Prelude.{◌≡◌, [], IfSome, codes};
 ghost use Rattle.flash_devices.specs.File.{IsNew};
+ghost use Rattle.script_cmd.specs.Printed.{Prints};
 
 use flash_devices::FileFlash;
-use host_io::{Sink, StdSink, WriteStop};
-use script_cmd::{fwu_top, put_usage};
+use host_io::{Sink, StdSink};
+use script_cmd::{fwu_top, put_line, put_usage};
 use std::alloc::AllocGlobal;
 use std::env::Env;
 use std::fs::{Files, OpenOptions};
@@ -31,12 +32,10 @@ fn open_flash<R: Files>(rt: &R, name: &str) -> Option<FileFlash<R::File>>
 }
 
 /// Says that the flash can't be used, and gives the status that comes of it.
-fn refuse_flash<O: Sink>(sink: &mut O) -> u8 {
-    match sink.put(b"flash cannot be used\n") {
-        Ok(()) => 5,
-        Err(WriteStop::Failed) => 3,
-        Err(WriteStop::NoMemory) => 9,
-    }
+fn refuse_flash<O: Sink>(sink: &mut O) -> u8
+    ensures { Prints (codes "flash cannot be used\n") 5 result (O.taken sink.old) (O.taken sink.new) (O.faults sink.old) (O.faults sink.new) }
+{
+    put_line(sink, b"flash cannot be used\n".as_slice(), 5)
 }
 
 /// The words behind the program's name. One that isn't UTF-8 is an error.
@@ -46,7 +45,10 @@ fn words_of<R: Env + AllocGlobal>(rt: &R) -> io::Result<Vec<String>> {
 }
 
 /// Does what the words ask for, of which the first names the flash, and gives the status.
-fn run<R: Files + AllocGlobal, O: Sink>(rt: &R, words: &[String], sink: &mut O) -> u8 {
+fn run<R: Files + AllocGlobal, O: Sink>(rt: &R, words: &[String], sink: &mut O) -> u8
+    ensures no_words { words.now ≡ [] → result ≡ 0 }
+    ensures silent { words.now ≡ [] → sink.new ≡ sink.old }
+{
     let Some((name, asked)) = words.split_first() else {
         return 0;
     };

@@ -1,5 +1,5 @@
 -- What a boot's turn answers, by its end, and what a power-on keeps.
-use Rattle.std.proofs.Common.{◌≡◌, ℕ, ◌<◌, ◌≤◌, Bool, arith, List, [], ◌∷◌, length, get_or, ext_get_or, Option, Some, None, Result, Ok, Err, refl, sym, ap, subst, ◌∙◌, ◌⊎◌, inl, inr, IsTrue, IsFalse}
+use Rattle.std.proofs.Common.{◌≡◌, ℕ, ◌≤◌, Bool, arith, List, ext_get_or, Option, Some, None, Ok, Err, refl, sym, ap, subst, ◌∙◌, ◌⊎◌, inl, inr, IsTrue, IsFalse}
 use Rattle.std.specs.Prelude.{option_map, IsErrOf}
 use Rattle.flash_core.specs.Told.{Told, NothingDirty, fresh, is_unsure}
 use Rattle.flash_core.specs.May.{Leaves}
@@ -9,10 +9,9 @@ use Rattle.flash_core.specs.declared.flash.FlashStop.TheVariants as flash_stop
 use Rattle.fwu_model.specs.Allow.{passes_any}
 use Rattle.fwu_model.specs.Call as call
 use Rattle.fwu_model.specs.Layout.{Layout}
-use Rattle.fwu_model.specs.Metadata.{MetaRead}
 use Rattle.fwu_model.specs.Flash.{layout_seen, deciding}
 use Rattle.fwu_model.specs.State.{State, Numbers, numbers_of}
-use Rattle.fwu_model.specs.Seen.{seen, state_of}
+use Rattle.fwu_model.specs.Seen.{seen}
 use Rattle.fwu_model.specs.Manifest.{version}
 use Rattle.fwu_model.specs.Answer.{booted_package}
 use Rattle.fwu_model.specs.Reply.{Reply, Turn}
@@ -23,7 +22,7 @@ use Rattle.fwu_model.proofs.Shown.{seen-by-metadata}
 use Rattle.early_boot.specs.Choosing.{boot_setting}
 use Rattle.early_boot.specs.Interim.{interim_choice}
 use Rattle.early_boot.specs.Started.{Started, started_reply}
-use Rattle.early_boot.specs.Ends.{Ended, booted, bad_layout, no_metadata, no_bank, lost, failed, EndsByBytes, StopsUnwritten, StartsChosen, StartsNone}
+use Rattle.early_boot.specs.Ends.{Ended, booted, bad_layout, no_metadata, no_bank, lost, failed, EndsByBytes, StopsUnwritten, StartsChosen}
 use Rattle.script_cmd.specs.Booting.{stop_by, reply_of, numbers_of_end}
 use Rattle.script_cmd.specs.Ran.{Boots}
 use Rattle.script_cmd.specs.BootReply.{boot_reply, boot_numbers, numbers_with, AnswersBoot, reply_by_layout, reply_by_metadata, reply_by_state, reply_by_choice}

@@ -1,5 +1,5 @@
 -- How a run ends, from what it did.
-use Rattle.std.proofs.Common.{◌≡◌, ℕ, ◌+◌, ◌-◌, ◌<◌, ◌≤◌, Bool, true, false, List, [], ◌∷◌, length, Some, None, Ok, Err, refl, sym, ap, subst, ◌∙◌, ◌⊎◌, inl, inr, IsTrue, IsFalse, slice_get, Contains, arith, not, ◌==◌, ◌||◌, Option}
+use Rattle.std.proofs.Common.{◌≡◌, ℕ, ◌≤◌, Bool, List, [], ◌∷◌, Some, None, refl, sym, ap, subst, ◌∙◌, ◌⊎◌, inl, inr, IsTrue, IsFalse, Contains, arith, not, ◌==◌, ◌||◌, Option}
 use Rattle.std.proofs.lemmas.Bool.{false≢true}
 use Rattle.std.proofs.lemmas.Option.{same_Some}
 use Rattle.std.proofs.lemmas.Grind.{get_or_head}
@@ -11,21 +11,16 @@ use Rattle.fwu_model.specs.declared.kinds.Note.{Note}
 use Rattle.fwu_model.specs.declared.kinds.Note.TheVariants as note
 use Rattle.fwu_model.specs.declared.kinds.NoBoot.{NoBoot}
 use Rattle.fwu_model.specs.declared.kinds.NoBoot.TheVariants as no_boot
-use Rattle.fwu_model.specs.declared.kinds.LayoutFault.{LayoutFault}
 use Rattle.fwu_model.specs.Allow.{passes_any}
-use Rattle.fwu_model.specs.Layout.{Layout}
 use Rattle.fwu_model.specs.State.{State, Numbers}
 use Rattle.fwu_model.specs.Sound.{Setting, trial_limit}
-use Rattle.fwu_model.specs.Flash.{layout_seen, deciding}
-use Rattle.fwu_model.specs.Seen.{seen}
 use Rattle.fwu_model.specs.Manifest.{version}
-use Rattle.fwu_model.specs.Answer.{booted_package}
 use Rattle.fwu_model.specs.Call as call
 use Rattle.fwu_model.specs.Reply.{Reply, Turn}
 use Rattle.fwu_model.specs.Reply as reply
 use Rattle.fwu_model.specs.Text.{line}
 use Rattle.fwu_model.specs.Wrote.{may_lack, usage_line}
-use Rattle.fwu_model.specs.Causes.{status_by, note_by, LossesAreCounted, is_lost}
+use Rattle.fwu_model.specs.Causes.{status_by, note_by, LossesAreCounted}
 use Rattle.early_boot.specs.Choosing.{boot_setting}
 use Rattle.early_boot.specs.Interim.{interim_choice}
 use Rattle.early_boot.proofs.Choices.{choice-setting}
@@ -35,8 +30,8 @@ use Rattle.script_cmd.specs.declared.journal.Reply.TheVariants as kind
 use Rattle.script_cmd.specs.Shown as shown
 use Rattle.script_cmd.specs.Printed.{Prints, all, front, nothing}
 use Rattle.script_cmd.specs.BootReply.{AnswersBoot, boot_reply, reply_by_choice}
-use Rattle.script_cmd.specs.BootsBy.{BootsBy, BootsBank}
-use Rattle.script_cmd.specs.Ends.{Ends, NoneFalls, Refuses, RanNothing, is_status}
+use Rattle.script_cmd.specs.BootsBy.{BootsBy}
+use Rattle.script_cmd.specs.Ends.{Ends, NoneFalls, RanNothing, is_status}
 use Rattle.script_cmd.specs.Ran.{Boots, Idle, Ran}
 use Rattle.script_cmd.proofs.Answered.{reply-no_layout, reply-no_metadata, reply-chosen}
 

@@ -1,14 +1,12 @@
 -- What a run wrote, from what it did.
-use Rattle.std.proofs.Common.{◌≡◌, ◌≢◌, ℕ, ◌≤◌, Bool, true, false, List, [], ◌∷◌, ◌++◌, length, take, drop, Option, Some, None, refl, sym, ap, subst, ◌∙◌, ◌⊎◌, inl, inr, IsTrue, IsFalse, arith, append-nil, length-append}
+use Rattle.std.proofs.Common.{◌≡◌, ◌≢◌, ℕ, List, [], ◌∷◌, ◌++◌, length, take, drop, Option, Some, None, refl, sym, ap, subst, ◌∙◌, ◌⊎◌, inl, inr, IsTrue, IsFalse, arith, append-nil, length-append}
 use Rattle.std.specs.Prelude.{codes}
 use Rattle.std.specs.Io.KnownBytes.{Appends}
 use Rattle.std.proofs.lemmas.Bool.{false≢true}
 use Rattle.std.proofs.lemmas.List.{take-append-drop}
 use Rattle.std.proofs.lemmas.Option.{same_Some}
-use Rattle.flash_core.specs.Counts.{Rose}
 use Rattle.fwu_model.specs.declared.kinds.Note.{Note}
 use Rattle.fwu_model.specs.Reply.{Turn}
-use Rattle.fwu_model.specs.Call as call
 use Rattle.fwu_model.specs.Text.{line, text, call_word, reply_text}
 use Rattle.fwu_model.specs.Wrote.{Wrote, usage_line, Usage, ends_early, may_lack}
 use Rattle.fwu_model.specs.Causes.{status_by}

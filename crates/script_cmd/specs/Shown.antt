@@ -1,6 +1,5 @@
 -- The turns of a journal as the definitions have them.
-use Rattle.std.specs.Prelude.{◌≤◌, ◌+◌, ℕ, List, map, Option, Some, None, vec_len, vec_capacity}
-use Rattle.fwu_model.specs.State.{Numbers}
+use Rattle.std.specs.Prelude.{◌≤◌, ◌+◌, ℕ, List, map, vec_len, vec_capacity}
 use Rattle.fwu_model.specs.Call as model
 use Rattle.fwu_model.specs.Reply as model_reply
 use Rattle.early_boot.specs.Ends.{some_numbers}

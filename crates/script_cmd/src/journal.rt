@@ -72,6 +72,7 @@ impl Journal {
         requires { HasRoomFor self.old 1 }
         ensures { turns self.new ≡ turns self.old ++ turn next ∷ [] }
     {
+        // It is named here, so that the proof is told the type of the numbers.
         let _numbers = &next.numbers;
         self.turns.push(next).unwrap()
     }

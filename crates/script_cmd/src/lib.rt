@@ -12,4 +12,4 @@ mod tests;
 
 pub use done::Done;
 pub use journal::{Call, Journal, Reply, Turn};
-pub use program::{fwu_top, put_usage};
+pub use program::{fwu_top, put_line, put_usage};

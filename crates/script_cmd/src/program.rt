@@ -31,8 +31,9 @@ fn asks_boot(words: &[String]) -> bool
     words.len() == 1 && words[0].as_str() == "boot"
 }
 
-/// Puts a line into the sink in one piece, and says the status that comes of it.
-fn print<O: Sink>(sink: &mut O, bytes: &[u8], planned: u8) -> u8
+/// Puts a line into the sink in one piece, and gives the exit status that comes of it: the planned one, or 3 where the sink failed,
+/// or 9 where it found no memory.
+pub fn put_line<O: Sink>(sink: &mut O, bytes: &[u8], planned: u8) -> u8
     ensures { Prints bytes.now planned result (O.taken sink.old) (O.taken sink.new) (O.faults sink.old) (O.faults sink.new) }
 {
     match sink.put(bytes) {
@@ -42,13 +43,12 @@ fn print<O: Sink>(sink: &mut O, bytes: &[u8], planned: u8) -> u8
     }
 }
 
-/// Puts the line of usage into the sink in one piece, and gives the exit status: 1, or 3 where the sink failed, or 9 where it found
-/// no memory.
+/// Puts the line of usage into the sink in one piece, and gives the exit status that comes of it, where 1 is planned.
 pub fn put_usage<O: Sink>(sink: &mut O) -> u8
     ensures { Prints usage_line 1 result (O.taken sink.old) (O.taken sink.new) (O.faults sink.old) (O.faults sink.new) }
 {
     let line = b"usage: fwu FLASH run|boot|show|format LAYOUT PACKAGE|soak SEED N\n";
-    print(sink, line.as_slice(), 1)
+    put_line(sink, line.as_slice(), 1)
 }
 
 /// The status after a last turn with this reply.
@@ -112,7 +112,7 @@ fn keep_and_print<O: Sink>(room: Room, next: Turn, sink: &mut O) -> (u8, Journal
     let (mut journal, mut text) = room.into_parts();
     journal.add(next);
     add_line(&mut text, &next);
-    let status = print(sink, text.as_slice(), status_of(&next.reply));
+    let status = put_line(sink, text.as_slice(), status_of(&next.reply));
     (status, journal)
 }
 

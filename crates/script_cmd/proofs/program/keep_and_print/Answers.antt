@@ -1,8 +1,7 @@
-use Rattle.std.proofs.Common.{List, ℕ, [], ◌∷◌, ◌++◌, refl, ap, sym, subst, ◌∙◌}
+use Rattle.std.proofs.Common.{List, ℕ, [], ◌∷◌, ◌++◌, refl, ap, ◌∙◌}
 use Rattle.fwu_model.specs.Reply.{Turn}
 use Rattle.fwu_model.specs.Text.{line}
 use Rattle.script_cmd.specs.Shown.{turn}
-use Rattle.script_cmd.specs.Printed.{Prints}
 use Rattle.script_cmd.proofs.program.keep_and_print.Goals as goal
 
 pub returns : goal.returns
@@ -12,5 +11,5 @@ returns g c =
     record {
       journal_is = c.add.ensures ∙ ap (λ (x : List Turn). x ++ t ∷ []) c.into_parts-journal.ensures.no_turns;
       noted_is = refl;
-      prints = rw (text, c.status_of.ensures) at c.print-status.ensures;
+      prints = rw (text, c.status_of.ensures) at c.put_line-status.ensures;
     }

@@ -1,6 +1,6 @@
 use Rattle.std.proofs.Common.{ap, refl, Err}
 use Rattle.script_cmd.specs.Printed.{front}
-use Rattle.script_cmd.proofs.program.print.Goals as goal
+use Rattle.script_cmd.proofs.program.put_line.Goals as goal
 
 pub returns-in-Err-Failed : goal.returns-in-Err-Failed
 returns-in-Err-Failed g c =
