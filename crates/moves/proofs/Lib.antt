@@ -1,0 +1,10 @@
+pub mod SamePackages
+pub mod Agree
+pub mod Composed
+pub mod Calm
+pub mod MetaWrites
+pub mod Repaired
+pub mod Beside
+pub mod Trials
+pub mod Raised
+pub mod Guarded

@@ -1,0 +1,9 @@
+//! What writes to the flash are to the machine: moves.
+#![tactic(auto)]
+
+mod laws;
+
+pub use laws::{
+    calls_compose, losses_are_repaired, marks_do_trials, raises_show, records_do_raises,
+    repairs_do_moves, repairs_show, starts_are_ready, trials_show, writes_stay_guarded,
+};
