@@ -1,0 +1,5 @@
+//! Worked values that cross crates, as tests. The expected values come from the standards and from other programs.
+#![tactic(auto)]
+
+#[cfg(test)]
+mod values;
