@@ -8,3 +8,4 @@ pub mod Beside
 pub mod Trials
 pub mod Raised
 pub mod Guarded
+pub mod Boots
