@@ -171,3 +171,14 @@ pub beside-shows : (L : Layout) (r : MetaRead) (low high : ℕ) (now image : Lis
 beside-shows L r low high now image s trials counter above agree layout decided is tries count =
     shown-as L image r (record s { trials = trials; counter = counter }) (layout-agrees L r low high now image agree (omega (arith, above)) layout) (decides-agrees L r low high now image agree above ∙ decided)
     (state-agrees L r low high now image agree trials counter tries count ∙ ap (λ (x : State). record x { trials = trials; counter = counter }) is)
+
+-- ---- the layout
+
+-- metadata by which no bank is in use
+abbrev pub no_meta : MetaRead
+no_meta = record { form = 2; meta = record { active = 0; previous = 0; states = []; bits = [] } }
+
+-- a call that leaves block 0 alone leaves the layout, at any exit
+pub layout-kept : (L : Layout) (low high : ℕ) (s t : Told) → 4096 ≤ low → Keeps low high s t → layout_seen s.now ≡ Ok L → layout_seen t.now ≡ Ok L
+layout-kept L low high s t above keeps is =
+    layout-agrees L no_meta low high s.now t.now (record { size = keeps.size; front = λ place lt out. keeps.now place out; banks = λ b lt used. absurd cc }) above is

@@ -21,13 +21,9 @@ use Rattle.replicas.specs.declared.which.Which.{Which}
 use Rattle.replicas.specs.Which.{Loads}
 use Rattle.replicas.specs.Repairs.{Repairs}
 use Rattle.moves.specs.Moved.{IsShown, GuardedBy}
-use Rattle.moves.proofs.Agree.{Agrees, QuietUsed, agrees-left, layout-agrees, decides-agrees, shown-as, shown-meta, used-at, used-below, at-used}
+use Rattle.moves.proofs.Agree.{no_meta, Agrees, QuietUsed, agrees-left, layout-agrees, decides-agrees, shown-as, shown-meta, used-at, used-below, at-used}
 use Rattle.moves.proofs.MetaWrites.{repair-writes, quiet-after}
 use Rattle.moves.proofs.Repaired.{same-layout}
-
--- metadata by which no bank is in use
-abbrev no_meta : MetaRead
-no_meta = record { form = 2; meta = record { active = 0; previous = 0; states = []; bits = [] } }
 
 -- by the result: guarded at a stop, and at rest with nothing at risk at the front when done
 by-result : {T : Type 0} (result : Result T FlashStop) (t : Told) → IsGuarded t → OnOk result (Quiet 0 32768 t) → Guards 1 7 t → GuardedBy result t
