@@ -26,7 +26,7 @@ use Rattle.moves.proofs.MetaWrites.{repair-writes, quiet-after}
 use Rattle.moves.proofs.Repaired.{same-layout}
 
 -- by the result: guarded at a stop, and at rest with nothing at risk at the front when done
-by-result : {T : Type 0} (result : Result T FlashStop) (t : Told) → IsGuarded t → OnOk result (Quiet 0 32768 t) → Guards 1 7 t → GuardedBy result t
+pub by-result : {T : Type 0} (result : Result T FlashStop) (t : Told) → IsGuarded t → OnOk result (Quiet 0 32768 t) → Guards 1 7 t → GuardedBy result t
 by-result (Ok x) t guarded front guards = record { guard = guards; front = front; guarded = guarded }
 by-result (Err stop) t guarded front guards = guarded
 
