@@ -1,5 +1,5 @@
 -- The trial marks cleared while no bank is on trial: no change is seen.
-use Rattle.std.proofs.Common.{◌≡◌, ◌⊎◌, inl, inr, cond, ℕ, ◌+◌, ◌-◌, ◌*◌, ◌<◌, ◌≤◌, Bool, List, [], ◌∷◌, length, take, drop, replicate, Result, Some, refl, sym, ap, ◌∙◌, arith, IsTrue, IsFalse}
+use Rattle.std.proofs.Common.{◌≡◌, ◌⊎◌, inl, inr, cond, ℕ, ◌+◌, ◌-◌, ◌*◌, ◌<◌, ◌≤◌, Bool, List, [], ◌∷◌, length, take, drop, replicate, Result, Some, Ok, refl, sym, ap, ◌∙◌, arith, IsTrue, IsFalse}
 use Rattle.std.proofs.lemmas.List.{take-replicate, take-take, drop-take, drop-drop}
 use Rattle.std.proofs.lemmas.Result.{on_ok_weaker}
 use Rattle.base_core.specs.Block.{block, blank, granule}
@@ -7,19 +7,21 @@ use Rattle.base_core.proofs.Blocks.{drop-blank}
 use Rattle.flash_core.specs.declared.flash.FlashStop.{FlashStop}
 use Rattle.flash_core.specs.Told.{Told}
 use Rattle.flash_core.specs.May.{May, Quiet}
-use Rattle.flash_core.proofs.Calls.{may_now}
+use Rattle.flash_core.proofs.Calls.{may_now, guards_kept}
 use Rattle.fwu_model.specs.declared.kinds.BankState.{BankState}
 use Rattle.fwu_model.specs.declared.kinds.BankState.TheVariants.{Invalid, Valid, Accepted}
 use Rattle.fwu_model.specs.Layout.{Layout}
 use Rattle.fwu_model.specs.Metadata.{MetaRead, state_at}
-use Rattle.fwu_model.specs.Flash.{deciding, marks, is_tidy, is_blank}
+use Rattle.fwu_model.specs.Flash.{layout_seen, deciding, marks, is_tidy, is_blank}
 use Rattle.fwu_model.specs.State.{State, bank, is_invalid, is_valid, is_accepted}
 use Rattle.fwu_model.specs.Sound.{Setting, trial_limit}
 use Rattle.fwu_model.specs.Seen.{IsTidy, state_of}
 use Rattle.fwu_model.proofs.Banks.{accepted-used, accepted-not_valid}
 use Rattle.fwu_model.proofs.Marks.{marks-are-counted}
 use Rattle.marks_core.specs.Marks.{Clears}
-use Rattle.moves.specs.Moved.{IsReady, IsShown, Does, ShowsAfter}
+use Rattle.fwu_model.specs.Calm.{IsAtRest}
+use Rattle.moves.specs.Moved.{IsReady, IsShown, Does, ShowsAfter, GuardedBy}
+use Rattle.moves.proofs.Guarded.{by-result, guarded-beside}
 use Rattle.moves.proofs.Agree.{Agrees, agrees-now, beside-shows, counter-agrees, shown-meta, shown-counter, state-is, used-below}
 use Rattle.moves.proofs.Beside.{trials-are, beside-agrees, stays-ready}
 use Rattle.moves.proofs.MetaWrites.{quiet-after}
@@ -97,3 +99,11 @@ module _ {T : Type 0} (result : Result T FlashStop) (s t : Told) (state : State)
           (λ b used. quiet-after 12288 16384 _ _ s t clears.keeps (ready.calm.banks b used) inside))
           (clears.quiet (λ i low high. ready.calm.front i (omega (arith, low)) (omega (arith, high))));
     }
+
+-- On any flash at rest.
+pub clear-guarded : {T : Type 0} (result : Result T FlashStop) (L : Layout) (s t : Told) → layout_seen s.now ≡ Ok L → IsAtRest s → Clears result 3 s t → GuardedBy result t
+clear-guarded result L s t layout rest clears =
+    by-result result t (guarded-beside L s layout rest 12288 16384 t (omega arith) (omega arith) clears.keeps (omega arith))
+    (on_ok_weaker result (λ (quiet : Quiet (4096 * 3) (4096 * 3 + 4096) t). quiet-after 12288 16384 0 32768 s t clears.keeps rest.front (λ i low high. quiet i (omega (arith, low)) (omega (arith, high))))
+    (clears.quiet (λ i low high. rest.front i (omega arith) (omega (arith, high)))))
+    (guards_kept 1 7 12288 16384 s t clears.keeps rest.guard)

@@ -3,21 +3,18 @@ use Rattle.std.proofs.Common.{◌≡◌, ℕ, ◌<◌, Bool, List, [], length, g
 use Rattle.std.proofs.lemmas.List.{length-map, get_or-map}
 use Rattle.std.proofs.lemmas.List.FromFn.{length-map-range_with_len, get_or-map-range_with_len}
 use Rattle.base_core.specs.Bytes.{listed}
-use Rattle.flash_core.specs.Told.{Told}
 use Rattle.fwu_model.specs.declared.kinds.BankState.{BankState}
 use Rattle.fwu_model.specs.declared.kinds.BankState.TheVariants.{Invalid}
 use Rattle.fwu_model.specs.Layout.{Layout}
 use Rattle.fwu_model.specs.Metadata.{Meta, MetaRead}
 use Rattle.fwu_model.specs.Flash.{deciding}
 use Rattle.fwu_model.specs.State.{State, Bank, no_bank}
-use Rattle.fwu_model.specs.Sound.{Setting}
 use Rattle.fwu_model.specs.Seen.{state_of, bank_in}
-use Rattle.fwu_model.specs.Calm.{IsCalm}
 use Rattle.fwu_model.specs.Replica.{in_version}
 use Rattle.meta_layout.proofs.Fits.{MetaFits}
+use Rattle.moves.specs.Moved.{IsShown}
 use Rattle.moves.specs.Metas.{meta_in}
 use Rattle.moves.proofs.Agree.{shown-meta}
-use Rattle.moves.proofs.Calm.{calm-shown}
 use Rattle.moves.proofs.Read.{deciding-fits}
 
 -- a part of each bank, as the metadata lists it
@@ -39,20 +36,15 @@ meta-is L image r s whole is =
     double : {a b : List BankState} {c d : List (List Bool)} → a ≡ b → c ≡ d → ◌≡◌ {A = List BankState × List (List Bool)} (a, c) (b, d)
     double p q = cc
 
--- where a calm flash shows a state in version 2, its metadata decides
-pub meta-decides : (E : Setting) (t : Told) (s : State) → IsCalm E t s → s.form ≡ 2 → deciding E.layout t.now ≡ Some (in_version 2 (meta_in s))
-meta-decides E t s calm form =
-    let found = shown-meta E.layout t.now s (calm-shown E t s calm) in
+-- what decides, by the state that is shown
+pub shown-decides : (L : Layout) (image : List ℕ) (s : State) → IsShown L image s → deciding L image ≡ Some (in_version s.form (meta_in s))
+shown-decides L image s shown =
+    let found = shown-meta L image s shown in
     let r = found.0 in
-    let meta = meta-is E.layout t.now r s (deciding-fits E.layout t.now r found.1) found.2 in
-    let version : r.form ≡ 2 = ap (λ (x : State). x.form) found.2 ∙ form in
-    found.1 ∙ ap (λ (n : ℕ). Some (record { form = n; meta = r.meta })) version ∙ ap (λ (m : Meta). Some (in_version 2 m)) (sym meta)
-
--- the same in either version
-pub state-decides : (E : Setting) (t : Told) (s : State) → IsCalm E t s → deciding E.layout t.now ≡ Some (record { form = s.form; meta = meta_in s })
-state-decides E t s calm =
-    let found = shown-meta E.layout t.now s (calm-shown E t s calm) in
-    let r = found.0 in
-    let meta = meta-is E.layout t.now r s (deciding-fits E.layout t.now r found.1) found.2 in
+    let meta = meta-is L image r s (deciding-fits L image r found.1) found.2 in
     let version : r.form ≡ s.form = ap (λ (x : State). x.form) found.2 in
-    found.1 ∙ ap (λ (n : ℕ). Some (record { form = n; meta = r.meta })) version ∙ ap (λ (m : Meta). Some (record { form = s.form; meta = m })) (sym meta)
+    found.1 ∙ ap (λ (n : ℕ). Some (in_version n r.meta)) version ∙ ap (λ (m : Meta). Some (in_version s.form m)) (sym meta)
+
+-- the same in version 2
+pub two-decides : (L : Layout) (image : List ℕ) (s : State) → IsShown L image s → s.form ≡ 2 → deciding L image ≡ Some (in_version 2 (meta_in s))
+two-decides L image s shown two = shown-decides L image s shown ∙ ap (λ (n : ℕ). Some (in_version n (meta_in s))) two

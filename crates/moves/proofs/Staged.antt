@@ -4,7 +4,7 @@ use Rattle.std.proofs.lemmas.Bool.{cases_lt}
 use Rattle.base_core.specs.Block.{block}
 use Rattle.flash_core.specs.declared.flash.FlashStop.{FlashStop}
 use Rattle.flash_core.specs.Told.{Told}
-use Rattle.flash_core.specs.May.{Keeps}
+use Rattle.flash_core.specs.May.{May, Keeps, Quiet}
 use Rattle.flash_core.proofs.Calls.{guards_kept}
 use Rattle.fwu_model.specs.Layout.{Layout, start, slot_total}
 use Rattle.fwu_model.specs.Metadata.{meta_read}
@@ -15,7 +15,11 @@ use Rattle.fwu_model.specs.Seen.{SameWhereUsed}
 use Rattle.fwu_model.proofs.Frame.{block-same, seen-where-used}
 use Rattle.replicas.proofs.Reading.{deciding_of}
 use Rattle.moves.specs.Moved.{IsReady, IsShown, Does}
+use Rattle.fwu_model.specs.Calm.{IsAtRest}
 use Rattle.moves.proofs.Composed.{does-nothing}
+use Rattle.moves.proofs.Agree.{no_meta, Agrees, layout-agrees, decides-agrees, shown-meta, shown-by, used-below, used-at, at-used}
+use Rattle.moves.proofs.Guarded.{rest-used}
+use Rattle.moves.proofs.Repaired.{same-layout}
 
 -- banks follow one another
 pub banks-order : (L : Layout) (b c : ℕ) → b < c → 4096 * start L (b + 1) 0 ≤ 4096 * start L c 0
@@ -74,3 +78,32 @@ module _ (E : Setting) (s t : Told) (state : State) (u : ℕ) (ready : IsReady E
 
   pub staged-does : {T : Type 0} (result : Result T FlashStop) → Does result E state [] t
   staged-does result = does-nothing result E state t staged-ready
+
+-- On any flash at rest that shows a state: it is at rest again, at any exit.
+module _ (L : Layout) (s t : Told) (state : State) (u : ℕ) (shown : IsShown L s.now state) (rest : IsAtRest s) (invalid : IsTrue (is_invalid (bank state u).state)) (keeps : Keeps (4096 * start L u 0) (4096 * start L (u + 1) 0) s t) where
+  front-sure : (image : List ℕ) → May t image → Agrees L no_meta.meta 32768 32768 s.now image
+  front-sure image may = record {
+    size = may.leaves.size ∙ keeps.size;
+    front = λ place lt out. let before : place < 4096 * start L u 0 = omega (arith, lt) in may.leaves.sure place (keeps.sure place (inl before) (rest.front place (omega arith) lt)) ∙ keeps.now place (inl before);
+    banks = λ b lt used. absurd cc;
+  }
+
+  pub staged-rest : IsAtRest t
+  staged-rest = record {
+    guard = guards_kept 1 7 (4096 * start L u 0) (4096 * start L (u + 1) 0) s t keeps rest.guard;
+    front = λ i from to. keeps.sure i (inl (omega (arith, to))) (rest.front i from to);
+    guarded = record {
+      layout = λ i from to. keeps.sure i (inl (omega (arith, to))) (rest.guarded.layout i from to);
+      banks = λ image K x may is shows b in_use.
+          let agree = front-sure image may in
+          let here = layout-agrees L no_meta 32768 32768 s.now image agree (omega arith) shown.layout in
+          let same : L ≡ K = same-layout L K (sym here ∙ is) in
+          let found = shown-meta L image x (record { layout = here; shows = shows }) in
+          let r = found.0 in
+          let decided = sym (decides-agrees L no_meta 32768 32768 s.now image agree (omega arith)) ∙ found.1 in
+          let lt = used-below L image r x found.2 b in_use in
+          let used = used-at L image r x found.2 b in_use in
+          subst (λ (l : Layout). Quiet (4096 * start l b 0) (4096 * start l (b + 1) 0) t) same
+          (λ i from to. keeps.sure i (apart L s t state u invalid keeps b (at-used L s.now r state (shown-by L s.now state shown r decided) b lt used) i from to) (rest-used L s shown.layout rest r decided b lt used i from to));
+    };
+  }
