@@ -1,19 +1,18 @@
 -- Writes to blocks 3 to 7: the metadata that decides stays, and what is seen changes in the trials and the counter alone.
-use Rattle.std.proofs.Common.{◌≡◌, inl, ℕ, ◌+◌, ◌*◌, ◌<◌, ◌≤◌, cond, List, length, Bool, Some, Ok, refl, sym, ap, subst, ◌∙◌, arith, IsTrue, IsFalse}
-use Rattle.base_core.specs.Block.{block}
+use Rattle.std.proofs.Common.{◌≡◌, inl, ℕ, ◌+◌, ◌*◌, ◌≤◌, cond, List, Bool, refl, sym, ap, ◌∙◌, arith, IsTrue, IsFalse}
 use Rattle.flash_core.specs.Told.{Told, NothingDirty}
-use Rattle.flash_core.specs.May.{May, Guards, Keeps, Leaves, Quiet}
-use Rattle.flash_core.proofs.Calls.{quiet_fresh, may_now, guards_kept}
+use Rattle.flash_core.specs.May.{Keeps, Leaves, Quiet}
+use Rattle.flash_core.proofs.Calls.{quiet_fresh, guards_kept}
 use Rattle.fwu_model.specs.declared.kinds.BankState.{BankState}
 use Rattle.fwu_model.specs.declared.kinds.BankState.TheVariants.{Invalid, Valid, Accepted}
 use Rattle.fwu_model.specs.Layout.{Layout, start}
 use Rattle.fwu_model.specs.Metadata.{MetaRead, meta_read, state_at}
-use Rattle.fwu_model.specs.Flash.{deciding, marks}
+use Rattle.fwu_model.specs.Flash.{marks}
 use Rattle.fwu_model.specs.State.{State, bank, is_invalid, is_valid}
 use Rattle.fwu_model.specs.Sound.{Setting, Sound, trial_limit}
 use Rattle.fwu_model.specs.Seen.{IsTidy, state_of}
 use Rattle.moves.specs.Moved.{IsReady, IsShown}
-use Rattle.moves.proofs.Agree.{Agrees, QuietUsed, agrees-now, agrees-left, block-agrees, decides-agrees, shown-meta, state-is, used-below}
+use Rattle.moves.proofs.Agree.{Agrees, agrees-now, agrees-left, block-agrees, decides-agrees, shown-meta, state-is, used-below}
 use Rattle.moves.proofs.Calm.{calm-shown, calm-used, sound-flash}
 
 valid-used : (k : BankState) → IsTrue (is_valid k) → IsFalse (is_invalid k)

@@ -1,5 +1,5 @@
 -- The trial marks cleared while no bank is on trial: no change is seen.
-use Rattle.std.proofs.Common.{◌≡◌, ◌⊎◌, inl, inr, cond, ℕ, ◌+◌, ◌-◌, ◌*◌, ◌<◌, ◌≤◌, Bool, List, [], ◌∷◌, length, take, drop, replicate, Result, Some, Ok, refl, sym, ap, ◌∙◌, arith, IsTrue, IsFalse}
+use Rattle.std.proofs.Common.{◌≡◌, inr, cond, ℕ, ◌+◌, ◌-◌, ◌*◌, ◌<◌, ◌≤◌, Bool, List, [], ◌∷◌, take, drop, Result, Some, Ok, refl, sym, ap, ◌∙◌, arith, IsTrue, IsFalse}
 use Rattle.std.proofs.lemmas.List.{take-replicate, take-take, drop-take, drop-drop}
 use Rattle.std.proofs.lemmas.Result.{on_ok_weaker}
 use Rattle.base_core.specs.Block.{block, blank, granule}
@@ -13,14 +13,14 @@ use Rattle.fwu_model.specs.declared.kinds.BankState.TheVariants.{Invalid, Valid,
 use Rattle.fwu_model.specs.Layout.{Layout}
 use Rattle.fwu_model.specs.Metadata.{MetaRead, state_at}
 use Rattle.fwu_model.specs.Flash.{layout_seen, deciding, marks, is_tidy, is_blank}
-use Rattle.fwu_model.specs.State.{State, bank, is_invalid, is_valid, is_accepted}
+use Rattle.fwu_model.specs.State.{State, bank, is_valid, is_accepted}
 use Rattle.fwu_model.specs.Sound.{Setting, trial_limit}
 use Rattle.fwu_model.specs.Seen.{IsTidy, state_of}
 use Rattle.fwu_model.proofs.Banks.{accepted-used, accepted-not_valid}
 use Rattle.fwu_model.proofs.Marks.{marks-are-counted}
 use Rattle.marks_core.specs.Marks.{Clears}
 use Rattle.fwu_model.specs.Calm.{IsAtRest}
-use Rattle.moves.specs.Moved.{IsReady, IsShown, Does, ShowsAfter, GuardedBy}
+use Rattle.moves.specs.Moved.{IsReady, IsShown, Does, GuardedBy}
 use Rattle.moves.proofs.Guarded.{by-result, guarded-beside}
 use Rattle.moves.proofs.Agree.{Agrees, agrees-now, beside-shows, counter-agrees, shown-meta, shown-counter, state-is, used-below}
 use Rattle.moves.proofs.Beside.{trials-are, beside-agrees, stays-ready}

@@ -9,7 +9,7 @@ use Rattle.fwu_model.specs.Layout.{Layout}
 use Rattle.fwu_model.specs.Metadata.{Meta, state_at}
 use Rattle.fwu_model.specs.Flash.{marks, package_in}
 use Rattle.fwu_model.specs.Counter.{counter_in}
-use Rattle.fwu_model.specs.State.{Bank, bank, no_bank, is_invalid, is_valid, is_accepted, all_set, state_by, freed, with_bit, Free, Switch, Accept, Back, Migrate, after_move}
+use Rattle.fwu_model.specs.State.{Bank, bank, no_bank, is_invalid, is_valid, is_accepted, all_set, state_by, freed, with_bit, Free, Switch, Accept, Back, after_move}
 use Rattle.fwu_model.specs.Sound.{trial_limit}
 use Rattle.fwu_model.specs.Seen.{state_of, bank_in}
 use Rattle.fwu_model.specs.Replica.{in_version}

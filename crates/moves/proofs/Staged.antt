@@ -1,5 +1,5 @@
 -- Writes in a bank while it is invalid: no change is seen, and nothing in use is at risk, at any stop.
-use Rattle.std.proofs.Common.{◌≡◌, ◌⊎◌, inl, inr, ℕ, ◌+◌, ◌*◌, ◌<◌, ◌≤◌, List, [], length, get_or, Some, Ok, Result, sym, ap, subst, ◌∙◌, arith, IsTrue, IsFalse}
+use Rattle.std.proofs.Common.{◌≡◌, ◌⊎◌, inl, inr, ℕ, ◌+◌, ◌*◌, ◌<◌, ◌≤◌, List, [], Result, sym, ap, subst, ◌∙◌, arith, IsTrue, IsFalse}
 use Rattle.std.proofs.lemmas.Bool.{cases_lt}
 use Rattle.base_core.specs.Block.{block}
 use Rattle.flash_core.specs.declared.flash.FlashStop.{FlashStop}
@@ -8,7 +8,6 @@ use Rattle.flash_core.specs.May.{May, Keeps, Quiet}
 use Rattle.flash_core.proofs.Calls.{guards_kept}
 use Rattle.fwu_model.specs.Layout.{Layout, start, slot_total}
 use Rattle.fwu_model.specs.Metadata.{meta_read}
-use Rattle.fwu_model.specs.Flash.{deciding}
 use Rattle.fwu_model.specs.State.{State, bank, is_invalid}
 use Rattle.fwu_model.specs.Sound.{Setting}
 use Rattle.fwu_model.specs.Seen.{SameWhereUsed}

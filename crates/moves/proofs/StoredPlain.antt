@@ -1,18 +1,17 @@
 -- What a store of the metadata of a move shows when done, on any flash that shows a state, and that no exit of it puts a bank in use at risk.
-use Rattle.std.proofs.Common.{◌≡◌, ◌≢◌, ◌⊎◌, inl, inr, cond, ℕ, ◌+◌, ◌*◌, ◌<◌, ◌≤◌, Bool, List, [], ◌∷◌, length, get_or, Some, Result, Ok, refl, sym, ap, subst, ◌∙◌, arith, IsTrue, IsFalse, get_or-set_same, get_or-set_other}
+use Rattle.std.proofs.Common.{◌≡◌, ◌≢◌, inl, inr, ℕ, ◌+◌, ◌*◌, ◌<◌, ◌≤◌, Bool, List, [], ◌∷◌, length, Some, Result, Ok, sym, ap, subst, ◌∙◌, arith, IsTrue, IsFalse, get_or-set_same, get_or-set_other}
 use Rattle.std.proofs.lemmas.Bool.{cases_eq}
 use Rattle.std.proofs.lemmas.Option.{same_Some}
 use Rattle.std.proofs.lemmas.Result.{on_ok_weaker}
 use Rattle.flash_core.specs.declared.flash.FlashStop.{FlashStop}
 use Rattle.flash_core.specs.Told.{Told}
-use Rattle.flash_core.specs.May.{May, Keeps, Quiet}
+use Rattle.flash_core.specs.May.{Quiet}
 use Rattle.flash_core.proofs.Calls.{guards_kept}
-use Rattle.fwu_model.specs.declared.kinds.BankState.{BankState}
 use Rattle.fwu_model.specs.declared.kinds.BankState.TheVariants.{Invalid}
 use Rattle.fwu_model.specs.Layout.{Layout, start}
 use Rattle.fwu_model.specs.Metadata.{Meta, MetaRead, meta_read, state_at}
 use Rattle.fwu_model.specs.Flash.{layout_seen, deciding, marks, package_in}
-use Rattle.fwu_model.specs.State.{State, Move, Free, Switch, Accept, Back, is_invalid, is_valid, is_accepted, state_by, update_bank, after_move}
+use Rattle.fwu_model.specs.State.{State, Move, Free, Switch, Accept, Back, bank, is_invalid, is_valid, is_accepted, state_by, update_bank, after_move}
 use Rattle.fwu_model.specs.Sound.{trial_limit}
 use Rattle.fwu_model.specs.Seen.{state_of}
 use Rattle.fwu_model.specs.Calm.{IsAtRest}
@@ -25,7 +24,7 @@ use Rattle.meta_layout.proofs.Fits.{MetaFits}
 use Rattle.replicas.specs.Stores.{Stores}
 use Rattle.moves.specs.Moved.{IsShown, ShowsAfter, GuardedBy}
 use Rattle.moves.specs.Metas.{meta_after}
-use Rattle.moves.proofs.Agree.{QuietUsed, shown-by, bank-count}
+use Rattle.moves.proofs.Agree.{QuietUsed, shown-by, state-is, bank-count}
 use Rattle.moves.proofs.Guarded.{guarded-by, rest-used, by-result}
 use Rattle.moves.proofs.MetaMoves.{free-state, switch-state, accept-state, back-state}
 use Rattle.moves.proofs.MetaWrites.{store-writes, write-shows, quiet-after}
@@ -67,6 +66,24 @@ module _ {T : Type 0} (result : Result T FlashStop) (L : Layout) (s t : Told) (s
   pub switch-shows : (p : List (List ℕ)) (bits : List Bool) → package_in L s.now (update_bank state) ≡ Some p → (IsTrue (is_valid (state_by bits)) → marks s.now 3 trial_limit ≡ 0)
       → Stores result L (meta_after m (Switch (update_bank state) p bits)) s t → ShowsAfter result L state (Switch (update_bank state) p bits ∷ []) t
   switch-shows p bits held cleared stores = plain (Switch (update_bank state) p bits) stores (switch-state L s.now m whole (update_bank state) p bits update-below held cleared)
+
+-- the states of the active and of the previous bank, by the metadata
+module _ (L : Layout) (now : List ℕ) (m : Meta) (state : State) (shown : IsShown L now state) (decided : deciding L now ≡ Some (in_version 2 m)) where
+  as-state : state_of L now (in_version 2 m) ≡ state
+  as-state = shown-by L now state shown (in_version 2 m) decided
+
+  fits : MetaFits L m
+  fits = deciding-fits L now (in_version 2 m) decided
+
+  pub active-at : IsFalse (is_invalid (bank state state.active).state) → IsFalse (is_invalid (state_at m m.active))
+  active-at used =
+      let active : m.active ≡ state.active = ap (λ (x : State). x.active) as-state in
+      ap (λ (b : ℕ). is_invalid (state_at m b)) active ∙ ap is_invalid (sym (state-is L now (in_version 2 m) state as-state state.active (omega (arith, fits.active, active)))) ∙ used
+
+  pub previous-at : IsTrue (is_accepted (bank state state.previous).state) → IsTrue (is_accepted (state_at m m.previous))
+  previous-at accepted =
+      let previous : m.previous ≡ state.previous = ap (λ (x : State). x.previous) as-state in
+      ap (λ (b : ℕ). is_accepted (state_at m b)) previous ∙ ap is_accepted (sym (state-is L now (in_version 2 m) state as-state state.previous (omega (arith, fits.previous, previous)))) ∙ accepted
 
 -- ---- guarded
 

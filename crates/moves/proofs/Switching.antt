@@ -1,9 +1,9 @@
 -- The switch to an update bank whose slots hold a package: a barrier, the marks cleared, and the store.
-use Rattle.std.proofs.Common.{◌≡◌, ℕ, ◌+◌, ◌*◌, ◌<◌, ◌≤◌, Bool, List, [], ◌∷◌, length, Some, Result, Ok, refl, sym, ap, subst, ◌∙◌, arith, inr, IsTrue, IsFalse}
+use Rattle.std.proofs.Common.{◌≡◌, ℕ, ◌+◌, ◌*◌, Bool, List, [], ◌∷◌, length, Some, Result, Ok, sym, ap, subst, ◌∙◌, arith, inr, IsTrue}
 use Rattle.base_core.specs.Block.{block}
 use Rattle.flash_core.specs.declared.flash.FlashStop.{FlashStop}
-use Rattle.flash_core.specs.Told.{Told, settle, is_guarded}
-use Rattle.flash_core.specs.May.{Keeps, Quiet, Guards}
+use Rattle.flash_core.specs.Told.{Told, settle}
+use Rattle.flash_core.specs.May.{Keeps, Quiet}
 use Rattle.flash_core.proofs.Calls.{now-settle, guard-settle, quiet_settle}
 use Rattle.std.specs.List.{list_any}
 use Rattle.std.specs.Prelude.{◌==◌}
@@ -19,7 +19,7 @@ use Rattle.marks_core.specs.Marks.{Clears}
 use Rattle.replicas.specs.Stores.{Stores}
 use Rattle.moves.specs.Moved.{IsReady, Does}
 use Rattle.moves.specs.Metas.{meta_after}
-use Rattle.moves.proofs.Agree.{no_meta, Agrees, decides-agrees}
+use Rattle.moves.proofs.Agree.{no_meta, Agrees, front-kept, decides-agrees}
 use Rattle.moves.proofs.SamePackages.{package-same}
 use Rattle.moves.proofs.Cleared.{clear-does, blank-marks, blank-tidy}
 use Rattle.moves.proofs.Stored.{switch-does}
@@ -55,7 +55,7 @@ module _ {T U : Type 0} (x : U) (result : Result T FlashStop) (E : Setting) (s c
   ready-cleared = (clear-does {T = U} (Ok x) (settle s) cleared state accepted clears E (settled-ready E s state ready)).all
 
   agree : Agrees E.layout no_meta.meta 12288 16384 (settle s).now cleared.now
-  agree = record { size = keeps.size; front = λ place lt out. keeps.now place out; banks = λ b lt used. absurd cc }
+  agree = front-kept E.layout 12288 16384 (settle s) cleared keeps
 
   decided-cleared : deciding E.layout cleared.now ≡ Some (in_version 2 m)
   decided-cleared = decides-agrees E.layout no_meta 12288 16384 (settle s).now cleared.now agree (omega arith) ∙ ap (deciding E.layout) (now-settle s) ∙ decided

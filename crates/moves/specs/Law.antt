@@ -1,5 +1,5 @@
 -- What writes are to the machine, as laws over what is told before and after. Each stands as the contract of a function of its own.
-use Rattle.std.specs.Prelude.{◌≡◌, ℕ, ◌+◌, ◌<◌, List, [], ◌∷◌, ◌++◌, Some, Ok, Result, IsErr, IsTrue, Contains}
+use Rattle.std.specs.Prelude.{◌≡◌, ℕ, ◌<◌, ◌≤◌, List, [], ◌∷◌, ◌++◌, Some, Ok, Result, IsErr, IsTrue, Contains}
 use Rattle.base_core.specs.Block.{block}
 use Rattle.flash_core.specs.declared.flash.FlashStop.{FlashStop}
 use Rattle.flash_core.specs.Told.{Told, NothingDirty, fresh}
@@ -8,6 +8,7 @@ use Rattle.fwu_model.specs.Layout.{Layout}
 use Rattle.fwu_model.specs.Metadata.{MetaRead, meta_read}
 use Rattle.fwu_model.specs.Manifest.{version}
 use Rattle.fwu_model.specs.Flash.{layout_seen, deciding, marks}
+use Rattle.fwu_model.specs.Counter.{counter_in}
 use Rattle.fwu_model.specs.State.{State, Move, Trial, RaiseTo, bank, is_valid, is_accepted, after}
 use Rattle.fwu_model.specs.Sound.{Setting, choice, trial_limit}
 use Rattle.fwu_model.specs.Session.{Off}
@@ -77,6 +78,15 @@ pub record RepairsShow : Type 0 where
   pub shows : (result : Done) (which : Which) (r : MetaRead) (s t : Told) (L : Layout) (state : State) → IsShown L s.now state → Loads L which r s.now → Repairs result L r s t → ShowsAfter result L state (repair_moves which) t
   -- the marks stay as tidy as they are, at any exit
   pub tidy : (result : Done) (which : Which) (r : MetaRead) (s t : Told) (L : Layout) (state : State) → Repairs result L r s t → IsTidy s.now state → IsTidy t.now (after state (repair_moves which))
+
+-- what else a boot has read stays as it was, at any exit
+pub record RepairsKeep {T : Type 0} (result : Result T FlashStop) (r : MetaRead) (s t : Told) (L : Layout) : Type 0 where
+  pub layout : layout_seen s.now ≡ Ok L → layout_seen t.now ≡ Ok L
+  pub trials : (limit : ℕ) → limit ≤ 256 → marks t.now 3 limit ≡ marks s.now 3 limit
+  pub counter : counter_in t.now ≡ counter_in s.now
+
+abbrev pub RepairsKeepCounts : Type 0
+RepairsKeepCounts = (result : Done) (r : MetaRead) (s t : Told) (L : Layout) → Repairs result L r s t → RepairsKeep result r s t L
 
 -- where the marks are tidy, so that the next one counts
 pub record TrialsShow : Type 0 where

@@ -1,6 +1,6 @@
 //! Laws of the definitions: functions that do nothing, whose contract is the law.
 
-ghost use Rattle.moves.specs.Law.{CallsCompose, LossesAreRepaired, StartsAreReady, RepairsDo, TrialsDo, RaisesDo, RepairsShow, TrialsShow, RaisesShow, WritesStayGuarded, BootsDoAnswers, BootsShowAnswers};
+ghost use Rattle.moves.specs.Law.{CallsCompose, LossesAreRepaired, StartsAreReady, RepairsDo, TrialsDo, RaisesDo, RepairsShow, RepairsKeepCounts, TrialsShow, RaisesShow, WritesStayGuarded, BootsDoAnswers, BootsShowAnswers};
 
 /// Calls in a row do the moves of each, and a call that stops a prefix of them.
 pub fn calls_compose()
@@ -35,6 +35,11 @@ pub fn records_do_raises()
 /// On any flash that shows a state, a repair that is done changes no more of it than the version.
 pub fn repairs_show()
     ensures { RepairsShow }
+{}
+
+/// A repair leaves the layout, the trials and the counter as they are, at any exit.
+pub fn repairs_keep_counts()
+    ensures { RepairsKeepCounts }
 {}
 
 /// On any flash that shows a state and has tidy marks, a mark that is done counts as one more trial.
