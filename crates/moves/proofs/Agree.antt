@@ -1,19 +1,19 @@
 -- Two images that agree in all that counts but for a range of the blocks at the front: the frame of every write.
-use Rattle.std.proofs.Common.{◌≡◌, ◌⊎◌, inl, inr, ℕ, ◌+◌, ◌*◌, ◌/◌, ◌<◌, ◌≤◌, cond, List, [], length, get_or, Option, Some, None, Ok, refl, sym, ap, subst, ◌∙◌, arith, IsTrue, IsFalse}
+use Rattle.std.proofs.Common.{◌≡◌, ◌⊎◌, inl, inr, ℕ, ◌+◌, ◌*◌, ◌/◌, ◌<◌, ◌≤◌, cond, List, [], length, get_or, Option, Some, None, Ok, refl, sym, ap, ◌∙◌, arith, IsTrue, IsFalse}
 use Rattle.std.proofs.lemmas.Bool.{cases_Bool}
 use Rattle.std.proofs.lemmas.Option.{same_Some}
 use Rattle.std.proofs.lemmas.List.FromFn.{length-map-range_with_len, get_or-map-range_with_len}
-use Rattle.base_core.specs.Block.{block, granule}
+use Rattle.base_core.specs.Block.{block}
 use Rattle.base_core.specs.Bytes.{listed}
 use Rattle.flash_core.specs.Told.{Told}
 use Rattle.flash_core.specs.May.{Leaves, Keeps, Quiet}
 use Rattle.fwu_model.specs.Layout.{Layout, layout_of, start}
 use Rattle.fwu_model.specs.Metadata.{Meta, MetaRead, state_at}
-use Rattle.fwu_model.specs.Flash.{layout_seen, deciding, marks, is_tidy, is_blank, package_in}
-use Rattle.fwu_model.specs.Counter.{counter_in, recorded}
+use Rattle.fwu_model.specs.Flash.{layout_seen, deciding, marks, is_tidy, is_blank}
+use Rattle.fwu_model.specs.Counter.{counter_in}
 use Rattle.fwu_model.specs.State.{State, Bank, bank, no_bank, is_invalid, is_valid}
 use Rattle.fwu_model.specs.Sound.{trial_limit}
-use Rattle.fwu_model.specs.Seen.{seen, state_of, bank_in, IsTidy}
+use Rattle.fwu_model.specs.Seen.{state_of, bank_in, IsTidy}
 use Rattle.fwu_model.proofs.Banks.{in_range}
 use Rattle.fwu_model.proofs.Frame.{block-same, listed-same, marks-same}
 use Rattle.fwu_model.proofs.Marks.{marks-are-counted}
@@ -171,3 +171,17 @@ pub beside-shows : (L : Layout) (r : MetaRead) (low high : ℕ) (now image : Lis
 beside-shows L r low high now image s trials counter above agree layout decided is tries count =
     shown-as L image r (record s { trials = trials; counter = counter }) (layout-agrees L r low high now image agree (omega (arith, above)) layout) (decides-agrees L r low high now image agree above ∙ decided)
     (state-agrees L r low high now image agree trials counter tries count ∙ ap (λ (x : State). record x { trials = trials; counter = counter }) is)
+
+-- ---- the layout
+
+-- metadata by which no bank is in use
+abbrev pub no_meta : MetaRead
+no_meta = record { form = 2; meta = record { active = 0; previous = 0; states = []; bits = [] } }
+
+-- whatever the banks have
+pub front-kept : (L : Layout) (low high : ℕ) (s t : Told) → Keeps low high s t → Agrees L no_meta.meta low high s.now t.now
+front-kept L low high s t keeps = record { size = keeps.size; front = λ place lt out. keeps.now place out; banks = λ b lt used. absurd cc }
+
+-- a call that leaves block 0 alone leaves the layout, at any exit
+pub layout-kept : (L : Layout) (low high : ℕ) (s t : Told) → 4096 ≤ low → Keeps low high s t → layout_seen s.now ≡ Ok L → layout_seen t.now ≡ Ok L
+layout-kept L low high s t above keeps is = layout-agrees L no_meta low high s.now t.now (front-kept L low high s t keeps) above is

@@ -1,19 +1,18 @@
 -- Writes to blocks 3 to 7: the metadata that decides stays, and what is seen changes in the trials and the counter alone.
-use Rattle.std.proofs.Common.{◌≡◌, inl, ℕ, ◌+◌, ◌*◌, ◌<◌, ◌≤◌, cond, List, length, Bool, Some, Ok, refl, sym, ap, subst, ◌∙◌, arith, IsTrue, IsFalse}
-use Rattle.base_core.specs.Block.{block}
+use Rattle.std.proofs.Common.{◌≡◌, inl, ℕ, ◌+◌, ◌*◌, ◌≤◌, cond, List, Bool, refl, sym, ap, ◌∙◌, arith, IsTrue, IsFalse}
 use Rattle.flash_core.specs.Told.{Told, NothingDirty}
-use Rattle.flash_core.specs.May.{May, Guards, Keeps, Leaves, Quiet}
-use Rattle.flash_core.proofs.Calls.{quiet_fresh, may_now, guards_kept}
+use Rattle.flash_core.specs.May.{Keeps, Leaves, Quiet}
+use Rattle.flash_core.proofs.Calls.{quiet_fresh, guards_kept}
 use Rattle.fwu_model.specs.declared.kinds.BankState.{BankState}
 use Rattle.fwu_model.specs.declared.kinds.BankState.TheVariants.{Invalid, Valid, Accepted}
-use Rattle.fwu_model.specs.Layout.{Layout}
+use Rattle.fwu_model.specs.Layout.{Layout, start}
 use Rattle.fwu_model.specs.Metadata.{MetaRead, meta_read, state_at}
-use Rattle.fwu_model.specs.Flash.{deciding, marks}
+use Rattle.fwu_model.specs.Flash.{marks}
 use Rattle.fwu_model.specs.State.{State, bank, is_invalid, is_valid}
 use Rattle.fwu_model.specs.Sound.{Setting, Sound, trial_limit}
 use Rattle.fwu_model.specs.Seen.{IsTidy, state_of}
 use Rattle.moves.specs.Moved.{IsReady, IsShown}
-use Rattle.moves.proofs.Agree.{Agrees, QuietUsed, agrees-now, agrees-left, block-agrees, decides-agrees, shown-meta, state-is, used-below}
+use Rattle.moves.proofs.Agree.{Agrees, agrees-now, agrees-left, block-agrees, decides-agrees, shown-meta, state-is, used-below}
 use Rattle.moves.proofs.Calm.{calm-shown, calm-used, sound-flash}
 
 valid-used : (k : BankState) → IsTrue (is_valid k) → IsFalse (is_invalid k)
@@ -50,15 +49,18 @@ module _ (low high : ℕ) (E : Setting) (s t : Told) (state next : State) (above
   pub beside-agrees : (r : MetaRead) → state_of E.layout s.now r ≡ state → (image : List ℕ) → Leaves t image → Agrees E.layout r.meta low high s.now image
   beside-agrees r is image leaves = agrees-left E.layout r.meta low high s t image le keeps front (calm-used E s state ready.calm r is) leaves
 
-  -- when nothing is dirty
-  pub beside-ready : IsShown E.layout t.now next → Sound E next → IsTidy t.now next → NothingDirty t → IsReady E t next
-  beside-ready shown sound tidy clean =
+  pub stays-ready : IsShown E.layout t.now next → Sound E next → IsTidy t.now next → Quiet 0 32768 t → ((b : ℕ) → IsFalse (is_invalid (bank next b).state) → Quiet (4096 * start E.layout b 0) (4096 * start E.layout (b + 1) 0) t) → IsReady E t next
+  stays-ready shown sound tidy quiet banks =
       let found = shown-meta E.layout s.now state (calm-shown E s state ready.calm) in
       let agree = agrees-now E.layout found.0.meta low high s t le keeps in
       record {
-        calm = record { sound = sound-flash E t.now next shown sound tidy; shows = shown.shows; front = quiet_fresh _ _ t clean; banks = λ b used. quiet_fresh _ _ t clean };
+        calm = record { sound = sound-flash E t.now next shown sound tidy; shows = shown.shows; front = quiet; banks = banks };
         guarded = guards_kept 1 7 low high s t keeps ready.guarded;
         one = λ r is.
             ap (meta_read E.layout) (block-agrees E.layout found.0 low high s.now t.now agree 2 (omega arith) (inl (omega (arith, above))))
             ∙ ready.one r (sym (decides-agrees E.layout found.0 low high s.now t.now agree above) ∙ is);
       }
+
+  -- when nothing is dirty
+  pub beside-ready : IsShown E.layout t.now next → Sound E next → IsTidy t.now next → NothingDirty t → IsReady E t next
+  beside-ready shown sound tidy clean = stays-ready shown sound tidy (quiet_fresh _ _ t clean) (λ b used. quiet_fresh _ _ t clean)

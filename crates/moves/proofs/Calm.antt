@@ -1,9 +1,8 @@
 -- A calm flash by parts, and what each image that a power-on may leave shows.
-use Rattle.std.proofs.Common.{◌≡◌, ℕ, List, Some, refl, sym, subst, ◌∙◌, arith}
+use Rattle.std.proofs.Common.{◌≡◌, ℕ, List, sym, subst, ◌∙◌}
 use Rattle.std.proofs.lemmas.Option.{same_Some}
 use Rattle.std.specs.Prelude.{Contains}
 use Rattle.flash_core.specs.Told.{Told}
-use Rattle.fwu_model.specs.Layout.{Layout}
 use Rattle.fwu_model.specs.Metadata.{MetaRead}
 use Rattle.fwu_model.specs.State.{State}
 use Rattle.fwu_model.specs.Sound.{Setting, Sound}

@@ -1,5 +1,5 @@
 -- No write meets the layout or a bank that may be in use: on any flash at rest, sound or not, at any exit.
-use Rattle.std.proofs.Common.{◌≡◌, ◌⊎◌, inl, inr, ℕ, ◌+◌, ◌*◌, ◌<◌, ◌≤◌, List, [], Some, Ok, Err, Result, refl, sym, ap, subst, ◌∙◌, arith, IsFalse}
+use Rattle.std.proofs.Common.{◌≡◌, inl, inr, ℕ, ◌+◌, ◌*◌, ◌<◌, ◌≤◌, List, Some, Ok, Err, Result, refl, sym, subst, ◌∙◌, arith}
 use Rattle.std.proofs.lemmas.Option.{same_Some}
 use Rattle.std.proofs.lemmas.Result.{on_ok_weaker}
 use Rattle.std.specs.Prelude.{OnOk}
@@ -8,11 +8,10 @@ use Rattle.flash_core.specs.Told.{Told, NothingDirty}
 use Rattle.flash_core.specs.May.{May, Guards, Keeps, Quiet}
 use Rattle.flash_core.proofs.Calls.{keeps_wider, guards_kept, quiet_fresh, may_now}
 use Rattle.fwu_model.specs.Layout.{Layout, start}
-use Rattle.fwu_model.specs.Metadata.{Meta, MetaRead, state_at}
+use Rattle.fwu_model.specs.Metadata.{MetaRead}
 use Rattle.fwu_model.specs.Flash.{layout_seen, deciding}
-use Rattle.fwu_model.specs.State.{State, bank, is_invalid}
 use Rattle.fwu_model.specs.Sound.{trial_limit}
-use Rattle.fwu_model.specs.Seen.{seen, state_of}
+use Rattle.fwu_model.specs.Seen.{state_of}
 use Rattle.fwu_model.specs.Calm.{IsGuarded, IsAtRest}
 use Rattle.fwu_model.specs.Replica.{Decides, in_version}
 use Rattle.marks_core.specs.Marks.{Adds}
@@ -20,17 +19,13 @@ use Rattle.marks_core.specs.Raises.{Raises}
 use Rattle.replicas.specs.declared.which.Which.{Which}
 use Rattle.replicas.specs.Which.{Loads}
 use Rattle.replicas.specs.Repairs.{Repairs}
-use Rattle.moves.specs.Moved.{IsShown, GuardedBy}
-use Rattle.moves.proofs.Agree.{Agrees, QuietUsed, agrees-left, layout-agrees, decides-agrees, shown-as, shown-meta, used-at, used-below, at-used}
+use Rattle.moves.specs.Moved.{GuardedBy}
+use Rattle.moves.proofs.Agree.{no_meta, Agrees, QuietUsed, agrees-left, layout-agrees, decides-agrees, shown-as, shown-meta, used-at, used-below, at-used}
 use Rattle.moves.proofs.MetaWrites.{repair-writes, quiet-after}
 use Rattle.moves.proofs.Repaired.{same-layout}
 
--- metadata by which no bank is in use
-abbrev no_meta : MetaRead
-no_meta = record { form = 2; meta = record { active = 0; previous = 0; states = []; bits = [] } }
-
 -- by the result: guarded at a stop, and at rest with nothing at risk at the front when done
-by-result : {T : Type 0} (result : Result T FlashStop) (t : Told) → IsGuarded t → OnOk result (Quiet 0 32768 t) → Guards 1 7 t → GuardedBy result t
+pub by-result : {T : Type 0} (result : Result T FlashStop) (t : Told) → IsGuarded t → OnOk result (Quiet 0 32768 t) → Guards 1 7 t → GuardedBy result t
 by-result (Ok x) t guarded front guards = record { guard = guards; front = front; guarded = guarded }
 by-result (Err stop) t guarded front guards = guarded
 

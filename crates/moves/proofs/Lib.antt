@@ -8,3 +8,15 @@ pub mod Beside
 pub mod Trials
 pub mod Raised
 pub mod Guarded
+pub mod Boots
+pub mod Read
+pub mod MetaMoves
+pub mod MetaIn
+pub mod Fitting
+pub mod Stored
+pub mod Packages
+pub mod SlotBytes
+pub mod Cleared
+pub mod Staged
+pub mod Switching
+pub mod StoredPlain

@@ -1,5 +1,5 @@
 -- Metadata that is written over the replicas, by a store or a repair, as the machine sees it.
-use Rattle.std.proofs.Common.{◌≡◌, ◌⊎◌, inl, inr, ℕ, ◌+◌, ◌*◌, ◌<◌, ◌≤◌, List, Some, Ok, Result, refl, sym, ap, ◌∙◌, arith}
+use Rattle.std.proofs.Common.{◌≡◌, ◌⊎◌, inl, inr, ℕ, ◌<◌, ◌≤◌, List, Some, Ok, Result, sym, ap, ◌∙◌, arith}
 use Rattle.std.proofs.lemmas.Bool.{cases_lt}
 use Rattle.std.proofs.lemmas.Option.{same_Some}
 use Rattle.std.proofs.lemmas.Result.{on_ok_weaker}
@@ -22,7 +22,7 @@ use Rattle.fwu_model.specs.Headline.{ShowsOneOf}
 use Rattle.replicas.specs.Stores.{Stores}
 use Rattle.replicas.specs.Repairs.{Repairs}
 use Rattle.replicas.proofs.Reading.{by_zero}
-use Rattle.moves.specs.Moved.{IsReady, IsShown, ShowsAfter}
+use Rattle.moves.specs.Moved.{IsReady, IsShown}
 use Rattle.moves.proofs.Agree.{Agrees, QuietUsed, agrees-left, agrees-now, meta-shows, meta-tidy, shown-by, used-at, used-below}
 use Rattle.moves.proofs.Calm.{calm-shown, calm-sound, calm-tidy, calm-used, sound-flash, one-of}
 

@@ -1,5 +1,5 @@
 -- A record of the counter, written over the lower one: the counter is raised.
-use Rattle.std.proofs.Common.{◌≡◌, inl, inr, ◌⊎◌, ℕ, ◌+◌, ◌*◌, ◌<◌, ◌≤◌, cond, List, [], ◌∷◌, length, Option, Some, None, Result, refl, sym, ap, ◌∙◌, arith, IsTrue}
+use Rattle.std.proofs.Common.{◌≡◌, inl, inr, ◌⊎◌, ℕ, cond, List, [], ◌∷◌, Option, Some, None, Result, refl, ap, ◌∙◌, arith, IsTrue}
 use Rattle.std.proofs.lemmas.Result.{on_ok_weaker}
 use Rattle.flash_core.proofs.Costs.{on_ok_both}
 use Rattle.flash_core.specs.declared.flash.FlashStop.{FlashStop}
@@ -9,7 +9,7 @@ use Rattle.flash_core.proofs.Calls.{may_now}
 use Rattle.fwu_model.specs.Layout.{Layout}
 use Rattle.fwu_model.specs.Metadata.{MetaRead, state_at}
 use Rattle.fwu_model.specs.Manifest.{version}
-use Rattle.fwu_model.specs.Flash.{deciding, marks}
+use Rattle.fwu_model.specs.Flash.{deciding}
 use Rattle.fwu_model.specs.Counter.{counter_in}
 use Rattle.fwu_model.specs.State.{State, RaiseTo, bank, is_valid, is_accepted, after_move}
 use Rattle.fwu_model.specs.Sound.{Setting, Sound, trial_limit, holds_permitted}

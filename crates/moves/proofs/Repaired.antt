@@ -1,13 +1,14 @@
 -- A repair of the replicas: no change is seen but the version, and afterwards both replicas hold the metadata.
-use Rattle.std.proofs.Common.{◌≡◌, ◌+◌, ◌*◌, ◌<◌, ◌≤◌, ℕ, List, [], ◌∷◌, length, inr, Some, Ok, Result, refl, sym, ap, subst, ◌∙◌, arith}
+use Rattle.std.proofs.Common.{◌≡◌, ◌≤◌, ℕ, List, inr, Ok, Result, refl, sym, ap, subst, ◌∙◌, arith}
 use Rattle.std.specs.Prelude.{Contains}
 use Rattle.flash_core.specs.declared.flash.FlashStop.{FlashStop}
 use Rattle.flash_core.specs.Told.{Told}
-use Rattle.flash_core.specs.May.{Guards, Keeps}
+use Rattle.flash_core.specs.May.{Guards}
 use Rattle.fwu_model.specs.declared.kinds.LayoutFault.{LayoutFault}
 use Rattle.fwu_model.specs.Layout.{Layout}
 use Rattle.fwu_model.specs.Metadata.{MetaRead}
-use Rattle.fwu_model.specs.Flash.{layout_seen}
+use Rattle.fwu_model.specs.Flash.{layout_seen, marks}
+use Rattle.fwu_model.specs.Counter.{counter_in}
 use Rattle.fwu_model.specs.State.{State, Migrate, after, after_move}
 use Rattle.fwu_model.specs.Sound.{Setting, Sound}
 use Rattle.fwu_model.specs.Seen.{IsTidy, state_of}
@@ -17,14 +18,12 @@ use Rattle.fwu_model.specs.Replica.{in_version}
 use Rattle.fwu_model.proofs.Banks.{sound-migrate}
 use Rattle.replicas.specs.declared.which.Which.{Which}
 use Rattle.replicas.specs.declared.which.Which.TheVariants.{Same, RepairZero, RepairOne, MigrateZero, MigrateOne}
-use Rattle.replicas.specs.Which.{Finds, Loads}
+use Rattle.replicas.specs.Which.{Loads}
 use Rattle.replicas.specs.Repairs.{Repairs}
 use Rattle.moves.specs.Moved.{Does, IsShown, ShowsAfter, repair_moves}
-use Rattle.moves.proofs.Agree.{agrees-now, meta-tidy, shown-by}
+use Rattle.moves.proofs.Agree.{no_meta, front-kept, layout-kept, marks-agree, counter-agrees, agrees-now, meta-tidy, shown-by}
 use Rattle.moves.proofs.Calm.{calm-shown, calm-sound, calm-tidy, calm-used}
 use Rattle.moves.proofs.MetaWrites.{repair-writes, write-each, write-all, write-shows}
-use Rattle.fwu_model.specs.Metadata.{meta_read}
-use Rattle.base_core.specs.Block.{block}
 
 -- ---- the state after a repair
 
@@ -112,3 +111,13 @@ module _ {T : Type 0} (result : Result T FlashStop) (which : Which) (r : MetaRea
   pub repair-tidy : (L : Layout) (state : State) → Repairs result L r s t → IsTidy s.now state → IsTidy t.now (after state (repair_moves which))
   repair-tidy L state repairs tidy =
       meta-tidy L r s.now t.now (after state (repair_moves which)) (agrees-now L r.meta 4096 12288 s t (omega arith) repairs.keeps) (repaired-tidy which s.now state tidy)
+
+  -- What else a boot has read stays as it was, at any exit: the layout, the marks and the counter.
+  pub repair-layout : (L : Layout) → Repairs result L r s t → layout_seen s.now ≡ Ok L → layout_seen t.now ≡ Ok L
+  repair-layout L repairs is = layout-kept L 4096 12288 s t (omega arith) repairs.keeps is
+
+  pub repair-marks : (L : Layout) (limit : ℕ) → limit ≤ 256 → Repairs result L r s t → marks t.now 3 limit ≡ marks s.now 3 limit
+  repair-marks L limit few repairs = marks-agree L no_meta 4096 12288 s.now t.now (front-kept L 4096 12288 s t repairs.keeps) 3 limit (omega arith) (inr (omega arith)) few
+
+  pub repair-counter : (L : Layout) → Repairs result L r s t → counter_in t.now ≡ counter_in s.now
+  repair-counter L repairs = counter-agrees L no_meta 4096 12288 s.now t.now (front-kept L 4096 12288 s t repairs.keeps) (inr (omega arith))

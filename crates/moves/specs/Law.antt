@@ -1,5 +1,5 @@
 -- What writes are to the machine, as laws over what is told before and after. Each stands as the contract of a function of its own.
-use Rattle.std.specs.Prelude.{◌≡◌, ℕ, ◌+◌, ◌<◌, List, [], ◌∷◌, ◌++◌, Some, Ok, Result, IsErr, IsTrue, Contains}
+use Rattle.std.specs.Prelude.{◌≡◌, ℕ, ◌<◌, ◌≤◌, List, [], ◌∷◌, ◌++◌, Some, Ok, Result, IsErr, IsTrue, Contains}
 use Rattle.base_core.specs.Block.{block}
 use Rattle.flash_core.specs.declared.flash.FlashStop.{FlashStop}
 use Rattle.flash_core.specs.Told.{Told, NothingDirty, fresh}
@@ -8,10 +8,13 @@ use Rattle.fwu_model.specs.Layout.{Layout}
 use Rattle.fwu_model.specs.Metadata.{MetaRead, meta_read}
 use Rattle.fwu_model.specs.Manifest.{version}
 use Rattle.fwu_model.specs.Flash.{layout_seen, deciding, marks}
+use Rattle.fwu_model.specs.Counter.{counter_in}
 use Rattle.fwu_model.specs.State.{State, Move, Trial, RaiseTo, bank, is_valid, is_accepted, after}
-use Rattle.fwu_model.specs.Sound.{Setting, trial_limit}
+use Rattle.fwu_model.specs.Sound.{Setting, choice, trial_limit}
+use Rattle.fwu_model.specs.Session.{Off}
+use Rattle.fwu_model.specs.Call as call
 use Rattle.fwu_model.specs.Seen.{seen, IsTidy, SoundFlash}
-use Rattle.fwu_model.specs.Answer.{booted_package}
+use Rattle.fwu_model.specs.Answer.{answer, booted_package}
 use Rattle.fwu_model.specs.Calm.{IsCalm, IsAtRest}
 use Rattle.fwu_model.specs.Run.{prefixes}
 use Rattle.marks_core.specs.Marks.{Adds}
@@ -19,6 +22,7 @@ use Rattle.marks_core.specs.Raises.{Raises}
 use Rattle.replicas.specs.declared.which.Which.{Which}
 use Rattle.replicas.specs.Which.{Loads}
 use Rattle.replicas.specs.Repairs.{Repairs}
+use Rattle.moves.specs.Boots.{chosen_by}
 use Rattle.moves.specs.Moved.{IsReady, Does, IsShown, ShowsAfter, GuardedBy, repair_moves}
 
 -- the result of a call without a value
@@ -75,6 +79,15 @@ pub record RepairsShow : Type 0 where
   -- the marks stay as tidy as they are, at any exit
   pub tidy : (result : Done) (which : Which) (r : MetaRead) (s t : Told) (L : Layout) (state : State) → Repairs result L r s t → IsTidy s.now state → IsTidy t.now (after state (repair_moves which))
 
+-- what else a boot has read stays as it was, at any exit
+pub record RepairsKeep {T : Type 0} (result : Result T FlashStop) (r : MetaRead) (s t : Told) (L : Layout) : Type 0 where
+  pub layout : layout_seen s.now ≡ Ok L → layout_seen t.now ≡ Ok L
+  pub trials : (limit : ℕ) → limit ≤ 256 → marks t.now 3 limit ≡ marks s.now 3 limit
+  pub counter : counter_in t.now ≡ counter_in s.now
+
+abbrev pub RepairsKeepCounts : Type 0
+RepairsKeepCounts = (result : Done) (r : MetaRead) (s t : Told) (L : Layout) → Repairs result L r s t → RepairsKeep result r s t L
+
 -- where the marks are tidy, so that the next one counts
 pub record TrialsShow : Type 0 where
   pub shows : (result : Done) (s t : Told) (state : State) (at : ℕ) → IsTrue (is_valid (bank state state.active).state) → at ≡ state.trials → at < trial_limit → Adds result 3 at s t
@@ -91,3 +104,30 @@ pub record WritesStayGuarded : Type 0 where
   pub repair : (result : Done) (L : Layout) (s t : Told) → layout_seen s.now ≡ Ok L → IsAtRest s → (which : Which) (r : MetaRead) → Loads L which r s.now → Repairs result L r s t → GuardedBy result t
   pub trial : (result : Done) (L : Layout) (s t : Told) → layout_seen s.now ≡ Ok L → IsAtRest s → (at : ℕ) → at < trial_limit → Adds result 3 at s t → GuardedBy result t
   pub raise : (result : Done) (L : Layout) (s t : Told) → layout_seen s.now ≡ Ok L → IsAtRest s → (v : ℕ) → Raises result v s t → GuardedBy result t
+
+-- ---- a boot: the repair, and then what the chosen bank needs
+
+-- From a calm flash, what a boot did is what the machine answers: by the bank that is chosen, a trial, a raise or nothing more, and at a stop a prefix.
+pub record BootsDo (E : Setting) (L : Layout) (which : Which) (r : MetaRead) (s : State) (old : Told) : Type 0 where
+  -- it stopped in the repair, or between that and the next write
+  pub stopped : (given result : Done) (t : Told) → IsErr result → Does given E s (repair_moves which) t → Does result E s (answer E s Off call.Boot).moves t
+  pub trial : (result : Done) (b at : ℕ) (m t : Told) → Does {T = Unit {0}} (Ok tt) E s (repair_moves which) m → choice E s ≡ Some b → b ≡ s.active → IsTrue (is_valid (bank s s.active).state) → at ≡ s.trials → at < trial_limit
+      → Adds result 3 at m t → Does result E s (answer E s Off call.Boot).moves t
+  pub raise : (result : Done) (b v : ℕ) (m t : Told) → Does {T = Unit {0}} (Ok tt) E s (repair_moves which) m → choice E s ≡ Some b → b ≡ s.active → IsTrue (is_accepted (bank s s.active).state) → v ≡ version (booted_package s s.active) → s.counter < v
+      → Raises result v m t → Does result E s (answer E s Off call.Boot).moves t
+  pub still : (t : Told) → Does {T = Unit {0}} (Ok tt) E s (repair_moves which) t → chosen_by s (choice E s) ≡ [] → Does {T = Unit {0}} (Ok tt) E s (answer E s Off call.Boot).moves t
+
+abbrev pub BootsDoAnswers : Type 0
+BootsDoAnswers = (E : Setting) (L : Layout) (which : Which) (r : MetaRead) (s : State) (old : Told) → IsShown L old.now s → Loads L which r old.now → BootsDo E L which r s old
+
+-- The same of what is seen, on any flash that shows a state.
+pub record BootsShow (E : Setting) (L : Layout) (which : Which) (s : State) (m : Told) : Type 0 where
+  pub trial : (result : Done) (b at : ℕ) (t : Told) → IsTidy m.now (after s (repair_moves which)) → choice E s ≡ Some b → b ≡ s.active → IsTrue (is_valid (bank s s.active).state) → at ≡ s.trials → at < trial_limit
+      → Adds result 3 at m t → ShowsAfter result L s (answer E s Off call.Boot).moves t
+  pub raise : (result : Done) (b v : ℕ) (t : Told) → choice E s ≡ Some b → b ≡ s.active → IsTrue (is_accepted (bank s s.active).state) → v ≡ version (booted_package s s.active) → s.counter < v
+      → Raises result v m t → ShowsAfter result L s (answer E s Off call.Boot).moves t
+  pub still : chosen_by s (choice E s) ≡ [] → IsShown L m.now (after s (answer E s Off call.Boot).moves)
+
+abbrev pub BootsShowAnswers : Type 0
+BootsShowAnswers =
+    (E : Setting) (L : Layout) (which : Which) (r : MetaRead) (s : State) (old m : Told) → IsShown L old.now s → Loads L which r old.now → IsShown L m.now (after s (repair_moves which)) → BootsShow E L which s m

@@ -1,6 +1,6 @@
 //! Laws of the definitions: functions that do nothing, whose contract is the law.
 
-ghost use Rattle.moves.specs.Law.{CallsCompose, LossesAreRepaired, StartsAreReady, RepairsDo, TrialsDo, RaisesDo, RepairsShow, TrialsShow, RaisesShow, WritesStayGuarded};
+ghost use Rattle.moves.specs.Law.{CallsCompose, LossesAreRepaired, StartsAreReady, RepairsDo, TrialsDo, RaisesDo, RepairsShow, RepairsKeepCounts, TrialsShow, RaisesShow, WritesStayGuarded, BootsDoAnswers, BootsShowAnswers};
 
 /// Calls in a row do the moves of each, and a call that stops a prefix of them.
 pub fn calls_compose()
@@ -37,6 +37,11 @@ pub fn repairs_show()
     ensures { RepairsShow }
 {}
 
+/// A repair leaves the layout, the trials and the counter as they are, at any exit.
+pub fn repairs_keep_counts()
+    ensures { RepairsKeepCounts }
+{}
+
 /// On any flash that shows a state and has tidy marks, a mark that is done counts as one more trial.
 pub fn trials_show()
     ensures { TrialsShow }
@@ -50,4 +55,14 @@ pub fn raises_show()
 /// On any flash at rest, a repair, a mark and a record put no place at risk that the layout or a bank in use has.
 pub fn writes_stay_guarded()
     ensures { WritesStayGuarded }
+{}
+
+/// What a boot does to a calm flash is what the machine answers, and a prefix of it where it is stopped.
+pub fn boots_do_answers()
+    ensures { BootsDoAnswers }
+{}
+
+/// What a boot that is done shows, on any flash that shows a state and has tidy marks, is what the machine answers.
+pub fn boots_show_answers()
+    ensures { BootsShowAnswers }
 {}

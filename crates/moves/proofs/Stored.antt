@@ -1,0 +1,138 @@
+-- A store of the metadata of a move does this move.
+use Rattle.std.proofs.Common.{◌≡◌, ◌≢◌, cond, ℕ, ◌+◌, ◌*◌, ◌<◌, Bool, true, false, List, [], ◌∷◌, length, get_or, set, Some, Result, refl, sym, ap, subst, ◌∙◌, arith, inl, inr, ◌⊎◌, IsTrue, IsFalse, get_or-set_same, get_or-set_other}
+use Rattle.std.proofs.lemmas.Bool.{cases_eq}
+use Rattle.flash_core.specs.declared.flash.FlashStop.{FlashStop}
+use Rattle.flash_core.specs.Told.{Told}
+use Rattle.flash_core.specs.May.{Quiet}
+use Rattle.fwu_model.specs.declared.kinds.BankState.{BankState}
+use Rattle.fwu_model.specs.declared.kinds.BankState.TheVariants.{Accepted}
+use Rattle.fwu_model.specs.Layout.{start}
+use Rattle.fwu_model.specs.Metadata.{Meta, MetaRead, state_at}
+use Rattle.fwu_model.specs.Manifest.{is_complete}
+use Rattle.fwu_model.specs.Flash.{deciding, package_in, marks, is_tidy}
+use Rattle.fwu_model.specs.State.{State, Bank, Move, Free, Switch, Accept, Back, bank, no_bank, is_invalid, is_valid, is_accepted, all_set, state_by, freed, with_bit, update_bank, after_move}
+use Rattle.fwu_model.specs.Sound.{Setting, Sound, is_permitted, holds_permitted, trial_limit}
+use Rattle.fwu_model.specs.Seen.{IsTidy, state_of}
+use Rattle.fwu_model.specs.Replica.{in_version}
+use Rattle.fwu_model.proofs.Banks.{accepted-used, accepted-not_valid, in_range, update-other, update-below, active-below, sound-free, sound-switch, sound-accept, sound-back}
+use Rattle.meta_layout.proofs.Fits.{MetaFits}
+use Rattle.replicas.specs.Stores.{Stores}
+use Rattle.moves.specs.Moved.{IsReady, Does}
+use Rattle.moves.specs.Metas.{meta_after}
+use Rattle.moves.proofs.Agree.{QuietUsed, shown-by, state-is, bank-count, at-used}
+use Rattle.moves.proofs.Calm.{calm-shown, calm-sound, calm-tidy}
+use Rattle.moves.proofs.MetaMoves.{free-state, switch-state, accept-state, back-state}
+use Rattle.moves.proofs.MetaWrites.{store-writes, write-each, write-all}
+use Rattle.moves.proofs.Read.{deciding-fits}
+
+-- the banks that a state has in use are quiet
+abbrev pub QuietBanks : Setting → Told → State → Type 0
+QuietBanks E t s = (b : ℕ) → IsFalse (is_invalid (bank s b).state) → Quiet (4096 * start E.layout b 0) (4096 * start E.layout (b + 1) 0) t
+
+-- ---- banks in use after a move
+
+used-free : (s : State) (b c : ℕ) → b < length s.banks → IsFalse (is_invalid (bank (after_move s (Free b)) c).state) → IsFalse (is_invalid (bank s c).state)
+used-free s b c lt used = elim (cases_eq c b) [
+  | inl same ↦ absurd (let e : IsFalse (is_invalid (freed (bank s b)).state) = subst (λ (k : Bank). IsFalse (is_invalid k.state)) (ap (λ (j : ℕ). get_or (set s.banks b (freed (bank s b))) j no_bank) same ∙ get_or-set_same s.banks b (freed (bank s b)) no_bank lt) used in cc)
+  | inr ne ↦ subst (λ (k : Bank). IsFalse (is_invalid k.state)) (get_or-set_other s.banks b c (freed (bank s b)) no_bank ne) used
+]
+
+-- a bank other than the one that was set is as before
+used-set : (s : State) (b c : ℕ) (k : Bank) → IsFalse (is_invalid (get_or (set s.banks b k) c no_bank).state) → (c ≡ b) ⊎ IsFalse (is_invalid (bank s c).state)
+used-set s b c k used = elim (cases_eq c b) [
+  | inl same ↦ inl same
+  | inr ne ↦ inr (subst (λ (x : Bank). IsFalse (is_invalid x.state)) (get_or-set_other s.banks b c k no_bank ne) used)
+]
+
+still-valid : (v : Bool) (k : BankState) → IsTrue (is_valid (cond v Accepted k)) → IsTrue (is_valid k)
+still-valid true k h = absurd cc
+still-valid false k h = h
+
+-- ---- one store
+
+module _ {T : Type 0} (result : Result T FlashStop) (E : Setting) (s t : Told) (state : State) (old : MetaRead) (ready : IsReady E s state) (decided : deciding E.layout s.now ≡ Some old) where
+  -- a store that writes the metadata of a move does the move
+  pub move-does : (move : Move) (new : Meta) → Stores result E.layout new s t → state_of E.layout s.now (in_version 2 new) ≡ after_move state move → Sound E (after_move state move) → IsTidy s.now (after_move state move) → QuietBanks E s (after_move state move)
+      → Does result E state (move ∷ []) t
+  move-does move new stores becomes sound tidy quiet =
+      let next = after_move state move in
+      let used : QuietUsed E.layout new s = λ b lt h. quiet b (at-used E.layout s.now (in_version 2 new) next becomes b lt h) in
+      let writes = store-writes result E.layout s t ready.guarded ready.calm.front old new decided (ready.one old decided) stores in
+      record {
+        each = write-each result E state next old (in_version 2 new) s t ready.calm ready.guarded decided becomes sound tidy used writes (state ∷ next ∷ []) (0, omega arith, refl) (1, omega arith, refl);
+        all = write-all result E state next old (in_version 2 new) s t ready.calm ready.guarded decided becomes sound tidy used writes;
+      }
+
+module _ {T : Type 0} (result : Result T FlashStop) (E : Setting) (s t : Told) (state : State) (m : Meta) (ready : IsReady E s state) (decided : deciding E.layout s.now ≡ Some (in_version 2 m)) where
+  shown : state_of E.layout s.now (in_version 2 m) ≡ state
+  shown = shown-by E.layout s.now state (calm-shown E s state ready.calm) (in_version 2 m) decided
+
+  does : (move : Move) → Stores result E.layout (meta_after m move) s t → state_of E.layout s.now (in_version 2 (meta_after m move)) ≡ after_move (state_of E.layout s.now (in_version 2 m)) move → Sound E (after_move state move)
+      → IsTidy s.now (after_move state move) → QuietBanks E s (after_move state move) → Does result E state (move ∷ []) t
+  does move stores becomes = move-does result E s t state (in_version 2 m) ready decided move (meta_after m move) stores (becomes ∙ ap (λ (x : State). after_move x move) shown)
+
+  whole : MetaFits E.layout m
+  whole = deciding-fits E.layout s.now (in_version 2 m) decided
+
+  count : length state.banks ≡ E.layout.banks
+  count = bank-count E.layout s.now (in_version 2 m) state shown
+
+  sound-state : Sound E state
+  sound-state = calm-sound E s state ready.calm
+
+  active-is : m.active ≡ state.active
+  active-is = ap (λ (x : State). x.active) shown
+
+  in-meta : (b : ℕ) → b < length state.banks → (bank state b).state ≡ state_at m b
+  in-meta b lt = state-is E.layout s.now (in_version 2 m) state shown b (omega (arith, lt, count))
+
+  pub free-does : IsTrue (is_accepted (bank state state.active).state) → Stores result E.layout (meta_after m (Free (update_bank state))) s t → Does result E state (Free (update_bank state) ∷ []) t
+  free-does accepted stores =
+      let u = update_bank state in
+      let below = update-below E state sound-state in
+      let ne : state.active ≢ u = λ e. update-other E state sound-state (sym e) in
+      let same : bank (after_move state (Free u)) state.active ≡ bank state state.active = get_or-set_other state.banks u state.active (freed (bank state u)) no_bank ne in
+      does (Free u) stores (free-state E.layout s.now m whole u (omega (arith, below, count)) (λ e. ne (sym active-is ∙ e))) (sound-free E state sound-state accepted)
+      (λ v. absurd (accepted-not_valid _ accepted (subst (λ (k : Bank). IsTrue (is_valid k.state)) same v)))
+      (λ b used. ready.calm.banks b (used-free state u b below used))
+
+  pub accept-does : (i : ℕ) → Stores result E.layout (meta_after m (Accept i)) s t → Does result E state (Accept i ∷ []) t
+  accept-does i stores =
+      let below = active-below E state sound-state in
+      let a = state.active in
+      let new = with_bit (bank state a) i in
+      let same : bank (after_move state (Accept i)) a ≡ new = get_or-set_same state.banks a new no_bank below in
+      let used : IsFalse (is_invalid (state_at m m.active)) = subst (λ (n : ℕ). IsFalse (is_invalid (state_at m n))) (sym active-is) (ap is_invalid (sym (in-meta a below)) ∙ sound-state.in_use) in
+      does (Accept i) stores (accept-state E.layout s.now m whole i (omega (arith, below, count, active-is)) used) (sound-accept E state i sound-state)
+      (λ v. calm-tidy E s state ready.calm (still-valid (all_set (set (bank state a).bits i true)) (bank state a).state (subst (λ (k : Bank). IsTrue (is_valid k.state)) same v)))
+      (λ b h. elim (used-set state a b new h) [
+        | inl e ↦ subst (λ (n : ℕ). Quiet (4096 * start E.layout n 0) (4096 * start E.layout (n + 1) 0) s) (sym e) (ready.calm.banks a sound-state.in_use)
+        | inr u ↦ ready.calm.banks b u
+      ])
+
+  pub back-does : IsTrue (is_accepted (bank state state.previous).state) → IsTrue (holds_permitted E state.counter (bank state state.previous).held) → Stores result E.layout (meta_after m Back) s t → Does result E state (Back ∷ []) t
+  back-does accepted permitted stores =
+      let previous-is : m.previous ≡ state.previous = ap (λ (x : State). x.previous) shown in
+      let below = in_range state.banks state.previous (accepted-used _ accepted) in
+      let in_m : IsTrue (is_accepted (state_at m m.previous)) = subst (λ (n : ℕ). IsTrue (is_accepted (state_at m n))) (sym previous-is) (ap is_accepted (sym (in-meta state.previous below)) ∙ accepted) in
+      does Back stores (back-state E.layout s.now m whole in_m) (sound-back E state sound-state accepted permitted)
+      (λ v. absurd (accepted-not_valid (bank state state.previous).state accepted v))
+      ready.calm.banks
+
+  -- The update bank holds the package and is quiet, as after a barrier. Where the new state is valid, so that trials count, the marks are clear.
+  pub switch-does : (p : List (List ℕ)) (bits : List Bool) → IsTrue (is_accepted (bank state state.active).state)
+      → Quiet (4096 * start E.layout (update_bank state) 0) (4096 * start E.layout (update_bank state + 1) 0) s → package_in E.layout s.now (update_bank state) ≡ Some p
+      → length bits ≡ length E.layout.rows → IsTrue (is_complete E.layout.rows p) → IsTrue (is_permitted E state.counter p)
+      → (IsTrue (is_valid (state_by bits)) → (marks s.now 3 trial_limit ≡ 0) × IsTrue (is_tidy s.now 3 trial_limit))
+      → Stores result E.layout (meta_after m (Switch (update_bank state) p bits)) s t → Does result E state (Switch (update_bank state) p bits ∷ []) t
+  switch-does p bits accepted quiet held rows complete permitted cleared stores =
+      let u = update_bank state in
+      let below = update-below E state sound-state in
+      let new : Bank = record { state = state_by bits; bits = bits; held = Some p } in
+      let same : bank (after_move state (Switch u p bits)) u ≡ new = get_or-set_same state.banks u new no_bank below in
+      does (Switch u p bits) stores (switch-state E.layout s.now m whole u p bits (omega (arith, below, count)) held (λ v. (cleared v).0)) (sound-switch E state p bits sound-state accepted rows complete permitted)
+      (λ v. (cleared (subst (λ (k : Bank). IsTrue (is_valid k.state)) same v)).1)
+      (λ b h. elim (used-set state u b new h) [
+        | inl e ↦ subst (λ (n : ℕ). Quiet (4096 * start E.layout n 0) (4096 * start E.layout (n + 1) 0) s) (sym e) quiet
+        | inr used ↦ ready.calm.banks b used
+      ])

@@ -1,0 +1,5 @@
+use Rattle.moves.proofs.Cleared.{clear-does}
+use Rattle.moves.proofs.stores.clears_do_nothing.Goals as goal
+
+pub returns : goal.returns
+returns c = λ result s t state accepted clears E ready. clear-does result s t state accepted clears E ready

@@ -1,0 +1,11 @@
+use Rattle.moves.proofs.Cleared.{clear-guarded}
+use Rattle.moves.proofs.Staged.{staged-rest}
+use Rattle.moves.proofs.StoredPlain.{store-guarded}
+use Rattle.moves.proofs.stores.others_stay_guarded.Goals as goal
+
+pub returns : goal.returns
+returns c = record {
+  store = λ result L s t layout rest old new decided one stores quiet. store-guarded result L s t layout rest old new decided one stores quiet;
+  clear = λ result L s t layout rest clears. clear-guarded result L s t layout rest clears;
+  staging = λ L s t state u shown rest invalid keeps. staged-rest L s t state u shown rest invalid keeps;
+}

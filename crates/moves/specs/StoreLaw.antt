@@ -1,0 +1,120 @@
+-- What stores of metadata, cleared marks and writes in a free bank are to the machine, as laws.
+use Rattle.std.specs.Prelude.{◌≡◌, ℕ, ◌+◌, ◌*◌, ◌<◌, ◌≤◌, Bool, List, [], ◌∷◌, length, take, Some, Ok, IsTrue, IsFalse, slice_index_or}
+use Rattle.base_core.specs.Block.{block}
+use Rattle.flash_core.specs.Told.{Told, settle}
+use Rattle.flash_core.specs.May.{Keeps, Quiet}
+use Rattle.fwu_model.specs.Layout.{Layout, start}
+use Rattle.fwu_model.specs.Metadata.{Meta, MetaRead, meta_read, fits_meta, state_at}
+use Rattle.fwu_model.specs.Manifest.{is_complete}
+use Rattle.fwu_model.specs.Flash.{layout_seen, deciding, marks, is_tidy, slot, package_in}
+use Rattle.fwu_model.specs.State.{State, Free, Switch, Accept, Back, bank, update_bank, is_invalid, is_valid, is_accepted, state_by}
+use Rattle.fwu_model.specs.Sound.{Setting, is_permitted, holds_permitted, trial_limit}
+use Rattle.fwu_model.specs.Calm.{IsAtRest}
+use Rattle.fwu_model.specs.Replica.{in_version}
+use Rattle.marks_core.specs.Marks.{Clears}
+use Rattle.replicas.specs.Stores.{Stores}
+use Rattle.moves.specs.Moved.{IsReady, Does, IsShown, ShowsAfter, GuardedBy}
+use Rattle.moves.specs.Metas.{meta_after, meta_in}
+use Rattle.moves.specs.Law.{Done}
+
+-- ---- metadata
+
+-- what decides is a function of the state that is shown
+abbrev pub StatesHaveMetadata : Type 0
+StatesHaveMetadata = (L : Layout) (image : List ℕ) (s : State) → IsShown L image s → deciding L image ≡ Some (in_version s.form (meta_in s))
+
+-- the metadata after a move is of the layout where the metadata before is
+pub record MetadataStaysFit (L : Layout) (m : Meta) : Type 0 where
+  pub free : (b : ℕ) → b < L.banks → IsTrue (fits_meta L (meta_after m (Free b)))
+  pub switch : (b : ℕ) (p : List (List ℕ)) (bits : List Bool) → b < L.banks → length bits ≡ length L.rows → IsTrue (fits_meta L (meta_after m (Switch b p bits)))
+  pub accept : (image : ℕ) → IsTrue (fits_meta L (meta_after m (Accept image)))
+  pub back : IsTrue (fits_meta L (meta_after m Back))
+
+abbrev pub MovesKeepFit : Type 0
+MovesKeepFit = (L : Layout) (m : Meta) → IsTrue (fits_meta L m) → MetadataStaysFit L m
+
+-- ---- from a ready flash, with each loss
+
+-- a store of the metadata of a move does this move
+pub record StoresDo (result : Done) (E : Setting) (s t : Told) (state : State) : Type 0 where
+  pub free : IsTrue (is_accepted (bank state state.active).state) → Stores result E.layout (meta_after (meta_in state) (Free (update_bank state))) s t → Does result E state (Free (update_bank state) ∷ []) t
+  pub accept : (image : ℕ) → Stores result E.layout (meta_after (meta_in state) (Accept image)) s t → Does result E state (Accept image ∷ []) t
+  pub back : IsTrue (is_accepted (bank state state.previous).state) → IsTrue (holds_permitted E state.counter (bank state state.previous).held)
+      → Stores result E.layout (meta_after (meta_in state) Back) s t → Does result E state (Back ∷ []) t
+  -- The update bank holds the package and is quiet, as after a barrier. Where the new state is valid, so that trials count, the marks are clear.
+  pub switch : (p : List (List ℕ)) (bits : List Bool) → IsTrue (is_accepted (bank state state.active).state)
+      → Quiet (4096 * start E.layout (update_bank state) 0) (4096 * start E.layout (update_bank state + 1) 0) s → package_in E.layout s.now (update_bank state) ≡ Some p
+      → length bits ≡ length E.layout.rows → IsTrue (is_complete E.layout.rows p) → IsTrue (is_permitted E state.counter p)
+      → (IsTrue (is_valid (state_by bits)) → (marks s.now 3 trial_limit ≡ 0) × IsTrue (is_tidy s.now 3 trial_limit))
+      → Stores result E.layout (meta_after (meta_in state) (Switch (update_bank state) p bits)) s t → Does result E state (Switch (update_bank state) p bits ∷ []) t
+
+abbrev pub StoresDoMoves : Type 0
+StoresDoMoves = (result : Done) (E : Setting) (s t : Told) (state : State) → IsReady E s state → state.form ≡ 2 → StoresDo result E s t state
+
+-- the whole way to a switch: a barrier, the marks cleared, and the store
+abbrev pub SwitchesDo : Type 0
+SwitchesDo =
+    (result : Done) (E : Setting) (s cleared t : Told) (state : State) → IsReady E s state → state.form ≡ 2 → IsTrue (is_accepted (bank state state.active).state) → Clears {T = Unit {0}} (Ok tt) 3 (settle s) cleared
+    → (p : List (List ℕ)) (bits : List Bool) → package_in E.layout s.now (update_bank state) ≡ Some p → length bits ≡ length E.layout.rows → IsTrue (is_complete E.layout.rows p) → IsTrue (is_permitted E state.counter p)
+    → Stores result E.layout (meta_after (meta_in state) (Switch (update_bank state) p bits)) cleared t → Does result E state (Switch (update_bank state) p bits ∷ []) t
+
+-- a barrier leaves a ready flash ready
+abbrev pub BarriersKeepReady : Type 0
+BarriersKeepReady = (E : Setting) (s : Told) (state : State) → IsReady E s state → IsReady E (settle s) state
+
+-- the trial marks cleared while the active bank is accepted are no move
+abbrev pub ClearsDo : Type 0
+ClearsDo = (result : Done) (s t : Told) (state : State) → IsTrue (is_accepted (bank state state.active).state) → Clears result 3 s t → (E : Setting) → IsReady E s state → Does result E state [] t
+
+-- whatever is written in an invalid bank, and whatever the exit
+abbrev pub StagingKeepsReady : Type 0
+StagingKeepsReady =
+    (E : Setting) (s t : Told) (state : State) (u : ℕ) → IsReady E s state → IsTrue (is_invalid (bank state u).state) → Keeps (4096 * start E.layout u 0) (4096 * start E.layout (u + 1) 0) s t
+    → IsReady E t state
+
+-- ---- on any flash that shows a state
+
+pub record StoresShow (result : Done) (L : Layout) (s t : Told) (state : State) : Type 0 where
+  pub free : Stores result L (meta_after (meta_in state) (Free (update_bank state))) s t → ShowsAfter result L state (Free (update_bank state) ∷ []) t
+  pub accept : (image : ℕ) → IsFalse (is_invalid (bank state state.active).state) → Stores result L (meta_after (meta_in state) (Accept image)) s t → ShowsAfter result L state (Accept image ∷ []) t
+  pub back : IsTrue (is_accepted (bank state state.previous).state) → Stores result L (meta_after (meta_in state) Back) s t → ShowsAfter result L state (Back ∷ []) t
+  pub switch : (p : List (List ℕ)) (bits : List Bool) → package_in L s.now (update_bank state) ≡ Some p → (IsTrue (is_valid (state_by bits)) → marks s.now 3 trial_limit ≡ 0)
+      → Stores result L (meta_after (meta_in state) (Switch (update_bank state) p bits)) s t → ShowsAfter result L state (Switch (update_bank state) p bits ∷ []) t
+
+abbrev pub StoresShowMoves : Type 0
+StoresShowMoves = (result : Done) (L : Layout) (s t : Told) (state : State) → IsShown L s.now state → state.form ≡ 2 → StoresShow result L s t state
+
+-- what else is no move, at any exit
+pub record OthersShowNothing : Type 0 where
+  pub clear : (result : Done) (s t : Told) (state : State) → IsTrue (is_accepted (bank state state.active).state) → Clears result 3 s t → (L : Layout) → IsShown L s.now state → IsShown L t.now state
+  pub staging : (L : Layout) (s t : Told) (state : State) (u : ℕ) → IsTrue (is_invalid (bank state u).state) → Keeps (4096 * start L u 0) (4096 * start L (u + 1) 0) s t → IsShown L s.now state → IsShown L t.now state
+
+-- a bank whose slots begin with the images of a complete package holds it
+abbrev pub SlotsHold : Type 0
+SlotsHold =
+    (L : Layout) (image : List ℕ) (b : ℕ) (p : List (List ℕ)) → 1 ≤ length L.rows → IsTrue (is_complete L.rows p)
+    → ((i : ℕ) → i < length p → take (length (slice_index_or p i [])) (slot L image b i) ≡ slice_index_or p i []) → package_in L image b ≡ Some p
+
+-- ---- on any flash at rest
+
+-- the banks that the metadata calls valid or accepted are quiet
+abbrev pub QuietBy : Layout → Meta → Told → Type 0
+QuietBy L m t = (b : ℕ) → b < L.banks → IsFalse (is_invalid (state_at m b)) → Quiet (4096 * start L b 0) (4096 * start L (b + 1) 0) t
+
+pub record OthersStayGuarded : Type 0 where
+  -- where replica 1 holds what decides, and the banks in use by the new metadata are quiet
+  pub store : (result : Done) (L : Layout) (s t : Told) → layout_seen s.now ≡ Ok L → IsAtRest s → (old : MetaRead) (new : Meta) → deciding L s.now ≡ Some old → meta_read L (block 2 s.now) ≡ Some old → Stores result L new s t
+      → QuietBy L new s → GuardedBy result t
+  pub clear : (result : Done) (L : Layout) (s t : Told) → layout_seen s.now ≡ Ok L → IsAtRest s → Clears result 3 s t → GuardedBy result t
+  pub staging : (L : Layout) (s t : Told) (state : State) (u : ℕ) → IsShown L s.now state → IsAtRest s → IsTrue (is_invalid (bank state u).state) → Keeps (4096 * start L u 0) (4096 * start L (u + 1) 0) s t → IsAtRest t
+
+-- which banks are in use by the metadata of a move: those before, and the one that it switches to
+pub record UsedAfterMoves (L : Layout) (m : Meta) (t : Told) : Type 0 where
+  pub before : QuietBy L m t
+  pub free : (b : ℕ) → b < L.banks → QuietBy L (meta_after m (Free b)) t
+  pub accept : (image : ℕ) → IsFalse (is_invalid (state_at m m.active)) → QuietBy L (meta_after m (Accept image)) t
+  pub back : QuietBy L (meta_after m Back) t
+  pub switch : (b : ℕ) (p : List (List ℕ)) (bits : List Bool) → Quiet (4096 * start L b 0) (4096 * start L (b + 1) 0) t → QuietBy L (meta_after m (Switch b p bits)) t
+
+abbrev pub MovesKeepQuiet : Type 0
+MovesKeepQuiet = (L : Layout) (t : Told) (r : MetaRead) → layout_seen t.now ≡ Ok L → IsAtRest t → deciding L t.now ≡ Some r → UsedAfterMoves L r.meta t
