@@ -7,6 +7,8 @@ mod printing;
 mod stop_lines;
 mod stops;
 mod table;
+#[cfg(test)]
+mod tests;
 mod top;
 
 pub use stops::Stop;
