@@ -1,0 +1,147 @@
+-- How the tool ends, from what was done and what was told of it.
+use Rattle.std.proofs.Common.{◌≡◌, ◌≢◌, ◌⊎◌, inl, inr, ℕ, zero, suc, ◌+◌, List, [], ◌∷◌, ◌++◌, Option, Some, None, Result, Ok, Err, length, take, drop, refl, sym, ap, subst, ◌∙◌}
+use Rattle.std.specs.Io.KnownBytes.{Appends}
+use Rattle.std.proofs.KnownBytes.{Appends-trans}
+use Rattle.std.proofs.Math.Seq.{take-append-add, take-append_seam}
+use Rattle.host_io.specs.Contents.{Directory}
+use Rattle.fip_tool.specs.Ends.{EndedBy, HasCauseOf, Reported, SaidFront, StandAfter, Told, stop_line}
+use Rattle.fip_tool.specs.Steps.{Outcome, Makes, Refuses, Step, Writes, Prints, Are, AreUpTo, Did, steps_of, printed, written}
+use Rattle.fip_tool.specs.declared.stops.Stop.{Stop}
+use Rattle.fip_tool.specs.declared.stops.Stop.TheVariants as stop
+
+-- the text of the first steps is a front of the text of all
+front : (n : ℕ) (steps : List Step) → (k : ℕ) × (printed (take n steps) ≡ take k (printed steps))
+front zero steps = (0, refl)
+front (suc n) [] = (0, refl)
+front (suc n) (Writes name bytes ∷ steps) = front n steps
+front (suc n) (Prints text ∷ steps) =
+    let rest = front n steps in
+    (length text + rest.0, ap (λ (l : List ℕ). text ++ l) rest.1 ∙ sym (take-append-add text (printed steps) rest.0))
+
+module _ (outcome : Outcome) (files : Directory) (now : Option Directory) (was mid text : Option (List ℕ)) (files-rose sink-before sink-rose : Type 0) (rises : sink-before → sink-rose) where
+  pub done : (u : Unit {0}) → Did outcome files now was mid files-rose sink-before (Ok u) → EndedBy outcome files now was mid files-rose sink-rose (Ok u)
+  done u d = d
+
+  no-memory : Did outcome files now was mid files-rose sink-before (Err stop.NoMemory) → EndedBy outcome files now was mid files-rose sink-rose (Err stop.NoMemory)
+  no-memory d =
+      let k = front d.0 (steps_of outcome) in
+      (d.0, inl d.1, inl (k.0, subst (Appends was mid) k.1 d.2))
+
+  sink-failed : Did outcome files now was mid files-rose sink-before (Err stop.SinkFault) → EndedBy outcome files now was mid files-rose sink-rose (Err stop.SinkFault)
+  sink-failed d = (rises d.0, d.1, inl d.2, inl (d.3, d.4))
+
+  -- a refusal, with its line
+  abbrev RefusedTo : Stop → Type 0
+  RefusedTo s = (outcome ≡ Refuses s) × Are now files × Appends was mid []
+
+  told : (s : Stop) → RefusedTo s → Appends mid text (stop_line s) → (outcome ≡ Refuses s) × Are now files × Appends was text (stop_line s)
+  told s d a = (d.0, d.1, Appends-trans was mid text [] (stop_line s) d.2 a)
+
+  half-told : (s : Stop) → RefusedTo s → (k : ℕ) → Appends mid text (take k (stop_line s)) → (n : ℕ) × StandAfter n outcome files now files-rose × SaidFront n outcome was text files-rose
+  half-told s d k a = (0, inl d.1, inr (s, inl d.0, k, Appends-trans was mid text [] (take k (stop_line s)) d.2 a))
+
+  untold : (s : Stop) → RefusedTo s → text ≡ mid → (n : ℕ) × StandAfter n outcome files now files-rose × SaidFront n outcome was text files-rose
+  untold s d e = (0, inl d.1, inl (0, subst (λ (t : Option (List ℕ)). Appends was t []) (sym e) d.2))
+
+  -- a file failed, after the first n steps
+  abbrev FailedAfter : Type 0
+  FailedAfter = ((outcome ≡ Refuses stop.FileFault) ⊎ files-rose) × (n : ℕ) × AreUpTo (drop n (steps_of outcome)) now (written (take n (steps_of outcome)) files)
+      × Appends was mid (printed (take n (steps_of outcome)))
+
+  cause-of : (outcome ≡ Refuses stop.FileFault) ⊎ files-rose → HasCauseOf outcome files-rose stop.FileFault
+  cause-of (inl e) = inl e
+  cause-of (inr rose) = inr (refl, rose)
+
+  none-done : (n : ℕ) (o : Outcome) → o ≡ Refuses stop.FileFault → AreUpTo (drop n (steps_of o)) now (written (take n (steps_of o)) files) → Are now (written (take n (steps_of o)) files)
+  none-done n (Refuses s) e h = nothing n h
+    where
+      nothing : (n : ℕ) → AreUpTo (drop n []) now (written (take n []) files) → Are now (written (take n []) files)
+      nothing zero h = h
+      nothing (suc n) h = h
+  none-done n (Makes steps) e h = cc
+
+  stands : (n : ℕ) → (outcome ≡ Refuses stop.FileFault) ⊎ files-rose → AreUpTo (drop n (steps_of outcome)) now (written (take n (steps_of outcome)) files) → StandAfter n outcome files now files-rose
+  stands n (inl e) h = inl (none-done n outcome e h)
+  stands n (inr rose) h = inr (rose, h)
+
+  failed-told : FailedAfter → Appends mid text (stop_line stop.FileFault) → EndedBy outcome files now was text files-rose sink-rose (Err stop.FileFault)
+  failed-told d a = (cause-of d.0, d.1, d.2, Appends-trans was mid text _ _ d.3 a)
+
+  failed-half-told : FailedAfter → (k : ℕ) → Appends mid text (take k (stop_line stop.FileFault)) → (n : ℕ) × StandAfter n outcome files now files-rose × SaidFront n outcome was text files-rose
+  failed-half-told d k a =
+      let so-far : List ℕ = printed (take d.1 (steps_of outcome)) in (
+        d.1,
+        stands d.1 d.0 d.2,
+        inr (
+          stop.FileFault,
+          cause-of d.0,
+          length so-far + k,
+          subst (Appends was text) (sym (take-append-add so-far (stop_line stop.FileFault) k)) (Appends-trans was mid text so-far (take k (stop_line stop.FileFault)) d.3 a),
+        ),
+      )
+
+  failed-untold : FailedAfter → text ≡ mid → (n : ℕ) × StandAfter n outcome files now files-rose × SaidFront n outcome was text files-rose
+  failed-untold d e =
+      let so-far : List ℕ = printed (take d.1 (steps_of outcome)) in
+      let k = front d.1 (steps_of outcome) in
+      (d.1, stands d.1 d.0 d.2, inl (k.0, subst (λ (t : Option (List ℕ)). Appends was t (take k.0 (printed (steps_of outcome)))) (sym e) (subst (Appends was mid) k.1 d.3)))
+
+  at-stop : {s t : Stop} → t ≡ s → EndedBy outcome files now was text files-rose sink-rose (Err s) → EndedBy outcome files now was text files-rose sink-rose (Err t)
+  at-stop e h = subst (λ (s : Stop). EndedBy outcome files now was text files-rose sink-rose (Err s)) (sym e) h
+
+  refused-ends : (s t : Stop) → RefusedTo s → (Appends mid text (stop_line s) → EndedBy outcome files now was text files-rose sink-rose (Err s))
+      → Told mid text sink-rose s t → EndedBy outcome files now was text files-rose sink-rose (Err t)
+  refused-ends s t d whole (inl r) = at-stop r.0 (whole r.1)
+  refused-ends s t d whole (inr (inl r)) = at-stop r.0 (let h = half-told s d r.2 r.3 in (r.1, h.0, h.1, h.2))
+  refused-ends s t d whole (inr (inr r)) = at-stop r.0 (untold s d r.1)
+
+  failed-ends : (t : Stop) → FailedAfter → Told mid text sink-rose stop.FileFault t → EndedBy outcome files now was text files-rose sink-rose (Err t)
+  failed-ends t d (inl r) = at-stop r.0 (failed-told d r.1)
+  failed-ends t d (inr (inl r)) = at-stop r.0 (let h = failed-half-told d r.2 r.3 in (r.1, h.0, h.1, h.2))
+  failed-ends t d (inr (inr r)) = at-stop r.0 (failed-untold d r.1)
+
+  pub ends : (s t : Stop) → Did outcome files now was mid files-rose sink-before (Err s) → Reported mid text sink-rose s t
+      → EndedBy outcome files now was text files-rose sink-rose (Err t)
+  ends stop.Usage t d r = refused-ends stop.Usage t d (told stop.Usage d) r
+  ends stop.FileFault t d r = failed-ends t d r
+  ends stop.SinkFault t d r =
+      at-stop r.0 (subst (λ (x : Option (List ℕ)). EndedBy outcome files now was x files-rose sink-rose (Err stop.SinkFault)) (sym r.1) (sink-failed d))
+  ends (stop.NotFip f) t d r = refused-ends (stop.NotFip f) t d (told (stop.NotFip f) d) r
+  ends (stop.NoSuchEntry guid) t d r = refused-ends (stop.NoSuchEntry guid) t d (told (stop.NoSuchEntry guid) d) r
+  ends (stop.NotPacked f) t d r = refused-ends (stop.NotPacked f) t d (told (stop.NotPacked f) d) r
+  ends (stop.NoManifest f) t d r = refused-ends (stop.NoManifest f) t d (told (stop.NoManifest f) d) r
+  ends stop.TooLong t d r = refused-ends stop.TooLong t d (told stop.TooLong d) r
+  ends stop.NoMemory t d r =
+      at-stop r.0 (subst (λ (x : Option (List ℕ)). EndedBy outcome files now was x files-rose sink-rose (Err stop.NoMemory)) (sym r.1) (no-memory d))
+
+-- what is told of a stop
+pub reported : (was text : Option (List ℕ)) (sink-rose : Type 0) (s t : Stop) → s ≢ stop.SinkFault → s ≢ stop.NoMemory → Told was text sink-rose s t → Reported was text sink-rose s t
+reported was text sink-rose stop.SinkFault t a b r = absurd (a refl)
+reported was text sink-rose stop.NoMemory t a b r = absurd (b refl)
+reported was text sink-rose stop.Usage t a b r = r
+reported was text sink-rose stop.FileFault t a b r = r
+reported was text sink-rose (stop.NotFip f) t a b r = r
+reported was text sink-rose (stop.NoSuchEntry guid) t a b r = r
+reported was text sink-rose (stop.NotPacked f) t a b r = r
+reported was text sink-rose (stop.NoManifest f) t a b r = r
+reported was text sink-rose stop.TooLong t a b r = r
+
+-- a sink that failed in a part failed in the whole
+pub reported-later : (was text : Option (List ℕ)) (rose late : Type 0) (s t : Stop) → (rose → late) → Reported was text rose s t → Reported was text late s t
+reported-later was text rose late s t rises r = by-stop s r
+  where
+    told-later : (s : Stop) → Told was text rose s t → Told was text late s t
+    told-later s (inl a) = inl a
+    told-later s (inr (inl a)) = inr (inl (a.0, rises a.1, a.2, a.3))
+    told-later s (inr (inr a)) = inr (inr a)
+
+    by-stop : (s : Stop) → Reported was text rose s t → Reported was text late s t
+    by-stop stop.SinkFault r = r
+    by-stop stop.NoMemory r = r
+    by-stop stop.Usage r = told-later stop.Usage r
+    by-stop stop.FileFault r = told-later stop.FileFault r
+    by-stop (stop.NotFip f) r = told-later (stop.NotFip f) r
+    by-stop (stop.NoSuchEntry guid) r = told-later (stop.NoSuchEntry guid) r
+    by-stop (stop.NotPacked f) r = told-later (stop.NotPacked f) r
+    by-stop (stop.NoManifest f) r = told-later (stop.NoManifest f) r
+    by-stop stop.TooLong r = told-later stop.TooLong r

@@ -1,0 +1,104 @@
+-- How a listing of the source ends.
+use Rattle.std.proofs.Common.{◌≡◌, ◌⊎◌, inl, inr, ℕ, List, [], ◌∷◌, ◌++◌, Option, Some, None, Result, Ok, Err, take, refl, sym, ap, subst, ◌∙◌}
+use Rattle.std.specs.Io.KnownBytes.{Appends, Consumes, IsAtEnd}
+use Rattle.std.proofs.KnownBytes.{Appends-nil}
+use Rattle.fip_tool.specs.Ends.{Reported, Told, status_number, stop_line}
+use Rattle.fip_tool.specs.Steps.{Are, Did, Printed, outcome_by}
+use Rattle.fip_tool.specs.Tool.{GivenTo, IsReadFor, given_value, no_files, prints}
+use Rattle.fip_tool.specs.declared.stops.Stop.{Stop}
+use Rattle.fip_tool.specs.declared.stops.Stop.TheVariants as stop
+use Rattle.fip_tool.proofs.Did.{are-up-to, printed-text}
+
+none-changed : Are (Some no_files) no_files
+none-changed = λ name. refl
+
+-- a listing that stopped before it printed
+pub source-refused : {A : Type 0} (view : A → List ℕ) (was left text : Option (List ℕ)) (rose sink-rose : Type 0) (given : List ℕ) (s : Stop) → GivenTo view given_value was left rose (Err s) given
+    → IsReadFor (Err s) was left given × Did (outcome_by prints (given_value given)) no_files (Some no_files) text text rose sink-rose (Err s)
+source-refused view was left text rose sink-rose given (stop.NotFip f) g = ((g.0, g.1), (ap (outcome_by prints) g.2, none-changed, Appends-nil text))
+source-refused view was left text rose sink-rose given stop.FileFault g = (g.0, (inr g.1, 0, are-up-to _ (Some no_files) no_files none-changed, Appends-nil text))
+source-refused view was left text rose sink-rose given stop.NoMemory g = (g, (0, none-changed, Appends-nil text))
+source-refused view was left text rose sink-rose given stop.SinkFault g = absurd g
+source-refused view was left text rose sink-rose given stop.Usage g = (g.0, (ap (outcome_by prints) g.1, none-changed, Appends-nil text))
+source-refused view was left text rose sink-rose given (stop.NoSuchEntry guid) g = (g.0, (ap (outcome_by prints) g.1, none-changed, Appends-nil text))
+source-refused view was left text rose sink-rose given (stop.NotPacked f) g = (g.0, (ap (outcome_by prints) g.1, none-changed, Appends-nil text))
+source-refused view was left text rose sink-rose given (stop.NoManifest f) g = (g.0, (ap (outcome_by prints) g.1, none-changed, Appends-nil text))
+source-refused view was left text rose sink-rose given stop.TooLong g = (g.0, (ap (outcome_by prints) g.1, none-changed, Appends-nil text))
+
+read-all : (was left taken text : Option (List ℕ)) (sink-rose : Type 0) (given piece : List ℕ) (r : Result (Unit {0}) Stop) → Consumes was left given → IsAtEnd left → Printed taken text sink-rose piece r → IsReadFor r was left given
+read-all was left taken text sink-rose given piece (Ok u) c e p = (c, e)
+read-all was left taken text sink-rose given piece (Err (stop.NotFip f)) c e p = absurd p
+read-all was left taken text sink-rose given piece (Err stop.Usage) c e p = c
+read-all was left taken text sink-rose given piece (Err stop.FileFault) c e p = c
+read-all was left taken text sink-rose given piece (Err stop.SinkFault) c e p = c
+read-all was left taken text sink-rose given piece (Err (stop.NoSuchEntry guid)) c e p = c
+read-all was left taken text sink-rose given piece (Err (stop.NotPacked f)) c e p = c
+read-all was left taken text sink-rose given piece (Err (stop.NoManifest f)) c e p = c
+read-all was left taken text sink-rose given piece (Err stop.TooLong) c e p = c
+read-all was left taken text sink-rose given piece (Err stop.NoMemory) c e p = c
+
+pub source-printed : (was left taken text : Option (List ℕ)) (rose sink-rose : Type 0) (given piece : List ℕ) (r : Result (Unit {0}) Stop) → Consumes was left given × IsAtEnd left × (given_value given ≡ Ok piece)
+    → Printed taken text sink-rose piece r
+    → IsReadFor r was left given × Did (outcome_by prints (given_value given)) no_files (Some no_files) taken text rose sink-rose r
+source-printed was left taken text rose sink-rose given piece r g p =
+    (read-all was left taken text sink-rose given piece r g.0 g.1 p, printed-text (given_value given) piece no_files (Some no_files) taken text rose sink-rose r g.2 refl p)
+
+consumed : (was left : Option (List ℕ)) (given : List ℕ) (s : Stop) → IsReadFor (Err s) was left given → Consumes was left given
+consumed was left given (stop.NotFip f) r = r.0
+consumed was left given stop.Usage r = r
+consumed was left given stop.FileFault r = r
+consumed was left given stop.SinkFault r = r
+consumed was left given (stop.NoSuchEntry guid) r = r
+consumed was left given (stop.NotPacked f) r = r
+consumed was left given (stop.NoManifest f) r = r
+consumed was left given stop.TooLong r = r
+consumed was left given stop.NoMemory r = r
+
+module _ (was left taken text : Option (List ℕ)) (rose : Type 0) (given : List ℕ) where
+  at : {s t : Stop} → t ≡ s → IsReadFor (Err s) was left given → IsReadFor (Err t) was left given
+  at e r = subst (λ (x : Stop). IsReadFor (Err x) was left given) (sym e) r
+
+  told-read : (s t : Stop) → IsReadFor (Err s) was left given → Told taken text rose s t → IsReadFor (Err t) was left given
+  told-read s t r (inl a) = at a.0 r
+  told-read s t r (inr (inl a)) = at {s = stop.SinkFault} a.0 (consumed was left given s r)
+  told-read s t r (inr (inr a)) = at {s = stop.NoMemory} a.0 (consumed was left given s r)
+
+  -- what was read, after the line of a stop
+  pub reported-read : (s t : Stop) → IsReadFor (Err s) was left given → Reported taken text rose s t → IsReadFor (Err t) was left given
+  reported-read stop.SinkFault t r a = at a.0 r
+  reported-read stop.NoMemory t r a = at a.0 r
+  reported-read stop.Usage t r a = told-read stop.Usage t r a
+  reported-read stop.FileFault t r a = told-read stop.FileFault t r a
+  reported-read (stop.NotFip f) t r a = told-read (stop.NotFip f) t r a
+  reported-read (stop.NoSuchEntry guid) t r a = told-read (stop.NoSuchEntry guid) t r a
+  reported-read (stop.NotPacked f) t r a = told-read (stop.NotPacked f) t r a
+  reported-read (stop.NoManifest f) t r a = told-read (stop.NoManifest f) t r a
+  reported-read stop.TooLong t r a = told-read stop.TooLong t r a
+
+  two : (s : Stop) → status_number s ≡ 2 → s ≡ stop.FileFault
+  two stop.FileFault e = refl
+  two stop.Usage e = cc
+  two stop.SinkFault e = cc
+  two (stop.NotFip f) e = cc
+  two (stop.NoSuchEntry guid) e = cc
+  two (stop.NotPacked f) e = cc
+  two (stop.NoManifest f) e = cc
+  two stop.TooLong e = cc
+  two stop.NoMemory e = cc
+
+  told-two : (s t : Stop) → Told taken text rose s t → status_number t ≡ 2 → s ≡ stop.FileFault
+  told-two s t (inl a) e = two s (sym (ap status_number a.0) ∙ e)
+  told-two s t (inr (inl a)) e = let no : 3 ≡ 2 = sym (ap status_number a.0) ∙ e in cc
+  told-two s t (inr (inr a)) e = let no : 9 ≡ 2 = sym (ap status_number a.0) ∙ e in cc
+
+  -- status 2 comes of a file's fault
+  pub reported-two : (s t : Stop) → Reported taken text rose s t → status_number t ≡ 2 → s ≡ stop.FileFault
+  reported-two stop.SinkFault t a e = let no : 3 ≡ 2 = sym (ap status_number a.0) ∙ e in cc
+  reported-two stop.NoMemory t a e = let no : 9 ≡ 2 = sym (ap status_number a.0) ∙ e in cc
+  reported-two stop.Usage t a e = told-two stop.Usage t a e
+  reported-two stop.FileFault t a e = told-two stop.FileFault t a e
+  reported-two (stop.NotFip f) t a e = told-two (stop.NotFip f) t a e
+  reported-two (stop.NoSuchEntry guid) t a e = told-two (stop.NoSuchEntry guid) t a e
+  reported-two (stop.NotPacked f) t a e = told-two (stop.NotPacked f) t a e
+  reported-two (stop.NoManifest f) t a e = told-two (stop.NoManifest f) t a e
+  reported-two stop.TooLong t a e = told-two stop.TooLong t a e

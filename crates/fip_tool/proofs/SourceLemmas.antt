@@ -1,0 +1,146 @@
+-- Reading a package from the source.
+use Rattle.std.proofs.Common.{◌≡◌, ◌⊎◌, inl, inr, ◌≤◌, ◌<◌, ◌+◌, ℕ, List, [], ◌∷◌, ◌++◌, Option, Some, None, Result, Ok, Err, true, false, length, nat_lt, arith, refl, sym, ap, subst, ◌∙◌, append-nil, length-append}
+use Rattle.std.specs.Io.KnownBytes.{Consumes, IsAtEnd}
+use Rattle.std.proofs.KnownBytes.{Consumes-nil, Consumes-trans}
+use Rattle.std.proofs.lemmas.Bool.Decides.{nat_tests}
+use Rattle.std.proofs.lemmas.Bool.{lt-ltb}
+use Rattle.fwu_model.specs.Package.{Toc, toc_of}
+use Rattle.fwu_model.specs.declared.kinds.FipFault.{FipFault}
+use Rattle.fip_tables.specs.Answers.{decided}
+use Rattle.fip_tables.specs.Stream.{Fed, Stream}
+use Rattle.fip_tool.specs.Lines.{info_text}
+use Rattle.fip_tool.specs.Source.{EndsAs, FedSome}
+use Rattle.fip_tool.specs.Tool.{GivenTo, after, given_table, given_value, source_limit, table_of}
+use Rattle.fip_tool.specs.declared.stops.Stop.{Stop}
+use Rattle.fip_tool.specs.declared.stops.Stop.TheVariants as stop
+
+-- what the source gave so far: all of it was fed, and nothing is decided
+pub record HasGiven (was now : Option (List ℕ)) (stream : Stream) (count : ℕ) : Type 0 where
+  pub given : List ℕ
+  pub consumed : Consumes was now given
+  pub fed : Fed stream given
+  pub long : length given ≡ count
+  pub undecided : decided (toc_of given) ≡ Ok tt
+
+pub record IsReading (was now : Option (List ℕ)) (before faults : ℕ) (stream : Stream) (count : ℕ) : Type 0 where
+  pub later : before ≤ faults
+  pub few : count ≤ 4294971392
+  pub so-far : HasGiven was now stream count
+
+pub nothing-yet : (was : Option (List ℕ)) (faults : ℕ) (stream : Stream) → Fed stream [] → IsReading was was faults faults stream 0
+unfolding toc_of
+nothing-yet was faults stream fed = record {
+  later = omega arith;
+  few = omega arith;
+  so-far = record { given = []; consumed = Consumes-nil was; fed = fed; long = refl; undecided = refl };
+}
+
+pub goes-on : (was mid new : Option (List ℕ)) (before then now : ℕ) (stream next : Stream) (count n : ℕ) (source-rose : Type 0) → (r : IsReading was mid before then stream count)
+    → count ≤ 4294967296 → n ≤ 4096 → then ≤ now → ((piece : List ℕ) × FedSome next r.so-far.given piece mid new source-rose (Ok n)) → IsReading was new before now next (count + n)
+goes-on was mid new before then now stream next count n source-rose r few some later f =
+    let piece : List ℕ = f.0 in
+    let g : List ℕ = r.so-far.given in
+    let lengths : length (g ++ piece) ≡ length g + length piece = length-append g piece in
+    record {
+      later = (let a = r.later in omega arith);
+      few = omega arith;
+      so-far = record {
+        given = g ++ piece;
+        consumed = Consumes-trans was mid new g piece r.so-far.consumed f.1.0;
+        fed = f.1.3;
+        long = (let a = r.so-far.long in let b = f.1.1 in omega arith);
+        undecided = f.1.4;
+      };
+    }
+
+table-decided : (given : List ℕ) (f : FipFault) → decided (toc_of given) ≡ Err f → given_table given ≡ Err (stop.NotFip f)
+unfolding given_table
+table-decided given f e = rw e refl
+
+-- a read that stopped
+pub stopped : (was mid new : Option (List ℕ)) (stream next : Stream) (count : ℕ) (before then now : ℕ) (rose-late rose : Type 0) → (rose-late → rose) → (r : IsReading was mid before then stream count)
+    → (s : Stop) → ((piece : List ℕ) × FedSome next r.so-far.given piece mid new rose-late (Err s))
+    → (given : List ℕ) × GivenTo (λ (t : Toc × ℕ). t) given_table was new rose (Err s) given
+stopped was mid new stream next count before then now rose-late rose rises r (stop.NotFip f) p =
+    let given : List ℕ = r.so-far.given ++ p.0 in
+    (given, (Consumes-trans was mid new r.so-far.given p.0 r.so-far.consumed p.1.0, inr p.1.1, table-decided given f p.1.1))
+stopped was mid new stream next count before then now rose-late rose rises r stop.FileFault p =
+    (r.so-far.given ++ p.0, (Consumes-trans was mid new r.so-far.given p.0 r.so-far.consumed p.1.0, rises p.1.1))
+stopped was mid new stream next count before then now rose-late rose rises r stop.Usage p = absurd p.1
+stopped was mid new stream next count before then now rose-late rose rises r stop.SinkFault p = absurd p.1
+stopped was mid new stream next count before then now rose-late rose rises r (stop.NoSuchEntry guid) p = absurd p.1
+stopped was mid new stream next count before then now rose-late rose rises r (stop.NotPacked f) p = absurd p.1
+stopped was mid new stream next count before then now rose-late rose rises r (stop.NoManifest f) p = absurd p.1
+stopped was mid new stream next count before then now rose-late rose rises r stop.TooLong p = absurd p.1
+stopped was mid new stream next count before then now rose-late rose rises r stop.NoMemory p = absurd p.1
+
+-- the source is at its end
+pub at-end : (was left : Option (List ℕ)) (rose : Type 0) (given : List ℕ) (result : Result (Toc × ℕ) Stop) → Consumes was left given → IsAtEnd left → EndsAs given result
+    → GivenTo (λ (t : Toc × ℕ). t) given_table was left rose result given
+at-end was left rose given (Ok t) c e h = (c, e, h)
+at-end was left rose given (Err (stop.NotFip f)) c e h = (c, inl e, h)
+at-end was left rose given (Err stop.Usage) c e h = absurd h
+at-end was left rose given (Err stop.FileFault) c e h = absurd h
+at-end was left rose given (Err stop.SinkFault) c e h = absurd h
+at-end was left rose given (Err (stop.NoSuchEntry guid)) c e h = absurd h
+at-end was left rose given (Err (stop.NotPacked f)) c e h = absurd h
+at-end was left rose given (Err (stop.NoManifest f)) c e h = absurd h
+at-end was left rose given (Err stop.TooLong) c e h = absurd h
+at-end was left rose given (Err stop.NoMemory) c e h = absurd h
+
+is-long : (given : List ℕ) → decided (toc_of given) ≡ Ok tt → 4294967296 < length given → given_table given ≡ Err stop.TooLong
+unfolding given_table
+is-long given undecided many =
+    let past : nat_lt source_limit (length given) ≡ true = lt-ltb source_limit (length given) (omega arith) in
+    rw (undecided, past) refl
+
+pub too-long : (was left : Option (List ℕ)) (before now : ℕ) (stream : Stream) (count : ℕ) (rose : Type 0) → IsReading was left before now stream count → 4294967296 < count
+    → (given : List ℕ) × GivenTo (λ (t : Toc × ℕ). t) given_table was left rose (Err stop.TooLong) given
+too-long was left before now stream count rose r many =
+    let g : List ℕ = r.so-far.given in
+    (g, (r.so-far.consumed, is-long g r.so-far.undecided (let a = r.so-far.long in omega arith)))
+
+pub ended-ok : (given : List ℕ) (count : ℕ) (toc : Toc) → length given ≡ count → count ≤ 4294967296 → decided (toc_of given) ≡ Ok tt → toc_of given ≡ Ok toc → given_table given ≡ Ok (toc, count)
+unfolding given_table
+ended-ok given count toc long few undecided is =
+    let within : nat_lt source_limit (length given) ≡ false = grind (arith, nat_tests) in
+    rw (undecided, within, is, long) refl
+
+pub ended-err : (given : List ℕ) (count : ℕ) (f : FipFault) → length given ≡ count → count ≤ 4294967296 → decided (toc_of given) ≡ Ok tt → toc_of given ≡ Err f → given_table given ≡ Err (stop.NotFip f)
+unfolding given_table
+ended-err given count f long few undecided is =
+    let within : nat_lt source_limit (length given) ≡ false = grind (arith, nat_tests) in
+    rw (undecided, within, is) refl
+
+-- the text of a table that was given
+value-of : (given : List ℕ) (r : Result (Toc × ℕ) Stop) → given_table given ≡ r → given_value given ≡ after r (λ t. Ok (info_text t.0 t.1))
+unfolding given_value
+value-of given r e = ap (λ (x : Result (Toc × ℕ) Stop). after x (λ t. Ok (info_text t.0 t.1))) e
+
+-- the last read found the end
+pub last : (was mid new : Option (List ℕ)) (before then now : ℕ) (stream next : Stream) (count : ℕ) (rose-late rose : Type 0) (result : Result (Toc × ℕ) Stop) → (r : IsReading was mid before then stream count)
+    → ((piece : List ℕ) × FedSome next r.so-far.given piece mid new rose-late (Ok 0))
+    → ((given : List ℕ) → Fed next given → length given ≡ count → decided (toc_of given) ≡ Ok tt → EndsAs given result)
+    → (given : List ℕ) × GivenTo (λ (t : Toc × ℕ). t) given_table was new rose result given
+last was mid new before then now stream next count rose-late rose result r f ends =
+    let piece : List ℕ = f.0 in
+    let g : List ℕ = r.so-far.given ++ piece in
+    let long : length g ≡ count = (let a = length-append r.so-far.given piece in let b = r.so-far.long in let c = f.1.1 in omega arith) in
+    (g, at-end was new rose g result (Consumes-trans was mid new r.so-far.given piece r.so-far.consumed f.1.0) (f.1.2 refl) (ends g f.1.3 long f.1.4))
+
+-- a stop of the table is one of its text
+pub text-stopped : {A : Type 0} (view : A → List ℕ) (was left : Option (List ℕ)) (rose : Type 0) (given : List ℕ) (s : Stop) → GivenTo (λ (t : Toc × ℕ). t) given_table was left rose (Err s) given
+    → GivenTo view given_value was left rose (Err s) given
+text-stopped view was left rose given (stop.NotFip f) g = (g.0, g.1, value-of given (Err (stop.NotFip f)) g.2)
+text-stopped view was left rose given stop.FileFault g = g
+text-stopped view was left rose given stop.NoMemory g = g
+text-stopped view was left rose given stop.Usage g = (g.0, value-of given (Err stop.Usage) g.1)
+text-stopped view was left rose given stop.SinkFault g = g
+text-stopped view was left rose given (stop.NoSuchEntry guid) g = (g.0, value-of given (Err (stop.NoSuchEntry guid)) g.1)
+text-stopped view was left rose given (stop.NotPacked f) g = (g.0, value-of given (Err (stop.NotPacked f)) g.1)
+text-stopped view was left rose given (stop.NoManifest f) g = (g.0, value-of given (Err (stop.NoManifest f)) g.1)
+text-stopped view was left rose given stop.TooLong g = (g.0, value-of given (Err stop.TooLong) g.1)
+
+pub text-made : (was left : Option (List ℕ)) (rose : Type 0) (given : List ℕ) (t : Toc × ℕ) (text : List ℕ) → GivenTo (λ (t : Toc × ℕ). t) given_table was left rose (Ok t) given
+    → text ≡ info_text t.0 t.1 → Consumes was left given × IsAtEnd left × (given_value given ≡ Ok text)
+text-made was left rose given t text g e = (g.0, g.1, value-of given (Ok t) g.2 ∙ ap (λ (l : List ℕ). Ok l) (sym e))

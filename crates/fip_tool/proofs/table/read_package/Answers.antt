@@ -1,0 +1,20 @@
+use Rattle.std.proofs.Common.{◌≡◌, ◌∙◌, ap, sym}
+use Rattle.fip_tool.proofs.Tables.{gives-err, size-err, sized, table-ok, table-stop, tells}
+use Rattle.fip_tool.proofs.table.read_package.Goals as goal
+
+pub returns-in-Err-clause-told : goal.returns-in-Err-clause-told
+returns-in-Err-clause-told g c = λ told e.
+    gives-err (λ n. n) (λ t. t) _ _ _ _ c.in-Err.stop (λ r. r) (size-err told c.args.name.now _) (c.in-Err.ensures.told told e)
+
+pub returns-in-Ok-read_toc-clause-told : goal.returns-in-Ok-read_toc-clause-told
+returns-in-Ok-read_toc-clause-told g c = λ told e.
+    let s = sized told c.args.name.now c.in-Ok.size (c.in-Ok.ensures.told told e) in
+    let is = c.in-Ok-read_toc.ensures.told s.0 (tells _ told c.args.name.now s.0 (c.size_of.ensures.reads.same ∙ e) s.1) in
+    table-ok told c.args.name.now s.0 c.in-Ok.size c.in-Ok-read_toc.toc s.1 s.2 is
+
+pub returns-in-Err-read_toc-clause-told : goal.returns-in-Err-read_toc-clause-told
+returns-in-Err-read_toc-clause-told g c = λ told e.
+    let s = sized told c.args.name.now c.in-Ok.size (c.in-Ok.ensures.told told e) in
+    rw c.stop_of.ensures
+    (table-stop told c.args.name.now s.0 _ _ _ _ c.in-Err-read_toc.stop c.size_of.ensures.reads.later (c.size_of.ensures.reads.same ∙ e) s.1
+    (c.in-Err-read_toc.ensures.told s.0 (tells _ told c.args.name.now s.0 (c.size_of.ensures.reads.same ∙ e) s.1)) c.in-Err-read_toc.ensures.cause.failed)

@@ -1,0 +1,40 @@
+use Rattle.std.proofs.Common.{◌≡◌, ◌∙◌, [], Ok, Err, Some, refl, sym, ap}
+use Rattle.base_core.specs.Counts.{Rose}
+use Rattle.fip_tool.proofs.Ending.{done, ends, reported-later}
+use Rattle.fip_tool.proofs.SourceEnds.{reported-read, reported-two}
+use Rattle.fip_tool.proofs.Tables.{rose-from, rose-until}
+use Rattle.fip_tool.specs.Tool.{no_files}
+use Rattle.fip_tool.specs.declared.stops.Stop.{Stop}
+use Rattle.fip_tool.proofs.top.fip_top.Goals as goal
+
+pub returns-in-Ok-clause-told : goal.returns-in-Ok-clause-told
+returns-in-Ok-clause-told g c = λ told e other. (Ok tt, refl, c.in-Ok.ensures.told told e other)
+
+pub returns-in-Err-clause-told : goal.returns-in-Err-clause-told
+returns-in-Err-clause-told g c = λ told e other. (
+  Err c.report.result,
+  c.status.ensures,
+  ends _ told _ _ _ _ _ _ (Rose (g.O.Sink.faults c.args.sink.now) (g.O.Sink.faults c.report.new.sink)) (λ r. rose-until _ _ _ r c.report.ensures.later) c.in-Err.stop c.report.result
+      (c.in-Err.ensures.told told e other) (reported-later _ _ _ _ _ _ (λ r. rose-from _ _ _ c.run.ensures.later r) c.report.ensures.reported),
+)
+
+pub returns-in-Ok-clause-source : goal.returns-in-Ok-clause-source
+returns-in-Ok-clause-source g c = λ e.
+    let s = c.in-Ok.ensures.source e in
+    (s.0, s.1, Ok tt, refl, s.2, s.3)
+
+pub returns-in-Err-clause-source : goal.returns-in-Err-clause-source
+returns-in-Err-clause-source g c = λ e.
+    let s = c.in-Err.ensures.source e in
+    let r = reported-later _ _ _ (Rose (g.O.Sink.faults c.args.sink.now) (g.O.Sink.faults c.report.new.sink)) c.in-Err.stop c.report.result (λ r. rose-from _ _ _ c.run.ensures.later r) c.report.ensures.reported in (
+      s.0,
+      s.1,
+      Err c.report.result,
+      c.status.ensures,
+      reported-read _ _ _ _ _ s.0 c.in-Err.stop c.report.result s.2 r,
+      ends _ no_files (Some no_files) (g.O.Sink.taken c.args.sink.now) _ _ (Rose (g.I.Source.faults c.args.source.now) (g.I.Source.faults c.run.new.source)) _ _ (λ r. rose-until _ _ _ r c.report.ensures.later) c.in-Err.stop c.report.result s.3 r,
+    )
+
+pub returns-in-Err-clause-cause : goal.returns-in-Err-clause-cause
+returns-in-Err-clause-cause g c = λ two untold.
+    c.in-Err.ensures.cause (ap (λ (x : Stop). Err x) (reported-two (Some []) (Some []) _ _ _ [] c.in-Err.stop c.report.result c.report.ensures.reported (sym c.status.ensures ∙ two))) untold

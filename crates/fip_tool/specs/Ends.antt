@@ -1,0 +1,99 @@
+-- How the tool ends: its status, and the line that tells why.
+use Rattle.std.specs.Prelude.{◌≡◌, ◌⊎◌, ℕ, List, [], ◌∷◌, ◌++◌, Option, Some, None, Result, Ok, Err, take, drop, codes, decimal}
+use Rattle.std.specs.Io.KnownBytes.{Appends}
+use Rattle.host_io.specs.Contents.{Directory}
+use Rattle.base_core.specs.Guid.{guid_text}
+use Rattle.fwu_model.specs.Text.{fip_fault_text}
+use Rattle.fwu_model.specs.declared.kinds.ManifestFault.{ManifestFault}
+use Rattle.fwu_model.specs.declared.kinds.ManifestFault.TheVariants as manifest
+use Rattle.fip_tables.specs.declared.faults.PackFault.{PackFault}
+use Rattle.fip_tables.specs.declared.faults.PackFault.TheVariants as pack
+use Rattle.fip_tool.specs.Steps.{Outcome, Makes, Refuses, Are, AreUpTo, steps_of, printed, written}
+use Rattle.fip_tool.specs.declared.stops.Stop.{Stop}
+use Rattle.fip_tool.specs.declared.stops.Stop.TheVariants as stop
+
+abbrev pub pack_fault_text : PackFault → List ℕ
+pack_fault_text pack.TooMany = codes "too-many"
+pack_fault_text (pack.Duplicate i) = codes "duplicate " ++ decimal i
+pack_fault_text (pack.NilGuid i) = codes "nil-uuid " ++ decimal i
+pack_fault_text pack.BadAlign = codes "bad-align"
+pack_fault_text pack.TooLarge = codes "too-large"
+
+-- of the faults of a manifest's rows; the others are those of reading one
+abbrev pub manifest_fault_text : ManifestFault → List ℕ
+manifest_fault_text manifest.VersionTooHigh = codes "version-too-high"
+manifest_fault_text manifest.BadCount = codes "bad-count"
+manifest_fault_text f = codes "too-large"
+
+-- the line of a stop. Nothing is printed where the sink takes no more, or for want of memory
+unfoldable pub stop_line : Stop → List ℕ
+stop_line stop.Usage = codes "usage: fip info|create|update|remove|unpack|manifest\n"
+stop_line stop.FileFault = codes "file-fault\n"
+stop_line stop.SinkFault = []
+stop_line (stop.NotFip f) = codes "not-fip " ++ fip_fault_text f ++ codes "\n"
+stop_line (stop.NoSuchEntry guid) = codes "no-entry " ++ guid_text guid ++ codes "\n"
+stop_line (stop.NotPacked f) = codes "pack " ++ pack_fault_text f ++ codes "\n"
+stop_line (stop.NoManifest f) = codes "manifest " ++ manifest_fault_text f ++ codes "\n"
+stop_line stop.TooLong = codes "too-long\n"
+stop_line stop.NoMemory = []
+
+abbrev pub status_number : Stop → ℕ
+status_number stop.Usage = 1
+status_number stop.FileFault = 2
+status_number stop.SinkFault = 3
+status_number (stop.NotFip f) = 4
+status_number (stop.NoSuchEntry guid) = 5
+status_number (stop.NotPacked f) = 6
+status_number (stop.NoManifest f) = 6
+status_number stop.TooLong = 7
+status_number stop.NoMemory = 9
+
+abbrev pub exit_status : Result (Unit {0}) Stop → ℕ
+exit_status (Ok done) = 0
+exit_status (Err s) = status_number s
+
+-- a stop that has its cause: it is what the files and words give, or a file failed
+abbrev pub HasCauseOf : Outcome → Type 0 → Stop → Type 0
+HasCauseOf outcome files-rose s = (outcome ≡ Refuses s) ⊎ ((s ≡ stop.FileFault) × files-rose)
+
+-- the files after the first n steps, but for one whose writing failed
+abbrev pub StandAfter : ℕ → Outcome → Directory → Option Directory → Type 0 → Type 0
+StandAfter n outcome files now files-rose =
+    Are now (written (take n (steps_of outcome)) files)
+    ⊎ (files-rose × AreUpTo (drop n (steps_of outcome)) now (written (take n (steps_of outcome)) files))
+
+-- a front of the text of all steps, or of that of the first n and a stop's line
+abbrev pub SaidFront : ℕ → Outcome → Option (List ℕ) → Option (List ℕ) → Type 0 → Type 0
+SaidFront n outcome was text files-rose =
+    ((k : ℕ) × Appends was text (take k (printed (steps_of outcome))))
+    ⊎ ((s : Stop) × HasCauseOf outcome files-rose s × (k : ℕ) × Appends was text (take k (printed (take n (steps_of outcome)) ++ stop_line s)))
+
+-- How the tool ended. The files were `files` and the told contents are `now`; the sink's text was `was` and is `text`.
+abbrev pub EndedBy : Outcome → Directory → Option Directory → Option (List ℕ) → Option (List ℕ) → Type 0 → Type 0 → Result (Unit {0}) Stop → Type 0
+EndedBy outcome files now was text files-rose sink-rose (Ok done) =
+    (outcome ≡ Makes (steps_of outcome)) × Are now (written (steps_of outcome) files) × Appends was text (printed (steps_of outcome))
+EndedBy outcome files now was text files-rose sink-rose (Err stop.NoMemory) =
+    (n : ℕ) × StandAfter n outcome files now files-rose × SaidFront n outcome was text files-rose
+EndedBy outcome files now was text files-rose sink-rose (Err stop.SinkFault) =
+    sink-rose × (n : ℕ) × StandAfter n outcome files now files-rose × SaidFront n outcome was text files-rose
+EndedBy outcome files now was text files-rose sink-rose (Err stop.FileFault) =
+    HasCauseOf outcome files-rose stop.FileFault × (n : ℕ) × AreUpTo (drop n (steps_of outcome)) now (written (take n (steps_of outcome)) files)
+    × Appends was text (printed (take n (steps_of outcome)) ++ stop_line stop.FileFault)
+EndedBy outcome files now was text files-rose sink-rose (Err s) = (outcome ≡ Refuses s) × Are now files × Appends was text (stop_line s)
+
+abbrev pub Ended : Outcome → Directory → Option Directory → Option (List ℕ) → Option (List ℕ) → Type 0 → Type 0 → ℕ → Type 0
+Ended outcome files now was text files-rose sink-rose status =
+    (result : Result (Unit {0}) Stop) × (status ≡ exit_status result) × EndedBy outcome files now was text files-rose sink-rose result
+
+-- what the line of a stop leaves, and the stop then
+abbrev pub Told : Option (List ℕ) → Option (List ℕ) → Type 0 → Stop → Stop → Type 0
+Told was text sink-rose s now =
+    ((now ≡ s) × Appends was text (stop_line s))
+    ⊎ ((now ≡ stop.SinkFault) × sink-rose × (k : ℕ) × Appends was text (take k (stop_line s)))
+    ⊎ ((now ≡ stop.NoMemory) × (text ≡ was))
+
+-- nothing is told where the sink takes no more, or for want of memory
+abbrev pub Reported : Option (List ℕ) → Option (List ℕ) → Type 0 → Stop → Stop → Type 0
+Reported was text sink-rose stop.SinkFault now = (now ≡ stop.SinkFault) × (text ≡ was)
+Reported was text sink-rose stop.NoMemory now = (now ≡ stop.NoMemory) × (text ≡ was)
+Reported was text sink-rose s now = Told was text sink-rose s now

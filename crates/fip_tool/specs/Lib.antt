@@ -1,0 +1,5 @@
+pub mod Steps
+pub mod Lines
+pub mod Tool
+pub mod Source
+pub mod Ends

@@ -1,0 +1,100 @@
+-- What a command does, and what is there after it.
+use Rattle.std.specs.Prelude.{◌≡◌, ◌≢◌, ◌⊎◌, ◌≤◌, ⊤, ℕ, List, [], ◌∷◌, ◌++◌, Option, Some, None, Result, Ok, Err, if◌then◌else◌, take, drop}
+use Rattle.std.specs.Str.{bytes_eq}
+use Rattle.std.specs.Io.KnownBytes.{Appends}
+use Rattle.base_core.specs.Counts.{Rose}
+use Rattle.host_io.specs.Contents.{Directory}
+use Rattle.fip_tool.specs.declared.stops.Stop.{Stop}
+use Rattle.fip_tool.specs.declared.stops.Stop.TheVariants.{FileFault, SinkFault, NoMemory}
+
+-- a file is written whole, or a text is printed
+pub data Step : Type 0 where
+  Writes : List ℕ → List ℕ → Step
+  Prints : List ℕ → Step
+
+-- what a command does in order, or why it does nothing
+pub data Outcome : Type 0 where
+  Makes : List Step → Outcome
+  Refuses : Stop → Outcome
+
+abbrev pub steps_of : Outcome → List Step
+steps_of (Makes steps) = steps
+steps_of (Refuses stop) = []
+
+-- the files with one written over
+abbrev pub with_file : List ℕ → List ℕ → Directory → Directory
+with_file name bytes files other = if bytes_eq name other then Some bytes else files other
+
+-- the files after these steps
+abbrev pub written : List Step → Directory → Directory
+written [] files = files
+written (Writes name bytes ∷ steps) files = written steps (with_file name bytes files)
+written (Prints text ∷ steps) files = written steps files
+
+-- the text that these steps print
+abbrev pub printed : List Step → List ℕ
+printed [] = []
+printed (Writes name bytes ∷ steps) = printed steps
+printed (Prints text ∷ steps) = text ++ printed steps
+
+-- the told contents are these
+abbrev pub Are : Option Directory → Directory → Type 0
+Are None files = ⊥
+Are (Some now) files = (name : List ℕ) → now name ≡ files name
+
+abbrev pub AreBut : List ℕ → Option Directory → Directory → Type 0
+AreBut but None files = ⊥
+AreBut but (Some now) files = (name : List ℕ) → name ≢ but → now name ≡ files name
+
+-- and where the first of these steps is a writing, it failed, and nothing is said of its file
+abbrev pub AreUpTo : List Step → Option Directory → Directory → Type 0
+AreUpTo [] now files = Are now files
+AreUpTo (Writes name bytes ∷ steps) now files = AreBut name now files
+AreUpTo (Prints text ∷ steps) now files = Are now files
+
+-- What was done of a command, by its result. The files were `files` and the told contents are `now`; the sink's text was
+-- `was` and is `text`. Nothing but the command's steps was done, in their order.
+abbrev pub Did : Outcome → Directory → Option Directory → Option (List ℕ) → Option (List ℕ) → Type 0 → Type 0 → Result (Unit {0}) Stop → Type 0
+Did outcome files now was text files-rose sink-rose (Ok done) =
+    (outcome ≡ Makes (steps_of outcome)) × Are now (written (steps_of outcome) files) × Appends was text (printed (steps_of outcome))
+Did outcome files now was text files-rose sink-rose (Err NoMemory) =
+    (n : ℕ) × Are now (written (take n (steps_of outcome)) files) × Appends was text (printed (take n (steps_of outcome)))
+Did outcome files now was text files-rose sink-rose (Err SinkFault) =
+    sink-rose × (n : ℕ) × Are now (written (take n (steps_of outcome)) files) × (k : ℕ) × Appends was text (take k (printed (steps_of outcome)))
+Did outcome files now was text files-rose sink-rose (Err FileFault) =
+    ((outcome ≡ Refuses FileFault) ⊎ files-rose) × (n : ℕ) × AreUpTo (drop n (steps_of outcome)) now (written (take n (steps_of outcome)) files)
+    × Appends was text (printed (take n (steps_of outcome)))
+Did outcome files now was text files-rose sink-rose (Err stop) = (outcome ≡ Refuses stop) × Are now files × Appends was text []
+
+-- the outcome of a command whose steps are made of a value
+abbrev pub outcome_by : {X : Type 0} → (X → List Step) → Result X Stop → Outcome
+outcome_by steps (Ok x) = Makes (steps x)
+outcome_by steps (Err s) = Refuses s
+
+-- What a part of a command answers, of a value that the files determine.
+abbrev pub Gives : {X Y : Type 0} → (X → Y) → Type 0 → Result Y Stop → Result X Stop → Type 0
+Gives view files-rose value (Ok x) = value ≡ Ok (view x)
+Gives view files-rose value (Err NoMemory) = ⊤
+Gives view files-rose value (Err SinkFault) = ⊥
+Gives view files-rose value (Err FileFault) = (value ≡ Err FileFault) ⊎ files-rose
+Gives view files-rose value (Err stop) = value ≡ Err stop
+
+-- a part that reads alone answers that a file failed only where faults rose, or told files lack one
+pub record ReadsOnly {X : Type 0} (told now : Option Directory) (before after : ℕ) (result : Result X Stop) : Type 0 where
+  pub same : now ≡ told
+  pub later : before ≤ after
+  pub cause : result ≡ Err FileFault → told ≡ None → Rose before after
+
+-- what the sink took of a text
+abbrev pub Printed : Option (List ℕ) → Option (List ℕ) → Type 0 → List ℕ → Result (Unit {0}) Stop → Type 0
+Printed was text sink-rose piece (Ok done) = Appends was text piece
+Printed was text sink-rose piece (Err SinkFault) = sink-rose × (k : ℕ) × Appends was text (take k piece)
+Printed was text sink-rose piece (Err NoMemory) = text ≡ was
+Printed was text sink-rose piece (Err stop) = ⊥
+
+-- what the writing of a file leaves
+abbrev pub Written : Directory → Option Directory → Type 0 → List ℕ → List ℕ → Result (Unit {0}) Stop → Type 0
+Written files now files-rose name bytes (Ok done) = Are now (with_file name bytes files)
+Written files now files-rose name bytes (Err FileFault) = files-rose × AreBut name now files
+Written files now files-rose name bytes (Err NoMemory) = Are now files
+Written files now files-rose name bytes (Err stop) = ⊥

@@ -1,0 +1,247 @@
+-- What each command of `fip` does, by the bytes of its files: the written files and the printed text.
+use Rattle.std.specs.Prelude.{◌≡◌, ◌⊎◌, ℕ, ◌+◌, Bool, not, ◌&&◌, ◌||◌, ◌==◌, List, [], ◌∷◌, ◌++◌, Option, Some, None, Result, Ok, Err, if◌then◌else◌, length, map, filter, find, nat_lt, option_map, option_and_then}
+use Rattle.std.specs.List.{list_any}
+use Rattle.std.specs.Io.KnownBytes.{Consumes, IsAtEnd}
+use Rattle.base_core.specs.Bytes.{same_bytes}
+use Rattle.sha2.specs.Sha256.{sha256}
+use Rattle.host_io.specs.Contents.{Directory}
+use Rattle.fwu_model.specs.Package.{Entry, Part, Toc, has_guid, packed, payload, toc_of}
+use Rattle.fwu_model.specs.Manifest.{Row, manifest_bytes}
+use Rattle.fwu_model.specs.declared.kinds.FipFault.{FipFault}
+use Rattle.fwu_model.specs.declared.kinds.ManifestFault.TheVariants as fault
+use Rattle.fip_tables.specs.Answers.{decided}
+use Rattle.fip_tables.specs.Packing.{pack_fault}
+use Rattle.fip_tables.specs.declared.faults.PackFault.{PackFault}
+use Rattle.fip_tables.specs.declared.toc.TocStop.{TocStop}
+use Rattle.fip_tables.specs.declared.toc.TocStop.TheVariants as toc
+use Rattle.fip_words.specs.Order.{Asked, info, info_of_source, create, update, remove, unpack, manifest}
+use Rattle.fip_words.specs.Values.{NamedFile, NamedImage, each}
+use Rattle.fip_tool.specs.Lines.{info_text, manifest_line, packed_line, unpacked_line, unpacked_name}
+use Rattle.fip_tool.specs.Ends.{EndedBy, exit_status}
+use Rattle.fip_tool.specs.Steps.{Did, Outcome, Makes, Refuses, Step, Writes, Prints, outcome_by}
+use Rattle.fip_tool.specs.declared.stops.Stop.{Stop}
+use Rattle.fip_tool.specs.declared.stops.Stop.TheVariants as stop
+
+-- a value, and then what is made of it
+abbrev pub after : {X Y : Type 0} → Result X Stop → (X → Result Y Stop) → Result Y Stop
+after (Ok x) f = f x
+after (Err s) f = Err s
+
+abbrev pub there : {X : Type 0} → Option X → Result X Stop
+there None = Err stop.FileFault
+there (Some x) = Ok x
+
+-- the table of a package
+abbrev pub table_of : Result Toc FipFault → Result Toc Stop
+table_of (Ok t) = Ok t
+table_of (Err f) = Err (stop.NotFip f)
+
+-- the stop of a table that was not read
+abbrev pub stopped_by : TocStop → Stop
+stopped_by (toc.Fault f) = stop.NotFip f
+stopped_by toc.ReadFailed = stop.FileFault
+
+-- ---- what files give
+
+-- a package's bytes, and its table
+abbrev pub package_in : Directory → List ℕ → Result (List ℕ × Toc) Stop
+package_in files name = after (there (files name)) (λ bytes. after (table_of (toc_of bytes)) (λ t. Ok (bytes, t)))
+
+abbrev pub part_in : Directory → NamedFile → Option Part
+part_in files p = option_map (λ bytes. record { guid = p.guid; flags = 0; bytes = bytes }) (files p.file)
+
+-- the parts of named files
+abbrev pub parts_in : Directory → List NamedFile → Result (List Part) Stop
+parts_in files parts = there (each (part_in files) parts)
+
+-- a package's table, and how many bytes it has
+unfoldable pub sized_table : Directory → List ℕ → Result (Toc × ℕ) Stop
+sized_table files name = after (package_in files name) (λ p. Ok (p.1, length p.0))
+
+-- how many bytes a file has
+unfoldable pub size_in : Directory → List ℕ → Result ℕ Stop
+size_in files name = after (there (files name)) (λ bytes. Ok (length bytes))
+
+-- the bytes of a file
+unfoldable pub file_value : Directory → List ℕ → Result (List ℕ) Stop
+file_value files name = there (files name)
+
+-- ---- info
+
+unfoldable pub info_value : Directory → List ℕ → Result (List ℕ) Stop
+info_value files name = after (sized_table files name) (λ t. Ok (info_text t.0 t.1))
+
+abbrev pub prints : List ℕ → List Step
+prints text = Prints text ∷ []
+
+-- the most bytes that are read of the source
+abbrev pub source_limit : ℕ
+source_limit = 4294967296
+
+abbrev pub unless_decided : {X : Type 0} → Result (Unit {0}) FipFault → Result X Stop → Result X Stop
+unless_decided (Ok none) value = value
+unless_decided (Err f) value = Err (stop.NotFip f)
+
+-- of the bytes that the source gave: a fault that no further bytes mend comes first, and then too many bytes
+unfoldable pub given_table : List ℕ → Result (Toc × ℕ) Stop
+given_table given =
+    unless_decided (decided (toc_of given))
+    (if nat_lt source_limit (length given) then Err stop.TooLong
+    else after (table_of (toc_of given)) (λ t. Ok (t, length given)))
+
+unfoldable pub given_value : List ℕ → Result (List ℕ) Stop
+given_value given = after (given_table given) (λ t. Ok (info_text t.0 t.1))
+
+-- What a part of a command answers of what the source gave. The source was read to its end but where a fault was decided, or
+-- too many bytes came.
+abbrev pub GivenTo : {X Y : Type 0} → (X → Y) → (List ℕ → Result Y Stop) → Option (List ℕ) → Option (List ℕ) → Type 0 → Result X Stop → List ℕ → Type 0
+GivenTo view value was left source-rose (Ok x) given = Consumes was left given × IsAtEnd left × (value given ≡ Ok (view x))
+GivenTo view value was left source-rose (Err stop.FileFault) given = Consumes was left given × source-rose
+GivenTo view value was left source-rose (Err stop.NoMemory) given = Consumes was left given
+GivenTo view value was left source-rose (Err stop.SinkFault) given = ⊥
+GivenTo view value was left source-rose (Err (stop.NotFip f)) given =
+    Consumes was left given × (IsAtEnd left ⊎ (decided (toc_of given) ≡ Err f)) × (value given ≡ Err (stop.NotFip f))
+GivenTo view value was left source-rose (Err s) given = Consumes was left given × (value given ≡ Err s)
+
+-- ---- packages that are made
+
+abbrev pub unless_fault : {X : Type 0} → Option PackFault → X → Result X Stop
+unless_fault None made = Ok made
+unless_fault (Some f) made = Err (stop.NotPacked f)
+
+-- what is packed: how many entries, and the bytes; or the first fault
+unfoldable pub pack_value : ℕ → ℕ → List Part → ℕ → Result (ℕ × List ℕ) Stop
+pack_value serial flags parts align = unless_fault (pack_fault parts align) (length parts, packed serial flags parts align)
+
+-- the serial number of a package that is new
+abbrev pub new_serial : ℕ
+new_serial = 0x12345678
+
+unfoldable pub create_value : Directory → ℕ → List NamedFile → Result (ℕ × List ℕ) Stop
+create_value files align parts = after (parts_in files parts) (λ ps. pack_value new_serial 0 ps align)
+
+-- the first type that the package hasn't
+abbrev pub first_missing : Toc → List (List ℕ) → Option (List ℕ)
+first_missing t guids = find (λ guid. not (list_any (has_guid guid) t.entries)) guids
+
+abbrev pub unless_missing : {X : Type 0} → Option (List ℕ) → Result X Stop → Result X Stop
+unless_missing None value = value
+unless_missing (Some guid) value = Err (stop.NoSuchEntry guid)
+
+-- an entry's part, with the new payload where there is one
+abbrev pub new_bytes : Option Part → List ℕ → List ℕ
+new_bytes None old = old
+new_bytes (Some p) old = p.bytes
+
+abbrev pub updated_part : List ℕ → List Part → Entry → Part
+updated_part bytes new e = record { guid = e.guid; flags = e.flags; bytes = new_bytes (find (λ p. same_bytes p.guid e.guid) new) (payload bytes e) }
+
+-- serial number, flags and order stay
+unfoldable pub update_value : Directory → ℕ → List ℕ → List NamedFile → Result (ℕ × List ℕ) Stop
+update_value files align from parts =
+    after (package_in files from) (λ p. unless_missing (first_missing p.1 (map (λ q. q.guid) parts))
+    (after (parts_in files parts) (λ new. pack_value p.1.serial p.1.flags (map (updated_part p.0 new) p.1.entries) align)))
+
+abbrev pub kept_part : List ℕ → Entry → Part
+kept_part bytes e = record { guid = e.guid; flags = e.flags; bytes = payload bytes e }
+
+abbrev pub is_named : List (List ℕ) → Entry → Bool
+is_named guids e = list_any (λ guid. same_bytes guid e.guid) guids
+
+unfoldable pub remove_value : Directory → ℕ → List ℕ → List (List ℕ) → Result (ℕ × List ℕ) Stop
+remove_value files align from guids =
+    after (package_in files from) (λ p. unless_missing (first_missing p.1 guids)
+    (pack_value p.1.serial p.1.flags (map (kept_part p.0) (filter (λ e. not (is_named guids e)) p.1.entries)) align))
+
+abbrev pub packs : List ℕ → ℕ × List ℕ → List Step
+packs out made = Writes out made.1 ∷ Prints (packed_line made.0 (length made.1)) ∷ []
+
+-- ---- payloads that are written
+
+-- the entries that are named, or all where none is named
+abbrev pub chosen : List (List ℕ) → List Entry → List Entry
+chosen [] entries = entries
+chosen (guid ∷ guids) entries = filter (is_named (guid ∷ guids)) entries
+
+abbrev pub unpack_steps : List ℕ → List ℕ → List Entry → List Step
+unpack_steps prefix bytes [] = []
+unpack_steps prefix bytes (e ∷ entries) =
+    Writes (unpacked_name prefix e.guid) (payload bytes e) ∷ Prints (unpacked_line prefix e) ∷ unpack_steps prefix bytes entries
+
+unfoldable pub unpack_value : Directory → List ℕ → List (List ℕ) → Result (List ℕ × List Entry) Stop
+unpack_value files from guids =
+    after (package_in files from) (λ p. unless_missing (first_missing p.1 guids) (Ok (p.0, chosen guids p.1.entries)))
+
+-- ---- manifests
+
+-- an image that a manifest is made of
+pub record Image : Type 0 where
+  pub guid : List ℕ
+  pub version : ℕ
+  pub bytes : List ℕ
+
+abbrev pub image_in : Directory → NamedImage → Option Image
+image_in files i = option_map (λ bytes. record { guid = i.guid; version = i.version; bytes = bytes }) (files i.file)
+
+-- the longest image that a manifest may have, 1 MiB
+abbrev pub image_limit : ℕ
+image_limit = 1048576
+
+-- what a manifest says of an image that is short enough
+unfoldable pub image_row : Image → Option Row
+image_row i =
+    if nat_lt image_limit (length i.bytes) then None
+    else Some (record { guid = i.guid; size = length i.bytes; version = i.version; digest = sha256 i.bytes })
+
+abbrev pub of_rows : ℕ → Option (List Row) → Result (ℕ × List ℕ) Stop
+of_rows security None = Err (stop.NoManifest fault.TooLarge)
+of_rows security (Some rows) = Ok (length rows, manifest_bytes (record { security = security; rows = rows }))
+
+unfoldable pub manifest_value : Directory → ℕ → List NamedImage → Result (ℕ × List ℕ) Stop
+manifest_value files security named =
+    after (there (each (image_in files) named)) (λ images.
+    if (length images == 0) || nat_lt 15 (length images) then Err (stop.NoManifest fault.BadCount)
+    else of_rows security (each image_row images))
+
+abbrev pub writes_manifest : List ℕ → ℕ → ℕ × List ℕ → List Step
+writes_manifest out security made = Writes out made.1 ∷ Prints (manifest_line made.0 (length made.1) security) ∷ []
+
+-- ---- commands
+
+-- what the words ask for, done with these files
+abbrev pub command_outcome : Asked → Directory → Outcome
+command_outcome (info file) files = outcome_by prints (info_value files file)
+command_outcome info_of_source files = Refuses stop.Usage
+command_outcome (create align out parts) files = Refuses stop.Usage
+command_outcome (update align from out parts) files = Refuses stop.Usage
+command_outcome (remove align from out names) files = Refuses stop.Usage
+command_outcome (unpack from prefix names) files = Refuses stop.Usage
+command_outcome (manifest out security rows) files = Refuses stop.Usage
+
+abbrev pub outcome_of : Option Asked → Directory → Outcome
+outcome_of None files = Refuses stop.Usage
+outcome_of (Some asked) files = command_outcome asked files
+
+-- no files at all
+abbrev pub no_files : Directory
+no_files name = None
+
+-- The source gave these bytes. All was read at status 0, and where bytes that have no lasting fault are no package.
+abbrev pub IsReadFor : Result (Unit {0}) Stop → Option (List ℕ) → Option (List ℕ) → List ℕ → Type 0
+IsReadFor (Ok done) was left given = Consumes was left given × IsAtEnd left
+IsReadFor (Err (stop.NotFip f)) was left given = Consumes was left given × (IsAtEnd left ⊎ (decided (toc_of given) ≡ Err f))
+IsReadFor (Err s) was left given = Consumes was left given
+
+-- What was done of a listing of the source, by its result. No file was touched.
+abbrev pub ReadSource : Result (Unit {0}) Stop → Option Directory → Option Directory → Option (List ℕ) → Option (List ℕ)
+    → Option (List ℕ) → Option (List ℕ) → Type 0 → Type 0 → Type 0
+ReadSource result told now left-was left was text source-rose sink-rose =
+    (given : List ℕ) × (now ≡ told) × IsReadFor result left-was left given
+    × Did (outcome_by prints (given_value given)) no_files (Some no_files) was text source-rose sink-rose result
+
+-- and how the tool ended then
+abbrev pub EndedSource : ℕ → Option Directory → Option Directory → Option (List ℕ) → Option (List ℕ)
+    → Option (List ℕ) → Option (List ℕ) → Type 0 → Type 0 → Type 0
+EndedSource status told now left-was left was text source-rose sink-rose =
+    (given : List ℕ) × (now ≡ told) × (result : Result (Unit {0}) Stop) × (status ≡ exit_status result) × IsReadFor result left-was left given
+    × EndedBy (outcome_by prints (given_value given)) no_files (Some no_files) was text source-rose sink-rose result

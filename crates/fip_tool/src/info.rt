@@ -1,0 +1,41 @@
+//! `info`: what a package has.
+ghost use Rattle.std.specs.Prelude.{◌≡◌, ◌≤◌, List, Some, ℕ};
+ghost use Rattle.base_core.specs.Counts.{Rose};
+ghost use Rattle.host_io.specs.Contents.{Directory};
+ghost use Rattle.fip_tool.specs.Steps.{Gives, ReadsOnly};
+ghost use Rattle.fip_tool.specs.Tool.{GivenTo, given_value, info_value};
+
+use crate::lines::info_text;
+use crate::stops::Stop;
+use crate::table::{read_given, read_package};
+use host_io::{Files, Source};
+use std::alloc::Global;
+
+/// What is printed of a package in a file.
+pub fn file_info<H: Files>(alloc: Global, files: &mut H, name: &str) -> Result<Vec<u8>, Stop>
+    ensures told { (told : Directory) → H.contents files.old ≡ Some told
+        → Gives (λ text. text.items) (Rose (H.faults files.old) (H.faults files.new)) (info_value told name.now) result }
+    ensures reads { ReadsOnly (H.contents files.old) (H.contents files.new) (H.faults files.old) (H.faults files.new) result }
+{
+    match read_package(files, name) {
+        Ok((toc, size)) => match info_text(alloc, &toc, size) {
+            Ok(text) => Ok(text),
+            Err(_) => Err(Stop::NoMemory),
+        },
+        Err(stop) => Err(stop),
+    }
+}
+
+/// What is printed of the package that the source gives.
+pub fn source_info<I: Source>(alloc: Global, source: &mut I) -> Result<Vec<u8>, Stop>
+    ensures given { (given : List ℕ) × GivenTo (λ text. text.items) given_value (I.left source.old) (I.left source.new) (Rose (I.faults source.old) (I.faults source.new)) result given }
+    ensures later { I.faults source.old ≤ I.faults source.new }
+{
+    match read_given(source) {
+        Ok((toc, size)) => match info_text(alloc, &toc, size) {
+            Ok(text) => Ok(text),
+            Err(_) => Err(Stop::NoMemory),
+        },
+        Err(stop) => Err(stop),
+    }
+}

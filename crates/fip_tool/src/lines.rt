@@ -1,0 +1,119 @@
+//! The texts that the commands print.
+ghost use Rattle.std.specs.Prelude.{◌≡◌, ◌++◌, IfOk, OnOk, codes, decimal, flat_map, reverse};
+ghost use Rattle.base_core.specs.Guid.{guid_text};
+ghost use Rattle.fip_tool.specs.Lines as said;
+
+use base_core::{Guid, NoMemory};
+use fip_tables::{Entry, Toc};
+use itoa::Buffer;
+use std::alloc::Global;
+
+pub fn add(line: &mut Vec<u8>, piece: &[u8]) -> Result<(), NoMemory>
+    ensures { OnOk result (line.new.items ≡ line.old.items ++ piece.now) }
+{
+    line.extend_from_slice(piece)?;
+    Ok(())
+}
+
+pub fn add_number(line: &mut Vec<u8>, n: u64) -> Result<(), NoMemory>
+    ensures { OnOk result (line.new.items ≡ line.old.items ++ decimal n) }
+{
+    let mut digits = Buffer::new();
+    add(line, digits.format(n).as_bytes())
+}
+
+pub fn add_guid(line: &mut Vec<u8>, guid: &Guid) -> Result<(), NoMemory>
+    ensures { OnOk result (line.new.items ≡ line.old.items ++ guid_text guid.now) }
+{
+    let mut text = [0; 36];
+    guid.text(&mut text);
+    add(line, &text)
+}
+
+fn add_eight_digits(line: &mut Vec<u8>, n: u32) -> Result<(), NoMemory>
+    ensures { OnOk result (line.new.items ≡ line.old.items ++ said.eight_digits n) }
+{
+    let mut digits = [0; 8];
+    match hex::encode_to_slice(n.to_be_bytes().as_slice(), &mut digits) {
+        Ok(()) => add(line, &digits),
+        Err(_) => Err(NoMemory),
+    }
+}
+
+#[tactic(auto, unfolding(crate::specs::Lines::head_line))]
+fn head_line(alloc: Global, toc: &Toc, size: u64) -> Result<Vec<u8>, NoMemory>
+    ensures { IfOk result (λ line. line.items ≡ said.head_line toc.now size) }
+{
+    let mut line = Vec::from_slice(alloc, b"serial=")?;
+    add_eight_digits(&mut line, toc.serial)?;
+    add(&mut line, b" flags=")?;
+    add_number(&mut line, toc.flags)?;
+    add(&mut line, b" entries=")?;
+    add_number(&mut line, toc.entries.len() as u64)?;
+    add(&mut line, b" size=")?;
+    add_number(&mut line, size)?;
+    add(&mut line, b"\n")?;
+    Ok(line)
+}
+
+#[tactic(auto, unfolding(crate::specs::Lines::entry_line))]
+fn entry_line(alloc: Global, entry: &Entry) -> Result<Vec<u8>, NoMemory>
+    ensures { IfOk result (λ line. line.items ≡ said.entry_line entry.now) }
+{
+    let mut line = Vec::new(alloc);
+    add_guid(&mut line, &entry.guid)?;
+    add(&mut line, b" offset=")?;
+    add_number(&mut line, entry.offset)?;
+    add(&mut line, b" size=")?;
+    add_number(&mut line, entry.size)?;
+    add(&mut line, b" flags=")?;
+    add_number(&mut line, entry.flags)?;
+    add(&mut line, b"\n")?;
+    Ok(line)
+}
+
+/// What is printed of a package with this table, of so many bytes: a line for it, and one for each entry.
+#[tactic(auto, unfolding(crate::specs::Lines::info_text))]
+pub fn info_text(alloc: Global, toc: &Toc, size: u64) -> Result<Vec<u8>, NoMemory>
+    ensures { IfOk result (λ text. text.items ≡ said.info_text toc.now size) }
+{
+    let mut text = head_line(alloc, toc, size)?;
+    for entry in toc.entries.as_slice() {
+        let line = entry_line(alloc, entry)?;
+        add(&mut text, line.as_slice())?;
+    }
+    Ok(text)
+}
+
+/// The line of a package that was written.
+#[tactic(auto, unfolding(crate::specs::Lines::packed_line))]
+pub fn packed_line(alloc: Global, entries: u64, size: u64) -> Result<Vec<u8>, NoMemory>
+    ensures { IfOk result (λ line. line.items ≡ said.packed_line entries size) }
+{
+    let mut line = Vec::from_slice(alloc, b"packed entries=")?;
+    add_number(&mut line, entries)?;
+    add(&mut line, b" size=")?;
+    add_number(&mut line, size)?;
+    add(&mut line, b"\n")?;
+    Ok(line)
+}
+
+/// The line of a manifest that was written.
+#[tactic(auto, unfolding(crate::specs::Lines::manifest_line))]
+pub fn manifest_line(
+    alloc: Global,
+    rows: u64,
+    size: u64,
+    security: u32,
+) -> Result<Vec<u8>, NoMemory>
+    ensures { IfOk result (λ line. line.items ≡ said.manifest_line rows size security) }
+{
+    let mut line = Vec::from_slice(alloc, b"manifest rows=")?;
+    add_number(&mut line, rows)?;
+    add(&mut line, b" size=")?;
+    add_number(&mut line, size)?;
+    add(&mut line, b" security=")?;
+    add_number(&mut line, u64::from(security))?;
+    add(&mut line, b"\n")?;
+    Ok(line)
+}

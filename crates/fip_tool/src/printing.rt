@@ -1,0 +1,19 @@
+//! Texts for the sink.
+ghost use Rattle.std.specs.Prelude.{◌≤◌};
+ghost use Rattle.base_core.specs.Counts.{Rose};
+ghost use Rattle.fip_tool.specs.Steps.{Printed};
+
+use crate::stops::Stop;
+use host_io::{Sink, WriteStop};
+
+/// Prints a text.
+pub fn print<O: Sink>(sink: &mut O, text: &[u8]) -> Result<(), Stop>
+    ensures printed { Printed (O.taken sink.old) (O.taken sink.new) (Rose (O.faults sink.old) (O.faults sink.new)) text.now result }
+    ensures later { O.faults sink.old ≤ O.faults sink.new }
+{
+    match sink.put(text) {
+        Ok(()) => Ok(()),
+        Err(WriteStop::Failed) => Err(Stop::SinkFault),
+        Err(WriteStop::NoMemory) => Err(Stop::NoMemory),
+    }
+}

@@ -1,0 +1,113 @@
+//! The line that tells why a command ended before all was done.
+ghost use Rattle.std.specs.Prelude.{◌≡◌, ◌++◌, IfOk, codes, decimal};
+ghost use Rattle.base_core.specs.Guid.{guid_text};
+ghost use Rattle.fwu_model.specs.Text as text;
+ghost use Rattle.fip_tool.specs.Ends as said;
+
+use crate::lines::{add, add_guid, add_number};
+use crate::stops::Stop;
+use base_core::{Guid, NoMemory};
+use fip_tables::PackFault;
+use fwu_model::{FipFault, ManifestFault};
+use std::alloc::Global;
+
+fn word(alloc: Global, word: &[u8]) -> Result<Vec<u8>, NoMemory>
+    ensures { IfOk result (λ text. text.items ≡ word.now) }
+{
+    Ok(Vec::from_slice(alloc, word)?)
+}
+
+fn numbered(alloc: Global, word: &[u8], number: u32) -> Result<Vec<u8>, NoMemory>
+    ensures { IfOk result (λ text. text.items ≡ word.now ++ decimal number) }
+{
+    let mut text = Vec::from_slice(alloc, word)?;
+    add_number(&mut text, u64::from(number))?;
+    Ok(text)
+}
+
+fn fip_fault_text(alloc: Global, fault: FipFault) -> Result<Vec<u8>, NoMemory>
+    ensures { IfOk result (λ found. found.items ≡ text.fip_fault_text fault) }
+{
+    match fault {
+        FipFault::ShortHeader => word(alloc, b"short-header"),
+        FipFault::BadName => word(alloc, b"bad-name"),
+        FipFault::ZeroSerial => word(alloc, b"zero-serial"),
+        FipFault::NoEnd(i) => numbered(alloc, b"no-end ", i),
+        FipFault::TooMany => word(alloc, b"too-many"),
+        FipFault::Duplicate(i) => numbered(alloc, b"duplicate ", i),
+        FipFault::Beyond(i) => numbered(alloc, b"beyond ", i),
+    }
+}
+
+fn pack_fault_text(alloc: Global, fault: PackFault) -> Result<Vec<u8>, NoMemory>
+    ensures { IfOk result (λ found. found.items ≡ said.pack_fault_text fault) }
+{
+    match fault {
+        PackFault::TooMany => word(alloc, b"too-many"),
+        PackFault::Duplicate(i) => numbered(alloc, b"duplicate ", i),
+        PackFault::NilGuid(i) => numbered(alloc, b"nil-uuid ", i),
+        PackFault::BadAlign => word(alloc, b"bad-align"),
+        PackFault::TooLarge => word(alloc, b"too-large"),
+    }
+}
+
+// Of the faults of a manifest's rows. The others are those of reading a manifest.
+fn manifest_fault_text(alloc: Global, fault: ManifestFault) -> Result<Vec<u8>, NoMemory>
+    ensures { IfOk result (λ found. found.items ≡ said.manifest_fault_text fault) }
+{
+    match fault {
+        ManifestFault::VersionTooHigh => word(alloc, b"version-too-high"),
+        ManifestFault::BadCount => word(alloc, b"bad-count"),
+        _ => word(alloc, b"too-large"),
+    }
+}
+
+fn line_of(alloc: Global, word: &[u8], what: &[u8]) -> Result<Vec<u8>, NoMemory>
+    ensures { IfOk result (λ line. line.items ≡ word.now ++ what.now ++ codes "\n") }
+{
+    let mut line = Vec::from_slice(alloc, word)?;
+    add(&mut line, what)?;
+    add(&mut line, b"\n")?;
+    Ok(line)
+}
+
+fn no_entry_line(alloc: Global, guid: &Guid) -> Result<Vec<u8>, NoMemory>
+    ensures { IfOk result (λ line. line.items ≡ codes "no-entry " ++ guid_text guid.now ++ codes "\n") }
+{
+    let mut line = Vec::from_slice(alloc, b"no-entry ")?;
+    add_guid(&mut line, guid)?;
+    add(&mut line, b"\n")?;
+    Ok(line)
+}
+
+/// The line of a stop. It is empty where the sink takes no more, and for want of memory.
+#[tactic(auto, unfolding(crate::specs::Ends::stop_line))]
+pub fn stop_line(alloc: Global, stop: &Stop) -> Result<Vec<u8>, NoMemory>
+    ensures { IfOk result (λ line. line.items ≡ said.stop_line stop.now) }
+{
+    match stop {
+        Stop::Usage => word(
+            alloc,
+            b"usage: fip info|create|update|remove|unpack|manifest\n",
+        ),
+        Stop::FileFault => word(alloc, b"file-fault\n"),
+        Stop::SinkFault | Stop::NoMemory => Ok(Vec::new(alloc)),
+        Stop::NotFip(fault) => line_of(
+            alloc,
+            b"not-fip ",
+            fip_fault_text(alloc, *fault)?.as_slice(),
+        ),
+        Stop::NoSuchEntry(guid) => no_entry_line(alloc, guid),
+        Stop::NotPacked(fault) => line_of(
+            alloc,
+            b"pack ",
+            pack_fault_text(alloc, *fault)?.as_slice(),
+        ),
+        Stop::NoManifest(fault) => line_of(
+            alloc,
+            b"manifest ",
+            manifest_fault_text(alloc, *fault)?.as_slice(),
+        ),
+        Stop::TooLong => word(alloc, b"too-long\n"),
+    }
+}

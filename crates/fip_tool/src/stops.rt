@@ -1,0 +1,59 @@
+//! Why a command ended before all was done.
+
+use base_core::{Guid, NoMemory as NoMemoryFound};
+use fip_tables::PackFault;
+use fwu_model::{FipFault, ManifestFault};
+
+/// Why a command ended before all was done.
+#[derive(Clone, Copy, Debug, PartialEq, Eq)]
+pub enum Stop {
+    /// The words ask for nothing.
+    Usage,
+    /// A file, or the source, could not be read or written.
+    FileFault,
+    /// The sink took no more.
+    SinkFault,
+    /// A file is no package: its first fault.
+    NotFip(FipFault),
+    /// The package has no entry of a type that the words name: the first such.
+    NoSuchEntry(Guid),
+    /// The payloads fit no package: the first fault.
+    NotPacked(PackFault),
+    /// The images fit no manifest.
+    NoManifest(ManifestFault),
+    /// The source gave more than 4,294,967,296 bytes.
+    TooLong,
+    NoMemory,
+}
+
+impl From<NoMemoryFound> for Stop {
+    ghost use Rattle.std.specs.Prelude.{◌≡◌};
+    ghost use Rattle.fip_tool.specs.declared.stops.Stop.TheVariants as stop;
+
+    ghost from_gives = { λ found result. result ≡ stop.NoMemory };
+
+    fn from(_: NoMemoryFound) -> Stop {
+        Stop::NoMemory
+    }
+}
+
+impl Stop {
+    ghost use Rattle.std.specs.Prelude.{◌≡◌};
+    ghost use Rattle.fip_tool.specs.Ends.{status_number};
+
+    /// The exit status.
+    pub fn status(&self) -> u8
+        ensures { result ≡ status_number self.now }
+    {
+        match self {
+            Stop::Usage => 1,
+            Stop::FileFault => 2,
+            Stop::SinkFault => 3,
+            Stop::NotFip(_) => 4,
+            Stop::NoSuchEntry(_) => 5,
+            Stop::NotPacked(_) | Stop::NoManifest(_) => 6,
+            Stop::TooLong => 7,
+            Stop::NoMemory => 9,
+        }
+    }
+}

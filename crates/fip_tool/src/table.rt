@@ -1,0 +1,108 @@
+//! A package's table of contents, from a file or from the source.
+ghost use Rattle.std.specs.Prelude.{◌≡◌, ◌≤◌, ◌<◌, ◌+◌, IfOk, List, Some, Ok, Err, length, ℕ, ◌++◌};
+ghost use Rattle.std.specs.Io.KnownBytes.{Consumes, IsAtEnd};
+ghost use Rattle.base_core.specs.Counts.{Rose};
+ghost use Rattle.host_io.specs.Contents.{Directory};
+ghost use Rattle.fwu_model.specs.Package.{toc_of};
+ghost use Rattle.fip_tables.specs.Answers.{decided};
+ghost use Rattle.fip_tables.specs.Stream.{Fed};
+ghost use Rattle.fip_tool.specs.Steps.{Gives, ReadsOnly};
+ghost use Rattle.fip_tool.specs.Tool.{GivenTo, given_table, size_in, sized_table, source_limit, stopped_by};
+ghost use Rattle.fip_tool.specs.Source.{EndsAs, FedSome};
+
+use crate::stops::Stop;
+use fip_tables::{StreamToc, Toc, TocStop, read_toc};
+use host_io::{Files, Source};
+
+// The most bytes that are read of the source.
+const SOURCE_LIMIT: u64 = 4_294_967_296;
+
+/// How many bytes a file has.
+#[tactic(auto, unfolding(crate::specs::Tool::size_in))]
+pub fn size_of<H: Files>(files: &mut H, name: &str) -> Result<u64, Stop>
+    ensures told { (told : Directory) → H.contents files.old ≡ Some told
+        → Gives (λ n. n) (Rose (H.faults files.old) (H.faults files.new)) (size_in told name.now) result }
+    ensures reads { ReadsOnly (H.contents files.old) (H.contents files.new) (H.faults files.old) (H.faults files.new) result }
+{
+    match files.size(name) {
+        Ok(Some(size)) => Ok(size),
+        Ok(None) | Err(_) => Err(Stop::FileFault),
+    }
+}
+
+fn stop_of(stop: TocStop) -> Stop
+    ensures { result ≡ stopped_by stop }
+{
+    match stop {
+        TocStop::Fault(fault) => Stop::NotFip(fault),
+        TocStop::ReadFailed => Stop::FileFault,
+    }
+}
+
+/// The table of a package in a file, and how many bytes the file has.
+pub fn read_package<H: Files>(files: &mut H, name: &str) -> Result<(Toc, u64), Stop>
+    ensures told { (told : Directory) → H.contents files.old ≡ Some told
+        → Gives (λ t. t) (Rose (H.faults files.old) (H.faults files.new)) (sized_table told name.now) result }
+    ensures reads { ReadsOnly (H.contents files.old) (H.contents files.new) (H.faults files.old) (H.faults files.new) result }
+{
+    let size = match size_of(files, name) {
+        Ok(size) => size,
+        Err(stop) => return Err(stop),
+    };
+    match read_toc(files, name) {
+        Ok(toc) => Ok((toc, size)),
+        Err(stop) => Err(stop_of(stop)),
+    }
+}
+
+// Feeds what one read of the source gives, and says how many bytes that is.
+fn feed_some<I: Source>(source: &mut I, stream: &mut StreamToc) -> Result<usize, Stop>
+    requires room { stream.old.count ≤ source_limit }
+    ensures few { IfOk result (λ n. n ≤ 4096) }
+    ensures fed { (given : List ℕ) → Fed stream.old given
+        → (piece : List ℕ) × FedSome stream.new given piece (I.left source.old) (I.left source.new) (Rose (I.faults source.old) (I.faults source.new)) result }
+    ensures later { I.faults source.old ≤ I.faults source.new }
+{
+    let mut buffer = [0u8; 4096];
+    let count = match source.read(&mut buffer) {
+        Ok(count) => count,
+        Err(_) => return Err(Stop::FileFault),
+    };
+    match stream.feed(&buffer[..count]) {
+        Ok(()) => Ok(count),
+        Err(fault) => Err(Stop::NotFip(fault)),
+    }
+}
+
+// The table of what the source gave, which was all.
+fn ended(stream: StreamToc, count: u64) -> Result<(Toc, u64), Stop>
+    requires few { count ≤ source_limit }
+    ensures { (given : List ℕ) → Fed stream given → length given ≡ count → decided (toc_of given) ≡ Ok tt
+        → EndsAs given result }
+{
+    match stream.end() {
+        Ok(toc) => Ok((toc, count)),
+        Err(fault) => Err(Stop::NotFip(fault)),
+    }
+}
+
+/// The table of a package that the source gives, and how many bytes it gave. It is read to its end, to a fault that no further
+/// bytes mend, or past the most bytes.
+pub fn read_given<I: Source>(source: &mut I) -> Result<(Toc, u64), Stop>
+    ensures given { (given : List ℕ) × GivenTo (λ t. t) given_table (I.left source.old) (I.left source.new) (Rose (I.faults source.old) (I.faults source.new)) result given }
+    ensures later { I.faults source.old ≤ I.faults source.new }
+{
+    let mut stream = StreamToc::new();
+    let mut count = 0;
+    while count <= SOURCE_LIMIT {
+        let some = match feed_some(source, &mut stream) {
+            Ok(some) => some,
+            Err(stop) => return Err(stop),
+        };
+        if some == 0 {
+            return ended(stream, count);
+        }
+        count += some as u64;
+    }
+    Err(Stop::TooLong)
+}

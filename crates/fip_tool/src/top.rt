@@ -1,0 +1,178 @@
+//! The tool: it reads its words, does the command, and tells how it ended.
+ghost use Rattle.std.specs.Prelude.{◌≡◌, ◌≢◌, ◌≤◌, ◌⊎◌, List, Option, Some, None, Ok, Err, ℕ, map, string_bytes};
+ghost use Rattle.base_core.specs.Counts.{Rose};
+ghost use Rattle.host_io.specs.Contents.{Directory};
+ghost use Rattle.fip_words.specs.Order.{Asked, asked, info_of_source, view};
+ghost use Rattle.fip_tool.specs.Ends.{Ended, Reported, Told};
+ghost use Rattle.fip_tool.specs.Steps.{Did};
+ghost use Rattle.fip_tool.specs.Tool.{EndedSource, ReadSource, command_outcome, outcome_of};
+ghost use Rattle.fip_tool.specs.declared.stops.Stop.TheVariants as stop;
+
+use crate::info::{file_info, source_info};
+use crate::printing::print;
+use crate::stop_lines::stop_line;
+use crate::stops::Stop;
+use fip_words::{FipOrder, UsageStop, fip_order};
+use host_io::{Files, Sink, Source};
+use std::alloc::Global;
+
+fn info<H: Files, O: Sink>(
+    alloc: Global,
+    files: &mut H,
+    sink: &mut O,
+    name: &str,
+) -> Result<(), Stop>
+    ensures told { (told : Directory) → H.contents files.old ≡ Some told
+        → Did (command_outcome (Asked.info name.now) told) told (H.contents files.new) (O.taken sink.old) (O.taken sink.new)
+        (Rose (H.faults files.old) (H.faults files.new)) (Rose (O.faults sink.old) (O.faults sink.new)) result }
+    ensures cause { result ≡ Err stop.FileFault → H.contents files.old ≡ None → Rose (H.faults files.old) (H.faults files.new) }
+    ensures later { O.faults sink.old ≤ O.faults sink.new }
+{
+    match file_info(alloc, files, name) {
+        Ok(text) => print(sink, text.as_slice()),
+        Err(stop) => Err(stop),
+    }
+}
+
+fn info_of_source<I: Source, O: Sink>(
+    alloc: Global,
+    source: &mut I,
+    sink: &mut O,
+) -> Result<(), Stop>
+    ensures listed { (told : Option Directory) → ReadSource result told told (I.left source.old) (I.left source.new) (O.taken sink.old) (O.taken sink.new)
+        (Rose (I.faults source.old) (I.faults source.new)) (Rose (O.faults sink.old) (O.faults sink.new)) }
+    ensures cause { result ≡ Err stop.FileFault → Rose (I.faults source.old) (I.faults source.new) }
+    ensures later { O.faults sink.old ≤ O.faults sink.new }
+{
+    match source_info(alloc, source) {
+        Ok(text) => print(sink, text.as_slice()),
+        Err(stop) => Err(stop),
+    }
+}
+
+// Tells why a command ended, and says why the tool ends then.
+fn tell<O: Sink>(alloc: Global, sink: &mut O, stop: Stop) -> Stop
+    ensures told { Told (O.taken sink.old) (O.taken sink.new) (Rose (O.faults sink.old) (O.faults sink.new)) stop result }
+    ensures later { O.faults sink.old ≤ O.faults sink.new }
+{
+    match stop_line(alloc, &stop) {
+        Ok(line) => match print(sink, line.as_slice()) {
+            Ok(()) => stop,
+            Err(failed) => failed,
+        },
+        Err(_) => Stop::NoMemory,
+    }
+}
+
+// Where the sink takes no more, and for want of memory, nothing is told.
+fn report<O: Sink>(alloc: Global, sink: &mut O, stop: Stop) -> Stop
+    ensures reported { Reported (O.taken sink.old) (O.taken sink.new) (Rose (O.faults sink.old) (O.faults sink.new)) stop result }
+    ensures later { O.faults sink.old ≤ O.faults sink.new }
+{
+    match stop {
+        Stop::SinkFault | Stop::NoMemory => stop,
+        _ => tell(alloc, sink, stop),
+    }
+}
+
+// The command of an order.
+fn command<H: Files, I: Source, O: Sink>(
+    alloc: Global,
+    order: &FipOrder,
+    files: &mut H,
+    source: &mut I,
+    sink: &mut O,
+) -> Result<(), Stop>
+    ensures told { (told : Directory) → H.contents files.old ≡ Some told → view order.now ≢ info_of_source
+        → Did (command_outcome (view order.now) told) told (H.contents files.new) (O.taken sink.old) (O.taken sink.new)
+        (Rose (H.faults files.old) (H.faults files.new)) (Rose (O.faults sink.old) (O.faults sink.new)) result }
+    ensures source { view order.now ≡ info_of_source → ReadSource result (H.contents files.old) (H.contents files.new) (I.left source.old) (I.left source.new)
+        (O.taken sink.old) (O.taken sink.new) (Rose (I.faults source.old) (I.faults source.new)) (Rose (O.faults sink.old) (O.faults sink.new)) }
+    ensures cause { result ≡ Err stop.FileFault → H.contents files.old ≡ None
+        → Rose (H.faults files.old) (H.faults files.new) ⊎ Rose (I.faults source.old) (I.faults source.new) }
+    ensures later { O.faults sink.old ≤ O.faults sink.new }
+{
+    match order {
+        FipOrder::Info { file } => info(alloc, files, sink, file),
+        FipOrder::InfoOfSource => info_of_source(alloc, source, sink),
+        FipOrder::Create {
+            align: _,
+            out: _,
+            parts: _,
+        } => Err(Stop::Usage),
+        FipOrder::Update {
+            align: _,
+            from: _,
+            out: _,
+            parts: _,
+        } => Err(Stop::Usage),
+        FipOrder::Remove {
+            align: _,
+            from: _,
+            out: _,
+            names: _,
+        } => Err(Stop::Usage),
+        FipOrder::Unpack {
+            from: _,
+            prefix: _,
+            names: _,
+        } => Err(Stop::Usage),
+        FipOrder::Manifest {
+            out: _,
+            security: _,
+            rows: _,
+        } => Err(Stop::Usage),
+    }
+}
+
+// What the words ask for.
+fn run<H: Files, I: Source, O: Sink>(
+    alloc: Global,
+    words: &[String],
+    files: &mut H,
+    source: &mut I,
+    sink: &mut O,
+) -> Result<(), Stop>
+    ensures told { (told : Directory) → H.contents files.old ≡ Some told → asked (map string_bytes words.now) ≢ Some info_of_source
+        → Did (outcome_of (asked (map string_bytes words.now)) told) told (H.contents files.new) (O.taken sink.old) (O.taken sink.new)
+        (Rose (H.faults files.old) (H.faults files.new)) (Rose (O.faults sink.old) (O.faults sink.new)) result }
+    ensures source { asked (map string_bytes words.now) ≡ Some info_of_source → ReadSource result (H.contents files.old) (H.contents files.new)
+        (I.left source.old) (I.left source.new) (O.taken sink.old) (O.taken sink.new)
+        (Rose (I.faults source.old) (I.faults source.new)) (Rose (O.faults sink.old) (O.faults sink.new)) }
+    ensures words { asked (map string_bytes words.now) ≡ None → (result ≡ Err stop.Usage) ⊎ (result ≡ Err stop.NoMemory) }
+    ensures cause { result ≡ Err stop.FileFault → H.contents files.old ≡ None
+        → Rose (H.faults files.old) (H.faults files.new) ⊎ Rose (I.faults source.old) (I.faults source.new) }
+    ensures later { O.faults sink.old ≤ O.faults sink.new }
+{
+    match fip_order(alloc, words) {
+        Ok(order) => command(alloc, &order, files, source, sink),
+        Err(UsageStop::Usage) => Err(Stop::Usage),
+        Err(UsageStop::NoMemory) => Err(Stop::NoMemory),
+    }
+}
+
+/// The tool with its words, which are without the program's name. It gives the exit status:
+/// 0 where all was done; 1 usage; 2 a file, or the source, failed; 3 the sink failed; 4 a file is no package; 5 the package has no
+/// entry of a named type; 6 what was to be made cannot be; 7 the source gave more than 4,294,967,296 bytes; 9 want of memory. A
+/// status other than 0 has a line of its own at the end, save 3 and 9.
+pub fn fip_top<H: Files, I: Source, O: Sink>(
+    alloc: Global,
+    words: &[String],
+    files: &mut H,
+    source: &mut I,
+    sink: &mut O,
+) -> u8
+    ensures told { (told : Directory) → H.contents files.old ≡ Some told → asked (map string_bytes words.now) ≢ Some info_of_source
+        → Ended (outcome_of (asked (map string_bytes words.now)) told) told (H.contents files.new) (O.taken sink.old) (O.taken sink.new)
+        (Rose (H.faults files.old) (H.faults files.new)) (Rose (O.faults sink.old) (O.faults sink.new)) result }
+    ensures source { asked (map string_bytes words.now) ≡ Some info_of_source → EndedSource result (H.contents files.old) (H.contents files.new)
+        (I.left source.old) (I.left source.new) (O.taken sink.old) (O.taken sink.new)
+        (Rose (I.faults source.old) (I.faults source.new)) (Rose (O.faults sink.old) (O.faults sink.new)) }
+    ensures cause { result ≡ 2 → H.contents files.old ≡ None
+        → Rose (H.faults files.old) (H.faults files.new) ⊎ Rose (I.faults source.old) (I.faults source.new) }
+{
+    match run(alloc, words, files, source, sink) {
+        Ok(()) => 0,
+        Err(stop) => report(alloc, sink, stop).status(),
+    }
+}
