@@ -102,6 +102,13 @@ module _ (s : State) (b : ℕ) where
       eqb-other : (n k : ℕ) → n ≢ k → (n == k) ≡ false
       eqb-other n k other = grind arith
 
+-- what the choice does, by the bank that is chosen
+pub choice-moves : (E : Setting) (s : State) (b : ℕ) (ms : List Move) → choice E s ≡ Some b → chosen_moves s b ≡ ms → chosen_by s (choice E s) ≡ ms
+choice-moves E s b ms chosen is = ap (chosen_by s) chosen ∙ is
+
+pub choice-none : (E : Setting) (s : State) → choice E s ≡ None → chosen_by s (choice E s) ≡ []
+choice-none E s none = ap (chosen_by s) none
+
 -- ---- the state between
 
 -- a repair changes no more of a state than the version
