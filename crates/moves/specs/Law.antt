@@ -1,5 +1,5 @@
 -- What writes are to the machine, as laws over what is told before and after. Each stands as the contract of a function of its own.
-use Rattle.std.specs.Prelude.{◌≡◌, ◌≢◌, ℕ, ◌<◌, ◌≤◌, List, [], ◌∷◌, ◌++◌, Some, Ok, Result, IsErr, IsTrue, Contains}
+use Rattle.std.specs.Prelude.{◌≡◌, ◌≢◌, ℕ, ◌<◌, ◌≤◌, List, [], ◌∷◌, ◌++◌, Some, None, Ok, Result, IsErr, IsTrue, Contains}
 use Rattle.base_core.specs.Block.{block}
 use Rattle.flash_core.specs.declared.flash.FlashStop.{FlashStop}
 use Rattle.flash_core.specs.Told.{Told, NothingDirty, fresh}
@@ -152,6 +152,8 @@ pub record ChosenMoves (s : State) (b : ℕ) : Type 0 where
 pub record BootsChoose : Type 0 where
   pub moves : (E : Setting) (L : Layout) (which : Which) (image : List ℕ) (r : MetaRead) (s : State) → IsShown L image s → Loads L which r image → (answer E s Off call.Boot).moves ≡ repair_moves which ++ chosen_by s (choice E s)
   pub chosen : (s : State) (b : ℕ) → ChosenMoves s b
+  -- on a calm flash some bank is
+  pub some : (E : Setting) (t : Told) (s : State) → IsCalm E t s → choice E s ≡ None → ⊥
 
 -- At any exit, on any flash, all but the replicas, the marks and the records is as it was; and what both replicas hold after the repair stays.
 pub record BootsLeave : Type 0 where
