@@ -12,7 +12,8 @@ use Rattle.fwu_model.specs.State.{State, bank, is_invalid, is_valid}
 use Rattle.fwu_model.specs.Sound.{Setting, Sound, trial_limit}
 use Rattle.fwu_model.specs.Seen.{IsTidy, state_of}
 use Rattle.moves.specs.Moved.{IsReady, IsShown}
-use Rattle.moves.proofs.Agree.{Agrees, agrees-now, agrees-left, block-agrees, decides-agrees, shown-meta, state-is, used-below}
+use Rattle.fwu_model.specs.Replica.{BothHold}
+use Rattle.moves.proofs.Agree.{no_meta, front-kept, Agrees, agrees-now, agrees-left, block-agrees, decides-agrees, shown-meta, state-is, used-below}
 use Rattle.moves.proofs.Calm.{calm-shown, calm-used, sound-flash}
 
 valid-used : (k : BankState) → IsTrue (is_valid k) → IsFalse (is_invalid k)
@@ -64,3 +65,14 @@ module _ (low high : ℕ) (E : Setting) (s t : Told) (state next : State) (above
   -- when nothing is dirty
   pub beside-ready : IsShown E.layout t.now next → Sound E next → IsTidy t.now next → NothingDirty t → IsReady E t next
   beside-ready shown sound tidy clean = stays-ready shown sound tidy (quiet_fresh _ _ t clean) (λ b used. quiet_fresh _ _ t clean)
+
+-- ---- what a boot leaves beside
+
+-- what both replicas hold stays, at any exit of a write behind them
+pub both-beside : (L : Layout) (r : MetaRead) (low high : ℕ) (s t : Told) → 12288 ≤ low → Keeps low high s t → BothHold L r s.now → BothHold L r t.now
+both-beside L r low high s t above keeps both =
+    let agree = front-kept L low high s t keeps in
+    record {
+      zero = ap (meta_read L) (block-agrees L no_meta low high s.now t.now agree 1 (omega arith) (inl (omega (arith, above)))) ∙ both.zero;
+      one = ap (meta_read L) (block-agrees L no_meta low high s.now t.now agree 2 (omega arith) (inl (omega (arith, above)))) ∙ both.one;
+    }

@@ -1,6 +1,9 @@
 -- The moves of a boot, step by step: the repair, and then a trial, a raise or nothing more.
 use Rattle.std.proofs.Common.{◌≡◌, ◌≢◌, ℕ, ◌<◌, ◌≤◌, ◌==◌, cond, Bool, false, ltb, List, [], ◌∷◌, ◌++◌, Option, Some, None, Result, Ok, refl, sym, ap, subst, ◌∙◌, arith, IsTrue, eq-eqb, lt-ltb, le-ltb}
-use Rattle.std.specs.Prelude.{IsErr, OnOk}
+use Rattle.fwu_model.specs.Calm.{IsCalm}
+use Rattle.fwu_model.proofs.Banks.{sound-chooses}
+use Rattle.moves.proofs.Calm.{calm-sound}
+use Rattle.std.specs.Prelude.{IsSome, IsErr, OnOk}
 use Rattle.flash_core.specs.declared.flash.FlashStop.{FlashStop}
 use Rattle.flash_core.specs.Told.{Told}
 use Rattle.fwu_model.specs.declared.kinds.BankState.{BankState}
@@ -101,6 +104,17 @@ module _ (s : State) (b : ℕ) where
     where
       eqb-other : (n k : ℕ) → n ≢ k → (n == k) ≡ false
       eqb-other n k other = grind arith
+
+-- what the choice does, by the bank that is chosen
+pub choice-moves : (E : Setting) (s : State) (b : ℕ) (ms : List Move) → choice E s ≡ Some b → chosen_moves s b ≡ ms → chosen_by s (choice E s) ≡ ms
+choice-moves E s b ms chosen is = ap (chosen_by s) chosen ∙ is
+
+pub choice-none : (E : Setting) (s : State) → choice E s ≡ None → chosen_by s (choice E s) ≡ []
+choice-none E s none = ap (chosen_by s) none
+
+-- on a calm flash some bank is chosen
+pub calm-chooses : (E : Setting) (t : Told) (s : State) → IsCalm E t s → choice E s ≡ None → ⊥
+calm-chooses E t s calm none = let some : IsSome (choice E s) = sound-chooses E s (calm-sound E t s calm) in cc
 
 -- ---- the state between
 

@@ -20,3 +20,4 @@ pub mod Cleared
 pub mod Staged
 pub mod Switching
 pub mod StoredPlain
+pub mod Left

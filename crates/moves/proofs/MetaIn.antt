@@ -1,5 +1,6 @@
 -- The metadata is a function of the state that is shown: so a contract needs to speak of the state alone.
 use Rattle.std.proofs.Common.{◌≡◌, ℕ, ◌<◌, Bool, List, [], length, get_or, map, Some, refl, sym, ap, ◌∙◌, arith, ext_get_or}
+use Rattle.std.proofs.lemmas.Option.{same_Some}
 use Rattle.std.proofs.lemmas.List.{length-map, get_or-map}
 use Rattle.std.proofs.lemmas.List.FromFn.{length-map-range_with_len, get_or-map-range_with_len}
 use Rattle.base_core.specs.Bytes.{listed}
@@ -48,3 +49,7 @@ shown-decides L image s shown =
 -- the same in version 2
 pub two-decides : (L : Layout) (image : List ℕ) (s : State) → IsShown L image s → s.form ≡ 2 → deciding L image ≡ Some (in_version 2 (meta_in s))
 two-decides L image s shown two = shown-decides L image s shown ∙ ap (λ (n : ℕ). Some (in_version n (meta_in s))) two
+
+-- the metadata that decides is that of the state, so a call that has written it knows it
+pub meta-held : (L : Layout) (image : List ℕ) (s : State) (m : Meta) (form : ℕ) → IsShown L image s → deciding L image ≡ Some (in_version form m) → meta_in s ≡ m
+meta-held L image s m form shown decided = ap (λ (r : MetaRead). r.meta) (same_Some (in_version s.form (meta_in s)) (in_version form m) (sym (shown-decides L image s shown) ∙ decided))

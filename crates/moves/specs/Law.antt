@@ -1,9 +1,9 @@
 -- What writes are to the machine, as laws over what is told before and after. Each stands as the contract of a function of its own.
-use Rattle.std.specs.Prelude.{◌≡◌, ℕ, ◌<◌, ◌≤◌, List, [], ◌∷◌, ◌++◌, Some, Ok, Result, IsErr, IsTrue, Contains}
+use Rattle.std.specs.Prelude.{◌≡◌, ◌≢◌, ℕ, ◌<◌, ◌≤◌, List, [], ◌∷◌, ◌++◌, Some, None, Ok, Result, IsErr, IsTrue, Contains}
 use Rattle.base_core.specs.Block.{block}
 use Rattle.flash_core.specs.declared.flash.FlashStop.{FlashStop}
 use Rattle.flash_core.specs.Told.{Told, NothingDirty, fresh}
-use Rattle.flash_core.specs.May.{May, Guards}
+use Rattle.flash_core.specs.May.{May, Guards, Keeps}
 use Rattle.fwu_model.specs.Layout.{Layout}
 use Rattle.fwu_model.specs.Metadata.{MetaRead, meta_read}
 use Rattle.fwu_model.specs.Manifest.{version}
@@ -14,8 +14,9 @@ use Rattle.fwu_model.specs.Sound.{Setting, choice, trial_limit}
 use Rattle.fwu_model.specs.Session.{Off}
 use Rattle.fwu_model.specs.Call as call
 use Rattle.fwu_model.specs.Seen.{seen, IsTidy, SoundFlash}
-use Rattle.fwu_model.specs.Answer.{answer, booted_package}
+use Rattle.fwu_model.specs.Answer.{answer, booted_package, chosen_moves}
 use Rattle.fwu_model.specs.Calm.{IsCalm, IsAtRest}
+use Rattle.fwu_model.specs.Replica.{BothHold}
 use Rattle.fwu_model.specs.Run.{prefixes}
 use Rattle.marks_core.specs.Marks.{Adds}
 use Rattle.marks_core.specs.Raises.{Raises}
@@ -31,6 +32,7 @@ Done = Result (Unit {0}) FlashStop
 
 -- ---- calls in a row
 
+-- Calls that do moves, one after the other.
 pub record CallsCompose : Type 0 where
   -- a call that stopped did a prefix of whatever was to follow
   pub stopped : (given result : Done) (E : Setting) (s : State) (ms ns : List Move) (t : Told) → IsErr result → Does given E s ms t → Does result E s (ms ++ ns) t
@@ -74,6 +76,7 @@ RaisesDo =
 
 -- ---- on any flash that shows a state, sound or not: what is seen when done
 
+-- the state after the repair, or after the migration
 pub record RepairsShow : Type 0 where
   pub shows : (result : Done) (which : Which) (r : MetaRead) (s t : Told) (L : Layout) (state : State) → IsShown L s.now state → Loads L which r s.now → Repairs result L r s t → ShowsAfter result L state (repair_moves which) t
   -- the marks stay as tidy as they are, at any exit
@@ -85,21 +88,24 @@ pub record RepairsKeep {T : Type 0} (result : Result T FlashStop) (r : MetaRead)
   pub trials : (limit : ℕ) → limit ≤ 256 → marks t.now 3 limit ≡ marks s.now 3 limit
   pub counter : counter_in t.now ≡ counter_in s.now
 
+-- so every repair
 abbrev pub RepairsKeepCounts : Type 0
 RepairsKeepCounts = (result : Done) (r : MetaRead) (s t : Told) (L : Layout) → Repairs result L r s t → RepairsKeep result r s t L
 
--- where the marks are tidy, so that the next one counts
+-- one more trial, where the marks are tidy, so that the next one counts
 pub record TrialsShow : Type 0 where
   pub shows : (result : Done) (s t : Told) (state : State) (at : ℕ) → IsTrue (is_valid (bank state state.active).state) → at ≡ state.trials → at < trial_limit → Adds result 3 at s t
       → (L : Layout) → IsShown L s.now state → IsTidy s.now state → ShowsAfter result L state (Trial ∷ []) t
   -- while a bank is on trial, its trials are the marks
   pub counted : (L : Layout) (now : List ℕ) (s : State) → IsShown L now s → IsTrue (is_valid (bank s s.active).state) → marks now 3 trial_limit ≡ s.trials
 
+-- the new counter
 abbrev pub RaisesShow : Type 0
 RaisesShow = (result : Done) (v : ℕ) (s t : Told) (state : State) → Raises result v s t → (L : Layout) → IsShown L s.now state → ShowsAfter result L state (RaiseTo v ∷ []) t
 
 -- ---- on any flash at rest, sound or not: a stop harms nothing in use, and an answer leaves the flash at rest
 
+-- the writes of a boot
 pub record WritesStayGuarded : Type 0 where
   pub repair : (result : Done) (L : Layout) (s t : Told) → layout_seen s.now ≡ Ok L → IsAtRest s → (which : Which) (r : MetaRead) → Loads L which r s.now → Repairs result L r s t → GuardedBy result t
   pub trial : (result : Done) (L : Layout) (s t : Told) → layout_seen s.now ≡ Ok L → IsAtRest s → (at : ℕ) → at < trial_limit → Adds result 3 at s t → GuardedBy result t
@@ -117,6 +123,7 @@ pub record BootsDo (E : Setting) (L : Layout) (which : Which) (r : MetaRead) (s 
       → Raises result v m t → Does result E s (answer E s Off call.Boot).moves t
   pub still : (t : Told) → Does {T = Unit {0}} (Ok tt) E s (repair_moves which) t → chosen_by s (choice E s) ≡ [] → Does {T = Unit {0}} (Ok tt) E s (answer E s Off call.Boot).moves t
 
+-- so every boot
 abbrev pub BootsDoAnswers : Type 0
 BootsDoAnswers = (E : Setting) (L : Layout) (which : Which) (r : MetaRead) (s : State) (old : Told) → IsShown L old.now s → Loads L which r old.now → BootsDo E L which r s old
 
@@ -128,6 +135,29 @@ pub record BootsShow (E : Setting) (L : Layout) (which : Which) (s : State) (m :
       → Raises result v m t → ShowsAfter result L s (answer E s Off call.Boot).moves t
   pub still : chosen_by s (choice E s) ≡ [] → IsShown L m.now (after s (answer E s Off call.Boot).moves)
 
+-- so every boot
 abbrev pub BootsShowAnswers : Type 0
 BootsShowAnswers =
     (E : Setting) (L : Layout) (which : Which) (r : MetaRead) (s : State) (old m : Told) → IsShown L old.now s → Loads L which r old.now → IsShown L m.now (after s (repair_moves which)) → BootsShow E L which s m
+
+-- ---- what a boot does after the repair, by the bank that is chosen, and what it leaves as it was
+
+-- The moves of the bank that boot starts.
+pub record ChosenMoves (s : State) (b : ℕ) : Type 0 where
+  pub trial : b ≡ s.active → IsTrue (is_valid (bank s s.active).state) → chosen_moves s b ≡ Trial ∷ []
+  pub raise : b ≡ s.active → IsTrue (is_accepted (bank s s.active).state) → s.counter < version (booted_package s s.active) → chosen_moves s b ≡ RaiseTo (version (booted_package s s.active)) ∷ []
+  pub still : b ≡ s.active → IsTrue (is_accepted (bank s s.active).state) → version (booted_package s s.active) ≤ s.counter → chosen_moves s b ≡ []
+  pub other : b ≢ s.active → chosen_moves s b ≡ []
+
+pub record BootsChoose : Type 0 where
+  pub moves : (E : Setting) (L : Layout) (which : Which) (image : List ℕ) (r : MetaRead) (s : State) → IsShown L image s → Loads L which r image → (answer E s Off call.Boot).moves ≡ repair_moves which ++ chosen_by s (choice E s)
+  pub chosen : (s : State) (b : ℕ) → ChosenMoves s b
+  -- on a calm flash some bank is
+  pub some : (E : Setting) (t : Told) (s : State) → IsCalm E t s → choice E s ≡ None → ⊥
+
+-- At any exit, on any flash, all but the replicas, the marks and the records is as it was; and what both replicas hold after the repair stays.
+pub record BootsLeave : Type 0 where
+  pub trial : (given result : Done) (L : Layout) (r : MetaRead) (at : ℕ) (s m t : Told) → at < trial_limit → Repairs given L r s m → Adds result 3 at m t → Keeps 4096 28672 s t
+  pub raise : (given result : Done) (L : Layout) (r : MetaRead) (v : ℕ) (s m t : Told) → Repairs given L r s m → Raises result v m t → Keeps 4096 28672 s t
+  pub trial_both : (result : Done) (L : Layout) (r : MetaRead) (at : ℕ) (m t : Told) → at < trial_limit → Adds result 3 at m t → BothHold L r m.now → BothHold L r t.now
+  pub raise_both : (result : Done) (L : Layout) (r : MetaRead) (v : ℕ) (m t : Told) → Raises result v m t → BothHold L r m.now → BothHold L r t.now

@@ -20,8 +20,9 @@ use Rattle.moves.specs.Law.{Done}
 -- ---- metadata
 
 -- what decides is a function of the state that is shown
-abbrev pub StatesHaveMetadata : Type 0
-StatesHaveMetadata = (L : Layout) (image : List ℕ) (s : State) → IsShown L image s → deciding L image ≡ Some (in_version s.form (meta_in s))
+pub record StatesHaveMetadata : Type 0 where
+  pub decides : (L : Layout) (image : List ℕ) (s : State) → IsShown L image s → deciding L image ≡ Some (in_version s.form (meta_in s))
+  pub is : (L : Layout) (image : List ℕ) (s : State) (m : Meta) (form : ℕ) → IsShown L image s → deciding L image ≡ Some (in_version form m) → meta_in s ≡ m
 
 -- the metadata after a move is of the layout where the metadata before is
 pub record MetadataStaysFit (L : Layout) (m : Meta) : Type 0 where
@@ -30,6 +31,7 @@ pub record MetadataStaysFit (L : Layout) (m : Meta) : Type 0 where
   pub accept : (image : ℕ) → IsTrue (fits_meta L (meta_after m (Accept image)))
   pub back : IsTrue (fits_meta L (meta_after m Back))
 
+-- so all metadata of a layout
 abbrev pub MovesKeepFit : Type 0
 MovesKeepFit = (L : Layout) (m : Meta) → IsTrue (fits_meta L m) → MetadataStaysFit L m
 
@@ -48,6 +50,7 @@ pub record StoresDo (result : Done) (E : Setting) (s t : Told) (state : State) :
       → (IsTrue (is_valid (state_by bits)) → (marks s.now 3 trial_limit ≡ 0) × IsTrue (is_tidy s.now 3 trial_limit))
       → Stores result E.layout (meta_after (meta_in state) (Switch (update_bank state) p bits)) s t → Does result E state (Switch (update_bank state) p bits ∷ []) t
 
+-- so every store
 abbrev pub StoresDoMoves : Type 0
 StoresDoMoves = (result : Done) (E : Setting) (s t : Told) (state : State) → IsReady E s state → state.form ≡ 2 → StoresDo result E s t state
 
@@ -74,6 +77,7 @@ StagingKeepsReady =
 
 -- ---- on any flash that shows a state
 
+-- a store that is done shows the state after the move
 pub record StoresShow (result : Done) (L : Layout) (s t : Told) (state : State) : Type 0 where
   pub free : Stores result L (meta_after (meta_in state) (Free (update_bank state))) s t → ShowsAfter result L state (Free (update_bank state) ∷ []) t
   pub accept : (image : ℕ) → IsFalse (is_invalid (bank state state.active).state) → Stores result L (meta_after (meta_in state) (Accept image)) s t → ShowsAfter result L state (Accept image ∷ []) t
@@ -81,6 +85,7 @@ pub record StoresShow (result : Done) (L : Layout) (s t : Told) (state : State) 
   pub switch : (p : List (List ℕ)) (bits : List Bool) → package_in L s.now (update_bank state) ≡ Some p → (IsTrue (is_valid (state_by bits)) → marks s.now 3 trial_limit ≡ 0)
       → Stores result L (meta_after (meta_in state) (Switch (update_bank state) p bits)) s t → ShowsAfter result L state (Switch (update_bank state) p bits ∷ []) t
 
+-- so every store
 abbrev pub StoresShowMoves : Type 0
 StoresShowMoves = (result : Done) (L : Layout) (s t : Told) (state : State) → IsShown L s.now state → state.form ≡ 2 → StoresShow result L s t state
 
@@ -101,6 +106,7 @@ SlotsHold =
 abbrev pub QuietBy : Layout → Meta → Told → Type 0
 QuietBy L m t = (b : ℕ) → b < L.banks → IsFalse (is_invalid (state_at m b)) → Quiet (4096 * start L b 0) (4096 * start L (b + 1) 0) t
 
+-- a stop harms nothing in use, and an answer leaves the flash at rest
 pub record OthersStayGuarded : Type 0 where
   -- where replica 1 holds what decides, and the banks in use by the new metadata are quiet
   pub store : (result : Done) (L : Layout) (s t : Told) → layout_seen s.now ≡ Ok L → IsAtRest s → (old : MetaRead) (new : Meta) → deciding L s.now ≡ Some old → meta_read L (block 2 s.now) ≡ Some old → Stores result L new s t
@@ -116,5 +122,6 @@ pub record UsedAfterMoves (L : Layout) (m : Meta) (t : Told) : Type 0 where
   pub back : QuietBy L (meta_after m Back) t
   pub switch : (b : ℕ) (p : List (List ℕ)) (bits : List Bool) → Quiet (4096 * start L b 0) (4096 * start L (b + 1) 0) t → QuietBy L (meta_after m (Switch b p bits)) t
 
+-- on any flash at rest
 abbrev pub MovesKeepQuiet : Type 0
 MovesKeepQuiet = (L : Layout) (t : Told) (r : MetaRead) → layout_seen t.now ≡ Ok L → IsAtRest t → deciding L t.now ≡ Some r → UsedAfterMoves L r.meta t

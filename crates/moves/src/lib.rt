@@ -5,9 +5,9 @@ mod laws;
 mod stores;
 
 pub use laws::{
-    boots_do_answers, boots_show_answers, calls_compose, losses_are_repaired, marks_do_trials,
-    raises_show, records_do_raises, repairs_do_moves, repairs_keep_counts, repairs_show,
-    starts_are_ready, trials_show, writes_stay_guarded,
+    boots_choose_moves, boots_do_answers, boots_leave_the_rest, boots_show_answers, calls_compose,
+    losses_are_repaired, marks_do_trials, raises_show, records_do_raises, repairs_do_moves,
+    repairs_keep_counts, repairs_show, starts_are_ready, trials_show, writes_stay_guarded,
 };
 pub use stores::{
     barriers_keep_ready, clears_do_nothing, moves_keep_fit, moves_keep_quiet, others_show_nothing,

@@ -1,5 +1,5 @@
-use Rattle.moves.proofs.MetaIn.{shown-decides}
+use Rattle.moves.proofs.MetaIn.{shown-decides, meta-held}
 use Rattle.moves.proofs.stores.states_have_metadata.Goals as goal
 
 pub returns : goal.returns
-returns c = shown-decides
+returns c = record { decides = shown-decides; is = meta-held }
