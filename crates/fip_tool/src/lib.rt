@@ -14,6 +14,8 @@ mod table;
 #[cfg(test)]
 mod tests;
 #[cfg(test)]
+mod tests_commands;
+#[cfg(test)]
 mod tests_manifest;
 mod top;
 mod unpack;
