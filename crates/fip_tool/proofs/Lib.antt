@@ -1,5 +1,12 @@
 pub mod Did
 pub mod Ending
+pub mod ManifestLemmas
+pub mod PartLemmas
+pub mod Repacking
+pub mod SourceEnds
 pub mod SourceLemmas
 pub mod Tables
-pub mod SourceEnds
+pub mod UnpackLemmas
+pub mod UnpackWords
+pub mod Whole
+pub mod WritingLemmas

@@ -212,11 +212,11 @@ writes_manifest out security made = Writes out made.1 ∷ Prints (manifest_line 
 abbrev pub command_outcome : Asked → Directory → Outcome
 command_outcome (info file) files = outcome_by prints (info_value files file)
 command_outcome info_of_source files = Refuses stop.Usage
-command_outcome (create align out parts) files = Refuses stop.Usage
-command_outcome (update align from out parts) files = Refuses stop.Usage
-command_outcome (remove align from out names) files = Refuses stop.Usage
-command_outcome (unpack from prefix names) files = Refuses stop.Usage
-command_outcome (manifest out security rows) files = Refuses stop.Usage
+command_outcome (create align out parts) files = outcome_by (packs out) (create_value files align parts)
+command_outcome (update align from out parts) files = outcome_by (packs out) (update_value files align from parts)
+command_outcome (remove align from out names) files = outcome_by (packs out) (remove_value files align from names)
+command_outcome (unpack from prefix names) files = outcome_by (λ v. unpack_steps prefix v.0 v.1) (unpack_value files from names)
+command_outcome (manifest out security rows) files = outcome_by (writes_manifest out security) (manifest_value files security rows)
 
 abbrev pub outcome_of : Option Asked → Directory → Outcome
 outcome_of None files = Refuses stop.Usage

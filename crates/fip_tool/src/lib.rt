@@ -3,13 +3,23 @@
 
 mod info;
 mod lines;
+mod making;
+mod manifest;
+mod parts;
 mod printing;
+mod reading;
 mod stop_lines;
 mod stops;
 mod table;
 #[cfg(test)]
 mod tests;
+#[cfg(test)]
+mod tests_commands;
+#[cfg(test)]
+mod tests_manifest;
 mod top;
+mod unpack;
+mod writing;
 
 pub use stops::Stop;
 pub use top::fip_top;

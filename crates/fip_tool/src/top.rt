@@ -1,17 +1,21 @@
 //! The tool: it reads its words, does the command, and tells how it ended.
-ghost use Rattle.std.specs.Prelude.{◌≡◌, ◌≢◌, ◌≤◌, ◌⊎◌, List, Option, Some, None, Ok, Err, ℕ, map, string_bytes};
+ghost use Rattle.std.specs.Prelude.{◌≡◌, ◌≢◌, ◌≤◌, ◌⊎◌, List, Option, Some, None, Ok, Err, ℕ, false, map, string_bytes};
 ghost use Rattle.base_core.specs.Counts.{Rose};
 ghost use Rattle.host_io.specs.Contents.{Directory};
 ghost use Rattle.fip_words.specs.Order.{Asked, asked, info_of_source, view};
+ghost use Rattle.fip_words.specs.Values.{is_unpacked};
 ghost use Rattle.fip_tool.specs.Ends.{Ended, Reported, Told};
 ghost use Rattle.fip_tool.specs.Steps.{Did};
 ghost use Rattle.fip_tool.specs.Tool.{EndedSource, ReadSource, command_outcome, outcome_of};
 ghost use Rattle.fip_tool.specs.declared.stops.Stop.TheVariants as stop;
 
 use crate::info::{file_info, source_info};
+use crate::making::{run_create, run_remove, run_update};
+use crate::manifest::run_manifest;
 use crate::printing::print;
 use crate::stop_lines::stop_line;
 use crate::stops::Stop;
+use crate::unpack::run_unpack;
 use fip_words::{FipOrder, UsageStop, fip_order};
 use host_io::{Files, Sink, Source};
 use std::alloc::Global;
@@ -83,6 +87,7 @@ fn command<H: Files, I: Source, O: Sink>(
     source: &mut I,
     sink: &mut O,
 ) -> Result<(), Stop>
+    requires other { (from prefix : List ℕ) → (names : List (List ℕ)) → view order.now ≡ Asked.unpack from prefix names → is_unpacked prefix from ≡ false }
     ensures told { (told : Directory) → H.contents files.old ≡ Some told → view order.now ≢ info_of_source
         → Did (command_outcome (view order.now) told) told (H.contents files.new) (O.taken sink.old) (O.taken sink.new)
         (Rose (H.faults files.old) (H.faults files.new)) (Rose (O.faults sink.old) (O.faults sink.new)) result }
@@ -95,33 +100,31 @@ fn command<H: Files, I: Source, O: Sink>(
     match order {
         FipOrder::Info { file } => info(alloc, files, sink, file),
         FipOrder::InfoOfSource => info_of_source(alloc, source, sink),
-        FipOrder::Create {
-            align: _,
-            out: _,
-            parts: _,
-        } => Err(Stop::Usage),
+        FipOrder::Create { align, out, parts } => {
+            run_create(alloc, files, sink, *align, out, parts.as_slice())
+        }
         FipOrder::Update {
-            align: _,
-            from: _,
-            out: _,
-            parts: _,
-        } => Err(Stop::Usage),
+            align,
+            from,
+            out,
+            parts,
+        } => run_update(alloc, files, sink, *align, from, out, parts.as_slice()),
         FipOrder::Remove {
-            align: _,
-            from: _,
-            out: _,
-            names: _,
-        } => Err(Stop::Usage),
+            align,
+            from,
+            out,
+            names,
+        } => run_remove(alloc, files, sink, *align, from, out, names.as_slice()),
         FipOrder::Unpack {
-            from: _,
-            prefix: _,
-            names: _,
-        } => Err(Stop::Usage),
+            from,
+            prefix,
+            names,
+        } => run_unpack(alloc, files, sink, from, prefix, names.as_slice()),
         FipOrder::Manifest {
-            out: _,
-            security: _,
-            rows: _,
-        } => Err(Stop::Usage),
+            out,
+            security,
+            rows,
+        } => run_manifest(alloc, files, sink, out, *security, rows.as_slice()),
     }
 }
 

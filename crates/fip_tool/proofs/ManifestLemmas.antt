@@ -1,0 +1,235 @@
+-- Manifests of images in files.
+use Rattle.std.proofs.Common.{◌≡◌, ◌<◌, ◌+◌, ℕ, suc, List, [], ◌∷◌, ◌++◌, Bool, true, false, Option, Some, None, Result, Ok, Err, get_or, length, map, take, drop, drop-cons, length-append, option_map, arith, refl, sym, ap, subst, ◌∙◌}
+use Rattle.std.specs.Prelude.{IfSome, ◌==◌, ◌||◌, if◌then◌else◌, nat_lt, option_and_then}
+use Rattle.std.proofs.lemmas.List.{length-map, map-append, take-append-drop, take_more}
+use Rattle.host_io.specs.Contents.{Directory}
+use Rattle.fwu_model.specs.Manifest.{Row}
+use Rattle.fwu_model.specs.declared.kinds.ManifestFault.TheVariants as fault
+use Rattle.manifest_core.specs.Shown.{row}
+use Rattle.manifest_core.specs.declared.rows.Row.{Row as CodeRow}
+use Rattle.fip_words.specs.Order.{image_view}
+use Rattle.fip_words.specs.Values.{NamedImage, each}
+use Rattle.fip_words.specs.declared.values.ImageWord.{ImageWord}
+use Rattle.fip_tool.specs.Lines.{manifest_line}
+use Rattle.fip_tool.specs.Steps.{Did, Gives, Makes, Step, Writes, Prints, outcome_by}
+use Rattle.fip_tool.specs.Tool.{Image, after, file_value, image_in, image_row, manifest_value, of_rows, there, writes_manifest}
+use Rattle.fip_tool.specs.declared.stops.Stop.{Stop}
+use Rattle.fip_tool.specs.declared.stops.Stop.TheVariants as stop
+use Rattle.fip_tool.proofs.Did.{made-steps}
+use Rattle.fip_tool.proofs.Tables.{gives-err}
+
+-- one more, where there is one
+abbrev pub with_one : {Y : Type 0} → Option (List Y) → Option Y → Option (List Y)
+with_one ys more = option_and_then (λ zs. option_map (λ y. zs ++ (y ∷ [])) more) ys
+
+-- one before
+abbrev before : {Y : Type 0} → Option Y → Option (List Y) → Option (List Y)
+before first ys = option_and_then (λ y. option_map (λ zs. y ∷ zs) ys) first
+
+before-one : {Y : Type 0} (a : Option Y) → before a (Some []) ≡ with_one (Some []) a
+before-one None = refl
+before-one (Some y) = refl
+
+before-with_one : {Y : Type 0} (a : Option Y) (b : Option (List Y)) (c : Option Y) → before a (with_one b c) ≡ with_one (before a b) c
+before-with_one None b c = refl
+before-with_one (Some y) None c = refl
+before-with_one (Some y) (Some ys) None = refl
+before-with_one (Some y) (Some ys) (Some z) = refl
+
+before-none : {Y : Type 0} (a : Option Y) → before a None ≡ None
+before-none None = refl
+before-none (Some y) = refl
+
+pub each-more : {X Y : Type 0} (f : X → Option Y) (xs : List X) (x : X) → each f (xs ++ (x ∷ [])) ≡ with_one (each f xs) (f x)
+each-more f [] x = before-one (f x)
+each-more f (z ∷ xs) x = ap (before (f z)) (each-more f xs x) ∙ before-with_one (f z) (each f xs) (f x)
+
+pub each-stops : {X Y : Type 0} (f : X → Option Y) (xs : List X) (x : X) (ys : List X) → f x ≡ None → each f (xs ++ (x ∷ ys)) ≡ None
+each-stops f [] x ys e = ap (λ a. before a (each f ys)) e
+each-stops f (z ∷ xs) x ys e = ap (before (f z)) (each-stops f xs x ys e) ∙ before-none (f z)
+
+before-long : {Y : Type 0} (a : Option Y) (b : Option (List Y)) (n : ℕ) → IfSome b (λ ys. length ys ≡ n) → IfSome (before a b) (λ ys. length ys ≡ suc n)
+before-long None b n h = tt
+before-long (Some y) None n h = tt
+before-long (Some y) (Some ys) n h = ap suc h
+
+pub each-long : {X Y : Type 0} (f : X → Option Y) (xs : List X) → IfSome (each f xs) (λ ys. length ys ≡ length xs)
+each-long f [] = refl
+each-long f (x ∷ xs) = before-long (f x) (each f xs) (length xs) (each-long f xs)
+
+-- what a manifest says of a named image
+abbrev pub row_value : Directory → NamedImage → Result (Option Row) Stop
+row_value told x = after (there (image_in told x)) (λ i. Ok (image_row i))
+
+-- and of several
+abbrev pub rows_value : Directory → List NamedImage → Result (Option (List Row)) Stop
+rows_value told xs = after (there (each (image_in told) xs)) (λ images. Ok (each image_row images))
+
+pub row-made : (told : Directory) (x : NamedImage) (bytes image : List ℕ) (more : Option Row) → file_value told x.file ≡ Ok bytes → image ≡ bytes
+    → more ≡ image_row (record { guid = x.guid; version = x.version; bytes = image }) → row_value told x ≡ Ok more
+unfolding file_value
+row-made told x bytes image more e same is = go (told x.file) e
+  where
+    go : (o : Option (List ℕ)) → there o ≡ Ok bytes
+        → after (there (option_map (λ (b : List ℕ). let i : Image = record { guid = x.guid; version = x.version; bytes = b } in i) o)) (λ i. Ok (image_row i)) ≡ Ok more
+    go None h = cc
+    go (Some b) h =
+        let read : b ≡ bytes = cc in
+        ap (λ (l : List ℕ). Ok (image_row (record { guid = x.guid; version = x.version; bytes = l }))) (read ∙ sym same) ∙ ap (λ (r : Option Row). Ok r) (sym is)
+
+pub row-stopped : (told : Directory) (x : NamedImage) (s : Stop) → file_value told x.file ≡ Err s → row_value told x ≡ Err s
+unfolding file_value
+row-stopped told x s e = go (told x.file) e
+  where
+    go : (o : Option (List ℕ)) → there o ≡ Err s
+        → after (there (option_map (λ (b : List ℕ). let i : Image = record { guid = x.guid; version = x.version; bytes = b } in i) o)) (λ i. Ok (image_row i)) ≡ Err s
+    go None h = let same : ◌≡◌ {A = Stop} stop.FileFault s = cc in ap (λ (t : Stop). Err t) same
+    go (Some b) h = cc
+
+pub rows-more : (told : Directory) (xs : List NamedImage) (x : NamedImage) (rows : Option (List Row)) (more : Option Row)
+    → rows_value told xs ≡ Ok rows → row_value told x ≡ Ok more → rows_value told (xs ++ (x ∷ [])) ≡ Ok (with_one rows more)
+rows-more told xs x rows more e h =
+    ap (λ (a : Option (List Image)). after (there a) (λ images. Ok (each image_row images))) (each-more (image_in told) xs x) ∙ go (each (image_in told) xs) (image_in told x) e h
+  where
+    go : (a : Option (List Image)) (b : Option Image) → after (there a) (λ images. Ok (each image_row images)) ≡ Ok rows → after (there b) (λ i. Ok (image_row i)) ≡ Ok more
+        → after (there (with_one a b)) (λ images. Ok (each image_row images)) ≡ Ok (with_one rows more)
+    go None b p q = cc
+    go (Some images) None p q = cc
+    go (Some images) (Some i) p q =
+        let were : each image_row images ≡ rows = cc in
+        let is : image_row i ≡ more = cc in
+        ap (λ (r : Option (List Row)). Ok r) (each-more image_row images i ∙ ap (λ (r : Option (List Row)). with_one r (image_row i)) were ∙ ap (with_one rows) is)
+
+pub rows-stopped : (told : Directory) (xs : List NamedImage) (x : NamedImage) (ys : List NamedImage) (s : Stop) → row_value told x ≡ Err s → rows_value told (xs ++ (x ∷ ys)) ≡ Err s
+rows-stopped told xs x ys s e = go (image_in told x) refl
+  where
+    go : (b : Option Image) → image_in told x ≡ b → rows_value told (xs ++ (x ∷ ys)) ≡ Err s
+    go None is =
+        let value : row_value told x ≡ Err stop.FileFault = ap (λ (b : Option Image). after (there b) (λ i. Ok (image_row i))) is in
+        let all : rows_value told (xs ++ (x ∷ ys)) ≡ Err stop.FileFault = ap (λ (a : Option (List Image)). after (there a) (λ images. Ok (each image_row images))) (each-stops (image_in told) xs x ys is) in
+        let same : ◌≡◌ {A = Stop} stop.FileFault s = (let both : ◌≡◌ {A = Result (Option Row) Stop} (Err stop.FileFault) (Err s) = sym value ∙ e in cc) in
+        all ∙ ap (λ (t : Stop). Err t) same
+    go (Some i) is =
+        let value : row_value told x ≡ Ok (image_row i) = ap (λ (b : Option Image). after (there b) (λ i. Ok (image_row i))) is in
+        let no : ◌≡◌ {A = Result (Option Row) Stop} (Ok (image_row i)) (Err s) = sym value ∙ e in
+        cc
+
+-- the manifest of so many images, by their rows
+abbrev pub counted : ℕ → ℕ → Option (List Row) → Result (ℕ × List ℕ) Stop
+counted count security rows = if (count == 0) || nat_lt 15 count then Err (stop.NoManifest fault.BadCount) else of_rows security rows
+
+pub value-of-rows : (told : Directory) (security : ℕ) (xs : List NamedImage) (rows : Option (List Row)) → rows_value told xs ≡ Ok rows → manifest_value told security xs ≡ counted (length xs) security rows
+unfolding manifest_value
+value-of-rows told security xs rows e = go (each (image_in told) xs) (each-long (image_in told) xs) e
+  where
+    go : (a : Option (List Image)) → IfSome a (λ images. length images ≡ length xs) → after (there a) (λ images. Ok (each image_row images)) ≡ Ok rows
+        → after (there a) (λ images. counted (length images) security (each image_row images)) ≡ counted (length xs) security rows
+    go None long h = cc
+    go (Some images) long h =
+        let were : each image_row images ≡ rows = cc in
+        ap (λ (n : ℕ). counted n security (each image_row images)) long ∙ ap (counted (length xs) security) were
+
+pub value-stopped : (told : Directory) (security : ℕ) (xs : List NamedImage) (s : Stop) → rows_value told xs ≡ Err s → manifest_value told security xs ≡ Err s
+unfolding manifest_value
+value-stopped told security xs s e = go (each (image_in told) xs) e
+  where
+    go : (a : Option (List Image)) → after (there a) (λ images. Ok (each image_row images)) ≡ Err s
+        → after (there a) (λ images. counted (length images) security (each image_row images)) ≡ Err s
+    go None h = let same : ◌≡◌ {A = Stop} stop.FileFault s = cc in ap (λ (t : Stop). Err t) same
+    go (Some images) h = cc
+
+-- ---- over the named images of the words
+
+module _ (told : Directory) (all : List ImageWord) (i : ℕ) (x : ImageWord) (within : i < length all) (is : x ≡ get_or all i x) where
+  pub stopped-at : (s : Stop) → row_value told (image_view x) ≡ Err s → rows_value told (map image_view all) ≡ Err s
+  stopped-at s e =
+      let split : all ≡ take i all ++ (x ∷ drop (suc i) all) =
+      sym (take-append-drop i all) ∙ ap (λ (l : List ImageWord). take i all ++ l) (drop-cons all i x within ∙ ap (λ (y : ImageWord). y ∷ drop (suc i) all) (sym is)) in
+      ap (λ (l : List ImageWord). rows_value told (map image_view l)) split
+      ∙ ap (rows_value told) (map-append image_view (take i all) (x ∷ drop (suc i) all))
+      ∙ rows-stopped told (map image_view (take i all)) (image_view x) (map image_view (drop (suc i) all)) s e
+
+  pub rows-more-at : (rows : Option (List Row)) (more : Option Row) → rows_value told (map image_view (take i all)) ≡ Ok rows → row_value told (image_view x) ≡ Ok more
+      → rows_value told (map image_view (take (i + 1) all)) ≡ Ok (with_one rows more)
+  rows-more-at rows more e h =
+      let split : take (i + 1) all ≡ take i all ++ (x ∷ []) = take_more all i x within ∙ ap (λ (y : ImageWord). take i all ++ (y ∷ [])) (sym is) in
+      ap (λ (l : List ImageWord). rows_value told (map image_view l)) split
+      ∙ ap (rows_value told) (map-append image_view (take i all) (x ∷ []))
+      ∙ rows-more told (map image_view (take i all)) (image_view x) rows more e h
+
+-- the rows of the code as those of the model
+mapped : (rows : Option (List CodeRow)) (more : Option CodeRow) → option_map (map row) (with_one rows more) ≡ with_one (option_map (map row) rows) (option_map row more)
+mapped None more = refl
+mapped (Some rows) None = refl
+mapped (Some rows) (Some more) = ap (λ (l : List Row). Some l) (map-append row rows (more ∷ []))
+
+map-of : {A B C : Type 0} (f : A → B) (g : B → C) (o : Option A) → option_map (λ x. g (f x)) o ≡ option_map g (option_map f o)
+map-of f g None = refl
+map-of f g (Some x) = refl
+
+pub seen-more : {A : Type 0} (items : A → List CodeRow) (rows now : Option A) (more : Option CodeRow) → option_map items now ≡ with_one (option_map items rows) more
+    → option_map (λ v. map row (items v)) now ≡ with_one (option_map (λ v. map row (items v)) rows) (option_map row more)
+seen-more items rows now more e =
+    map-of items (map row) now ∙ ap (option_map (map row)) e ∙ mapped (option_map items rows) more
+    ∙ ap (λ (r : Option (List Row)). with_one r (option_map row more)) (sym (map-of items (map row) rows))
+
+pub count-more : {A : Type 0} (items : A → List CodeRow) (rows now : Option A) (more : Option CodeRow) (n : ℕ) → option_map items now ≡ with_one (option_map items rows) more
+    → IfSome rows (λ v. length (items v) ≡ n) → IfSome now (λ v. length (items v) ≡ n + 1)
+count-more items rows None more n e h = tt
+count-more items None (Some v) more n e h = cc
+count-more items (Some r) (Some v) None n e h = cc
+count-more items (Some r) (Some v) (Some y) n e h =
+    let same : items v ≡ items r ++ (y ∷ []) = cc in
+    let long : length (items r ++ (y ∷ [])) ≡ length (items r) + length (y ∷ []) = length-append (items r) (y ∷ []) in
+    let of-same : length (items v) ≡ length (items r ++ (y ∷ [])) = ap length same in
+    omega arith
+
+-- ---- what the manifest is
+
+pub made-of : (told : Directory) (security : ℕ) (named : List ImageWord) (rows : List CodeRow) → rows_value told (map image_view named) ≡ Ok (Some (map row rows)) → length rows ≡ length named
+    → manifest_value told security (map image_view named) ≡ counted (length rows) security (Some (map row rows))
+made-of told security named rows e long =
+    value-of-rows told security (map image_view named) (Some (map row rows)) e
+    ∙ ap (λ (n : ℕ). counted n security (Some (map row rows))) (length-map named image_view ∙ sym long)
+
+-- why there is none where one is too long
+abbrev pub refused : ℕ → Stop
+refused count = if (count == 0) || nat_lt 15 count then stop.NoManifest fault.BadCount else stop.NoManifest fault.TooLarge
+
+refused-counted : (count security : ℕ) → counted count security None ≡ Err (refused count)
+refused-counted count security = go ((count == 0) || nat_lt 15 count)
+  where
+    go : (b : Bool) → (if b then Err (stop.NoManifest fault.BadCount) else of_rows security None) ≡ Err (if b then stop.NoManifest fault.BadCount else stop.NoManifest fault.TooLarge)
+    go true = refl
+    go false = refl
+
+gives-refused : {X Y : Type 0} (view : X → Y) (rose : Type 0) (value : Result Y Stop) (count : ℕ) → value ≡ Err (refused count) → Gives view rose value (Err (refused count))
+gives-refused view rose value count e = go ((count == 0) || nat_lt 15 count) e
+  where
+    go : (b : Bool) → value ≡ Err (if b then stop.NoManifest fault.BadCount else stop.NoManifest fault.TooLarge)
+        → Gives view rose value (Err (if b then stop.NoManifest fault.BadCount else stop.NoManifest fault.TooLarge))
+    go true e = e
+    go false e = e
+
+pub too-long-of : {X : Type 0} (view : X → ℕ × List ℕ) (rose : Type 0) (told : Directory) (security : ℕ) (named : List ImageWord) (s : Stop) → rows_value told (map image_view named) ≡ Ok None
+    → s ≡ refused (length named) → Gives view rose (manifest_value told security (map image_view named)) (Err s)
+too-long-of view rose told security named s e is =
+    let value : manifest_value told security (map image_view named) ≡ Err (refused (length named)) =
+    value-of-rows told security (map image_view named) None e ∙ ap (λ (n : ℕ). counted n security None) (length-map named image_view) ∙ refused-counted (length named) security in
+    subst (λ (t : Stop). Gives view rose (manifest_value told security (map image_view named)) (Err t)) (sym is) (gives-refused view rose (manifest_value told security (map image_view named)) (length named) value)
+
+-- what gives a value gives one that is the same
+pub gives-same : {X Y : Type 0} (view : X → Y) (rose late : Type 0) (v w : Result Y Stop) (r : Result X Stop) → (rose → late) → w ≡ v → Gives view rose v r → Gives view late w r
+gives-same view rose late v w (Ok x) rises e g = e ∙ g
+gives-same view rose late v w (Err s) rises e g = gives-err view view rose late v w s rises (λ h. e ∙ h) g
+
+-- the file and the line of a manifest
+pub manifest-written : (files : Directory) (out : List ℕ) (security : ℕ) (value : Result (ℕ × List ℕ) Stop) (made : ℕ × List ℕ) (bytes line : List ℕ) (now : Option Directory)
+    (was text : Option (List ℕ)) (rose late sink-rose : Type 0) (r : Result (Unit {0}) Stop) → value ≡ Ok made → bytes ≡ made.1 → line ≡ manifest_line made.0 (length made.1) security
+    → (rose → late) → Did (Makes (Writes out bytes ∷ Prints line ∷ [])) files now was text rose sink-rose r
+    → Did (outcome_by (writes_manifest out security) value) files now was text late sink-rose r
+manifest-written files out security value made bytes line now was text rose late sink-rose r v same said rises did =
+    let steps : Writes out bytes ∷ Prints line ∷ [] ≡ writes_manifest out security made =
+    ap (λ (l : List ℕ). Writes out l ∷ Prints line ∷ []) same ∙ ap (λ (l : List ℕ). Writes out made.1 ∷ Prints l ∷ []) said in
+    made-steps (writes_manifest out security) value made files now was text rose late sink-rose r v rises
+    (subst (λ (steps : List Step). Did (Makes steps) files now was text rose sink-rose r) steps did)

@@ -1,0 +1,415 @@
+-- Steps that are done one after the other, and the steps of `unpack`.
+use Rattle.std.proofs.Common.{◌≡◌, ◌≢◌, ◌⊎◌, inl, inr, ◌≤◌, ◌<◌, ◌+◌, ℕ, zero, suc, Bool, true, false, List, [], ◌∷◌, ◌++◌, Option, Some, None, Result, Ok, Err, length, take, drop, filter, get_or, arith, refl, sym, ap, subst, ◌∙◌, append-nil, append_assoc, take-append-drop}
+use Rattle.std.specs.Prelude.{All, not, cond, codes, decimal, option_map, position, nat_lt, find, ◌==◌, ◌||◌, ◌&&◌, IsTrue, if◌then◌else◌}
+use Rattle.std.specs.List.{list_any, position_or_len, prefix_len}
+use Rattle.std.proofs.lemmas.Bool.{ltb-false}
+use Rattle.std.proofs.Math.Seq.{take-append_seam, drop-append_seam}
+use Rattle.std.proofs.lemmas.List.{drop_more, length-append, take_all, take_more}
+use Rattle.std.proofs.lemmas.Bool.{and_from}
+use Rattle.std.proofs.lemmas.Bool.Decides.{nat_tests}
+use Rattle.std.proofs.Common.{eq-eqb, true≢false}
+use Rattle.std.proofs.lemmas.Slice.Eq.{bytes_eq-Decides}
+use Rattle.base_core.specs.Bytes.{num_at, same_bytes}
+use Rattle.base_core.specs.Guid.{guid_of, guid_text}
+use Rattle.base_core.proofs.Spelled.{same_refl}
+use Rattle.fip_words.specs.Values.{bin, is_lower_guid, is_spelled, is_unpacked}
+use Rattle.std.proofs.lemmas.List.Sums.{prefix_len_passes}
+use Rattle.std.proofs.lemmas.List.Elements.{All-from_get_or, filter-append}
+use Rattle.std.specs.Str.{bytes_eq}
+use Rattle.std.specs.Io.KnownBytes.{Appends}
+use Rattle.std.proofs.KnownBytes.{Appends-nil, Appends-trans}
+use Rattle.std.proofs.Math.Seq.{take-append-add, drop-append-add}
+use Rattle.host_io.specs.Contents.{Directory, TellsSize}
+use Rattle.fip_tables.specs.Files.{Lacks, Tells}
+use Rattle.fwu_model.specs.Package.{Entry, Toc, entries_from, entry_limit, fip_name, has_guid, is_beyond, payload, toc_of, with_entries, within}
+use Rattle.fwu_model.specs.declared.kinds.FipFault.{FipFault}
+use Rattle.fwu_model.specs.declared.kinds.FipFault.TheVariants as fault
+use Rattle.fip_tool.specs.Lines.{unpacked_line, unpacked_name}
+use Rattle.fip_tool.specs.Steps.{Outcome, Makes, Refuses, Step, Writes, Prints, Are, AreBut, AreUpTo, Did, Gives, printed, with_file, written}
+use Rattle.fip_tool.specs.Tool.{after, chosen, first_missing, is_named, sized_table, table_of, there, unless_missing, unpack_steps, unpack_value}
+use Rattle.fip_tool.specs.declared.stops.Stop.{Stop}
+use Rattle.fip_tool.specs.declared.stops.Stop.TheVariants as stop
+use Rattle.fip_tool.proofs.Did.{are-up-to, did-later}
+
+-- ---- steps one after the other
+
+written-append : (first second : List Step) (files : Directory) → written (first ++ second) files ≡ written second (written first files)
+written-append [] second files = refl
+written-append (Writes name bytes ∷ first) second files = written-append first second (with_file name bytes files)
+written-append (Prints text ∷ first) second files = written-append first second files
+
+printed-append : (first second : List Step) → printed (first ++ second) ≡ printed first ++ printed second
+printed-append [] second = refl
+printed-append (Writes name bytes ∷ first) second = printed-append first second
+printed-append (Prints text ∷ first) second = ap (λ (l : List ℕ). text ++ l) (printed-append first second) ∙ sym (append_assoc text (printed first) (printed second))
+
+written-along : (steps : List Step) (a b : Directory) → ((name : List ℕ) → a name ≡ b name) → (name : List ℕ) → written steps a name ≡ written steps b name
+written-along [] a b h other = h other
+written-along (Prints text ∷ steps) a b h other = written-along steps a b h other
+written-along (Writes name bytes ∷ steps) a b h other =
+    written-along steps (with_file name bytes a) (with_file name bytes b) (λ o. ap (λ (x : Option (List ℕ)). if bytes_eq name o then Some bytes else x) (h o)) other
+
+are-along : (a b : Directory) (now : Option Directory) → ((name : List ℕ) → a name ≡ b name) → Are now a → Are now b
+are-along a b None h are = absurd are
+are-along a b (Some now) h are = λ name. are name ∙ h name
+
+are-up-to-along : (rest : List Step) (a b : Directory) (now : Option Directory) → ((name : List ℕ) → a name ≡ b name) → AreUpTo rest now a → AreUpTo rest now b
+are-up-to-along [] a b now h are = are-along a b now h are
+are-up-to-along (Prints text ∷ rest) a b now h are = are-along a b now h are
+are-up-to-along (Writes name bytes ∷ rest) a b None h are = absurd are
+are-up-to-along (Writes name bytes ∷ rest) a b (Some now) h are = λ other differs. are other differs ∙ h other
+
+-- these steps are done
+pub record IsDone (steps : List Step) (files now : Directory) (was text : Option (List ℕ)) : Type 0 where
+  pub are : (name : List ℕ) → now name ≡ written steps files name
+  pub said : Appends was text (printed steps)
+
+pub nothing-done : (files : Directory) (was : Option (List ℕ)) → IsDone [] files files was was
+nothing-done files was = record { are = λ name. refl; said = Appends-nil was }
+
+written-then : (first steps : List Step) (files mid : Directory) → ((name : List ℕ) → mid name ≡ written first files name)
+    → (name : List ℕ) → written steps mid name ≡ written (first ++ steps) files name
+written-then first steps files mid are name =
+    written-along steps mid (written first files) are name ∙ sym (ap (λ (d : Directory). d name) (written-append first steps files))
+
+said-then : (first steps : List Step) (was at text : Option (List ℕ)) → Appends was at (printed first) → Appends at text (printed steps) → Appends was text (printed (first ++ steps))
+said-then first steps was at text a b = subst (Appends was text) (sym (printed-append first steps)) (Appends-trans was at text (printed first) (printed steps) a b)
+
+pub done-then : (first second : List Step) (files mid now : Directory) (was at text : Option (List ℕ)) → IsDone first files mid was at → IsDone second mid now at text
+    → IsDone (first ++ second) files now was text
+done-then first second files mid now was at text a b = record {
+  are = λ name. b.are name ∙ written-then first second files mid a.are name;
+  said = said-then first second was at text a.said b.said;
+}
+
+-- more steps that were not come to
+fewer : {X : Type 0} (n : ℕ) (xs ys : List X) → (m : ℕ) × (take m (xs ++ ys) ≡ take n xs) × (drop m (xs ++ ys) ≡ drop n xs ++ ys)
+fewer zero xs ys = (0, refl, refl)
+fewer (suc n) [] ys = (0, refl, refl)
+fewer (suc n) (x ∷ xs) ys = let f = fewer n xs ys in (suc f.0, ap (λ l. x ∷ l) f.1, f.2)
+
+more-left : (left rest : List Step) (files : Directory) (now : Option Directory) → AreUpTo left now files → AreUpTo (left ++ rest) now files
+more-left [] rest files now are = are-up-to rest now files are
+more-left (Writes name bytes ∷ left) rest files now are = are
+more-left (Prints text ∷ left) rest files now are = are
+
+module _ (first second rest : List Step) (files mid : Directory) (now : Option Directory) (was at text : Option (List ℕ)) (rose late sink-rose sink-late : Type 0)
+    (done : IsDone first files mid was at) (rises : rose → late) (sink-rises : sink-rose → sink-late) where
+  -- the first n of the second steps are some of the first of all
+  reach : ℕ → ℕ
+  reach n = length first + (fewer n second rest).0
+
+  reached : (n : ℕ) → take (reach n) (first ++ (second ++ rest)) ≡ first ++ take n second
+  unfolding reach
+  reached n = let f = fewer n second rest in take-append-add first (second ++ rest) f.0 ∙ ap (λ (l : List Step). first ++ l) f.1
+
+  unreached : (n : ℕ) → drop (reach n) (first ++ (second ++ rest)) ≡ drop n second ++ rest
+  unfolding reach
+  unreached n = let f = fewer n second rest in drop-append-add first (second ++ rest) f.0 ∙ f.2
+
+  there-are : (n : ℕ) → Are now (written (take n second) mid) → Are now (written (take (reach n) (first ++ (second ++ rest))) files)
+  there-are n are =
+      subst (λ (l : List Step). Are now (written l files)) (sym (reached n))
+      (are-along (written (take n second) mid) (written (first ++ take n second) files) now (written-then first (take n second) files mid done.are) are)
+
+  there-said : (n : ℕ) → Appends at text (printed (take n second)) → Appends was text (printed (take (reach n) (first ++ (second ++ rest))))
+  there-said n said =
+      subst (λ (l : List Step). Appends was text (printed l)) (sym (reached n)) (said-then first (take n second) was at text done.said said)
+
+  said-front : (k : ℕ) → Appends at text (take k (printed second)) → (j : ℕ) × Appends was text (take j (printed (first ++ (second ++ rest))))
+  said-front k said =
+      let f = fewer k (printed second) (printed rest) in
+      let whole : printed (first ++ (second ++ rest)) ≡ printed first ++ (printed second ++ printed rest) =
+      printed-append first (second ++ rest) ∙ ap (λ (l : List ℕ). printed first ++ l) (printed-append second rest) in
+      let front : take (length (printed first) + f.0) (printed (first ++ (second ++ rest))) ≡ printed first ++ take k (printed second) =
+      ap (take (length (printed first) + f.0)) whole ∙ take-append-add (printed first) (printed second ++ printed rest) f.0 ∙ ap (λ (l : List ℕ). printed first ++ l) f.1 in
+      (length (printed first) + f.0, subst (Appends was text) (sym front) (Appends-trans was at text (printed first) (take k (printed second)) done.said said))
+
+  -- a stop in steps that others follow, after steps that were done
+  pub stops : (s : Stop) → Did (Makes second) mid now at text rose sink-rose (Err s) → Did (Makes (first ++ (second ++ rest))) files now was text late sink-late (Err s)
+  stops stop.NoMemory d = (reach d.0, there-are d.0 d.1, there-said d.0 d.2)
+  stops stop.SinkFault d = let f = said-front d.3 d.4 in (sink-rises d.0, reach d.1, there-are d.1 d.2, f.0, f.1)
+  stops stop.FileFault d = (cause d.0, reach d.1, upto d.1 d.2, there-said d.1 d.3)
+    where
+      cause : (Makes second ≡ Refuses stop.FileFault) ⊎ rose → (Makes (first ++ (second ++ rest)) ≡ Refuses stop.FileFault) ⊎ late
+      cause (inl e) = cc
+      cause (inr r) = inr (rises r)
+
+      upto : (n : ℕ) → AreUpTo (drop n second) now (written (take n second) mid)
+          → AreUpTo (drop (reach n) (first ++ (second ++ rest))) now (written (take (reach n) (first ++ (second ++ rest))) files)
+      upto n are =
+          let along : AreUpTo (drop n second) now (written (first ++ take n second) files) =
+          are-up-to-along (drop n second) (written (take n second) mid) (written (first ++ take n second) files) now (written-then first (take n second) files mid done.are) are in
+          let more : AreUpTo (drop n second ++ rest) now (written (first ++ take n second) files) = more-left (drop n second) rest _ now along in
+          subst (λ (l : List Step). AreUpTo l now (written (take (reach n) (first ++ (second ++ rest))) files)) (sym (unreached n))
+          (subst (λ (l : List Step). AreUpTo (drop n second ++ rest) now (written l files)) (sym (reached n)) more)
+  stops stop.Usage d = let no : Makes second ≡ Refuses stop.Usage = d.0 in cc
+  stops (stop.NotFip f) d = let no : Makes second ≡ Refuses (stop.NotFip f) = d.0 in cc
+  stops (stop.NoSuchEntry guid) d = let no : Makes second ≡ Refuses (stop.NoSuchEntry guid) = d.0 in cc
+  stops (stop.NotPacked f) d = let no : Makes second ≡ Refuses (stop.NotPacked f) = d.0 in cc
+  stops (stop.NoManifest f) d = let no : Makes second ≡ Refuses (stop.NoManifest f) = d.0 in cc
+  stops stop.TooLong d = let no : Makes second ≡ Refuses stop.TooLong = d.0 in cc
+
+-- all steps were done
+pub did-all : (steps : List Step) (files now : Directory) (was text : Option (List ℕ)) (rose sink-rose : Type 0) (u : Unit {0}) → IsDone steps files now was text
+    → Did (Makes steps) files (Some now) was text rose sink-rose (Ok u)
+did-all steps files now was text rose sink-rose u done = (refl, done.are, done.said)
+
+-- what there is after a command that did all
+pub are-now : (steps : List Step) (files : Directory) (now : Option Directory) (was text : Option (List ℕ)) (rose sink-rose : Type 0) (u : Unit {0})
+    → Did (Makes steps) files now was text rose sink-rose (Ok u) → (d : Directory) × (now ≡ Some d) × IsDone steps files d was text
+are-now steps files None was text rose sink-rose u d = absurd d.1
+are-now steps files (Some now) was text rose sink-rose u d = (now, refl, record { are = d.1; said = d.2 })
+
+-- ---- the steps of `unpack`
+
+pub unpack-append : (prefix bytes : List ℕ) (a b : List Entry) → unpack_steps prefix bytes (a ++ b) ≡ unpack_steps prefix bytes a ++ unpack_steps prefix bytes b
+unpack-append prefix bytes [] b = refl
+unpack-append prefix bytes (e ∷ a) b = ap (λ (l : List Step). Writes (unpacked_name prefix e.guid) (payload bytes e) ∷ l) (ap (λ (l : List Step). Prints (unpacked_line prefix e) ∷ l) (unpack-append prefix bytes a b))
+
+-- ---- what a package gives
+
+cond-none : {X : Type 0} (b : Bool) (x : X) → cond b (Some x) None ≡ None → b ≡ false
+cond-none true x h = cc
+cond-none false x h = refl
+
+not-true : (b : Bool) → not b ≡ true → b ≡ false
+not-true true h = cc
+not-true false h = refl
+
+none-beyond : (bytes : List ℕ) (es : List Entry) → position (is_beyond bytes) es ≡ None → All (λ e. e.offset + e.size ≤ length bytes) es
+none-beyond bytes es h = λ k d lt.
+    let far : length es ≤ position_or_len (is_beyond bytes) es = ltb-false _ _ (cond-none (nat_lt (position_or_len (is_beyond bytes) es) (length es)) _ h) in
+    All-from_get_or (λ e. e.offset + e.size ≤ length bytes) es d
+    (λ i less. ltb-false _ _ (not-true (is_beyond bytes (get_or es i d)) (prefix_len_passes (λ e. not (is_beyond bytes e)) es i d (omega (arith, far, less))))) k d lt
+
+ok-after : {X : Type 0} (b : Bool) (f : FipFault) (r : Result X FipFault) (x : X) → (if b then Err f else r) ≡ Ok x → r ≡ Ok x
+ok-after true f r x h = cc
+ok-after false f r x h = h
+
+is-within : (bytes : List ℕ) (t toc : Toc) (o : Option ℕ) → within bytes t o ≡ Ok toc → (o ≡ None) × (t ≡ toc)
+is-within bytes t toc None h = (refl, cc)
+is-within bytes t toc (Some i) h = cc
+
+pub stored-entries : (bytes : List ℕ) (toc : Toc) → toc_of bytes ≡ Ok toc → All (λ e. e.offset + e.size ≤ length bytes) toc.entries
+unfolding toc_of
+stored-entries bytes toc h = go (entries_from bytes [] 0 entry_limit) (ok-after (num_at 4 bytes 4 == 0) fault.ZeroSerial _ toc (ok-after (not (num_at 4 bytes 0 == fip_name)) fault.BadName _ toc (ok-after (nat_lt (length bytes) 16) fault.ShortHeader _ toc h)))
+  where
+    go : (r : Result (List Entry) FipFault) → with_entries bytes r ≡ Ok toc → All (λ e. e.offset + e.size ≤ length bytes) toc.entries
+    go (Err f) e = cc
+    go (Ok es) e = let w = is-within bytes _ toc (position (is_beyond bytes) es) e in subst (λ (t : Toc). All (λ e. e.offset + e.size ≤ length bytes) t.entries) w.1 (none-beyond bytes es w.0)
+
+abbrev tabled : List ℕ → Result Toc FipFault → Result (List ℕ × Toc) Stop
+tabled bytes r = after (table_of r) (λ t. Ok (bytes, t))
+
+abbrev packaged : Option (List ℕ) → Result (List ℕ × Toc) Stop
+packaged o = after (there o) (λ bytes. tabled bytes (toc_of bytes))
+
+abbrev with_size : List ℕ × Toc → Result (Toc × ℕ) Stop
+with_size p = Ok (p.1, length p.0)
+
+with-table : (bytes : List ℕ) (r : Result Toc FipFault) (t : Toc × ℕ) → after (tabled bytes r) with_size ≡ Ok t → r ≡ Ok t.0
+with-table bytes (Err f) t e = cc
+with-table bytes (Ok x) t e = let p : Toc × ℕ = (x, length bytes) in let same : p ≡ t = cc in ap (λ (q : Toc × ℕ). Ok q.0) same
+
+pub package-of : (files : Directory) (name : List ℕ) (t : Toc × ℕ) → sized_table files name ≡ Ok t → (bytes : List ℕ) × (files name ≡ Some bytes) × (toc_of bytes ≡ Ok t.0)
+unfolding sized_table
+package-of files name t h = go (files name) refl h
+  where
+    go : (o : Option (List ℕ)) → files name ≡ o → after (packaged o) with_size ≡ Ok t → (bytes : List ℕ) × (files name ≡ Some bytes) × (toc_of bytes ≡ Ok t.0)
+    go None is e = cc
+    go (Some bytes) is e = (bytes, is, with-table bytes (toc_of bytes) t e)
+
+err-by : (r : Result (List ℕ × Toc) Stop) (f : List ℕ × Toc → Result (List ℕ × List Entry) Stop) (s : Stop) → after r with_size ≡ Err s → after r f ≡ Err s
+err-by (Err x) f s e = let same : x ≡ s = cc in ap (λ (y : Stop). Err y) same
+err-by (Ok p) f s e = cc
+
+pub value-err : (files : Directory) (name : List ℕ) (guids : List (List ℕ)) (s : Stop) → sized_table files name ≡ Err s → unpack_value files name guids ≡ Err s
+unfolding sized_table unpack_value
+value-err files name guids s h = err-by (packaged (files name)) (λ p. unless_missing (first_missing p.1 guids) (Ok (p.0, chosen guids p.1.entries))) s h
+
+pub value-missing : (files : Directory) (name bytes : List ℕ) (guids : List (List ℕ)) (toc : Toc) (guid : List ℕ) → files name ≡ Some bytes → toc_of bytes ≡ Ok toc
+    → first_missing toc guids ≡ Some guid → unpack_value files name guids ≡ Err (stop.NoSuchEntry guid)
+unfolding unpack_value
+value-missing files name bytes guids toc guid there is missing = rw (there, is, missing) refl
+
+pub value-ok : (files : Directory) (name bytes : List ℕ) (guids : List (List ℕ)) (toc : Toc) → files name ≡ Some bytes → toc_of bytes ≡ Ok toc
+    → first_missing toc guids ≡ None → unpack_value files name guids ≡ Ok (bytes, chosen guids toc.entries)
+unfolding unpack_value
+value-ok files name bytes guids toc there is missing = rw (there, is, missing) refl
+
+-- ---- the chosen entries
+
+filter-all : (es : List Entry) → filter (λ e. true) es ≡ es
+filter-all [] = refl
+filter-all (e ∷ es) = ap (λ l. e ∷ l) (filter-all es)
+
+pub chosen-filter : (guids : List (List ℕ)) (es : List Entry) → filter (λ e. (length guids == 0) || is_named guids e) es ≡ chosen guids es
+chosen-filter [] es = filter-all es
+chosen-filter (guid ∷ guids) es =
+    let no : (length (guid ∷ guids) == 0) ≡ false = grind (arith, nat_tests) in
+    ap (λ (b : Bool). filter (λ e. b || is_named (guid ∷ guids) e) es) no
+
+-- ---- the file that is read is not written
+
+same_by : (xs ys : List ℕ) → xs ≡ ys → IsTrue (same_bytes xs ys)
+same_by xs ys e = subst (λ (l : List ℕ). IsTrue (same_bytes xs l)) e (same_refl xs)
+
+lower-spelled : (text guid : List ℕ) → text ≡ guid_text guid → guid_of text ≡ Some guid → IsTrue (is_lower_guid text)
+unfolding is_lower_guid
+lower-spelled text guid spelled read = rw read (same_by (guid_text guid) text (sym spelled))
+
+is-unpacked : (prefix text guid : List ℕ) → length text ≡ 36 → text ≡ guid_text guid → guid_of text ≡ Some guid → is_unpacked prefix (prefix ++ guid_text guid ++ bin) ≡ true
+unfolding is_unpacked
+is-unpacked prefix text guid long spelled read =
+    let file : List ℕ = prefix ++ (text ++ bin) in
+    let whole : length file ≡ length prefix + 40 = (let a = length-append prefix (text ++ bin) in let b = length-append text bin in omega arith) in
+    let front : take (length prefix) file ≡ prefix = take-append_seam prefix (text ++ bin) in
+    let back : drop (length prefix) file ≡ text ++ bin = drop-append_seam prefix (text ++ bin) in
+    let middle : take 36 (drop (length prefix) file) ≡ text = ap (take 36) back ∙ subst (λ (n : ℕ). take n (text ++ bin) ≡ text) long (take-append_seam text bin) in
+    let end : drop (length prefix + 36) file ≡ bin = drop-append-add prefix (text ++ bin) 36 ∙ subst (λ (n : ℕ). drop n (text ++ bin) ≡ bin) long (drop-append_seam text bin) in
+    let lower : IsTrue (is_lower_guid (take 36 (drop (length prefix) file))) = subst (λ (l : List ℕ). IsTrue (is_lower_guid l)) (sym middle) (lower-spelled text guid spelled read) in
+    let joined : prefix ++ (text ++ bin) ≡ prefix ++ guid_text guid ++ bin = ap (λ (l : List ℕ). prefix ++ (l ++ bin)) spelled ∙ sym (append_assoc prefix (guid_text guid) bin) in
+    subst (λ (l : List ℕ). IsTrue (is_unpacked prefix l)) joined
+    (and_from _ _ (and_from _ _ (and_from _ _ (eq-eqb _ _ whole) (same_by _ _ front)) lower) (same_by _ _ end))
+
+pub not-from : (prefix text guid from : List ℕ) → length text ≡ 36 → text ≡ guid_text guid → guid_of text ≡ Some guid → is_unpacked prefix from ≡ false → from ≢ unpacked_name prefix guid
+not-from prefix text guid from long spelled read other same =
+    true≢false (sym (is-unpacked prefix text guid long spelled read) ∙ sym (ap (is_unpacked prefix) same) ∙ other)
+
+pub kept : (prefix bytes from : List ℕ) (e : Entry) (files now : Directory) (was text : Option (List ℕ)) → from ≢ unpacked_name prefix e.guid → IsDone (unpack_steps prefix bytes (e ∷ [])) files now was text
+    → now from ≡ files from
+kept prefix bytes from e files now was text other done = done.are from ∙ go (bytes_eq (unpacked_name prefix e.guid) from) refl
+  where
+    go : (b : Bool) → bytes_eq (unpacked_name prefix e.guid) from ≡ b → with_file (unpacked_name prefix e.guid) (payload bytes e) files from ≡ files from
+    go true is = absurd (other (sym ((bytes_eq-Decides (unpacked_name prefix e.guid) from).0 is)))
+    go false is = rw is refl
+
+-- what was done so far, of these entries
+pub record IsUnpacking (prefix from bytes : List ℕ) (entries : List Entry) (told : Directory) (contents : Option Directory) (was text : Option (List ℕ)) : Type 0 where
+  pub now : Directory
+  pub is : contents ≡ Some now
+  pub stored : now from ≡ Some bytes
+  pub done : IsDone (unpack_steps prefix bytes entries) told now was text
+
+pub begins : (prefix from bytes : List ℕ) (told : Directory) (contents : Option Directory) (was : Option (List ℕ)) → contents ≡ Some told → told from ≡ Some bytes
+    → IsUnpacking prefix from bytes [] told contents was was
+begins prefix from bytes told contents was is stored = record { now = told; is = is; stored = stored; done = nothing-done told was }
+
+pub one-more : (prefix from bytes : List ℕ) (entries : List Entry) (e : Entry) (told : Directory) (mid contents : Option Directory) (was at text : Option (List ℕ)) (rose sink-rose : Type 0) (u : Unit {0})
+    → (s : IsUnpacking prefix from bytes entries told mid was at) → from ≢ unpacked_name prefix e.guid
+    → Did (Makes (unpack_steps prefix bytes (e ∷ []))) s.now contents at text rose sink-rose (Ok u) → IsUnpacking prefix from bytes (entries ++ (e ∷ [])) told contents was text
+one-more prefix from bytes entries e told mid contents was at text rose sink-rose u s other did =
+    let n = are-now (unpack_steps prefix bytes (e ∷ [])) s.now contents at text rose sink-rose u did in record {
+      now = n.0;
+      is = n.1;
+      stored = kept prefix bytes from e s.now n.0 at text other n.2 ∙ s.stored;
+      done = subst (λ (l : List Step). IsDone l told n.0 was text) (sym (unpack-append prefix bytes entries (e ∷ [])))
+          (done-then (unpack_steps prefix bytes entries) (unpack_steps prefix bytes (e ∷ [])) told s.now n.0 was at text s.done n.2);
+    }
+
+pub one-stops : (prefix from bytes : List ℕ) (entries : List Entry) (e : Entry) (left : List Entry) (told : Directory) (mid contents : Option Directory) (was at text : Option (List ℕ)) (rose late sink-rose sink-late : Type 0)
+    (x : Stop) → (rose → late) → (sink-rose → sink-late) → (s : IsUnpacking prefix from bytes entries told mid was at)
+    → Did (Makes (unpack_steps prefix bytes (e ∷ []))) s.now contents at text rose sink-rose (Err x)
+    → Did (Makes (unpack_steps prefix bytes (entries ++ (e ∷ left)))) told contents was text late sink-late (Err x)
+one-stops prefix from bytes entries e left told mid contents was at text rose late sink-rose sink-late x rises sink-rises s did =
+    let split : unpack_steps prefix bytes (entries ++ (e ∷ left)) ≡ unpack_steps prefix bytes entries ++ (unpack_steps prefix bytes (e ∷ []) ++ unpack_steps prefix bytes left) =
+    unpack-append prefix bytes entries (e ∷ left) in
+    subst (λ (l : List Step). Did (Makes l) told contents was text late sink-late (Err x)) (sym split)
+    (stops (unpack_steps prefix bytes entries) (unpack_steps prefix bytes (e ∷ [])) (unpack_steps prefix bytes left) told s.now contents was at text rose late sink-rose sink-late s.done rises sink-rises x did)
+
+pub ends : (prefix from bytes : List ℕ) (entries : List Entry) (told : Directory) (contents : Option Directory) (was text : Option (List ℕ)) (rose sink-rose : Type 0) (u : Unit {0})
+    → IsUnpacking prefix from bytes entries told contents was text → Did (Makes (unpack_steps prefix bytes entries)) told contents was text rose sink-rose (Ok u)
+ends prefix from bytes entries told contents was text rose sink-rose u s =
+    subst (λ (o : Option Directory). Did (Makes (unpack_steps prefix bytes entries)) told o was text rose sink-rose (Ok u)) (sym s.is)
+    (did-all (unpack_steps prefix bytes entries) told s.now was text rose sink-rose u s.done)
+
+-- ---- one payload
+
+has-name : (o : Option Directory) (name : List ℕ) (n : ℕ) → TellsSize o name (Some n) → Lacks o name → ⊥
+has-name None name n size lacks = lacks
+has-name (Some d) name n size lacks = let no : ◌≡◌ {A = Option ℕ} (Some n) None = size ∙ ap (option_map length) lacks in cc
+
+-- a file that has a size and could not be read had a fault
+pub read-cause : {X : Type 0} (view : X → List ℕ) (value : List ℕ → List ℕ) (o mid : Option Directory) (name : List ℕ) (size : Option ℕ) (n : ℕ) (rose : Type 0) (r : Result X Stop)
+    → mid ≡ o → size ≡ Some n → TellsSize o name size → (r ≡ Err stop.FileFault → mid ≡ None → rose)
+    → ((bytes : List ℕ) → Tells mid name bytes → Gives view rose (Ok (value bytes)) r) → r ≡ Err stop.FileFault → rose
+read-cause {X = X} view value o mid name size n rose r same is tells cause gives e = go mid (subst (λ (x : Option Directory). TellsSize x name (Some n)) (sym same) (subst (λ (s : Option ℕ). TellsSize o name s) is tells)) (cause e) gives
+  where
+    given : (bytes : List ℕ) → Gives view rose (Ok (value bytes)) (Err stop.FileFault) → rose
+    given bytes (inl e) = cc
+    given bytes (inr r) = r
+
+    in-told : (d : Directory) (o : Option (List ℕ)) → d name ≡ o → TellsSize (Some d) name (Some n) → ((bytes : List ℕ) → Tells (Some d) name bytes → Gives view rose (Ok (value bytes)) r) → rose
+    in-told d None is size gives = absurd (has-name (Some d) name n size is)
+    in-told d (Some bytes) is size gives = given bytes (subst (λ (x : Result X Stop). Gives view rose (Ok (value bytes)) x) e (gives bytes is))
+
+    go : (mid : Option Directory) → TellsSize mid name (Some n) → (mid ≡ None → rose) → ((bytes : List ℕ) → Tells mid name bytes → Gives view rose (Ok (value bytes)) r) → rose
+    go None size cause gives = cause refl
+    go (Some d) size cause gives = in-told d (d name) refl size gives
+
+-- a file that was written, and its line
+pub entry-did : (prefix bytes : List ℕ) (e : Entry) (name shown out line : List ℕ) (told : Directory) (now : Option Directory) (was text : Option (List ℕ)) (rose late sink-rose : Type 0) (r : Result (Unit {0}) Stop)
+    → name ≡ unpacked_name prefix e.guid → shown ≡ unpacked_name prefix e.guid → out ≡ payload bytes e → line ≡ guid_text e.guid ++ codes " size=" ++ decimal e.size ++ codes " file=" ++ shown ++ codes "\n" → (rose → late)
+    → Did (Makes (Writes name out ∷ Prints line ∷ [])) told now was text rose sink-rose r → Did (Makes (unpack_steps prefix bytes (e ∷ []))) told now was text late sink-rose r
+unfolding unpacked_line
+entry-did prefix bytes e name shown out line told now was text rose late sink-rose r named seen whole said rises d =
+    let lined : line ≡ unpacked_line prefix e = said ∙ ap (λ (n : List ℕ). guid_text e.guid ++ codes " size=" ++ decimal e.size ++ codes " file=" ++ n ++ codes "\n") seen in
+    let steps : Writes name out ∷ Prints line ∷ [] ≡ unpack_steps prefix bytes (e ∷ []) = cc in
+    did-later (Makes (unpack_steps prefix bytes (e ∷ []))) told now was text rose late sink-rose r rises
+    (subst (λ (l : List Step). Did (Makes l) told now was text rose sink-rose r) steps d)
+
+pub same-ok : (a b : List ℕ) → ◌≡◌ {A = Result (List ℕ) Stop} (Ok a) (Ok b) → b ≡ a
+same-ok a b e = cc
+
+-- ---- one entry after the other
+
+module _ (p : Entry → Bool) (es : List Entry) (i : ℕ) (e : Entry) (lt : i < length es) (here : get_or es i e ≡ e) where
+  next-chosen : p e ≡ true → filter p (take (i + 1) es) ≡ filter p (take i es) ++ (e ∷ [])
+  next-chosen h =
+      ap (filter p) (take_more es i e lt ∙ ap (λ (x : Entry). take i es ++ (x ∷ [])) here) ∙ filter-append p (take i es) (e ∷ []) ∙ ap (λ (l : List Entry). filter p (take i es) ++ l) (one (p e) h)
+    where
+      one : (b : Bool) → b ≡ true → cond b (e ∷ []) [] ≡ e ∷ []
+      one true q = refl
+      one false q = cc
+
+  next-passed : p e ≡ false → filter p (take (i + 1) es) ≡ filter p (take i es)
+  next-passed h =
+      ap (filter p) (take_more es i e lt ∙ ap (λ (x : Entry). take i es ++ (x ∷ [])) here) ∙ filter-append p (take i es) (e ∷ []) ∙ ap (λ (l : List Entry). filter p (take i es) ++ l) (one (p e) h) ∙ append-nil (filter p (take i es))
+    where
+      one : (b : Bool) → b ≡ false → cond b (e ∷ []) [] ≡ []
+      one true q = cc
+      one false q = refl
+
+  split-chosen : p e ≡ true → filter p es ≡ filter p (take i es) ++ (e ∷ filter p (drop (i + 1) es))
+  split-chosen h =
+      ap (filter p) (sym (take-append-drop i es)) ∙ filter-append p (take i es) (drop i es) ∙ ap (λ (l : List Entry). filter p (take i es) ++ l) (ap (filter p) (drop_more es i e lt ∙ ap (λ (x : Entry). x ∷ drop (i + 1) es) here) ∙ one (p e) h)
+    where
+      one : (b : Bool) → b ≡ true → cond b (e ∷ filter p (drop (i + 1) es)) (filter p (drop (i + 1) es)) ≡ e ∷ filter p (drop (i + 1) es)
+      one true q = refl
+      one false q = cc
+
+module _ (prefix from bytes : List ℕ) (p : Entry → Bool) (es : List Entry) (i : ℕ) (told : Directory) (was : Option (List ℕ)) where
+  pub step-passed : (e : Entry) → i < length es → get_or es i e ≡ e → (contents : Option Directory) (text : Option (List ℕ)) → IsUnpacking prefix from bytes (filter p (take i es)) told contents was text
+      → p e ≡ false → IsUnpacking prefix from bytes (filter p (take (i + 1) es)) told contents was text
+  step-passed e lt here contents text s h = subst (λ (l : List Entry). IsUnpacking prefix from bytes l told contents was text) (sym (next-passed p es i e lt here h)) s
+
+  module _ (e : Entry) (lt : i < length es) (here : get_or es i e ≡ e) (mid contents : Option Directory) (at text : Option (List ℕ)) (rose sink-rose : Type 0)
+      (s : IsUnpacking prefix from bytes (filter p (take i es)) told mid was at) where
+    pub step-done : (u : Unit {0}) → p e ≡ true → from ≢ unpacked_name prefix e.guid
+        → Did (Makes (unpack_steps prefix bytes (e ∷ []))) s.now contents at text rose sink-rose (Ok u) → IsUnpacking prefix from bytes (filter p (take (i + 1) es)) told contents was text
+    step-done u h other did =
+        subst (λ (l : List Entry). IsUnpacking prefix from bytes l told contents was text) (sym (next-chosen p es i e lt here h))
+        (one-more prefix from bytes (filter p (take i es)) e told mid contents was at text rose sink-rose u s other did)
+
+    pub step-stops : (late sink-late : Type 0) (x : Stop) → (rose → late) → (sink-rose → sink-late) → p e ≡ true
+        → Did (Makes (unpack_steps prefix bytes (e ∷ []))) s.now contents at text rose sink-rose (Err x) → Did (Makes (unpack_steps prefix bytes (filter p es))) told contents was text late sink-late (Err x)
+    step-stops late sink-late x rises sink-rises h did =
+        subst (λ (l : List Entry). Did (Makes (unpack_steps prefix bytes l)) told contents was text late sink-late (Err x)) (sym (split-chosen p es i e lt here h))
+        (one-stops prefix from bytes (filter p (take i es)) e (filter p (drop (i + 1) es)) told mid contents was at text rose late sink-rose sink-late x rises sink-rises s did)
+
+  pub all-done : (contents : Option Directory) (text : Option (List ℕ)) (rose sink-rose : Type 0) (u : Unit {0}) → length es ≤ i → IsUnpacking prefix from bytes (filter p (take i es)) told contents was text
+      → Did (Makes (unpack_steps prefix bytes (filter p es))) told contents was text rose sink-rose (Ok u)
+  all-done contents text rose sink-rose u far s =
+      ends prefix from bytes (filter p es) told contents was text rose sink-rose u
+      (subst (λ (l : List Entry). IsUnpacking prefix from bytes (filter p l) told contents was text) (take_all i es far) s)

@@ -1,0 +1,92 @@
+-- Words that ask for `unpack`: the file that is read is not one that may be written.
+use Rattle.std.proofs.Common.{◌≡◌, ℕ, Bool, true, false, List, Option, Some, None, codes, refl, sym, ap, ◌∙◌}
+use Rattle.std.specs.Prelude.{if◌then◌else◌, option_and_then}
+use Rattle.base_core.specs.Bytes.{same_bytes}
+use Rattle.fip_words.specs.Commands.{fip_app}
+use Rattle.fip_words.specs.Order.{Asked, info, info_of_source, create, update, remove, unpack, manifest, align_in, asked, create_by, create_of, file_in, info_by, info_of, manifest_by, manifest_of, order_of, remove_by, remove_of, unpack_by, unpack_of, unpack_to, update_by, update_of, values_of}
+use Rattle.fip_words.specs.Values.{NamedFile, NamedImage, is_unpacked, names_of, number_read, parts_of, rows_of}
+use Rattle.fip_words.specs.Words.{reads}
+
+module _ (from prefix : List ℕ) (names : List (List ℕ)) where
+  abbrev Is : Option Asked → Type 0
+  Is o = o ≡ Some (unpack from prefix names)
+
+  info-is-none : (file : Option (List ℕ)) → Is (info_by file) → ⊥
+  info-is-none None e = cc
+  info-is-none (Some name) e = go (same_bytes name (codes "-")) e
+    where
+      go : (b : Bool) → Is (if b then Some info_of_source else Some (info name)) → ⊥
+      go true h = cc
+      go false h = cc
+
+  create-is-none : (align : Option ℕ) (out : Option (List ℕ)) (parts : Option (List NamedFile)) → Is (create_by align out parts) → ⊥
+  create-is-none None out parts e = cc
+  create-is-none (Some a) None parts e = cc
+  create-is-none (Some a) (Some o) None e = cc
+  create-is-none (Some a) (Some o) (Some ps) e = cc
+
+  update-is-none : (align : Option ℕ) (in_file out : Option (List ℕ)) (parts : Option (List NamedFile)) → Is (update_by align in_file out parts) → ⊥
+  update-is-none None i out parts e = cc
+  update-is-none (Some a) None out parts e = cc
+  update-is-none (Some a) (Some i) None parts e = cc
+  update-is-none (Some a) (Some i) (Some o) None e = cc
+  update-is-none (Some a) (Some i) (Some o) (Some ps) e = cc
+
+  remove-is-none : (align : Option ℕ) (in_file out : Option (List ℕ)) (ns : Option (List (List ℕ))) → Is (remove_by align in_file out ns) → ⊥
+  remove-is-none None i out parts e = cc
+  remove-is-none (Some a) None out parts e = cc
+  remove-is-none (Some a) (Some i) None parts e = cc
+  remove-is-none (Some a) (Some i) (Some o) None e = cc
+  remove-is-none (Some a) (Some i) (Some o) (Some ps) e = cc
+
+  manifest-is-none : (out : Option (List ℕ)) (security : Option ℕ) (rows : Option (List NamedImage)) → Is (manifest_by out security rows) → ⊥
+  manifest-is-none None s rows e = cc
+  manifest-is-none (Some o) None rows e = cc
+  manifest-is-none (Some o) (Some s) None e = cc
+  manifest-is-none (Some o) (Some s) (Some rs) e = cc
+
+  unpack-is-other : (f p : Option (List ℕ)) (ns : Option (List (List ℕ))) → Is (unpack_by f p ns) → is_unpacked prefix from ≡ false
+  unpack-is-other None p ns e = cc
+  unpack-is-other (Some f) None ns e = cc
+  unpack-is-other (Some f) (Some p) None e = cc
+  unpack-is-other (Some f) (Some p) (Some ns) e = go (is_unpacked p f) refl e
+    where
+      go : (b : Bool) → is_unpacked p f ≡ b → Is (if b then None else Some (unpack f p ns)) → is_unpacked prefix from ≡ false
+      go true is h = cc
+      go false is h =
+          let one : f ≡ from = cc in
+          let two : p ≡ prefix = cc in
+          ap (λ (x : List ℕ). is_unpacked x from) (sym two) ∙ ap (is_unpacked p) (sym one) ∙ is
+
+  -- one of two
+  one-of : (b : Bool) (x y : Option Asked) (P : Type 0) → (Is x → P) → (Is y → P) → Is (if b then x else y) → P
+  one-of true x y P f g h = f h
+  one-of false x y P f g h = g h
+
+  -- a value, and what is made of it
+  made-of : {X : Type 0} (o : Option X) (f : X → Option Asked) (P : Type 0) → ((x : X) → Is (f x) → P) → Is (option_and_then f o) → P
+  made-of None f P g h = cc
+  made-of (Some x) f P g h = g x h
+
+  pub asked-is-other : (words : List (List ℕ)) → asked words ≡ Some (unpack from prefix names) → is_unpacked prefix from ≡ false
+  asked-is-other words e =
+      made-of (reads fip_app words) (λ p. order_of p.0 p.1) (is_unpacked prefix from ≡ false)
+      (λ p h.
+      one-of (same_bytes p.0 (codes "info")) _ _ _ (λ is. absurd (info-is-none (file_in (codes "file") p.1) is))
+      (λ then-one.
+      one-of (same_bytes p.0 (codes "create")) _ _ _ (λ is. absurd (create-is-none (align_in p.1) (file_in (codes "out") p.1) (parts_of (values_of (codes "parts") p.1)) is))
+      (λ then-two.
+      one-of (same_bytes p.0 (codes "update")) _ _ _ (λ is. absurd (update-is-none (align_in p.1) (file_in (codes "in") p.1) (file_in (codes "out") p.1) (parts_of (values_of (codes "parts") p.1)) is))
+      (λ then-three.
+      one-of (same_bytes p.0 (codes "remove")) _ _ _ (λ is. absurd (remove-is-none (align_in p.1) (file_in (codes "in") p.1) (file_in (codes "out") p.1) (names_of (values_of (codes "parts") p.1)) is))
+      (λ then-four.
+      one-of (same_bytes p.0 (codes "unpack")) _ _ _ (λ is. unpack-is-other (file_in (codes "in") p.1) (file_in (codes "prefix") p.1) (names_of (values_of (codes "names") p.1)) is)
+      (λ then-five.
+      one-of (same_bytes p.0 (codes "manifest")) (manifest_of p.1) None _
+      (λ is. absurd (manifest-is-none (file_in (codes "out") p.1) _ (rows_of (values_of (codes "rows") p.1)) is)) (λ is. cc) then-five)
+      then-four)
+      then-three)
+      then-two)
+      then-one)
+      h)
+      e

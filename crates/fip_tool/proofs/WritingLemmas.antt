@@ -1,0 +1,59 @@
+-- What a writing and a line leave.
+use Rattle.std.proofs.Common.{◌≡◌, ◌≢◌, inr, ℕ, List, [], ◌∷◌, Bool, true, false, Option, Some, None, Result, Ok, Err, take, refl, sym, ap, subst, ◌∙◌, append-nil, true≢false}
+use Rattle.std.specs.Str.{bytes_eq}
+use Rattle.std.proofs.lemmas.Slice.Eq.{bytes_eq-Decides}
+use Rattle.std.specs.Io.KnownBytes.{Appends}
+use Rattle.host_io.specs.Contents.{ChangesOnly, Directory, Holds}
+use Rattle.fip_tool.specs.Steps.{Makes, Writes, Prints, Are, AreBut, Did, Printed, Written, with_file}
+use Rattle.fip_tool.specs.declared.stops.Stop.{Stop}
+use Rattle.fip_tool.specs.declared.stops.Stop.TheVariants as stop
+use Rattle.fip_tool.proofs.Did.{appends-none}
+
+with-other : (name bytes other : List ℕ) (files new : Directory) → new name ≡ Some bytes → ((other : List ℕ) → other ≢ name → new other ≡ files other) → new other ≡ with_file name bytes files other
+with-other name bytes other files new holds only = go (bytes_eq name other) refl
+  where
+    go : (b : Bool) → bytes_eq name other ≡ b → new other ≡ with_file name bytes files other
+    go true e =
+        let same : name ≡ other = (bytes_eq-Decides name other).0 e in
+        rw e (ap new (sym same) ∙ holds)
+    go false e = rw e (only other (λ same. true≢false (sym ((bytes_eq-Decides name other).1 (sym same)) ∙ e)))
+
+pub written-whole : (files : Directory) (o now : Option Directory) (name bytes : List ℕ) → o ≡ Some files → Holds now name bytes → ChangesOnly o now name → Are now (with_file name bytes files)
+written-whole files None now name bytes e holds only = cc
+written-whole files (Some old) None name bytes e holds only = absurd only
+written-whole files (Some old) (Some new) name bytes e holds only =
+    let same : old ≡ files = cc in
+    λ other. with-other name bytes other files new holds (λ x differs. only x differs ∙ ap (λ (d : Directory). d x) same)
+
+pub not-written : (files : Directory) (o now : Option Directory) (name : List ℕ) → o ≡ Some files → ChangesOnly o now name → AreBut name now files
+not-written files None now name e only = cc
+not-written files (Some old) None name e only = absurd only
+not-written files (Some old) (Some new) name e only =
+    let same : old ≡ files = cc in
+    λ other differs. only other differs ∙ ap (λ (d : Directory). d other) same
+
+pub write-stopped : (files : Directory) (now : Option Directory) (was text : Option (List ℕ)) (files-rose sink-rose : Type 0) (name bytes line : List ℕ) (s : Stop)
+    → Written files now files-rose name bytes (Err s) → text ≡ was → Did (Makes (Writes name bytes ∷ Prints line ∷ [])) files now was text files-rose sink-rose (Err s)
+write-stopped files now was text files-rose sink-rose name bytes line stop.FileFault w t = (inr w.0, 0, w.1, appends-none was text t)
+write-stopped files now was text files-rose sink-rose name bytes line stop.NoMemory w t = (0, w, appends-none was text t)
+write-stopped files now was text files-rose sink-rose name bytes line stop.Usage w t = absurd w
+write-stopped files now was text files-rose sink-rose name bytes line stop.SinkFault w t = absurd w
+write-stopped files now was text files-rose sink-rose name bytes line (stop.NotFip f) w t = absurd w
+write-stopped files now was text files-rose sink-rose name bytes line (stop.NoSuchEntry guid) w t = absurd w
+write-stopped files now was text files-rose sink-rose name bytes line (stop.NotPacked f) w t = absurd w
+write-stopped files now was text files-rose sink-rose name bytes line (stop.NoManifest f) w t = absurd w
+write-stopped files now was text files-rose sink-rose name bytes line stop.TooLong w t = absurd w
+
+pub then-printed : (files : Directory) (now : Option Directory) (was text : Option (List ℕ)) (files-rose sink-rose : Type 0) (name bytes line : List ℕ) (r : Result (Unit {0}) Stop)
+    → Are now (with_file name bytes files) → Printed was text sink-rose line r → Did (Makes (Writes name bytes ∷ Prints line ∷ [])) files now was text files-rose sink-rose r
+then-printed files now was text files-rose sink-rose name bytes line (Ok u) w p = (refl, w, subst (Appends was text) (sym (append-nil line)) p)
+then-printed files now was text files-rose sink-rose name bytes line (Err stop.SinkFault) w p =
+    (p.0, 1, w, p.1, subst (λ (l : List ℕ). Appends was text (take p.1 l)) (sym (append-nil line)) p.2)
+then-printed files now was text files-rose sink-rose name bytes line (Err stop.NoMemory) w p = (1, w, appends-none was text p)
+then-printed files now was text files-rose sink-rose name bytes line (Err stop.Usage) w p = absurd p
+then-printed files now was text files-rose sink-rose name bytes line (Err stop.FileFault) w p = absurd p
+then-printed files now was text files-rose sink-rose name bytes line (Err (stop.NotFip f)) w p = absurd p
+then-printed files now was text files-rose sink-rose name bytes line (Err (stop.NoSuchEntry guid)) w p = absurd p
+then-printed files now was text files-rose sink-rose name bytes line (Err (stop.NotPacked f)) w p = absurd p
+then-printed files now was text files-rose sink-rose name bytes line (Err (stop.NoManifest f)) w p = absurd p
+then-printed files now was text files-rose sink-rose name bytes line (Err stop.TooLong) w p = absurd p

@@ -1,0 +1,24 @@
+use Rattle.std.proofs.Common.{◌∙◌, Vec, ℕ}
+use Rattle.std.specs.Global.{Global}
+use Rattle.fwu_model.specs.Package.{Toc}
+use Rattle.fip_tool.proofs.PartLemmas.{gives-same}
+use Rattle.fip_tool.proofs.Repacking.{opened, remove-err, remove-of, stored-of, there-of}
+use Rattle.fip_tool.proofs.Tables.{gives-err, rose-from, tells}
+use Rattle.fip_tool.proofs.making.removed.Goals as goal
+
+pub without-requires-clause-stored : goal.without-requires-clause-stored
+without-requires-clause-stored g c = stored-of _ _ c.args.from.now c.args.guids.now c.in-Ok.toc c.table_with.ensures.reads.same (λ told e. c.in-Ok.ensures.told told e)
+
+pub without-requires-clause-there : goal.without-requires-clause-there
+without-requires-clause-there g c = there-of _ _ c.args.from.now c.args.guids.now c.in-Ok.toc c.table_with.ensures.reads.same (λ told e. c.in-Ok.ensures.told told e)
+
+pub returns-in-Ok-clause-told : goal.returns-in-Ok-clause-told
+returns-in-Ok-clause-told g c = λ told e.
+    let o = opened told c.args.from.now c.args.guids.now c.in-Ok.toc (c.in-Ok.ensures.told told e) in
+    gives-same (λ (m : ℕ × Vec ℕ Global). (m.0, m.1.items)) _ _ _ _ c.without.result (λ r. rose-from _ _ _ c.table_with.ensures.reads.later r)
+    (remove-of told c.args.align c.args.from.now c.args.guids.now c.in-Ok.toc o)
+    (c.without.ensures.told o.bytes (tells _ told c.args.from.now o.bytes (c.table_with.ensures.reads.same ∙ e) o.is))
+
+pub returns-in-Err-clause-told : goal.returns-in-Err-clause-told
+returns-in-Err-clause-told g c = λ told e.
+    gives-err (λ (t : Toc). t) (λ (m : ℕ × Vec ℕ Global). (m.0, m.1.items)) _ _ _ _ c.in-Err.stop (λ r. r) (remove-err told c.args.align c.args.from.now c.args.guids.now _) (c.in-Err.ensures.told told e)

@@ -1,0 +1,16 @@
+use Rattle.std.proofs.Common.{◌≡◌, ◌≤◌, Some, Ok, length, map, take, option_map}
+use Rattle.std.specs.Prelude.{IfSome}
+use Rattle.host_io.specs.Contents.{Directory}
+use Rattle.manifest_core.specs.Shown.{row}
+use Rattle.fip_words.specs.Order.{image_view}
+use Rattle.fip_tool.proofs.ManifestLemmas.{rows_value}
+use Rattle.fip_tool.proofs.manifest.rows_of_files.Given as goal
+
+-- the files are as they were, and the rows so far are those of the first images
+abbrev pub invariant-loop-one : goal.invariant-loop-one
+invariant-loop-one g l = record {
+  same : g.H.Files.contents l.files ≡ g.H.Files.contents l.fn.files;
+  later : g.H.Files.faults l.fn.files ≤ g.H.Files.faults l.files;
+  count : IfSome l.rows (λ v. length v.items ≡ l.one-index);
+  so-far : (told : Directory) → g.H.Files.contents l.fn.files ≡ Some told → rows_value told (map image_view (take l.one-index l.named)) ≡ Ok (option_map (λ v. map row v.items) l.rows);
+}

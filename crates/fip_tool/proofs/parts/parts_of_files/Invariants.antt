@@ -1,0 +1,13 @@
+use Rattle.std.proofs.Common.{◌≡◌, ◌≤◌, Some, Ok, map, take}
+use Rattle.host_io.specs.Contents.{Directory}
+use Rattle.fip_words.specs.Order.{part_view}
+use Rattle.fip_tool.specs.Tool.{parts_in}
+use Rattle.fip_tool.proofs.parts.parts_of_files.Given as goal
+
+-- the files are as they were, and the parts so far are those of the first files
+abbrev pub invariant-loop-one : goal.invariant-loop-one
+invariant-loop-one g l = record {
+  same : g.H.Files.contents l.files ≡ g.H.Files.contents l.fn.files;
+  later : g.H.Files.faults l.fn.files ≤ g.H.Files.faults l.files;
+  so-far : (told : Directory) → g.H.Files.contents l.fn.files ≡ Some told → parts_in told (map part_view (take l.one-index l.named)) ≡ Ok l.parts.items;
+}

@@ -1,0 +1,260 @@
+//! The commands that make packages: `create`, `remove` and `update`.
+ghost use Rattle.std.specs.Prelude.{◌≡◌, ◌≤◌, ◌<◌, ◌+◌, ◌^◌, All, IfOk, List, Some, None, Ok, Err, ℕ, filter, length, map, not};
+ghost use Rattle.base_core.specs.Counts.{Rose};
+ghost use Rattle.fip_tables.specs.Files.{Lacks, Tells};
+ghost use Rattle.host_io.specs.Contents.{Directory};
+ghost use Rattle.fip_words.specs.Order.{part_view};
+ghost use Rattle.fip_tool.specs.Steps.{Did, Gives, ReadsOnly, outcome_by};
+ghost use Rattle.fip_tool.specs.Tool.{after, create_value, first_missing, is_named, kept_part, pack_value, packs, parts_in, remove_value, sized_table, unless_missing, update_value, updated_part};
+ghost use Rattle.fip_tool.specs.declared.stops.Stop.TheVariants as stop;
+
+use crate::parts::{create, packed, parts_of_entries, parts_of_files};
+use crate::reading::read_table;
+use crate::stops::Stop;
+use crate::writing::put_package;
+use base_core::Guid;
+use fip_tables::{Entry, Part, Parts, Toc};
+use fip_words::Part as NamedFile;
+use host_io::{Files, Sink};
+use std::alloc::{AllocError, Global};
+
+// The first of these types that the package hasn't.
+fn first_missing(toc: &Toc, guids: &[Guid]) -> Option<Guid>
+    ensures { result ≡ first_missing toc.now guids.now }
+{
+    let entries = &toc.entries;
+    guids.iter().copied().find(|guid| !entries.has(guid))
+}
+
+// The table of a package that has an entry of each of these types.
+fn table_with<H: Files>(files: &mut H, name: &str, guids: &[Guid]) -> Result<Toc, Stop>
+    ensures told { (told : Directory) → H.contents files.old ≡ Some told
+        → Gives (λ t. t) (Rose (H.faults files.old) (H.faults files.new)) (after (sized_table told name.now) (λ t. unless_missing (first_missing t.0 guids.now) (Ok t.0))) result }
+    ensures ends { IfOk result (λ t. All (λ e. e.offset + e.size < 2 ^ 64) t.entries) }
+    ensures reads { ReadsOnly (H.contents files.old) (H.contents files.new) (H.faults files.old) (H.faults files.new) result }
+{
+    match read_table(files, name) {
+        Ok((toc, _)) => match first_missing(&toc, guids) {
+            None => Ok(toc),
+            Some(guid) => Err(Stop::NoSuchEntry(guid)),
+        },
+        Err(stop) => Err(stop),
+    }
+}
+
+// A package of these entries of another, with the new payloads where there are some.
+fn repacked<H: Files>(
+    alloc: Global,
+    files: &mut H,
+    align: u32,
+    from: &str,
+    toc: &Toc,
+    entries: &[Entry],
+    new: &[Part],
+) -> Result<(u64, Vec<u8>), Stop>
+    requires ends { All (λ e. e.offset + e.size < 2 ^ 64) entries.now }
+    requires stored { (bytes : List ℕ) → Tells (H.contents files.old) from.now bytes → All (λ e. e.offset + e.size ≤ length bytes) entries.now }
+    requires there { Lacks (H.contents files.old) from.now → ⊥ }
+    ensures told { (bytes : List ℕ) → Tells (H.contents files.old) from.now bytes
+        → Gives (λ m. (m.0, m.1.items)) (Rose (H.faults files.old) (H.faults files.new)) (pack_value toc.now.serial toc.now.flags (map (updated_part bytes new.now) entries.now) align) result }
+    ensures reads { ReadsOnly (H.contents files.old) (H.contents files.new) (H.faults files.old) (H.faults files.new) result }
+{
+    match parts_of_entries(alloc, files, from, entries, new) {
+        Ok(parts) => {
+            let parts = Parts {
+                serial: toc.serial,
+                flags: toc.flags,
+                parts,
+            };
+            packed(alloc, &parts, align)
+        }
+        Err(stop) => Err(stop),
+    }
+}
+
+fn is_named(guids: &[Guid], entry: &Entry) -> bool
+    ensures { result ≡ is_named guids.now entry.now }
+{
+    guids.iter().any(|guid| guid.is(&entry.guid))
+}
+
+// The entries that are not named.
+fn kept_entries(alloc: Global, entries: &[Entry], guids: &[Guid]) -> Result<Vec<Entry>, AllocError>
+    ensures { IfOk result (λ v. v.items ≡ filter (λ e. not (is_named guids.now e)) entries.now) }
+{
+    entries
+        .iter()
+        .copied()
+        .filter(|entry| !is_named(guids, entry))
+        .collect(alloc)
+}
+
+// The types of named files.
+fn types_of(alloc: Global, named: &[NamedFile]) -> Result<Vec<Guid>, AllocError>
+    ensures { IfOk result (λ v. v.items ≡ map (λ p. p.guid) named.now) }
+{
+    named.iter().map(|one| one.guid).collect(alloc)
+}
+
+// The package of another's table without the named entries.
+fn without<H: Files>(
+    alloc: Global,
+    files: &mut H,
+    align: u32,
+    from: &str,
+    toc: &Toc,
+    guids: &[Guid],
+) -> Result<(u64, Vec<u8>), Stop>
+    requires ends { All (λ e. e.offset + e.size < 2 ^ 64) toc.now.entries }
+    requires stored { (bytes : List ℕ) → Tells (H.contents files.old) from.now bytes → All (λ e. e.offset + e.size ≤ length bytes) toc.now.entries }
+    requires there { Lacks (H.contents files.old) from.now → ⊥ }
+    ensures told { (bytes : List ℕ) → Tells (H.contents files.old) from.now bytes
+        → Gives (λ m. (m.0, m.1.items)) (Rose (H.faults files.old) (H.faults files.new))
+        (pack_value toc.now.serial toc.now.flags (map (kept_part bytes) (filter (λ e. not (is_named guids.now e)) toc.now.entries)) align) result }
+    ensures reads { ReadsOnly (H.contents files.old) (H.contents files.new) (H.faults files.old) (H.faults files.new) result }
+{
+    let Ok(kept) = kept_entries(alloc, toc.entries.as_slice(), guids) else {
+        return Err(Stop::NoMemory);
+    };
+    let none = Vec::new(alloc);
+    repacked(
+        alloc,
+        files,
+        align,
+        from,
+        toc,
+        kept.as_slice(),
+        none.as_slice(),
+    )
+}
+
+/// The package without the named entries.
+fn removed<H: Files>(
+    alloc: Global,
+    files: &mut H,
+    align: u32,
+    from: &str,
+    guids: &[Guid],
+) -> Result<(u64, Vec<u8>), Stop>
+    ensures told { (told : Directory) → H.contents files.old ≡ Some told
+        → Gives (λ m. (m.0, m.1.items)) (Rose (H.faults files.old) (H.faults files.new)) (remove_value told align from.now guids.now) result }
+    ensures reads { ReadsOnly (H.contents files.old) (H.contents files.new) (H.faults files.old) (H.faults files.new) result }
+{
+    match table_with(files, from, guids) {
+        Ok(toc) => without(alloc, files, align, from, &toc, guids),
+        Err(stop) => Err(stop),
+    }
+}
+
+// The package of another's table with new payloads.
+fn replaced<H: Files>(
+    alloc: Global,
+    files: &mut H,
+    align: u32,
+    from: &str,
+    toc: &Toc,
+    named: &[NamedFile],
+) -> Result<(u64, Vec<u8>), Stop>
+    requires ends { All (λ e. e.offset + e.size < 2 ^ 64) toc.now.entries }
+    requires stored { (bytes : List ℕ) → Tells (H.contents files.old) from.now bytes → All (λ e. e.offset + e.size ≤ length bytes) toc.now.entries }
+    requires there { Lacks (H.contents files.old) from.now → ⊥ }
+    ensures told { (told : Directory) (bytes : List ℕ) → H.contents files.old ≡ Some told → told from.now ≡ Some bytes
+        → Gives (λ m. (m.0, m.1.items)) (Rose (H.faults files.old) (H.faults files.new))
+        (after (parts_in told (map part_view named.now)) (λ new. pack_value toc.now.serial toc.now.flags (map (updated_part bytes new) toc.now.entries) align)) result }
+    ensures reads { ReadsOnly (H.contents files.old) (H.contents files.new) (H.faults files.old) (H.faults files.new) result }
+{
+    match parts_of_files(alloc, files, named) {
+        Ok(new) => {
+            let entries = toc.entries.as_slice();
+            repacked(alloc, files, align, from, toc, entries, new.as_slice())
+        }
+        Err(stop) => Err(stop),
+    }
+}
+
+/// The package with new payloads.
+fn updated<H: Files>(
+    alloc: Global,
+    files: &mut H,
+    align: u32,
+    from: &str,
+    named: &[NamedFile],
+) -> Result<(u64, Vec<u8>), Stop>
+    ensures told { (told : Directory) → H.contents files.old ≡ Some told
+        → Gives (λ m. (m.0, m.1.items)) (Rose (H.faults files.old) (H.faults files.new)) (update_value told align from.now (map part_view named.now)) result }
+    ensures reads { ReadsOnly (H.contents files.old) (H.contents files.new) (H.faults files.old) (H.faults files.new) result }
+{
+    let Ok(types) = types_of(alloc, named) else {
+        return Err(Stop::NoMemory);
+    };
+    match table_with(files, from, types.as_slice()) {
+        Ok(toc) => replaced(alloc, files, align, from, &toc, named),
+        Err(stop) => Err(stop),
+    }
+}
+
+/// Writes a new package of named files to the file `out`, and prints its line.
+pub fn run_create<H: Files, O: Sink>(
+    alloc: Global,
+    files: &mut H,
+    sink: &mut O,
+    align: u32,
+    out: &str,
+    named: &[NamedFile],
+) -> Result<(), Stop>
+    ensures told { (told : Directory) → H.contents files.old ≡ Some told
+        → Did (outcome_by (packs out.now) (create_value told align (map part_view named.now))) told (H.contents files.new) (O.taken sink.old) (O.taken sink.new)
+        (Rose (H.faults files.old) (H.faults files.new)) (Rose (O.faults sink.old) (O.faults sink.new)) result }
+    ensures cause { result ≡ Err stop.FileFault → H.contents files.old ≡ None → Rose (H.faults files.old) (H.faults files.new) }
+    ensures later { O.faults sink.old ≤ O.faults sink.new }
+{
+    match create(alloc, files, align, named) {
+        Ok((entries, bytes)) => put_package(alloc, files, sink, out, entries, bytes.as_slice()),
+        Err(stop) => Err(stop),
+    }
+}
+
+/// Writes the package in the file `from` without the named entries to the file `out`, and prints its line.
+pub fn run_remove<H: Files, O: Sink>(
+    alloc: Global,
+    files: &mut H,
+    sink: &mut O,
+    align: u32,
+    from: &str,
+    out: &str,
+    guids: &[Guid],
+) -> Result<(), Stop>
+    ensures told { (told : Directory) → H.contents files.old ≡ Some told
+        → Did (outcome_by (packs out.now) (remove_value told align from.now guids.now)) told (H.contents files.new) (O.taken sink.old) (O.taken sink.new)
+        (Rose (H.faults files.old) (H.faults files.new)) (Rose (O.faults sink.old) (O.faults sink.new)) result }
+    ensures cause { result ≡ Err stop.FileFault → H.contents files.old ≡ None → Rose (H.faults files.old) (H.faults files.new) }
+    ensures later { O.faults sink.old ≤ O.faults sink.new }
+{
+    match removed(alloc, files, align, from, guids) {
+        Ok((entries, bytes)) => put_package(alloc, files, sink, out, entries, bytes.as_slice()),
+        Err(stop) => Err(stop),
+    }
+}
+
+/// Writes the package in the file `from` with the payloads of named files to the file `out`, and prints its line. The named files
+/// are read once the package has an entry of each of their types.
+pub fn run_update<H: Files, O: Sink>(
+    alloc: Global,
+    files: &mut H,
+    sink: &mut O,
+    align: u32,
+    from: &str,
+    out: &str,
+    named: &[NamedFile],
+) -> Result<(), Stop>
+    ensures told { (told : Directory) → H.contents files.old ≡ Some told
+        → Did (outcome_by (packs out.now) (update_value told align from.now (map part_view named.now))) told (H.contents files.new) (O.taken sink.old) (O.taken sink.new)
+        (Rose (H.faults files.old) (H.faults files.new)) (Rose (O.faults sink.old) (O.faults sink.new)) result }
+    ensures cause { result ≡ Err stop.FileFault → H.contents files.old ≡ None → Rose (H.faults files.old) (H.faults files.new) }
+    ensures later { O.faults sink.old ≤ O.faults sink.new }
+{
+    match updated(alloc, files, align, from, named) {
+        Ok((entries, bytes)) => put_package(alloc, files, sink, out, entries, bytes.as_slice()),
+        Err(stop) => Err(stop),
+    }
+}

@@ -1,0 +1,164 @@
+//! Manifests of images in files.
+ghost use Rattle.std.specs.Prelude.{◌≡◌, ◌≤◌, ◌==◌, ◌||◌, ◌++◌, ◌∷◌, [], Some, Ok, Err, IfOk, IfSome, if◌then◌else◌, length, map, nat_lt, option_and_then, option_map};
+ghost use Rattle.base_core.specs.Counts.{Rose};
+ghost use Rattle.fwu_model.specs.declared.kinds.ManifestFault.TheVariants as fault;
+ghost use Rattle.fip_words.specs.Order.{image_view};
+ghost use Rattle.fip_words.specs.Values.{each};
+ghost use Rattle.host_io.specs.Contents.{Directory};
+ghost use Rattle.manifest_core.specs.Shown.{row};
+ghost use Rattle.fip_tool.specs.Steps.{Did, Gives, ReadsOnly, outcome_by};
+ghost use Rattle.fip_tool.specs.Tool.{after, image_in, image_row, manifest_value, of_rows, there, writes_manifest};
+ghost use Rattle.fip_tool.specs.declared.stops.Stop.TheVariants as stop;
+
+use crate::lines::manifest_line;
+use crate::reading::read_file;
+use crate::stops::Stop;
+use crate::writing::write_and_print;
+use base_core::{Guid, NoMemory};
+use fip_words::ImageWord;
+use fwu_model::ManifestFault;
+use host_io::{Files, Sink};
+use manifest_core::{Manifest, ManifestStop, Row};
+use std::alloc::Global;
+
+// The longest image that a manifest may have, in bytes.
+const IMAGE_LIMIT: usize = 1_048_576;
+
+// What a manifest says of an image, which is nothing where it is too long.
+#[tactic(auto, unfolding(crate::specs::Tool::image_row))]
+fn row_of(guid: Guid, version: u32, image: &[u8]) -> Option<Row>
+    ensures { option_map row result ≡ image_row (record { guid = guid; version = version; bytes = image.now }) }
+{
+    if image.len() > IMAGE_LIMIT {
+        None
+    } else {
+        Some(Row::of(guid, version, image))
+    }
+}
+
+// The same of a named image.
+fn row_of_file<H: Files>(
+    alloc: Global,
+    files: &mut H,
+    named: &ImageWord,
+) -> Result<Option<Row>, Stop>
+    ensures told { (told : Directory) → H.contents files.old ≡ Some told
+        → Gives (option_map row) (Rose (H.faults files.old) (H.faults files.new)) (after (there (image_in told (image_view named.now))) (λ i. Ok (image_row i))) result }
+    ensures reads { ReadsOnly (H.contents files.old) (H.contents files.new) (H.faults files.old) (H.faults files.new) result }
+{
+    match read_file(alloc, files, named.file) {
+        Ok(image) => Ok(row_of(named.guid, named.version, image.as_slice())),
+        Err(stop) => Err(stop),
+    }
+}
+
+// The rows with one more, or nothing where one is wanting.
+fn with_row(rows: Option<Vec<Row>>, more: Option<Row>) -> Result<Option<Vec<Row>>, NoMemory>
+    ensures { IfOk result (λ now. option_map (λ v. v.items) now ≡ option_and_then (λ rs. option_map (λ r. rs ++ (r ∷ [])) more) (option_map (λ v. v.items) rows)) }
+{
+    match (rows, more) {
+        (Some(mut rows), Some(more)) => {
+            if rows.push(more).is_err() {
+                return Err(NoMemory);
+            }
+            Ok(Some(rows))
+        }
+        _ => Ok(None),
+    }
+}
+
+// The rows of named images, or nothing where one is too long. All files are read.
+fn rows_of_files<H: Files>(
+    alloc: Global,
+    files: &mut H,
+    named: &[ImageWord],
+) -> Result<Option<Vec<Row>>, Stop>
+    ensures told { (told : Directory) → H.contents files.old ≡ Some told
+        → Gives (option_map (λ v. map row v.items)) (Rose (H.faults files.old) (H.faults files.new)) (after (there (each (image_in told) (map image_view named.now))) (λ images. Ok (each image_row images))) result }
+    ensures reads { ReadsOnly (H.contents files.old) (H.contents files.new) (H.faults files.old) (H.faults files.new) result }
+    ensures count { IfOk result (λ rows. IfSome rows (λ v. length v.items ≡ length named.now)) }
+{
+    let mut rows = Some(Vec::new(alloc));
+    for one in named {
+        let more = match row_of_file(alloc, files, one) {
+            Ok(more) => more,
+            Err(stop) => return Err(stop),
+        };
+        rows = match with_row(rows, more) {
+            Ok(rows) => rows,
+            Err(_) => return Err(Stop::NoMemory),
+        };
+    }
+    Ok(rows)
+}
+
+// The manifest of these rows: how many, and its bytes.
+fn manifest_of_rows(alloc: Global, security: u32, rows: Vec<Row>) -> Result<(u64, Vec<u8>), Stop>
+    ensures { Gives (λ m. (m.0, m.1.items)) ⊥ (if (length rows.items == 0) || nat_lt 15 (length rows.items) then Err (stop.NoManifest fault.BadCount) else of_rows security (Some (map row rows.items))) result }
+{
+    let count = rows.len() as u64;
+    let manifest = match Manifest::of_rows(alloc, security, rows) {
+        Ok(manifest) => manifest,
+        Err(ManifestStop::Fault(fault)) => return Err(Stop::NoManifest(fault)),
+        Err(ManifestStop::NoMemory) => return Err(Stop::NoMemory),
+    };
+    match manifest.write(alloc) {
+        Ok(bytes) => Ok((count, bytes)),
+        Err(_) => Err(Stop::NoMemory),
+    }
+}
+
+// Why there is no manifest of so many images, of which one is too long.
+fn refusal(count: usize) -> Stop
+    ensures { result ≡ (if (count == 0) || nat_lt 15 count then stop.NoManifest fault.BadCount else stop.NoManifest fault.TooLarge) }
+{
+    if count == 0 || count > 15 {
+        Stop::NoManifest(ManifestFault::BadCount)
+    } else {
+        Stop::NoManifest(ManifestFault::TooLarge)
+    }
+}
+
+/// A manifest of named images: how many rows, and its bytes. All files are read first; then `BadCount` comes where there are not
+/// 1 to 15 images, and else `TooLarge` where one has more than 1,048,576 bytes.
+pub fn manifest<H: Files>(
+    alloc: Global,
+    files: &mut H,
+    security: u32,
+    named: &[ImageWord],
+) -> Result<(u64, Vec<u8>), Stop>
+    ensures told { (told : Directory) → H.contents files.old ≡ Some told
+        → Gives (λ m. (m.0, m.1.items)) (Rose (H.faults files.old) (H.faults files.new)) (manifest_value told security (map image_view named.now)) result }
+    ensures reads { ReadsOnly (H.contents files.old) (H.contents files.new) (H.faults files.old) (H.faults files.new) result }
+{
+    match rows_of_files(alloc, files, named) {
+        Ok(Some(rows)) => manifest_of_rows(alloc, security, rows),
+        Ok(None) => Err(refusal(named.len())),
+        Err(stop) => Err(stop),
+    }
+}
+
+/// Writes a manifest of named images to the file `out`, and prints its line.
+pub fn run_manifest<H: Files, O: Sink>(
+    alloc: Global,
+    files: &mut H,
+    sink: &mut O,
+    out: &str,
+    security: u32,
+    named: &[ImageWord],
+) -> Result<(), Stop>
+    ensures told { (told : Directory) → H.contents files.old ≡ Some told
+        → Did (outcome_by (writes_manifest out.now security) (manifest_value told security (map image_view named.now))) told (H.contents files.new) (O.taken sink.old) (O.taken sink.new)
+        (Rose (H.faults files.old) (H.faults files.new)) (Rose (O.faults sink.old) (O.faults sink.new)) result }
+    ensures cause { result ≡ Err stop.FileFault → H.contents files.old ≡ None → Rose (H.faults files.old) (H.faults files.new) }
+    ensures later { O.faults sink.old ≤ O.faults sink.new }
+{
+    let (rows, bytes) = match manifest(alloc, files, security, named) {
+        Ok(made) => made,
+        Err(stop) => return Err(stop),
+    };
+    let Ok(line) = manifest_line(alloc, rows, bytes.len() as u64, security) else {
+        return Err(Stop::NoMemory);
+    };
+    write_and_print(files, sink, out, bytes.as_slice(), line.as_slice())
+}

@@ -1,0 +1,131 @@
+//! The commands that write files, in a row over the same files in memory. The bytes of the packages are those of the format, made
+//! by a Python program from the layout.
+
+use crate::fip_top;
+use host_io::{MemoryFiles, MemorySink, MemorySource};
+use std::alloc::{AllocError, Global};
+use std::test::Fail;
+
+// No entry: the header, and the end marker, whose offset is the length.
+const EMPTY: &str =
+    "010064aa78563412000000000000000000000000000000000000000000000000380000000000000000000000000000000000000000000000";
+
+// `hello` as the payload of tb-fw.
+const ONE: &str =
+    "010064aa7856341200000000000000005ff9ec0b4d223e4da544c39d81c73f0a6000000000000000050000000000000000000000000000000000000000000000000000000000000065000000000000000000000000000000000000000000000068656c6c6f";
+
+// The command, its status and what it prints.
+const STEPS: [(&str, u8, &str); 12] = [
+    ("create e.fip", 0, "packed entries=0 size=56\n"),
+    ("create a.fip tb-fw=h.bin", 0, "packed entries=1 size=101\n"),
+    (
+        "create --align 16 b.fip tb-fw=h.bin nt-fw=s3.bin",
+        0,
+        "packed entries=2 size=176\n",
+    ),
+    (
+        "info b.fip",
+        0,
+        "serial=12345678 flags=0 entries=2 size=176\n5ff9ec0b-4d22-3e4d-a544-c39d81c73f0a offset=144 size=5 flags=0\nd6d0eea7-fcea-d54b-9782-9934f234b6e4 offset=160 size=3 flags=0\n",
+    ),
+    ("remove b.fip c.fip tb-fw", 0, "packed entries=1 size=99\n"),
+    (
+        "unpack a.fip x nt-fw",
+        5,
+        "no-entry d6d0eea7-fcea-d54b-9782-9934f234b6e4\n",
+    ),
+    (
+        "unpack a.fip x",
+        0,
+        "5ff9ec0b-4d22-3e4d-a544-c39d81c73f0a size=5 file=x5ff9ec0b-4d22-3e4d-a544-c39d81c73f0a.bin\n",
+    ),
+    (
+        "update b.fip u.fip nt-fw=h.bin",
+        0,
+        "packed entries=2 size=146\n",
+    ),
+    (
+        "unpack u.fip y nt-fw",
+        0,
+        "d6d0eea7-fcea-d54b-9782-9934f234b6e4 size=5 file=yd6d0eea7-fcea-d54b-9782-9934f234b6e4.bin\n",
+    ),
+    ("create --align 3 z.fip tb-fw=h.bin", 6, "pack bad-align\n"),
+    ("create z.fip tb-fw=none.bin", 2, "file-fault\n"),
+    (
+        "create z.fip tb-fw=h.bin tb-fw=s3.bin",
+        1,
+        "usage: fip info|create|update|remove|unpack|manifest\n",
+    ),
+];
+
+fn words(alloc: Global, line: &str) -> Result<Vec<String>, AllocError> {
+    let mut list = Vec::new(alloc);
+    for word in line.split(' ') {
+        list.push(String::from_str(alloc, word)?)?;
+    }
+    Ok(list)
+}
+
+fn first_files(alloc: Global, fails: Vec<u64>) -> Result<MemoryFiles, Fail> {
+    let mut all = Vec::new(alloc);
+    all.push((String::from_str(alloc, "h.bin")?, b"hello".to_vec(alloc)?))?;
+    all.push((String::from_str(alloc, "s3.bin")?, b"xyz".to_vec(alloc)?))?;
+    Ok(MemoryFiles::new(alloc, all, fails))
+}
+
+// Whether the command ends so over the files.
+fn is_done(alloc: Global, files: &mut MemoryFiles, step: (&str, u8, &str)) -> Result<bool, Fail> {
+    let list = words(alloc, step.0)?;
+    let mut source = MemorySource::new(Vec::new(alloc), Vec::new(alloc));
+    let mut sink = MemorySink::new(alloc, Vec::new(alloc), Vec::new(alloc));
+    let status = fip_top(alloc, list.as_slice(), files, &mut source, &mut sink);
+    Ok(status == step.1 && sink.bytes() == step.2.as_bytes())
+}
+
+fn has(alloc: Global, files: &MemoryFiles, name: &str, digits: &str) -> Result<bool, Fail> {
+    let wanted = hex::decode(alloc, digits)?;
+    match files.get(name) {
+        Some(found) => Ok(found == wanted.as_slice()),
+        None => Ok(false),
+    }
+}
+
+#[test]
+fn commands_write_their_files(rt: HostRuntime) -> Result<(), Fail> {
+    let alloc = rt.alloc();
+    let mut files = first_files(alloc, Vec::new(alloc))?;
+    for step in STEPS {
+        assert!(rt; is_done(alloc, &mut files, step)?);
+    }
+    assert!(rt; has(alloc, &files, "e.fip", EMPTY)?);
+    assert!(rt; has(alloc, &files, "a.fip", ONE)?);
+    assert!(rt;
+        has(
+            alloc,
+            &files,
+            "x5ff9ec0b-4d22-3e4d-a544-c39d81c73f0a.bin",
+            "68656c6c6f"
+        )?
+    );
+    assert!(rt;
+        has(
+            alloc,
+            &files,
+            "yd6d0eea7-fcea-d54b-9782-9934f234b6e4.bin",
+            "68656c6c6f"
+        )?
+    );
+    assert!(rt; files.get("z.fip").is_none());
+    Ok(())
+}
+
+#[test]
+fn a_write_that_fails_is_a_file_fault(rt: HostRuntime) -> Result<(), Fail> {
+    let alloc = rt.alloc();
+    let mut fails = Vec::new(alloc);
+    fails.push(1)?;
+    let mut files = first_files(alloc, fails)?;
+    assert!(rt; is_done(alloc, &mut files, ("create e.fip", 2, "file-fault\n"))?);
+    assert!(rt; files.get("e.fip").is_none());
+    Ok(())
+}
