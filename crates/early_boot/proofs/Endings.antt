@@ -79,7 +79,7 @@ module _ (passes : List ℕ → Bool) (image : List ℕ) (shown : Shown) (shows 
   chose : (chosen : Option ℕ) → choice (boot_setting passes shown.layout) (tried_in (state_shown image shown) trial_limit) ≡ chosen → Chose passes image shown.layout (state_shown image shown) chosen
   chose chosen is = record {
     has_layout = shows.layout_is;
-    shows = seen-by-metadata.gives shown.layout image shown.meta shows.layout_is shows.decides;
+    shows = seen-by-metadata.gives shown.layout image shown.meta shows.layout_is shows.loads.decides;
     choice_is = λ E layout test. choice-setting E (tried_in (state_shown image shown) trial_limit) shown.layout passes test ∙ is;
   }
 
@@ -91,7 +91,7 @@ module _ (passes : List ℕ → Bool) (image : List ℕ) (shown : Shown) (shows 
       record {
         state = s;
         chose = chose (Some c.bank) parts.0;
-        metadata = shows.decides;
+        metadata = shows.loads.decides;
         numbers = same;
         version_is = parts.1;
         trials_are = shows.trials_are;
