@@ -4,3 +4,4 @@ pub mod Shapes
 pub mod Verdicts
 pub mod Endings
 pub mod Exact
+pub mod Mended

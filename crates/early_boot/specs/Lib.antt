@@ -5,3 +5,4 @@ pub mod Numbers
 pub mod Started
 pub mod Ends
 pub mod Law
+pub mod Mending

@@ -7,6 +7,7 @@ mod choosing;
 mod ends;
 mod laws;
 mod lengths;
+mod mending;
 mod numbers;
 mod showing;
 mod start;
