@@ -65,13 +65,13 @@ shown-numbers image shown shows are =
 
 -- ---- the choice
 
-chosen-parts : (s : State) (o : Option ℕ) (c : Chosen) → with_package s o ≡ Some c → (o ≡ Some c.bank) × (c.version ≡ version (booted_package s c.bank)) × (c.lengths ≡ map (λ (bytes : List ℕ). length bytes) (booted_package s c.bank))
+pub chosen-parts : (s : State) (o : Option ℕ) (c : Chosen) → with_package s o ≡ Some c → (o ≡ Some c.bank) × (c.version ≡ version (booted_package s c.bank)) × (c.lengths ≡ map (λ (bytes : List ℕ). length bytes) (booted_package s c.bank))
 chosen-parts s None c e = absurd cc
 chosen-parts s (Some b) c e =
     subst (λ (x : Chosen). (Some b ≡ Some x.bank) × (x.version ≡ version (booted_package s x.bank)) × (x.lengths ≡ map (λ (bytes : List ℕ). length bytes) (booted_package s x.bank)))
     (same_Some (chosen_as b (booted_package s b)) c e) (refl, refl, refl)
 
-chosen-none : (s : State) (o : Option ℕ) → with_package s o ≡ None → o ≡ None
+pub chosen-none : (s : State) (o : Option ℕ) → with_package s o ≡ None → o ≡ None
 chosen-none s None e = refl
 chosen-none s (Some b) e = absurd cc
 

@@ -5,3 +5,6 @@ pub mod Verdicts
 pub mod Endings
 pub mod Exact
 pub mod Mended
+pub mod Led
+pub mod Boots
+pub mod Ended

@@ -6,3 +6,6 @@ pub mod Started
 pub mod Ends
 pub mod Law
 pub mod Mending
+pub mod CountingStarts
+pub mod Starting
+pub mod FullEnds
