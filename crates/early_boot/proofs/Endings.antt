@@ -65,13 +65,13 @@ shown-numbers image shown shows are =
 
 -- ---- the choice
 
-chosen-parts : (s : State) (o : Option ℕ) (c : Chosen) → with_package s o ≡ Some c → (o ≡ Some c.bank) × (c.version ≡ version (booted_package s c.bank)) × (c.lengths ≡ map (λ (bytes : List ℕ). length bytes) (booted_package s c.bank))
+pub chosen-parts : (s : State) (o : Option ℕ) (c : Chosen) → with_package s o ≡ Some c → (o ≡ Some c.bank) × (c.version ≡ version (booted_package s c.bank)) × (c.lengths ≡ map (λ (bytes : List ℕ). length bytes) (booted_package s c.bank))
 chosen-parts s None c e = absurd cc
 chosen-parts s (Some b) c e =
     subst (λ (x : Chosen). (Some b ≡ Some x.bank) × (x.version ≡ version (booted_package s x.bank)) × (x.lengths ≡ map (λ (bytes : List ℕ). length bytes) (booted_package s x.bank)))
     (same_Some (chosen_as b (booted_package s b)) c e) (refl, refl, refl)
 
-chosen-none : (s : State) (o : Option ℕ) → with_package s o ≡ None → o ≡ None
+pub chosen-none : (s : State) (o : Option ℕ) → with_package s o ≡ None → o ≡ None
 chosen-none s None e = refl
 chosen-none s (Some b) e = absurd cc
 
@@ -79,7 +79,7 @@ module _ (passes : List ℕ → Bool) (image : List ℕ) (shown : Shown) (shows 
   chose : (chosen : Option ℕ) → choice (boot_setting passes shown.layout) (tried_in (state_shown image shown) trial_limit) ≡ chosen → Chose passes image shown.layout (state_shown image shown) chosen
   chose chosen is = record {
     has_layout = shows.layout_is;
-    shows = seen-by-metadata.gives shown.layout image shown.meta shows.layout_is shows.decides;
+    shows = seen-by-metadata.gives shown.layout image shown.meta shows.layout_is shows.loads.decides;
     choice_is = λ E layout test. choice-setting E (tried_in (state_shown image shown) trial_limit) shown.layout passes test ∙ is;
   }
 
@@ -91,7 +91,7 @@ module _ (passes : List ℕ → Bool) (image : List ℕ) (shown : Shown) (shows 
       record {
         state = s;
         chose = chose (Some c.bank) parts.0;
-        metadata = shows.decides;
+        metadata = shows.loads.decides;
         numbers = same;
         version_is = parts.1;
         trials_are = shows.trials_are;

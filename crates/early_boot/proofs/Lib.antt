@@ -4,3 +4,7 @@ pub mod Shapes
 pub mod Verdicts
 pub mod Endings
 pub mod Exact
+pub mod Mended
+pub mod Led
+pub mod Boots
+pub mod Ended

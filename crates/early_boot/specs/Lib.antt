@@ -5,3 +5,7 @@ pub mod Numbers
 pub mod Started
 pub mod Ends
 pub mod Law
+pub mod Mending
+pub mod CountingStarts
+pub mod Starting
+pub mod FullEnds

@@ -8,6 +8,7 @@ use Rattle.fwu_model.specs.Counter.{counter_in}
 use Rattle.fwu_model.specs.State.{State, is_valid}
 use Rattle.fwu_model.specs.Sound.{trial_limit}
 use Rattle.fwu_model.specs.Seen.{state_of, trial_block}
+use Rattle.replicas.specs.Which.{Loads}
 use Rattle.early_boot.specs.declared.showing.Shown.{Shown}
 use Rattle.early_boot.specs.declared.showing.Unshown.{Unshown}
 use Rattle.early_boot.specs.declared.showing.Unshown.TheVariants as unshown
@@ -18,7 +19,7 @@ trials_in image m = if is_valid (state_at m m.active) then marks image trial_blo
 
 pub record Shows (image : List ℕ) (shown : Shown) : Type 0 where
   pub layout_is : layout_seen image ≡ Ok shown.layout
-  pub decides : deciding shown.layout image ≡ Some shown.meta
+  pub loads : Loads shown.layout shown.which shown.meta image
   pub trials_are : shown.trials ≡ trials_in image shown.meta.meta
   pub counter_is : shown.counter ≡ counter_in image
 

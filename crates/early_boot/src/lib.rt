@@ -4,17 +4,22 @@
 
 mod booted;
 mod choosing;
+mod counting_starts;
 mod ends;
+mod full;
 mod laws;
 mod lengths;
+mod mending;
 mod numbers;
 mod showing;
 mod start;
+mod starting;
 #[cfg(test)]
 mod tests;
 
 pub use booted::Booted;
 pub use ends::BootEnd;
+pub use full::boot_in_full;
 pub use laws::answers_are_exact;
 pub use numbers::Numbers;
 pub use start::boot;

@@ -4,19 +4,22 @@ ghost use Rattle.flash_core.specs.Counts.{Spends};
 ghost use Rattle.fwu_model.specs.Layout.{blocks_needed, fits_layout};
 ghost use Rattle.fwu_model.specs.Metadata.{fits_meta};
 ghost use Rattle.fwu_model.specs.Flash.{layout_seen, deciding};
+ghost use Rattle.replicas.specs.Which.{Loads};
 ghost use Rattle.early_boot.specs.Showing.{Shows, ShowsNothing, stop_in, trials_in};
 
 use flash_core::{Flash, FlashStop, read_block};
 use fwu_model::{BankState, LayoutFault};
 use marks_core::{count, counter};
 use meta_layout::{Layout, Meta};
-use replicas::{ReplicaStop, load};
+use replicas::{ReplicaStop, Which, load};
 
 /// What a flash shows, but for the packages in its banks.
 #[derive(Clone, Copy)]
 pub struct Shown {
     pub layout: Layout,
     pub meta: Meta,
+    /// Which replica lacks the metadata.
+    pub which: Which,
     pub trials: u32,
     pub counter: u32,
 }
@@ -53,13 +56,13 @@ fn read_layout<D: Flash>(flash: &mut D, block: &mut [u8]) -> Result<Layout, Unsh
     }
 }
 
-/// The metadata of the replica that decides.
-fn load_metadata<D: Flash>(flash: &mut D, layout: &Layout) -> Result<Meta, Unshown>
+/// The metadata of the replica that decides, and which replica lacks it.
+fn load_metadata<D: Flash>(flash: &mut D, layout: &Layout) -> Result<(Meta, Which), Unshown>
     requires on { IsTrue (D.on flash.old) }
     requires seen { IsTrue D.tells → layout_seen (D.told flash.old).now ≡ Ok layout.now }
 
-    ensures metadata { IfOk result (λ meta. IsTrue D.tells → deciding layout.now (D.told flash.old).now ≡ Some meta) }
-    ensures fits { IfOk result (λ meta. IsTrue (fits_meta layout.now meta.meta)) }
+    ensures loads { IfOk result (λ found. IsTrue D.tells → Loads layout.now found.1 found.0 (D.told flash.old).now) }
+    ensures fits { IfOk result (λ found. IsTrue (fits_meta layout.now found.0.meta)) }
     ensures nothing { IfErr result (λ why. IsTrue D.tells → ShowsNothing (D.told flash.old).now why) }
     ensures content { IsTrue D.tells → D.told flash.new ≡ D.told flash.old }
     ensures power { D.on flash.new ≡ is_ok (stop_in result) }
@@ -67,7 +70,7 @@ fn load_metadata<D: Flash>(flash: &mut D, layout: &Layout) -> Result<Meta, Unsho
     ensures costs { Spends (stop_in result) (D.counts flash.old) (D.counts flash.new) }
 {
     match load(flash, layout) {
-        Ok((meta, _which)) => Ok(meta),
+        Ok(found) => Ok(found),
         Err(ReplicaStop::NoMetadata) => Err(Unshown::Metadata),
         Err(ReplicaStop::Flash(stop)) => Err(Unshown::Flash(stop)),
     }
@@ -79,6 +82,7 @@ fn count_trials<D: Flash>(flash: &mut D, meta: &Meta) -> Result<u32, FlashStop>
     requires active { meta.now.meta.active < length meta.now.meta.states }
 
     ensures trials { IfOk result (λ trials. IsTrue D.tells → trials ≡ trials_in (D.told flash.old).now meta.now.meta) }
+    ensures few { IfOk result (λ trials. trials ≤ 3) }
     ensures content { IsTrue D.tells → D.told flash.new ≡ D.told flash.old }
     ensures power { D.on flash.new ≡ is_ok result }
     ensures size { D.blocks flash.new ≡ D.blocks flash.old }
@@ -91,14 +95,20 @@ fn count_trials<D: Flash>(flash: &mut D, meta: &Meta) -> Result<u32, FlashStop>
 }
 
 /// The trials and the counter.
-fn read_counts<D: Flash>(flash: &mut D, layout: Layout, meta: Meta) -> Result<Shown, FlashStop>
+fn read_counts<D: Flash>(
+    flash: &mut D,
+    layout: Layout,
+    meta: Meta,
+    which: Which,
+) -> Result<Shown, FlashStop>
     requires on { IsTrue (D.on flash.old) }
     requires fits { IsTrue (fits_meta layout meta.meta) }
     requires seen { IsTrue D.tells → layout_seen (D.told flash.old).now ≡ Ok layout }
-    requires metadata { IsTrue D.tells → deciding layout (D.told flash.old).now ≡ Some meta }
+    requires loads { IsTrue D.tells → Loads layout which meta (D.told flash.old).now }
 
     ensures shows { IfOk result (λ shown. IsTrue D.tells → Shows (D.told flash.old).now shown) }
     ensures layout { IfOk result (λ shown. shown.layout ≡ layout) }
+    ensures few { IfOk result (λ shown. shown.trials ≤ 3) }
     ensures fits { IfOk result (λ shown. IsTrue (fits_meta shown.layout shown.meta.meta)) }
     ensures content { IsTrue D.tells → D.told flash.new ≡ D.told flash.old }
     ensures power { D.on flash.new ≡ is_ok result }
@@ -110,6 +120,7 @@ fn read_counts<D: Flash>(flash: &mut D, layout: Layout, meta: Meta) -> Result<Sh
     Ok(Shown {
         layout,
         meta,
+        which,
         trials,
         counter,
     })
@@ -121,6 +132,7 @@ pub fn read_shown<D: Flash>(flash: &mut D, block: &mut [u8]) -> Result<Shown, Un
     requires room { length block.old ≡ 4096 }
 
     ensures shows { IfOk result (λ shown. IsTrue D.tells → Shows (D.told flash.old).now shown) }
+    ensures few { IfOk result (λ shown. shown.trials ≤ 3) }
     ensures fit { IfOk result (λ shown. IsTrue (fits_layout shown.layout)) }
     ensures inside { IfOk result (λ shown. blocks_needed shown.layout ≤ D.blocks flash.old) }
     ensures fits { IfOk result (λ shown. IsTrue (fits_meta shown.layout shown.meta.meta)) }
@@ -131,8 +143,8 @@ pub fn read_shown<D: Flash>(flash: &mut D, block: &mut [u8]) -> Result<Shown, Un
     ensures costs { Spends (stop_in result) (D.counts flash.old) (D.counts flash.new) }
 {
     let layout = read_layout(flash, block)?;
-    let meta = load_metadata(flash, &layout)?;
-    match read_counts(flash, layout, meta) {
+    let (meta, which) = load_metadata(flash, &layout)?;
+    match read_counts(flash, layout, meta, which) {
         Ok(shown) => Ok(shown),
         Err(stop) => Err(Unshown::Flash(stop)),
     }

@@ -1,0 +1,151 @@
+-- A repair, then the choice and the count of a start, in one.
+use Rattle.std.proofs.Common.{◌≡◌, inl, ℕ, ◌+◌, ◌*◌, ◌<◌, ◌≤◌, ◌==◌, not, ◌&&◌, ◌||◌, eq-eqb, ltb, ltb-true, cond, Bool, true, false, List, [], ◌∷◌, ◌++◌, length, Option, Some, None, Result, Ok, Err, refl, sym, ap, subst, ◌∙◌, arith, IsTrue}
+use Rattle.std.proofs.lemmas.Bool.{cond_both, and_parts}
+use Rattle.std.proofs.lemmas.Option.{same_Some}
+use Rattle.std.proofs.lemmas.Result.{IfOk-from_err, on_ok_weaker}
+use Rattle.std.specs.Prelude.{IsErr, OnOk}
+use Rattle.base_core.specs.Block.{block}
+use Rattle.flash_core.specs.declared.flash.FlashStop.{FlashStop}
+use Rattle.flash_core.specs.Told.{Told}
+use Rattle.flash_core.specs.May.{Keeps}
+use Rattle.flash_core.proofs.Calls.{keeps_then, keeps_wider}
+use Rattle.fwu_model.specs.Layout.{Layout}
+use Rattle.fwu_model.specs.Metadata.{MetaRead, meta_read}
+use Rattle.fwu_model.specs.State.{State, Move, Migrate, bank, is_valid, is_accepted, after}
+use Rattle.fwu_model.specs.Sound.{Setting, choice, can_start, can_fall_back, holds_permitted, trial_limit}
+use Rattle.fwu_model.specs.Seen.{IsTidy}
+use Rattle.fwu_model.specs.Answer.{migrate_moves, chosen_moves}
+use Rattle.fwu_model.specs.Replica.{BothHold, in_version}
+use Rattle.fwu_model.specs.declared.kinds.BankState.{BankState}
+use Rattle.fwu_model.specs.declared.kinds.BankState.TheVariants.{Invalid, Valid, Accepted}
+use Rattle.fwu_model.proofs.Frame.{block-same}
+use Rattle.moves.specs.Moved.{IsShown, IsReady, Does}
+use Rattle.moves.proofs.Composed.{after-append, does-stopped, does-then}
+use Rattle.early_boot.specs.declared.choosing.Chosen.{Chosen}
+use Rattle.early_boot.specs.declared.showing.Shown.{Shown}
+use Rattle.early_boot.specs.Showing.{Shows, state_shown}
+use Rattle.early_boot.specs.Choosing.{boot_setting, chosen_in, tried_in, with_package}
+use Rattle.early_boot.specs.Mending.{Mends, mended}
+use Rattle.early_boot.specs.CountingStarts.{IsStart, Leads}
+use Rattle.early_boot.specs.Starting.{Boots, all_moves, count_moves}
+use Rattle.early_boot.proofs.Endings.{chosen-parts}
+use Rattle.early_boot.proofs.Led.{guarded-stop}
+
+-- ---- what was chosen may be started
+
+tries : (k : BankState) (left : Bool) → IsTrue (is_accepted k || (is_valid k && left)) → IsTrue (is_valid k) → IsTrue left
+tries Invalid left h valid = absurd cc
+tries Valid left h valid = h
+tries Accepted left h valid = absurd cc
+
+by-start : (s : State) (permitted : Bool) → IsTrue ((is_accepted (bank s s.active).state || (is_valid (bank s s.active).state && ltb s.trials trial_limit)) && permitted) → IsTrue (is_valid (bank s s.active).state) → s.trials < trial_limit
+by-start s permitted h valid = ltb-true s.trials trial_limit (tries (bank s s.active).state (ltb s.trials trial_limit) (and_parts _ permitted h).0 valid)
+
+-- a fallback isn't to the active bank
+never-back : (p a : ℕ) (rest permitted : Bool) → IsTrue (not (p == a) && rest && permitted) → p ≡ a → ⊥
+never-back p a rest permitted h e =
+    let other = (and_parts (not (p == a)) rest (and_parts (not (p == a) && rest) permitted h).0).0 in
+    differs (p == a) (eq-eqb p a e) other
+  where
+    differs : (same : Bool) → IsTrue same → IsTrue (not same) → ⊥
+    differs true h n = cc
+    differs false h n = cc
+
+pub start-left : (E : Setting) (s : State) (b : ℕ) → choice E s ≡ Some b → b ≡ s.active → IsTrue (is_valid (bank s b).state) → s.trials < trial_limit
+unfolding choice
+start-left E s b chosen here valid =
+    let on_trial : IsTrue (is_valid (bank s s.active).state) = ap (λ (k : ℕ). is_valid (bank s k).state) (sym here) ∙ valid in
+    cond_both (can_start E s) (Some s.active) (cond (can_fall_back E s) (Some s.previous) None) (λ (o : Option ℕ). o ≡ Some b → s.trials < trial_limit)
+    (λ h e. by-start s (holds_permitted E s.counter (bank s s.active).held) h on_trial)
+    (λ h e.
+    cond_both (can_fall_back E s) (Some s.previous) None (λ (o : Option ℕ). o ≡ Some b → s.trials < trial_limit)
+    (λ g f. absurd (never-back s.previous s.active (is_accepted (bank s s.previous).state) (holds_permitted E s.counter (bank s s.previous).held) g (same_Some s.previous b f ∙ here)))
+    (λ g f. absurd cc) e)
+    chosen
+
+pub chosen-start : (E : Setting) (s : State) (c : Chosen) → chosen_in E s ≡ Some c → IsStart s c
+chosen-start E s c found =
+    let parts = chosen-parts s (choice E s) c found in
+    record { version_is = parts.1; left = λ here valid. start-left E s c.bank parts.0 here valid }
+
+-- with the trials that are shown, the state is as it is
+pub tried-itself : (image : List ℕ) (shown : Shown) → Shows image shown → tried_in (state_shown image shown) shown.trials ≡ state_shown image shown
+tried-itself image shown shows = ap (λ (n : ℕ). tried_in (state_shown image shown) n) shows.trials_are
+
+-- ---- a migration changes no choice
+
+choice-form : (E : Setting) (s : State) → choice E (record s { form = 2 }) ≡ choice E s
+unfolding choice
+choice-form E s = refl
+
+package-form : (s : State) (o : Option ℕ) → with_package (record s { form = 2 }) o ≡ with_package s o
+package-form s None = refl
+package-form s (Some b) = refl
+
+count-form : (s : State) (o : Option ℕ) → count_moves (record s { form = 2 }) o ≡ count_moves s o
+count-form s None = refl
+count-form s (Some b) = refl
+
+abbrev pub migrated : State → State
+migrated s = after s (migrate_moves s)
+
+pub past-migration : (s : State) (P : State → Type 0) → P (record s { form = 2 }) → P s → P (migrated s)
+past-migration s P two as_is = cond_both (s.form == 1) (Migrate ∷ []) [] (λ (ms : List Move). P (after s ms)) (λ e. two) (λ e. as_is)
+
+pub chosen-migrated : (E : Setting) (s : State) → chosen_in E (migrated s) ≡ chosen_in E s
+chosen-migrated E s = past-migration s (λ (x : State). chosen_in E x ≡ chosen_in E s) (ap (with_package (record s { form = 2 })) (choice-form E s) ∙ package-form s (choice E s)) refl
+
+pub count-migrated : (E : Setting) (s : State) → count_moves (migrated s) (choice E (migrated s)) ≡ count_moves s (choice E s)
+count-migrated E s = past-migration s (λ (x : State). count_moves x (choice E x) ≡ count_moves s (choice E s)) (ap (count_moves (record s { form = 2 })) (choice-form E s) ∙ count-form s (choice E s)) refl
+
+-- ---- in one
+
+-- a write beside the replicas leaves them
+replica-stays : (L : Layout) (r : MetaRead) (b : ℕ) (s t : Told) → b ≤ 2 → Keeps 12288 28672 s t → meta_read L (block b s.now) ≡ Some r → meta_read L (block b t.now) ≡ Some r
+replica-stays L r b s t low keeps is = ap (meta_read L) (block-same t.now s.now b keeps.size (λ place from to. keeps.now place (inl (omega (arith, to, low))))) ∙ is
+
+both-stay : (L : Layout) (r : MetaRead) (s t : Told) → Keeps 12288 28672 s t → BothHold L r s.now → BothHold L r t.now
+both-stay L r s t keeps both = record { zero = replica-stays L r 1 s t (omega arith) keeps both.zero; one = replica-stays L r 2 s t (omega arith) keeps both.one }
+
+on-ok : {T : Type 0} (result : Result T FlashStop) (A : Type 0) → A → OnOk result A
+on-ok (Ok x) A a = a
+on-ok (Err e) A a = tt
+
+module _ (passes : List ℕ → Bool) (shown : Shown) (s : Told) where
+  abbrev state : State
+  state = state_shown s.now shown
+
+  abbrev E0 : Setting
+  E0 = boot_setting passes shown.layout
+
+  -- the repair was stopped
+  pub boots-stopped : {T U : Type 0} (stop : FlashStop) (result : Result U FlashStop) (t : Told) → IsErr result → Mends {T = T} (Err stop) shown s t → Boots result passes shown s t
+  boots-stopped stop result t err mends = record {
+    keeps = keeps_wider 4096 12288 4096 28672 s t (omega arith) (omega arith) mends.keeps;
+    none = λ e. mends.keeps;
+    both = IfOk-from_err result (λ x. BothHold shown.layout (in_version 2 shown.meta.meta) t.now) err;
+    shows = λ tidy. IfOk-from_err result (λ x. IsShown shown.layout t.now (after state (all_moves E0 state))) err;
+    does = λ E calm guards. does-stopped (Err stop) result E state (migrate_moves state) (count_moves state (choice E0 state)) t err (mends.does E calm guards);
+    guarded = λ rest. guarded-stop result t err (mends.guarded rest);
+  }
+
+  module _ {T U : Type 0} (x : T) (result : Result U FlashStop) (m t : Told) (mends : Mends {T = T} (Ok x) shown s m) where
+    abbrev ms : List Move
+    ms = count_moves state (choice E0 state)
+
+    -- from the state after the repair
+    boots-next : Leads result shown.layout (migrated state) ms m t → Boots result passes shown s t
+    boots-next leads = record {
+      keeps = keeps_then 4096 28672 s m t (keeps_wider 4096 12288 4096 28672 s m (omega arith) (omega arith) mends.keeps) (keeps_wider 12288 28672 4096 28672 m t (omega arith) (omega arith) leads.keeps);
+      none = λ e. subst (λ (u : Told). Keeps 4096 12288 s u) (sym (leads.idle (ap (count_moves state) e))) mends.keeps;
+      both = on-ok result (BothHold shown.layout (in_version 2 shown.meta.meta) t.now) (both-stay shown.layout (in_version 2 shown.meta.meta) m t leads.keeps mends.both);
+      shows = λ tidy. on_ok_weaker result (λ (h : IsShown shown.layout t.now (after (migrated state) ms)). subst (IsShown shown.layout t.now) (sym (after-append state (migrate_moves state) ms)) h) (leads.shows (mends.tidy tidy));
+      does = λ E calm guards. does-then x result E state (migrate_moves state) ms m t (mends.does E calm guards) (λ ready. leads.does E ready);
+      guarded = λ rest. leads.guarded (mends.guarded rest);
+    }
+
+    pub boots-then : Leads result shown.layout (state_shown m.now (mended shown)) (count_moves (state_shown m.now (mended shown)) (choice E0 (state_shown m.now (mended shown)))) m t → Boots result passes shown s t
+    boots-then leads =
+        boots-next
+        (subst (λ (moves : List Move). Leads result shown.layout (migrated state) moves m t) (count-migrated E0 state)
+        (subst (λ (y : State). Leads result shown.layout y (count_moves y (choice E0 y)) m t) mends.moved leads))

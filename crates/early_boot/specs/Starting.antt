@@ -1,0 +1,44 @@
+-- What a boot leaves of a flash that shows this: the replicas are repaired, a bank is chosen, and its start is counted.
+use Rattle.std.specs.Prelude.{◌≡◌, ℕ, Bool, List, [], ◌++◌, Option, Some, None, Result, OnOk}
+use Rattle.flash_core.specs.declared.flash.FlashStop.{FlashStop}
+use Rattle.flash_core.specs.Told.{Told}
+use Rattle.flash_core.specs.May.{Guards, Keeps}
+use Rattle.fwu_model.specs.State.{State, Move, after}
+use Rattle.fwu_model.specs.Sound.{Setting, choice}
+use Rattle.fwu_model.specs.Seen.{IsTidy}
+use Rattle.fwu_model.specs.Calm.{IsCalm, IsAtRest}
+use Rattle.fwu_model.specs.Answer.{migrate_moves, chosen_moves}
+use Rattle.fwu_model.specs.Replica.{BothHold, in_version}
+use Rattle.moves.specs.Moved.{IsShown, Does, GuardedBy}
+use Rattle.early_boot.specs.declared.choosing.Chosen.{Chosen}
+use Rattle.early_boot.specs.declared.showing.Shown.{Shown}
+use Rattle.early_boot.specs.Showing.{state_shown}
+use Rattle.early_boot.specs.Choosing.{boot_setting}
+use Rattle.early_boot.specs.CountingStarts.{counted}
+
+-- a bank that was chosen, with what is shown once its start is counted
+abbrev pub with_counts : Shown → Option Chosen → Option (Shown × Chosen)
+with_counts shown None = None
+with_counts shown (Some c) = Some (counted shown c, c)
+
+-- the moves that count the start of what was chosen
+abbrev pub count_moves : State → Option ℕ → List Move
+count_moves s None = []
+count_moves s (Some b) = chosen_moves s b
+
+abbrev pub all_moves : Setting → State → List Move
+all_moves E s = migrate_moves s ++ count_moves s (choice E s)
+
+pub record Boots {T : Type 0} (result : Result T FlashStop) (passes : List ℕ → Bool) (shown : Shown) (s t : Told) : Type 0 where
+  -- nothing but the replicas, the marks and the records changes; where none is chosen, nothing but the replicas
+  pub keeps : Keeps 4096 28672 s t
+  pub none : choice (boot_setting passes shown.layout) (state_shown s.now shown) ≡ None → Keeps 4096 12288 s t
+  -- when done, both replicas hold the metadata in version 2
+  pub both : OnOk result (BothHold shown.layout (in_version 2 shown.meta.meta) t.now)
+  -- on any flash with tidy marks: when done, it shows the state after all moves
+  pub shows : IsTidy s.now (state_shown s.now shown) → OnOk result (IsShown shown.layout t.now (after (state_shown s.now shown) (all_moves (boot_setting passes shown.layout) (state_shown s.now shown))))
+  -- from a flash that is calm at least, with each loss
+  pub does : (E : Setting) → IsCalm E s (state_shown s.now shown) → Guards 1 7 s
+      → Does result E (state_shown s.now shown) (all_moves (boot_setting passes shown.layout) (state_shown s.now shown)) t
+  -- from a flash at rest, sound or not
+  pub guarded : IsAtRest s → GuardedBy result t
