@@ -179,7 +179,7 @@ fn another_word_is_refused(rt: HostRuntime) -> Result<(), Fail> {
         Vec::new(alloc),
         Vec::new(alloc),
     )?;
-    let usage = b"usage: fwu FLASH run|boot|show|format LAYOUT PACKAGE|soak SEED N\n";
+    let usage = b"usage: fwu FLASH run|boot|show|format [--banks N] LAYOUT PACKAGE|soak SEED N\n";
     assert_eq!(rt; sink.bytes(), usage.as_slice());
     assert_eq!(rt; done.status, 1);
     assert!(rt; !done.flash.is_on());
