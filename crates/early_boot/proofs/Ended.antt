@@ -1,4 +1,4 @@
--- How a boot in full ends, from what was shown, chosen and counted.
+-- How a boot ends, from what was shown, chosen and counted.
 use Rattle.std.proofs.Common.{◌≡◌, ℕ, ◌+◌, ◌*◌, ◌<◌, ◌≤◌, ◌==◌, not, eqb, ltb, cond, Bool, true, false, List, [], ◌∷◌, ◌++◌, length, map, Option, Some, None, Result, Ok, Err, refl, sym, ap, subst, ◌∙◌, arith, IsTrue, append-nil}
 use Rattle.std.proofs.lemmas.Bool.{cond_both}
 use Rattle.std.proofs.lemmas.Option.{same_Some}
@@ -7,12 +7,14 @@ use Rattle.flash_core.specs.declared.flash.FlashStop.{FlashStop}
 use Rattle.flash_core.specs.declared.flash.FlashStop.TheVariants as flash_stop
 use Rattle.flash_core.specs.Told.{Told}
 use Rattle.flash_core.specs.May.{Guards}
-use Rattle.fwu_model.specs.Metadata.{fits_meta, state_at}
+use Rattle.fwu_model.specs.Metadata.{MetaRead, fits_meta, meta_read, state_at}
 use Rattle.fwu_model.specs.Manifest.{version}
-use Rattle.fwu_model.specs.Flash.{layout_seen}
+use Rattle.base_core.specs.Block.{block}
+use Rattle.fwu_model.specs.Flash.{layout_seen, deciding, first_some}
+use Rattle.fwu_model.specs.Counter.{counter_in}
 use Rattle.fwu_model.specs.State.{State, Move, Numbers, bank, numbers_of, after}
 use Rattle.fwu_model.specs.Sound.{Setting, choice}
-use Rattle.fwu_model.specs.Seen.{seen, IsTidy}
+use Rattle.fwu_model.specs.Seen.{seen, state_of, IsTidy}
 use Rattle.fwu_model.specs.Session.{Off}
 use Rattle.fwu_model.specs.Call as call
 use Rattle.fwu_model.specs.Answer.{Answer, answer, answer_boot, booted_package, boot_moves, boots, boots_chosen, chosen_moves, migrate_moves}
@@ -33,16 +35,16 @@ use Rattle.early_boot.specs.declared.choosing.Chosen.{Chosen}
 use Rattle.early_boot.specs.declared.showing.Shown.{Shown}
 use Rattle.early_boot.specs.declared.showing.Unshown.{Unshown}
 use Rattle.early_boot.specs.declared.showing.Unshown.TheVariants as unshown
-use Rattle.early_boot.specs.Showing.{Shows, ShowsNothing, state_shown, stop_in}
+use Rattle.early_boot.specs.Showing.{Shows, ShowsNothing, state_shown, stop_in, trials_in}
 use Rattle.early_boot.specs.Choosing.{boot_setting, chosen_in}
 use Rattle.early_boot.specs.Mending.{mended}
 use Rattle.early_boot.specs.CountingStarts.{counted, counted_in}
 use Rattle.early_boot.specs.Starting.{Boots, all_moves, count_moves, with_counts}
-use Rattle.early_boot.specs.Started.{Started, started_as, started_reply, started_session}
+use Rattle.early_boot.specs.Started.{Started, started_as, started_reply, started_session, started_numbers}
 use Rattle.early_boot.specs.Ends.{booted, no_bank, stop_of}
-use Rattle.early_boot.specs.FullEnds.{Chose, EndsByAnswer, EndsByBytes, EndsByMachine, stopped_with, unshown_end}
+use Rattle.early_boot.specs.EndsBy.{Chose, EndsByAnswer, EndsByBytes, EndsByMachine, stopped_with, unshown_end}
 use Rattle.early_boot.proofs.Choices.{choice-setting}
-use Rattle.early_boot.proofs.Endings.{chosen-parts, chosen-none}
+use Rattle.early_boot.proofs.Endings.{by-metadata, chosen-parts, chosen-none, state-numbers}
 use Rattle.early_boot.proofs.Led.{active-is, counts-moves, guarded-stop}
 use Rattle.early_boot.proofs.Boots.{migrated, past-migration}
 
@@ -216,16 +218,36 @@ module _ (passes : List ℕ → Bool) (shown : Shown) (old new : Told) (shows : 
             here tidy =
                 (((replies E test).0, (ends.shows tidy).shows ∙ ap (λ (ms : List Move). Some (after state ms)) (moves-are E test)), (replies E test).1)
 
+        started-numbers : (E : Setting) → E.passes ≡ passes → IsCalm E old state → IsReady E new (after state (answer E state Off call.Boot).moves)
+            → started_numbers told_as ≡ numbers_of (after state (answer E state Off call.Boot).moves)
+        unfolding deciding
+        started-numbers E test calm ready =
+            let L = shown.layout in
+            let m = in_version 2 shown.meta.meta in
+            let last = after state (answer E state Off call.Boot).moves in
+            let has : layout_seen new.now ≡ Ok L = ready.calm.sound.layout ∙ sym calm.sound.layout ∙ shows.layout_is in
+            let decides : deciding L new.now ≡ Some m = ap (λ (o : Option MetaRead). first_some o (meta_read L (block 2 new.now))) ends.both.zero in
+            let is : state_of L new.now m ≡ last = same_Some (state_of L new.now m) last (sym (seen-by-metadata.gives L new.now m has decides) ∙ ready.calm.shows) in
+            let told : numbers_of last ≡ by-metadata new.now m = ap numbers_of (sym is) ∙ state-numbers L new.now m fits in
+            let same : end ≡ last = ap (λ (a : Answer). after state a.moves) (sym (answers E test)) in
+            let trials : end.trials ≡ trials_in new.now m.meta = ap (λ (s : State). s.trials) (same ∙ sym is) in
+            let counter : end.counter ≡ counter_in new.now = ap (λ (s : State). s.counter) (same ∙ sym is) in
+            ap (λ (n : ℕ). record (by-metadata new.now m) { trials = n; counter = end.counter }) trials
+            ∙ ap (λ (n : ℕ). record (by-metadata new.now m) { counter = n }) counter ∙ sym told
+
         pub started-machine : (E : Setting) (s : State) (n : Numbers) → n ≡ numbers_of state → E.passes ≡ passes → IsCalm E old s → Guards 1 7 old → EndsByMachine E s (booted told_as n) new
         started-machine E s n numbers test calm guards = subst (λ (y : State). IsCalm E old y → EndsByMachine E y (booted told_as n) new) (state-seen s calm.shows) here calm
           where
             here : IsCalm E old state → EndsByMachine E state (booted told_as n) new
-            here calm = record {
-              numbers = numbers;
-              reply_is = (replies E test).0;
-              next_is = (replies E test).1;
-              ready = subst (λ (ms : List Move). IsReady E new (after state ms)) (moves-are E test) (ends.does E calm guards).all;
-            }
+            here calm =
+                let ready = subst (λ (ms : List Move). IsReady E new (after state ms)) (moves-are E test) (ends.does E calm guards).all in
+                record {
+                  numbers = numbers;
+                  reply_is = (replies E test).0;
+                  next_is = (replies E test).1;
+                  ready = ready;
+                  numbers_after = started-numbers E test calm ready;
+                }
 
   -- ---- none was started
 

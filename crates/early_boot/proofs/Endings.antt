@@ -19,9 +19,8 @@ use Rattle.early_boot.specs.declared.choosing.Chosen.{Chosen}
 use Rattle.early_boot.specs.declared.showing.Shown.{Shown}
 use Rattle.early_boot.specs.Showing.{Shows, state_shown, trials_in}
 use Rattle.early_boot.specs.Choosing.{boot_setting, chosen_as, chosen_in, tried_in, with_package}
-use Rattle.early_boot.specs.Numbers.{numbers_shown}
+use Rattle.early_boot.specs.Numbers.{numbers_shown, ShowsNumbers}
 use Rattle.early_boot.specs.Started.{started_as}
-use Rattle.early_boot.specs.Ends.{Chose, StartsChosen, StartsNone}
 use Rattle.meta_layout.proofs.Fits.{meta-fits}
 use Rattle.early_boot.proofs.Choices.{choice-setting}
 use Rattle.early_boot.proofs.Shapes.{map-after}
@@ -38,7 +37,7 @@ listed-itself xs n d size =
     get_or-map-range_with_len (λ i. get_or xs i d) 0 n i i d lt (omega arith))
 
 -- the numbers of the state are those of the metadata and the counts
-abbrev by-metadata : List ℕ → MetaRead → Numbers
+abbrev pub by-metadata : List ℕ → MetaRead → Numbers
 by-metadata image r = record {
   form = r.form;
   active = r.meta.active;
@@ -49,7 +48,7 @@ by-metadata image r = record {
   counter = counter_in image;
 }
 
-state-numbers : (L : Layout) (image : List ℕ) (r : MetaRead) → IsTrue (fits_meta L r.meta) → numbers_of (state_of L image r) ≡ by-metadata image r
+pub state-numbers : (L : Layout) (image : List ℕ) (r : MetaRead) → IsTrue (fits_meta L r.meta) → numbers_of (state_of L image r) ≡ by-metadata image r
 state-numbers L image r are =
     let f = meta-fits L r.meta are in
     let states = map-after (λ (k : Bank). k.state) (bank_in L image r.meta) (range_with_len 0 L.banks) ∙ listed-itself r.meta.states L.banks Invalid f.states in
@@ -75,39 +74,6 @@ pub chosen-none : (s : State) (o : Option ℕ) → with_package s o ≡ None →
 chosen-none s None e = refl
 chosen-none s (Some b) e = absurd cc
 
-module _ (passes : List ℕ → Bool) (image : List ℕ) (shown : Shown) (shows : Shows image shown) where
-  chose : (chosen : Option ℕ) → choice (boot_setting passes shown.layout) (tried_in (state_shown image shown) trial_limit) ≡ chosen → Chose passes image shown.layout (state_shown image shown) chosen
-  chose chosen is = record {
-    has_layout = shows.layout_is;
-    shows = seen-by-metadata.gives shown.layout image shown.meta shows.layout_is shows.loads.decides;
-    choice_is = λ E layout test. choice-setting E (tried_in (state_shown image shown) trial_limit) shown.layout passes test ∙ is;
-  }
-
-  pub starts-chosen : (c : Chosen) (n : Numbers) → n ≡ numbers_of (state_shown image shown)
-      → Some c ≡ chosen_in (boot_setting passes shown.layout) (tried_in (state_shown image shown) trial_limit) → StartsChosen passes image (started_as shown c) n
-  starts-chosen c n same found =
-      let s = state_shown image shown in
-      let parts = chosen-parts (tried_in s trial_limit) (choice (boot_setting passes shown.layout) (tried_in s trial_limit)) c (sym found) in
-      record {
-        state = s;
-        chose = chose (Some c.bank) parts.0;
-        metadata = shows.loads.decides;
-        numbers = same;
-        version_is = parts.1;
-        trials_are = shows.trials_are;
-        counter_is = shows.counter_is;
-        fallback_is = refl;
-        lengths_are = parts.2;
-      }
-
-  pub starts-none : None ≡ chosen_in (boot_setting passes shown.layout) (tried_in (state_shown image shown) trial_limit)
-      → StartsNone passes image shown.meta.meta.active shown.meta.meta.previous
-  starts-none found =
-      let s = state_shown image shown in
-      record {
-        layout = shown.layout;
-        state = s;
-        chose = chose None (chosen-none (tried_in s trial_limit) (choice (boot_setting passes shown.layout) (tried_in s trial_limit)) (sym found));
-        active_is = refl;
-        previous_is = refl;
-      }
+pub shows-numbers : (image : List ℕ) (shown : Shown) → Shows image shown → IsTrue (fits_meta shown.layout shown.meta.meta) → ShowsNumbers image (numbers_shown shown)
+shows-numbers image shown shows are =
+    (state_shown image shown, seen-by-metadata.gives shown.layout image shown.meta shows.layout_is shows.loads.decides, shown-numbers image shown shows are)

@@ -1,11 +1,10 @@
 pub mod Showing
 pub mod Choosing
-pub mod Interim
 pub mod Numbers
 pub mod Started
 pub mod Ends
-pub mod Law
 pub mod Mending
 pub mod CountingStarts
 pub mod Starting
-pub mod FullEnds
+pub mod EndsBy
+pub mod Law

@@ -4,6 +4,7 @@ ghost use Rattle.fwu_model.specs.Metadata.{fits_meta};
 
 use crate::choosing::Chosen;
 use crate::lengths::Lengths;
+use crate::numbers::Numbers;
 use crate::showing::Shown;
 use flash_core::Flash;
 use fwu_model::BankState;
@@ -30,7 +31,8 @@ impl<D: Flash> Booted<D> {
     ghost use Rattle.std.specs.Prelude.{slice_index_or};
     ghost use Rattle.fwu_model.specs.Metadata.{state_at, bit_at};
     ghost use Rattle.early_boot.specs.Choosing.{IsCandidate};
-    ghost use Rattle.early_boot.specs.Started.{started, started_as, device};
+    ghost use Rattle.early_boot.specs.Numbers.{numbers};
+    ghost use Rattle.early_boot.specs.Started.{started, started_as, started_numbers, device};
 
     /// The bank was chosen by what the device shows.
     pub(crate) fn of(flash: D, shown: Shown, chosen: Chosen) -> Booted<D>
@@ -124,6 +126,21 @@ impl<D: Flash> Booted<D> {
         self.counter
     }
 
+    /// The numbers of the flash after the boot.
+    pub fn numbers(&self) -> Numbers
+        ensures { numbers result ≡ started_numbers (started self.now) }
+    {
+        Numbers {
+            form: self.meta.form(),
+            active: self.meta.active(),
+            previous: self.meta.previous(),
+            states: *self.meta.states(),
+            bits: *self.meta.bits(),
+            trials: self.trials,
+            counter: self.counter,
+        }
+    }
+
     /// Whether the previous bank was started in place of the active one.
     pub fn fallback(&self) -> bool
         ensures { result ≡ (started self.now).fallback }
@@ -139,8 +156,7 @@ impl<D: Flash> Booted<D> {
         self.lengths.get(image as usize)
     }
 
-    /// The device, which is on, the layout, and the metadata that decides.
-    // Interim: not both replicas need hold that metadata, and it may be of version 1.
+    /// The device, which is on, the layout, and the metadata, which both replicas hold in version 2 when the boot ends.
     pub fn into_parts(self) -> (D, Layout, Meta)
         ensures device { result.0 ≡ device self }
         ensures power { IsTrue (D.on result.0) }

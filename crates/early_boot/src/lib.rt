@@ -6,7 +6,6 @@ mod booted;
 mod choosing;
 mod counting_starts;
 mod ends;
-mod full;
 mod laws;
 mod lengths;
 mod mending;
@@ -19,7 +18,7 @@ mod tests;
 
 pub use booted::Booted;
 pub use ends::BootEnd;
-pub use full::boot_in_full;
 pub use laws::answers_are_exact;
-pub use numbers::Numbers;
+pub use numbers::{Numbers, read_numbers};
+pub use showing::Unshown;
 pub use start::boot;

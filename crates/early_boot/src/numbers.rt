@@ -1,8 +1,11 @@
 //! The numbers of a flash.
-ghost use Rattle.std.specs.Prelude.{◌≡◌};
-ghost use Rattle.early_boot.specs.Numbers.{numbers, numbers_shown};
+ghost use Rattle.std.specs.Prelude.{◌≡◌, is_ok, IsTrue, IfOk, IfErr};
+ghost use Rattle.flash_core.specs.Counts.{Spends};
+ghost use Rattle.early_boot.specs.Numbers.{numbers, numbers_shown, ShowsNumbers};
+ghost use Rattle.early_boot.specs.Showing.{ShowsNothing, stop_in};
 
-use crate::showing::Shown;
+use crate::showing::{Shown, Unshown, read_shown};
+use flash_core::Flash;
 use meta_layout::{BankBits, States};
 
 /// What a flash showed as a boot began, but for the packages in its banks.
@@ -38,4 +41,20 @@ pub fn numbers_in(shown: &Shown) -> Numbers
         trials: shown.trials,
         counter: shown.counter,
     }
+}
+
+/// The numbers that the flash shows. Nothing is written, and no replica is repaired.
+pub fn read_numbers<D: Flash>(flash: &mut D) -> Result<Numbers, Unshown>
+    requires { IsTrue (D.on flash.old) }
+
+    ensures numbers { IfOk result (λ read. IsTrue D.tells → ShowsNumbers (D.told flash.old).now (numbers read)) }
+    ensures nothing { IfErr result (λ why. IsTrue D.tells → ShowsNothing (D.told flash.old).now why) }
+    ensures content { IsTrue D.tells → D.told flash.new ≡ D.told flash.old }
+    ensures power { D.on flash.new ≡ is_ok (stop_in result) }
+    ensures size { D.blocks flash.new ≡ D.blocks flash.old }
+    ensures costs { Spends (stop_in result) (D.counts flash.old) (D.counts flash.new) }
+{
+    let mut block = [0; 4096];
+    let shown = read_shown(flash, &mut block)?;
+    Ok(numbers_in(&shown))
 }

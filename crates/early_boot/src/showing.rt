@@ -24,8 +24,8 @@ pub struct Shown {
     pub counter: u32,
 }
 
-/// Why a flash shows nothing.
-#[derive(Clone, Copy)]
+/// Why a flash shows nothing: block 0 holds no layout, neither replica is metadata of it, or the flash stopped the reading.
+#[derive(Clone, Copy, Debug, PartialEq, Eq)]
 pub enum Unshown {
     Layout(LayoutFault),
     Metadata,

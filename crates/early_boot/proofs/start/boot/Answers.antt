@@ -1,33 +1,170 @@
-use Rattle.std.proofs.Common.{ℕ, sym, ap, subst, ◌∙◌}
+use Rattle.std.proofs.Common.{◌≡◌, ℕ, Option, Some, None, Ok, Err, refl, sym, ap, subst, ◌∙◌, IsTrue}
 use Rattle.flash_core.specs.Told.{Told}
-use Rattle.fwu_model.specs.Sound.{trial_limit}
-use Rattle.early_boot.specs.Numbers.{numbers}
+use Rattle.early_boot.specs.declared.choosing.Chosen.{Chosen}
+use Rattle.early_boot.specs.declared.showing.Shown.{Shown}
 use Rattle.early_boot.specs.Showing.{state_shown}
-use Rattle.early_boot.specs.Choosing.{boot_setting, chosen_in, tried_in}
-use Rattle.early_boot.specs.Started.{Started}
-use Rattle.early_boot.specs.Ends.{StartsChosen, StartsNone}
-use Rattle.early_boot.proofs.Endings.{shown-numbers, starts-chosen, starts-none}
+use Rattle.early_boot.specs.Choosing.{boot_setting, chosen_in}
+use Rattle.early_boot.specs.Mending.{mended}
+use Rattle.early_boot.specs.Numbers.{numbers}
+use Rattle.early_boot.specs.Starting.{Boots, with_counts}
+use Rattle.early_boot.specs.Started.{Started, started}
+use Rattle.early_boot.specs.Ends.{Ended, booted, device_of, no_bank}
+use Rattle.early_boot.specs.EndsBy.{EndsByAnswer, EndsByBytes, EndsByMachine, stopped_with, unshown_end}
+use Rattle.early_boot.proofs.Endings.{shown-numbers}
+use Rattle.early_boot.proofs.Ended.{unshown-answer, unshown-machine, counts-some, counts-none, started-is, started-bytes, started-answer, started-machine, none-bytes, none-answer, none-machine, stopped-bytes, stopped-machine}
 use Rattle.early_boot.proofs.start.boot.Goals as goal
+
+pub returns-in-Err-clause-by_answer : goal.returns-in-Err-clause-by_answer
+returns-in-Err-clause-by_answer g c tells E s test layout shows tidy =
+    let old = g.D.Flash.told c.args.flash in
+    let new = g.D.Flash.told c.read_shown.new.flash in
+    let same = c.in-Err.ensures.content tells in
+    subst (λ (e : Ended). EndsByAnswer E s e (g.D.Flash.told (device_of c.unshown.result))) (sym c.unshown.ensures.ended)
+    (subst (λ (t : Told). EndsByAnswer E s (unshown_end c.in-Err.why) t) (sym (ap g.D.Flash.told c.unshown.ensures.device))
+    (unshown-answer old new same E s c.in-Err.why (c.in-Err.ensures.nothing tells) layout shows))
+
+pub returns-in-Err-clause-by_machine : goal.returns-in-Err-clause-by_machine
+returns-in-Err-clause-by_machine g c tells E s test calm guards =
+    let old = g.D.Flash.told c.args.flash in
+    let new = g.D.Flash.told c.read_shown.new.flash in
+    let same = c.in-Err.ensures.content tells in
+    subst (λ (e : Ended). EndsByMachine E s e (g.D.Flash.told (device_of c.unshown.result))) (sym c.unshown.ensures.ended)
+    (subst (λ (t : Told). EndsByMachine E s (unshown_end c.in-Err.why) t) (sym (ap g.D.Flash.told c.unshown.ensures.device))
+    (unshown-machine old new same E s c.in-Err.why (c.in-Err.ensures.nothing tells) calm))
 
 pub returns-in-Ok-Some-clause-by_bytes : goal.returns-in-Ok-Some-clause-by_bytes
 returns-in-Ok-Some-clause-by_bytes g c tells =
     let passes = g.V.Verifier.passes c.args.verifier.now in
-    let image = (g.D.Flash.told c.args.flash).now in
+    let old = g.D.Flash.told c.args.flash in
+    let new = g.D.Flash.told c.mend_and_start.new.flash in
     let shown = c.in-Ok.shown in
     let shows = c.in-Ok.ensures.shows tells in
-    let told = numbers c.numbers_in-numbers.result in
-    let found = sym c.in-Ok-Some.field-0-is ∙ c.in-Ok-Some.ensures.chosen tells
-    ∙ ap (λ (t : Told). chosen_in (boot_setting passes shown.layout) (tried_in (state_shown t.now shown) trial_limit)) (c.in-Ok.ensures.content tells) in
-    subst (λ (b : Started). StartsChosen passes image b told) (sym c.of.ensures.started)
-    (starts-chosen passes image shown shows c.in-Ok-Some.chosen told (c.numbers_in-numbers.ensures ∙ shown-numbers image shown shows c.in-Ok.ensures.fits) found)
+    let fits = c.in-Ok.ensures.fits in
+    let content = c.in-Ok.ensures.content tells in
+    let n = numbers c.numbers_in-numbers.result in
+    let read = c.numbers_in-numbers.ensures ∙ shown-numbers old.now shown shows fits in
+    let ends = subst (λ (u : Told). Boots {T = Option (Shown × Chosen)} (Ok c.in-Ok-Some.field-0) passes shown u new) content (c.in-Ok-Some.ensures.boots tells) in
+    let parts = counts-some (mended shown) (chosen_in (boot_setting passes shown.layout) (state_shown old.now shown)) c.in-Ok-Some.after c.in-Ok-Some.chosen
+    (sym c.in-Ok-Some.field-0-is ∙ c.in-Ok-Some.ensures.chosen tells ∙ ap (λ (u : Told). with_counts (mended shown) (chosen_in (boot_setting passes shown.layout) (state_shown u.now shown))) content) in
+    let is = c.of.ensures.started ∙ started-is passes shown old new shows fits c.in-Ok-Some.chosen parts.0 c.in-Ok-Some.after parts.1 in
+    subst (λ (t : Told). EndsByBytes passes old (booted (started c.of.result) n) t) (sym (ap g.D.Flash.told c.of.ensures.device))
+    (subst (λ (b : Started). EndsByBytes passes old (booted b n) new) (sym is)
+    (started-bytes passes shown old new shows fits c.in-Ok-Some.chosen parts.0 c.in-Ok-Some.field-0 ends n read))
+
+pub returns-in-Ok-Some-clause-by_answer : goal.returns-in-Ok-Some-clause-by_answer
+returns-in-Ok-Some-clause-by_answer g c tells E s test layout sees tidy =
+    let passes = g.V.Verifier.passes c.args.verifier.now in
+    let old = g.D.Flash.told c.args.flash in
+    let new = g.D.Flash.told c.mend_and_start.new.flash in
+    let shown = c.in-Ok.shown in
+    let shows = c.in-Ok.ensures.shows tells in
+    let fits = c.in-Ok.ensures.fits in
+    let content = c.in-Ok.ensures.content tells in
+    let n = numbers c.numbers_in-numbers.result in
+    let read = c.numbers_in-numbers.ensures ∙ shown-numbers old.now shown shows fits in
+    let ends = subst (λ (u : Told). Boots {T = Option (Shown × Chosen)} (Ok c.in-Ok-Some.field-0) passes shown u new) content (c.in-Ok-Some.ensures.boots tells) in
+    let parts = counts-some (mended shown) (chosen_in (boot_setting passes shown.layout) (state_shown old.now shown)) c.in-Ok-Some.after c.in-Ok-Some.chosen
+    (sym c.in-Ok-Some.field-0-is ∙ c.in-Ok-Some.ensures.chosen tells ∙ ap (λ (u : Told). with_counts (mended shown) (chosen_in (boot_setting passes shown.layout) (state_shown u.now shown))) content) in
+    let is = c.of.ensures.started ∙ started-is passes shown old new shows fits c.in-Ok-Some.chosen parts.0 c.in-Ok-Some.after parts.1 in
+    subst (λ (t : Told). EndsByAnswer E s (booted (started c.of.result) n) t) (sym (ap g.D.Flash.told c.of.ensures.device))
+    (subst (λ (b : Started). EndsByAnswer E s (booted b n) new) (sym is)
+    (started-answer passes shown old new shows fits c.in-Ok-Some.chosen parts.0 c.in-Ok-Some.field-0 ends E s n test sees tidy))
+
+pub returns-in-Ok-Some-clause-by_machine : goal.returns-in-Ok-Some-clause-by_machine
+returns-in-Ok-Some-clause-by_machine g c tells E s test calm guards =
+    let passes = g.V.Verifier.passes c.args.verifier.now in
+    let old = g.D.Flash.told c.args.flash in
+    let new = g.D.Flash.told c.mend_and_start.new.flash in
+    let shown = c.in-Ok.shown in
+    let shows = c.in-Ok.ensures.shows tells in
+    let fits = c.in-Ok.ensures.fits in
+    let content = c.in-Ok.ensures.content tells in
+    let n = numbers c.numbers_in-numbers.result in
+    let read = c.numbers_in-numbers.ensures ∙ shown-numbers old.now shown shows fits in
+    let ends = subst (λ (u : Told). Boots {T = Option (Shown × Chosen)} (Ok c.in-Ok-Some.field-0) passes shown u new) content (c.in-Ok-Some.ensures.boots tells) in
+    let parts = counts-some (mended shown) (chosen_in (boot_setting passes shown.layout) (state_shown old.now shown)) c.in-Ok-Some.after c.in-Ok-Some.chosen
+    (sym c.in-Ok-Some.field-0-is ∙ c.in-Ok-Some.ensures.chosen tells ∙ ap (λ (u : Told). with_counts (mended shown) (chosen_in (boot_setting passes shown.layout) (state_shown u.now shown))) content) in
+    let is = c.of.ensures.started ∙ started-is passes shown old new shows fits c.in-Ok-Some.chosen parts.0 c.in-Ok-Some.after parts.1 in
+    subst (λ (t : Told). EndsByMachine E s (booted (started c.of.result) n) t) (sym (ap g.D.Flash.told c.of.ensures.device))
+    (subst (λ (b : Started). EndsByMachine E s (booted b n) new) (sym is)
+    (started-machine passes shown old new shows fits c.in-Ok-Some.chosen parts.0 c.in-Ok-Some.field-0 ends E s n read test calm guards))
 
 pub returns-in-Ok-None-clause-by_bytes : goal.returns-in-Ok-None-clause-by_bytes
 returns-in-Ok-None-clause-by_bytes g c tells =
     let passes = g.V.Verifier.passes c.args.verifier.now in
-    let image = (g.D.Flash.told c.args.flash).now in
+    let old = g.D.Flash.told c.args.flash in
+    let new = g.D.Flash.told c.mend_and_start.new.flash in
     let shown = c.in-Ok.shown in
-    let found = sym c.in-Ok-None.field-0-is ∙ c.in-Ok-None.ensures.chosen tells
-    ∙ ap (λ (t : Told). chosen_in (boot_setting passes shown.layout) (tried_in (state_shown t.now shown) trial_limit)) (c.in-Ok.ensures.content tells) in
-    subst (λ (a : ℕ). StartsNone passes image a c.previous.result) (sym c.active.ensures)
-    (subst (λ (p : ℕ). StartsNone passes image shown.meta.meta.active p) (sym c.previous.ensures)
-    (starts-none passes image shown (c.in-Ok.ensures.shows tells) found))
+    let shows = c.in-Ok.ensures.shows tells in
+    let fits = c.in-Ok.ensures.fits in
+    let content = c.in-Ok.ensures.content tells in
+    let ends = subst (λ (u : Told). Boots {T = Option (Shown × Chosen)} (Ok c.in-Ok-None.field-0) passes shown u new) content (c.in-Ok-None.ensures.boots tells) in
+    let found = counts-none (mended shown) (chosen_in (boot_setting passes shown.layout) (state_shown old.now shown))
+    (sym c.in-Ok-None.field-0-is ∙ c.in-Ok-None.ensures.chosen tells ∙ ap (λ (u : Told). with_counts (mended shown) (chosen_in (boot_setting passes shown.layout) (state_shown u.now shown))) content) in
+    subst (λ (a : ℕ). EndsByBytes passes old (no_bank a c.previous.result) new) (sym c.active.ensures)
+    (subst (λ (p : ℕ). EndsByBytes passes old (no_bank shown.meta.meta.active p) new) (sym c.previous.ensures)
+    (none-bytes passes shown old new shows fits {T = Option (Shown × Chosen)} c.in-Ok-None.field-0 ends found))
+
+pub returns-in-Ok-None-clause-by_answer : goal.returns-in-Ok-None-clause-by_answer
+returns-in-Ok-None-clause-by_answer g c tells E s test layout sees tidy =
+    let passes = g.V.Verifier.passes c.args.verifier.now in
+    let old = g.D.Flash.told c.args.flash in
+    let new = g.D.Flash.told c.mend_and_start.new.flash in
+    let shown = c.in-Ok.shown in
+    let shows = c.in-Ok.ensures.shows tells in
+    let fits = c.in-Ok.ensures.fits in
+    let content = c.in-Ok.ensures.content tells in
+    let ends = subst (λ (u : Told). Boots {T = Option (Shown × Chosen)} (Ok c.in-Ok-None.field-0) passes shown u new) content (c.in-Ok-None.ensures.boots tells) in
+    let found = counts-none (mended shown) (chosen_in (boot_setting passes shown.layout) (state_shown old.now shown))
+    (sym c.in-Ok-None.field-0-is ∙ c.in-Ok-None.ensures.chosen tells ∙ ap (λ (u : Told). with_counts (mended shown) (chosen_in (boot_setting passes shown.layout) (state_shown u.now shown))) content) in
+    subst (λ (a : ℕ). EndsByAnswer E s (no_bank a c.previous.result) new) (sym c.active.ensures)
+    (subst (λ (p : ℕ). EndsByAnswer E s (no_bank shown.meta.meta.active p) new) (sym c.previous.ensures)
+    (none-answer passes shown old new shows fits {T = Option (Shown × Chosen)} c.in-Ok-None.field-0 ends found E s test sees tidy))
+
+pub returns-in-Ok-None-clause-by_machine : goal.returns-in-Ok-None-clause-by_machine
+returns-in-Ok-None-clause-by_machine g c tells E s test calm guards =
+    let passes = g.V.Verifier.passes c.args.verifier.now in
+    let old = g.D.Flash.told c.args.flash in
+    let new = g.D.Flash.told c.mend_and_start.new.flash in
+    let shown = c.in-Ok.shown in
+    let shows = c.in-Ok.ensures.shows tells in
+    let fits = c.in-Ok.ensures.fits in
+    let content = c.in-Ok.ensures.content tells in
+    let ends = subst (λ (u : Told). Boots {T = Option (Shown × Chosen)} (Ok c.in-Ok-None.field-0) passes shown u new) content (c.in-Ok-None.ensures.boots tells) in
+    let found = counts-none (mended shown) (chosen_in (boot_setting passes shown.layout) (state_shown old.now shown))
+    (sym c.in-Ok-None.field-0-is ∙ c.in-Ok-None.ensures.chosen tells ∙ ap (λ (u : Told). with_counts (mended shown) (chosen_in (boot_setting passes shown.layout) (state_shown u.now shown))) content) in
+    none-machine passes shown old new shows fits {T = Option (Shown × Chosen)} c.in-Ok-None.field-0 ends found E s test calm
+
+pub returns-in-Err-mend_and_start-clause-by_bytes : goal.returns-in-Err-mend_and_start-clause-by_bytes
+returns-in-Err-mend_and_start-clause-by_bytes g c tells =
+    let passes = g.V.Verifier.passes c.args.verifier.now in
+    let old = g.D.Flash.told c.args.flash in
+    let new = g.D.Flash.told c.mend_and_start.new.flash in
+    let shown = c.in-Ok.shown in
+    let shows = c.in-Ok.ensures.shows tells in
+    let fits = c.in-Ok.ensures.fits in
+    let content = c.in-Ok.ensures.content tells in
+    let n = numbers c.numbers_in-numbers.result in
+    let read = c.numbers_in-numbers.ensures ∙ shown-numbers old.now shown shows fits in
+    let stop = c.in-Err-mend_and_start.stop in
+    let ends = subst (λ (u : Told). Boots {T = Option (Shown × Chosen)} (Err stop) passes shown u new) content (c.in-Err-mend_and_start.ensures.boots tells) in
+    subst (λ (e : Ended). EndsByBytes passes old e (g.D.Flash.told (device_of c.stopped_with.result))) (sym c.stopped_with.ensures.ended)
+    (subst (λ (t : Told). EndsByBytes passes old (stopped_with stop n) t) (sym (ap g.D.Flash.told c.stopped_with.ensures.device))
+    (stopped-bytes passes shown old new shows fits {T = Option (Shown × Chosen)} stop ends n read))
+
+pub returns-in-Err-mend_and_start-clause-by_machine : goal.returns-in-Err-mend_and_start-clause-by_machine
+returns-in-Err-mend_and_start-clause-by_machine g c tells E s test calm guards =
+    let passes = g.V.Verifier.passes c.args.verifier.now in
+    let old = g.D.Flash.told c.args.flash in
+    let new = g.D.Flash.told c.mend_and_start.new.flash in
+    let shown = c.in-Ok.shown in
+    let shows = c.in-Ok.ensures.shows tells in
+    let fits = c.in-Ok.ensures.fits in
+    let content = c.in-Ok.ensures.content tells in
+    let n = numbers c.numbers_in-numbers.result in
+    let read = c.numbers_in-numbers.ensures ∙ shown-numbers old.now shown shows fits in
+    let stop = c.in-Err-mend_and_start.stop in
+    let ends = subst (λ (u : Told). Boots {T = Option (Shown × Chosen)} (Err stop) passes shown u new) content (c.in-Err-mend_and_start.ensures.boots tells) in
+    subst (λ (e : Ended). EndsByMachine E s e (g.D.Flash.told (device_of c.stopped_with.result))) (sym c.stopped_with.ensures.ended)
+    (subst (λ (t : Told). EndsByMachine E s (stopped_with stop n) t) (sym (ap g.D.Flash.told c.stopped_with.ensures.device))
+    (stopped-machine passes shown old new shows fits {T = Option (Shown × Chosen)} stop ends n read E s test calm guards))
