@@ -42,3 +42,7 @@ some_left b (x ∷ xs) is h = omega arith
 pub none_left : (b : Bool) (rest : List ℕ) → b ≡ (length rest == 0) → b ≡ true → rest ≡ []
 none_left b [] is h = refl
 none_left b (x ∷ xs) is h = absurd (omega (arith, eqb-true (length (x ∷ xs)) 0 (sym is ∙ h)))
+
+pub front_of_none : (later : Result (List Call) ℕ) → behind [] later ≡ later
+front_of_none (Ok later) = refl
+front_of_none (Err line) = refl
