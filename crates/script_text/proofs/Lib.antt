@@ -2,3 +2,4 @@ pub mod Parts
 pub mod Words
 pub mod Reading
 pub mod Whole
+pub mod Extents

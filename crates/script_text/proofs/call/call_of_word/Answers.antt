@@ -8,5 +8,5 @@ returns-then-is_word c = word_boot c.args.word.now (sym c.is_word.ensures ∙ c.
 pub returns-then-is_word-2 : goal.returns-then-is_word-2
 returns-then-is_word-2 c = word_show c.args.word.now (sym c.is_word-else-is_word.ensures ∙ c.if-is_word-2.true)
 
-pub returns-else-is_word-2 : goal.returns-else-is_word
+pub returns-else-is_word-2 : goal.returns-else-is_word-2
 returns-else-is_word-2 c = sym (word_other c.args.word.now (sym c.is_word.ensures ∙ c.if-is_word.false) (sym c.is_word-else-is_word.ensures ∙ c.if-is_word-2.false))
