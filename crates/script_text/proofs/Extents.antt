@@ -1,9 +1,10 @@
 -- The limits of a text, a byte at a time.
-use Rattle.std.proofs.Common.{◌≡◌, ◌≢◌, ℕ, ◌+◌, ◌<◌, ◌≤◌, Bool, true, false, cond, ◌==◌, nat_lt, List, [], ◌∷◌, ◌++◌, length, take, refl, sym, ap, subst, ◌∙◌, arith, inl, inr, ◌⊎◌, append_assoc, append-nil, length-append}
+use Rattle.std.proofs.Common.{◌≡◌, ◌≢◌, ℕ, ◌+◌, ◌<◌, ◌≤◌, Bool, true, false, cond, ◌==◌, nat_lt, List, [], ◌∷◌, ◌++◌, length, take, drop, get_or, refl, sym, ap, subst, ◌∙◌, arith, inl, inr, ◌⊎◌, append_assoc, append-nil, length-append}
 use Rattle.std.specs.Prelude.{◌||◌, IsTrue, count_by}
 use Rattle.std.specs.List.{slice_split, onto_first}
-use Rattle.std.proofs.lemmas.Bool.{cases_Bool, eqb-false, eq-eqb, ne_eqb, lt-ltb, le-ltb, ltb-true, ltb-false, or_cases, or_from, or_left, or_right, true≢false}
+use Rattle.std.proofs.lemmas.Bool.{cases_Bool, cases_lt, eqb-false, eq-eqb, ne_eqb, lt-ltb, le-ltb, ltb-true, ltb-false, or_cases, or_from, or_left, or_right, true≢false}
 use Rattle.std.proofs.lemmas.List.Splits.{length-slice_split}
+use Rattle.std.proofs.lemmas.List.{take_more, take_all, take-append-drop}
 use Rattle.std.proofs.lemmas.List.Sums.{sum_by-append}
 use Rattle.fwu_model.specs.Script.{without_empty_last, script_lines, is_too_long}
 use Rattle.script_text.specs.Limit.{Extent, IsExtentOf}
@@ -42,7 +43,10 @@ same_lines x (part ∷ next ∷ parts) some other = refl
 -- a first empty line
 next_lines : (parts : List (List ℕ)) → 0 < length parts → length (without_empty_last ([] ∷ parts)) ≡ length (without_empty_last parts) + 1
 next_lines [] some = absurd (omega (arith, some))
-next_lines (part ∷ parts) some = refl
+next_lines (part ∷ parts) some = omega arith
+
+ends_behind : (x : ℕ) (xs : List ℕ) (n : ℕ) → cond (is_end x) 1 0 ≡ n → ends (x ∷ xs) ≡ n + ends xs
+ends_behind x xs n is = omega (arith, is, sum_by-append (λ b. cond (is_end b) 1 0) (x ∷ []) xs)
 
 -- the lines of a text with one byte more
 pub lines_with : (text : List ℕ) (b : ℕ) → length (script_lines (text ++ b ∷ [])) ≡ ends text + 1
@@ -54,12 +58,12 @@ lines_with (x ∷ xs) b = elim (cases_Bool (is_end x)) [
   | inl is ↦
       let parts = slice_split is_end (xs ++ b ∷ []) in
       let here : length (script_lines (x ∷ (xs ++ b ∷ []))) ≡ length (without_empty_last ([] ∷ parts)) = rw is refl in
-      let count : ends (x ∷ xs) ≡ 1 + ends xs = rw is refl in
+      let count : ends (x ∷ xs) ≡ 1 + ends xs = ends_behind x xs 1 (rw is refl) in
       omega (arith, here, next_lines parts (some_parts is_end (xs ++ b ∷ [])), lines_with xs b, count)
   | inr other ↦
       let parts = slice_split is_end (xs ++ b ∷ []) in
       let here : length (script_lines (x ∷ (xs ++ b ∷ []))) ≡ length (without_empty_last (onto_first x parts)) = rw other refl in
-      let count : ends (x ∷ xs) ≡ ends xs = rw other refl in
+      let count : ends (x ∷ xs) ≡ 0 + ends xs = ends_behind x xs 0 (rw other refl) in
       omega (arith, here, same_lines x parts (some_parts is_end (xs ++ b ∷ [])) (some_bytes xs b), lines_with xs b, count)
 ]
   where
@@ -123,3 +127,16 @@ extent_with e later text b few_bytes few_ends bytes_is ends_is of = record {
   ends = omega (arith, ends_is, of.ends, sum_by-append (λ x. cond (is_end x) 1 0) text (b ∷ []));
   within = long_with text b ∙ or_from (nat_lt 4194304 (length text + 1)) (nat_lt 65536 (ends text + 1)) (le-ltb 4194304 (length text + 1) (omega (arith, few_bytes, of.bytes))) (le-ltb 65536 (ends text + 1) (omega (arith, few_ends, of.ends)));
 }
+
+-- the bytes of a piece up to an index, and the next
+pub next_byte : (text piece : List ℕ) (i b : ℕ) → i < length piece → b ≡ get_or piece i 0 → (text ++ take i piece) ++ b ∷ [] ≡ text ++ take (i + 1) piece
+next_byte text piece i b within is = append_assoc text (take i piece) (b ∷ []) ∙ ap (λ (n : ℕ). text ++ (take i piece ++ n ∷ [])) is ∙ ap (λ (l : List ℕ). text ++ l) (sym (take_more piece i 0 within))
+
+-- a text whose bytes are within the limits up to some place, and not with the next
+pub long_beyond : (text : List ℕ) (n : ℕ) → n ≤ length text → is_too_long (take n text) ≡ false → (n < length text → is_too_long (take (n + 1) text) ≡ true) → nat_lt n (length text) ≡ is_too_long text
+long_beyond text n within fits beyond = elim (cases_lt n (length text)) [
+  | inl less ↦
+      lt-ltb n (length text) less
+      ∙ sym (subst (λ (l : List ℕ). IsTrue (is_too_long l)) (take-append-drop (n + 1) text) (long-stays-long (take (n + 1) text) (drop (n + 1) text) (beyond less)))
+  | inr all ↦ le-ltb n (length text) all ∙ sym fits ∙ ap is_too_long (take_all n text all)
+]

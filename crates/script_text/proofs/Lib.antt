@@ -3,3 +3,4 @@ pub mod Words
 pub mod Reading
 pub mod Whole
 pub mod Extents
+pub mod Elements
