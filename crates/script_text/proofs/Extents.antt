@@ -2,7 +2,7 @@
 use Rattle.std.proofs.Common.{◌≡◌, ◌≢◌, ℕ, ◌+◌, ◌<◌, ◌≤◌, Bool, true, false, cond, ◌==◌, nat_lt, List, [], ◌∷◌, ◌++◌, length, take, drop, get_or, refl, sym, ap, subst, ◌∙◌, arith, inl, inr, ◌⊎◌, append_assoc, append-nil, length-append}
 use Rattle.std.specs.Prelude.{◌||◌, IsTrue, count_by}
 use Rattle.std.specs.List.{slice_split, onto_first}
-use Rattle.std.proofs.lemmas.Bool.{cases_Bool, cases_lt, eqb-false, eq-eqb, ne_eqb, lt-ltb, le-ltb, ltb-true, ltb-false, or_cases, or_from, or_left, or_right, true≢false}
+use Rattle.std.proofs.lemmas.Bool.{cases_Bool, cases_lt, eqb-false, eq-eqb, ne_eqb, lt-ltb, le-ltb, ltb-true, ltb-false, or_cases, or_from, or_left, or_right, or_parts, true≢false}
 use Rattle.std.proofs.lemmas.List.Splits.{length-slice_split}
 use Rattle.std.proofs.lemmas.List.{take_more, take_all, take-append-drop}
 use Rattle.std.proofs.lemmas.List.Sums.{sum_by-append}
@@ -140,3 +140,8 @@ long_beyond text n within fits beyond = elim (cases_lt n (length text)) [
       ∙ sym (subst (λ (l : List ℕ). IsTrue (is_too_long l)) (take-append-drop (n + 1) text) (long-stays-long (take (n + 1) text) (drop (n + 1) text) (beyond less)))
   | inr all ↦ le-ltb n (length text) all ∙ sym fits ∙ ap is_too_long (take_all n text all)
 ]
+
+-- a text within the limits has few bytes
+pub few_bytes : (text : List ℕ) → is_too_long text ≡ false → length text ≤ 4194304
+unfolding is_too_long
+few_bytes text fits = ltb-false 4194304 (length text) (or_parts (nat_lt 4194304 (length text)) (nat_lt 65536 (length (script_lines text))) fits).0

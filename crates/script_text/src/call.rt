@@ -16,7 +16,7 @@ pub enum Call {
     Boot,
     /// `show`: the state is told.
     Show,
-    /// `cut N K`: power is lost at the program or erase number `n` from now on, from 1, after its first `k` bytes landed.
+    /// `cut N K`: a loss of power is armed at the n-th erase or program from there on, after its first k bytes.
     Cut { n: u32, k: u32 },
 }
 
@@ -33,6 +33,7 @@ fn cut_of(program: &[u8], landed: &[u8]) -> Option<Call>
 }
 
 /// The call of one word.
+// Interim: the other words of the grammar are no call until theirs is built.
 fn call_of_word(word: &[u8]) -> Option<Call>
     ensures { option_map shown result ≡ option_and_then built_call (simple_call word.now) }
 {
@@ -46,6 +47,7 @@ fn call_of_word(word: &[u8]) -> Option<Call>
 }
 
 /// The call of three words.
+// Interim: likewise for the other first words.
 fn call_of_three(word: &[u8], first: &[u8], second: &[u8]) -> Option<Call>
     ensures { option_map shown result ≡ option_and_then built_call (call_of_three word.now first.now second.now) }
 {
@@ -57,6 +59,7 @@ fn call_of_three(word: &[u8], first: &[u8], second: &[u8]) -> Option<Call>
 }
 
 /// The call of a word and those behind it.
+// Interim: likewise for the call of two words.
 fn call_of_words(word: &[u8], others: &[u8]) -> Option<Call>
     ensures { option_map shown result ≡ option_and_then built_call (call_of_words (word.now ∷ slice_split (λ b. b == 32) others.now)) }
 {

@@ -71,7 +71,9 @@ impl TextLimit {
 
 /// Whether a text has more than 4,194,304 bytes, or a byte behind its line end 65,536.
 pub fn is_too_long(bytes: &[u8]) -> bool
-    ensures { result ≡ is_too_long bytes.now }
+    ensures long { result ≡ is_too_long bytes.now }
+    // So that it can be read.
+    ensures short { OnFalse result (length bytes.now ≤ 4194304) }
 {
     let mut limit = TextLimit::new();
     limit.feed(bytes) < bytes.len()
