@@ -109,7 +109,7 @@ long-stays-long text (b ∷ more) long = subst (λ (l : List ℕ). IsTrue (is_to
 
 pub extent_none : IsExtentOf (record { bytes = 0; ends = 0 }) []
 unfolding is_too_long
-extent_none = record { bytes = refl; ends = refl; within = refl }
+extent_none = record { bytes = refl; ends = refl; within = refl; few = omega arith }
 
 -- at a limit, every further byte is too much
 pub extent_full : (e : Extent) (text : List ℕ) (b : ℕ) → (e.bytes ≡ 4194304) ⊎ (e.ends ≡ 65536) → IsExtentOf e text → is_too_long (text ++ b ∷ []) ≡ true
@@ -126,6 +126,7 @@ extent_with e later text b few_bytes few_ends bytes_is ends_is of = record {
   bytes = omega (arith, bytes_is, of.bytes, length_with text b);
   ends = omega (arith, ends_is, of.ends, sum_by-append (λ x. cond (is_end x) 1 0) text (b ∷ []));
   within = long_with text b ∙ or_from (nat_lt 4194304 (length text + 1)) (nat_lt 65536 (ends text + 1)) (le-ltb 4194304 (length text + 1) (omega (arith, few_bytes, of.bytes))) (le-ltb 65536 (ends text + 1) (omega (arith, few_ends, of.ends)));
+  few = omega (arith, few_bytes, of.bytes, length_with text b);
 }
 
 -- the bytes of a piece up to an index, and the next
