@@ -10,8 +10,7 @@ pub split_found : (p : ℕ → Bool) (xs : List ℕ) (place : ℕ) → position 
 split_found p xs place e = elim (cases_lt (position_or_len p xs) (length xs)) [
   | inl within ↦
       let some : position p xs ≡ Some (position_or_len p xs) = rw (lt-ltb _ _ within) refl in
-      let is : place ≡ position_or_len p xs = cc in
-      (
+      let is : place ≡ position_or_len p xs = cc in (
         slice_split_first p xs 0 within ∙ ap (λ (k : ℕ). take k xs ∷ slice_split p (drop (k + 1) xs)) (sym is),
         omega (arith, is, within),
       )

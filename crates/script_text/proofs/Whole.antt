@@ -138,10 +138,10 @@ sound_cut None (Some k) fits = cond_both (nat_le k 4096) (Some k) None (λ (l : 
 sound_cut (Some n) None fits = cond_both (n == 0) None (Some n) (λ (l : Option ℕ). Sound (both call.Cut l None)) (λ _. tt) (λ _. tt)
 sound_cut (Some n) (Some k) fits =
     cond_both (n == 0) None (Some n) (λ (l : Option ℕ). Sound (both call.Cut l (cond (nat_le k 4096) (Some k) None)))
-        (λ _. cond_both (nat_le k 4096) (Some k) None (λ (l : Option ℕ). Sound (both call.Cut None l)) (λ _. tt) (λ _. tt))
-        (λ other. cond_both (nat_le k 4096) (Some k) None (λ (l : Option ℕ). Sound (both call.Cut (Some n) l))
-            (λ few. let most = leb-true k 4096 few in (omega (arith, eqb-false n 0 other), fits n refl, most))
-            (λ _. tt))
+    (λ _. cond_both (nat_le k 4096) (Some k) None (λ (l : Option ℕ). Sound (both call.Cut None l)) (λ _. tt) (λ _. tt))
+    (λ other. cond_both (nat_le k 4096) (Some k) None (λ (l : Option ℕ). Sound (both call.Cut (Some n) l))
+    (λ few. let most = leb-true k 4096 few in (omega (arith, eqb-false n 0 other), fits n refl, most))
+    (λ _. tt))
 
 sound_three : (w a b : List ℕ) → Sound (call_of_three w a b)
 sound_three w a b =

@@ -68,7 +68,7 @@ cut_kept None None = refl
 pub three_cut : (w a b : List ℕ) → is_word w (codes "cut") ≡ true → both call.Cut (option_and_then at_least_one (number_of a)) (number_up_to 4096 b) ≡ option_and_then built_call (call_of_three w a b)
 three_cut w a b is =
     subst (λ (l : List ℕ). both call.Cut (option_and_then at_least_one (number_of a)) (number_up_to 4096 b) ≡ option_and_then built_call (call_of_three l a b)) (sym (same_is w (codes "cut") is))
-        (cut_kept (option_and_then at_least_one (number_of a)) (number_up_to 4096 b))
+    (cut_kept (option_and_then at_least_one (number_of a)) (number_up_to 4096 b))
 
 -- a line of four words and more
 pub four_words : (w a b : List ℕ) (others : List (List ℕ)) → 0 < length others → call_of_words (w ∷ a ∷ b ∷ others) ≡ None

@@ -7,6 +7,7 @@ ghost use Rattle.script_text.specs.Limit.{Extent, IsExtentOf};
 use std::marker::Model;
 
 const MOST_BYTES: u32 = 4_194_304;
+
 const MOST_LINES: u32 = 65_536;
 
 /// How far a text that is read piece by piece is within the limits. A contract sees the number of its bytes and of its

@@ -14,13 +14,24 @@ fn lines_are_calls_or_nothing(rt: HostRuntime) -> Result<(), Fail> {
     let alloc = rt.alloc();
     let text = b"# nothing is on\n\ncut 1 0\nshow\n";
     let script = read(alloc, text).ok().ok_or("a script")?;
-    assert_eq!(rt; script.calls(), [Call::Cut { n: 1, k: 0 }, Call::Show].as_slice());
+    assert_eq!(rt;
+        script.calls(),
+        [Call::Cut { n: 1, k: 0 }, Call::Show].as_slice()
+    );
     assert_eq!(rt; script.len(), 2);
     // A last line without its end is a line.
-    let open = read(alloc, b"boot\ncut 4294967295 4096").ok().ok_or("a last line")?;
+    let open = read(alloc, b"boot\ncut 4294967295 4096")
+        .ok()
+        .ok_or("a last line")?;
     if open.len() == 2 {
         assert_eq!(rt; open.at(0), Call::Boot);
-        assert_eq!(rt; open.at(1), Call::Cut { n: 4294967295, k: 4096 });
+        assert_eq!(rt;
+            open.at(1),
+            Call::Cut {
+                n: 4294967295,
+                k: 4096
+            }
+        );
     }
     assert!(rt; !open.is_empty());
     assert!(rt; read(alloc, b"").ok().ok_or("no line")?.is_empty());
@@ -47,11 +58,21 @@ fn bad_lines_are_found(rt: HostRuntime) {
         " # no comment",
         "\0",
     ] {
-        assert_eq!(rt; read(alloc, text.as_bytes()).err(), Some(ScriptFault::BadLine(1)), "{text:?}");
+        assert_eq!(rt;
+            read(alloc, text.as_bytes()).err(),
+            Some(ScriptFault::BadLine(1)),
+            "{text:?}"
+        );
     }
     // The first bad line counts, and `begin` is a call that isn't built.
-    assert_eq!(rt; read(alloc, b"boot\nbegin\nbigin\n").err(), Some(ScriptFault::BadLine(2)));
-    assert_eq!(rt; read(alloc, b"\n#\nshow\naccept tb-fw").err(), Some(ScriptFault::BadLine(4)));
+    assert_eq!(rt;
+        read(alloc, b"boot\nbegin\nbigin\n").err(),
+        Some(ScriptFault::BadLine(2))
+    );
+    assert_eq!(rt;
+        read(alloc, b"\n#\nshow\naccept tb-fw").err(),
+        Some(ScriptFault::BadLine(4))
+    );
 }
 
 #[test]

@@ -14,7 +14,7 @@ returns-in-Some-split c =
     let third = c.in-Some-split.field-0 in
     let parts = c.in-Some.ensures.parts ∙ ap (λ (l : List (List ℕ)). a ∷ l) c.in-Some-split.ensures.parts in
     sym (ap (λ (l : List (List ℕ)). option_and_then built_call (call_of_words (w ∷ l))) parts
-        ∙ ap (option_and_then built_call) (four_words w a third.0.now (slice_split (λ b. b == 32) third.1.now) (some_parts (λ b. b == 32) third.1.now)))
+    ∙ ap (option_and_then built_call) (four_words w a third.0.now (slice_split (λ b. b == 32) third.1.now) (some_parts (λ b. b == 32) third.1.now)))
 
 pub returns-in-None : goal.returns-in-None
 returns-in-None c =

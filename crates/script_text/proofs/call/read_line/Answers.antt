@@ -11,9 +11,9 @@ returns-then-is_nothing c = sym (line_nothing c.args.line.now (sym c.is_nothing.
 pub returns-in-Some : goal.returns-in-Some
 returns-in-Some c =
     sym (line_call c.args.line.now (sym c.is_nothing.ensures ∙ c.if-is_nothing.false)
-        ∙ ap (λ (o : Option Call). option_map Some o) (sym c.in-Some.ensures))
+    ∙ ap (λ (o : Option Call). option_map Some o) (sym c.in-Some.ensures))
 
 pub returns-in-None : goal.returns-in-None
 returns-in-None c =
     sym (line_call c.args.line.now (sym c.is_nothing.ensures ∙ c.if-is_nothing.false)
-        ∙ ap (λ (o : Option Call). option_map Some o) (sym c.in-None.ensures))
+    ∙ ap (λ (o : Option Call). option_map Some o) (sym c.in-None.ensures))

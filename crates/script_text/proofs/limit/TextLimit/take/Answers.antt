@@ -20,8 +20,8 @@ returns-then-byte-eq10-clause-taken c text of =
     let one : ℕ = 1 in
     let end : cond (is_end c.args.byte) one 0 ≡ one = rw c.if-byte-eq10.true refl in
     extent_with before (record { bytes = c.self.inside.bytes + 1; ends = c.self.inside.ends + 1 }) text c.args.byte
-        (omega (arith, c.self.invariant.0, c.if-self-eq-MOST_BYTES.false)) (omega (arith, c.self.invariant.1, c.if-self-eq-MOST_LINES.false)) refl (omega (arith, end))
-        (subst (λ (e : Extent). IsExtentOf e text) (sym c.self.view_is) of)
+    (omega (arith, c.self.invariant.0, c.if-self-eq-MOST_BYTES.false)) (omega (arith, c.self.invariant.1, c.if-self-eq-MOST_LINES.false)) refl (omega (arith, end))
+    (subst (λ (e : Extent). IsExtentOf e text) (sym c.self.view_is) of)
 
 pub returns-else-byte-eq10-clause-taken : goal.returns-else-byte-eq10-clause-taken
 returns-else-byte-eq10-clause-taken c text of =
@@ -29,5 +29,5 @@ returns-else-byte-eq10-clause-taken c text of =
     let none : ℕ = 0 in
     let end : cond (is_end c.args.byte) 1 none ≡ none = rw (ne_eqb c.args.byte 10 c.if-byte-eq10.false) refl in
     extent_with before (record { bytes = c.self.inside.bytes + 1; ends = c.self.inside.ends }) text c.args.byte
-        (omega (arith, c.self.invariant.0, c.if-self-eq-MOST_BYTES.false)) (omega (arith, c.self.invariant.1, c.if-self-eq-MOST_LINES.false)) refl (omega (arith, end))
-        (subst (λ (e : Extent). IsExtentOf e text) (sym c.self.view_is) of)
+    (omega (arith, c.self.invariant.0, c.if-self-eq-MOST_BYTES.false)) (omega (arith, c.self.invariant.1, c.if-self-eq-MOST_LINES.false)) refl (omega (arith, end))
+    (subst (λ (e : Extent). IsExtentOf e text) (sym c.self.view_is) of)
