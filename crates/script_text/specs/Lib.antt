@@ -1,0 +1,4 @@
+pub mod Built
+pub mod Shown
+pub mod Limit
+pub mod Law

@@ -1,0 +1,117 @@
+//! Scripts.
+ghost use Rattle.std.specs.Prelude.{◌≡◌, ◌+◌, ◌<◌, ◌≤◌, ◌==◌, ◌++◌, ◌∷◌, [], Ok, Some, IfOk, IfErr, OnOk, All, IsTrue, length, map, option_map, position, slice_get};
+ghost use Rattle.std.specs.List.{cons_option};
+ghost use Rattle.fwu_model.specs.Script.{script_lines};
+ghost use Rattle.script_text.specs.Built.{script_built_of, IsArmable};
+ghost use Rattle.script_text.specs.Shown.{shown, IsFaultOf};
+
+use crate::call::{Call, read_line};
+use crate::split::split;
+use std::alloc::{AllocError, Global};
+use std::marker::Model;
+
+/// Why a text is no script: the first line, from 1, that is none of a script.
+#[derive(Clone, Copy, Debug, PartialEq, Eq)]
+pub enum ScriptFault {
+    BadLine(u32),
+    NoMemory,
+}
+
+/// The calls of a script, in turn. A contract sees the list of the model's calls.
+#[derive(Debug, Drop)]
+pub struct Script {
+    calls: Vec<Call>,
+}
+
+impl Model for Script {
+    ghost use Rattle.std.specs.Prelude.{List, All, map};
+    ghost use Rattle.fwu_model.specs.Call.{Call as ModelCall};
+    ghost use Rattle.script_text.specs.Built.{IsArmable};
+    ghost use Rattle.script_text.specs.Shown.{shown};
+
+    ghost Value = { List ModelCall };
+
+    ghost view = { λ s. map shown s.calls.items };
+
+    ghost invariant = { λ s. All IsArmable (map shown s.calls.items) };
+}
+
+impl Script {
+    /// The number of calls.
+    pub fn len(&self) -> usize
+        ensures { result ≡ length self.now }
+    {
+        self.calls.len()
+    }
+
+    pub fn is_empty(&self) -> bool
+        ensures { result ≡ (length self.now == 0) }
+    {
+        self.calls.is_empty()
+    }
+
+    /// The calls.
+    pub fn calls(&self) -> &[Call]
+        ensures calls { map shown result.now ≡ self.now }
+        ensures armable { All IsArmable self.now }
+    {
+        self.calls.as_slice()
+    }
+
+    /// The call at an index.
+    pub fn at(&self, index: usize) -> Call
+        requires { index < length self.now }
+        ensures call { slice_get self.now index ≡ Some (shown result) }
+        ensures armable { IsArmable (shown result) }
+    {
+        self.calls[index]
+    }
+}
+
+/// The first line, and what follows it.
+fn split_line(text: &[u8]) -> (&[u8], &[u8])
+    requires { 0 < length text.now }
+    ensures lines { script_lines text.now ≡ result.0.now ∷ script_lines result.1.now }
+    ensures shorter { length result.1.now < length text.now }
+{
+    match split(text, b'\n') {
+        Some((line, behind)) => (line, behind),
+        None => (text, &[]),
+    }
+}
+
+/// One call more, where a line has one.
+fn push_call(calls: &mut Vec<Call>, call: Option<Call>) -> Result<(), AllocError>
+    ensures { OnOk result (map shown calls.new.items ≡ map shown calls.old.items ++ cons_option (option_map shown call) []) }
+{
+    if let Some(call) = call {
+        calls.push(call)?;
+    }
+    Ok(())
+}
+
+/// The calls of a script's text. The first line that is no line of a script is the fault; a last line without its end is
+/// a line, and the empty text is the empty script. Lines are counted from 1. Time grows with the text's length alone.
+pub fn read_script(alloc: Global, bytes: &[u8]) -> Result<Script, ScriptFault>
+    requires { length bytes.now ≤ 4194304 }
+    ensures ok { IfOk result (λ calls. script_built_of bytes.now ≡ Ok calls) }
+    ensures fault { IfErr result (λ fault. IsFaultOf (script_built_of bytes.now) fault) }
+    ensures few { IfOk result (λ calls. length calls ≤ length (script_lines bytes.now)) }
+    ensures armable { IfOk result (All IsArmable) }
+{
+    let mut calls = Vec::new(alloc);
+    let mut rest = bytes;
+    let mut number = 1u32;
+    while !rest.is_empty() {
+        let (line, behind) = split_line(rest);
+        let Some(call) = read_line(line) else {
+            return Err(ScriptFault::BadLine(number));
+        };
+        if push_call(&mut calls, call).is_err() {
+            return Err(ScriptFault::NoMemory);
+        }
+        rest = behind;
+        number += 1;
+    }
+    Ok(Script { calls })
+}

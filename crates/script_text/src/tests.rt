@@ -1,0 +1,95 @@
+use super::*;
+use std::alloc::Global;
+use std::test::Fail;
+
+fn read(alloc: Global, text: &[u8]) -> Result<Script, ScriptFault> {
+    if is_too_long(text) {
+        return Err(ScriptFault::NoMemory);
+    }
+    read_script(alloc, text)
+}
+
+#[test]
+fn lines_are_calls_or_nothing(rt: HostRuntime) -> Result<(), Fail> {
+    let alloc = rt.alloc();
+    let text = b"# nothing is on\n\ncut 1 0\nshow\n";
+    let script = read(alloc, text).ok().ok_or("a script")?;
+    assert_eq!(rt;
+        script.calls(),
+        [Call::Cut { n: 1, k: 0 }, Call::Show].as_slice()
+    );
+    assert_eq!(rt; script.len(), 2);
+    // A last line without its end is a line.
+    let open = read(alloc, b"boot\ncut 4294967295 4096")
+        .ok()
+        .ok_or("a last line")?;
+    if open.len() == 2 {
+        assert_eq!(rt; open.at(0), Call::Boot);
+        assert_eq!(rt;
+            open.at(1),
+            Call::Cut {
+                n: 4294967295,
+                k: 4096
+            }
+        );
+    }
+    assert!(rt; !open.is_empty());
+    assert!(rt; read(alloc, b"").ok().ok_or("no line")?.is_empty());
+    assert!(rt; read(alloc, b"\n#").ok().ok_or("no call")?.is_empty());
+    Ok(())
+}
+
+#[test]
+fn bad_lines_are_found(rt: HostRuntime) {
+    let alloc = rt.alloc();
+    for text in [
+        "cut 0 1",
+        "cut 1 4097",
+        "cut 4294967296 0",
+        "cut 01 1",
+        "cut 1",
+        "cut 1 1 1",
+        "cut  1 1",
+        "boot ",
+        " boot",
+        "boot  ",
+        "Boot",
+        "boot\r\n",
+        " # no comment",
+        "\0",
+    ] {
+        assert_eq!(rt;
+            read(alloc, text.as_bytes()).err(),
+            Some(ScriptFault::BadLine(1)),
+            "{text:?}"
+        );
+    }
+    // The first bad line counts, and `begin` is a call that isn't built.
+    assert_eq!(rt;
+        read(alloc, b"boot\nbegin\nbigin\n").err(),
+        Some(ScriptFault::BadLine(2))
+    );
+    assert_eq!(rt;
+        read(alloc, b"\n#\nshow\naccept tb-fw").err(),
+        Some(ScriptFault::BadLine(4))
+    );
+}
+
+#[test]
+fn the_limits_are_exact(rt: HostRuntime) -> Result<(), Fail> {
+    let alloc = rt.alloc();
+    let mut lines = vec![in alloc; b'\n'; 65_536]?;
+    assert!(rt; !is_too_long(&lines));
+    let mut limit = TextLimit::new();
+    assert_eq!(rt; limit.feed(&lines), 65_536);
+    assert!(rt; !limit.take(b'#'));
+    assert_eq!(rt; limit.feed(b"#"), 0);
+    lines.push(b'\n')?;
+    assert!(rt; is_too_long(&lines));
+    let mut bytes = vec![in alloc; b'#'; 4_194_304]?;
+    assert!(rt; !is_too_long(&bytes));
+    bytes.push(b'#')?;
+    assert!(rt; is_too_long(&bytes));
+    assert_eq!(rt; TextLimit::new().feed(&bytes), 4_194_304);
+    Ok(())
+}
