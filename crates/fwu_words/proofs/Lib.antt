@@ -3,3 +3,4 @@ pub mod Refusals
 pub mod SplitLemmas
 pub mod PlainWords
 pub mod FoundLemmas
+pub mod AllowLemmas

@@ -1,4 +1,5 @@
-use Rattle.std.proofs.lemmas.Iterator.{map_from_collect}
+use Rattle.std.proofs.Common.{lit<}
+use Rattle.std.proofs.lemmas.Iterator.Consumers.{map_from_collect}
 use Rattle.std.proofs.lemmas.Iterator.Splits.{YieldsList-from_str_split}
 use Rattle.fwu_words.proofs.values.pieces.Goals as goal
 
