@@ -1,0 +1,30 @@
+use Rattle.std.proofs.Common.{refl}
+use Rattle.clap.proofs.OnLiterals.{clap_on_literals}
+use Rattle.fwu_words.proofs.PlainWords.{plain_banks, plain_format}
+use Rattle.fwu_words.proofs.laws.plain_words_are_taken.Goals as goal
+
+pub returns-clause-run : goal.returns-clause-run
+unfolding clap_on_literals
+returns-clause-run c = refl
+
+pub returns-clause-boot : goal.returns-clause-boot
+unfolding clap_on_literals
+returns-clause-boot c = refl
+
+pub returns-clause-show : goal.returns-clause-show
+unfolding clap_on_literals
+returns-clause-show c = refl
+
+pub returns-clause-format : goal.returns-clause-format
+returns-clause-format c = plain_format
+
+pub returns-clause-banks : goal.returns-clause-banks
+returns-clause-banks c = plain_banks
+
+pub returns-clause-help : goal.returns-clause-help
+unfolding clap_on_literals
+returns-clause-help c = refl
+
+pub returns-clause-nothing : goal.returns-clause-nothing
+unfolding clap_on_literals
+returns-clause-nothing c = refl

@@ -1,0 +1,61 @@
+-- What the words of `fwu` ask for.
+use Rattle.std.specs.Prelude.{◌≡◌, ℕ, List, Option, Some, None, Result, Ok, Err, codes, if◌then◌else◌, option_and_then}
+use Rattle.base_core.specs.Bytes.{same_bytes}
+use Rattle.clap.specs.Words.{Row, Text, first_of}
+use Rattle.fwu_model.specs.Layout.{ImageRow}
+use Rattle.fwu_words.specs.Words.{reads}
+use Rattle.fwu_words.specs.Commands.{fwu_app}
+use Rattle.fwu_words.specs.Values.{banks_of, file_named, rows_of}
+use Rattle.fwu_words.specs.declared.UsageStop.{UsageStop}
+use Rattle.fwu_words.specs.declared.UsageStop.TheVariants.{Usage, NoMemory}
+use Rattle.fwu_words.specs.declared.orders.Order.{Order}
+use Rattle.fwu_words.specs.declared.orders.Order.TheVariants.{Run, Boot, Show, Format}
+
+-- a command with its values
+pub data Asked : Type 0 where
+  run : Asked
+  boot : Asked
+  show : Asked
+  format : ℕ → List ImageRow → List ℕ → Asked
+
+-- an order, without where its words lie in memory
+abbrev pub view : Order → Asked
+view Run = run
+view Boot = boot
+view Show = show
+view (Format banks rows file) = format banks rows.items file.now
+
+-- what a function returned, seen by view, is what is asked, unless memory ran out
+abbrev pub Answers : {X Y : Type 0} → (X → Y) → Result X UsageStop → Option Y → Type 0
+Answers view (Ok x) asked = asked ≡ Some (view x)
+Answers view (Err Usage) asked = asked ≡ None
+Answers view (Err NoMemory) asked = Unit {0}
+
+abbrev pub format_by : Option ℕ → Option (List ImageRow) → Option Text → Option Asked
+format_by banks rows file = option_and_then (λ n. option_and_then (λ rs. option_and_then (λ f. Some (format n rs f)) file) rows) banks
+
+-- the values of `format`
+abbrev pub banks_in : List Row → Option ℕ
+banks_in rows = banks_of (first_of (codes "banks") rows)
+
+abbrev pub layout_in : List Row → Option (List ImageRow)
+layout_in rows = option_and_then rows_of (first_of (codes "layout") rows)
+
+abbrev pub file_in : List Row → Option Text
+file_in rows = option_and_then file_named (first_of (codes "package") rows)
+
+abbrev pub format_of : List Row → Option Asked
+format_of rows = format_by (banks_in rows) (layout_in rows) (file_in rows)
+
+-- the command of a name, where its values are in their grammars
+abbrev pub order_of : Text → List Row → Option Asked
+order_of name rows =
+    if same_bytes name (codes "run") then Some run
+    else if same_bytes name (codes "boot") then Some boot
+    else if same_bytes name (codes "show") then Some show
+    else if same_bytes name (codes "format") then format_of rows
+    else None
+
+-- What the words ask for. None where they are refused.
+abbrev pub asked : List Text → Option Asked
+asked words = option_and_then (λ p. order_of p.0 p.1) (reads fwu_app words)

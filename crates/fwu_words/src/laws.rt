@@ -1,0 +1,35 @@
+//! What the definition of an order says of plain words.
+ghost use Rattle.std.specs.Prelude.{◌≡◌, ◌≢◌, ◌↔◌, List, [], ◌∷◌, ℕ, None, Some, codes, option_and_then};
+ghost use Rattle.clap.specs.Faults.{fault_of};
+ghost use Rattle.clap.specs.Words.{Text};
+ghost use Rattle.fwu_model.specs.Allow.{after_list, list_name};
+ghost use Rattle.fwu_words.specs.Allow.{NamesList};
+ghost use Rattle.fwu_words.specs.Commands.{fwu_app};
+ghost use Rattle.fwu_words.specs.Order.{asked, boot, format_by, run, show};
+ghost use Rattle.fwu_words.specs.Plain.{IsPlain};
+ghost use Rattle.fwu_words.specs.Values.{banks_of, file_named, rows_of};
+ghost use Rattle.fwu_words.specs.Words.{reads};
+
+/// The words name no command exactly where `clap` refuses them.
+pub fn refusals_are_of_clap()
+    ensures { (words : List Text) → (reads fwu_app words ≡ None) ↔ (fault_of fwu_app words ≢ []) }
+{}
+
+/// Words that begin with no hyphen are taken as they stand.
+pub fn plain_words_are_taken()
+    ensures run { asked (codes "run" ∷ []) ≡ Some run }
+    ensures boot { asked (codes "boot" ∷ []) ≡ Some boot }
+    ensures show { asked (codes "show" ∷ []) ≡ Some show }
+    ensures format { (layout file : Text) → IsPlain layout → IsPlain file
+        → asked (codes "format" ∷ layout ∷ file ∷ []) ≡ format_by (Some 2) (rows_of layout) (file_named file) }
+    ensures banks { (banks layout file : Text) → IsPlain banks → IsPlain layout → IsPlain file
+        → asked (codes "format" ∷ codes "--banks" ∷ banks ∷ layout ∷ file ∷ []) ≡ format_by (banks_of (Some banks)) (rows_of layout) (file_named file) }
+    ensures help { asked (codes "--help" ∷ []) ≡ None }
+    ensures nothing { asked [] ≡ None }
+{}
+
+/// Where words name a list, its name and the words behind it are those that the definition of whose manifests pass takes.
+pub fn lists_are_told()
+    ensures name { (words rest : List (List ℕ)) (name : List ℕ) → NamesList words name rest → list_name words ≡ Some name }
+    ensures rest { (words rest : List (List ℕ)) (name : List ℕ) → NamesList words name rest → after_list words ≡ rest }
+{}

@@ -1,0 +1,120 @@
+//! What the words ask for.
+ghost use Rattle.std.specs.Prelude.{map, option_and_then, string_bytes};
+ghost use Rattle.clap.specs.Words.{found_of, rows_of, subcommand_rows_of};
+ghost use Rattle.fwu_words.specs.Order.{Answers, asked, banks_in, file_in, format_of, layout_in, order_of, view};
+
+use crate::UsageStop;
+use crate::commands::fwu_command;
+use crate::matches::{given, matches};
+use crate::values::{banks_value, file_value, layout_rows};
+use base_core::ImageRow;
+use clap::ArgMatches;
+use std::alloc::Global;
+use words_core::is_word;
+
+/// What the words of `fwu` ask for. Files are named as they stand in the words.
+#[derive(Debug, PartialEq, Eq, Drop)]
+pub enum Order<'a> {
+    /// Carries out the calls of a script.
+    Run,
+    /// Boots once.
+    Boot,
+    /// Tells what the flash holds.
+    Show,
+    /// Makes a flash of `banks` banks, 2 to 4, each with these images in this order, and stores a package.
+    Format {
+        banks: u32,
+        rows: Vec<ImageRow>,
+        package: &'a str,
+    },
+}
+
+fn given_banks<'a>(found: &ArgMatches<'a>) -> Result<u32, UsageStop>
+    ensures { Answers (λ n. n) result (banks_in (rows_of (found_of found.now))) }
+{
+    match banks_value(given(found, "banks")) {
+        Some(banks) => Ok(banks),
+        None => Err(UsageStop::Usage),
+    }
+}
+
+fn given_layout<'a>(alloc: Global, found: &ArgMatches<'a>) -> Result<Vec<ImageRow>, UsageStop>
+    ensures { Answers (λ v. v.items) result (layout_in (rows_of (found_of found.now))) }
+{
+    match given(found, "layout") {
+        Some(text) => layout_rows(alloc, text),
+        None => Err(UsageStop::Usage),
+    }
+}
+
+fn given_package<'a>(found: &ArgMatches<'a>) -> Result<&'a str, UsageStop>
+    ensures { Answers (λ s. s.now) result (file_in (rows_of (found_of found.now))) }
+{
+    let Some(text) = given(found, "package") else {
+        return Err(UsageStop::Usage);
+    };
+    match file_value(text) {
+        Some(file) => Ok(file),
+        None => Err(UsageStop::Usage),
+    }
+}
+
+fn format_order<'a>(alloc: Global, found: &ArgMatches<'a>) -> Result<Order<'a>, UsageStop>
+    ensures { Answers view result (format_of (rows_of (found_of found.now))) }
+{
+    let banks = given_banks(found)?;
+    let rows = given_layout(alloc, found)?;
+    let package = given_package(found)?;
+    Ok(Order::Format {
+        banks,
+        rows,
+        package,
+    })
+}
+
+fn named_order<'a>(
+    alloc: Global,
+    name: &str,
+    found: &ArgMatches<'a>,
+) -> Result<Order<'a>, UsageStop>
+    ensures { Answers view result (order_of name.now (rows_of (found_of found.now))) }
+{
+    let name = name.as_bytes();
+    if is_word(name, b"run") {
+        Ok(Order::Run)
+    } else if is_word(name, b"boot") {
+        Ok(Order::Boot)
+    } else if is_word(name, b"show") {
+        Ok(Order::Show)
+    } else if is_word(name, b"format") {
+        format_order(alloc, found)
+    } else {
+        Err(UsageStop::Usage)
+    }
+}
+
+// The order of the matches.
+fn found_order<'a>(alloc: Global, found: &ArgMatches<'a>) -> Result<Order<'a>, UsageStop>
+    ensures { Answers view result
+        (option_and_then (λ p. order_of p.0 p.1) (subcommand_rows_of found.now)) }
+{
+    match found.subcommand() {
+        Some((name, below)) => named_order(alloc, name, below),
+        None => Err(UsageStop::Usage),
+    }
+}
+
+/// What the words, without the program's name, the flash and a list, ask for. `Usage` comes exactly where they ask for nothing:
+/// where `clap` refuses them, and where a value is not in its grammar.
+pub fn fwu_order<'a>(alloc: Global, words: &'a [String]) -> Result<Order<'a>, UsageStop>
+    ensures { Answers view result (asked (map string_bytes words.entry.now)) }
+{
+    let command = match fwu_command(alloc) {
+        Ok(command) => command,
+        Err(_) => return Err(UsageStop::NoMemory),
+    };
+    match matches(command, words) {
+        Ok(found) => found_order(alloc, &found),
+        Err(stop) => Err(stop),
+    }
+}
