@@ -1,9 +1,6 @@
-pub mod Room
-pub mod Shown
-pub mod Words
+pub mod Machine
+pub mod Booted
+pub mod Turning
+pub mod Running
 pub mod Printed
-pub mod Booting
-pub mod BootReply
-pub mod BootsBy
-pub mod Ends
-pub mod Ran
+pub mod Noted

@@ -1,12 +1,25 @@
-//! How a run ended.
-use crate::journal::Journal;
+//! How the program ended.
 use flash_core::Flash;
-use fwu_model::Note;
+use fwu_journal::Journal;
+use fwu_model::NoBoot;
 
-/// What a run ended with.
+/// What a run met, where its status alone doesn't tell it.
+#[derive(Clone, Copy, Debug, PartialEq, Eq)]
+pub enum Note {
+    Nothing,
+    /// The first line of the script that is none, from 1.
+    BadLine(u32),
+    /// The first line of the list of digests that is none, from 1.
+    BadList(u64),
+    /// Why no bank was started.
+    Boot(NoBoot),
+}
+
+/// What the program ended with.
 #[derive(Drop)]
 pub struct Done<D: Flash> {
-    /// The exit status: 0 done, 1 usage, 3 the sink failed, 5 the flash failed, 6 nothing to boot, 9 no memory.
+    /// The exit status: 0 done, 1 usage, 2 a file or the source was not read, 3 the sink failed, 4 no script, 5 the flash failed,
+    /// 6 nothing to boot, 8 a script that is too long, 9 no memory, 13 no list of digests.
     pub status: u8,
     /// What the run met, where its status alone doesn't tell it.
     pub note: Note,

@@ -1,15 +1,11 @@
 //! The program `fwu` as one call: what its words ask for is done on a flash, and each line is answered.
 #![tactic(auto)]
 
-mod booting;
 mod done;
-mod journal;
-mod line;
-mod program;
+mod machine;
+mod printing;
 mod room;
-#[cfg(test)]
-mod tests;
+mod running;
+mod turning;
 
-pub use done::Done;
-pub use journal::{Call, Journal, Reply, Turn};
-pub use program::{fwu_top, put_line, put_usage};
+pub use done::{Done, Note};

@@ -1,41 +1,30 @@
-//! The room for a turn and its line.
+//! The room for the turns of a run and for their lines.
 ghost use Rattle.std.specs.Prelude.{◌≡◌, []};
-ghost use Rattle.script_cmd.specs.Room.{HasRoom};
-ghost use Rattle.script_cmd.specs.Shown.{HasRoomFor, turns};
-ghost use Rattle.script_cmd.specs.declared.line.TheConstants.{LINE_ROOM};
+ghost use Rattle.fwu_journal.specs.Room.{HasRoom};
+ghost use Rattle.fwu_journal.specs.Shown.{HasRoomFor, turns};
+ghost use Rattle.fwu_journal.specs.declared.line.TheConstants.{LINE_ROOM};
 
-use crate::journal::Journal;
-use crate::line::LINE_ROOM;
+use fwu_journal::{Journal, LINE_ROOM};
 use std::alloc::{AllocError, Global};
 
-/// An empty journal with room for a turn, and an empty text with room for its line.
+/// An empty journal with room for so many turns, and an empty text with room for the line of each.
 #[derive(Drop)]
 pub struct Room {
-    journal: Journal,
-    text: Vec<u8>,
-    ghost no_turns: { turns journal ≡ [] },
-    ghost turn_fits: { HasRoomFor journal 1 },
-    ghost no_text: { text.items ≡ [] },
-    ghost line_fits: { HasRoom text LINE_ROOM },
+    pub journal: Journal,
+    pub text: Vec<u8>,
 }
 
 impl Room {
     /// Takes the memory for all.
-    pub(crate) fn make(alloc: Global) -> Result<Room, AllocError> {
+    pub fn make(alloc: Global, turns: usize) -> Result<Room, AllocError>
+        ensures no_turns { IfOk result (λ room. turns room.journal ≡ []) }
+        ensures turns_fit { IfOk result (λ room. HasRoomFor room.journal turns) }
+        ensures no_text { IfOk result (λ room. room.text.items ≡ []) }
+        ensures line_fits { IfOk result (λ room. HasRoom room.text LINE_ROOM) }
+    {
         Ok(Room {
-            journal: Journal::with_room(alloc)?,
+            journal: Journal::with_room(alloc, turns)?,
             text: Vec::with_capacity(alloc, LINE_ROOM)?,
         })
-    }
-
-    /// The journal and the text.
-    pub(crate) fn into_parts(self) -> (Journal, Vec<u8>)
-        ensures no_turns { turns result.0 ≡ [] }
-        ensures turn_fits { HasRoomFor result.0 1 }
-        ensures no_text { result.1.items ≡ [] }
-        ensures line_fits { HasRoom result.1 LINE_ROOM }
-    {
-        let Room { journal, text } = self;
-        (journal, text)
     }
 }

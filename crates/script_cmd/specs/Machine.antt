@@ -1,0 +1,56 @@
+-- The flash of a run between two turns, as the definitions have it.
+use Rattle.std.specs.Prelude.{◌≡◌, ℕ, List, [], ◌∷◌, Option, Some, None, is_some, Bool}
+use Rattle.flash_core.specs.declared.flash.Flash.{Ghosts}
+use Rattle.flash_core.specs.declared.flash.Arming.{Arming}
+use Rattle.flash_core.specs.declared.flash.Counts.{Counts}
+use Rattle.flash_core.specs.Told.{Told}
+use Rattle.flash_core.specs.May.{Guards}
+use Rattle.fwu_model.specs.State.{State, Numbers, numbers_of}
+use Rattle.fwu_model.specs.Sound.{Setting}
+use Rattle.fwu_model.specs.Session.{Off, On, no_handles}
+use Rattle.fwu_model.specs.Run.{Condition}
+use Rattle.fwu_model.specs.Headline.{LeavesOneOf}
+use Rattle.fwu_model.specs.Calm.{IsGuarded, IsAtRest}
+use Rattle.moves.specs.Moved.{IsReady}
+use Rattle.early_boot.specs.Numbers.{numbers}
+use Rattle.script_cmd.specs.declared.machine.Machine.{Machine}
+use Rattle.script_cmd.specs.declared.machine.Machine.TheVariants as machine
+
+abbrev pub device : {D : Type 0} {F : Ghosts D} → Machine D F → D
+device (machine.Off flash) = flash
+device (machine.On flash n) = flash
+
+-- the numbers of the flash, where a bank was booted on it
+abbrev pub shown_on : {D : Type 0} {F : Ghosts D} → Machine D F → Option Numbers
+shown_on (machine.Off flash) = None
+shown_on (machine.On flash n) = Some (numbers n)
+
+-- what is known of a device between two turns
+pub record Moment : Type 0 where
+  -- the numbers that the flash shows, where a bank was booted on it
+  pub on : Option Numbers
+  pub told : Told
+  pub counts : Counts
+  pub armed : Option Arming
+
+abbrev pub at : Option Numbers → Told → Counts → Option Arming → Moment
+at on told counts armed = record { on = on; told = told; counts = counts; armed = armed }
+
+-- ---- the condition of a run, on a flash that tells its content
+
+-- While off, the flash may show the candidates and no other state, whatever a loss leaves. Once a bank was booted there is one candidate, which
+-- the flash shows and is ready for, with these numbers.
+abbrev pub Shows : Setting → Condition → Option Numbers → Told → Type 0
+Shows E c None t = (c.session ≡ Off) × LeavesOneOf E c.candidates t
+Shows E c (Some n) t = (s : State) × (b : ℕ) × (c.candidates ≡ s ∷ []) × (c.session ≡ On b None no_handles) × IsReady E t s × (n ≡ numbers_of s)
+
+pub record IsAt (E : Setting) (c : Condition) (on : Option Numbers) (t : Told) : Type 0 where
+  pub guard : Guards 1 7 t
+  pub shows : Shows E c on t
+
+-- ---- what a loss may harm, on any flash
+
+-- Off, no loss harms what is in use; once a bank was booted the flash is at rest.
+abbrev pub IsSafe : Option Numbers → Told → Type 0
+IsSafe None t = Guards 1 7 t × IsGuarded t
+IsSafe (Some n) t = IsAtRest t

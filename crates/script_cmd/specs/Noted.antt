@@ -1,0 +1,11 @@
+-- What a run met, as the definitions have it.
+use Rattle.fwu_model.specs.declared.kinds.Note as model
+use Rattle.fwu_model.specs.declared.kinds.Note.TheVariants as model_note
+use Rattle.script_cmd.specs.declared.done.Note.{Note}
+use Rattle.script_cmd.specs.declared.done.Note.TheVariants as note
+
+abbrev pub noted : Note → model.Note
+noted note.Nothing = model_note.Nothing
+noted (note.BadLine n) = model_note.BadLine n
+noted (note.BadList n) = model_note.BadList n
+noted (note.Boot why) = model_note.Boot why

@@ -1,0 +1,91 @@
+-- What a run of a script did so far.
+use Rattle.std.specs.Prelude.{◌≡◌, ◌≢◌, ◌⊎◌, ℕ, ◌+◌, ◌≤◌, Bool, List, [], ◌∷◌, ◌++◌, length, map, Option, Some, None, IsTrue, IsFalse, Contains, slice_get}
+use Rattle.flash_core.specs.Counts.{Rose}
+use Rattle.flash_core.specs.Told.{NothingDirty}
+use Rattle.flash_core.specs.May.{Guards}
+use Rattle.fwu_model.specs.State.{State}
+use Rattle.fwu_model.specs.Sound.{Setting}
+use Rattle.fwu_model.specs.Seen.{seen, SoundFlash}
+use Rattle.fwu_model.specs.Call.{Call}
+use Rattle.fwu_model.specs.Call as call
+use Rattle.fwu_model.specs.Reply.{Turn}
+use Rattle.fwu_model.specs.Reply as reply
+use Rattle.fwu_model.specs.Text.{text}
+use Rattle.fwu_model.specs.Run.{Condition, Runs, ends_run}
+use Rattle.fwu_model.specs.Headline.{ArmedBy, IsPrefixOf}
+use Rattle.fwu_model.specs.Causes.{LossesAreCounted, status_by, note_by}
+use Rattle.fwu_model.specs.Wrote.{may_lack}
+use Rattle.fwu_model.specs.declared.kinds.Note.{Note}
+use Rattle.fwu_model.specs.declared.kinds.Note.TheVariants as note
+use Rattle.script_cmd.specs.Machine.{Moment, IsAt, IsSafe}
+use Rattle.script_cmd.specs.Booted.{BootsFrom}
+use Rattle.script_cmd.specs.Turning.{NoneFalls}
+
+abbrev pub calls_of : List Turn → List Call
+calls_of journal = map (λ (t : Turn). t.call) journal
+
+-- a flash from which the headline holds: sound, with nothing dirty, and guarded at the front
+pub record StartsSound (E : Setting) (start : State) (passes : List ℕ → Bool) (old : Moment) : Type 0 where
+  pub clean : NothingDirty old.told
+  pub sound : SoundFlash E old.told.now
+  pub shows : seen old.told.now ≡ Some start
+  pub guarded : Guards 1 7 old.told
+  pub passes_are : E.passes ≡ passes
+
+-- the machine's run leads to a condition that the flash is at
+pub record RunsTo (E : Setting) (start : State) (journal : List Turn) (old new : Moment) : Type 0 where
+  pub last : Condition
+  pub runs : Runs E start journal last
+  pub is_at : IsAt E last new.on new.told
+  pub armed : ArmedBy last journal old.counts new.counts new.armed
+
+-- The turns of the journal were done, from a device that was off and unarmed.
+pub record Ran (passes : List ℕ → Bool) (tells : Bool) (journal : List Turn) (old new : Moment) : Type 0 where
+  pub counts : NoneFalls old.counts new.counts
+  pub lost_turns : LossesAreCounted journal old.counts new.counts
+  pub fault_turns : (t : Turn) → Contains journal t → t.reply ≡ reply.Fault → Rose old.counts.faults new.counts.faults
+  pub reads_no_file : (t : Turn) → Contains journal t → t.reply ≢ reply.ReadFault
+  -- a turn that ends the run is the last
+  pub ends : (n : ℕ) (t : Turn) → slice_get journal n ≡ Some t → IsTrue (ends_run t.reply) → n + 1 ≡ length journal
+  pub run : IsTrue tells → (E : Setting) (start : State) → StartsSound E start passes old → (Rose old.counts.chances new.counts.chances → ⊥) → RunsTo E start journal old new
+  pub safe : IsTrue tells → NothingDirty old.told → Guards 1 7 old.told → IsSafe new.on new.told
+  -- until the first turn nothing is done, and where it is a boot it goes by the bytes
+  pub untouched : journal ≡ [] → (new ≡ old)
+  pub first : IsTrue tells → NothingDirty old.told → (t : Turn) → slice_get journal 0 ≡ Some t → t.call ≡ call.Boot → BootsFrom passes old.told.now t.reply
+
+-- ---- how a run ended
+
+-- the last turn, or none
+abbrev pub status_of_last : Option Turn → ℕ
+status_of_last None = 0
+status_of_last (Some t) = status_by t.reply
+
+abbrev pub note_of_last : Option Turn → Note
+note_of_last None = note.Nothing
+note_of_last (Some t) = note_by t.reply
+
+abbrev pub last_turn : List Turn → Option Turn
+last_turn [] = None
+last_turn (t ∷ []) = Some t
+last_turn (t ∷ u ∷ turns) = last_turn (u ∷ turns)
+
+-- Its turns are those of the script up to one that ended it, and of the whole script at status 0.
+pub record Ended (script : List Call) (journal : List Turn) (status : ℕ) (noted : Note) : Type 0 where
+  pub calls : IsPrefixOf (calls_of journal) script
+  pub all_calls : status ≡ 0 → calls_of journal ≡ script
+  pub status_is : IsFalse (may_lack status) → status ≡ status_of_last (last_turn journal)
+  pub noted_is : noted ≡ note_of_last (last_turn journal)
+  -- where the sink failed at a line, there was a turn
+  pub some : IsTrue (may_lack status) → journal ≢ []
+
+-- what was written: the lines of all turns, or where the sink failed or found no memory a part of them
+pub record Writes (journal : List Turn) (status : ℕ) (w : List ℕ) : Type 0 where
+  pub whole : IsFalse (may_lack status) → w ≡ text journal
+  pub front : IsTrue (may_lack status) → IsPrefixOf w (text journal)
+  pub less : status ≡ 9 → w ≢ text journal
+
+-- what the sink took, and its faults, before and after
+pub record Printed (journal : List Turn) (status : ℕ) (old new : Option (List ℕ)) (was are : ℕ) : Type 0 where
+  pub bytes : (before : List ℕ) → old ≡ Some before → (w : List ℕ) × (new ≡ Some (before ++ w)) × Writes journal status w
+  pub later : was ≤ are
+  pub failed : status ≡ 3 → Rose was are

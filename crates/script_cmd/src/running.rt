@@ -1,0 +1,164 @@
+//! The turns of a script, one after the other.
+ghost use Rattle.std.specs.Prelude.{◌≡◌, Option, Some, None, is_some, [], IsTrue, IsFalse, length};
+ghost use Rattle.fwu_model.specs.State.{Numbers};
+ghost use Rattle.fwu_model.specs.Causes.{status_by, note_by};
+ghost use Rattle.fwu_journal.specs.Room.{HasRoom};
+ghost use Rattle.fwu_journal.specs.Shown.{HasRoomFor, reply, turns};
+ghost use Rattle.fwu_journal.specs.declared.line.TheConstants.{LINE_ROOM};
+ghost use Rattle.script_cmd.specs.Machine.{at};
+ghost use Rattle.script_cmd.specs.Noted.{noted};
+ghost use Rattle.script_cmd.specs.Running.{Ended, Printed, Ran};
+
+use crate::done::{Done, Note};
+use crate::machine::Machine;
+use crate::printing::put_line;
+use crate::room::Room;
+use crate::turning::{Turned, turn};
+use flash_core::Flash;
+use fwu_journal::{Journal, Reply, add_line};
+use host_io::Sink;
+use script_text::{Call, Script};
+use verify_core::Verifier;
+
+/// A run between two turns.
+#[derive(Drop)]
+struct Running<D: Flash> {
+    machine: Machine<D>,
+    journal: Journal,
+    text: Vec<u8>,
+}
+
+/// How a run ends.
+#[derive(Clone, Copy)]
+struct End {
+    status: u8,
+    note: Note,
+}
+
+/// A run after a turn, and how it ends where the turn ended it.
+#[derive(Drop)]
+struct Stepped<D: Flash> {
+    running: Running<D>,
+    end: Option<End>,
+}
+
+/// The status after a last turn with this reply.
+fn status_of(last: &Reply) -> u8
+    ensures { result ≡ status_by (reply last.now) }
+{
+    match last {
+        Reply::Fault => 5,
+        Reply::NotBooted(_) => 6,
+        Reply::Off
+        | Reply::Lost
+        | Reply::Booted { .. }
+        | Reply::CutOk
+        | Reply::Shown(_) => 0,
+    }
+}
+
+/// The note after a last turn with this reply.
+fn note_of(last: &Reply) -> Note
+    ensures { noted result ≡ note_by (reply last.now) }
+{
+    match last {
+        Reply::NotBooted(why) => Note::Boot(*why),
+        Reply::Fault
+        | Reply::Off
+        | Reply::Lost
+        | Reply::Booted { .. }
+        | Reply::CutOk
+        | Reply::Shown(_) => Note::Nothing,
+    }
+}
+
+/// Does a call, keeps its turn, and prints its line.
+fn step<D: Flash, O: Sink, V: Verifier>(
+    running: Running<D>,
+    call: Call,
+    sink: &mut O,
+    verifier: &V,
+) -> Stepped<D> {
+    let Running {
+        machine,
+        mut journal,
+        mut text,
+    } = running;
+    let Turned { turn, machine } = turn(machine, call, verifier);
+    journal.add(turn);
+    text.clear();
+    add_line(&mut text, &turn);
+    let status = put_line(sink, text.as_slice(), status_of(&turn.reply));
+    let end = if status == 0 {
+        None
+    } else {
+        Some(End {
+            status,
+            note: note_of(&turn.reply),
+        })
+    };
+    Stepped {
+        running: Running {
+            machine,
+            journal,
+            text,
+        },
+        end,
+    }
+}
+
+/// What is left of a run that ended.
+fn done<D: Flash>(running: Running<D>, end: End) -> Done<D> {
+    let Running {
+        machine, journal, ..
+    } = running;
+    Done {
+        status: end.status,
+        note: end.note,
+        flash: machine.into_flash(),
+        journal,
+    }
+}
+
+/// Does the calls of a script in their order, and puts the line of each into the sink. A turn that the flash failed, or that found
+/// nothing to boot, ends the run after its line, and so does a line that the sink did not take. The room is for all turns.
+pub fn run_script<D: Flash, O: Sink, V: Verifier>(
+    room: Room,
+    script: &Script,
+    sink: &mut O,
+    flash: D,
+    verifier: &V,
+) -> Done<D>
+    requires off { IsFalse (D.on flash) }
+    requires unarmed { D.arming flash ≡ None }
+    requires no_turns { turns room.journal ≡ [] }
+    requires turns_fit { HasRoomFor room.journal (length script.now) }
+    requires line_fits { HasRoom room.text LINE_ROOM }
+
+    ensures ran { (on : Option Numbers) × Ran (V.passes verifier.now) D.tells (turns result.journal) (at None (D.told flash) (D.counts flash) (D.arming flash)) (at on (D.told result.flash) (D.counts result.flash) (D.arming result.flash)) }
+    ensures ended { Ended script.now (turns result.journal) result.status (noted result.note) }
+    ensures printed { Printed (turns result.journal) result.status (O.taken sink.old) (O.taken sink.new) (O.faults sink.old) (O.faults sink.new) }
+    ensures size { D.blocks result.flash ≡ D.blocks flash }
+{
+    let Room { journal, text } = room;
+    let mut running = Running {
+        machine: Machine::Off(flash),
+        journal,
+        text,
+    };
+    for index in 0..script.len() {
+        let Stepped {
+            running: after,
+            end,
+        } = step(running, script.at(index), sink, verifier);
+        running = after;
+        if let Some(end) = end {
+            return done(running, end);
+        }
+    }
+    let end = End {
+        status: 0,
+        note: Note::Nothing,
+    };
+    done(running, end)
+}
