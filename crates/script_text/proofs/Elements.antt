@@ -2,7 +2,6 @@
 use Rattle.std.proofs.Common.{◌≡◌, ℕ, ◌<◌, List, length, get_or, map, sym, ap, subst, ◌∙◌, arith}
 use Rattle.std.specs.Prelude.{All}
 use Rattle.std.proofs.lemmas.List.{get_or-map, length-map}
-use Rattle.fwu_model.specs.Call as model
 use Rattle.script_text.specs.declared.call.Call.{Call}
 use Rattle.script_text.specs.Built.{IsArmable}
 use Rattle.script_text.specs.Shown.{shown}

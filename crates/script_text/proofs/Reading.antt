@@ -3,7 +3,7 @@ use Rattle.std.proofs.Common.{◌≡◌, ℕ, ◌+◌, ◌<◌, Bool, true, fals
 use Rattle.std.specs.List.{cons_option}
 use Rattle.fwu_model.specs.Call.{Call}
 use Rattle.fwu_model.specs.Script.{script_lines, onto_calls, after_line}
-use Rattle.script_text.specs.Built.{line_built_of, built_calls_from, script_built_of}
+use Rattle.script_text.specs.Built.{line_built_of, built_calls_from}
 
 -- the calls that were read before these
 abbrev pub behind : List Call → Result (List Call) ℕ → Result (List Call) ℕ

@@ -1,15 +1,15 @@
 -- The laws of scripts, line by line.
-use Rattle.std.proofs.Common.{◌≡◌, ℕ, ◌+◌, ◌<◌, ◌≤◌, Bool, true, false, cond, ◌==◌, nat_le, List, [], ◌∷◌, length, Option, Some, None, Result, Ok, Err, refl, sym, ap, subst, ◌∙◌, arith, inl, inr, leb-true}
-use Rattle.std.specs.Prelude.{codes, decimal, option_map, option_and_then, IsTrue, All, ◌&&◌}
-use Rattle.std.specs.List.{cons_option, slice_split, AllByRecursion}
-use Rattle.std.proofs.lemmas.Bool.{cond_both, cases_Bool, and_parts, eqb-false}
+use Rattle.std.proofs.Common.{◌≡◌, ℕ, ◌+◌, ◌≤◌, Bool, true, false, cond, ◌==◌, nat_le, List, [], ◌∷◌, length, Option, Some, None, Result, Ok, Err, refl, ap, subst, ◌∙◌, arith, leb-true}
+use Rattle.std.specs.Prelude.{codes, decimal, option_map, option_and_then, IsTrue, ◌&&◌}
+use Rattle.std.specs.List.{slice_split, AllByRecursion}
+use Rattle.std.proofs.lemmas.Bool.{cond_both, and_parts, eqb-false}
 use Rattle.std.proofs.lemmas.List.Elements.{All-from_recursion, recursion_from_All}
 use Rattle.std.proofs.lemmas.Option.{cond_some}
 use Rattle.base_core.specs.Bytes.{same_bytes}
 use Rattle.fwu_model.specs.Call.{Call}
 use Rattle.fwu_model.specs.Call as call
 use Rattle.fwu_model.specs.Script.{is_word, digits_value, both, named, open_call, number_of, number_up_to, bytes_of, file_of, request_of, at_least_one, simple_call, call_of_three, call_of_words, line_of, onto_calls, after_line, calls_from, script_lines, script_of}
-use Rattle.script_text.specs.Built.{is_built, kept_line, line_built_of, built_calls_from, script_built_of, IsArmable}
+use Rattle.script_text.specs.Built.{is_built, kept_line, built_calls_from, script_built_of, IsArmable}
 use Rattle.script_text.specs.Law.{BuiltAreScripts, ScriptsAreBuilt, CutsAreArmable, CallsHaveLines}
 
 abbrev Outcome : Type 0

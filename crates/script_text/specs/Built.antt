@@ -1,5 +1,5 @@
 -- Scripts of the calls that are built.
-use Rattle.std.specs.Prelude.{◌≡◌, ℕ, ◌+◌, ◌≤◌, Bool, true, false, if◌then◌else◌, List, [], ◌∷◌, Option, Some, None, Result, Ok, Err, option_and_then}
+use Rattle.std.specs.Prelude.{ℕ, ◌+◌, ◌≤◌, Bool, true, false, if◌then◌else◌, List, [], ◌∷◌, Option, Some, None, Result, Ok, option_and_then}
 use Rattle.fwu_model.specs.Call.{Call, Boot, Show, Cut}
 use Rattle.fwu_model.specs.Script.{line_of, after_line, script_lines}
 

@@ -1,5 +1,5 @@
 -- How far a text is within the limits of a script, as it is read.
-use Rattle.std.specs.Prelude.{◌≡◌, ℕ, ◌≤◌, ◌==◌, Bool, false, List, length, count_by}
+use Rattle.std.specs.Prelude.{◌≡◌, ℕ, ◌≤◌, ◌==◌, false, List, length, count_by}
 use Rattle.fwu_model.specs.Script.{is_too_long}
 
 -- the bytes of a text, and its line ends

@@ -1,7 +1,6 @@
 use Rattle.std.proofs.Common.{◌∙◌, sym, ap, Option, Some}
 use Rattle.std.specs.Prelude.{option_map}
 use Rattle.fwu_model.specs.Call.{Call}
-use Rattle.script_text.specs.Shown.{shown}
 use Rattle.script_text.proofs.Words.{line_nothing, line_call}
 use Rattle.script_text.proofs.call.read_line.Goals as goal
 

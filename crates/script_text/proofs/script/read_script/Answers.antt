@@ -1,4 +1,4 @@
-use Rattle.std.proofs.Common.{◌≡◌, Ok, ◌∙◌, sym, ap, map, [], List, length, arith}
+use Rattle.std.proofs.Common.{◌∙◌, sym, ap, map, List, arith}
 use Rattle.fwu_model.specs.Call.{Call}
 use Rattle.script_text.specs.Built.{script_built_of}
 use Rattle.script_text.specs.Shown.{shown}

@@ -1,4 +1,4 @@
-use Rattle.std.proofs.Common.{◌≡◌, ◌++◌, ◌∷◌, [], List, ℕ, take, get_or, true, refl, subst}
+use Rattle.std.proofs.Common.{◌≡◌, ◌++◌, List, ℕ, take, get_or, true, refl, subst}
 use Rattle.fwu_model.specs.Script.{is_too_long}
 use Rattle.script_text.specs.Limit.{IsExtentOf}
 use Rattle.script_text.proofs.Extents.{next_byte}

@@ -1,4 +1,4 @@
-use Rattle.std.proofs.Common.{◌≡◌, ◌++◌, List, ℕ, take}
+use Rattle.std.proofs.Common.{◌++◌, List, ℕ, take}
 use Rattle.script_text.specs.Limit.{IsExtentOf}
 use Rattle.script_text.proofs.limit.TextLimit.feed.Given as goal
 

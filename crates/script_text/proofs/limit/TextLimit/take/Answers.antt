@@ -1,4 +1,4 @@
-use Rattle.std.proofs.Common.{◌≡◌, ℕ, ◌+◌, ◌<◌, ap, sym, ◌∙◌, subst, inl, inr, refl, arith, cond}
+use Rattle.std.proofs.Common.{◌≡◌, ℕ, ◌+◌, ap, sym, ◌∙◌, subst, inl, inr, refl, arith, cond}
 use Rattle.std.proofs.lemmas.Bool.{ne_eqb}
 use Rattle.script_text.specs.Limit.{Extent, IsExtentOf}
 use Rattle.script_text.proofs.Extents.{extent_full, extent_with, is_end}

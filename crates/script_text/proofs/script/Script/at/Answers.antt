@@ -1,6 +1,5 @@
-use Rattle.std.proofs.Common.{◌<◌, length, map, subst, sym, List}
+use Rattle.std.proofs.Common.{◌<◌, length, subst, sym, List}
 use Rattle.fwu_model.specs.Call.{Call}
-use Rattle.script_text.specs.Shown.{shown}
 use Rattle.script_text.proofs.Elements.{armable_at}
 use Rattle.script_text.proofs.script.Script.at.Goals as goal
 
