@@ -8,8 +8,8 @@ use Rattle.std.proofs.lemmas.Option.{cond_some}
 use Rattle.base_core.specs.Bytes.{same_bytes}
 use Rattle.fwu_model.specs.Call.{Call}
 use Rattle.fwu_model.specs.Call as call
-use Rattle.fwu_model.specs.Script.{is_word, digits_value, both, named, open_call, number_of, number_up_to, bytes_of, file_of, request_of, at_least_one, simple_call, call_of_three, call_of_words, line_of, onto_calls, after_line, calls_from, script_lines, script_of}
-use Rattle.script_text.specs.Built.{is_built, kept_line, built_calls_from, script_built_of, IsArmable}
+use Rattle.fwu_model.specs.Script.{is_word, digits_value, both, named, open_call, number_of, number_up_to, bytes_of, file_of, request_of, at_least_one, simple_call, call_of_three, call_of_words, line_of, onto_calls, after_line, calls_from, script_lines, whole_script_of}
+use Rattle.script_text.specs.Built.{is_built, kept_line, built_calls_from, script_of, IsArmable}
 use Rattle.script_text.specs.Law.{BuiltAreScripts, ScriptsAreBuilt, CutsAreArmable, CallsHaveLines}
 
 abbrev Outcome : Type 0
@@ -31,12 +31,12 @@ built_line n (Some (Some c)) one other follows calls e = go (is_built c) e
     go true h = onto (Some c) one other follows calls h
     go false h = absurd cc
 
-built_from : (lines : List (List ℕ)) (n : ℕ) (calls : List Call) → built_calls_from n lines ≡ Ok calls → calls_from n lines ≡ Ok calls
+built_from : (lines : List (List ℕ)) (n : ℕ) (calls : List Call) → built_calls_from n lines ≡ Ok calls → calls_from line_of n lines ≡ Ok calls
 built_from [] n calls e = e
-built_from (x ∷ xs) n calls e = built_line n (line_of x) (built_calls_from (n + 1) xs) (calls_from (n + 1) xs) (built_from xs (n + 1)) calls e
+built_from (x ∷ xs) n calls e = built_line n (line_of x) (built_calls_from (n + 1) xs) (calls_from line_of (n + 1) xs) (built_from xs (n + 1)) calls e
 
 pub built-are-scripts : BuiltAreScripts
-unfolding script_of script_built_of
+unfolding whole_script_of script_of
 built-are-scripts bytes calls e = built_from (script_lines bytes) 1 calls e
 
 -- ---- whole scripts of built calls
@@ -57,12 +57,12 @@ whole_line n (Some (Some c)) (Ok later) other follows calls e all =
 whole_line n (Some None) (Err line) other follows calls e all = absurd cc
 whole_line n (Some (Some c)) (Err line) other follows calls e all = absurd cc
 
-whole_from : (lines : List (List ℕ)) (n : ℕ) (calls : List Call) → calls_from n lines ≡ Ok calls → AllBuilt calls → built_calls_from n lines ≡ Ok calls
+whole_from : (lines : List (List ℕ)) (n : ℕ) (calls : List Call) → calls_from line_of n lines ≡ Ok calls → AllBuilt calls → built_calls_from n lines ≡ Ok calls
 whole_from [] n calls e all = e
-whole_from (x ∷ xs) n calls e all = whole_line n (line_of x) (calls_from (n + 1) xs) (built_calls_from (n + 1) xs) (whole_from xs (n + 1)) calls e all
+whole_from (x ∷ xs) n calls e all = whole_line n (line_of x) (calls_from line_of (n + 1) xs) (built_calls_from (n + 1) xs) (whole_from xs (n + 1)) calls e all
 
 pub scripts-are-built : ScriptsAreBuilt
-unfolding script_of script_built_of
+unfolding whole_script_of script_of
 scripts-are-built bytes calls e all = whole_from (script_lines bytes) 1 calls e (recursion_from_All (λ c. IsTrue (is_built c)) calls all)
 
 -- ---- lines and calls
@@ -78,13 +78,13 @@ few_line n k (Some (Some c)) (Ok later) few calls e =
 few_line n k (Some None) (Err line) few calls e = absurd cc
 few_line n k (Some (Some c)) (Err line) few calls e = absurd cc
 
-few_from : (lines : List (List ℕ)) (n : ℕ) (calls : List Call) → calls_from n lines ≡ Ok calls → length calls ≤ length lines
+few_from : (lines : List (List ℕ)) (n : ℕ) (calls : List Call) → calls_from line_of n lines ≡ Ok calls → length calls ≤ length lines
 few_from [] n [] e = omega arith
 few_from [] n (c ∷ calls) e = absurd cc
-few_from (x ∷ xs) n calls e = omega (arith, few_line n (length xs) (line_of x) (calls_from (n + 1) xs) (few_from xs (n + 1)) calls e)
+few_from (x ∷ xs) n calls e = omega (arith, few_line n (length xs) (line_of x) (calls_from line_of (n + 1) xs) (few_from xs (n + 1)) calls e)
 
 pub calls-have-lines : CallsHaveLines
-unfolding script_of
+unfolding whole_script_of
 calls-have-lines bytes calls e = few_from (script_lines bytes) 1 calls e
 
 -- ---- cuts
@@ -189,11 +189,11 @@ armable_line n (Some (Some c)) sound (Ok later) all calls e =
 armable_line n (Some None) sound (Err line) all calls e = absurd cc
 armable_line n (Some (Some c)) sound (Err line) all calls e = absurd cc
 
-armable_from : (lines : List (List ℕ)) (n : ℕ) (calls : List Call) → calls_from n lines ≡ Ok calls → AllArmable calls
+armable_from : (lines : List (List ℕ)) (n : ℕ) (calls : List Call) → calls_from line_of n lines ≡ Ok calls → AllArmable calls
 armable_from [] n [] e = tt
 armable_from [] n (c ∷ calls) e = absurd cc
-armable_from (x ∷ xs) n calls e = armable_line n (line_of x) (sound_line x) (calls_from (n + 1) xs) (armable_from xs (n + 1)) calls e
+armable_from (x ∷ xs) n calls e = armable_line n (line_of x) (sound_line x) (calls_from line_of (n + 1) xs) (armable_from xs (n + 1)) calls e
 
 pub cuts-are-armable : CutsAreArmable
-unfolding script_of
+unfolding whole_script_of
 cuts-are-armable bytes calls e = All-from_recursion IsArmable calls (armable_from (script_lines bytes) 1 calls e)

@@ -2,7 +2,7 @@
 ghost use Rattle.std.specs.Prelude.{◌≡◌, ◌+◌, ◌<◌, ◌≤◌, ◌==◌, ◌++◌, ◌∷◌, [], Ok, Some, IfOk, IfErr, OnOk, All, IsTrue, length, map, option_map, position, slice_get};
 ghost use Rattle.std.specs.List.{cons_option};
 ghost use Rattle.fwu_model.specs.Script.{script_lines};
-ghost use Rattle.script_text.specs.Built.{script_built_of, IsArmable};
+ghost use Rattle.script_text.specs.Built.{script_of, IsArmable};
 ghost use Rattle.script_text.specs.Shown.{shown, IsFaultOf};
 
 use crate::call::{Call, read_line};
@@ -94,8 +94,8 @@ fn push_call(calls: &mut Vec<Call>, call: Option<Call>) -> Result<(), AllocError
 /// a line, and the empty text is the empty script. Lines are counted from 1. Time grows with the text's length alone.
 pub fn read_script(alloc: Global, bytes: &[u8]) -> Result<Script, ScriptFault>
     requires { length bytes.now ≤ 4194304 }
-    ensures ok { IfOk result (λ calls. script_built_of bytes.now ≡ Ok calls) }
-    ensures fault { IfErr result (λ fault. IsFaultOf (script_built_of bytes.now) fault) }
+    ensures ok { IfOk result (λ calls. script_of bytes.now ≡ Ok calls) }
+    ensures fault { IfErr result (λ fault. IsFaultOf (script_of bytes.now) fault) }
     ensures few { IfOk result (λ calls. length calls ≤ length (script_lines bytes.now)) }
     ensures armable { IfOk result (All IsArmable) }
 {

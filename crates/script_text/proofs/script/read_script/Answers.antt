@@ -1,13 +1,13 @@
 use Rattle.std.proofs.Common.{◌∙◌, sym, ap, map, List, arith}
 use Rattle.fwu_model.specs.Call.{Call}
-use Rattle.script_text.specs.Built.{script_built_of}
+use Rattle.script_text.specs.Built.{script_of}
 use Rattle.script_text.specs.Shown.{shown}
 use Rattle.script_text.proofs.Reading.{behind, from_line, front_of_none, at_end, none_left}
 use Rattle.script_text.proofs.Whole.{built-are-scripts, cuts-are-armable, calls-have-lines}
 use Rattle.script_text.proofs.script.read_script.Goals as goal
 
 pub loop-rest-init : goal.loop-rest-init
-unfolding script_built_of
+unfolding script_of
 loop-rest-init c = (
   sym (ap (λ (l : List Call). behind l (from_line 1 c.args.bytes.now)) (ap (map shown) c.new-calls.ensures.items) ∙ front_of_none (from_line 1 c.args.bytes.now)),
   omega arith,
