@@ -1,9 +1,9 @@
 //! What the definition of an order says of plain words.
-ghost use Rattle.std.specs.Prelude.{◌≡◌, ◌≢◌, ◌↔◌, List, [], ◌∷◌, ℕ, None, Some, codes, option_and_then};
+ghost use Rattle.std.specs.Prelude.{◌≡◌, ◌≢◌, ◌↔◌, Bool, List, [], ◌∷◌, Option, ℕ, None, Some, codes, true};
 ghost use Rattle.clap.specs.Faults.{fault_of};
 ghost use Rattle.clap.specs.Words.{Text};
-ghost use Rattle.fwu_model.specs.Allow.{after_list, list_name};
-ghost use Rattle.fwu_words.specs.Allow.{NamesList};
+ghost use Rattle.fwu_model.specs.Allow.{Admits, after_list, asks_list, list_name};
+ghost use Rattle.fwu_words.specs.Allow.{NamesList, NamesNone};
 ghost use Rattle.fwu_words.specs.Commands.{fwu_app};
 ghost use Rattle.fwu_words.specs.Order.{asked, boot, format_by, run, show};
 ghost use Rattle.fwu_words.specs.Plain.{IsPlain};
@@ -28,8 +28,12 @@ pub fn plain_words_are_taken()
     ensures nothing { asked [] ≡ None }
 {}
 
-/// Where words name a list, its name and the words behind it are those that the definition of whose manifests pass takes.
+/// What the definition of whose manifests pass says of words that begin with `--allow`: the name and the words behind it where
+/// there is a name, and nothing where there is none.
 pub fn lists_are_told()
+    ensures asks { (words rest : List (List ℕ)) (name : List ℕ) → NamesList words name rest → asks_list words ≡ true }
     ensures name { (words rest : List (List ℕ)) (name : List ℕ) → NamesList words name rest → list_name words ≡ Some name }
     ensures rest { (words rest : List (List ℕ)) (name : List ℕ) → NamesList words name rest → after_list words ≡ rest }
+    ensures none { (words rest : List (List ℕ)) (files : List ℕ → Option (List ℕ)) (passes : List ℕ → Bool)
+        → NamesNone words → Admits words files passes rest → ⊥ }
 {}

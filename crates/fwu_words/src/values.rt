@@ -1,7 +1,6 @@
 //! The values of the words: numbers of banks, layouts and names of files.
-ghost use Rattle.std.specs.Prelude.{◌≡◌, IfOk, map, option_map};
+ghost use Rattle.std.specs.Prelude.{◌≡◌, ◌==◌, IfOk, map, option_map};
 ghost use Rattle.std.specs.List.{slice_split};
-ghost use Rattle.std.specs.Prelude.{◌==◌};
 ghost use Rattle.fwu_words.specs.Order.{Answers};
 ghost use Rattle.fwu_words.specs.Values.{banks_of, each, file_named, name_of, number_read, row_of, rows_of, split_of};
 
