@@ -4,3 +4,7 @@ pub mod Turning
 pub mod Running
 pub mod Printed
 pub mod Noted
+pub mod Asking
+pub mod BootWord
+pub mod Ways
+pub mod Showing

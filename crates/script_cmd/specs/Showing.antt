@@ -1,0 +1,35 @@
+-- What the command `show` tells and prints.
+use Rattle.std.specs.Prelude.{◌≡◌, ◌⊎◌, ℕ, ◌++◌, ◌∷◌, [], Bool, List, Option, Some, Ok, Err, IsTrue, codes}
+use Rattle.flash_core.specs.Counts.{Rose}
+use Rattle.flash_core.specs.Told.{Told, NothingDirty}
+use Rattle.flash_core.specs.declared.flash.Counts.{Counts}
+use Rattle.fwu_model.specs.State.{Numbers}
+use Rattle.fwu_model.specs.Layout.{Layout}
+use Rattle.fwu_model.specs.Flash.{layout_seen, deciding}
+use Rattle.fwu_model.specs.Text.{numbers_text, no_boot_text}
+use Rattle.fwu_model.specs.declared.kinds.NoBoot.{NoBoot}
+use Rattle.fwu_model.specs.declared.kinds.NoBoot.TheVariants as no_boot
+use Rattle.fwu_model.specs.declared.kinds.Note.{Note}
+use Rattle.fwu_model.specs.declared.kinds.Note.TheVariants as note
+use Rattle.early_boot.specs.Numbers.{ShowsNumbers}
+
+abbrev pub shown_line : Numbers → List ℕ
+shown_line n = codes "show " ++ numbers_text n ++ 10 ∷ []
+
+abbrev pub not_shown_line : NoBoot → List ℕ
+not_shown_line why = codes "show " ++ no_boot_text why ++ 10 ∷ []
+
+abbrev pub flash_fault_line : List ℕ
+flash_fault_line = codes "flash-fault\n"
+
+-- an image has no layout, or no metadata
+abbrev pub ShowsNone : List ℕ → NoBoot → Type 0
+ShowsNone image (no_boot.Layout f) = layout_seen image ≡ Err f
+ShowsNone image no_boot.Metadata = (L : Layout) × (layout_seen image ≡ Ok L) × (deciding L image ≡ Option.None)
+ShowsNone image (no_boot.Bank active previous) = ⊥
+
+-- What `show` found on a flash of which so much is told, with the status, the note and the line of that.
+pub data Finds (known : Type 0) (image : List ℕ) (before after : Counts) : ℕ → Note → List ℕ → Type 0 where
+  numbers : (n : Numbers) → (known → ShowsNumbers image n) → Finds known image before after 0 note.Nothing (shown_line n)
+  none : (why : NoBoot) → (known → ShowsNone image why) → Finds known image before after 6 (note.Boot why) (not_shown_line why)
+  stopped : Rose before.faults after.faults ⊎ (Rose before.cuts after.cuts ⊎ Rose before.reached after.reached) → Finds known image before after 5 note.Nothing flash_fault_line
