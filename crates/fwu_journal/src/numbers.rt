@@ -55,7 +55,11 @@ fn add_bit(text: &mut Vec<u8>, bit: bool)
     requires { HasRoom text.old 1 }
     ensures { Grows text.old text.new ((if bit then 49 else 48) ∷ []) }
 {
-    if bit { add(text, b"1") } else { add(text, b"0") }
+    if bit {
+        add(text, b"1")
+    } else {
+        add(text, b"0")
+    }
 }
 
 /// Adds the digits of a bank's bits.

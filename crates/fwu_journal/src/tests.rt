@@ -55,9 +55,15 @@ fn two_banks() -> Numbers {
 fn boots_have_their_lines(rt: HostRuntime) -> Result<(), Fail> {
     let alloc = rt.alloc();
     let line = line_of(alloc, Call::Boot, booted(false))?;
-    assert_eq!(rt; line, b"boot bank=1 version=2 trials=1 counter=1\n".as_slice());
+    assert_eq!(rt;
+        line,
+        b"boot bank=1 version=2 trials=1 counter=1\n".as_slice()
+    );
     let line = line_of(alloc, Call::Boot, booted(true))?;
-    assert_eq!(rt; line, b"boot bank=1 version=2 trials=1 counter=1 fallback\n".as_slice());
+    assert_eq!(rt;
+        line,
+        b"boot bank=1 version=2 trials=1 counter=1 fallback\n".as_slice()
+    );
     let no_layout = NoBoot::Layout(LayoutFault::BadMagic);
     let line = line_of(alloc, Call::Boot, Reply::NotBooted(no_layout))?;
     assert_eq!(rt; line, b"boot bad-layout 2\n".as_slice());
