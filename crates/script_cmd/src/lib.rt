@@ -4,6 +4,7 @@
 mod done;
 mod machine;
 mod printing;
+mod reading;
 mod room;
 mod running;
 mod turning;

@@ -1,57 +1,90 @@
 //! What the program reads before it runs: a script from the source, and a list of digests from a file.
-ghost use Rattle.std.specs.Prelude.{◌≡◌, ◌≤◌, ◌⊎◌, ℕ, List, [], Some, None, Err, IfOk, IsTrue, length, false};
+ghost use Rattle.std.specs.Prelude.{◌≡◌, ◌≤◌, ◌⊎◌, ℕ, List, Option, [], Some, Err, IfOk, OnOk, IsTrue, length, false};
+ghost use Rattle.std.specs.Io.KnownBytes.{IsAtEnd};
 ghost use Rattle.flash_core.specs.Counts.{Rose};
 ghost use Rattle.fwu_model.specs.Script.{is_too_long};
 ghost use Rattle.fwu_model.specs.Causes.{LacksFile};
+ghost use Rattle.host_io.specs.Contents.{Directory};
 
+use base_core::NoMemory;
 use host_io::{Files, Source};
 use script_text::TextLimit;
 use std::alloc::Global;
 
-/// Why a text was not read.
+/// Why a script's text was not read.
 #[derive(Clone, Copy, Debug, PartialEq, Eq)]
-pub enum ReadStop {
+pub enum SourceStop {
+    /// A read failed.
     Failed,
-    /// It is longer than a script may be.
+    /// The text is longer than a script may be.
     TooLong,
     NoMemory,
 }
 
+/// Why a file was not read.
+#[derive(Clone, Copy, Debug, PartialEq, Eq)]
+pub enum FileStop {
+    /// A read failed, or no file has the name.
+    Failed,
+    NoMemory,
+}
+
 /// Reads a script's text to the source's end, or to the first byte with which it is too long.
-pub fn read_source<I: Source>(alloc: Global, source: &mut I) -> Result<Vec<u8>, ReadStop>
+pub fn read_source<I: Source>(alloc: Global, source: &mut I) -> Result<Vec<u8>, SourceStop>
     ensures whole { IfOk result (λ text. (rest : List ℕ) → I.left source.old ≡ Some rest → (text.items ≡ rest) × (I.left source.new ≡ Some [])) }
+    ensures end { OnOk result (IsAtEnd (I.left source.new)) }
     ensures short { IfOk result (λ text. (is_too_long text.items ≡ false) × (length text.items ≤ 4194304)) }
-    ensures long { result ≡ Err ReadStop.TooLong → (rest : List ℕ) → I.left source.old ≡ Some rest → IsTrue (is_too_long rest) }
+    ensures long { result ≡ Err SourceStop.TooLong → (rest : List ℕ) → I.left source.old ≡ Some rest → IsTrue (is_too_long rest) }
     ensures later { I.faults source.old ≤ I.faults source.new }
-    ensures failed { result ≡ Err ReadStop.Failed → Rose (I.faults source.old) (I.faults source.new) }
+    ensures failed { result ≡ Err SourceStop.Failed → Rose (I.faults source.old) (I.faults source.new) }
 {
     let mut text = Vec::new(alloc);
     let mut limit = TextLimit::new();
-    let mut piece = [0; 4096];
+    let mut buffer = [0u8; 4096];
     loop {
-        let count = match source.read(&mut piece) {
+        let count = match source.read(&mut buffer) {
             Ok(count) => count,
-            Err(_) => return Err(ReadStop::Failed),
+            Err(_) => return Err(SourceStop::Failed),
         };
         if count == 0 {
             return Ok(text);
         }
-        if limit.feed(&piece[..count]) < count {
-            return Err(ReadStop::TooLong);
+        let piece = &buffer[..count];
+        if limit.feed(piece) < count {
+            return Err(SourceStop::TooLong);
         }
-        if text.extend_from_slice(&piece[..count]).is_err() {
-            return Err(ReadStop::NoMemory);
+        if text.extend_from_slice(piece).is_err() {
+            return Err(SourceStop::NoMemory);
         }
     }
 }
 
-/// Reads a file whole. It is never too long.
-pub fn read_file<H: Files>(alloc: Global, files: &mut H, name: &str) -> Result<Vec<u8>, ReadStop>
-    ensures whole { IfOk result (λ bytes. (directory : List ℕ → Option (List ℕ)) → H.contents files.old ≡ Some directory → directory name.now ≡ Some bytes.items) }
+// So many zeros.
+fn zeros(alloc: Global, size: u64) -> Result<Vec<u8>, NoMemory>
+    ensures { IfOk result (λ bytes. length bytes.items ≡ size) }
+{
+    let mut bytes = Vec::new(alloc);
+    bytes.resize(size as usize, 0)?;
+    Ok(bytes)
+}
+
+/// Reads a file whole.
+pub fn read_file<H: Files>(alloc: Global, files: &mut H, name: &str) -> Result<Vec<u8>, FileStop>
+    ensures whole { IfOk result (λ bytes. (directory : Directory) → H.contents files.old ≡ Some directory → directory name.now ≡ Some bytes.items) }
     ensures same { H.contents files.new ≡ H.contents files.old }
     ensures later { H.faults files.old ≤ H.faults files.new }
-    ensures failed { result ≡ Err ReadStop.Failed → Rose (H.faults files.old) (H.faults files.new) ⊎ LacksFile (H.contents files.old) name.now }
-    ensures short { result ≡ Err ReadStop.TooLong → ⊥ }
+    ensures failed { result ≡ Err FileStop.Failed → Rose (H.faults files.old) (H.faults files.new) ⊎ LacksFile (H.contents files.old) name.now }
 {
-    todo
+    let size = match files.size(name) {
+        Ok(Some(size)) => size,
+        Ok(None) => return Err(FileStop::Failed),
+        Err(_) => return Err(FileStop::Failed),
+    };
+    let Ok(mut bytes) = zeros(alloc, size) else {
+        return Err(FileStop::NoMemory);
+    };
+    match files.read_at(name, 0, bytes.as_mut_slice()) {
+        Ok(()) => Ok(bytes),
+        Err(_) => Err(FileStop::Failed),
+    }
 }
