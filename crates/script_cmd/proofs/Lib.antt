@@ -1,1 +1,2 @@
 pub mod TopReads
+pub mod TopPrints

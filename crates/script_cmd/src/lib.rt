@@ -5,6 +5,7 @@ mod done;
 mod machine;
 mod printing;
 mod reading;
+mod refusing;
 mod room;
 mod running;
 mod turning;

@@ -1,0 +1,20 @@
+-- Lines that were put into the sink.
+use Rattle.std.proofs.Common.{◌≡◌, ◌≤◌, ℕ, List, Option, sym, subst, ◌∙◌}
+use Rattle.script_cmd.specs.Printed.{Prints, all, front, nothing}
+
+pub at-status : (piece : List ℕ) (planned status told : ℕ) (old new : Option (List ℕ)) (was are : ℕ) → told ≡ status → Prints piece planned status old new was are → Prints piece planned told old new was are
+at-status piece planned status told old new was are e p = subst (λ (n : ℕ). Prints piece planned n old new was are) (sym e) p
+
+pub at-piece : (piece other : List ℕ) (planned status : ℕ) (old new : Option (List ℕ)) (was are : ℕ) → other ≡ piece → Prints other planned status old new was are → Prints piece planned status old new was are
+at-piece piece other planned status old new was are e p = subst (λ (l : List ℕ). Prints l planned status old new was are) e p
+
+pub later : (piece : List ℕ) (planned status : ℕ) (old new : Option (List ℕ)) (was are : ℕ) → Prints piece planned status old new was are → was ≤ are
+later piece planned status old new was are (all _ _ rises) = rises
+later piece planned status old new was are (front _ _ _ rises _) = rises
+later piece planned status old new was are (nothing _ _ rises) = rises
+
+-- a line that is put for another status than 0 gives another
+pub not-done : (piece : List ℕ) (planned status : ℕ) (old new : Option (List ℕ)) (was are : ℕ) → (planned ≡ 0 → ⊥) → Prints piece planned status old new was are → status ≡ 0 → ⊥
+not-done piece planned status old new was are some (all is _ _) e = some (sym is ∙ e)
+not-done piece planned status old new was are some (front is _ _ _ _) e = let no : 3 ≡ 0 = sym is ∙ e in cc
+not-done piece planned status old new was are some (nothing is _ _) e = let no : 9 ≡ 0 = sym is ∙ e in cc
