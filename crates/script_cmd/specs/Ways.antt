@@ -1,5 +1,5 @@
 -- The ways that `run` or `boot` may end: before the first turn, or by the turns of a script.
-use Rattle.std.specs.Prelude.{◌≡◌, ◌⊎◌, ℕ, ◌≤◌, Bool, List, [], ◌∷◌, Option, Some, None, Ok, IfSome, IsTrue, IsSome}
+use Rattle.std.specs.Prelude.{◌≡◌, ◌⊎◌, ℕ, ◌≤◌, ⊤, Bool, false, List, [], ◌∷◌, Option, Some, None, Ok, IfSome, IsTrue, IsSome}
 use Rattle.flash_core.specs.Counts.{Rose}
 use Rattle.fwu_model.specs.Call.{Call}
 use Rattle.fwu_model.specs.State.{Numbers}
@@ -7,7 +7,7 @@ use Rattle.fwu_model.specs.Reply.{Turn}
 use Rattle.fwu_model.specs.Script.{script_of, is_too_long}
 use Rattle.fwu_model.specs.Wrote.{usage_line, not_read_line, too_long_line, bad_script_line, bad_list_line, IsBadScript, IsBadList}
 use Rattle.fwu_model.specs.Causes.{Faults, LacksList}
-use Rattle.fwu_model.specs.Allow.{list_bytes}
+use Rattle.fwu_model.specs.Allow.{digests_of, list_bytes, passes_any, passes_listed}
 use Rattle.fwu_model.specs.declared.kinds.Note.{Note}
 use Rattle.fwu_model.specs.declared.kinds.Note.TheVariants as note
 use Rattle.fwu_words.specs.Order.{Asked}
@@ -49,3 +49,22 @@ pub data Way (passes : List ℕ → Bool) (tells : Bool) (asked : Option Asked) 
   ran : (calls : List Call) (on : Option Numbers) → (asked ≡ Some ask.run) ⊎ (asked ≡ Some ask.boot) → HasCalls g.script calls
       → Ran passes tells journal old (at on new.told new.counts new.armed) → Ended calls journal status noted → Printed journal status taken takes was.sink are.sink
       → Way passes tells asked g journal status noted old new taken takes was are
+
+-- ---- by the words
+
+-- the script, where it is told, is this text
+abbrev pub IsScriptOf : Option (List ℕ) → List ℕ → Type 0
+IsScriptOf script text = IfSome script (λ bytes. bytes ≡ text)
+
+-- the words ask for the turns of a script, or for nothing
+abbrev pub RunsOrNone : Option Asked → Type 0
+RunsOrNone None = ⊤
+RunsOrNone (Some ask.run) = ⊤
+RunsOrNone (Some ask.boot) = ⊤
+RunsOrNone (Some ask.show) = ⊥
+RunsOrNone (Some (ask.format banks rows file)) = ⊥
+
+-- Whose manifests pass: any, where no list is asked for, and where a list is told and is one, those that it lists.
+pub record HasPasses (asks : Bool) (list : Option (List ℕ)) (files : Option (List ℕ → Option (List ℕ))) (passes : List ℕ → Bool) : Type 0 where
+  pub any : asks ≡ false → passes ≡ passes_any
+  pub listed : (bytes : List ℕ) (digests : List (List ℕ)) → list_bytes list files ≡ Some bytes → digests_of bytes ≡ Ok digests → passes ≡ passes_listed digests

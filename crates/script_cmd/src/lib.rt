@@ -8,6 +8,8 @@ mod reading;
 mod refusing;
 mod room;
 mod running;
+mod top;
 mod turning;
 
 pub use done::{Done, Note};
+pub use top::{fwu_top, fwu_top_with};
