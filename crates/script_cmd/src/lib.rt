@@ -4,8 +4,7 @@
 mod done;
 mod machine;
 mod printing;
-mod room;
-mod running;
-mod turning;
+mod showing;
 
 pub use done::{Done, Note};
+pub use printing::{put_line, put_usage};
