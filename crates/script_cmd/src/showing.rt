@@ -1,8 +1,8 @@
 //! The command `show`.
-ghost use Rattle.std.specs.Prelude.{◌≡◌, ◌++◌, [], None, IsTrue, IsFalse};
+ghost use Rattle.std.specs.Prelude.{◌≡◌, ◌≤◌, ◌++◌, [], length, IsTrue, IsFalse};
 ghost use Rattle.flash_core.specs.Told.{NothingDirty};
 ghost use Rattle.early_boot.specs.Numbers.{numbers as read};
-ghost use Rattle.fwu_journal.specs.Room.{HasRoom};
+ghost use Rattle.fwu_journal.specs.Room.{Grows, HasRoom};
 ghost use Rattle.fwu_journal.specs.Shown.{turns};
 ghost use Rattle.fwu_journal.specs.declared.line.TheConstants.{LINE_ROOM};
 ghost use Rattle.script_cmd.specs.Noted.{noted};
@@ -13,10 +13,18 @@ use crate::done::{Done, Note};
 use crate::printing::put_line;
 use early_boot::{Numbers, Unshown, read_numbers};
 use flash_core::Flash;
-use fwu_journal::{Journal, LINE_ROOM, add, add_no_boot, add_numbers};
+use fwu_journal::{Journal, LINE_ROOM, add_no_boot, add_numbers};
 use fwu_model::NoBoot;
 use host_io::Sink;
 use std::alloc::Global;
+
+/// Adds bytes to a line that has room for them.
+fn add(text: &mut Vec<u8>, bytes: &[u8])
+    requires { HasRoom text.old (length bytes.now) }
+    ensures { Grows text.old text.new bytes.now }
+{
+    text.extend_from_slice(bytes).unwrap()
+}
 
 /// Adds the line of numbers that a flash shows.
 fn add_shown(text: &mut Vec<u8>, shown: &Numbers)
@@ -59,13 +67,19 @@ fn find<D: Flash>(flash: &mut D, text: &mut Vec<u8>) -> Found
     match read_numbers(flash) {
         Ok(shown) => {
             add_shown(text, &shown);
-            Found { status: 0, note: Note::Nothing }
+            Found {
+                status: 0,
+                note: Note::Nothing,
+            }
         }
         Err(Unshown::Layout(fault)) => not_found(text, NoBoot::Layout(fault)),
         Err(Unshown::Metadata) => not_found(text, NoBoot::Metadata),
         Err(Unshown::Flash(_)) => {
             add(text, b"flash-fault\n");
-            Found { status: 5, note: Note::Nothing }
+            Found {
+                status: 5,
+                note: Note::Nothing,
+            }
         }
     }
 }
@@ -78,7 +92,10 @@ fn not_found(text: &mut Vec<u8>, why: NoBoot) -> Found
     ensures note { result.note ≡ Note.Boot why }
 {
     add_not_shown(text, why);
-    Found { status: 6, note: Note::Boot(why) }
+    Found {
+        status: 6,
+        note: Note::Boot(why),
+    }
 }
 
 /// Powers the flash on, reads what it shows, and puts the line of that into the sink. Nothing is written, and no replica is repaired.
@@ -94,10 +111,20 @@ pub fn show<D: Flash, O: Sink>(alloc: Global, sink: &mut O, flash: D) -> Done<D>
 {
     let journal = Journal::new(alloc);
     let Ok(mut text) = Vec::with_capacity(alloc, LINE_ROOM) else {
-        return Done { status: 9, note: Note::Nothing, flash, journal };
+        return Done {
+            status: 9,
+            note: Note::Nothing,
+            flash,
+            journal,
+        };
     };
     let mut flash = flash;
     let found = find(&mut flash, &mut text);
     let status = put_line(sink, text.as_slice(), found.status);
-    Done { status, note: found.note, flash, journal }
+    Done {
+        status,
+        note: found.note,
+        flash,
+        journal,
+    }
 }
