@@ -1,0 +1,2 @@
+mod TurnQuiet
+mod TurnBoots
