@@ -1,1 +1,3 @@
 pub mod ShowFlash
+mod TurnQuiet
+mod TurnBoots
