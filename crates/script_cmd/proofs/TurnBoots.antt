@@ -1,5 +1,5 @@
 -- A boot of a flash, from how it ends: a step of a run, what no loss harms, and what the reply says of the bytes.
-use Rattle.std.proofs.Common.{◌≡◌, ◌≢◌, Contains, ℕ, ◌<◌, ◌≤◌, ◌==◌, Bool, List, [], ◌∷◌, length, get_or, ext_get_or, Option, Some, None, Ok, Err, refl, sym, ap, subst, ◌∙◌, inl, inr, arith, IsTrue, IsFalse}
+use Rattle.std.proofs.Common.{◌≡◌, ◌≢◌, Contains, ℕ, ◌≤◌, ◌==◌, Bool, List, [], ◌∷◌, ext_get_or, Option, Some, None, refl, sym, ap, subst, ◌∙◌, inl, inr, arith, IsTrue, IsFalse}
 use Rattle.std.specs.Prelude.{◌⊎◌, is_some, is_ok}
 use Rattle.std.specs.List.{list_any}
 use Rattle.flash_core.specs.declared.flash.Arming.{Arming}
@@ -16,16 +16,16 @@ use Rattle.fwu_model.specs.Reply as reply
 use Rattle.fwu_model.specs.Answer.{Answer, answer}
 use Rattle.fwu_model.specs.Run.{Condition, Step, Answered, Stopped, StoppedEarly, ends_run, is_stop, moved_on, prefixes, stopped_moves}
 use Rattle.fwu_model.specs.Headline.{LeavesOneOf}
-use Rattle.fwu_model.specs.Calm.{IsCalm, IsAtRest}
+use Rattle.fwu_model.specs.Calm.{IsAtRest}
 use Rattle.fwu_model.proofs.Frame.{calm-again, calm-stays}
 use Rattle.fwu_model.proofs.Runs.{only}
 use Rattle.moves.specs.Moved.{GuardedBy}
 use Rattle.early_boot.specs.Started.{Started}
 use Rattle.early_boot.specs.Ends.{Ended, booted, bad_layout, no_metadata, no_bank, lost, failed, stop_of}
 use Rattle.early_boot.specs.EndsBy.{EndsByBytes, EndsByMachine, StartsReady, StopsWith}
-use Rattle.script_cmd.specs.Machine.{Moment, at, IsAt, IsSafe}
+use Rattle.script_cmd.specs.Machine.{at, IsAt, IsSafe}
 use Rattle.script_cmd.specs.Booted.{BootsFrom}
-use Rattle.script_cmd.specs.Turning.{NoneFalls, Turns, EndsTurn, boot_turn, numbers_of_end, on_after, reply_of_end}
+use Rattle.script_cmd.specs.Turning.{NoneFalls, Turns, EndsTurn, boot_turn, on_after, reply_of_end}
 
 -- ---- the guard
 
@@ -262,7 +262,7 @@ module _ (passes : List ℕ → Bool) (tells : Bool) (e : Ended) (was are : Coun
     reads_no_file = reads-none e;
     step = λ test E c passes_are is none. step-again test E c passes_are is;
     safe = λ test rest.
-    safe-after e new (same-guards mid new (guard-kept passes e mid new (ends.by_bytes test)) rest.guard) (ends.guarded test rest);
+        safe-after e new (same-guards mid new (guard-kept passes e mid new (ends.by_bytes test)) rest.guard) (ends.guarded test rest);
     boots = λ test off clean is. absurd cc;
   }
     where
@@ -285,10 +285,10 @@ module _ (passes : List ℕ → Bool) (tells : Bool) (e : Ended) (was are : Coun
     reads_no_file = reads-none e;
     step = λ test E c passes_are is none. step-off test E c passes_are is none;
     safe = λ test guards.
-    let rest = fresh-rests before mid (on.fresh test) guards.0 in
-    safe-after e new (same-guards mid new (guard-kept passes e mid new (ends.by_bytes test)) rest.guard) (ends.guarded test rest);
+        let rest = fresh-rests before mid (on.fresh test) guards.0 in
+        safe-after e new (same-guards mid new (guard-kept passes e mid new (ends.by_bytes test)) rest.guard) (ends.guarded test rest);
     boots = λ test off clean is.
-    subst (λ (image : List ℕ). BootsFrom passes image (reply_of_end e)) (same-bytes before mid clean (on.leaves test)) (boots-from passes e mid new (ends.by_bytes test));
+        subst (λ (image : List ℕ). BootsFrom passes image (reply_of_end e)) (same-bytes before mid clean (on.leaves test)) (boots-from passes e mid new (ends.by_bytes test));
   }
     where
       waits : Waits old was

@@ -4,7 +4,6 @@ use Rattle.std.specs.Prelude.{MatchBool, IsSome, IsNone}
 use Rattle.flash_core.specs.declared.flash.Arming.{Arming}
 use Rattle.flash_core.specs.declared.flash.Counts.{Counts}
 use Rattle.flash_core.specs.Told.{Told}
-use Rattle.flash_core.specs.May.{Guards}
 use Rattle.fwu_model.specs.State.{State, Numbers, numbers_of, after}
 use Rattle.fwu_model.specs.Sound.{Setting}
 use Rattle.fwu_model.specs.Session.{Session, Off, On, no_handles}
@@ -14,7 +13,6 @@ use Rattle.fwu_model.specs.Reply.{Reply, Turn}
 use Rattle.fwu_model.specs.Reply as reply
 use Rattle.fwu_model.specs.Answer.{Answer, answer, answered}
 use Rattle.fwu_model.specs.Run.{Condition, Step, Answered, Idle, is_boot, is_off, is_stop, moved_on}
-use Rattle.fwu_model.specs.Headline.{LeavesOneOf, IsCut}
 use Rattle.script_cmd.specs.Machine.{at, IsAt, IsSafe}
 use Rattle.script_cmd.specs.Turning.{Turns, LeavesFlash, quiet_turn}
 
@@ -73,9 +71,8 @@ module _ (passes : List ℕ → Bool) (tells : Bool) (what : Call) (r : Reply) (
           let b = is.shows.1 in
           let a : answer E s c.session what ≡ answered r [] (On b None no_handles) = ap (λ (x : Session). answer E s x what) is.shows.3 ∙ answers E s b is.shows.5 in
           let asks : IsTrue (is_boot what || not (is_off c.session)) =
-              subst (λ (k : Bool). IsTrue (k || not (is_off c.session))) (sym quiet.no_boot)
-              (subst (λ (session : Session). IsTrue (not (is_off session))) (sym is.shows.3) refl) in
-          (
+          subst (λ (k : Bool). IsTrue (k || not (is_off c.session))) (sym quiet.no_boot)
+          (subst (λ (session : Session). IsTrue (not (is_off session))) (sym is.shows.3) refl) in (
             moved_on c what (after s (answer E s c.session what).moves ∷ []) (answer E s c.session what).next,
             Answered quiet.no_stop asks (record {
               state = s;

@@ -106,7 +106,11 @@ fn turned_by<D: Flash>(end: BootEnd<D>) -> Turned<D>
             flash,
             active,
             previous,
-        } => not_booted(flash, Reply::NotBooted(NoBoot::Bank { active, previous }), None),
+        } => not_booted(
+            flash,
+            Reply::NotBooted(NoBoot::Bank { active, previous }),
+            None,
+        ),
         BootEnd::Lost(flash, read) => not_booted(flash, Reply::Lost, read),
         BootEnd::Fault(flash, read) => not_booted(flash, Reply::Fault, read),
     }
