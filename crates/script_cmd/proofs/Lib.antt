@@ -1,0 +1,3 @@
+pub mod PromiseTurns
+pub mod PromiseWritten
+pub mod PromiseEnds
