@@ -1,3 +1,7 @@
 pub mod PromiseTurns
 pub mod PromiseWritten
 pub mod PromiseEnds
+pub mod PromiseHeadline
+pub mod PromiseBoot
+pub mod PromiseGuarded
+pub mod PromiseComplete

@@ -51,7 +51,7 @@ none-lost counts = inl (omega arith)
 -- ---- why nothing ran
 
 module _ (asked : Option Asked) (g : Given) (was are : Faults) where
-  why-planned : (planned : ℕ) (noted : Note) (line : List ℕ) → Refuses asked g was are planned noted line → IsTrue (may_end_before planned) × (planned ≢ 0) × (planned ≢ 3)
+  pub why-planned : (planned : ℕ) (noted : Note) (line : List ℕ) → Refuses asked g was are planned noted line → IsTrue (may_end_before planned) × (planned ≢ 0) × (planned ≢ 3)
   why-planned planned noted line (usage good is) = (refl, (λ e. omega arith), (λ e. omega arith))
   why-planned planned noted line (not_read run rose) = (refl, (λ e. omega arith), (λ e. omega arith))
   why-planned planned noted line (list_not_read why) = (refl, (λ e. omega arith), (λ e. omega arith))

@@ -73,3 +73,26 @@ abbrev pub WaysEnd : Type 0
 WaysEnd =
     (passes : List ℕ → Bool) (tells : Bool) (asked : Option Asked) (g : Given) (journal : List Turn) (status : ℕ) (noted : Note) (old new : Moment) (taken takes : Option (List ℕ)) (was are : Faults)
     → Way passes tells asked g journal status noted old new taken takes was are → EndsHold asked g journal status noted old new was are
+
+abbrev pub WaysKeepTheHeadline : Type 0
+WaysKeepTheHeadline =
+    (passes : List ℕ → Bool) (tells : Bool) (asked : Option Asked) (list : Option (List ℕ)) (files : Option (List ℕ → Option (List ℕ))) (source : Option (List ℕ))
+    (journal : List Turn) (status : ℕ) (noted : Note) (old new : Moment) (taken takes : Option (List ℕ)) (was are : Faults)
+    → Way passes tells asked (given_to asked list files source) journal status noted old new taken takes was are → HeadlineHolds passes tells asked files source journal status old new
+
+abbrev pub WaysBoot : Type 0
+WaysBoot =
+    (passes : List ℕ → Bool) (tells : Bool) (asked : Option Asked) (list : Option (List ℕ)) (files : Option (List ℕ → Option (List ℕ))) (source : Option (List ℕ))
+    (journal : List Turn) (status : ℕ) (noted : Note) (old new : Moment) (taken takes : Option (List ℕ)) (was are : Faults)
+    → Way passes tells asked (given_to asked list files source) journal status noted old new taken takes was are → BootWordHolds passes tells asked journal status noted old new
+
+abbrev pub WaysGuard : Type 0
+WaysGuard =
+    (passes : List ℕ → Bool) (tells : Bool) (asked : Option Asked) (g : Given) (journal : List Turn) (status : ℕ) (noted : Note) (old new : Moment) (taken takes : Option (List ℕ)) (was are : Faults)
+    → Way passes tells asked g journal status noted old new taken takes was are → GuardedHolds tells old new
+
+abbrev pub WaysAreComplete : Type 0
+WaysAreComplete =
+    (passes : List ℕ → Bool) (tells : Bool) (asked : Option Asked) (list : Option (List ℕ)) (files : Option (List ℕ → Option (List ℕ))) (source : Option (List ℕ))
+    (journal : List Turn) (status : ℕ) (noted : Note) (old new : Moment) (taken takes : Option (List ℕ)) (was are : Faults)
+    → Way passes tells asked (given_to asked list files source) journal status noted old new taken takes was are → CompleteHolds passes tells asked list files source journal status old new was are
