@@ -1,3 +1,10 @@
 pub mod ShowFlash
 mod TurnQuiet
 mod TurnBoots
+pub mod PromiseTurns
+pub mod PromiseWritten
+pub mod PromiseEnds
+pub mod PromiseHeadline
+pub mod PromiseBoot
+pub mod PromiseGuarded
+pub mod PromiseComplete
