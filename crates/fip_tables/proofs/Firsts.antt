@@ -25,7 +25,7 @@ position-at p xs i d lt h here =
     let at : position_or_len p xs ≡ i = position_or_len_is p xs i d (omega (arith, lt)) h (λ _. here) in
     takes (ltb (position_or_len p xs) (length xs)) (Some (position_or_len p xs)) None (Some i) (is-less _ _ (omega (arith, at, lt))) (ap Some at)
 
-numbers : (n k : ℕ) → k < n → get_or (range_with_len 0 n) k 0 ≡ k
+pub numbers : (n k : ℕ) → k < n → get_or (range_with_len 0 n) k 0 ≡ k
 numbers n k lt = get_or-range_with_len 0 n k 0 lt ∙ (let e : 0 + k ≡ k = omega arith in e)
 
 pub none-repeats : (parts : List Part) → ((k : ℕ) → k < length parts → is_repeat parts k ≡ false) → first_repeat parts ≡ None

@@ -10,3 +10,4 @@ pub mod Firsts
 pub mod Plans
 pub mod Filled
 pub mod Zeros
+pub mod Again

@@ -4,4 +4,5 @@ pub mod Files
 pub mod Stream
 pub mod Law
 pub mod Packing
+pub mod Again
 pub mod Frame

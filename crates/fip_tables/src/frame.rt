@@ -5,7 +5,7 @@ ghost use Rattle.base_core.specs.Bytes.{le, overwritten};
 ghost use Rattle.fwu_model.specs.Package.{Part, fip_name, packed_entries};
 ghost use Rattle.host_io.specs.Causes.{HasCause};
 ghost use Rattle.host_io.specs.Contents.{HasRange};
-ghost use Rattle.fip_tables.specs.Packing.{pack_fault};
+ghost use Rattle.fip_tables.specs.Packing.{AreOutlines, pack_fault};
 ghost use Rattle.fip_tables.specs.declared.faults.PackFault.{PackFault};
 ghost use Rattle.fip_tables.specs.declared.faults.PackStop.TheVariants as stop;
 ghost use Rattle.fip_tables.specs.Frame.{IsReadTo, entry_bytes, framed, last_end, table_end};
@@ -197,6 +197,7 @@ impl Frame {
     ) -> Result<Frame, PackStop>
         ensures ok { IfOk result (λ f. IsFrame f serial flags parts.now align) }
         ensures fits { OnOk result (pack_fault parts.now align ≡ None) }
+        ensures outlines { OnOk result (AreOutlines parts.now) }
         ensures err { (f : PackFault) → result ≡ Err (stop.Fault f) → pack_fault parts.now align ≡ Some f }
     {
         match check(parts, align) {

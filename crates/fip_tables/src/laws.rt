@@ -1,5 +1,6 @@
 //! Laws: functions that do nothing, whose contract is the law.
 
+ghost use Rattle.fip_tables.specs.Again.{PassedIsRead};
 ghost use Rattle.fip_tables.specs.Law.{FaultsStand, TablesStandByLength};
 
 /// What is decided by the front of a package: no further bytes mend a bad name, a serial number of
@@ -8,4 +9,10 @@ ghost use Rattle.fip_tables.specs.Law.{FaultsStand, TablesStandByLength};
 pub fn fronts_decide()
     ensures faults { FaultsStand }
     ensures tables { TablesStandByLength }
+{}
+
+/// Parts that can be packed are read again from their package, where its serial number is not zero:
+/// with the serial number, the flags, and in their order the types, the flags and the payloads.
+pub fn passed_is_read()
+    ensures { PassedIsRead }
 {}

@@ -16,7 +16,7 @@ mod toc;
 pub use entries::{Entries, Entry};
 pub use faults::{PackFault, PackStop};
 pub use frame::Frame;
-pub use laws::fronts_decide;
+pub use laws::{fronts_decide, passed_is_read};
 pub use outline::Outline;
 pub use payloads::{Part, Parts, pack};
 pub use read::{payload_at, read_toc};

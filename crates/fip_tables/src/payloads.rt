@@ -1,7 +1,8 @@
 //! Packages made from payloads in memory.
 
-ghost use Rattle.std.specs.Prelude.{◌≡◌, Some, None, Err, IfOk, OnOk, map};
+ghost use Rattle.std.specs.Prelude.{◌≡◌, ◌≢◌, Some, None, Err, IfOk, OnOk, map};
 ghost use Rattle.fwu_model.specs.Package.{packed};
+ghost use Rattle.fip_tables.specs.Again.{ReadsAgain};
 ghost use Rattle.fip_tables.specs.Packing.{pack_fault, zeroed};
 ghost use Rattle.fip_tables.specs.declared.faults.PackFault.{PackFault};
 ghost use Rattle.fip_tables.specs.declared.faults.PackStop.TheVariants as stop;
@@ -57,8 +58,10 @@ fn outlines(alloc: Global, parts: &[Part]) -> Result<Vec<Outline>, AllocError>
 }
 
 /// The package of these parts: each payload begins at the next multiple of the alignment, in bytes.
+/// A serial number of zero is packed too, and then no reader takes the package (`ZeroSerial`).
 pub fn pack(alloc: Global, parts: &Parts, align: u32) -> Result<Vec<u8>, PackStop>
     ensures ok { IfOk result (λ v. v.items ≡ packed parts.now.serial parts.now.flags parts.now.parts.items align) }
+    ensures read_again { IfOk result (λ v. parts.now.serial ≢ 0 → ReadsAgain parts.now.serial parts.now.flags parts.now.parts.items v.items) }
     ensures fits { OnOk result (pack_fault parts.now.parts.items align ≡ None) }
     ensures err { (f : PackFault) → result ≡ Err (stop.Fault f) → pack_fault parts.now.parts.items align ≡ Some f }
 {

@@ -1,11 +1,11 @@
 //! Worked packages, whose bytes are written out by hand.
 
-ghost use Rattle.std.specs.Prelude.{◌≤◌, ◌<◌, ◌^◌, length};
+ghost use Rattle.std.specs.Prelude.{◌<◌, ◌^◌, length};
 
 use super::*;
 use base_core::Guid;
 use fwu_model::FipFault;
-use host_io::{Files, MemoryFiles};
+use host_io::{Failed, Files, MemoryFiles};
 use std::alloc::{AllocError, Global};
 use std::test::Fail;
 
@@ -49,15 +49,47 @@ fn package(alloc: Global, parts: Vec<Part>, align: u32) -> Result<Vec<u8>, PackS
     pack(alloc, &parts, align)
 }
 
-// The table of bytes that are fed in two pieces.
-fn fed(bytes: &[u8], cut: usize) -> Result<Toc, FipFault>
-    requires inside { cut ≤ length bytes.now }
+// The table of bytes that are fed in pieces of a length.
+fn fed(bytes: &[u8], step: usize) -> Result<Toc, FipFault>
+    requires some { 0 < step }
     requires small { length bytes.now < 2 ^ 32 }
 {
     let mut stream = StreamToc::new();
-    stream.feed(&bytes[..cut])?;
-    stream.feed(&bytes[cut..])?;
+    let mut at = 0;
+    while at < bytes.len() {
+        let count = step.min(bytes.len() - at);
+        stream.feed(&bytes[at..at + count])?;
+        at += count;
+    }
     stream.end()
+}
+
+// Whether it is the table of `HELLO`.
+fn is_of_hello(toc: &Toc) -> bool {
+    let entries = toc.entries.as_slice();
+    let hello = Entry {
+        guid: first_guid(),
+        offset: 96,
+        size: 5,
+        flags: 0,
+    };
+    toc.serial == 0x1234_5678 && toc.flags == 0 && entries.len() == 1 && entries[0] == hello
+}
+
+// The first five bytes of the payload of `HELLO` in a file.
+fn hello_in<H: Files>(files: &mut H, name: &str) -> Result<[u8; 5], Failed> {
+    let entry = Entry {
+        guid: first_guid(),
+        offset: 96,
+        size: 5,
+        flags: 0,
+    };
+    let mut out = [0; 5];
+    match files.size(name)? {
+        Some(101) => payload_at(files, name, &entry, 0, &mut out)?,
+        _ => {}
+    }
+    Ok(out)
 }
 
 #[test]
@@ -101,9 +133,37 @@ fn faults_of_packages(rt: HostRuntime) {
     ];
     for (bytes, fault) in cases {
         if bytes.len() < 200 {
-            assert_eq!(rt; fed(bytes, bytes.len() / 2).err(), fault);
+            assert_eq!(rt; fed(bytes, 50).err(), fault);
         }
     }
+}
+
+#[test]
+fn tables_in_pieces(rt: HostRuntime) -> Result<(), Fail> {
+    let whole = fed(&HELLO, 101).map_err(|_| "no package")?;
+    let sevens = fed(&HELLO, 7).map_err(|_| "no package")?;
+    let bytes = fed(&HELLO, 1).map_err(|_| "no package")?;
+    assert!(rt; is_of_hello(&whole));
+    assert!(rt; is_of_hello(&sevens));
+    assert!(rt; is_of_hello(&bytes));
+    Ok(())
+}
+
+#[test]
+fn too_many_entries(rt: HostRuntime) {
+    let mut bytes = [0; 2656];
+    bytes[..16].copy_from_slice(&HELLO[..16]);
+    for i in 0..65 {
+        bytes[16 + 40 * i] = 1 + i as u8;
+    }
+    assert_eq!(rt; fed(&bytes, 1000).err(), Some(FipFault::TooMany));
+}
+
+#[test]
+fn end_beyond_64_bits(rt: HostRuntime) {
+    let mut bytes = HELLO;
+    bytes[32..48].copy_from_slice(&[0xff; 16]);
+    assert_eq!(rt; fed(&bytes, 101).err(), Some(FipFault::Beyond(0)));
 }
 
 #[test]
@@ -122,6 +182,8 @@ fn package_in_a_file(rt: HostRuntime) -> Result<(), Fail> {
         read_toc(&mut files, "b.fip").err(),
         Some(TocStop::ReadFailed)
     );
+    let payload = hello_in(&mut files, "a.fip").map_err(|_| "no payload")?;
+    assert_eq!(rt; &payload, b"hello");
     Ok(())
 }
 

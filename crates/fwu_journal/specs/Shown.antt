@@ -1,5 +1,5 @@
 -- The turns of a journal as the definitions have them.
-use Rattle.std.specs.Prelude.{◌≤◌, ◌+◌, ℕ, List, map, vec_len, vec_capacity}
+use Rattle.std.specs.Prelude.{◌≡◌, ◌≤◌, ◌+◌, ℕ, List, map, vec_len, vec_capacity}
 use Rattle.fwu_model.specs.Reply as model
 use Rattle.early_boot.specs.Ends.{some_numbers}
 use Rattle.early_boot.specs.Numbers.{numbers}
@@ -27,3 +27,8 @@ turns journal = map turn journal.turns.items
 -- there is room for so many turns more
 abbrev pub HasRoomFor : Journal → ℕ → Type 0
 HasRoomFor journal count = vec_len journal.turns + count ≤ vec_capacity journal.turns
+
+-- new has one turn more than old, and loses no room but its
+pub record OneMore (old new : Journal) : Type 0 where
+  pub len : vec_len new.turns ≡ vec_len old.turns + 1
+  pub room : vec_capacity old.turns ≤ vec_capacity new.turns

@@ -1,6 +1,6 @@
 //! What a run did: its turns.
-ghost use Rattle.std.specs.Prelude.{◌≡◌, ◌∷◌, [], ◌++◌, ℕ, ◌+◌, IfOk, length, map};
-ghost use Rattle.fwu_journal.specs.Shown.{turns, HasRoomFor, turn};
+ghost use Rattle.std.specs.Prelude.{◌≡◌, ◌∷◌, [], ◌++◌, IfOk, length, map};
+ghost use Rattle.fwu_journal.specs.Shown.{turns, turn, HasRoomFor, OneMore};
 
 use early_boot::Numbers;
 use fwu_model::NoBoot;
@@ -71,7 +71,7 @@ impl Journal {
     pub fn add(&mut self, next: Turn)
         requires { HasRoomFor self.old 1 }
         ensures adds { turns self.new ≡ turns self.old ++ turn next ∷ [] }
-        ensures room { (n : ℕ) → HasRoomFor self.old (n + 1) → HasRoomFor self.new n }
+        ensures room { OneMore self.old self.new }
     {
         // It is named here, so that the proof is told the type of the numbers.
         let _numbers = &next.numbers;

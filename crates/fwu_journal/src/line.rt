@@ -8,11 +8,11 @@ ghost use Rattle.fwu_journal.specs.Shown.{reply, turn};
 
 use crate::add::add;
 use crate::journal::{Reply, Turn};
-use crate::numbers::{NUMBERS_ROOM, add_banks, add_named, add_numbers};
+use crate::numbers::{NUMBERS_ROOM, add_banks, add_counts, add_named, add_numbers};
 use fwu_model::{LayoutFault, NoBoot};
 use script_text::Call;
 
-/// Bytes that are enough for each line.
+/// Bytes that are enough for each line; the longest is that of `show` on 4 banks of 16 images.
 pub const LINE_ROOM: usize = 200;
 
 /// Bytes that are enough to say why no bank was started.
@@ -45,7 +45,7 @@ fn fault_number(fault: LayoutFault) -> u32
     }
 }
 
-/// Adds why no bank was started: `bad-layout N`, where N tells the fault as `docs/FORMATS.md` numbers it, `no-metadata`, or
+/// Adds why no bank was started: `bad-layout N`, where N numbers the fault as `docs/FORMATS.md` does, `no-metadata`, or
 /// `no-bank active=A previous=P`.
 pub fn add_no_boot(text: &mut Vec<u8>, why: NoBoot)
     requires { HasRoom text.old NO_BOOT_ROOM }
@@ -85,8 +85,7 @@ fn add_booted(
 {
     add_named(text, b"bank=", bank);
     add_named(text, b" version=", version);
-    add_named(text, b" trials=", trials);
-    add_named(text, b" counter=", counter);
+    add_counts(text, trials, counter);
     add_fallback(text, fallback)
 }
 

@@ -105,6 +105,16 @@ pub(crate) fn add_banks(text: &mut Vec<u8>, name: &[u8], active: u32, previous: 
     add_named(text, b" previous=", previous)
 }
 
+/// Adds the trials and the counter.
+pub(crate) fn add_counts(text: &mut Vec<u8>, trials: u32, counter: u32)
+    requires { HasRoom text.old 37 }
+    ensures grows { Grows text.old text.new (codes " trials=" ++ decimal trials ++ codes " counter=" ++ decimal counter) }
+    ensures short { length (codes " trials=" ++ decimal trials ++ codes " counter=" ++ decimal counter) ≤ 37 }
+{
+    add_named(text, b" trials=", trials);
+    add_named(text, b" counter=", counter)
+}
+
 /// Adds the numbers of a flash, as `active=A previous=P banks=S,S bits=B,B trials=T counter=C`: the state of each bank, and
 /// of each bank a digit for each image, 1 where it was accepted.
 pub fn add_numbers(text: &mut Vec<u8>, numbers: &Numbers)
@@ -117,6 +127,5 @@ pub fn add_numbers(text: &mut Vec<u8>, numbers: &Numbers)
     add_states(text, &numbers.states);
     add(text, b" bits=");
     add_bank_bits(text, &numbers.bits);
-    add_named(text, b" trials=", numbers.trials);
-    add_named(text, b" counter=", numbers.counter)
+    add_counts(text, numbers.trials, numbers.counter)
 }

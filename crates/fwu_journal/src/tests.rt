@@ -56,29 +56,32 @@ fn boots_have_their_lines(rt: HostRuntime) -> Result<(), Fail> {
     let alloc = rt.alloc();
     let line = line_of(alloc, Call::Boot, booted(false))?;
     assert_eq!(rt;
-        line,
+        line.as_slice(),
         b"boot bank=1 version=2 trials=1 counter=1\n".as_slice()
     );
     let line = line_of(alloc, Call::Boot, booted(true))?;
     assert_eq!(rt;
-        line,
+        line.as_slice(),
         b"boot bank=1 version=2 trials=1 counter=1 fallback\n".as_slice()
     );
     let no_layout = NoBoot::Layout(LayoutFault::BadMagic);
     let line = line_of(alloc, Call::Boot, Reply::NotBooted(no_layout))?;
-    assert_eq!(rt; line, b"boot bad-layout 2\n".as_slice());
+    assert_eq!(rt; line.as_slice(), b"boot bad-layout 2\n".as_slice());
     let line = line_of(alloc, Call::Boot, Reply::NotBooted(NoBoot::Metadata))?;
-    assert_eq!(rt; line, b"boot no-metadata\n".as_slice());
+    assert_eq!(rt; line.as_slice(), b"boot no-metadata\n".as_slice());
     let no_bank = NoBoot::Bank {
         active: 0,
         previous: 0,
     };
     let line = line_of(alloc, Call::Boot, Reply::NotBooted(no_bank))?;
-    assert_eq!(rt; line, b"boot no-bank active=0 previous=0\n".as_slice());
+    assert_eq!(rt;
+        line.as_slice(),
+        b"boot no-bank active=0 previous=0\n".as_slice()
+    );
     let line = line_of(alloc, Call::Boot, Reply::Lost)?;
-    assert_eq!(rt; line, b"boot lost\n".as_slice());
+    assert_eq!(rt; line.as_slice(), b"boot lost\n".as_slice());
     let line = line_of(alloc, Call::Boot, Reply::Fault)?;
-    assert_eq!(rt; line, b"boot fault\n".as_slice());
+    assert_eq!(rt; line.as_slice(), b"boot fault\n".as_slice());
     Ok(())
 }
 
@@ -86,12 +89,12 @@ fn boots_have_their_lines(rt: HostRuntime) -> Result<(), Fail> {
 fn other_calls_have_their_lines(rt: HostRuntime) -> Result<(), Fail> {
     let alloc = rt.alloc();
     let line = line_of(alloc, Call::Show, Reply::Off)?;
-    assert_eq!(rt; line, b"show off\n".as_slice());
+    assert_eq!(rt; line.as_slice(), b"show off\n".as_slice());
     let line = line_of(alloc, Call::Cut { n: 1, k: 0 }, Reply::CutOk)?;
-    assert_eq!(rt; line, b"cut ok\n".as_slice());
+    assert_eq!(rt; line.as_slice(), b"cut ok\n".as_slice());
     let line = line_of(alloc, Call::Show, Reply::Shown(two_banks()))?;
     assert_eq!(rt;
-        line,
+        line.as_slice(),
         b"show active=0 previous=0 banks=accepted,invalid bits=111,000 trials=0 counter=1\n".as_slice()
     );
     Ok(())

@@ -1,22 +1,27 @@
 //! The program `fwu`: what its words ask for is done on the flash in a file, and each line goes to the standard output.
 //!
-//! The first word names an existing file of 8 to 65,536 blocks of 4096 bytes. Where it is no such file, or can't be opened for
-//! reading and writing, the program prints `flash cannot be used` and ends with 5. The other words are those of `fwu_top`, whose
-//! status is the program's. Without any word the program prints nothing and ends with 0.
+//! The first word names an existing file of 8 to 65,536 blocks of 4096 bytes, or is `-`, a blank flash in memory of 64 blocks. Where
+//! it is neither, or the file can't be opened for reading and writing, the program prints `flash cannot be used` and ends with 5. The
+//! other words are those of `fwu_top`, whose status is the program's. Without any word the program runs the script that it reads from
+//! the standard input on a blank flash, as `- run` does.
 #![tactic(auto)]
 
-ghost use Rattle.std.specs.Prelude.{◌≡◌, [], IfSome, codes};
+ghost use Rattle.std.specs.Prelude.{◌≡◌, IfSome, codes};
 ghost use Rattle.flash_devices.specs.File.{IsNew};
 ghost use Rattle.script_cmd.specs.Printed.{Prints};
 
-use flash_devices::FileFlash;
-use host_io::{Sink, StdSink};
+use flash_core::Flash;
+use flash_devices::{FileFlash, MemoryFlash};
+use host_io::{HostFiles, Sink, Source, StdSink, StdSource};
 use script_cmd::{fwu_top, put_line, put_usage};
-use std::alloc::AllocGlobal;
+use std::alloc::{AllocError, AllocGlobal, Global};
 use std::env::Env;
 use std::fs::{Files, OpenOptions};
 use std::process::ExitCode;
 use std::{env, io};
+
+/// How many blocks the flash in memory has.
+const BLANK_BLOCKS: u32 = 64;
 
 /// The file of this name as a flash, or none where it can't be one.
 fn open_flash<R: Files>(rt: &R, name: &str) -> Option<FileFlash<R::File>>
@@ -44,18 +49,48 @@ fn words_of<R: Env + AllocGlobal>(rt: &R) -> io::Result<Vec<String>> {
     Ok(words)
 }
 
+/// The words that stand for none.
+fn run_on_blank(alloc: Global) -> Result<Vec<String>, AllocError> {
+    let mut words = Vec::new(alloc);
+    words.push(String::from_str(alloc, "-")?)?;
+    words.push(String::from_str(alloc, "run")?)?;
+    Ok(words)
+}
+
+/// Does what the words ask for on a blank flash in memory, and gives the status.
+fn run_on_memory<R: Files + AllocGlobal, I: Source, O: Sink>(
+    rt: &R,
+    words: &[String],
+    source: &mut I,
+    sink: &mut O,
+) -> u8 {
+    let alloc = rt.alloc();
+    match MemoryFlash::new(alloc, BLANK_BLOCKS, Vec::new(alloc), Vec::new(alloc)) {
+        Ok(flash) => {
+            let mut files = HostFiles::new(rt);
+            fwu_top(alloc, words, &mut files, source, sink, flash).status
+        }
+        Err(_) => 9,
+    }
+}
+
 /// Does what the words ask for, of which the first names the flash, and gives the status.
-fn run<R: Files + AllocGlobal, O: Sink>(rt: &R, words: &[String], sink: &mut O) -> u8
-    ensures no_words { words.now ≡ [] → result ≡ 0 }
-    ensures silent { words.now ≡ [] → sink.new ≡ sink.old }
-{
+fn run<R: Files + AllocGlobal, I: Source, O: Sink>(
+    rt: &R,
+    words: &[String],
+    source: &mut I,
+    sink: &mut O,
+) -> u8 {
     let Some((name, asked)) = words.split_first() else {
-        return 0;
+        return refuse_flash(sink);
     };
+    if name.as_str() == "-" {
+        return run_on_memory(rt, asked, source, sink);
+    }
     match open_flash(rt, name.as_str()) {
         Some(flash) => {
-            let done = fwu_top(rt.alloc(), asked, sink, flash);
-            done.status
+            let mut files = HostFiles::new(rt);
+            fwu_top(rt.alloc(), asked, &mut files, source, sink, flash).status
         }
         None => refuse_flash(sink),
     }
@@ -63,10 +98,15 @@ fn run<R: Files + AllocGlobal, O: Sink>(rt: &R, words: &[String], sink: &mut O) 
 
 fn main(rt: HostRuntime) -> ExitCode {
     let mut sink = StdSink::new(io::writer(&rt));
-    let status = match words_of(&rt) {
-        Ok(words) => run(&rt, words.as_slice(), &mut sink),
-        Err(error) if error.kind() == io::ErrorKind::OutOfMemory => 9,
-        Err(_) => put_usage(&mut sink),
+    let mut source = StdSource::new(rt.stdin());
+    let words = match words_of(&rt) {
+        Ok(words) if words.is_empty() => run_on_blank(rt.alloc()),
+        Ok(words) => Ok(words),
+        Err(error) if error.kind() == io::ErrorKind::OutOfMemory => Err(AllocError),
+        Err(_) => return ExitCode::from(put_usage(&mut sink)),
     };
-    ExitCode::from(status)
+    match words {
+        Ok(words) => ExitCode::from(run(&rt, words.as_slice(), &mut source, &mut sink)),
+        Err(_) => ExitCode::from(9),
+    }
 }

@@ -1,2 +1,12 @@
+pub mod ShowFlash
+mod TurnQuiet
+mod TurnBoots
+pub mod PromiseTurns
+pub mod PromiseWritten
+pub mod PromiseEnds
+pub mod PromiseHeadline
+pub mod PromiseBoot
+pub mod PromiseGuarded
+pub mod PromiseComplete
 pub mod TopReads
 pub mod TopPrints

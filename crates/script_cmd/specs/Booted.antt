@@ -31,8 +31,10 @@ IsRefusedBy passes image (no_boot.Layout f) = layout_seen image ≡ Err f
 IsRefusedBy passes image no_boot.Metadata = (L : Layout) × (layout_seen image ≡ Ok L) × (deciding L image ≡ None)
 IsRefusedBy passes image (no_boot.Bank active previous) = ChoseNone passes image active previous
 
--- by the layout, the metadata that decides, and the choice; a stop says nothing of them
+-- by the layout, the metadata that decides, and the choice; a stop says nothing of them, and a boot has no other reply
 abbrev pub BootsFrom : (List ℕ → Bool) → List ℕ → Reply → Type 0
 BootsFrom passes image (reply.Booted bank v trials counter fallback) = ChoseBank passes image bank v
 BootsFrom passes image (reply.NotBooted why) = IsRefusedBy passes image why
-BootsFrom passes image other = ⊤
+BootsFrom passes image reply.Lost = ⊤
+BootsFrom passes image reply.Fault = ⊤
+BootsFrom passes image other = ⊥

@@ -8,3 +8,4 @@ pub mod Asking
 pub mod BootWord
 pub mod Ways
 pub mod Showing
+pub mod Promises

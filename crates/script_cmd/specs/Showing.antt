@@ -12,6 +12,7 @@ use Rattle.fwu_model.specs.declared.kinds.NoBoot.TheVariants as no_boot
 use Rattle.fwu_model.specs.declared.kinds.Note.{Note}
 use Rattle.fwu_model.specs.declared.kinds.Note.TheVariants as note
 use Rattle.early_boot.specs.Numbers.{ShowsNumbers}
+use Rattle.script_cmd.specs.Printed.{Prints}
 
 abbrev pub shown_line : Numbers → List ℕ
 shown_line n = codes "show " ++ numbers_text n ++ 10 ∷ []
@@ -33,3 +34,9 @@ pub data Finds (known : Type 0) (image : List ℕ) (before after : Counts) : ℕ
   numbers : (n : Numbers) → (known → ShowsNumbers image n) → Finds known image before after 0 note.Nothing (shown_line n)
   none : (why : NoBoot) → (known → ShowsNone image why) → Finds known image before after 6 (note.Boot why) (not_shown_line why)
   stopped : Rose before.faults after.faults ⊎ (Rose before.cuts after.cuts ⊎ Rose before.reached after.reached) → Finds known image before after 5 note.Nothing flash_fault_line
+
+-- How it ended: for want of memory, with nothing done and nothing written; or by what it found, whose line was put into the sink.
+pub data Showed (known : Type 0) (image : List ℕ) (before after : Counts) (status : ℕ) (noted : Note) (taken takes : Option (List ℕ)) (was are : ℕ) : Type 0 where
+  starved : status ≡ 9 → takes ≡ taken → Showed known image before after status noted taken takes was are
+  found : (planned : ℕ) (line : List ℕ) → Finds known image before after planned noted line → Prints line planned status taken takes was are
+      → Showed known image before after status noted taken takes was are

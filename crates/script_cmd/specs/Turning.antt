@@ -1,16 +1,25 @@
 -- What one turn of a run does.
-use Rattle.std.specs.Prelude.{◌≡◌, ◌≢◌, ◌⊎◌, ℕ, ◌+◌, ◌≤◌, Bool, List, Option, Some, None, IsTrue}
-use Rattle.flash_core.specs.Counts.{Rose}
+use Rattle.std.specs.Prelude.{◌≡◌, ◌≢◌, ◌⊎◌, ℕ, ◌+◌, ◌≤◌, Bool, List, Option, Some, None, IsTrue, IsFalse}
+use Rattle.flash_core.specs.Counts.{Rose, Spends}
+use Rattle.flash_core.specs.declared.flash.Arming.{Arming}
 use Rattle.flash_core.specs.declared.flash.Counts.{Counts}
-use Rattle.flash_core.specs.Told.{NothingDirty}
+use Rattle.flash_core.specs.Told.{Told, NothingDirty}
+use Rattle.flash_core.specs.May.{Guards}
+use Rattle.fwu_model.specs.State.{State, Numbers}
 use Rattle.fwu_model.specs.Sound.{Setting}
+use Rattle.fwu_model.specs.Calm.{IsCalm, IsAtRest}
 use Rattle.fwu_model.specs.Call.{Call}
 use Rattle.fwu_model.specs.Call as call
-use Rattle.fwu_model.specs.Reply.{Turn}
+use Rattle.fwu_model.specs.Reply.{Reply, Turn}
 use Rattle.fwu_model.specs.Reply as reply
-use Rattle.fwu_model.specs.Run.{Condition, Step}
+use Rattle.fwu_model.specs.Run.{Condition, Step, is_boot, is_stop}
 use Rattle.fwu_model.specs.Headline.{IsCut}
 use Rattle.fwu_model.specs.Causes.{greatest}
+use Rattle.fwu_model.specs.declared.kinds.NoBoot.TheVariants as no_boot
+use Rattle.moves.specs.Moved.{GuardedBy}
+use Rattle.early_boot.specs.Started.{started_reply, started_numbers}
+use Rattle.early_boot.specs.Ends.{Ended, booted, bad_layout, no_metadata, no_bank, lost, failed, stop_of}
+use Rattle.early_boot.specs.EndsBy.{EndsByBytes, EndsByMachine}
 use Rattle.script_cmd.specs.Machine.{Moment, IsAt, IsSafe}
 use Rattle.script_cmd.specs.Booted.{BootsFrom}
 
@@ -43,3 +52,57 @@ pub record Turns (passes : List ℕ → Bool) (tells : Bool) (c : Call) (t : Tur
   pub safe : IsTrue tells → IsSafe old.on old.told → IsSafe new.on new.told
   -- a boot of a flash that is off and has nothing dirty goes by its bytes, and the other calls leave these
   pub boots : IsTrue tells → old.on ≡ None → NothingDirty old.told → c ≡ call.Boot → BootsFrom passes old.told.now t.reply
+
+-- ---- a boot of a flash that is on
+
+abbrev pub reply_of_end : Ended → Reply
+reply_of_end (booted b n) = started_reply b
+reply_of_end (bad_layout f) = reply.NotBooted (no_boot.Layout f)
+reply_of_end no_metadata = reply.NotBooted no_boot.Metadata
+reply_of_end (no_bank active previous) = reply.NotBooted (no_boot.Bank active previous)
+reply_of_end (lost n) = reply.Lost
+reply_of_end (failed n) = reply.Fault
+
+-- the numbers that the flash held as the boot began, where the boot tells them
+abbrev pub numbers_of_end : Ended → Option Numbers
+numbers_of_end (booted b n) = Some n
+numbers_of_end (bad_layout f) = None
+numbers_of_end no_metadata = None
+numbers_of_end (no_bank active previous) = None
+numbers_of_end (lost n) = n
+numbers_of_end (failed n) = n
+
+-- the numbers that the flash shows afterwards, where a bank was booted
+abbrev pub on_after : Ended → Option Numbers
+on_after (booted b n) = Some (started_numbers b)
+on_after (bad_layout f) = None
+on_after no_metadata = None
+on_after (no_bank active previous) = None
+on_after (lost n) = None
+on_after (failed n) = None
+
+abbrev pub boot_turn : Ended → Turn
+boot_turn e = record { call = call.Boot; reply = reply_of_end e; numbers = numbers_of_end e }
+
+-- The turn t is a boot that ended so, by a verifier of these manifests, on a device that tells its content or not. What is told and counted was old, and is new.
+pub record EndsTurn (passes : List ℕ → Bool) (tells : Bool) (e : Ended) (t : Turn) (was are : Counts) (old new : Told) (on : Option Numbers) : Type 0 where
+  pub turn_is : t ≡ boot_turn e
+  pub on_is : on ≡ on_after e
+  pub costs : Spends (stop_of e) was are
+  pub by_bytes : IsTrue tells → EndsByBytes passes old e new
+  pub by_machine : IsTrue tells → (E : Setting) (s : State) → E.passes ≡ passes → IsCalm E old s → Guards 1 7 old → EndsByMachine E s e new
+  pub guarded : IsTrue tells → IsAtRest old → GuardedBy (stop_of e) new
+
+-- ---- a call that leaves the flash as it is
+
+abbrev pub quiet_turn : Call → Reply → Turn
+quiet_turn what r = record { call = what; reply = r; numbers = None }
+
+-- The call is no boot, the reply no stop, and what is told stays.
+pub record LeavesFlash (tells : Bool) (what : Call) (r : Reply) (was are : Counts) (old new : Told) (armed : Option Arming) : Type 0 where
+  pub no_boot : IsFalse (is_boot what)
+  pub no_stop : IsFalse (is_stop r)
+  pub counts : NoneFalls was are
+  pub made : Makes what was.made are.made
+  pub armed_is : IsCut (Some (quiet_turn what r)) armed
+  pub same : IsTrue tells → new ≡ old

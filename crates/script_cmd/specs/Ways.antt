@@ -1,5 +1,5 @@
 -- The ways that `run` or `boot` may end: before the first turn, or by the turns of a script.
-use Rattle.std.specs.Prelude.{◌≡◌, ◌⊎◌, ℕ, ◌≤◌, ⊤, Bool, false, List, [], ◌∷◌, Option, Some, None, Ok, IfSome, IsTrue, IsSome}
+use Rattle.std.specs.Prelude.{◌≡◌, ◌⊎◌, ℕ, ◌≤◌, ⊤, Bool, false, List, [], ◌∷◌, Option, Some, None, Ok, Err, IfSome, IsTrue, IsSome}
 use Rattle.flash_core.specs.Counts.{Rose}
 use Rattle.fwu_model.specs.Call.{Call}
 use Rattle.fwu_model.specs.State.{Numbers}
@@ -22,18 +22,30 @@ pub record Given : Type 0 where
   pub files : Option (List ℕ → Option (List ℕ))
   pub script : Option (List ℕ)
 
--- Why nothing ran, with the status, the note and the line of that.
+-- `run` or `boot` is asked for
+abbrev pub AsksTurns : Option Asked → Type 0
+AsksTurns asked = (asked ≡ Some ask.run) ⊎ (asked ≡ Some ask.boot)
+
+-- the named list, where it is told and there, has no bad line
+abbrev pub HasNoBadLine : Given → Type 0
+HasNoBadLine g = IfSome (list_bytes g.list g.files) (λ bytes. (n : ℕ) → digests_of bytes ≡ Err n → ⊥)
+
+-- the asked script, where it is told, is within the limits of a script
+abbrev pub IsShort : Option (List ℕ) → Type 0
+IsShort script = IfSome script (λ bytes. is_too_long bytes ≡ false)
+
+-- Why nothing ran, with the status, the note and the line of that. A fault of the list comes before the others.
 pub data Refuses (asked : Option Asked) (g : Given) (was are : Faults) : ℕ → Note → List ℕ → Type 0 where
-  usage : asked ≡ None → Refuses asked g was are 1 note.Nothing usage_line
+  usage : HasNoBadLine g → asked ≡ None → Refuses asked g was are 1 note.Nothing usage_line
   not_read : asked ≡ Some ask.run → Rose was.source are.source → Refuses asked g was are 2 note.Nothing not_read_line
   list_not_read : Rose was.files are.files ⊎ LacksList g.files g.list → Refuses asked g was are 2 note.Nothing not_read_line
-  too_long : asked ≡ Some ask.run → IfSome g.script (λ bytes. IsTrue (is_too_long bytes)) → Refuses asked g was are 8 note.Nothing too_long_line
-  bad_script : (n : ℕ) → IsBadScript g.script n → Refuses asked g was are 4 (note.BadLine n) (bad_script_line n)
+  too_long : HasNoBadLine g → asked ≡ Some ask.run → IfSome g.script (λ bytes. IsTrue (is_too_long bytes)) → Refuses asked g was are 8 note.Nothing too_long_line
+  bad_script : (n : ℕ) → HasNoBadLine g → AsksTurns asked → IsShort g.script → IsBadScript g.script n → Refuses asked g was are 4 (note.BadLine n) (bad_script_line n)
   bad_list : (n : ℕ) → IsSome g.list → IsBadList (list_bytes g.list g.files) n → Refuses asked g was are 13 (note.BadList n) (bad_list_line n)
 
 -- the asked script, where it is told, was read whole, within the limits, and has these calls
 abbrev pub HasCalls : Option (List ℕ) → List Call → Type 0
-HasCalls script calls = IfSome script (λ bytes. script_of bytes ≡ Ok calls)
+HasCalls script calls = IfSome script (λ bytes. (is_too_long bytes ≡ false) × (script_of bytes ≡ Ok calls))
 
 -- no fault count falls
 pub record Later (was are : Faults) : Type 0 where
@@ -46,7 +58,7 @@ pub data Way (passes : List ℕ → Bool) (tells : Bool) (asked : Option Asked) 
   starved : journal ≡ [] → new ≡ old → status ≡ 9 → takes ≡ taken → Way passes tells asked g journal status noted old new taken takes was are
   refused : (planned : ℕ) (line : List ℕ) → journal ≡ [] → new ≡ old → Refuses asked g was are planned noted line
       → Prints line planned status taken takes was.sink are.sink → Way passes tells asked g journal status noted old new taken takes was are
-  ran : (calls : List Call) (on : Option Numbers) → (asked ≡ Some ask.run) ⊎ (asked ≡ Some ask.boot) → HasCalls g.script calls
+  ran : (calls : List Call) (on : Option Numbers) → HasNoBadLine g → AsksTurns asked → HasCalls g.script calls
       → Ran passes tells journal old (at on new.told new.counts new.armed) → Ended calls journal status noted → Printed journal status taken takes was.sink are.sink
       → Way passes tells asked g journal status noted old new taken takes was are
 

@@ -2,14 +2,17 @@
 #![tactic(auto)]
 
 mod done;
+mod laws;
 mod machine;
 mod printing;
 mod reading;
 mod refusing;
 mod room;
 mod running;
+mod showing;
 mod top;
 mod turning;
 
 pub use done::{Done, Note};
+pub use printing::{put_line, put_usage};
 pub use top::{fwu_top, fwu_top_with};

@@ -1,13 +1,17 @@
 //! One turn of a run.
-ghost use Rattle.std.specs.Prelude.{◌≡◌, ◌≤◌, Some, None, is_some, IsTrue};
+ghost use Rattle.std.specs.Prelude.{◌≡◌, ◌≤◌, ℕ, Bool, List, Some, None, is_some, IsTrue, IsFalse};
 ghost use Rattle.fwu_model.specs.Call as call;
+ghost use Rattle.fwu_model.specs.Reply as model_reply;
 ghost use Rattle.fwu_model.specs.Run.{ends_run};
-ghost use Rattle.early_boot.specs.Ends.{device_of, ended};
-ghost use Rattle.fwu_journal.specs.Shown.{turn};
+ghost use Rattle.early_boot.specs.Numbers.{numbers};
+ghost use Rattle.early_boot.specs.Started.{started, started_numbers, started_reply};
+ghost use Rattle.early_boot.specs.Started.{device as booted_device};
+ghost use Rattle.early_boot.specs.Ends.{Ended, device_of, ended, some_numbers};
+ghost use Rattle.fwu_journal.specs.Shown.{reply, turn};
 ghost use Rattle.script_text.specs.Built.{IsArmable};
 ghost use Rattle.script_text.specs.Shown.{shown};
 ghost use Rattle.script_cmd.specs.Machine.{at, device, shown_on};
-ghost use Rattle.script_cmd.specs.Turning.{Turns, numbers_of_end, on_after, reply_of_end};
+ghost use Rattle.script_cmd.specs.Turning.{Turns, EndsTurn, LeavesFlash, boot_turn, on_after};
 
 use crate::machine::Machine;
 use early_boot::{BootEnd, Booted, Numbers, boot};
@@ -25,13 +29,186 @@ pub struct Turned<D: Flash> {
 }
 
 /// The turn of a call that has no numbers.
-fn turn_of(call: Call, reply: Reply) -> Turn
-    ensures { turn result ≡ record { call = shown call; reply = reply reply; numbers = None } }
+fn turn_of(call: Call, answer: Reply) -> Turn
+    ensures { turn result ≡ record { call = shown call; reply = reply answer; numbers = None } }
 {
     Turn {
         call,
-        reply,
+        reply: answer,
         numbers: None,
+    }
+}
+
+/// What a boot that started a bank tells.
+fn booted_reply<D: Flash>(booted: &Booted<D>) -> Reply
+    ensures { reply result ≡ started_reply (started booted.now) }
+{
+    Reply::Booted {
+        bank: booted.bank(),
+        version: booted.version(),
+        trials: booted.trials(),
+        counter: booted.counter(),
+        fallback: booted.fallback(),
+    }
+}
+
+/// The turn of a boot.
+fn turn_with(answer: Reply, read: Option<Numbers>) -> Turn
+    ensures { turn result ≡ record { call = call.Boot; reply = reply answer; numbers = some_numbers numbers read } }
+{
+    Turn {
+        call: Call::Boot,
+        reply: answer,
+        numbers: read,
+    }
+}
+
+/// The turn of a boot that started no bank.
+fn not_booted<D: Flash>(flash: D, answer: Reply, read: Option<Numbers>) -> Turned<D>
+    ensures turn { turn result.turn ≡ record { call = call.Boot; reply = reply answer; numbers = some_numbers numbers read } }
+    ensures on { shown_on result.machine ≡ None }
+    ensures device { device result.machine ≡ flash }
+{
+    Turned {
+        turn: turn_with(answer, read),
+        machine: Machine::Off(flash),
+    }
+}
+
+/// The turn of a boot that started a bank.
+fn was_booted<D: Flash>(booted: Booted<D>, read: Numbers) -> Turned<D>
+    ensures turn { turn result.turn ≡ record { call = call.Boot; reply = started_reply (started booted); numbers = Some (numbers read) } }
+    ensures on { shown_on result.machine ≡ Some (started_numbers (started booted)) }
+    ensures device { device result.machine ≡ booted_device booted }
+{
+    let turn = turn_with(booted_reply(&booted), Some(read));
+    let shows = booted.numbers();
+    let (flash, _, _) = booted.into_parts();
+    Turned {
+        turn,
+        machine: Machine::On(flash, shows),
+    }
+}
+
+/// The turn of a boot that ended like this.
+fn turned_by<D: Flash>(end: BootEnd<D>) -> Turned<D>
+    ensures turn { turn result.turn ≡ boot_turn (ended end) }
+    ensures on { shown_on result.machine ≡ on_after (ended end) }
+    ensures device { device result.machine ≡ device_of end }
+{
+    match end {
+        BootEnd::Booted(booted, read) => was_booted(booted, read),
+        BootEnd::BadLayout(flash, fault) => {
+            not_booted(flash, Reply::NotBooted(NoBoot::Layout(fault)), None)
+        }
+        BootEnd::NoMetadata(flash) => not_booted(flash, Reply::NotBooted(NoBoot::Metadata), None),
+        BootEnd::NoBank {
+            flash,
+            active,
+            previous,
+        } => not_booted(
+            flash,
+            Reply::NotBooted(NoBoot::Bank { active, previous }),
+            None,
+        ),
+        BootEnd::Lost(flash, read) => not_booted(flash, Reply::Lost, read),
+        BootEnd::Fault(flash, read) => not_booted(flash, Reply::Fault, read),
+    }
+}
+
+/// Boots a flash that is on.
+fn boot_on<D: Flash, V: Verifier>(flash: D, verifier: &V) -> Turned<D>
+    requires { IsTrue (D.on flash) }
+    ensures ends { (e : Ended) × EndsTurn (V.passes verifier.now) D.tells e (turn result.turn) (D.counts flash) (D.counts (device result.machine)) (D.told flash) (D.told (device result.machine)) (shown_on result.machine) }
+    ensures powered { IsFalse (ends_run (turn result.turn).reply) → D.on (device result.machine) ≡ is_some (shown_on result.machine) }
+    ensures size { D.blocks (device result.machine) ≡ D.blocks flash }
+{
+    turned_by(boot(flash, verifier))
+}
+
+/// Brings power back to a flash, and boots it.
+fn boot_off<D: Flash, V: Verifier>(flash: D, verifier: &V) -> Turned<D>
+    requires { IsFalse (D.on flash) }
+    ensures turns { Turns (V.passes verifier.now) D.tells call.Boot (turn result.turn) (at None (D.told flash) (D.counts flash) (D.arming flash)) (at (shown_on result.machine) (D.told (device result.machine)) (D.counts (device result.machine)) (D.arming (device result.machine))) }
+    ensures powered { IsFalse (ends_run (turn result.turn).reply) → D.on (device result.machine) ≡ is_some (shown_on result.machine) }
+    ensures size { D.blocks (device result.machine) ≡ D.blocks flash }
+{
+    let mut flash = flash;
+    flash.power_on();
+    boot_on(flash, verifier)
+}
+
+/// The turn of `boot`.
+fn boot_turn<D: Flash, V: Verifier>(machine: Machine<D>, verifier: &V) -> Turned<D>
+    requires { D.on (device machine) ≡ is_some (shown_on machine) }
+    ensures turns { Turns (V.passes verifier.now) D.tells call.Boot (turn result.turn) (at (shown_on machine) (D.told (device machine)) (D.counts (device machine)) (D.arming (device machine))) (at (shown_on result.machine) (D.told (device result.machine)) (D.counts (device result.machine)) (D.arming (device result.machine))) }
+    ensures powered { IsFalse (ends_run (turn result.turn).reply) → D.on (device result.machine) ≡ is_some (shown_on result.machine) }
+    ensures size { D.blocks (device result.machine) ≡ D.blocks (device machine) }
+{
+    match machine {
+        Machine::Off(flash) => boot_off(flash, verifier),
+        Machine::On(flash, _) => boot_on(flash, verifier),
+    }
+}
+
+/// The turn that tells numbers.
+fn shows_turn(shows: &Numbers) -> Turn
+    ensures { turn result ≡ record { call = call.Show; reply = model_reply.Shown (numbers shows.now); numbers = None } }
+{
+    turn_of(Call::Show, Reply::Shown(*shows))
+}
+
+/// The turn of `show`.
+fn show_turn<D: Flash>(machine: Machine<D>) -> Turned<D>
+    ensures turns { (passes : List ℕ → Bool) → Turns passes D.tells call.Show (turn result.turn) (at (shown_on machine) (D.told (device machine)) (D.counts (device machine)) (D.arming (device machine))) (at (shown_on result.machine) (D.told (device result.machine)) (D.counts (device result.machine)) (D.arming (device result.machine))) }
+    ensures on { shown_on result.machine ≡ shown_on machine }
+    ensures device { device result.machine ≡ device machine }
+{
+    match machine {
+        Machine::Off(flash) => Turned {
+            turn: turn_of(Call::Show, Reply::Off),
+            machine: Machine::Off(flash),
+        },
+        Machine::On(flash, shows) => {
+            let turn = shows_turn(&shows);
+            Turned {
+                turn,
+                machine: Machine::On(flash, shows),
+            }
+        }
+    }
+}
+
+/// Arms a loss of power.
+fn arm<D: Flash>(flash: D, n: u32, k: u32) -> D
+    requires { 1 ≤ n }
+    ensures leaves { LeavesFlash D.tells (call.Cut n k) model_reply.CutOk (D.counts flash) (D.counts result) (D.told flash) (D.told result) (D.arming result) }
+    ensures power { D.on result ≡ D.on flash }
+    ensures size { D.blocks result ≡ D.blocks flash }
+{
+    let mut flash = flash;
+    flash.arm(n, k);
+    flash
+}
+
+/// The turn of `cut`.
+fn cut_turn<D: Flash>(machine: Machine<D>, n: u32, k: u32) -> Turned<D>
+    requires { 1 ≤ n }
+    ensures turns { (passes : List ℕ → Bool) → Turns passes D.tells (call.Cut n k) (turn result.turn) (at (shown_on machine) (D.told (device machine)) (D.counts (device machine)) (D.arming (device machine))) (at (shown_on result.machine) (D.told (device result.machine)) (D.counts (device result.machine)) (D.arming (device result.machine))) }
+    ensures on { shown_on result.machine ≡ shown_on machine }
+    ensures power { D.on (device result.machine) ≡ D.on (device machine) }
+    ensures size { D.blocks (device result.machine) ≡ D.blocks (device machine) }
+{
+    let turn = turn_of(Call::Cut { n, k }, Reply::CutOk);
+    match machine {
+        Machine::Off(flash) => Turned {
+            turn,
+            machine: Machine::Off(arm(flash, n, k)),
+        },
+        Machine::On(flash, shows) => Turned {
+            turn,
+            machine: Machine::On(arm(flash, n, k), shows),
+        },
     }
 }
 

@@ -1,9 +1,11 @@
 use Rattle.std.proofs.Common.{◌≡◌, ◌∙◌, ◌<◌, ap, sym, subst, arith, List, Result, Err, [], map, length, get_or}
 use Rattle.fwu_model.specs.Package.{Entry, Part, packed}
-use Rattle.fip_tables.specs.Packing.{pack_fault, zeroed}
+use Rattle.fip_tables.specs.Again.{ReadsAgain}
+use Rattle.fip_tables.specs.Packing.{AreOutlines, pack_fault, zeroed}
 use Rattle.fip_tables.specs.Frame.{IsFrame, table_end, with_bytes}
 use Rattle.fip_tables.specs.declared.faults.PackStop.{PackStop}
 use Rattle.fip_tables.specs.declared.faults.PackStop.TheVariants as stop
+use Rattle.fip_tables.proofs.Again.{fields-of-outlines, passed-is-read}
 use Rattle.fip_tables.proofs.Filled.{entries-count}
 use Rattle.fip_tables.proofs.Zeros.{length-partly, partly, partly-all, partly-more, partly-none, partly-size, zeros-decide}
 use Rattle.fip_tables.proofs.payloads.pack.Goals as goal
@@ -63,3 +65,14 @@ returns-clause-ok c =
     let all : c.loop-i.i ≡ length items = omega (arith, ap length c.as_slice-payloads.ensures.value, c.loop-i-test.false, c.loop-i.auto.i-end) in
     c.into_bytes.ensures ∙ c.loop-i.invariant.bytes
     ∙ ap (λ (ps : List Part). packed c.args.parts.now.serial c.args.parts.now.flags ps c.args.align) (ap (partly items) all ∙ partly-all items)
+
+pub returns-clause-read_again : goal.returns-clause-read_again
+returns-clause-read_again c =
+    let parts = c.args.parts.now in
+    let items = parts.parts.items in
+    let outlined = c.as_slice-2.ensures.value ∙ c.in-Ok.ensures ∙ ap (map zeroed) c.as_slice.ensures.value in
+    let fields = fields-of-outlines items (subst AreOutlines outlined c.in-Ok-new.ensures.outlines) in
+    let low : parts.serial < 4294967296 = omega arith in
+    let small : parts.flags < 18446744073709551616 = omega arith in
+    λ some. subst (ReadsAgain parts.serial parts.flags items) (sym (returns-clause-ok c))
+    (passed-is-read parts.serial parts.flags items c.args.align (returns-clause-fits c) fields (omega (arith, some)) low small)

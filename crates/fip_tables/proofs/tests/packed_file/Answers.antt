@@ -1,4 +1,4 @@
-use Rattle.std.proofs.Common.{◌≡◌, ◌∙◌, ap, sym, subst, rules, arith, ℕ, [], List, Option, Some, length, get_or}
+use Rattle.std.proofs.Common.{◌∙◌, ap, sym, subst, rules, arith, ℕ, [], List, Option, Some, length, get_or}
 use Rattle.std.proofs.lemmas.List.{length-replicate}
 use Rattle.host_io.specs.Contents.{Directory, HasRange, TellsSize}
 use Rattle.fwu_model.specs.Package.{Entry}

@@ -1,0 +1,42 @@
+#!/bin/sh
+# Lines a second of `fwu FLASH run` over scripts of `show` and `cut` on one flash, and whether the time grows with the lines alone:
+# 16,384 lines beside 65,536, in one run.
+set -eu
+cd "$(dirname "$0")/.."
+work=$(mktemp -d)
+trap 'rm -rf "$work"' EXIT
+
+(cd crates/fwu_prog && rt run >"$work/build.log" 2>&1) || { cat "$work/build.log"; exit 1; }
+python3 demo/make_flash.py "$work/flash.img"
+
+python3 - "$work" crates/fwu_prog/out/fwu_prog <<'PY'
+import resource
+import subprocess
+import sys
+
+work, program = sys.argv[1:]
+ROUNDS = 5
+
+
+def seconds(lines):
+    script = "boot\n" + "show\ncut 4294967295 4096\n" * ((lines - 2) // 2) + "show\n"
+    name = f"{work}/{lines}.txt"
+    with open(name, "w") as file:
+        file.write(script)
+    count = script.count("\n")
+    assert count == lines, count
+    before = resource.getrusage(resource.RUSAGE_CHILDREN)
+    for _ in range(ROUNDS):
+        with open(name) as source, open(work + "/out.txt", "w") as out:
+            subprocess.run([program, work + "/flash.img", "run"], check=True, stdin=source, stdout=out)
+    after = resource.getrusage(resource.RUSAGE_CHILDREN)
+    with open(work + "/out.txt") as out:
+        assert sum(1 for _ in out) == count
+    return (after.ru_utime + after.ru_stime - before.ru_utime - before.ru_stime) / ROUNDS
+
+
+short = seconds(16384)
+long = seconds(65536)
+print(f"16,384 lines {short * 1000:.1f} ms, 65,536 lines {long * 1000:.1f} ms, ratio {long / short:.2f} of 4.00")
+print(f"{65536 / long / 1e6:.2f} million lines a second ({ROUNDS} runs)")
+PY

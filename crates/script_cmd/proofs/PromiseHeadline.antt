@@ -1,0 +1,108 @@
+-- The headline, whichever way a run ended.
+use Rattle.std.proofs.Common.{◌≡◌, ◌≢◌, ℕ, ◌+◌, Bool, List, [], ◌∷◌, ◌++◌, length, map, Option, Some, None, Ok, refl, sym, ap, subst, ◌∙◌, arith, inl, inr, ◌⊎◌, IsTrue, IsFalse}
+use Rattle.std.specs.Prelude.{Result, codes, ◌/◌}
+use Rattle.std.proofs.lemmas.Option.{same_Some}
+use Rattle.base_core.specs.Counts.{Rose}
+use Rattle.base_core.specs.Block.{block}
+use Rattle.flash_core.specs.Told.{Told}
+use Rattle.flash_core.specs.declared.flash.Counts.{Counts}
+use Rattle.fwu_model.specs.Layout.{fits_layout}
+use Rattle.fwu_model.specs.State.{State, Numbers}
+use Rattle.fwu_model.specs.Sound.{Setting, Sound}
+use Rattle.fwu_model.specs.Seen.{SoundFlash}
+use Rattle.fwu_model.specs.Call.{Call}
+use Rattle.fwu_model.specs.Call as call
+use Rattle.fwu_model.specs.Reply.{Turn}
+use Rattle.fwu_model.specs.Script.{script_of, line_of}
+use Rattle.fwu_model.specs.Wrote.{may_lack, script_asked}
+use Rattle.fwu_model.specs.Causes.{Faults}
+use Rattle.fwu_model.specs.Run.{Condition, start_of}
+use Rattle.fwu_model.specs.Contract.{Premises, Asks, ByScript, ByBoot}
+use Rattle.fwu_model.specs.Headline.{Headline, LeavesOneOf}
+use Rattle.fwu_model.specs.declared.kinds.Note.{Note}
+use Rattle.fwu_model.proofs.Frame.{calm-stays, start-is-calm}
+use Rattle.fwu_model.proofs.Selects.{runs-select}
+use Rattle.fwu_model.proofs.Shown.{layout-fits}
+use Rattle.fwu_words.specs.Order.{Asked}
+use Rattle.script_cmd.specs.Asking.{plainly}
+use Rattle.script_cmd.specs.Machine.{Moment, Shows, at}
+use Rattle.script_cmd.specs.Running.{Ran, Ended, StartsSound}
+use Rattle.script_cmd.specs.Ways.{Given, HasCalls, Refuses, Way, starved, refused, ran}
+use Rattle.script_cmd.specs.Promises.{given_to, outcome, HeadlineHolds, WaysKeepTheHeadline}
+use Rattle.script_cmd.proofs.PromiseTurns.{printed-plan}
+use Rattle.script_cmd.proofs.PromiseEnds.{why-planned}
+
+-- ---- the calls
+
+pub boot-is-script : script_of (codes "boot\n") ≡ Ok (call.Boot ∷ [])
+unfolding script_of line_of
+boot-is-script = refl
+
+pub same-calls : (x y : List Call) → ◌≡◌ {A = Result (List Call) ℕ} (Ok x) (Ok y) → x ≡ y
+same-calls x y e = cc
+
+asked-calls : (words : List (List ℕ)) (source : Option (List ℕ)) (calls mine : List Call) → Asks words source calls → HasCalls (script_asked words source) mine → mine ≡ calls
+asked-calls words source calls mine (ByScript is) has = same-calls mine calls (sym has.1 ∙ is)
+asked-calls words source calls mine ByBoot has = same-calls mine (call.Boot ∷ []) (sym has.1 ∙ boot-is-script)
+
+-- ---- the start
+
+pub sound-start : (E : Setting) (start : State) (old : Told) (files : Option (List ℕ → Option (List ℕ))) (passes : List ℕ → Bool) (before after : Counts) → Premises E start old files passes before after → Sound E start
+sound-start E start old files passes before after given = subst (Sound E) (same_Some given.sound.state start (sym given.sound.shows ∙ given.shows)) given.sound.sound
+
+fits : (E : Setting) (t : Told) → SoundFlash E t.now → IsTrue (fits_layout E.layout)
+fits E t sound = layout-fits (block 0 t.now) (length t.now / 4096) E.layout sound.layout
+
+-- what the flash of a run may show after a loss
+left-by : (E : Setting) (c : Condition) (on : Option Numbers) (t : Told) → Shows E c on t → LeavesOneOf E c.candidates t
+left-by E c None t shows = shows.1
+left-by E c (Some n) t (s, b, one, session, ready, numbers) = subst (λ (states : List State). LeavesOneOf E states t) (sym one) (calm-stays E t s ready.calm)
+
+module _ (passes : List ℕ → Bool) (tells : Bool) (asked : Option Asked) (files : Option (List ℕ → Option (List ℕ))) (source : Option (List ℕ)) (status : ℕ) (old : Moment) where
+  -- ---- nothing ran
+
+  none-holds : status ≢ 0 → HeadlineHolds passes tells asked files source [] status old old
+  none-holds not_done told E start calls given asks = record {
+    calls = (calls, refl);
+    all_calls = λ e. absurd (not_done e);
+    last = start_of start;
+    run = refl;
+    left = calm-stays E old.told start (start-is-calm E old.told start given.clean given.sound given.shows);
+    armed = λ h. record { made = inl (omega arith); last = tt };
+    selects = runs-select E start [] (start_of start) (fits E old.told given.sound) (sound-start E start old.told files passes old.counts old.counts given) refl;
+  }
+
+  none-keeps : (journal : List Turn) (new : Moment) → journal ≡ [] → new ≡ old → status ≢ 0 → HeadlineHolds passes tells asked files source journal status old new
+  none-keeps journal new empty same not_done =
+      subst (λ (j : List Turn). HeadlineHolds passes tells asked files source j status old new) (sym empty)
+      (subst (λ (m : Moment). HeadlineHolds passes tells asked files source [] status old m) (sym same) (none-holds not_done))
+
+  -- ---- turns ran
+
+  ran-keeps : (journal : List Turn) (noted : Note) (new : Moment) (mine : List Call) (on : Option Numbers) → HasCalls (script_asked (plainly asked) source) mine
+      → Ran passes tells journal old (at on new.told new.counts new.armed) → Ended mine journal status noted → HeadlineHolds passes tells asked files source journal status old new
+  ran-keeps journal noted new mine on has turns ended told E start calls given asks =
+      let same : mine ≡ calls = asked-calls (plainly asked) source calls mine asks has in
+      let starts : StartsSound E start passes old = record { clean = given.clean; sound = given.sound; shows = given.shows; guarded = given.guarded; passes_are = sym given.verifier_is } in
+      let to = turns.run told E start starts given.no_chance in
+      let sound = sound-start E start old.told files passes old.counts new.counts given in
+      record {
+        calls = (ended.calls.0, ended.calls.1 ∙ same);
+        all_calls = λ e. ended.all_calls e ∙ same;
+        last = to.last;
+        run = to.runs;
+        left = left-by E to.last on new.told to.is_at.shows;
+        armed = λ h. to.armed;
+        selects = runs-select E start journal to.last (fits E old.told given.sound) sound to.runs;
+      }
+
+pub ways-keep-the-headline : WaysKeepTheHeadline
+ways-keep-the-headline passes tells asked list files source journal status noted old new taken takes was are (starved empty same nine stuck) =
+    none-keeps passes tells asked files source status old journal new empty same (λ e. omega arith)
+ways-keep-the-headline passes tells asked list files source journal status noted old new taken takes was are (refused planned line empty same why prints) =
+    none-keeps passes tells asked files source status old journal new empty same
+    (λ e.
+    let whole : IsFalse (may_lack status) = subst (λ (k : ℕ). IsFalse (may_lack k)) (sym e) refl in
+    (why-planned asked (given_to asked list files source) was are planned noted line why).1 (sym (printed-plan line planned status taken takes was.sink are.sink prints whole) ∙ e))
+ways-keep-the-headline passes tells asked list files source journal status noted old new taken takes was are (ran calls on good asks has turns ended printed) =
+    ran-keeps passes tells asked files source status old journal noted new calls on has turns ended

@@ -1,0 +1,104 @@
+-- The last turn of a run, and the statuses that a run of turns and a run that did nothing end with.
+use Rattle.std.proofs.Common.{◌≡◌, ◌≢◌, ℕ, zero, suc, ◌-◌, ◌<◌, Bool, true, false, ◌||◌, ◌==◌, List, [], ◌∷◌, length, get_or, Option, Some, None, slice_get, Contains, refl, sym, ap, subst, ◌∙◌, arith, inl, inr, ◌⊎◌, IsTrue, IsFalse, IfSome, eqb-true}
+use Rattle.std.proofs.lemmas.Bool.{cases_Bool, or_cases, false≢true}
+use Rattle.base_core.specs.Counts.{Rose}
+use Rattle.fwu_model.specs.Reply.{Reply, Turn}
+use Rattle.fwu_model.specs.Reply as reply
+use Rattle.fwu_model.specs.declared.kinds.Note.{Note}
+use Rattle.fwu_model.specs.Wrote.{may_lack, ends_early}
+use Rattle.fwu_model.specs.Causes.{status_by}
+use Rattle.script_cmd.specs.Printed.{Prints, all, front, nothing}
+use Rattle.script_cmd.specs.Running.{status_of_last, last_turn, Ended}
+use Rattle.fwu_model.specs.Call.{Call}
+
+-- ---- the last turn
+
+pub last-get : (journal : List Turn) → slice_get journal (length journal - 1) ≡ last_turn journal
+last-get [] = refl
+last-get (t ∷ []) = refl
+last-get (t ∷ u ∷ turns) =
+    let e : length (t ∷ u ∷ turns) - 1 ≡ suc (length (u ∷ turns) - 1) = omega arith in
+    ap (slice_get (t ∷ u ∷ turns)) e ∙ last-get (u ∷ turns)
+
+pub last-contained : (journal : List Turn) (t : Turn) → last_turn journal ≡ Some t → Contains journal t
+last-contained [] t is = absurd (cc)
+last-contained (t ∷ []) u is = (0, omega arith, cc)
+last-contained (t ∷ v ∷ turns) u is = let h = last-contained (v ∷ turns) u is in (suc h.0, omega (arith, h.1), h.2)
+
+-- ---- the statuses of turns
+
+abbrev pub is_ran : ℕ → Bool
+is_ran status = (status == 0) || (status == 3) || (status == 5) || (status == 6) || (status == 9)
+
+-- a status of another number is none of them
+pub ran-at : (status k : ℕ) → IsTrue (is_ran status) → status ≡ k → IsTrue (is_ran k)
+ran-at status k is same = subst (λ (n : ℕ). IsTrue (is_ran n)) same is
+
+reply-status : (r : Reply) → r ≢ reply.ReadFault → IsTrue (is_ran (status_by r))
+reply-status reply.ReadFault reads = absurd (reads refl)
+reply-status reply.Fault reads = refl
+reply-status (reply.NotBooted why) reads = refl
+reply-status other reads = refl
+
+pub lack-cases : (status : ℕ) → IsTrue (may_lack status) → (status ≡ 3) ⊎ (status ≡ 9)
+lack-cases status lacks = elim (or_cases (status == 3) (status == 9) lacks) [
+    | inl e ↦ inl (eqb-true status 3 e)
+    | inr e ↦ inr (eqb-true status 9 e)
+  ]
+
+pub ran-status : (script : List Call) (journal : List Turn) (status : ℕ) (noted : Note) → ((t : Turn) → Contains journal t → t.reply ≢ reply.ReadFault) → Ended script journal status noted → IsTrue (is_ran status)
+ran-status script journal status noted reads ended =
+    elim (cases_Bool (may_lack status)) [
+      | inl lacks ↦ elim (lack-cases status lacks) [
+        | inl three ↦ subst (λ (k : ℕ). IsTrue (is_ran k)) (sym three) refl
+        | inr nine ↦ subst (λ (k : ℕ). IsTrue (is_ran k)) (sym nine) refl
+      ]
+      | inr whole ↦ by-last (last_turn journal) refl (ended.status_is whole)
+    ]
+  where
+    by-last : (last : Option Turn) → last_turn journal ≡ last → status ≡ status_of_last last → IsTrue (is_ran status)
+    by-last None is status_is = subst (λ (k : ℕ). IsTrue (is_ran k)) (sym status_is) refl
+    by-last (Some t) is status_is = subst (λ (k : ℕ). IsTrue (is_ran k)) (sym status_is) (reply-status t.reply (reads t (last-contained journal t is)))
+
+-- they are none of those that end a run early
+pub early-not-ran : (status : ℕ) → IsTrue (ends_early status) → IsTrue (is_ran status) → ⊥
+early-not-ran status early is =
+    elim (or_cases _ (status == 13) early) [
+      | inr e ↦ false≢true (ran-at status 13 is (eqb-true status 13 e))
+      | inl rest ↦ elim (or_cases _ (status == 8) rest) [
+        | inr e ↦ false≢true (ran-at status 8 is (eqb-true status 8 e))
+        | inl more ↦ elim (or_cases (status == 1) (status == 4) more) [
+          | inl e ↦ false≢true (ran-at status 1 is (eqb-true status 1 e))
+          | inr e ↦ false≢true (ran-at status 4 is (eqb-true status 4 e))
+        ]
+      ]
+    ]
+
+-- ---- what printing makes of a status
+
+-- at no other status than 3 and 9 the line was printed
+pub printed-plan : (piece : List ℕ) (plan status : ℕ) (old new : Option (List ℕ)) (was are : ℕ) → Prints piece plan status old new was are → IsFalse (may_lack status) → status ≡ plan
+printed-plan piece plan status old new was are (all is bytes later) lacks = is
+printed-plan piece plan status old new was are (front is n bytes later rose) lacks = absurd (false≢true (sym (subst (λ (k : ℕ). IsFalse (may_lack k)) is lacks)))
+printed-plan piece plan status old new was are (nothing is same later) lacks = absurd (false≢true (sym (subst (λ (k : ℕ). IsFalse (may_lack k)) is lacks)))
+
+-- a status is the planned one, or one that a sink gives: what holds of these holds of it
+pub by-plan : (piece : List ℕ) (plan status : ℕ) (old new : Option (List ℕ)) (was are : ℕ) → Prints piece plan status old new was are
+    → (f : ℕ → Bool) → IsTrue (f 3) → IsTrue (f 9) → IsTrue (f plan) → IsTrue (f status)
+by-plan piece plan status old new was are (all is bytes later) f three nine h = subst (λ (k : ℕ). IsTrue (f k)) (sym is) h
+by-plan piece plan status old new was are (front is n bytes later rose) f three nine h = subst (λ (k : ℕ). IsTrue (f k)) (sym is) three
+by-plan piece plan status old new was are (nothing is same later) f three nine h = subst (λ (k : ℕ). IsTrue (f k)) (sym is) nine
+
+pub printed-rose : (piece : List ℕ) (plan status : ℕ) (old new : Option (List ℕ)) (was are : ℕ) → Prints piece plan status old new was are → plan ≢ 3 → status ≡ 3 → Rose was are
+printed-rose piece plan status old new was are (all is bytes later) other three = absurd (other (sym is ∙ three))
+printed-rose piece plan status old new was are (front is n bytes later rose) other three = rose
+printed-rose piece plan status old new was are (nothing is same later) other three = absurd (omega arith)
+
+-- ---- what is said of a value where there is one
+
+pub some-from : {X : Type 0} (o : Option X) (P : X → Type 0) → ((x : X) → o ≡ Some x → P x) → IfSome o P
+some-from None P f = tt
+some-from (Some x) P f = f x refl
+
+pub some-at : {X : Type 0} (o : Option X) (P : X → Type 0) (x : X) → IfSome o P → o ≡ Some x → P x
+some-at o P x h is = subst (λ q. IfSome q P) is h

@@ -1,0 +1,54 @@
+-- The command `show`: a clean flash is read as it is.
+use Rattle.std.proofs.Common.{◌≡◌, ℕ, ◌≤◌, arith, List, ext_get_or, Some, Ok, Err, Result, refl, sym, ap, subst, ◌∙◌, ◌⊎◌, inl, inr, IsTrue, IsFalse}
+use Rattle.flash_core.specs.Told.{Told, NothingDirty, fresh, is_unsure}
+use Rattle.flash_core.specs.May.{Leaves}
+use Rattle.flash_core.specs.Counts.{Rose, Idles, Spends}
+use Rattle.flash_core.specs.declared.flash.Counts.{Counts}
+use Rattle.flash_core.specs.declared.flash.FlashStop.{FlashStop}
+use Rattle.flash_core.specs.declared.flash.FlashStop.TheVariants as flash_stop
+use Rattle.fwu_model.specs.declared.kinds.Note.TheVariants as note
+use Rattle.script_cmd.specs.Turning.{NoneFalls}
+use Rattle.fwu_model.specs.declared.kinds.Note.{Note}
+use Rattle.fwu_model.specs.declared.kinds.NoBoot.{NoBoot}
+use Rattle.script_cmd.specs.Showing as show
+use Rattle.script_cmd.specs.Showing.{Finds, ShowsNone, stopped, flash_fault_line, not_shown_line}
+
+fresh-sure : (guard image : List ℕ) (i : ℕ) → IsFalse (is_unsure (fresh guard image) i)
+unfolding is_unsure fresh
+fresh-sure guard image i = refl
+
+-- a power-on with nothing dirty keeps all
+pub power-on-keeps : (old new : Told) → NothingDirty old → new ≡ fresh old.guard new.now → Leaves old new.now → new ≡ old
+power-on-keeps old new clean is leaves =
+    let sure : (i : ℕ) → IsFalse (is_unsure old i) = λ i. subst (λ (t : Told). IsFalse (is_unsure t i)) (sym clean) (fresh-sure old.guard old.now i) in
+    let same : new.now ≡ old.now = ext_get_or 0 new.now old.now leaves.size (λ i below. leaves.sure i (sure i)) in
+    is ∙ ap (fresh old.guard) same ∙ sym clean
+
+-- power comes back, and then calls are made
+pub none-falls : {T : Type 0} (result : Result T FlashStop) (before mid after : Counts) → Idles before mid → Spends result mid after → NoneFalls before after
+none-falls result before mid after idle spends = record {
+  faults = omega (arith, idle.faults, spends.faults);
+  cuts = omega (arith, idle.cuts, spends.cuts);
+  reached = omega (arith, idle.reached, spends.reached);
+  chances = omega (arith, idle.chances, spends.chances);
+}
+
+rose-later : (a b c : ℕ) → a ≤ b → Rose b c → Rose a c
+rose-later a b c later (inl less) = inl (omega (arith, later, less))
+rose-later a b c later (inr most) = inr most
+
+pub finds-stop : (known : Type 0) (image : List ℕ) (stop : FlashStop) (before mid after : Counts) → Idles before mid → Spends {T = Unit {0}} (Err stop) mid after
+    → Finds known image before after 5 note.Nothing flash_fault_line
+finds-stop known image flash_stop.Lost before mid after idle spends = stopped (inr (by (spends.lost refl)))
+  where
+    by : Rose mid.cuts after.cuts ⊎ Rose mid.reached after.reached → Rose before.cuts after.cuts ⊎ Rose before.reached after.reached
+    by (inl cuts) = inl (rose-later before.cuts mid.cuts after.cuts idle.cuts cuts)
+    by (inr reached) = inr (rose-later before.reached mid.reached after.reached (omega (arith, idle.reached)) reached)
+finds-stop known image flash_stop.Failed before mid after idle spends = stopped (inl (rose-later before.faults mid.faults after.faults idle.faults (spends.failed refl)))
+
+pub not-found : (known : Type 0) (image : List ℕ) (before after : Counts) (why : NoBoot) (status : ℕ) (noted : Note) (line : List ℕ)
+    → status ≡ 6 → noted ≡ note.Boot why → line ≡ not_shown_line why → (known → ShowsNone image why) → Finds known image before after status noted line
+not-found known image before after why status noted line s n l none =
+    subst (λ (x : ℕ). Finds known image before after x noted line) (sym s)
+    (subst (λ (x : Note). Finds known image before after 6 x line) (sym n)
+    (subst (λ (x : List ℕ). Finds known image before after 6 (note.Boot why) x) (sym l) (show.none why none)))

@@ -1,0 +1,5 @@
+use Rattle.script_cmd.proofs.PromiseGuarded.{ways-guard}
+use Rattle.script_cmd.proofs.laws.ways_guard.Goals as goal
+
+pub returns : goal.returns
+returns c = ways-guard

@@ -1,0 +1,20 @@
+use Rattle.std.proofs.Common.{sym, subst}
+use Rattle.fwu_model.specs.Call as call
+use Rattle.early_boot.specs.Numbers.{numbers}
+use Rattle.fwu_journal.specs.Shown.{turn}
+use Rattle.script_cmd.specs.Machine.{at, device, shown_on}
+use Rattle.script_cmd.specs.Turning.{Turns}
+use Rattle.script_cmd.proofs.TurnBoots.{boot-turns-again}
+use Rattle.script_cmd.proofs.turning.boot_turn.Goals as goal
+
+pub returns-in-On-clause-turns : goal.returns-in-On-clause-turns
+returns-in-On-clause-turns g c =
+    let passes = g.V.Verifier.passes c.args.verifier.now in
+    let old = c.in-On.flash in
+    let new = device c.boot_on.result.machine in
+    let on = shown_on c.boot_on.result.machine in
+    subst (λ m. Turns passes g.D.Flash.tells call.Boot (turn c.boot_on.result.turn) (at (shown_on m) (g.D.Flash.told (device m)) (g.D.Flash.counts (device m)) (g.D.Flash.arming (device m))) (at on (g.D.Flash.told new) (g.D.Flash.counts new) (g.D.Flash.arming new)))
+    (sym c.in-On.is)
+    (boot-turns-again passes g.D.Flash.tells c.boot_on.ensures.ends.0 (turn c.boot_on.result.turn)
+    (g.D.Flash.counts old) (g.D.Flash.counts new) (g.D.Flash.told old) (g.D.Flash.told new) (g.D.Flash.arming old) (g.D.Flash.arming new) on c.boot_on.ensures.ends.1
+    (numbers c.in-On.field-1))

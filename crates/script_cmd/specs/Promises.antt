@@ -1,0 +1,98 @@
+-- What `run` or `boot` promises, whichever way it ends.
+use Rattle.std.specs.Prelude.{◌≡◌, ◌⊎◌, ℕ, Bool, List, ◌++◌, Option, Some, None, IsTrue, IsFalse, ◌||◌, ◌==◌}
+use Rattle.flash_core.specs.Counts.{Rose}
+use Rattle.flash_core.specs.Told.{NothingDirty}
+use Rattle.flash_core.specs.May.{Guards}
+use Rattle.fwu_model.specs.State.{State}
+use Rattle.fwu_model.specs.Sound.{Setting}
+use Rattle.fwu_model.specs.Call.{Call}
+use Rattle.fwu_model.specs.Reply.{Turn}
+use Rattle.fwu_model.specs.Allow.{list_bytes}
+use Rattle.fwu_model.specs.Calm.{IsGuarded}
+use Rattle.fwu_model.specs.Contract.{Premises, Asks}
+use Rattle.fwu_model.specs.Headline.{Headline, Outcome}
+use Rattle.fwu_model.specs.Wrote.{Wrote, script_asked}
+use Rattle.fwu_model.specs.Causes.{EndsAs, Faults, IsServed, may_fail_before}
+use Rattle.fwu_model.specs.declared.kinds.Note.{Note}
+use Rattle.fwu_words.specs.Order.{Asked}
+use Rattle.fwu_words.specs.Order as ask
+use Rattle.script_cmd.specs.Asking.{plainly}
+use Rattle.script_cmd.specs.BootWord.{BootsBy}
+use Rattle.script_cmd.specs.Machine.{Moment}
+use Rattle.script_cmd.specs.Ways.{Given, Way}
+
+-- what the program was given to read, with what the source tells
+abbrev pub given_to : Option Asked → Option (List ℕ) → Option (List ℕ → Option (List ℕ)) → Option (List ℕ) → Given
+given_to asked list files source = record { list = list; files = files; script = script_asked (plainly asked) source }
+
+-- what it was asked for, and what it left
+abbrev pub outcome : List Call → List Turn → ℕ → Moment → Moment → Outcome
+outcome calls journal status old new =
+    record { calls = calls; status = status; journal = journal; device = new.told; armed = new.armed; before = old.counts; after = new.counts }
+
+-- from a sound flash the headline, for the calls that are asked for
+abbrev pub HeadlineHolds : (List ℕ → Bool) → Bool → Option Asked → Option (List ℕ → Option (List ℕ)) → Option (List ℕ) → List Turn → ℕ → Moment → Moment → Type 0
+HeadlineHolds passes tells asked files source journal status old new =
+    IsTrue tells → (E : Setting) (start : State) (calls : List Call) → Premises E start old.told files passes old.counts new.counts → Asks (plainly asked) source calls
+    → Headline E start (outcome calls journal status old new)
+
+-- what the sink took, where it tells that
+abbrev pub WroteHolds : Given → List Turn → ℕ → Note → Option (List ℕ) → Option (List ℕ) → Type 0
+WroteHolds g journal status noted taken takes =
+    (before : List ℕ) → taken ≡ Some before → (w : List ℕ) × (takes ≡ Some (before ++ w)) × Wrote g.script (list_bytes g.list g.files) status noted journal w
+
+-- why it ended as it did
+abbrev pub EndsHold : Option Asked → Given → List Turn → ℕ → Note → Moment → Moment → Faults → Faults → Type 0
+EndsHold asked g journal status noted old new was are = EndsAs (plainly asked) g.list g.files g.script status noted journal old.counts new.counts was are
+
+-- The one command `boot`, on any flash with nothing dirty, where no failure and no loss stopped it, and the list had no bad line, goes by the bytes.
+abbrev pub BootWordHolds : (List ℕ → Bool) → Bool → Option Asked → List Turn → ℕ → Note → Moment → Moment → Type 0
+BootWordHolds passes tells asked journal status noted old new =
+    IsTrue tells → NothingDirty old.told → asked ≡ Some ask.boot → IsFalse (may_fail_before status || (status == 13))
+    → (Rose old.counts.faults new.counts.faults → ⊥) → (Rose old.counts.cuts new.counts.cuts → ⊥) → (Rose old.counts.reached new.counts.reached → ⊥)
+    → BootsBy passes old.told.now status noted journal
+
+-- on any flash with nothing dirty, no loss then harms what is in use, even where a seal came about by chance
+abbrev pub GuardedHolds : Bool → Moment → Moment → Type 0
+GuardedHolds tells old new = IsTrue tells → NothingDirty old.told → Guards 1 7 old.told → IsGuarded new.told
+
+-- from a sound flash all is done, where nothing was lacking and nothing failed, unless memory was wanting
+abbrev pub CompleteHolds : (List ℕ → Bool) → Bool → Option Asked → Option (List ℕ) → Option (List ℕ → Option (List ℕ)) → Option (List ℕ) → List Turn → ℕ → Moment → Moment → Faults → Faults → Type 0
+CompleteHolds passes tells asked list files source journal status old new was are =
+    IsTrue tells → (E : Setting) (start : State) (calls : List Call) (script : List ℕ) → Premises E start old.told files passes old.counts new.counts → Asks (plainly asked) source calls
+    → script_asked (plainly asked) source ≡ Some script → IsServed (outcome calls journal status old new) (plainly asked) list files script was are → (status ≡ 0) ⊎ (status ≡ 9)
+
+-- ---- as laws: each way that it may end promises all of these
+
+abbrev pub WaysWrite : Type 0
+WaysWrite =
+    (passes : List ℕ → Bool) (tells : Bool) (asked : Option Asked) (g : Given) (journal : List Turn) (status : ℕ) (noted : Note) (old new : Moment) (taken takes : Option (List ℕ)) (was are : Faults)
+    → Way passes tells asked g journal status noted old new taken takes was are → WroteHolds g journal status noted taken takes
+
+abbrev pub WaysEnd : Type 0
+WaysEnd =
+    (passes : List ℕ → Bool) (tells : Bool) (asked : Option Asked) (g : Given) (journal : List Turn) (status : ℕ) (noted : Note) (old new : Moment) (taken takes : Option (List ℕ)) (was are : Faults)
+    → Way passes tells asked g journal status noted old new taken takes was are → EndsHold asked g journal status noted old new was are
+
+abbrev pub WaysKeepTheHeadline : Type 0
+WaysKeepTheHeadline =
+    (passes : List ℕ → Bool) (tells : Bool) (asked : Option Asked) (list : Option (List ℕ)) (files : Option (List ℕ → Option (List ℕ))) (source : Option (List ℕ))
+    (journal : List Turn) (status : ℕ) (noted : Note) (old new : Moment) (taken takes : Option (List ℕ)) (was are : Faults)
+    → Way passes tells asked (given_to asked list files source) journal status noted old new taken takes was are → HeadlineHolds passes tells asked files source journal status old new
+
+abbrev pub WaysBoot : Type 0
+WaysBoot =
+    (passes : List ℕ → Bool) (tells : Bool) (asked : Option Asked) (list : Option (List ℕ)) (files : Option (List ℕ → Option (List ℕ))) (source : Option (List ℕ))
+    (journal : List Turn) (status : ℕ) (noted : Note) (old new : Moment) (taken takes : Option (List ℕ)) (was are : Faults)
+    → Way passes tells asked (given_to asked list files source) journal status noted old new taken takes was are → BootWordHolds passes tells asked journal status noted old new
+
+abbrev pub WaysGuard : Type 0
+WaysGuard =
+    (passes : List ℕ → Bool) (tells : Bool) (asked : Option Asked) (g : Given) (journal : List Turn) (status : ℕ) (noted : Note) (old new : Moment) (taken takes : Option (List ℕ)) (was are : Faults)
+    → Way passes tells asked g journal status noted old new taken takes was are → GuardedHolds tells old new
+
+abbrev pub WaysAreComplete : Type 0
+WaysAreComplete =
+    (passes : List ℕ → Bool) (tells : Bool) (asked : Option Asked) (list : Option (List ℕ)) (files : Option (List ℕ → Option (List ℕ))) (source : Option (List ℕ))
+    (journal : List Turn) (status : ℕ) (noted : Note) (old new : Moment) (taken takes : Option (List ℕ)) (was are : Faults)
+    → Way passes tells asked (given_to asked list files source) journal status noted old new taken takes was are → CompleteHolds passes tells asked list files source journal status old new was are
