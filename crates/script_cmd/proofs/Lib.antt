@@ -10,3 +10,4 @@ pub mod PromiseGuarded
 pub mod PromiseComplete
 pub mod TopReads
 pub mod TopPrints
+pub mod TopWays

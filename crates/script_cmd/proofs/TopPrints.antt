@@ -13,8 +13,14 @@ later piece planned status old new was are (all _ _ rises) = rises
 later piece planned status old new was are (front _ _ _ rises _) = rises
 later piece planned status old new was are (nothing _ _ rises) = rises
 
+ne3 : ◌≡◌ {A = ℕ} 3 0 → ⊥
+ne3 e = cc
+
+ne9 : ◌≡◌ {A = ℕ} 9 0 → ⊥
+ne9 e = cc
+
 -- a line that is put for another status than 0 gives another
 pub not-done : (piece : List ℕ) (planned status : ℕ) (old new : Option (List ℕ)) (was are : ℕ) → (planned ≡ 0 → ⊥) → Prints piece planned status old new was are → status ≡ 0 → ⊥
 not-done piece planned status old new was are some (all is _ _) e = some (sym is ∙ e)
-not-done piece planned status old new was are some (front is _ _ _ _) e = let no : 3 ≡ 0 = sym is ∙ e in cc
-not-done piece planned status old new was are some (nothing is _ _) e = let no : 9 ≡ 0 = sym is ∙ e in cc
+not-done piece planned status old new was are some (front is _ _ _ _) e = ne3 (sym is ∙ e)
+not-done piece planned status old new was are some (nothing is _ _) e = ne9 (sym is ∙ e)

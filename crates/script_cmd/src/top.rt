@@ -1,7 +1,8 @@
 //! The program as one call.
-ghost use Rattle.std.specs.Prelude.{◌≡◌, ◌≤◌, ◌⊎◌, ℕ, Bool, List, [], Option, Some, None, IfSome, map, string_bytes, IsFalse, length, true};
+ghost use Rattle.std.specs.Prelude.{◌≡◌, ◌≤◌, ℕ, Bool, List, [], Option, Some, None, IfSome, map, string_bytes, IsFalse, length, false, true};
 ghost use Rattle.fwu_model.specs.Allow.{asks_list, list_name};
 ghost use Rattle.fwu_model.specs.Causes.{Faults};
+ghost use Rattle.fwu_model.specs.Script.{is_too_long};
 ghost use Rattle.fwu_model.specs.Wrote.{script_asked};
 ghost use Rattle.fwu_journal.specs.Shown.{turns};
 ghost use Rattle.fwu_words.specs.Order.{Asked, asked};
@@ -9,7 +10,7 @@ ghost use Rattle.fwu_words.specs.Order as ask;
 ghost use Rattle.script_cmd.specs.Asking.{asked_with_list, plainly};
 ghost use Rattle.script_cmd.specs.Machine.{at};
 ghost use Rattle.script_cmd.specs.Noted.{noted};
-ghost use Rattle.script_cmd.specs.Ways.{Given, HasPasses, IsScriptOf, Later, RunsOrNone, Way};
+ghost use Rattle.script_cmd.specs.Ways.{AsksTurns, Given, HasNoBadLine, HasPasses, IsScriptOf, Later, RunsOrNone, Way};
 
 use crate::done::{Done, Note};
 use crate::reading::{FileStop, SourceStop, read_file, read_source};
@@ -35,8 +36,9 @@ fn run_text<D: Flash, O: Sink, V: Verifier>(
 ) -> Done<D>
     requires off { IsFalse (D.on flash) }
     requires unarmed { D.arming flash ≡ None }
-    requires short { length text.now ≤ 4194304 }
-    ensures way { (asked : Option Asked) (g : Given) (was are : Faults) → (asked ≡ Some ask.run) ⊎ (asked ≡ Some ask.boot) → IsScriptOf g.script text.now
+    requires within { is_too_long text.now ≡ false }
+    requires few { length text.now ≤ 4194304 }
+    ensures way { (asked : Option Asked) (g : Given) (was are : Faults) → HasNoBadLine g → AsksTurns asked → IsScriptOf g.script text.now
         → Way (V.passes verifier.now) D.tells asked g (turns result.journal) result.status (noted result.note)
         (at None (D.told flash) (D.counts flash) (D.arming flash)) (at None (D.told result.flash) (D.counts result.flash) (D.arming result.flash))
         (O.taken sink.old) (O.taken sink.new) (record was { sink = O.faults sink.old }) (record are { sink = O.faults sink.new }) }
@@ -64,7 +66,8 @@ fn run_source<D: Flash, I: Source, O: Sink, V: Verifier>(
 ) -> Done<D>
     requires off { IsFalse (D.on flash) }
     requires unarmed { D.arming flash ≡ None }
-    ensures way { (g : Given) (was are : Faults) → Way (V.passes verifier.now) D.tells (Some ask.run) (record g { script = I.left source.old }) (turns result.journal) result.status (noted result.note)
+    ensures way { (g : Given) (was are : Faults) → HasNoBadLine g
+        → Way (V.passes verifier.now) D.tells (Some ask.run) (record g { script = I.left source.old }) (turns result.journal) result.status (noted result.note)
         (at None (D.told flash) (D.counts flash) (D.arming flash)) (at None (D.told result.flash) (D.counts result.flash) (D.arming result.flash))
         (O.taken sink.old) (O.taken sink.new)
         (record was { source = I.faults source.old; sink = O.faults sink.old }) (record are { source = I.faults source.new; sink = O.faults sink.new }) }
