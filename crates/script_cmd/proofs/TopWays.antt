@@ -1,6 +1,6 @@
 -- The ways that a run may end, from what its parts did.
-use Rattle.std.proofs.Common.{◌≡◌, ◌≤◌, ℕ, Bool, true, false, List, [], Option, Some, None, Ok, Err, refl, sym, ap, subst, inl, inr, ◌⊎◌, arith}
-use Rattle.std.specs.Prelude.{IfSome}
+use Rattle.std.proofs.Common.{◌≡◌, ◌≤◌, ℕ, Bool, true, false, List, [], ◌∷◌, Option, Some, None, Result, Ok, Err, refl, sym, ap, subst, ◌∙◌, inl, inr, ◌⊎◌, arith}
+use Rattle.std.specs.Prelude.{IfSome, IsTrue, codes}
 use Rattle.flash_core.specs.declared.flash.Arming.{Arming}
 use Rattle.flash_core.specs.declared.flash.Counts.{Counts}
 use Rattle.flash_core.specs.Counts.{Rose}
@@ -8,16 +8,24 @@ use Rattle.flash_core.specs.Told.{Told}
 use Rattle.fwu_model.specs.Call.{Call}
 use Rattle.fwu_model.specs.State.{Numbers}
 use Rattle.fwu_model.specs.Reply.{Turn}
-use Rattle.fwu_model.specs.Script.{script_of, is_too_long}
+use Rattle.fwu_model.specs.Script.{is_file, is_too_long, script_of}
 use Rattle.fwu_model.specs.Causes.{Faults}
-use Rattle.fwu_model.specs.Wrote.{bad_script_line}
+use Rattle.fwu_model.specs.Wrote.{bad_script_line, script_asked}
+use Rattle.fwu_model.specs.Allow.{after_list, asks_list, digests_of, list_bytes, list_name, passes_any, passes_listed}
+use Rattle.host_io.specs.Contents.{Directory}
 use Rattle.fwu_model.specs.declared.kinds.Note.{Note}
 use Rattle.fwu_model.specs.declared.kinds.Note.TheVariants as note
-use Rattle.fwu_words.specs.Order.{Asked}
+use Rattle.fwu_words.specs.Order.{Asked, asked}
+use Rattle.fwu_words.specs.Allow.{NamesList, NamesNone}
+use Rattle.fwu_words.specs.Order as ask
+use Rattle.script_cmd.specs.Asking.{asked_after, asked_with_list, plainly}
 use Rattle.script_cmd.specs.Machine.{Moment, at}
 use Rattle.script_cmd.specs.Printed.{Prints}
 use Rattle.script_cmd.specs.Running.{Ended, Printed, Ran}
-use Rattle.script_cmd.specs.Ways.{AsksTurns, Given, HasNoBadLine, IsScriptOf, Refuses, Way, bad_list, bad_script, list_not_read, not_read, ran, refused, starved, too_long, usage}
+use Rattle.script_cmd.specs.Ways.{AsksTurns, Given, HasNoBadLine, HasPasses, IsScriptOf, Refuses, Way, bad_list, bad_script, list_not_read, not_read, ran, refused, starved, too_long, usage}
+
+false_true : false ≡ true → ⊥
+false_true e = cc
 
 -- a flash that is as it was
 pub same-moment : {D : Type 0} (told : D → Told) (counts : D → Counts) (arming : D → Option Arming) (old new : D) → new ≡ old → at None (told new) (counts new) (arming new) ≡ at None (told old) (counts old) (arming old)
@@ -27,6 +35,33 @@ same-moment told counts arming old new e = ap (λ d. at None (told d) (counts d)
 of-script : (script : Option (List ℕ)) (text : List ℕ) (P : List ℕ → Type 0) → IsScriptOf script text → P text → IfSome script P
 of-script None text P is p = tt
 of-script (Some bytes) text P is p = subst P (sym is) p
+
+-- a fact of what is told
+pub of-told : {A : Type 0} (told : Option A) (P : A → Type 0) → ((value : A) → told ≡ Some value → P value) → IfSome told P
+of-told None P all = tt
+of-told (Some value) P all = all value refl
+
+-- a fact of a list's bytes, where the files are told
+pub of-list : (files : Option Directory) (name bytes : List ℕ) (P : List ℕ → Type 0) → ((directory : Directory) → files ≡ Some directory → directory name ≡ Some bytes) → P bytes → IfSome (list_bytes (Some name) files) P
+of-list None name bytes P whole p = tt
+of-list (Some directory) name bytes P whole p = subst (λ (o : Option (List ℕ)). IfSome o P) (sym (whole directory refl)) p
+
+pub rose-from : (first before after : ℕ) → first ≤ before → Rose before after → Rose first after
+rose-from first before after later (inl less) = inl (omega arith)
+rose-from first before after later (inr most) = inr most
+
+-- a refusal without a list is one behind a list that was read and is one
+refuses : (asked : Option Asked) (told files : Option Directory) (name : List ℕ) (script : Option (List ℕ)) (first was are : Faults) (planned : ℕ) (noted : Note) (line : List ℕ)
+    → HasNoBadLine (record { list = Some name; files = files; script = script }) → first.files ≤ was.files → first.source ≡ was.source
+    → Refuses asked (record { list = None; files = told; script = script }) was are planned noted line
+    → Refuses asked (record { list = Some name; files = files; script = script }) first are planned noted line
+refuses asked told files name script first was are planned noted line good later source (usage listed is) = usage good is
+refuses asked told files name script first was are planned noted line good later source (not_read is rose) = not_read is (subst (λ (n : ℕ). Rose n are.source) (sym source) rose)
+refuses asked told files name script first was are planned noted line good later source (list_not_read (inl rose)) = list_not_read (inl (rose-from first.files was.files are.files later rose))
+refuses asked told files name script first was are planned noted line good later source (list_not_read (inr lacks)) = absurd lacks
+refuses asked told files name script first was are planned noted line good later source (too_long listed is long) = too_long good is long
+refuses asked told files name script first was are planned noted line good later source (bad_script n listed asks short bad) = bad_script n good asks short bad
+refuses asked told files name script first was are planned noted line good later source (bad_list n some bad) = let no : false ≡ true = some in absurd (false_true no)
 
 module _ (passes : List ℕ → Bool) (tells : Bool) (journal : List Turn) (status : ℕ) (noted : Note) (old new : Moment) (taken takes : Option (List ℕ)) where
 
@@ -47,3 +82,117 @@ module _ (passes : List ℕ → Bool) (tells : Bool) (journal : List Turn) (stat
       → Way passes tells asked g journal status noted old new taken takes was are
   text-ran asked g was are text calls on listed asks is short read does ended printed =
       ran calls on listed asks (of-script g.script text (λ b. (is_too_long b ≡ false) × (script_of b ≡ Ok calls)) is (short, read)) does ended printed
+
+  -- a way at equal words
+  pub way-at : (asked other : Option Asked) (list named : Option (List ℕ)) (files : Option Directory) (left : Option (List ℕ)) (was are : Faults) → asked ≡ other → list ≡ named
+      → Way passes tells other (record { list = named; files = files; script = script_asked (plainly other) left }) journal status noted old new taken takes was are
+      → Way passes tells asked (record { list = list; files = files; script = script_asked (plainly asked) left }) journal status noted old new taken takes was are
+  way-at asked other list named files left was are words is way =
+      subst (λ (l : Option (List ℕ)). Way passes tells asked (record { list = l; files = files; script = script_asked (plainly asked) left }) journal status noted old new taken takes was are) (sym is)
+      (subst (λ (a : Option Asked). Way passes tells a (record { list = named; files = files; script = script_asked (plainly a) left }) journal status noted old new taken takes was are) (sym words) way)
+
+  -- `run` with the script that the source gives
+  pub way-of-run : (asked : Option Asked) (files : Option Directory) (left : Option (List ℕ)) (was are : Faults) → asked ≡ Some ask.run
+      → Way passes tells (Some ask.run) (record { list = None; files = files; script = left }) journal status noted old new taken takes was are
+      → Way passes tells asked (record { list = None; files = files; script = script_asked (plainly asked) left }) journal status noted old new taken takes was are
+  way-of-run asked files left was are is way = way-at asked (Some ask.run) None None files left was are is refl way
+
+  -- `boot` with a script of its own
+  pub way-of-boot : (asked : Option Asked) (files : Option Directory) (left : Option (List ℕ)) (was are : Faults) → asked ≡ Some ask.boot
+      → Way passes tells (Some ask.boot) (record { list = None; files = files; script = Some (codes "boot\n") }) journal status noted old new taken takes was are
+      → Way passes tells asked (record { list = None; files = files; script = script_asked (plainly asked) left }) journal status noted old new taken takes was are
+  way-of-boot asked files left was are is way = way-at asked (Some ask.boot) None None files left was are is refl way
+
+  -- a way without a list is one behind a list that was read and is one
+  pub with-list : (asked : Option Asked) (told files : Option Directory) (name : List ℕ) (script : Option (List ℕ)) (first was are : Faults) → HasNoBadLine (record { list = Some name; files = files; script = script })
+      → first.files ≤ was.files → first.source ≡ was.source → first.sink ≡ was.sink
+      → Way passes tells asked (record { list = None; files = told; script = script }) journal status noted old new taken takes was are
+      → Way passes tells asked (record { list = Some name; files = files; script = script }) journal status noted old new taken takes first are
+  with-list asked told files name script first was are good later source sink (starved none same nine takes) = starved none same nine takes
+  with-list asked told files name script first was are good later source sink (refused planned line none same why prints) =
+      refused planned line none same
+      (refuses asked told files name script first was are planned noted line good later source why)
+      (subst (λ (n : ℕ). Prints line planned status taken takes n are.sink) (sym sink) prints)
+  with-list asked told files name script first was are good later source sink (ran calls on listed asks has does ended printed) =
+      ran calls on good asks has does ended (subst (λ (n : ℕ). Printed journal status taken takes n are.sink) (sym sink) printed)
+
+-- ---- whose manifests pass
+
+none_some : (bytes : List ℕ) → None ≡ Some bytes → ⊥
+none_some bytes e = cc
+
+same-digests : (bytes others : List ℕ) (digests listed : List (List ℕ)) (file : Option (List ℕ)) → file ≡ Some bytes → file ≡ Some others → digests_of bytes ≡ Ok digests → digests_of others ≡ Ok listed → digests ≡ listed
+same-digests bytes others digests listed file one two read is = cc
+
+passes-read : Result (List (List ℕ)) ℕ → List ℕ → Bool
+passes-read (Ok digests) = passes_listed digests
+passes-read (Err n) = passes_any
+
+passes-in : Option (List ℕ) → List ℕ → Bool
+passes-in None = passes_any
+passes-in (Some bytes) = passes-read (digests_of bytes)
+
+-- those whose manifests pass, by the list where it is told
+pub passes-told : Option (List ℕ) → Option Directory → List ℕ → Bool
+passes-told list files = passes-in (list_bytes list files)
+
+pub has-told : (asks : Bool) (list : Option (List ℕ)) (files : Option Directory) → asks ≡ true → HasPasses asks list files (passes-told list files)
+unfolding passes-told passes-in passes-read
+has-told asks list files is = record {
+  any = λ no. absurd (false_true (sym no ∙ is));
+  listed = λ bytes digests there read. ap passes-in there ∙ ap passes-read read;
+}
+
+pub has-any : (asks : Bool) (list : Option (List ℕ)) (files : Option Directory) → list ≡ None → HasPasses asks list files passes_any
+has-any asks list files is = record {
+  any = λ no. refl;
+  listed = λ bytes digests there read. absurd (let no : None ≡ Some bytes = ap (λ (l : Option (List ℕ)). list_bytes l files) (sym is) ∙ there in none_some bytes no);
+}
+
+pub has-listed : (name bytes : List ℕ) (digests : List (List ℕ)) (files : Option Directory) → ((directory : Directory) → files ≡ Some directory → directory name ≡ Some bytes) → digests_of bytes ≡ Ok digests
+    → HasPasses true (Some name) files (passes_listed digests)
+has-listed name bytes digests None whole read = record {
+  any = λ no. absurd (false_true (sym no));
+  listed = λ others listed there is. absurd (none_some others there);
+}
+has-listed name bytes digests (Some directory) whole read = record {
+  any = λ no. absurd (false_true (sym no));
+  listed = λ others listed there is. ap passes_listed (same-digests bytes others digests listed (directory name) (whole directory refl) there read is);
+}
+
+pub has-at : (asks : Bool) (list : Option (List ℕ)) (name : List ℕ) (files : Option Directory) (passes : List ℕ → Bool) → asks ≡ true → list ≡ Some name → HasPasses true (Some name) files passes → HasPasses asks list files passes
+has-at asks list name files passes is named has =
+    subst (λ (l : Option (List ℕ)). HasPasses asks l files passes) (sym named) (subst (λ (b : Bool). HasPasses b (Some name) files passes) (sym is) has)
+
+-- ---- the words
+
+-- words that ask for no list name none
+no-name : (words : List (List ℕ)) → asks_list words ≡ false → list_name words ≡ None
+no-name [] e = refl
+no-name (w ∷ []) e = refl
+no-name (w ∷ name ∷ words) e = rw e refl
+
+pub no-list : (words : List (List ℕ)) → asks_list words ≡ false → (asked_with_list words ≡ asked words) × (list_name words ≡ None)
+no-list words e = (ap (λ (b : Bool). asked_after b (list_name words) words) e, no-name words e)
+
+pub no-words : (words : List (List ℕ)) → NamesNone words → asked_with_list words ≡ None
+no-words words none = ap (λ (b : Bool). asked_after b (list_name words) words) none.asks ∙ ap (λ (l : Option (List ℕ)). asked_after true l words) none.none
+
+-- those that begin with a list
+pub some-list : (words rest : List (List ℕ)) (name : List ℕ) → NamesList words name rest → (asked_with_list words ≡ asked rest) × (asks_list words ≡ true) × (list_name words ≡ Some name)
+some-list words rest name names =
+    subst (λ (l : List (List ℕ)). (asked_with_list l ≡ asked rest) × (asks_list l ≡ true) × (list_name l ≡ Some name)) (sym names.whole) (at-list rest name names.file)
+  where
+    at-list : (rest : List (List ℕ)) (name : List ℕ) → IsTrue (is_file name)
+        → (asked_with_list (codes "--allow" ∷ name ∷ rest) ≡ asked rest) × (asks_list (codes "--allow" ∷ name ∷ rest) ≡ true) × (list_name (codes "--allow" ∷ name ∷ rest) ≡ Some name)
+    at-list rest name file =
+        let words : List (List ℕ) = codes "--allow" ∷ name ∷ rest in
+        let named : list_name words ≡ Some name = rw file refl in
+        let behind : after_list words ≡ rest = rw file refl in
+        (ap (λ (l : Option (List ℕ)). asked_after true l words) named ∙ ap asked behind, refl, named)
+
+-- ---- the script of `boot`
+
+pub boot-is-short : is_too_long (codes "boot\n") ≡ false
+unfolding is_too_long
+boot-is-short = refl

@@ -19,6 +19,7 @@ use crate::refusing::{
 };
 use crate::room::Room;
 use crate::running::run_script;
+use crate::showing::show;
 use flash_core::Flash;
 use fwu_words::{Allow, Order, UsageStop, allow_of, fwu_order};
 use host_io::{Files, Sink, Source};
@@ -113,7 +114,7 @@ pub fn fwu_top_with<D: Flash, H: Files, I: Source, O: Sink, V: Verifier>(
     match fwu_order(alloc, words) {
         Ok(Order::Run) => run_source(alloc, source, sink, flash, verifier),
         Ok(Order::Boot) => run_text(alloc, b"boot\n", sink, flash, verifier),
-        Ok(Order::Show) => print_usage(alloc, sink, flash),
+        Ok(Order::Show) => show(alloc, sink, flash),
         Ok(Order::Format { .. }) => print_usage(alloc, sink, flash),
         Err(UsageStop::Usage) => print_usage(alloc, sink, flash),
         Err(UsageStop::NoMemory) => idle(alloc, 9, Note::Nothing, flash),
