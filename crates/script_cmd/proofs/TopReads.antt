@@ -46,7 +46,7 @@ is-long was mid new before middle limit text piece n r some within full rest is 
     let front : List ℕ = text ++ take (n + 1) piece in
     let behind : List ℕ = drop (n + 1) piece ++ all.0 in
     let parts : front ++ behind ≡ rest =
-      append_assoc text (take (n + 1) piece) behind
-      ∙ ap (λ (l : List ℕ). text ++ l) (sym (append_assoc (take (n + 1) piece) (drop (n + 1) piece) all.0) ∙ ap (λ (l : List ℕ). l ++ all.0) (take-append-drop (n + 1) piece))
-      ∙ sym (append_assoc text piece all.0) ∙ sym all.1 in
+    append_assoc text (take (n + 1) piece) behind
+    ∙ ap (λ (l : List ℕ). text ++ l) (sym (append_assoc (take (n + 1) piece) (drop (n + 1) piece) all.0) ∙ ap (λ (l : List ℕ). l ++ all.0) (take-append-drop (n + 1) piece))
+    ∙ sym (append_assoc text piece all.0) ∙ sym all.1 in
     subst (λ (l : List ℕ). IsTrue (is_too_long l)) parts (long-stays-long front behind (full within text r.extent))

@@ -64,7 +64,6 @@ refuses asked told files name script first was are planned noted line good later
 refuses asked told files name script first was are planned noted line good later source (bad_list n some bad) = let no : false ≡ true = some in absurd (false_true no)
 
 module _ (passes : List ℕ → Bool) (tells : Bool) (journal : List Turn) (status : ℕ) (noted : Note) (old new : Moment) (taken takes : Option (List ℕ)) where
-
   -- nothing ran, and the line of the cause was put
   pub refused-by : (asked : Option Asked) (g : Given) (was are : Faults) (planned : ℕ) (line : List ℕ) (told : Note) → journal ≡ [] → new ≡ old → noted ≡ told → Refuses asked g was are planned told line
       → Prints line planned status taken takes was.sink are.sink → Way passes tells asked g journal status noted old new taken takes was are
@@ -196,3 +195,13 @@ some-list words rest name names =
 pub boot-is-short : is_too_long (codes "boot\n") ≡ false
 unfolding is_too_long
 boot-is-short = refl
+
+-- ---- lists
+
+-- a list that was read has no bad line
+pub no-bad-line : (bytes : List ℕ) (digests : List (List ℕ)) → digests_of bytes ≡ Ok digests → (n : ℕ) → digests_of bytes ≡ Err n → ⊥
+no-bad-line bytes digests read n bad = cc
+
+-- where no list is named, none has a bad line
+pub none-bad : (list : Option (List ℕ)) (files : Option Directory) → list ≡ None → HasNoBadLine (record { list = list; files = files; script = None })
+none-bad list files is = subst (λ (l : Option (List ℕ)). HasNoBadLine (record { list = l; files = files; script = None })) (sym is) tt

@@ -76,12 +76,7 @@ pub fn refuse_length<D: Flash, O: Sink>(alloc: Global, sink: &mut O, flash: D) -
 }
 
 /// Refuses a script whose first bad line this is. Where memory is wanting for the answer, nothing is written.
-pub fn refuse_script<D: Flash, O: Sink>(
-    alloc: Global,
-    sink: &mut O,
-    line: u32,
-    flash: D,
-) -> Done<D>
+pub fn refuse_script<D: Flash, O: Sink>(alloc: Global, sink: &mut O, line: u32, flash: D) -> Done<D>
     ensures prints { Prints (bad_script_line line) 4 result.status (O.taken sink.old) (O.taken sink.new) (O.faults sink.old) (O.faults sink.new) }
     ensures note { result.note ≡ Note.BadLine line }
     ensures flash { result.flash ≡ flash }
@@ -95,12 +90,7 @@ pub fn refuse_script<D: Flash, O: Sink>(
 }
 
 /// Refuses a list of digests whose first bad line this is. Where memory is wanting for the answer, nothing is written.
-pub fn refuse_list<D: Flash, O: Sink>(
-    alloc: Global,
-    sink: &mut O,
-    line: u64,
-    flash: D,
-) -> Done<D>
+pub fn refuse_list<D: Flash, O: Sink>(alloc: Global, sink: &mut O, line: u64, flash: D) -> Done<D>
     ensures prints { Prints (bad_list_line line) 13 result.status (O.taken sink.old) (O.taken sink.new) (O.faults sink.old) (O.faults sink.new) }
     ensures note { result.note ≡ Note.BadList line }
     ensures flash { result.flash ≡ flash }

@@ -115,6 +115,7 @@ pub fn fwu_top_with<D: Flash, H: Files, I: Source, O: Sink, V: Verifier>(
         Ok(Order::Run) => run_source(alloc, source, sink, flash, verifier),
         Ok(Order::Boot) => run_text(alloc, b"boot\n", sink, flash, verifier),
         Ok(Order::Show) => show(alloc, sink, flash),
+        // Interim: `format` is answered as usage until it is built.
         Ok(Order::Format { .. }) => print_usage(alloc, sink, flash),
         Err(UsageStop::Usage) => print_usage(alloc, sink, flash),
         Err(UsageStop::NoMemory) => idle(alloc, 9, Note::Nothing, flash),
