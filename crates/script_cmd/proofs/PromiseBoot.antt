@@ -78,7 +78,8 @@ module _ (passes : List ℕ → Bool) (image : List ℕ) (status : ℕ) (noted :
         absurd (cc);
     bank = λ E s k is test shows some.
         let h = chosen x.layout x.state (Some b) x.chose E s is test shows in
-        let same : b ≡ k = same_Some b k (sym h.1 ∙ some) in (
+        let same : b ≡ k = same_Some b k (sym h.1 ∙ some) in
+        (
           (says (reply.Booted b v trials counter fallback) replied).0,
           record {
             turn = t;
@@ -119,11 +120,9 @@ module _ (passes : List ℕ → Bool) (image : List ℕ) (status : ℕ) (noted :
     no_metadata = λ L is none. absurd (no-decision L x.state is x.chose.shows none);
     no_bank = λ E s is test shows none.
         let h = says (reply.NotBooted (no_boot.Bank active previous)) replied in
-        let same = (chosen x.layout x.state None x.chose E s is test shows).0 in (
-          h.0,
-          h.1 ∙ ap (λ (a : ℕ). note.Boot (no_boot.Bank a previous)) (x.active_is ∙ ap (λ (y : State). y.active) same)
-              ∙ ap (λ (p : ℕ). note.Boot (no_boot.Bank s.active p)) (x.previous_is ∙ ap (λ (y : State). y.previous) same),
-        );
+        let same = (chosen x.layout x.state None x.chose E s is test shows).0 in
+        (h.0, h.1 ∙ ap (λ (a : ℕ). note.Boot (no_boot.Bank a previous)) (x.active_is ∙ ap (λ (y : State). y.active) same)
+        ∙ ap (λ (p : ℕ). note.Boot (no_boot.Bank s.active p)) (x.previous_is ∙ ap (λ (y : State). y.previous) same));
     bank = λ E s k is test shows some.
         let h = chosen x.layout x.state None x.chose E s is test shows in
         let both = sym some ∙ h.1 in

@@ -33,9 +33,9 @@ asks-none asked is = ap (λ (a : Option Asked). runs_script (plainly a)) is
 
 asks-turns : (asked : Option Asked) → AsksTurns asked → IsTrue (runs_script (plainly asked))
 asks-turns asked is = elim is [
-  | inl run ↦ ap (λ (a : Option Asked). runs_script (plainly a)) run
-  | inr boot ↦ ap (λ (a : Option Asked). runs_script (plainly a)) boot
-]
+    | inl run ↦ ap (λ (a : Option Asked). runs_script (plainly a)) run
+    | inr boot ↦ ap (λ (a : Option Asked). runs_script (plainly a)) boot
+  ]
 
 asks-run : (asked : Option Asked) → asked ≡ Some ask.run → IsTrue (reads_source (plainly asked))
 asks-run asked is = ap (λ (a : Option Asked). reads_source (plainly a)) is

@@ -42,9 +42,9 @@ reply-status other reads = refl
 
 pub lack-cases : (status : ℕ) → IsTrue (may_lack status) → (status ≡ 3) ⊎ (status ≡ 9)
 lack-cases status lacks = elim (or_cases (status == 3) (status == 9) lacks) [
-  | inl e ↦ inl (eqb-true status 3 e)
-  | inr e ↦ inr (eqb-true status 9 e)
-]
+    | inl e ↦ inl (eqb-true status 3 e)
+    | inr e ↦ inr (eqb-true status 9 e)
+  ]
 
 pub ran-status : (script : List Call) (journal : List Turn) (status : ℕ) (noted : Note) → ((t : Turn) → Contains journal t → t.reply ≢ reply.ReadFault) → Ended script journal status noted → IsTrue (is_ran status)
 ran-status script journal status noted reads ended =

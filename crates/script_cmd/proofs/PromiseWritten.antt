@@ -118,11 +118,9 @@ module _ (asked : Option Asked) (g : Given) (was are : Faults) (status : ℕ) wh
       ([], stays taken takes before told same, wrote-nothing g.script (list_bytes g.list g.files) status noted is)
 
 pub ways-write : WaysWrite
-ways-write passes tells asked g journal status noted old new taken takes was are (starved empty same nine stuck) before told = (
-  [],
-  stays asked g was are status taken takes before told stuck,
-  subst (λ (j : List Turn). Wrote g.script (list_bytes g.list g.files) status noted j []) (sym empty) (wrote-nothing g.script (list_bytes g.list g.files) status noted nine),
-)
+ways-write passes tells asked g journal status noted old new taken takes was are (starved empty same nine stuck) before told =
+    ([], stays asked g was are status taken takes before told stuck,
+      subst (λ (j : List Turn). Wrote g.script (list_bytes g.list g.files) status noted j []) (sym empty) (wrote-nothing g.script (list_bytes g.list g.files) status noted nine))
 ways-write passes tells asked g journal status noted old new taken takes was are (refused planned line empty same why prints) before told =
     subst (λ (j : List Turn). WroteHolds g j status noted taken takes) (sym empty) (refused-writes asked g was are status planned noted line taken takes was.sink are.sink why prints) before told
 ways-write passes tells asked g journal status noted old new taken takes was are (ran calls on good asks has turns ended printed) before told =
