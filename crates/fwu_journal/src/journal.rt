@@ -1,0 +1,94 @@
+//! What a run did: its turns.
+ghost use Rattle.std.specs.Prelude.{◌≡◌, ◌∷◌, [], ◌++◌, ℕ, ◌+◌, IfOk, length, map};
+ghost use Rattle.fwu_journal.specs.Shown.{turns, HasRoomFor, turn};
+
+use early_boot::Numbers;
+use fwu_model::NoBoot;
+use script_text::Call;
+use std::alloc::{AllocError, Global};
+
+/// What a call was answered.
+#[derive(Clone, Copy, Debug, PartialEq, Eq)]
+pub enum Reply {
+    /// The flash is without power.
+    Off,
+    /// Power was lost.
+    Lost,
+    /// The flash failed.
+    Fault,
+    Booted {
+        bank: u32,
+        /// The security version of the bank's manifest.
+        version: u32,
+        /// How often the active bank was started on trial.
+        trials: u32,
+        /// The anti-rollback counter.
+        counter: u32,
+        /// Whether the bank isn't the active one.
+        fallback: bool,
+    },
+    NotBooted(NoBoot),
+    /// A loss of power was armed.
+    CutOk,
+    Shown(Numbers),
+}
+
+/// A call, its reply, and of a boot the numbers that the flash held as the turn began, where the boot told them.
+#[derive(Clone, Copy, Debug, PartialEq, Eq)]
+pub struct Turn {
+    pub call: Call,
+    pub reply: Reply,
+    pub numbers: Option<Numbers>,
+}
+
+/// The turns of a run, in their order.
+#[derive(Debug, Drop)]
+pub struct Journal {
+    turns: Vec<Turn>,
+}
+
+impl Journal {
+    /// A journal without turns, which takes no memory.
+    pub fn new(alloc: Global) -> Journal
+        ensures { turns result ≡ [] }
+    {
+        Journal {
+            turns: Vec::new(alloc),
+        }
+    }
+
+    /// A journal without turns, with room for so many.
+    pub fn with_room(alloc: Global, count: usize) -> Result<Journal, AllocError>
+        ensures empty { IfOk result (λ journal. turns journal ≡ []) }
+        ensures room { IfOk result (λ journal. HasRoomFor journal count) }
+    {
+        Ok(Journal {
+            turns: Vec::with_capacity(alloc, count)?,
+        })
+    }
+
+    /// Adds a turn, in room that was made before.
+    pub fn add(&mut self, next: Turn)
+        requires { HasRoomFor self.old 1 }
+        ensures adds { turns self.new ≡ turns self.old ++ turn next ∷ [] }
+        ensures room { (n : ℕ) → HasRoomFor self.old (n + 1) → HasRoomFor self.new n }
+    {
+        // It is named here, so that the proof is told the type of the numbers.
+        let _numbers = &next.numbers;
+        self.turns.push(next).unwrap()
+    }
+
+    /// The turns, in their order.
+    pub fn turns(&self) -> &[Turn]
+        ensures { map turn result.now ≡ turns self.now }
+    {
+        self.turns.as_slice()
+    }
+
+    /// How many turns there are.
+    pub fn len(&self) -> usize
+        ensures { result ≡ length (turns self.now) }
+    {
+        self.turns.len()
+    }
+}
