@@ -1,0 +1,2 @@
+mod RunTurns
+mod RunEnds

@@ -1,6 +1,5 @@
 -- The flash of a run between two turns, as the definitions have it.
 use Rattle.std.specs.Prelude.{◌≡◌, ℕ, List, [], ◌∷◌, Option, Some, None, is_some, Bool}
-use Rattle.flash_core.specs.declared.flash.Flash.{Ghosts}
 use Rattle.flash_core.specs.declared.flash.Arming.{Arming}
 use Rattle.flash_core.specs.declared.flash.Counts.{Counts}
 use Rattle.flash_core.specs.Told.{Told}
@@ -16,12 +15,12 @@ use Rattle.early_boot.specs.Numbers.{numbers}
 use Rattle.script_cmd.specs.declared.machine.Machine.{Machine}
 use Rattle.script_cmd.specs.declared.machine.Machine.TheVariants as machine
 
-abbrev pub device : {D : Type 0} {F : Ghosts D} → Machine D F → D
+abbrev pub device : {D : Type 0} → Machine D → D
 device (machine.Off flash) = flash
 device (machine.On flash n) = flash
 
 -- the numbers of the flash, where a bank was booted on it
-abbrev pub shown_on : {D : Type 0} {F : Ghosts D} → Machine D F → Option Numbers
+abbrev pub shown_on : {D : Type 0} → Machine D → Option Numbers
 shown_on (machine.Off flash) = None
 shown_on (machine.On flash n) = Some (numbers n)
 
