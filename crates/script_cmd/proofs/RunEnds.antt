@@ -92,6 +92,11 @@ module _ (piece : List ℕ) (plan status : ℕ) (old new : Option (List ℕ)) (w
   printed-rose (front is n bytes later rose) whole three = rose
   printed-rose (nothing is same later) whole three = absurd (omega arith)
 
+-- at the status 0 the run goes on
+pub printed-on : (r : Reply) (piece : List ℕ) (status : ℕ) (old new : Option (List ℕ)) (was are : ℕ) → Prints piece (status_by r) status old new was are → status ≡ 0 → IsFalse (ends_run r)
+printed-on r piece status old new was are prints zero_is =
+    on-at-zero r (sym (printed-all piece (status_by r) status old new was are prints (ap may_lack zero_is)).0 ∙ zero_is)
+
 -- ---- the last turn
 
 last-push : (journal : List Turn) (t : Turn) → last_turn (journal ++ t ∷ []) ≡ Some t
