@@ -23,7 +23,7 @@ use Rattle.fwu_model.specs.Headline.{IsPrefixOf}
 use Rattle.script_cmd.specs.Machine.{Moment}
 use Rattle.script_cmd.specs.Turning.{Turns}
 use Rattle.script_cmd.specs.Printed.{Prints, all, front, nothing}
-use Rattle.script_cmd.specs.Running.{Ran, Steps, GoesOn, Ended, Writes, Printed, calls_of, last_turn, status_of_last, note_of_last}
+use Rattle.script_cmd.specs.Running.{Ran, Steps, Ended, Writes, Printed, calls_of, last_turn, status_of_last, note_of_last}
 use Rattle.script_cmd.proofs.RunTurns.{ran-none, ran-on, rose-before}
 
 -- ---- the statuses of replies
@@ -174,6 +174,14 @@ module _ (script : List Call) (n : ℕ) (c : Call) (journal : List Turn) (t : Tu
   }
 
 -- ---- going on
+
+-- A run that goes on: the first n calls of its script were done, none of their turns ended it, and the sink took all lines.
+pub record GoesOn (passes : List ℕ → Bool) (tells : Bool) (script : List Call) (n : ℕ) (journal : List Turn) (old new : Moment) (taken takes : Option (List ℕ)) (was are : ℕ) : Type 0 where
+  pub ran : Ran passes tells journal old new
+  pub calls : calls_of journal ≡ take n script
+  pub on : IsFalse (list_any (λ (t : Turn). ends_run t.reply) journal)
+  pub bytes : (before : List ℕ) → taken ≡ Some before → takes ≡ Some (before ++ text journal)
+  pub later : was ≤ are
 
 module _ (passes : List ℕ → Bool) (tells : Bool) (script : List Call) (old : Moment) (taken : Option (List ℕ)) (was : ℕ) where
   pub goes-none : old.on ≡ None → GoesOn passes tells script 0 [] old old taken taken was was

@@ -1,6 +1,5 @@
 -- What a run of a script did so far.
-use Rattle.std.specs.Prelude.{◌≡◌, ◌≢◌, ◌⊎◌, ℕ, ◌+◌, ◌≤◌, Bool, List, [], ◌∷◌, ◌++◌, length, map, Option, Some, None, IsTrue, IsFalse, Contains, slice_get, take}
-use Rattle.std.specs.List.{list_any}
+use Rattle.std.specs.Prelude.{◌≡◌, ◌≢◌, ◌⊎◌, ℕ, ◌+◌, ◌≤◌, Bool, List, [], ◌∷◌, ◌++◌, length, map, Option, Some, None, IsTrue, IsFalse, Contains, slice_get}
 use Rattle.flash_core.specs.Counts.{Rose}
 use Rattle.flash_core.specs.Told.{NothingDirty}
 use Rattle.flash_core.specs.May.{Guards}
@@ -55,7 +54,7 @@ pub record Ran (passes : List ℕ → Bool) (tells : Bool) (journal : List Turn)
   pub untouched : journal ≡ [] → (new ≡ old)
   pub first : IsTrue tells → NothingDirty old.told → (t : Turn) → slice_get journal 0 ≡ Some t → t.call ≡ call.Boot → BootsFrom passes old.told.now t.reply
 
--- ---- between two turns
+-- ---- one turn
 
 -- What one turn leaves: it does the call c, it is kept, and its line was printed with this status.
 pub record Steps (passes : List ℕ → Bool) (tells : Bool) (c : Call) (before after : List Turn) (old new : Moment) (status : ℕ) (noted : Note) (taken takes : Option (List ℕ)) (was are : ℕ) : Type 0 where
@@ -64,14 +63,6 @@ pub record Steps (passes : List ℕ → Bool) (tells : Bool) (c : Call) (before 
   pub kept : after ≡ before ++ turn ∷ []
   pub prints : Prints (line turn.call turn.reply) (status_by turn.reply) status taken takes was are
   pub noted_is : noted ≡ note_by turn.reply
-
--- A run that goes on: the first n calls of its script were done, none of their turns ended it, and the sink took all lines.
-pub record GoesOn (passes : List ℕ → Bool) (tells : Bool) (script : List Call) (n : ℕ) (journal : List Turn) (old new : Moment) (taken takes : Option (List ℕ)) (was are : ℕ) : Type 0 where
-  pub ran : Ran passes tells journal old new
-  pub calls : calls_of journal ≡ take n script
-  pub on : IsFalse (list_any (λ (t : Turn). ends_run t.reply) journal)
-  pub bytes : (before : List ℕ) → taken ≡ Some before → takes ≡ Some (before ++ text journal)
-  pub later : was ≤ are
 
 -- ---- how a run ended
 

@@ -5,8 +5,8 @@ use Rattle.fwu_journal.specs.Shown.{turns}
 use Rattle.script_text.specs.Shown.{shown}
 use Rattle.script_cmd.specs.Machine.{Moment, at, device, shown_on}
 use Rattle.script_cmd.specs.Noted.{noted}
-use Rattle.script_cmd.specs.Running.{Ended, GoesOn, Printed, Ran}
-use Rattle.script_cmd.proofs.RunEnds.{goes-none, goes-on, ends-ran, ends-by, ends-printed, all-ended, all-printed}
+use Rattle.script_cmd.specs.Running.{Ran}
+use Rattle.script_cmd.proofs.RunEnds.{GoesOn, goes-none, goes-on, ends-ran, ends-by, ends-printed, all-ended, all-printed}
 use Rattle.script_cmd.proofs.running.run_script.Goals as goal
 
 pub loop-index-init : goal.loop-index-init

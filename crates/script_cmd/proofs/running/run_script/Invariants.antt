@@ -2,7 +2,7 @@ use Rattle.std.proofs.Common.{◌≡◌, ◌≤◌, ◌-◌, None, is_some, leng
 use Rattle.fwu_journal.specs.Shown.{HasRoomFor, turns}
 use Rattle.fwu_journal.specs.declared.line.TheConstants.{LINE_ROOM}
 use Rattle.script_cmd.specs.Machine.{at, device, shown_on}
-use Rattle.script_cmd.specs.Running.{GoesOn}
+use Rattle.script_cmd.proofs.RunEnds.{GoesOn}
 use Rattle.script_cmd.proofs.running.run_script.Given as goal
 
 -- the run goes on, and there is room for the turns that are left and for a line
