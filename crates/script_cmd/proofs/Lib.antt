@@ -8,3 +8,5 @@ pub mod PromiseHeadline
 pub mod PromiseBoot
 pub mod PromiseGuarded
 pub mod PromiseComplete
+mod RunTurns
+mod RunEnds
