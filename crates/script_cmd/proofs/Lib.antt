@@ -1,3 +1,4 @@
+pub mod PromiseWords
 pub mod PromiseTurns
 pub mod PromiseWritten
 pub mod PromiseEnds

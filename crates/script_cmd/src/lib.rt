@@ -2,6 +2,7 @@
 #![tactic(auto)]
 
 mod done;
+mod laws;
 mod machine;
 mod printing;
 mod room;
@@ -9,3 +10,6 @@ mod running;
 mod turning;
 
 pub use done::{Done, Note};
+pub use laws::{
+    ways_are_complete, ways_boot, ways_end, ways_guard, ways_keep_the_headline, ways_write,
+};
