@@ -1,6 +1,7 @@
 pub mod ShowFlash
 mod TurnQuiet
 mod TurnBoots
+pub mod PromiseWords
 pub mod PromiseTurns
 pub mod PromiseWritten
 pub mod PromiseEnds

@@ -2,9 +2,16 @@
 #![tactic(auto)]
 
 mod done;
+mod laws;
 mod machine;
 mod printing;
+mod room;
+mod running;
 mod showing;
+mod turning;
 
 pub use done::{Done, Note};
+pub use laws::{
+    ways_are_complete, ways_boot, ways_end, ways_guard, ways_keep_the_headline, ways_write,
+};
 pub use printing::{put_line, put_usage};
