@@ -21,7 +21,6 @@ pub fn put_line<O: Sink>(sink: &mut O, bytes: &[u8], planned: u8) -> u8
 pub fn put_usage<O: Sink>(sink: &mut O) -> u8
     ensures { Prints usage_line 1 result (O.taken sink.old) (O.taken sink.new) (O.faults sink.old) (O.faults sink.new) }
 {
-    let line =
-        b"usage: fwu FLASH run|boot|show|format [--banks N] LAYOUT PACKAGE|soak SEED N\n";
+    let line = b"usage: fwu FLASH run|boot|show|format [--banks N] LAYOUT PACKAGE|soak SEED N\n";
     put_line(sink, line.as_slice(), 1)
 }
