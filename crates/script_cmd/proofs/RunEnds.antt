@@ -1,9 +1,9 @@
 -- How a run goes on, and how it ends.
-use Rattle.std.proofs.Common.{◌≡◌, ◌≢◌, ◌⊎◌, ℕ, zero, suc, ◌+◌, ◌<◌, ◌≤◌, Bool, true, false, not, ◌==◌, ◌||◌, List, [], ◌∷◌, ◌++◌, length, map, take, drop, Option, Some, None, refl, sym, ap, subst, ◌∙◌, inl, inr, IsTrue, IsFalse, arith, append-nil, append_assoc, length-append}
+use Rattle.std.proofs.Common.{◌≡◌, ◌≢◌, ℕ, ◌+◌, ◌≤◌, Bool, false, ◌||◌, List, [], ◌∷◌, ◌++◌, length, take, drop, Option, Some, None, refl, sym, ap, subst, ◌∙◌, IsTrue, IsFalse, arith, append-nil, append_assoc, length-append}
 use Rattle.std.specs.Prelude.{codes}
 use Rattle.std.specs.List.{slice_get, list_any}
 use Rattle.std.specs.Io.KnownBytes.{Appends}
-use Rattle.std.proofs.lemmas.Bool.{cases_Bool, cases_lt, false≢true, or_parts}
+use Rattle.std.proofs.lemmas.Bool.{false≢true, or_parts}
 use Rattle.std.proofs.lemmas.List.{take-append-drop, map-append, take_more, append_cancel_left}
 use Rattle.std.proofs.Math.Seq.{take-length}
 use Rattle.std.proofs.lemmas.List.Folds.{list_any-append}
@@ -19,9 +19,7 @@ use Rattle.fwu_model.specs.Run.{ends_run}
 use Rattle.fwu_model.specs.Text.{line, text, call_word, reply_text}
 use Rattle.fwu_model.specs.Wrote.{may_lack}
 use Rattle.fwu_model.specs.Causes.{status_by, note_by}
-use Rattle.fwu_model.specs.Headline.{IsPrefixOf}
 use Rattle.script_cmd.specs.Machine.{Moment}
-use Rattle.script_cmd.specs.Turning.{Turns}
 use Rattle.script_cmd.specs.Printed.{Prints, all, front, nothing}
 use Rattle.script_cmd.specs.Running.{Ran, Steps, Ended, Writes, Printed, calls_of, last_turn, status_of_last, note_of_last}
 use Rattle.script_cmd.proofs.RunTurns.{ran-none, ran-on, rose-before}
@@ -145,25 +143,37 @@ module _ (script : List Call) (n : ℕ) (c : Call) (journal : List Turn) (t : Tu
   more-bytes piece before is appends = appended mids takes piece (before ++ text journal) is appends ∙ ap Some (append_assoc before (text journal) piece)
 
   whole-by : (before : List ℕ) → mids ≡ Some (before ++ text journal) → Prints (line t.call t.reply) (status_by t.reply) status mids takes am are → (w : List ℕ) × (takes ≡ Some (before ++ w)) × Writes (journal ++ t ∷ []) status w
-  whole-by before is (all planned bytes later) = (text journal ++ line t.call t.reply, more-bytes (line t.call t.reply) before is bytes, record {
-    whole = λ whole. sym (text-more journal t);
-    front = λ lacks. ([], append-nil (text journal ++ line t.call t.reply) ∙ sym (text-more journal t));
-    less = λ nine. absurd (lacks-not (status_by t.reply) 9 (sym planned ∙ nine) refl (status-whole t.reply));
-  })
-  whole-by before is (front three k bytes later rose) = (text journal ++ take k (line t.call t.reply), more-bytes (take k (line t.call t.reply)) before is bytes, record {
-    whole = λ whole. absurd (lacks-not status 3 three refl whole);
-    front = λ lacks. (
-      drop k (line t.call t.reply),
-      append_assoc (text journal) (take k (line t.call t.reply)) (drop k (line t.call t.reply))
-      ∙ ap (λ (w : List ℕ). text journal ++ w) (take-append-drop k (line t.call t.reply)) ∙ sym (text-more journal t),
-    );
-    less = λ nine. absurd (omega arith);
-  })
-  whole-by before is (nothing nine same later) = (text journal, same ∙ is, record {
-    whole = λ whole. absurd (lacks-not status 9 nine refl whole);
-    front = λ lacks. (line t.call t.reply, sym (text-more journal t));
-    less = λ again all_of_it. line-some t (sym (append_cancel_left (text journal) [] (line t.call t.reply) (append-nil (text journal) ∙ all_of_it ∙ text-more journal t)));
-  })
+  whole-by before is (all planned bytes later) = (
+    text journal ++ line t.call t.reply,
+    more-bytes (line t.call t.reply) before is bytes,
+    record {
+      whole = λ whole. sym (text-more journal t);
+      front = λ lacks. ([], append-nil (text journal ++ line t.call t.reply) ∙ sym (text-more journal t));
+      less = λ nine. absurd (lacks-not (status_by t.reply) 9 (sym planned ∙ nine) refl (status-whole t.reply));
+    },
+  )
+  whole-by before is (front three k bytes later rose) = (
+    text journal ++ take k (line t.call t.reply),
+    more-bytes (take k (line t.call t.reply)) before is bytes,
+    record {
+      whole = λ whole. absurd (lacks-not status 3 three refl whole);
+      front = λ lacks. (
+        drop k (line t.call t.reply),
+        append_assoc (text journal) (take k (line t.call t.reply)) (drop k (line t.call t.reply))
+            ∙ ap (λ (w : List ℕ). text journal ++ w) (take-append-drop k (line t.call t.reply)) ∙ sym (text-more journal t),
+      );
+      less = λ nine. absurd (omega arith);
+    },
+  )
+  whole-by before is (nothing nine same later) = (
+    text journal,
+    same ∙ is,
+    record {
+      whole = λ whole. absurd (lacks-not status 9 nine refl whole);
+      front = λ lacks. (line t.call t.reply, sym (text-more journal t));
+      less = λ again all_of_it. line-some t (sym (append_cancel_left (text journal) [] (line t.call t.reply) (append-nil (text journal) ∙ all_of_it ∙ text-more journal t)));
+    },
+  )
 
   printed-by : ((before : List ℕ) → taken ≡ Some before → mids ≡ Some (before ++ text journal)) → was ≤ am → Prints (line t.call t.reply) (status_by t.reply) status mids takes am are
       → Printed (journal ++ t ∷ []) status taken takes was are
@@ -241,11 +251,15 @@ module _ (passes : List ℕ → Bool) (tells : Bool) (script : List Call) (old :
 
     pub all-printed : GoesOn passes tells script (length script) journal old new taken takes was are → Printed journal 0 taken takes was are
     all-printed goes = record {
-      bytes = λ before is. (text journal, goes.bytes before is, record {
-        whole = λ whole. refl;
-        front = λ lacks. absurd (false≢true lacks);
-        less = λ nine. absurd (omega arith);
-      });
+      bytes = λ before is. (
+        text journal,
+        goes.bytes before is,
+        record {
+          whole = λ whole. refl;
+          front = λ lacks. absurd (false≢true lacks);
+          less = λ nine. absurd (omega arith);
+        },
+      );
       later = goes.later;
       failed = λ three. absurd (omega arith);
     }

@@ -1,5 +1,5 @@
 -- A run of turns, and one turn more.
-use Rattle.std.proofs.Common.{◌≡◌, ◌≢◌, ◌⊎◌, ℕ, zero, suc, ◌+◌, ◌-◌, ◌<◌, ◌≤◌, Bool, true, false, cond, List, [], ◌∷◌, ◌++◌, length, get_or, Option, Some, None, refl, sym, ap, subst, ◌∙◌, inl, inr, IsTrue, IsFalse, Contains, arith, length-append}
+use Rattle.std.proofs.Common.{◌≡◌, ◌⊎◌, ℕ, zero, suc, ◌+◌, ◌-◌, ◌<◌, ◌≤◌, Bool, true, false, cond, List, [], ◌∷◌, ◌++◌, length, Option, Some, None, refl, sym, ap, subst, ◌∙◌, inl, inr, IsTrue, IsFalse, Contains, arith, length-append}
 use Rattle.std.specs.List.{slice_get, list_any, count_by}
 use Rattle.std.proofs.Math.Seq.{get_or-append_seam}
 use Rattle.std.proofs.lemmas.Bool.{cases_Bool, cases_lt, false≢true, or_parts}
@@ -10,7 +10,7 @@ use Rattle.flash_core.specs.Counts.{Rose}
 use Rattle.flash_core.specs.declared.flash.Arming.{Arming}
 use Rattle.flash_core.specs.declared.flash.Counts.{Counts}
 use Rattle.flash_core.specs.Told.{Told, NothingDirty, fresh, is_unsure}
-use Rattle.flash_core.specs.May.{Guards, Quiet}
+use Rattle.flash_core.specs.May.{Quiet}
 use Rattle.fwu_model.specs.State.{State, Numbers}
 use Rattle.fwu_model.specs.Sound.{Setting}
 use Rattle.fwu_model.specs.Call.{Call}
@@ -24,9 +24,9 @@ use Rattle.fwu_model.specs.Causes.{LossesAreCounted, greatest, is_lost}
 use Rattle.fwu_model.proofs.Runs.{runs-grow}
 use Rattle.fwu_model.proofs.Frame.{calm-stays, start-is-calm}
 use Rattle.script_cmd.specs.Booted.{BootsFrom}
-use Rattle.script_cmd.specs.Machine.{Moment, IsAt, IsSafe, Shows}
+use Rattle.script_cmd.specs.Machine.{Moment, IsSafe, Shows}
 use Rattle.script_cmd.specs.Turning.{Makes, NoneFalls, Turns}
-use Rattle.script_cmd.specs.Running.{Ran, RunsTo, StartsSound}
+use Rattle.script_cmd.specs.Running.{Ran, RunsTo}
 
 -- ---- the places of a list with one element more
 
@@ -194,7 +194,7 @@ module _ (passes : List ℕ → Bool) (tells : Bool) where
       let len = length-append journal (t ∷ []) in
       let below = slice_get_within (journal ++ t ∷ []) n u is in
       elim (cases_lt n (length journal)) [
-        inl before ↦ absurd (false≢true (sym (none-at (λ (x : Turn). ends_run x.reply) journal n u none (sym (slice_get-left journal (t ∷ []) n before) ∙ is)) ∙ ends))
+        | inl before ↦ absurd (false≢true (sym (none-at (λ (x : Turn). ends_run x.reply) journal n u none (sym (slice_get-left journal (t ∷ []) n before) ∙ is)) ∙ ends))
         | inr behind ↦ omega (arith, len, below)
       ]
 
@@ -204,11 +204,11 @@ module _ (passes : List ℕ → Bool) (tells : Bool) where
     counts = falls-on old.counts mid.counts new.counts ran.counts turned.counts;
     lost_turns = losses-on t journal old.counts mid.counts new.counts turned.counts turned.lost ran.lost_turns;
     fault_turns = λ u in_it is. elim (Contains-push_cases journal t u in_it) [
-      inl before ↦ rose-after old.counts.faults mid.counts.faults new.counts.faults turned.counts.faults (ran.fault_turns u before is)
+      | inl before ↦ rose-after old.counts.faults mid.counts.faults new.counts.faults turned.counts.faults (ran.fault_turns u before is)
       | inr last ↦ rose-before old.counts.faults mid.counts.faults new.counts.faults ran.counts.faults (turned.failed (ap (λ (x : Turn). x.reply) last ∙ is))
     ];
     reads_no_file = λ u in_it is. elim (Contains-push_cases journal t u in_it) [
-      inl before ↦ ran.reads_no_file u before is
+      | inl before ↦ ran.reads_no_file u before is
       | inr last ↦ turned.reads_no_file (ap (λ (x : Turn). x.reply) last ∙ is)
     ];
     ends = ends-on t journal none;

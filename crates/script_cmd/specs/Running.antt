@@ -1,5 +1,5 @@
 -- What a run of a script did so far.
-use Rattle.std.specs.Prelude.{◌≡◌, ◌≢◌, ◌⊎◌, ℕ, ◌+◌, ◌≤◌, Bool, List, [], ◌∷◌, ◌++◌, length, map, Option, Some, None, IsTrue, IsFalse, Contains, slice_get}
+use Rattle.std.specs.Prelude.{◌≡◌, ◌≢◌, ℕ, ◌+◌, ◌≤◌, Bool, List, [], ◌∷◌, ◌++◌, length, map, Option, Some, None, IsTrue, IsFalse, Contains, slice_get}
 use Rattle.flash_core.specs.Counts.{Rose}
 use Rattle.flash_core.specs.Told.{NothingDirty}
 use Rattle.flash_core.specs.May.{Guards}

@@ -53,11 +53,7 @@ fn status_of(last: &Reply) -> u8
     match last {
         Reply::Fault => 5,
         Reply::NotBooted(_) => 6,
-        Reply::Off
-        | Reply::Lost
-        | Reply::Booted { .. }
-        | Reply::CutOk
-        | Reply::Shown(_) => 0,
+        Reply::Off | Reply::Lost | Reply::Booted { .. } | Reply::CutOk | Reply::Shown(_) => 0,
     }
 }
 
@@ -138,7 +134,9 @@ fn done<D: Flash>(running: Running<D>, end: End) -> Done<D>
     ensures journal { result.journal ≡ running.journal }
 {
     let Running {
-        machine, journal, ..
+        machine,
+        journal,
+        ..
     } = running;
     Done {
         status: end.status,
