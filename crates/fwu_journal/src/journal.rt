@@ -57,7 +57,7 @@ impl Journal {
         }
     }
 
-    /// A journal without turns, with room for so many.
+    /// A journal without turns, with room for so many. The error comes where memory is wanting.
     pub fn with_room(alloc: Global, count: usize) -> Result<Journal, AllocError>
         ensures empty { IfOk result (λ journal. turns journal ≡ []) }
         ensures room { IfOk result (λ journal. HasRoomFor journal count) }

@@ -1,6 +1,7 @@
 pub mod ShowFlash
 mod TurnQuiet
 mod TurnBoots
+pub mod PromiseWords
 pub mod PromiseTurns
 pub mod PromiseWritten
 pub mod PromiseEnds
@@ -8,6 +9,8 @@ pub mod PromiseHeadline
 pub mod PromiseBoot
 pub mod PromiseGuarded
 pub mod PromiseComplete
+mod RunTurns
+mod RunEnds
 pub mod TopReads
 pub mod TopPrints
 pub mod TopWays

@@ -1,5 +1,5 @@
 -- The one command `boot` goes by the bytes, whichever way the run ended.
-use Rattle.std.proofs.Common.{◌≡◌, ◌≢◌, ℕ, ◌+◌, ◌<◌, ◌≤◌, Bool, true, false, cond, ◌||◌, ◌==◌, List, [], ◌∷◌, ◌++◌, length, map, Option, Some, None, Ok, Err, slice_get, Contains, refl, sym, ap, subst, ◌∙◌, arith, inl, inr, ◌⊎◌, IsTrue, IsFalse}
+use Rattle.std.proofs.Common.{◌≡◌, ◌≢◌, ℕ, ◌<◌, Bool, false, ◌||◌, ◌==◌, List, [], ◌∷◌, ◌++◌, Option, Some, None, Ok, Err, slice_get, refl, sym, ap, subst, ◌∙◌, arith, inl, inr, IsTrue, IsFalse}
 use Rattle.std.specs.Prelude.{Result, codes, count_by}
 use Rattle.std.proofs.lemmas.Bool.{or_parts, or_from, false≢true}
 use Rattle.std.proofs.lemmas.Option.{same_Some}
@@ -21,7 +21,6 @@ use Rattle.fwu_model.specs.Script.{script_of, is_too_long}
 use Rattle.fwu_model.specs.Wrote.{may_lack, script_asked}
 use Rattle.fwu_model.specs.Causes.{LossesAreCounted, Faults, may_fail_before, is_lost, status_by, note_by}
 use Rattle.fwu_model.specs.declared.kinds.LayoutFault.{LayoutFault}
-use Rattle.fwu_model.specs.declared.kinds.NoBoot.{NoBoot}
 use Rattle.fwu_model.specs.declared.kinds.NoBoot.TheVariants as no_boot
 use Rattle.fwu_model.specs.declared.kinds.Note.{Note}
 use Rattle.fwu_model.specs.declared.kinds.Note.TheVariants as note
@@ -31,14 +30,13 @@ use Rattle.fwu_words.specs.Order.{Asked}
 use Rattle.fwu_words.specs.Order as ask
 use Rattle.script_cmd.specs.Asking.{plainly}
 use Rattle.script_cmd.specs.Booted.{BootsFrom, ChoseBank, ChoseNone}
-use Rattle.script_cmd.specs.BootWord.{BootsBy, BootsBank}
+use Rattle.script_cmd.specs.BootWord.{BootsBy}
 use Rattle.script_cmd.specs.Machine.{Moment, at}
 use Rattle.script_cmd.specs.Running.{Ran, Ended, status_of_last, note_of_last, last_turn, calls_of}
-use Rattle.script_cmd.specs.Turning.{NoneFalls}
-use Rattle.script_cmd.specs.Ways.{Given, Refuses, usage, not_read, list_not_read, too_long, bad_script, bad_list, Way, starved, refused, ran}
-use Rattle.script_cmd.specs.Promises.{given_to, BootWordHolds, WaysBoot}
+use Rattle.script_cmd.specs.Ways.{Given, Refuses, usage, not_read, list_not_read, too_long, bad_script, bad_list, starved, refused, ran}
+use Rattle.script_cmd.specs.Promises.{given_to, WaysBoot}
 use Rattle.script_cmd.proofs.PromiseTurns.{by-plan, some-at}
-use Rattle.script_cmd.proofs.PromiseHeadline.{boot-is-script, same-calls}
+use Rattle.script_cmd.proofs.PromiseWords.{boot-is-script, boot-script, same-calls}
 
 same-Ok : (x y : Layout) → ◌≡◌ {A = Result Layout LayoutFault} (Ok x) (Ok y) → x ≡ y
 same-Ok x y e = cc
@@ -78,8 +76,7 @@ module _ (passes : List ℕ → Bool) (image : List ℕ) (status : ℕ) (noted :
         absurd (cc);
     bank = λ E s k is test shows some.
         let h = chosen x.layout x.state (Some b) x.chose E s is test shows in
-        let same : b ≡ k = same_Some b k (sym h.1 ∙ some) in
-        (
+        let same : b ≡ k = same_Some b k (sym h.1 ∙ some) in (
           (says (reply.Booted b v trials counter fallback) replied).0,
           record {
             turn = t;
@@ -120,9 +117,11 @@ module _ (passes : List ℕ → Bool) (image : List ℕ) (status : ℕ) (noted :
     no_metadata = λ L is none. absurd (no-decision L x.state is x.chose.shows none);
     no_bank = λ E s is test shows none.
         let h = says (reply.NotBooted (no_boot.Bank active previous)) replied in
-        let same = (chosen x.layout x.state None x.chose E s is test shows).0 in
-        (h.0, h.1 ∙ ap (λ (a : ℕ). note.Boot (no_boot.Bank a previous)) (x.active_is ∙ ap (λ (y : State). y.active) same)
-        ∙ ap (λ (p : ℕ). note.Boot (no_boot.Bank s.active p)) (x.previous_is ∙ ap (λ (y : State). y.previous) same));
+        let same = (chosen x.layout x.state None x.chose E s is test shows).0 in (
+          h.0,
+          h.1 ∙ ap (λ (a : ℕ). note.Boot (no_boot.Bank a previous)) (x.active_is ∙ ap (λ (y : State). y.active) same)
+              ∙ ap (λ (p : ℕ). note.Boot (no_boot.Bank s.active p)) (x.previous_is ∙ ap (λ (y : State). y.previous) same),
+        );
     bank = λ E s k is test shows some.
         let h = chosen x.layout x.state None x.chose E s is test shows in
         let both = sym some ∙ h.1 in
@@ -194,9 +193,6 @@ no-refusal asked g was are planned noted line boot script (bad_script n good ask
     let both = sym boot-is-script ∙ some-at g.script (λ b. script_of b ≡ Err n) (codes "boot\n") bad script in
     absurd (cc)
 no-refusal asked g was are planned noted line boot script (bad_list n some bad) = refl
-
-boot-script : (asked : Option Asked) (source : Option (List ℕ)) → asked ≡ Some ask.boot → script_asked (plainly asked) source ≡ Some (codes "boot\n")
-boot-script asked source is = ap (λ (a : Option Asked). script_asked (plainly a) source) is
 
 pub ways-boot : WaysBoot
 ways-boot passes tells asked list files source journal status noted old new taken takes was are (starved empty same nine stuck) told clean boot fails faults cuts reached =

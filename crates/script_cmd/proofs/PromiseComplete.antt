@@ -1,5 +1,5 @@
 -- A run that is given what it asks for, and meets no failure, does it all.
-use Rattle.std.proofs.Common.{◌≡◌, ℕ, List, Option, Some, subst}
+use Rattle.std.proofs.Common.{ℕ, List, Option, subst}
 use Rattle.fwu_model.specs.Causes.{EndsAs}
 use Rattle.fwu_model.proofs.Complete.{runs-are-complete}
 use Rattle.script_cmd.specs.Asking.{plainly}

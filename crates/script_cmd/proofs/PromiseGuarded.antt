@@ -1,11 +1,10 @@
 -- No loss harms what is in use after a run, whichever way it ended.
-use Rattle.std.proofs.Common.{◌≡◌, ℕ, List, Option, Some, None, refl, sym, ap, subst, ◌∙◌, IsTrue, IsFalse}
+use Rattle.std.proofs.Common.{◌≡◌, ℕ, List, Option, Some, None, refl, sym, subst, IsFalse}
 use Rattle.flash_core.specs.Told.{Told, NothingDirty, fresh, is_unsure}
-use Rattle.flash_core.specs.May.{Guards}
 use Rattle.fwu_model.specs.Calm.{IsGuarded}
 use Rattle.fwu_model.specs.State.{Numbers}
 use Rattle.script_cmd.specs.Machine.{Moment, IsSafe}
-use Rattle.script_cmd.specs.Ways.{Way, starved, refused, ran}
+use Rattle.script_cmd.specs.Ways.{starved, refused, ran}
 use Rattle.script_cmd.specs.Promises.{WaysGuard}
 
 fresh-sure : (guard image : List ℕ) (i : ℕ) → IsFalse (is_unsure (fresh guard image) i)

@@ -1,8 +1,7 @@
 -- The headline, whichever way a run ended.
-use Rattle.std.proofs.Common.{◌≡◌, ◌≢◌, ℕ, ◌+◌, Bool, List, [], ◌∷◌, ◌++◌, length, map, Option, Some, None, Ok, refl, sym, ap, subst, ◌∙◌, arith, inl, inr, ◌⊎◌, IsTrue, IsFalse}
-use Rattle.std.specs.Prelude.{Result, codes, ◌/◌}
+use Rattle.std.proofs.Common.{◌≡◌, ◌≢◌, ℕ, Bool, List, [], ◌∷◌, length, Option, Some, None, refl, sym, subst, ◌∙◌, arith, inl, IsTrue, IsFalse}
+use Rattle.std.specs.Prelude.{◌/◌}
 use Rattle.std.proofs.lemmas.Option.{same_Some}
-use Rattle.base_core.specs.Counts.{Rose}
 use Rattle.base_core.specs.Block.{block}
 use Rattle.flash_core.specs.Told.{Told}
 use Rattle.flash_core.specs.declared.flash.Counts.{Counts}
@@ -13,12 +12,10 @@ use Rattle.fwu_model.specs.Seen.{SoundFlash}
 use Rattle.fwu_model.specs.Call.{Call}
 use Rattle.fwu_model.specs.Call as call
 use Rattle.fwu_model.specs.Reply.{Turn}
-use Rattle.fwu_model.specs.Script.{script_of, line_of}
 use Rattle.fwu_model.specs.Wrote.{may_lack, script_asked}
-use Rattle.fwu_model.specs.Causes.{Faults}
 use Rattle.fwu_model.specs.Run.{Condition, start_of}
 use Rattle.fwu_model.specs.Contract.{Premises, Asks, ByScript, ByBoot}
-use Rattle.fwu_model.specs.Headline.{Headline, LeavesOneOf}
+use Rattle.fwu_model.specs.Headline.{LeavesOneOf}
 use Rattle.fwu_model.specs.declared.kinds.Note.{Note}
 use Rattle.fwu_model.proofs.Frame.{calm-stays, start-is-calm}
 use Rattle.fwu_model.proofs.Selects.{runs-select}
@@ -27,19 +24,13 @@ use Rattle.fwu_words.specs.Order.{Asked}
 use Rattle.script_cmd.specs.Asking.{plainly}
 use Rattle.script_cmd.specs.Machine.{Moment, Shows, at}
 use Rattle.script_cmd.specs.Running.{Ran, Ended, StartsSound}
-use Rattle.script_cmd.specs.Ways.{Given, HasCalls, Refuses, Way, starved, refused, ran}
-use Rattle.script_cmd.specs.Promises.{given_to, outcome, HeadlineHolds, WaysKeepTheHeadline}
+use Rattle.script_cmd.specs.Ways.{HasCalls, starved, refused, ran}
+use Rattle.script_cmd.specs.Promises.{given_to, HeadlineHolds, WaysKeepTheHeadline}
+use Rattle.script_cmd.proofs.PromiseWords.{boot-is-script, same-calls}
 use Rattle.script_cmd.proofs.PromiseTurns.{printed-plan}
 use Rattle.script_cmd.proofs.PromiseEnds.{why-planned}
 
 -- ---- the calls
-
-pub boot-is-script : script_of (codes "boot\n") ≡ Ok (call.Boot ∷ [])
-unfolding script_of line_of
-boot-is-script = refl
-
-pub same-calls : (x y : List Call) → ◌≡◌ {A = Result (List Call) ℕ} (Ok x) (Ok y) → x ≡ y
-same-calls x y e = cc
 
 asked-calls : (words : List (List ℕ)) (source : Option (List ℕ)) (calls mine : List Call) → Asks words source calls → HasCalls (script_asked words source) mine → mine ≡ calls
 asked-calls words source calls mine (ByScript is) has = same-calls mine calls (sym has.1 ∙ is)

@@ -1,5 +1,5 @@
 -- The last turn of a run, and the statuses that a run of turns and a run that did nothing end with.
-use Rattle.std.proofs.Common.{◌≡◌, ◌≢◌, ℕ, zero, suc, ◌-◌, ◌<◌, Bool, true, false, ◌||◌, ◌==◌, List, [], ◌∷◌, length, get_or, Option, Some, None, slice_get, Contains, refl, sym, ap, subst, ◌∙◌, arith, inl, inr, ◌⊎◌, IsTrue, IsFalse, IfSome, eqb-true}
+use Rattle.std.proofs.Common.{◌≡◌, ◌≢◌, ℕ, suc, ◌-◌, Bool, ◌||◌, ◌==◌, List, [], ◌∷◌, length, Option, Some, None, slice_get, Contains, refl, sym, ap, subst, ◌∙◌, arith, inl, inr, ◌⊎◌, IsTrue, IsFalse, IfSome, eqb-true}
 use Rattle.std.proofs.lemmas.Bool.{cases_Bool, or_cases, false≢true}
 use Rattle.base_core.specs.Counts.{Rose}
 use Rattle.fwu_model.specs.Reply.{Reply, Turn}
@@ -42,9 +42,9 @@ reply-status other reads = refl
 
 pub lack-cases : (status : ℕ) → IsTrue (may_lack status) → (status ≡ 3) ⊎ (status ≡ 9)
 lack-cases status lacks = elim (or_cases (status == 3) (status == 9) lacks) [
-    | inl e ↦ inl (eqb-true status 3 e)
-    | inr e ↦ inr (eqb-true status 9 e)
-  ]
+  | inl e ↦ inl (eqb-true status 3 e)
+  | inr e ↦ inr (eqb-true status 9 e)
+]
 
 pub ran-status : (script : List Call) (journal : List Turn) (status : ℕ) (noted : Note) → ((t : Turn) → Contains journal t → t.reply ≢ reply.ReadFault) → Ended script journal status noted → IsTrue (is_ran status)
 ran-status script journal status noted reads ended =

@@ -1,5 +1,5 @@
 -- What a run wrote, whichever way it ended.
-use Rattle.std.proofs.Common.{◌≡◌, ◌≢◌, ℕ, Bool, List, [], ◌∷◌, ◌++◌, take, drop, Option, Some, None, refl, sym, ap, subst, ◌∙◌, ◌⊎◌, inl, inr, IsTrue, IsFalse, arith, append-nil}
+use Rattle.std.proofs.Common.{◌≡◌, ℕ, List, [], ◌++◌, take, drop, Option, Some, None, refl, sym, ap, subst, ◌∙◌, inl, inr, IsTrue, IsFalse, arith, append-nil}
 use Rattle.std.specs.Io.KnownBytes.{Appends}
 use Rattle.std.proofs.lemmas.Bool.{false≢true}
 use Rattle.std.proofs.lemmas.List.{take-append-drop}
@@ -11,12 +11,11 @@ use Rattle.fwu_model.specs.Text.{text}
 use Rattle.fwu_model.specs.Allow.{list_bytes}
 use Rattle.fwu_model.specs.Causes.{Faults}
 use Rattle.fwu_model.specs.Headline.{IsPrefixOf}
-use Rattle.fwu_model.specs.Wrote.{Wrote, LineAlone, Usage, NotRead, TooLong, BadScript, BadList, may_lack, ends_early, not_read_line, usage_line, too_long_line, bad_script_line, bad_list_line, IsBadScript, IsBadList}
+use Rattle.fwu_model.specs.Wrote.{Wrote, LineAlone, Usage, NotRead, TooLong, BadScript, BadList, may_lack, not_read_line, usage_line, too_long_line, bad_script_line, bad_list_line, IsBadScript, IsBadList}
 use Rattle.fwu_words.specs.Order.{Asked}
-use Rattle.script_cmd.specs.Machine.{Moment}
 use Rattle.script_cmd.specs.Printed.{Prints, all, front, nothing}
-use Rattle.script_cmd.specs.Running.{Writes, Printed}
-use Rattle.script_cmd.specs.Ways.{Given, Refuses, usage, not_read, list_not_read, too_long, bad_script, bad_list, Way, starved, refused, ran}
+use Rattle.script_cmd.specs.Running.{Writes}
+use Rattle.script_cmd.specs.Ways.{Given, Refuses, usage, not_read, list_not_read, too_long, bad_script, bad_list, starved, refused, ran}
 use Rattle.script_cmd.specs.Promises.{WroteHolds, WaysWrite}
 use Rattle.script_cmd.proofs.PromiseTurns.{is_ran, ran-at, ran-status, early-not-ran}
 
@@ -118,9 +117,11 @@ module _ (asked : Option Asked) (g : Given) (was are : Faults) (status : ℕ) wh
       ([], stays taken takes before told same, wrote-nothing g.script (list_bytes g.list g.files) status noted is)
 
 pub ways-write : WaysWrite
-ways-write passes tells asked g journal status noted old new taken takes was are (starved empty same nine stuck) before told =
-    ([], stays asked g was are status taken takes before told stuck,
-      subst (λ (j : List Turn). Wrote g.script (list_bytes g.list g.files) status noted j []) (sym empty) (wrote-nothing g.script (list_bytes g.list g.files) status noted nine))
+ways-write passes tells asked g journal status noted old new taken takes was are (starved empty same nine stuck) before told = (
+  [],
+  stays asked g was are status taken takes before told stuck,
+  subst (λ (j : List Turn). Wrote g.script (list_bytes g.list g.files) status noted j []) (sym empty) (wrote-nothing g.script (list_bytes g.list g.files) status noted nine),
+)
 ways-write passes tells asked g journal status noted old new taken takes was are (refused planned line empty same why prints) before told =
     subst (λ (j : List Turn). WroteHolds g j status noted taken takes) (sym empty) (refused-writes asked g was are status planned noted line taken takes was.sink are.sink why prints) before told
 ways-write passes tells asked g journal status noted old new taken takes was are (ran calls on good asks has turns ended printed) before told =

@@ -190,12 +190,6 @@ some-list words rest name names =
         let behind : after_list words ≡ rest = rw file refl in
         (ap (λ (l : Option (List ℕ)). asked_after true l words) named ∙ ap asked behind, refl, named)
 
--- ---- the script of `boot`
-
-pub boot-is-short : is_too_long (codes "boot\n") ≡ false
-unfolding is_too_long
-boot-is-short = refl
-
 -- ---- lists
 
 -- a list that was read has no bad line

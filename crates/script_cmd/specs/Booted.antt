@@ -1,5 +1,5 @@
 -- What a boot's reply says of the bytes of a flash, sound or not.
-use Rattle.std.specs.Prelude.{◌≡◌, ℕ, Bool, List, Option, Some, None, ⊤, Ok, Err}
+use Rattle.std.specs.Prelude.{◌≡◌, ℕ, Bool, List, Some, None, ⊤, Ok, Err}
 use Rattle.fwu_model.specs.declared.kinds.NoBoot.{NoBoot}
 use Rattle.fwu_model.specs.declared.kinds.NoBoot.TheVariants as no_boot
 use Rattle.fwu_model.specs.Layout.{Layout}

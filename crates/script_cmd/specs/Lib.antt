@@ -1,8 +1,8 @@
 pub mod Machine
 pub mod Booted
 pub mod Turning
-pub mod Running
 pub mod Printed
+pub mod Running
 pub mod Noted
 pub mod Asking
 pub mod BootWord

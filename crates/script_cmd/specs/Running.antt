@@ -1,5 +1,5 @@
 -- What a run of a script did so far.
-use Rattle.std.specs.Prelude.{◌≡◌, ◌≢◌, ◌⊎◌, ℕ, ◌+◌, ◌≤◌, Bool, List, [], ◌∷◌, ◌++◌, length, map, Option, Some, None, IsTrue, IsFalse, Contains, slice_get}
+use Rattle.std.specs.Prelude.{◌≡◌, ◌≢◌, ℕ, ◌+◌, ◌≤◌, Bool, List, [], ◌∷◌, ◌++◌, length, map, Option, Some, None, IsTrue, IsFalse, Contains, slice_get}
 use Rattle.flash_core.specs.Counts.{Rose}
 use Rattle.flash_core.specs.Told.{NothingDirty}
 use Rattle.flash_core.specs.May.{Guards}
@@ -10,7 +10,7 @@ use Rattle.fwu_model.specs.Call.{Call}
 use Rattle.fwu_model.specs.Call as call
 use Rattle.fwu_model.specs.Reply.{Turn}
 use Rattle.fwu_model.specs.Reply as reply
-use Rattle.fwu_model.specs.Text.{text}
+use Rattle.fwu_model.specs.Text.{line, text}
 use Rattle.fwu_model.specs.Run.{Condition, Runs, ends_run}
 use Rattle.fwu_model.specs.Headline.{ArmedBy, IsPrefixOf}
 use Rattle.fwu_model.specs.Causes.{LossesAreCounted, status_by, note_by}
@@ -19,7 +19,8 @@ use Rattle.fwu_model.specs.declared.kinds.Note.{Note}
 use Rattle.fwu_model.specs.declared.kinds.Note.TheVariants as note
 use Rattle.script_cmd.specs.Machine.{Moment, IsAt, IsSafe}
 use Rattle.script_cmd.specs.Booted.{BootsFrom}
-use Rattle.script_cmd.specs.Turning.{NoneFalls}
+use Rattle.script_cmd.specs.Turning.{NoneFalls, Turns}
+use Rattle.script_cmd.specs.Printed.{Prints}
 
 abbrev pub calls_of : List Turn → List Call
 calls_of journal = map (λ (t : Turn). t.call) journal
@@ -52,6 +53,16 @@ pub record Ran (passes : List ℕ → Bool) (tells : Bool) (journal : List Turn)
   -- until the first turn nothing is done, and where it is a boot it goes by the bytes
   pub untouched : journal ≡ [] → (new ≡ old)
   pub first : IsTrue tells → NothingDirty old.told → (t : Turn) → slice_get journal 0 ≡ Some t → t.call ≡ call.Boot → BootsFrom passes old.told.now t.reply
+
+-- ---- one turn
+
+-- What one turn leaves: it does the call c, it is kept, and its line was printed with this status.
+pub record Steps (passes : List ℕ → Bool) (tells : Bool) (c : Call) (before after : List Turn) (old new : Moment) (status : ℕ) (noted : Note) (taken takes : Option (List ℕ)) (was are : ℕ) : Type 0 where
+  pub turn : Turn
+  pub turns : Turns passes tells c turn old new
+  pub kept : after ≡ before ++ turn ∷ []
+  pub prints : Prints (line turn.call turn.reply) (status_by turn.reply) status taken takes was are
+  pub noted_is : noted ≡ note_by turn.reply
 
 -- ---- how a run ended
 

@@ -12,7 +12,9 @@ use Rattle.fwu_model.specs.declared.kinds.NoBoot.TheVariants as no_boot
 use Rattle.fwu_model.specs.declared.kinds.Note.{Note}
 use Rattle.fwu_model.specs.declared.kinds.Note.TheVariants as note
 use Rattle.early_boot.specs.Numbers.{ShowsNumbers}
+use Rattle.fwu_model.specs.Reply.{Turn}
 use Rattle.script_cmd.specs.Printed.{Prints}
+use Rattle.script_cmd.specs.Turning.{NoneFalls}
 
 abbrev pub shown_line : Numbers → List ℕ
 shown_line n = codes "show " ++ numbers_text n ++ 10 ∷ []
@@ -40,3 +42,10 @@ pub data Showed (known : Type 0) (image : List ℕ) (before after : Counts) (sta
   starved : status ≡ 9 → takes ≡ taken → Showed known image before after status noted taken takes was are
   found : (planned : ℕ) (line : List ℕ) → Finds known image before after planned noted line → Prints line planned status taken takes was are
       → Showed known image before after status noted taken takes was are
+
+-- The same, with what it leaves: no turn, no count lower, and the content of a flash with nothing dirty.
+pub record ShowedBy (tells : Bool) (old new : Told) (before after : Counts) (status : ℕ) (noted : Note) (journal : List Turn) (taken takes : Option (List ℕ)) (was are : ℕ) : Type 0 where
+  pub showed : Showed (IsTrue tells × NothingDirty old) old.now before after status noted taken takes was are
+  pub content : IsTrue tells → NothingDirty old → new ≡ old
+  pub no_turns : journal ≡ []
+  pub counts : NoneFalls before after

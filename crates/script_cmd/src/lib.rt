@@ -14,5 +14,8 @@ mod top;
 mod turning;
 
 pub use done::{Done, Note};
+pub use laws::{
+    ways_are_complete, ways_boot, ways_end, ways_guard, ways_keep_the_headline, ways_write,
+};
 pub use printing::{put_line, put_usage};
 pub use top::{fwu_top, fwu_top_with};

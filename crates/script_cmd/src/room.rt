@@ -1,5 +1,5 @@
 //! The room for the turns of a run and for their lines.
-ghost use Rattle.std.specs.Prelude.{◌≡◌, []};
+ghost use Rattle.std.specs.Prelude.{◌≡◌, [], IfOk};
 ghost use Rattle.fwu_journal.specs.Room.{HasRoom};
 ghost use Rattle.fwu_journal.specs.Shown.{HasRoomFor, turns};
 ghost use Rattle.fwu_journal.specs.declared.line.TheConstants.{LINE_ROOM};
@@ -16,14 +16,14 @@ pub struct Room {
 
 impl Room {
     /// Takes the memory for all.
-    pub fn make(alloc: Global, turns: usize) -> Result<Room, AllocError>
+    pub fn make(alloc: Global, count: usize) -> Result<Room, AllocError>
         ensures no_turns { IfOk result (λ room. turns room.journal ≡ []) }
-        ensures turns_fit { IfOk result (λ room. HasRoomFor room.journal turns) }
+        ensures turns_fit { IfOk result (λ room. HasRoomFor room.journal count) }
         ensures no_text { IfOk result (λ room. room.text.items ≡ []) }
         ensures line_fits { IfOk result (λ room. HasRoom room.text LINE_ROOM) }
     {
         Ok(Room {
-            journal: Journal::with_room(alloc, turns)?,
+            journal: Journal::with_room(alloc, count)?,
             text: Vec::with_capacity(alloc, LINE_ROOM)?,
         })
     }

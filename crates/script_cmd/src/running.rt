@@ -1,13 +1,17 @@
 //! The turns of a script, one after the other.
-ghost use Rattle.std.specs.Prelude.{◌≡◌, Option, Some, None, is_some, [], IsTrue, IsFalse, length};
+ghost use Rattle.std.specs.Prelude.{◌≡◌, ◌≤◌, ◌+◌, ℕ, Option, Some, None, is_some, [], IsTrue, IsFalse, length, vec_capacity};
 ghost use Rattle.fwu_model.specs.State.{Numbers};
 ghost use Rattle.fwu_model.specs.Causes.{status_by, note_by};
+ghost use Rattle.fwu_model.specs.Text.{line};
+ghost use Rattle.script_text.specs.Built.{IsArmable};
+ghost use Rattle.script_text.specs.Shown.{shown};
 ghost use Rattle.fwu_journal.specs.Room.{HasRoom};
-ghost use Rattle.fwu_journal.specs.Shown.{HasRoomFor, reply, turns};
+ghost use Rattle.fwu_journal.specs.Shown.{HasRoomFor, reply, turn as shown_turn, turns};
 ghost use Rattle.fwu_journal.specs.declared.line.TheConstants.{LINE_ROOM};
-ghost use Rattle.script_cmd.specs.Machine.{at};
+ghost use Rattle.script_cmd.specs.Machine.{at, device, shown_on};
 ghost use Rattle.script_cmd.specs.Noted.{noted};
-ghost use Rattle.script_cmd.specs.Running.{Ended, Printed, Ran};
+ghost use Rattle.script_cmd.specs.Printed.{Prints};
+ghost use Rattle.script_cmd.specs.Running.{Ended, Printed, Ran, Steps};
 
 use crate::done::{Done, Note};
 use crate::machine::Machine;
@@ -15,7 +19,7 @@ use crate::printing::put_line;
 use crate::room::Room;
 use crate::turning::{Turned, turn};
 use flash_core::Flash;
-use fwu_journal::{Journal, Reply, add_line};
+use fwu_journal::{Journal, Reply, Turn, add_line};
 use host_io::Sink;
 use script_text::{Call, Script};
 use verify_core::Verifier;
@@ -35,11 +39,11 @@ struct End {
     note: Note,
 }
 
-/// A run after a turn, and how it ends where the turn ended it.
+/// A run after a turn, and how it ends where it ends by it.
 #[derive(Drop)]
 struct Stepped<D: Flash> {
     running: Running<D>,
-    end: Option<End>,
+    end: End,
 }
 
 /// The status after a last turn with this reply.
@@ -49,11 +53,7 @@ fn status_of(last: &Reply) -> u8
     match last {
         Reply::Fault => 5,
         Reply::NotBooted(_) => 6,
-        Reply::Off
-        | Reply::Lost
-        | Reply::Booted { .. }
-        | Reply::CutOk
-        | Reply::Shown(_) => 0,
+        Reply::Off | Reply::Lost | Reply::Booted { .. } | Reply::CutOk | Reply::Shown(_) => 0,
     }
 }
 
@@ -72,31 +72,50 @@ fn note_of(last: &Reply) -> Note
     }
 }
 
+/// Prints the line of a turn, and tells how the run ends where it ends by it: at the status 0 it goes on.
+fn print_turn<O: Sink>(text: &mut Vec<u8>, next: &Turn, sink: &mut O) -> End
+    requires { LINE_ROOM ≤ vec_capacity text.old }
+    ensures prints { Prints (line (shown_turn next.now).call (shown_turn next.now).reply) (status_by (shown_turn next.now).reply) result.status (O.taken sink.old) (O.taken sink.new) (O.faults sink.old) (O.faults sink.new) }
+    ensures noted { noted result.note ≡ note_by (shown_turn next.now).reply }
+    ensures line_fits { LINE_ROOM ≤ vec_capacity text.new }
+{
+    text.clear();
+    add_line(text, next);
+    End {
+        status: put_line(sink, text.as_slice(), status_of(&next.reply)),
+        note: note_of(&next.reply),
+    }
+}
+
 /// Does a call, keeps its turn, and prints its line.
 fn step<D: Flash, O: Sink, V: Verifier>(
     running: Running<D>,
     call: Call,
     sink: &mut O,
     verifier: &V,
-) -> Stepped<D> {
+) -> Stepped<D>
+    requires powered { D.on (device running.machine) ≡ is_some (shown_on running.machine) }
+    requires armable { IsArmable (shown call) }
+    requires turn_fits { HasRoomFor running.journal 1 }
+    requires line_fits { LINE_ROOM ≤ vec_capacity running.text }
+    ensures steps { Steps (V.passes verifier.now) D.tells (shown call) (turns running.journal) (turns result.running.journal) (at (shown_on running.machine) (D.told (device running.machine)) (D.counts (device running.machine)) (D.arming (device running.machine))) (at (shown_on result.running.machine) (D.told (device result.running.machine)) (D.counts (device result.running.machine)) (D.arming (device result.running.machine))) result.end.status (noted result.end.note) (O.taken sink.old) (O.taken sink.new) (O.faults sink.old) (O.faults sink.new) }
+    // Where the run goes on.
+    ensures powered { result.end.status ≡ 0 → D.on (device result.running.machine) ≡ is_some (shown_on result.running.machine) }
+    ensures turns_fit { (n : ℕ) → HasRoomFor running.journal (n + 1) → HasRoomFor result.running.journal n }
+    ensures line_fits { LINE_ROOM ≤ vec_capacity result.running.text }
+    ensures size { D.blocks (device result.running.machine) ≡ D.blocks (device running.machine) }
+{
     let Running {
         machine,
         mut journal,
         mut text,
     } = running;
-    let Turned { turn, machine } = turn(machine, call, verifier);
-    journal.add(turn);
-    text.clear();
-    add_line(&mut text, &turn);
-    let status = put_line(sink, text.as_slice(), status_of(&turn.reply));
-    let end = if status == 0 {
-        None
-    } else {
-        Some(End {
-            status,
-            note: note_of(&turn.reply),
-        })
-    };
+    let Turned {
+        turn: next,
+        machine,
+    } = turn(machine, call, verifier);
+    journal.add(next);
+    let end = print_turn(&mut text, &next, sink);
     Stepped {
         running: Running {
             machine,
@@ -108,9 +127,16 @@ fn step<D: Flash, O: Sink, V: Verifier>(
 }
 
 /// What is left of a run that ended.
-fn done<D: Flash>(running: Running<D>, end: End) -> Done<D> {
+fn done<D: Flash>(running: Running<D>, end: End) -> Done<D>
+    ensures status { result.status ≡ end.status }
+    ensures note { result.note ≡ end.note }
+    ensures flash { result.flash ≡ device running.machine }
+    ensures journal { result.journal ≡ running.journal }
+{
     let Running {
-        machine, journal, ..
+        machine,
+        journal,
+        ..
     } = running;
     Done {
         status: end.status,
@@ -152,7 +178,7 @@ pub fn run_script<D: Flash, O: Sink, V: Verifier>(
             end,
         } = step(running, script.at(index), sink, verifier);
         running = after;
-        if let Some(end) = end {
+        if end.status != 0 {
             return done(running, end);
         }
     }

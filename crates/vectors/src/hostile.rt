@@ -1,9 +1,9 @@
 //! What a boot answers on flashes with one part changed. The bytes come from demo/make_flash.py, its parts changed and their
 //! checksums and digests computed again by Python's zlib and hashlib, where a case doesn't say otherwise.
+use crate::flashes::{put, two_banks};
+use crate::runs::run;
 use flash_devices::MemoryFlash;
-use host_io::MemorySink;
-use script_cmd::fwu_top;
-use std::alloc::{AllocError, Global};
+use std::alloc::Global;
 use std::test::Fail;
 
 // Bytes, as hexadecimal digits, that are written over the image at a place.
@@ -23,15 +23,6 @@ struct Case {
 }
 
 const NO_PATCH: Patch = Patch { at: 0, digits: "" };
-
-const LAYOUT: &str =
-    "e9cef4cb4657554c0200000003000000680000000000000000000000000000004657554d414e4946455354000000000101000000000000005ff9ec0b4d223e4da544c39d81c73f0a0200000000000000d6d0eea7fcead54b97829934f234b6e40400000000000000";
-
-const METADATA: &str =
-    "fc726b040200000000000000000000001801000020000000fcffffff0000000002000300500018004657554d414e49464553540000000001000000000000000000000000000000004657554d414e4946455354000000000101000000000000004657554d414e4946455354000000000100000000000000005ff9ec0b4d223e4da544c39d81c73f0a000000000000000000000000000000005ff9ec0b4d223e4da544c39d81c73f0a01000000000000005ff9ec0b4d223e4da544c39d81c73f0a0000000000000000d6d0eea7fcead54b97829934f234b6e400000000000000000000000000000000d6d0eea7fcead54b97829934f234b6e40100000000000000d6d0eea7fcead54b97829934f234b6e40000000000000000";
-
-const MANIFEST: &str =
-    "46574d460100000001000000020000005ff9ec0b4d223e4da544c39d81c73f0a0300000007000000ba7816bf8f01cfea414140de5dae2223b00361a396177a9cb410ff61f20015add6d0eea7fcead54b97829934f234b6e405000000090000002cf24dba5fb0a30e26e83b2ac5b9e29e1b161e5c1fa7425e73043362938b9824dfb762568ec809e6a8e136de9bae264bf9ebe5fecc8f297f2f37b0393cbb8273";
 
 const CASES: [Case; 19] = [
     // A checksum that was not renewed.
@@ -244,39 +235,6 @@ const CASES: [Case; 19] = [
     },
 ];
 
-fn put(alloc: Global, image: &mut Vec<u8>, at: u32, digits: &str) -> Result<(), Fail> {
-    let bytes = hex::decode(alloc, digits)?;
-    let first = at as usize;
-    let end = first + bytes.len();
-    if end <= image.len() {
-        image.as_mut_slice()[first..end].copy_from_slice(bytes.as_slice());
-    }
-    Ok(())
-}
-
-fn blank(alloc: Global, blocks: u32) -> Result<Vec<u8>, AllocError> {
-    vec![in alloc; 0xFF; 4096 * blocks as usize]
-}
-
-// 22 blocks, two banks of a manifest and the images `abc` and `hello`, bank 0 accepted with version 1, bank 1 invalid, and one mark
-// of the counter.
-fn two_banks(alloc: Global) -> Result<Vec<u8>, Fail> {
-    let mut image = blank(alloc, 22)?;
-    put(alloc, &mut image, 0, LAYOUT)?;
-    put(alloc, &mut image, 4096, METADATA)?;
-    put(alloc, &mut image, 2 * 4096, METADATA)?;
-    put(
-        alloc,
-        &mut image,
-        4 * 4096,
-        "00000000000000000000000000000000",
-    )?;
-    put(alloc, &mut image, 8 * 4096, MANIFEST)?;
-    put(alloc, &mut image, 9 * 4096, "616263")?;
-    put(alloc, &mut image, 11 * 4096, "68656c6c6f")?;
-    Ok(image)
-}
-
 fn changed(alloc: Global, case: &Case) -> Result<Vec<u8>, Fail> {
     let mut image = two_banks(alloc)?;
     put(alloc, &mut image, case.first.at, case.first.digits)?;
@@ -288,11 +246,8 @@ fn changed(alloc: Global, case: &Case) -> Result<Vec<u8>, Fail> {
 fn is_answered(alloc: Global, case: &Case) -> Result<bool, Fail> {
     let image = changed(alloc, case)?;
     let flash = MemoryFlash::from_bytes(alloc, image, Vec::new(alloc), Vec::new(alloc))?;
-    let mut sink = MemorySink::new(alloc, Vec::new(alloc), Vec::new(alloc));
-    let mut words = Vec::new(alloc);
-    words.push(String::from_str(alloc, "boot")?)?;
-    let done = fwu_top(alloc, words.as_slice(), &mut sink, flash);
-    Ok(done.status == case.status && sink.bytes() == case.line.as_bytes())
+    let ran = run(alloc, "boot", "", flash)?;
+    Ok(ran.status == case.status && ran.printed.as_slice() == case.line.as_bytes())
 }
 
 #[test]

@@ -2,6 +2,12 @@
 #![tactic(auto)]
 
 #[cfg(test)]
+mod flashes;
+#[cfg(test)]
 mod hostile;
+#[cfg(test)]
+mod runs;
+#[cfg(test)]
+mod scripts;
 #[cfg(test)]
 mod values;

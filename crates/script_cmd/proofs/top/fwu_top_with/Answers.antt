@@ -4,7 +4,8 @@ use Rattle.fwu_model.specs.declared.kinds.Note.TheVariants as note
 use Rattle.fwu_words.specs.Order as ask
 use Rattle.script_cmd.specs.Noted.{noted}
 use Rattle.script_cmd.specs.Ways.{usage}
-use Rattle.script_cmd.proofs.TopWays.{boot-is-short, refused-by, same-moment, way-of-boot, way-of-run}
+use Rattle.script_cmd.proofs.PromiseWords.{boot-is-short}
+use Rattle.script_cmd.proofs.TopWays.{refused-by, same-moment, way-of-boot, way-of-run}
 use Rattle.script_cmd.proofs.top.fwu_top_with.Goals as goal
 
 pub returns-in-Ok-Run-clause-way : goal.returns-in-Ok-Run-clause-way

@@ -1,0 +1,53 @@
+//! Runs of the program on flashes in memory.
+use flash_devices::MemoryFlash;
+use host_io::{MemoryFiles, MemorySink, MemorySource};
+use script_cmd::fwu_top;
+use std::alloc::{AllocError, Global};
+use std::test::Fail;
+
+/// What a run left.
+pub struct Ran {
+    pub status: u8,
+    pub printed: Vec<u8>,
+    pub image: Vec<u8>,
+}
+
+fn words_of(alloc: Global, line: &str) -> Result<Vec<String>, AllocError> {
+    let mut words = Vec::new(alloc);
+    for word in line.split(' ') {
+        words.push(String::from_str(alloc, word)?)?;
+    }
+    Ok(words)
+}
+
+/// The program with these words, files and script.
+pub fn run_with(
+    alloc: Global,
+    words: &str,
+    script: &str,
+    files: Vec<(String, Vec<u8>)>,
+    flash: MemoryFlash,
+) -> Result<Ran, Fail> {
+    let mut files = MemoryFiles::new(alloc, files, Vec::new(alloc));
+    let mut source = MemorySource::new(script.as_bytes().to_vec(alloc)?, Vec::new(alloc));
+    let mut sink = MemorySink::new(alloc, Vec::new(alloc), Vec::new(alloc));
+    let words = words_of(alloc, words)?;
+    let done = fwu_top(
+        alloc,
+        words.as_slice(),
+        &mut files,
+        &mut source,
+        &mut sink,
+        flash,
+    );
+    Ok(Ran {
+        status: done.status,
+        printed: sink.bytes().to_vec(alloc)?,
+        image: done.flash.bytes().to_vec(alloc)?,
+    })
+}
+
+/// The program with these words and this script, and no files.
+pub fn run(alloc: Global, words: &str, script: &str, flash: MemoryFlash) -> Result<Ran, Fail> {
+    run_with(alloc, words, script, Vec::new(alloc), flash)
+}
