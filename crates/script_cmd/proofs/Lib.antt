@@ -9,8 +9,10 @@ pub mod PromiseHeadline
 pub mod PromiseBoot
 pub mod PromiseGuarded
 pub mod PromiseComplete
+pub mod PromiseAll
 mod RunTurns
 mod RunEnds
 pub mod TopReads
 pub mod TopPrints
 pub mod TopWays
+pub mod TopShows

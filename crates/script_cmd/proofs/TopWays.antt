@@ -51,7 +51,7 @@ rose-from first before after later (inl less) = inl (omega arith)
 rose-from first before after later (inr most) = inr most
 
 -- a refusal without a list is one behind a list that was read and is one
-refuses : (asked : Option Asked) (told files : Option Directory) (name : List ℕ) (script : Option (List ℕ)) (first was are : Faults) (planned : ℕ) (noted : Note) (line : List ℕ)
+pub refuses : (asked : Option Asked) (told files : Option Directory) (name : List ℕ) (script : Option (List ℕ)) (first was are : Faults) (planned : ℕ) (noted : Note) (line : List ℕ)
     → HasNoBadLine (record { list = Some name; files = files; script = script }) → first.files ≤ was.files → first.source ≡ was.source
     → Refuses asked (record { list = None; files = told; script = script }) was are planned noted line
     → Refuses asked (record { list = Some name; files = files; script = script }) first are planned noted line

@@ -96,3 +96,21 @@ WaysAreComplete =
     (passes : List ℕ → Bool) (tells : Bool) (asked : Option Asked) (list : Option (List ℕ)) (files : Option (List ℕ → Option (List ℕ))) (source : Option (List ℕ))
     (journal : List Turn) (status : ℕ) (noted : Note) (old new : Moment) (taken takes : Option (List ℕ)) (was are : Faults)
     → Way passes tells asked (given_to asked list files source) journal status noted old new taken takes was are → CompleteHolds passes tells asked list files source journal status old new was are
+
+-- ---- in one
+
+-- All that `run` or `boot` promises.
+pub record Promised (passes : List ℕ → Bool) (tells : Bool) (asked : Option Asked) (list : Option (List ℕ)) (files : Option (List ℕ → Option (List ℕ))) (source : Option (List ℕ)) (journal : List Turn) (status : ℕ) (noted : Note) (old new : Moment) (taken takes : Option (List ℕ)) (was are : Faults) : Type 0 where
+  -- From a sound flash: the turns are those of the machine, every image that a loss may leave shows a state that they lead to, and each boot
+  -- selects a complete and permitted package.
+  pub headline : HeadlineHolds passes tells asked files source journal status old new
+  -- For every device, files and source: the lines of what was done, at every status.
+  pub wrote : WroteHolds (given_to asked list files source) journal status noted taken takes
+  -- For every device, files, source and sink: which turns and causes ended the run.
+  pub ends : EndsHold asked (given_to asked list files source) journal status noted old new was are
+  -- `boot` on any flash with nothing dirty, sound or not, where nothing failed.
+  pub boot_word : BootWordHolds passes tells asked journal status noted old new
+  -- From a flash with nothing dirty, sound or not: no loss may harm what is in use.
+  pub guarded : GuardedHolds tells old new
+  -- From a sound flash all is done, where nothing was lacking and nothing failed, unless memory was wanting.
+  pub complete : CompleteHolds passes tells asked list files source journal status old new was are

@@ -1,6 +1,7 @@
 //! The program `fwu` as one call: what its words ask for is done on a flash, and each line is answered.
 #![tactic(auto)]
 
+mod answering;
 mod done;
 mod laws;
 mod machine;

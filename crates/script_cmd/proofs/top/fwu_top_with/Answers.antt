@@ -1,31 +1,6 @@
-use Rattle.std.proofs.Common.{Some, None, ap, inr, refl}
-use Rattle.fwu_model.specs.Wrote.{usage_line}
-use Rattle.fwu_model.specs.declared.kinds.Note.TheVariants as note
-use Rattle.fwu_words.specs.Order as ask
-use Rattle.script_cmd.specs.Noted.{noted}
-use Rattle.script_cmd.specs.Ways.{usage}
-use Rattle.script_cmd.proofs.PromiseWords.{boot-is-short}
-use Rattle.script_cmd.proofs.TopWays.{refused-by, same-moment, way-of-boot, way-of-run}
+use Rattle.std.proofs.Common.{None}
+use Rattle.script_cmd.proofs.PromiseAll.{promised}
 use Rattle.script_cmd.proofs.top.fwu_top_with.Goals as goal
 
-pub returns-in-Ok-Run-clause-way : goal.returns-in-Ok-Run-clause-way
-returns-in-Ok-Run-clause-way g c = λ plain.
-    let files = g.H.Files.faults c.args.files.now in
-    way-of-run _ _ _ _ _ _ _ _ _ _ (g.H.Files.contents c.args.files.now) (g.I.Source.left c.args.source.now) _ _ (rw c.in-Ok-Run.field-0-is at c.in-Ok-Run.ensures)
-    (c.run_source.ensures.way (record { list = None; files = g.H.Files.contents c.args.files.now; script = None }) (record { files = files; source = 0; sink = 0 }) (record { files = files; source = 0; sink = 0 }) tt)
-
-pub run_text-requires-clause-within : goal.run_text-requires-clause-within
-run_text-requires-clause-within g c = boot-is-short
-
-pub returns-in-Ok-Boot-clause-way : goal.returns-in-Ok-Boot-clause-way
-returns-in-Ok-Boot-clause-way g c = λ plain.
-    let files = g.H.Files.faults c.args.files.now in
-    let source = g.I.Source.faults c.args.source.now in
-    way-of-boot _ _ _ _ _ _ _ _ _ _ (g.H.Files.contents c.args.files.now) (g.I.Source.left c.args.source.now) _ _ (rw c.in-Ok-Boot.field-0-is at c.in-Ok-Boot.ensures)
-    (c.run_text.ensures.way (Some ask.boot) _ (record { files = files; source = source; sink = 0 }) (record { files = files; source = source; sink = 0 }) tt (inr refl) refl)
-
-pub returns-in-Err-Usage-clause-way : goal.returns-in-Err-Usage-clause-way
-returns-in-Err-Usage-clause-way g c = λ plain.
-    let e = c.print_usage-in-Err-Usage.ensures in
-    refused-by _ _ _ _ _ _ _ _ _ _ _ _ _ 1 usage_line note.Nothing e.no_turns (same-moment g.D.Flash.told g.D.Flash.counts g.D.Flash.arming _ _ e.flash) (ap noted e.note)
-    (usage tt (rw c.in-Err-Usage.field-0-is at c.in-Err-Usage.ensures)) e.prints
+pub returns-clause-promises : goal.returns-clause-promises
+returns-clause-promises g c runs = promised _ _ _ _ _ _ _ _ _ _ _ _ _ _ _ (c.answer_with.ensures.way runs)

@@ -5,7 +5,7 @@ use Rattle.fwu_words.specs.Order as ask
 use Rattle.script_cmd.specs.Noted.{noted}
 use Rattle.script_cmd.specs.Ways.{not_read, too_long}
 use Rattle.script_cmd.proofs.TopWays.{of-told, refused-by, same-moment}
-use Rattle.script_cmd.proofs.top.run_source.Goals as goal
+use Rattle.script_cmd.proofs.answering.run_source.Goals as goal
 
 pub returns-in-Ok-clause-way : goal.returns-in-Ok-clause-way
 returns-in-Ok-clause-way g c = λ given was are listed.

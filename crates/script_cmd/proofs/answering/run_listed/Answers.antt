@@ -5,7 +5,8 @@ use Rattle.fwu_model.specs.declared.kinds.Note.TheVariants as note
 use Rattle.script_cmd.specs.Noted.{noted}
 use Rattle.script_cmd.specs.Ways.{bad_list, list_not_read, starved}
 use Rattle.script_cmd.proofs.TopWays.{has-listed, has-told, no-bad-line, of-list, passes-told, refused-by, same-moment, with-list}
-use Rattle.script_cmd.proofs.top.run_listed.Goals as goal
+use Rattle.script_cmd.proofs.TopShows.{refused-shows, shows-with-list}
+use Rattle.script_cmd.proofs.answering.run_listed.Goals as goal
 
 pub returns-in-Err-Failed-clause-way : goal.returns-in-Err-Failed-clause-way
 returns-in-Err-Failed-clause-way g c = λ plain.
@@ -37,7 +38,7 @@ returns-in-Ok-read-clause-way g c = λ plain.
       passes_listed digests,
       has-listed name bytes digests files whole read,
       with-list _ _ _ _ _ _ _ _ _ _ _ files name _ _ _ _ (of-list files name bytes (λ (l : List ℕ). (n : ℕ) → digests_of l ≡ Err n → ⊥) whole (no-bad-line bytes digests read))
-          c.read_file.ensures.later refl refl (c.fwu_top_with.ensures.way plain),
+          c.read_file.ensures.later refl refl (c.answer_with.ensures.way plain),
     )
 
 pub returns-in-Err-BadLine-clause-way : goal.returns-in-Err-BadLine-clause-way
@@ -62,3 +63,31 @@ returns-clause-way g c = λ plain.
       has-told _ (Some c.args.name.now) files refl,
       starved e.no_turns (same-moment g.D.Flash.told g.D.Flash.counts g.D.Flash.arming _ _ e.flash) e.status refl,
     )
+
+pub returns-in-Err-Failed-clause-shows : goal.returns-in-Err-Failed-clause-shows
+returns-in-Err-Failed-clause-shows g c is =
+    let e = c.refuse_reading.ensures in
+    refused-shows g.D.Flash.told g.D.Flash.counts g.D.Flash.tells _ c.args.flash _ _ _ _ _ _ _ _ 2 not_read_line note.Nothing e.flash e.no_turns (ap noted e.note)
+    (list_not_read (c.in-Err-Failed.ensures.failed (ap Err c.in-Err-Failed.field-0-is))) e.prints
+
+pub returns-in-Err-BadLine-clause-shows : goal.returns-in-Err-BadLine-clause-shows
+returns-in-Err-BadLine-clause-shows g c is =
+    let e = c.refuse_list.ensures in
+    let name = c.args.name.now in
+    let bytes = c.in-Ok.bytes.items in
+    let line = c.in-Err-BadLine.line in
+    let files = g.H.Files.contents c.args.files.now in
+    let fault = rw c.in-Err-BadLine.field-0-is at c.in-Err-BadLine.ensures.fault in
+    refused-shows g.D.Flash.told g.D.Flash.counts g.D.Flash.tells _ c.args.flash _ _ _ _ _ _ _ _ 13 (bad_list_line line) (note.BadList line) e.flash e.no_turns (ap noted e.note)
+    (bad_list line refl (of-list files name bytes (λ (l : List ℕ). digests_of l ≡ Err line) c.in-Ok.ensures.whole (ap digests_of (sym c.as_slice.ensures.value) ∙ fault))) e.prints
+
+pub returns-in-Ok-read-clause-shows : goal.returns-in-Ok-read-clause-shows
+returns-in-Ok-read-clause-shows g c is =
+    let name = c.args.name.now in
+    let bytes = c.in-Ok.bytes.items in
+    let digests = c.in-Ok-read.list in
+    let files = g.H.Files.contents c.args.files.now in
+    let whole = c.in-Ok.ensures.whole in
+    let read : digests_of bytes ≡ Ok digests = ap digests_of (sym c.as_slice.ensures.value) ∙ c.in-Ok-read.ensures.ok in
+    shows-with-list g.D.Flash.tells _ files name _ _ _ _ _ _ _ _ _ _ _ _ _ (of-list files name bytes (λ (l : List ℕ). (n : ℕ) → digests_of l ≡ Err n → ⊥) whole (no-bad-line bytes digests read))
+    c.read_file.ensures.later refl refl (c.answer_with.ensures.shows is)

@@ -1,7 +1,7 @@
 use Rattle.std.proofs.Common.{ap}
 use Rattle.script_cmd.specs.Noted.{noted}
 use Rattle.script_cmd.proofs.TopWays.{same-moment, text-ran, text-refused}
-use Rattle.script_cmd.proofs.top.run_text.Goals as goal
+use Rattle.script_cmd.proofs.answering.run_text.Goals as goal
 
 pub returns-in-Err-BadLine-clause-way : goal.returns-in-Err-BadLine-clause-way
 returns-in-Err-BadLine-clause-way g c = λ asked given was are listed asks is.

@@ -1,0 +1,208 @@
+//! What the words ask for is done, in one of the ways that it may end.
+ghost use Rattle.std.specs.Prelude.{◌≡◌, ◌≤◌, ℕ, Bool, List, [], Option, Some, None, IfSome, map, string_bytes, IsFalse, length, false, true};
+ghost use Rattle.fwu_model.specs.Allow.{asks_list, list_name};
+ghost use Rattle.fwu_model.specs.Causes.{Faults};
+ghost use Rattle.fwu_model.specs.Script.{is_too_long};
+ghost use Rattle.fwu_model.specs.Wrote.{script_asked};
+ghost use Rattle.fwu_journal.specs.Shown.{turns};
+ghost use Rattle.fwu_words.specs.Order.{Asked, asked};
+ghost use Rattle.fwu_words.specs.Order as ask;
+ghost use Rattle.script_cmd.specs.Asking.{asked_with_list, plainly};
+ghost use Rattle.script_cmd.specs.Machine.{at};
+ghost use Rattle.script_cmd.specs.Noted.{noted};
+ghost use Rattle.script_cmd.specs.Showing.{ShowedBy};
+ghost use Rattle.script_cmd.specs.Ways.{AsksTurns, Given, HasNoBadLine, HasPasses, IsScriptOf, Later, RunsOrNone, Way};
+
+use crate::done::{Done, Note};
+use crate::reading::{FileStop, SourceStop, read_file, read_source};
+use crate::refusing::{
+    idle, print_usage, refuse_length, refuse_list, refuse_reading, refuse_script,
+};
+use crate::room::Room;
+use crate::running::run_script;
+use crate::showing::show;
+use flash_core::Flash;
+use fwu_words::{Allow, Order, UsageStop, allow_of, fwu_order};
+use host_io::{Files, Sink, Source};
+use script_text::{ScriptFault, read_script};
+use std::alloc::Global;
+use verify_core::{AnyManifest, DigestList, ListFault, Verifier};
+
+/// Runs a script's text.
+fn run_text<D: Flash, O: Sink, V: Verifier>(
+    alloc: Global,
+    text: &[u8],
+    sink: &mut O,
+    flash: D,
+    verifier: &V,
+) -> Done<D>
+    requires off { IsFalse (D.on flash) }
+    requires unarmed { D.arming flash ≡ None }
+    requires within { is_too_long text.now ≡ false }
+    requires few { length text.now ≤ 4194304 }
+    ensures way { (asked : Option Asked) (g : Given) (was are : Faults) → HasNoBadLine g → AsksTurns asked → IsScriptOf g.script text.now
+        → Way (V.passes verifier.now) D.tells asked g (turns result.journal) result.status (noted result.note)
+        (at None (D.told flash) (D.counts flash) (D.arming flash)) (at None (D.told result.flash) (D.counts result.flash) (D.arming result.flash))
+        (O.taken sink.old) (O.taken sink.new) (record was { sink = O.faults sink.old }) (record are { sink = O.faults sink.new }) }
+    ensures later { O.faults sink.old ≤ O.faults sink.new }
+    ensures size { D.blocks result.flash ≡ D.blocks flash }
+{
+    let script = match read_script(alloc, text) {
+        Ok(script) => script,
+        Err(ScriptFault::BadLine(line)) => return refuse_script(alloc, sink, line, flash),
+        Err(ScriptFault::NoMemory) => return idle(alloc, 9, Note::Nothing, flash),
+    };
+    match Room::make(alloc, script.len()) {
+        Ok(room) => run_script(room, &script, sink, flash, verifier),
+        Err(_) => idle(alloc, 9, Note::Nothing, flash),
+    }
+}
+
+/// Reads a script from the source, and runs it.
+fn run_source<D: Flash, I: Source, O: Sink, V: Verifier>(
+    alloc: Global,
+    source: &mut I,
+    sink: &mut O,
+    flash: D,
+    verifier: &V,
+) -> Done<D>
+    requires off { IsFalse (D.on flash) }
+    requires unarmed { D.arming flash ≡ None }
+    ensures way { (g : Given) (was are : Faults) → HasNoBadLine g
+        → Way (V.passes verifier.now) D.tells (Some ask.run) (record g { script = I.left source.old }) (turns result.journal) result.status (noted result.note)
+        (at None (D.told flash) (D.counts flash) (D.arming flash)) (at None (D.told result.flash) (D.counts result.flash) (D.arming result.flash))
+        (O.taken sink.old) (O.taken sink.new)
+        (record was { source = I.faults source.old; sink = O.faults sink.old }) (record are { source = I.faults source.new; sink = O.faults sink.new }) }
+    ensures later_source { I.faults source.old ≤ I.faults source.new }
+    ensures later_sink { O.faults sink.old ≤ O.faults sink.new }
+    ensures read_to_end { result.status ≡ 0 → IfSome (I.left source.new) (λ rest. rest ≡ []) }
+    ensures size { D.blocks result.flash ≡ D.blocks flash }
+{
+    match read_source(alloc, source) {
+        Ok(text) => run_text(alloc, text.as_slice(), sink, flash, verifier),
+        Err(SourceStop::Failed) => refuse_reading(alloc, sink, flash),
+        Err(SourceStop::TooLong) => refuse_length(alloc, sink, flash),
+        Err(SourceStop::NoMemory) => idle(alloc, 9, Note::Nothing, flash),
+    }
+}
+
+/// Does what the words behind the name of the flash, and behind a list, ask for.
+pub fn answer_with<D: Flash, H: Files, I: Source, O: Sink, V: Verifier>(
+    alloc: Global,
+    words: &[String],
+    files: &mut H,
+    source: &mut I,
+    sink: &mut O,
+    flash: D,
+    verifier: &V,
+) -> Done<D>
+    requires off { IsFalse (D.on flash) }
+    requires unarmed { D.arming flash ≡ None }
+    ensures way { RunsOrNone (asked (map string_bytes words.now)) → Way (V.passes verifier.now) D.tells (asked (map string_bytes words.now))
+        (record { list = None; files = H.contents files.old; script = script_asked (plainly (asked (map string_bytes words.now))) (I.left source.old) })
+        (turns result.journal) result.status (noted result.note)
+        (at None (D.told flash) (D.counts flash) (D.arming flash)) (at None (D.told result.flash) (D.counts result.flash) (D.arming result.flash))
+        (O.taken sink.old) (O.taken sink.new)
+        (record { files = H.faults files.old; source = I.faults source.old; sink = O.faults sink.old })
+        (record { files = H.faults files.new; source = I.faults source.new; sink = O.faults sink.new }) }
+    // No fault count falls.
+    ensures later { Later (record { files = H.faults files.old; source = I.faults source.old; sink = O.faults sink.old })
+        (record { files = H.faults files.new; source = I.faults source.new; sink = O.faults sink.new }) }
+    ensures shows { asked (map string_bytes words.now) ≡ Some ask.show → ShowedBy D.tells (record { list = None; files = H.contents files.old; script = I.left source.old })
+        (D.told flash) (D.told result.flash) (D.counts flash) (D.counts result.flash) result.status (noted result.note) (turns result.journal) (O.taken sink.old) (O.taken sink.new)
+        (record { files = H.faults files.old; source = I.faults source.old; sink = O.faults sink.old })
+        (record { files = H.faults files.new; source = I.faults source.new; sink = O.faults sink.new }) }
+    ensures read_to_end { result.status ≡ 0 → asked (map string_bytes words.now) ≡ Some ask.run → IfSome (I.left source.new) (λ rest. rest ≡ []) }
+    ensures same_files { H.contents files.new ≡ H.contents files.old }
+    ensures size { D.blocks result.flash ≡ D.blocks flash }
+{
+    match fwu_order(alloc, words) {
+        Ok(Order::Run) => run_source(alloc, source, sink, flash, verifier),
+        Ok(Order::Boot) => run_text(alloc, b"boot\n", sink, flash, verifier),
+        Ok(Order::Show) => show(alloc, sink, flash),
+        // Interim: `format` is answered as usage until it is built.
+        Ok(Order::Format { .. }) => print_usage(alloc, sink, flash),
+        Err(UsageStop::Usage) => print_usage(alloc, sink, flash),
+        Err(UsageStop::NoMemory) => idle(alloc, 9, Note::Nothing, flash),
+    }
+}
+
+/// Does what the words behind a list of digests ask for, for the manifests that it lists.
+fn run_listed<D: Flash, H: Files, I: Source, O: Sink>(
+    alloc: Global,
+    name: &str,
+    rest: &[String],
+    files: &mut H,
+    source: &mut I,
+    sink: &mut O,
+    flash: D,
+) -> Done<D>
+    requires off { IsFalse (D.on flash) }
+    requires unarmed { D.arming flash ≡ None }
+    ensures way { RunsOrNone (asked (map string_bytes rest.now)) → (passes : List ℕ → Bool) × HasPasses true (Some name.now) (H.contents files.old) passes
+        × Way passes D.tells (asked (map string_bytes rest.now))
+        (record { list = Some name.now; files = H.contents files.old; script = script_asked (plainly (asked (map string_bytes rest.now))) (I.left source.old) })
+        (turns result.journal) result.status (noted result.note)
+        (at None (D.told flash) (D.counts flash) (D.arming flash)) (at None (D.told result.flash) (D.counts result.flash) (D.arming result.flash))
+        (O.taken sink.old) (O.taken sink.new)
+        (record { files = H.faults files.old; source = I.faults source.old; sink = O.faults sink.old })
+        (record { files = H.faults files.new; source = I.faults source.new; sink = O.faults sink.new }) }
+    ensures later { Later (record { files = H.faults files.old; source = I.faults source.old; sink = O.faults sink.old })
+        (record { files = H.faults files.new; source = I.faults source.new; sink = O.faults sink.new }) }
+    ensures shows { asked (map string_bytes rest.now) ≡ Some ask.show → ShowedBy D.tells (record { list = Some name.now; files = H.contents files.old; script = I.left source.old })
+        (D.told flash) (D.told result.flash) (D.counts flash) (D.counts result.flash) result.status (noted result.note) (turns result.journal) (O.taken sink.old) (O.taken sink.new)
+        (record { files = H.faults files.old; source = I.faults source.old; sink = O.faults sink.old })
+        (record { files = H.faults files.new; source = I.faults source.new; sink = O.faults sink.new }) }
+    ensures read_to_end { result.status ≡ 0 → asked (map string_bytes rest.now) ≡ Some ask.run → IfSome (I.left source.new) (λ left. left ≡ []) }
+    ensures same_files { H.contents files.new ≡ H.contents files.old }
+    ensures size { D.blocks result.flash ≡ D.blocks flash }
+{
+    let bytes = match read_file(alloc, files, name) {
+        Ok(bytes) => bytes,
+        Err(FileStop::Failed) => return refuse_reading(alloc, sink, flash),
+        Err(FileStop::NoMemory) => return idle(alloc, 9, Note::Nothing, flash),
+    };
+    match DigestList::read(alloc, bytes.as_slice()) {
+        Ok(list) => answer_with(alloc, rest, files, source, sink, flash, &list),
+        Err(ListFault::BadLine(line)) => refuse_list(alloc, sink, line, flash),
+        Err(ListFault::NoMemory) => idle(alloc, 9, Note::Nothing, flash),
+    }
+}
+
+/// `answer_with` for any manifest, or where the words begin with `--allow FILE` for those whose digests the file lists.
+pub fn answer<D: Flash, H: Files, I: Source, O: Sink>(
+    alloc: Global,
+    words: &[String],
+    files: &mut H,
+    source: &mut I,
+    sink: &mut O,
+    flash: D,
+) -> Done<D>
+    requires off { IsFalse (D.on flash) }
+    requires unarmed { D.arming flash ≡ None }
+    ensures way { RunsOrNone (asked_with_list (map string_bytes words.now))
+        → (passes : List ℕ → Bool) × HasPasses (asks_list (map string_bytes words.now)) (list_name (map string_bytes words.now)) (H.contents files.old) passes
+        × Way passes D.tells (asked_with_list (map string_bytes words.now))
+        (record { list = list_name (map string_bytes words.now); files = H.contents files.old; script = script_asked (plainly (asked_with_list (map string_bytes words.now))) (I.left source.old) })
+        (turns result.journal) result.status (noted result.note)
+        (at None (D.told flash) (D.counts flash) (D.arming flash)) (at None (D.told result.flash) (D.counts result.flash) (D.arming result.flash))
+        (O.taken sink.old) (O.taken sink.new)
+        (record { files = H.faults files.old; source = I.faults source.old; sink = O.faults sink.old })
+        (record { files = H.faults files.new; source = I.faults source.new; sink = O.faults sink.new }) }
+    // No fault count falls.
+    ensures later { Later (record { files = H.faults files.old; source = I.faults source.old; sink = O.faults sink.old })
+        (record { files = H.faults files.new; source = I.faults source.new; sink = O.faults sink.new }) }
+    ensures shows { asked_with_list (map string_bytes words.now) ≡ Some ask.show → ShowedBy D.tells (record { list = list_name (map string_bytes words.now); files = H.contents files.old; script = I.left source.old })
+        (D.told flash) (D.told result.flash) (D.counts flash) (D.counts result.flash) result.status (noted result.note) (turns result.journal) (O.taken sink.old) (O.taken sink.new)
+        (record { files = H.faults files.old; source = I.faults source.old; sink = O.faults sink.old })
+        (record { files = H.faults files.new; source = I.faults source.new; sink = O.faults sink.new }) }
+    ensures read_to_end { result.status ≡ 0 → asked_with_list (map string_bytes words.now) ≡ Some ask.run → IfSome (I.left source.new) (λ rest. rest ≡ []) }
+    ensures same_files { H.contents files.new ≡ H.contents files.old }
+    ensures size { D.blocks result.flash ≡ D.blocks flash }
+{
+    match allow_of(words) {
+        Allow::No => answer_with(alloc, words, files, source, sink, flash, &AnyManifest),
+        Allow::Usage => print_usage(alloc, sink, flash),
+        Allow::File { name, rest } => run_listed(alloc, name, rest, files, source, sink, flash),
+    }
+}
