@@ -88,13 +88,13 @@ module _ (was left taken text : Option (List ℕ)) (rose : Type 0) (given : List
 
   told-two : (s t : Stop) → Told taken text rose s t → status_number t ≡ 2 → s ≡ stop.FileFault
   told-two s t (inl a) e = two s (sym (ap status_number a.0) ∙ e)
-  told-two s t (inr (inl a)) e = let no : 3 ≡ 2 = sym (ap status_number a.0) ∙ e in cc
-  told-two s t (inr (inr a)) e = let no : 9 ≡ 2 = sym (ap status_number a.0) ∙ e in cc
+  told-two s t (inr (inl a)) e = let no : ◌≡◌ {A = ℕ} 3 2 = sym (ap status_number a.0) ∙ e in cc
+  told-two s t (inr (inr a)) e = let no : ◌≡◌ {A = ℕ} 9 2 = sym (ap status_number a.0) ∙ e in cc
 
   -- status 2 comes of a file's fault
   pub reported-two : (s t : Stop) → Reported taken text rose s t → status_number t ≡ 2 → s ≡ stop.FileFault
-  reported-two stop.SinkFault t a e = let no : 3 ≡ 2 = sym (ap status_number a.0) ∙ e in cc
-  reported-two stop.NoMemory t a e = let no : 9 ≡ 2 = sym (ap status_number a.0) ∙ e in cc
+  reported-two stop.SinkFault t a e = let no : ◌≡◌ {A = ℕ} 3 2 = sym (ap status_number a.0) ∙ e in cc
+  reported-two stop.NoMemory t a e = let no : ◌≡◌ {A = ℕ} 9 2 = sym (ap status_number a.0) ∙ e in cc
   reported-two stop.Usage t a e = told-two stop.Usage t a e
   reported-two stop.FileFault t a e = told-two stop.FileFault t a e
   reported-two (stop.NotFip f) t a e = told-two (stop.NotFip f) t a e

@@ -10,7 +10,7 @@ use Rattle.fwu_model.specs.Manifest.{Row, manifest_bytes}
 use Rattle.fwu_model.specs.declared.kinds.FipFault.{FipFault}
 use Rattle.fwu_model.specs.declared.kinds.ManifestFault.TheVariants as fault
 use Rattle.fip_tables.specs.Answers.{decided}
-use Rattle.fip_tables.specs.Packing.{pack_fault}
+use Rattle.fip_tables.specs.Packing.{pack_fault, zeroed}
 use Rattle.fip_tables.specs.declared.faults.PackFault.{PackFault}
 use Rattle.fip_tables.specs.declared.toc.TocStop.{TocStop}
 use Rattle.fip_tables.specs.declared.toc.TocStop.TheVariants as toc
@@ -53,6 +53,13 @@ part_in files p = option_map (λ bytes. record { guid = p.guid; flags = 0; bytes
 -- the parts of named files
 abbrev pub parts_in : Directory → List NamedFile → Result (List Part) Stop
 parts_in files parts = there (each (part_in files) parts)
+
+-- the part of a named file, with zeros in place of its bytes
+abbrev pub outline_in : Directory → NamedFile → Result Part Stop
+outline_in files p = after (there (part_in files p)) (λ part. Ok (zeroed part))
+
+abbrev pub outlines_in : Directory → List NamedFile → Result (List Part) Stop
+outlines_in files parts = after (parts_in files parts) (λ ps. Ok (map zeroed ps))
 
 -- a package's table, and how many bytes it has
 unfoldable pub sized_table : Directory → List ℕ → Result (Toc × ℕ) Stop
@@ -108,6 +115,13 @@ GivenTo view value was left source-rose (Err s) given = Consumes was left given 
 abbrev pub unless_fault : {X : Type 0} → Option PackFault → X → Result X Stop
 unless_fault None made = Ok made
 unless_fault (Some f) made = Err (stop.NotPacked f)
+
+-- whether parts fit a package
+abbrev pub fit_value : List Part → ℕ → Result (Unit {0}) Stop
+fit_value parts align = unless_fault (pack_fault parts align) tt
+
+abbrev pub nothing : {X : Type 0} → X → Unit {0}
+nothing x = tt
 
 -- what is packed: how many entries, and the bytes; or the first fault
 unfoldable pub pack_value : ℕ → ℕ → List Part → ℕ → Result (ℕ × List ℕ) Stop
