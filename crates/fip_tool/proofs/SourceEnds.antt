@@ -1,8 +1,8 @@
 -- How a listing of the source ends.
-use Rattle.std.proofs.Common.{◌≡◌, ◌⊎◌, inl, inr, ℕ, List, [], ◌∷◌, ◌++◌, Option, Some, None, Result, Ok, Err, take, refl, sym, ap, subst, ◌∙◌}
-use Rattle.std.specs.Io.KnownBytes.{Appends, Consumes, IsAtEnd}
+use Rattle.std.proofs.Common.{◌≡◌, inl, inr, ℕ, List, Option, Some, Result, Ok, Err, refl, sym, ap, subst, ◌∙◌}
+use Rattle.std.specs.Io.KnownBytes.{Consumes, IsAtEnd}
 use Rattle.std.proofs.KnownBytes.{Appends-nil}
-use Rattle.fip_tool.specs.Ends.{Reported, Told, status_number, stop_line}
+use Rattle.fip_tool.specs.Ends.{Reported, Told, status_number}
 use Rattle.fip_tool.specs.Steps.{Are, Did, Printed, outcome_by}
 use Rattle.fip_tool.specs.Tool.{GivenTo, IsReadFor, given_value, no_files, prints}
 use Rattle.fip_tool.specs.declared.stops.Stop.{Stop}

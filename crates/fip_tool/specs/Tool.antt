@@ -1,5 +1,5 @@
 -- What each command of `fip` does, by the bytes of its files: the written files and the printed text.
-use Rattle.std.specs.Prelude.{◌≡◌, ◌⊎◌, ℕ, ◌+◌, Bool, not, ◌&&◌, ◌||◌, ◌==◌, List, [], ◌∷◌, ◌++◌, Option, Some, None, Result, Ok, Err, if◌then◌else◌, length, map, filter, find, nat_lt, option_map, option_and_then}
+use Rattle.std.specs.Prelude.{◌≡◌, ◌⊎◌, ℕ, Bool, not, ◌||◌, ◌==◌, List, [], ◌∷◌, Option, Some, None, Result, Ok, Err, if◌then◌else◌, length, map, filter, find, nat_lt, option_map}
 use Rattle.std.specs.List.{list_any}
 use Rattle.std.specs.Io.KnownBytes.{Consumes, IsAtEnd}
 use Rattle.base_core.specs.Bytes.{same_bytes}
@@ -18,7 +18,7 @@ use Rattle.fip_words.specs.Order.{Asked, info, info_of_source, create, update, r
 use Rattle.fip_words.specs.Values.{NamedFile, NamedImage, each}
 use Rattle.fip_tool.specs.Lines.{info_text, manifest_line, packed_line, unpacked_line, unpacked_name}
 use Rattle.fip_tool.specs.Ends.{EndedBy, exit_status}
-use Rattle.fip_tool.specs.Steps.{Did, Outcome, Makes, Refuses, Step, Writes, Prints, outcome_by}
+use Rattle.fip_tool.specs.Steps.{Did, Outcome, Refuses, Step, Writes, Prints, outcome_by}
 use Rattle.fip_tool.specs.declared.stops.Stop.{Stop}
 use Rattle.fip_tool.specs.declared.stops.Stop.TheVariants as stop
 
@@ -120,6 +120,7 @@ unless_fault (Some f) made = Err (stop.NotPacked f)
 abbrev pub fit_value : List Part → ℕ → Result (Unit {0}) Stop
 fit_value parts align = unless_fault (pack_fault parts align) tt
 
+-- what is seen of a value of which this says no more
 abbrev pub nothing : {X : Type 0} → X → Unit {0}
 nothing x = tt
 

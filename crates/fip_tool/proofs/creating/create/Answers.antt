@@ -1,4 +1,4 @@
-use Rattle.std.proofs.Common.{◌≡◌, ◌∙◌, ◌<◌, ℕ, List, Vec, Ok, ap, arith, length, map, sym}
+use Rattle.std.proofs.Common.{◌≡◌, ◌∙◌, ℕ, List, Vec, Ok, ap, arith, length, map, sym}
 use Rattle.std.specs.Global.{Global}
 use Rattle.fwu_model.specs.Package.{Part}
 use Rattle.fip_words.specs.Order.{part_view}

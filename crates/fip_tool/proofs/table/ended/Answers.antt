@@ -1,4 +1,4 @@
-use Rattle.std.proofs.Common.{◌∙◌, sym}
+use Rattle.std.proofs.Common.{sym}
 use Rattle.fip_tool.proofs.SourceLemmas.{ended-err, ended-ok}
 use Rattle.fip_tool.proofs.table.ended.Goals as goal
 

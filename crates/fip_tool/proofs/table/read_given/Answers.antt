@@ -1,4 +1,4 @@
-use Rattle.std.proofs.Common.{◌≡◌, ℕ, List, Ok, arith, subst}
+use Rattle.std.proofs.Common.{ℕ, List, Ok, arith, subst}
 use Rattle.base_core.specs.Counts.{Rose}
 use Rattle.fip_tool.proofs.SourceLemmas.{last, nothing-yet, stopped, too-long}
 use Rattle.fip_tool.proofs.Tables.{rose-from}

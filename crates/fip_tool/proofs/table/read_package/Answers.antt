@@ -1,4 +1,4 @@
-use Rattle.std.proofs.Common.{◌≡◌, ◌∙◌, ap, sym}
+use Rattle.std.proofs.Common.{◌∙◌}
 use Rattle.fip_tool.proofs.Repacking.{ends-below}
 use Rattle.fip_tool.proofs.Tables.{gives-err, size-err, sized, table-ok, table-stop, tells}
 use Rattle.fip_tool.proofs.table.read_package.Goals as goal

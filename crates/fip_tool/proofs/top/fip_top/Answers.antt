@@ -1,6 +1,6 @@
-use Rattle.std.proofs.Common.{◌≡◌, ◌∙◌, [], Ok, Err, Some, refl, sym, ap}
+use Rattle.std.proofs.Common.{◌∙◌, [], Ok, Err, Some, refl, sym, ap}
 use Rattle.base_core.specs.Counts.{Rose}
-use Rattle.fip_tool.proofs.Ending.{done, ends, reported-later}
+use Rattle.fip_tool.proofs.Ending.{ends, reported-later}
 use Rattle.fip_tool.proofs.SourceEnds.{reported-read, reported-two}
 use Rattle.fip_tool.proofs.Tables.{rose-from, rose-until}
 use Rattle.fip_tool.proofs.UsageEnds.{no-usage, reported-one, usage-status}
