@@ -1,8 +1,8 @@
 -- How the tool ends, from what was done and what was told of it.
-use Rattle.std.proofs.Common.{◌≡◌, ◌≢◌, ◌⊎◌, inl, inr, ℕ, zero, suc, ◌+◌, List, [], ◌∷◌, ◌++◌, Option, Some, None, Result, Ok, Err, length, take, drop, refl, sym, ap, subst, ◌∙◌}
+use Rattle.std.proofs.Common.{◌≡◌, ◌≢◌, ◌⊎◌, inl, inr, ℕ, zero, suc, ◌+◌, List, [], ◌∷◌, ◌++◌, Option, Ok, Err, length, take, drop, refl, sym, ap, subst, ◌∙◌}
 use Rattle.std.specs.Io.KnownBytes.{Appends}
 use Rattle.std.proofs.KnownBytes.{Appends-trans}
-use Rattle.std.proofs.Math.Seq.{take-append-add, take-append_seam}
+use Rattle.std.proofs.Math.Seq.{take-append-add}
 use Rattle.host_io.specs.Contents.{Directory}
 use Rattle.fip_tool.specs.Ends.{EndedBy, HasCauseOf, Reported, SaidFront, StandAfter, Told, stop_line}
 use Rattle.fip_tool.specs.Steps.{Outcome, Makes, Refuses, Step, Writes, Prints, Are, AreUpTo, Did, steps_of, printed, written}

@@ -1,3 +1,4 @@
+pub mod CreateLemmas
 pub mod Did
 pub mod Ending
 pub mod ManifestLemmas
@@ -8,5 +9,6 @@ pub mod SourceLemmas
 pub mod Tables
 pub mod UnpackLemmas
 pub mod UnpackWords
+pub mod UsageEnds
 pub mod Whole
 pub mod WritingLemmas

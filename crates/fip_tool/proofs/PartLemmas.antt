@@ -10,7 +10,7 @@ use Rattle.fip_words.specs.Values.{NamedFile, each}
 use Rattle.fip_words.specs.declared.values.Part.{Part as Word}
 use Rattle.fip_tables.specs.Packing.{pack_fault}
 use Rattle.fip_tables.specs.declared.faults.PackFault.{PackFault}
-use Rattle.fip_tool.specs.Steps.{Did, Gives, Makes, ReadsOnly, outcome_by}
+use Rattle.fip_tool.specs.Steps.{Did, Gives, Makes, outcome_by}
 use Rattle.fip_tool.specs.Tool.{after, create_value, file_value, new_serial, pack_value, packs, part_in, parts_in, there}
 use Rattle.fip_tool.specs.declared.stops.Stop.{Stop}
 use Rattle.fip_tool.specs.declared.stops.Stop.TheVariants as stop
@@ -23,10 +23,6 @@ use Rattle.fip_tool.proofs.Tables.{gives-err, rose-from}
 pub gives-same : {X Y : Type 0} (view : X → Y) (rose late : Type 0) (v w : Result Y Stop) (r : Result X Stop) → (rose → late) → w ≡ v → Gives view rose v r → Gives view late w r
 gives-same view rose late v w (Ok x) rises e g = e ∙ g
 gives-same view rose late v w (Err s) rises e g = gives-err view view rose late v w s rises (λ h. e ∙ h) g
-
-pub reads-stay : {X Y : Type 0} (told now : Option Directory) (before later : ℕ) (r : Result X Stop) (s : Result Y Stop)
-    → ReadsOnly told now before later r → (s ≡ Err stop.FileFault → ⊥) → ReadsOnly told now before later s
-reads-stay told now before later r s h never = record { same = h.same; later = h.later; cause = λ is untold. absurd (never is) }
 
 -- ---- the parts of named files
 

@@ -14,7 +14,7 @@ use Rattle.fip_tables.specs.Files.{Lacks, Tells}
 use Rattle.fip_words.specs.Order.{part_view}
 use Rattle.fip_words.specs.Values.{NamedFile}
 use Rattle.fip_words.specs.declared.values.Part.{Part as Word}
-use Rattle.fip_tool.specs.Tool.{after, first_missing, is_named, kept_part, pack_value, package_in, parts_in, remove_value, sized_table, table_of, there, unless_missing, update_value, updated_part}
+use Rattle.fip_tool.specs.Tool.{after, chosen, first_missing, is_named, kept_part, pack_value, package_in, parts_in, remove_value, sized_table, table_of, there, unless_missing, unpack_value, update_value, updated_part}
 use Rattle.fip_tool.specs.Steps.{Gives}
 use Rattle.fip_tool.specs.declared.stops.Stop.{Stop}
 
@@ -152,6 +152,14 @@ pub remove-err : (told : Directory) (a : ℕ) (name : List ℕ) (guids : List (L
 unfolding remove_value
 remove-err told a name guids s e =
     stopped told name guids (λ p. pack_value p.1.serial p.1.flags (map (kept_part p.0) (filter (λ e. not (is_named guids e)) p.1.entries)) a) s e
+
+pub unpack-of : (told : Directory) (name : List ℕ) (guids : List (List ℕ)) (toc : Toc) (o : IsOpened told name guids toc) → unpack_value told name guids ≡ Ok (o.bytes, chosen guids toc.entries)
+unfolding unpack_value
+unpack-of told name guids toc o = going-on told name guids toc (λ p. Ok (p.0, chosen guids p.1.entries)) o
+
+pub unpack-err : (told : Directory) (name : List ℕ) (guids : List (List ℕ)) (s : Stop) → table_with told name guids ≡ Err s → unpack_value told name guids ≡ Err s
+unfolding unpack_value
+unpack-err told name guids s e = stopped told name guids (λ p. Ok (p.0, chosen guids p.1.entries)) s e
 
 -- the types of the named files
 pub types-are : (words : List Word) → map (λ q. q.guid) (map part_view words) ≡ map (λ (w : Word). w.guid) words

@@ -1,8 +1,8 @@
 -- How a listing of the source ends.
-use Rattle.std.proofs.Common.{◌≡◌, ◌⊎◌, inl, inr, ℕ, List, [], ◌∷◌, ◌++◌, Option, Some, None, Result, Ok, Err, take, refl, sym, ap, subst, ◌∙◌}
-use Rattle.std.specs.Io.KnownBytes.{Appends, Consumes, IsAtEnd}
+use Rattle.std.proofs.Common.{◌≡◌, inl, inr, ℕ, List, Option, Some, Result, Ok, Err, refl, sym, ap, subst, ◌∙◌}
+use Rattle.std.specs.Io.KnownBytes.{Consumes, IsAtEnd}
 use Rattle.std.proofs.KnownBytes.{Appends-nil}
-use Rattle.fip_tool.specs.Ends.{Reported, Told, status_number, stop_line}
+use Rattle.fip_tool.specs.Ends.{Reported, Told, status_number}
 use Rattle.fip_tool.specs.Steps.{Are, Did, Printed, outcome_by}
 use Rattle.fip_tool.specs.Tool.{GivenTo, IsReadFor, given_value, no_files, prints}
 use Rattle.fip_tool.specs.declared.stops.Stop.{Stop}
@@ -88,13 +88,13 @@ module _ (was left taken text : Option (List ℕ)) (rose : Type 0) (given : List
 
   told-two : (s t : Stop) → Told taken text rose s t → status_number t ≡ 2 → s ≡ stop.FileFault
   told-two s t (inl a) e = two s (sym (ap status_number a.0) ∙ e)
-  told-two s t (inr (inl a)) e = let no : 3 ≡ 2 = sym (ap status_number a.0) ∙ e in cc
-  told-two s t (inr (inr a)) e = let no : 9 ≡ 2 = sym (ap status_number a.0) ∙ e in cc
+  told-two s t (inr (inl a)) e = let no : ◌≡◌ {A = ℕ} 3 2 = sym (ap status_number a.0) ∙ e in cc
+  told-two s t (inr (inr a)) e = let no : ◌≡◌ {A = ℕ} 9 2 = sym (ap status_number a.0) ∙ e in cc
 
   -- status 2 comes of a file's fault
   pub reported-two : (s t : Stop) → Reported taken text rose s t → status_number t ≡ 2 → s ≡ stop.FileFault
-  reported-two stop.SinkFault t a e = let no : 3 ≡ 2 = sym (ap status_number a.0) ∙ e in cc
-  reported-two stop.NoMemory t a e = let no : 9 ≡ 2 = sym (ap status_number a.0) ∙ e in cc
+  reported-two stop.SinkFault t a e = let no : ◌≡◌ {A = ℕ} 3 2 = sym (ap status_number a.0) ∙ e in cc
+  reported-two stop.NoMemory t a e = let no : ◌≡◌ {A = ℕ} 9 2 = sym (ap status_number a.0) ∙ e in cc
   reported-two stop.Usage t a e = told-two stop.Usage t a e
   reported-two stop.FileFault t a e = told-two stop.FileFault t a e
   reported-two (stop.NotFip f) t a e = told-two (stop.NotFip f) t a e

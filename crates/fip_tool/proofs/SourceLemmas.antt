@@ -1,5 +1,5 @@
 -- Reading a package from the source.
-use Rattle.std.proofs.Common.{◌≡◌, ◌⊎◌, inl, inr, ◌≤◌, ◌<◌, ◌+◌, ℕ, List, [], ◌∷◌, ◌++◌, Option, Some, None, Result, Ok, Err, true, false, length, nat_lt, arith, refl, sym, ap, subst, ◌∙◌, append-nil, length-append}
+use Rattle.std.proofs.Common.{◌≡◌, inl, inr, ◌≤◌, ◌<◌, ◌+◌, ℕ, List, [], ◌++◌, Option, Result, Ok, Err, true, false, length, nat_lt, arith, refl, sym, ap, ◌∙◌, length-append}
 use Rattle.std.specs.Io.KnownBytes.{Consumes, IsAtEnd}
 use Rattle.std.proofs.KnownBytes.{Consumes-nil, Consumes-trans}
 use Rattle.std.proofs.lemmas.Bool.Decides.{nat_tests}
@@ -10,7 +10,7 @@ use Rattle.fip_tables.specs.Answers.{decided}
 use Rattle.fip_tables.specs.Stream.{Fed, Stream}
 use Rattle.fip_tool.specs.Lines.{info_text}
 use Rattle.fip_tool.specs.Source.{EndsAs, FedSome}
-use Rattle.fip_tool.specs.Tool.{GivenTo, after, given_table, given_value, source_limit, table_of}
+use Rattle.fip_tool.specs.Tool.{GivenTo, after, given_table, given_value, source_limit}
 use Rattle.fip_tool.specs.declared.stops.Stop.{Stop}
 use Rattle.fip_tool.specs.declared.stops.Stop.TheVariants as stop
 

@@ -1,5 +1,5 @@
 -- What a package in a file gives.
-use Rattle.std.proofs.Common.{◌≡◌, ◌⊎◌, inl, inr, ◌≤◌, ◌<◌, ℕ, List, Option, Some, None, Result, Ok, Err, length, arith, refl, sym, ap, subst, ◌∙◌}
+use Rattle.std.proofs.Common.{◌≡◌, ◌⊎◌, inl, inr, ◌≤◌, ℕ, List, Option, Some, None, Result, Ok, Err, length, arith, refl, sym, ap, ◌∙◌}
 use Rattle.base_core.specs.Counts.{Rose}
 use Rattle.host_io.specs.Contents.{Directory}
 use Rattle.fwu_model.specs.Package.{Toc, toc_of}
@@ -9,7 +9,7 @@ use Rattle.fip_tables.specs.declared.toc.TocStop.{TocStop}
 use Rattle.fip_tables.specs.declared.toc.TocStop.TheVariants.{Fault, ReadFailed}
 use Rattle.fip_tool.specs.Steps.{Gives}
 use Rattle.fip_tool.specs.Lines.{info_text}
-use Rattle.fip_tool.specs.Tool.{after, info_value, package_in, size_in, sized_table, stopped_by, table_of, there}
+use Rattle.fip_tool.specs.Tool.{info_value, size_in, sized_table, stopped_by, there}
 use Rattle.fip_tool.specs.declared.stops.Stop.{Stop}
 use Rattle.fip_tool.specs.declared.stops.Stop.TheVariants as stop
 

@@ -1,32 +1,27 @@
 -- Steps that are done one after the other, and the steps of `unpack`.
 use Rattle.std.proofs.Common.{◌≡◌, ◌≢◌, ◌⊎◌, inl, inr, ◌≤◌, ◌<◌, ◌+◌, ℕ, zero, suc, Bool, true, false, List, [], ◌∷◌, ◌++◌, Option, Some, None, Result, Ok, Err, length, take, drop, filter, get_or, arith, refl, sym, ap, subst, ◌∙◌, append-nil, append_assoc, take-append-drop}
-use Rattle.std.specs.Prelude.{All, not, cond, codes, decimal, option_map, position, nat_lt, find, ◌==◌, ◌||◌, ◌&&◌, IsTrue, if◌then◌else◌}
-use Rattle.std.specs.List.{list_any, position_or_len, prefix_len}
-use Rattle.std.proofs.lemmas.Bool.{ltb-false}
+use Rattle.std.specs.Prelude.{cond, codes, decimal, ◌==◌, ◌||◌, IsTrue, if◌then◌else◌}
 use Rattle.std.proofs.Math.Seq.{take-append_seam, drop-append_seam}
 use Rattle.std.proofs.lemmas.List.{drop_more, length-append, take_all, take_more}
 use Rattle.std.proofs.lemmas.Bool.{and_from}
 use Rattle.std.proofs.lemmas.Bool.Decides.{nat_tests}
 use Rattle.std.proofs.Common.{eq-eqb, true≢false}
 use Rattle.std.proofs.lemmas.Slice.Eq.{bytes_eq-Decides}
-use Rattle.base_core.specs.Bytes.{num_at, same_bytes}
+use Rattle.base_core.specs.Bytes.{same_bytes}
 use Rattle.base_core.specs.Guid.{guid_of, guid_text}
 use Rattle.base_core.proofs.Spelled.{same_refl}
-use Rattle.fip_words.specs.Values.{bin, is_lower_guid, is_spelled, is_unpacked}
-use Rattle.std.proofs.lemmas.List.Sums.{prefix_len_passes}
-use Rattle.std.proofs.lemmas.List.Elements.{All-from_get_or, filter-append}
+use Rattle.fip_words.specs.Values.{bin, is_lower_guid, is_unpacked}
+use Rattle.std.proofs.lemmas.List.Elements.{filter-append}
 use Rattle.std.specs.Str.{bytes_eq}
 use Rattle.std.specs.Io.KnownBytes.{Appends}
 use Rattle.std.proofs.KnownBytes.{Appends-nil, Appends-trans}
 use Rattle.std.proofs.Math.Seq.{take-append-add, drop-append-add}
-use Rattle.host_io.specs.Contents.{Directory, TellsSize}
+use Rattle.host_io.specs.Contents.{Directory}
 use Rattle.fip_tables.specs.Files.{Lacks, Tells}
-use Rattle.fwu_model.specs.Package.{Entry, Toc, entries_from, entry_limit, fip_name, has_guid, is_beyond, payload, toc_of, with_entries, within}
-use Rattle.fwu_model.specs.declared.kinds.FipFault.{FipFault}
-use Rattle.fwu_model.specs.declared.kinds.FipFault.TheVariants as fault
+use Rattle.fwu_model.specs.Package.{Entry, payload}
 use Rattle.fip_tool.specs.Lines.{unpacked_line, unpacked_name}
-use Rattle.fip_tool.specs.Steps.{Outcome, Makes, Refuses, Step, Writes, Prints, Are, AreBut, AreUpTo, Did, Gives, printed, with_file, written}
-use Rattle.fip_tool.specs.Tool.{after, chosen, first_missing, is_named, sized_table, table_of, there, unless_missing, unpack_steps, unpack_value}
+use Rattle.fip_tool.specs.Steps.{Makes, Refuses, Step, Writes, Prints, Are, AreUpTo, Did, printed, with_file, written}
+use Rattle.fip_tool.specs.Tool.{chosen, is_named, there, unpack_steps}
 use Rattle.fip_tool.specs.declared.stops.Stop.{Stop}
 use Rattle.fip_tool.specs.declared.stops.Stop.TheVariants as stop
 use Rattle.fip_tool.proofs.Did.{are-up-to, did-later}
@@ -167,77 +162,6 @@ pub unpack-append : (prefix bytes : List ℕ) (a b : List Entry) → unpack_step
 unpack-append prefix bytes [] b = refl
 unpack-append prefix bytes (e ∷ a) b = ap (λ (l : List Step). Writes (unpacked_name prefix e.guid) (payload bytes e) ∷ l) (ap (λ (l : List Step). Prints (unpacked_line prefix e) ∷ l) (unpack-append prefix bytes a b))
 
--- ---- what a package gives
-
-cond-none : {X : Type 0} (b : Bool) (x : X) → cond b (Some x) None ≡ None → b ≡ false
-cond-none true x h = cc
-cond-none false x h = refl
-
-not-true : (b : Bool) → not b ≡ true → b ≡ false
-not-true true h = cc
-not-true false h = refl
-
-none-beyond : (bytes : List ℕ) (es : List Entry) → position (is_beyond bytes) es ≡ None → All (λ e. e.offset + e.size ≤ length bytes) es
-none-beyond bytes es h = λ k d lt.
-    let far : length es ≤ position_or_len (is_beyond bytes) es = ltb-false _ _ (cond-none (nat_lt (position_or_len (is_beyond bytes) es) (length es)) _ h) in
-    All-from_get_or (λ e. e.offset + e.size ≤ length bytes) es d
-    (λ i less. ltb-false _ _ (not-true (is_beyond bytes (get_or es i d)) (prefix_len_passes (λ e. not (is_beyond bytes e)) es i d (omega (arith, far, less))))) k d lt
-
-ok-after : {X : Type 0} (b : Bool) (f : FipFault) (r : Result X FipFault) (x : X) → (if b then Err f else r) ≡ Ok x → r ≡ Ok x
-ok-after true f r x h = cc
-ok-after false f r x h = h
-
-is-within : (bytes : List ℕ) (t toc : Toc) (o : Option ℕ) → within bytes t o ≡ Ok toc → (o ≡ None) × (t ≡ toc)
-is-within bytes t toc None h = (refl, cc)
-is-within bytes t toc (Some i) h = cc
-
-pub stored-entries : (bytes : List ℕ) (toc : Toc) → toc_of bytes ≡ Ok toc → All (λ e. e.offset + e.size ≤ length bytes) toc.entries
-unfolding toc_of
-stored-entries bytes toc h = go (entries_from bytes [] 0 entry_limit) (ok-after (num_at 4 bytes 4 == 0) fault.ZeroSerial _ toc (ok-after (not (num_at 4 bytes 0 == fip_name)) fault.BadName _ toc (ok-after (nat_lt (length bytes) 16) fault.ShortHeader _ toc h)))
-  where
-    go : (r : Result (List Entry) FipFault) → with_entries bytes r ≡ Ok toc → All (λ e. e.offset + e.size ≤ length bytes) toc.entries
-    go (Err f) e = cc
-    go (Ok es) e = let w = is-within bytes _ toc (position (is_beyond bytes) es) e in subst (λ (t : Toc). All (λ e. e.offset + e.size ≤ length bytes) t.entries) w.1 (none-beyond bytes es w.0)
-
-abbrev tabled : List ℕ → Result Toc FipFault → Result (List ℕ × Toc) Stop
-tabled bytes r = after (table_of r) (λ t. Ok (bytes, t))
-
-abbrev packaged : Option (List ℕ) → Result (List ℕ × Toc) Stop
-packaged o = after (there o) (λ bytes. tabled bytes (toc_of bytes))
-
-abbrev with_size : List ℕ × Toc → Result (Toc × ℕ) Stop
-with_size p = Ok (p.1, length p.0)
-
-with-table : (bytes : List ℕ) (r : Result Toc FipFault) (t : Toc × ℕ) → after (tabled bytes r) with_size ≡ Ok t → r ≡ Ok t.0
-with-table bytes (Err f) t e = cc
-with-table bytes (Ok x) t e = let p : Toc × ℕ = (x, length bytes) in let same : p ≡ t = cc in ap (λ (q : Toc × ℕ). Ok q.0) same
-
-pub package-of : (files : Directory) (name : List ℕ) (t : Toc × ℕ) → sized_table files name ≡ Ok t → (bytes : List ℕ) × (files name ≡ Some bytes) × (toc_of bytes ≡ Ok t.0)
-unfolding sized_table
-package-of files name t h = go (files name) refl h
-  where
-    go : (o : Option (List ℕ)) → files name ≡ o → after (packaged o) with_size ≡ Ok t → (bytes : List ℕ) × (files name ≡ Some bytes) × (toc_of bytes ≡ Ok t.0)
-    go None is e = cc
-    go (Some bytes) is e = (bytes, is, with-table bytes (toc_of bytes) t e)
-
-err-by : (r : Result (List ℕ × Toc) Stop) (f : List ℕ × Toc → Result (List ℕ × List Entry) Stop) (s : Stop) → after r with_size ≡ Err s → after r f ≡ Err s
-err-by (Err x) f s e = let same : x ≡ s = cc in ap (λ (y : Stop). Err y) same
-err-by (Ok p) f s e = cc
-
-pub value-err : (files : Directory) (name : List ℕ) (guids : List (List ℕ)) (s : Stop) → sized_table files name ≡ Err s → unpack_value files name guids ≡ Err s
-unfolding sized_table unpack_value
-value-err files name guids s h = err-by (packaged (files name)) (λ p. unless_missing (first_missing p.1 guids) (Ok (p.0, chosen guids p.1.entries))) s h
-
-pub value-missing : (files : Directory) (name bytes : List ℕ) (guids : List (List ℕ)) (toc : Toc) (guid : List ℕ) → files name ≡ Some bytes → toc_of bytes ≡ Ok toc
-    → first_missing toc guids ≡ Some guid → unpack_value files name guids ≡ Err (stop.NoSuchEntry guid)
-unfolding unpack_value
-value-missing files name bytes guids toc guid there is missing = rw (there, is, missing) refl
-
-pub value-ok : (files : Directory) (name bytes : List ℕ) (guids : List (List ℕ)) (toc : Toc) → files name ≡ Some bytes → toc_of bytes ≡ Ok toc
-    → first_missing toc guids ≡ None → unpack_value files name guids ≡ Ok (bytes, chosen guids toc.entries)
-unfolding unpack_value
-value-ok files name bytes guids toc there is missing = rw (there, is, missing) refl
-
 -- ---- the chosen entries
 
 filter-all : (es : List Entry) → filter (λ e. true) es ≡ es
@@ -324,29 +248,43 @@ ends prefix from bytes entries told contents was text rose sink-rose u s =
     subst (λ (o : Option Directory). Did (Makes (unpack_steps prefix bytes entries)) told o was text rose sink-rose (Ok u)) (sym s.is)
     (did-all (unpack_steps prefix bytes entries) told s.now was text rose sink-rose u s.done)
 
+-- ---- the file that is read stays
+
+module _ (prefix from : List ℕ) (es : List Entry) (start now : Option Directory) (was text : Option (List ℕ)) (silent : start ≡ None → now ≡ None) (there : Lacks start from → ⊥)
+    (so-far : (told : Directory) (bytes : List ℕ) → start ≡ Some told → told from ≡ Some bytes → IsUnpacking prefix from bytes es told now was text) where
+  -- what is told of it now was told
+  pub tells-still : (bytes : List ℕ) → Tells now from bytes → Tells start from bytes
+  tells-still bytes tells = go start silent there so-far
+    where
+      go : (start : Option Directory) → (start ≡ None → now ≡ None) → (Lacks start from → ⊥)
+          → ((told : Directory) (bytes : List ℕ) → start ≡ Some told → told from ≡ Some bytes → IsUnpacking prefix from bytes es told now was text) → Tells start from bytes
+      go None silent there so-far = subst (λ (o : Option Directory). Tells o from bytes) (silent refl) tells
+      go (Some d) silent there so-far = by (d from) refl
+        where
+          by : (o : Option (List ℕ)) → d from ≡ o → d from ≡ Some bytes
+          by None is = absurd (there is)
+          by (Some b) is =
+              let s = so-far d b refl is in
+              let still : s.now from ≡ Some bytes = subst (λ (o : Option Directory). Tells o from bytes) s.is tells in
+              is ∙ sym s.stored ∙ still
+
+  pub there-still : Lacks now from → ⊥
+  there-still lacks = go start silent there so-far
+    where
+      go : (start : Option Directory) → (start ≡ None → now ≡ None) → (Lacks start from → ⊥)
+          → ((told : Directory) (bytes : List ℕ) → start ≡ Some told → told from ≡ Some bytes → IsUnpacking prefix from bytes es told now was text) → ⊥
+      go None silent there so-far = subst (λ (o : Option Directory). Lacks o from) (silent refl) lacks
+      go (Some d) silent there so-far = by (d from) refl
+        where
+          by : (o : Option (List ℕ)) → d from ≡ o → ⊥
+          by None is = there is
+          by (Some b) is =
+              let s = so-far d b refl is in
+              let gone : s.now from ≡ None = subst (λ (o : Option Directory). Lacks o from) s.is lacks in
+              let no : ◌≡◌ {A = Option (List ℕ)} (Some b) None = sym s.stored ∙ gone in
+              cc
+
 -- ---- one payload
-
-has-name : (o : Option Directory) (name : List ℕ) (n : ℕ) → TellsSize o name (Some n) → Lacks o name → ⊥
-has-name None name n size lacks = lacks
-has-name (Some d) name n size lacks = let no : ◌≡◌ {A = Option ℕ} (Some n) None = size ∙ ap (option_map length) lacks in cc
-
--- a file that has a size and could not be read had a fault
-pub read-cause : {X : Type 0} (view : X → List ℕ) (value : List ℕ → List ℕ) (o mid : Option Directory) (name : List ℕ) (size : Option ℕ) (n : ℕ) (rose : Type 0) (r : Result X Stop)
-    → mid ≡ o → size ≡ Some n → TellsSize o name size → (r ≡ Err stop.FileFault → mid ≡ None → rose)
-    → ((bytes : List ℕ) → Tells mid name bytes → Gives view rose (Ok (value bytes)) r) → r ≡ Err stop.FileFault → rose
-read-cause {X = X} view value o mid name size n rose r same is tells cause gives e = go mid (subst (λ (x : Option Directory). TellsSize x name (Some n)) (sym same) (subst (λ (s : Option ℕ). TellsSize o name s) is tells)) (cause e) gives
-  where
-    given : (bytes : List ℕ) → Gives view rose (Ok (value bytes)) (Err stop.FileFault) → rose
-    given bytes (inl e) = cc
-    given bytes (inr r) = r
-
-    in-told : (d : Directory) (o : Option (List ℕ)) → d name ≡ o → TellsSize (Some d) name (Some n) → ((bytes : List ℕ) → Tells (Some d) name bytes → Gives view rose (Ok (value bytes)) r) → rose
-    in-told d None is size gives = absurd (has-name (Some d) name n size is)
-    in-told d (Some bytes) is size gives = given bytes (subst (λ (x : Result X Stop). Gives view rose (Ok (value bytes)) x) e (gives bytes is))
-
-    go : (mid : Option Directory) → TellsSize mid name (Some n) → (mid ≡ None → rose) → ((bytes : List ℕ) → Tells mid name bytes → Gives view rose (Ok (value bytes)) r) → rose
-    go None size cause gives = cause refl
-    go (Some d) size cause gives = in-told d (d name) refl size gives
 
 -- a file that was written, and its line
 pub entry-did : (prefix bytes : List ℕ) (e : Entry) (name shown out line : List ℕ) (told : Directory) (now : Option Directory) (was text : Option (List ℕ)) (rose late sink-rose : Type 0) (r : Result (Unit {0}) Stop)

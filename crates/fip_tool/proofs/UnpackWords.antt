@@ -3,8 +3,8 @@ use Rattle.std.proofs.Common.{◌≡◌, ℕ, Bool, true, false, List, Option, S
 use Rattle.std.specs.Prelude.{if◌then◌else◌, option_and_then}
 use Rattle.base_core.specs.Bytes.{same_bytes}
 use Rattle.fip_words.specs.Commands.{fip_app}
-use Rattle.fip_words.specs.Order.{Asked, info, info_of_source, create, update, remove, unpack, manifest, align_in, asked, create_by, create_of, file_in, info_by, info_of, manifest_by, manifest_of, order_of, remove_by, remove_of, unpack_by, unpack_of, unpack_to, update_by, update_of, values_of}
-use Rattle.fip_words.specs.Values.{NamedFile, NamedImage, is_unpacked, names_of, number_read, parts_of, rows_of}
+use Rattle.fip_words.specs.Order.{Asked, info, info_of_source, unpack, align_in, asked, create_by, file_in, info_by, manifest_by, manifest_of, order_of, remove_by, unpack_by, update_by, values_of}
+use Rattle.fip_words.specs.Values.{NamedFile, NamedImage, is_unpacked, names_of, parts_of, rows_of}
 use Rattle.fip_words.specs.Words.{reads}
 
 module _ (from prefix : List ℕ) (names : List (List ℕ)) where

@@ -32,6 +32,11 @@ not-written files (Some old) (Some new) name e only =
     let same : old ≡ files = cc in
     λ other differs. only other differs ∙ ap (λ (d : Directory). d other) same
 
+-- files that tell nothing go on so
+pub silent : (o now : Option Directory) (name : List ℕ) → ChangesOnly o now name → o ≡ None → now ≡ None
+silent None now name only e = only
+silent (Some old) now name only e = cc
+
 pub write-stopped : (files : Directory) (now : Option Directory) (was text : Option (List ℕ)) (files-rose sink-rose : Type 0) (name bytes line : List ℕ) (s : Stop)
     → Written files now files-rose name bytes (Err s) → text ≡ was → Did (Makes (Writes name bytes ∷ Prints line ∷ [])) files now was text files-rose sink-rose (Err s)
 write-stopped files now was text files-rose sink-rose name bytes line stop.FileFault w t = (inr w.0, 0, w.1, appends-none was text t)

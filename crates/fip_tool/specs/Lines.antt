@@ -1,10 +1,9 @@
 -- The texts that `fip` prints.
-use Rattle.std.specs.Prelude.{ℕ, List, [], ◌∷◌, ◌++◌, codes, decimal, flat_map, length, reverse}
+use Rattle.std.specs.Prelude.{ℕ, List, ◌++◌, codes, decimal, flat_map, length, reverse}
 use Rattle.hex.specs.Hex.{encode_lower}
 use Rattle.base_core.specs.Bytes.{le}
 use Rattle.base_core.specs.Guid.{guid_text}
 use Rattle.fwu_model.specs.Package.{Entry, Toc}
-use Rattle.fwu_model.specs.Text.{fip_fault_text}
 use Rattle.fip_words.specs.Values.{bin}
 
 -- eight hexadecimal digits

@@ -5,7 +5,7 @@ use Rattle.std.specs.Io.KnownBytes.{Appends}
 use Rattle.base_core.specs.Counts.{Rose}
 use Rattle.host_io.specs.Contents.{Directory}
 use Rattle.fip_tool.specs.declared.stops.Stop.{Stop}
-use Rattle.fip_tool.specs.declared.stops.Stop.TheVariants.{FileFault, SinkFault, NoMemory}
+use Rattle.fip_tool.specs.declared.stops.Stop.TheVariants.{FileFault, SinkFault, NoMemory, Usage}
 
 -- a file is written whole, or a text is printed
 pub data Step : Type 0 where
@@ -79,11 +79,12 @@ Gives view files-rose value (Err SinkFault) = ⊥
 Gives view files-rose value (Err FileFault) = (value ≡ Err FileFault) ⊎ files-rose
 Gives view files-rose value (Err stop) = value ≡ Err stop
 
--- a part that reads alone answers that a file failed only where faults rose, or told files lack one
+-- A part that reads alone answers that a file failed only where faults rose, or told files lack one. It never answers usage.
 pub record ReadsOnly {X : Type 0} (told now : Option Directory) (before after : ℕ) (result : Result X Stop) : Type 0 where
   pub same : now ≡ told
   pub later : before ≤ after
   pub cause : result ≡ Err FileFault → told ≡ None → Rose before after
+  pub usage : result ≡ Err Usage → ⊥
 
 -- what the sink took of a text
 abbrev pub Printed : Option (List ℕ) → Option (List ℕ) → Type 0 → List ℕ → Result (Unit {0}) Stop → Type 0

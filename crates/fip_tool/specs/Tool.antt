@@ -1,5 +1,5 @@
 -- What each command of `fip` does, by the bytes of its files: the written files and the printed text.
-use Rattle.std.specs.Prelude.{◌≡◌, ◌⊎◌, ℕ, ◌+◌, Bool, not, ◌&&◌, ◌||◌, ◌==◌, List, [], ◌∷◌, ◌++◌, Option, Some, None, Result, Ok, Err, if◌then◌else◌, length, map, filter, find, nat_lt, option_map, option_and_then}
+use Rattle.std.specs.Prelude.{◌≡◌, ◌⊎◌, ℕ, Bool, not, ◌||◌, ◌==◌, List, [], ◌∷◌, Option, Some, None, Result, Ok, Err, if◌then◌else◌, length, map, filter, find, nat_lt, option_map}
 use Rattle.std.specs.List.{list_any}
 use Rattle.std.specs.Io.KnownBytes.{Consumes, IsAtEnd}
 use Rattle.base_core.specs.Bytes.{same_bytes}
@@ -10,7 +10,7 @@ use Rattle.fwu_model.specs.Manifest.{Row, manifest_bytes}
 use Rattle.fwu_model.specs.declared.kinds.FipFault.{FipFault}
 use Rattle.fwu_model.specs.declared.kinds.ManifestFault.TheVariants as fault
 use Rattle.fip_tables.specs.Answers.{decided}
-use Rattle.fip_tables.specs.Packing.{pack_fault}
+use Rattle.fip_tables.specs.Packing.{pack_fault, zeroed}
 use Rattle.fip_tables.specs.declared.faults.PackFault.{PackFault}
 use Rattle.fip_tables.specs.declared.toc.TocStop.{TocStop}
 use Rattle.fip_tables.specs.declared.toc.TocStop.TheVariants as toc
@@ -18,7 +18,7 @@ use Rattle.fip_words.specs.Order.{Asked, info, info_of_source, create, update, r
 use Rattle.fip_words.specs.Values.{NamedFile, NamedImage, each}
 use Rattle.fip_tool.specs.Lines.{info_text, manifest_line, packed_line, unpacked_line, unpacked_name}
 use Rattle.fip_tool.specs.Ends.{EndedBy, exit_status}
-use Rattle.fip_tool.specs.Steps.{Did, Outcome, Makes, Refuses, Step, Writes, Prints, outcome_by}
+use Rattle.fip_tool.specs.Steps.{Did, Outcome, Refuses, Step, Writes, Prints, outcome_by}
 use Rattle.fip_tool.specs.declared.stops.Stop.{Stop}
 use Rattle.fip_tool.specs.declared.stops.Stop.TheVariants as stop
 
@@ -53,6 +53,13 @@ part_in files p = option_map (λ bytes. record { guid = p.guid; flags = 0; bytes
 -- the parts of named files
 abbrev pub parts_in : Directory → List NamedFile → Result (List Part) Stop
 parts_in files parts = there (each (part_in files) parts)
+
+-- the part of a named file, with zeros in place of its bytes
+abbrev pub outline_in : Directory → NamedFile → Result Part Stop
+outline_in files p = after (there (part_in files p)) (λ part. Ok (zeroed part))
+
+abbrev pub outlines_in : Directory → List NamedFile → Result (List Part) Stop
+outlines_in files parts = after (parts_in files parts) (λ ps. Ok (map zeroed ps))
 
 -- a package's table, and how many bytes it has
 unfoldable pub sized_table : Directory → List ℕ → Result (Toc × ℕ) Stop
@@ -108,6 +115,14 @@ GivenTo view value was left source-rose (Err s) given = Consumes was left given 
 abbrev pub unless_fault : {X : Type 0} → Option PackFault → X → Result X Stop
 unless_fault None made = Ok made
 unless_fault (Some f) made = Err (stop.NotPacked f)
+
+-- whether parts fit a package
+abbrev pub fit_value : List Part → ℕ → Result (Unit {0}) Stop
+fit_value parts align = unless_fault (pack_fault parts align) tt
+
+-- what is seen of a value of which this says no more
+abbrev pub nothing : {X : Type 0} → X → Unit {0}
+nothing x = tt
 
 -- what is packed: how many entries, and the bytes; or the first fault
 unfoldable pub pack_value : ℕ → ℕ → List Part → ℕ → Result (ℕ × List ℕ) Stop

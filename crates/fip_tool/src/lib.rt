@@ -1,10 +1,12 @@
 //! The tool for firmware image packages: it lists, makes, changes and unpacks them, and makes manifests.
 #![tactic(auto)]
 
+mod creating;
 mod info;
 mod lines;
 mod making;
 mod manifest;
+mod named;
 mod parts;
 mod printing;
 mod reading;

@@ -5,11 +5,12 @@ ghost use Rattle.fip_tables.specs.Files.{Lacks, Tells};
 ghost use Rattle.host_io.specs.Contents.{Directory};
 ghost use Rattle.fip_words.specs.Order.{part_view};
 ghost use Rattle.fip_tool.specs.Steps.{Did, Gives, ReadsOnly, outcome_by};
-ghost use Rattle.fip_tool.specs.Tool.{after, create_value, first_missing, is_named, kept_part, pack_value, packs, parts_in, remove_value, sized_table, unless_missing, update_value, updated_part};
+ghost use Rattle.fip_tool.specs.Tool.{after, create_value, is_named, kept_part, pack_value, packs, parts_in, remove_value, update_value, updated_part};
 ghost use Rattle.fip_tool.specs.declared.stops.Stop.TheVariants as stop;
 
-use crate::parts::{create, packed, parts_of_entries, parts_of_files};
-use crate::reading::read_table;
+use crate::creating::create;
+use crate::named::{is_named, table_with};
+use crate::parts::{packed, parts_of_entries, parts_of_files};
 use crate::stops::Stop;
 use crate::writing::put_package;
 use base_core::Guid;
@@ -17,30 +18,6 @@ use fip_tables::{Entry, Part, Parts, Toc};
 use fip_words::Part as NamedFile;
 use host_io::{Files, Sink};
 use std::alloc::{AllocError, Global};
-
-// The first of these types that the package hasn't.
-fn first_missing(toc: &Toc, guids: &[Guid]) -> Option<Guid>
-    ensures { result ≡ first_missing toc.now guids.now }
-{
-    let entries = &toc.entries;
-    guids.iter().copied().find(|guid| !entries.has(guid))
-}
-
-// The table of a package that has an entry of each of these types.
-fn table_with<H: Files>(files: &mut H, name: &str, guids: &[Guid]) -> Result<Toc, Stop>
-    ensures told { (told : Directory) → H.contents files.old ≡ Some told
-        → Gives (λ t. t) (Rose (H.faults files.old) (H.faults files.new)) (after (sized_table told name.now) (λ t. unless_missing (first_missing t.0 guids.now) (Ok t.0))) result }
-    ensures ends { IfOk result (λ t. All (λ e. e.offset + e.size < 2 ^ 64) t.entries) }
-    ensures reads { ReadsOnly (H.contents files.old) (H.contents files.new) (H.faults files.old) (H.faults files.new) result }
-{
-    match read_table(files, name) {
-        Ok((toc, _)) => match first_missing(&toc, guids) {
-            None => Ok(toc),
-            Some(guid) => Err(Stop::NoSuchEntry(guid)),
-        },
-        Err(stop) => Err(stop),
-    }
-}
 
 // A package of these entries of another, with the new payloads where there are some.
 fn repacked<H: Files>(
@@ -70,12 +47,6 @@ fn repacked<H: Files>(
         }
         Err(stop) => Err(stop),
     }
-}
-
-fn is_named(guids: &[Guid], entry: &Entry) -> bool
-    ensures { result ≡ is_named guids.now entry.now }
-{
-    guids.iter().any(|guid| guid.is(&entry.guid))
 }
 
 // The entries that are not named.
@@ -206,6 +177,7 @@ pub fn run_create<H: Files, O: Sink>(
         → Did (outcome_by (packs out.now) (create_value told align (map part_view named.now))) told (H.contents files.new) (O.taken sink.old) (O.taken sink.new)
         (Rose (H.faults files.old) (H.faults files.new)) (Rose (O.faults sink.old) (O.faults sink.new)) result }
     ensures cause { result ≡ Err stop.FileFault → H.contents files.old ≡ None → Rose (H.faults files.old) (H.faults files.new) }
+    ensures usage { result ≡ Err stop.Usage → ⊥ }
     ensures later { O.faults sink.old ≤ O.faults sink.new }
 {
     match create(alloc, files, align, named) {
@@ -228,6 +200,7 @@ pub fn run_remove<H: Files, O: Sink>(
         → Did (outcome_by (packs out.now) (remove_value told align from.now guids.now)) told (H.contents files.new) (O.taken sink.old) (O.taken sink.new)
         (Rose (H.faults files.old) (H.faults files.new)) (Rose (O.faults sink.old) (O.faults sink.new)) result }
     ensures cause { result ≡ Err stop.FileFault → H.contents files.old ≡ None → Rose (H.faults files.old) (H.faults files.new) }
+    ensures usage { result ≡ Err stop.Usage → ⊥ }
     ensures later { O.faults sink.old ≤ O.faults sink.new }
 {
     match removed(alloc, files, align, from, guids) {
@@ -251,6 +224,7 @@ pub fn run_update<H: Files, O: Sink>(
         → Did (outcome_by (packs out.now) (update_value told align from.now (map part_view named.now))) told (H.contents files.new) (O.taken sink.old) (O.taken sink.new)
         (Rose (H.faults files.old) (H.faults files.new)) (Rose (O.faults sink.old) (O.faults sink.new)) result }
     ensures cause { result ≡ Err stop.FileFault → H.contents files.old ≡ None → Rose (H.faults files.old) (H.faults files.new) }
+    ensures usage { result ≡ Err stop.Usage → ⊥ }
     ensures later { O.faults sink.old ≤ O.faults sink.new }
 {
     match updated(alloc, files, align, from, named) {

@@ -94,7 +94,8 @@ fn rows_of_files<H: Files>(
 
 // The manifest of these rows: how many, and its bytes.
 fn manifest_of_rows(alloc: Global, security: u32, rows: Vec<Row>) -> Result<(u64, Vec<u8>), Stop>
-    ensures { Gives (λ m. (m.0, m.1.items)) ⊥ (if (length rows.items == 0) || nat_lt 15 (length rows.items) then Err (stop.NoManifest fault.BadCount) else of_rows security (Some (map row rows.items))) result }
+    ensures value { Gives (λ m. (m.0, m.1.items)) ⊥ (if (length rows.items == 0) || nat_lt 15 (length rows.items) then Err (stop.NoManifest fault.BadCount) else of_rows security (Some (map row rows.items))) result }
+    ensures usage { result ≡ Err stop.Usage → ⊥ }
 {
     let count = rows.len() as u64;
     let manifest = match Manifest::of_rows(alloc, security, rows) {
@@ -110,7 +111,8 @@ fn manifest_of_rows(alloc: Global, security: u32, rows: Vec<Row>) -> Result<(u64
 
 // Why there is no manifest of so many images, of which one is too long.
 fn refusal(count: usize) -> Stop
-    ensures { result ≡ (if (count == 0) || nat_lt 15 count then stop.NoManifest fault.BadCount else stop.NoManifest fault.TooLarge) }
+    ensures value { result ≡ (if (count == 0) || nat_lt 15 count then stop.NoManifest fault.BadCount else stop.NoManifest fault.TooLarge) }
+    ensures usage { result ≡ stop.Usage → ⊥ }
 {
     if count == 0 || count > 15 {
         Stop::NoManifest(ManifestFault::BadCount)
@@ -151,6 +153,7 @@ pub fn run_manifest<H: Files, O: Sink>(
         → Did (outcome_by (writes_manifest out.now security) (manifest_value told security (map image_view named.now))) told (H.contents files.new) (O.taken sink.old) (O.taken sink.new)
         (Rose (H.faults files.old) (H.faults files.new)) (Rose (O.faults sink.old) (O.faults sink.new)) result }
     ensures cause { result ≡ Err stop.FileFault → H.contents files.old ≡ None → Rose (H.faults files.old) (H.faults files.new) }
+    ensures usage { result ≡ Err stop.Usage → ⊥ }
     ensures later { O.faults sink.old ≤ O.faults sink.new }
 {
     let (rows, bytes) = match manifest(alloc, files, security, named) {

@@ -6,7 +6,7 @@ ghost use Rattle.fip_tables.specs.Files.{Lacks, Tells};
 ghost use Rattle.host_io.specs.Contents.{Directory};
 ghost use Rattle.fip_words.specs.Order.{part_view};
 ghost use Rattle.fip_tool.specs.Steps.{Gives, ReadsOnly};
-ghost use Rattle.fip_tool.specs.Tool.{create_value, pack_value, part_in, parts_in, there, updated_part};
+ghost use Rattle.fip_tool.specs.Tool.{pack_value, part_in, parts_in, there, updated_part};
 ghost use Rattle.fip_tool.specs.declared.stops.Stop.TheVariants as stop;
 
 use crate::reading::{read_file, read_payload};
@@ -16,8 +16,6 @@ use fip_tables::{Entry, PackStop, Part, Parts, pack};
 use fip_words::Part as NamedFile;
 use host_io::Files;
 use std::alloc::Global;
-
-const NEW_SERIAL: u32 = 0x1234_5678;
 
 // The parts with one more.
 fn with_part(parts: Vec<Part>, part: Part) -> Result<Vec<Part>, NoMemory>
@@ -150,34 +148,11 @@ pub fn parts_of_entries<H: Files>(
 pub fn packed(alloc: Global, parts: &Parts, align: u32) -> Result<(u64, Vec<u8>), Stop>
     ensures value { Gives (λ m. (m.0, m.1.items)) ⊥ (pack_value parts.now.serial parts.now.flags parts.now.parts.items align) result }
     ensures cause { result ≡ Err stop.FileFault → ⊥ }
+    ensures usage { result ≡ Err stop.Usage → ⊥ }
 {
     match pack(alloc, parts, align) {
         Ok(bytes) => Ok((parts.parts.len() as u64, bytes)),
         Err(PackStop::Fault(fault)) => Err(Stop::NotPacked(fault)),
         Err(PackStop::NoMemory) => Err(Stop::NoMemory),
-    }
-}
-
-/// A new package of named files.
-pub fn create<H: Files>(
-    alloc: Global,
-    files: &mut H,
-    align: u32,
-    named: &[NamedFile],
-) -> Result<(u64, Vec<u8>), Stop>
-    ensures told { (told : Directory) → H.contents files.old ≡ Some told
-        → Gives (λ m. (m.0, m.1.items)) (Rose (H.faults files.old) (H.faults files.new)) (create_value told align (map part_view named.now)) result }
-    ensures reads { ReadsOnly (H.contents files.old) (H.contents files.new) (H.faults files.old) (H.faults files.new) result }
-{
-    match parts_of_files(alloc, files, named) {
-        Ok(parts) => {
-            let parts = Parts {
-                serial: NEW_SERIAL,
-                flags: 0,
-                parts,
-            };
-            packed(alloc, &parts, align)
-        }
-        Err(stop) => Err(stop),
     }
 }

@@ -1,16 +1,17 @@
 //! Whole files, and whole payloads.
-ghost use Rattle.std.specs.Prelude.{◌≡◌, ◌<◌, ◌≤◌, ◌+◌, ◌^◌, All, IfOk, List, Some, Ok, ℕ, length};
+ghost use Rattle.std.specs.Prelude.{◌≡◌, ◌<◌, ◌≤◌, ◌+◌, ◌^◌, IfOk, List, Some, Ok, Err, ℕ, length};
 ghost use Rattle.base_core.specs.Counts.{Rose};
 ghost use Rattle.fip_tables.specs.Files.{Lacks, Tells};
 ghost use Rattle.fwu_model.specs.Package.{payload};
 ghost use Rattle.host_io.specs.Contents.{Directory};
 ghost use Rattle.fip_tool.specs.Steps.{Gives, ReadsOnly};
-ghost use Rattle.fip_tool.specs.Tool.{file_value, sized_table};
+ghost use Rattle.fip_tool.specs.Tool.{file_value};
+ghost use Rattle.fip_tool.specs.declared.stops.Stop.TheVariants as stop;
 
 use crate::stops::Stop;
 use crate::table::size_of;
 use base_core::NoMemory;
-use fip_tables::{Entry, Toc, TocStop, payload_at, read_toc};
+use fip_tables::{Entry, payload_at};
 use host_io::Files;
 use std::alloc::Global;
 
@@ -42,24 +43,6 @@ pub fn read_file<H: Files>(alloc: Global, files: &mut H, name: &str) -> Result<V
     }
 }
 
-/// The table of a package in a file, and how many bytes the file has. Each payload ends below 2 ^ 64, whatever file it is.
-pub fn read_table<H: Files>(files: &mut H, name: &str) -> Result<(Toc, u64), Stop>
-    ensures told { (told : Directory) → H.contents files.old ≡ Some told
-        → Gives (λ t. t) (Rose (H.faults files.old) (H.faults files.new)) (sized_table told name.now) result }
-    ensures ends { IfOk result (λ t. All (λ e. e.offset + e.size < 2 ^ 64) t.0.entries) }
-    ensures reads { ReadsOnly (H.contents files.old) (H.contents files.new) (H.faults files.old) (H.faults files.new) result }
-{
-    let size = match size_of(files, name) {
-        Ok(size) => size,
-        Err(stop) => return Err(stop),
-    };
-    match read_toc(files, name) {
-        Ok(toc) => Ok((toc, size)),
-        Err(TocStop::Fault(fault)) => Err(Stop::NotFip(fault)),
-        Err(TocStop::ReadFailed) => Err(Stop::FileFault),
-    }
-}
-
 /// The bytes of a payload.
 pub fn read_payload<H: Files>(
     alloc: Global,
@@ -72,6 +55,7 @@ pub fn read_payload<H: Files>(
     requires there { Lacks (H.contents files.old) name.now → ⊥ }
     ensures told { (bytes : List ℕ) → Tells (H.contents files.old) name.now bytes
         → Gives (λ v. v.items) (Rose (H.faults files.old) (H.faults files.new)) (Ok (payload bytes entry.now)) result }
+    ensures cause { result ≡ Err stop.FileFault → Rose (H.faults files.old) (H.faults files.new) }
     ensures reads { ReadsOnly (H.contents files.old) (H.contents files.new) (H.faults files.old) (H.faults files.new) result }
 {
     let Ok(mut bytes) = zeros(alloc, entry.size) else {

@@ -1,5 +1,5 @@
 //! A package's table of contents, from a file or from the source.
-ghost use Rattle.std.specs.Prelude.{◌≡◌, ◌≤◌, ◌<◌, ◌+◌, IfOk, List, Some, Ok, Err, length, ℕ, ◌++◌};
+ghost use Rattle.std.specs.Prelude.{◌≡◌, ◌≤◌, ◌<◌, ◌+◌, ◌^◌, All, IfOk, List, Some, Ok, Err, length, ℕ, ◌++◌};
 ghost use Rattle.std.specs.Io.KnownBytes.{Consumes, IsAtEnd};
 ghost use Rattle.base_core.specs.Counts.{Rose};
 ghost use Rattle.host_io.specs.Contents.{Directory};
@@ -9,6 +9,7 @@ ghost use Rattle.fip_tables.specs.Stream.{Fed};
 ghost use Rattle.fip_tool.specs.Steps.{Gives, ReadsOnly};
 ghost use Rattle.fip_tool.specs.Tool.{GivenTo, given_table, size_in, sized_table, source_limit, stopped_by};
 ghost use Rattle.fip_tool.specs.Source.{EndsAs, FedSome};
+ghost use Rattle.fip_tool.specs.declared.stops.Stop.TheVariants as stop;
 
 use crate::stops::Stop;
 use fip_tables::{StreamToc, Toc, TocStop, read_toc};
@@ -39,10 +40,11 @@ fn stop_of(stop: TocStop) -> Stop
     }
 }
 
-/// The table of a package in a file, and how many bytes the file has.
+/// The table of a package in a file, and how many bytes the file has. Each payload ends below 2 ^ 64, whatever file it is.
 pub fn read_package<H: Files>(files: &mut H, name: &str) -> Result<(Toc, u64), Stop>
     ensures told { (told : Directory) → H.contents files.old ≡ Some told
         → Gives (λ t. t) (Rose (H.faults files.old) (H.faults files.new)) (sized_table told name.now) result }
+    ensures ends { IfOk result (λ t. All (λ e. e.offset + e.size < 2 ^ 64) t.0.entries) }
     ensures reads { ReadsOnly (H.contents files.old) (H.contents files.new) (H.faults files.old) (H.faults files.new) result }
 {
     let size = match size_of(files, name) {
@@ -61,6 +63,7 @@ fn feed_some<I: Source>(source: &mut I, stream: &mut StreamToc) -> Result<usize,
     ensures few { IfOk result (λ n. n ≤ 4096) }
     ensures fed { (given : List ℕ) → Fed stream.old given
         → (piece : List ℕ) × FedSome stream.new given piece (I.left source.old) (I.left source.new) (Rose (I.faults source.old) (I.faults source.new)) result }
+    ensures usage { result ≡ Err stop.Usage → ⊥ }
     ensures later { I.faults source.old ≤ I.faults source.new }
 {
     let mut buffer = [0u8; 4096];
@@ -77,8 +80,9 @@ fn feed_some<I: Source>(source: &mut I, stream: &mut StreamToc) -> Result<usize,
 // The table of what the source gave, which was all.
 fn ended(stream: StreamToc, count: u64) -> Result<(Toc, u64), Stop>
     requires few { count ≤ source_limit }
-    ensures { (given : List ℕ) → Fed stream given → length given ≡ count → decided (toc_of given) ≡ Ok tt
+    ensures table { (given : List ℕ) → Fed stream given → length given ≡ count → decided (toc_of given) ≡ Ok tt
         → EndsAs given result }
+    ensures usage { result ≡ Err stop.Usage → ⊥ }
 {
     match stream.end() {
         Ok(toc) => Ok((toc, count)),
@@ -90,6 +94,7 @@ fn ended(stream: StreamToc, count: u64) -> Result<(Toc, u64), Stop>
 /// bytes mend, or past the most bytes.
 pub fn read_given<I: Source>(source: &mut I) -> Result<(Toc, u64), Stop>
     ensures given { (given : List ℕ) × GivenTo (λ t. t) given_table (I.left source.old) (I.left source.new) (Rose (I.faults source.old) (I.faults source.new)) result given }
+    ensures usage { result ≡ Err stop.Usage → ⊥ }
     ensures later { I.faults source.old ≤ I.faults source.new }
 {
     let mut stream = StreamToc::new();

@@ -29,10 +29,8 @@ fn two_files(alloc: Global) -> Result<MemoryFiles, Fail> {
     Ok(MemoryFiles::new(alloc, all, Vec::new(alloc)))
 }
 
-// The head, the digest at the end and the line are of each security version.
-#[test]
-fn manifests_are_written(rt: HostRuntime) -> Result<(), Fail> {
-    let alloc = rt.alloc();
+// Whether a manifest of both files was made, its bytes, and what was printed.
+fn made(alloc: Global, security: u32) -> Result<(bool, Vec<u8>, Vec<u8>), Fail> {
     let named = [
         ImageWord {
             guid: Guid::of(TB_FW),
@@ -45,6 +43,29 @@ fn manifests_are_written(rt: HostRuntime) -> Result<(), Fail> {
             file: "h.bin",
         },
     ];
+    let mut files = two_files(alloc)?;
+    let mut sink = MemorySink::new(alloc, Vec::new(alloc), Vec::new(alloc));
+    let done = run_manifest(alloc, &mut files, &mut sink, "out.bin", security, &named);
+    let bytes = files.get("out.bin").ok_or("no file")?;
+    Ok((
+        done.is_ok(),
+        Vec::from_slice(alloc, bytes)?,
+        Vec::from_slice(alloc, sink.bytes())?,
+    ))
+}
+
+// The rows between a head and a digest.
+fn wanted(alloc: Global, head: &str, digest: &str) -> Result<Vec<u8>, Fail> {
+    let mut bytes = hex::decode(alloc, head)?;
+    bytes.extend_from_slice(hex::decode(alloc, ROWS)?.as_slice())?;
+    bytes.extend_from_slice(hex::decode(alloc, digest)?.as_slice())?;
+    Ok(bytes)
+}
+
+// The head, the digest at the end and the line are of each security version.
+#[test]
+fn manifests_are_written(rt: HostRuntime) -> Result<(), Fail> {
+    let alloc = rt.alloc();
     for (security, head, digest, line) in [
         (
             1,
@@ -65,16 +86,11 @@ fn manifests_are_written(rt: HostRuntime) -> Result<(), Fail> {
             "manifest rows=2 size=160 security=70000\n",
         ),
     ] {
-        let mut files = two_files(alloc)?;
-        let mut sink = MemorySink::new(alloc, Vec::new(alloc), Vec::new(alloc));
-        let done = run_manifest(alloc, &mut files, &mut sink, "out.bin", security, &named);
-        assert_eq!(rt; done, Ok(()), "at {security}");
-        let mut want = hex::decode(alloc, head)?;
-        want.extend_from_slice(hex::decode(alloc, ROWS)?.as_slice())?;
-        want.extend_from_slice(hex::decode(alloc, digest)?.as_slice())?;
-        let made = files.get("out.bin").ok_or("no file")?;
-        assert_eq!(rt; made, want.as_slice(), "at {security}");
-        assert_eq!(rt; sink.bytes(), line.as_bytes(), "at {security}");
+        let (done, bytes, said) = made(alloc, security)?;
+        let want = wanted(alloc, head, digest)?;
+        assert!(rt; done, "at {security}");
+        assert_eq!(rt; bytes.as_slice(), want.as_slice(), "at {security}");
+        assert_eq!(rt; said.as_slice(), line.as_bytes(), "at {security}");
     }
     Ok(())
 }

@@ -30,6 +30,7 @@ fn info<H: Files, O: Sink>(
         → Did (command_outcome (Asked.info name.now) told) told (H.contents files.new) (O.taken sink.old) (O.taken sink.new)
         (Rose (H.faults files.old) (H.faults files.new)) (Rose (O.faults sink.old) (O.faults sink.new)) result }
     ensures cause { result ≡ Err stop.FileFault → H.contents files.old ≡ None → Rose (H.faults files.old) (H.faults files.new) }
+    ensures usage { result ≡ Err stop.Usage → ⊥ }
     ensures later { O.faults sink.old ≤ O.faults sink.new }
 {
     match file_info(alloc, files, name) {
@@ -46,6 +47,7 @@ fn info_of_source<I: Source, O: Sink>(
     ensures listed { (told : Option Directory) → ReadSource result told told (I.left source.old) (I.left source.new) (O.taken sink.old) (O.taken sink.new)
         (Rose (I.faults source.old) (I.faults source.new)) (Rose (O.faults sink.old) (O.faults sink.new)) }
     ensures cause { result ≡ Err stop.FileFault → Rose (I.faults source.old) (I.faults source.new) }
+    ensures usage { result ≡ Err stop.Usage → ⊥ }
     ensures later { O.faults sink.old ≤ O.faults sink.new }
 {
     match source_info(alloc, source) {
@@ -95,6 +97,7 @@ fn command<H: Files, I: Source, O: Sink>(
         (O.taken sink.old) (O.taken sink.new) (Rose (I.faults source.old) (I.faults source.new)) (Rose (O.faults sink.old) (O.faults sink.new)) }
     ensures cause { result ≡ Err stop.FileFault → H.contents files.old ≡ None
         → Rose (H.faults files.old) (H.faults files.new) ⊎ Rose (I.faults source.old) (I.faults source.new) }
+    ensures usage { result ≡ Err stop.Usage → ⊥ }
     ensures later { O.faults sink.old ≤ O.faults sink.new }
 {
     match order {
@@ -145,6 +148,7 @@ fn run<H: Files, I: Source, O: Sink>(
     ensures words { asked (map string_bytes words.now) ≡ None → (result ≡ Err stop.Usage) ⊎ (result ≡ Err stop.NoMemory) }
     ensures cause { result ≡ Err stop.FileFault → H.contents files.old ≡ None
         → Rose (H.faults files.old) (H.faults files.new) ⊎ Rose (I.faults source.old) (I.faults source.new) }
+    ensures usage { result ≡ Err stop.Usage → asked (map string_bytes words.now) ≡ None }
     ensures later { O.faults sink.old ≤ O.faults sink.new }
 {
     match fip_order(alloc, words) {
@@ -173,6 +177,9 @@ pub fn fip_top<H: Files, I: Source, O: Sink>(
         (Rose (I.faults source.old) (I.faults source.new)) (Rose (O.faults sink.old) (O.faults sink.new)) }
     ensures cause { result ≡ 2 → H.contents files.old ≡ None
         → Rose (H.faults files.old) (H.faults files.new) ⊎ Rose (I.faults source.old) (I.faults source.new) }
+    // Usage is answered exactly by the words, whatever files there are.
+    ensures usage { result ≡ 1 → asked (map string_bytes words.now) ≡ None }
+    ensures words { asked (map string_bytes words.now) ≡ None → (result ≡ 1) ⊎ (result ≡ 3) ⊎ (result ≡ 9) }
 {
     match run(alloc, words, files, source, sink) {
         Ok(()) => 0,

@@ -1,24 +1,22 @@
 //! `unpack`: payloads that are written to files of their own.
-ghost use Rattle.std.specs.Prelude.{◌≡◌, ◌≢◌, ◌≤◌, ◌+◌, ◌++◌, ◌∷◌, ◌||◌, ◌==◌, [], All, IfOk, OnOk, List, Some, None, Ok, Err, ℕ, codes, decimal, false, filter, length, string_bytes};
+ghost use Rattle.std.specs.Prelude.{◌≡◌, ◌≢◌, ◌≤◌, ◌<◌, ◌+◌, ◌^◌, ◌++◌, ◌∷◌, ◌||◌, ◌==◌, [], All, IfOk, OnOk, List, Some, None, Ok, Err, ℕ, codes, decimal, false, filter, length, string_bytes};
 ghost use Rattle.base_core.specs.Counts.{Rose};
 ghost use Rattle.base_core.specs.Guid.{guid_text};
-ghost use Rattle.fip_tables.specs.Files.{Tells};
+ghost use Rattle.fip_tables.specs.Files.{Lacks, Tells};
 ghost use Rattle.fip_words.specs.Values.{is_unpacked};
-ghost use Rattle.fwu_model.specs.Package.{payload};
 ghost use Rattle.host_io.specs.Contents.{Directory};
 ghost use Rattle.fip_tool.specs.Lines.{unpacked_name};
-ghost use Rattle.fip_tool.specs.Steps.{Did, Gives, Makes, outcome_by};
-ghost use Rattle.fip_tool.specs.Tool.{first_missing, is_named, unpack_steps, unpack_value};
+ghost use Rattle.fip_tool.specs.Steps.{Did, Makes, outcome_by};
+ghost use Rattle.fip_tool.specs.Tool.{is_named, unpack_steps, unpack_value};
 ghost use Rattle.fip_tool.specs.declared.stops.Stop.TheVariants as stop;
 
 use crate::lines::{add, add_guid, add_number};
+use crate::named::{is_named, table_with};
 use crate::reading::read_payload;
 use crate::stops::Stop;
-use crate::table::read_package;
 use crate::writing::write_and_print;
 use base_core::{Guid, NoMemory};
-use fip_tables::{Entries, Entry, Toc};
-use fwu_model::FipFault;
+use fip_tables::Entry;
 use host_io::{Files, Sink};
 use std::alloc::Global;
 
@@ -52,33 +50,7 @@ fn unpacked_line(alloc: Global, entry: &Entry, file: &str) -> Result<Vec<u8>, No
     Ok(line)
 }
 
-// The bytes of the payload of entry number `i`. Files that are not told may have changed since their table was read: the payload
-// may lie beyond the file then.
-fn stored_payload<H: Files>(
-    alloc: Global,
-    files: &mut H,
-    from: &str,
-    entry: &Entry,
-    i: u32,
-) -> Result<Vec<u8>, Stop>
-    ensures told { (bytes : List ℕ) → Tells (H.contents files.old) from.now bytes → entry.now.offset + entry.now.size ≤ length bytes
-        → Gives (λ v. v.items) (Rose (H.faults files.old) (H.faults files.new)) (Ok (payload bytes entry.now)) result }
-    ensures same { H.contents files.new ≡ H.contents files.old }
-    ensures later { H.faults files.old ≤ H.faults files.new }
-    ensures cause { result ≡ Err stop.FileFault → Rose (H.faults files.old) (H.faults files.new) }
-{
-    let size = match files.size(from) {
-        Ok(Some(size)) => size,
-        Ok(None) => return Err(Stop::NotFip(FipFault::Beyond(i))),
-        Err(_) => return Err(Stop::FileFault),
-    };
-    if entry.is_beyond(size) {
-        return Err(Stop::NotFip(FipFault::Beyond(i)));
-    }
-    read_payload(alloc, files, from, entry)
-}
-
-// Writes the payload of entry number `i` to its file, and prints its line.
+// Writes the payload of an entry to its file, and prints its line.
 fn unpack_entry<H: Files, O: Sink>(
     alloc: Global,
     files: &mut H,
@@ -86,17 +58,21 @@ fn unpack_entry<H: Files, O: Sink>(
     from: &str,
     prefix: &str,
     entry: &Entry,
-    i: u32,
 ) -> Result<(), Stop>
-    ensures told { (told : Directory) → (bytes : List ℕ) → H.contents files.old ≡ Some told → told from.now ≡ Some bytes → entry.now.offset + entry.now.size ≤ length bytes
+    requires ends { entry.now.offset + entry.now.size < 2 ^ 64 }
+    requires stored { (bytes : List ℕ) → Tells (H.contents files.old) from.now bytes → entry.now.offset + entry.now.size ≤ length bytes }
+    requires there { Lacks (H.contents files.old) from.now → ⊥ }
+    ensures told { (told : Directory) → (bytes : List ℕ) → H.contents files.old ≡ Some told → told from.now ≡ Some bytes
         → Did (Makes (unpack_steps prefix.now bytes (entry.now ∷ []))) told (H.contents files.new) (O.taken sink.old) (O.taken sink.new)
         (Rose (H.faults files.old) (H.faults files.new)) (Rose (O.faults sink.old) (O.faults sink.new)) result }
     ensures other { OnOk result (is_unpacked prefix.now from.now ≡ false → from.now ≢ unpacked_name prefix.now entry.now.guid) }
+    ensures silent { H.contents files.old ≡ None → H.contents files.new ≡ None }
     ensures cause { result ≡ Err stop.FileFault → Rose (H.faults files.old) (H.faults files.new) }
+    ensures usage { result ≡ Err stop.Usage → ⊥ }
     ensures later { H.faults files.old ≤ H.faults files.new }
     ensures later_sink { O.faults sink.old ≤ O.faults sink.new }
 {
-    let bytes = match stored_payload(alloc, files, from, entry, i) {
+    let bytes = match read_payload(alloc, files, from, entry) {
         Ok(bytes) => bytes,
         Err(stop) => return Err(stop),
     };
@@ -115,24 +91,6 @@ fn unpack_entry<H: Files, O: Sink>(
     )
 }
 
-// The first named type that the package hasn't.
-fn missing(toc: &Toc, names: &[Guid]) -> Option<Guid>
-    ensures { result ≡ first_missing toc.now names.now }
-{
-    for guid in names {
-        if !toc.entries.has(guid) {
-            return Some(*guid);
-        }
-    }
-    None
-}
-
-fn is_named(names: &[Guid], entry: &Entry) -> bool
-    ensures { result ≡ is_named names.now entry.now }
-{
-    names.iter().any(|guid| guid.is(&entry.guid))
-}
-
 // Whether the entry is named, or none is.
 fn is_chosen(names: &[Guid], entry: &Entry) -> bool
     ensures { result ≡ ((length names.now == 0) || is_named names.now entry.now) }
@@ -148,22 +106,23 @@ fn unpack_entries<H: Files, O: Sink>(
     from: &str,
     prefix: &str,
     names: &[Guid],
-    entries: &Entries,
+    entries: &[Entry],
 ) -> Result<(), Stop>
     requires other { is_unpacked prefix.now from.now ≡ false }
+    requires ends { All (λ e. e.offset + e.size < 2 ^ 64) entries.now }
+    requires stored { (bytes : List ℕ) → Tells (H.contents files.old) from.now bytes → All (λ e. e.offset + e.size ≤ length bytes) entries.now }
+    requires there { Lacks (H.contents files.old) from.now → ⊥ }
     ensures told { (told : Directory) → (bytes : List ℕ) → H.contents files.old ≡ Some told → told from.now ≡ Some bytes
-        → All (λ e. e.offset + e.size ≤ length bytes) entries.now
         → Did (Makes (unpack_steps prefix.now bytes (filter (λ e. (length names.now == 0) || is_named names.now e) entries.now))) told (H.contents files.new) (O.taken sink.old) (O.taken sink.new)
         (Rose (H.faults files.old) (H.faults files.new)) (Rose (O.faults sink.old) (O.faults sink.new)) result }
     ensures cause { result ≡ Err stop.FileFault → Rose (H.faults files.old) (H.faults files.new) }
+    ensures usage { result ≡ Err stop.Usage → ⊥ }
     ensures later { H.faults files.old ≤ H.faults files.new }
     ensures later_sink { O.faults sink.old ≤ O.faults sink.new }
 {
-    let list = entries.as_slice();
-    for i in 0..entries.len() {
-        let entry = &list[i];
+    for entry in entries {
         if is_chosen(names, entry) {
-            match unpack_entry(alloc, files, sink, from, prefix, entry, i as u32) {
+            match unpack_entry(alloc, files, sink, from, prefix, entry) {
                 Ok(()) => {}
                 Err(stop) => return Err(stop),
             }
@@ -187,14 +146,14 @@ pub fn run_unpack<H: Files, O: Sink>(
         → Did (outcome_by (λ v. unpack_steps prefix.now v.0 v.1) (unpack_value told from.now names.now)) told (H.contents files.new) (O.taken sink.old) (O.taken sink.new)
         (Rose (H.faults files.old) (H.faults files.new)) (Rose (O.faults sink.old) (O.faults sink.new)) result }
     ensures cause { result ≡ Err stop.FileFault → H.contents files.old ≡ None → Rose (H.faults files.old) (H.faults files.new) }
+    ensures usage { result ≡ Err stop.Usage → ⊥ }
     ensures later { O.faults sink.old ≤ O.faults sink.new }
 {
-    let toc = match read_package(files, from) {
-        Ok((toc, _)) => toc,
-        Err(stop) => return Err(stop),
-    };
-    match missing(&toc, names) {
-        Some(guid) => Err(Stop::NoSuchEntry(guid)),
-        None => unpack_entries(alloc, files, sink, from, prefix, names, &toc.entries),
+    match table_with(files, from, names) {
+        Ok(toc) => {
+            let entries = toc.entries.as_slice();
+            unpack_entries(alloc, files, sink, from, prefix, names, entries)
+        }
+        Err(stop) => Err(stop),
     }
 }

@@ -1,5 +1,5 @@
 //! A file that is written, and the line that is printed then.
-ghost use Rattle.std.specs.Prelude.{◌≡◌, ◌≤◌, ◌∷◌, [], Some, Err};
+ghost use Rattle.std.specs.Prelude.{◌≡◌, ◌≤◌, ◌∷◌, [], Some, None, Err};
 ghost use Rattle.base_core.specs.Counts.{Rose};
 ghost use Rattle.host_io.specs.Contents.{Directory};
 ghost use Rattle.fip_tool.specs.Steps.{Did, Makes, Printed, Prints, Writes, Written};
@@ -17,6 +17,8 @@ pub fn write<H: Files>(files: &mut H, name: &str, bytes: &[u8]) -> Result<(), St
     ensures told { (told : Directory) → H.contents files.old ≡ Some told
         → Written told (H.contents files.new) (Rose (H.faults files.old) (H.faults files.new)) name.now bytes.now result }
     ensures cause { result ≡ Err stop.FileFault → Rose (H.faults files.old) (H.faults files.new) }
+    ensures silent { H.contents files.old ≡ None → H.contents files.new ≡ None }
+    ensures usage { result ≡ Err stop.Usage → ⊥ }
     ensures later { H.faults files.old ≤ H.faults files.new }
 {
     match files.write_whole(name, bytes) {
@@ -38,6 +40,8 @@ pub fn write_and_print<H: Files, O: Sink>(
         → Did (Makes (Writes name.now bytes.now ∷ Prints line.now ∷ [])) told (H.contents files.new) (O.taken sink.old) (O.taken sink.new)
         (Rose (H.faults files.old) (H.faults files.new)) (Rose (O.faults sink.old) (O.faults sink.new)) result }
     ensures cause { result ≡ Err stop.FileFault → Rose (H.faults files.old) (H.faults files.new) }
+    ensures silent { H.contents files.old ≡ None → H.contents files.new ≡ None }
+    ensures usage { result ≡ Err stop.Usage → ⊥ }
     ensures later { H.faults files.old ≤ H.faults files.new }
     ensures later_sink { O.faults sink.old ≤ O.faults sink.new }
 {
@@ -60,6 +64,8 @@ pub fn put_package<H: Files, O: Sink>(
         → Did (Makes (packs out.now (entries, bytes.now))) told (H.contents files.new) (O.taken sink.old) (O.taken sink.new)
         (Rose (H.faults files.old) (H.faults files.new)) (Rose (O.faults sink.old) (O.faults sink.new)) result }
     ensures cause { result ≡ Err stop.FileFault → Rose (H.faults files.old) (H.faults files.new) }
+    ensures silent { H.contents files.old ≡ None → H.contents files.new ≡ None }
+    ensures usage { result ≡ Err stop.Usage → ⊥ }
     ensures later { H.faults files.old ≤ H.faults files.new }
     ensures later_sink { O.faults sink.old ≤ O.faults sink.new }
 {

@@ -25,9 +25,9 @@ abbrev pub TellsRange : Option Directory → List ℕ → ℕ → List ℕ → T
 TellsRange None name at out = ⊤
 TellsRange (Some files) name at out = IfSome (files name) (λ bytes. out ≡ take (length out) (drop at bytes))
 
--- told contents stay at every other name
+-- told contents stay at every other name, and those that aren't told stay so
 abbrev pub ChangesOnly : Option Directory → Option Directory → List ℕ → Type 0
-ChangesOnly None new name = ⊤
+ChangesOnly None new name = new ≡ None
 ChangesOnly (Some old) None name = ⊥
 ChangesOnly (Some old) (Some new) name = (other : List ℕ) → other ≢ name → new other ≡ old other
 

@@ -30,7 +30,7 @@ pub trait Files {
         ensures cause { HasCause (faults self.old) (faults self.new) result };
 
     /// Makes the file anew, of these bytes, or writes over all of an old one. After `Failed` nothing
-    /// is known of this name, and no other changed.
+    /// is known of this name, and no other changed. Files that are not told stay so.
     fn write_whole(&mut self, name: &str, bytes: &[u8]) -> Result<(), WriteStop>
         ensures written { OnOk result (Holds (contents self.new) name.now bytes.now) }
         ensures others { ChangesOnly (contents self.old) (contents self.new) name.now }

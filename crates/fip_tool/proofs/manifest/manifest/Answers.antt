@@ -11,11 +11,11 @@ pub returns-in-Ok-Some-clause-told : goal.returns-in-Ok-Some-clause-told
 returns-in-Ok-Some-clause-told g c = λ told e.
     gives-same (λ m. (m.0, m.1.items)) _ _ _ _ c.manifest_of_rows.result (λ r. absurd r)
     (made-of told c.args.security c.args.named.now c.in-Ok-Some.rows.items (rw c.in-Ok-Some.field-0-is at (c.in-Ok-Some.ensures.told told e)) (rw c.in-Ok-Some.field-0-is at c.in-Ok-Some.ensures.count))
-    c.manifest_of_rows.ensures
+    c.manifest_of_rows.ensures.value
 
 pub returns-in-Ok-None-clause-told : goal.returns-in-Ok-None-clause-told
 returns-in-Ok-None-clause-told g c = λ told e.
-    too-long-of (λ (m : ℕ × Vec ℕ Global). (m.0, m.1.items)) _ told c.args.security c.args.named.now c.refusal.result (rw c.in-Ok-None.field-0-is at (c.in-Ok-None.ensures.told told e)) c.refusal.ensures
+    too-long-of (λ (m : ℕ × Vec ℕ Global). (m.0, m.1.items)) _ told c.args.security c.args.named.now c.refusal.result (rw c.in-Ok-None.field-0-is at (c.in-Ok-None.ensures.told told e)) c.refusal.ensures.value
 
 pub returns-in-Err-clause-told : goal.returns-in-Err-clause-told
 returns-in-Err-clause-told g c = λ told e.

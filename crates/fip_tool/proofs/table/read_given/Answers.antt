@@ -1,4 +1,4 @@
-use Rattle.std.proofs.Common.{◌≡◌, ℕ, List, Ok, arith, subst}
+use Rattle.std.proofs.Common.{ℕ, List, Ok, arith, subst}
 use Rattle.base_core.specs.Counts.{Rose}
 use Rattle.fip_tool.proofs.SourceLemmas.{last, nothing-yet, stopped, too-long}
 use Rattle.fip_tool.proofs.Tables.{rose-from}
@@ -19,7 +19,7 @@ returns-then-some-eq0-clause-given g c =
     last _ _ _ _ _ 0 c.loop-count.stream c.feed_some.new.stream c.loop-count.count (Unit {0}) _ c.ended.result c.loop-count.invariant
     (subst (λ (n : ℕ). (piece : List ℕ) × FedSome c.feed_some.new.stream given piece (g.I.Source.left c.loop-count.source) (g.I.Source.left c.feed_some.new.source) (Rose (g.I.Source.faults c.loop-count.source) (g.I.Source.faults c.feed_some.new.source)) (Ok n))
     c.if-some-eq0.true (c.in-Ok.ensures.fed given c.loop-count.invariant.so-far.fed))
-    c.ended.ensures
+    c.ended.ensures.table
 
 pub returns-clause-given : goal.returns-clause-given
 returns-clause-given g c = too-long _ _ _ _ c.loop-count.stream c.loop-count.count (Unit {0}) c.loop-count.invariant (omega (arith, c.loop-count-test.false))

@@ -1,4 +1,5 @@
-use Rattle.std.proofs.Common.{◌≡◌, ◌∙◌, ap, sym}
+use Rattle.std.proofs.Common.{◌∙◌}
+use Rattle.fip_tool.proofs.Repacking.{ends-below}
 use Rattle.fip_tool.proofs.Tables.{gives-err, size-err, sized, table-ok, table-stop, tells}
 use Rattle.fip_tool.proofs.table.read_package.Goals as goal
 
@@ -18,3 +19,6 @@ returns-in-Err-read_toc-clause-told g c = λ told e.
     rw c.stop_of.ensures
     (table-stop told c.args.name.now s.0 _ _ _ _ c.in-Err-read_toc.stop c.size_of.ensures.reads.later (c.size_of.ensures.reads.same ∙ e) s.1
     (c.in-Err-read_toc.ensures.told s.0 (tells _ told c.args.name.now s.0 (c.size_of.ensures.reads.same ∙ e) s.1)) c.in-Err-read_toc.ensures.cause.failed)
+
+pub returns-in-Ok-read_toc-clause-ends : goal.returns-in-Ok-read_toc-clause-ends
+returns-in-Ok-read_toc-clause-ends g c = let s = c.in-Ok-read_toc.ensures.some in ends-below s.bytes c.in-Ok-read_toc.toc s.short s.answer

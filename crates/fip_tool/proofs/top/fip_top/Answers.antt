@@ -1,8 +1,9 @@
-use Rattle.std.proofs.Common.{◌≡◌, ◌∙◌, [], Ok, Err, Some, refl, sym, ap}
+use Rattle.std.proofs.Common.{◌∙◌, [], Ok, Err, Some, refl, sym, ap}
 use Rattle.base_core.specs.Counts.{Rose}
-use Rattle.fip_tool.proofs.Ending.{done, ends, reported-later}
+use Rattle.fip_tool.proofs.Ending.{ends, reported-later}
 use Rattle.fip_tool.proofs.SourceEnds.{reported-read, reported-two}
 use Rattle.fip_tool.proofs.Tables.{rose-from, rose-until}
+use Rattle.fip_tool.proofs.UsageEnds.{no-usage, reported-one, usage-status}
 use Rattle.fip_tool.specs.Tool.{no_files}
 use Rattle.fip_tool.specs.declared.stops.Stop.{Stop}
 use Rattle.fip_tool.proofs.top.fip_top.Goals as goal
@@ -38,3 +39,13 @@ returns-in-Err-clause-source g c = λ e.
 pub returns-in-Err-clause-cause : goal.returns-in-Err-clause-cause
 returns-in-Err-clause-cause g c = λ two untold.
     c.in-Err.ensures.cause (ap (λ (x : Stop). Err x) (reported-two (Some []) (Some []) _ _ _ [] c.in-Err.stop c.report.result c.report.ensures.reported (sym c.status.ensures ∙ two))) untold
+
+pub returns-in-Err-clause-usage : goal.returns-in-Err-clause-usage
+returns-in-Err-clause-usage g c = λ one.
+    c.in-Err.ensures.usage (ap (λ (x : Stop). Err x) (reported-one _ _ _ c.in-Err.stop c.report.result c.report.ensures.reported (sym c.status.ensures ∙ one)))
+
+pub returns-in-Ok-clause-words : goal.returns-in-Ok-clause-words
+returns-in-Ok-clause-words g c = λ none. absurd (no-usage (c.in-Ok.ensures.words none))
+
+pub returns-in-Err-clause-words : goal.returns-in-Err-clause-words
+returns-in-Err-clause-words g c = λ none. usage-status _ _ _ c.in-Err.stop c.report.result _ (c.in-Err.ensures.words none) c.report.ensures.reported c.status.ensures

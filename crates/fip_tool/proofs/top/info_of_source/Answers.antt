@@ -1,4 +1,4 @@
-use Rattle.std.proofs.Common.{◌∙◌, List, Vec, ℕ, refl, subst}
+use Rattle.std.proofs.Common.{List, Vec, ℕ, refl, subst}
 use Rattle.std.specs.Global.{Global}
 use Rattle.base_core.specs.Counts.{Rose}
 use Rattle.fip_tool.proofs.SourceEnds.{source-printed, source-refused}

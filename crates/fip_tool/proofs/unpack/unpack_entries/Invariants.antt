@@ -1,15 +1,16 @@
-use Rattle.std.proofs.Common.{◌≡◌, ◌≤◌, ◌+◌, ℕ, List, Some, filter, length, take}
-use Rattle.std.specs.Prelude.{All, ◌==◌, ◌||◌}
+use Rattle.std.proofs.Common.{◌≡◌, ◌≤◌, ℕ, List, None, Some, filter, length, take}
+use Rattle.std.specs.Prelude.{◌==◌, ◌||◌}
 use Rattle.host_io.specs.Contents.{Directory}
 use Rattle.fip_tool.specs.Tool.{is_named}
 use Rattle.fip_tool.proofs.UnpackLemmas.{IsUnpacking}
 use Rattle.fip_tool.proofs.unpack.unpack_entries.Given as goal
 
 -- the chosen ones of the entries so far are unpacked
-abbrev pub invariant-loop-i : goal.invariant-loop-i
-invariant-loop-i g l = record {
+abbrev pub invariant-loop-entry : goal.invariant-loop-entry
+invariant-loop-entry g l = record {
+  silent : g.H.Files.contents l.fn.files ≡ None → g.H.Files.contents l.files ≡ None;
   later : g.H.Files.faults l.fn.files ≤ g.H.Files.faults l.files;
   later_sink : g.O.Sink.faults l.fn.sink ≤ g.O.Sink.faults l.sink;
-  so-far : (told : Directory) (bytes : List ℕ) → g.H.Files.contents l.fn.files ≡ Some told → told l.from ≡ Some bytes → All (λ e. e.offset + e.size ≤ length bytes) l.list
-      → IsUnpacking l.prefix l.from bytes (filter (λ e. (length l.names == 0) || is_named l.names e) (take l.i l.list)) told (g.H.Files.contents l.files) (g.O.Sink.taken l.fn.sink) (g.O.Sink.taken l.sink);
+  so-far : (told : Directory) (bytes : List ℕ) → g.H.Files.contents l.fn.files ≡ Some told → told l.from ≡ Some bytes
+      → IsUnpacking l.prefix l.from bytes (filter (λ e. (length l.names == 0) || is_named l.names e) (take l.entry-index l.entries)) told (g.H.Files.contents l.files) (g.O.Sink.taken l.fn.sink) (g.O.Sink.taken l.sink);
 }

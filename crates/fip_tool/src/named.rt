@@ -1,0 +1,43 @@
+//! The entries of a package that the words name, each by its type.
+ghost use Rattle.std.specs.Prelude.{◌≡◌, ◌<◌, ◌+◌, ◌^◌, All, IfOk, Some, Ok};
+ghost use Rattle.base_core.specs.Counts.{Rose};
+ghost use Rattle.host_io.specs.Contents.{Directory};
+ghost use Rattle.fip_tool.specs.Steps.{Gives, ReadsOnly};
+ghost use Rattle.fip_tool.specs.Tool.{after, first_missing, is_named, sized_table, unless_missing};
+
+use crate::stops::Stop;
+use crate::table::read_package;
+use base_core::Guid;
+use fip_tables::{Entry, Toc};
+use host_io::Files;
+
+// The first of these types that the package hasn't.
+fn first_missing(toc: &Toc, guids: &[Guid]) -> Option<Guid>
+    ensures { result ≡ first_missing toc.now guids.now }
+{
+    let entries = &toc.entries;
+    guids.iter().copied().find(|guid| !entries.has(guid))
+}
+
+/// Whether the entry's type is one of these.
+pub fn is_named(guids: &[Guid], entry: &Entry) -> bool
+    ensures { result ≡ is_named guids.now entry.now }
+{
+    guids.iter().any(|guid| guid.is(&entry.guid))
+}
+
+/// The table of a package that has an entry of each of these types.
+pub fn table_with<H: Files>(files: &mut H, name: &str, guids: &[Guid]) -> Result<Toc, Stop>
+    ensures told { (told : Directory) → H.contents files.old ≡ Some told
+        → Gives (λ t. t) (Rose (H.faults files.old) (H.faults files.new)) (after (sized_table told name.now) (λ t. unless_missing (first_missing t.0 guids.now) (Ok t.0))) result }
+    ensures ends { IfOk result (λ t. All (λ e. e.offset + e.size < 2 ^ 64) t.entries) }
+    ensures reads { ReadsOnly (H.contents files.old) (H.contents files.new) (H.faults files.old) (H.faults files.new) result }
+{
+    match read_package(files, name) {
+        Ok((toc, _)) => match first_missing(&toc, guids) {
+            None => Ok(toc),
+            Some(guid) => Err(Stop::NoSuchEntry(guid)),
+        },
+        Err(stop) => Err(stop),
+    }
+}
