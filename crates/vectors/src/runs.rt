@@ -6,6 +6,7 @@ use std::alloc::{AllocError, Global};
 use std::test::Fail;
 
 /// What a run left.
+#[derive(Drop)]
 pub struct Ran {
     pub status: u8,
     pub printed: Vec<u8>,
