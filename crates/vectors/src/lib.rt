@@ -4,6 +4,8 @@
 #[cfg(test)]
 mod flashes;
 #[cfg(test)]
+mod formats;
+#[cfg(test)]
 mod hostile;
 #[cfg(test)]
 mod runs;
