@@ -1,0 +1,9 @@
+//! Formatting a flash: a layout, and a firmware image package in bank 0 (the places of a flash and their
+//! formats are an own format). Nothing here takes memory.
+#![tactic(auto)]
+
+mod erasing;
+mod images;
+mod stops;
+
+pub use stops::{FormatStop, InputFault};
