@@ -1,2 +1,6 @@
 pub mod Ranges
 pub mod Pieces
+pub mod Chosen
+pub mod Ends
+pub mod Slots
+pub mod Recorded

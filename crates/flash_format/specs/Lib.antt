@@ -1,2 +1,4 @@
+pub mod Choosing
 pub mod Places
 pub mod Stops
+pub mod Table

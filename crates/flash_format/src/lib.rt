@@ -2,8 +2,12 @@
 //! formats are an own format). Nothing here takes memory.
 #![tactic(auto)]
 
+mod bank;
+mod choosing;
 mod erasing;
 mod images;
+mod records;
 mod stops;
+mod table;
 
 pub use stops::{FormatStop, InputFault};
