@@ -4,3 +4,5 @@ pub mod Chosen
 pub mod Ends
 pub mod Slots
 pub mod Recorded
+pub mod Plans
+pub mod Showing

@@ -6,7 +6,7 @@ ghost use Rattle.fwu_model.specs.Layout.{blocks_needed, slot_total};
 ghost use Rattle.fip_tables.specs.Files.{Lacks, Tells};
 ghost use Rattle.flash_format.specs.Choosing.{no_entry, no_row};
 ghost use Rattle.flash_format.specs.Places.{Erased, AllStand};
-ghost use Rattle.flash_format.specs.Stops.{flash_result, ReadsBy};
+ghost use Rattle.flash_format.specs.Stops.{flash_result, ReadsBy, RefusesNothing};
 
 use crate::images::write_image;
 use crate::stops::FormatStop;
@@ -40,6 +40,7 @@ pub fn write_bank<D: Flash, H: Files>(
     ensures costs { Spends (flash_result result) (D.counts flash.old) (D.counts flash.new) }
     ensures same { H.contents files.new ≡ H.contents files.old }
     ensures reads { ReadsBy (H.contents files.old) name.now (H.faults files.old) (H.faults files.new) result }
+    ensures stops { RefusesNothing result }
 {
     let rows = layout.rows();
     for k in 0..rows.len() {

@@ -7,7 +7,7 @@ ghost use Rattle.host_io.specs.Causes.{HasCause};
 ghost use Rattle.fwu_model.specs.Package.{payload};
 ghost use Rattle.fip_tables.specs.Files.{Lacks, Tells};
 ghost use Rattle.flash_format.specs.Places.{Erased, Stands};
-ghost use Rattle.flash_format.specs.Stops.{flash_result, ReadsBy};
+ghost use Rattle.flash_format.specs.Stops.{flash_result, ReadsBy, RefusesNothing};
 
 use crate::stops::FormatStop;
 use fip_tables::{Entry, payload_at};
@@ -67,6 +67,7 @@ fn write_piece<D: Flash, H: Files>(
     ensures costs { Spends (flash_result result) (D.counts flash.old) (D.counts flash.new) }
     ensures same { H.contents files.new ≡ H.contents files.old }
     ensures reads { ReadsBy (H.contents files.old) name.now (H.faults files.old) (H.faults files.new) result }
+    ensures stops { RefusesNothing result }
 {
     let mut bytes = [0xFF; 4096];
     let size = match read_piece(files, name, entry, done, &mut bytes) {
@@ -102,6 +103,7 @@ pub fn write_image<D: Flash, H: Files>(
     ensures costs { Spends (flash_result result) (D.counts flash.old) (D.counts flash.new) }
     ensures same { H.contents files.new ≡ H.contents files.old }
     ensures reads { ReadsBy (H.contents files.old) name.now (H.faults files.old) (H.faults files.new) result }
+    ensures stops { RefusesNothing result }
 {
     let pieces = ((entry.size + 4095) / 4096) as u32;
     for k in 0..pieces {

@@ -5,9 +5,14 @@
 mod bank;
 mod choosing;
 mod erasing;
+mod format;
 mod images;
+mod plan;
+mod planning;
 mod records;
 mod stops;
 mod table;
+mod writing;
 
+pub use format::Formatted;
 pub use stops::{FormatStop, InputFault};
