@@ -6,3 +6,4 @@ pub mod Slots
 pub mod Recorded
 pub mod Plans
 pub mod Showing
+pub mod Formats
