@@ -7,3 +7,4 @@ pub mod Recorded
 pub mod Plans
 pub mod Showing
 pub mod Formats
+pub mod Given

@@ -85,6 +85,10 @@ RefusesBank (Err (Flash stop)) = ⊤
 -- the fact, where the images were written: the flash was formatted, or what is in the bank was refused
 abbrev pub Finishes : {T : Type 0} → Result T FormatStop → Type 0 → Type 0
 Finishes (Ok x) fact = fact
-Finishes (Err (Input fault)) fact = fact
+Finishes (Err (Input (BadLayout fault))) fact = ⊤
+Finishes (Err (Input (Package fault))) fact = ⊤
+Finishes (Err (Input (Missing guid))) fact = ⊤
+Finishes (Err (Input (TooLarge guid))) fact = ⊤
+Finishes (Err (Input (Incomplete verdict))) fact = fact
 Finishes (Err ReadFailed) fact = ⊤
 Finishes (Err (Flash stop)) fact = ⊤

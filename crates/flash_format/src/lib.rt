@@ -5,7 +5,7 @@
 mod bank;
 mod choosing;
 mod erasing;
-mod format;
+mod formatting;
 mod images;
 mod plan;
 mod planning;
@@ -14,5 +14,5 @@ mod stops;
 mod table;
 mod writing;
 
-pub use format::Formatted;
+pub use formatting::{Formatted, format};
 pub use stops::{FormatStop, InputFault};

@@ -6,6 +6,7 @@ ghost use Rattle.fwu_model.specs.Layout.{blocks_needed};
 ghost use Rattle.fwu_model.specs.Flash.{layout_seen};
 ghost use Rattle.fwu_model.specs.Package.{Toc, toc_of};
 ghost use Rattle.fwu_model.specs.Answer.{images_of};
+ghost use Rattle.fwu_model.specs.Manifest.{is_complete, manifest_part};
 ghost use Rattle.meta_layout.specs.Rows.{fitted};
 ghost use Rattle.fip_tables.specs.Files.{Tells};
 ghost use Rattle.image_check.specs.declared.bank.Verdict.{Verdict};
@@ -94,4 +95,59 @@ fn carry_out<D: Flash, H: Files, V: Verifier>(
         Err(stop) => return Err(stop),
     }
     finish(flash, &plan.layout, verifier)
+}
+
+/// Formats a flash with the layout of these rows and banks, and a firmware image package in bank 0, which is accepted with all bits set.
+///
+/// Before the flash is touched the rows, banks and blocks are tested, then the file's table, then its images in the order of the
+/// layout. Then blocks 0 to the last bank's end are erased, the images are written to the starts of their slots in bank 0, and
+/// bank 0 is tested as a boot does, with a counter of 0. Only then the two replicas are written, and after them the layout in block 0.
+/// So a flash that was touched has no layout until it is formatted whole.
+pub fn format<D: Flash, H: Files, V: Verifier>(
+    flash: &mut D,
+    rows: &[ImageRow],
+    banks: u32,
+    files: &mut H,
+    name: &str,
+    verifier: &V,
+) -> Result<Formatted, FormatStop>
+    requires { IsTrue (D.on flash.old) }
+
+    // What is refused before the flash is touched, exactly: by the layout, and by the bytes of the file where they are told.
+    ensures layout { LayoutBy (fitted (record { banks = banks; rows = rows.now }) (D.blocks flash.old)) result }
+    ensures answers { (file : List ℕ) → Tells (H.contents files.old) name.now file → Answers (refusal (record { banks = banks; rows = rows.now }) (D.blocks flash.old) file) result }
+    ensures untouched { IsEarly result → flash.new ≡ flash.old }
+    // A file that could not be read: the flash is as it was, or has no layout.
+    ensures failed { result ≡ Err FileFailed → IsTrue D.tells → (D.told flash.new ≡ D.told flash.old) ⊎ IsErr (layout_seen (D.told flash.new).now) }
+    // Formatted: what the flash shows, and that it is sound.
+    ensures given { IfOk result (λ done. fitted (record { banks = banks; rows = rows.now }) (D.blocks flash.old) ≡ Ok done.layout) }
+    ensures formatted { IfOk result (λ done. IsTrue D.tells → IsFormatted (V.passes verifier.now) done.layout done.version (D.told flash.new)) }
+    // Refused: the flash has no layout, and what it is refused for is the verdict on what bank 0 holds.
+    ensures refused { (found : Verdict) → result ≡ Err (InputRefused (BankRefused found)) → IsTrue D.tells
+        → IsRefused (V.passes verifier.now) (record { banks = banks; rows = rows.now }) found (D.told flash.new).now }
+    // Either way bank 0 holds the package's images, and they aren't refused where they are a complete package that passes.
+    ensures images { Finishes result (IsTrue D.tells → (file : List ℕ) (toc : Toc) → Tells (H.contents files.old) name.now file → toc_of file ≡ Ok toc
+        → HoldsImages (record { banks = banks; rows = rows.now }) (images_of rows.now file toc) (D.told flash.new).now) }
+    ensures deserved { (found : Verdict) → result ≡ Err (InputRefused (BankRefused found)) → IsTrue D.tells → (file : List ℕ) (toc : Toc) → Tells (H.contents files.old) name.now file → toc_of file ≡ Ok toc
+        → IsTrue (is_complete rows.now (images_of rows.now file toc)) → IsTrue (V.passes verifier.now (manifest_part (images_of rows.now file toc))) → ⊥ }
+    // Beyond the last bank nothing changes, at any exit.
+    ensures keeps { IsTrue D.tells → Keeps 0 (4096 * blocks_needed (record { banks = banks; rows = rows.now })) (D.told flash.old) (D.told flash.new) }
+    ensures power { D.on flash.new ≡ is_ok (flash_result result) }
+    ensures size { D.blocks flash.new ≡ D.blocks flash.old }
+    ensures costs { Spends (flash_result result) (D.counts flash.old) (D.counts flash.new) }
+    ensures same { H.contents files.new ≡ H.contents files.old }
+    ensures reads { ReadsBy (H.contents files.old) name.now (H.faults files.old) (H.faults files.new) result }
+{
+    let plan = match plan(rows, banks, flash.blocks(), files, name) {
+        Ok(plan) => plan,
+        Err(stop) => return Err(stop),
+    };
+    let version = match carry_out(flash, &plan, files, name, verifier) {
+        Ok(version) => version,
+        Err(stop) => return Err(stop),
+    };
+    Ok(Formatted {
+        layout: plan.layout,
+        version,
+    })
 }

@@ -2,7 +2,7 @@ use Rattle.std.proofs.Common.{◌≡◌, ◌≤◌, length, ap, sym, subst, ◌�
 use Rattle.flash_core.specs.Told.{Told}
 use Rattle.flash_core.specs.May.{Keeps}
 use Rattle.flash_format.proofs.Formats.{formatted, refused}
-use Rattle.flash_format.proofs.format.finish.Goals as goal
+use Rattle.flash_format.proofs.formatting.finish.Goals as goal
 
 pub returns-in-Err-clause-refused : goal.returns-in-Err-clause-refused
 returns-in-Err-clause-refused g c = λ found is tells.

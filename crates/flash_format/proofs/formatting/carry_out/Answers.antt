@@ -5,7 +5,7 @@ use Rattle.flash_format.specs.Stops.{flash_result}
 use Rattle.flash_format.specs.declared.stops.FormatStop.{FormatStop}
 use Rattle.flash_format.specs.declared.stops.FormatStop.TheVariants.{ReadFailed}
 use Rattle.flash_format.proofs.Showing.{unlaid}
-use Rattle.flash_format.proofs.format.carry_out.Goals as goal
+use Rattle.flash_format.proofs.formatting.carry_out.Goals as goal
 
 pub returns-in-Err-clause-failed : goal.returns-in-Err-clause-failed
 returns-in-Err-clause-failed g c = λ is tells.
