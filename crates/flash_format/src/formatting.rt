@@ -30,7 +30,7 @@ use meta_layout::Layout;
 use verify_core::Verifier;
 
 /// What a flash was formatted with.
-#[derive(Drop)]
+#[derive(Clone, Copy, Debug, PartialEq, Eq)]
 pub struct Formatted {
     pub layout: Layout,
     /// The security version of the package.

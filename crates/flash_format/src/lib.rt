@@ -16,3 +16,6 @@ mod writing;
 
 pub use formatting::{Formatted, format};
 pub use stops::{FormatStop, InputFault};
+
+#[cfg(test)]
+mod tests;
