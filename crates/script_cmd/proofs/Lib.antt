@@ -16,3 +16,4 @@ pub mod TopReads
 pub mod TopPrints
 pub mod TopWays
 pub mod TopShows
+pub mod FormatFlash

@@ -58,6 +58,16 @@ input_text (fault.Missing guid) = named_text (codes "missing ") guid
 input_text (fault.TooLarge guid) = named_text (codes "too-large ") guid
 input_text (fault.Incomplete found) = codes "incomplete " ++ verdict_text found
 
+-- the ends of the line of a flash that was formatted: from the version on, from the blocks on, and from the images on
+abbrev pub version_text : ℕ → List ℕ
+version_text version = codes " version=" ++ decimal version ++ 10 ∷ []
+
+abbrev pub blocks_text : Layout → ℕ → List ℕ
+blocks_text L version = codes " blocks=" ++ decimal (blocks_needed L) ++ version_text version
+
+abbrev pub images_text : Layout → ℕ → List ℕ
+images_text L version = codes " images=" ++ decimal (length L.rows) ++ blocks_text L version
+
 -- the line
 abbrev pub format_text : Result Formatted FormatStop → List ℕ
 format_text (Ok done) = format_line done.layout done.version

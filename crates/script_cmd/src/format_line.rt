@@ -2,7 +2,7 @@
 ghost use Rattle.std.specs.Prelude.{◌≡◌, ◌≤◌, ◌+◌, ◌++◌, Err, length, decimal};
 ghost use Rattle.fwu_model.specs.Text.{fip_fault_text, format_line};
 ghost use Rattle.fwu_journal.specs.Room.{Grows, HasRoom};
-ghost use Rattle.script_cmd.specs.Formatting.{format_text, input_text, named_text, verdict_text};
+ghost use Rattle.script_cmd.specs.Formatting.{blocks_text, format_text, images_text, input_text, named_text, verdict_text, version_text};
 ghost use Rattle.script_cmd.specs.declared.format_line.TheConstants.{FORMAT_ROOM};
 ghost use Rattle.flash_format.specs.declared.stops.FormatStop.TheVariants.{Input as InputRefused};
 
@@ -12,6 +12,7 @@ use fwu_journal::add_no_boot;
 use fwu_model::{FipFault, NoBoot};
 use image_check::Verdict;
 use itoa::Buffer;
+use meta_layout::Layout;
 
 /// Bytes that are enough for each line.
 pub const FORMAT_ROOM: usize = 128;
@@ -120,6 +121,40 @@ fn add_refused(text: &mut Vec<u8>, fault: &InputFault)
     add(text, b"\n")
 }
 
+/// Adds the version, and the line's end.
+fn add_version(text: &mut Vec<u8>, version: u32)
+    requires { HasRoom text.old 20 }
+    ensures grows { Grows text.old text.new (version_text version) }
+{
+    add_named(text, b" version=", version);
+    add(text, b"\n")
+}
+
+/// Adds the blocks of a layout, and what stands behind them.
+fn add_blocks(text: &mut Vec<u8>, done: &Formatted)
+    requires { HasRoom text.old 40 }
+    ensures grows { Grows text.old text.new (blocks_text done.now.layout done.now.version) }
+{
+    add_named(text, b" blocks=", done.layout.blocks());
+    add_version(text, done.version)
+}
+
+/// The number of a layout's images.
+fn count_images(layout: &Layout) -> u32
+    ensures { result ≡ length layout.now.rows }
+{
+    layout.rows().len() as u32
+}
+
+/// Adds the images of a layout, and what stands behind them.
+fn add_images(text: &mut Vec<u8>, done: &Formatted)
+    requires { HasRoom text.old 60 }
+    ensures grows { Grows text.old text.new (images_text done.now.layout done.now.version) }
+{
+    add_named(text, b" images=", count_images(&done.layout));
+    add_blocks(text, done)
+}
+
 /// Adds the line of a flash that was formatted.
 #[tactic(auto, unfolding(fwu_model::specs::Text::format_line))]
 fn add_formatted(text: &mut Vec<u8>, done: &Formatted)
@@ -127,10 +162,7 @@ fn add_formatted(text: &mut Vec<u8>, done: &Formatted)
     ensures { text.new.items ≡ text.old.items ++ format_line done.now.layout done.now.version }
 {
     add_named(text, b"format banks=", done.layout.banks());
-    add_named(text, b" images=", done.layout.rows().len() as u32);
-    add_named(text, b" blocks=", done.layout.blocks());
-    add_named(text, b" version=", done.version);
-    add(text, b"\n")
+    add_images(text, done)
 }
 
 /// Adds the line of what became of a format.

@@ -1,5 +1,5 @@
 //! The command `format`.
-ghost use Rattle.std.specs.Prelude.{◌≡◌, ◌≤◌, ℕ, [], None, IsFalse};
+ghost use Rattle.std.specs.Prelude.{◌≡◌, ◌≤◌, ℕ, List, [], Option, None, IsFalse};
 ghost use Rattle.fwu_journal.specs.Shown.{turns};
 ghost use Rattle.script_cmd.specs.Formatting.{Formats, Tries, format_note, format_status};
 
@@ -75,7 +75,7 @@ pub fn format_flash<D: Flash, H: Files, O: Sink, V: Verifier>(
     verifier: &V,
 ) -> Done<D>
     requires off { IsFalse (D.on flash) }
-    ensures formats { (source sources : ℕ) → Formats (V.passes verifier.now) D.tells (record { list = None; files = H.contents files.old; script = None }) name.now (record { banks = banks; rows = rows.now }) (D.blocks flash)
+    ensures formats { (script : Option (List ℕ)) (source sources : ℕ) → Formats (V.passes verifier.now) D.tells (record { list = None; files = H.contents files.old; script = script }) name.now (record { banks = banks; rows = rows.now }) (D.blocks flash)
         (D.told flash) (D.told result.flash) (D.counts flash) (D.counts result.flash) result.status result.note (O.taken sink.old) (O.taken sink.new)
         (record { files = H.faults files.old; source = source; sink = O.faults sink.old }) (record { files = H.faults files.new; source = sources; sink = O.faults sink.new }) }
     ensures no_turns { turns result.journal ≡ [] }
