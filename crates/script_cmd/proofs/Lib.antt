@@ -17,3 +17,4 @@ pub mod TopPrints
 pub mod TopWays
 pub mod TopShows
 pub mod FormatFlash
+pub mod TopFormats
