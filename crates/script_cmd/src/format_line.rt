@@ -156,7 +156,6 @@ fn add_images(text: &mut Vec<u8>, done: &Formatted)
 }
 
 /// Adds the line of a flash that was formatted.
-#[tactic(auto, unfolding(fwu_model::specs::Text::format_line))]
 fn add_formatted(text: &mut Vec<u8>, done: &Formatted)
     requires { HasRoom text.old FORMAT_ROOM }
     ensures { text.new.items ≡ text.old.items ++ format_line done.now.layout done.now.version }

@@ -29,7 +29,7 @@ returns-in-Ok-Boot-clause-way g c = λ plain.
 
 pub returns-in-Err-Usage-clause-way : goal.returns-in-Err-Usage-clause-way
 returns-in-Err-Usage-clause-way g c = λ plain.
-    let e = c.print_usage-in-Err-Usage.ensures in
+    let e = c.print_usage.ensures in
     refused-by _ _ _ _ _ _ _ _ _ _ _ _ _ 1 usage_line note.Nothing e.no_turns (same-moment g.D.Flash.told g.D.Flash.counts g.D.Flash.arming _ _ e.flash) (ap noted e.note)
     (usage tt (rw c.in-Err-Usage.field-0-is at c.in-Err-Usage.ensures)) e.prints
 
