@@ -99,6 +99,7 @@ module _ (passes : List ℕ → Bool) (tells : Bool) (told files : Option Direct
     where
       at-sink : (line : List ℕ) (planned : ℕ) → Prints line planned status taken takes was.sink are.sink → Prints line planned status taken takes first.sink are.sink
       at-sink line planned p = subst (λ (n : ℕ). Prints line planned status taken takes n are.sink) (sym sink) p
+
       go : Formats passes tells (record { list = None; files = told; script = script }) file L blocks old new before after status said taken takes was are
           → Formats passes tells (record { list = Some name; files = files; script = script }) file L blocks old new before after status said taken takes first are
       go (starved nine is kept spent none) = starved nine is kept spent none
@@ -108,10 +109,12 @@ module _ (passes : List ℕ → Bool) (tells : Bool) (told files : Option Direct
           (subst (λ (d : Option Directory). Tries passes tells d file L blocks old new before after was.files are.files r) same t))
           (at-sink (format_text r) (format_status r) prints) is
       go (list_refused kept spent refused) =
-          list_refused kept spent
-          (refused.0, refused.1,
-          refuses (Some (ask.format L.banks L.rows file)) told files name script first was are refused.0 (noted said) refused.1 good later source refused.2,
-          at-sink refused.1 refused.0 refused.3)
+          list_refused kept spent (
+            refused.0,
+            refused.1,
+            refuses (Some (ask.format L.banks L.rows file)) told files name script first was are refused.0 (noted said) refused.1 good later source refused.2,
+            at-sink refused.1 refused.0 refused.3,
+          )
 
 module _ (passes : List ℕ → Bool) (tells : Bool) (list other : Option (List ℕ)) (files : Option Directory) (script : Option (List ℕ)) (file : List ℕ) (L : Layout) (blocks : ℕ) (old new : Told) (before after : Counts) (status : ℕ) (said : Note) (journal : List Turn) (taken takes : Option (List ℕ)) (was are : Faults) where
   -- the list that the words name

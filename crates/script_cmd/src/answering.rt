@@ -127,11 +127,22 @@ pub fn answer_with<D: Flash, H: Files, I: Source, O: Sink, V: Verifier>(
         Ok(Order::Run) => run_source(alloc, source, sink, flash, verifier),
         Ok(Order::Boot) => run_text(alloc, b"boot\n", sink, flash, verifier),
         Ok(Order::Show) => show(alloc, sink, flash),
-        Ok(Order::Format {
+        Ok(
+            Order::Format {
+                banks,
+                rows,
+                package,
+            },
+        ) => format_flash(
+            alloc,
+            rows.as_slice(),
             banks,
-            rows,
             package,
-        }) => format_flash(alloc, rows.as_slice(), banks, package, files, sink, flash, verifier),
+            files,
+            sink,
+            flash,
+            verifier,
+        ),
         Err(UsageStop::Usage) => print_usage(alloc, sink, flash),
         Err(UsageStop::NoMemory) => idle(alloc, 9, Note::Nothing, flash),
     }

@@ -13,7 +13,7 @@ returns-clause-tries g c =
     let new = c.format.new.flash in
     let e = c.format.ensures in
     subst (λ (blocks : ℕ). Tries (g.V.Verifier.passes c.args.verifier.now) g.D.Flash.tells (g.H.Files.contents c.args.files.now) c.args.name.now (record { banks = c.args.banks; rows = c.args.rows.now }) blocks
-        (told old) (told new) (counts old) (counts new) (g.H.Files.faults c.args.files.now) (g.H.Files.faults c.format.new.files) c.format.result)
+    (told old) (told new) (counts old) (counts new) (g.H.Files.faults c.args.files.now) (g.H.Files.faults c.format.new.files) c.format.result)
     c.power_on.ensures.size
     (record {
       mid = told mid;
