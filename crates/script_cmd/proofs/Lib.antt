@@ -16,3 +16,6 @@ pub mod TopReads
 pub mod TopPrints
 pub mod TopWays
 pub mod TopShows
+pub mod FormatLine
+pub mod FormatFlash
+pub mod TopFormats

@@ -33,7 +33,7 @@ none-falls result before mid after idle spends = record {
   chances = omega (arith, idle.chances, spends.chances);
 }
 
-rose-later : (a b c : ℕ) → a ≤ b → Rose b c → Rose a c
+pub rose-later : (a b c : ℕ) → a ≤ b → Rose b c → Rose a c
 rose-later a b c later (inl less) = inl (omega (arith, later, less))
 rose-later a b c later (inr most) = inr most
 

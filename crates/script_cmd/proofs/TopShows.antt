@@ -34,8 +34,8 @@ module _ (tells : Bool) (told files : Option Directory) (name : List ℕ) (scrip
       → ShowedBy tells (record { list = Some name; files = files; script = script }) old new before after status noted journal taken takes first are
   shows-with-list good later source sink by = record { showed = go by.showed; content = by.content; no_turns = by.no_turns; counts = by.counts }
     where
-      go : Showed (IsTrue tells × NothingDirty old) old.now before after status noted taken takes was.sink are.sink ⊎ RefusedList (record { list = None; files = told; script = script }) status noted taken takes was are
-          → Showed (IsTrue tells × NothingDirty old) old.now before after status noted taken takes first.sink are.sink ⊎ RefusedList (record { list = Some name; files = files; script = script }) status noted taken takes first are
+      go : Showed (IsTrue tells × NothingDirty old) old.now before after status noted taken takes was.sink are.sink ⊎ RefusedList ask.show (record { list = None; files = told; script = script }) status noted taken takes was are
+          → Showed (IsTrue tells × NothingDirty old) old.now before after status noted taken takes first.sink are.sink ⊎ RefusedList ask.show (record { list = Some name; files = files; script = script }) status noted taken takes first are
       go (inl shown) = inl (subst (λ (n : ℕ). Showed (IsTrue tells × NothingDirty old) old.now before after status noted taken takes n are.sink) (sym sink) shown)
       go (inr refused) = inr (
         refused.0,

@@ -8,4 +8,5 @@ pub mod Asking
 pub mod BootWord
 pub mod Ways
 pub mod Showing
+pub mod Formatting
 pub mod Promises

@@ -9,3 +9,5 @@ noted note.Nothing = model_note.Nothing
 noted (note.BadLine n) = model_note.BadLine n
 noted (note.BadList n) = model_note.BadList n
 noted (note.Boot why) = model_note.Boot why
+-- what the definitions note is of runs alone
+noted (note.Input fault) = model_note.Nothing

@@ -17,6 +17,7 @@ use Rattle.script_cmd.specs.Printed.{Prints}
 use Rattle.script_cmd.specs.Turning.{NoneFalls}
 use Rattle.script_cmd.specs.Ways.{Given, Refuses}
 use Rattle.fwu_model.specs.Causes.{Faults}
+use Rattle.fwu_words.specs.Order.{Asked}
 use Rattle.fwu_words.specs.Order as ask
 
 abbrev pub shown_line : Numbers → List ℕ
@@ -47,13 +48,13 @@ pub data Showed (known : Type 0) (image : List ℕ) (before after : Counts) (sta
       → Showed known image before after status noted taken takes was are
 
 -- a list of digests was not read or is none, so nothing was looked at
-abbrev pub RefusedList : Given → ℕ → Note → Option (List ℕ) → Option (List ℕ) → Faults → Faults → Type 0
-RefusedList g status noted taken takes was are =
-    (planned : ℕ) × (line : List ℕ) × Refuses (Some ask.show) g was are planned noted line × Prints line planned status taken takes was.sink are.sink
+abbrev pub RefusedList : Asked → Given → ℕ → Note → Option (List ℕ) → Option (List ℕ) → Faults → Faults → Type 0
+RefusedList asked g status noted taken takes was are =
+    (planned : ℕ) × (line : List ℕ) × Refuses (Some asked) g was are planned noted line × Prints line planned status taken takes was.sink are.sink
 
 -- What the command answers and leaves: no turn, no count lower, and the content of a flash with nothing dirty.
 pub record ShowedBy (tells : Bool) (g : Given) (old new : Told) (before after : Counts) (status : ℕ) (noted : Note) (journal : List Turn) (taken takes : Option (List ℕ)) (was are : Faults) : Type 0 where
-  pub showed : Showed (IsTrue tells × NothingDirty old) old.now before after status noted taken takes was.sink are.sink ⊎ RefusedList g status noted taken takes was are
+  pub showed : Showed (IsTrue tells × NothingDirty old) old.now before after status noted taken takes was.sink are.sink ⊎ RefusedList ask.show g status noted taken takes was are
   pub content : IsTrue tells → NothingDirty old → new ≡ old
   pub no_turns : journal ≡ []
   pub counts : NoneFalls before after

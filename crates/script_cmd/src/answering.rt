@@ -2,18 +2,21 @@
 ghost use Rattle.std.specs.Prelude.{◌≡◌, ◌≤◌, ℕ, Bool, List, [], Option, Some, None, IfSome, map, string_bytes, IsFalse, length, false, true};
 ghost use Rattle.fwu_model.specs.Allow.{asks_list, list_name};
 ghost use Rattle.fwu_model.specs.Causes.{Faults};
+ghost use Rattle.fwu_model.specs.Layout.{ImageRow};
 ghost use Rattle.fwu_model.specs.Script.{is_too_long};
 ghost use Rattle.fwu_model.specs.Wrote.{script_asked};
 ghost use Rattle.fwu_journal.specs.Shown.{turns};
 ghost use Rattle.fwu_words.specs.Order.{Asked, asked};
 ghost use Rattle.fwu_words.specs.Order as ask;
 ghost use Rattle.script_cmd.specs.Asking.{asked_with_list, plainly};
+ghost use Rattle.script_cmd.specs.Formatting.{FormattedBy};
 ghost use Rattle.script_cmd.specs.Machine.{at};
 ghost use Rattle.script_cmd.specs.Noted.{noted};
 ghost use Rattle.script_cmd.specs.Showing.{ShowedBy};
 ghost use Rattle.script_cmd.specs.Ways.{AsksTurns, Given, HasNoBadLine, HasPasses, IsScriptOf, Later, RunsOrNone, Way};
 
 use crate::done::{Done, Note};
+use crate::formatting::format_flash;
 use crate::reading::{FileStop, SourceStop, read_file, read_source};
 use crate::refusing::{
     idle, print_usage, refuse_length, refuse_list, refuse_reading, refuse_script,
@@ -112,6 +115,10 @@ pub fn answer_with<D: Flash, H: Files, I: Source, O: Sink, V: Verifier>(
         (D.told flash) (D.told result.flash) (D.counts flash) (D.counts result.flash) result.status (noted result.note) (turns result.journal) (O.taken sink.old) (O.taken sink.new)
         (record { files = H.faults files.old; source = I.faults source.old; sink = O.faults sink.old })
         (record { files = H.faults files.new; source = I.faults source.new; sink = O.faults sink.new }) }
+    ensures formats { (banks : ℕ) (rows : List ImageRow) (file : List ℕ) → asked (map string_bytes words.now) ≡ Some (ask.format banks rows file) → FormattedBy (V.passes verifier.now) D.tells (record { list = None; files = H.contents files.old; script = I.left source.old })
+        file (record { banks = banks; rows = rows }) (D.blocks flash) (D.told flash) (D.told result.flash) (D.counts flash) (D.counts result.flash) result.status result.note (turns result.journal) (O.taken sink.old) (O.taken sink.new)
+        (record { files = H.faults files.old; source = I.faults source.old; sink = O.faults sink.old })
+        (record { files = H.faults files.new; source = I.faults source.new; sink = O.faults sink.new }) }
     ensures read_to_end { result.status ≡ 0 → asked (map string_bytes words.now) ≡ Some ask.run → IfSome (I.left source.new) (λ rest. rest ≡ []) }
     ensures same_files { H.contents files.new ≡ H.contents files.old }
     ensures size { D.blocks result.flash ≡ D.blocks flash }
@@ -120,8 +127,22 @@ pub fn answer_with<D: Flash, H: Files, I: Source, O: Sink, V: Verifier>(
         Ok(Order::Run) => run_source(alloc, source, sink, flash, verifier),
         Ok(Order::Boot) => run_text(alloc, b"boot\n", sink, flash, verifier),
         Ok(Order::Show) => show(alloc, sink, flash),
-        // Interim: `format` is answered as usage until it is built.
-        Ok(Order::Format { .. }) => print_usage(alloc, sink, flash),
+        Ok(
+            Order::Format {
+                banks,
+                rows,
+                package,
+            },
+        ) => format_flash(
+            alloc,
+            rows.as_slice(),
+            banks,
+            package,
+            files,
+            sink,
+            flash,
+            verifier,
+        ),
         Err(UsageStop::Usage) => print_usage(alloc, sink, flash),
         Err(UsageStop::NoMemory) => idle(alloc, 9, Note::Nothing, flash),
     }
@@ -151,6 +172,10 @@ fn run_listed<D: Flash, H: Files, I: Source, O: Sink>(
         (record { files = H.faults files.new; source = I.faults source.new; sink = O.faults sink.new }) }
     ensures shows { asked (map string_bytes rest.now) ≡ Some ask.show → ShowedBy D.tells (record { list = Some name.now; files = H.contents files.old; script = I.left source.old })
         (D.told flash) (D.told result.flash) (D.counts flash) (D.counts result.flash) result.status (noted result.note) (turns result.journal) (O.taken sink.old) (O.taken sink.new)
+        (record { files = H.faults files.old; source = I.faults source.old; sink = O.faults sink.old })
+        (record { files = H.faults files.new; source = I.faults source.new; sink = O.faults sink.new }) }
+    ensures formats { (banks : ℕ) (rows : List ImageRow) (file : List ℕ) → asked (map string_bytes rest.now) ≡ Some (ask.format banks rows file) → (passes : List ℕ → Bool) × HasPasses true (Some name.now) (H.contents files.old) passes × FormattedBy passes D.tells (record { list = Some name.now; files = H.contents files.old; script = I.left source.old })
+        file (record { banks = banks; rows = rows }) (D.blocks flash) (D.told flash) (D.told result.flash) (D.counts flash) (D.counts result.flash) result.status result.note (turns result.journal) (O.taken sink.old) (O.taken sink.new)
         (record { files = H.faults files.old; source = I.faults source.old; sink = O.faults sink.old })
         (record { files = H.faults files.new; source = I.faults source.new; sink = O.faults sink.new }) }
     ensures read_to_end { result.status ≡ 0 → asked (map string_bytes rest.now) ≡ Some ask.run → IfSome (I.left source.new) (λ left. left ≡ []) }
@@ -194,6 +219,10 @@ pub fn answer<D: Flash, H: Files, I: Source, O: Sink>(
         (record { files = H.faults files.new; source = I.faults source.new; sink = O.faults sink.new }) }
     ensures shows { asked_with_list (map string_bytes words.now) ≡ Some ask.show → ShowedBy D.tells (record { list = list_name (map string_bytes words.now); files = H.contents files.old; script = I.left source.old })
         (D.told flash) (D.told result.flash) (D.counts flash) (D.counts result.flash) result.status (noted result.note) (turns result.journal) (O.taken sink.old) (O.taken sink.new)
+        (record { files = H.faults files.old; source = I.faults source.old; sink = O.faults sink.old })
+        (record { files = H.faults files.new; source = I.faults source.new; sink = O.faults sink.new }) }
+    ensures formats { (banks : ℕ) (rows : List ImageRow) (file : List ℕ) → asked_with_list (map string_bytes words.now) ≡ Some (ask.format banks rows file) → (passes : List ℕ → Bool) × HasPasses (asks_list (map string_bytes words.now)) (list_name (map string_bytes words.now)) (H.contents files.old) passes × FormattedBy passes D.tells (record { list = list_name (map string_bytes words.now); files = H.contents files.old; script = I.left source.old })
+        file (record { banks = banks; rows = rows }) (D.blocks flash) (D.told flash) (D.told result.flash) (D.counts flash) (D.counts result.flash) result.status result.note (turns result.journal) (O.taken sink.old) (O.taken sink.new)
         (record { files = H.faults files.old; source = I.faults source.old; sink = O.faults sink.old })
         (record { files = H.faults files.new; source = I.faults source.new; sink = O.faults sink.new }) }
     ensures read_to_end { result.status ≡ 0 → asked_with_list (map string_bytes words.now) ≡ Some ask.run → IfSome (I.left source.new) (λ rest. rest ≡ []) }

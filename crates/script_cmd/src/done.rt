@@ -1,5 +1,6 @@
 //! How the program ended.
 use flash_core::Flash;
+use flash_format::InputFault;
 use fwu_journal::Journal;
 use fwu_model::NoBoot;
 
@@ -13,13 +14,15 @@ pub enum Note {
     BadList(u64),
     /// Why no bank was started.
     Boot(NoBoot),
+    /// Why a flash was not formatted, by what was given.
+    Input(InputFault),
 }
 
 /// What the program ended with.
 #[derive(Drop)]
 pub struct Done<D: Flash> {
     /// The exit status: 0 done, 1 usage, 2 a file or the source was not read, 3 the sink failed, 4 no script, 5 the flash failed,
-    /// 6 nothing to boot, 8 a script that is too long, 9 no memory, 13 no list of digests.
+    /// 6 nothing to boot, 7 no layout or package that a flash can be formatted with, 8 a script that is too long, 9 no memory, 13 no list of digests.
     pub status: u8,
     /// What the run met, where its status alone doesn't tell it.
     pub note: Note,

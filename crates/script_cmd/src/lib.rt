@@ -3,6 +3,8 @@
 
 mod answering;
 mod done;
+mod format_line;
+mod formatting;
 mod laws;
 mod machine;
 mod printing;

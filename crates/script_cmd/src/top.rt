@@ -1,10 +1,12 @@
 //! The program as one call.
 ghost use Rattle.std.specs.Prelude.{◌≡◌, ℕ, Bool, List, [], Some, None, IfSome, map, string_bytes, IsFalse};
 ghost use Rattle.fwu_model.specs.Allow.{asks_list, list_name};
+ghost use Rattle.fwu_model.specs.Layout.{ImageRow};
 ghost use Rattle.fwu_journal.specs.Shown.{turns};
 ghost use Rattle.fwu_words.specs.Order.{asked};
 ghost use Rattle.fwu_words.specs.Order as ask;
 ghost use Rattle.script_cmd.specs.Asking.{asked_with_list};
+ghost use Rattle.script_cmd.specs.Formatting.{FormattedBy};
 ghost use Rattle.script_cmd.specs.Machine.{at};
 ghost use Rattle.script_cmd.specs.Noted.{noted};
 ghost use Rattle.script_cmd.specs.Promises.{Promised};
@@ -22,7 +24,7 @@ use verify_core::Verifier;
 ///
 /// `run` reads the source to its end, reads the script, and only then does its lines in order; `boot` is the script of the one line
 /// `boot`. Each line that is a call is one turn, which is kept in the journal and printed in one piece. `show` prints what the flash
-/// shows. The room for all turns and for the longest line is made before the first turn, and status 9 with an empty journal means
+/// shows. `format` makes a layout and stores a package. The room for all turns and for the longest line is made before the first turn, and status 9 with an empty journal means
 /// that there was none.
 pub fn fwu_top_with<D: Flash, H: Files, I: Source, O: Sink, V: Verifier>(
     alloc: Global,
@@ -46,6 +48,11 @@ pub fn fwu_top_with<D: Flash, H: Files, I: Source, O: Sink, V: Verifier>(
     // For the command `show`: what it found and wrote, and that nothing changed.
     ensures shows { (asked (map string_bytes words.now)) ≡ Some ask.show → ShowedBy D.tells (record { list = None; files = H.contents files.old; script = I.left source.old })
         (D.told flash) (D.told result.flash) (D.counts flash) (D.counts result.flash) result.status (noted result.note) (turns result.journal) (O.taken sink.old) (O.taken sink.new)
+        (record { files = H.faults files.old; source = I.faults source.old; sink = O.faults sink.old })
+        (record { files = H.faults files.new; source = I.faults source.new; sink = O.faults sink.new }) }
+    // For the command `format`: what became of the flash, exactly what is refused, and what was written.
+    ensures formats { (banks : ℕ) (rows : List ImageRow) (file : List ℕ) → asked (map string_bytes words.now) ≡ Some (ask.format banks rows file) → FormattedBy (V.passes verifier.now) D.tells (record { list = None; files = H.contents files.old; script = I.left source.old })
+        file (record { banks = banks; rows = rows }) (D.blocks flash) (D.told flash) (D.told result.flash) (D.counts flash) (D.counts result.flash) result.status result.note (turns result.journal) (O.taken sink.old) (O.taken sink.new)
         (record { files = H.faults files.old; source = I.faults source.old; sink = O.faults sink.old })
         (record { files = H.faults files.new; source = I.faults source.new; sink = O.faults sink.new }) }
     // No fault count falls.
@@ -80,6 +87,11 @@ pub fn fwu_top<D: Flash, H: Files, I: Source, O: Sink>(
     // For the command `show`: what it found and wrote, and that nothing changed.
     ensures shows { (asked_with_list (map string_bytes words.now)) ≡ Some ask.show → ShowedBy D.tells (record { list = (list_name (map string_bytes words.now)); files = H.contents files.old; script = I.left source.old })
         (D.told flash) (D.told result.flash) (D.counts flash) (D.counts result.flash) result.status (noted result.note) (turns result.journal) (O.taken sink.old) (O.taken sink.new)
+        (record { files = H.faults files.old; source = I.faults source.old; sink = O.faults sink.old })
+        (record { files = H.faults files.new; source = I.faults source.new; sink = O.faults sink.new }) }
+    // For the command `format`: what became of the flash, exactly what is refused, and what was written.
+    ensures formats { (banks : ℕ) (rows : List ImageRow) (file : List ℕ) → asked_with_list (map string_bytes words.now) ≡ Some (ask.format banks rows file) → (passes : List ℕ → Bool) × HasPasses (asks_list (map string_bytes words.now)) (list_name (map string_bytes words.now)) (H.contents files.old) passes × FormattedBy passes D.tells (record { list = list_name (map string_bytes words.now); files = H.contents files.old; script = I.left source.old })
+        file (record { banks = banks; rows = rows }) (D.blocks flash) (D.told flash) (D.told result.flash) (D.counts flash) (D.counts result.flash) result.status result.note (turns result.journal) (O.taken sink.old) (O.taken sink.new)
         (record { files = H.faults files.old; source = I.faults source.old; sink = O.faults sink.old })
         (record { files = H.faults files.new; source = I.faults source.new; sink = O.faults sink.new }) }
     // No fault count falls.

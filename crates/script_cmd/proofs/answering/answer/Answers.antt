@@ -1,4 +1,5 @@
-use Rattle.std.proofs.Common.{List, ℕ, ap, map, subst}
+use Rattle.script_cmd.proofs.TopFormats.{formatted-at, none-some}
+use Rattle.std.proofs.Common.{List, ℕ, ap, map, subst, sym, ◌∙◌}
 use Rattle.std.specs.Prelude.{string_bytes}
 use Rattle.fwu_model.specs.Allow.{list_name, passes_any}
 use Rattle.fwu_model.specs.Wrote.{usage_line}
@@ -34,4 +35,24 @@ returns-in-File-clause-way g c = λ plain.
       w.0,
       has-at _ _ c.in-File.name.now _ w.0 n.1 n.2 w.1,
       way-at _ _ _ _ _ _ _ _ _ _ _ _ _ (g.H.Files.contents c.args.files.now) (g.I.Source.left c.args.source.now) _ _ n.0 n.2 w.2,
+    )
+
+pub returns-in-No-clause-formats : goal.returns-in-No-clause-formats
+returns-in-No-clause-formats g c banks rows file is =
+    let n = no-list _ c.in-No.ensures in (
+      passes_any,
+      has-any _ _ _ n.1,
+      formatted-at _ _ _ _ _ _ _ _ _ _ _ _ _ _ _ _ _ _ _ _ n.1 (c.answer_with.ensures.formats banks rows file (sym n.0 ∙ is)),
+    )
+
+pub returns-in-Usage-clause-formats : goal.returns-in-Usage-clause-formats
+returns-in-Usage-clause-formats g c banks rows file is = absurd (none-some _ _ (no-words (map string_bytes c.args.words.now) c.in-Usage.ensures) is)
+
+pub returns-in-File-clause-formats : goal.returns-in-File-clause-formats
+returns-in-File-clause-formats g c banks rows file is =
+    let n = some-list _ _ c.in-File.name.now c.in-File.ensures in
+    let w = c.run_listed.ensures.formats banks rows file (sym n.0 ∙ is) in (
+      w.0,
+      has-at _ _ c.in-File.name.now _ w.0 n.1 n.2 w.1,
+      formatted-at _ _ _ _ _ _ _ _ _ _ _ _ _ _ _ _ _ _ _ _ n.2 w.2,
     )

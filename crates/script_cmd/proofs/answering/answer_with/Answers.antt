@@ -1,4 +1,7 @@
-use Rattle.std.proofs.Common.{Some, None, ap, inl, inr, refl}
+use Rattle.script_cmd.proofs.TopFormats.{formatted-as}
+use Rattle.std.proofs.Common.{Some, None, ap, inl, inr, map, refl}
+use Rattle.std.specs.Prelude.{string_bytes}
+use Rattle.fwu_words.specs.Order.{asked}
 use Rattle.fwu_model.specs.Wrote.{usage_line}
 use Rattle.fwu_model.specs.declared.kinds.Note.TheVariants as note
 use Rattle.fwu_words.specs.Order as ask
@@ -26,9 +29,15 @@ returns-in-Ok-Boot-clause-way g c = λ plain.
 
 pub returns-in-Err-Usage-clause-way : goal.returns-in-Err-Usage-clause-way
 returns-in-Err-Usage-clause-way g c = λ plain.
-    let e = c.print_usage-in-Err-Usage.ensures in
+    let e = c.print_usage.ensures in
     refused-by _ _ _ _ _ _ _ _ _ _ _ _ _ 1 usage_line note.Nothing e.no_turns (same-moment g.D.Flash.told g.D.Flash.counts g.D.Flash.arming _ _ e.flash) (ap noted e.note)
     (usage tt (rw c.in-Err-Usage.field-0-is at c.in-Err-Usage.ensures)) e.prints
 
 pub returns-in-Ok-Show-clause-shows : goal.returns-in-Ok-Show-clause-shows
 returns-in-Ok-Show-clause-shows g c is = record { showed = inl c.show.ensures.showed; content = c.show.ensures.content; no_turns = c.show.ensures.no_turns; counts = c.show.ensures.counts }
+
+pub returns-in-Ok-Format-clause-formats : goal.returns-in-Ok-Format-clause-formats
+returns-in-Ok-Format-clause-formats g c banks rows file is =
+    formatted-as _ _ _ _ _ _ _ _ _ _ _ _ _ _ _ (asked (map string_bytes c.args.words.now)) c.in-Ok-Format.banks banks c.as_slice.result.now c.in-Ok-Format.rows.items rows c.in-Ok-Format.package.now file
+    c.as_slice.ensures.value (rw c.in-Ok-Format.field-0-is at c.in-Ok-Format.ensures) is c.format_flash.ensures.no_turns
+    (c.format_flash.ensures.formats (g.I.Source.left c.args.source.now) (g.I.Source.faults c.args.source.now) (g.I.Source.faults c.args.source.now))

@@ -1,3 +1,4 @@
+use Rattle.script_cmd.proofs.TopFormats.{formats-with-list, refused-formats, starved-formats}
 use Rattle.std.proofs.Common.{◌≡◌, ◌∙◌, ℕ, List, Ok, Err, Some, ap, refl, sym}
 use Rattle.fwu_model.specs.Allow.{digests_of, passes_listed}
 use Rattle.fwu_model.specs.Wrote.{bad_list_line, not_read_line}
@@ -91,3 +92,60 @@ returns-in-Ok-read-clause-shows g c is =
     let read : digests_of bytes ≡ Ok digests = ap digests_of (sym c.as_slice.ensures.value) ∙ c.in-Ok-read.ensures.ok in
     shows-with-list g.D.Flash.tells _ files name _ _ _ _ _ _ _ _ _ _ _ _ _ (of-list files name bytes (λ (l : List ℕ). (n : ℕ) → digests_of l ≡ Err n → ⊥) whole (no-bad-line bytes digests read))
     c.read_file.ensures.later refl refl (c.answer_with.ensures.shows is)
+
+pub returns-in-Err-Failed-clause-formats : goal.returns-in-Err-Failed-clause-formats
+returns-in-Err-Failed-clause-formats g c banks rows file is =
+    let e = c.refuse_reading.ensures in
+    let files = g.H.Files.contents c.args.files.now in (
+      passes-told (Some c.args.name.now) files,
+      has-told _ (Some c.args.name.now) files refl,
+      refused-formats g.D.Flash.told g.D.Flash.counts _ g.D.Flash.tells _ _ _ _ c.args.flash _ _ _ _ _ _ _ _ 2 not_read_line note.Nothing e.flash e.no_turns (ap noted e.note)
+          (list_not_read (c.in-Err-Failed.ensures.failed (ap Err c.in-Err-Failed.field-0-is))) e.prints,
+    )
+
+pub returns-in-Err-NoMemory-clause-formats : goal.returns-in-Err-NoMemory-clause-formats
+returns-in-Err-NoMemory-clause-formats g c banks rows file is =
+    let e = c.idle.ensures in
+    let files = g.H.Files.contents c.args.files.now in (
+      passes-told (Some c.args.name.now) files,
+      has-told _ (Some c.args.name.now) files refl,
+      starved-formats g.D.Flash.told g.D.Flash.counts _ g.D.Flash.tells _ _ _ _ c.args.flash _ _ _ _ _ _ _ _ e.flash e.no_turns e.note e.status refl,
+    )
+
+pub returns-in-Ok-read-clause-formats : goal.returns-in-Ok-read-clause-formats
+returns-in-Ok-read-clause-formats g c banks rows file is =
+    let name = c.args.name.now in
+    let bytes = c.in-Ok.bytes.items in
+    let digests = c.in-Ok-read.list in
+    let files = g.H.Files.contents c.args.files.now in
+    let whole = c.in-Ok.ensures.whole in
+    let read : digests_of bytes ≡ Ok digests = ap digests_of (sym c.as_slice.ensures.value) ∙ c.in-Ok-read.ensures.ok in (
+      passes_listed digests,
+      has-listed name bytes digests files whole read,
+      formats-with-list _ g.D.Flash.tells _ files name _ _ _ _ _ _ _ _ _ _ _ _ _ _ _ _ c.read_file.ensures.same
+          (of-list files name bytes (λ (l : List ℕ). (n : ℕ) → digests_of l ≡ Err n → ⊥) whole (no-bad-line bytes digests read)) c.read_file.ensures.later refl refl
+          (c.answer_with.ensures.formats banks rows file is),
+    )
+
+pub returns-in-Err-BadLine-clause-formats : goal.returns-in-Err-BadLine-clause-formats
+returns-in-Err-BadLine-clause-formats g c banks rows file is =
+    let e = c.refuse_list.ensures in
+    let name = c.args.name.now in
+    let bytes = c.in-Ok.bytes.items in
+    let line = c.in-Err-BadLine.line in
+    let files = g.H.Files.contents c.args.files.now in
+    let fault = rw c.in-Err-BadLine.field-0-is at c.in-Err-BadLine.ensures.fault in (
+      passes-told (Some name) files,
+      has-told _ (Some name) files refl,
+      refused-formats g.D.Flash.told g.D.Flash.counts _ g.D.Flash.tells _ _ _ _ c.args.flash _ _ _ _ _ _ _ _ 13 (bad_list_line line) (note.BadList line) e.flash e.no_turns (ap noted e.note)
+          (bad_list line refl (of-list files name bytes (λ (l : List ℕ). digests_of l ≡ Err line) c.in-Ok.ensures.whole (ap digests_of (sym c.as_slice.ensures.value) ∙ fault))) e.prints,
+    )
+
+pub returns-clause-formats : goal.returns-clause-formats
+returns-clause-formats g c banks rows file is =
+    let e = c.idle-in-Err-NoMemory-read.ensures in
+    let files = g.H.Files.contents c.args.files.now in (
+      passes-told (Some c.args.name.now) files,
+      has-told _ (Some c.args.name.now) files refl,
+      starved-formats g.D.Flash.told g.D.Flash.counts _ g.D.Flash.tells _ _ _ _ c.args.flash _ _ _ _ _ _ _ _ e.flash e.no_turns e.note e.status refl,
+    )

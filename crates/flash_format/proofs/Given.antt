@@ -1,0 +1,58 @@
+-- What was given: a layout that fits a flash, and the images of a file.
+use Rattle.std.proofs.Common.{◌≡◌, ℕ, ◌+◌, ◌*◌, ◌≤◌, Bool, List, length, Result, Ok, Err, sym, ap, subst, ◌∙◌, arith, ltb, refl}
+use Rattle.std.specs.Prelude.{IsTrue, not}
+use Rattle.std.specs.List.{All}
+use Rattle.std.proofs.lemmas.Bool.{not-false, ltb-false}
+use Rattle.fwu_model.specs.Layout.{Layout, fits_layout, blocks_needed}
+use Rattle.fwu_model.specs.Package.{Entry, Toc, toc_of}
+use Rattle.fwu_model.specs.Answer.{images_of}
+use Rattle.fwu_model.specs.declared.kinds.FipFault.{FipFault}
+use Rattle.fwu_model.specs.declared.kinds.LayoutFault.{LayoutFault}
+use Rattle.fwu_model.proofs.SealLaws.{was_not_refused}
+use Rattle.meta_layout.specs.Rows.{fitted}
+use Rattle.flash_format.specs.Formatted.{HoldsImages}
+use Rattle.flash_format.specs.Places.{AllStand}
+use Rattle.flash_format.specs.Planned.{HasToc}
+use Rattle.flash_format.specs.Stops.{Finishes}
+use Rattle.flash_format.specs.declared.stops.InputFault.{InputFault}
+use Rattle.flash_format.specs.declared.stops.InputFault.TheVariants.{Layout as BadLayout, Package, Missing, TooLarge, Incomplete}
+use Rattle.flash_format.specs.declared.stops.FormatStop.{FormatStop}
+use Rattle.flash_format.specs.declared.stops.FormatStop.TheVariants.{Input, ReadFailed, Flash}
+use Rattle.flash_format.proofs.Plans.{bank_within}
+use Rattle.flash_format.proofs.Formats.{holds_images}
+
+same_ok : {X F : Type 0} (x y : X) → ◌≡◌ {A = Result X F} (Ok x) (Ok y) → x ≡ y
+same_ok x y e = cc
+
+-- a layout that fits a flash
+pub record IsFitted (L : Layout) (blocks : ℕ) (K : Layout) : Type 0 where
+  pub is : K ≡ L
+  pub fits : IsTrue (fits_layout K)
+  pub inside : blocks_needed K ≤ blocks
+
+pub fitted_is : (L : Layout) (blocks : ℕ) (K : Layout) → fitted L blocks ≡ Ok K → IsFitted L blocks K
+unfolding fitted
+fitted_is L blocks K e =
+    let a = was_not_refused (not (fits_layout L)) _ _ K e in
+    let b = was_not_refused (ltb blocks (blocks_needed L)) _ _ K a.1 in
+    let same = same_ok {F = LayoutFault} L K b.1 in
+    subst (IsFitted L blocks) same (record { is = refl; fits = not-false (fits_layout L) a.0; inside = ltb-false blocks (blocks_needed L) b.0 })
+
+pub hold_given : (L K : Layout) (blocks : ℕ) (file : List ℕ) (toc : Toc) (entries : List Entry) (image : List ℕ) → IsFitted L blocks K → length image ≡ 4096 * blocks → HasToc file K entries → toc_of file ≡ Ok toc
+    → All (λ e. e.offset + e.size ≤ length file) entries → AllStand (length K.rows) K file entries image → HoldsImages L (images_of L.rows file toc) image
+hold_given L K blocks file toc entries image fitted size has is stored stand =
+    let same : has.toc ≡ toc = same_ok {F = FipFault} has.toc toc (sym has.is ∙ is) in
+    let enough = bank_within K fitted.fits in
+    let inside = fitted.inside in
+    let holds = holds_images K file has.toc entries has.chosen stored image (omega (arith, enough, inside, size)) fitted.fits stand in
+    subst (λ (l : Layout). HoldsImages l (images_of l.rows file toc) image) fitted.is (subst (λ (t : Toc). HoldsImages K (images_of K.rows file t) image) same holds)
+
+-- the same stop of another result
+pub finishes_err : (T U : Type 0) (stop : FormatStop) (A B : Type 0) → (A → B) → Finishes {T = T} (Err stop) A → Finishes {T = U} (Err stop) B
+finishes_err T U (Input (BadLayout fault)) A B f a = tt
+finishes_err T U (Input (Package fault)) A B f a = tt
+finishes_err T U (Input (Missing guid)) A B f a = tt
+finishes_err T U (Input (TooLarge guid)) A B f a = tt
+finishes_err T U (Input (Incomplete verdict)) A B f a = f a
+finishes_err T U ReadFailed A B f a = tt
+finishes_err T U (Flash stop) A B f a = tt

@@ -1,0 +1,99 @@
+-- Blocks that were erased and then written at their front.
+use Rattle.std.proofs.Common.{◌≡◌, ◌⊎◌, inl, inr, ℕ, ◌+◌, ◌-◌, ◌*◌, ◌/◌, ◌<◌, ◌≤◌, List, ◌++◌, length, get_or, take, drop, replicate, Some, Result, Ok, Err, refl, sym, ap, subst, ◌∙◌, arith, IsTrue, append_assoc}
+use Rattle.std.specs.Prelude.{OnOk, ◌%◌}
+use Rattle.std.proofs.lemmas.List.{get_or_default, get_or_past, append-nil}
+use Rattle.std.proofs.lemmas.Bool.{cases_lt}
+use Rattle.base_core.specs.Block.{blank, block}
+use Rattle.base_core.specs.Bytes.{overwritten}
+use Rattle.base_core.proofs.Images.{overwritten_inside, overwritten_above}
+use Rattle.flash_core.specs.Told.{Told, put, settle, settled, NothingDirty}
+use Rattle.flash_core.specs.May.{Keeps}
+use Rattle.flash_core.specs.Replaces.{padded}
+use Rattle.flash_core.proofs.Calls.{now-put, now-settle, keeps_settle, settle-fresh, now_kept}
+use Rattle.fwu_model.specs.Layout.{Layout, fits_layout, layout_of, blocks_needed}
+use Rattle.fwu_model.specs.Metadata.{Meta, MetaRead, meta_of, meta_read, if_read, meta_bytes, meta_size, replica_bytes, fits_meta}
+use Rattle.fwu_model.specs.Flash.{layout_seen}
+use Rattle.fwu_model.specs.Replica.{BothHold, in_version}
+use Rattle.fwu_model.proofs.MetaWritten.{meta-read}
+use Rattle.flash_format.specs.Places.{Erased, Stands}
+use Rattle.flash_format.proofs.Ranges.{stands_whole}
+
+-- ---- results
+
+pub on_ok_from : {T E : Type 0} (A : Type 0) (r : Result T E) → A → OnOk r A
+on_ok_from A (Ok x) a = a
+on_ok_from A (Err e) a = tt
+
+pub on_ok_map : {T E : Type 0} (A B : Type 0) (r : Result T E) → (A → B) → OnOk r A → OnOk r B
+on_ok_map A B (Ok x) f a = f a
+on_ok_map A B (Err e) f a = tt
+
+pub on_ok_two : {T E : Type 0} (A B C : Type 0) (r : Result T E) → (A → B → C) → OnOk r A → OnOk r B → OnOk r C
+on_ok_two A B C (Ok x) f a b = f a b
+on_ok_two A B C (Err e) f a b = tt
+
+-- ---- a barrier, whatever its result
+
+pub keeps_settled : {T E : Type 0} (result : Result T E) (low high : ℕ) (s t : Told) → Keeps low high s t → Keeps low high s (settled result t)
+keeps_settled (Ok x) low high s t keeps = keeps_settle low high s t keeps
+keeps_settled (Err e) low high s t keeps = keeps
+
+pub now_settled : {T E : Type 0} (result : Result T E) (t : Told) → (settled result t).now ≡ t.now
+now_settled (Ok x) t = now-settle t
+now_settled (Err e) t = refl
+
+pub clean_after : {T E : Type 0} (A : Type 0) (result : Result T E) (t u : Told) → (A → u ≡ settled result t) → OnOk result (A → NothingDirty u)
+clean_after A (Ok x) t u is = λ a. subst NothingDirty (sym (is a)) (settle-fresh t)
+clean_after A (Err e) t u is = tt
+
+-- ---- a block
+
+pub stands_put : (b : ℕ) (bytes : List ℕ) (t : Told) → 4096 * b + 4096 ≤ length t.now → length bytes ≤ 4096 → Erased (4096 * b) (4096 * b + 4096) t.now → Stands (4096 * b) 4096 bytes (put (4096 * b) bytes t).now
+stands_put b bytes t inside short erased i below = ap (λ (l : List ℕ). get_or l (4096 * b + i) 0) (now-put (4096 * b) bytes t) ∙ at (cases_lt i (length bytes))
+  where
+    fits : 4096 * b + length bytes ≤ length t.now
+    fits = omega arith
+
+    at : (i < length bytes) ⊎ (length bytes ≤ i) → get_or (overwritten (4096 * b) bytes t.now) (4096 * b + i) 0 ≡ get_or bytes i 255
+    at (inl l) =
+        overwritten_inside (4096 * b) bytes t.now fits (4096 * b + i) 0 (omega arith) (omega arith)
+        ∙ ap (λ (k : ℕ). get_or bytes k 0) (omega arith)
+        ∙ get_or_default bytes i 0 255 l
+    at (inr r) =
+        overwritten_above (4096 * b) bytes t.now fits (4096 * b + i) 0 (omega arith)
+        ∙ erased (4096 * b + i) (omega arith) (omega arith)
+        ∙ sym (get_or_past bytes i 255 r)
+
+pub block_padded : (b : ℕ) (bytes image : List ℕ) → 4096 * b + 4096 ≤ length image → length bytes ≤ 4096 → Stands (4096 * b) 4096 bytes image → block b image ≡ padded bytes
+unfolding block
+block_padded b bytes image inside short stands = stands_whole (4096 * b) 4096 bytes image inside short stands
+
+-- a block that is written whole
+pub padded_whole : (bytes : List ℕ) → length bytes ≡ 4096 → padded bytes ≡ bytes
+unfolding blank
+padded_whole bytes whole = let none : 4096 - length bytes ≡ 0 = omega arith in ap (λ (n : ℕ). bytes ++ replicate n 255) none ∙ append-nil bytes
+
+-- ---- what is read
+
+read-is : (L : Layout) (bytes : List ℕ) (r : MetaRead) → meta_of L bytes ≡ Ok r → meta_read L bytes ≡ Some r
+unfolding meta_read
+read-is L bytes r is = ap if_read is
+
+pub replica_read : (L : Layout) (m : Meta) → IsTrue (fits_layout L) → IsTrue (fits_meta L m) → meta_read L (padded (replica_bytes L m)) ≡ Some (in_version 2 m)
+replica_read L m layout fits =
+    let fill = replicate ((16 - meta_size L % 16) % 16) 0xFF in
+    let rest = blank (4096 - length (replica_bytes L m)) in
+    read-is L (padded (replica_bytes L m)) (in_version 2 m) (ap (meta_of L) (append_assoc (meta_bytes L m) fill rest) ∙ meta-read L m (fill ++ rest) layout fits)
+
+pub layout_read : (L : Layout) (bytes image : List ℕ) (blocks : ℕ) → length image ≡ 4096 * blocks → blocks_needed L ≤ blocks → block 0 image ≡ bytes
+    → ((n : ℕ) → blocks_needed L ≤ n → layout_of bytes n ≡ Ok L) → layout_seen image ≡ Ok L
+layout_read L bytes image blocks size enough is reads =
+    let n : length image / 4096 ≡ blocks = omega (arith, size) in
+    ap (λ (l : List ℕ). layout_of l (length image / 4096)) is ∙ reads (length image / 4096) (omega (arith, n, enough))
+
+-- the replicas stay where block 0 is written
+pub both_stay : (L : Layout) (r : MetaRead) (s t : Told) → 12288 ≤ length s.now → Keeps 0 4096 s t → BothHold L r s.now → BothHold L r t.now
+both_stay L r s t room keeps both = record {
+  zero = ap (meta_read L) (now_kept 1 0 4096 s t (omega (arith, room)) (inr (omega arith)) keeps) ∙ both.zero;
+  one = ap (meta_read L) (now_kept 2 0 4096 s t (omega (arith, room)) (inr (omega arith)) keeps) ∙ both.one;
+}

@@ -1,0 +1,93 @@
+use Rattle.std.proofs.Common.{◌≡◌, inl, inr, ◌+◌, ◌*◌, ◌<◌, ◌≤◌, ℕ, List, length, get_or, take, sym, ap, subst, ◌∙◌, arith}
+use Rattle.std.specs.Prelude.{Ok, Option}
+use Rattle.std.proofs.lemmas.List.{get_or_default}
+use Rattle.flash_core.specs.Told.{Told}
+use Rattle.flash_core.specs.May.{Keeps}
+use Rattle.flash_core.proofs.Calls.{keeps_wider, keeps_then}
+use Rattle.flash_core.proofs.Costs.{spends_then}
+use Rattle.host_io.specs.Contents.{Directory}
+use Rattle.fip_tables.specs.Files.{Tells}
+use Rattle.fwu_model.specs.Layout.{ImageRow, slot_total, start, slot_bytes}
+use Rattle.fwu_model.specs.Package.{Entry, payload}
+use Rattle.fwu_model.proofs.SealLaws.{limits}
+use Rattle.image_check.proofs.OfBank.{bank_fits}
+use Rattle.flash_format.specs.Choosing.{no_row, no_entry}
+use Rattle.flash_format.specs.Places.{Erased, Stands}
+use Rattle.flash_format.proofs.Ranges.{erased_stays}
+use Rattle.flash_format.proofs.Slots.{slots_more, slots_more_le, all_stand_more}
+use Rattle.flash_format.proofs.bank.write_bank.Goals as goal
+
+pub start-first-requires-clause-below : goal.start-first-requires-clause-below
+start-first-requires-clause-below g c = let few = (limits c.args.layout.now c.rows-rows.ensures.fit).fewest_banks in omega (arith, few)
+
+pub write_image-requires-clause-inside : goal.write_image-requires-clause-inside
+write_image-requires-clause-inside g c =
+    let L = c.args.layout.now in
+    let k = c.loop-k.k in
+    let few = (limits L c.rows-rows.ensures.fit).fewest_banks in
+    let below : k < length L.rows = omega (arith, c.loop-k-test.true, ap length c.rows-rows.ensures.value) in
+    let row = ap (λ (l : List ImageRow). (get_or l k c.index-rows-k.result).slots) c.rows-rows.ensures.value ∙ ap (λ (r : ImageRow). r.slots) (get_or_default L.rows k c.index-rows-k.result no_row below) in
+    let more = slots_more_le L.rows k below in
+    let bank = bank_fits 0 L.banks (slot_total L.rows) (g.D.Flash.blocks c.args.flash.now) (omega (arith, few)) c.requires.inside in
+    omega (arith, row, more, bank, c.start-first.ensures, c.loop-k.invariant.same_size)
+
+pub write_image-requires-clause-erased : goal.write_image-requires-clause-erased
+write_image-requires-clause-erased g c = λ tells i above under.
+    let L = c.args.layout.now in
+    let k = c.loop-k.k in
+    let below : k < length L.rows = omega (arith, c.loop-k-test.true, ap length c.rows-rows.ensures.value) in
+    let row = ap (λ (l : List ImageRow). (get_or l k c.index-rows-k.result).slots) c.rows-rows.ensures.value ∙ ap (λ (r : ImageRow). r.slots) (get_or_default L.rows k c.index-rows-k.result no_row below) in
+    let more = slots_more_le L.rows k below in
+    c.loop-k.invariant.rest tells i (omega (arith, above, c.start-first.ensures)) (omega (arith, under, row, more, c.start-first.ensures))
+
+pub returns-in_err-write_image-clause-keeps : goal.returns-in_err-write_image-clause-keeps
+returns-in_err-write_image-clause-keeps g c = λ tells.
+    let L = c.args.layout.now in
+    let k = c.loop-k.k in
+    let below : k < length L.rows = omega (arith, c.loop-k-test.true, ap length c.rows-rows.ensures.value) in
+    let row = ap (λ (l : List ImageRow). (get_or l k c.index-rows-k.result).slots) c.rows-rows.ensures.value ∙ ap (λ (r : ImageRow). r.slots) (get_or_default L.rows k c.index-rows-k.result no_row below) in
+    let more = slots_more_le L.rows k below in
+    let slots = (get_or c.rows-rows.result.now k c.index-rows-k.result).slots in
+    let first = c.start-first.result in
+    let high = 4096 * (8 + slot_total L.rows) in
+    keeps_then 32768 high (g.D.Flash.told c.args.flash.now) (g.D.Flash.told c.loop-k.flash) (g.D.Flash.told c.write_image.new.flash) (c.loop-k.invariant.keeps tells)
+    (keeps_wider (4096 * first) (4096 * (first + slots)) 32768 high (g.D.Flash.told c.loop-k.flash) (g.D.Flash.told c.write_image.new.flash) (omega (arith, c.start-first.ensures)) (omega (arith, row, more, c.start-first.ensures)) (c.write_image.ensures.keeps tells))
+
+pub loop-k-preserved : goal.loop-k-preserved
+loop-k-preserved g c =
+    let L = c.args.layout.now in
+    let k = c.loop-k.k in
+    let s = g.D.Flash.told c.args.flash.now in
+    let m = g.D.Flash.told c.loop-k.flash in
+    let t = g.D.Flash.told c.write_image.new.flash in
+    let below : k < length L.rows = omega (arith, c.loop-k-test.true, ap length c.rows-rows.ensures.value) in
+    let d = c.index-rows-k.result in
+    let slots = (get_or c.rows-rows.result.now k d).slots in
+    let row : slots ≡ (get_or L.rows k no_row).slots = ap (λ (l : List ImageRow). (get_or l k d).slots) c.rows-rows.ensures.value ∙ ap (λ (r : ImageRow). r.slots) (get_or_default L.rows k d no_row below) in
+    let more = slots_more_le L.rows k below in
+    let next = slots_more L.rows k below in
+    let first = c.start-first.result in
+    let high = 4096 * (8 + slot_total L.rows) in
+    let before = c.loop-k.invariant in
+    let done = c.in_ok-write_image.ensures in
+    record {
+      on = done.power;
+      same_size = done.size ∙ before.same_size;
+      keeps = λ tells. keeps_then 32768 high s m t (before.keeps tells)
+          (keeps_wider (4096 * first) (4096 * (first + slots)) 32768 high m t (omega (arith, c.start-first.ensures)) (omega (arith, row, more, c.start-first.ensures)) (done.keeps tells));
+      rest = λ tells. erased_stays (4096 * (8 + slot_total (take (k + 1) L.rows))) high (4096 * first) (4096 * (first + slots)) m t (inr (omega (arith, row, next, c.start-first.ensures))) (done.keeps tells)
+          (λ i above under. before.rest tells i (omega (arith, above, next)) under);
+      front = λ tells file told.
+          let here : Tells (g.H.Files.contents c.loop-k.files) c.args.name.now file = subst (λ (x : Option Directory). Tells x c.args.name.now file) (sym before.same) told in
+          let at : first ≡ start L 0 k = omega (arith, c.start-first.ensures) in
+          let one : k < length c.args.entries.now = omega (arith, below, c.requires.count) in
+          let entry = c.index-entries-k.is ∙ get_or_default c.args.entries.now k c.index-entries-k.result no_entry one in
+          let kept = subst (λ (n : ℕ). Keeps (4096 * start L 0 k) (4096 * (start L 0 k + n)) m t) row (subst (λ (n : ℕ). Keeps (4096 * n) (4096 * (n + slots)) m t) at (done.keeps tells)) in
+          let placed = subst (λ (n : ℕ). Stands (4096 * n) (4096 * slots) (payload file c.index-entries-k.result) t.now) at (done.bytes tells file here) in
+          let sized = subst (λ (n : ℕ). Stands (4096 * start L 0 k) (4096 * n) (payload file c.index-entries-k.result) t.now) row placed in
+          let stands = subst (λ (e : Entry). Stands (4096 * start L 0 k) (slot_bytes L k) (payload file e) t.now) entry sized in
+          all_stand_more L k file c.args.entries.now m t below kept (before.front tells file told) stands;
+      costs = spends_then (Ok tt) (Ok tt) _ _ _ before.costs done.costs;
+      same = done.same ∙ before.same;
+      later = omega (arith, before.later, done.reads.later);
+    }

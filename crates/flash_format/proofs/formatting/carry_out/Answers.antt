@@ -1,0 +1,17 @@
+use Rattle.std.proofs.Common.{◌≡◌, ◌≤◌, length, ap, sym, subst, ◌∙◌, arith, Result, Ok, Err}
+use Rattle.std.specs.Prelude.{IsTrue, OnOk}
+use Rattle.flash_format.specs.Places.{Erased}
+use Rattle.flash_format.specs.Stops.{flash_result}
+use Rattle.flash_format.specs.declared.stops.FormatStop.{FormatStop}
+use Rattle.flash_format.specs.declared.stops.FormatStop.TheVariants.{ReadFailed}
+use Rattle.flash_format.proofs.Showing.{unlaid}
+use Rattle.flash_format.proofs.formatting.carry_out.Goals as goal
+
+pub returns-in-Err-clause-failed : goal.returns-in-Err-clause-failed
+returns-in-Err-clause-failed g c = λ is tells.
+    let t = g.D.Flash.told c.fill.new.flash in
+    let size = (g.met.D.Flash.sound c.fill.new.flash tells).size in
+    let many = (g.met.D.Flash.sizes c.fill.new.flash).0 in
+    let stop : c.in-Err.stop ≡ ReadFailed = cc in
+    let erased = subst (λ (r : Result (Unit {0}) FormatStop). OnOk (flash_result r) (IsTrue g.D.Flash.tells → Erased 0 32768 t.now)) (c.in-Err.is ∙ ap Err stop) c.fill.ensures.erased in
+    unlaid t.now (omega (arith, size, many)) (λ i above below. erased tells i above (omega (arith, below)))

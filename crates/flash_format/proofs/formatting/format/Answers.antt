@@ -1,0 +1,88 @@
+use Rattle.std.proofs.Common.{◌≡◌, ◌+◌, ◌*◌, ◌≤◌, ℕ, List, length, ap, sym, subst, ◌∙◌, arith, Option, Result, Ok, Err}
+use Rattle.std.specs.Prelude.{IsTrue}
+use Rattle.flash_core.specs.May.{Keeps}
+use Rattle.host_io.specs.Contents.{Directory}
+use Rattle.fwu_model.specs.Layout.{Layout, blocks_needed, fits_layout}
+use Rattle.fwu_model.specs.Answer.{images_of}
+use Rattle.fwu_model.specs.Package.{Toc, toc_of}
+use Rattle.meta_layout.specs.Rows.{fitted}
+use Rattle.fip_tables.specs.Files.{Tells}
+use Rattle.flash_format.specs.Formatted.{HoldsImages, IsRefused}
+use Rattle.flash_format.specs.Places.{AllStand}
+use Rattle.flash_format.specs.Stops.{Finishes}
+use Rattle.flash_format.specs.declared.formatting.Formatted.{Formatted}
+use Rattle.flash_format.specs.declared.stops.FormatStop.{FormatStop}
+use Rattle.flash_format.specs.declared.stops.FormatStop.TheVariants.{Input}
+use Rattle.flash_format.specs.declared.stops.InputFault.TheVariants.{Incomplete}
+use Rattle.flash_format.proofs.Formats.{not_refused}
+use Rattle.flash_format.proofs.Given.{IsFitted, fitted_is, hold_given, finishes_err}
+use Rattle.flash_format.proofs.formatting.format.Goals as goal
+
+pub carry_out-requires-clause-inside : goal.carry_out-requires-clause-inside
+carry_out-requires-clause-inside g c =
+    let K = c.in-Ok.plan.layout in
+    let L : Layout = record { banks = c.args.banks; rows = c.args.rows.now } in
+    let inside = (fitted_is L c.blocks-2.result K c.in-Ok.ensures.fits).inside in
+    omega (arith, inside, c.blocks-2.ensures)
+
+pub returns-in-Err-carry_out-clause-refused : goal.returns-in-Err-carry_out-clause-refused
+returns-in-Err-carry_out-clause-refused g c = λ found is tells.
+    let K = c.in-Ok.plan.layout in
+    let L : Layout = record { banks = c.args.banks; rows = c.args.rows.now } in
+    let stop : c.in-Err-carry_out.stop ≡ Input (Incomplete found) = cc in
+    subst (λ (l : Layout). IsRefused (g.V.Verifier.passes c.args.verifier.now) l found (g.D.Flash.told c.carry_out.new.flash).now) (fitted_is L c.blocks-2.result K c.in-Ok.ensures.fits).is
+    (c.carry_out.ensures.refused found (c.in-Err-carry_out.is ∙ ap Err stop) tells)
+
+pub returns-in-Err-carry_out-clause-images : goal.returns-in-Err-carry_out-clause-images
+returns-in-Err-carry_out-clause-images g c =
+    let K = c.in-Ok.plan.layout in
+    let L : Layout = record { banks = c.args.banks; rows = c.args.rows.now } in
+    let t = g.D.Flash.told c.carry_out.new.flash in
+    let A : Type 0 = IsTrue g.D.Flash.tells → (file : List ℕ) → Tells (g.H.Files.contents c.plan.new.files) c.args.name.now file → AllStand (length K.rows) K file c.in-Ok.plan.entries t.now in
+    let B : Type 0 = IsTrue g.D.Flash.tells → (file : List ℕ) (toc : Toc) → Tells (g.H.Files.contents c.args.files.now) c.args.name.now file → toc_of file ≡ Ok toc → HoldsImages L (images_of L.rows file toc) t.now in
+    finishes_err ℕ Formatted c.in-Err-carry_out.stop A B
+    (λ stand tells file toc told has.
+    let size = (g.met.D.Flash.sound c.carry_out.new.flash tells).size in
+    let here : Tells (g.H.Files.contents c.plan.new.files) c.args.name.now file = subst (λ (d : Option Directory). Tells d c.args.name.now file) (sym c.plan.ensures.same) told in
+    hold_given L K c.blocks-2.result file toc c.in-Ok.plan.entries t.now (fitted_is L c.blocks-2.result K c.in-Ok.ensures.fits) (omega (arith, size, c.carry_out.ensures.size, c.blocks-2.ensures)) (c.in-Ok.ensures.toc file told) has
+    (c.in-Ok.ensures.planned.stored file told) (stand tells file here))
+    (subst (λ (r : Result ℕ FormatStop). Finishes r A) c.in-Err-carry_out.is c.carry_out.ensures.bytes)
+
+pub returns-in-Err-carry_out-clause-deserved : goal.returns-in-Err-carry_out-clause-deserved
+returns-in-Err-carry_out-clause-deserved g c = λ found is tells file toc told has complete passed.
+    let K = c.in-Ok.plan.layout in
+    let L : Layout = record { banks = c.args.banks; rows = c.args.rows.now } in
+    let t = g.D.Flash.told c.carry_out.new.flash in
+    let passes = g.V.Verifier.passes c.args.verifier.now in
+    let fit = fitted_is L c.blocks-2.result K c.in-Ok.ensures.fits in
+    let stop : c.in-Err-carry_out.stop ≡ Input (Incomplete found) = cc in
+    let end = c.in-Err-carry_out.is ∙ ap Err stop in
+    let refused = subst (λ (l : Layout). IsRefused passes l found t.now) fit.is (c.carry_out.ensures.refused found end tells) in
+    let A : Type 0 = IsTrue g.D.Flash.tells → (bytes : List ℕ) → Tells (g.H.Files.contents c.plan.new.files) c.args.name.now bytes → AllStand (length K.rows) K bytes c.in-Ok.plan.entries t.now in
+    let stand = subst (λ (r : Result ℕ FormatStop). Finishes r A) end c.carry_out.ensures.bytes in
+    let size = (g.met.D.Flash.sound c.carry_out.new.flash tells).size in
+    let here : Tells (g.H.Files.contents c.plan.new.files) c.args.name.now file = subst (λ (d : Option Directory). Tells d c.args.name.now file) (sym c.plan.ensures.same) told in
+    let holds = hold_given L K c.blocks-2.result file toc c.in-Ok.plan.entries t.now fit (omega (arith, size, c.carry_out.ensures.size, c.blocks-2.ensures)) (c.in-Ok.ensures.toc file told) has (c.in-Ok.ensures.planned.stored file told) (stand tells file here) in
+    not_refused passes L found (images_of L.rows file toc) t.now (subst (λ (l : Layout). IsTrue (fits_layout l)) fit.is fit.fits) refused holds complete passed
+
+pub returns-in-Err-carry_out-clause-keeps : goal.returns-in-Err-carry_out-clause-keeps
+returns-in-Err-carry_out-clause-keeps g c = λ tells.
+    let K = c.in-Ok.plan.layout in
+    let L : Layout = record { banks = c.args.banks; rows = c.args.rows.now } in
+    subst (λ (l : Layout). Keeps 0 (4096 * blocks_needed l) (g.D.Flash.told c.args.flash.now) (g.D.Flash.told c.carry_out.new.flash)) (fitted_is L c.blocks-2.result K c.in-Ok.ensures.fits).is (c.carry_out.ensures.keeps tells)
+
+pub returns-clause-images : goal.returns-clause-images
+returns-clause-images g c = λ tells file toc told has.
+    let K = c.in-Ok.plan.layout in
+    let L : Layout = record { banks = c.args.banks; rows = c.args.rows.now } in
+    let t = g.D.Flash.told c.carry_out.new.flash in
+    let size = (g.met.D.Flash.sound c.carry_out.new.flash tells).size in
+    let here : Tells (g.H.Files.contents c.plan.new.files) c.args.name.now file = subst (λ (d : Option Directory). Tells d c.args.name.now file) (sym c.plan.ensures.same) told in
+    hold_given L K c.blocks-2.result file toc c.in-Ok.plan.entries t.now (fitted_is L c.blocks-2.result K c.in-Ok.ensures.fits) (omega (arith, size, c.carry_out.ensures.size, c.blocks-2.ensures)) (c.in-Ok.ensures.toc file told) has
+    (c.in-Ok.ensures.planned.stored file told) (c.in-Ok-carry_out.ensures.bytes tells file here)
+
+pub returns-clause-keeps : goal.returns-clause-keeps
+returns-clause-keeps g c = λ tells.
+    let K = c.in-Ok.plan.layout in
+    let L : Layout = record { banks = c.args.banks; rows = c.args.rows.now } in
+    subst (λ (l : Layout). Keeps 0 (4096 * blocks_needed l) (g.D.Flash.told c.args.flash.now) (g.D.Flash.told c.carry_out.new.flash)) (fitted_is L c.blocks-2.result K c.in-Ok.ensures.fits).is (c.carry_out.ensures.keeps tells)

@@ -1,0 +1,43 @@
+use Rattle.std.proofs.Common.{◌≡◌, ◌+◌, ◌*◌, ◌≤◌, ◌<◌, ℕ, List, inl, inr, length, drop, sym, ap, subst, ◌∙◌, arith}
+use Rattle.std.specs.Prelude.{IsTrue, Ok, Option}
+use Rattle.flash_core.specs.Told.{Told}
+use Rattle.flash_core.specs.May.{Keeps}
+use Rattle.flash_core.proofs.Calls.{keeps_wider, keeps_then}
+use Rattle.flash_core.proofs.Costs.{spends_then}
+use Rattle.host_io.specs.Contents.{Directory}
+use Rattle.fip_tables.specs.Files.{Tells}
+use Rattle.fwu_model.specs.Package.{Entry, payload}
+use Rattle.flash_format.specs.Places.{Stands}
+use Rattle.flash_format.proofs.Ranges.{erased_stays, stands_stays}
+use Rattle.flash_format.proofs.Pieces.{stands_more}
+use Rattle.flash_format.proofs.images.write_image.Goals as goal
+
+pub loop-k-preserved : goal.loop-k-preserved
+loop-k-preserved g c =
+    let s = g.D.Flash.told c.args.flash.now in
+    let m = g.D.Flash.told c.loop-k.flash in
+    let t = g.D.Flash.told c.write_piece.new.flash in
+    let first = c.args.first in
+    let k = c.loop-k.k in
+    let b = c.args.first + c.loop-k.k in
+    let before = c.loop-k.invariant in
+    let done = c.in_ok-write_piece.ensures in
+    let within : k + 1 ≤ c.args.slots = omega (arith, c.loop-k-test.true, c.requires.fits, ap (λ (e : Entry). e.size) c.entry.view_is) in
+    record {
+      on = done.power;
+      same_size = done.size ∙ before.same_size;
+      keeps = λ tells. keeps_then (4096 * first) (4096 * (first + c.args.slots)) s m t (before.keeps tells)
+          (keeps_wider (4096 * b) (4096 * b + 4096) (4096 * first) (4096 * (first + c.args.slots)) m t (omega arith) (omega (arith, within)) (done.keeps tells));
+      rest = λ tells. erased_stays (4096 * (first + (k + 1))) (4096 * (first + c.args.slots)) (4096 * b) (4096 * b + 4096) m t (inr (omega arith)) (done.keeps tells)
+          (λ i above below. before.rest tells i (omega arith) below);
+      front = λ tells file told.
+          let bytes = payload file c.args.entry.now in
+          let here : Tells (g.H.Files.contents c.loop-k.files) c.args.name.now file = subst (λ (d : Option Directory). Tells d c.args.name.now file) (sym before.same) told in
+          let old = stands_stays (4096 * first) (4096 * k) (4096 * b) (4096 * b + 4096) bytes m t (inl (omega arith)) (done.keeps tells) (before.front tells file told) in
+          let piece = done.bytes tells file here in
+          let step : 4096 * c.from.result ≡ 4096 * k = omega (arith, c.from.ensures) in
+          stands_more first k bytes t.now old (subst (λ (n : ℕ). Stands (4096 * b) 4096 (drop n bytes) t.now) step piece);
+      costs = spends_then (Ok tt) (Ok tt) _ _ _ before.costs done.costs;
+      same = done.same ∙ before.same;
+      later = omega (arith, before.later, done.reads.later);
+    }

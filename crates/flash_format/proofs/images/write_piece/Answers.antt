@@ -1,0 +1,55 @@
+use Rattle.std.proofs.Common.{◌≡◌, ◌+◌, ◌*◌, ◌≤◌, ℕ, List, length, take, drop, refl, sym, ap, subst, ◌∙◌, arith}
+use Rattle.std.specs.Prelude.{IsTrue, Ok, slice_range}
+use Rattle.std.proofs.lemmas.List.{length-take-le}
+use Rattle.base_core.specs.Block.{blank}
+use Rattle.flash_core.specs.Told.{Told}
+use Rattle.flash_core.specs.May.{Keeps}
+use Rattle.flash_core.proofs.Calls.{keeps_same}
+use Rattle.fwu_model.specs.Package.{payload}
+use Rattle.flash_format.specs.Places.{Stands}
+use Rattle.flash_format.proofs.Ranges.{keeps_written, erased_range}
+use Rattle.flash_format.proofs.Pieces.{piece_written}
+use Rattle.flash_format.proofs.images.write_piece.Goals as goal
+
+pub read_piece-requires-clause-erased : goal.read_piece-requires-clause-erased
+unfolding blank
+read_piece-requires-clause-erased g c = refl
+
+pub program-requires-clause-blank : goal.program-requires-clause-blank
+program-requires-clause-blank g c = λ tells.
+    let s = g.D.Flash.told c.args.flash.now in
+    let at = 4096 * c.args.block in
+    let inside = (g.met.D.Flash.sound c.args.flash.now tells).size in
+    let size : length (take c.in-Ok.size c.read_piece.new.out) ≡ c.in-Ok.size = length-take-le c.in-Ok.size c.read_piece.new.out (omega (arith, c.in-Ok.ensures.some, c.in-Ok.ensures.buffer)) in
+    subst (λ (n : ℕ). slice_range s.now at (at + n) ≡ blank n) (sym size)
+    (erased_range at c.in-Ok.size s.now (omega (arith, inside, c.requires.inside, c.in-Ok.ensures.some)) (λ i above below. c.requires.erased tells i above (omega (arith, below, c.in-Ok.ensures.some))))
+
+pub returns-in_err-program-clause-keeps : goal.returns-in_err-program-clause-keeps
+returns-in_err-program-clause-keeps g c = λ tells.
+    let s = g.D.Flash.told c.args.flash.now in
+    let at = 4096 * c.args.block in
+    let inside = (g.met.D.Flash.sound c.args.flash.now tells).size in
+    let bytes = take c.in-Ok.size c.read_piece.new.out in
+    let size : length bytes ≤ 4096 = omega (arith, length-take-le c.in-Ok.size c.read_piece.new.out (omega (arith, c.in-Ok.ensures.some, c.in-Ok.ensures.buffer)), c.in-Ok.ensures.some) in
+    subst (Keeps at (at + 4096) s) (sym (c.program.ensures.content tells))
+    (keeps_written c.program.result at (at + 4096) at bytes s s (omega arith) (omega (arith, size)) (omega (arith, inside, c.requires.inside, size)) (keeps_same at (at + 4096) s))
+
+pub returns-clause-keeps : goal.returns-clause-keeps
+returns-clause-keeps g c = λ tells.
+    let s = g.D.Flash.told c.args.flash.now in
+    let at = 4096 * c.args.block in
+    let inside = (g.met.D.Flash.sound c.args.flash.now tells).size in
+    let bytes = take c.in-Ok.size c.read_piece.new.out in
+    let size : length bytes ≤ 4096 = omega (arith, length-take-le c.in-Ok.size c.read_piece.new.out (omega (arith, c.in-Ok.ensures.some, c.in-Ok.ensures.buffer)), c.in-Ok.ensures.some) in
+    subst (Keeps at (at + 4096) s) (sym (c.program.ensures.content tells))
+    (keeps_written c.program.result at (at + 4096) at bytes s s (omega arith) (omega (arith, size)) (omega (arith, inside, c.requires.inside, size)) (keeps_same at (at + 4096) s))
+
+pub returns-clause-bytes : goal.returns-clause-bytes
+returns-clause-bytes g c = λ tells file told.
+    let s = g.D.Flash.told c.args.flash.now in
+    let at = 4096 * c.args.block in
+    let inside = (g.met.D.Flash.sound c.args.flash.now tells).size in
+    let x = drop c.args.done (payload file c.args.entry.now) in
+    subst (λ (t : Told). Stands at 4096 x t.now) (sym (c.in_ok-program.ensures.content tells))
+    (piece_written c.args.block c.in-Ok.size x c.read_piece.new.out s (omega (arith, inside, c.requires.inside)) c.in-Ok.ensures.buffer (omega (arith, c.in-Ok.ensures.some))
+    (c.requires.erased tells) c.in-Ok.ensures.erased (c.in-Ok.ensures.bytes file told))

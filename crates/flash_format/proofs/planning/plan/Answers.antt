@@ -1,0 +1,21 @@
+use Rattle.std.proofs.Common.{◌≡◌, ◌∙◌, inl, refl, sym, subst, Result, Ok, Err}
+use Rattle.fwu_model.specs.Layout.{Layout}
+use Rattle.fwu_model.specs.Package.{toc_of}
+use Rattle.fwu_model.specs.declared.kinds.LayoutFault.{LayoutFault}
+use Rattle.flash_format.specs.Choosing.{refusal, refusal_by}
+use Rattle.flash_format.specs.Stops.{Answers}
+use Rattle.flash_format.specs.declared.plan.Plan.{Plan}
+use Rattle.flash_format.specs.declared.stops.FormatStop.{FormatStop}
+use Rattle.flash_format.specs.declared.stops.FormatStop.TheVariants.{Input}
+use Rattle.flash_format.specs.declared.stops.InputFault.TheVariants.{Layout as BadLayout}
+use Rattle.flash_format.proofs.planning.plan.Goals as goal
+
+pub returns-in-Ok-clause-answers : goal.returns-in-Ok-clause-answers
+unfolding refusal
+returns-in-Ok-clause-answers g c = λ file told.
+    subst (λ (r : Result Layout LayoutFault). Answers (refusal_by r (toc_of file)) c.plan_of.result) (sym (sym c.make.ensures ∙ c.in-Ok.is)) (c.plan_of.ensures.answers file told)
+
+pub returns-in-Err-clause-answers : goal.returns-in-Err-clause-answers
+unfolding refusal
+returns-in-Err-clause-answers g c = λ file told.
+    subst (λ (r : Result Layout LayoutFault). Answers {T = Plan} (refusal_by r (toc_of file)) (Err (Input (BadLayout c.in-Err.fault)))) (sym (sym c.make.ensures ∙ c.in-Err.is)) (inl refl)

@@ -1,0 +1,53 @@
+use Rattle.std.proofs.Common.{◌≡◌, ◌+◌, ◌*◌, ◌≤◌, ℕ, length, sym, ap, subst, ◌∙◌, arith}
+use Rattle.base_core.specs.Block.{block}
+use Rattle.flash_core.specs.Told.{Told, settled}
+use Rattle.flash_core.specs.May.{Keeps}
+use Rattle.flash_core.proofs.Calls.{keeps_same}
+use Rattle.fwu_model.specs.Flash.{layout_seen}
+use Rattle.flash_format.specs.Places.{Stands}
+use Rattle.flash_format.proofs.Ranges.{keeps_written, erased_range}
+use Rattle.flash_format.proofs.Recorded.{on_ok_from, keeps_settled, now_settled, clean_after, stands_put, block_padded, padded_whole, layout_read}
+use Rattle.flash_format.proofs.records.write_layout.Goals as goal
+
+pub program-requires-clause-blank : goal.program-requires-clause-blank
+program-requires-clause-blank g c = λ tells.
+    let size = (g.met.D.Flash.sound c.args.flash.now tells).size in
+    let many = (g.met.D.Flash.sizes c.args.flash.now).0 in
+    let whole : length c.write.new.out ≡ 4096 = omega (arith, c.write.auto.out) in
+    erased_range 0 (length c.write.new.out) (g.D.Flash.told c.args.flash.now).now (omega (arith, size, many, whole)) (λ i above below. c.requires.erased tells i above (omega (arith, below, whole)))
+
+pub returns-in_err-program-clause-keeps : goal.returns-in_err-program-clause-keeps
+returns-in_err-program-clause-keeps g c = λ tells.
+    let s = g.D.Flash.told c.args.flash.now in
+    let size = (g.met.D.Flash.sound c.args.flash.now tells).size in
+    let many = (g.met.D.Flash.sizes c.args.flash.now).0 in
+    let whole : length c.write.new.out ≡ 4096 = omega (arith, c.write.auto.out) in
+    subst (Keeps 0 4096 s) (sym (c.program.ensures.content tells))
+    (keeps_written c.program.result 0 4096 0 c.write.new.out s s (omega arith) (omega (arith, whole)) (omega (arith, size, many, whole)) (keeps_same 0 4096 s))
+
+pub returns-clause-keeps : goal.returns-clause-keeps
+returns-clause-keeps g c = λ tells.
+    let s = g.D.Flash.told c.args.flash.now in
+    let size = (g.met.D.Flash.sound c.args.flash.now tells).size in
+    let many = (g.met.D.Flash.sizes c.args.flash.now).0 in
+    let whole : length c.write.new.out ≡ 4096 = omega (arith, c.write.auto.out) in
+    let after = subst (Keeps 0 4096 s) (sym (c.program.ensures.content tells)) (keeps_written c.program.result 0 4096 0 c.write.new.out s s (omega arith) (omega (arith, whole)) (omega (arith, size, many, whole)) (keeps_same 0 4096 s)) in
+    subst (Keeps 0 4096 s) (sym (c.barrier.ensures.content tells)) (keeps_settled c.barrier.result 0 4096 s (g.D.Flash.told c.program.new.self) after)
+
+pub returns-clause-layout : goal.returns-clause-layout
+returns-clause-layout g c = on_ok_from _ c.barrier.result (λ tells.
+    let s = g.D.Flash.told c.args.flash.now in
+    let m = g.D.Flash.told c.program.new.self in
+    let t = g.D.Flash.told c.barrier.new.self in
+    let bytes = c.write.new.out in
+    let size = (g.met.D.Flash.sound c.args.flash.now tells).size in
+    let many = (g.met.D.Flash.sizes c.args.flash.now).0 in
+    let whole : length bytes ≡ 4096 = omega (arith, c.write.auto.out) in
+    let same : length m.now ≡ length s.now = (g.met.D.Flash.sound c.program.new.self tells).size ∙ ap (λ (n : ℕ). 4096 * n) c.in_ok-program.ensures.size ∙ sym size in
+    let stands : Stands 0 4096 bytes m.now = subst (λ (u : Told). Stands 0 4096 bytes u.now) (sym (c.in_ok-program.ensures.content tells)) (stands_put 0 bytes s (omega (arith, size, many)) (omega (arith, whole)) (λ i above below. c.requires.erased tells i above below)) in
+    let there = block_padded 0 bytes m.now (omega (arith, size, many, same)) (omega (arith, whole)) stands ∙ padded_whole bytes whole in
+    let now : t.now ≡ m.now = ap (λ (u : Told). u.now) (c.barrier.ensures.content tells) ∙ now_settled c.barrier.result m in
+    layout_read c.args.layout.now bytes t.now _ (ap length now ∙ same ∙ size) c.requires.inside (ap (block 0) now ∙ there) c.write.ensures.read_again)
+
+pub returns-clause-clean : goal.returns-clause-clean
+returns-clause-clean g c = clean_after _ c.barrier.result (g.D.Flash.told c.program.new.self) (g.D.Flash.told c.barrier.new.self) c.barrier.ensures.content

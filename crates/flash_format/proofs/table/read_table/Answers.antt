@@ -1,0 +1,8 @@
+use Rattle.std.proofs.Common.{subst, Result, Ok}
+use Rattle.fip_tables.specs.Files.{IsAnswer}
+use Rattle.fwu_model.specs.Package.{toc_of}
+use Rattle.flash_format.proofs.Ends.{ends-below}
+use Rattle.flash_format.proofs.table.read_table.Goals as goal
+
+pub returns-in-Ok-clause-ends : goal.returns-in-Ok-clause-ends
+returns-in-Ok-clause-ends g c = ends-below c.in-Ok.ensures.some.bytes c.in-Ok.toc c.in-Ok.ensures.some.short c.in-Ok.ensures.some.answer

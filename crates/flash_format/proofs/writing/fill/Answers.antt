@@ -1,0 +1,70 @@
+use Rattle.std.proofs.Common.{◌≡◌, ◌+◌, ◌*◌, ◌≤◌, ℕ, List, length, inl, inr, ap, sym, subst, ◌∙◌, arith}
+use Rattle.std.specs.Prelude.{IsTrue}
+use Rattle.flash_core.specs.Told.{Told}
+use Rattle.flash_core.specs.May.{Keeps}
+use Rattle.flash_core.proofs.Calls.{keeps_wider, keeps_then}
+use Rattle.fwu_model.specs.Layout.{slot_total, blocks_needed}
+use Rattle.fwu_model.specs.Package.{Entry}
+use Rattle.flash_format.specs.Places.{AllStand, Erased}
+use Rattle.flash_format.proofs.Ranges.{erased_stays}
+use Rattle.flash_format.proofs.Plans.{bank_within}
+use Rattle.flash_format.proofs.Recorded.{keeps_settled, now_settled}
+use Rattle.flash_format.proofs.writing.fill.Goals as goal
+
+pub write_bank-requires-clause-erased : goal.write_bank-requires-clause-erased
+write_bank-requires-clause-erased g c = λ tells i above below.
+    let enough = bank_within c.args.plan.now.layout c.rows-rows.ensures.fit in
+    c.in_ok-erase_all.ensures.erased tells i (omega arith) (omega (arith, below, enough, c.blocks-2.ensures))
+
+pub returns-in_err-write_bank-clause-keeps : goal.returns-in_err-write_bank-clause-keeps
+returns-in_err-write_bank-clause-keeps g c = λ tells.
+    let L = c.args.plan.now.layout in
+    let high = 4096 * blocks_needed L in
+    let s = g.D.Flash.told c.args.flash.now in
+    let m = g.D.Flash.told c.erase_all.new.flash in
+    let n = g.D.Flash.told c.write_bank.new.flash in
+    let enough = bank_within L c.rows-rows.ensures.fit in
+    let first = subst (λ (k : ℕ). Keeps 0 (4096 * k) s m) c.blocks-2.ensures (c.erase_all.ensures.keeps tells) in
+    keeps_then 0 high s m n first (keeps_wider 32768 (4096 * (8 + slot_total L.rows)) 0 high m n (omega arith) (omega (arith, enough)) (c.write_bank.ensures.keeps tells))
+
+pub returns-in_err-barrier-clause-keeps : goal.returns-in_err-barrier-clause-keeps
+returns-in_err-barrier-clause-keeps g c = λ tells.
+    let L = c.args.plan.now.layout in
+    let high = 4096 * blocks_needed L in
+    let s = g.D.Flash.told c.args.flash.now in
+    let m = g.D.Flash.told c.erase_all.new.flash in
+    let n = g.D.Flash.told c.write_bank.new.flash in
+    let enough = bank_within L c.rows-rows.ensures.fit in
+    let first = subst (λ (k : ℕ). Keeps 0 (4096 * k) s m) c.blocks-2.ensures (c.erase_all.ensures.keeps tells) in
+    let both = keeps_then 0 high s m n first (keeps_wider 32768 (4096 * (8 + slot_total L.rows)) 0 high m n (omega arith) (omega (arith, enough)) (c.write_bank.ensures.keeps tells)) in
+    subst (Keeps 0 high s) (sym (c.barrier.ensures.content tells)) (keeps_settled c.barrier.result 0 high s n both)
+
+pub returns-clause-keeps : goal.returns-clause-keeps
+returns-clause-keeps g c = λ tells.
+    let L = c.args.plan.now.layout in
+    let high = 4096 * blocks_needed L in
+    let s = g.D.Flash.told c.args.flash.now in
+    let m = g.D.Flash.told c.erase_all.new.flash in
+    let n = g.D.Flash.told c.write_bank.new.flash in
+    let enough = bank_within L c.rows-rows.ensures.fit in
+    let first = subst (λ (k : ℕ). Keeps 0 (4096 * k) s m) c.blocks-2.ensures (c.erase_all.ensures.keeps tells) in
+    let both = keeps_then 0 high s m n first (keeps_wider 32768 (4096 * (8 + slot_total L.rows)) 0 high m n (omega arith) (omega (arith, enough)) (c.write_bank.ensures.keeps tells)) in
+    subst (Keeps 0 high s) (sym (c.barrier.ensures.content tells)) (keeps_settled c.barrier.result 0 high s n both)
+
+pub returns-clause-erased : goal.returns-clause-erased
+returns-clause-erased g c = λ tells.
+    let L = c.args.plan.now.layout in
+    let m = g.D.Flash.told c.erase_all.new.flash in
+    let n = g.D.Flash.told c.write_bank.new.flash in
+    let enough = bank_within L c.rows-rows.ensures.fit in
+    let now = ap (λ (t : Told). t.now) (c.barrier.ensures.content tells) ∙ now_settled c.barrier.result n in
+    let before : Erased 0 32768 m.now = λ i above below. c.in_ok-erase_all.ensures.erased tells i above (omega (arith, below, enough, c.blocks-2.ensures)) in
+    subst (Erased 0 32768) (sym now) (erased_stays 0 32768 32768 (4096 * (8 + slot_total L.rows)) m n (inl (omega arith)) (c.write_bank.ensures.keeps tells) before)
+
+pub returns-clause-bytes : goal.returns-clause-bytes
+returns-clause-bytes g c = λ tells file told.
+    let L = c.args.plan.now.layout in
+    let n = g.D.Flash.told c.write_bank.new.flash in
+    let now = ap (λ (t : Told). t.now) (c.barrier.ensures.content tells) ∙ now_settled c.barrier.result n in
+    let there = subst (λ (es : List Entry). AllStand (length L.rows) L file es n.now) c.as_slice.ensures (c.in_ok-write_bank.ensures.bytes tells file told) in
+    subst (AllStand (length L.rows) L file c.args.plan.now.entries) (sym now) there

@@ -1,0 +1,52 @@
+-- What a flash shows that was formatted, and what one holds whose package was refused.
+use Rattle.std.specs.Prelude.{◌≡◌, ◌-◌, ◌<◌, ℕ, Bool, true, false, List, [], ◌∷◌, ◌++◌, length, replicate, Some, None, Ok, IsErr, IsTrue, slice_index_or}
+use Rattle.base_core.specs.Block.{blank}
+use Rattle.flash_core.specs.Told.{Told, NothingDirty}
+use Rattle.fwu_model.specs.Layout.{Layout, slot_bytes}
+use Rattle.fwu_model.specs.Metadata.{first_meta}
+use Rattle.fwu_model.specs.Manifest.{is_complete, manifest_part, version}
+use Rattle.fwu_model.specs.Flash.{layout_seen, package_in, slot}
+use Rattle.fwu_model.specs.Replica.{BothHold, in_version}
+use Rattle.fwu_model.specs.Seen.{seen, SoundFlash}
+use Rattle.fwu_model.specs.State.{State, Bank}
+use Rattle.fwu_model.specs.Sound.{Setting}
+use Rattle.fwu_model.specs.declared.kinds.BankState.TheVariants.{Accepted, Invalid}
+use Rattle.image_check.specs.Law.{may_start}
+use Rattle.image_check.specs.Verdict.{verdict_on}
+use Rattle.image_check.specs.declared.bank.Verdict.{Verdict}
+
+-- a bank that holds an accepted package, and one that holds none
+abbrev pub full_bank : Layout → List (List ℕ) → Bank
+full_bank L p = record { state = Accepted; bits = replicate (length L.rows) true; held = Some p }
+
+abbrev pub empty_bank : Layout → Bank
+empty_bank L = record { state = Invalid; bits = replicate (length L.rows) false; held = None }
+
+-- the state after a format: bank 0 is active and before, and holds the package
+abbrev pub first_state : Layout → List (List ℕ) → State
+first_state L p = record { form = 2; active = 0; previous = 0; banks = full_bank L p ∷ replicate (L.banks - 1) (empty_bank L); trials = 0; counter = 0 }
+
+-- the flash has the layout and its first metadata, with nothing dirty, and bank 0 holds a complete package of this version that passes
+pub record IsFormatted (passes : List ℕ → Bool) (L : Layout) (v : ℕ) (t : Told) : Type 0 where
+  pub layout : layout_seen t.now ≡ Ok L
+  pub replicas : BothHold L (in_version 2 (first_meta L)) t.now
+  pub clean : NothingDirty t
+  pub installed : List (List ℕ)
+  pub held : package_in L t.now 0 ≡ Some installed
+  pub complete : IsTrue (is_complete L.rows installed)
+  pub passed : IsTrue (passes (manifest_part installed))
+  pub version_is : version installed ≡ v
+  pub shows : seen t.now ≡ Some (first_state L installed)
+  pub sound : (E : Setting) → E.layout ≡ L → E.passes ≡ passes → SoundFlash E t.now
+
+-- The images stand in the slots of bank 0, with erased bytes behind them. Where they are a complete package, it is the one that bank 0 holds.
+-- (Where an image has more bytes than its row says, the package in bank 0 has the first of them, and the images themselves are none.)
+pub record HoldsImages (L : Layout) (images : List (List ℕ)) (image : List ℕ) : Type 0 where
+  pub slots : (i : ℕ) → i < length L.rows → slot L image 0 i ≡ slice_index_or images i [] ++ blank (slot_bytes L i - length (slice_index_or images i []))
+  pub held : IsTrue (is_complete L.rows images) → package_in L image 0 ≡ Some images
+
+-- the flash has no layout, and this is the verdict on bank 0, which isn't good
+pub record IsRefused (passes : List ℕ → Bool) (L : Layout) (found : Verdict) (image : List ℕ) : Type 0 where
+  pub blank : IsErr (layout_seen image)
+  pub found_is : verdict_on passes 0 L image 0 ≡ found
+  pub bad : may_start found ≡ false

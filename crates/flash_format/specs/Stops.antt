@@ -1,0 +1,94 @@
+-- Why a step stopped.
+use Rattle.std.specs.Prelude.{◌≡◌, ◌⊎◌, ◌≤◌, ⊤, ℕ, List, Option, Some, None, Result, Ok, Err}
+use Rattle.base_core.specs.Counts.{Rose}
+use Rattle.host_io.specs.Contents.{Directory}
+use Rattle.fip_tables.specs.Files.{Lacks}
+use Rattle.flash_core.specs.declared.flash.FlashStop.{FlashStop}
+use Rattle.fwu_model.specs.declared.kinds.LayoutFault.{LayoutFault}
+use Rattle.fwu_model.specs.Layout.{Layout}
+use Rattle.flash_format.specs.declared.stops.InputFault.{InputFault}
+use Rattle.flash_format.specs.declared.stops.InputFault.TheVariants.{Layout as BadLayout, Package, Missing, TooLarge, Incomplete}
+use Rattle.flash_format.specs.declared.stops.FormatStop.{FormatStop}
+use Rattle.flash_format.specs.declared.stops.FormatStop.TheVariants.{Input, ReadFailed, Flash}
+
+-- a result, as the flash's: a refusal and a file that could not be read are no stop
+abbrev pub flash_result : {T : Type 0} → Result T FormatStop → Result (Unit {0}) FlashStop
+flash_result (Ok x) = Ok tt
+flash_result (Err (Input fault)) = Ok tt
+flash_result (Err ReadFailed) = Ok tt
+flash_result (Err (Flash stop)) = Err stop
+
+-- No fault of the files falls, and the file could not be read only where they rose, or told files lack the name.
+pub record ReadsBy {T : Type 0} (told : Option Directory) (name : List ℕ) (before now : ℕ) (result : Result T FormatStop) : Type 0 where
+  pub later : before ≤ now
+  pub failed : result ≡ Err ReadFailed → Rose before now ⊎ Lacks told name
+
+-- nothing that was given is refused
+abbrev pub RefusesNothing : {T : Type 0} → Result T FormatStop → Type 0
+RefusesNothing (Ok x) = ⊤
+RefusesNothing (Err (Input fault)) = ⊥
+RefusesNothing (Err ReadFailed) = ⊤
+RefusesNothing (Err (Flash stop)) = ⊤
+
+-- no flash stop, and no refusal of what is in the bank
+abbrev pub StopsEarly : FormatStop → Type 0
+StopsEarly (Input (BadLayout fault)) = ⊤
+StopsEarly (Input (Package fault)) = ⊤
+StopsEarly (Input (Missing guid)) = ⊤
+StopsEarly (Input (TooLarge guid)) = ⊤
+StopsEarly (Input (Incomplete verdict)) = ⊥
+StopsEarly ReadFailed = ⊤
+StopsEarly (Flash stop) = ⊥
+
+-- a refusal by the layout, the package or an image: before the flash is touched
+abbrev pub IsEarly : {T : Type 0} → Result T FormatStop → Type 0
+IsEarly (Ok x) = ⊥
+IsEarly (Err (Input (BadLayout fault))) = ⊤
+IsEarly (Err (Input (Package fault))) = ⊤
+IsEarly (Err (Input (Missing guid))) = ⊤
+IsEarly (Err (Input (TooLarge guid))) = ⊤
+IsEarly (Err (Input (Incomplete verdict))) = ⊥
+IsEarly (Err ReadFailed) = ⊥
+IsEarly (Err (Flash stop)) = ⊥
+
+-- Where this is to be refused the result is that refusal, unless the file could not be read; else it is no such refusal.
+abbrev pub Answers : {T : Type 0} → Option InputFault → Result T FormatStop → Type 0
+Answers (Some fault) result = (result ≡ Err (Input fault)) ⊎ (result ≡ Err ReadFailed)
+Answers None result = IsEarly result → ⊥
+
+abbrev pub IsOfLayout : {T : Type 0} → Result T FormatStop → Type 0
+IsOfLayout (Ok x) = ⊥
+IsOfLayout (Err (Input (BadLayout fault))) = ⊤
+IsOfLayout (Err (Input (Package fault))) = ⊥
+IsOfLayout (Err (Input (Missing guid))) = ⊥
+IsOfLayout (Err (Input (TooLarge guid))) = ⊥
+IsOfLayout (Err (Input (Incomplete verdict))) = ⊥
+IsOfLayout (Err ReadFailed) = ⊥
+IsOfLayout (Err (Flash stop)) = ⊥
+
+-- the refusal is the fault of the layout, exactly where that has one
+abbrev pub LayoutBy : {T : Type 0} → Result Layout LayoutFault → Result T FormatStop → Type 0
+LayoutBy (Err fault) result = result ≡ Err (Input (BadLayout fault))
+LayoutBy (Ok L) result = IsOfLayout result → ⊥
+
+-- what is in the bank may be refused, and nothing else
+abbrev pub RefusesBank : {T : Type 0} → Result T FormatStop → Type 0
+RefusesBank (Ok x) = ⊤
+RefusesBank (Err (Input (BadLayout fault))) = ⊥
+RefusesBank (Err (Input (Package fault))) = ⊥
+RefusesBank (Err (Input (Missing guid))) = ⊥
+RefusesBank (Err (Input (TooLarge guid))) = ⊥
+RefusesBank (Err (Input (Incomplete verdict))) = ⊤
+RefusesBank (Err ReadFailed) = ⊥
+RefusesBank (Err (Flash stop)) = ⊤
+
+-- the fact, where the images were written: the flash was formatted, or what is in the bank was refused
+abbrev pub Finishes : {T : Type 0} → Result T FormatStop → Type 0 → Type 0
+Finishes (Ok x) fact = fact
+Finishes (Err (Input (BadLayout fault))) fact = ⊤
+Finishes (Err (Input (Package fault))) fact = ⊤
+Finishes (Err (Input (Missing guid))) fact = ⊤
+Finishes (Err (Input (TooLarge guid))) fact = ⊤
+Finishes (Err (Input (Incomplete verdict))) fact = fact
+Finishes (Err ReadFailed) fact = ⊤
+Finishes (Err (Flash stop)) fact = ⊤

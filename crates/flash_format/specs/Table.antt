@@ -1,0 +1,23 @@
+-- The table that was read of a file.
+use Rattle.std.specs.Prelude.{◌≡◌, ⊤, Result, Ok, Err}
+use Rattle.fwu_model.specs.Package.{Toc}
+use Rattle.fwu_model.specs.declared.kinds.FipFault.{FipFault}
+use Rattle.flash_format.specs.declared.stops.FormatStop.{FormatStop}
+use Rattle.flash_format.specs.declared.stops.FormatStop.TheVariants.{Input, ReadFailed, Flash}
+use Rattle.flash_format.specs.declared.stops.InputFault.TheVariants.{Layout, Package, Missing, TooLarge, Incomplete}
+
+-- the result is the answer of the bytes, unless the file could not be read
+abbrev pub IsTable : Result Toc FipFault → Result Toc FormatStop → Type 0
+IsTable answer (Ok toc) = answer ≡ Ok toc
+IsTable answer (Err (Input (Package fault))) = answer ≡ Err fault
+IsTable answer (Err (Input other)) = ⊥
+IsTable answer (Err ReadFailed) = ⊤
+IsTable answer (Err (Flash stop)) = ⊥
+
+-- a file that is no package, or could not be read, and nothing else, stops the reading
+abbrev pub StopsTable : Result Toc FormatStop → Type 0
+StopsTable (Ok toc) = ⊤
+StopsTable (Err (Input (Package fault))) = ⊤
+StopsTable (Err (Input other)) = ⊥
+StopsTable (Err ReadFailed) = ⊤
+StopsTable (Err (Flash stop)) = ⊥

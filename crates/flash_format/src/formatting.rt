@@ -1,0 +1,153 @@
+//! Formatting a flash.
+ghost use Rattle.std.specs.Prelude.{◌≡◌, ◌⊎◌, ◌*◌, ◌≤◌, ℕ, List, Ok, Err, IsErr, IfOk, IfErr, OnOk, length, is_ok, IsTrue};
+ghost use Rattle.flash_core.specs.Counts.{Spends};
+ghost use Rattle.flash_core.specs.May.{Keeps};
+ghost use Rattle.fwu_model.specs.Layout.{blocks_needed};
+ghost use Rattle.fwu_model.specs.Flash.{layout_seen};
+ghost use Rattle.fwu_model.specs.Package.{Toc, toc_of};
+ghost use Rattle.fwu_model.specs.Answer.{images_of};
+ghost use Rattle.fwu_model.specs.Manifest.{is_complete, manifest_part};
+ghost use Rattle.meta_layout.specs.Rows.{fitted};
+ghost use Rattle.fip_tables.specs.Files.{Tells};
+ghost use Rattle.image_check.specs.declared.bank.Verdict.{Verdict};
+ghost use Rattle.flash_format.specs.Choosing.{refusal};
+ghost use Rattle.flash_format.specs.Formatted.{HoldsImages, IsFormatted, IsRefused};
+ghost use Rattle.flash_format.specs.Places.{AllStand, Erased};
+ghost use Rattle.flash_format.specs.Planned.{IsPlanned};
+ghost use Rattle.flash_format.specs.Stops.{flash_result, Answers, Finishes, IsEarly, LayoutBy, ReadsBy, RefusesBank};
+ghost use Rattle.flash_format.specs.declared.stops.FormatStop.TheVariants.{Input as InputRefused, ReadFailed as FileFailed};
+ghost use Rattle.flash_format.specs.declared.stops.InputFault.TheVariants.{Incomplete as BankRefused};
+
+use crate::plan::Plan;
+use crate::planning::plan;
+use crate::records::write_records;
+use crate::stops::FormatStop;
+use crate::writing::{check_bank, fill};
+use base_core::ImageRow;
+use flash_core::Flash;
+use host_io::Files;
+use meta_layout::Layout;
+use verify_core::Verifier;
+
+/// What a flash was formatted with.
+#[derive(Clone, Copy, Debug, PartialEq, Eq)]
+pub struct Formatted {
+    pub layout: Layout,
+    /// The security version of the package.
+    pub version: u32,
+}
+
+/// Tests bank 0 of a flash that was filled, and writes the metadata and the layout. The version of what is in the bank.
+fn finish<D: Flash, V: Verifier>(
+    flash: &mut D,
+    layout: &Layout,
+    verifier: &V,
+) -> Result<u32, FormatStop>
+    requires on { IsTrue (D.on flash.old) }
+    requires inside { blocks_needed layout.now ≤ D.blocks flash.old }
+    requires erased { IsTrue D.tells → Erased 0 32768 (D.told flash.old).now }
+
+    ensures formatted { IfOk result (λ version. IsTrue D.tells → IsFormatted (V.passes verifier.now) layout.now version (D.told flash.new)) }
+    ensures refused { (found : Verdict) → result ≡ Err (InputRefused (BankRefused found)) → IsTrue D.tells → IsRefused (V.passes verifier.now) layout.now found (D.told flash.new).now }
+    ensures keeps { IsTrue D.tells → Keeps 0 12288 (D.told flash.old) (D.told flash.new) }
+    ensures power { D.on flash.new ≡ is_ok (flash_result result) }
+    ensures size { D.blocks flash.new ≡ D.blocks flash.old }
+    ensures costs { Spends (flash_result result) (D.counts flash.old) (D.counts flash.new) }
+    ensures stops { RefusesBank result }
+{
+    let _rows = layout.rows();
+    let version = match check_bank(flash, layout, verifier) {
+        Ok(version) => version,
+        Err(stop) => return Err(stop),
+    };
+    write_records(flash, layout)?;
+    Ok(version)
+}
+
+/// Writes what is planned, tests it, and writes the metadata and the layout.
+fn carry_out<D: Flash, H: Files, V: Verifier>(
+    flash: &mut D,
+    plan: &Plan,
+    files: &mut H,
+    name: &str,
+    verifier: &V,
+) -> Result<u32, FormatStop>
+    requires on { IsTrue (D.on flash.old) }
+    requires inside { blocks_needed plan.now.layout ≤ D.blocks flash.old }
+    requires planned { IsPlanned (H.contents files.old) name.now plan.now.layout plan.now.entries }
+
+    ensures formatted { IfOk result (λ version. IsTrue D.tells → IsFormatted (V.passes verifier.now) plan.now.layout version (D.told flash.new)) }
+    ensures refused { (found : Verdict) → result ≡ Err (InputRefused (BankRefused found)) → IsTrue D.tells → IsRefused (V.passes verifier.now) plan.now.layout found (D.told flash.new).now }
+    ensures bytes { Finishes result (IsTrue D.tells → (file : List ℕ) → Tells (H.contents files.old) name.now file
+        → AllStand (length plan.now.layout.rows) plan.now.layout file plan.now.entries (D.told flash.new).now) }
+    ensures failed { result ≡ Err FileFailed → IsTrue D.tells → IsErr (layout_seen (D.told flash.new).now) }
+    ensures keeps { IsTrue D.tells → Keeps 0 (4096 * blocks_needed plan.now.layout) (D.told flash.old) (D.told flash.new) }
+    ensures power { D.on flash.new ≡ is_ok (flash_result result) }
+    ensures size { D.blocks flash.new ≡ D.blocks flash.old }
+    ensures costs { Spends (flash_result result) (D.counts flash.old) (D.counts flash.new) }
+    ensures stops { IsEarly result → ⊥ }
+    ensures same { H.contents files.new ≡ H.contents files.old }
+    ensures reads { ReadsBy (H.contents files.old) name.now (H.faults files.old) (H.faults files.new) result }
+{
+    let _rows = plan.layout.rows();
+    match fill(flash, plan, files, name) {
+        Ok(()) => {}
+        Err(stop) => return Err(stop),
+    }
+    finish(flash, &plan.layout, verifier)
+}
+
+/// Formats a flash with the layout of these rows and banks, and a firmware image package in bank 0, which is accepted with all bits set.
+///
+/// Before the flash is touched the rows, banks and blocks are tested, then the file's table, then its images in the order of the
+/// layout. Then blocks 0 to the last bank's end are erased, the images are written to the starts of their slots in bank 0, and
+/// bank 0 is tested as a boot does, with a counter of 0. Only then the two replicas are written, and after them the layout in block 0.
+/// So a flash that was touched has no layout until it is formatted whole.
+pub fn format<D: Flash, H: Files, V: Verifier>(
+    flash: &mut D,
+    rows: &[ImageRow],
+    banks: u32,
+    files: &mut H,
+    name: &str,
+    verifier: &V,
+) -> Result<Formatted, FormatStop>
+    requires { IsTrue (D.on flash.old) }
+
+    // What is refused before the flash is touched, exactly: by the layout, and by the bytes of the file where they are told.
+    ensures layout { LayoutBy (fitted (record { banks = banks; rows = rows.now }) (D.blocks flash.old)) result }
+    ensures answers { (file : List ℕ) → Tells (H.contents files.old) name.now file → Answers (refusal (record { banks = banks; rows = rows.now }) (D.blocks flash.old) file) result }
+    ensures untouched { IsEarly result → flash.new ≡ flash.old }
+    // A file that could not be read: the flash is as it was, or has no layout.
+    ensures failed { result ≡ Err FileFailed → IsTrue D.tells → (D.told flash.new ≡ D.told flash.old) ⊎ IsErr (layout_seen (D.told flash.new).now) }
+    // Formatted: what the flash shows, and that it is sound.
+    ensures given { IfOk result (λ done. fitted (record { banks = banks; rows = rows.now }) (D.blocks flash.old) ≡ Ok done.layout) }
+    ensures formatted { IfOk result (λ done. IsTrue D.tells → IsFormatted (V.passes verifier.now) done.layout done.version (D.told flash.new)) }
+    // Refused: the flash has no layout, and what it is refused for is the verdict on what bank 0 holds.
+    ensures refused { (found : Verdict) → result ≡ Err (InputRefused (BankRefused found)) → IsTrue D.tells
+        → IsRefused (V.passes verifier.now) (record { banks = banks; rows = rows.now }) found (D.told flash.new).now }
+    // Either way bank 0 holds the package's images, and they aren't refused where they are a complete package that passes.
+    ensures images { Finishes result (IsTrue D.tells → (file : List ℕ) (toc : Toc) → Tells (H.contents files.old) name.now file → toc_of file ≡ Ok toc
+        → HoldsImages (record { banks = banks; rows = rows.now }) (images_of rows.now file toc) (D.told flash.new).now) }
+    ensures deserved { (found : Verdict) → result ≡ Err (InputRefused (BankRefused found)) → IsTrue D.tells → (file : List ℕ) (toc : Toc) → Tells (H.contents files.old) name.now file → toc_of file ≡ Ok toc
+        → IsTrue (is_complete rows.now (images_of rows.now file toc)) → IsTrue (V.passes verifier.now (manifest_part (images_of rows.now file toc))) → ⊥ }
+    // Beyond the last bank nothing changes, at any exit.
+    ensures keeps { IsTrue D.tells → Keeps 0 (4096 * blocks_needed (record { banks = banks; rows = rows.now })) (D.told flash.old) (D.told flash.new) }
+    ensures power { D.on flash.new ≡ is_ok (flash_result result) }
+    ensures size { D.blocks flash.new ≡ D.blocks flash.old }
+    ensures costs { Spends (flash_result result) (D.counts flash.old) (D.counts flash.new) }
+    ensures same { H.contents files.new ≡ H.contents files.old }
+    ensures reads { ReadsBy (H.contents files.old) name.now (H.faults files.old) (H.faults files.new) result }
+{
+    let plan = match plan(rows, banks, flash.blocks(), files, name) {
+        Ok(plan) => plan,
+        Err(stop) => return Err(stop),
+    };
+    let version = match carry_out(flash, &plan, files, name, verifier) {
+        Ok(version) => version,
+        Err(stop) => return Err(stop),
+    };
+    Ok(Formatted {
+        layout: plan.layout,
+        version,
+    })
+}

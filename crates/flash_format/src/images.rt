@@ -1,0 +1,113 @@
+//! Writing an image of a package into its slot.
+ghost use Rattle.std.specs.Prelude.{◌≡◌, ◌+◌, ◌*◌, ◌%◌, ◌^◌, ◌<◌, ◌≤◌, ℕ, List, length, drop, is_ok, IsTrue, IfOk, OnOk};
+ghost use Rattle.base_core.specs.Block.{blank};
+ghost use Rattle.flash_core.specs.Counts.{Spends};
+ghost use Rattle.flash_core.specs.May.{Keeps};
+ghost use Rattle.host_io.specs.Causes.{HasCause};
+ghost use Rattle.fwu_model.specs.Package.{payload};
+ghost use Rattle.fip_tables.specs.Files.{Lacks, Tells};
+ghost use Rattle.flash_format.specs.Places.{Erased, Stands};
+ghost use Rattle.flash_format.specs.Stops.{flash_result, ReadsBy, RefusesNothing};
+
+use crate::stops::FormatStop;
+use fip_tables::{Entry, payload_at};
+use flash_core::Flash;
+use host_io::{Failed, Files};
+
+/// Reads a payload from a place of it on, to the end of the buffer or of the payload, and leaves the erased bytes behind it.
+/// How many bytes that is, up to a whole granule.
+fn read_piece<H: Files>(
+    files: &mut H,
+    name: &str,
+    entry: &Entry,
+    done: u64,
+    out: &mut [u8],
+) -> Result<usize, Failed>
+    requires erased { out.old ≡ blank 4096 }
+    requires some { done < entry.now.size }
+    requires ends { entry.now.offset + entry.now.size < 2 ^ 64 }
+    requires stored { (file : List ℕ) → Tells (H.contents files.old) name.now file → entry.now.offset + entry.now.size ≤ length file }
+    requires there { Lacks (H.contents files.old) name.now → ⊥ }
+
+    ensures bytes { OnOk result ((file : List ℕ) → Tells (H.contents files.old) name.now file → Stands 0 4096 (drop done (payload file entry.now)) out.new) }
+    ensures granules { IfOk result (λ n. n % 16 ≡ 0) }
+    ensures some { IfOk result (λ n. (0 < n) × (n ≤ 4096)) }
+    ensures erased { IfOk result (λ n. Erased n 4096 out.new) }
+    ensures buffer { length out.new ≡ 4096 }
+    ensures same { H.contents files.new ≡ H.contents files.old }
+    ensures cause { HasCause (H.faults files.old) (H.faults files.new) result }
+{
+    let size = (entry.size - done).min(4096) as usize;
+    payload_at(files, name, entry, done, &mut out[..size])?;
+    Ok((size + 15) / 16 * 16)
+}
+
+/// Writes the piece of a payload that begins at a place of it to a block that is erased.
+fn write_piece<D: Flash, H: Files>(
+    flash: &mut D,
+    block: u32,
+    files: &mut H,
+    name: &str,
+    entry: &Entry,
+    done: u64,
+) -> Result<(), FormatStop>
+    requires on { IsTrue (D.on flash.old) }
+    requires inside { block < D.blocks flash.old }
+    requires erased { IsTrue D.tells → Erased (4096 * block) (4096 * block + 4096) (D.told flash.old).now }
+    requires some { done < entry.now.size }
+    requires ends { entry.now.offset + entry.now.size < 2 ^ 64 }
+    requires stored { (file : List ℕ) → Tells (H.contents files.old) name.now file → entry.now.offset + entry.now.size ≤ length file }
+    requires there { Lacks (H.contents files.old) name.now → ⊥ }
+
+    ensures keeps { IsTrue D.tells → Keeps (4096 * block) (4096 * block + 4096) (D.told flash.old) (D.told flash.new) }
+    ensures bytes { OnOk result (IsTrue D.tells → (file : List ℕ) → Tells (H.contents files.old) name.now file
+        → Stands (4096 * block) 4096 (drop done (payload file entry.now)) (D.told flash.new).now) }
+    ensures power { D.on flash.new ≡ is_ok (flash_result result) }
+    ensures size { D.blocks flash.new ≡ D.blocks flash.old }
+    ensures costs { Spends (flash_result result) (D.counts flash.old) (D.counts flash.new) }
+    ensures same { H.contents files.new ≡ H.contents files.old }
+    ensures reads { ReadsBy (H.contents files.old) name.now (H.faults files.old) (H.faults files.new) result }
+    ensures stops { RefusesNothing result }
+{
+    let mut bytes = [0xFF; 4096];
+    let size = match read_piece(files, name, entry, done, &mut bytes) {
+        Ok(size) => size,
+        Err(_) => return Err(FormatStop::ReadFailed),
+    };
+    flash.program(4096 * block, &bytes[..size])?;
+    Ok(())
+}
+
+/// Writes an image to its slot, which is erased, in pieces of at most 4096 bytes.
+pub fn write_image<D: Flash, H: Files>(
+    flash: &mut D,
+    first: u32,
+    slots: u32,
+    files: &mut H,
+    name: &str,
+    entry: &Entry,
+) -> Result<(), FormatStop>
+    requires on { IsTrue (D.on flash.old) }
+    requires inside { first + slots ≤ D.blocks flash.old }
+    requires erased { IsTrue D.tells → Erased (4096 * first) (4096 * (first + slots)) (D.told flash.old).now }
+    requires fits { entry.now.size ≤ 4096 * slots }
+    requires ends { entry.now.offset + entry.now.size < 2 ^ 64 }
+    requires stored { (file : List ℕ) → Tells (H.contents files.old) name.now file → entry.now.offset + entry.now.size ≤ length file }
+    requires there { Lacks (H.contents files.old) name.now → ⊥ }
+
+    ensures keeps { IsTrue D.tells → Keeps (4096 * first) (4096 * (first + slots)) (D.told flash.old) (D.told flash.new) }
+    ensures bytes { OnOk result (IsTrue D.tells → (file : List ℕ) → Tells (H.contents files.old) name.now file
+        → Stands (4096 * first) (4096 * slots) (payload file entry.now) (D.told flash.new).now) }
+    ensures power { D.on flash.new ≡ is_ok (flash_result result) }
+    ensures size { D.blocks flash.new ≡ D.blocks flash.old }
+    ensures costs { Spends (flash_result result) (D.counts flash.old) (D.counts flash.new) }
+    ensures same { H.contents files.new ≡ H.contents files.old }
+    ensures reads { ReadsBy (H.contents files.old) name.now (H.faults files.old) (H.faults files.new) result }
+    ensures stops { RefusesNothing result }
+{
+    let pieces = ((entry.size + 4095) / 4096) as u32;
+    for k in 0..pieces {
+        write_piece(flash, first + k, files, name, entry, 4096 * u64::from(k))?;
+    }
+    Ok(())
+}

@@ -1,0 +1,62 @@
+//! What is to be written: the layout, and the entries of its images. It is found before the flash is touched.
+ghost use Rattle.std.specs.Prelude.{◌≡◌, ℕ, List, Ok, IfOk, IfErr};
+ghost use Rattle.fwu_model.specs.Package.{toc_of};
+ghost use Rattle.meta_layout.specs.Rows.{fitted};
+ghost use Rattle.fip_tables.specs.Files.{Tells};
+ghost use Rattle.flash_format.specs.Choosing.{refusal, refusal_by};
+ghost use Rattle.flash_format.specs.Planned.{IsPlanned, HasToc};
+ghost use Rattle.flash_format.specs.Stops.{Answers, IsOfLayout, LayoutBy, ReadsBy, StopsEarly};
+
+use crate::choosing::choose;
+use crate::plan::Plan;
+use crate::stops::{FormatStop, InputFault};
+use crate::table::read_table;
+use base_core::ImageRow;
+use host_io::Files;
+use meta_layout::Layout;
+
+/// The entries of a layout's images in a package.
+fn plan_of<H: Files>(files: &mut H, name: &str, layout: Layout) -> Result<Plan, FormatStop>
+    ensures layout { IfOk result (λ plan. plan.layout ≡ layout) }
+    ensures planned { IfOk result (λ plan. IsPlanned (H.contents files.old) name.now plan.layout plan.entries) }
+    ensures toc { IfOk result (λ plan. (file : List ℕ) → Tells (H.contents files.old) name.now file → HasToc file plan.layout plan.entries) }
+    ensures answers { (file : List ℕ) → Tells (H.contents files.old) name.now file → Answers (refusal_by (Ok layout) (toc_of file)) result }
+    ensures other { IsOfLayout result → ⊥ }
+    ensures stops { IfErr result StopsEarly }
+    ensures same { H.contents files.new ≡ H.contents files.old }
+    ensures reads { ReadsBy (H.contents files.old) name.now (H.faults files.old) (H.faults files.new) result }
+{
+    let toc = match read_table(files, name) {
+        Ok(toc) => toc,
+        Err(stop) => return Err(stop),
+    };
+    let _rows = layout.rows();
+    match choose(layout.rows(), &toc) {
+        Ok(entries) => Ok(Plan { layout, entries }),
+        Err(fault) => Err(FormatStop::Input(fault)),
+    }
+}
+
+/// The layout of these rows and banks on a flash of so many blocks, and the entries of its images in a package, or the first
+/// fault: of the layout, of the package, and of the lowest image that has one.
+pub fn plan<H: Files>(
+    rows: &[ImageRow],
+    banks: u32,
+    blocks: u32,
+    files: &mut H,
+    name: &str,
+) -> Result<Plan, FormatStop>
+    ensures fits { IfOk result (λ plan. fitted (record { banks = banks; rows = rows.now }) blocks ≡ Ok plan.layout) }
+    ensures planned { IfOk result (λ plan. IsPlanned (H.contents files.old) name.now plan.layout plan.entries) }
+    ensures toc { IfOk result (λ plan. (file : List ℕ) → Tells (H.contents files.old) name.now file → HasToc file plan.layout plan.entries) }
+    ensures answers { (file : List ℕ) → Tells (H.contents files.old) name.now file → Answers (refusal (record { banks = banks; rows = rows.now }) blocks file) result }
+    ensures layout { LayoutBy (fitted (record { banks = banks; rows = rows.now }) blocks) result }
+    ensures stops { IfErr result StopsEarly }
+    ensures same { H.contents files.new ≡ H.contents files.old }
+    ensures reads { ReadsBy (H.contents files.old) name.now (H.faults files.old) (H.faults files.new) result }
+{
+    match Layout::make(rows, banks, blocks) {
+        Ok(layout) => plan_of(files, name, layout),
+        Err(fault) => Err(FormatStop::Input(InputFault::Layout(fault))),
+    }
+}

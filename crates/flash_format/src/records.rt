@@ -1,0 +1,91 @@
+//! The metadata and the layout of a flash that is formatted.
+ghost use Rattle.std.specs.Prelude.{◌≡◌, ◌%◌, ◌<◌, ◌≤◌, Ok, length, is_ok, IsTrue, OnOk};
+ghost use Rattle.base_core.specs.Block.{block};
+ghost use Rattle.flash_core.specs.Counts.{Spends};
+ghost use Rattle.flash_core.specs.May.{Keeps};
+ghost use Rattle.flash_core.specs.Told.{NothingDirty};
+ghost use Rattle.flash_core.specs.Replaces.{padded};
+ghost use Rattle.fwu_model.specs.Layout.{blocks_needed, fits_layout};
+ghost use Rattle.fwu_model.specs.Metadata.{first_meta};
+ghost use Rattle.fwu_model.specs.Flash.{layout_seen};
+ghost use Rattle.fwu_model.specs.Replica.{BothHold, in_version};
+ghost use Rattle.flash_format.specs.Places.{Erased};
+
+use flash_core::{Flash, FlashStop};
+use meta_layout::{Layout, Meta};
+
+/// Programs bytes to the front of blocks 1 and 2, which are erased, and makes a barrier.
+fn write_twice<D: Flash>(flash: &mut D, bytes: &[u8]) -> Result<(), FlashStop>
+    requires on { IsTrue (D.on flash.old) }
+    requires granules { length bytes.now % 16 ≡ 0 }
+    requires some { 0 < length bytes.now }
+    requires few { length bytes.now ≤ 4096 }
+    requires erased { IsTrue D.tells → Erased 4096 12288 (D.told flash.old).now }
+
+    ensures keeps { IsTrue D.tells → Keeps 4096 12288 (D.told flash.old) (D.told flash.new) }
+    ensures zero { OnOk result (IsTrue D.tells → block 1 (D.told flash.new).now ≡ padded bytes.now) }
+    ensures one { OnOk result (IsTrue D.tells → block 2 (D.told flash.new).now ≡ padded bytes.now) }
+    ensures power { D.on flash.new ≡ is_ok result }
+    ensures size { D.blocks flash.new ≡ D.blocks flash.old }
+    ensures costs { Spends result (D.counts flash.old) (D.counts flash.new) }
+{
+    flash.program(4096, bytes)?;
+    flash.program(8192, bytes)?;
+    flash.barrier()
+}
+
+/// Writes the first metadata of a layout to both replicas, whose blocks are erased.
+fn write_replicas<D: Flash>(flash: &mut D, layout: &Layout) -> Result<(), FlashStop>
+    requires on { IsTrue (D.on flash.old) }
+    requires erased { IsTrue D.tells → Erased 4096 12288 (D.told flash.old).now }
+
+    ensures keeps { IsTrue D.tells → Keeps 4096 12288 (D.told flash.old) (D.told flash.new) }
+    ensures both { OnOk result (IsTrue D.tells → BothHold layout.now (in_version 2 (first_meta layout.now)) (D.told flash.new).now) }
+    ensures power { D.on flash.new ≡ is_ok result }
+    ensures size { D.blocks flash.new ≡ D.blocks flash.old }
+    ensures costs { Spends result (D.counts flash.old) (D.counts flash.new) }
+{
+    let mut bytes = [0xFF; 4096];
+    let meta = Meta::first(layout);
+    let _rows = layout.rows();
+    meta.write(layout, &mut bytes);
+    let size = Meta::replica_size(layout);
+    write_twice(flash, &bytes[..size])
+}
+
+/// Writes the layout to block 0, which is erased.
+fn write_layout<D: Flash>(flash: &mut D, layout: &Layout) -> Result<(), FlashStop>
+    requires on { IsTrue (D.on flash.old) }
+    requires inside { blocks_needed layout.now ≤ D.blocks flash.old }
+    requires erased { IsTrue D.tells → Erased 0 4096 (D.told flash.old).now }
+
+    ensures keeps { IsTrue D.tells → Keeps 0 4096 (D.told flash.old) (D.told flash.new) }
+    ensures layout { OnOk result (IsTrue D.tells → layout_seen (D.told flash.new).now ≡ Ok layout.now) }
+    ensures clean { OnOk result (IsTrue D.tells → NothingDirty (D.told flash.new)) }
+    ensures power { D.on flash.new ≡ is_ok result }
+    ensures size { D.blocks flash.new ≡ D.blocks flash.old }
+    ensures costs { Spends result (D.counts flash.old) (D.counts flash.new) }
+{
+    let mut bytes = [0xFF; 4096];
+    layout.write(&mut bytes);
+    flash.program(0, &bytes)?;
+    flash.barrier()
+}
+
+/// Writes the metadata and then the layout, which makes the flash one that is formatted.
+pub fn write_records<D: Flash>(flash: &mut D, layout: &Layout) -> Result<(), FlashStop>
+    requires on { IsTrue (D.on flash.old) }
+    requires inside { blocks_needed layout.now ≤ D.blocks flash.old }
+    requires erased { IsTrue D.tells → Erased 0 12288 (D.told flash.old).now }
+
+    ensures keeps { IsTrue D.tells → Keeps 0 12288 (D.told flash.old) (D.told flash.new) }
+    ensures both { OnOk result (IsTrue D.tells → BothHold layout.now (in_version 2 (first_meta layout.now)) (D.told flash.new).now) }
+    ensures layout { OnOk result (IsTrue D.tells → layout_seen (D.told flash.new).now ≡ Ok layout.now) }
+    ensures clean { OnOk result (IsTrue D.tells → NothingDirty (D.told flash.new)) }
+    ensures power { D.on flash.new ≡ is_ok result }
+    ensures size { D.blocks flash.new ≡ D.blocks flash.old }
+    ensures costs { Spends result (D.counts flash.old) (D.counts flash.new) }
+{
+    write_replicas(flash, layout)?;
+    write_layout(flash, layout)
+}

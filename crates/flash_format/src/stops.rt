@@ -1,0 +1,49 @@
+//! Why a flash was not formatted.
+ghost use Rattle.std.specs.Prelude.{◌≡◌};
+ghost use Rattle.flash_format.specs.declared.stops.FormatStop.TheVariants.{Flash as FlashStopped, Input as InputRefused};
+
+use base_core::Guid;
+use flash_core::FlashStop;
+use fwu_model::{FipFault, LayoutFault};
+use image_check::Verdict;
+
+/// What is wrong with what was given, the first of these that is so.
+#[derive(Clone, Copy, Debug, PartialEq, Eq)]
+pub enum InputFault {
+    /// The rows and banks are no layout of the flash.
+    Layout(LayoutFault),
+    /// The file is no package.
+    Package(FipFault),
+    /// The package lacks the image of this type, the lowest image that has a fault.
+    Missing(Guid),
+    /// The image of this type, the lowest image that has a fault, is larger than its slot.
+    TooLarge(Guid),
+    /// The images, once they were in bank 0, were not good. The flash was erased and has no layout.
+    Incomplete(Verdict),
+}
+
+/// Why a flash was not formatted.
+#[derive(Clone, Copy, Debug, PartialEq, Eq)]
+pub enum FormatStop {
+    Input(InputFault),
+    /// The file could not be read.
+    ReadFailed,
+    /// The flash stopped, and is off.
+    Flash(FlashStop),
+}
+
+impl From<FlashStop> for FormatStop {
+    ghost from_gives = { λ stop e. e ≡ FlashStopped stop };
+
+    fn from(stop: FlashStop) -> Self {
+        FormatStop::Flash(stop)
+    }
+}
+
+impl From<InputFault> for FormatStop {
+    ghost from_gives = { λ fault e. e ≡ InputRefused fault };
+
+    fn from(fault: InputFault) -> Self {
+        FormatStop::Input(fault)
+    }
+}

@@ -1,0 +1,159 @@
+use super::*;
+use base_core::{Guid, ImageRow};
+use fip_tables::{Part, Parts, pack};
+use flash_core::Flash;
+use flash_devices::MemoryFlash;
+use fwu_model::LayoutFault;
+use host_io::MemoryFiles;
+use image_check::Verdict;
+use manifest_core::{Manifest, Row};
+use std::alloc::Global;
+use std::test::Fail;
+use verify_core::AnyManifest;
+
+// Bytes 4 to 40 of the metadata, written out by hand from the format.
+const METADATA: [u8; 36] = [
+    2, 0, 0, 0, 0, 0, 0, 0, 0, 0, 0, 0, 0x18, 1, 0, 0, 0x20, 0, 0, 0, 0xFC, 0xFF, 0xFF, 0xFF, 0, 0,
+    0, 0, 2, 0, 3, 0, 0x50, 0, 0x18, 0,
+];
+
+fn manifest_type() -> Guid {
+    Guid::of([
+        0x46, 0x57, 0x55, 0x4D, 0x41, 0x4E, 0x49, 0x46, 0x45, 0x53, 0x54, 0, 0, 0, 0, 1,
+    ])
+}
+
+fn boot_type() -> Guid {
+    Guid::of([
+        0x5F, 0xF9, 0xEC, 0x0B, 0x4D, 0x22, 0x3E, 0x4D, 0xA5, 0x44, 0xC3, 0x9D, 0x81, 0xC7, 0x3F,
+        0x0A,
+    ])
+}
+
+fn normal_type() -> Guid {
+    Guid::of([
+        0xD6, 0xD0, 0xEE, 0xA7, 0xFC, 0xEA, 0xD5, 0x4B, 0x97, 0x82, 0x99, 0x34, 0xF2, 0x34, 0xB6,
+        0xE4,
+    ])
+}
+
+fn rows() -> [ImageRow; 3] {
+    [
+        ImageRow {
+            guid: manifest_type(),
+            slots: 1,
+        },
+        ImageRow {
+            guid: boot_type(),
+            slots: 2,
+        },
+        ImageRow {
+            guid: normal_type(),
+            slots: 4,
+        },
+    ]
+}
+
+// The manifest of two images, with the security version 7.
+fn manifest(alloc: Global, boot: &[u8], normal: &[u8]) -> Result<Vec<u8>, Fail> {
+    let mut rows = Vec::new(alloc);
+    if boot.len() > 8192 || normal.len() > 8192 {
+        return Ok(Vec::new(alloc));
+    }
+    rows.push(Row::of(boot_type(), 1, boot))?;
+    rows.push(Row::of(normal_type(), 2, normal))?;
+    let manifest = Manifest::of_rows(alloc, 7, rows)?;
+    Ok(manifest.write(alloc)?)
+}
+
+fn part(alloc: Global, guid: Guid, bytes: &[u8]) -> Result<Part, Fail> {
+    Ok(Part {
+        guid,
+        flags: 0,
+        bytes: bytes.to_vec(alloc)?,
+    })
+}
+
+// A package of two images and of this manifest, in the file `a.fip`.
+fn files(
+    alloc: Global,
+    manifest: Option<&[u8]>,
+    boot: &[u8],
+    normal: &[u8],
+) -> Result<MemoryFiles, Fail> {
+    let mut parts = Vec::new(alloc);
+    if let Some(bytes) = manifest {
+        parts.push(part(alloc, manifest_type(), bytes)?)?;
+    }
+    parts.push(part(alloc, boot_type(), boot)?)?;
+    parts.push(part(alloc, normal_type(), normal)?)?;
+    let parts = Parts {
+        serial: 0x1234_5678,
+        flags: 0,
+        parts,
+    };
+    let mut names = Vec::new(alloc);
+    names.push((String::from_str(alloc, "a.fip")?, pack(alloc, &parts, 16)?))?;
+    Ok(MemoryFiles::new(alloc, names, Vec::new(alloc)))
+}
+
+fn erased(alloc: Global, blocks: u32) -> Result<MemoryFlash, Fail> {
+    let blocks = blocks.max(8).min(64);
+    let mut flash = MemoryFlash::new(alloc, blocks, Vec::new(alloc), Vec::new(alloc))?;
+    flash.power_on();
+    Ok(flash)
+}
+
+#[test]
+fn a_flash_is_formatted(rt: HostRuntime) -> Result<(), Fail> {
+    let alloc = rt.alloc();
+    let boot = vec![in alloc; 0xA5; 5000]?;
+    let manifest = manifest(alloc, boot.as_slice(), b"normal")?;
+    let mut files = files(alloc, Some(manifest.as_slice()), boot.as_slice(), b"normal")?;
+    let mut flash = erased(alloc, 22)?;
+    assert!(rt; flash.is_on());
+    let done = format(&mut flash, &rows(), 2, &mut files, "a.fip", &AnyManifest)?;
+    assert_eq!(rt; done.version, 7);
+    assert_eq!(rt; done.layout.banks(), 2);
+    let bytes = flash.bytes();
+    assert_eq!(rt; bytes.len(), 90112);
+    assert_eq!(rt; &bytes[4..8], b"FWUL".as_slice());
+    assert_eq!(rt; &bytes[4100..4136], METADATA.as_slice());
+    assert_eq!(rt; &bytes[8196..8232], METADATA.as_slice());
+    assert!(rt; bytes[36864..41864].iter().all(|byte| *byte == 0xA5));
+    assert!(rt; bytes[41864..45056].iter().all(|byte| *byte == 0xFF));
+    assert_eq!(rt; &bytes[45056..45062], b"normal".as_slice());
+    Ok(())
+}
+
+#[test]
+fn what_is_given_is_refused(rt: HostRuntime) -> Result<(), Fail> {
+    let alloc = rt.alloc();
+    let given = manifest(alloc, b"boot", b"normal")?;
+    let mut whole = files(alloc, Some(given.as_slice()), b"boot", b"normal")?;
+    let mut small = erased(alloc, 21)?;
+    assert!(rt; small.is_on());
+    assert_eq!(rt;
+        format(&mut small, &rows(), 2, &mut whole, "a.fip", &AnyManifest).err(),
+        Some(FormatStop::Input(InputFault::Layout(LayoutFault::BeyondFlash)))
+    );
+    let mut flash = erased(alloc, 22)?;
+    assert!(rt; flash.is_on());
+    assert_eq!(rt;
+        format(&mut flash, &rows(), 2, &mut whole, "b.fip", &AnyManifest).err(),
+        Some(FormatStop::ReadFailed)
+    );
+    assert!(rt; flash.is_on());
+    let mut lacking = files(alloc, None, b"boot", b"normal")?;
+    assert_eq!(rt;
+        format(&mut flash, &rows(), 2, &mut lacking, "a.fip", &AnyManifest).err(),
+        Some(FormatStop::Input(InputFault::Missing(manifest_type())))
+    );
+    assert!(rt; flash.is_on());
+    let mut changed = files(alloc, Some(given.as_slice()), b"boot", b"Normal")?;
+    assert_eq!(rt;
+        format(&mut flash, &rows(), 2, &mut changed, "a.fip", &AnyManifest).err(),
+        Some(FormatStop::Input(InputFault::Incomplete(Verdict::BadImage { image: 2 })))
+    );
+    Ok(())
+}

@@ -1,0 +1,80 @@
+//! Writing the images of a plan, and testing them.
+ghost use Rattle.std.specs.Prelude.{◌≡◌, ◌*◌, ◌≤◌, ℕ, List, Ok, Err, true, false, length, is_ok, IsTrue, IfOk, OnOk};
+ghost use Rattle.flash_core.specs.Counts.{Spends};
+ghost use Rattle.flash_core.specs.May.{Keeps};
+ghost use Rattle.fwu_model.specs.Layout.{blocks_needed};
+ghost use Rattle.fip_tables.specs.Files.{Tells};
+ghost use Rattle.image_check.specs.Law.{may_start};
+ghost use Rattle.image_check.specs.Verdict.{verdict_on};
+ghost use Rattle.image_check.specs.declared.bank.Verdict.{Verdict as Found};
+ghost use Rattle.image_check.specs.declared.bank.Verdict.TheVariants.{Good};
+ghost use Rattle.flash_format.specs.Places.{AllStand, Erased};
+ghost use Rattle.flash_format.specs.Planned.{IsPlanned};
+ghost use Rattle.flash_format.specs.Stops.{flash_result, ReadsBy, RefusesBank, RefusesNothing};
+ghost use Rattle.flash_format.specs.declared.stops.FormatStop.TheVariants.{Input as InputRefused};
+ghost use Rattle.flash_format.specs.declared.stops.InputFault.TheVariants.{Incomplete as BankRefused};
+
+use crate::bank::write_bank;
+use crate::erasing::erase_all;
+use crate::plan::Plan;
+use crate::stops::{FormatStop, InputFault};
+use flash_core::Flash;
+use host_io::Files;
+use image_check::{Verdict, check};
+use meta_layout::Layout;
+use verify_core::Verifier;
+
+/// Erases the blocks up to the last bank's end, and writes the images into bank 0.
+pub fn fill<D: Flash, H: Files>(
+    flash: &mut D,
+    plan: &Plan,
+    files: &mut H,
+    name: &str,
+) -> Result<(), FormatStop>
+    requires on { IsTrue (D.on flash.old) }
+    requires inside { blocks_needed plan.now.layout ≤ D.blocks flash.old }
+    requires planned { IsPlanned (H.contents files.old) name.now plan.now.layout plan.now.entries }
+
+    ensures keeps { IsTrue D.tells → Keeps 0 (4096 * blocks_needed plan.now.layout) (D.told flash.old) (D.told flash.new) }
+    ensures erased { OnOk (flash_result result) (IsTrue D.tells → Erased 0 32768 (D.told flash.new).now) }
+    ensures bytes { OnOk result (IsTrue D.tells → (file : List ℕ) → Tells (H.contents files.old) name.now file
+        → AllStand (length plan.now.layout.rows) plan.now.layout file plan.now.entries (D.told flash.new).now) }
+    ensures power { D.on flash.new ≡ is_ok (flash_result result) }
+    ensures size { D.blocks flash.new ≡ D.blocks flash.old }
+    ensures costs { Spends (flash_result result) (D.counts flash.old) (D.counts flash.new) }
+    ensures same { H.contents files.new ≡ H.contents files.old }
+    ensures reads { ReadsBy (H.contents files.old) name.now (H.faults files.old) (H.faults files.new) result }
+    ensures stops { RefusesNothing result }
+{
+    let _rows = plan.layout.rows();
+    erase_all(flash, plan.layout.blocks())?;
+    write_bank(flash, &plan.layout, files, name, plan.entries.as_slice())?;
+    flash.barrier()?;
+    Ok(())
+}
+
+/// Tests bank 0, and gives its version.
+pub fn check_bank<D: Flash, V: Verifier>(
+    flash: &mut D,
+    layout: &Layout,
+    verifier: &V,
+) -> Result<u32, FormatStop>
+    requires on { IsTrue (D.on flash.old) }
+    requires inside { blocks_needed layout.now ≤ D.blocks flash.old }
+
+    ensures good { IfOk result (λ version. IsTrue D.tells → verdict_on (V.passes verifier.now) 0 layout.now (D.told flash.old).now 0 ≡ Good version) }
+    ensures bad { (found : Found) → result ≡ Err (InputRefused (BankRefused found)) → may_start found ≡ false }
+    ensures found { (found : Found) → result ≡ Err (InputRefused (BankRefused found)) → IsTrue D.tells → verdict_on (V.passes verifier.now) 0 layout.now (D.told flash.old).now 0 ≡ found }
+    ensures content { IsTrue D.tells → D.told flash.new ≡ D.told flash.old }
+    ensures power { D.on flash.new ≡ is_ok (flash_result result) }
+    ensures size { D.blocks flash.new ≡ D.blocks flash.old }
+    ensures costs { Spends (flash_result result) (D.counts flash.old) (D.counts flash.new) }
+    ensures stops { RefusesBank result }
+{
+    let mut buffer = [0; 4096];
+    let _blocks = layout.banks();
+    match check(flash, layout, 0, 0, &mut buffer, verifier)? {
+        Verdict::Good { version } => Ok(version),
+        found => Err(FormatStop::Input(InputFault::Incomplete(found))),
+    }
+}

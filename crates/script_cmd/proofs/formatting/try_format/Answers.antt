@@ -1,0 +1,34 @@
+use Rattle.std.proofs.Common.{ℕ, ap, subst}
+use Rattle.script_cmd.specs.Formatting.{Tries}
+use Rattle.script_cmd.proofs.ShowFlash.{power-on-keeps, none-falls}
+use Rattle.script_cmd.proofs.FormatFlash.{stop-cause}
+use Rattle.script_cmd.proofs.formatting.try_format.Goals as goal
+
+pub returns-clause-tries : goal.returns-clause-tries
+returns-clause-tries g c =
+    let told = g.D.Flash.told in
+    let counts = g.D.Flash.counts in
+    let old = c.args.flash.now in
+    let mid = c.power_on.new.self in
+    let new = c.format.new.flash in
+    let e = c.format.ensures in
+    subst (λ (blocks : ℕ). Tries (g.V.Verifier.passes c.args.verifier.now) g.D.Flash.tells (g.H.Files.contents c.args.files.now) c.args.name.now (record { banks = c.args.banks; rows = c.args.rows.now }) blocks
+    (told old) (told new) (counts old) (counts new) (g.H.Files.faults c.args.files.now) (g.H.Files.faults c.format.new.files) c.format.result)
+    c.power_on.ensures.size
+    (record {
+      mid = told mid;
+      fresh = λ tells clean. power-on-keeps (told old) (told mid) clean (c.power_on.ensures.fresh tells) (c.power_on.ensures.leaves tells);
+      layout = e.layout;
+      answers = e.answers;
+      untouched = λ early. ap told (e.untouched early);
+      failed = e.failed;
+      reads = e.reads;
+      given = e.given;
+      formatted = e.formatted;
+      refused = e.refused;
+      images = e.images;
+      deserved = e.deserved;
+      keeps = e.keeps;
+      counts = none-falls _ (counts old) (counts mid) (counts new) c.power_on.ensures.counts e.costs;
+      stopped = λ stop is. stop-cause _ stop (counts old) (counts mid) (counts new) is c.power_on.ensures.counts e.costs;
+    })

@@ -1,0 +1,135 @@
+-- What the command `format` does, tells and prints.
+use Rattle.std.specs.Prelude.{◌≡◌, ◌⊎◌, ◌*◌, ◌≤◌, ℕ, ◌++◌, ◌∷◌, [], Bool, List, Option, Some, Result, Ok, Err, IfOk, IsErr, IsTrue, codes, decimal, length}
+use Rattle.flash_core.specs.Counts.{Rose}
+use Rattle.flash_core.specs.May.{Keeps}
+use Rattle.flash_core.specs.Told.{Told, NothingDirty}
+use Rattle.flash_core.specs.declared.flash.Counts.{Counts}
+use Rattle.flash_core.specs.declared.flash.FlashStop.{FlashStop}
+use Rattle.base_core.specs.Guid.{guid_text}
+use Rattle.host_io.specs.Contents.{Directory}
+use Rattle.fwu_model.specs.Layout.{ImageRow, Layout, blocks_needed}
+use Rattle.fwu_model.specs.Flash.{layout_seen}
+use Rattle.fwu_model.specs.Package.{Toc, toc_of}
+use Rattle.fwu_model.specs.Answer.{images_of}
+use Rattle.fwu_model.specs.Manifest.{is_complete, manifest_part}
+use Rattle.fwu_model.specs.Reply.{Turn}
+use Rattle.fwu_model.specs.Causes.{Faults}
+use Rattle.fwu_model.specs.Text.{fip_fault_text, format_line, no_boot_text}
+use Rattle.fwu_model.specs.declared.kinds.NoBoot.TheVariants as no_boot
+use Rattle.meta_layout.specs.Rows.{fitted}
+use Rattle.fip_tables.specs.Files.{Tells}
+use Rattle.image_check.specs.declared.bank.Verdict.{Verdict}
+use Rattle.image_check.specs.declared.bank.Verdict.TheVariants as verdict
+use Rattle.flash_format.specs.Choosing.{refusal}
+use Rattle.flash_format.specs.Formatted.{HoldsImages, IsFormatted, IsRefused}
+use Rattle.flash_format.specs.Stops.{Answers, Finishes, IsEarly, LayoutBy, ReadsBy}
+use Rattle.flash_format.specs.declared.formatting.Formatted.{Formatted}
+use Rattle.flash_format.specs.declared.stops.FormatStop.{FormatStop}
+use Rattle.flash_format.specs.declared.stops.FormatStop.TheVariants.{Input, ReadFailed, Flash}
+use Rattle.flash_format.specs.declared.stops.InputFault.{InputFault}
+use Rattle.flash_format.specs.declared.stops.InputFault.TheVariants as fault
+use Rattle.fwu_words.specs.Order as ask
+use Rattle.script_cmd.specs.Noted.{noted}
+use Rattle.script_cmd.specs.Printed.{Prints}
+use Rattle.script_cmd.specs.Showing.{RefusedList, flash_fault_line}
+use Rattle.script_cmd.specs.Turning.{NoneFalls}
+use Rattle.script_cmd.specs.Ways.{Given}
+use Rattle.script_cmd.specs.declared.done.Note.{Note}
+use Rattle.script_cmd.specs.declared.done.Note.TheVariants as note
+
+-- ---- the line, the status and the note of what became of a format
+
+-- a name, and an image's type
+abbrev pub named_text : List ℕ → List ℕ → List ℕ
+named_text name guid = name ++ guid_text guid
+
+-- what is wrong with the images; a verdict that they are good is none of a format that was refused, nor is one by a counter
+abbrev pub verdict_text : Verdict → List ℕ
+verdict_text (verdict.Good version) = codes "good"
+verdict_text verdict.BadManifest = codes "bad-manifest"
+verdict_text verdict.NotAccepted = codes "not-accepted"
+verdict_text (verdict.BadImage image) = codes "bad-image " ++ decimal image
+verdict_text (verdict.BelowCounter version counter) = codes "below-counter"
+
+abbrev pub input_text : InputFault → List ℕ
+input_text (fault.Layout f) = no_boot_text (no_boot.Layout f)
+input_text (fault.Package f) = codes "bad-package " ++ fip_fault_text f
+input_text (fault.Missing guid) = named_text (codes "missing ") guid
+input_text (fault.TooLarge guid) = named_text (codes "too-large ") guid
+input_text (fault.Incomplete found) = codes "incomplete " ++ verdict_text found
+
+-- the ends of the line of a flash that was formatted: from the version on, from the blocks on, and from the images on
+abbrev pub version_text : ℕ → List ℕ
+version_text version = codes " version=" ++ decimal version ++ 10 ∷ []
+
+abbrev pub blocks_text : Layout → ℕ → List ℕ
+blocks_text L version = codes " blocks=" ++ decimal (blocks_needed L) ++ version_text version
+
+abbrev pub images_text : Layout → ℕ → List ℕ
+images_text L version = codes " images=" ++ decimal (length L.rows) ++ blocks_text L version
+
+-- the line
+abbrev pub format_text : Result Formatted FormatStop → List ℕ
+format_text (Ok done) = format_line done.layout done.version
+format_text (Err (Input f)) = codes "format " ++ input_text f ++ 10 ∷ []
+format_text (Err ReadFailed) = codes "read-fault\n"
+format_text (Err (Flash stop)) = flash_fault_line
+
+-- the exit status
+abbrev pub format_status : Result Formatted FormatStop → ℕ
+format_status (Ok done) = 0
+format_status (Err (Input f)) = 7
+format_status (Err ReadFailed) = 2
+format_status (Err (Flash stop)) = 5
+
+abbrev pub format_note : Result Formatted FormatStop → Note
+format_note (Ok done) = note.Nothing
+format_note (Err (Input f)) = note.Input f
+format_note (Err ReadFailed) = note.Nothing
+format_note (Err (Flash stop)) = note.Nothing
+
+-- ---- what became of the flash
+
+-- The result r of formatting a flash of so many blocks, by the rows and banks L and the package of this name, and by a verifier of these
+-- manifests. What is told and counted was old, and is new; the faults of the files were was, and are are.
+pub record Tries (passes : List ℕ → Bool) (tells : Bool) (told : Option Directory) (name : List ℕ) (L : Layout) (blocks : ℕ) (old new : Told) (before after : Counts) (was are : ℕ) (r : Result Formatted FormatStop) : Type 0 where
+  -- what is told after the power came, which is what was told where nothing was dirty
+  pub mid : Told
+  pub fresh : IsTrue tells → NothingDirty old → mid ≡ old
+  -- what is refused before the flash is touched, exactly
+  pub layout : LayoutBy (fitted L blocks) r
+  pub answers : (file : List ℕ) → Tells told name file → Answers (refusal L blocks file) r
+  pub untouched : IsEarly r → new ≡ mid
+  -- a file that could not be read, and why
+  pub failed : r ≡ Err ReadFailed → IsTrue tells → (new ≡ mid) ⊎ IsErr (layout_seen new.now)
+  pub reads : ReadsBy told name was are r
+  -- formatted
+  pub given : IfOk r (λ done. fitted L blocks ≡ Ok done.layout)
+  pub formatted : IfOk r (λ done. IsTrue tells → IsFormatted passes done.layout done.version new)
+  -- refused for what is in bank 0
+  pub refused : (found : Verdict) → r ≡ Err (Input (fault.Incomplete found)) → IsTrue tells → IsRefused passes L found new.now
+  pub images : Finishes r (IsTrue tells → (file : List ℕ) (toc : Toc) → Tells told name file → toc_of file ≡ Ok toc → HoldsImages L (images_of L.rows file toc) new.now)
+  pub deserved : (found : Verdict) → r ≡ Err (Input (fault.Incomplete found)) → IsTrue tells → (file : List ℕ) (toc : Toc) → Tells told name file → toc_of file ≡ Ok toc
+      → IsTrue (is_complete L.rows (images_of L.rows file toc)) → IsTrue (passes (manifest_part (images_of L.rows file toc))) → ⊥
+  -- nothing changes beyond the last bank
+  pub keeps : IsTrue tells → Keeps 0 (4096 * blocks_needed L) mid new
+  -- no count falls, and a stop of the flash has its cause
+  pub counts : NoneFalls before after
+  pub stopped : (stop : FlashStop) → r ≡ Err (Flash stop) → Rose before.faults after.faults ⊎ (Rose before.cuts after.cuts ⊎ Rose before.reached after.reached)
+
+-- ---- what the command did
+
+-- Nothing was done for want of memory, or since a list of digests was not read or is none; or the flash was formatted or was not, and the line
+-- of that was put into the sink.
+pub data Formats (passes : List ℕ → Bool) (tells : Bool) (g : Given) (name : List ℕ) (L : Layout) (blocks : ℕ) (old new : Told) (before after : Counts) (status : ℕ) (told : Note) (taken takes : Option (List ℕ)) (was are : Faults) : Type 0 where
+  starved : status ≡ 9 → told ≡ note.Nothing → new ≡ old → after ≡ before → takes ≡ taken → Formats passes tells g name L blocks old new before after status told taken takes was are
+  tried : (r : Result Formatted FormatStop) → Tries passes tells g.files name L blocks old new before after was.files are.files r
+      → Prints (format_text r) (format_status r) status taken takes was.sink are.sink → told ≡ format_note r
+      → Formats passes tells g name L blocks old new before after status told taken takes was are
+  list_refused : new ≡ old → after ≡ before → RefusedList (ask.format L.banks L.rows name) g status (noted told) taken takes was are
+      → Formats passes tells g name L blocks old new before after status told taken takes was are
+
+-- What the command does, and that it makes no turn.
+pub record FormattedBy (passes : List ℕ → Bool) (tells : Bool) (g : Given) (name : List ℕ) (L : Layout) (blocks : ℕ) (old new : Told) (before after : Counts) (status : ℕ) (told : Note) (journal : List Turn) (taken takes : Option (List ℕ)) (was are : Faults) : Type 0 where
+  pub formats : Formats passes tells g name L blocks old new before after status told taken takes was are
+  pub no_turns : journal ≡ []

@@ -1,0 +1,100 @@
+//! The command `format`.
+ghost use Rattle.std.specs.Prelude.{◌≡◌, ◌≤◌, ℕ, List, [], Option, None, IsFalse};
+ghost use Rattle.fwu_journal.specs.Shown.{turns};
+ghost use Rattle.script_cmd.specs.Formatting.{Formats, Tries, format_note, format_status};
+
+use crate::done::{Done, Note};
+use crate::format_line::{FORMAT_ROOM, add_format_line};
+use crate::printing::put_line;
+use crate::refusing::idle;
+use base_core::ImageRow;
+use flash_core::Flash;
+use flash_format::{FormatStop, Formatted, format};
+use fwu_journal::Journal;
+use host_io::{Files, Sink};
+use std::alloc::Global;
+use verify_core::Verifier;
+
+/// The exit status of what became of a format.
+fn status_of(ended: &Result<Formatted, FormatStop>) -> u8
+    ensures { result ≡ format_status ended.now }
+{
+    match ended {
+        Ok(_) => 0,
+        Err(FormatStop::Input(_)) => 7,
+        Err(FormatStop::ReadFailed) => 2,
+        Err(FormatStop::Flash(_)) => 5,
+    }
+}
+
+/// The note of what became of a format.
+fn note_of(ended: &Result<Formatted, FormatStop>) -> Note
+    ensures { result ≡ format_note ended.now }
+{
+    match ended {
+        Err(FormatStop::Input(fault)) => Note::Input(*fault),
+        Ok(_) => Note::Nothing,
+        Err(FormatStop::ReadFailed) => Note::Nothing,
+        Err(FormatStop::Flash(_)) => Note::Nothing,
+    }
+}
+
+/// Powers a flash on, and formats it.
+fn try_format<D: Flash, H: Files, V: Verifier>(
+    flash: &mut D,
+    rows: &[ImageRow],
+    banks: u32,
+    files: &mut H,
+    name: &str,
+    verifier: &V,
+) -> Result<Formatted, FormatStop>
+    requires off { IsFalse (D.on flash.old) }
+    ensures tries { Tries (V.passes verifier.now) D.tells (H.contents files.old) name.now (record { banks = banks; rows = rows.now }) (D.blocks flash.old)
+        (D.told flash.old) (D.told flash.new) (D.counts flash.old) (D.counts flash.new) (H.faults files.old) (H.faults files.new) result }
+    ensures same { H.contents files.new ≡ H.contents files.old }
+    ensures later { H.faults files.old ≤ H.faults files.new }
+    ensures size { D.blocks flash.new ≡ D.blocks flash.old }
+{
+    flash.power_on();
+    format(flash, rows, banks, files, name, verifier)
+}
+
+/// Powers the flash on, formats it with the layout of these rows and banks and with the package of this name, and puts the line of what
+/// became of that into the sink in one piece. The room for the line is made before the flash is touched.
+///
+/// Status 2 says that the file could not be read, 5 that power was lost or the flash failed, and 7 that the rows, the banks or the
+/// package were refused, and the note says why.
+pub fn format_flash<D: Flash, H: Files, O: Sink, V: Verifier>(
+    alloc: Global,
+    rows: &[ImageRow],
+    banks: u32,
+    name: &str,
+    files: &mut H,
+    sink: &mut O,
+    flash: D,
+    verifier: &V,
+) -> Done<D>
+    requires off { IsFalse (D.on flash) }
+    ensures formats { (script : Option (List ℕ)) (source sources : ℕ) → Formats (V.passes verifier.now) D.tells (record { list = None; files = H.contents files.old; script = script }) name.now (record { banks = banks; rows = rows.now }) (D.blocks flash)
+        (D.told flash) (D.told result.flash) (D.counts flash) (D.counts result.flash) result.status result.note (O.taken sink.old) (O.taken sink.new)
+        (record { files = H.faults files.old; source = source; sink = O.faults sink.old }) (record { files = H.faults files.new; source = sources; sink = O.faults sink.new }) }
+    ensures no_turns { turns result.journal ≡ [] }
+    ensures same { H.contents files.new ≡ H.contents files.old }
+    ensures later_files { H.faults files.old ≤ H.faults files.new }
+    ensures later_sink { O.faults sink.old ≤ O.faults sink.new }
+    ensures size { D.blocks result.flash ≡ D.blocks flash }
+{
+    let Ok(mut text) = Vec::with_capacity(alloc, FORMAT_ROOM) else {
+        return idle(alloc, 9, Note::Nothing, flash);
+    };
+    let mut flash = flash;
+    let ended = try_format(&mut flash, rows, banks, files, name, verifier);
+    add_format_line(&mut text, &ended);
+    let status = put_line(sink, text.as_slice(), status_of(&ended));
+    Done {
+        status,
+        note: note_of(&ended),
+        flash,
+        journal: Journal::new(alloc),
+    }
+}
