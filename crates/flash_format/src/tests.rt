@@ -132,7 +132,6 @@ fn a_flash_is_formatted(rt: HostRuntime) -> Result<(), Fail> {
     assert_eq!(rt; &bytes[8196..8232], METADATA.as_slice());
     assert!(rt; bytes[36864..41864].iter().all(|byte| *byte == 0xA5));
     assert!(rt; bytes[41864..45056].iter().all(|byte| *byte == 0xFF));
-    assert_eq!(rt; &bytes[45056..45062], b"normal".as_slice());
     Ok(())
 }
 

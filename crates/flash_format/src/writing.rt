@@ -76,7 +76,7 @@ pub fn check_bank<D: Flash, V: Verifier>(
     ensures stops { RefusesBank result }
 {
     let mut buffer = [0; 4096];
-    let _blocks = layout.banks();
+    let _banks = layout.banks();
     match check(flash, layout, 0, 0, &mut buffer, verifier)? {
         Verdict::Good { version } => Ok(version),
         found => Err(FormatStop::Input(InputFault::Incomplete(found))),
