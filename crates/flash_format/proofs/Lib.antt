@@ -6,5 +6,6 @@ pub mod Slots
 pub mod Recorded
 pub mod Plans
 pub mod Showing
+pub mod Ordered
 pub mod Formats
 pub mod Given

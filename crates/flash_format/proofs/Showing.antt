@@ -28,7 +28,7 @@ use Rattle.flash_format.proofs.Ranges.{erased_range}
 
 -- ---- erased blocks
 
-block_blank : (b : ℕ) (image : List ℕ) → 4096 * b + 4096 ≤ length image → Erased (4096 * b) (4096 * b + 4096) image → block b image ≡ blank 4096
+pub block_blank : (b : ℕ) (image : List ℕ) → 4096 * b + 4096 ≤ length image → Erased (4096 * b) (4096 * b + 4096) image → block b image ≡ blank 4096
 unfolding block
 block_blank b image inside erased = ap (λ (n : ℕ). take n (drop (4096 * b) image)) (sixteen b) ∙ erased_range (4096 * b) 4096 image inside erased
   where
@@ -46,6 +46,10 @@ err_from (Err e) none = refl
 pub unlaid : (image : List ℕ) → 4096 ≤ length image → Erased 0 4096 image → IsErr (layout_seen image)
 unlaid image inside erased =
     err_from (layout_seen image) (λ L is. no_layout (length image / 4096) L (sym (ap (λ (l : List ℕ). layout_of l (length image / 4096)) (block_blank 0 image inside erased)) ∙ is))
+
+-- the same by block 0 alone
+pub unlaid_by : (image : List ℕ) → block 0 image ≡ blank 4096 → IsErr (layout_seen image)
+unlaid_by image is = err_from (layout_seen image) (λ L h. no_layout (length image / 4096) L (sym (ap (λ (l : List ℕ). layout_of l (length image / 4096)) is) ∙ h))
 
 -- ---- the counter
 

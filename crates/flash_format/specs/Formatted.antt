@@ -1,8 +1,9 @@
 -- What a flash shows that was formatted, and what one holds whose package was refused.
-use Rattle.std.specs.Prelude.{◌≡◌, ◌-◌, ◌<◌, ℕ, Bool, true, false, List, [], ◌∷◌, ◌++◌, length, replicate, Some, None, Ok, IsErr, IsTrue, slice_index_or}
+use Rattle.std.specs.Prelude.{◌≡◌, ◌⊎◌, ◌+◌, ◌-◌, ◌*◌, ◌<◌, ℕ, Bool, true, false, List, [], ◌∷◌, ◌++◌, length, replicate, Some, None, Ok, IsErr, IsTrue, slice_index_or}
 use Rattle.base_core.specs.Block.{blank}
 use Rattle.flash_core.specs.Told.{Told, NothingDirty}
-use Rattle.fwu_model.specs.Layout.{Layout, slot_bytes}
+use Rattle.flash_core.specs.May.{May}
+use Rattle.fwu_model.specs.Layout.{Layout, blocks_needed, slot_bytes, slot_total}
 use Rattle.fwu_model.specs.Metadata.{first_meta}
 use Rattle.fwu_model.specs.Manifest.{is_complete, manifest_part, version}
 use Rattle.fwu_model.specs.Flash.{layout_seen, package_in, slot}
@@ -11,6 +12,7 @@ use Rattle.fwu_model.specs.Seen.{seen, SoundFlash}
 use Rattle.fwu_model.specs.State.{State, Bank}
 use Rattle.fwu_model.specs.Sound.{Setting}
 use Rattle.fwu_model.specs.declared.kinds.BankState.TheVariants.{Accepted, Invalid}
+use Rattle.flash_format.specs.Places.{Erased}
 use Rattle.image_check.specs.Law.{may_start}
 use Rattle.image_check.specs.Verdict.{verdict_on}
 use Rattle.image_check.specs.declared.bank.Verdict.{Verdict}
@@ -50,3 +52,12 @@ pub record IsRefused (passes : List ℕ → Bool) (L : Layout) (found : Verdict)
   pub blank : IsErr (layout_seen image)
   pub found_is : verdict_on passes 0 L image 0 ≡ found
   pub bad : may_start found ≡ false
+
+-- blocks 3 to 7 are erased, and so are the banks behind bank 0
+pub record IsBlank (L : Layout) (image : List ℕ) : Type 0 where
+  pub front : Erased 12288 32768 image
+  pub banks : Erased (4096 * (8 + slot_total L.rows)) (4096 * blocks_needed L) image
+
+-- each image that the next power-on may leave has no layout, or both replicas
+abbrev pub IsOrdered : Layout → Told → Type 0
+IsOrdered L t = (image : List ℕ) → May t image → IsErr (layout_seen image) ⊎ BothHold L (in_version 2 (first_meta L)) image

@@ -2,6 +2,7 @@
 ghost use Rattle.std.specs.Prelude.{◌≡◌, ◌⊎◌, ◌*◌, ◌≤◌, ℕ, List, Ok, Err, IsErr, IfOk, IfErr, OnOk, length, is_ok, IsTrue};
 ghost use Rattle.flash_core.specs.Counts.{Spends};
 ghost use Rattle.flash_core.specs.May.{Keeps};
+ghost use Rattle.flash_core.specs.Told.{NothingDirty};
 ghost use Rattle.fwu_model.specs.Layout.{blocks_needed};
 ghost use Rattle.fwu_model.specs.Flash.{layout_seen};
 ghost use Rattle.fwu_model.specs.Package.{Toc, toc_of};
@@ -11,7 +12,7 @@ ghost use Rattle.meta_layout.specs.Rows.{fitted};
 ghost use Rattle.fip_tables.specs.Files.{Tells};
 ghost use Rattle.image_check.specs.declared.bank.Verdict.{Verdict};
 ghost use Rattle.flash_format.specs.Choosing.{refusal};
-ghost use Rattle.flash_format.specs.Formatted.{HoldsImages, IsFormatted, IsRefused};
+ghost use Rattle.flash_format.specs.Formatted.{HoldsImages, IsBlank, IsFormatted, IsOrdered, IsRefused};
 ghost use Rattle.flash_format.specs.Places.{AllStand, Erased};
 ghost use Rattle.flash_format.specs.Planned.{IsPlanned};
 ghost use Rattle.flash_format.specs.Stops.{flash_result, Answers, Finishes, IsEarly, LayoutBy, ReadsBy, RefusesBank};
@@ -50,6 +51,8 @@ fn finish<D: Flash, V: Verifier>(
     ensures formatted { IfOk result (λ version. IsTrue D.tells → IsFormatted (V.passes verifier.now) layout.now version (D.told flash.new)) }
     ensures refused { (found : Verdict) → result ≡ Err (InputRefused (BankRefused found)) → IsTrue D.tells → IsRefused (V.passes verifier.now) layout.now found (D.told flash.new).now }
     ensures keeps { IsTrue D.tells → Keeps 0 12288 (D.told flash.old) (D.told flash.new) }
+    // Whatever a loss leaves, no layout is there before both replicas are.
+    ensures ordered { IsTrue D.tells → NothingDirty (D.told flash.old) → IsOrdered layout.now (D.told flash.new) }
     ensures power { D.on flash.new ≡ is_ok (flash_result result) }
     ensures size { D.blocks flash.new ≡ D.blocks flash.old }
     ensures costs { Spends (flash_result result) (D.counts flash.old) (D.counts flash.new) }
@@ -80,6 +83,7 @@ fn carry_out<D: Flash, H: Files, V: Verifier>(
     ensures refused { (found : Verdict) → result ≡ Err (InputRefused (BankRefused found)) → IsTrue D.tells → IsRefused (V.passes verifier.now) plan.now.layout found (D.told flash.new).now }
     ensures bytes { Finishes result (IsTrue D.tells → (file : List ℕ) → Tells (H.contents files.old) name.now file
         → AllStand (length plan.now.layout.rows) plan.now.layout file plan.now.entries (D.told flash.new).now) }
+    ensures blank { Finishes result (IsTrue D.tells → IsBlank plan.now.layout (D.told flash.new).now) }
     ensures failed { result ≡ Err FileFailed → IsTrue D.tells → IsErr (layout_seen (D.told flash.new).now) }
     ensures keeps { IsTrue D.tells → Keeps 0 (4096 * blocks_needed plan.now.layout) (D.told flash.old) (D.told flash.new) }
     ensures power { D.on flash.new ≡ is_ok (flash_result result) }
@@ -102,7 +106,7 @@ fn carry_out<D: Flash, H: Files, V: Verifier>(
 /// Before the flash is touched the rows, banks and blocks are tested, then the file's table, then its images in the order of the
 /// layout. Then blocks 0 to the last bank's end are erased, the images are written to the starts of their slots in bank 0, and
 /// bank 0 is tested as a boot does, with a counter of 0. Only then the two replicas are written, and after them the layout in block 0.
-/// So a flash that was touched has no layout until it is formatted whole.
+/// So a flash that was touched has no layout until it is formatted whole. Of a loss of power while blocks are erased nothing is said.
 pub fn format<D: Flash, H: Files, V: Verifier>(
     flash: &mut D,
     rows: &[ImageRow],
@@ -128,6 +132,7 @@ pub fn format<D: Flash, H: Files, V: Verifier>(
     // Either way bank 0 holds the package's images, and they aren't refused where they are a complete package that passes.
     ensures images { Finishes result (IsTrue D.tells → (file : List ℕ) (toc : Toc) → Tells (H.contents files.old) name.now file → toc_of file ≡ Ok toc
         → HoldsImages (record { banks = banks; rows = rows.now }) (images_of rows.now file toc) (D.told flash.new).now) }
+    ensures blank { Finishes result (IsTrue D.tells → IsBlank (record { banks = banks; rows = rows.now }) (D.told flash.new).now) }
     ensures deserved { (found : Verdict) → result ≡ Err (InputRefused (BankRefused found)) → IsTrue D.tells → (file : List ℕ) (toc : Toc) → Tells (H.contents files.old) name.now file → toc_of file ≡ Ok toc
         → IsTrue (is_complete rows.now (images_of rows.now file toc)) → IsTrue (V.passes verifier.now (manifest_part (images_of rows.now file toc))) → ⊥ }
     // Beyond the last bank nothing changes, at any exit.

@@ -9,6 +9,7 @@ ghost use Rattle.fwu_model.specs.Layout.{blocks_needed, fits_layout};
 ghost use Rattle.fwu_model.specs.Metadata.{first_meta};
 ghost use Rattle.fwu_model.specs.Flash.{layout_seen};
 ghost use Rattle.fwu_model.specs.Replica.{BothHold, in_version};
+ghost use Rattle.flash_format.specs.Formatted.{IsOrdered};
 ghost use Rattle.flash_format.specs.Places.{Erased};
 
 use flash_core::{Flash, FlashStop};
@@ -25,6 +26,7 @@ fn write_twice<D: Flash>(flash: &mut D, bytes: &[u8]) -> Result<(), FlashStop>
     ensures keeps { IsTrue D.tells → Keeps 4096 12288 (D.told flash.old) (D.told flash.new) }
     ensures zero { OnOk result (IsTrue D.tells → block 1 (D.told flash.new).now ≡ padded bytes.now) }
     ensures one { OnOk result (IsTrue D.tells → block 2 (D.told flash.new).now ≡ padded bytes.now) }
+    ensures clean { OnOk result (IsTrue D.tells → NothingDirty (D.told flash.new)) }
     ensures power { D.on flash.new ≡ is_ok result }
     ensures size { D.blocks flash.new ≡ D.blocks flash.old }
     ensures costs { Spends result (D.counts flash.old) (D.counts flash.new) }
@@ -41,6 +43,7 @@ fn write_replicas<D: Flash>(flash: &mut D, layout: &Layout) -> Result<(), FlashS
 
     ensures keeps { IsTrue D.tells → Keeps 4096 12288 (D.told flash.old) (D.told flash.new) }
     ensures both { OnOk result (IsTrue D.tells → BothHold layout.now (in_version 2 (first_meta layout.now)) (D.told flash.new).now) }
+    ensures clean { OnOk result (IsTrue D.tells → NothingDirty (D.told flash.new)) }
     ensures power { D.on flash.new ≡ is_ok result }
     ensures size { D.blocks flash.new ≡ D.blocks flash.old }
     ensures costs { Spends result (D.counts flash.old) (D.counts flash.new) }
@@ -82,6 +85,8 @@ pub fn write_records<D: Flash>(flash: &mut D, layout: &Layout) -> Result<(), Fla
     ensures both { OnOk result (IsTrue D.tells → BothHold layout.now (in_version 2 (first_meta layout.now)) (D.told flash.new).now) }
     ensures layout { OnOk result (IsTrue D.tells → layout_seen (D.told flash.new).now ≡ Ok layout.now) }
     ensures clean { OnOk result (IsTrue D.tells → NothingDirty (D.told flash.new)) }
+    // Whatever a loss leaves, no layout is there before both replicas are.
+    ensures ordered { IsTrue D.tells → NothingDirty (D.told flash.old) → IsOrdered layout.now (D.told flash.new) }
     ensures power { D.on flash.new ≡ is_ok result }
     ensures size { D.blocks flash.new ≡ D.blocks flash.old }
     ensures costs { Spends result (D.counts flash.old) (D.counts flash.new) }

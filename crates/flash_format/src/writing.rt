@@ -8,6 +8,8 @@ ghost use Rattle.image_check.specs.Law.{may_start};
 ghost use Rattle.image_check.specs.Verdict.{verdict_on};
 ghost use Rattle.image_check.specs.declared.bank.Verdict.{Verdict as Found};
 ghost use Rattle.image_check.specs.declared.bank.Verdict.TheVariants.{Good};
+ghost use Rattle.flash_core.specs.Told.{NothingDirty};
+ghost use Rattle.flash_format.specs.Formatted.{IsBlank};
 ghost use Rattle.flash_format.specs.Places.{AllStand, Erased};
 ghost use Rattle.flash_format.specs.Planned.{IsPlanned};
 ghost use Rattle.flash_format.specs.Stops.{flash_result, ReadsBy, RefusesBank, RefusesNothing};
@@ -37,6 +39,8 @@ pub fn fill<D: Flash, H: Files>(
 
     ensures keeps { IsTrue D.tells → Keeps 0 (4096 * blocks_needed plan.now.layout) (D.told flash.old) (D.told flash.new) }
     ensures erased { OnOk (flash_result result) (IsTrue D.tells → Erased 0 32768 (D.told flash.new).now) }
+    ensures blank { OnOk result (IsTrue D.tells → IsBlank plan.now.layout (D.told flash.new).now) }
+    ensures clean { OnOk result (IsTrue D.tells → NothingDirty (D.told flash.new)) }
     ensures bytes { OnOk result (IsTrue D.tells → (file : List ℕ) → Tells (H.contents files.old) name.now file
         → AllStand (length plan.now.layout.rows) plan.now.layout file plan.now.entries (D.told flash.new).now) }
     ensures power { D.on flash.new ≡ is_ok (flash_result result) }
@@ -72,7 +76,7 @@ pub fn check_bank<D: Flash, V: Verifier>(
     ensures stops { RefusesBank result }
 {
     let mut buffer = [0; 4096];
-    let _blocks = layout.banks();
+    let _banks = layout.banks();
     match check(flash, layout, 0, 0, &mut buffer, verifier)? {
         Verdict::Good { version } => Ok(version),
         found => Err(FormatStop::Input(InputFault::Incomplete(found))),

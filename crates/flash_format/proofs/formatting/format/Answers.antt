@@ -7,7 +7,7 @@ use Rattle.fwu_model.specs.Answer.{images_of}
 use Rattle.fwu_model.specs.Package.{Toc, toc_of}
 use Rattle.meta_layout.specs.Rows.{fitted}
 use Rattle.fip_tables.specs.Files.{Tells}
-use Rattle.flash_format.specs.Formatted.{HoldsImages, IsRefused}
+use Rattle.flash_format.specs.Formatted.{HoldsImages, IsBlank, IsRefused}
 use Rattle.flash_format.specs.Places.{AllStand}
 use Rattle.flash_format.specs.Stops.{Finishes}
 use Rattle.flash_format.specs.declared.formatting.Formatted.{Formatted}
@@ -86,3 +86,20 @@ returns-clause-keeps g c = λ tells.
     let K = c.in-Ok.plan.layout in
     let L : Layout = record { banks = c.args.banks; rows = c.args.rows.now } in
     subst (λ (l : Layout). Keeps 0 (4096 * blocks_needed l) (g.D.Flash.told c.args.flash.now) (g.D.Flash.told c.carry_out.new.flash)) (fitted_is L c.blocks-2.result K c.in-Ok.ensures.fits).is (c.carry_out.ensures.keeps tells)
+
+pub returns-in-Err-carry_out-clause-blank : goal.returns-in-Err-carry_out-clause-blank
+returns-in-Err-carry_out-clause-blank g c =
+    let K = c.in-Ok.plan.layout in
+    let L : Layout = record { banks = c.args.banks; rows = c.args.rows.now } in
+    let t = g.D.Flash.told c.carry_out.new.flash in
+    let A : Type 0 = IsTrue g.D.Flash.tells → IsBlank K t.now in
+    let B : Type 0 = IsTrue g.D.Flash.tells → IsBlank L t.now in
+    finishes_err ℕ Formatted c.in-Err-carry_out.stop A B (λ h tells. subst (λ (l : Layout). IsBlank l t.now) (fitted_is L c.blocks-2.result K c.in-Ok.ensures.fits).is (h tells))
+    (subst (λ (r : Result ℕ FormatStop). Finishes r A) c.in-Err-carry_out.is c.carry_out.ensures.blank)
+
+pub returns-clause-blank : goal.returns-clause-blank
+returns-clause-blank g c = λ tells.
+    let K = c.in-Ok.plan.layout in
+    let L : Layout = record { banks = c.args.banks; rows = c.args.rows.now } in
+    let t = g.D.Flash.told c.carry_out.new.flash in
+    subst (λ (l : Layout). IsBlank l t.now) (fitted_is L c.blocks-2.result K c.in-Ok.ensures.fits).is (c.in-Ok-carry_out.ensures.blank tells)

@@ -2,6 +2,7 @@ use Rattle.std.proofs.Common.{◌≡◌, ◌≤◌, length, arith}
 use Rattle.fwu_model.specs.Metadata.{first_meta}
 use Rattle.fwu_model.specs.Replica.{in_version}
 use Rattle.flash_format.proofs.Recorded.{on_ok_from, both_stay}
+use Rattle.flash_format.proofs.Ordered.{ordered_before, ordered_after}
 use Rattle.flash_format.proofs.records.write_records.Goals as goal
 
 pub returns-clause-both : goal.returns-clause-both
@@ -12,3 +13,17 @@ returns-clause-both g c = on_ok_from _ c.write_layout.result (λ tells.
     let size = (g.met.D.Flash.sound c.write_replicas.new.flash tells).size in
     let many = (g.met.D.Flash.sizes c.write_replicas.new.flash).0 in
     both_stay L (in_version 2 (first_meta L)) s t (omega (arith, size, many)) (c.write_layout.ensures.keeps tells) (c.in_ok-write_replicas.ensures.both tells))
+
+pub returns-in_err-write_replicas-clause-ordered : goal.returns-in_err-write_replicas-clause-ordered
+returns-in_err-write_replicas-clause-ordered g c = λ tells clean.
+    let size = (g.met.D.Flash.sound c.args.flash.now tells).size in
+    let many = (g.met.D.Flash.sizes c.args.flash.now).0 in
+    ordered_before c.args.layout.now 4096 (g.D.Flash.told c.args.flash.now) (g.D.Flash.told c.write_replicas.new.flash) (omega arith) (omega (arith, size, many)) (λ i above below. c.requires.erased tells i above (omega (arith, below))) clean
+    (c.write_replicas.ensures.keeps tells)
+
+pub returns-clause-ordered : goal.returns-clause-ordered
+returns-clause-ordered g c = λ tells clean.
+    let size = (g.met.D.Flash.sound c.write_replicas.new.flash tells).size in
+    let many = (g.met.D.Flash.sizes c.write_replicas.new.flash).0 in
+    ordered_after c.args.layout.now (g.D.Flash.told c.write_replicas.new.flash) (g.D.Flash.told c.write_layout.new.flash) (omega (arith, size, many)) (c.in_ok-write_replicas.ensures.clean tells) (c.in_ok-write_replicas.ensures.both tells)
+    (c.write_layout.ensures.keeps tells)

@@ -7,7 +7,7 @@ use Rattle.flash_core.specs.Replaces.{padded}
 use Rattle.flash_core.proofs.Calls.{keeps_same, keeps_put, now_kept}
 use Rattle.flash_format.specs.Places.{Erased, Stands}
 use Rattle.flash_format.proofs.Ranges.{keeps_written, erased_range, erased_stays}
-use Rattle.flash_format.proofs.Recorded.{on_ok_from, keeps_settled, now_settled, stands_put, block_padded}
+use Rattle.flash_format.proofs.Recorded.{on_ok_from, keeps_settled, now_settled, clean_after, stands_put, block_padded}
 use Rattle.flash_format.proofs.records.write_twice.Goals as goal
 
 pub program-requires-clause-blank : goal.program-requires-clause-blank
@@ -91,3 +91,6 @@ returns-clause-one g c = on_ok_from _ c.barrier.result (λ tells.
     let stands : Stands 8192 4096 bytes t.now = subst (λ (u : Told). Stands 8192 4096 bytes u.now) (sym (c.in_ok-program-2.ensures.content tells)) (stands_put 2 bytes m (omega (arith, size, many, same)) few erased) in
     let there : block 2 t.now ≡ padded bytes = block_padded 2 bytes t.now (omega (arith, size, many, same, as_long)) few stands in
     ap (λ (u : Told). block 2 u.now) (c.barrier.ensures.content tells) ∙ ap (block 2) (now_settled c.barrier.result t) ∙ there)
+
+pub returns-clause-clean : goal.returns-clause-clean
+returns-clause-clean g c = clean_after (IsTrue g.D.Flash.tells) c.barrier.result (g.D.Flash.told c.program-2.new.self) (g.D.Flash.told c.barrier.new.self) c.barrier.ensures.content

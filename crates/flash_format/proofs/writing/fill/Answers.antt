@@ -1,10 +1,11 @@
 use Rattle.std.proofs.Common.{◌≡◌, ◌+◌, ◌*◌, ◌≤◌, ℕ, List, length, inl, inr, ap, sym, subst, ◌∙◌, arith}
 use Rattle.std.specs.Prelude.{IsTrue}
-use Rattle.flash_core.specs.Told.{Told}
+use Rattle.flash_core.specs.Told.{Told, NothingDirty}
 use Rattle.flash_core.specs.May.{Keeps}
-use Rattle.flash_core.proofs.Calls.{keeps_wider, keeps_then}
+use Rattle.flash_core.proofs.Calls.{keeps_wider, keeps_then, settle-fresh}
 use Rattle.fwu_model.specs.Layout.{slot_total, blocks_needed}
 use Rattle.fwu_model.specs.Package.{Entry}
+use Rattle.flash_format.specs.Formatted.{IsBlank}
 use Rattle.flash_format.specs.Places.{AllStand, Erased}
 use Rattle.flash_format.proofs.Ranges.{erased_stays}
 use Rattle.flash_format.proofs.Plans.{bank_within}
@@ -68,3 +69,20 @@ returns-clause-bytes g c = λ tells file told.
     let now = ap (λ (t : Told). t.now) (c.barrier.ensures.content tells) ∙ now_settled c.barrier.result n in
     let there = subst (λ (es : List Entry). AllStand (length L.rows) L file es n.now) c.as_slice.ensures (c.in_ok-write_bank.ensures.bytes tells file told) in
     subst (AllStand (length L.rows) L file c.args.plan.now.entries) (sym now) there
+
+pub returns-clause-blank : goal.returns-clause-blank
+returns-clause-blank g c = λ tells.
+    let L = c.args.plan.now.layout in
+    let m = g.D.Flash.told c.erase_all.new.flash in
+    let n = g.D.Flash.told c.write_bank.new.flash in
+    let enough = bank_within L c.rows-rows.ensures.fit in
+    let high = 4096 * (8 + slot_total L.rows) in
+    let now = ap (λ (t : Told). t.now) (c.barrier.ensures.content tells) ∙ now_settled c.barrier.result n in
+    let all : Erased 0 (4096 * blocks_needed L) m.now = subst (λ (k : ℕ). Erased 0 (4096 * k) m.now) c.blocks-2.ensures (c.in_ok-erase_all.ensures.erased tells) in
+    subst (IsBlank L) (sym now) (record {
+      front = erased_stays 12288 32768 32768 high m n (inl (omega arith)) (c.write_bank.ensures.keeps tells) (λ i above below. all i (omega arith) (omega (arith, below, enough)));
+      banks = erased_stays high (4096 * blocks_needed L) 32768 high m n (inr (omega arith)) (c.write_bank.ensures.keeps tells) (λ i above below. all i (omega arith) below);
+    })
+
+pub returns-clause-clean : goal.returns-clause-clean
+returns-clause-clean g c = λ tells. subst NothingDirty (sym (c.in_ok-barrier.ensures.content tells)) (settle-fresh (g.D.Flash.told c.write_bank.new.flash))
