@@ -77,24 +77,30 @@ fn is_refused(alloc: Global, words: &str, blocks: u32, line: &str) -> Result<boo
 #[test]
 fn what_is_not_formatted(rt: HostRuntime) -> Result<(), Fail> {
     let alloc = rt.alloc();
-    assert!(rt; is_refused(
-        alloc,
-        "format manifest:1,tb-fw:2,nt-fw:4 p1.fip",
-        21,
-        "format bad-layout 6\n"
-    )?);
-    assert!(rt; is_refused(
-        alloc,
-        "format --banks 3 manifest:1,tb-fw:2,nt-fw:4 p1.fip",
-        28,
-        "format bad-layout 6\n"
-    )?);
-    assert!(rt; is_refused(
-        alloc,
-        "format manifest:1,soc-fw:2 p1.fip",
-        22,
-        "format missing 47d4086d-4cfe-9846-9b95-2950cbbd5a00\n"
-    )?);
+    assert!(rt;
+        is_refused(
+            alloc,
+            "format manifest:1,tb-fw:2,nt-fw:4 p1.fip",
+            21,
+            "format bad-layout 6\n"
+        )?
+    );
+    assert!(rt;
+        is_refused(
+            alloc,
+            "format --banks 3 manifest:1,tb-fw:2,nt-fw:4 p1.fip",
+            28,
+            "format bad-layout 6\n"
+        )?
+    );
+    assert!(rt;
+        is_refused(
+            alloc,
+            "format manifest:1,soc-fw:2 p1.fip",
+            22,
+            "format missing 47d4086d-4cfe-9846-9b95-2950cbbd5a00\n"
+        )?
+    );
     let ran = format(
         alloc,
         "format manifest:1,tb-fw:2,nt-fw:4 p1.fip",

@@ -1,7 +1,8 @@
 //! Scripts of boots and power cuts, and the commands beside them.
 use crate::flashes::{
-    DIGEST, LAYOUT, LAYOUT_OF_FOUR, LAYOUT_OF_THREE, MANIFEST, MANIFEST_5, MANIFEST_70000, METADATA,
-    METADATA_OF_FOUR, METADATA_OF_THREE, VERSION_1, blank, flash_of, on_trial, put, two_banks,
+    DIGEST, LAYOUT, LAYOUT_OF_FOUR, LAYOUT_OF_THREE, MANIFEST, MANIFEST_5, MANIFEST_70000,
+    METADATA, METADATA_OF_FOUR, METADATA_OF_THREE, VERSION_1, blank, flash_of, on_trial, put,
+    two_banks,
 };
 use crate::runs::{Ran, run, run_with};
 use flash_devices::{Cut, MemoryFlash};
@@ -10,12 +11,7 @@ use std::process::Abort;
 use std::test::Fail;
 
 fn flash(alloc: Global, image: Vec<u8>) -> Result<MemoryFlash, Fail> {
-    Ok(MemoryFlash::from_bytes(
-        alloc,
-        image,
-        Vec::new(alloc),
-        Vec::new(alloc),
-    )?)
+    Ok(MemoryFlash::from_bytes(alloc, image, Vec::new(alloc), Vec::new(alloc))?)
 }
 
 // The script on the image, which ends well and prints this.
@@ -195,11 +191,14 @@ fn cut_everywhere(
             for back in [false, true] {
                 let mut cuts = Vec::new(alloc);
                 cuts.push(Cut { op, landed, back })?;
-                let device =
-                    MemoryFlash::from_bytes(alloc, image.clone()?, cuts, Vec::new(alloc))?;
+                let device = MemoryFlash::from_bytes(alloc, image.clone()?, cuts, Vec::new(alloc))?;
                 let ran = run(alloc, "run", "boot\nboot\n", device)?;
                 assert_eq!(rt; ran.status, 0);
-                assert!(rt; lines.iter().any(|line| ends_with(ran.printed.as_slice(), line)));
+                assert!(rt;
+                    lines
+                        .iter()
+                        .any(|line| ends_with(ran.printed.as_slice(), line))
+                );
             }
         }
     }
@@ -252,7 +251,10 @@ fn the_flash_is_shown(rt: HostRuntime) -> Result<(), Fail> {
 // A boot by a list of these lines.
 fn boot_by_list(alloc: Global, list: &str) -> Result<Ran, Fail> {
     let mut files = Vec::new(alloc);
-    files.push((String::from_str(alloc, "list")?, list.as_bytes().to_vec(alloc)?))?;
+    files.push((
+        String::from_str(alloc, "list")?,
+        list.as_bytes().to_vec(alloc)?,
+    ))?;
     run_with(
         alloc,
         "--allow list boot",
