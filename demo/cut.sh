@@ -2,12 +2,19 @@
 # Builds fip and fwu, makes a package, formats a flash file with it, and boots the flash with a cut of power within the boot.
 set -eu
 here=$(cd "$(dirname "$0")/.." && pwd)
-(cd "$here/crates/fip_prog" && rt run >/dev/null 2>&1)
-(cd "$here/crates/fwu_prog" && rt run >/dev/null 2>&1)
-fip=$here/crates/fip_prog/out/fip_prog
-fwu=$here/crates/fwu_prog/out/fwu_prog
 work=$(mktemp -d)
 trap 'rm -rf "$work"' EXIT
+
+# Proves and builds a program (and runs it once, which tells nothing here).
+build() {
+    (cd "$here/crates/$1" && rt run </dev/null >"$work/build.log" 2>&1) || true
+    test -x "$here/crates/$1/out/$1" || { cat "$work/build.log"; exit 1; }
+}
+
+build fip_prog
+build fwu_prog
+fip=$here/crates/fip_prog/out/fip_prog
+fwu=$here/crates/fwu_prog/out/fwu_prog
 cd "$work"
 
 say() {
