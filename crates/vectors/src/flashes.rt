@@ -68,16 +68,11 @@ pub fn blank(alloc: Global, blocks: u32) -> Result<Vec<u8>, AllocError> {
     vec![in alloc; 0xFF; 4096 * blocks as usize]
 }
 
-/// A bank, from its first block on, with this manifest and the images `abc` and `hello`.
-pub fn put_bank(
-    alloc: Global,
-    image: &mut Vec<u8>,
-    first: u32,
-    manifest: &str,
-) -> Result<(), Fail> {
-    put(alloc, image, first * 4096, manifest)?;
-    put(alloc, image, (first + 1) * 4096, "616263")?;
-    put(alloc, image, (first + 3) * 4096, "68656c6c6f")
+/// A bank, from this place on, with this manifest and the images `abc` and `hello`.
+pub fn put_bank(alloc: Global, image: &mut Vec<u8>, at: u32, manifest: &str) -> Result<(), Fail> {
+    put(alloc, image, at, manifest)?;
+    put(alloc, image, at.wrapping_add(4096), "616263")?;
+    put(alloc, image, at.wrapping_add(3 * 4096), "68656c6c6f")
 }
 
 /// A flash of so many blocks with this layout, this metadata in both replicas, and a bank 0 with this manifest.
@@ -92,7 +87,7 @@ pub fn flash_of(
     put(alloc, &mut image, 0, layout)?;
     put(alloc, &mut image, 4096, metadata)?;
     put(alloc, &mut image, 2 * 4096, metadata)?;
-    put_bank(alloc, &mut image, 8, manifest)?;
+    put_bank(alloc, &mut image, 8 * 4096, manifest)?;
     Ok(image)
 }
 
@@ -114,6 +109,6 @@ pub fn on_trial(alloc: Global) -> Result<Vec<u8>, Fail> {
     let mut image = two_banks(alloc)?;
     put(alloc, &mut image, 4096, ON_TRIAL)?;
     put(alloc, &mut image, 2 * 4096, ON_TRIAL)?;
-    put_bank(alloc, &mut image, 15, MANIFEST_2)?;
+    put_bank(alloc, &mut image, 15 * 4096, MANIFEST_2)?;
     Ok(image)
 }

@@ -1,7 +1,6 @@
 //! The command `format`. The package is written from docs/FORMATS.md, as the bytes of flashes are.
 use crate::flashes::{METADATA, METADATA_OF_THREE, blank, put};
 use crate::runs::{Ran, run, run_with};
-use flash_devices::MemoryFlash;
 use std::alloc::Global;
 use std::test::Fail;
 
@@ -15,13 +14,14 @@ fn format(alloc: Global, words: &str, blocks: u32, changed: &str) -> Result<Ran,
     put(alloc, &mut package, 336, changed)?;
     let mut files = Vec::new(alloc);
     files.push((String::from_str(alloc, "p1.fip")?, package))?;
-    let flash = MemoryFlash::from_bytes(
+    run_with(
         alloc,
+        words,
+        "",
+        files,
         blank(alloc, blocks)?,
         Vec::new(alloc),
-        Vec::new(alloc),
-    )?;
-    run_with(alloc, words, "", files, flash)
+    )
 }
 
 // Whether the image has these bytes at a place.
@@ -47,8 +47,7 @@ fn a_blank_flash_is_formatted(rt: HostRuntime) -> Result<(), Fail> {
     assert_eq!(rt; ran.status, 0);
     assert!(rt; has(alloc, &ran.image, 4096, METADATA)?);
     assert!(rt; has(alloc, &ran.image, 8192, METADATA)?);
-    let flash = MemoryFlash::from_bytes(alloc, ran.image, Vec::new(alloc), Vec::new(alloc))?;
-    let booted = run(alloc, "boot", "", flash)?;
+    let booted = run(alloc, "boot", "", ran.image)?;
     assert_eq!(rt;
         booted.printed.as_slice(),
         b"boot bank=0 version=1 trials=0 counter=1\n".as_slice()

@@ -2,7 +2,6 @@
 //! checksums and digests computed again by Python's zlib and hashlib, where a case doesn't say otherwise.
 use crate::flashes::{put, two_banks};
 use crate::runs::run;
-use flash_devices::MemoryFlash;
 use std::alloc::Global;
 use std::test::Fail;
 
@@ -245,8 +244,7 @@ fn changed(alloc: Global, case: &Case) -> Result<Vec<u8>, Fail> {
 // Whether the boot of the changed flash prints the line and ends with the status.
 fn is_answered(alloc: Global, case: &Case) -> Result<bool, Fail> {
     let image = changed(alloc, case)?;
-    let flash = MemoryFlash::from_bytes(alloc, image, Vec::new(alloc), Vec::new(alloc))?;
-    let ran = run(alloc, "boot", "", flash)?;
+    let ran = run(alloc, "boot", "", image)?;
     Ok(ran.status == case.status && ran.printed.as_slice() == case.line.as_bytes())
 }
 

@@ -1,5 +1,5 @@
 //! Runs of the program on flashes in memory.
-use flash_devices::MemoryFlash;
+use flash_devices::{Cut, MemoryFlash};
 use host_io::{MemoryFiles, MemorySink, MemorySource};
 use script_cmd::fwu_top;
 use std::alloc::{AllocError, Global};
@@ -21,14 +21,16 @@ fn words_of(alloc: Global, line: &str) -> Result<Vec<String>, AllocError> {
     Ok(words)
 }
 
-/// The program with these words, files and script.
+/// The program with these words, files and script, on a flash with these bytes and cuts.
 pub fn run_with(
     alloc: Global,
     words: &str,
     script: &str,
     files: Vec<(String, Vec<u8>)>,
-    flash: MemoryFlash,
+    image: Vec<u8>,
+    cuts: Vec<Cut>,
 ) -> Result<Ran, Fail> {
+    let flash = MemoryFlash::from_bytes(alloc, image, cuts, Vec::new(alloc))?;
     let mut files = MemoryFiles::new(alloc, files, Vec::new(alloc));
     let mut source = MemorySource::new(script.as_bytes().to_vec(alloc)?, Vec::new(alloc));
     let mut sink = MemorySink::new(alloc, Vec::new(alloc), Vec::new(alloc));
@@ -48,7 +50,14 @@ pub fn run_with(
     })
 }
 
-/// The program with these words and this script, and no files.
-pub fn run(alloc: Global, words: &str, script: &str, flash: MemoryFlash) -> Result<Ran, Fail> {
-    run_with(alloc, words, script, Vec::new(alloc), flash)
+/// The program with these words and this script, and no files and no cuts.
+pub fn run(alloc: Global, words: &str, script: &str, image: Vec<u8>) -> Result<Ran, Fail> {
+    run_with(
+        alloc,
+        words,
+        script,
+        Vec::new(alloc),
+        image,
+        Vec::new(alloc),
+    )
 }

@@ -5,14 +5,10 @@ use crate::flashes::{
     two_banks,
 };
 use crate::runs::{Ran, run, run_with};
-use flash_devices::{Cut, MemoryFlash};
+use flash_devices::Cut;
 use std::alloc::Global;
 use std::process::Abort;
 use std::test::Fail;
-
-fn flash(alloc: Global, image: Vec<u8>) -> Result<MemoryFlash, Fail> {
-    Ok(MemoryFlash::from_bytes(alloc, image, Vec::new(alloc), Vec::new(alloc))?)
-}
 
 // The script on the image, which ends well and prints this.
 fn prints(
@@ -22,7 +18,7 @@ fn prints(
     script: &str,
     printed: &str,
 ) -> Result<Ran, Fail> {
-    let ran = run(alloc, "run", script, flash(alloc, image)?)?;
+    let ran = run(alloc, "run", script, image)?;
     assert_eq!(rt; ran.printed.as_slice(), printed.as_bytes());
     assert_eq!(rt; ran.status, 0);
     Ok(ran)
@@ -100,12 +96,7 @@ fn nothing_is_on(rt: HostRuntime) -> Result<(), Fail> {
         "cut ok\nshow off\n",
     )?;
     prints(&rt, alloc, two_banks(alloc)?, "", "")?;
-    let ran = run(
-        alloc,
-        "run",
-        "boot\nbegin\nbigin\n",
-        flash(alloc, two_banks(alloc)?)?,
-    )?;
+    let ran = run(alloc, "run", "boot\nbegin\nbigin\n", two_banks(alloc)?)?;
     assert_eq!(rt; ran.printed.as_slice(), b"bad-script 2\n".as_slice());
     assert_eq!(rt; ran.status, 4);
     assert!(rt; ran.image == two_banks(alloc)?);
@@ -191,8 +182,14 @@ fn cut_everywhere(
             for back in [false, true] {
                 let mut cuts = Vec::new(alloc);
                 cuts.push(Cut { op, landed, back })?;
-                let device = MemoryFlash::from_bytes(alloc, image.clone()?, cuts, Vec::new(alloc))?;
-                let ran = run(alloc, "run", "boot\nboot\n", device)?;
+                let ran = run_with(
+                    alloc,
+                    "run",
+                    "boot\nboot\n",
+                    Vec::new(alloc),
+                    image.clone()?,
+                    cuts,
+                )?;
                 assert_eq!(rt; ran.status, 0);
                 assert!(rt;
                     lines
@@ -235,14 +232,14 @@ fn cuts_at_every_operation(rt: HostRuntime) -> Result<(), Fail> {
 #[test]
 fn the_flash_is_shown(rt: HostRuntime) -> Result<(), Fail> {
     let alloc = rt.alloc();
-    let ran = run(alloc, "show", "", flash(alloc, on_trial(alloc)?)?)?;
+    let ran = run(alloc, "show", "", on_trial(alloc)?)?;
     assert_eq!(rt;
         ran.printed.as_slice(),
         b"show active=1 previous=0 banks=accepted,valid bits=111,000 trials=0 counter=1\n".as_slice()
     );
     assert_eq!(rt; ran.status, 0);
     assert!(rt; ran.image == on_trial(alloc)?);
-    let ran = run(alloc, "show", "", flash(alloc, blank(alloc, 8)?)?)?;
+    let ran = run(alloc, "show", "", blank(alloc, 8)?)?;
     assert_eq!(rt; ran.printed.as_slice(), b"show bad-layout 2\n".as_slice());
     assert_eq!(rt; ran.status, 6);
     Ok(())
@@ -260,7 +257,8 @@ fn boot_by_list(alloc: Global, list: &str) -> Result<Ran, Fail> {
         "--allow list boot",
         "",
         files,
-        flash(alloc, two_banks(alloc)?)?,
+        two_banks(alloc)?,
+        Vec::new(alloc),
     )
 }
 
@@ -283,12 +281,7 @@ fn a_list_says_which_manifests_pass(rt: HostRuntime) -> Result<(), Fail> {
     let ran = boot_by_list(alloc, "00\n")?;
     assert_eq!(rt; ran.printed.as_slice(), b"bad-list 1\n".as_slice());
     assert_eq!(rt; ran.status, 13);
-    let ran = run(
-        alloc,
-        "--allow none boot",
-        "",
-        flash(alloc, two_banks(alloc)?)?,
-    )?;
+    let ran = run(alloc, "--allow none boot", "", two_banks(alloc)?)?;
     assert_eq!(rt; ran.printed.as_slice(), b"read-fault\n".as_slice());
     assert_eq!(rt; ran.status, 2);
     Ok(())
