@@ -1,6 +1,6 @@
 //! The numbers of a flash.
 ghost use Rattle.std.specs.Prelude.{◌≡◌, is_ok, IsTrue, IfOk, IfErr};
-ghost use Rattle.flash_core.specs.Counts.{Spends};
+ghost use Rattle.flash_core.specs.Counts.{Spends, arming_kept};
 ghost use Rattle.early_boot.specs.Numbers.{numbers, numbers_shown, ShowsNumbers};
 ghost use Rattle.early_boot.specs.Showing.{ShowsNothing, stop_in};
 
@@ -52,7 +52,9 @@ pub fn read_numbers<D: Flash>(flash: &mut D) -> Result<Numbers, Unshown>
     ensures content { IsTrue D.tells → D.told flash.new ≡ D.told flash.old }
     ensures power { D.on flash.new ≡ is_ok (stop_in result) }
     ensures size { D.blocks flash.new ≡ D.blocks flash.old }
+    ensures arming { D.arming flash.new ≡ arming_kept (stop_in result) (D.arming flash.old) }
     ensures costs { Spends (stop_in result) (D.counts flash.old) (D.counts flash.new) }
+    ensures reached { (D.counts flash.new).reached ≡ (D.counts flash.old).reached }
 {
     let mut block = [0; 4096];
     let shown = read_shown(flash, &mut block)?;

@@ -1,6 +1,6 @@
 //! What a flash shows as a boot begins: its layout, the metadata that decides, the trials and the counter.
 ghost use Rattle.std.specs.Prelude.{◌≡◌, ◌<◌, ◌≤◌, Ok, Some, length, is_ok, IsTrue, IfOk, IfErr};
-ghost use Rattle.flash_core.specs.Counts.{Spends};
+ghost use Rattle.flash_core.specs.Counts.{Spends, arming_kept};
 ghost use Rattle.fwu_model.specs.Layout.{blocks_needed, fits_layout};
 ghost use Rattle.fwu_model.specs.Metadata.{fits_meta};
 ghost use Rattle.fwu_model.specs.Flash.{layout_seen, deciding};
@@ -44,7 +44,9 @@ fn read_layout<D: Flash>(flash: &mut D, block: &mut [u8]) -> Result<Layout, Unsh
     ensures content { IsTrue D.tells → D.told flash.new ≡ D.told flash.old }
     ensures power { D.on flash.new ≡ is_ok (stop_in result) }
     ensures size { D.blocks flash.new ≡ D.blocks flash.old }
+    ensures arming { D.arming flash.new ≡ arming_kept (stop_in result) (D.arming flash.old) }
     ensures costs { Spends (stop_in result) (D.counts flash.old) (D.counts flash.new) }
+    ensures reached { (D.counts flash.new).reached ≡ (D.counts flash.old).reached }
 {
     match read_block(flash, 0, block) {
         Ok(()) => {}
@@ -67,7 +69,9 @@ fn load_metadata<D: Flash>(flash: &mut D, layout: &Layout) -> Result<(Meta, Whic
     ensures content { IsTrue D.tells → D.told flash.new ≡ D.told flash.old }
     ensures power { D.on flash.new ≡ is_ok (stop_in result) }
     ensures size { D.blocks flash.new ≡ D.blocks flash.old }
+    ensures arming { D.arming flash.new ≡ arming_kept (stop_in result) (D.arming flash.old) }
     ensures costs { Spends (stop_in result) (D.counts flash.old) (D.counts flash.new) }
+    ensures reached { (D.counts flash.new).reached ≡ (D.counts flash.old).reached }
 {
     match load(flash, layout) {
         Ok(found) => Ok(found),
@@ -86,7 +90,9 @@ fn count_trials<D: Flash>(flash: &mut D, meta: &Meta) -> Result<u32, FlashStop>
     ensures content { IsTrue D.tells → D.told flash.new ≡ D.told flash.old }
     ensures power { D.on flash.new ≡ is_ok result }
     ensures size { D.blocks flash.new ≡ D.blocks flash.old }
+    ensures arming { D.arming flash.new ≡ arming_kept result (D.arming flash.old) }
     ensures costs { Spends result (D.counts flash.old) (D.counts flash.new) }
+    ensures reached { (D.counts flash.new).reached ≡ (D.counts flash.old).reached }
 {
     match meta.state(meta.active()) {
         BankState::Valid => count(flash, 3, 3),
@@ -113,7 +119,9 @@ fn read_counts<D: Flash>(
     ensures content { IsTrue D.tells → D.told flash.new ≡ D.told flash.old }
     ensures power { D.on flash.new ≡ is_ok result }
     ensures size { D.blocks flash.new ≡ D.blocks flash.old }
+    ensures arming { D.arming flash.new ≡ arming_kept result (D.arming flash.old) }
     ensures costs { Spends result (D.counts flash.old) (D.counts flash.new) }
+    ensures reached { (D.counts flash.new).reached ≡ (D.counts flash.old).reached }
 {
     let trials = count_trials(flash, &meta)?;
     let counter = counter(flash)?;
@@ -140,7 +148,9 @@ pub fn read_shown<D: Flash>(flash: &mut D, block: &mut [u8]) -> Result<Shown, Un
     ensures content { IsTrue D.tells → D.told flash.new ≡ D.told flash.old }
     ensures power { D.on flash.new ≡ is_ok (stop_in result) }
     ensures size { D.blocks flash.new ≡ D.blocks flash.old }
+    ensures arming { D.arming flash.new ≡ arming_kept (stop_in result) (D.arming flash.old) }
     ensures costs { Spends (stop_in result) (D.counts flash.old) (D.counts flash.new) }
+    ensures reached { (D.counts flash.new).reached ≡ (D.counts flash.old).reached }
 {
     let layout = read_layout(flash, block)?;
     let (meta, which) = load_metadata(flash, &layout)?;

@@ -23,6 +23,8 @@ loop-place-preserved g c = record {
   same_size = c.in_ok-read.ensures.size ∙ c.loop-place.invariant.same_size;
   told = λ tells. c.in_ok-read.ensures.content tells ∙ c.loop-place.invariant.told tells;
   costs = spends_then (Ok tt) (Ok tt) _ _ _ c.loop-place.invariant.costs c.in_ok-read.ensures.counts;
+  same_arming = c.in_ok-read.ensures.arming ∙ c.loop-place.invariant.same_arming;
+  reached = c.in_ok-read.ensures.reached ∙ c.loop-place.invariant.reached;
   size = search rules;
   marks = λ tells k lt. upto tells k (cases_lt k c.loop-place.place) lt;
 }
@@ -39,3 +41,15 @@ loop-place-preserved g c = record {
 
 pub returns-clause-marks : goal.returns-clause-marks
 returns-clause-marks g c tells = sym (marks_all (g.D.Flash.told c.args.flash.now).now c.args.block c.args.limit (λ k lt. c.loop-place.invariant.marks tells k (omega arith)))
+
+pub returns-then-all_erased-clause-arming : goal.returns-then-all_erased-clause-arming
+returns-then-all_erased-clause-arming g c = c.in_ok-read.ensures.arming ∙ c.loop-place.invariant.same_arming
+
+pub returns-then-all_erased-clause-reached : goal.returns-then-all_erased-clause-reached
+returns-then-all_erased-clause-reached g c = c.in_ok-read.ensures.reached ∙ c.loop-place.invariant.reached
+
+pub returns-clause-arming : goal.returns-clause-arming
+returns-clause-arming g c = c.loop-place.invariant.same_arming
+
+pub returns-clause-reached : goal.returns-clause-reached
+returns-clause-reached g c = c.loop-place.invariant.reached

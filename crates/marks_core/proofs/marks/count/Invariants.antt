@@ -11,6 +11,8 @@ invariant-loop-place g l = record {
   same_size : g.D.Flash.blocks l.flash ≡ g.D.Flash.blocks l.fn.flash;
   told : IsTrue g.D.Flash.tells → g.D.Flash.told l.flash ≡ g.D.Flash.told l.fn.flash;
   costs : Spends {T = Unit {0}} (Ok tt) (g.D.Flash.counts l.fn.flash) (g.D.Flash.counts l.flash);
+  same_arming : g.D.Flash.arming l.flash ≡ g.D.Flash.arming l.fn.flash;
+  reached : (g.D.Flash.counts l.flash).reached ≡ (g.D.Flash.counts l.fn.flash).reached;
   size : length l.bytes ≡ 16;
   marks : IsTrue g.D.Flash.tells → (k : ℕ) → k < l.place → IsFalse (is_blank (granule l.block k (g.D.Flash.told l.fn.flash).now));
 }
