@@ -1,6 +1,6 @@
 //! The verdict on a bank.
 ghost use Rattle.std.specs.Prelude.{◌≡◌, ◌+◌, ◌-◌, ◌<◌, ◌≤◌, length, is_ok, IsTrue, IfOk};
-ghost use Rattle.flash_core.specs.Counts.{Spends, arming_kept};
+ghost use Rattle.flash_core.specs.Counts.{Spends, ReachesNone, arming_kept};
 ghost use Rattle.fwu_model.specs.Layout.{slot_total, blocks_needed};
 ghost use Rattle.fwu_model.specs.Manifest as model;
 ghost use Rattle.image_check.specs.Found.{found, front_of};
@@ -56,7 +56,7 @@ fn check_manifest<D: Flash, V: Verifier>(
     ensures power { D.on flash.new ≡ is_ok result }
     ensures size { D.blocks flash.new ≡ D.blocks flash.old }
     ensures costs { Spends result (D.counts flash.old) (D.counts flash.new) }
-    ensures reached { (D.counts flash.new).reached ≡ (D.counts flash.old).reached }
+    ensures reached { ReachesNone result (D.counts flash.old) (D.counts flash.new) }
     ensures arming { D.arming flash.new ≡ arming_kept result (D.arming flash.old) }
 {
     let version = match test(manifest, rows) {
@@ -92,7 +92,7 @@ fn check_at<D: Flash, V: Verifier>(
     ensures power { D.on flash.new ≡ is_ok result }
     ensures size { D.blocks flash.new ≡ D.blocks flash.old }
     ensures costs { Spends result (D.counts flash.old) (D.counts flash.new) }
-    ensures reached { (D.counts flash.new).reached ≡ (D.counts flash.old).reached }
+    ensures reached { ReachesNone result (D.counts flash.old) (D.counts flash.new) }
     ensures arming { D.arming flash.new ≡ arming_kept result (D.arming flash.old) }
 {
     let mut front = [0; 888];
@@ -122,7 +122,7 @@ pub fn check<D: Flash, V: Verifier>(
     ensures power { D.on flash.new ≡ is_ok result }
     ensures size { D.blocks flash.new ≡ D.blocks flash.old }
     ensures costs { Spends result (D.counts flash.old) (D.counts flash.new) }
-    ensures reached { (D.counts flash.new).reached ≡ (D.counts flash.old).reached }
+    ensures reached { ReachesNone result (D.counts flash.old) (D.counts flash.new) }
     ensures arming { D.arming flash.new ≡ arming_kept result (D.arming flash.old) }
 {
     let rows = layout.rows();

@@ -2,7 +2,7 @@
 ghost use Rattle.std.specs.Prelude.{◌≡◌, ◌+◌, ◌-◌, ◌*◌, ◌<◌, ◌≤◌, length, take, drop, is_ok, IsTrue, IfOk};
 ghost use Rattle.base_core.specs.Bytes.{same_bytes};
 ghost use Rattle.sha2.specs.Sha256.{sha256};
-ghost use Rattle.flash_core.specs.Counts.{Spends, arming_kept};
+ghost use Rattle.flash_core.specs.Counts.{Spends, ReachesNone, arming_kept};
 ghost use Rattle.fwu_model.specs.Layout.{slot_total};
 ghost use Rattle.fwu_model.specs.Manifest as model;
 ghost use Rattle.image_check.specs.Found.{is_good, FitSlots};
@@ -28,7 +28,7 @@ fn digest_of<D: Flash>(
     ensures power { D.on flash.new ≡ is_ok result }
     ensures size { D.blocks flash.new ≡ D.blocks flash.old }
     ensures costs { Spends result (D.counts flash.old) (D.counts flash.new) }
-    ensures reached { (D.counts flash.new).reached ≡ (D.counts flash.old).reached }
+    ensures reached { ReachesNone result (D.counts flash.old) (D.counts flash.new) }
     ensures arming { D.arming flash.new ≡ arming_kept result (D.arming flash.old) }
 {
     let mut hasher = Sha256::new();
@@ -67,7 +67,7 @@ fn is_image_good<D: Flash>(
     ensures power { D.on flash.new ≡ is_ok result }
     ensures size { D.blocks flash.new ≡ D.blocks flash.old }
     ensures costs { Spends result (D.counts flash.old) (D.counts flash.new) }
-    ensures reached { (D.counts flash.new).reached ≡ (D.counts flash.old).reached }
+    ensures reached { ReachesNone result (D.counts flash.old) (D.counts flash.new) }
     ensures arming { D.arming flash.new ≡ arming_kept result (D.arming flash.old) }
 {
     let row = row_at(manifest, k);
@@ -95,7 +95,7 @@ pub fn first_bad<D: Flash>(
     ensures power { D.on flash.new ≡ is_ok result }
     ensures size { D.blocks flash.new ≡ D.blocks flash.old }
     ensures costs { Spends result (D.counts flash.old) (D.counts flash.new) }
-    ensures reached { (D.counts flash.new).reached ≡ (D.counts flash.old).reached }
+    ensures reached { ReachesNone result (D.counts flash.old) (D.counts flash.new) }
     ensures arming { D.arming flash.new ≡ arming_kept result (D.arming flash.old) }
 {
     let mut block = first;

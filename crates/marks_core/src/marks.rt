@@ -1,7 +1,7 @@
 //! Marks: granules of 16 bytes that aren't blank. A block of 4096 bytes has 256 of them.
 ghost use Rattle.std.specs.Prelude.{◌≡◌, ◌+◌, ◌*◌, ◌<◌, ◌≤◌, is_ok, IsTrue, IfOk, length};
 ghost use Rattle.base_core.specs.Block.{granule};
-ghost use Rattle.flash_core.specs.Counts.{Spends, arming_kept};
+ghost use Rattle.flash_core.specs.Counts.{Spends, ReachesNone, arming_kept};
 ghost use Rattle.fwu_model.specs.Flash.{is_blank, marks};
 ghost use Rattle.marks_core.specs.Marks.{Adds, Clears};
 
@@ -27,7 +27,7 @@ pub fn count<D: Flash>(flash: &mut D, block: u32, limit: u32) -> Result<u32, Fla
     ensures size { D.blocks flash.new ≡ D.blocks flash.old }
     ensures arming { D.arming flash.new ≡ arming_kept result (D.arming flash.old) }
     ensures costs { Spends result (D.counts flash.old) (D.counts flash.new) }
-    ensures reached { (D.counts flash.new).reached ≡ (D.counts flash.old).reached }
+    ensures reached { ReachesNone result (D.counts flash.old) (D.counts flash.new) }
 {
     let mut bytes = [0; 16];
     for place in 0..limit {

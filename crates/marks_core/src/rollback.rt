@@ -1,7 +1,7 @@
 //! The anti-rollback counter: marks in block 4, an older form, and records in blocks 5 and 6, an own format.
 ghost use Rattle.std.specs.Prelude.{◌≡◌, ◌<◌, ◌≤◌, length, is_ok, IsTrue, IfOk, max, unwrap_or};
 ghost use Rattle.base_core.specs.Block.{block};
-ghost use Rattle.flash_core.specs.Counts.{Spends, arming_kept};
+ghost use Rattle.flash_core.specs.Counts.{Spends, ReachesNone, arming_kept};
 ghost use Rattle.fwu_model.specs.Counter.{counter_in};
 ghost use Rattle.marks_core.specs.Raises.{value_in, place_for, record_place, Raises};
 
@@ -21,7 +21,7 @@ fn record_at<D: Flash>(flash: &mut D, b: u32, buf: &mut [u8]) -> Result<Option<u
     ensures size { D.blocks flash.new ≡ D.blocks flash.old }
     ensures arming { D.arming flash.new ≡ arming_kept result (D.arming flash.old) }
     ensures costs { Spends result (D.counts flash.old) (D.counts flash.new) }
-    ensures reached { (D.counts flash.new).reached ≡ (D.counts flash.old).reached }
+    ensures reached { ReachesNone result (D.counts flash.old) (D.counts flash.new) }
     ensures buffer { length buf.new ≡ length buf.old }
 {
     read_block(flash, b, buf)?;
@@ -44,7 +44,7 @@ pub fn counter<D: Flash>(flash: &mut D) -> Result<u32, FlashStop>
     ensures size { D.blocks flash.new ≡ D.blocks flash.old }
     ensures arming { D.arming flash.new ≡ arming_kept result (D.arming flash.old) }
     ensures costs { Spends result (D.counts flash.old) (D.counts flash.new) }
-    ensures reached { (D.counts flash.new).reached ≡ (D.counts flash.old).reached }
+    ensures reached { ReachesNone result (D.counts flash.old) (D.counts flash.new) }
 {
     let mut block = [0; 4096];
     let marks = count(flash, 4, 223)?;
@@ -78,7 +78,7 @@ fn record_place<D: Flash>(flash: &mut D, buf: &mut [u8]) -> Result<u32, FlashSto
     ensures size { D.blocks flash.new ≡ D.blocks flash.old }
     ensures arming { D.arming flash.new ≡ arming_kept result (D.arming flash.old) }
     ensures costs { Spends result (D.counts flash.old) (D.counts flash.new) }
-    ensures reached { (D.counts flash.new).reached ≡ (D.counts flash.old).reached }
+    ensures reached { ReachesNone result (D.counts flash.old) (D.counts flash.new) }
     ensures buffer { length buf.new ≡ length buf.old }
 {
     let first = record_at(flash, 5, buf)?;

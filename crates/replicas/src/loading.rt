@@ -2,7 +2,7 @@
 ghost use Rattle.std.specs.Prelude.{◌≡◌, ◌<◌, None, is_ok, IsTrue, IsErrOf, IfOk, IfSome, IfNone};
 ghost use Rattle.std.specs.Option.{ForSome};
 ghost use Rattle.base_core.specs.Block.{block};
-ghost use Rattle.flash_core.specs.Counts.{Spends, arming_kept};
+ghost use Rattle.flash_core.specs.Counts.{Spends, ReachesNone, arming_kept};
 ghost use Rattle.fwu_model.specs.Metadata.{fits_meta, meta_read};
 ghost use Rattle.fwu_model.specs.Flash.{deciding};
 ghost use Rattle.replicas.specs.Which.{HasForm, Finds, Loads, flash_result};
@@ -28,7 +28,7 @@ pub fn read_replica<D: Flash>(
     ensures size { D.blocks flash.new ≡ D.blocks flash.old }
     ensures arming { D.arming flash.new ≡ arming_kept result (D.arming flash.old) }
     ensures costs { Spends result (D.counts flash.old) (D.counts flash.new) }
-    ensures reached { (D.counts flash.new).reached ≡ (D.counts flash.old).reached }
+    ensures reached { ReachesNone result (D.counts flash.old) (D.counts flash.new) }
 {
     let mut bytes = [0; 4096];
     read_block(flash, b, &mut bytes)?;
@@ -77,7 +77,7 @@ pub fn load<D: Flash>(flash: &mut D, layout: &Layout) -> Result<(Meta, Which), R
     ensures size { D.blocks flash.new ≡ D.blocks flash.old }
     ensures arming { D.arming flash.new ≡ arming_kept (flash_result result) (D.arming flash.old) }
     ensures costs { Spends (flash_result result) (D.counts flash.old) (D.counts flash.new) }
-    ensures reached { (D.counts flash.new).reached ≡ (D.counts flash.old).reached }
+    ensures reached { ReachesNone (flash_result result) (D.counts flash.old) (D.counts flash.new) }
 {
     let zero = read_replica(flash, layout, 1)?;
     let one = read_replica(flash, layout, 2)?;

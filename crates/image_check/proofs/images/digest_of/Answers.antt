@@ -12,7 +12,7 @@ loop-done-preserved g c =
     let stays = c.loop-done.invariant.stays in
     record {
       small = omega arith;
-      stays = stays_then g.D.Flash.tells _ _ _ _ _ _ _ _ _ _ _ _ _ _ _ stays c.in_ok-read.ensures.content c.in_ok-read.ensures.power c.in_ok-read.ensures.size c.in_ok-read.ensures.counts c.in_ok-read.ensures.reached c.in_ok-read.ensures.arming;
+      stays = stays_then g.D.Flash.tells _ _ _ _ _ _ _ _ _ _ _ _ _ _ _ stays c.in_ok-read.ensures.content c.in_ok-read.ensures.power c.in_ok-read.ensures.size c.in_ok-read.ensures.counts c.in_ok-read.ensures.reached.same c.in_ok-read.ensures.arming;
       holds = λ tells.
           let at = c.args.at + c.loop-done.done in
           let asked : length (take c.min-size.result c.loop-done.buf) ≡ c.min-size.result = omega arith in

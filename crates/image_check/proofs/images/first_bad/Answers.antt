@@ -40,7 +40,7 @@ loop-k-preserved g c =
     let stays = c.loop-k.invariant.stays in
     let place = c.loop-k.invariant.place in
     record {
-      stays = stays_then g.D.Flash.tells _ _ _ _ _ _ _ _ _ _ _ _ _ _ _ stays c.in_ok-is_image_good.ensures.content c.in_ok-is_image_good.ensures.power c.in_ok-is_image_good.ensures.size c.in_ok-is_image_good.ensures.costs c.in_ok-is_image_good.ensures.reached c.in_ok-is_image_good.ensures.arming;
+      stays = stays_then g.D.Flash.tells _ _ _ _ _ _ _ _ _ _ _ _ _ _ _ stays c.in_ok-is_image_good.ensures.content c.in_ok-is_image_good.ensures.power c.in_ok-is_image_good.ensures.size c.in_ok-is_image_good.ensures.costs c.in_ok-is_image_good.ensures.reached.same c.in_ok-is_image_good.ensures.arming;
       place = omega (arith, step, place);
       all_good = λ tells.
           let here = seen_good c.args.rows.now _ c.args.first c.loop-k.block c.loop-k.k c.args.manifest.now _ _ _ within place (stays.content tells) (c.in_ok-is_image_good.ensures.good tells) in

@@ -24,7 +24,7 @@ loop-place-preserved g c = record {
   told = λ tells. c.in_ok-read.ensures.content tells ∙ c.loop-place.invariant.told tells;
   costs = spends_then (Ok tt) (Ok tt) _ _ _ c.loop-place.invariant.costs c.in_ok-read.ensures.counts;
   same_arming = c.in_ok-read.ensures.arming ∙ c.loop-place.invariant.same_arming;
-  reached = c.in_ok-read.ensures.reached ∙ c.loop-place.invariant.reached;
+  reached = c.in_ok-read.ensures.reached.same ∙ c.loop-place.invariant.reached;
   size = search rules;
   marks = λ tells k lt. upto tells k (cases_lt k c.loop-place.place) lt;
 }
@@ -46,10 +46,10 @@ pub returns-then-all_erased-clause-arming : goal.returns-then-all_erased-clause-
 returns-then-all_erased-clause-arming g c = c.in_ok-read.ensures.arming ∙ c.loop-place.invariant.same_arming
 
 pub returns-then-all_erased-clause-reached : goal.returns-then-all_erased-clause-reached
-returns-then-all_erased-clause-reached g c = c.in_ok-read.ensures.reached ∙ c.loop-place.invariant.reached
+returns-then-all_erased-clause-reached g c = record { same = c.in_ok-read.ensures.reached.same ∙ c.loop-place.invariant.reached; lost = λ is. absurd cc }
 
 pub returns-clause-arming : goal.returns-clause-arming
 returns-clause-arming g c = c.loop-place.invariant.same_arming
 
 pub returns-clause-reached : goal.returns-clause-reached
-returns-clause-reached g c = c.loop-place.invariant.reached
+returns-clause-reached g c = record { same = c.loop-place.invariant.reached; lost = λ is. absurd cc }
