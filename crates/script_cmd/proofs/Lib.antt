@@ -15,6 +15,7 @@ mod RunEnds
 pub mod TopReads
 pub mod TopPrints
 pub mod TopWays
+pub mod TopCompletes
 pub mod TopShows
 pub mod FormatLine
 pub mod FormatFlash

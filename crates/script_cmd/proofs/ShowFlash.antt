@@ -1,8 +1,8 @@
 -- The command `show`: a clean flash is read as it is.
-use Rattle.std.proofs.Common.{◌≡◌, ℕ, ◌≤◌, arith, List, ext_get_or, Some, Ok, Err, Result, refl, sym, ap, subst, ◌∙◌, ◌⊎◌, inl, inr, IsTrue, IsFalse}
+use Rattle.std.proofs.Common.{◌≡◌, ℕ, ◌≤◌, arith, List, ext_get_or, Some, Ok, Err, Result, refl, sym, ap, subst, ◌∙◌, inl, inr, IsTrue, IsFalse}
 use Rattle.flash_core.specs.Told.{Told, NothingDirty, fresh, is_unsure}
 use Rattle.flash_core.specs.May.{Leaves}
-use Rattle.flash_core.specs.Counts.{Rose, Idles, Spends}
+use Rattle.flash_core.specs.Counts.{Rose, Idles, ReachesNone, Spends}
 use Rattle.flash_core.specs.declared.flash.Counts.{Counts}
 use Rattle.flash_core.specs.declared.flash.FlashStop.{FlashStop}
 use Rattle.flash_core.specs.declared.flash.FlashStop.TheVariants as flash_stop
@@ -11,7 +11,7 @@ use Rattle.script_cmd.specs.Turning.{NoneFalls}
 use Rattle.fwu_model.specs.declared.kinds.Note.{Note}
 use Rattle.fwu_model.specs.declared.kinds.NoBoot.{NoBoot}
 use Rattle.script_cmd.specs.Showing as show
-use Rattle.script_cmd.specs.Showing.{Finds, ShowsNone, stopped, flash_fault_line, not_shown_line}
+use Rattle.script_cmd.specs.Showing.{Finds, HasCause, ShowsNone, not_shown_line}
 
 fresh-sure : (guard image : List ℕ) (i : ℕ) → IsFalse (is_unsure (fresh guard image) i)
 unfolding is_unsure fresh
@@ -37,14 +37,10 @@ pub rose-later : (a b c : ℕ) → a ≤ b → Rose b c → Rose a c
 rose-later a b c later (inl less) = inl (omega (arith, later, less))
 rose-later a b c later (inr most) = inr most
 
-pub finds-stop : (known : Type 0) (image : List ℕ) (stop : FlashStop) (before mid after : Counts) → Idles before mid → Spends {T = Unit {0}} (Err stop) mid after
-    → Finds known image before after 5 note.Nothing flash_fault_line
-finds-stop known image flash_stop.Lost before mid after idle spends = stopped (inr (by (spends.lost refl)))
-  where
-    by : Rose mid.cuts after.cuts ⊎ Rose mid.reached after.reached → Rose before.cuts after.cuts ⊎ Rose before.reached after.reached
-    by (inl cuts) = inl (rose-later before.cuts mid.cuts after.cuts idle.cuts cuts)
-    by (inr reached) = inr (rose-later before.reached mid.reached after.reached (omega (arith, idle.reached)) reached)
-finds-stop known image flash_stop.Failed before mid after idle spends = stopped (inl (rose-later before.faults mid.faults after.faults idle.faults (spends.failed refl)))
+-- power comes back, and then the flash stops a call that reaches no armed loss
+pub has-cause : (stop : FlashStop) (before mid after : Counts) → Idles before mid → Spends {T = Unit {0}} (Err stop) mid after → ReachesNone {T = Unit {0}} (Err stop) mid after → HasCause before after
+has-cause flash_stop.Lost before mid after idle spends reaches = inr (rose-later before.cuts mid.cuts after.cuts idle.cuts (reaches.lost refl))
+has-cause flash_stop.Failed before mid after idle spends reaches = inl (rose-later before.faults mid.faults after.faults idle.faults (spends.failed refl))
 
 pub not-found : (known : Type 0) (image : List ℕ) (before after : Counts) (why : NoBoot) (status : ℕ) (noted : Note) (line : List ℕ)
     → status ≡ 6 → noted ≡ note.Boot why → line ≡ not_shown_line why → (known → ShowsNone image why) → Finds known image before after status noted line

@@ -20,7 +20,17 @@ use Rattle.script_cmd.specs.Printed.{Prints}
 use Rattle.script_cmd.specs.Ways.{Given, HasNoBadLine, Refuses}
 use Rattle.script_cmd.specs.declared.done.Note.{Note}
 use Rattle.script_cmd.specs.declared.done.Note.TheVariants as note
+use Rattle.script_cmd.proofs.TopCompletes.{format-completes}
 use Rattle.script_cmd.proofs.TopWays.{refuses, rose-from}
+
+-- by what it did
+by-formats : (passes : List ℕ → Bool) (tells : Bool) (g : Given) (file : List ℕ) (L : Layout) (blocks : ℕ) (old new : Told) (before after : Counts) (status : ℕ) (said : Note) (journal : List Turn) (taken takes : Option (List ℕ)) (was are : Faults)
+    → journal ≡ [] → Formats passes tells g file L blocks old new before after status said taken takes was are → FormattedBy passes tells g file L blocks old new before after status said journal taken takes was are
+by-formats passes tells g file L blocks old new before after status said journal taken takes was are none formats = record {
+  formats = formats;
+  no_turns = none;
+  complete = format-completes passes g file L blocks old new before after status said taken takes was are tells formats;
+}
 
 pub none-some : {A : Type 0} (x : A) (o : Option A) → o ≡ None → o ≡ Some x → ⊥
 none-some x o none some = cc
@@ -33,31 +43,29 @@ pub formatted-as : (passes : List ℕ → Bool) (tells : Bool) (g : Given) (bloc
 formatted-as passes tells g blocks old new before after status said journal taken takes was are asked b banks rs items rows f file slice by is none formats =
     let same-banks : b ≡ banks = cc in
     let same-rows : rs ≡ rows = cc in
-    let same-file : f ≡ file = cc in record {
-      formats = subst (λ (n : ℕ). Formats passes tells g file (record { banks = n; rows = rows }) blocks old new before after status said taken takes was are) same-banks
-          (subst (λ (l : List ImageRow). Formats passes tells g file (record { banks = b; rows = l }) blocks old new before after status said taken takes was are) same-rows
-          (subst (λ (l : List ℕ). Formats passes tells g l (record { banks = b; rows = rs }) blocks old new before after status said taken takes was are) same-file formats));
-      no_turns = none;
-    }
+    let same-file : f ≡ file = cc in
+    let here : Formats passes tells g file (record { banks = banks; rows = rows }) blocks old new before after status said taken takes was are =
+    subst (λ (n : ℕ). Formats passes tells g file (record { banks = n; rows = rows }) blocks old new before after status said taken takes was are) same-banks
+    (subst (λ (l : List ImageRow). Formats passes tells g file (record { banks = b; rows = l }) blocks old new before after status said taken takes was are) same-rows
+    (subst (λ (l : List ℕ). Formats passes tells g l (record { banks = b; rows = rs }) blocks old new before after status said taken takes was are) same-file formats)) in
+    by-formats passes tells g file (record { banks = banks; rows = rows }) blocks old new before after status said journal taken takes was are none here
 
 -- a list was refused, and nothing else was done
 pub refused-formats : {D : Type 0} (told : D → Told) (counts : D → Counts) (passes : List ℕ → Bool) (tells : Bool) (g : Given) (file : List ℕ) (L : Layout) (blocks : ℕ) (old new : D) (status : ℕ) (said : Note) (journal : List Turn) (taken takes : Option (List ℕ)) (was are : Faults) (planned : ℕ) (line : List ℕ) (n : model.Note)
     → new ≡ old → journal ≡ [] → noted said ≡ n → Refuses (Some (ask.format L.banks L.rows file)) g was are planned n line → Prints line planned status taken takes was.sink are.sink
     → FormattedBy passes tells g file L blocks (told old) (told new) (counts old) (counts new) status said journal taken takes was are
-refused-formats told counts passes tells g file L blocks old new status said journal taken takes was are planned line n same none is why prints = record {
-  formats = list_refused (ap told same) (ap counts same)
-      (planned, line, subst (λ (x : model.Note). Refuses (Some (ask.format L.banks L.rows file)) g was are planned x line) (sym is) why, prints);
-  no_turns = none;
-}
+refused-formats told counts passes tells g file L blocks old new status said journal taken takes was are planned line n same none is why prints =
+    by-formats passes tells g file L blocks (told old) (told new) (counts old) (counts new) status said journal taken takes was are none
+    (list_refused (ap told same) (ap counts same)
+    (planned, line, subst (λ (x : model.Note). Refuses (Some (ask.format L.banks L.rows file)) g was are planned x line) (sym is) why, prints))
 
 -- nothing was done for want of memory
 pub starved-formats : {D : Type 0} (told : D → Told) (counts : D → Counts) (passes : List ℕ → Bool) (tells : Bool) (g : Given) (file : List ℕ) (L : Layout) (blocks : ℕ) (old new : D) (status : ℕ) (said : Note) (journal : List Turn) (taken takes : Option (List ℕ)) (was are : Faults)
     → new ≡ old → journal ≡ [] → said ≡ note.Nothing → status ≡ 9 → takes ≡ taken
     → FormattedBy passes tells g file L blocks (told old) (told new) (counts old) (counts new) status said journal taken takes was are
-starved-formats told counts passes tells g file L blocks old new status said journal taken takes was are same none is nine takes-none = record {
-  formats = starved nine is (ap told same) (ap counts same) takes-none;
-  no_turns = none;
-}
+starved-formats told counts passes tells g file L blocks old new status said journal taken takes was are same none is nine takes-none =
+    by-formats passes tells g file L blocks (told old) (told new) (counts old) (counts new) status said journal taken takes was are none
+    (starved nine is (ap told same) (ap counts same) takes-none)
 
 -- a file's cause, from before
 reads-from : (told : Option Directory) (name : List ℕ) (first was are : ℕ) (r : Result Formatted FormatStop) → first ≤ was → ReadsBy told name was are r → ReadsBy told name first are r
@@ -95,7 +103,8 @@ module _ (passes : List ℕ → Bool) (tells : Bool) (told files : Option Direct
   pub formats-with-list : told ≡ files → HasNoBadLine (record { list = Some name; files = files; script = script }) → first.files ≤ was.files → first.source ≡ was.source → first.sink ≡ was.sink
       → FormattedBy passes tells (record { list = None; files = told; script = script }) file L blocks old new before after status said journal taken takes was are
       → FormattedBy passes tells (record { list = Some name; files = files; script = script }) file L blocks old new before after status said journal taken takes first are
-  formats-with-list same good later source sink by = record { formats = go by.formats; no_turns = by.no_turns }
+  formats-with-list same good later source sink by =
+      by-formats passes tells (record { list = Some name; files = files; script = script }) file L blocks old new before after status said journal taken takes first are by.no_turns (go by.formats)
     where
       at-sink : (line : List ℕ) (planned : ℕ) → Prints line planned status taken takes was.sink are.sink → Prints line planned status taken takes first.sink are.sink
       at-sink line planned p = subst (λ (n : ℕ). Prints line planned status taken takes n are.sink) (sym sink) p

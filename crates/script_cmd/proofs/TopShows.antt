@@ -12,6 +12,7 @@ use Rattle.script_cmd.specs.Turning.{NoneFalls}
 use Rattle.script_cmd.specs.Ways.{Given, HasNoBadLine, Refuses}
 use Rattle.script_cmd.specs.Showing.{ShowedBy, Showed, RefusedList}
 use Rattle.script_cmd.proofs.TopWays.{refuses}
+use Rattle.script_cmd.proofs.TopCompletes.{show-completes}
 
 falls-none : (counts : Counts) → NoneFalls counts counts
 falls-none counts = record { faults = le_refl counts.faults; cuts = le_refl counts.cuts; reached = le_refl counts.reached; chances = le_refl counts.chances }
@@ -20,8 +21,10 @@ falls-none counts = record { faults = le_refl counts.faults; cuts = le_refl coun
 pub refused-shows : {D : Type 0} (told : D → Told) (counts : D → Counts) (tells : Bool) (g : Given) (old new : D) (status : ℕ) (noted : Note) (journal : List Turn) (taken takes : Option (List ℕ)) (was are : Faults) (planned : ℕ) (line : List ℕ) (n : Note)
     → new ≡ old → journal ≡ [] → noted ≡ n → Refuses (Some ask.show) g was are planned n line → Prints line planned status taken takes was.sink are.sink
     → ShowedBy tells g (told old) (told new) (counts old) (counts new) status noted journal taken takes was are
-refused-shows told counts tells g old new status noted journal taken takes was are planned line n same none is why prints = record {
-  showed = inr (planned, line, subst (λ (x : Note). Refuses (Some ask.show) g was are planned x line) (sym is) why, prints);
+refused-shows told counts tells g old new status noted journal taken takes was are planned line n same none is why prints =
+    let refused : RefusedList ask.show g status noted taken takes was are = (planned, line, subst (λ (x : Note). Refuses (Some ask.show) g was are planned x line) (sym is) why, prints) in record {
+  showed = inr refused;
+  complete = show-completes g (counts old) (counts new) status noted taken takes was are tells (told old) (inr refused);
   content = λ told_too clean. ap told same;
   no_turns = none;
   counts = subst (λ d. NoneFalls (counts old) (counts d)) (sym same) (falls-none (counts old));
@@ -32,7 +35,8 @@ module _ (tells : Bool) (told files : Option Directory) (name : List ℕ) (scrip
   pub shows-with-list : HasNoBadLine (record { list = Some name; files = files; script = script }) → first.files ≤ was.files → first.source ≡ was.source → first.sink ≡ was.sink
       → ShowedBy tells (record { list = None; files = told; script = script }) old new before after status noted journal taken takes was are
       → ShowedBy tells (record { list = Some name; files = files; script = script }) old new before after status noted journal taken takes first are
-  shows-with-list good later source sink by = record { showed = go by.showed; content = by.content; no_turns = by.no_turns; counts = by.counts }
+  shows-with-list good later source sink by =
+    record { showed = go by.showed; complete = show-completes (record { list = Some name; files = files; script = script }) before after status noted taken takes first are tells old (go by.showed); content = by.content; no_turns = by.no_turns; counts = by.counts }
     where
       go : Showed (IsTrue tells × NothingDirty old) old.now before after status noted taken takes was.sink are.sink ⊎ RefusedList ask.show (record { list = None; files = told; script = script }) status noted taken takes was are
           → Showed (IsTrue tells × NothingDirty old) old.now before after status noted taken takes first.sink are.sink ⊎ RefusedList ask.show (record { list = Some name; files = files; script = script }) status noted taken takes first are

@@ -1,6 +1,5 @@
 -- What the command `format` does, tells and prints.
-use Rattle.std.specs.Prelude.{◌≡◌, ◌⊎◌, ◌*◌, ◌≤◌, ℕ, ◌++◌, ◌∷◌, [], Bool, List, Option, Some, Result, Ok, Err, IfOk, IsErr, IsTrue, codes, decimal, length}
-use Rattle.flash_core.specs.Counts.{Rose}
+use Rattle.std.specs.Prelude.{◌≡◌, ◌⊎◌, ◌*◌, ◌≤◌, ℕ, ◌++◌, ◌∷◌, [], Bool, List, Option, Some, None, Result, Ok, Err, IfOk, IsErr, IsTrue, codes, decimal, length}
 use Rattle.flash_core.specs.May.{Keeps}
 use Rattle.flash_core.specs.Told.{Told, NothingDirty}
 use Rattle.flash_core.specs.declared.flash.Counts.{Counts}
@@ -31,7 +30,7 @@ use Rattle.flash_format.specs.declared.stops.InputFault.TheVariants as fault
 use Rattle.fwu_words.specs.Order as ask
 use Rattle.script_cmd.specs.Noted.{noted}
 use Rattle.script_cmd.specs.Printed.{Prints}
-use Rattle.script_cmd.specs.Showing.{RefusedList, flash_fault_line}
+use Rattle.script_cmd.specs.Showing.{HasCause, IsGranted, RefusedList, flash_fault_line}
 use Rattle.script_cmd.specs.Turning.{NoneFalls}
 use Rattle.script_cmd.specs.Ways.{Given}
 use Rattle.script_cmd.specs.declared.done.Note.{Note}
@@ -115,7 +114,7 @@ pub record Tries (passes : List ℕ → Bool) (tells : Bool) (told : Option Dire
   pub keeps : IsTrue tells → Keeps 0 (4096 * blocks_needed L) mid new
   -- no count falls, and a stop of the flash has its cause
   pub counts : NoneFalls before after
-  pub stopped : (stop : FlashStop) → r ≡ Err (Flash stop) → Rose before.faults after.faults ⊎ (Rose before.cuts after.cuts ⊎ Rose before.reached after.reached)
+  pub stopped : (stop : FlashStop) → r ≡ Err (Flash stop) → HasCause before after
 
 -- ---- what the command did
 
@@ -129,7 +128,19 @@ pub data Formats (passes : List ℕ → Bool) (tells : Bool) (g : Given) (name :
   list_refused : new ≡ old → after ≡ before → RefusedList (ask.format L.banks L.rows name) g status (noted told) taken takes was are
       → Formats passes tells g name L blocks old new before after status told taken takes was are
 
+-- The rows and banks are a layout of the flash, the file is told and is a package, and its images are a complete package of the layout that passes.
+pub record IsFormattable (passes : List ℕ → Bool) (told : Option Directory) (name : List ℕ) (L : Layout) (blocks : ℕ) : Type 0 where
+  pub file : List ℕ
+  pub toc : Toc
+  pub is_there : Tells told name file
+  pub is_package : toc_of file ≡ Ok toc
+  pub fits : refusal L blocks file ≡ None
+  pub complete : IsTrue (is_complete L.rows (images_of L.rows file toc))
+  pub permitted : IsTrue (passes (manifest_part (images_of L.rows file toc)))
+
 -- What the command does, and that it makes no turn.
 pub record FormattedBy (passes : List ℕ → Bool) (tells : Bool) (g : Given) (name : List ℕ) (L : Layout) (blocks : ℕ) (old new : Told) (before after : Counts) (status : ℕ) (told : Note) (journal : List Turn) (taken takes : Option (List ℕ)) (was are : Faults) : Type 0 where
   pub formats : Formats passes tells g name L blocks old new before after status told taken takes was are
   pub no_turns : journal ≡ []
+  -- a flash that tells its content is formatted where all is there and nothing failed, unless memory was wanting
+  pub complete : IsTrue tells → IsFormattable passes g.files name L blocks → IsGranted g before after was are → (status ≡ 0) ⊎ (status ≡ 9)

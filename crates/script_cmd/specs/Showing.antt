@@ -1,5 +1,5 @@
 -- What the command `show` tells and prints.
-use Rattle.std.specs.Prelude.{◌≡◌, ◌⊎◌, ℕ, ◌++◌, ◌∷◌, [], Bool, List, Option, Some, Ok, Err, IsTrue, codes}
+use Rattle.std.specs.Prelude.{◌≡◌, ◌⊎◌, ℕ, ◌++◌, ◌∷◌, [], Bool, List, Option, Some, Ok, Err, IsSome, IsTrue, codes}
 use Rattle.flash_core.specs.Counts.{Rose}
 use Rattle.flash_core.specs.Told.{Told, NothingDirty}
 use Rattle.flash_core.specs.declared.flash.Counts.{Counts}
@@ -16,7 +16,10 @@ use Rattle.fwu_model.specs.Reply.{Turn}
 use Rattle.script_cmd.specs.Printed.{Prints}
 use Rattle.script_cmd.specs.Turning.{NoneFalls}
 use Rattle.script_cmd.specs.Ways.{Given, Refuses}
-use Rattle.fwu_model.specs.Causes.{Faults}
+use Rattle.fwu_model.specs.Allow.{list_bytes}
+use Rattle.fwu_model.specs.Causes.{Faults, LacksList}
+use Rattle.fwu_model.specs.Metadata.{MetaRead}
+use Rattle.fwu_model.specs.Wrote.{IsBadList}
 use Rattle.fwu_words.specs.Order.{Asked}
 use Rattle.fwu_words.specs.Order as ask
 
@@ -35,11 +38,15 @@ ShowsNone image (no_boot.Layout f) = layout_seen image ≡ Err f
 ShowsNone image no_boot.Metadata = (L : Layout) × (layout_seen image ≡ Ok L) × (deciding L image ≡ Option.None)
 ShowsNone image (no_boot.Bank active previous) = ⊥
 
+-- why a flash stopped a command that arms no loss: it failed, or power was lost
+abbrev pub HasCause : Counts → Counts → Type 0
+HasCause before after = Rose before.faults after.faults ⊎ Rose before.cuts after.cuts
+
 -- What `show` found on a flash of which so much is told, with the status, the note and the line of that.
 pub data Finds (known : Type 0) (image : List ℕ) (before after : Counts) : ℕ → Note → List ℕ → Type 0 where
   numbers : (n : Numbers) → (known → ShowsNumbers image n) → Finds known image before after 0 note.Nothing (shown_line n)
   none : (why : NoBoot) → (known → ShowsNone image why) → Finds known image before after 6 (note.Boot why) (not_shown_line why)
-  stopped : Rose before.faults after.faults ⊎ (Rose before.cuts after.cuts ⊎ Rose before.reached after.reached) → Finds known image before after 5 note.Nothing flash_fault_line
+  stopped : HasCause before after → Finds known image before after 5 note.Nothing flash_fault_line
 
 -- How it ended: for want of memory, with nothing done and nothing written; or by what it found, whose line was put into the sink.
 pub data Showed (known : Type 0) (image : List ℕ) (before after : Counts) (status : ℕ) (noted : Note) (taken takes : Option (List ℕ)) (was are : ℕ) : Type 0 where
@@ -52,9 +59,28 @@ abbrev pub RefusedList : Asked → Given → ℕ → Note → Option (List ℕ) 
 RefusedList asked g status noted taken takes was are =
     (planned : ℕ) × (line : List ℕ) × Refuses (Some asked) g was are planned noted line × Prints line planned status taken takes was.sink are.sink
 
+-- A command that runs no script is given what it asks for: a list of digests, where one is named, that is there and has no bad line; and
+-- nothing failed, and no power was lost.
+pub record IsGranted (g : Given) (before after : Counts) (was are : Faults) : Type 0 where
+  pub list_there : LacksList g.files g.list → ⊥
+  pub list_is : (n : ℕ) → IsSome g.list → IsBadList (list_bytes g.list g.files) n → ⊥
+  pub no_fault : Rose before.faults after.faults → ⊥
+  pub no_cut : Rose before.cuts after.cuts → ⊥
+  pub no_file_fault : Rose was.files are.files → ⊥
+  pub no_sink_fault : Rose was.sink are.sink → ⊥
+
+-- an image has a layout, and a replica with metadata of it
+pub record HasMetadata (image : List ℕ) : Type 0 where
+  pub layout : Layout
+  pub meta : MetaRead
+  pub has_layout : layout_seen image ≡ Ok layout
+  pub decides : deciding layout image ≡ Option.Some meta
+
 -- What the command answers and leaves: no turn, no count lower, and the content of a flash with nothing dirty.
 pub record ShowedBy (tells : Bool) (g : Given) (old new : Told) (before after : Counts) (status : ℕ) (noted : Note) (journal : List Turn) (taken takes : Option (List ℕ)) (was are : Faults) : Type 0 where
   pub showed : Showed (IsTrue tells × NothingDirty old) old.now before after status noted taken takes was.sink are.sink ⊎ RefusedList ask.show g status noted taken takes was are
   pub content : IsTrue tells → NothingDirty old → new ≡ old
   pub no_turns : journal ≡ []
   pub counts : NoneFalls before after
+  -- the numbers are shown where all is there and nothing failed, unless memory was wanting
+  pub complete : IsTrue tells → NothingDirty old → HasMetadata old.now → IsGranted g before after was are → (status ≡ 0) ⊎ (status ≡ 9)

@@ -49,6 +49,7 @@ fn try_format<D: Flash, H: Files, V: Verifier>(
     verifier: &V,
 ) -> Result<Formatted, FormatStop>
     requires off { IsFalse (D.on flash.old) }
+    requires unarmed { D.arming flash.old ≡ None }
     ensures tries { Tries (V.passes verifier.now) D.tells (H.contents files.old) name.now (record { banks = banks; rows = rows.now }) (D.blocks flash.old)
         (D.told flash.old) (D.told flash.new) (D.counts flash.old) (D.counts flash.new) (H.faults files.old) (H.faults files.new) result }
     ensures same { H.contents files.new ≡ H.contents files.old }
@@ -75,6 +76,7 @@ pub fn format_flash<D: Flash, H: Files, O: Sink, V: Verifier>(
     verifier: &V,
 ) -> Done<D>
     requires off { IsFalse (D.on flash) }
+    requires unarmed { D.arming flash ≡ None }
     ensures formats { (script : Option (List ℕ)) (source sources : ℕ) → Formats (V.passes verifier.now) D.tells (record { list = None; files = H.contents files.old; script = script }) name.now (record { banks = banks; rows = rows.now }) (D.blocks flash)
         (D.told flash) (D.told result.flash) (D.counts flash) (D.counts result.flash) result.status result.note (O.taken sink.old) (O.taken sink.new)
         (record { files = H.faults files.old; source = source; sink = O.faults sink.old }) (record { files = H.faults files.new; source = sources; sink = O.faults sink.new }) }

@@ -8,6 +8,7 @@ use Rattle.fwu_words.specs.Order as ask
 use Rattle.script_cmd.specs.Noted.{noted}
 use Rattle.script_cmd.specs.Ways.{usage}
 use Rattle.script_cmd.proofs.PromiseWords.{boot-is-short}
+use Rattle.script_cmd.proofs.TopCompletes.{show-completes}
 use Rattle.script_cmd.proofs.TopWays.{refused-by, same-moment, way-of-boot, way-of-run}
 use Rattle.script_cmd.proofs.answering.answer_with.Goals as goal
 
@@ -34,7 +35,17 @@ returns-in-Err-Usage-clause-way g c = λ plain.
     (usage tt (rw c.in-Err-Usage.field-0-is at c.in-Err-Usage.ensures)) e.prints
 
 pub returns-in-Ok-Show-clause-shows : goal.returns-in-Ok-Show-clause-shows
-returns-in-Ok-Show-clause-shows g c is = record { showed = inl c.show.ensures.showed; content = c.show.ensures.content; no_turns = c.show.ensures.no_turns; counts = c.show.ensures.counts }
+returns-in-Ok-Show-clause-shows g c is =
+    let files = g.H.Files.faults c.args.files.now in
+    let source = g.I.Source.faults c.args.source.now in
+    record {
+      showed = inl c.show.ensures.showed;
+      content = c.show.ensures.content;
+      no_turns = c.show.ensures.no_turns;
+      counts = c.show.ensures.counts;
+      complete = show-completes (record { list = None; files = g.H.Files.contents c.args.files.now; script = g.I.Source.left c.args.source.now }) _ _ _ _ _ _
+          (record { files = files; source = source; sink = _ }) (record { files = files; source = source; sink = _ }) g.D.Flash.tells _ (inl c.show.ensures.showed);
+    }
 
 pub returns-in-Ok-Format-clause-formats : goal.returns-in-Ok-Format-clause-formats
 returns-in-Ok-Format-clause-formats g c banks rows file is =

@@ -30,5 +30,5 @@ returns-clause-tries g c =
       deserved = e.deserved;
       keeps = e.keeps;
       counts = none-falls _ (counts old) (counts mid) (counts new) c.power_on.ensures.counts e.costs;
-      stopped = λ stop is. stop-cause _ stop (counts old) (counts mid) (counts new) is c.power_on.ensures.counts e.costs;
+      stopped = λ stop is. stop-cause _ stop (counts old) (counts mid) (counts new) is c.power_on.ensures.counts e.costs (e.unarmed (c.power_on.ensures.arming ∙ c.requires.unarmed)).1;
     })

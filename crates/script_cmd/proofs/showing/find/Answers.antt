@@ -6,7 +6,7 @@ use Rattle.early_boot.specs.Numbers.{numbers as read, ShowsNumbers}
 use Rattle.script_cmd.specs.Noted.{noted}
 use Rattle.script_cmd.specs.Showing as show
 use Rattle.script_cmd.specs.Showing.{Finds, ShowsNone, shown_line, not_shown_line, flash_fault_line}
-use Rattle.script_cmd.proofs.ShowFlash.{power-on-keeps, finds-stop, not-found}
+use Rattle.script_cmd.proofs.ShowFlash.{power-on-keeps, has-cause, not-found}
 use Rattle.script_cmd.proofs.showing.find.Goals as goal
 
 pub returns-in-Ok-clause-content : goal.returns-in-Ok-clause-content
@@ -73,4 +73,5 @@ returns-in-Err-Flash-clause-finds g c =
     let after = g.D.Flash.counts c.read_numbers.new.flash in
     subst (λ (l : List ℕ). Finds known image before after 5 note.Nothing l)
     (sym (c.add.ensures.items ∙ ap (λ (l : List ℕ). l ++ flash_fault_line) c.requires.empty))
-    (finds-stop known image c.in-Err-Flash.field-0-0 before mid after c.power_on.ensures.counts (rw c.in-Err-Flash.field-0-is at c.in-Err-Flash.ensures.costs))
+    (show.stopped
+    (has-cause c.in-Err-Flash.field-0-0 before mid after c.power_on.ensures.counts (rw c.in-Err-Flash.field-0-is at c.in-Err-Flash.ensures.costs) (rw c.in-Err-Flash.field-0-is at c.in-Err-Flash.ensures.reached)))

@@ -1,0 +1,103 @@
+-- `show` and `format` do all that they are asked for, where nothing is lacking and nothing failed, unless memory was wanting.
+use Rattle.std.proofs.Common.{◌≡◌, ◌⊎◌, inl, inr, ℕ, Bool, true, List, Option, Some, None, Result, Ok, Err, refl, subst, IsTrue}
+use Rattle.flash_core.specs.Counts.{Rose}
+use Rattle.flash_core.specs.Told.{Told, NothingDirty}
+use Rattle.flash_core.specs.declared.flash.Counts.{Counts}
+use Rattle.fwu_model.specs.Layout.{Layout}
+use Rattle.fwu_model.specs.Flash.{deciding}
+use Rattle.fwu_model.specs.Causes.{Faults}
+use Rattle.fwu_model.specs.declared.kinds.Note.{Note}
+use Rattle.fwu_model.specs.declared.kinds.NoBoot.{NoBoot}
+use Rattle.fwu_model.specs.declared.kinds.NoBoot.TheVariants as no_boot
+use Rattle.fip_tables.specs.Files.{Tells, Lacks}
+use Rattle.flash_format.specs.Stops.{Answers, IsEarly}
+use Rattle.flash_format.specs.declared.formatting.Formatted.{Formatted}
+use Rattle.flash_format.specs.declared.stops.FormatStop.{FormatStop}
+use Rattle.flash_format.specs.declared.stops.FormatStop.TheVariants.{Input, ReadFailed, Flash}
+use Rattle.flash_format.specs.declared.stops.InputFault.{InputFault}
+use Rattle.flash_format.specs.declared.stops.InputFault.TheVariants as fault
+use Rattle.host_io.specs.Contents.{Directory}
+use Rattle.fwu_words.specs.Order.{Asked}
+use Rattle.fwu_words.specs.Order as ask
+use Rattle.script_cmd.specs.Noted.{noted}
+use Rattle.script_cmd.specs.Printed.{Prints, all, front, nothing}
+use Rattle.script_cmd.specs.Ways.{Given, Refuses, bad_list, bad_script, list_not_read, not_read, too_long, usage}
+use Rattle.script_cmd.specs.Showing.{Finds, HasCause, HasMetadata, IsGranted, RefusedList, Showed, ShowsNone}
+use Rattle.script_cmd.specs.Showing as show
+use Rattle.script_cmd.specs.Formatting.{Formats, IsFormattable, Tries, format_status, format_text}
+use Rattle.script_cmd.specs.Formatting as format
+use Rattle.script_cmd.specs.declared.done.Note.{Note as Said}
+
+-- a line whose status was to be 0, at a sink that did not fail
+printed : (line : List ℕ) (status : ℕ) (old new : Option (List ℕ)) (was are : ℕ) → (Rose was are → ⊥) → Prints line 0 status old new was are → (status ≡ 0) ⊎ (status ≡ 9)
+printed line status old new was are fails (all is appends later) = inl is
+printed line status old new was are fails (front is n appends later rose) = absurd (fails rose)
+printed line status old new was are fails (nothing is same later) = inr is
+
+-- no list is refused that is there and has no bad line
+granted : (asked : Asked) (g : Given) (before after : Counts) (was are : Faults) (planned : ℕ) (noted : Note) (line : List ℕ) → (Some asked ≡ Some ask.run → ⊥) → (Some asked ≡ Some ask.boot → ⊥)
+    → IsGranted g before after was are → Refuses (Some asked) g was are planned noted line → ⊥
+granted asked g before after was are planned noted line runs boots has (usage good is) = cc
+granted asked g before after was are planned noted line runs boots has (not_read is rose) = runs is
+granted asked g before after was are planned noted line runs boots has (list_not_read (inl rose)) = has.no_file_fault rose
+granted asked g before after was are planned noted line runs boots has (list_not_read (inr lacks)) = has.list_there lacks
+granted asked g before after was are planned noted line runs boots has (too_long good is long) = runs is
+granted asked g before after was are planned noted line runs boots has (bad_script n good (inl is) short bad) = runs is
+granted asked g before after was are planned noted line runs boots has (bad_script n good (inr is) short bad) = boots is
+granted asked g before after was are planned noted line runs boots has (bad_list n some bad) = has.list_is n some bad
+
+module _ (g : Given) (before after : Counts) (status : ℕ) (noted : Note) (taken takes : Option (List ℕ)) (was are : Faults) where
+  -- a flash with metadata shows its numbers
+  found : (known : Type 0) (image : List ℕ) (planned : ℕ) (line : List ℕ) → known → HasMetadata image → IsGranted g before after was are → Finds known image before after planned noted line
+      → Prints line planned status taken takes was.sink are.sink → (status ≡ 0) ⊎ (status ≡ 9)
+  found known image planned line knows has granted (show.numbers n shows) prints = printed line status taken takes was.sink are.sink granted.no_sink_fault prints
+  found known image planned line knows has granted (show.none why none) prints = absurd (no why (none knows))
+    where
+      no : (why : NoBoot) → ShowsNone image why → ⊥
+      no (no_boot.Layout f) is = let layout = has.has_layout in cc
+      no no_boot.Metadata is = let one = is.1 in let layout = has.has_layout in let same : is.0 ≡ has.layout = cc in let none : deciding has.layout image ≡ None = subst (λ (L : Layout). deciding L image ≡ None) same is.2 in let some = has.decides in cc
+      no (no_boot.Bank active previous) is = is
+  found known image planned line knows has granted (show.stopped (inl fault)) prints = absurd (granted.no_fault fault)
+  found known image planned line knows has granted (show.stopped (inr cut)) prints = absurd (granted.no_cut cut)
+
+  pub show-completes : (tells : Bool) (old : Told) → Showed (IsTrue tells × NothingDirty old) old.now before after status noted taken takes was.sink are.sink ⊎ RefusedList ask.show g status noted taken takes was are
+      → IsTrue tells → NothingDirty old → HasMetadata old.now → IsGranted g before after was are → (status ≡ 0) ⊎ (status ≡ 9)
+  show-completes tells old (inl (show.starved is same)) told clean has grants = inr is
+  show-completes tells old (inl (show.found planned line finds prints)) told clean has grants = found (IsTrue tells × NothingDirty old) old.now planned line (told, clean) has grants finds prints
+  show-completes tells old (inr refused) told clean has grants = absurd (granted ask.show g before after was are refused.0 noted refused.1 (λ is. cc) (λ is. cc) grants refused.2)
+
+-- a name that is told isn't lacking
+there : (told : Option Directory) (name file : List ℕ) → Tells told name file → Lacks told name → ⊥
+there None name file tells lacks = lacks
+there (Some files) name file tells lacks = cc
+
+not-refused : (r : Result Formatted FormatStop) (asks : Option InputFault) → asks ≡ None → Answers asks r → IsEarly r → ⊥
+not-refused r asks none answers = subst (λ (o : Option InputFault). Answers o r) none answers
+
+module _ (passes : List ℕ → Bool) (g : Given) (name : List ℕ) (L : Layout) (blocks : ℕ) (old new : Told) (before after : Counts) (status : ℕ) (said : Said) (taken takes : Option (List ℕ)) (was are : Faults) where
+  tried : (r : Result Formatted FormatStop) → IsFormattable passes g.files name L blocks → IsGranted g before after was are
+      → Tries passes true g.files name L blocks old new before after was.files are.files r → Prints (format_text r) (format_status r) status taken takes was.sink are.sink → (status ≡ 0) ⊎ (status ≡ 9)
+  tried (Ok done) can grants tries prints = printed (format_text (Ok done)) status taken takes was.sink are.sink grants.no_sink_fault prints
+  tried (Err (Input (fault.Layout f))) can grants tries prints = absurd (not-refused _ _ can.fits (tries.answers can.file can.is_there) tt)
+  tried (Err (Input (fault.Package f))) can grants tries prints = absurd (not-refused _ _ can.fits (tries.answers can.file can.is_there) tt)
+  tried (Err (Input (fault.Missing guid))) can grants tries prints = absurd (not-refused _ _ can.fits (tries.answers can.file can.is_there) tt)
+  tried (Err (Input (fault.TooLarge guid))) can grants tries prints = absurd (not-refused _ _ can.fits (tries.answers can.file can.is_there) tt)
+  tried (Err (Input (fault.Incomplete verdict))) can grants tries prints = absurd (tries.deserved verdict refl refl can.file can.toc can.is_there can.is_package can.complete can.permitted)
+  tried (Err ReadFailed) can grants tries prints = absurd (unread (tries.reads.failed refl))
+    where
+      unread : Rose was.files are.files ⊎ Lacks g.files name → ⊥
+      unread (inl rose) = grants.no_file_fault rose
+      unread (inr lacks) = there g.files name can.file can.is_there lacks
+  tried (Err (Flash stop)) can grants tries prints = absurd (stopped (tries.stopped stop refl))
+    where
+      stopped : HasCause before after → ⊥
+      stopped (inl fault) = grants.no_fault fault
+      stopped (inr cut) = grants.no_cut cut
+
+  by-formats : Formats passes true g name L blocks old new before after status said taken takes was are → IsFormattable passes g.files name L blocks → IsGranted g before after was are → (status ≡ 0) ⊎ (status ≡ 9)
+  by-formats (format.starved nine is same none takes) can grants = inr nine
+  by-formats (format.tried r tries prints is) can grants = tried r can grants tries prints
+  by-formats (format.list_refused same none refused) can grants = absurd (granted (ask.format L.banks L.rows name) g before after was are refused.0 (noted said) refused.1 (λ is. cc) (λ is. cc) grants refused.2)
+
+  pub format-completes : (tells : Bool) → Formats passes tells g name L blocks old new before after status said taken takes was are → IsTrue tells → IsFormattable passes g.files name L blocks → IsGranted g before after was are → (status ≡ 0) ⊎ (status ≡ 9)
+  format-completes tells formats told = by-formats (subst (λ (x : Bool). Formats passes x g name L blocks old new before after status said taken takes was are) told formats)
