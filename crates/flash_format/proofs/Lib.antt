@@ -1,4 +1,5 @@
 pub mod Ranges
+pub mod Unarmed
 pub mod Pieces
 pub mod Chosen
 pub mod Ends

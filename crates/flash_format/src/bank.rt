@@ -1,6 +1,6 @@
 //! Writing the images of a package into bank 0.
 ghost use Rattle.std.specs.Prelude.{◌≡◌, ◌+◌, ◌*◌, ◌^◌, ◌<◌, ◌≤◌, ℕ, List, All, length, slice_index_or, is_ok, IsTrue, OnOk};
-ghost use Rattle.flash_core.specs.Counts.{Spends};
+ghost use Rattle.flash_core.specs.Counts.{Spends, StaysUnarmed};
 ghost use Rattle.flash_core.specs.May.{Keeps};
 ghost use Rattle.fwu_model.specs.Layout.{blocks_needed, slot_total};
 ghost use Rattle.fip_tables.specs.Files.{Lacks, Tells};
@@ -38,6 +38,7 @@ pub fn write_bank<D: Flash, H: Files>(
     ensures power { D.on flash.new ≡ is_ok (flash_result result) }
     ensures size { D.blocks flash.new ≡ D.blocks flash.old }
     ensures costs { Spends (flash_result result) (D.counts flash.old) (D.counts flash.new) }
+    ensures unarmed { StaysUnarmed (D.arming flash.old) (D.arming flash.new) (D.counts flash.old) (D.counts flash.new) }
     ensures same { H.contents files.new ≡ H.contents files.old }
     ensures reads { ReadsBy (H.contents files.old) name.now (H.faults files.old) (H.faults files.new) result }
     ensures stops { RefusesNothing result }

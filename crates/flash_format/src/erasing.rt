@@ -1,6 +1,6 @@
 //! Erasing the front of a flash.
 ghost use Rattle.std.specs.Prelude.{◌≡◌, ◌*◌, ◌≤◌, is_ok, IsTrue, OnOk};
-ghost use Rattle.flash_core.specs.Counts.{Spends};
+ghost use Rattle.flash_core.specs.Counts.{Spends, StaysUnarmed};
 ghost use Rattle.flash_core.specs.May.{Keeps};
 ghost use Rattle.flash_format.specs.Places.{Erased};
 
@@ -16,6 +16,7 @@ pub fn erase_all<D: Flash>(flash: &mut D, count: u32) -> Result<(), FlashStop>
     ensures power { D.on flash.new ≡ is_ok result }
     ensures size { D.blocks flash.new ≡ D.blocks flash.old }
     ensures costs { Spends result (D.counts flash.old) (D.counts flash.new) }
+    ensures unarmed { StaysUnarmed (D.arming flash.old) (D.arming flash.new) (D.counts flash.old) (D.counts flash.new) }
 {
     for block in 0..count {
         flash.erase(block)?;

@@ -1,7 +1,7 @@
 //! The metadata and the layout of a flash that is formatted.
 ghost use Rattle.std.specs.Prelude.{◌≡◌, ◌%◌, ◌<◌, ◌≤◌, Ok, length, is_ok, IsTrue, OnOk};
 ghost use Rattle.base_core.specs.Block.{block};
-ghost use Rattle.flash_core.specs.Counts.{Spends};
+ghost use Rattle.flash_core.specs.Counts.{Spends, StaysUnarmed};
 ghost use Rattle.flash_core.specs.May.{Keeps};
 ghost use Rattle.flash_core.specs.Told.{NothingDirty};
 ghost use Rattle.flash_core.specs.Replaces.{padded};
@@ -30,6 +30,7 @@ fn write_twice<D: Flash>(flash: &mut D, bytes: &[u8]) -> Result<(), FlashStop>
     ensures power { D.on flash.new ≡ is_ok result }
     ensures size { D.blocks flash.new ≡ D.blocks flash.old }
     ensures costs { Spends result (D.counts flash.old) (D.counts flash.new) }
+    ensures unarmed { StaysUnarmed (D.arming flash.old) (D.arming flash.new) (D.counts flash.old) (D.counts flash.new) }
 {
     flash.program(4096, bytes)?;
     flash.program(8192, bytes)?;
@@ -47,6 +48,7 @@ fn write_replicas<D: Flash>(flash: &mut D, layout: &Layout) -> Result<(), FlashS
     ensures power { D.on flash.new ≡ is_ok result }
     ensures size { D.blocks flash.new ≡ D.blocks flash.old }
     ensures costs { Spends result (D.counts flash.old) (D.counts flash.new) }
+    ensures unarmed { StaysUnarmed (D.arming flash.old) (D.arming flash.new) (D.counts flash.old) (D.counts flash.new) }
 {
     let mut bytes = [0xFF; 4096];
     let meta = Meta::first(layout);
@@ -68,6 +70,7 @@ fn write_layout<D: Flash>(flash: &mut D, layout: &Layout) -> Result<(), FlashSto
     ensures power { D.on flash.new ≡ is_ok result }
     ensures size { D.blocks flash.new ≡ D.blocks flash.old }
     ensures costs { Spends result (D.counts flash.old) (D.counts flash.new) }
+    ensures unarmed { StaysUnarmed (D.arming flash.old) (D.arming flash.new) (D.counts flash.old) (D.counts flash.new) }
 {
     let mut bytes = [0xFF; 4096];
     layout.write(&mut bytes);
@@ -90,6 +93,7 @@ pub fn write_records<D: Flash>(flash: &mut D, layout: &Layout) -> Result<(), Fla
     ensures power { D.on flash.new ≡ is_ok result }
     ensures size { D.blocks flash.new ≡ D.blocks flash.old }
     ensures costs { Spends result (D.counts flash.old) (D.counts flash.new) }
+    ensures unarmed { StaysUnarmed (D.arming flash.old) (D.arming flash.new) (D.counts flash.old) (D.counts flash.new) }
 {
     write_replicas(flash, layout)?;
     write_layout(flash, layout)

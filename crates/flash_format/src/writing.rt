@@ -1,6 +1,6 @@
 //! Writing the images of a plan, and testing them.
 ghost use Rattle.std.specs.Prelude.{◌≡◌, ◌*◌, ◌≤◌, ℕ, List, Ok, Err, true, false, length, is_ok, IsTrue, IfOk, OnOk};
-ghost use Rattle.flash_core.specs.Counts.{Spends};
+ghost use Rattle.flash_core.specs.Counts.{Spends, StaysUnarmed};
 ghost use Rattle.flash_core.specs.May.{Keeps};
 ghost use Rattle.fwu_model.specs.Layout.{blocks_needed};
 ghost use Rattle.fip_tables.specs.Files.{Tells};
@@ -46,6 +46,7 @@ pub fn fill<D: Flash, H: Files>(
     ensures power { D.on flash.new ≡ is_ok (flash_result result) }
     ensures size { D.blocks flash.new ≡ D.blocks flash.old }
     ensures costs { Spends (flash_result result) (D.counts flash.old) (D.counts flash.new) }
+    ensures unarmed { StaysUnarmed (D.arming flash.old) (D.arming flash.new) (D.counts flash.old) (D.counts flash.new) }
     ensures same { H.contents files.new ≡ H.contents files.old }
     ensures reads { ReadsBy (H.contents files.old) name.now (H.faults files.old) (H.faults files.new) result }
     ensures stops { RefusesNothing result }
@@ -73,6 +74,7 @@ pub fn check_bank<D: Flash, V: Verifier>(
     ensures power { D.on flash.new ≡ is_ok (flash_result result) }
     ensures size { D.blocks flash.new ≡ D.blocks flash.old }
     ensures costs { Spends (flash_result result) (D.counts flash.old) (D.counts flash.new) }
+    ensures unarmed { StaysUnarmed (D.arming flash.old) (D.arming flash.new) (D.counts flash.old) (D.counts flash.new) }
     ensures stops { RefusesBank result }
 {
     let mut buffer = [0; 4096];

@@ -15,6 +15,7 @@ use Rattle.flash_format.specs.Choosing.{no_row, no_entry}
 use Rattle.flash_format.specs.Places.{Erased, Stands}
 use Rattle.flash_format.proofs.Ranges.{erased_stays}
 use Rattle.flash_format.proofs.Slots.{slots_more, slots_more_le, all_stand_more}
+use Rattle.flash_format.proofs.Unarmed.{unarmed_then}
 use Rattle.flash_format.proofs.bank.write_bank.Goals as goal
 
 pub start-first-requires-clause-below : goal.start-first-requires-clause-below
@@ -88,6 +89,7 @@ loop-k-preserved g c =
           let stands = subst (λ (e : Entry). Stands (4096 * start L 0 k) (slot_bytes L k) (payload file e) t.now) entry sized in
           all_stand_more L k file c.args.entries.now m t below kept (before.front tells file told) stands;
       costs = spends_then (Ok tt) (Ok tt) _ _ _ before.costs done.costs;
+      unarmed = unarmed_then _ _ _ (g.D.Flash.counts c.args.flash.now) (g.D.Flash.counts c.loop-k.flash) (g.D.Flash.counts c.write_image.new.flash) before.unarmed done.unarmed;
       same = done.same ∙ before.same;
       later = omega (arith, before.later, done.reads.later);
     }

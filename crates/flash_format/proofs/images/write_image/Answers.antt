@@ -10,6 +10,7 @@ use Rattle.fwu_model.specs.Package.{Entry, payload}
 use Rattle.flash_format.specs.Places.{Stands}
 use Rattle.flash_format.proofs.Ranges.{erased_stays, stands_stays}
 use Rattle.flash_format.proofs.Pieces.{stands_more}
+use Rattle.flash_format.proofs.Unarmed.{unarmed_then}
 use Rattle.flash_format.proofs.images.write_image.Goals as goal
 
 pub loop-k-preserved : goal.loop-k-preserved
@@ -38,6 +39,7 @@ loop-k-preserved g c =
           let step : 4096 * c.from.result ≡ 4096 * k = omega (arith, c.from.ensures) in
           stands_more first k bytes t.now old (subst (λ (n : ℕ). Stands (4096 * b) 4096 (drop n bytes) t.now) step piece);
       costs = spends_then (Ok tt) (Ok tt) _ _ _ before.costs done.costs;
+      unarmed = unarmed_then _ _ _ (g.D.Flash.counts c.args.flash.now) (g.D.Flash.counts c.loop-k.flash) (g.D.Flash.counts c.write_piece.new.flash) before.unarmed done.unarmed;
       same = done.same ∙ before.same;
       later = omega (arith, before.later, done.reads.later);
     }

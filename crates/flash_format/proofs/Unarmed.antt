@@ -1,0 +1,22 @@
+-- No loss armed: what an erase or a program leaves, and one call after another.
+use Rattle.std.proofs.Common.{◌≡◌, ◌∙◌, refl, ap, subst, Option, None}
+use Rattle.std.specs.Prelude.{Result, Ok, Err}
+use Rattle.flash_core.specs.declared.flash.Arming.{Arming}
+use Rattle.flash_core.specs.declared.flash.Counts.{Counts}
+use Rattle.flash_core.specs.declared.flash.FlashStop.{FlashStop}
+use Rattle.flash_core.specs.declared.flash.FlashStop.TheVariants.{Lost, Failed}
+use Rattle.flash_core.specs.Counts.{StaysUnarmed, Fires, IsDue, arming_spent}
+
+spent_none : {T : Type 0} (result : Result T FlashStop) → arming_spent result None ≡ None
+spent_none (Ok x) = refl
+spent_none (Err Lost) = refl
+spent_none (Err Failed) = refl
+
+pub unarmed_spent : {T : Type 0} (result : Result T FlashStop) (armed arming : Option Arming) (old new : Counts) → arming ≡ arming_spent result armed → Fires result armed old new → StaysUnarmed armed arming old new
+unarmed_spent result armed arming old new is fires none = (is ∙ ap (arming_spent result) none ∙ spent_none result, fires.only (λ due. subst IsDue none due.0))
+
+pub unarmed_then : (a b c : Option Arming) (x y z : Counts) → StaysUnarmed a b x y → StaysUnarmed b c y z → StaysUnarmed a c x z
+unarmed_then a b c x y z first second none =
+    let one = first none in
+    let two = second one.0 in
+    (two.0, two.1 ∙ one.1)
