@@ -12,11 +12,15 @@ spent_none (Ok x) = refl
 spent_none (Err Lost) = refl
 spent_none (Err Failed) = refl
 
-pub unarmed_spent : {T : Type 0} (result : Result T FlashStop) (armed arming : Option Arming) (old new : Counts) → arming ≡ arming_spent result armed → Fires result armed old new → StaysUnarmed armed arming old new
-unarmed_spent result armed arming old new is fires none = (is ∙ ap (arming_spent result) none ∙ spent_none result, fires.only (λ due. subst IsDue none due.0))
+pub unarmed_spent : {T : Type 0} (result : Result T FlashStop) (armed arming : Option Arming) (old new : Counts) → arming ≡ arming_spent result armed → Fires result armed old new → StaysUnarmed result armed arming old new
+unarmed_spent result armed arming old new is fires none = (
+  is ∙ ap (arming_spent result) none ∙ spent_none result,
+  record { same = fires.only (λ due. subst IsDue none due.0); lost = fires.lost (λ due. subst IsDue none due) },
+)
 
-pub unarmed_then : (a b c : Option Arming) (x y z : Counts) → StaysUnarmed a b x y → StaysUnarmed b c y z → StaysUnarmed a c x z
-unarmed_then a b c x y z first second none =
+-- after calls that were done, one more that was done
+pub unarmed_then : {T : Type 0} (result : Result T FlashStop) (a b c : Option Arming) (x y z : Counts) → StaysUnarmed {T = Unit {0}} (Ok tt) a b x y → StaysUnarmed result b c y z → StaysUnarmed {T = Unit {0}} (Ok tt) a c x z
+unarmed_then result a b c x y z first second none =
     let one = first none in
     let two = second one.0 in
-    (two.0, two.1 ∙ one.1)
+    (two.0, record { same = two.1.same ∙ one.1.same; lost = λ is. absurd cc })

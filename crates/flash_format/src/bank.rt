@@ -38,7 +38,7 @@ pub fn write_bank<D: Flash, H: Files>(
     ensures power { D.on flash.new ≡ is_ok (flash_result result) }
     ensures size { D.blocks flash.new ≡ D.blocks flash.old }
     ensures costs { Spends (flash_result result) (D.counts flash.old) (D.counts flash.new) }
-    ensures unarmed { StaysUnarmed (D.arming flash.old) (D.arming flash.new) (D.counts flash.old) (D.counts flash.new) }
+    ensures unarmed { StaysUnarmed (flash_result result) (D.arming flash.old) (D.arming flash.new) (D.counts flash.old) (D.counts flash.new) }
     ensures same { H.contents files.new ≡ H.contents files.old }
     ensures reads { ReadsBy (H.contents files.old) name.now (H.faults files.old) (H.faults files.new) result }
     ensures stops { RefusesNothing result }

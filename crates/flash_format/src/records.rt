@@ -30,7 +30,7 @@ fn write_twice<D: Flash>(flash: &mut D, bytes: &[u8]) -> Result<(), FlashStop>
     ensures power { D.on flash.new ≡ is_ok result }
     ensures size { D.blocks flash.new ≡ D.blocks flash.old }
     ensures costs { Spends result (D.counts flash.old) (D.counts flash.new) }
-    ensures unarmed { StaysUnarmed (D.arming flash.old) (D.arming flash.new) (D.counts flash.old) (D.counts flash.new) }
+    ensures unarmed { StaysUnarmed result (D.arming flash.old) (D.arming flash.new) (D.counts flash.old) (D.counts flash.new) }
 {
     flash.program(4096, bytes)?;
     flash.program(8192, bytes)?;
@@ -48,7 +48,7 @@ fn write_replicas<D: Flash>(flash: &mut D, layout: &Layout) -> Result<(), FlashS
     ensures power { D.on flash.new ≡ is_ok result }
     ensures size { D.blocks flash.new ≡ D.blocks flash.old }
     ensures costs { Spends result (D.counts flash.old) (D.counts flash.new) }
-    ensures unarmed { StaysUnarmed (D.arming flash.old) (D.arming flash.new) (D.counts flash.old) (D.counts flash.new) }
+    ensures unarmed { StaysUnarmed result (D.arming flash.old) (D.arming flash.new) (D.counts flash.old) (D.counts flash.new) }
 {
     let mut bytes = [0xFF; 4096];
     let meta = Meta::first(layout);
@@ -70,7 +70,7 @@ fn write_layout<D: Flash>(flash: &mut D, layout: &Layout) -> Result<(), FlashSto
     ensures power { D.on flash.new ≡ is_ok result }
     ensures size { D.blocks flash.new ≡ D.blocks flash.old }
     ensures costs { Spends result (D.counts flash.old) (D.counts flash.new) }
-    ensures unarmed { StaysUnarmed (D.arming flash.old) (D.arming flash.new) (D.counts flash.old) (D.counts flash.new) }
+    ensures unarmed { StaysUnarmed result (D.arming flash.old) (D.arming flash.new) (D.counts flash.old) (D.counts flash.new) }
 {
     let mut bytes = [0xFF; 4096];
     layout.write(&mut bytes);
@@ -93,7 +93,7 @@ pub fn write_records<D: Flash>(flash: &mut D, layout: &Layout) -> Result<(), Fla
     ensures power { D.on flash.new ≡ is_ok result }
     ensures size { D.blocks flash.new ≡ D.blocks flash.old }
     ensures costs { Spends result (D.counts flash.old) (D.counts flash.new) }
-    ensures unarmed { StaysUnarmed (D.arming flash.old) (D.arming flash.new) (D.counts flash.old) (D.counts flash.new) }
+    ensures unarmed { StaysUnarmed result (D.arming flash.old) (D.arming flash.new) (D.counts flash.old) (D.counts flash.new) }
 {
     write_replicas(flash, layout)?;
     write_layout(flash, layout)

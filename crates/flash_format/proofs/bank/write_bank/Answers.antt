@@ -89,7 +89,7 @@ loop-k-preserved g c =
           let stands = subst (λ (e : Entry). Stands (4096 * start L 0 k) (slot_bytes L k) (payload file e) t.now) entry sized in
           all_stand_more L k file c.args.entries.now m t below kept (before.front tells file told) stands;
       costs = spends_then (Ok tt) (Ok tt) _ _ _ before.costs done.costs;
-      unarmed = unarmed_then _ _ _ (g.D.Flash.counts c.args.flash.now) (g.D.Flash.counts c.loop-k.flash) (g.D.Flash.counts c.write_image.new.flash) before.unarmed done.unarmed;
+      unarmed = unarmed_then _ _ _ _ (g.D.Flash.counts c.args.flash.now) (g.D.Flash.counts c.loop-k.flash) (g.D.Flash.counts c.write_image.new.flash) before.unarmed done.unarmed;
       same = done.same ∙ before.same;
       later = omega (arith, before.later, done.reads.later);
     }

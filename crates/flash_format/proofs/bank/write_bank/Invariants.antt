@@ -15,7 +15,7 @@ invariant-loop-k g l = record {
   rest : IsTrue g.D.Flash.tells → Erased (4096 * (8 + slot_total (take l.k l.layout.rows))) (4096 * (8 + slot_total l.layout.rows)) (g.D.Flash.told l.flash).now;
   front : IsTrue g.D.Flash.tells → (file : List ℕ) → Tells (g.H.Files.contents l.fn.files) l.name file → AllStand l.k l.layout file l.entries (g.D.Flash.told l.flash).now;
   costs : Spends {T = Unit {0}} (Ok tt) (g.D.Flash.counts l.fn.flash) (g.D.Flash.counts l.flash);
-  unarmed : StaysUnarmed (g.D.Flash.arming l.fn.flash) (g.D.Flash.arming l.flash) (g.D.Flash.counts l.fn.flash) (g.D.Flash.counts l.flash);
+  unarmed : StaysUnarmed {T = Unit {0}} (Ok tt) (g.D.Flash.arming l.fn.flash) (g.D.Flash.arming l.flash) (g.D.Flash.counts l.fn.flash) (g.D.Flash.counts l.flash);
   same : g.H.Files.contents l.files ≡ g.H.Files.contents l.fn.files;
   later : g.H.Files.faults l.fn.files ≤ g.H.Files.faults l.files;
 }

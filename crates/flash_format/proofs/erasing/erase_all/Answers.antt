@@ -40,6 +40,6 @@ loop-block-preserved g c =
           subst (λ (t : Told). Erased 0 (4096 * (b + 1)) t.now) (sym (c.in_ok-erase.ensures.content tells))
           (erased_more b m (omega (arith, size, c.loop-block.invariant.same_size)) (c.loop-block.invariant.erased tells));
       costs = spends_then (Ok tt) (Ok tt) _ _ _ c.loop-block.invariant.costs c.in_ok-erase.ensures.counts;
-      unarmed = unarmed_then _ _ _ (g.D.Flash.counts c.args.flash.now) (g.D.Flash.counts c.loop-block.flash) (g.D.Flash.counts c.erase.new.self) c.loop-block.invariant.unarmed
+      unarmed = unarmed_then _ _ _ _ (g.D.Flash.counts c.args.flash.now) (g.D.Flash.counts c.loop-block.flash) (g.D.Flash.counts c.erase.new.self) c.loop-block.invariant.unarmed
           (unarmed_spent c.erase.result _ _ _ _ c.erase.ensures.arming c.erase.ensures.reached);
     }

@@ -12,5 +12,5 @@ invariant-loop-block g l = record {
   keeps : IsTrue g.D.Flash.tells → Keeps 0 (4096 * l.block) (g.D.Flash.told l.fn.flash) (g.D.Flash.told l.flash);
   erased : IsTrue g.D.Flash.tells → Erased 0 (4096 * l.block) (g.D.Flash.told l.flash).now;
   costs : Spends {T = Unit {0}} (Ok tt) (g.D.Flash.counts l.fn.flash) (g.D.Flash.counts l.flash);
-  unarmed : StaysUnarmed (g.D.Flash.arming l.fn.flash) (g.D.Flash.arming l.flash) (g.D.Flash.counts l.fn.flash) (g.D.Flash.counts l.flash);
+  unarmed : StaysUnarmed {T = Unit {0}} (Ok tt) (g.D.Flash.arming l.fn.flash) (g.D.Flash.arming l.flash) (g.D.Flash.counts l.fn.flash) (g.D.Flash.counts l.flash);
 }

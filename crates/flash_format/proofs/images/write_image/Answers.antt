@@ -39,7 +39,7 @@ loop-k-preserved g c =
           let step : 4096 * c.from.result ≡ 4096 * k = omega (arith, c.from.ensures) in
           stands_more first k bytes t.now old (subst (λ (n : ℕ). Stands (4096 * b) 4096 (drop n bytes) t.now) step piece);
       costs = spends_then (Ok tt) (Ok tt) _ _ _ before.costs done.costs;
-      unarmed = unarmed_then _ _ _ (g.D.Flash.counts c.args.flash.now) (g.D.Flash.counts c.loop-k.flash) (g.D.Flash.counts c.write_piece.new.flash) before.unarmed done.unarmed;
+      unarmed = unarmed_then _ _ _ _ (g.D.Flash.counts c.args.flash.now) (g.D.Flash.counts c.loop-k.flash) (g.D.Flash.counts c.write_piece.new.flash) before.unarmed done.unarmed;
       same = done.same ∙ before.same;
       later = omega (arith, before.later, done.reads.later);
     }

@@ -15,7 +15,7 @@ invariant-loop-k g l = record {
   rest : IsTrue g.D.Flash.tells → Erased (4096 * (l.first + l.k)) (4096 * (l.first + l.slots)) (g.D.Flash.told l.flash).now;
   front : IsTrue g.D.Flash.tells → (file : List ℕ) → Tells (g.H.Files.contents l.fn.files) l.name file → Stands (4096 * l.first) (4096 * l.k) (payload file l.entry) (g.D.Flash.told l.flash).now;
   costs : Spends {T = Unit {0}} (Ok tt) (g.D.Flash.counts l.fn.flash) (g.D.Flash.counts l.flash);
-  unarmed : StaysUnarmed (g.D.Flash.arming l.fn.flash) (g.D.Flash.arming l.flash) (g.D.Flash.counts l.fn.flash) (g.D.Flash.counts l.flash);
+  unarmed : StaysUnarmed {T = Unit {0}} (Ok tt) (g.D.Flash.arming l.fn.flash) (g.D.Flash.arming l.flash) (g.D.Flash.counts l.fn.flash) (g.D.Flash.counts l.flash);
   same : g.H.Files.contents l.files ≡ g.H.Files.contents l.fn.files;
   later : g.H.Files.faults l.fn.files ≤ g.H.Files.faults l.files;
 }
