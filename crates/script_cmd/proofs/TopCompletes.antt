@@ -46,25 +46,25 @@ granted asked g before after was are planned noted line runs boots has (bad_scri
 granted asked g before after was are planned noted line runs boots has (bad_script n good (inr is) short bad) = boots is
 granted asked g before after was are planned noted line runs boots has (bad_list n some bad) = has.list_is n some bad
 
-module _ (g : Given) (before after : Counts) (status : ℕ) (noted : Note) (taken takes : Option (List ℕ)) (was are : Faults) where
+module _ (g : Given) (before after : Counts) (status : ℕ) (taken takes : Option (List ℕ)) (was are : Faults) where
   -- a flash with metadata shows its numbers
-  found : (known : Type 0) (image : List ℕ) (planned : ℕ) (line : List ℕ) → known → HasMetadata image → IsGranted g before after was are → Finds known image before after planned noted line
+  found : (known : Type 0) (image : List ℕ) (planned : ℕ) (told : Note) (line : List ℕ) → known → HasMetadata image → IsGranted g before after was are → Finds known image before after planned told line
       → Prints line planned status taken takes was.sink are.sink → (status ≡ 0) ⊎ (status ≡ 9)
-  found known image planned line knows has granted (show.numbers n shows) prints = printed line status taken takes was.sink are.sink granted.no_sink_fault prints
-  found known image planned line knows has granted (show.none why none) prints = absurd (no why (none knows))
+  found known image planned told line knows has grants (show.numbers n shows) prints = printed line status taken takes was.sink are.sink grants.no_sink_fault prints
+  found known image planned told line knows has grants (show.none why none) prints = absurd (no why (none knows))
     where
       no : (why : NoBoot) → ShowsNone image why → ⊥
       no (no_boot.Layout f) is = let layout = has.has_layout in cc
       no no_boot.Metadata is = let one = is.1 in let layout = has.has_layout in let same : is.0 ≡ has.layout = cc in let none : deciding has.layout image ≡ None = subst (λ (L : Layout). deciding L image ≡ None) same is.2 in let some = has.decides in cc
       no (no_boot.Bank active previous) is = is
-  found known image planned line knows has granted (show.stopped (inl fault)) prints = absurd (granted.no_fault fault)
-  found known image planned line knows has granted (show.stopped (inr cut)) prints = absurd (granted.no_cut cut)
+  found known image planned told line knows has grants (show.stopped (inl fault)) prints = absurd (grants.no_fault fault)
+  found known image planned told line knows has grants (show.stopped (inr cut)) prints = absurd (grants.no_cut cut)
 
-  pub show-completes : (tells : Bool) (old : Told) → Showed (IsTrue tells × NothingDirty old) old.now before after status noted taken takes was.sink are.sink ⊎ RefusedList ask.show g status noted taken takes was are
+  pub show-completes : (tells : Bool) (old : Told) (told : Note) → Showed (IsTrue tells × NothingDirty old) old.now before after status told taken takes was.sink are.sink ⊎ RefusedList ask.show g status told taken takes was are
       → IsTrue tells → NothingDirty old → HasMetadata old.now → IsGranted g before after was are → (status ≡ 0) ⊎ (status ≡ 9)
-  show-completes tells old (inl (show.starved is same)) told clean has grants = inr is
-  show-completes tells old (inl (show.found planned line finds prints)) told clean has grants = found (IsTrue tells × NothingDirty old) old.now planned line (told, clean) has grants finds prints
-  show-completes tells old (inr refused) told clean has grants = absurd (granted ask.show g before after was are refused.0 noted refused.1 (λ is. cc) (λ is. cc) grants refused.2)
+  show-completes tells old told (inl (show.starved is same)) knows clean has grants = inr is
+  show-completes tells old told (inl (show.found planned line finds prints)) knows clean has grants = found (IsTrue tells × NothingDirty old) old.now planned told line (knows, clean) has grants finds prints
+  show-completes tells old told (inr refused) knows clean has grants = absurd (granted ask.show g before after was are refused.0 told refused.1 (λ is. cc) (λ is. cc) grants refused.2)
 
 -- a name that is told isn't lacking
 there : (told : Option Directory) (name file : List ℕ) → Tells told name file → Lacks told name → ⊥

@@ -43,8 +43,8 @@ returns-in-Ok-Show-clause-shows g c is =
       content = c.show.ensures.content;
       no_turns = c.show.ensures.no_turns;
       counts = c.show.ensures.counts;
-      complete = show-completes (record { list = None; files = g.H.Files.contents c.args.files.now; script = g.I.Source.left c.args.source.now }) _ _ _ _ _ _
-          (record { files = files; source = source; sink = _ }) (record { files = files; source = source; sink = _ }) g.D.Flash.tells _ (inl c.show.ensures.showed);
+      complete = show-completes (record { list = None; files = g.H.Files.contents c.args.files.now; script = g.I.Source.left c.args.source.now }) _ _ _ _ _
+          (record { files = files; source = source; sink = _ }) (record { files = files; source = source; sink = _ }) g.D.Flash.tells _ _ (inl c.show.ensures.showed);
     }
 
 pub returns-in-Ok-Format-clause-formats : goal.returns-in-Ok-Format-clause-formats

@@ -1,4 +1,4 @@
-use Rattle.std.proofs.Common.{ℕ, ap, subst}
+use Rattle.std.proofs.Common.{ℕ, ap, subst, ◌∙◌}
 use Rattle.script_cmd.specs.Formatting.{Tries}
 use Rattle.script_cmd.proofs.ShowFlash.{power-on-keeps, none-falls}
 use Rattle.script_cmd.proofs.FormatFlash.{stop-cause}
