@@ -9,6 +9,7 @@ pub mod PromiseHeadline
 pub mod PromiseBoot
 pub mod PromiseGuarded
 pub mod PromiseComplete
+pub mod PromiseReplies
 pub mod PromiseAll
 mod RunTurns
 mod RunEnds

@@ -10,6 +10,7 @@ use Rattle.script_cmd.specs.Promises.{given_to, Promised}
 use Rattle.script_cmd.proofs.PromiseHeadline.{ways-keep-the-headline}
 use Rattle.script_cmd.proofs.PromiseWritten.{ways-write}
 use Rattle.script_cmd.proofs.PromiseEnds.{ways-end}
+use Rattle.script_cmd.proofs.PromiseReplies.{ways-reply}
 use Rattle.script_cmd.proofs.PromiseBoot.{ways-boot}
 use Rattle.script_cmd.proofs.PromiseGuarded.{ways-guard}
 use Rattle.script_cmd.proofs.PromiseComplete.{ways-are-complete}
@@ -21,6 +22,7 @@ promised passes tells asked list files source journal status noted old new taken
   headline = ways-keep-the-headline passes tells asked list files source journal status noted old new taken takes was are way;
   wrote = ways-write passes tells asked (given_to asked list files source) journal status noted old new taken takes was are way;
   ends = ways-end passes tells asked (given_to asked list files source) journal status noted old new taken takes was are way;
+  replies = ways-reply passes tells asked (given_to asked list files source) journal status noted old new taken takes was are way;
   boot_word = ways-boot passes tells asked list files source journal status noted old new taken takes was are way;
   guarded = ways-guard passes tells asked (given_to asked list files source) journal status noted old new taken takes was are way;
   complete = ways-are-complete passes tells asked list files source journal status noted old new taken takes was are way;

@@ -25,6 +25,7 @@ use Rattle.fwu_model.proofs.Runs.{runs-grow}
 use Rattle.fwu_model.proofs.Frame.{calm-stays, start-is-calm}
 use Rattle.script_cmd.specs.Booted.{BootsFrom}
 use Rattle.script_cmd.specs.Machine.{Moment, IsSafe, Shows}
+use Rattle.script_cmd.specs.Replies.{Follows, Replies}
 use Rattle.script_cmd.specs.Turning.{Makes, NoneFalls, Turns}
 use Rattle.script_cmd.specs.Running.{Ran, RunsTo}
 
@@ -139,6 +140,12 @@ armed-on E c next t journal old mid new was armed by step makes cut = record {
   last = subst (λ (x : Option Turn). IsCut x armed) (sym (slice_get-last journal t)) cut;
 }
 
+-- ---- the replies
+
+follows-on : (journal : List Turn) (t : Turn) (was mid on : Option Numbers) → Follows was journal mid → Replies t.call mid t.reply on → Follows was (journal ++ t ∷ []) on
+follows-on [] t was mid on same replied = (on, subst (λ (o : Option Numbers). Replies t.call o t.reply on) same replied, refl)
+follows-on (u ∷ turns) t was mid on (next, first, rest) replied = (next, first, follows-on turns t next mid on rest replied)
+
 -- ---- the whole
 
 module _ (passes : List ℕ → Bool) (tells : Bool) where
@@ -148,6 +155,7 @@ module _ (passes : List ℕ → Bool) (tells : Bool) where
     lost_turns = inl (omega arith);
     fault_turns = λ t in_it is. absurd (no-turn t in_it);
     reads_no_file = λ t in_it is. no-turn t in_it;
+    replies = refl;
     ends = λ n t is ends. absurd (cc);
     run = λ told E start sound no_chance. record {
       last = start_of start;
@@ -211,6 +219,7 @@ module _ (passes : List ℕ → Bool) (tells : Bool) where
       | inl before ↦ ran.reads_no_file u before is
       | inr last ↦ turned.reads_no_file (ap (λ (x : Turn). x.reply) last ∙ is)
     ];
+    replies = follows-on journal t old.on mid.on new.on ran.replies (subst (λ (x : Call). Replies x mid.on t.reply new.on) (sym turned.call_is) turned.replies);
     ends = ends-on t journal none;
     run = λ told E start sound no_chance.
         run-on E start c t journal old mid new told sound.passes_are ran.counts none turned (λ rose. no_chance (rose-before old.counts.chances mid.counts.chances new.counts.chances ran.counts.chances rose))

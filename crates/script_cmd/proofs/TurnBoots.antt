@@ -4,6 +4,7 @@ use Rattle.std.specs.Prelude.{◌⊎◌, is_some, is_ok}
 use Rattle.std.specs.List.{list_any}
 use Rattle.flash_core.specs.declared.flash.Arming.{Arming}
 use Rattle.flash_core.specs.declared.flash.Counts.{Counts}
+use Rattle.flash_core.specs.declared.flash.Flash.{Ghosts}
 use Rattle.flash_core.specs.Counts.{Rose, Idles, Spends}
 use Rattle.flash_core.specs.Told.{Told, NothingDirty, fresh, is_unsure}
 use Rattle.flash_core.specs.May.{Guards, Leaves, May, NoChance}
@@ -20,11 +21,14 @@ use Rattle.fwu_model.specs.Calm.{IsAtRest}
 use Rattle.fwu_model.proofs.Frame.{calm-again, calm-stays}
 use Rattle.fwu_model.proofs.Runs.{only}
 use Rattle.moves.specs.Moved.{GuardedBy}
+use Rattle.early_boot.specs.declared.ends.BootEnd.{BootEnd}
+use Rattle.early_boot.specs.declared.ends.BootEnd.TheVariants as boot_end
 use Rattle.early_boot.specs.Started.{Started}
-use Rattle.early_boot.specs.Ends.{Ended, booted, bad_layout, no_metadata, no_bank, lost, failed, stop_of}
+use Rattle.early_boot.specs.Ends.{Ended, booted, bad_layout, no_metadata, no_bank, lost, failed, ended, stop_of}
 use Rattle.early_boot.specs.EndsBy.{EndsByBytes, EndsByMachine, StartsReady, StopsWith}
 use Rattle.script_cmd.specs.Machine.{at, IsAt, IsSafe}
 use Rattle.script_cmd.specs.Booted.{BootsFrom}
+use Rattle.script_cmd.specs.Replies.{LeavesOn}
 use Rattle.script_cmd.specs.Turning.{NoneFalls, Turns, EndsTurn, boot_turn, on_after, reply_of_end}
 
 -- ---- the guard
@@ -144,6 +148,19 @@ boots-from passes (no_bank active previous) old new h =
 boots-from passes (lost n) old new h = tt
 boots-from passes (failed n) old new h = tt
 
+-- a boot tells of the flash what it leaves
+leaves-on : {D : Type 0} {F : Ghosts D} (end : BootEnd D F) → LeavesOn (reply_of_end (ended end)) (on_after (ended end))
+leaves-on (boot_end.Booted b n) = record { trials_are = refl; counter_is = refl; fallback_is = refl }
+leaves-on (boot_end.BadLayout flash f) = refl
+leaves-on (boot_end.NoMetadata flash) = refl
+leaves-on (boot_end.NoBank flash active previous) = refl
+leaves-on (boot_end.Lost flash n) = refl
+leaves-on (boot_end.Fault flash n) = refl
+
+pub end-leaves : {D : Type 0} {F : Ghosts D} (end : BootEnd D F) (t : Turn) (on : Option Numbers) → t ≡ boot_turn (ended end) → on ≡ on_after (ended end) → LeavesOn t.reply on
+end-leaves end t on turn_is on_is =
+    subst (λ (x : Turn). LeavesOn x.reply on) (sym turn_is) (subst (LeavesOn (reply_of_end (ended end))) (sym on_is) (leaves-on end))
+
 -- ---- the counts
 
 rose-later : (a b c : ℕ) → a ≤ b → Rose b c → Rose a c
@@ -260,6 +277,7 @@ module _ (passes : List ℕ → Bool) (tells : Bool) (e : Ended) (was are : Coun
     lost = lost-then was was are (waits-none was) e ends.costs;
     failed = failed-then was was are (waits-none was) e ends.costs;
     reads_no_file = reads-none e;
+    replies = ends.leaves;
     step = λ test E c passes_are is none. step-again test E c passes_are is;
     safe = λ test rest.
         safe-after e new (same-guards mid new (guard-kept passes e mid new (ends.by_bytes test)) rest.guard) (ends.guarded test rest);
@@ -283,6 +301,7 @@ module _ (passes : List ℕ → Bool) (tells : Bool) (e : Ended) (was are : Coun
     lost = lost-then old was are waits e ends.costs;
     failed = failed-then old was are waits e ends.costs;
     reads_no_file = reads-none e;
+    replies = ends.leaves;
     step = λ test E c passes_are is none. step-off test E c passes_are is none;
     safe = λ test guards.
         let rest = fresh-rests before mid (on.fresh test) guards.0 in
@@ -304,7 +323,15 @@ module _ (passes : List ℕ → Bool) (tells : Bool) (e : Ended) (was are : Coun
 
 module _ (passes : List ℕ → Bool) (tells : Bool) (e : Ended) (t : Turn) (was are : Counts) (mid new : Told) (armed after_armed : Option Arming) (on : Option Numbers) (ends : EndsTurn passes tells e t was are mid new on) where
   as-turn : EndsTurn passes tells e (boot_turn e) was are mid new (on_after e)
-  as-turn = record { turn_is = refl; on_is = refl; costs = ends.costs; by_bytes = ends.by_bytes; by_machine = ends.by_machine; guarded = ends.guarded }
+  as-turn = record {
+    turn_is = refl;
+    on_is = refl;
+    leaves = subst (LeavesOn (boot_turn e).reply) ends.on_is (subst (λ (x : Turn). LeavesOn x.reply on) ends.turn_is ends.leaves);
+    costs = ends.costs;
+    by_bytes = ends.by_bytes;
+    by_machine = ends.by_machine;
+    guarded = ends.guarded;
+  }
 
   pub boot-turns-again : (n : Numbers) → Turns passes tells call.Boot t (at (Some n) mid was armed) (at on new are after_armed)
   boot-turns-again n =

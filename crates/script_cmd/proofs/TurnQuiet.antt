@@ -14,6 +14,7 @@ use Rattle.fwu_model.specs.Reply as reply
 use Rattle.fwu_model.specs.Answer.{Answer, answer, answered}
 use Rattle.fwu_model.specs.Run.{Condition, Step, Answered, Idle, is_boot, is_off, is_stop, moved_on}
 use Rattle.script_cmd.specs.Machine.{at, IsAt, IsSafe}
+use Rattle.script_cmd.specs.Replies.{Replies}
 use Rattle.script_cmd.specs.Turning.{Turns, LeavesFlash, quiet_turn}
 
 -- what the machine answers to it while a bank is booted
@@ -31,10 +32,10 @@ no-numbers : (what : Call) → IsFalse (is_boot what) → MatchBool (is_boot wha
 no-numbers what no_boot = subst (λ (b : Bool). MatchBool b (IsSome {T = Numbers} None) (IsNone {T = Numbers} None)) (sym no_boot) refl
 
 module _ (passes : List ℕ → Bool) (tells : Bool) (what : Call) (r : Reply) (was are : Counts) (old new : Told) (armed after_armed : Option Arming) (quiet : LeavesFlash tells what r was are old new after_armed) where
-  turns-by : (on : Option Numbers)
+  turns-by : (on : Option Numbers) → Replies what on r on
       → (IsTrue tells → (E : Setting) (c : Condition) → IsAt E c on old → (next : Condition) × Step E c (quiet_turn what r) next × IsAt E next on old)
       → Turns passes tells what (quiet_turn what r) (at on old was armed) (at on new are after_armed)
-  turns-by on step = record {
+  turns-by on replied step = record {
     call_is = refl;
     counts = quiet.counts;
     made = quiet.made;
@@ -42,13 +43,14 @@ module _ (passes : List ℕ → Bool) (tells : Bool) (what : Call) (r : Reply) (
     lost = λ e. absurd (stays r reply.Lost quiet.no_stop refl e);
     failed = λ e. absurd (stays r reply.Fault quiet.no_stop refl e);
     reads_no_file = stays r reply.ReadFault quiet.no_stop refl;
+    replies = replied;
     step = λ test E c passes_are is none. subst (λ (t : Told). (next : Condition) × Step E c (quiet_turn what r) next × IsAt E next on t) (sym (quiet.same test)) (step test E c is);
     safe = λ test safe. subst (IsSafe on) (sym (quiet.same test)) safe;
     boots = λ test off clean is. let e = ap is_boot is in let f = quiet.no_boot in absurd cc;
   }
 
-  pub quiet-off : AnswersOff what r → Turns passes tells what (quiet_turn what r) (at None old was armed) (at None new are after_armed)
-  quiet-off answers = turns-by None step
+  pub quiet-off : Replies what None r None → AnswersOff what r → Turns passes tells what (quiet_turn what r) (at None old was armed) (at None new are after_armed)
+  quiet-off replied answers = turns-by None replied step
     where
       step : IsTrue tells → (E : Setting) (c : Condition) → IsAt E c None old → (next : Condition) × Step E c (quiet_turn what r) next × IsAt E next None old
       step test E c is = (
@@ -62,8 +64,8 @@ module _ (passes : List ℕ → Bool) (tells : Bool) (what : Call) (r : Reply) (
               subst (λ (b : Bool). IsFalse (b || not (is_off c.session))) (sym quiet.no_boot)
               (subst (λ (session : Session). IsFalse (not (is_off session))) (sym is.shows.0) refl)
 
-  pub quiet-on : (n : Numbers) → AnswersOn what r n → Turns passes tells what (quiet_turn what r) (at (Some n) old was armed) (at (Some n) new are after_armed)
-  quiet-on n answers = turns-by (Some n) step
+  pub quiet-on : (n : Numbers) → Replies what (Some n) r (Some n) → AnswersOn what r n → Turns passes tells what (quiet_turn what r) (at (Some n) old was armed) (at (Some n) new are after_armed)
+  quiet-on n replied answers = turns-by (Some n) replied step
     where
       step : IsTrue tells → (E : Setting) (c : Condition) → IsAt E c (Some n) old → (next : Condition) × Step E c (quiet_turn what r) next × IsAt E next (Some n) old
       step test E c is =

@@ -1,5 +1,6 @@
 pub mod Machine
 pub mod Booted
+pub mod Replies
 pub mod Turning
 pub mod Printed
 pub mod Running

@@ -3,7 +3,7 @@ use Rattle.std.specs.Prelude.{◌≡◌, ◌⊎◌, ℕ, Bool, List, ◌++◌, O
 use Rattle.flash_core.specs.Counts.{Rose}
 use Rattle.flash_core.specs.Told.{NothingDirty}
 use Rattle.flash_core.specs.May.{Guards}
-use Rattle.fwu_model.specs.State.{State}
+use Rattle.fwu_model.specs.State.{State, Numbers}
 use Rattle.fwu_model.specs.Sound.{Setting}
 use Rattle.fwu_model.specs.Call.{Call}
 use Rattle.fwu_model.specs.Reply.{Turn}
@@ -19,6 +19,7 @@ use Rattle.fwu_words.specs.Order as ask
 use Rattle.script_cmd.specs.Asking.{plainly}
 use Rattle.script_cmd.specs.BootWord.{BootsBy}
 use Rattle.script_cmd.specs.Machine.{Moment}
+use Rattle.script_cmd.specs.Replies.{Follows}
 use Rattle.script_cmd.specs.Ways.{Given, Way}
 
 -- what the program was given to read, with what the source tells
@@ -44,6 +45,10 @@ WroteHolds g journal status noted taken takes =
 -- why it ended as it did
 abbrev pub EndsHold : Option Asked → Given → List Turn → ℕ → Note → Moment → Moment → Faults → Faults → Type 0
 EndsHold asked g journal status noted old new was are = EndsAs (plainly asked) g.list g.files g.script status noted journal old.counts new.counts was are
+
+-- which replies the turns have, from a flash that was on with such numbers, or off
+abbrev pub RepliesHold : List Turn → Moment → Type 0
+RepliesHold journal old = (on : Option Numbers) × Follows old.on journal on
 
 -- The one command `boot`, on any flash with nothing dirty, where no failure and no loss stopped it, and the list had no bad line, goes by the bytes.
 abbrev pub BootWordHolds : (List ℕ → Bool) → Bool → Option Asked → List Turn → ℕ → Note → Moment → Moment → Type 0
@@ -73,6 +78,11 @@ abbrev pub WaysEnd : Type 0
 WaysEnd =
     (passes : List ℕ → Bool) (tells : Bool) (asked : Option Asked) (g : Given) (journal : List Turn) (status : ℕ) (noted : Note) (old new : Moment) (taken takes : Option (List ℕ)) (was are : Faults)
     → Way passes tells asked g journal status noted old new taken takes was are → EndsHold asked g journal status noted old new was are
+
+abbrev pub WaysReply : Type 0
+WaysReply =
+    (passes : List ℕ → Bool) (tells : Bool) (asked : Option Asked) (g : Given) (journal : List Turn) (status : ℕ) (noted : Note) (old new : Moment) (taken takes : Option (List ℕ)) (was are : Faults)
+    → Way passes tells asked g journal status noted old new taken takes was are → RepliesHold journal old
 
 abbrev pub WaysKeepTheHeadline : Type 0
 WaysKeepTheHeadline =
@@ -108,6 +118,8 @@ pub record Promised (passes : List ℕ → Bool) (tells : Bool) (asked : Option 
   pub wrote : WroteHolds (given_to asked list files source) journal status noted taken takes
   -- For every device, files, source and sink: which turns and causes ended the run.
   pub ends : EndsHold asked (given_to asked list files source) journal status noted old new was are
+  -- For every device: `show` tells the numbers that the boot before it left, or while off `off`, and `cut` is always answered.
+  pub replies : RepliesHold journal old
   -- `boot` on any flash with nothing dirty, sound or not, where nothing failed.
   pub boot_word : BootWordHolds passes tells asked journal status noted old new
   -- From a flash with nothing dirty, sound or not: no loss may harm what is in use.

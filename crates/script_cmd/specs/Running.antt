@@ -19,6 +19,7 @@ use Rattle.fwu_model.specs.declared.kinds.Note.{Note}
 use Rattle.fwu_model.specs.declared.kinds.Note.TheVariants as note
 use Rattle.script_cmd.specs.Machine.{Moment, IsAt, IsSafe}
 use Rattle.script_cmd.specs.Booted.{BootsFrom}
+use Rattle.script_cmd.specs.Replies.{Follows}
 use Rattle.script_cmd.specs.Turning.{NoneFalls, Turns}
 use Rattle.script_cmd.specs.Printed.{Prints}
 
@@ -46,6 +47,8 @@ pub record Ran (passes : List ℕ → Bool) (tells : Bool) (journal : List Turn)
   pub lost_turns : LossesAreCounted journal old.counts new.counts
   pub fault_turns : (t : Turn) → Contains journal t → t.reply ≡ reply.Fault → Rose old.counts.faults new.counts.faults
   pub reads_no_file : (t : Turn) → Contains journal t → t.reply ≢ reply.ReadFault
+  -- which replies they have, on any device
+  pub replies : Follows old.on journal new.on
   -- a turn that ends the run is the last
   pub ends : (n : ℕ) (t : Turn) → slice_get journal n ≡ Some t → IsTrue (ends_run t.reply) → n + 1 ≡ length journal
   pub run : IsTrue tells → (E : Setting) (start : State) → StartsSound E start passes old → (Rose old.counts.chances new.counts.chances → ⊥) → RunsTo E start journal old new

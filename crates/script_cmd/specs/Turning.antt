@@ -22,6 +22,7 @@ use Rattle.early_boot.specs.Ends.{Ended, booted, bad_layout, no_metadata, no_ban
 use Rattle.early_boot.specs.EndsBy.{EndsByBytes, EndsByMachine}
 use Rattle.script_cmd.specs.Machine.{Moment, IsAt, IsSafe}
 use Rattle.script_cmd.specs.Booted.{BootsFrom}
+use Rattle.script_cmd.specs.Replies.{LeavesOn, Replies}
 
 -- no count of failures, losses or chances falls
 pub record NoneFalls (old new : Counts) : Type 0 where
@@ -45,6 +46,8 @@ pub record Turns (passes : List ℕ → Bool) (tells : Bool) (c : Call) (t : Tur
   pub lost : t.reply ≡ reply.Lost → Rose old.counts.cuts new.counts.cuts ⊎ Rose old.counts.reached new.counts.reached
   pub failed : t.reply ≡ reply.Fault → Rose old.counts.faults new.counts.faults
   pub reads_no_file : t.reply ≢ reply.ReadFault
+  -- on any device the reply is by whether the flash was on, and by its numbers
+  pub replies : Replies c old.on t.reply new.on
   -- from a condition of a run it is a step, where no torn block was sealed by chance
   pub step : IsTrue tells → (E : Setting) (was : Condition) → E.passes ≡ passes → IsAt E was old.on old.told → (Rose old.counts.chances new.counts.chances → ⊥)
       → (next : Condition) × Step E was t next × IsAt E next new.on new.told
@@ -88,6 +91,8 @@ boot_turn e = record { call = call.Boot; reply = reply_of_end e; numbers = numbe
 pub record EndsTurn (passes : List ℕ → Bool) (tells : Bool) (e : Ended) (t : Turn) (was are : Counts) (old new : Told) (on : Option Numbers) : Type 0 where
   pub turn_is : t ≡ boot_turn e
   pub on_is : on ≡ on_after e
+  -- the reply tells of these numbers
+  pub leaves : LeavesOn t.reply on
   pub costs : Spends (stop_of e) was are
   pub by_bytes : IsTrue tells → EndsByBytes passes old e new
   pub by_machine : IsTrue tells → (E : Setting) (s : State) → E.passes ≡ passes → IsCalm E old s → Guards 1 7 old → EndsByMachine E s e new

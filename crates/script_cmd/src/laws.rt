@@ -1,5 +1,5 @@
 //! Laws of the ways that a run may end: functions that do nothing, whose contract is the law.
-ghost use Rattle.script_cmd.specs.Promises.{WaysAreComplete, WaysBoot, WaysEnd, WaysGuard, WaysKeepTheHeadline, WaysWrite};
+ghost use Rattle.script_cmd.specs.Promises.{WaysAreComplete, WaysBoot, WaysEnd, WaysGuard, WaysKeepTheHeadline, WaysReply, WaysWrite};
 
 /// Whichever way a run ends, what the sink took is the lines of its turns, or one line where nothing ran.
 pub fn ways_write()
@@ -9,6 +9,11 @@ pub fn ways_write()
 /// Whichever way a run ends, its status has its cause, and what can't run is refused.
 pub fn ways_end()
     ensures { WaysEnd }
+{}
+
+/// Whichever way a run ends, on any device, `show` tells the numbers that the boot before it left, or while off `off`.
+pub fn ways_reply()
+    ensures { WaysReply }
 {}
 
 /// Whichever way a run ends from a sound flash, the headline holds for the calls that its words ask for.

@@ -24,8 +24,8 @@ use verify_core::Verifier;
 ///
 /// `run` reads the source to its end, reads the script, and only then does its lines in order; `boot` is the script of the one line
 /// `boot`. Each line that is a call is one turn, which is kept in the journal and printed in one piece. `show` prints what the flash
-/// shows. `format` makes a layout and stores a package. The room for all turns and for the longest line is made before the first turn, and status 9 with an empty journal means
-/// that there was none.
+/// shows. `format` makes a layout and stores a package. The room for all turns and for the longest line is made before the first turn,
+/// and status 9 with an empty journal means that there was none.
 pub fn fwu_top_with<D: Flash, H: Files, I: Source, O: Sink, V: Verifier>(
     alloc: Global,
     words: &[String],

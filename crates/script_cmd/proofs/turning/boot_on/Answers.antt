@@ -3,6 +3,7 @@ use Rattle.early_boot.specs.Ends.{ended}
 use Rattle.fwu_journal.specs.Shown.{turn}
 use Rattle.script_cmd.specs.Machine.{shown_on}
 use Rattle.script_cmd.specs.Turning.{EndsTurn}
+use Rattle.script_cmd.proofs.TurnBoots.{end-leaves}
 use Rattle.script_cmd.proofs.turning.boot_on.Goals as goal
 
 pub returns-clause-ends : goal.returns-clause-ends
@@ -13,6 +14,7 @@ returns-clause-ends g c = (
       (record {
         turn_is = c.turned_by.ensures.turn;
         on_is = c.turned_by.ensures.on;
+        leaves = end-leaves c.boot.result (turn c.turned_by.result.turn) (shown_on c.turned_by.result.machine) c.turned_by.ensures.turn c.turned_by.ensures.on;
         costs = c.boot.ensures.costs;
         by_bytes = c.boot.ensures.by_bytes;
         by_machine = c.boot.ensures.by_machine;

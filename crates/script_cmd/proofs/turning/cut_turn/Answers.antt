@@ -1,4 +1,4 @@
-use Rattle.std.proofs.Common.{Some, None, sym, subst}
+use Rattle.std.proofs.Common.{Some, None, refl, sym, subst}
 use Rattle.fwu_model.specs.Call as call
 use Rattle.fwu_model.specs.Reply.{Turn}
 use Rattle.fwu_model.specs.Reply as model_reply
@@ -18,7 +18,7 @@ returns-in-Off-clause-turns g c passes =
     (sym c.in-Off.is)
     (subst (λ (t : Turn). Turns passes g.D.Flash.tells what t (at None (g.D.Flash.told old) (g.D.Flash.counts old) (g.D.Flash.arming old)) (at None (g.D.Flash.told new) (g.D.Flash.counts new) (g.D.Flash.arming new)))
     (sym c.turn_of-turn.ensures)
-    (quiet-off passes g.D.Flash.tells what model_reply.CutOk (g.D.Flash.counts old) (g.D.Flash.counts new) (g.D.Flash.told old) (g.D.Flash.told new) (g.D.Flash.arming old) (g.D.Flash.arming new) c.arm.ensures.leaves (cut-off c.args.n c.args.k)))
+    (quiet-off passes g.D.Flash.tells what model_reply.CutOk (g.D.Flash.counts old) (g.D.Flash.counts new) (g.D.Flash.told old) (g.D.Flash.told new) (g.D.Flash.arming old) (g.D.Flash.arming new) c.arm.ensures.leaves (refl, refl) (cut-off c.args.n c.args.k)))
 
 pub returns-in-On-clause-turns : goal.returns-in-On-clause-turns
 returns-in-On-clause-turns g c passes =
@@ -30,4 +30,4 @@ returns-in-On-clause-turns g c passes =
     (sym c.in-On.is)
     (subst (λ (t : Turn). Turns passes g.D.Flash.tells what t (at (Some n) (g.D.Flash.told old) (g.D.Flash.counts old) (g.D.Flash.arming old)) (at (Some n) (g.D.Flash.told new) (g.D.Flash.counts new) (g.D.Flash.arming new)))
     (sym c.turn_of-turn.ensures)
-    (quiet-on passes g.D.Flash.tells what model_reply.CutOk (g.D.Flash.counts old) (g.D.Flash.counts new) (g.D.Flash.told old) (g.D.Flash.told new) (g.D.Flash.arming old) (g.D.Flash.arming new) c.arm-in-On.ensures.leaves n (cut-on c.args.n c.args.k n)))
+    (quiet-on passes g.D.Flash.tells what model_reply.CutOk (g.D.Flash.counts old) (g.D.Flash.counts new) (g.D.Flash.told old) (g.D.Flash.told new) (g.D.Flash.arming old) (g.D.Flash.arming new) c.arm-in-On.ensures.leaves n (refl, refl) (cut-on c.args.n c.args.k n)))

@@ -19,7 +19,7 @@ returns-in-Off-clause-turns g c passes =
     (sym c.in-Off.is)
     (subst (λ (t : Turn). Turns passes g.D.Flash.tells call.Show t (at None told counts armed) (at None told counts armed))
     (sym c.turn_of.ensures)
-    (quiet-off passes g.D.Flash.tells call.Show model_reply.IsOff counts counts told told armed armed (show-leaves g.D.Flash.tells model_reply.IsOff counts told armed refl) show-off))
+    (quiet-off passes g.D.Flash.tells call.Show model_reply.IsOff counts counts told told armed armed (show-leaves g.D.Flash.tells model_reply.IsOff counts told armed refl) (refl, refl) show-off))
 
 pub returns-in-On-clause-turns : goal.returns-in-On-clause-turns
 returns-in-On-clause-turns g c passes =
@@ -32,4 +32,4 @@ returns-in-On-clause-turns g c passes =
     (sym c.in-On.is)
     (subst (λ (t : Turn). Turns passes g.D.Flash.tells call.Show t (at (Some n) told counts armed) (at (Some n) told counts armed))
     (sym c.shows_turn-turn.ensures)
-    (quiet-on passes g.D.Flash.tells call.Show (model_reply.Shown n) counts counts told told armed armed (show-leaves g.D.Flash.tells (model_reply.Shown n) counts told armed refl) n (show-on n)))
+    (quiet-on passes g.D.Flash.tells call.Show (model_reply.Shown n) counts counts told told armed armed (show-leaves g.D.Flash.tells (model_reply.Shown n) counts told armed refl) n (refl, refl) (show-on n)))
