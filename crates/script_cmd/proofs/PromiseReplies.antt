@@ -1,5 +1,5 @@
 -- Which replies the turns of a run have, whichever way it ended.
-use Rattle.std.proofs.Common.{◌≡◌, List, [], Option, refl, sym, subst}
+use Rattle.std.proofs.Common.{◌≡◌, List, [], refl, sym, subst}
 use Rattle.fwu_model.specs.Reply.{Turn}
 use Rattle.script_cmd.specs.Machine.{Moment}
 use Rattle.script_cmd.specs.Ways.{starved, refused, ran}

@@ -1,5 +1,5 @@
 -- The command `show`, by the words and behind a list.
-use Rattle.std.proofs.Common.{◌≡◌, ◌≤◌, ℕ, Bool, List, [], Option, Some, None, refl, sym, ap, subst, ◌∙◌, ◌⊎◌, inl, inr, IsTrue, le_refl}
+use Rattle.std.proofs.Common.{◌≡◌, ◌≤◌, ℕ, Bool, List, [], Option, Some, None, sym, ap, subst, ◌⊎◌, inl, inr, IsTrue, le_refl}
 use Rattle.flash_core.specs.Told.{Told, NothingDirty}
 use Rattle.flash_core.specs.declared.flash.Counts.{Counts}
 use Rattle.fwu_model.specs.Reply.{Turn}

@@ -1,4 +1,4 @@
-use Rattle.std.proofs.Common.{◌≡◌, ℕ, List, sym, ap, subst, ◌∙◌, ◌++◌, IsTrue, Ok, refl}
+use Rattle.std.proofs.Common.{ℕ, List, sym, ap, subst, ◌∙◌, ◌++◌, IsTrue}
 use Rattle.flash_core.specs.Told.{Told, NothingDirty}
 use Rattle.fwu_model.specs.declared.kinds.Note.TheVariants as note
 use Rattle.fwu_model.specs.declared.kinds.NoBoot.TheVariants as no_boot

@@ -1,4 +1,3 @@
-use Rattle.std.proofs.Common.{None}
 use Rattle.script_cmd.proofs.PromiseAll.{promised}
 use Rattle.script_cmd.proofs.top.fwu_top_with.Goals as goal
 
