@@ -46,7 +46,7 @@ WroteHolds g journal status noted taken takes =
 abbrev pub EndsHold : Option Asked → Given → List Turn → ℕ → Note → Moment → Moment → Faults → Faults → Type 0
 EndsHold asked g journal status noted old new was are = EndsAs (plainly asked) g.list g.files g.script status noted journal old.counts new.counts was are
 
--- which replies the turns have, from a flash that was on with such numbers, or off
+-- which replies the turns have, from a flash that was off, or on with its numbers
 abbrev pub RepliesHold : List Turn → Moment → Type 0
 RepliesHold journal old = (on : Option Numbers) × Follows old.on journal on
 
@@ -118,7 +118,8 @@ pub record Promised (passes : List ℕ → Bool) (tells : Bool) (asked : Option 
   pub wrote : WroteHolds (given_to asked list files source) journal status noted taken takes
   -- For every device, files, source and sink: which turns and causes ended the run.
   pub ends : EndsHold asked (given_to asked list files source) journal status noted old new was are
-  -- For every device: `show` tells the numbers that the boot before it left, or while off `off`, and `cut` is always answered.
+  -- For every device: a boot tells whether the flash is on, and its trials and counter; `show` tells the numbers with which it is on, or while off
+  -- `off`; and each `cut` is taken.
   pub replies : RepliesHold journal old
   -- `boot` on any flash with nothing dirty, sound or not, where nothing failed.
   pub boot_word : BootWordHolds passes tells asked journal status noted old new
