@@ -1,14 +1,9 @@
 #!/bin/sh
 # Packages of `fip create` beside those of Trusted Firmware-A's fiptool, byte for byte, where both promise the same: the parts in
-# fiptool's order, none of them empty. Skipped where fiptool isn't installed (Debian's arm-trusted-firmware-tools).
+# fiptool's order, none of them empty.
 set -eu
 cd "$(dirname "$0")/.."
-command -v fiptool >/dev/null || { echo "skipped: fiptool is not installed"; exit 0; }
-work=$(mktemp -d)
-trap 'rm -rf "$work"' EXIT
-
-(cd crates/fip_prog && rt run -- info - <stdin >"$work/build.log" 2>&1) || { cat "$work/build.log"; exit 1; }
-fip=$PWD/crates/fip_prog/out/fip_prog
+. bench/build_fip.sh
 cd "$work"
 printf hello >h.bin
 printf xyz >s3.bin

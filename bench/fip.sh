@@ -1,15 +1,11 @@
 #!/bin/sh
 # `fip` beside fiptool, in one run: processor time and peak memory of `create` and `unpack` over three payloads that make a
-# package of nearly 64 MiB, the time of `info`, and the start-up. Skipped where fiptool isn't installed (Debian's
-# arm-trusted-firmware-tools).
+# package of nearly 64 MiB, the time of `info`, and the start-up.
 set -eu
 cd "$(dirname "$0")/.."
-command -v fiptool >/dev/null || { echo "skipped: fiptool is not installed"; exit 0; }
-work=$(mktemp -d)
-trap 'rm -rf "$work"' EXIT
-(cd crates/fip_prog && rt run -- info - <stdin >"$work/build.log" 2>&1) || { cat "$work/build.log"; exit 1; }
+. bench/build_fip.sh
 for name in a b c; do head -c $((21 << 20)) /dev/urandom >"$work/$name.bin"; done
-python3 - "$work" "$PWD/crates/fip_prog/out/fip_prog" <<'PY'
+python3 - "$work" "$fip" <<'PY'
 import os
 import subprocess
 import sys
