@@ -1,5 +1,5 @@
 -- A repair, then the choice and the count of a start, in one.
-use Rattle.std.proofs.Common.{◌≡◌, inl, ℕ, ◌+◌, ◌*◌, ◌<◌, ◌≤◌, ◌==◌, not, ◌&&◌, ◌||◌, eq-eqb, ltb, ltb-true, cond, Bool, true, false, List, [], ◌∷◌, ◌++◌, length, Option, Some, None, Result, Ok, Err, refl, sym, ap, subst, ◌∙◌, arith, IsTrue}
+use Rattle.std.proofs.Common.{◌≡◌, inl, ℕ, ◌<◌, ◌≤◌, ◌==◌, not, ◌&&◌, ◌||◌, eq-eqb, ltb, ltb-true, cond, Bool, true, false, List, [], ◌∷◌, Option, Some, None, Result, Ok, Err, refl, sym, ap, subst, ◌∙◌, arith, IsTrue}
 use Rattle.std.proofs.lemmas.Bool.{cond_both, and_parts}
 use Rattle.std.proofs.lemmas.Option.{same_Some}
 use Rattle.std.proofs.lemmas.Result.{IfOk-from_err, on_ok_weaker}
@@ -13,13 +13,12 @@ use Rattle.fwu_model.specs.Layout.{Layout}
 use Rattle.fwu_model.specs.Metadata.{MetaRead, meta_read}
 use Rattle.fwu_model.specs.State.{State, Move, Migrate, bank, is_valid, is_accepted, after}
 use Rattle.fwu_model.specs.Sound.{Setting, choice, can_start, can_fall_back, holds_permitted, trial_limit}
-use Rattle.fwu_model.specs.Seen.{IsTidy}
-use Rattle.fwu_model.specs.Answer.{migrate_moves, chosen_moves}
+use Rattle.fwu_model.specs.Answer.{migrate_moves}
 use Rattle.fwu_model.specs.Replica.{BothHold, in_version}
 use Rattle.fwu_model.specs.declared.kinds.BankState.{BankState}
 use Rattle.fwu_model.specs.declared.kinds.BankState.TheVariants.{Invalid, Valid, Accepted}
 use Rattle.fwu_model.proofs.Frame.{block-same}
-use Rattle.moves.specs.Moved.{IsShown, IsReady, Does}
+use Rattle.moves.specs.Moved.{IsShown}
 use Rattle.moves.proofs.Composed.{after-append, does-stopped, does-then}
 use Rattle.early_boot.specs.declared.choosing.Chosen.{Chosen}
 use Rattle.early_boot.specs.declared.showing.Shown.{Shown}

@@ -1,20 +1,16 @@
 -- What a call with moves leaves: calls that write nothing, the three writes of a start, and which moves a start is.
-use Rattle.std.proofs.Common.{◌≡◌, ◌≢◌, inl, ℕ, ◌+◌, ◌*◌, ◌<◌, ◌≤◌, ◌==◌, eqb, eq-eqb, eqb-true, ne_eqb, ltb, ltb-true, ltb-false, cond, Bool, true, false, List, [], ◌∷◌, Option, Some, None, Result, Ok, Err, refl, sym, ap, subst, ◌∙◌, arith, IsTrue}
+use Rattle.std.proofs.Common.{◌≡◌, ◌≢◌, ℕ, ◌+◌, ◌*◌, ◌<◌, ◌≤◌, eqb, eq-eqb, eqb-true, ne_eqb, ltb, ltb-true, ltb-false, cond, Bool, true, false, List, [], ◌∷◌, Result, Ok, Err, refl, sym, ap, subst, ◌∙◌, arith, IsTrue}
 use Rattle.std.proofs.lemmas.Bool.{cond_both}
 use Rattle.std.proofs.lemmas.Result.{IfOk-from_err}
-use Rattle.std.specs.Prelude.{IsErr, OnOk}
+use Rattle.std.specs.Prelude.{IsErr}
 use Rattle.flash_core.specs.declared.flash.FlashStop.{FlashStop}
 use Rattle.flash_core.specs.Told.{Told}
 use Rattle.flash_core.proofs.Calls.{keeps_same, keeps_wider}
 use Rattle.fwu_model.specs.Layout.{Layout}
 use Rattle.fwu_model.specs.Metadata.{fits_meta, state_at}
 use Rattle.fwu_model.specs.Manifest.{version}
-use Rattle.base_core.specs.Block.{granule}
-use Rattle.fwu_model.specs.Flash.{marks, is_blank}
-use Rattle.fwu_model.specs.Counter.{counter_in}
 use Rattle.fwu_model.specs.State.{State, Bank, Move, Trial, RaiseTo, bank, is_valid, is_accepted, after}
-use Rattle.fwu_model.specs.Sound.{trial_limit}
-use Rattle.fwu_model.specs.Calm.{IsGuarded, IsAtRest}
+use Rattle.fwu_model.specs.Calm.{IsGuarded}
 use Rattle.fwu_model.specs.Answer.{booted_package, chosen_moves, start_moves}
 use Rattle.fwu_model.specs.declared.kinds.BankState.{BankState}
 use Rattle.fwu_model.specs.declared.kinds.BankState.TheVariants.{Invalid, Valid, Accepted}
@@ -29,7 +25,7 @@ use Rattle.moves.proofs.Guarded.{trial-guarded, raise-guarded}
 use Rattle.meta_layout.proofs.Fits.{meta-fits}
 use Rattle.early_boot.specs.declared.choosing.Chosen.{Chosen}
 use Rattle.early_boot.specs.declared.showing.Shown.{Shown}
-use Rattle.early_boot.specs.Showing.{Shows, state_shown, trials_in}
+use Rattle.early_boot.specs.Showing.{Shows, state_shown}
 use Rattle.early_boot.specs.CountingStarts.{IsStart, Leads, counted, counted_in}
 use Rattle.early_boot.proofs.Lookups.{bank-is}
 

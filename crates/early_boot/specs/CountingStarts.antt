@@ -6,7 +6,7 @@ use Rattle.flash_core.specs.May.{Keeps}
 use Rattle.fwu_model.specs.Layout.{Layout}
 use Rattle.fwu_model.specs.Metadata.{state_at}
 use Rattle.fwu_model.specs.Manifest.{version}
-use Rattle.fwu_model.specs.State.{State, Move, bank, is_valid, is_accepted, after}
+use Rattle.fwu_model.specs.State.{State, Move, bank, is_valid, after}
 use Rattle.fwu_model.specs.Sound.{Setting, trial_limit}
 use Rattle.fwu_model.specs.Seen.{IsTidy}
 use Rattle.fwu_model.specs.Calm.{IsAtRest}

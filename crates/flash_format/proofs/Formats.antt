@@ -1,6 +1,5 @@
 -- What is shown of a flash that was formatted, and what its bank 0 holds.
-use Rattle.std.proofs.Common.{◌≡◌, ℕ, ◌+◌, ◌-◌, ◌*◌, ◌<◌, ◌≤◌, ◌&&◌, Bool, true, false, List, [], ◌∷◌, ◌++◌, length, get_or, take, drop, map, Option, Some, None, Result, Ok, Err, refl, sym, ap, subst, ◌∙◌, arith, inl, inr, leb, IsTrue, IsFalse}
-use Rattle.std.specs.Prelude.{IsErr}
+use Rattle.std.proofs.Common.{◌≡◌, ℕ, ◌+◌, ◌-◌, ◌*◌, ◌<◌, ◌≤◌, ◌&&◌, Bool, true, false, List, [], ◌++◌, length, get_or, take, Some, None, Ok, refl, sym, ap, subst, ◌∙◌, arith, inr, leb, IsTrue}
 use Rattle.std.specs.List.{All}
 use Rattle.std.proofs.lemmas.Bool.{and_parts, and_from, le-leb}
 use Rattle.std.proofs.lemmas.List.{get_or-map, length-map, take_at}
@@ -14,7 +13,7 @@ use Rattle.fwu_model.specs.Flash.{layout_seen, package_in, slot}
 use Rattle.fwu_model.specs.Package.{Entry, Toc, entry_of, payload}
 use Rattle.fwu_model.specs.Answer.{images_of, payload_of}
 use Rattle.fwu_model.specs.Replica.{BothHold, in_version}
-use Rattle.fwu_model.specs.Seen.{seen, SoundFlash}
+use Rattle.fwu_model.specs.Seen.{seen}
 use Rattle.fwu_model.specs.Sound.{Setting}
 use Rattle.fwu_model.proofs.SealLaws.{limits}
 use Rattle.fwu_model.proofs.Shown.{shown-are-formed}

@@ -1,5 +1,5 @@
 -- What was given: a layout that fits a flash, and the images of a file.
-use Rattle.std.proofs.Common.{◌≡◌, ℕ, ◌+◌, ◌*◌, ◌≤◌, Bool, List, length, Result, Ok, Err, sym, ap, subst, ◌∙◌, arith, ltb, refl}
+use Rattle.std.proofs.Common.{◌≡◌, ℕ, ◌+◌, ◌*◌, ◌≤◌, List, length, Result, Ok, Err, sym, subst, ◌∙◌, arith, ltb, refl}
 use Rattle.std.specs.Prelude.{IsTrue, not}
 use Rattle.std.specs.List.{All}
 use Rattle.std.proofs.lemmas.Bool.{not-false, ltb-false}
@@ -14,7 +14,6 @@ use Rattle.flash_format.specs.Formatted.{HoldsImages}
 use Rattle.flash_format.specs.Places.{AllStand}
 use Rattle.flash_format.specs.Planned.{HasToc}
 use Rattle.flash_format.specs.Stops.{Finishes}
-use Rattle.flash_format.specs.declared.stops.InputFault.{InputFault}
 use Rattle.flash_format.specs.declared.stops.InputFault.TheVariants.{Layout as BadLayout, Package, Missing, TooLarge, Incomplete}
 use Rattle.flash_format.specs.declared.stops.FormatStop.{FormatStop}
 use Rattle.flash_format.specs.declared.stops.FormatStop.TheVariants.{Input, ReadFailed, Flash}

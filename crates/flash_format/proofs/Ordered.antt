@@ -1,6 +1,6 @@
 -- What a loss leaves while the records are written.
-use Rattle.std.proofs.Common.{◌≡◌, ◌+◌, ◌*◌, ◌<◌, ◌≤◌, ℕ, List, inl, inr, length, ap, ◌∙◌, arith}
-use Rattle.base_core.specs.Block.{blank, block}
+use Rattle.std.proofs.Common.{◌+◌, ◌*◌, ◌≤◌, ℕ, inl, inr, length, ap, ◌∙◌, arith}
+use Rattle.base_core.specs.Block.{blank}
 use Rattle.flash_core.specs.Told.{Told, NothingDirty}
 use Rattle.flash_core.specs.May.{Keeps}
 use Rattle.flash_core.proofs.Calls.{block_kept, quiet_fresh}

@@ -4,7 +4,7 @@ use Rattle.std.proofs.lemmas.List.{length-take-le, length-drop, get_or-take, get
 use Rattle.std.proofs.lemmas.Bool.{cases_lt}
 use Rattle.base_core.specs.Block.{blank}
 use Rattle.base_core.specs.Bytes.{overwritten}
-use Rattle.base_core.proofs.Blocks.{length-blank, get_or-blank}
+use Rattle.base_core.proofs.Blocks.{get_or-blank}
 use Rattle.base_core.proofs.Images.{overwritten_inside, overwritten_above}
 use Rattle.flash_core.specs.Told.{Told, put}
 use Rattle.flash_core.proofs.Calls.{now-put}

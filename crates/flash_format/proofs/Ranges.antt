@@ -6,7 +6,7 @@ use Rattle.std.specs.Prelude.{slice_range}
 use Rattle.base_core.specs.Block.{blank}
 use Rattle.base_core.specs.Bytes.{overwritten}
 use Rattle.base_core.proofs.Blocks.{length-blank, get_or-blank}
-use Rattle.base_core.proofs.Images.{length-overwritten, overwritten_below, overwritten_inside, overwritten_above}
+use Rattle.base_core.proofs.Images.{overwritten_below, overwritten_inside}
 use Rattle.flash_core.specs.Told.{Told, put, written}
 use Rattle.flash_core.specs.May.{Keeps}
 use Rattle.flash_core.proofs.Calls.{keeps_put, keeps_halt, now-put}

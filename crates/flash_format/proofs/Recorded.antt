@@ -1,12 +1,12 @@
 -- Blocks that were erased and then written at their front.
-use Rattle.std.proofs.Common.{◌≡◌, ◌⊎◌, inl, inr, ℕ, ◌+◌, ◌-◌, ◌*◌, ◌/◌, ◌<◌, ◌≤◌, List, ◌++◌, length, get_or, take, drop, replicate, Some, Result, Ok, Err, refl, sym, ap, subst, ◌∙◌, arith, IsTrue, append_assoc}
+use Rattle.std.proofs.Common.{◌≡◌, ◌⊎◌, inl, inr, ℕ, ◌+◌, ◌-◌, ◌*◌, ◌/◌, ◌<◌, ◌≤◌, List, ◌++◌, length, get_or, replicate, Some, Result, Ok, Err, refl, sym, ap, subst, ◌∙◌, arith, IsTrue, append_assoc}
 use Rattle.std.specs.Prelude.{OnOk, ◌%◌}
 use Rattle.std.proofs.lemmas.List.{get_or_default, get_or_past, append-nil}
 use Rattle.std.proofs.lemmas.Bool.{cases_lt}
 use Rattle.base_core.specs.Block.{blank, block}
 use Rattle.base_core.specs.Bytes.{overwritten}
 use Rattle.base_core.proofs.Images.{overwritten_inside, overwritten_above}
-use Rattle.flash_core.specs.Told.{Told, put, settle, settled, NothingDirty}
+use Rattle.flash_core.specs.Told.{Told, put, settled, NothingDirty}
 use Rattle.flash_core.specs.May.{Keeps}
 use Rattle.flash_core.specs.Replaces.{padded}
 use Rattle.flash_core.proofs.Calls.{now-put, now-settle, keeps_settle, settle-fresh, now_kept}

@@ -1,7 +1,7 @@
 -- What is seen of a flash with its first blocks erased, and of one with the first metadata.
-use Rattle.std.proofs.Common.{◌≡◌, cond, zero, suc, ℕ, ◌+◌, ◌-◌, ◌*◌, ◌/◌, ◌<◌, ◌≤◌, Bool, true, false, List, [], ◌∷◌, ◌++◌, length, get_or, take, drop, replicate, Option, Some, None, Result, Ok, Err, refl, sym, ap, subst, ◌∙◌, arith, inl, inr, ext_get_or}
+use Rattle.std.proofs.Common.{◌≡◌, cond, zero, suc, ℕ, ◌+◌, ◌-◌, ◌*◌, ◌/◌, ◌<◌, ◌≤◌, Bool, true, false, List, [], ◌∷◌, length, get_or, take, drop, replicate, Option, Some, None, Result, Ok, Err, refl, sym, ap, subst, ◌∙◌, arith, inl, inr, ext_get_or}
 use Rattle.std.specs.Prelude.{IsTrue, IsFalse, IsErr, IsSome, max}
-use Rattle.std.proofs.lemmas.List.{take-take, length-replicate, get_or-replicate, get_or_past}
+use Rattle.std.proofs.lemmas.List.{length-replicate, get_or-replicate, get_or_past}
 use Rattle.std.proofs.lemmas.List.FromFn.{length-map-range_with_len, get_or-map-range_with_len}
 use Rattle.std.proofs.lemmas.Bool.{cases_lt, and_from, le-leb}
 use Rattle.base_core.specs.Block.{blank, block, granule}
@@ -15,10 +15,9 @@ use Rattle.fwu_model.specs.Counter.{counter_in, recorded, is_record}
 use Rattle.fwu_model.specs.Replica.{BothHold, in_version}
 use Rattle.fwu_model.specs.Seen.{bank_in, state_of, seen, SoundFlash}
 use Rattle.fwu_model.specs.State.{State, Bank, no_bank, bank, is_invalid, is_valid, is_accepted, all_set}
-use Rattle.fwu_model.specs.Sound.{Setting, Sound, is_permitted}
+use Rattle.fwu_model.specs.Sound.{Setting}
 use Rattle.fwu_model.specs.declared.kinds.BankState.{BankState}
 use Rattle.fwu_model.specs.declared.kinds.BankState.TheVariants.{Accepted, Invalid, Valid}
-use Rattle.fwu_model.specs.declared.kinds.LayoutFault.{LayoutFault}
 use Rattle.fwu_model.proofs.SealLaws.{layout-sealed, record-sealed, limits}
 use Rattle.fwu_model.proofs.Marks.{marks-are-counted}
 use Rattle.fwu_model.proofs.Shown.{seen-by-metadata, shown-are-sound}

@@ -4,7 +4,7 @@ use Rattle.fwu_model.specs.Package.{Toc}
 use Rattle.fwu_model.specs.declared.kinds.FipFault.{FipFault}
 use Rattle.flash_format.specs.declared.stops.FormatStop.{FormatStop}
 use Rattle.flash_format.specs.declared.stops.FormatStop.TheVariants.{Input, ReadFailed, Flash}
-use Rattle.flash_format.specs.declared.stops.InputFault.TheVariants.{Layout, Package, Missing, TooLarge, Incomplete}
+use Rattle.flash_format.specs.declared.stops.InputFault.TheVariants.{Package}
 
 -- the result is the answer of the bytes, unless the file could not be read
 abbrev pub IsTable : Result Toc FipFault → Result Toc FormatStop → Type 0

@@ -1,5 +1,5 @@
 -- The command `show`: a clean flash is read as it is.
-use Rattle.std.proofs.Common.{◌≡◌, ℕ, ◌≤◌, arith, List, ext_get_or, Some, Ok, Err, Result, refl, sym, ap, subst, ◌∙◌, inl, inr, IsTrue, IsFalse}
+use Rattle.std.proofs.Common.{◌≡◌, ℕ, ◌≤◌, arith, List, ext_get_or, Err, Result, refl, sym, ap, subst, ◌∙◌, inl, inr, IsFalse}
 use Rattle.flash_core.specs.Told.{Told, NothingDirty, fresh, is_unsure}
 use Rattle.flash_core.specs.May.{Leaves}
 use Rattle.flash_core.specs.Counts.{Rose, Idles, ReachesNone, Spends}

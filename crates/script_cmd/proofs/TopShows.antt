@@ -23,12 +23,12 @@ pub refused-shows : {D : Type 0} (told : D → Told) (counts : D → Counts) (te
     → ShowedBy tells g (told old) (told new) (counts old) (counts new) status noted journal taken takes was are
 refused-shows told counts tells g old new status noted journal taken takes was are planned line n same none is why prints =
     let refused : RefusedList ask.show g status noted taken takes was are = (planned, line, subst (λ (x : Note). Refuses (Some ask.show) g was are planned x line) (sym is) why, prints) in record {
-  showed = inr refused;
-  complete = show-completes g (counts old) (counts new) status taken takes was are tells (told old) noted (inr refused);
-  content = λ told_too clean. ap told same;
-  no_turns = none;
-  counts = subst (λ d. NoneFalls (counts old) (counts d)) (sym same) (falls-none (counts old));
-}
+      showed = inr refused;
+      complete = show-completes g (counts old) (counts new) status taken takes was are tells (told old) noted (inr refused);
+      content = λ told_too clean. ap told same;
+      no_turns = none;
+      counts = subst (λ d. NoneFalls (counts old) (counts d)) (sym same) (falls-none (counts old));
+    }
 
 module _ (tells : Bool) (told files : Option Directory) (name : List ℕ) (script : Option (List ℕ)) (old new : Told) (before after : Counts) (status : ℕ) (noted : Note) (journal : List Turn) (taken takes : Option (List ℕ)) (first was are : Faults) where
   -- what is shown without a list is shown behind one that was read and is one
@@ -36,7 +36,7 @@ module _ (tells : Bool) (told files : Option Directory) (name : List ℕ) (scrip
       → ShowedBy tells (record { list = None; files = told; script = script }) old new before after status noted journal taken takes was are
       → ShowedBy tells (record { list = Some name; files = files; script = script }) old new before after status noted journal taken takes first are
   shows-with-list good later source sink by =
-    record { showed = go by.showed; complete = show-completes (record { list = Some name; files = files; script = script }) before after status taken takes first are tells old noted (go by.showed); content = by.content; no_turns = by.no_turns; counts = by.counts }
+      record { showed = go by.showed; complete = show-completes (record { list = Some name; files = files; script = script }) before after status taken takes first are tells old noted (go by.showed); content = by.content; no_turns = by.no_turns; counts = by.counts }
     where
       go : Showed (IsTrue tells × NothingDirty old) old.now before after status noted taken takes was.sink are.sink ⊎ RefusedList ask.show (record { list = None; files = told; script = script }) status noted taken takes was are
           → Showed (IsTrue tells × NothingDirty old) old.now before after status noted taken takes first.sink are.sink ⊎ RefusedList ask.show (record { list = Some name; files = files; script = script }) status noted taken takes first are

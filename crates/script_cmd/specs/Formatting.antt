@@ -1,12 +1,12 @@
 -- What the command `format` does, tells and prints.
-use Rattle.std.specs.Prelude.{◌≡◌, ◌⊎◌, ◌*◌, ◌≤◌, ℕ, ◌++◌, ◌∷◌, [], Bool, List, Option, Some, None, Result, Ok, Err, IfOk, IsErr, IsTrue, codes, decimal, length}
+use Rattle.std.specs.Prelude.{◌≡◌, ◌⊎◌, ◌*◌, ℕ, ◌++◌, ◌∷◌, [], Bool, List, Option, None, Result, Ok, Err, IfOk, IsErr, IsTrue, codes, decimal, length}
 use Rattle.flash_core.specs.May.{Keeps}
 use Rattle.flash_core.specs.Told.{Told, NothingDirty}
 use Rattle.flash_core.specs.declared.flash.Counts.{Counts}
 use Rattle.flash_core.specs.declared.flash.FlashStop.{FlashStop}
 use Rattle.base_core.specs.Guid.{guid_text}
 use Rattle.host_io.specs.Contents.{Directory}
-use Rattle.fwu_model.specs.Layout.{ImageRow, Layout, blocks_needed}
+use Rattle.fwu_model.specs.Layout.{Layout, blocks_needed}
 use Rattle.fwu_model.specs.Flash.{layout_seen}
 use Rattle.fwu_model.specs.Package.{Toc, toc_of}
 use Rattle.fwu_model.specs.Answer.{images_of}

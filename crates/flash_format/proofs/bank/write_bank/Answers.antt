@@ -1,7 +1,6 @@
-use Rattle.std.proofs.Common.{◌≡◌, inl, inr, ◌+◌, ◌*◌, ◌<◌, ◌≤◌, ℕ, List, length, get_or, take, sym, ap, subst, ◌∙◌, arith}
+use Rattle.std.proofs.Common.{◌≡◌, inr, ◌+◌, ◌*◌, ◌<◌, ℕ, List, length, get_or, take, sym, ap, subst, ◌∙◌, arith}
 use Rattle.std.specs.Prelude.{Ok, Option}
 use Rattle.std.proofs.lemmas.List.{get_or_default}
-use Rattle.flash_core.specs.Told.{Told}
 use Rattle.flash_core.specs.May.{Keeps}
 use Rattle.flash_core.proofs.Calls.{keeps_wider, keeps_then}
 use Rattle.flash_core.proofs.Costs.{spends_then}
@@ -12,7 +11,7 @@ use Rattle.fwu_model.specs.Package.{Entry, payload}
 use Rattle.fwu_model.proofs.SealLaws.{limits}
 use Rattle.image_check.proofs.OfBank.{bank_fits}
 use Rattle.flash_format.specs.Choosing.{no_row, no_entry}
-use Rattle.flash_format.specs.Places.{Erased, Stands}
+use Rattle.flash_format.specs.Places.{Stands}
 use Rattle.flash_format.proofs.Ranges.{erased_stays}
 use Rattle.flash_format.proofs.Slots.{slots_more, slots_more_le, all_stand_more}
 use Rattle.flash_format.proofs.Unarmed.{unarmed_then}

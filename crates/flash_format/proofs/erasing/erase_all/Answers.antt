@@ -1,4 +1,4 @@
-use Rattle.std.proofs.Common.{◌≡◌, ◌+◌, ◌*◌, ◌≤◌, ◌∙◌, length, sym, ap, subst, arith}
+use Rattle.std.proofs.Common.{◌+◌, ◌*◌, ◌∙◌, sym, subst, arith}
 use Rattle.std.specs.Prelude.{Ok}
 use Rattle.base_core.specs.Block.{blank}
 use Rattle.base_core.proofs.Blocks.{length-blank}

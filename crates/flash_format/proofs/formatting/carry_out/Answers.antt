@@ -1,4 +1,4 @@
-use Rattle.std.proofs.Common.{◌≡◌, ◌≤◌, length, ap, sym, subst, ◌∙◌, arith, Result, Ok, Err}
+use Rattle.std.proofs.Common.{◌≡◌, ap, subst, ◌∙◌, arith, Result, Err}
 use Rattle.std.specs.Prelude.{IsTrue, OnOk}
 use Rattle.flash_format.specs.Places.{Erased}
 use Rattle.flash_format.specs.Stops.{flash_result}

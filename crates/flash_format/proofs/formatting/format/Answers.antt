@@ -1,11 +1,10 @@
-use Rattle.std.proofs.Common.{◌≡◌, ◌+◌, ◌*◌, ◌≤◌, ℕ, List, length, ap, sym, subst, ◌∙◌, arith, Option, Result, Ok, Err}
+use Rattle.std.proofs.Common.{◌≡◌, ◌*◌, ℕ, List, length, ap, sym, subst, ◌∙◌, arith, Option, Result, Ok, Err}
 use Rattle.std.specs.Prelude.{IsTrue}
 use Rattle.flash_core.specs.May.{Keeps}
 use Rattle.host_io.specs.Contents.{Directory}
 use Rattle.fwu_model.specs.Layout.{Layout, blocks_needed, fits_layout}
 use Rattle.fwu_model.specs.Answer.{images_of}
 use Rattle.fwu_model.specs.Package.{Toc, toc_of}
-use Rattle.meta_layout.specs.Rows.{fitted}
 use Rattle.fip_tables.specs.Files.{Tells}
 use Rattle.flash_format.specs.Formatted.{HoldsImages, IsBlank, IsRefused}
 use Rattle.flash_format.specs.Places.{AllStand}
@@ -15,7 +14,7 @@ use Rattle.flash_format.specs.declared.stops.FormatStop.{FormatStop}
 use Rattle.flash_format.specs.declared.stops.FormatStop.TheVariants.{Input}
 use Rattle.flash_format.specs.declared.stops.InputFault.TheVariants.{Incomplete}
 use Rattle.flash_format.proofs.Formats.{not_refused}
-use Rattle.flash_format.proofs.Given.{IsFitted, fitted_is, hold_given, finishes_err}
+use Rattle.flash_format.proofs.Given.{fitted_is, hold_given, finishes_err}
 use Rattle.flash_format.proofs.formatting.format.Goals as goal
 
 pub carry_out-requires-clause-inside : goal.carry_out-requires-clause-inside

@@ -1,11 +1,10 @@
-use Rattle.std.proofs.Common.{◌≡◌, ◌∙◌, inl, refl, sym, subst, Result, Ok, Err}
+use Rattle.std.proofs.Common.{◌∙◌, inl, refl, sym, subst, Result, Err}
 use Rattle.fwu_model.specs.Layout.{Layout}
 use Rattle.fwu_model.specs.Package.{toc_of}
 use Rattle.fwu_model.specs.declared.kinds.LayoutFault.{LayoutFault}
 use Rattle.flash_format.specs.Choosing.{refusal, refusal_by}
 use Rattle.flash_format.specs.Stops.{Answers}
 use Rattle.flash_format.specs.declared.plan.Plan.{Plan}
-use Rattle.flash_format.specs.declared.stops.FormatStop.{FormatStop}
 use Rattle.flash_format.specs.declared.stops.FormatStop.TheVariants.{Input}
 use Rattle.flash_format.specs.declared.stops.InputFault.TheVariants.{Layout as BadLayout}
 use Rattle.flash_format.proofs.planning.plan.Goals as goal

@@ -1,9 +1,8 @@
-use Rattle.std.proofs.Common.{◌≡◌, ◌+◌, ◌*◌, ◌≤◌, ℕ, length, sym, ap, subst, ◌∙◌, arith}
+use Rattle.std.proofs.Common.{◌≡◌, ◌*◌, ℕ, length, sym, ap, subst, ◌∙◌, arith}
 use Rattle.base_core.specs.Block.{block}
-use Rattle.flash_core.specs.Told.{Told, settled}
+use Rattle.flash_core.specs.Told.{Told}
 use Rattle.flash_core.specs.May.{Keeps}
 use Rattle.flash_core.proofs.Calls.{keeps_same}
-use Rattle.fwu_model.specs.Flash.{layout_seen}
 use Rattle.flash_format.specs.Places.{Stands}
 use Rattle.flash_format.proofs.Ranges.{keeps_written, erased_range}
 use Rattle.flash_format.proofs.Recorded.{on_ok_from, keeps_settled, now_settled, clean_after, stands_put, block_padded, padded_whole, layout_read}

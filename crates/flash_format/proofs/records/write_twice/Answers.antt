@@ -1,11 +1,11 @@
-use Rattle.std.proofs.Common.{◌≡◌, inl, inr, ℕ, ◌+◌, ◌*◌, ◌≤◌, length, sym, ap, subst, ◌∙◌, arith}
+use Rattle.std.proofs.Common.{◌≡◌, inl, inr, ℕ, ◌*◌, length, sym, ap, subst, ◌∙◌, arith}
 use Rattle.std.specs.Prelude.{IsTrue}
 use Rattle.base_core.specs.Block.{block}
-use Rattle.flash_core.specs.Told.{Told, put, settled}
+use Rattle.flash_core.specs.Told.{Told}
 use Rattle.flash_core.specs.May.{Keeps}
 use Rattle.flash_core.specs.Replaces.{padded}
-use Rattle.flash_core.proofs.Calls.{keeps_same, keeps_put, now_kept}
-use Rattle.flash_format.specs.Places.{Erased, Stands}
+use Rattle.flash_core.proofs.Calls.{keeps_same, now_kept}
+use Rattle.flash_format.specs.Places.{Stands}
 use Rattle.flash_format.proofs.Ranges.{keeps_written, erased_range, erased_stays}
 use Rattle.flash_format.proofs.Recorded.{on_ok_from, keeps_settled, now_settled, clean_after, stands_put, block_padded}
 use Rattle.flash_format.proofs.records.write_twice.Goals as goal

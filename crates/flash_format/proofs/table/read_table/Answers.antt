@@ -1,6 +1,3 @@
-use Rattle.std.proofs.Common.{subst, Result, Ok}
-use Rattle.fip_tables.specs.Files.{IsAnswer}
-use Rattle.fwu_model.specs.Package.{toc_of}
 use Rattle.flash_format.proofs.Ends.{ends-below}
 use Rattle.flash_format.proofs.table.read_table.Goals as goal
 
