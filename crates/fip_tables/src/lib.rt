@@ -22,6 +22,3 @@ pub use payloads::{Part, Parts, pack};
 pub use read::{payload_at, read_toc};
 pub use stream::StreamToc;
 pub use toc::{Toc, TocStop};
-
-#[cfg(test)]
-mod tests;

@@ -13,12 +13,6 @@ mod reading;
 mod stop_lines;
 mod stops;
 mod table;
-#[cfg(test)]
-mod tests;
-#[cfg(test)]
-mod tests_commands;
-#[cfg(test)]
-mod tests_manifest;
 mod top;
 mod unpack;
 mod writing;

@@ -2,7 +2,7 @@ use Rattle.std.proofs.Common.{◌≡◌, ◌∙◌, ap, sym, subst, arith, ℕ, 
 use Rattle.host_io.specs.Contents.{Directory, TellsSize}
 use Rattle.fip_tables.specs.Files.{Lacks}
 use Rattle.fip_tables.proofs.Told.{size_is}
-use Rattle.fip_tables.proofs.tests.hello_in.Goals as goal
+use Rattle.fip_vectors.proofs.tables.hello_in.Goals as goal
 
 -- told contents that tell a size have the name
 has-name : (told : Option Directory) (name : List ℕ) (size : ℕ) → TellsSize told name (Some size) → Lacks told name → ⊥

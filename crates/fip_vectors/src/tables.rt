@@ -1,29 +1,17 @@
-//! Worked packages, whose bytes are written out by hand.
+//! Tables of worked packages, whose bytes are written out by hand.
 
-ghost use Rattle.std.specs.Prelude.{◌<◌, ◌^◌, length};
+ghost use Rattle.std.specs.Prelude.{◌<◌};
 
-use super::*;
+use crate::fixtures::{EMPTY, HELLO, files_of, front};
 use base_core::Guid;
+use fip_tables::{
+    Entry, Frame, Outline, PackStop, Part, Parts, StreamToc, Toc, TocStop, pack, payload_at,
+    read_toc,
+};
 use fwu_model::FipFault;
-use host_io::{Failed, Files, MemoryFiles};
+use host_io::{Failed, Files};
 use std::alloc::{AllocError, Global};
 use std::test::Fail;
-
-// One entry, `hello`, and no alignment.
-const HELLO: [u8; 101] = [
-    0x01, 0x00, 0x64, 0xaa, 0x78, 0x56, 0x34, 0x12, 0, 0, 0, 0, 0, 0, 0, 0, 0x5f, 0xf9, 0xec, 0x0b,
-    0x4d, 0x22, 0x3e, 0x4d, 0xa5, 0x44, 0xc3, 0x9d, 0x81, 0xc7, 0x3f, 0x0a, 0x60, 0, 0, 0, 0, 0, 0,
-    0, 5, 0, 0, 0, 0, 0, 0, 0, 0, 0, 0, 0, 0, 0, 0, 0, 0, 0, 0, 0, 0, 0, 0, 0, 0, 0, 0, 0, 0, 0, 0,
-    0, 0x65, 0, 0, 0, 0, 0, 0, 0, 0, 0, 0, 0, 0, 0, 0, 0, 0, 0, 0, 0, 0, 0, 0, 0, b'h', b'e', b'l',
-    b'l', b'o',
-];
-
-// No entry.
-const EMPTY: [u8; 56] = [
-    0x01, 0x00, 0x64, 0xaa, 0x78, 0x56, 0x34, 0x12, 0, 0, 0, 0, 0, 0, 0, 0, 0, 0, 0, 0, 0, 0, 0, 0,
-    0, 0, 0, 0, 0, 0, 0, 0, 0x38, 0, 0, 0, 0, 0, 0, 0, 0, 0, 0, 0, 0, 0, 0, 0, 0, 0, 0, 0, 0, 0, 0,
-    0,
-];
 
 fn first_guid() -> Guid {
     Guid::of([
@@ -52,7 +40,6 @@ fn package(alloc: Global, parts: Vec<Part>, align: u32) -> Result<Vec<u8>, PackS
 // The table of bytes that are fed in pieces of a length.
 fn fed(bytes: &[u8], step: usize) -> Result<Toc, FipFault>
     requires some { 0 < step }
-    requires small { length bytes.now < 2 ^ 32 }
 {
     let mut stream = StreamToc::new();
     let mut at = 0;
@@ -96,11 +83,11 @@ fn hello_in<H: Files>(files: &mut H, name: &str) -> Result<[u8; 5], Failed> {
 fn bytes_of_packages(rt: HostRuntime) -> Result<(), Fail> {
     let alloc = rt.alloc();
     let empty = package(alloc, Vec::new(alloc), 1)?;
-    assert_eq!(rt; empty.as_slice(), EMPTY.as_slice());
+    assert_eq!(rt; empty.as_slice(), front(alloc, EMPTY, 56)?.as_slice());
     let mut one = Vec::new(alloc);
     one.push(part(alloc, first_guid(), "hello")?)?;
     let hello = package(alloc, one, 1)?;
-    assert_eq!(rt; hello.as_slice(), HELLO.as_slice());
+    assert_eq!(rt; hello.as_slice(), front(alloc, HELLO, 101)?.as_slice());
     Ok(())
 }
 
@@ -123,58 +110,61 @@ fn aligned_package(rt: HostRuntime) -> Result<(), Fail> {
 }
 
 #[test]
-fn faults_of_packages(rt: HostRuntime) {
-    let cases: [(&[u8], Option<FipFault>); 5] = [
-        (&HELLO, None),
-        (&HELLO[..95], Some(FipFault::NoEnd(1))),
-        (&HELLO[..100], Some(FipFault::Beyond(0))),
-        (&HELLO[..15], Some(FipFault::ShortHeader)),
-        (b"a name that is other", Some(FipFault::BadName)),
-    ];
-    for (bytes, fault) in cases {
-        if bytes.len() < 200 {
-            assert_eq!(rt; fed(bytes, 50).err(), fault);
-        }
+fn faults_of_packages(rt: HostRuntime) -> Result<(), Fail> {
+    let alloc = rt.alloc();
+    for (count, fault) in [
+        (101, None),
+        (95, Some(FipFault::NoEnd(1))),
+        (100, Some(FipFault::Beyond(0))),
+        (15, Some(FipFault::ShortHeader)),
+    ] {
+        let bytes = front(alloc, HELLO, count)?;
+        assert_eq!(rt; fed(bytes.as_slice(), 50).err(), fault, "at {count}");
     }
-}
-
-#[test]
-fn tables_in_pieces(rt: HostRuntime) -> Result<(), Fail> {
-    let whole = fed(&HELLO, 101).map_err(|_| "no package")?;
-    let sevens = fed(&HELLO, 7).map_err(|_| "no package")?;
-    let bytes = fed(&HELLO, 1).map_err(|_| "no package")?;
-    assert!(rt; is_of_hello(&whole));
-    assert!(rt; is_of_hello(&sevens));
-    assert!(rt; is_of_hello(&bytes));
+    assert_eq!(rt;
+        fed(b"a name that is other", 50).err(),
+        Some(FipFault::BadName)
+    );
     Ok(())
 }
 
 #[test]
-fn too_many_entries(rt: HostRuntime) {
+fn tables_in_pieces(rt: HostRuntime) -> Result<(), Fail> {
+    let hello = front(rt.alloc(), HELLO, 101)?;
+    for step in [101, 7, 1] {
+        let toc = fed(hello.as_slice(), step).map_err(|_| "no package")?;
+        assert!(rt; is_of_hello(&toc), "in pieces of {step}");
+    }
+    Ok(())
+}
+
+#[test]
+fn too_many_entries(rt: HostRuntime) -> Result<(), Fail> {
+    let head = front(rt.alloc(), HELLO, 16)?;
+    assert_eq!(rt; head.len(), 16);
     let mut bytes = [0; 2656];
-    bytes[..16].copy_from_slice(&HELLO[..16]);
+    bytes[..16].copy_from_slice(head.as_slice());
     for i in 0..65 {
         bytes[16 + 40 * i] = 1 + i as u8;
     }
     assert_eq!(rt; fed(&bytes, 1000).err(), Some(FipFault::TooMany));
+    Ok(())
 }
 
 #[test]
-fn end_beyond_64_bits(rt: HostRuntime) {
-    let mut bytes = HELLO;
+fn end_beyond_64_bits(rt: HostRuntime) -> Result<(), Fail> {
+    let mut bytes = front(rt.alloc(), HELLO, 101)?;
+    assert_eq!(rt; bytes.len(), 101);
     bytes[32..48].copy_from_slice(&[0xff; 16]);
-    assert_eq!(rt; fed(&bytes, 101).err(), Some(FipFault::Beyond(0)));
+    assert_eq!(rt; fed(bytes.as_slice(), 101).err(), Some(FipFault::Beyond(0)));
+    Ok(())
 }
 
 #[test]
 fn package_in_a_file(rt: HostRuntime) -> Result<(), Fail> {
     let alloc = rt.alloc();
-    let mut names = Vec::new(alloc);
-    names.push((
-        String::from_str(alloc, "a.fip")?,
-        HELLO.as_slice().to_vec(alloc)?,
-    ))?;
-    let mut files = MemoryFiles::new(alloc, names, Vec::new(alloc));
+    let hello = front(alloc, HELLO, 101)?;
+    let mut files = files_of(alloc, &[("a.fip", hello.as_slice())], Vec::new(alloc))?;
     let toc = read_toc(&mut files, "a.fip").map_err(|_| "no table")?;
     assert_eq!(rt; toc.serial, 0x1234_5678);
     assert_eq!(rt; toc.entries.len(), 1);
@@ -211,10 +201,8 @@ fn packed_file<H: Files>(alloc: Global, files: &mut H, name: &str) -> Result<Vec
 #[test]
 fn frame_filled_from_a_file(rt: HostRuntime) -> Result<(), Fail> {
     let alloc = rt.alloc();
-    let mut names = Vec::new(alloc);
-    names.push((String::from_str(alloc, "hello")?, b"hello".to_vec(alloc)?))?;
-    let mut files = MemoryFiles::new(alloc, names, Vec::new(alloc));
+    let mut files = files_of(alloc, &[("hello", b"hello")], Vec::new(alloc))?;
     let bytes = packed_file(alloc, &mut files, "hello")?;
-    assert_eq!(rt; bytes.as_slice(), HELLO.as_slice());
+    assert_eq!(rt; bytes.as_slice(), front(alloc, HELLO, 101)?.as_slice());
     Ok(())
 }

@@ -1,18 +1,10 @@
 //! The commands that write files, in a row over the same files in memory. The bytes of the packages are those of the format, made
 //! by a Python program from the layout.
 
-use crate::fip_top;
-use host_io::{MemoryFiles, MemorySink, MemorySource};
+use crate::fixtures::{EMPTY, HELLO, files_of, ran};
+use host_io::MemoryFiles;
 use std::alloc::{AllocError, Global};
 use std::test::Fail;
-
-// No entry: the header, and the end marker, whose offset is the length.
-const EMPTY: &str =
-    "010064aa78563412000000000000000000000000000000000000000000000000380000000000000000000000000000000000000000000000";
-
-// `hello` as the payload of tb-fw.
-const ONE: &str =
-    "010064aa7856341200000000000000005ff9ec0b4d223e4da544c39d81c73f0a6000000000000000050000000000000000000000000000000000000000000000000000000000000065000000000000000000000000000000000000000000000068656c6c6f";
 
 // The command, its status and what it prints.
 const STEPS: [(&str, u8, &str); 12] = [
@@ -58,28 +50,18 @@ const STEPS: [(&str, u8, &str); 12] = [
     ),
 ];
 
-fn words(alloc: Global, line: &str) -> Result<Vec<String>, AllocError> {
-    let mut list = Vec::new(alloc);
-    for word in line.split(' ') {
-        list.push(String::from_str(alloc, word)?)?;
-    }
-    Ok(list)
-}
-
-fn first_files(alloc: Global, fails: Vec<u64>) -> Result<MemoryFiles, Fail> {
-    let mut all = Vec::new(alloc);
-    all.push((String::from_str(alloc, "h.bin")?, b"hello".to_vec(alloc)?))?;
-    all.push((String::from_str(alloc, "s3.bin")?, b"xyz".to_vec(alloc)?))?;
-    Ok(MemoryFiles::new(alloc, all, fails))
+fn first_files(alloc: Global, fails: Vec<u64>) -> Result<MemoryFiles, AllocError> {
+    files_of(alloc, &[("h.bin", b"hello"), ("s3.bin", b"xyz")], fails)
 }
 
 // Whether the command ends so over the files.
-fn is_done(alloc: Global, files: &mut MemoryFiles, step: (&str, u8, &str)) -> Result<bool, Fail> {
-    let list = words(alloc, step.0)?;
-    let mut source = MemorySource::new(Vec::new(alloc), Vec::new(alloc));
-    let mut sink = MemorySink::new(alloc, Vec::new(alloc), Vec::new(alloc));
-    let status = fip_top(alloc, list.as_slice(), files, &mut source, &mut sink);
-    Ok(status == step.1 && sink.bytes() == step.2.as_bytes())
+fn is_done(
+    alloc: Global,
+    files: &mut MemoryFiles,
+    step: (&str, u8, &str),
+) -> Result<bool, AllocError> {
+    let (status, text) = ran(alloc, step.0, files)?;
+    Ok(status == step.1 && text.as_slice() == step.2.as_bytes())
 }
 
 fn has(alloc: Global, files: &MemoryFiles, name: &str, digits: &str) -> Result<bool, Fail> {
@@ -98,7 +80,7 @@ fn commands_write_their_files(rt: HostRuntime) -> Result<(), Fail> {
         assert!(rt; is_done(alloc, &mut files, step)?);
     }
     assert!(rt; has(alloc, &files, "e.fip", EMPTY)?);
-    assert!(rt; has(alloc, &files, "a.fip", ONE)?);
+    assert!(rt; has(alloc, &files, "a.fip", HELLO)?);
     assert!(rt;
         has(
             alloc,

@@ -1,5 +1,5 @@
 use Rattle.std.proofs.Common.{◌≡◌, ◌≤◌, ◌-◌, length}
-use Rattle.fip_tables.proofs.tests.fed.Given as goal
+use Rattle.fip_vectors.proofs.tables.fed.Given as goal
 
 abbrev pub invariant-loop-at : goal.invariant-loop-at
 invariant-loop-at l = (l.at ≤ length l.bytes) × (l.stream.count ≡ l.at)

@@ -3,7 +3,7 @@ use Rattle.std.proofs.lemmas.List.{length-replicate}
 use Rattle.host_io.specs.Contents.{Directory, HasRange, TellsSize}
 use Rattle.fwu_model.specs.Package.{Entry}
 use Rattle.fip_tables.proofs.Told.{has_all}
-use Rattle.fip_tables.proofs.tests.packed_file.Goals as goal
+use Rattle.fip_vectors.proofs.tables.packed_file.Goals as goal
 
 pub read-requires-clause-there : goal.read-requires-clause-there
 read-requires-clause-there g c = omega (arith, ap length c.in-Ok.ensures.ok.entries)

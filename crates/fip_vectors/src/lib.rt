@@ -1,0 +1,16 @@
+//! Worked packages, tables, manifests and words of the tool, as tests. The expected values come from the layouts and from other
+//! programs.
+#![tactic(auto)]
+
+#[cfg(test)]
+mod commands;
+#[cfg(test)]
+mod fixtures;
+#[cfg(test)]
+mod listings;
+#[cfg(test)]
+mod manifests;
+#[cfg(test)]
+mod tables;
+#[cfg(test)]
+mod words;
