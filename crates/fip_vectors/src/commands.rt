@@ -50,6 +50,14 @@ const STEPS: [(&str, u8, &str); 12] = [
     ),
 ];
 
+// A file that the steps leave, and its bytes.
+const WRITTEN: [(&str, &str); 4] = [
+    ("e.fip", EMPTY),
+    ("a.fip", HELLO),
+    ("x5ff9ec0b-4d22-3e4d-a544-c39d81c73f0a.bin", "68656c6c6f"),
+    ("yd6d0eea7-fcea-d54b-9782-9934f234b6e4.bin", "68656c6c6f"),
+];
+
 fn first_files(alloc: Global, fails: Vec<u64>) -> Result<MemoryFiles, AllocError> {
     files_of(alloc, &[("h.bin", b"hello"), ("s3.bin", b"xyz")], fails)
 }
@@ -79,24 +87,9 @@ fn commands_write_their_files(rt: HostRuntime) -> Result<(), Fail> {
     for step in STEPS {
         assert!(rt; is_done(alloc, &mut files, step)?);
     }
-    assert!(rt; has(alloc, &files, "e.fip", EMPTY)?);
-    assert!(rt; has(alloc, &files, "a.fip", HELLO)?);
-    assert!(rt;
-        has(
-            alloc,
-            &files,
-            "x5ff9ec0b-4d22-3e4d-a544-c39d81c73f0a.bin",
-            "68656c6c6f"
-        )?
-    );
-    assert!(rt;
-        has(
-            alloc,
-            &files,
-            "yd6d0eea7-fcea-d54b-9782-9934f234b6e4.bin",
-            "68656c6c6f"
-        )?
-    );
+    for (name, digits) in WRITTEN {
+        assert!(rt; has(alloc, &files, name, digits)?, "{name:?}");
+    }
     assert!(rt; files.get("z.fip").is_none());
     Ok(())
 }
