@@ -16,6 +16,3 @@ mod writing;
 
 pub use formatting::{Formatted, format};
 pub use stops::{FormatStop, InputFault};
-
-#[cfg(test)]
-mod tests;

@@ -10,8 +10,6 @@ mod memory_files;
 mod sink;
 mod source;
 mod stops;
-#[cfg(test)]
-mod tests;
 
 pub use files::Files;
 pub use host_files::HostFiles;

@@ -21,6 +21,3 @@ pub use layout::Layout;
 pub use lists::{BankBits, Bits, States};
 pub use meta::Meta;
 pub use rows::directory_guid;
-
-#[cfg(test)]
-mod tests;

@@ -1,10 +1,9 @@
-//! A flash over bytes in memory, over a file of the system, and over a file that fails.
+//! What a device counts, which nothing outside this module sees.
 
 ghost use Rattle.std.specs.Prelude.{◌≡◌, ◌≤◌, length, IfOk};
 
 use super::*;
 use std::alloc::{AllocError, Global};
-use std::fs::{self, File};
 use std::io::{self, Cursor, ErrorKind};
 use std::test::Fail;
 
@@ -17,7 +16,7 @@ fn image(alloc: Global, len: usize) -> Result<Vec<u8>, AllocError>
 }
 
 #[test]
-fn an_armed_loss_leaves_its_bytes_in_the_file(rt: HostRuntime) -> Result<(), Fail> {
+fn an_armed_loss_is_reached(rt: HostRuntime) -> Result<(), Fail> {
     let file = Cursor::new(image(rt.alloc(), 32768)?);
     let mut flash = FileFlash::open(file)?;
     assert_eq!(rt; flash.blocks(), 8);
@@ -27,48 +26,6 @@ fn an_armed_loss_leaves_its_bytes_in_the_file(rt: HostRuntime) -> Result<(), Fai
     assert_eq!(rt; flash.erase(7), Ok(()));
     assert_eq!(rt; flash.program(28672, &[7; 32]), Err(FlashStop::Lost));
     assert_eq!(rt; flash.counts.reached, 1);
-    flash.power_on();
-    let mut bytes = [1; 18];
-    assert_eq!(rt; flash.read(28672, &mut bytes), Ok(()));
-    assert_eq!(rt;
-        bytes,
-        [7, 7, 7, 7, 7, 7, 7, 7, 7, 7, 7, 7, 7, 7, 7, 7, 0xFF, 0xFF]
-    );
-    Ok(())
-}
-
-#[test]
-fn a_file_of_seven_blocks_is_refused(rt: HostRuntime) -> Result<(), Fail> {
-    let made = FileFlash::open(Cursor::new(image(rt.alloc(), 28672)?));
-    assert_eq!(rt;
-        made.map(|flash| flash.blocks),
-        Err(FlashOpenFault::BadSize(28672))
-    );
-    Ok(())
-}
-
-#[test]
-fn a_file_of_the_system_is_a_flash(rt: HostRuntime) -> Result<(), Fail> {
-    let name = "flash_devices_test.bin";
-    fs::write(&rt, name, image(rt.alloc(), 32768)?.as_slice())?;
-    let file = File::options().read(true).write(true).open(&rt, name)?;
-    let mut flash = FileFlash::open(file)?;
-    flash.power_on();
-    assert_eq!(rt; flash.erase(3), Ok(()));
-    assert_eq!(rt; flash.program(12304, &[7; 16]), Ok(()));
-    assert_eq!(rt; flash.barrier(), Ok(()));
-    let mut bytes = [1; 18];
-    assert_eq!(rt; flash.read(12303, &mut bytes), Ok(()));
-    assert_eq!(rt;
-        bytes,
-        [0xFF, 7, 7, 7, 7, 7, 7, 7, 7, 7, 7, 7, 7, 7, 7, 7, 7, 0xFF]
-    );
-    flash.arm(1, 1);
-    assert_eq!(rt; flash.program(12288, &[5; 16]), Err(FlashStop::Lost));
-    let left = fs::read(&rt, name)?;
-    fs::remove_file(&rt, name)?;
-    assert_eq!(rt; left.len(), 32768);
-    assert_eq!(rt; [left[12287], left[12288], left[12289]], [0, 5, 0xFF]);
     Ok(())
 }
 

@@ -1,20 +1,12 @@
-//! Losses, faults and chances over blocks of a memory device. Block 3 begins at byte 12288.
+//! What a device counts, which nothing outside this module sees.
 
-ghost use Rattle.std.specs.Prelude.{◌≡◌, ◌≤◌, length, IfOk};
+ghost use Rattle.std.specs.Prelude.{◌≡◌, ◌+◌, ◌%◌, ◌<◌, ◌≤◌, length, is_ok, IsTrue, IsFalse, IfOk};
+ghost use Rattle.flash_devices.specs.Memory.{is_on, block_count};
 
 use super::*;
 use base_core::put_le32;
-use flash_core::{read_block, replace};
-use std::alloc::{AllocError, Global};
+use flash_core::replace;
 use std::test::Fail;
-
-// A literal length would be computed element by element in each goal.
-fn image(alloc: Global, byte: u8, len: usize) -> Result<Vec<u8>, AllocError>
-    requires { len ≤ 65536 }
-    ensures { IfOk result (λ bytes. length bytes.items ≡ len) }
-{
-    vec![in alloc; byte; len]
-}
 
 fn one_cut(alloc: Global, op: u64, landed: u32, back: bool) -> Result<Vec<Cut>, AllocError> {
     [Cut { op, landed, back }].to_vec(alloc)
@@ -28,75 +20,99 @@ fn sealed_and_more() -> [u8; 48] {
     bytes
 }
 
-#[test]
-fn a_program_is_cut_after_its_first_granule(rt: HostRuntime) -> Result<(), Fail> {
-    let alloc = rt.alloc();
-    let cuts = one_cut(alloc, 2, 16, false)?;
-    let mut flash = MemoryFlash::new(alloc, 8, cuts, Vec::new(alloc))?;
+// A device of eight blocks, on. Of this and of what follows only power and size are told, so that goals stay small.
+fn switched_on(mut flash: MemoryFlash) -> Result<MemoryFlash, Fail>
+    requires { IsFalse (is_on flash) }
+    ensures power { IfOk result (λ flash. IsTrue (is_on flash)) }
+    ensures size { IfOk result (λ flash. block_count flash ≡ 8) }
+{
     flash.power_on();
-    assert_eq!(rt; replace(&mut flash, 3, &[0; 32]), Err(FlashStop::Lost));
-    assert_eq!(rt; flash.meters.ops, 2);
-    flash.power_on();
-    let mut landed = [1; 16];
-    assert_eq!(rt; flash.read(12288, &mut landed), Ok(()));
-    assert_eq!(rt; landed, [0; 16]);
-    let mut rest = [1; 16];
-    assert_eq!(rt; flash.read(12304, &mut rest), Ok(()));
-    assert_eq!(rt; rest, [0xFF; 16]);
-    assert_eq!(rt; flash.meters.counts.cuts, 1);
-    assert_eq!(rt; flash.meters.counts.chances, 0);
-    Ok(())
+    if flash.blocks() != 8 {
+        return Err(Fail::from("eight blocks"));
+    }
+    Ok(flash)
 }
 
-// A block is written over, cut in its program, and what was erased goes back or stays erased.
+fn erased(alloc: Global, cuts: Vec<Cut>, faults: Vec<u64>) -> Result<MemoryFlash, Fail>
+    ensures power { IfOk result (λ flash. IsTrue (is_on flash)) }
+    ensures size { IfOk result (λ flash. block_count flash ≡ 8) }
+{
+    switched_on(MemoryFlash::new(alloc, 8, cuts, faults)?)
+}
+
+fn read(flash: &mut MemoryFlash, at: u32, out: &mut [u8]) -> Result<(), FlashStop>
+    requires on { IsTrue (is_on flash.old) }
+    requires inside { (block_count flash.old ≡ 8) × (at + length out.old ≤ 32768) }
+    ensures power { is_on flash.new ≡ is_ok result }
+    ensures size { block_count flash.new ≡ block_count flash.old }
+{
+    flash.read(at, out)
+}
+
+// Writes over block 3.
+fn replaced(flash: &mut MemoryFlash, bytes: &[u8]) -> Result<(), FlashStop>
+    requires on { IsTrue (is_on flash.old) }
+    requires size { block_count flash.old ≡ 8 }
+    requires granules { length bytes.now % 16 ≡ 0 }
+    requires some { 0 < length bytes.now }
+    requires fits { length bytes.now ≤ 4096 }
+    ensures power { is_on flash.new ≡ is_ok result }
+    ensures size { block_count flash.new ≡ block_count flash.old }
+{
+    replace(flash, 3, bytes)
+}
+
+fn arm(flash: &mut MemoryFlash, n: u32, k: u32)
+    requires { 1 ≤ n }
+    ensures power { is_on flash.new ≡ is_on flash.old }
+    ensures size { block_count flash.new ≡ block_count flash.old }
+{
+    flash.arm(n, k);
+}
+
+fn power_on(flash: &mut MemoryFlash)
+    requires { IsFalse (is_on flash.old) }
+    ensures power { IsTrue (is_on flash.new) }
+    ensures size { block_count flash.new ≡ block_count flash.old }
+{
+    flash.power_on();
+}
+
 #[test]
-fn erased_bytes_go_back_or_stay(rt: HostRuntime) -> Result<(), Fail> {
+fn a_listed_loss_is_a_cut(rt: HostRuntime) -> Result<(), Fail> {
     let alloc = rt.alloc();
-    for (back, rest) in [(false, 0xFF), (true, 0x5A)] {
-        let cuts = one_cut(alloc, 2, 16, back)?;
-        let before = image(alloc, 0x5A, 32768)?;
-        let mut flash = MemoryFlash::from_bytes(alloc, before, cuts, Vec::new(alloc))?;
-        flash.power_on();
-        assert_eq!(rt; replace(&mut flash, 3, &[0; 32]), Err(FlashStop::Lost));
-        flash.power_on();
-        let mut block = [1; 4096];
-        assert_eq!(rt; read_block(&mut flash, 3, &mut block), Ok(()));
-        assert_eq!(rt; &block[..16], [0; 16].as_slice());
-        assert_eq!(rt; [block[16], block[32], block[4095]], [rest; 3]);
-    }
+    let cuts = one_cut(alloc, 2, 16, false)?;
+    let mut flash = erased(alloc, cuts, Vec::new(alloc))?;
+    assert_eq!(rt; replaced(&mut flash, &[0; 32]), Err(FlashStop::Lost));
+    assert_eq!(rt; flash.meters.ops, 2);
+    power_on(&mut flash);
+    assert_eq!(rt; flash.meters.counts.cuts, 1);
+    assert_eq!(rt; flash.meters.counts.chances, 0);
     Ok(())
 }
 
 #[test]
 fn an_armed_loss_is_no_cut(rt: HostRuntime) -> Result<(), Fail> {
     let alloc = rt.alloc();
-    let mut flash = MemoryFlash::new(alloc, 8, Vec::new(alloc), Vec::new(alloc))?;
-    flash.power_on();
-    flash.arm(2, 16);
-    assert_eq!(rt; replace(&mut flash, 3, &[0; 32]), Err(FlashStop::Lost));
-    flash.arm(9, 9);
-    flash.power_on();
-    let mut bytes = [1; 17];
-    assert_eq!(rt; flash.read(12288, &mut bytes), Ok(()));
-    assert_eq!(rt; &bytes[..16], [0; 16].as_slice());
-    assert_eq!(rt; bytes[16], 0xFF);
+    let mut flash = erased(alloc, Vec::new(alloc), Vec::new(alloc))?;
+    arm(&mut flash, 2, 16);
+    assert_eq!(rt; replaced(&mut flash, &[0; 32]), Err(FlashStop::Lost));
+    arm(&mut flash, 9, 9);
+    power_on(&mut flash);
     let counts = flash.meters.counts;
     assert_eq!(rt; (counts.cuts, counts.reached, counts.made), (0, 1, 2));
     Ok(())
 }
 
 #[test]
-fn a_listed_call_fails(rt: HostRuntime) -> Result<(), Fail> {
+fn a_listed_call_is_a_fault(rt: HostRuntime) -> Result<(), Fail> {
     let alloc = rt.alloc();
     let faults = [2].to_vec(alloc)?;
-    let mut flash = MemoryFlash::new(alloc, 8, Vec::new(alloc), faults)?;
-    flash.power_on();
+    let mut flash = erased(alloc, Vec::new(alloc), faults)?;
     let mut bytes = [0; 2];
-    assert_eq!(rt; flash.read(0, &mut bytes), Ok(()));
-    assert_eq!(rt; bytes, [0xFF; 2]);
-    assert_eq!(rt; flash.read(0, &mut bytes), Err(FlashStop::Failed));
+    assert_eq!(rt; read(&mut flash, 0, &mut bytes), Ok(()));
+    assert_eq!(rt; read(&mut flash, 0, &mut bytes), Err(FlashStop::Failed));
     assert_eq!(rt; flash.meters.counts.faults, 1);
-    assert!(rt; !flash.is_on());
     Ok(())
 }
 
@@ -107,25 +123,13 @@ fn a_seal_by_chance_counts_in_guarded_blocks(rt: HostRuntime) -> Result<(), Fail
     for (guarded, chances) in [(3, 1), (9, 0)] {
         let cuts = one_cut(alloc, 2, 32, false)?;
         let made = MemoryFlash::new(alloc, 8, cuts, Vec::new(alloc))?;
-        let mut flash = made.guard([guarded].to_vec(alloc)?);
-        assert!(rt; !flash.is_on());
-        flash.power_on();
-        let end = replace(&mut flash, 3, &sealed_and_more());
+        let made = made.guard([guarded].to_vec(alloc)?);
+        assert!(rt; !made.is_on());
+        let mut flash = switched_on(made)?;
+        let end = replaced(&mut flash, &sealed_and_more());
         assert_eq!(rt; end, Err(FlashStop::Lost));
-        flash.power_on();
+        power_on(&mut flash);
         assert_eq!(rt; flash.meters.counts.chances, chances);
     }
-    Ok(())
-}
-
-#[test]
-fn whole_blocks_are_taken(rt: HostRuntime) -> Result<(), Fail> {
-    let alloc = rt.alloc();
-    let bytes = image(alloc, 0, 32767)?;
-    let short = MemoryFlash::from_bytes(alloc, bytes, Vec::new(alloc), Vec::new(alloc));
-    assert_eq!(rt; short.err(), Some(FlashMakeFault::BadSize));
-    let bytes = image(alloc, 0, 32768)?;
-    let flash = MemoryFlash::from_bytes(alloc, bytes, Vec::new(alloc), Vec::new(alloc))?;
-    assert_eq!(rt; flash.bytes().len(), 32768);
     Ok(())
 }

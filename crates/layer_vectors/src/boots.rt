@@ -1,4 +1,6 @@
-use crate::{BootEnd, Booted, boot};
+//! Boots of flashes that have nothing to boot.
+
+use early_boot::{BootEnd, Booted, boot};
 use flash_core::Flash;
 use flash_devices::MemoryFlash;
 use fwu_model::LayoutFault;

@@ -1,6 +1,9 @@
-//! Each form once, with a failing call among others.
+//! Files, sources and sinks, each form once, with a failing call among others.
 
-use super::*;
+use host_io::{
+    Failed, Files, HostFiles, MemoryFiles, MemorySink, MemorySource, Sink, Source, StdSink,
+    StdSource, WriteStop,
+};
 use std::alloc::{AllocError, Global};
 use std::io::{Cursor, ErrorKind, Read};
 use std::process::Abort;
@@ -52,11 +55,16 @@ impl Read for Faulty {
     }
 }
 
+// The second read fails.
+fn memory_source(alloc: Global) -> Result<MemorySource, AllocError> {
+    let bytes = b"firmware".to_vec(alloc)?;
+    let fails = [2].to_vec(alloc)?;
+    Ok(MemorySource::new(bytes, fails))
+}
+
 #[test]
 fn sources(rt: HostRuntime) -> Result<(), Fail> {
-    let bytes = b"firmware".to_vec(rt.alloc())?;
-    let fails = [2].to_vec(rt.alloc())?;
-    let mut memory = MemorySource::new(bytes, fails);
+    let mut memory = memory_source(rt.alloc())?;
     assert_eq!(rt;
         drained(rt.alloc(), &mut memory)?.as_slice(),
         b"firm!ware".as_slice()
@@ -74,11 +82,16 @@ fn sources(rt: HostRuntime) -> Result<(), Fail> {
     Ok(())
 }
 
+// The second put fails.
+fn memory_sink(alloc: Global) -> Result<MemorySink, AllocError> {
+    let start = b"zero ".to_vec(alloc)?;
+    let fails = [2].to_vec(alloc)?;
+    Ok(MemorySink::new(alloc, start, fails))
+}
+
 #[test]
 fn sinks(rt: HostRuntime) -> Result<(), Fail> {
-    let start = b"zero ".to_vec(rt.alloc())?;
-    let fails = [2].to_vec(rt.alloc())?;
-    let mut memory = MemorySink::new(rt.alloc(), start, fails);
+    let mut memory = memory_sink(rt.alloc())?;
     put_words(&rt, &mut memory, &[Ok(()), Err(WriteStop::Failed), Ok(())]);
     assert_eq!(rt; memory.bytes(), b"zero one three ".as_slice());
     let mut bytes = Vec::new(rt.alloc());
@@ -111,28 +124,49 @@ fn range(files: &mut MemoryFiles, name: &str, at: usize, out: &mut [u8]) -> Resu
     Ok(true)
 }
 
+fn add_file(
+    alloc: Global,
+    list: &mut Vec<(String, Vec<u8>)>,
+    name: &str,
+    bytes: &[u8],
+) -> Result<(), AllocError> {
+    list.push((String::from_str(alloc, name)?, bytes.to_vec(alloc)?))?;
+    Ok(())
+}
+
+// The fourth call fails.
+fn memory_files(alloc: Global) -> Result<MemoryFiles, AllocError> {
+    let mut list = Vec::new(alloc);
+    add_file(alloc, &mut list, "a", b"abcdef")?;
+    add_file(alloc, &mut list, "empty", b"")?;
+    let fails = [4].to_vec(alloc)?;
+    Ok(MemoryFiles::new(alloc, list, fails))
+}
+
+fn size_of(files: &mut MemoryFiles, name: &str) -> Result<Option<u64>, Failed> {
+    files.size(name)
+}
+
+// Each name has these bytes.
+fn assert_held(rt: &impl Abort, files: &MemoryFiles, want: &[(&str, &str)]) {
+    for (name, bytes) in want {
+        assert_eq!(rt; files.get(name), Some(bytes.as_bytes()), "at {name}");
+    }
+}
+
 #[test]
 fn files_in_memory(rt: HostRuntime) -> Result<(), Fail> {
-    let mut list = Vec::new(rt.alloc());
-    list.push((
-        String::from_str(rt.alloc(), "a")?,
-        b"abcdef".to_vec(rt.alloc())?,
-    ))?;
-    list.push((String::from_str(rt.alloc(), "empty")?, Vec::new(rt.alloc())))?;
-    let fails = [4].to_vec(rt.alloc())?;
-    let mut files = MemoryFiles::new(rt.alloc(), list, fails);
+    let mut files = memory_files(rt.alloc())?;
     let mut out = [0; 3];
-    assert_eq!(rt; files.size("a"), Ok(Some(6)));
-    assert_eq!(rt; files.size("b"), Ok(None));
+    assert_eq!(rt; size_of(&mut files, "a"), Ok(Some(6)));
+    assert_eq!(rt; size_of(&mut files, "b"), Ok(None));
     assert_eq!(rt; range(&mut files, "a", 2, &mut out), Ok(true));
     assert_eq!(rt; out.as_slice(), b"cde".as_slice());
     assert_eq!(rt; stored(&mut files, "b", b"xy"), Err(WriteStop::Failed));
     assert_eq!(rt; files.get("b"), None);
     assert_eq!(rt; stored(&mut files, "b", b"xy"), Ok(Some(2)));
     assert_eq!(rt; stored(&mut files, "a", b"z"), Ok(Some(1)));
-    for (name, bytes) in [("a", "z"), ("b", "xy"), ("empty", "")] {
-        assert_eq!(rt; files.get(name), Some(bytes.as_bytes()), "at {name}");
-    }
+    assert_held(&rt, &files, &[("a", "z"), ("b", "xy"), ("empty", "")]);
     Ok(())
 }
 

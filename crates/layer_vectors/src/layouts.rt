@@ -1,38 +1,17 @@
-use crate::{
+//! Layout blocks and metadata: their bytes, their first faults, and their parts.
+
+use crate::fixtures::{METADATA, TYPES, boot_type, manifest_type, normal_type, row, three_rows};
+use base_core::{crc32, le32_at, put_le32};
+use meta_layout::{
     BankBits, BankState, Bits, Layout, LayoutFault, Meta, MetaFault, States, directory_guid,
 };
-use base_core::{Guid, ImageRow, crc32, le32_at, put_le32};
 use std::test::Fail;
-
-const TYPES: [[u8; 16]; 3] = [
-    *b"FWUMANIFEST\x00\x00\x00\x00\x01",
-    [
-        0x5f, 0xf9, 0xec, 0x0b, 0x4d, 0x22, 0x3e, 0x4d, 0xa5, 0x44, 0xc3, 0x9d, 0x81, 0xc7, 0x3f,
-        0x0a,
-    ],
-    [
-        0xd6, 0xd0, 0xee, 0xa7, 0xfc, 0xea, 0xd5, 0x4b, 0x97, 0x82, 0x99, 0x34, 0xf2, 0x34, 0xb6,
-        0xe4,
-    ],
-];
 
 /// The first 32 bytes of the block of the layout below, with a checksum that zlib computed.
 const LAYOUT_HEAD: [u8; 32] = [
     0xe9, 0xce, 0xf4, 0xcb, 0x46, 0x57, 0x55, 0x4c, 2, 0, 0, 0, 3, 0, 0, 0, 104, 0, 0, 0, 0, 0, 0,
     0, 0, 0, 0, 0, 0, 0, 0, 0,
 ];
-
-fn row(index: usize, slots: u32) -> ImageRow {
-    ImageRow {
-        guid: Guid::of(TYPES[index % 3]),
-        slots,
-    }
-}
-
-/// A manifest of 1 block, and images of 2 and 4 blocks.
-fn three_rows() -> [ImageRow; 3] {
-    [row(0, 1), row(1, 2), row(2, 4)]
-}
 
 fn layout_of(banks: u32) -> Option<Layout> {
     Layout::make(&three_rows(), banks, 36).ok()
@@ -58,7 +37,7 @@ fn a_layout_is_read_from_its_bytes(rt: HostRuntime) -> Result<(), Fail> {
     assert_eq!(rt; layout.banks(), 2);
     assert_eq!(rt; layout.rows(), three_rows().as_slice());
     assert_eq!(rt; layout.blocks(), 22);
-    assert_eq!(rt; layout.find(&Guid::of(TYPES[2])), Some(2));
+    assert_eq!(rt; layout.find(&normal_type()), Some(2));
     assert_eq!(rt; layout.find(&directory_guid()), None);
     assert!(rt; layout == layout_of(2).ok_or("not made")?);
     Ok(())
@@ -127,7 +106,11 @@ fn a_layout_block_has_its_first_fault(rt: HostRuntime) -> Result<(), Fail> {
 
 #[test]
 fn a_layout_is_made_within_its_limits(rt: HostRuntime) -> Result<(), Fail> {
-    let twice = [row(0, 1), row(1, 2), row(1, 4)];
+    let twice = [
+        row(manifest_type(), 1),
+        row(boot_type(), 2),
+        row(boot_type(), 4),
+    ];
     assert_eq!(rt;
         Layout::make(&twice, 2, 22).err(),
         Some(LayoutFault::BadField)
@@ -169,14 +152,7 @@ fn the_first_metadata_of_two_banks_has_its_bytes(rt: HostRuntime) -> Result<(), 
     assert!(rt; size == 280);
     meta.write(&layout, &mut block);
     assert_eq!(rt; le32_at(&block, 0), 0x046b_72fc);
-    assert_eq!(rt;
-        &block[4..40],
-        [
-            2, 0, 0, 0, 0, 0, 0, 0, 0, 0, 0, 0, 0x18, 1, 0, 0, 0x20, 0, 0, 0, 0xfc, 0xff, 0xff,
-            0xff, 0, 0, 0, 0, 2, 0, 3, 0, 0x50, 0, 0x18, 0,
-        ]
-        .as_slice()
-    );
+    assert_eq!(rt; &block[4..40], METADATA.as_slice());
     assert_eq!(rt; &block[280..288], [0xff; 8].as_slice());
     let again = Meta::read(&layout, &block).ok().ok_or("not read")?;
     assert!(rt; again.is(&meta));

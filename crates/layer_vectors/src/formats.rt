@@ -1,8 +1,14 @@
-use super::*;
-use base_core::{Guid, ImageRow};
+//! Flashes that are formatted with a package, and what is refused.
+
+ghost use Rattle.std.specs.Prelude.{IsTrue};
+ghost use Rattle.flash_devices.specs.Memory.{is_on};
+
+use crate::fixtures::{METADATA, boot_type, manifest_type, normal_type, three_rows};
+use base_core::Guid;
 use fip_tables::{Part, Parts, pack};
 use flash_core::Flash;
 use flash_devices::MemoryFlash;
+use flash_format::{FormatStop, Formatted, InputFault, format};
 use fwu_model::LayoutFault;
 use host_io::MemoryFiles;
 use image_check::Verdict;
@@ -10,49 +16,6 @@ use manifest_core::{Manifest, Row};
 use std::alloc::Global;
 use std::test::Fail;
 use verify_core::AnyManifest;
-
-// Bytes 4 to 40 of the metadata, written out by hand from the format.
-const METADATA: [u8; 36] = [
-    2, 0, 0, 0, 0, 0, 0, 0, 0, 0, 0, 0, 0x18, 1, 0, 0, 0x20, 0, 0, 0, 0xFC, 0xFF, 0xFF, 0xFF, 0, 0,
-    0, 0, 2, 0, 3, 0, 0x50, 0, 0x18, 0,
-];
-
-fn manifest_type() -> Guid {
-    Guid::of([
-        0x46, 0x57, 0x55, 0x4D, 0x41, 0x4E, 0x49, 0x46, 0x45, 0x53, 0x54, 0, 0, 0, 0, 1,
-    ])
-}
-
-fn boot_type() -> Guid {
-    Guid::of([
-        0x5F, 0xF9, 0xEC, 0x0B, 0x4D, 0x22, 0x3E, 0x4D, 0xA5, 0x44, 0xC3, 0x9D, 0x81, 0xC7, 0x3F,
-        0x0A,
-    ])
-}
-
-fn normal_type() -> Guid {
-    Guid::of([
-        0xD6, 0xD0, 0xEE, 0xA7, 0xFC, 0xEA, 0xD5, 0x4B, 0x97, 0x82, 0x99, 0x34, 0xF2, 0x34, 0xB6,
-        0xE4,
-    ])
-}
-
-fn rows() -> [ImageRow; 3] {
-    [
-        ImageRow {
-            guid: manifest_type(),
-            slots: 1,
-        },
-        ImageRow {
-            guid: boot_type(),
-            slots: 2,
-        },
-        ImageRow {
-            guid: normal_type(),
-            slots: 4,
-        },
-    ]
-}
 
 // The manifest of two images, with the security version 7.
 fn manifest(alloc: Global, boot: &[u8], normal: &[u8]) -> Result<Vec<u8>, Fail> {
@@ -104,6 +67,17 @@ fn erased(alloc: Global, blocks: u32) -> Result<MemoryFlash, Fail> {
     Ok(flash)
 }
 
+// Two banks of three images, from this file. What a format promises is left out, so that goals stay small.
+fn format_from(
+    flash: &mut MemoryFlash,
+    files: &mut MemoryFiles,
+    name: &str,
+) -> Result<Formatted, FormatStop>
+    requires { IsTrue (is_on flash.old) }
+{
+    format(flash, &three_rows(), 2, files, name, &AnyManifest)
+}
+
 #[test]
 fn a_flash_is_formatted(rt: HostRuntime) -> Result<(), Fail> {
     let alloc = rt.alloc();
@@ -112,7 +86,7 @@ fn a_flash_is_formatted(rt: HostRuntime) -> Result<(), Fail> {
     let mut files = files(alloc, Some(manifest.as_slice()), boot.as_slice(), b"normal")?;
     let mut flash = erased(alloc, 22)?;
     assert!(rt; flash.is_on());
-    let done = match format(&mut flash, &rows(), 2, &mut files, "a.fip", &AnyManifest) {
+    let done = match format_from(&mut flash, &mut files, "a.fip") {
         Ok(done) => done,
         Err(FormatStop::Input(fault)) => {
             assert!(rt; false, "refused: {fault:?}");
@@ -143,25 +117,25 @@ fn what_is_given_is_refused(rt: HostRuntime) -> Result<(), Fail> {
     let mut small = erased(alloc, 21)?;
     assert!(rt; small.is_on());
     assert_eq!(rt;
-        format(&mut small, &rows(), 2, &mut whole, "a.fip", &AnyManifest).err(),
+        format_from(&mut small, &mut whole, "a.fip").err(),
         Some(FormatStop::Input(InputFault::Layout(LayoutFault::BeyondFlash)))
     );
     let mut flash = erased(alloc, 22)?;
     assert!(rt; flash.is_on());
     assert_eq!(rt;
-        format(&mut flash, &rows(), 2, &mut whole, "b.fip", &AnyManifest).err(),
+        format_from(&mut flash, &mut whole, "b.fip").err(),
         Some(FormatStop::ReadFailed)
     );
     assert!(rt; flash.is_on());
     let mut lacking = files(alloc, None, b"boot", b"normal")?;
     assert_eq!(rt;
-        format(&mut flash, &rows(), 2, &mut lacking, "a.fip", &AnyManifest).err(),
+        format_from(&mut flash, &mut lacking, "a.fip").err(),
         Some(FormatStop::Input(InputFault::Missing(manifest_type())))
     );
     assert!(rt; flash.is_on());
     let mut changed = files(alloc, Some(given.as_slice()), b"boot", b"Normal")?;
     assert_eq!(rt;
-        format(&mut flash, &rows(), 2, &mut changed, "a.fip", &AnyManifest).err(),
+        format_from(&mut flash, &mut changed, "a.fip").err(),
         Some(FormatStop::Input(InputFault::Incomplete(Verdict::BadImage { image: 2 })))
     );
     Ok(())

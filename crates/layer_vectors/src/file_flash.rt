@@ -1,0 +1,102 @@
+//! A flash over bytes in memory, over a file of the system, and over a file that fails.
+
+use crate::fixtures::image;
+use flash_core::{Flash, FlashStop};
+use flash_devices::{FileFlash, FlashOpenFault};
+use std::fs::{self, File};
+use std::io::{self, Cursor, ErrorKind, Read, Seek, SeekFrom, Write};
+use std::test::Fail;
+
+#[test]
+fn an_armed_loss_leaves_its_bytes_in_the_file(rt: HostRuntime) -> Result<(), Fail> {
+    let file = Cursor::new(image(rt.alloc(), 0, 32768)?);
+    let mut flash = FileFlash::open(file)?;
+    assert_eq!(rt; flash.blocks(), 8);
+    assert!(rt; !flash.is_on());
+    flash.power_on();
+    flash.arm(2, 16);
+    assert_eq!(rt; flash.erase(7), Ok(()));
+    assert_eq!(rt; flash.program(28672, &[7; 32]), Err(FlashStop::Lost));
+    flash.power_on();
+    let mut bytes = [1; 18];
+    assert_eq!(rt; flash.read(28672, &mut bytes), Ok(()));
+    assert_eq!(rt;
+        bytes,
+        [7, 7, 7, 7, 7, 7, 7, 7, 7, 7, 7, 7, 7, 7, 7, 7, 0xFF, 0xFF]
+    );
+    Ok(())
+}
+
+#[test]
+fn a_file_of_seven_blocks_is_refused(rt: HostRuntime) -> Result<(), Fail> {
+    let made = FileFlash::open(Cursor::new(image(rt.alloc(), 0, 28672)?));
+    assert_eq!(rt;
+        made.map(|flash| flash.blocks()),
+        Err(FlashOpenFault::BadSize(28672))
+    );
+    Ok(())
+}
+
+#[test]
+fn a_file_of_the_system_is_a_flash(rt: HostRuntime) -> Result<(), Fail> {
+    let name = "file_flash_test.bin";
+    fs::write(&rt, name, image(rt.alloc(), 0, 32768)?.as_slice())?;
+    let file = File::options().read(true).write(true).open(&rt, name)?;
+    let mut flash = FileFlash::open(file)?;
+    flash.power_on();
+    assert_eq!(rt; flash.erase(3), Ok(()));
+    assert_eq!(rt; flash.program(12304, &[7; 16]), Ok(()));
+    assert_eq!(rt; flash.barrier(), Ok(()));
+    let mut bytes = [1; 18];
+    assert_eq!(rt; flash.read(12303, &mut bytes), Ok(()));
+    assert_eq!(rt;
+        bytes,
+        [0xFF, 7, 7, 7, 7, 7, 7, 7, 7, 7, 7, 7, 7, 7, 7, 7, 7, 0xFF]
+    );
+    flash.arm(1, 1);
+    assert_eq!(rt; flash.program(12288, &[5; 16]), Err(FlashStop::Lost));
+    let left = fs::read(&rt, name)?;
+    fs::remove_file(&rt, name)?;
+    assert_eq!(rt; left.len(), 32768);
+    assert_eq!(rt; [left[12287], left[12288], left[12289]], [0, 5, 0xFF]);
+    Ok(())
+}
+
+// A file of eight blocks of which nothing can be read or written.
+#[derive(Drop)]
+struct Broken;
+
+impl Read for Broken {
+    fn read(&mut self, _out: &mut [u8]) -> io::Result<usize> {
+        Err(io::Error::from(ErrorKind::Other))
+    }
+}
+
+impl Write for Broken {
+    fn write(&mut self, _bytes: &[u8]) -> io::Result<usize> {
+        Err(io::Error::from(ErrorKind::Other))
+    }
+
+    fn flush(&mut self) -> io::Result<()> {
+        Err(io::Error::from(ErrorKind::Other))
+    }
+}
+
+impl Seek for Broken {
+    fn seek(&mut self, _to: SeekFrom) -> io::Result<u64> {
+        Ok(32768)
+    }
+}
+
+#[test]
+fn an_error_of_the_file_is_a_fault(rt: HostRuntime) -> Result<(), Fail> {
+    let mut flash = FileFlash::open(Broken)?;
+    flash.power_on();
+    assert_eq!(rt; flash.read(0, &mut [0; 2]), Err(FlashStop::Failed));
+    flash.power_on();
+    assert_eq!(rt; flash.erase(0), Err(FlashStop::Failed));
+    flash.power_on();
+    assert_eq!(rt; flash.barrier(), Err(FlashStop::Failed));
+    assert!(rt; !flash.is_on());
+    Ok(())
+}
