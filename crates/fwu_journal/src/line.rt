@@ -6,7 +6,7 @@ ghost use Rattle.script_text.specs.Shown.{shown};
 ghost use Rattle.fwu_journal.specs.Room.{Grows, HasRoom};
 ghost use Rattle.fwu_journal.specs.Shown.{reply, turn};
 
-use crate::add::add;
+use crate::adding::add;
 use crate::journal::{Reply, Turn};
 use crate::numbers::{NUMBERS_ROOM, add_banks, add_counts, add_named, add_numbers};
 use fwu_model::{LayoutFault, NoBoot};

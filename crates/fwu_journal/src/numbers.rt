@@ -6,7 +6,7 @@ ghost use Rattle.early_boot.specs.Numbers.{numbers as shown_numbers};
 ghost use Rattle.fwu_journal.specs.Room.{Grows, HasRoom};
 ghost use Rattle.fwu_journal.specs.Joined.{comma_before};
 
-use crate::add::{add, add_number};
+use crate::adding::{add, add_number};
 use early_boot::Numbers;
 use fwu_model::BankState;
 use meta_layout::{BankBits, Bits, States};
@@ -86,7 +86,7 @@ fn add_bank_bits(text: &mut Vec<u8>, banks: &BankBits)
 }
 
 /// Adds a name and a number.
-pub(crate) fn add_named(text: &mut Vec<u8>, name: &[u8], n: u32)
+pub fn add_named(text: &mut Vec<u8>, name: &[u8], n: u32)
     requires { HasRoom text.old (length name.now + 10) }
     ensures grows { Grows text.old text.new (name.now ++ decimal n) }
     ensures short { length (name.now ++ decimal n) ≤ length name.now + 10 }

@@ -1,20 +1,16 @@
 -- No loss harms what is in use after a run, whichever way it ended.
-use Rattle.std.proofs.Common.{◌≡◌, ℕ, List, Option, Some, None, refl, sym, subst, IsFalse}
-use Rattle.flash_core.specs.Told.{Told, NothingDirty, fresh, is_unsure}
+use Rattle.std.proofs.Common.{◌≡◌, Option, Some, None, sym, subst}
+use Rattle.flash_core.specs.Told.{Told, NothingDirty}
 use Rattle.fwu_model.specs.Calm.{IsGuarded}
 use Rattle.fwu_model.specs.State.{Numbers}
 use Rattle.script_cmd.specs.Machine.{Moment, IsSafe}
 use Rattle.script_cmd.specs.Ways.{starved, refused, ran}
 use Rattle.script_cmd.specs.Promises.{WaysGuard}
-
-fresh-sure : (guard image : List ℕ) (i : ℕ) → IsFalse (is_unsure (fresh guard image) i)
-unfolding is_unsure fresh
-fresh-sure guard image i = refl
+use Rattle.script_cmd.proofs.ShowFlash.{clean-sure}
 
 clean-guarded : (t : Told) → NothingDirty t → IsGuarded t
 clean-guarded t clean =
-    let sure : (i : ℕ) → IsFalse (is_unsure t i) = λ i. subst (λ (x : Told). IsFalse (is_unsure x i)) (sym clean) (fresh-sure t.guard t.now i) in
-    record { layout = λ i low high. sure i; banks = λ image L s may is shows b used i low high. sure i }
+    record { layout = λ i low high. clean-sure t clean i; banks = λ image L s may is shows b used i low high. clean-sure t clean i }
 
 none-guarded : (old new : Moment) → new ≡ old → NothingDirty old.told → IsGuarded new.told
 none-guarded old new same clean = subst (λ (m : Moment). IsGuarded m.told) (sym same) (clean-guarded old.told clean)

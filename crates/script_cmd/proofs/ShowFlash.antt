@@ -17,11 +17,14 @@ fresh-sure : (guard image : List ℕ) (i : ℕ) → IsFalse (is_unsure (fresh gu
 unfolding is_unsure fresh
 fresh-sure guard image i = refl
 
+-- with nothing dirty no byte is unsure
+pub clean-sure : (t : Told) → NothingDirty t → (i : ℕ) → IsFalse (is_unsure t i)
+clean-sure t clean i = subst (λ (x : Told). IsFalse (is_unsure x i)) (sym clean) (fresh-sure t.guard t.now i)
+
 -- a power-on with nothing dirty keeps all
 pub power-on-keeps : (old new : Told) → NothingDirty old → new ≡ fresh old.guard new.now → Leaves old new.now → new ≡ old
 power-on-keeps old new clean is leaves =
-    let sure : (i : ℕ) → IsFalse (is_unsure old i) = λ i. subst (λ (t : Told). IsFalse (is_unsure t i)) (sym clean) (fresh-sure old.guard old.now i) in
-    let same : new.now ≡ old.now = ext_get_or 0 new.now old.now leaves.size (λ i below. leaves.sure i (sure i)) in
+    let same : new.now ≡ old.now = ext_get_or 0 new.now old.now leaves.size (λ i below. leaves.sure i (clean-sure old clean i)) in
     is ∙ ap (fresh old.guard) same ∙ sym clean
 
 -- power comes back, and then calls are made

@@ -8,43 +8,13 @@ ghost use Rattle.flash_format.specs.declared.stops.FormatStop.TheVariants.{Input
 
 use base_core::Guid;
 use flash_format::{FormatStop, Formatted, InputFault};
-use fwu_journal::add_no_boot;
+use fwu_journal::{add, add_named, add_no_boot};
 use fwu_model::{FipFault, NoBoot};
 use image_check::Verdict;
-use itoa::Buffer;
 use meta_layout::Layout;
 
 /// Bytes that are enough for each line.
 pub const FORMAT_ROOM: usize = 128;
-
-/// Adds bytes to a line that has room for them.
-fn add(text: &mut Vec<u8>, bytes: &[u8])
-    requires { HasRoom text.old (length bytes.now) }
-    ensures { Grows text.old text.new bytes.now }
-{
-    text.extend_from_slice(bytes).unwrap()
-}
-
-/// Adds the decimal digits of a number.
-fn add_number(text: &mut Vec<u8>, n: u32)
-    requires { HasRoom text.old 10 }
-    ensures grows { Grows text.old text.new (decimal n) }
-    ensures short { length (decimal n) ≤ 10 }
-{
-    let mut digits = Buffer::new();
-    let spelled = digits.format(n);
-    add(text, spelled.as_bytes())
-}
-
-/// Adds a name and a number.
-fn add_named(text: &mut Vec<u8>, name: &[u8], n: u32)
-    requires { HasRoom text.old (length name.now + 10) }
-    ensures grows { Grows text.old text.new (name.now ++ decimal n) }
-    ensures short { length (name.now ++ decimal n) ≤ length name.now + 10 }
-{
-    add(text, name);
-    add_number(text, n)
-}
 
 /// Adds a name and an image's type.
 fn add_guid(text: &mut Vec<u8>, name: &[u8], guid: &Guid)

@@ -13,18 +13,10 @@ use crate::done::{Done, Note};
 use crate::printing::put_line;
 use early_boot::{Numbers, Unshown, read_numbers};
 use flash_core::Flash;
-use fwu_journal::{Journal, LINE_ROOM, add_no_boot, add_numbers};
+use fwu_journal::{Journal, LINE_ROOM, add, add_no_boot, add_numbers};
 use fwu_model::NoBoot;
 use host_io::Sink;
 use std::alloc::Global;
-
-/// Adds bytes to a line that has room for them.
-fn add(text: &mut Vec<u8>, bytes: &[u8])
-    requires { HasRoom text.old (length bytes.now) }
-    ensures { Grows text.old text.new bytes.now }
-{
-    text.extend_from_slice(bytes).unwrap()
-}
 
 /// Adds the line of numbers that a flash shows.
 fn add_shown(text: &mut Vec<u8>, shown: &Numbers)

@@ -5,7 +5,7 @@ ghost use Rattle.fwu_journal.specs.Room.{Grows, HasRoom};
 use itoa::Buffer;
 
 /// Adds bytes to a text that has room for them.
-pub(crate) fn add(text: &mut Vec<u8>, bytes: &[u8])
+pub fn add(text: &mut Vec<u8>, bytes: &[u8])
     requires { HasRoom text.old (length bytes.now) }
     ensures { Grows text.old text.new bytes.now }
 {
@@ -13,7 +13,7 @@ pub(crate) fn add(text: &mut Vec<u8>, bytes: &[u8])
 }
 
 /// Adds the decimal digits of a number.
-pub(crate) fn add_number(text: &mut Vec<u8>, n: u32)
+pub fn add_number(text: &mut Vec<u8>, n: u32)
     requires { HasRoom text.old 10 }
     ensures grows { Grows text.old text.new (decimal n) }
     ensures short { length (decimal n) ≤ 10 }
