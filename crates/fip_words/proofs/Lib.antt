@@ -1,7 +1,3 @@
-pub mod AnswerLemmas
-pub mod Refusals
-pub mod SplitLemmas
 pub mod PlainWords
 pub mod Unpacked
 pub mod Distinct
-pub mod FoundLemmas

@@ -1,7 +1,7 @@
 -- The command set of `fip`, as `clap` sees it.
 use Rattle.std.specs.Prelude.{codes}
 use Rattle.clap.specs.Words.{App, Text, new_app, with_rule}
-use Rattle.fip_words.specs.Words.{option, some_words, top_app, with_leaf, word, words}
+use Rattle.clap_words.specs.Words.{option, some_words, top_app, with_leaf, word, words}
 
 -- info FILE
 abbrev pub info_app : App

@@ -1,12 +1,11 @@
 -- What the words of `fip` ask for.
-use Rattle.std.specs.Prelude.{◌≡◌, ℕ, List, [], Option, Some, None, Result, Ok, Err, codes, if◌then◌else◌, map, option_and_then, unwrap_or}
+use Rattle.std.specs.Prelude.{ℕ, List, Option, Some, None, codes, if◌then◌else◌, map, option_and_then}
 use Rattle.base_core.specs.Bytes.{same_bytes}
-use Rattle.clap.specs.Words.{Row, Text, all_of, first_of}
-use Rattle.fip_words.specs.Words.{reads}
+use Rattle.clap.specs.Words.{Row, Text, first_of}
+use Rattle.clap_words.specs.Words.{reads}
+pub use Rattle.clap_words.specs.Answers.{file_in, values_of}
 use Rattle.fip_words.specs.Commands.{fip_app}
-use Rattle.fip_words.specs.Values.{NamedFile, NamedImage, align_of, file_named, number_read, is_unpacked, names_of, parts_of, rows_of}
-use Rattle.fip_words.specs.declared.UsageStop.{UsageStop}
-use Rattle.fip_words.specs.declared.UsageStop.TheVariants.{Usage, NoMemory}
+use Rattle.fip_words.specs.Values.{NamedFile, NamedImage, align_of, number_read, is_unpacked, names_of, parts_of, rows_of}
 use Rattle.fip_words.specs.declared.values.Part.{Part}
 use Rattle.fip_words.specs.declared.values.ImageWord.{ImageWord}
 use Rattle.fip_words.specs.declared.order.FipOrder.{FipOrder}
@@ -38,16 +37,6 @@ view (Remove align from out names) = remove align from.now out.now names.items
 view (Unpack from prefix names) = unpack from.now prefix.now names.items
 view (Manifest out security rows) = manifest out.now security (map image_view rows.items)
 
--- what a function returned, seen by view, is what is asked, unless memory ran out
-abbrev pub Answers : {X Y : Type 0} → (X → Y) → Result X UsageStop → Option Y → Type 0
-Answers view (Ok x) asked = asked ≡ Some (view x)
-Answers view (Err Usage) asked = asked ≡ None
-Answers view (Err NoMemory) asked = Unit {0}
-
--- the values of a repeated argument
-abbrev pub values_of : Text → List Row → List Text
-values_of id rows = unwrap_or (all_of id rows) []
-
 -- `-` is the source
 abbrev pub info_by : Option Text → Option Asked
 info_by file = option_and_then (λ name. if same_bytes name (codes "-") then Some info_of_source else Some (info name)) file
@@ -72,10 +61,6 @@ unpack_by from prefix names = option_and_then (λ f. option_and_then (λ p. opti
 
 abbrev pub manifest_by : Option Text → Option ℕ → Option (List NamedImage) → Option Asked
 manifest_by out security rows = option_and_then (λ o. option_and_then (λ s. option_and_then (λ rs. Some (manifest o s rs)) rows) security) out
-
--- the value of an argument that is a file's name
-abbrev pub file_in : Text → List Row → Option Text
-file_in id rows = option_and_then file_named (first_of id rows)
 
 abbrev pub align_in : List Row → Option ℕ
 align_in rows = align_of (first_of (codes "align") rows)

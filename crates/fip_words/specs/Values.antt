@@ -1,22 +1,10 @@
 -- The values on the command line of `fip`.
-use Rattle.std.specs.Prelude.{ℕ, ◌+◌, ◌==◌, ◌&&◌, Bool, false, List, [], ◌∷◌, Option, Some, None, length, take, drop, if◌then◌else◌, nat_lt, option_and_then, option_map, map, codes}
-use Rattle.std.specs.List.{position_or_len, before_first, after_first}
+use Rattle.std.specs.Prelude.{ℕ, ◌+◌, ◌==◌, ◌&&◌, Bool, false, List, Option, Some, None, length, take, drop, if◌then◌else◌, option_and_then, map, codes}
 use Rattle.base_core.specs.Bytes.{same_bytes}
 use Rattle.base_core.specs.Guid.{guid_of, guid_text}
 use Rattle.fwu_model.specs.Layout.{are_distinct}
-use Rattle.fwu_model.specs.Script.{file_of, named, number_of}
-
--- NAME
-unfoldable pub name_of : List ℕ → Option (List ℕ)
-name_of text = named text
-
--- FILE
-unfoldable pub file_named : List ℕ → Option (List ℕ)
-file_named text = file_of text
-
--- NUMBER
-unfoldable pub number_read : List ℕ → Option ℕ
-number_read text = number_of text
+pub use Rattle.clap_words.specs.Values.{each}
+unfoldable pub use Rattle.clap_words.specs.Values.{file_named, name_of, number_read, split_of}
 
 -- PART: a payload's type, and the file that it comes from
 pub record NamedFile : Type 0 where
@@ -28,12 +16,6 @@ pub record NamedImage : Type 0 where
   pub guid : List ℕ
   pub version : ℕ
   pub file : List ℕ
-
--- the text before and after the first byte of this value
-unfoldable pub split_of : ℕ → List ℕ → Option (List ℕ × List ℕ)
-split_of c text =
-    if nat_lt (position_or_len (λ b. b == c) text) (length text)
-    then Some (before_first (λ b. b == c) text, after_first (λ b. b == c) text) else None
 
 -- NAME=FILE
 unfoldable pub part_of : List ℕ → Option NamedFile
@@ -52,11 +34,6 @@ unfoldable pub row_of : List ℕ → Option NamedImage
 row_of text =
     option_and_then (λ p. option_and_then (λ guid. option_and_then (λ v. Some (record { guid = guid; version = v.0; file = v.1 }))
     (version_of p.1)) (name_of p.0)) (split_of 44 text)
-
--- each element read, where all are
-abbrev pub each : {X Y : Type 0} → (X → Option Y) → List X → Option (List Y)
-each f [] = Some []
-each f (x ∷ xs) = option_and_then (λ y. option_map (λ ys. y ∷ ys) (each f xs)) (f x)
 
 -- no type is named twice
 abbrev pub if_distinct : {X : Type 0} → (X → List ℕ) → List X → Option (List X)

@@ -5,9 +5,9 @@ ghost use Rattle.clap.specs.Faults.{fault_of};
 ghost use Rattle.clap.specs.Words.{Text};
 ghost use Rattle.fip_words.specs.Commands.{fip_app};
 ghost use Rattle.fip_words.specs.Order.{asked, create_by, info_by, manifest_by, remove_by, unpack_by, update_by};
-ghost use Rattle.fip_words.specs.Plain.{IsPlain};
+ghost use Rattle.clap_words.specs.Plain.{IsPlain};
 ghost use Rattle.fip_words.specs.Values.{bin, file_named, is_unpacked, names_of, number_read, parts_of, rows_of};
-ghost use Rattle.fip_words.specs.Words.{reads};
+ghost use Rattle.clap_words.specs.Words.{reads};
 
 /// The words name no command exactly where `clap` refuses them.
 pub fn refusals_are_of_clap()

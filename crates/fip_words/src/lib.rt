@@ -3,17 +3,10 @@
 
 mod commands;
 mod laws;
-mod matches;
 mod order;
 mod values;
 
+pub use clap_words::UsageStop;
 pub use laws::{plain_words_are_taken, refusals_are_of_clap, unpacked_files};
 pub use order::{FipOrder, fip_order};
 pub use values::{ImageWord, Part};
-
-/// Why words ask for nothing.
-#[derive(Clone, Copy, Debug, PartialEq, Eq)]
-pub enum UsageStop {
-    Usage,
-    NoMemory,
-}

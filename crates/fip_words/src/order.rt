@@ -1,17 +1,15 @@
 //! What the words ask for.
 ghost use Rattle.std.specs.Prelude.{codes, map, option_and_then, option_map, string_bytes};
 ghost use Rattle.clap.specs.Words.{first_of, found_of, rows_of, subcommand_rows_of};
-ghost use Rattle.fip_words.specs.Order.{Answers, align_in, asked, create_of, file_in, info_of, manifest_of, order_of, image_view, part_view, remove_of, unpack_of, update_of, values_of, view};
+ghost use Rattle.clap_words.specs.Answers.{Answers, file_in, values_of};
+ghost use Rattle.fip_words.specs.Order.{align_in, asked, create_of, info_of, manifest_of, order_of, image_view, part_view, remove_of, unpack_of, update_of, view};
 ghost use Rattle.fip_words.specs.Values as value;
 
-use crate::UsageStop;
 use crate::commands::fip_command;
-use crate::matches::{given, given_all, matches};
-use crate::values::{
-    ImageWord, Part, align_value, file_value, is_unpacked_file, names, parts, read_number, rows,
-};
+use crate::values::{ImageWord, Part, align_value, is_unpacked_file, names, parts, rows};
 use base_core::Guid;
 use clap::ArgMatches;
+use clap_words::{UsageStop, given, given_all, given_file, matches, read_number};
 use std::alloc::Global;
 use words_core::is_word;
 
@@ -56,18 +54,6 @@ pub enum FipOrder<'a> {
         security: u32,
         rows: Vec<ImageWord<'a>>,
     },
-}
-
-fn given_file<'a>(found: &ArgMatches<'a>, id: &str) -> Result<&'a str, UsageStop>
-    ensures { Answers (λ s. s.now) result (file_in id.now (rows_of (found_of found.now))) }
-{
-    let Some(text) = given(found, id) else {
-        return Err(UsageStop::Usage);
-    };
-    match file_value(text) {
-        Some(file) => Ok(file),
-        None => Err(UsageStop::Usage),
-    }
 }
 
 fn given_align<'a>(found: &ArgMatches<'a>) -> Result<u32, UsageStop>

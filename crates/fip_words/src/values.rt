@@ -3,13 +3,15 @@ ghost use Rattle.std.specs.Prelude.{◌≡◌, IfOk, map, option_map};
 ghost use Rattle.std.specs.List.{list_any};
 ghost use Rattle.base_core.specs.Bytes.{same_bytes};
 ghost use Rattle.fwu_model.specs.Layout.{are_distinct};
-ghost use Rattle.fip_words.specs.Order.{Answers, image_view, part_view};
-ghost use Rattle.fip_words.specs.Values.{align_of, file_named, number_read, each, is_lower_guid, is_unpacked, name_of, names_of, part_of, parts_of, row_of, rows_of, split_of, version_of};
+ghost use Rattle.clap_words.specs.Answers.{Answers};
+ghost use Rattle.clap_words.specs.Values.{each, name_of, split_of};
+ghost use Rattle.fip_words.specs.Order.{image_view, part_view};
+ghost use Rattle.fip_words.specs.Values.{align_of, is_lower_guid, is_unpacked, names_of, part_of, parts_of, row_of, rows_of, version_of};
 
-use crate::UsageStop;
 use base_core::Guid;
+use clap_words::{UsageStop, file_value, read_name, read_number};
 use std::alloc::{AllocError, Global};
-use words_core::{guid_named, guid_spelled, is_file_name, is_word, number};
+use words_core::{guid_spelled, is_word};
 
 /// A payload's type, and the file that it comes from.
 #[derive(Clone, Copy, Debug, PartialEq, Eq)]
@@ -26,41 +28,14 @@ pub struct ImageWord<'a> {
     pub file: &'a str,
 }
 
-/// The number that the text spells.
-#[tactic(auto, unfolding(crate::specs::Values::number_read))]
-pub fn read_number(text: &str) -> Option<u32>
-    ensures { result ≡ number_read text.now }
-{
-    number(text.as_bytes())
-}
-
-/// The text, where it can be a file's name.
-#[tactic(auto, unfolding(crate::specs::Values::file_named))]
-pub fn file_value<'a>(text: &'a str) -> Option<&'a str>
-    ensures { option_map (λ s. s.now) result ≡ file_named text.entry.now }
-{
-    if is_file_name(text.as_bytes()) {
-        Some(text)
-    } else {
-        None
-    }
-}
-
-#[tactic(auto, unfolding(crate::specs::Values::name_of))]
-fn read_name(text: &str) -> Option<Guid>
-    ensures { result ≡ name_of text.now }
-{
-    guid_named(text.as_bytes())
-}
-
-#[tactic(auto, unfolding(crate::specs::Values::split_of))]
+#[tactic(auto, unfolding(clap_words::specs::Values::split_of))]
 fn split_at_equals<'a>(text: &'a str) -> Option<(&'a str, &'a str)>
     ensures { option_map (λ p. (p.0.now, p.1.now)) result ≡ split_of 61 text.entry.now }
 {
     text.split_once('=')
 }
 
-#[tactic(auto, unfolding(crate::specs::Values::split_of))]
+#[tactic(auto, unfolding(clap_words::specs::Values::split_of))]
 fn split_at_comma<'a>(text: &'a str) -> Option<(&'a str, &'a str)>
     ensures { option_map (λ p. (p.0.now, p.1.now)) result ≡ split_of 44 text.entry.now }
 {

@@ -1,7 +1,7 @@
 -- The command set of `fwu`, as `clap` sees it.
 use Rattle.std.specs.Prelude.{codes}
 use Rattle.clap.specs.Words.{App, new_app, with_rule}
-use Rattle.fwu_words.specs.Words.{option, top_app, with_leaf, word}
+use Rattle.clap_words.specs.Words.{option, top_app, with_leaf, word}
 
 -- format [--banks N] LAYOUT PACKAGE
 abbrev pub format_app : App

@@ -1,13 +1,12 @@
 -- What the words of `fwu` ask for.
-use Rattle.std.specs.Prelude.{◌≡◌, ℕ, List, Option, Some, None, Result, Ok, Err, codes, if◌then◌else◌, option_and_then}
+use Rattle.std.specs.Prelude.{ℕ, List, Option, Some, None, codes, if◌then◌else◌, option_and_then}
 use Rattle.base_core.specs.Bytes.{same_bytes}
 use Rattle.clap.specs.Words.{Row, Text, first_of}
 use Rattle.fwu_model.specs.Layout.{ImageRow}
-use Rattle.fwu_words.specs.Words.{reads}
+use Rattle.clap_words.specs.Words.{reads}
+use Rattle.clap_words.specs.Answers.{file_in}
 use Rattle.fwu_words.specs.Commands.{fwu_app}
-use Rattle.fwu_words.specs.Values.{banks_of, file_named, rows_of}
-use Rattle.fwu_words.specs.declared.UsageStop.{UsageStop}
-use Rattle.fwu_words.specs.declared.UsageStop.TheVariants.{Usage, NoMemory}
+use Rattle.fwu_words.specs.Values.{banks_of, rows_of}
 use Rattle.fwu_words.specs.declared.orders.Order.{Order}
 use Rattle.fwu_words.specs.declared.orders.Order.TheVariants.{Run, Boot, Show, Format}
 
@@ -25,12 +24,6 @@ view Boot = boot
 view Show = show
 view (Format banks rows file) = format banks rows.items file.now
 
--- what a function returned, seen by view, is what is asked, unless memory ran out
-abbrev pub Answers : {X Y : Type 0} → (X → Y) → Result X UsageStop → Option Y → Type 0
-Answers view (Ok x) asked = asked ≡ Some (view x)
-Answers view (Err Usage) asked = asked ≡ None
-Answers view (Err NoMemory) asked = Unit {0}
-
 abbrev pub format_by : Option ℕ → Option (List ImageRow) → Option Text → Option Asked
 format_by banks rows file = option_and_then (λ n. option_and_then (λ rs. option_and_then (λ f. Some (format n rs f)) file) rows) banks
 
@@ -41,11 +34,8 @@ banks_in rows = banks_of (first_of (codes "banks") rows)
 abbrev pub layout_in : List Row → Option (List ImageRow)
 layout_in rows = option_and_then rows_of (first_of (codes "layout") rows)
 
-abbrev pub file_in : List Row → Option Text
-file_in rows = option_and_then file_named (first_of (codes "package") rows)
-
 abbrev pub format_of : List Row → Option Asked
-format_of rows = format_by (banks_in rows) (layout_in rows) (file_in rows)
+format_of rows = format_by (banks_in rows) (layout_in rows) (file_in (codes "package") rows)
 
 -- the command of a name, where its values are in their grammars
 abbrev pub order_of : Text → List Row → Option Asked

@@ -6,9 +6,9 @@ ghost use Rattle.fwu_model.specs.Allow.{Admits, after_list, asks_list, list_name
 ghost use Rattle.fwu_words.specs.Allow.{NamesList, NamesNone};
 ghost use Rattle.fwu_words.specs.Commands.{fwu_app};
 ghost use Rattle.fwu_words.specs.Order.{asked, boot, format_by, run, show};
-ghost use Rattle.fwu_words.specs.Plain.{IsPlain};
+ghost use Rattle.clap_words.specs.Plain.{IsPlain};
 ghost use Rattle.fwu_words.specs.Values.{banks_of, file_named, rows_of};
-ghost use Rattle.fwu_words.specs.Words.{reads};
+ghost use Rattle.clap_words.specs.Words.{reads};
 
 /// The words name no command exactly where `clap` refuses them.
 pub fn refusals_are_of_clap()

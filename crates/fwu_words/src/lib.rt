@@ -4,17 +4,10 @@
 mod allow;
 mod commands;
 mod laws;
-mod matches;
 mod orders;
 mod values;
 
 pub use allow::{Allow, allow_of};
+pub use clap_words::UsageStop;
 pub use laws::{lists_are_told, plain_words_are_taken, refusals_are_of_clap};
 pub use orders::{Order, fwu_order};
-
-/// Why words ask for nothing.
-#[derive(Clone, Copy, Debug, PartialEq, Eq)]
-pub enum UsageStop {
-    Usage,
-    NoMemory,
-}

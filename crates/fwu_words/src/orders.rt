@@ -1,14 +1,14 @@
 //! What the words ask for.
 ghost use Rattle.std.specs.Prelude.{map, option_and_then, string_bytes};
 ghost use Rattle.clap.specs.Words.{found_of, rows_of, subcommand_rows_of};
-ghost use Rattle.fwu_words.specs.Order.{Answers, asked, banks_in, file_in, format_of, layout_in, order_of, view};
+ghost use Rattle.clap_words.specs.Answers.{Answers};
+ghost use Rattle.fwu_words.specs.Order.{asked, banks_in, format_of, layout_in, order_of, view};
 
-use crate::UsageStop;
 use crate::commands::fwu_command;
-use crate::matches::{given, matches};
-use crate::values::{banks_value, file_value, layout_rows};
+use crate::values::{banks_value, layout_rows};
 use base_core::ImageRow;
 use clap::ArgMatches;
+use clap_words::{UsageStop, given, given_file, matches};
 use std::alloc::Global;
 use words_core::is_word;
 
@@ -47,24 +47,12 @@ fn given_layout<'a>(alloc: Global, found: &ArgMatches<'a>) -> Result<Vec<ImageRo
     }
 }
 
-fn given_package<'a>(found: &ArgMatches<'a>) -> Result<&'a str, UsageStop>
-    ensures { Answers (λ s. s.now) result (file_in (rows_of (found_of found.now))) }
-{
-    let Some(text) = given(found, "package") else {
-        return Err(UsageStop::Usage);
-    };
-    match file_value(text) {
-        Some(file) => Ok(file),
-        None => Err(UsageStop::Usage),
-    }
-}
-
 fn format_order<'a>(alloc: Global, found: &ArgMatches<'a>) -> Result<Order<'a>, UsageStop>
     ensures { Answers view result (format_of (rows_of (found_of found.now))) }
 {
     let banks = given_banks(found)?;
     let rows = given_layout(alloc, found)?;
-    let package = given_package(found)?;
+    let package = given_file(found, "package")?;
     Ok(Order::Format {
         banks,
         rows,

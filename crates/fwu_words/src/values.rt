@@ -1,39 +1,13 @@
-//! The values of the words: numbers of banks, layouts and names of files.
+//! The values of the words: numbers of banks and layouts.
 ghost use Rattle.std.specs.Prelude.{◌≡◌, ◌==◌, IfOk, map, option_map};
 ghost use Rattle.std.specs.List.{slice_split};
-ghost use Rattle.fwu_words.specs.Order.{Answers};
-ghost use Rattle.fwu_words.specs.Values.{banks_of, each, file_named, name_of, number_read, row_of, rows_of, split_of};
+ghost use Rattle.clap_words.specs.Answers.{Answers};
+ghost use Rattle.clap_words.specs.Values.{each, split_of};
+ghost use Rattle.fwu_words.specs.Values.{banks_of, row_of, rows_of};
 
-use crate::UsageStop;
-use base_core::{Guid, ImageRow};
+use base_core::ImageRow;
+use clap_words::{UsageStop, read_name, read_number};
 use std::alloc::{AllocError, Global};
-use words_core::{guid_named, is_file_name, number};
-
-#[tactic(auto, unfolding(crate::specs::Values::number_read))]
-fn read_number(text: &str) -> Option<u32>
-    ensures { result ≡ number_read text.now }
-{
-    number(text.as_bytes())
-}
-
-#[tactic(auto, unfolding(crate::specs::Values::name_of))]
-fn read_name(text: &str) -> Option<Guid>
-    ensures { result ≡ name_of text.now }
-{
-    guid_named(text.as_bytes())
-}
-
-/// The text, where it can be a file's name.
-#[tactic(auto, unfolding(crate::specs::Values::file_named))]
-pub fn file_value<'a>(text: &'a str) -> Option<&'a str>
-    ensures { option_map (λ s. s.now) result ≡ file_named text.entry.now }
-{
-    if is_file_name(text.as_bytes()) {
-        Some(text)
-    } else {
-        None
-    }
-}
 
 /// The number of banks, 2 to 4, and 2 where none is given.
 pub fn banks_value(text: Option<&str>) -> Option<u32>
@@ -50,7 +24,7 @@ pub fn banks_value(text: Option<&str>) -> Option<u32>
     }
 }
 
-#[tactic(auto, unfolding(crate::specs::Values::split_of))]
+#[tactic(auto, unfolding(clap_words::specs::Values::split_of))]
 fn split_at_colon<'a>(text: &'a str) -> Option<(&'a str, &'a str)>
     ensures { option_map (λ p. (p.0.now, p.1.now)) result ≡ split_of 58 text.entry.now }
 {

@@ -1,6 +1,6 @@
 use Rattle.std.proofs.Common.{◌∙◌, ap₂}
 use Rattle.std.proofs.lemmas.Result.{IfOk-weaker}
-use Rattle.fip_words.specs.Words.{with_leaf}
+use Rattle.clap_words.specs.Words.{with_leaf}
 use Rattle.fip_words.proofs.commands.fip_command.Goals as goal
 
 pub returns : goal.returns

@@ -1,8 +1,9 @@
 use Rattle.std.proofs.Common.{◌∙◌, sym, ap, subst, option_and_then, map, string_bytes, List, Option}
 use Rattle.clap.specs.Words.{App, Row, Text}
-use Rattle.fip_words.specs.Words.{reads}
-use Rattle.fip_words.specs.Order.{Answers, Asked, asked, order_of, view}
-use Rattle.fip_words.proofs.AnswerLemmas.{error_answers}
+use Rattle.clap_words.specs.Words.{reads}
+use Rattle.clap_words.specs.Answers.{Answers}
+use Rattle.fip_words.specs.Order.{Asked, asked, order_of, view}
+use Rattle.clap_words.proofs.AnswerLemmas.{error_answers}
 use Rattle.fip_words.proofs.order.fip_order.Goals as goal
 
 abbrev asked_by : Option (Text × List Row) → Option Asked

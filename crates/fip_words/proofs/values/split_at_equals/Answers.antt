@@ -1,6 +1,6 @@
 use Rattle.std.proofs.Common.{arith}
 use Rattle.std.proofs.lemmas.Str.Pattern.{split_once_first}
-use Rattle.fip_words.proofs.SplitLemmas.{split_result}
+use Rattle.clap_words.proofs.SplitLemmas.{split_result}
 use Rattle.fip_words.proofs.values.split_at_equals.Goals as goal
 
 pub returns : goal.returns

@@ -1,6 +1,6 @@
 use Rattle.std.proofs.Common.{◌∙◌, ap₂}
 use Rattle.std.proofs.lemmas.Result.{IfOk-weaker}
-use Rattle.fwu_words.specs.Words.{with_leaf}
+use Rattle.clap_words.specs.Words.{with_leaf}
 use Rattle.fwu_words.proofs.commands.fwu_command.Goals as goal
 
 pub returns : goal.returns

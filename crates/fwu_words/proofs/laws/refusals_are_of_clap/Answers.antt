@@ -1,6 +1,6 @@
 use Rattle.std.proofs.Common.{refl}
 use Rattle.fwu_words.specs.Commands.{fwu_app}
-use Rattle.fwu_words.proofs.Refusals.{refused, reads_nothing}
+use Rattle.clap_words.proofs.Refusals.{refused, reads_nothing}
 use Rattle.fwu_words.proofs.laws.refusals_are_of_clap.Goals as goal
 
 pub returns : goal.returns

@@ -1,6 +1,6 @@
 use Rattle.std.proofs.Common.{arith}
 use Rattle.std.proofs.lemmas.Str.Pattern.{split_once_first}
-use Rattle.fwu_words.proofs.SplitLemmas.{split_result}
+use Rattle.clap_words.proofs.SplitLemmas.{split_result}
 use Rattle.fwu_words.proofs.values.split_at_colon.Goals as goal
 
 pub returns : goal.returns

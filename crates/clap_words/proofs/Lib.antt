@@ -1,0 +1,5 @@
+pub mod AnswerLemmas
+pub mod FoundLemmas
+pub mod NoFlags
+pub mod Refusals
+pub mod SplitLemmas

@@ -1,0 +1,15 @@
+use Rattle.std.proofs.Common.{rules, ◌≡◌, ◌∙◌, false, ap}
+use Rattle.std.proofs.Math.Bool.{or-false}
+use Rattle.std.proofs.lemmas.Result.{IfOk-weaker}
+use Rattle.clap.specs.Words.{app_of, rule_of, with_rule}
+use Rattle.clap_words.specs.Words.{some_words}
+use Rattle.clap_words.proofs.commands.with_some_words.Goals as goal
+
+pub returns : goal.returns
+returns c =
+    let rule_is : rule_of c.required.result ≡ some_words c.args.id.now = search rules in
+    let local : c.required.result.global ≡ false = search rules in
+    IfOk-weaker c.arg.result _ _ (λ r h. record {
+      app = h.shape local ∙ ap (with_rule (app_of c.args.command)) rule_is;
+      globals = h.globals ∙ rw local (or-false _);
+    }) c.arg.ensures
