@@ -5,8 +5,6 @@ mod adding;
 mod journal;
 mod line;
 mod numbers;
-#[cfg(test)]
-mod tests;
 
 pub use adding::{add, add_number};
 pub use journal::{Journal, Reply, Turn};

@@ -4,8 +4,6 @@
 mod bank;
 mod images;
 mod laws;
-#[cfg(test)]
-mod tests;
 
 pub use bank::{Verdict, check};
 pub use laws::good_is_permitted;

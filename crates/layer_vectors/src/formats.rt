@@ -109,33 +109,41 @@ fn a_flash_is_formatted(rt: HostRuntime) -> Result<(), Fail> {
     Ok(())
 }
 
+// How a format ends on so many erased blocks, from the file of this name, where `a.fip` has these images.
+fn end_of(
+    alloc: Global,
+    blocks: u32,
+    manifest: Option<&[u8]>,
+    normal: &[u8],
+    name: &str,
+) -> Result<Option<FormatStop>, Fail> {
+    let mut files = files(alloc, manifest, b"boot", normal)?;
+    let mut flash = erased(alloc, blocks)?;
+    if !flash.is_on() {
+        return Err(Fail::from("the flash is off"));
+    }
+    Ok(format_from(&mut flash, &mut files, name).err())
+}
+
 #[test]
 fn what_is_given_is_refused(rt: HostRuntime) -> Result<(), Fail> {
     let alloc = rt.alloc();
-    let given = manifest(alloc, b"boot", b"normal")?;
-    let mut whole = files(alloc, Some(given.as_slice()), b"boot", b"normal")?;
-    let mut small = erased(alloc, 21)?;
-    assert!(rt; small.is_on());
+    let manifest = manifest(alloc, b"boot", b"normal")?;
+    let given = Some(manifest.as_slice());
     assert_eq!(rt;
-        format_from(&mut small, &mut whole, "a.fip").err(),
+        end_of(alloc, 21, given, b"normal", "a.fip")?,
         Some(FormatStop::Input(InputFault::Layout(LayoutFault::BeyondFlash)))
     );
-    let mut flash = erased(alloc, 22)?;
-    assert!(rt; flash.is_on());
     assert_eq!(rt;
-        format_from(&mut flash, &mut whole, "b.fip").err(),
+        end_of(alloc, 22, given, b"normal", "b.fip")?,
         Some(FormatStop::ReadFailed)
     );
-    assert!(rt; flash.is_on());
-    let mut lacking = files(alloc, None, b"boot", b"normal")?;
     assert_eq!(rt;
-        format_from(&mut flash, &mut lacking, "a.fip").err(),
+        end_of(alloc, 22, None, b"normal", "a.fip")?,
         Some(FormatStop::Input(InputFault::Missing(manifest_type())))
     );
-    assert!(rt; flash.is_on());
-    let mut changed = files(alloc, Some(given.as_slice()), b"boot", b"Normal")?;
     assert_eq!(rt;
-        format_from(&mut flash, &mut changed, "a.fip").err(),
+        end_of(alloc, 22, given, b"Normal", "a.fip")?,
         Some(FormatStop::Input(InputFault::Incomplete(Verdict::BadImage { image: 2 })))
     );
     Ok(())

@@ -62,23 +62,25 @@ fn memory_source(alloc: Global) -> Result<MemorySource, AllocError> {
     Ok(MemorySource::new(bytes, fails))
 }
 
+fn assert_drained<I: Source>(
+    rt: &impl Abort,
+    alloc: Global,
+    source: &mut I,
+    want: &[u8],
+) -> Result<(), AllocError> {
+    assert_eq!(rt; drained(alloc, source)?.as_slice(), want);
+    Ok(())
+}
+
 #[test]
 fn sources(rt: HostRuntime) -> Result<(), Fail> {
-    let mut memory = memory_source(rt.alloc())?;
-    assert_eq!(rt;
-        drained(rt.alloc(), &mut memory)?.as_slice(),
-        b"firm!ware".as_slice()
-    );
+    let alloc = rt.alloc();
+    let mut memory = memory_source(alloc)?;
+    assert_drained(&rt, alloc, &mut memory, b"firm!ware")?;
     let mut over = StdSource::new(Cursor::new(b"firmware".as_slice()));
-    assert_eq!(rt;
-        drained(rt.alloc(), &mut over)?.as_slice(),
-        b"firmware".as_slice()
-    );
+    assert_drained(&rt, alloc, &mut over, b"firmware")?;
     let mut faulty = StdSource::new(Faulty(0));
-    assert_eq!(rt;
-        drained(rt.alloc(), &mut faulty)?.as_slice(),
-        b"x!x!".as_slice()
-    );
+    assert_drained(&rt, alloc, &mut faulty, b"x!x!")?;
     Ok(())
 }
 

@@ -12,8 +12,24 @@ mod formats;
 #[cfg(test)]
 mod host_files;
 #[cfg(test)]
+mod journal_lines;
+#[cfg(test)]
 mod layouts;
 #[cfg(test)]
+mod lists;
+#[cfg(test)]
+mod manifests;
+#[cfg(test)]
+mod marks;
+#[cfg(test)]
 mod memory_flash;
+#[cfg(test)]
+mod scripts;
+#[cfg(test)]
+mod stored_metadata;
+#[cfg(test)]
+mod values;
+#[cfg(test)]
+mod verdicts;
 #[cfg(test)]
 mod words;

@@ -8,8 +8,6 @@
 
 mod reading;
 mod rows;
-#[cfg(test)]
-mod tests;
 mod value;
 
 pub use reading::{manifest_size, test};

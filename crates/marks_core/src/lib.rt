@@ -4,8 +4,6 @@
 mod marks;
 mod record;
 mod rollback;
-#[cfg(test)]
-mod tests;
 
 pub use marks::{add, clear, count};
 pub use rollback::{counter, raise};

@@ -4,8 +4,6 @@
 mod loading;
 mod repairing;
 mod storing;
-#[cfg(test)]
-mod tests;
 mod which;
 
 pub use loading::load;

@@ -118,8 +118,8 @@ pub record Promised (passes : List ℕ → Bool) (tells : Bool) (asked : Option 
   pub wrote : WroteHolds (given_to asked list files source) journal status noted taken takes
   -- For every device, files, source and sink: which turns and causes ended the run.
   pub ends : EndsHold asked (given_to asked list files source) journal status noted old new was are
-  -- For every device: a boot tells whether the flash is on, and its trials and counter; `show` tells the numbers with which it is on, or while off
-  -- `off`; and each `cut` is taken.
+  -- For every device: a boot's reply tells whether the flash is on; `show` tells `off` while off, and else the same numbers until the next boot,
+  -- with the trials and the counter that the last boot told, and its fallback; and each `cut` is taken.
   pub replies : RepliesHold journal old
   -- `boot` on any flash with nothing dirty, sound or not, where nothing failed.
   pub boot_word : BootWordHolds passes tells asked journal status noted old new

@@ -11,7 +11,8 @@ pub fn ways_end()
     ensures { WaysEnd }
 {}
 
-/// Whichever way a run ends, on any device, `show` tells the numbers that the boot before it left, or while off `off`.
+/// Whichever way a run ends, on any device, `show` tells `off` while off, and else the same numbers until the next boot, with
+/// the trials and the counter that the last boot told, and its fallback.
 pub fn ways_reply()
     ensures { WaysReply }
 {}

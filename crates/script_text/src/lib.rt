@@ -9,8 +9,6 @@ mod laws;
 mod limit;
 mod script;
 mod split;
-#[cfg(test)]
-mod tests;
 
 pub use call::Call;
 pub use laws::{

@@ -2,8 +2,6 @@
 #![tactic(auto)]
 
 mod list;
-#[cfg(test)]
-mod tests;
 mod verifier;
 
 pub use list::{DigestList, ListFault};

@@ -1,8 +1,10 @@
+//! Lists of the digests of manifests, and which manifests pass.
+
 ghost use Rattle.std.specs.Prelude.{◌≡◌};
 
-use super::*;
 use std::alloc::Global;
 use std::test::Fail;
+use verify_core::{AnyManifest, Both, DigestList, ListFault, Verifier};
 
 // Of "abc", FIPS 180-4.
 const ABC: &[u8] = b"BA7816BF8f01cfea414140de5dae2223b00361a396177a9cb410ff61f20015ad\n";

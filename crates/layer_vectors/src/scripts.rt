@@ -1,4 +1,6 @@
-use super::*;
+//! Scripts of calls, their first bad lines, and the limits of their text.
+
+use script_text::{Call, Script, ScriptFault, TextLimit, is_too_long, read_script};
 use std::alloc::Global;
 use std::test::Fail;
 

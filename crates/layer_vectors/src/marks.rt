@@ -1,23 +1,15 @@
-ghost use Rattle.std.specs.Prelude.{◌≡◌, ◌*◌, ◌≤◌, IfOk, length};
+//! Marks in a block, and the anti-rollback counter.
 
-use crate::{add, clear, count, counter, raise};
+use crate::fixtures::image;
 use flash_core::Flash;
 use flash_devices::MemoryFlash;
-use std::alloc::{AllocError, Global};
+use marks_core::{add, clear, count, counter, raise};
 use std::test::Fail;
-
-// A literal length would be computed element by element in each goal.
-fn image(alloc: Global, byte: u8, blocks: usize) -> Result<Vec<u8>, AllocError>
-    requires { blocks ≤ 65536 }
-    ensures { IfOk result (λ bytes. length bytes.items ≡ 4096 * blocks) }
-{
-    vec![in alloc; byte; 4096 * blocks]
-}
 
 #[test]
 fn marks_are_counted_cleared_and_added(rt: HostRuntime) -> Result<(), Fail> {
     let alloc = rt.alloc();
-    let bytes = image(alloc, 0, 8)?;
+    let bytes = image(alloc, 0, 32768)?;
     let made = MemoryFlash::from_bytes(alloc, bytes, Vec::new(alloc), Vec::new(alloc));
     let Ok(mut flash) = made else {
         assert!(rt; false);
@@ -48,7 +40,7 @@ const RECORD: [u8; 32] = [
 #[test]
 fn a_counter_is_raised(rt: HostRuntime) -> Result<(), Fail> {
     let alloc = rt.alloc();
-    let bytes = image(alloc, 0, 8)?;
+    let bytes = image(alloc, 0, 32768)?;
     let made = MemoryFlash::from_bytes(alloc, bytes, Vec::new(alloc), Vec::new(alloc));
     let Ok(mut flash) = made else {
         assert!(rt; false);

@@ -1,37 +1,15 @@
+//! Verdicts on the banks of a device that is only read.
+
 ghost use Rattle.std.specs.Prelude.{◌<◌, Bool, false, List, [], IsTrue};
 ghost use Rattle.std.proofs.Common.{lit≤};
 ghost use Rattle.std.proofs.lemmas.Bool.{false≢true};
 ghost use Rattle.flash_core.specs.Told.{fresh};
 
-use super::*;
-use base_core::{Guid, ImageRow};
+use crate::fixtures::{MANIFEST, image_rows};
 use flash_core::{Arming, Counts, Flash, FlashStop};
+use image_check::{Verdict, check};
 use meta_layout::Layout;
 use verify_core::{AnyManifest, Verifier};
-
-// A manifest of one image, "abc", with security version 7, as Python's struct and hashlib make it.
-const MANIFEST: [u8; 104] = [
-    0x46, 0x57, 0x4D, 0x46, 0x01, 0x00, 0x00, 0x00, 0x07, 0x00, 0x00, 0x00, 0x01, 0x00, 0x00, 0x00,
-    0x01, 0x02, 0x03, 0x04, 0x05, 0x06, 0x07, 0x08, 0x09, 0x0A, 0x0B, 0x0C, 0x0D, 0x0E, 0x0F, 0x10,
-    0x03, 0x00, 0x00, 0x00, 0x09, 0x00, 0x00, 0x00, 0xBA, 0x78, 0x16, 0xBF, 0x8F, 0x01, 0xCF, 0xEA,
-    0x41, 0x41, 0x40, 0xDE, 0x5D, 0xAE, 0x22, 0x23, 0xB0, 0x03, 0x61, 0xA3, 0x96, 0x17, 0x7A, 0x9C,
-    0xB4, 0x10, 0xFF, 0x61, 0xF2, 0x00, 0x15, 0xAD, 0xD6, 0x74, 0xF6, 0x6D, 0x3F, 0xC3, 0xCE, 0x3C,
-    0x53, 0xB4, 0x3C, 0xA7, 0xBE, 0xCD, 0x04, 0x1C, 0x9E, 0xFE, 0x0A, 0x87, 0x73, 0xA0, 0x04, 0xC8,
-    0xE1, 0xE6, 0x7B, 0x59, 0x77, 0xFD, 0x2B, 0xB9,
-];
-
-fn rows() -> [ImageRow; 2] {
-    [
-        ImageRow {
-            guid: Guid::of([0xAA; 16]),
-            slots: 1,
-        },
-        ImageRow {
-            guid: Guid::of([1, 2, 3, 4, 5, 6, 7, 8, 9, 10, 11, 12, 13, 14, 15, 16]),
-            slots: 1,
-        },
-    ]
-}
 
 // A device that is only read: three banks of two blocks have the manifest, the first of them the image, and the
 // third one a fault in its manifest.
@@ -149,7 +127,7 @@ impl Verifier for NoManifest {
 
 // The verdict by the device and its layout of three banks.
 fn verdict<V: Verifier>(bank: u32, counter: u32, verifier: &V) -> Option<Verdict> {
-    let layout = Layout::make(&rows(), 3, 14).ok()?;
+    let layout = Layout::make(&image_rows(), 3, 14).ok()?;
     if layout.blocks() > 14 || bank >= layout.banks() {
         return None;
     }

@@ -1,5 +1,7 @@
-use super::*;
+//! The printed lines of turns, and the journal that keeps them.
+
 use early_boot::Numbers;
+use fwu_journal::{Journal, LINE_ROOM, Reply, Turn, add_line};
 use fwu_model::{BankState, LayoutFault, NoBoot};
 use meta_layout::{BankBits, Bits, States};
 use script_text::Call;

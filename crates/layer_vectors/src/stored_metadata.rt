@@ -1,20 +1,15 @@
-use crate::{ReplicaStop, Which, load, repair, store};
-use base_core::{Guid, ImageRow};
+//! Metadata that is stored, loaded, repaired and migrated.
+
+use crate::fixtures::image_rows;
 use flash_core::{Flash, replace};
 use flash_devices::MemoryFlash;
 use meta_layout::{Layout, Meta};
+use replicas::{ReplicaStop, Which, load, repair, store};
 use std::test::Fail;
 
-fn row(id: u8) -> ImageRow {
-    ImageRow {
-        guid: Guid::of([id; 16]),
-        slots: 1,
-    }
-}
-
-/// Two banks of two images of a block each.
+// Two banks of two images of a block each.
 fn layout() -> Option<Layout> {
-    Layout::make(&[row(1), row(2)], 2, 12).ok()
+    Layout::make(&image_rows(), 2, 12).ok()
 }
 
 #[test]

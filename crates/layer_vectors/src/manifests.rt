@@ -1,20 +1,11 @@
-use super::*;
-use base_core::{Guid, ImageRow};
+//! Manifests of both forms, as bytes and as values.
+
+use crate::fixtures::{MANIFEST, image_rows, image_type};
 use fwu_model::ManifestFault;
+use manifest_core::{Manifest, ManifestStop, Row, row_at, test};
 use std::test::Fail;
 
-// Manifests of one image, "abc", of version 9, with security versions 7 and 70000, as Python's struct and hashlib
-// make them.
-const SMALL: [u8; 104] = [
-    0x46, 0x57, 0x4D, 0x46, 0x01, 0x00, 0x00, 0x00, 0x07, 0x00, 0x00, 0x00, 0x01, 0x00, 0x00, 0x00,
-    0x01, 0x02, 0x03, 0x04, 0x05, 0x06, 0x07, 0x08, 0x09, 0x0A, 0x0B, 0x0C, 0x0D, 0x0E, 0x0F, 0x10,
-    0x03, 0x00, 0x00, 0x00, 0x09, 0x00, 0x00, 0x00, 0xBA, 0x78, 0x16, 0xBF, 0x8F, 0x01, 0xCF, 0xEA,
-    0x41, 0x41, 0x40, 0xDE, 0x5D, 0xAE, 0x22, 0x23, 0xB0, 0x03, 0x61, 0xA3, 0x96, 0x17, 0x7A, 0x9C,
-    0xB4, 0x10, 0xFF, 0x61, 0xF2, 0x00, 0x15, 0xAD, 0xD6, 0x74, 0xF6, 0x6D, 0x3F, 0xC3, 0xCE, 0x3C,
-    0x53, 0xB4, 0x3C, 0xA7, 0xBE, 0xCD, 0x04, 0x1C, 0x9E, 0xFE, 0x0A, 0x87, 0x73, 0xA0, 0x04, 0xC8,
-    0xE1, 0xE6, 0x7B, 0x59, 0x77, 0xFD, 0x2B, 0xB9,
-];
-
+// As `MANIFEST`, with the security version 70000.
 const WIDE: [u8; 104] = [
     0x46, 0x57, 0x4D, 0x46, 0x02, 0x00, 0x00, 0x00, 0x70, 0x11, 0x01, 0x00, 0x01, 0x00, 0x00, 0x00,
     0x01, 0x02, 0x03, 0x04, 0x05, 0x06, 0x07, 0x08, 0x09, 0x0A, 0x0B, 0x0C, 0x0D, 0x0E, 0x0F, 0x10,
@@ -25,35 +16,18 @@ const WIDE: [u8; 104] = [
     0x8A, 0x17, 0xFB, 0x50, 0xC1, 0x44, 0xE7, 0x0A,
 ];
 
-fn guid() -> Guid {
-    Guid::of([1, 2, 3, 4, 5, 6, 7, 8, 9, 10, 11, 12, 13, 14, 15, 16])
-}
-
-fn images() -> [ImageRow; 2] {
-    [
-        ImageRow {
-            guid: Guid::nil(),
-            slots: 1,
-        },
-        ImageRow {
-            guid: guid(),
-            slots: 1,
-        },
-    ]
-}
-
 #[test]
 fn both_forms(rt: HostRuntime) {
-    let images = images();
-    assert_eq!(rt; test(&SMALL, &images), Ok(7));
+    let images = image_rows();
+    assert_eq!(rt; test(&MANIFEST, &images), Ok(7));
     assert_eq!(rt; test(&WIDE, &images), Ok(70000));
 }
 
 // From the last fault to the first, each before those behind it.
 #[test]
 fn faults(rt: HostRuntime) {
-    let images = images();
-    let mut bytes = SMALL;
+    let images = image_rows();
+    let mut bytes = MANIFEST;
     bytes[103] ^= 1;
     assert_eq!(rt; test(&bytes, &images), Err(ManifestFault::BadDigest));
     bytes[33] = 0x10;
@@ -74,18 +48,20 @@ fn faults(rt: HostRuntime) {
 
 #[test]
 fn rows_are_read(rt: HostRuntime) {
-    assert_eq!(rt; row_at(&SMALL, 0), Row::of(guid(), 9, b"abc"));
+    assert_eq!(rt; row_at(&MANIFEST, 0), Row::of(image_type(), 9, b"abc"));
 }
 
 #[test]
 fn written_and_read(rt: HostRuntime) -> Result<(), Fail> {
     let alloc = rt.alloc();
     let mut rows = Vec::new(alloc);
-    rows.push(Row::of(guid(), 9, b"abc"))?;
+    rows.push(Row::of(image_type(), 9, b"abc"))?;
     let manifest = Manifest::of_rows(alloc, 70000, rows).ok().ok_or("rows")?;
     let bytes = manifest.write(alloc).ok().ok_or("memory")?;
     assert!(rt; bytes.as_slice() == WIDE.as_slice());
-    let read = Manifest::read(alloc, &WIDE, &images()).ok().ok_or("read")?;
+    let read = Manifest::read(alloc, &WIDE, &image_rows())
+        .ok()
+        .ok_or("read")?;
     assert_eq!(rt; read.security(), 70000);
     assert!(rt; read.rows() == manifest.rows());
     let none = Manifest::of_rows(alloc, 7, Vec::new(alloc))
