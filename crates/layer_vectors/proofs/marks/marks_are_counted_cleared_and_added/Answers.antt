@@ -3,7 +3,7 @@ use Rattle.base_core.specs.Block.{granule}
 use Rattle.flash_core.specs.Told.{Told}
 use Rattle.fwu_model.specs.Flash.{is_blank}
 use Rattle.marks_core.proofs.Counting.{blank_at_count}
-use Rattle.marks_core.proofs.tests.marks_are_counted_cleared_and_added.Goals as goal
+use Rattle.layer_vectors.proofs.marks.marks_are_counted_cleared_and_added.Goals as goal
 
 pub add-requires-clause-blank : goal.add-requires-clause-blank
 add-requires-clause-blank g c told =
