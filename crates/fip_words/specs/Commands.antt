@@ -27,6 +27,10 @@ abbrev pub manifest_app : App
 manifest_app = with_rule (with_rule (with_rule (new_app (codes "manifest")) (word (codes "out")))
     (word (codes "security"))) (some_words (codes "rows"))
 
+-- those that list, make and change packages
+abbrev pub package_app : App
+package_app = with_leaf (with_leaf (with_leaf (with_leaf (top_app (codes "fip"))
+    info_app) create_app) (change_app (codes "update"))) (change_app (codes "remove"))
+
 abbrev pub fip_app : App
-fip_app = with_leaf (with_leaf (with_leaf (with_leaf (with_leaf (with_leaf (top_app (codes "fip"))
-    info_app) create_app) (change_app (codes "update"))) (change_app (codes "remove"))) unpack_app) manifest_app
+fip_app = with_leaf (with_leaf package_app unpack_app) manifest_app

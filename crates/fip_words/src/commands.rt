@@ -2,7 +2,7 @@
 ghost use Rattle.std.specs.Prelude.{◌≡◌, IfOk, true};
 ghost use Rattle.clap.specs.Faults.{is_simple_and_free};
 ghost use Rattle.clap_words.specs.Words.{IsApp};
-ghost use Rattle.fip_words.specs.Commands.{change_app, create_app, fip_app, info_app, manifest_app, unpack_app};
+ghost use Rattle.fip_words.specs.Commands.{change_app, create_app, fip_app, info_app, manifest_app, package_app, unpack_app};
 
 use clap::Command;
 use clap_words::{top, with_leaf_command, with_option, with_some_words, with_word, with_words};
@@ -48,15 +48,22 @@ fn manifest_command<'a>(alloc: Global) -> Result<Command<'a>, AllocError>
     with_some_words(alloc, command, "rows")
 }
 
-/// `fip` with its six commands.
-pub fn fip_command<'a>(alloc: Global) -> Result<Command<'a>, AllocError>
-    ensures { IfOk result (λ c. IsApp c fip_app) }
+// `fip` with the commands that list, make and change packages.
+fn package_commands<'a>(alloc: Global) -> Result<Command<'a>, AllocError>
+    ensures { IfOk result (λ c. IsApp c package_app) }
 {
     let command = top(alloc, "fip");
     let command = with_leaf_command(command, info_command(alloc)?)?;
     let command = with_leaf_command(command, create_command(alloc)?)?;
     let command = with_leaf_command(command, change_command(alloc, "update")?)?;
-    let command = with_leaf_command(command, change_command(alloc, "remove")?)?;
+    with_leaf_command(command, change_command(alloc, "remove")?)
+}
+
+/// `fip` with its six commands.
+pub fn fip_command<'a>(alloc: Global) -> Result<Command<'a>, AllocError>
+    ensures { IfOk result (λ c. IsApp c fip_app) }
+{
+    let command = package_commands(alloc)?;
     let command = with_leaf_command(command, unpack_command(alloc)?)?;
     with_leaf_command(command, manifest_command(alloc)?)
 }

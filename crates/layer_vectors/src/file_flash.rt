@@ -17,6 +17,7 @@ fn an_armed_loss_leaves_its_bytes_in_the_file(rt: HostRuntime) -> Result<(), Fai
     flash.arm(2, 16);
     assert_eq!(rt; flash.erase(7), Ok(()));
     assert_eq!(rt; flash.program(28672, &[7; 32]), Err(FlashStop::Lost));
+    assert_eq!(rt; flash.counts().reached, 1);
     flash.power_on();
     let mut bytes = [1; 18];
     assert_eq!(rt; flash.read(28672, &mut bytes), Ok(()));
@@ -97,6 +98,7 @@ fn an_error_of_the_file_is_a_fault(rt: HostRuntime) -> Result<(), Fail> {
     assert_eq!(rt; flash.erase(0), Err(FlashStop::Failed));
     flash.power_on();
     assert_eq!(rt; flash.barrier(), Err(FlashStop::Failed));
+    assert_eq!(rt; flash.counts().faults, 3);
     assert!(rt; !flash.is_on());
     Ok(())
 }

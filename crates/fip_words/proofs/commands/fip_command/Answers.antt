@@ -5,14 +5,8 @@ use Rattle.fip_words.proofs.commands.fip_command.Goals as goal
 
 pub returns : goal.returns
 returns c =
-    let info = c.in_ok-command.ensures.app ∙ ap₂ with_leaf c.top-command.ensures.app c.in_ok-info_command.ensures.app in
-    let create = c.in_ok-command-2.ensures.app ∙ ap₂ with_leaf info c.in_ok-create_command.ensures.app in
-    let update = c.in_ok-command-3.ensures.app ∙ ap₂ with_leaf create c.in_ok-change_command.ensures.app in
-    let remove = c.in_ok-command-4.ensures.app ∙ ap₂ with_leaf update c.in_ok-change_command-2.ensures.app in
-    let unpack = c.in_ok-command-5.ensures.app ∙ ap₂ with_leaf remove c.in_ok-unpack_command.ensures.app in
-    IfOk-weaker c.with_leaf_command-6.result _ _ (λ r h. record {
+    let unpack = c.in_ok-command-2.ensures.app ∙ ap₂ with_leaf c.in_ok-command.ensures.app c.in_ok-unpack_command.ensures.app in
+    IfOk-weaker c.with_leaf_command-2.result _ _ (λ r h. record {
       app = h.app ∙ ap₂ with_leaf unpack c.in_ok-manifest_command.ensures.app;
-      globals = h.globals ∙ c.in_ok-command-5.ensures.globals ∙ c.in_ok-command-4.ensures.globals
-          ∙ c.in_ok-command-3.ensures.globals ∙ c.in_ok-command-2.ensures.globals ∙ c.in_ok-command.ensures.globals
-          ∙ c.top-command.ensures.globals;
-    }) c.with_leaf_command-6.ensures
+      globals = h.globals ∙ c.in_ok-command-2.ensures.globals ∙ c.in_ok-command.ensures.globals;
+    }) c.with_leaf_command-2.ensures
