@@ -1,26 +1,10 @@
-//! Boots of flashes that have nothing to boot.
+//! A boot whose flash fails.
 
 use early_boot::{BootEnd, boot};
 use flash_core::Flash;
 use flash_devices::MemoryFlash;
-use fwu_model::LayoutFault;
 use std::test::Fail;
 use verify_core::AnyManifest;
-
-#[test]
-fn a_blank_flash_has_no_layout(rt: HostRuntime) -> Result<(), Fail> {
-    let alloc = rt.alloc();
-    let mut flash = MemoryFlash::new(alloc, 8, Vec::new(alloc), Vec::new(alloc))?;
-    flash.power_on();
-    match boot(flash, &AnyManifest) {
-        BootEnd::BadLayout(flash, fault) => {
-            assert!(rt; flash.is_on());
-            assert_eq!(rt; fault, LayoutFault::BadMagic);
-        }
-        _ => assert!(rt; false),
-    }
-    Ok(())
-}
 
 #[test]
 fn a_read_that_fails_is_a_fault(rt: HostRuntime) -> Result<(), Fail> {

@@ -1,4 +1,4 @@
-//! A flash over bytes in memory, over a file of the system, and over a file that fails.
+//! A flash over a file: one of the system, one that fails, and one of too few blocks.
 
 use crate::fixtures::image;
 use flash_core::{Flash, FlashStop};
@@ -6,27 +6,6 @@ use flash_devices::{FileFlash, FlashOpenFault};
 use std::fs::{self, File};
 use std::io::{self, Cursor, ErrorKind, Read, Seek, SeekFrom, Write};
 use std::test::Fail;
-
-#[test]
-fn an_armed_loss_leaves_its_bytes_in_the_file(rt: HostRuntime) -> Result<(), Fail> {
-    let file = Cursor::new(image(rt.alloc(), 0, 32768)?);
-    let mut flash = FileFlash::open(file)?;
-    assert_eq!(rt; flash.blocks(), 8);
-    assert!(rt; !flash.is_on());
-    flash.power_on();
-    flash.arm(2, 16);
-    assert_eq!(rt; flash.erase(7), Ok(()));
-    assert_eq!(rt; flash.program(28672, &[7; 32]), Err(FlashStop::Lost));
-    assert_eq!(rt; flash.counts().reached, 1);
-    flash.power_on();
-    let mut bytes = [1; 18];
-    assert_eq!(rt; flash.read(28672, &mut bytes), Ok(()));
-    assert_eq!(rt;
-        bytes,
-        [7, 7, 7, 7, 7, 7, 7, 7, 7, 7, 7, 7, 7, 7, 7, 7, 0xFF, 0xFF]
-    );
-    Ok(())
-}
 
 #[test]
 fn a_file_of_seven_blocks_is_refused(rt: HostRuntime) -> Result<(), Fail> {
@@ -56,6 +35,7 @@ fn a_file_of_the_system_is_a_flash(rt: HostRuntime) -> Result<(), Fail> {
     );
     flash.arm(1, 1);
     assert_eq!(rt; flash.program(12288, &[5; 16]), Err(FlashStop::Lost));
+    assert_eq!(rt; flash.counts().reached, 1);
     let left = fs::read(&rt, name)?;
     fs::remove_file(&rt, name)?;
     assert_eq!(rt; left.len(), 32768);

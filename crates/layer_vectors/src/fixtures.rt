@@ -4,6 +4,8 @@ ghost use Rattle.std.specs.Prelude.{◌≡◌, ◌≤◌, length, IfOk};
 
 use base_core::{Guid, ImageRow};
 use std::alloc::{AllocError, Global};
+use std::fmt::Debug;
+use std::process::Abort;
 
 /// Bytes 4 to 40 of the first metadata of two banks, written out by hand from the format.
 pub const METADATA: [u8; 36] = [
@@ -77,4 +79,9 @@ pub fn image(alloc: Global, byte: u8, len: usize) -> Result<Vec<u8>, AllocError>
     ensures { IfOk result (λ bytes. length bytes.items ≡ len) }
 {
     vec![in alloc; byte; len]
+}
+
+/// Stops the test where the two differ, and prints both. A call costs its test's proof less than the macro in its place.
+pub fn same<T: Copy + PartialEq + Debug>(rt: &impl Abort, left: T, right: T) {
+    assert_eq!(rt; left, right);
 }

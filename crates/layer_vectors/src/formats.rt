@@ -1,4 +1,4 @@
-//! Flashes that are formatted with a package, and what is refused.
+//! A flash that is formatted with a package, one image of which fills more than a block.
 
 ghost use Rattle.std.specs.Prelude.{IsTrue};
 ghost use Rattle.flash_devices.specs.Memory.{is_on};
@@ -8,10 +8,8 @@ use base_core::Guid;
 use fip_tables::{Part, Parts, pack};
 use flash_core::Flash;
 use flash_devices::MemoryFlash;
-use flash_format::{FormatStop, Formatted, InputFault, format};
-use fwu_model::LayoutFault;
+use flash_format::{FormatStop, Formatted, format};
 use host_io::MemoryFiles;
-use image_check::Verdict;
 use manifest_core::{Manifest, Row};
 use std::alloc::Global;
 use std::test::Fail;
@@ -38,16 +36,9 @@ fn part(alloc: Global, guid: Guid, bytes: &[u8]) -> Result<Part, Fail> {
 }
 
 // A package of two images and of this manifest, in the file `a.fip`.
-fn files(
-    alloc: Global,
-    manifest: Option<&[u8]>,
-    boot: &[u8],
-    normal: &[u8],
-) -> Result<MemoryFiles, Fail> {
+fn files(alloc: Global, manifest: &[u8], boot: &[u8], normal: &[u8]) -> Result<MemoryFiles, Fail> {
     let mut parts = Vec::new(alloc);
-    if let Some(bytes) = manifest {
-        parts.push(part(alloc, manifest_type(), bytes)?)?;
-    }
+    parts.push(part(alloc, manifest_type(), manifest)?)?;
     parts.push(part(alloc, boot_type(), boot)?)?;
     parts.push(part(alloc, normal_type(), normal)?)?;
     let parts = Parts {
@@ -58,13 +49,6 @@ fn files(
     let mut names = Vec::new(alloc);
     names.push((String::from_str(alloc, "a.fip")?, pack(alloc, &parts, 16)?))?;
     Ok(MemoryFiles::new(alloc, names, Vec::new(alloc)))
-}
-
-fn erased(alloc: Global, blocks: u32) -> Result<MemoryFlash, Fail> {
-    let blocks = blocks.max(8).min(64);
-    let mut flash = MemoryFlash::new(alloc, blocks, Vec::new(alloc), Vec::new(alloc))?;
-    flash.power_on();
-    Ok(flash)
 }
 
 // Two banks of three images, from this file. What a format promises is left out, so that goals stay small.
@@ -83,9 +67,9 @@ fn a_flash_is_formatted(rt: HostRuntime) -> Result<(), Fail> {
     let alloc = rt.alloc();
     let boot = vec![in alloc; 0xA5; 5000]?;
     let manifest = manifest(alloc, boot.as_slice(), b"normal")?;
-    let mut files = files(alloc, Some(manifest.as_slice()), boot.as_slice(), b"normal")?;
-    let mut flash = erased(alloc, 22)?;
-    assert!(rt; flash.is_on());
+    let mut files = files(alloc, manifest.as_slice(), boot.as_slice(), b"normal")?;
+    let mut flash = MemoryFlash::new(alloc, 22, Vec::new(alloc), Vec::new(alloc))?;
+    flash.power_on();
     let done = match format_from(&mut flash, &mut files, "a.fip") {
         Ok(done) => done,
         Err(FormatStop::Input(fault)) => {
@@ -106,45 +90,5 @@ fn a_flash_is_formatted(rt: HostRuntime) -> Result<(), Fail> {
     assert_eq!(rt; &bytes[8196..8232], METADATA.as_slice());
     assert!(rt; bytes[36864..41864].iter().all(|byte| *byte == 0xA5));
     assert!(rt; bytes[41864..45056].iter().all(|byte| *byte == 0xFF));
-    Ok(())
-}
-
-// How a format ends on so many erased blocks, from the file of this name, where `a.fip` has these images.
-fn end_of(
-    alloc: Global,
-    blocks: u32,
-    manifest: Option<&[u8]>,
-    normal: &[u8],
-    name: &str,
-) -> Result<Option<FormatStop>, Fail> {
-    let mut files = files(alloc, manifest, b"boot", normal)?;
-    let mut flash = erased(alloc, blocks)?;
-    if !flash.is_on() {
-        return Err(Fail::from("the flash is off"));
-    }
-    Ok(format_from(&mut flash, &mut files, name).err())
-}
-
-#[test]
-fn what_is_given_is_refused(rt: HostRuntime) -> Result<(), Fail> {
-    let alloc = rt.alloc();
-    let manifest = manifest(alloc, b"boot", b"normal")?;
-    let given = Some(manifest.as_slice());
-    assert_eq!(rt;
-        end_of(alloc, 21, given, b"normal", "a.fip")?,
-        Some(FormatStop::Input(InputFault::Layout(LayoutFault::BeyondFlash)))
-    );
-    assert_eq!(rt;
-        end_of(alloc, 22, given, b"normal", "b.fip")?,
-        Some(FormatStop::ReadFailed)
-    );
-    assert_eq!(rt;
-        end_of(alloc, 22, None, b"normal", "a.fip")?,
-        Some(FormatStop::Input(InputFault::Missing(manifest_type())))
-    );
-    assert_eq!(rt;
-        end_of(alloc, 22, given, b"Normal", "a.fip")?,
-        Some(FormatStop::Input(InputFault::Incomplete(Verdict::BadImage { image: 2 })))
-    );
     Ok(())
 }

@@ -1,5 +1,6 @@
 //! Files, sources and sinks, each form once, with a failing call among others.
 
+use crate::fixtures::same;
 use host_io::{
     Failed, Files, HostFiles, MemoryFiles, MemorySink, MemorySource, Sink, Source, StdSink,
     StdSource, WriteStop,
@@ -33,7 +34,7 @@ fn drained<I: Source>(alloc: Global, source: &mut I) -> Result<Vec<u8>, AllocErr
 fn put_words<O: Sink>(rt: &impl Abort, sink: &mut O, want: &[Result<(), WriteStop>]) {
     let words = ["one ", "two ", "three "];
     for (word, end) in words.iter().zip(want) {
-        assert_eq!(rt; sink.put(word.as_bytes()), *end);
+        same(rt, sink.put(word.as_bytes()), *end);
     }
 }
 
@@ -68,7 +69,7 @@ fn assert_drained<I: Source>(
     source: &mut I,
     want: &[u8],
 ) -> Result<(), AllocError> {
-    assert_eq!(rt; drained(alloc, source)?.as_slice(), want);
+    same(rt, drained(alloc, source)?.as_slice(), want);
     Ok(())
 }
 
@@ -95,11 +96,11 @@ fn memory_sink(alloc: Global) -> Result<MemorySink, AllocError> {
 fn sinks(rt: HostRuntime) -> Result<(), Fail> {
     let mut memory = memory_sink(rt.alloc())?;
     put_words(&rt, &mut memory, &[Ok(()), Err(WriteStop::Failed), Ok(())]);
-    assert_eq!(rt; memory.bytes(), b"zero one three ".as_slice());
+    same(&rt, memory.bytes(), b"zero one three ".as_slice());
     let mut bytes = Vec::new(rt.alloc());
     let mut over = StdSink::new(&mut bytes);
     put_words(&rt, &mut over, &[Ok(()), Ok(()), Ok(())]);
-    assert_eq!(rt; bytes.as_slice(), b"one two three ".as_slice());
+    same(&rt, bytes.as_slice(), b"one two three ".as_slice());
     // Room for six bytes: the writer then takes nothing.
     let mut small = StdSink::new(Cursor::new([0; 6]));
     let full = Err(WriteStop::Failed);
@@ -160,14 +161,14 @@ fn assert_held(rt: &impl Abort, files: &MemoryFiles, want: &[(&str, &str)]) {
 fn files_in_memory(rt: HostRuntime) -> Result<(), Fail> {
     let mut files = memory_files(rt.alloc())?;
     let mut out = [0; 3];
-    assert_eq!(rt; size_of(&mut files, "a"), Ok(Some(6)));
-    assert_eq!(rt; size_of(&mut files, "b"), Ok(None));
-    assert_eq!(rt; range(&mut files, "a", 2, &mut out), Ok(true));
-    assert_eq!(rt; out.as_slice(), b"cde".as_slice());
-    assert_eq!(rt; stored(&mut files, "b", b"xy"), Err(WriteStop::Failed));
-    assert_eq!(rt; files.get("b"), None);
-    assert_eq!(rt; stored(&mut files, "b", b"xy"), Ok(Some(2)));
-    assert_eq!(rt; stored(&mut files, "a", b"z"), Ok(Some(1)));
+    same(&rt, size_of(&mut files, "a"), Ok(Some(6)));
+    same(&rt, size_of(&mut files, "b"), Ok(None));
+    same(&rt, range(&mut files, "a", 2, &mut out), Ok(true));
+    same(&rt, out.as_slice(), b"cde".as_slice());
+    same(&rt, stored(&mut files, "b", b"xy"), Err(WriteStop::Failed));
+    same(&rt, files.get("b"), None);
+    same(&rt, stored(&mut files, "b", b"xy"), Ok(Some(2)));
+    same(&rt, stored(&mut files, "a", b"z"), Ok(Some(1)));
     assert_held(&rt, &files, &[("a", "z"), ("b", "xy"), ("empty", "")]);
     Ok(())
 }
@@ -177,17 +178,18 @@ fn files_of_the_system(rt: HostRuntime) -> Result<(), Fail> {
     let name = "host_io_test.tmp";
     let mut files = HostFiles::new(&rt);
     let mut out = [0; 4];
-    assert_eq!(rt; stored(&mut files, name, b"firmware"), Ok(Some(8)));
-    assert_eq!(rt; files.read_at(name, 4, &mut out), Ok(()));
-    assert_eq!(rt; out.as_slice(), b"ware".as_slice());
-    assert_eq!(rt; files.read_at(name, 5, &mut out), Err(Failed));
-    assert_eq!(rt; files.read_at(name, 9, &mut []), Err(Failed));
+    same(&rt, stored(&mut files, name, b"firmware"), Ok(Some(8)));
+    same(&rt, files.read_at(name, 4, &mut out), Ok(()));
+    same(&rt, out.as_slice(), b"ware".as_slice());
+    same(&rt, files.read_at(name, 5, &mut out), Err(Failed));
+    same(&rt, files.read_at(name, 9, &mut []), Err(Failed));
     fs::remove_file(&rt, name)?;
-    assert_eq!(rt; files.size(name), Err(Failed));
-    assert_eq!(rt; files.read_at(name, 0, &mut out), Err(Failed));
-    assert_eq!(rt;
+    same(&rt, files.size(name), Err(Failed));
+    same(&rt, files.read_at(name, 0, &mut out), Err(Failed));
+    same(
+        &rt,
         stored(&mut files, "no_folder/file", b"x"),
-        Err(WriteStop::Failed)
+        Err(WriteStop::Failed),
     );
     Ok(())
 }

@@ -1,5 +1,6 @@
 //! The printed lines of turns, and the journal that keeps them.
 
+use crate::fixtures::same;
 use early_boot::Numbers;
 use fwu_journal::{Journal, LINE_ROOM, Reply, Turn, add_line};
 use fwu_model::{BankState, LayoutFault, NoBoot};
@@ -57,33 +58,36 @@ fn two_banks() -> Numbers {
 fn boots_have_their_lines(rt: HostRuntime) -> Result<(), Fail> {
     let alloc = rt.alloc();
     let line = line_of(alloc, Call::Boot, booted(false))?;
-    assert_eq!(rt;
+    same(
+        &rt,
         line.as_slice(),
-        b"boot bank=1 version=2 trials=1 counter=1\n".as_slice()
+        b"boot bank=1 version=2 trials=1 counter=1\n".as_slice(),
     );
     let line = line_of(alloc, Call::Boot, booted(true))?;
-    assert_eq!(rt;
+    same(
+        &rt,
         line.as_slice(),
-        b"boot bank=1 version=2 trials=1 counter=1 fallback\n".as_slice()
+        b"boot bank=1 version=2 trials=1 counter=1 fallback\n".as_slice(),
     );
     let no_layout = NoBoot::Layout(LayoutFault::BadMagic);
     let line = line_of(alloc, Call::Boot, Reply::NotBooted(no_layout))?;
-    assert_eq!(rt; line.as_slice(), b"boot bad-layout 2\n".as_slice());
+    same(&rt, line.as_slice(), b"boot bad-layout 2\n".as_slice());
     let line = line_of(alloc, Call::Boot, Reply::NotBooted(NoBoot::Metadata))?;
-    assert_eq!(rt; line.as_slice(), b"boot no-metadata\n".as_slice());
+    same(&rt, line.as_slice(), b"boot no-metadata\n".as_slice());
     let no_bank = NoBoot::Bank {
         active: 0,
         previous: 0,
     };
     let line = line_of(alloc, Call::Boot, Reply::NotBooted(no_bank))?;
-    assert_eq!(rt;
+    same(
+        &rt,
         line.as_slice(),
-        b"boot no-bank active=0 previous=0\n".as_slice()
+        b"boot no-bank active=0 previous=0\n".as_slice(),
     );
     let line = line_of(alloc, Call::Boot, Reply::Lost)?;
-    assert_eq!(rt; line.as_slice(), b"boot lost\n".as_slice());
+    same(&rt, line.as_slice(), b"boot lost\n".as_slice());
     let line = line_of(alloc, Call::Boot, Reply::Fault)?;
-    assert_eq!(rt; line.as_slice(), b"boot fault\n".as_slice());
+    same(&rt, line.as_slice(), b"boot fault\n".as_slice());
     Ok(())
 }
 
@@ -91,13 +95,14 @@ fn boots_have_their_lines(rt: HostRuntime) -> Result<(), Fail> {
 fn other_calls_have_their_lines(rt: HostRuntime) -> Result<(), Fail> {
     let alloc = rt.alloc();
     let line = line_of(alloc, Call::Show, Reply::Off)?;
-    assert_eq!(rt; line.as_slice(), b"show off\n".as_slice());
+    same(&rt, line.as_slice(), b"show off\n".as_slice());
     let line = line_of(alloc, Call::Cut { n: 1, k: 0 }, Reply::CutOk)?;
-    assert_eq!(rt; line.as_slice(), b"cut ok\n".as_slice());
+    same(&rt, line.as_slice(), b"cut ok\n".as_slice());
     let line = line_of(alloc, Call::Show, Reply::Shown(two_banks()))?;
-    assert_eq!(rt;
+    same(
+        &rt,
         line.as_slice(),
-        b"show active=0 previous=0 banks=accepted,invalid bits=111,000 trials=0 counter=1\n".as_slice()
+        b"show active=0 previous=0 banks=accepted,invalid bits=111,000 trials=0 counter=1\n".as_slice(),
     );
     Ok(())
 }
@@ -105,7 +110,7 @@ fn other_calls_have_their_lines(rt: HostRuntime) -> Result<(), Fail> {
 #[test]
 fn turns_are_kept_in_order(rt: HostRuntime) -> Result<(), Fail> {
     let alloc = rt.alloc();
-    assert_eq!(rt; Journal::new(alloc).len(), 0);
+    same(&rt, Journal::new(alloc).len(), 0);
     let mut journal = Journal::with_room(alloc, 2)?;
     journal.add(Turn {
         call: Call::Cut { n: 1, k: 0 },
@@ -117,8 +122,8 @@ fn turns_are_kept_in_order(rt: HostRuntime) -> Result<(), Fail> {
         reply: Reply::Lost,
         numbers: Some(two_banks()),
     });
-    assert_eq!(rt; journal.len(), 2);
-    assert_eq!(rt; journal.turns()[0].reply, Reply::CutOk);
-    assert_eq!(rt; journal.turns()[1].reply, Reply::Lost);
+    same(&rt, journal.len(), 2);
+    same(&rt, journal.turns()[0].reply, Reply::CutOk);
+    same(&rt, journal.turns()[1].reply, Reply::Lost);
     Ok(())
 }

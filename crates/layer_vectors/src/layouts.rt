@@ -1,6 +1,8 @@
 //! Layout blocks and metadata: their bytes, their first faults, and their parts.
 
-use crate::fixtures::{METADATA, TYPES, boot_type, manifest_type, normal_type, row, three_rows};
+use crate::fixtures::{
+    METADATA, TYPES, boot_type, manifest_type, normal_type, row, same, three_rows,
+};
 use base_core::{crc32, le32_at, put_le32};
 use meta_layout::{
     BankBits, BankState, Bits, Layout, LayoutFault, Meta, MetaFault, States, directory_guid,
@@ -34,11 +36,11 @@ fn layout_block() -> [u8; 4096] {
 fn a_layout_is_read_from_its_bytes(rt: HostRuntime) -> Result<(), Fail> {
     let block = layout_block();
     let layout = Layout::read(&block, 22).ok().ok_or("not read")?;
-    assert_eq!(rt; layout.banks(), 2);
-    assert_eq!(rt; layout.rows(), three_rows().as_slice());
-    assert_eq!(rt; layout.blocks(), 22);
-    assert_eq!(rt; layout.find(&normal_type()), Some(2));
-    assert_eq!(rt; layout.find(&directory_guid()), None);
+    same(&rt, layout.banks(), 2);
+    same(&rt, layout.rows(), three_rows().as_slice());
+    same(&rt, layout.blocks(), 22);
+    same(&rt, layout.find(&normal_type()), Some(2));
+    same(&rt, layout.find(&directory_guid()), None);
     assert!(rt; layout == layout_of(2).ok_or("not made")?);
     Ok(())
 }
@@ -49,10 +51,10 @@ fn a_layout_is_written_as_its_bytes(rt: HostRuntime) -> Result<(), Fail> {
     let block = layout_block();
     let mut written = [0; 4096];
     layout.write(&mut written);
-    assert_eq!(rt; le32_at(&written, 0), 0xcbf4_cee9);
-    assert_eq!(rt; &written[4..104], &block[4..104]);
-    assert_eq!(rt; written[104], 0xff);
-    assert_eq!(rt; written[4095], 0xff);
+    same(&rt, le32_at(&written, 0), 0xcbf4_cee9);
+    same(&rt, &written[4..104], &block[4..104]);
+    same(&rt, written[104], 0xff);
+    same(&rt, written[4095], 0xff);
     Ok(())
 }
 
@@ -62,10 +64,10 @@ fn images_begin_at_their_blocks(rt: HostRuntime) -> Result<(), Fail> {
     let banks = layout.banks();
     let images = layout.rows().len();
     assert!(rt; banks == 2 && images == 3);
-    assert_eq!(rt; layout.start(0, 0), 8);
-    assert_eq!(rt; layout.start(0, 2), 11);
-    assert_eq!(rt; layout.start(1, 1), 16);
-    assert_eq!(rt; Meta::replica_size(&layout), 288);
+    same(&rt, layout.start(0, 0), 8);
+    same(&rt, layout.start(0, 2), 11);
+    same(&rt, layout.start(1, 1), 16);
+    same(&rt, Meta::replica_size(&layout), 288);
     Ok(())
 }
 
@@ -99,7 +101,7 @@ fn a_layout_block_has_its_first_fault(rt: HostRuntime) -> Result<(), Fail> {
         (104, 0, None),
     ];
     for (at, value, fault) in table {
-        assert_eq!(rt; layout_fault(at, value), fault);
+        same(&rt, layout_fault(at, value), fault);
     }
     Ok(())
 }
@@ -111,34 +113,41 @@ fn a_layout_is_made_within_its_limits(rt: HostRuntime) -> Result<(), Fail> {
         row(boot_type(), 2),
         row(boot_type(), 4),
     ];
-    assert_eq!(rt;
+    same(
+        &rt,
         Layout::make(&twice, 2, 22).err(),
-        Some(LayoutFault::BadField)
+        Some(LayoutFault::BadField),
     );
-    assert_eq!(rt;
+    same(
+        &rt,
         Layout::make(&three_rows()[..1], 2, 22).err(),
-        Some(LayoutFault::BadField)
+        Some(LayoutFault::BadField),
     );
-    assert_eq!(rt;
+    same(
+        &rt,
         Layout::make(&three_rows(), 5, 99).err(),
-        Some(LayoutFault::BadField)
+        Some(LayoutFault::BadField),
     );
-    assert_eq!(rt;
+    same(
+        &rt,
         Layout::make(&three_rows(), 3, 28).err(),
-        Some(LayoutFault::BeyondFlash)
+        Some(LayoutFault::BeyondFlash),
     );
     let layout = layout_of(2).ok_or("not made")?;
-    assert_eq!(rt;
+    same(
+        &rt,
         Meta::read(&layout, &[0xff; 279]).err(),
-        Some(MetaFault::Short)
+        Some(MetaFault::Short),
     );
-    assert_eq!(rt;
+    same(
+        &rt,
         Layout::read(&[0xff; 31], 22).err(),
-        Some(LayoutFault::Short)
+        Some(LayoutFault::Short),
     );
-    assert_eq!(rt;
+    same(
+        &rt,
         Layout::read(&LAYOUT_HEAD, 22).err(),
-        Some(LayoutFault::Short)
+        Some(LayoutFault::Short),
     );
     Ok(())
 }
@@ -151,13 +160,17 @@ fn the_first_metadata_of_two_banks_has_its_bytes(rt: HostRuntime) -> Result<(), 
     let size = Meta::size(&layout);
     assert!(rt; size == 280);
     meta.write(&layout, &mut block);
-    assert_eq!(rt; le32_at(&block, 0), 0x046b_72fc);
-    assert_eq!(rt; &block[4..40], METADATA.as_slice());
-    assert_eq!(rt; &block[280..288], [0xff; 8].as_slice());
+    same(&rt, le32_at(&block, 0), 0x046b_72fc);
+    same(&rt, &block[4..40], METADATA.as_slice());
+    same(&rt, &block[280..288], [0xff; 8].as_slice());
     let again = Meta::read(&layout, &block).ok().ok_or("not read")?;
     assert!(rt; again.is(&meta));
     block[26] = 0xfc;
-    assert_eq!(rt; Meta::read(&layout, &block).err(), Some(MetaFault::BadCrc));
+    same(
+        &rt,
+        Meta::read(&layout, &block).err(),
+        Some(MetaFault::BadCrc),
+    );
     Ok(())
 }
 
@@ -169,21 +182,23 @@ fn the_first_metadata_of_three_banks_has_its_bytes(rt: HostRuntime) -> Result<()
     let size = Meta::size(&layout);
     assert!(rt; size == 352);
     meta.write(&layout, &mut block);
-    assert_eq!(rt;
+    same(
+        &rt,
         &block[16..40],
         [
             0x60, 1, 0, 0, 0x20, 0, 0, 0, 0xfc, 0xff, 0xff, 0xff, 0, 0, 0, 0, 3, 0, 3, 0, 0x68, 0,
             0x18, 0,
         ]
-        .as_slice()
+        .as_slice(),
     );
     meta.write_one(&layout, &mut block);
-    assert_eq!(rt;
+    same(
+        &rt,
         &block[..16],
-        [0x23, 0x06, 0x58, 0x4a, 1, 0, 0, 0, 0, 0, 0, 0, 0, 0, 0, 0].as_slice()
+        [0x23, 0x06, 0x58, 0x4a, 1, 0, 0, 0, 0, 0, 0, 0, 0, 0, 0, 0].as_slice(),
     );
     let mut again = Meta::read(&layout, &block).ok().ok_or("not read")?;
-    assert_eq!(rt; again.form(), 1);
+    same(&rt, again.form(), 1);
     again.migrate();
     assert!(rt; again.is(&meta));
     Ok(())
@@ -222,7 +237,7 @@ fn a_metadata_block_has_its_first_fault(rt: HostRuntime) -> Result<(), Fail> {
         (280, 0, None),
     ];
     for (at, value, fault) in table {
-        assert_eq!(rt; meta_fault(at, value), fault);
+        same(&rt, meta_fault(at, value), fault);
     }
     Ok(())
 }
@@ -243,18 +258,24 @@ fn each_part_is_set_alone(rt: HostRuntime) -> Result<(), Fail> {
     meta.set_previous(0);
     meta.set_state(1, BankState::Invalid);
     meta.set_bit(1, 0, true);
-    assert_eq!(rt; (meta.active(), meta.previous(), meta.banks()), (1, 0, 2));
-    assert_eq!(rt;
-        (meta.state(0), meta.state(1)),
-        (BankState::Accepted, BankState::Invalid)
+    same(
+        &rt,
+        (meta.active(), meta.previous(), meta.banks()),
+        (1, 0, 2),
     );
-    assert_eq!(rt;
+    same(
+        &rt,
+        (meta.state(0), meta.state(1)),
+        (BankState::Accepted, BankState::Invalid),
+    );
+    same(
+        &rt,
         (meta.bit(0, 0), meta.bit(0, 1), meta.bit(1, 0)),
-        (true, false, true)
+        (true, false, true),
     );
     states.set(1, BankState::Invalid);
     assert!(rt; meta.states().is(&states));
     assert!(rt; !meta.bits().is(&all));
-    assert_eq!(rt; (states.len(), all.len(), bits.len()), (2, 2, 2));
+    same(&rt, (states.len(), all.len(), bits.len()), (2, 2, 2));
     Ok(())
 }

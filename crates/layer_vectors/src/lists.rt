@@ -2,6 +2,7 @@
 
 ghost use Rattle.std.specs.Prelude.{◌≡◌};
 
+use crate::fixtures::same;
 use std::alloc::Global;
 use std::test::Fail;
 use verify_core::{AnyManifest, Both, DigestList, ListFault, Verifier};
@@ -50,14 +51,18 @@ fn listed_manifests_pass(rt: HostRuntime) -> Result<(), Fail> {
 fn first_bad_lines(rt: HostRuntime) -> Result<(), Fail> {
     let alloc = rt.alloc();
     let mut text = ABC.to_vec(alloc)?;
-    assert_eq!(rt; fault_of(alloc, &text), None);
-    assert_eq!(rt; fault_of(alloc, &ABC[..64]), Some(ListFault::BadLine(1)));
-    assert_eq!(rt; fault_of(alloc, b"00\n"), Some(ListFault::BadLine(1)));
+    same(&rt, fault_of(alloc, &text), None);
+    same(
+        &rt,
+        fault_of(alloc, &ABC[..64]),
+        Some(ListFault::BadLine(1)),
+    );
+    same(&rt, fault_of(alloc, b"00\n"), Some(ListFault::BadLine(1)));
     text.extend_from_slice(b"\n")?;
-    assert_eq!(rt; fault_of(alloc, &text), Some(ListFault::BadLine(2)));
+    same(&rt, fault_of(alloc, &text), Some(ListFault::BadLine(2)));
     let mut other = ABC.to_vec(alloc)?;
     other.extend_from_slice(b"xy7816bf8f01cfea414140de5dae2223b00361a396177a9cb410ff61f20015ad\n")?;
     other.extend_from_slice(ABC)?;
-    assert_eq!(rt; fault_of(alloc, &other), Some(ListFault::BadLine(2)));
+    same(&rt, fault_of(alloc, &other), Some(ListFault::BadLine(2)));
     Ok(())
 }

@@ -1,6 +1,6 @@
 //! Manifests of both forms, as bytes and as values.
 
-use crate::fixtures::{MANIFEST, image_rows, image_type};
+use crate::fixtures::{MANIFEST, image_rows, image_type, same};
 use fwu_model::ManifestFault;
 use manifest_core::{Manifest, ManifestStop, Row, row_at, test};
 use std::test::Fail;
@@ -19,8 +19,8 @@ const WIDE: [u8; 104] = [
 #[test]
 fn both_forms(rt: HostRuntime) {
     let images = image_rows();
-    assert_eq!(rt; test(&MANIFEST, &images), Ok(7));
-    assert_eq!(rt; test(&WIDE, &images), Ok(70000));
+    same(&rt, test(&MANIFEST, &images), Ok(7));
+    same(&rt, test(&WIDE, &images), Ok(70000));
 }
 
 // From the last fault to the first, each before those behind it.
@@ -29,26 +29,30 @@ fn faults(rt: HostRuntime) {
     let images = image_rows();
     let mut bytes = MANIFEST;
     bytes[103] ^= 1;
-    assert_eq!(rt; test(&bytes, &images), Err(ManifestFault::BadDigest));
+    same(&rt, test(&bytes, &images), Err(ManifestFault::BadDigest));
     bytes[33] = 0x10;
-    assert_eq!(rt; test(&bytes, &images), Err(ManifestFault::TooLarge));
+    same(&rt, test(&bytes, &images), Err(ManifestFault::TooLarge));
     bytes[16] = 0;
-    assert_eq!(rt; test(&bytes, &images), Err(ManifestFault::WrongOrder));
+    same(&rt, test(&bytes, &images), Err(ManifestFault::WrongOrder));
     bytes[12] = 2;
-    assert_eq!(rt; test(&bytes, &images), Err(ManifestFault::BadCount));
+    same(&rt, test(&bytes, &images), Err(ManifestFault::BadCount));
     bytes[8] = 224;
-    assert_eq!(rt; test(&bytes, &images), Err(ManifestFault::VersionTooHigh));
+    same(
+        &rt,
+        test(&bytes, &images),
+        Err(ManifestFault::VersionTooHigh),
+    );
     bytes[4] = 2;
     bytes[8] = 223;
-    assert_eq!(rt; test(&bytes, &images), Err(ManifestFault::BadForm));
+    same(&rt, test(&bytes, &images), Err(ManifestFault::BadForm));
     bytes[0] = 0;
-    assert_eq!(rt; test(&bytes, &images), Err(ManifestFault::BadMagic));
-    assert_eq!(rt; test(&bytes[..103], &images), Err(ManifestFault::Short));
+    same(&rt, test(&bytes, &images), Err(ManifestFault::BadMagic));
+    same(&rt, test(&bytes[..103], &images), Err(ManifestFault::Short));
 }
 
 #[test]
 fn rows_are_read(rt: HostRuntime) {
-    assert_eq!(rt; row_at(&MANIFEST, 0), Row::of(image_type(), 9, b"abc"));
+    same(&rt, row_at(&MANIFEST, 0), Row::of(image_type(), 9, b"abc"));
 }
 
 #[test]
@@ -62,11 +66,11 @@ fn written_and_read(rt: HostRuntime) -> Result<(), Fail> {
     let read = Manifest::read(alloc, &WIDE, &image_rows())
         .ok()
         .ok_or("read")?;
-    assert_eq!(rt; read.security(), 70000);
+    same(&rt, read.security(), 70000);
     assert!(rt; read.rows() == manifest.rows());
     let none = Manifest::of_rows(alloc, 7, Vec::new(alloc))
         .err()
         .ok_or("no rows")?;
-    assert_eq!(rt; none, ManifestStop::Fault(ManifestFault::BadCount));
+    same(&rt, none, ManifestStop::Fault(ManifestFault::BadCount));
     Ok(())
 }

@@ -1,5 +1,6 @@
 //! Scripts of calls, their first bad lines, and the limits of their text.
 
+use crate::fixtures::same;
 use script_text::{Call, Script, ScriptFault, TextLimit, is_too_long, read_script};
 use std::alloc::Global;
 use std::test::Fail;
@@ -16,23 +17,25 @@ fn lines_are_calls_or_nothing(rt: HostRuntime) -> Result<(), Fail> {
     let alloc = rt.alloc();
     let text = b"# nothing is on\n\ncut 1 0\nshow\n";
     let script = read(alloc, text).ok().ok_or("a script")?;
-    assert_eq!(rt;
+    same(
+        &rt,
         script.calls(),
-        [Call::Cut { n: 1, k: 0 }, Call::Show].as_slice()
+        [Call::Cut { n: 1, k: 0 }, Call::Show].as_slice(),
     );
-    assert_eq!(rt; script.len(), 2);
+    same(&rt, script.len(), 2);
     // A last line without its end is a line.
     let open = read(alloc, b"boot\ncut 4294967295 4096")
         .ok()
         .ok_or("a last line")?;
     if open.len() == 2 {
-        assert_eq!(rt; open.at(0), Call::Boot);
-        assert_eq!(rt;
+        same(&rt, open.at(0), Call::Boot);
+        same(
+            &rt,
             open.at(1),
             Call::Cut {
                 n: 4294967295,
-                k: 4096
-            }
+                k: 4096,
+            },
         );
     }
     assert!(rt; !open.is_empty());
@@ -67,13 +70,15 @@ fn bad_lines_are_found(rt: HostRuntime) {
         );
     }
     // The first bad line counts, and `begin` is a call that isn't built.
-    assert_eq!(rt;
+    same(
+        &rt,
         read(alloc, b"boot\nbegin\nbigin\n").err(),
-        Some(ScriptFault::BadLine(2))
+        Some(ScriptFault::BadLine(2)),
     );
-    assert_eq!(rt;
+    same(
+        &rt,
         read(alloc, b"\n#\nshow\naccept tb-fw").err(),
-        Some(ScriptFault::BadLine(4))
+        Some(ScriptFault::BadLine(4)),
     );
 }
 
@@ -83,15 +88,15 @@ fn the_limits_are_exact(rt: HostRuntime) -> Result<(), Fail> {
     let mut lines = vec![in alloc; b'\n'; 65_536]?;
     assert!(rt; !is_too_long(&lines));
     let mut limit = TextLimit::new();
-    assert_eq!(rt; limit.feed(&lines), 65_536);
+    same(&rt, limit.feed(&lines), 65_536);
     assert!(rt; !limit.take(b'#'));
-    assert_eq!(rt; limit.feed(b"#"), 0);
+    same(&rt, limit.feed(b"#"), 0);
     lines.push(b'\n')?;
     assert!(rt; is_too_long(&lines));
     let mut bytes = vec![in alloc; b'#'; 4_194_304]?;
     assert!(rt; !is_too_long(&bytes));
     bytes.push(b'#')?;
     assert!(rt; is_too_long(&bytes));
-    assert_eq!(rt; TextLimit::new().feed(&bytes), 4_194_304);
+    same(&rt, TextLimit::new().feed(&bytes), 4_194_304);
     Ok(())
 }

@@ -1,5 +1,6 @@
 //! The values of words: numbers, names of images and files, bytes.
 
+use crate::fixtures::same;
 use std::test::Fail;
 use words_core::{guid_named, hex_bytes, is_file_name, number};
 
@@ -44,9 +45,13 @@ fn names_of_images_and_files(rt: HostRuntime) -> Result<(), Fail> {
 fn bytes_in_digits(rt: HostRuntime) -> Result<(), Fail> {
     let alloc = rt.alloc();
     let two = hex_bytes(alloc, b"aAfF").expect(&rt, "memory");
-    assert_eq!(rt; two.ok_or("digits")?.as_slice(), [0xAA, 0xFF].as_slice());
+    same(
+        &rt,
+        two.ok_or("digits")?.as_slice(),
+        [0xAA, 0xFF].as_slice(),
+    );
     let none = hex_bytes(alloc, b"-").expect(&rt, "memory");
-    assert_eq!(rt; none.ok_or("a hyphen")?.as_slice(), [].as_slice());
+    same(&rt, none.ok_or("a hyphen")?.as_slice(), [].as_slice());
     assert!(rt; hex_bytes(alloc, b"abc") == Ok(None));
     assert!(rt; hex_bytes(alloc, b"") == Ok(None));
     Ok(())

@@ -5,7 +5,7 @@ ghost use Rattle.std.proofs.Common.{lit≤};
 ghost use Rattle.std.proofs.lemmas.Bool.{false≢true};
 ghost use Rattle.flash_core.specs.Told.{fresh};
 
-use crate::fixtures::{MANIFEST, image_rows};
+use crate::fixtures::{MANIFEST, image_rows, same};
 use flash_core::{Arming, Counts, Flash, FlashStop};
 use image_check::{Verdict, check};
 use meta_layout::Layout;
@@ -144,24 +144,27 @@ fn verdict<V: Verifier>(bank: u32, counter: u32, verifier: &V) -> Option<Verdict
 
 #[test]
 fn verdicts(rt: HostRuntime) {
-    assert_eq!(rt;
+    same(
+        &rt,
         verdict(0, 7, &AnyManifest),
-        Some(Verdict::Good { version: 7 })
+        Some(Verdict::Good { version: 7 }),
     );
-    assert_eq!(rt;
+    same(
+        &rt,
         verdict(0, 8, &AnyManifest),
         Some(Verdict::BelowCounter {
             version: 7,
-            counter: 8
-        })
+            counter: 8,
+        }),
     );
-    assert_eq!(rt;
+    same(
+        &rt,
         verdict(1, 8, &AnyManifest),
-        Some(Verdict::BadImage { image: 1 })
+        Some(Verdict::BadImage { image: 1 }),
     );
-    assert_eq!(rt; verdict(2, 8, &AnyManifest), Some(Verdict::BadManifest));
+    same(&rt, verdict(2, 8, &AnyManifest), Some(Verdict::BadManifest));
     let no = NoManifest;
-    assert_eq!(rt; verdict(1, 8, &no), Some(Verdict::NotAccepted));
-    assert_eq!(rt; verdict(2, 8, &no), Some(Verdict::BadManifest));
+    same(&rt, verdict(1, 8, &no), Some(Verdict::NotAccepted));
+    same(&rt, verdict(2, 8, &no), Some(Verdict::BadManifest));
     let NoManifest = no;
 }

@@ -1,5 +1,6 @@
 //! The words of `fwu`: which of them ask for something, and for what.
 
+use crate::fixtures::same;
 use fwu_words::{Allow, Order, UsageStop, allow_of, fwu_order};
 use std::alloc::{AllocError, Global};
 use std::test::Fail;
@@ -75,15 +76,15 @@ fn a_layout_has_its_rows(rt: HostRuntime) -> Result<(), Fail> {
     else {
         return Err(Fail::from("no order"));
     };
-    assert_eq!(rt; banks, 3);
-    assert_eq!(rt; package, "p1.fip");
+    same(&rt, banks, 3);
+    same(&rt, package, "p1.fip");
     let [first, second, third] = rows.as_slice() else {
         return Err(Fail::from("three rows"));
     };
     assert!(rt; Some(first.guid) == guid_named(b"4657554d-414e-4946-4553-540000000001"));
     assert!(rt; Some(second.guid) == guid_named(b"5ff9ec0b-4d22-3e4d-a544-c39d81c73f0a"));
     assert!(rt; Some(third.guid) == guid_named(b"d6d0eea7-fcea-d54b-9782-9934f234b6e4"));
-    assert_eq!(rt; [first.slots, second.slots, third.slots], [1, 2, 4]);
+    same(&rt, [first.slots, second.slots, third.slots], [1, 2, 4]);
     Ok(())
 }
 
