@@ -3,6 +3,8 @@
 use fip_tool::fip_top;
 use host_io::{MemoryFiles, MemorySink, MemorySource};
 use std::alloc::{AllocError, Global};
+use std::fmt::Debug;
+use std::process::Abort;
 use std::test::Fail;
 
 /// A package of 101 bytes: `hello` as the payload of tb-fw, and no alignment.
@@ -65,4 +67,9 @@ pub fn ran(
     let mut source = MemorySource::new(Vec::new(alloc), Vec::new(alloc));
     let mut sink = MemorySink::new(alloc, Vec::new(alloc), Vec::new(alloc));
     ran_with(alloc, line, files, &mut source, &mut sink)
+}
+
+/// Stops the test where the two differ, and prints both. A call costs its test's proof less than the macro in its place.
+pub fn same<T: Copy + PartialEq + Debug>(rt: &impl Abort, left: T, right: T) {
+    assert_eq!(rt; left, right);
 }

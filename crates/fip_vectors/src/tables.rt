@@ -2,7 +2,7 @@
 
 ghost use Rattle.std.specs.Prelude.{◌<◌};
 
-use crate::fixtures::{EMPTY, HELLO, files_of, front};
+use crate::fixtures::{EMPTY, HELLO, files_of, front, same};
 use base_core::Guid;
 use fip_tables::{
     Entry, Frame, Outline, PackStop, Part, Parts, StreamToc, Toc, TocStop, pack, payload_at,
@@ -83,11 +83,11 @@ fn hello_in<H: Files>(files: &mut H, name: &str) -> Result<[u8; 5], Failed> {
 fn bytes_of_packages(rt: HostRuntime) -> Result<(), Fail> {
     let alloc = rt.alloc();
     let empty = package(alloc, Vec::new(alloc), 1)?;
-    assert_eq!(rt; empty.as_slice(), front(alloc, EMPTY, 56)?.as_slice());
+    same(&rt, empty.as_slice(), front(alloc, EMPTY, 56)?.as_slice());
     let mut one = Vec::new(alloc);
     one.push(part(alloc, first_guid(), "hello")?)?;
     let hello = package(alloc, one, 1)?;
-    assert_eq!(rt; hello.as_slice(), front(alloc, HELLO, 101)?.as_slice());
+    same(&rt, hello.as_slice(), front(alloc, HELLO, 101)?.as_slice());
     Ok(())
 }
 
@@ -121,9 +121,10 @@ fn faults_of_packages(rt: HostRuntime) -> Result<(), Fail> {
         let bytes = front(alloc, HELLO, count)?;
         assert_eq!(rt; fed(bytes.as_slice(), 50).err(), fault, "at {count}");
     }
-    assert_eq!(rt;
+    same(
+        &rt,
         fed(b"a name that is other", 50).err(),
-        Some(FipFault::BadName)
+        Some(FipFault::BadName),
     );
     Ok(())
 }
@@ -166,14 +167,15 @@ fn package_in_a_file(rt: HostRuntime) -> Result<(), Fail> {
     let hello = front(alloc, HELLO, 101)?;
     let mut files = files_of(alloc, &[("a.fip", hello.as_slice())], Vec::new(alloc))?;
     let toc = read_toc(&mut files, "a.fip").map_err(|_| "no table")?;
-    assert_eq!(rt; toc.serial, 0x1234_5678);
-    assert_eq!(rt; toc.entries.len(), 1);
-    assert_eq!(rt;
+    same(&rt, toc.serial, 0x1234_5678);
+    same(&rt, toc.entries.len(), 1);
+    same(
+        &rt,
         read_toc(&mut files, "b.fip").err(),
-        Some(TocStop::ReadFailed)
+        Some(TocStop::ReadFailed),
     );
     let payload = hello_in(&mut files, "a.fip").map_err(|_| "no payload")?;
-    assert_eq!(rt; &payload, b"hello");
+    same(&rt, &payload, b"hello");
     Ok(())
 }
 
@@ -203,6 +205,6 @@ fn frame_filled_from_a_file(rt: HostRuntime) -> Result<(), Fail> {
     let alloc = rt.alloc();
     let mut files = files_of(alloc, &[("hello", b"hello")], Vec::new(alloc))?;
     let bytes = packed_file(alloc, &mut files, "hello")?;
-    assert_eq!(rt; bytes.as_slice(), front(alloc, HELLO, 101)?.as_slice());
+    same(&rt, bytes.as_slice(), front(alloc, HELLO, 101)?.as_slice());
     Ok(())
 }
