@@ -1,7 +1,7 @@
 //! The commands that write files, in a row over the same files in memory. The bytes of the packages are those of the format, made
 //! by a Python program from the layout.
 
-use crate::fixtures::{EMPTY, HELLO, files_of, ran};
+use crate::fixtures::{EMPTY, HELLO, files_of, ran, same};
 use host_io::MemoryFiles;
 use std::alloc::{AllocError, Global};
 use std::test::Fail;
@@ -58,7 +58,9 @@ const WRITTEN: [(&str, &str); 4] = [
     ("yd6d0eea7-fcea-d54b-9782-9934f234b6e4.bin", "68656c6c6f"),
 ];
 
-fn first_files(alloc: Global, fails: Vec<u64>) -> Result<MemoryFiles, AllocError> {
+// The calls on files of these numbers fail.
+fn first_files(alloc: Global, fails: &[u64]) -> Result<MemoryFiles, AllocError> {
+    let fails = Vec::from_slice(alloc, fails)?;
     files_of(alloc, &[("h.bin", b"hello"), ("s3.bin", b"xyz")], fails)
 }
 
@@ -72,6 +74,20 @@ fn is_done(
     Ok(status == step.1 && text.as_slice() == step.2.as_bytes())
 }
 
+// The first of these commands that ends in another way.
+fn other_end<'a>(
+    alloc: Global,
+    files: &mut MemoryFiles,
+    steps: &[(&'a str, u8, &str)],
+) -> Result<Option<&'a str>, AllocError> {
+    for step in steps {
+        if !is_done(alloc, files, *step)? {
+            return Ok(Some(step.0));
+        }
+    }
+    Ok(None)
+}
+
 fn has(alloc: Global, files: &MemoryFiles, name: &str, digits: &str) -> Result<bool, Fail> {
     let wanted = hex::decode(alloc, digits)?;
     match files.get(name) {
@@ -80,27 +96,35 @@ fn has(alloc: Global, files: &MemoryFiles, name: &str, digits: &str) -> Result<b
     }
 }
 
+// The first of these files that has other bytes, or isn't there.
+fn other_file<'a>(
+    alloc: Global,
+    files: &MemoryFiles,
+    written: &[(&'a str, &str)],
+) -> Result<Option<&'a str>, Fail> {
+    for (name, digits) in written {
+        if !has(alloc, files, name, digits)? {
+            return Ok(Some(*name));
+        }
+    }
+    Ok(None)
+}
+
 #[test]
 fn commands_write_their_files(rt: HostRuntime) -> Result<(), Fail> {
     let alloc = rt.alloc();
-    let mut files = first_files(alloc, Vec::new(alloc))?;
-    for step in STEPS {
-        assert!(rt; is_done(alloc, &mut files, step)?);
-    }
-    for (name, digits) in WRITTEN {
-        assert!(rt; has(alloc, &files, name, digits)?, "{name:?}");
-    }
-    assert!(rt; files.get("z.fip").is_none());
+    let mut files = first_files(alloc, &[])?;
+    same(&rt, other_end(alloc, &mut files, &STEPS)?, None);
+    same(&rt, other_file(alloc, &files, &WRITTEN)?, None);
+    same(&rt, files.get("z.fip"), None);
     Ok(())
 }
 
 #[test]
 fn a_write_that_fails_is_a_file_fault(rt: HostRuntime) -> Result<(), Fail> {
-    let alloc = rt.alloc();
-    let mut fails = Vec::new(alloc);
-    fails.push(1)?;
-    let mut files = first_files(alloc, fails)?;
-    assert!(rt; is_done(alloc, &mut files, ("create e.fip", 2, "file-fault\n"))?);
-    assert!(rt; files.get("e.fip").is_none());
+    let mut files = first_files(rt.alloc(), &[1])?;
+    let step = ("create e.fip", 2, "file-fault\n");
+    assert!(rt; is_done(rt.alloc(), &mut files, step)?);
+    same(&rt, files.get("e.fip"), None);
     Ok(())
 }

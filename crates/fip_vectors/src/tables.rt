@@ -91,13 +91,17 @@ fn bytes_of_packages(rt: HostRuntime) -> Result<(), Fail> {
     Ok(())
 }
 
-#[test]
-fn aligned_package(rt: HostRuntime) -> Result<(), Fail> {
-    let alloc = rt.alloc();
+fn two_parts(alloc: Global) -> Result<Vec<Part>, AllocError> {
     let mut two = Vec::new(alloc);
     two.push(part(alloc, first_guid(), "hello")?)?;
     two.push(part(alloc, Guid::of([7; 16]), "xyz")?)?;
-    let bytes = package(alloc, two, 16)?;
+    Ok(two)
+}
+
+#[test]
+fn aligned_package(rt: HostRuntime) -> Result<(), Fail> {
+    let alloc = rt.alloc();
+    let bytes = package(alloc, two_parts(alloc)?, 16)?;
     assert_eq!(rt; bytes.len(), 176);
     let toc = fed(bytes.as_slice(), 100).map_err(|_| "no package")?;
     let entries = toc.entries.as_slice();

@@ -1,7 +1,14 @@
 //! Words that ask for something, and words that ask for nothing.
 use crate::fixtures::words;
 use fip_words::{UsageStop, fip_order};
+use std::alloc::{AllocError, Global};
 use std::test::Fail;
+
+// Why the words ask for nothing, if they do.
+fn refusal(alloc: Global, line: &str) -> Result<Option<UsageStop>, AllocError> {
+    let list = words(alloc, line)?;
+    Ok(fip_order(alloc, list.as_slice()).err())
+}
 
 #[test]
 fn words_that_ask_for_something(rt: HostRuntime) -> Result<(), Fail> {
@@ -21,8 +28,7 @@ fn words_that_ask_for_something(rt: HostRuntime) -> Result<(), Fail> {
         "unpack p5FF9EC0B-4D22-3E4D-A544-C39D81C73F0A.bin p",
         "manifest o 4294967295 tb-fw,7,a,b nt-fw,9,h",
     ] {
-        let list = words(alloc, line)?;
-        assert!(rt; fip_order(alloc, list.as_slice()).is_ok(), "{line:?}");
+        assert_eq!(rt; refusal(alloc, line)?, None, "{line:?}");
     }
     Ok(())
 }
@@ -52,11 +58,7 @@ fn words_that_ask_for_nothing(rt: HostRuntime) -> Result<(), Fail> {
         "manifest o 1 tb-fw,a",
         "manifest o 4294967296 tb-fw,7,a",
     ] {
-        let list = words(alloc, line)?;
-        assert!(rt;
-            matches!(fip_order(alloc, list.as_slice()), Err(UsageStop::Usage)),
-            "{line:?}"
-        );
+        assert_eq!(rt; refusal(alloc, line)?, Some(UsageStop::Usage), "{line:?}");
     }
     Ok(())
 }

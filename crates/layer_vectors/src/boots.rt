@@ -9,8 +9,7 @@ use verify_core::AnyManifest;
 #[test]
 fn a_read_that_fails_is_a_fault(rt: HostRuntime) -> Result<(), Fail> {
     let alloc = rt.alloc();
-    let mut faults = Vec::new(alloc);
-    faults.push(1)?;
+    let faults = [1].to_vec(alloc)?;
     let mut flash = MemoryFlash::new(alloc, 8, Vec::new(alloc), faults)?;
     flash.power_on();
     match boot(flash, &AnyManifest) {

@@ -4,18 +4,8 @@ use crate::fixtures::image;
 use flash_core::{Flash, FlashStop};
 use flash_devices::{FileFlash, FlashOpenFault};
 use std::fs::{self, File};
-use std::io::{self, Cursor, ErrorKind, Read, Seek, SeekFrom, Write};
+use std::io::{self, ErrorKind, Read, Seek, SeekFrom, Write};
 use std::test::Fail;
-
-#[test]
-fn a_file_of_seven_blocks_is_refused(rt: HostRuntime) -> Result<(), Fail> {
-    let made = FileFlash::open(Cursor::new(image(rt.alloc(), 0, 28672)?));
-    assert_eq!(rt;
-        made.map(|flash| flash.blocks()),
-        Err(FlashOpenFault::BadSize(28672))
-    );
-    Ok(())
-}
 
 #[test]
 fn a_file_of_the_system_is_a_flash(rt: HostRuntime) -> Result<(), Fail> {
@@ -43,9 +33,9 @@ fn a_file_of_the_system_is_a_flash(rt: HostRuntime) -> Result<(), Fail> {
     Ok(())
 }
 
-// A file of eight blocks of which nothing can be read or written.
+// A file of so many bytes, of which nothing can be read or written.
 #[derive(Drop)]
-struct Broken;
+struct Broken(u64);
 
 impl Read for Broken {
     fn read(&mut self, _out: &mut [u8]) -> io::Result<usize> {
@@ -65,13 +55,19 @@ impl Write for Broken {
 
 impl Seek for Broken {
     fn seek(&mut self, _to: SeekFrom) -> io::Result<u64> {
-        Ok(32768)
+        Ok(self.0)
     }
 }
 
 #[test]
+fn a_file_of_seven_blocks_is_refused(rt: HostRuntime) {
+    let made = FileFlash::open(Broken(28672));
+    assert_eq!(rt; made.err(), Some(FlashOpenFault::BadSize(28672)));
+}
+
+#[test]
 fn an_error_of_the_file_is_a_fault(rt: HostRuntime) -> Result<(), Fail> {
-    let mut flash = FileFlash::open(Broken)?;
+    let mut flash = FileFlash::open(Broken(32768))?;
     flash.power_on();
     assert_eq!(rt; flash.read(0, &mut [0; 2]), Err(FlashStop::Failed));
     flash.power_on();

@@ -3,7 +3,7 @@
 ghost use Rattle.std.specs.Prelude.{IsTrue};
 ghost use Rattle.flash_devices.specs.Memory.{is_on};
 
-use crate::fixtures::{METADATA, boot_type, manifest_type, normal_type, three_rows};
+use crate::fixtures::{METADATA, boot_type, manifest_type, normal_type, same, three_rows};
 use base_core::Guid;
 use fip_tables::{Part, Parts, pack};
 use flash_core::Flash;
@@ -62,32 +62,34 @@ fn format_from(
     format(flash, &three_rows(), 2, files, name, &AnyManifest)
 }
 
-#[test]
-fn a_flash_is_formatted(rt: HostRuntime) -> Result<(), Fail> {
-    let alloc = rt.alloc();
+// The package of these tests: the boot firmware has 5000 times the byte 0xA5.
+fn package(alloc: Global) -> Result<MemoryFiles, Fail> {
     let boot = vec![in alloc; 0xA5; 5000]?;
     let manifest = manifest(alloc, boot.as_slice(), b"normal")?;
-    let mut files = files(alloc, manifest.as_slice(), boot.as_slice(), b"normal")?;
+    files(alloc, manifest.as_slice(), boot.as_slice(), b"normal")
+}
+
+// A blank flash that was formatted with the package, and the version and banks that were told.
+fn formatted(alloc: Global, files: &mut MemoryFiles) -> Result<(u32, u32, MemoryFlash), Fail> {
     let mut flash = MemoryFlash::new(alloc, 22, Vec::new(alloc), Vec::new(alloc))?;
     flash.power_on();
-    let done = match format_from(&mut flash, &mut files, "a.fip") {
-        Ok(done) => done,
-        Err(FormatStop::Input(fault)) => {
-            assert!(rt; false, "refused: {fault:?}");
-            return Ok(());
-        }
-        Err(stop) => {
-            assert!(rt; false, "stopped: {stop:?}");
-            return Ok(());
-        }
-    };
-    assert_eq!(rt; done.version, 7);
-    assert_eq!(rt; done.layout.banks(), 2);
+    match format_from(&mut flash, files, "a.fip") {
+        Ok(done) => Ok((done.version, done.layout.banks(), flash)),
+        Err(FormatStop::Input(_)) => Err(Fail::from("refused")),
+        Err(_) => Err(Fail::from("stopped")),
+    }
+}
+
+#[test]
+fn a_flash_is_formatted(rt: HostRuntime) -> Result<(), Fail> {
+    let mut files = package(rt.alloc())?;
+    let (version, banks, flash) = formatted(rt.alloc(), &mut files)?;
+    same(&rt, (version, banks), (7, 2));
     let bytes = flash.bytes();
     assert_eq!(rt; bytes.len(), 90112);
-    assert_eq!(rt; &bytes[4..8], b"FWUL".as_slice());
-    assert_eq!(rt; &bytes[4100..4136], METADATA.as_slice());
-    assert_eq!(rt; &bytes[8196..8232], METADATA.as_slice());
+    same(&rt, &bytes[4..8], b"FWUL".as_slice());
+    same(&rt, &bytes[4100..4136], METADATA.as_slice());
+    same(&rt, &bytes[8196..8232], METADATA.as_slice());
     assert!(rt; bytes[36864..41864].iter().all(|byte| *byte == 0xA5));
     assert!(rt; bytes[41864..45056].iter().all(|byte| *byte == 0xFF));
     Ok(())

@@ -62,12 +62,18 @@ fn written_and_read(rt: HostRuntime) -> Result<(), Fail> {
     rows.push(Row::of(image_type(), 9, b"abc"))?;
     let manifest = Manifest::of_rows(alloc, 70000, rows).ok().ok_or("rows")?;
     let bytes = manifest.write(alloc).ok().ok_or("memory")?;
-    assert!(rt; bytes.as_slice() == WIDE.as_slice());
+    same(&rt, bytes.as_slice(), WIDE.as_slice());
     let read = Manifest::read(alloc, &WIDE, &image_rows())
         .ok()
         .ok_or("read")?;
     same(&rt, read.security(), 70000);
-    assert!(rt; read.rows() == manifest.rows());
+    same(&rt, read.rows(), manifest.rows());
+    Ok(())
+}
+
+#[test]
+fn a_manifest_without_rows_is_refused(rt: HostRuntime) -> Result<(), Fail> {
+    let alloc = rt.alloc();
     let none = Manifest::of_rows(alloc, 7, Vec::new(alloc))
         .err()
         .ok_or("no rows")?;

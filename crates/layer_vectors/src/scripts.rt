@@ -12,6 +12,10 @@ fn read(alloc: Global, text: &[u8]) -> Result<Script, ScriptFault> {
     read_script(alloc, text)
 }
 
+fn fault_of(alloc: Global, text: &[u8]) -> Option<ScriptFault> {
+    read(alloc, text).err()
+}
+
 #[test]
 fn lines_are_calls_or_nothing(rt: HostRuntime) -> Result<(), Fail> {
     let alloc = rt.alloc();
@@ -64,7 +68,7 @@ fn bad_lines_are_found(rt: HostRuntime) {
         "\0",
     ] {
         assert_eq!(rt;
-            read(alloc, text.as_bytes()).err(),
+            fault_of(alloc, text.as_bytes()),
             Some(ScriptFault::BadLine(1)),
             "{text:?}"
         );
@@ -72,12 +76,12 @@ fn bad_lines_are_found(rt: HostRuntime) {
     // The first bad line counts, and `begin` is a call that isn't built.
     same(
         &rt,
-        read(alloc, b"boot\nbegin\nbigin\n").err(),
+        fault_of(alloc, b"boot\nbegin\nbigin\n"),
         Some(ScriptFault::BadLine(2)),
     );
     same(
         &rt,
-        read(alloc, b"\n#\nshow\naccept tb-fw").err(),
+        fault_of(alloc, b"\n#\nshow\naccept tb-fw"),
         Some(ScriptFault::BadLine(4)),
     );
 }

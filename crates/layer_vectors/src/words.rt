@@ -14,6 +14,12 @@ fn words(alloc: Global, line: &str) -> Result<Vec<String>, AllocError> {
     Ok(list)
 }
 
+// Why the words ask for nothing, if they do.
+fn refusal(alloc: Global, line: &str) -> Result<Option<UsageStop>, AllocError> {
+    let list = words(alloc, line)?;
+    Ok(fwu_order(alloc, list.as_slice()).err())
+}
+
 #[test]
 fn words_that_ask_for_something(rt: HostRuntime) -> Result<(), Fail> {
     let alloc = rt.alloc();
@@ -26,8 +32,7 @@ fn words_that_ask_for_something(rt: HostRuntime) -> Result<(), Fail> {
         "format tb-fw:0,tb-fw:0 --banks 2 p",
         "format -- dir:1 -p",
     ] {
-        let list = words(alloc, line)?;
-        assert!(rt; fwu_order(alloc, list.as_slice()).is_ok(), "{line:?}");
+        assert_eq!(rt; refusal(alloc, line)?, None, "{line:?}");
     }
     Ok(())
 }
@@ -52,11 +57,7 @@ fn words_that_ask_for_nothing(rt: HostRuntime) -> Result<(), Fail> {
         "format tb-fw:02 p",
         "format tb-fw:2:2 p",
     ] {
-        let list = words(alloc, line)?;
-        assert!(rt;
-            matches!(fwu_order(alloc, list.as_slice()), Err(UsageStop::Usage)),
-            "{line:?}"
-        );
+        assert_eq!(rt; refusal(alloc, line)?, Some(UsageStop::Usage), "{line:?}");
     }
     assert!(rt; matches!(fwu_order(alloc, &[]), Err(UsageStop::Usage)));
     Ok(())

@@ -50,8 +50,8 @@ pub const MANIFEST_5: &str =
 pub const MANIFEST_70000: &str =
     "46574d460200000070110100020000005ff9ec0b4d223e4da544c39d81c73f0a0300000007000000ba7816bf8f01cfea414140de5dae2223b00361a396177a9cb410ff61f20015add6d0eea7fcead54b97829934f234b6e405000000090000002cf24dba5fb0a30e26e83b2ac5b9e29e1b161e5c1fa7425e73043362938b9824791ad86f849ff1f4f747b6bdc2495db23c246590e41b4524f912f30a15b0993e";
 
-// The SHA-256 of the manifest of security version 1.
-pub const DIGEST: &str = "6d807d1bea783d90ce1f9ee1bf8667e94ddc31fa6f5474f8a891bcc89d56fb9a";
+// A list of the SHA-256 of the manifest of security version 1.
+pub const LIST: &str = "6d807d1bea783d90ce1f9ee1bf8667e94ddc31fa6f5474f8a891bcc89d56fb9a\n";
 
 /// Puts the bytes that the digits spell into the image, where it has room for them.
 pub fn put(alloc: Global, image: &mut Vec<u8>, at: u32, digits: &str) -> Result<(), Fail> {

@@ -31,42 +31,68 @@ fn has(alloc: Global, image: &Vec<u8>, at: u32, digits: &str) -> Result<bool, Fa
     Ok(other == *image)
 }
 
+// Whether the words on a blank flash of so many blocks print this line, and leave this metadata in both replicas.
+fn is_formatted(
+    alloc: Global,
+    words: &str,
+    blocks: u32,
+    line: &str,
+    metadata: &str,
+) -> Result<bool, Fail> {
+    let ran = format(alloc, words, blocks, "616263")?;
+    let is_done = ran.status == 0 && ran.printed.as_slice() == line.as_bytes();
+    let zero = has(alloc, &ran.image, 4096, metadata)?;
+    let one = has(alloc, &ran.image, 8192, metadata)?;
+    Ok(is_done && zero && one)
+}
+
 #[test]
 fn a_blank_flash_is_formatted(rt: HostRuntime) -> Result<(), Fail> {
-    let alloc = rt.alloc();
-    let ran = format(
-        alloc,
+    let two = is_formatted(
+        rt.alloc(),
         "format manifest:1,tb-fw:2,nt-fw:4 p1.fip",
         22,
-        "616263",
+        "format banks=2 images=3 blocks=22 version=1\n",
+        METADATA,
     )?;
-    assert_eq!(rt;
-        ran.printed.as_slice(),
-        b"format banks=2 images=3 blocks=22 version=1\n".as_slice()
-    );
-    assert_eq!(rt; ran.status, 0);
-    assert!(rt; has(alloc, &ran.image, 4096, METADATA)?);
-    assert!(rt; has(alloc, &ran.image, 8192, METADATA)?);
-    let booted = run(alloc, "boot", "", ran.image)?;
+    assert!(rt; two);
+    let three = is_formatted(
+        rt.alloc(),
+        "format --banks 3 manifest:1,tb-fw:2,nt-fw:4 p1.fip",
+        29,
+        "format banks=3 images=3 blocks=29 version=1\n",
+        METADATA_OF_THREE,
+    )?;
+    assert!(rt; three);
+    Ok(())
+}
+
+#[test]
+fn a_formatted_flash_boots(rt: HostRuntime) -> Result<(), Fail> {
+    let words = "format manifest:1,tb-fw:2,nt-fw:4 p1.fip";
+    let ran = format(rt.alloc(), words, 22, "616263")?;
+    let booted = run(rt.alloc(), "boot", "", ran.image)?;
     assert_eq!(rt;
         booted.printed.as_slice(),
         b"boot bank=0 version=1 trials=0 counter=1\n".as_slice()
     );
-    let ran = format(
-        alloc,
-        "format --banks 3 manifest:1,tb-fw:2,nt-fw:4 p1.fip",
-        29,
-        "616263",
-    )?;
-    assert_eq!(rt;
-        ran.printed.as_slice(),
-        b"format banks=3 images=3 blocks=29 version=1\n".as_slice()
-    );
-    assert!(rt; has(alloc, &ran.image, 4096, METADATA_OF_THREE)?);
     Ok(())
 }
 
-// The words on a blank flash of so many blocks are refused by this line and leave the flash blank.
+// Whether the words on a blank flash of so many blocks end so, with this line.
+fn ends(
+    alloc: Global,
+    words: &str,
+    blocks: u32,
+    changed: &str,
+    status: u8,
+    line: &str,
+) -> Result<bool, Fail> {
+    let ran = format(alloc, words, blocks, changed)?;
+    Ok(ran.status == status && ran.printed.as_slice() == line.as_bytes())
+}
+
+// Whether the words on a blank flash of so many blocks are refused by this line and leave the flash blank.
 fn is_refused(alloc: Global, words: &str, blocks: u32, line: &str) -> Result<bool, Fail> {
     let ran = format(alloc, words, blocks, "616263")?;
     let same = ran.image == blank(alloc, blocks)?;
@@ -74,50 +100,49 @@ fn is_refused(alloc: Global, words: &str, blocks: u32, line: &str) -> Result<boo
 }
 
 #[test]
-fn what_is_not_formatted(rt: HostRuntime) -> Result<(), Fail> {
-    let alloc = rt.alloc();
-    assert!(rt;
-        is_refused(
-            alloc,
+fn what_is_refused_leaves_the_flash_blank(rt: HostRuntime) -> Result<(), Fail> {
+    for (words, blocks, line) in [
+        (
             "format manifest:1,tb-fw:2,nt-fw:4 p1.fip",
             21,
-            "format bad-layout 6\n"
-        )?
-    );
-    assert!(rt;
-        is_refused(
-            alloc,
+            "format bad-layout 6\n",
+        ),
+        (
             "format --banks 3 manifest:1,tb-fw:2,nt-fw:4 p1.fip",
             28,
-            "format bad-layout 6\n"
-        )?
-    );
-    assert!(rt;
-        is_refused(
-            alloc,
+            "format bad-layout 6\n",
+        ),
+        (
             "format manifest:1,soc-fw:2 p1.fip",
             22,
-            "format missing 47d4086d-4cfe-9846-9b95-2950cbbd5a00\n"
-        )?
-    );
-    let ran = format(
-        alloc,
-        "format manifest:1,tb-fw:2,nt-fw:4 p1.fip",
-        22,
-        "616264",
-    )?;
-    assert_eq!(rt;
-        ran.printed.as_slice(),
-        b"format incomplete bad-image 1\n".as_slice()
-    );
-    assert_eq!(rt; ran.status, 7);
-    let ran = format(
-        alloc,
-        "format manifest:1,tb-fw:2,nt-fw:4 p2.fip",
-        22,
-        "616263",
-    )?;
-    assert_eq!(rt; ran.printed.as_slice(), b"read-fault\n".as_slice());
-    assert_eq!(rt; ran.status, 2);
+            "format missing 47d4086d-4cfe-9846-9b95-2950cbbd5a00\n",
+        ),
+    ] {
+        assert!(rt; is_refused(rt.alloc(), words, blocks, line)?, "{words:?}");
+    }
+    Ok(())
+}
+
+#[test]
+fn what_is_not_formatted(rt: HostRuntime) -> Result<(), Fail> {
+    for (words, changed, status, line) in [
+        (
+            "format manifest:1,tb-fw:2,nt-fw:4 p1.fip",
+            "616264",
+            7,
+            "format incomplete bad-image 1\n",
+        ),
+        (
+            "format manifest:1,tb-fw:2,nt-fw:4 p2.fip",
+            "616263",
+            2,
+            "read-fault\n",
+        ),
+    ] {
+        assert!(rt;
+            ends(rt.alloc(), words, 22, changed, status, line)?,
+            "{line:?}"
+        );
+    }
     Ok(())
 }

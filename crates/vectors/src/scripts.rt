@@ -1,8 +1,7 @@
 //! Scripts of boots and power cuts, and the commands beside them.
 use crate::flashes::{
-    DIGEST, LAYOUT, LAYOUT_OF_FOUR, LAYOUT_OF_THREE, MANIFEST, MANIFEST_5, MANIFEST_70000,
-    METADATA, METADATA_OF_FOUR, METADATA_OF_THREE, VERSION_1, blank, flash_of, on_trial, put,
-    two_banks,
+    LAYOUT, LAYOUT_OF_FOUR, LAYOUT_OF_THREE, LIST, MANIFEST, MANIFEST_5, MANIFEST_70000, METADATA,
+    METADATA_OF_FOUR, METADATA_OF_THREE, VERSION_1, blank, flash_of, on_trial, put, two_banks,
 };
 use crate::runs::{Ran, run, run_with};
 use flash_devices::Cut;
@@ -96,6 +95,12 @@ fn nothing_is_on(rt: HostRuntime) -> Result<(), Fail> {
         "cut ok\nshow off\n",
     )?;
     prints(&rt, alloc, two_banks(alloc)?, "", "")?;
+    Ok(())
+}
+
+#[test]
+fn a_bad_script_changes_nothing(rt: HostRuntime) -> Result<(), Fail> {
+    let alloc = rt.alloc();
     let ran = run(alloc, "run", "boot\nbegin\nbigin\n", two_banks(alloc)?)?;
     assert_eq!(rt; ran.printed.as_slice(), b"bad-script 2\n".as_slice());
     assert_eq!(rt; ran.status, 4);
@@ -165,9 +170,13 @@ fn a_cut_within_a_migration(rt: HostRuntime) -> Result<(), Fail> {
     Ok(())
 }
 
-// Whether the text ends with this line.
-fn ends_with(text: &[u8], line: &str) -> bool {
-    text.ends_with(line.as_bytes())
+// Whether two boots with this cut end well, and their last line is one of these.
+fn comes_back(alloc: Global, image: &Vec<u8>, cut: Cut, lines: &[&str]) -> Result<bool, Fail> {
+    let cuts = [cut].to_vec(alloc)?;
+    let image = image.clone()?;
+    let ran = run_with(alloc, "run", "boot\nboot\n", Vec::new(alloc), image, cuts)?;
+    let printed = ran.printed.as_slice();
+    Ok(ran.status == 0 && lines.iter().any(|line| printed.ends_with(line.as_bytes())))
 }
 
 // Two boots with a cut at each erase or program, after so many bytes, with what was dirty kept or not: the last line is one of these.
@@ -180,21 +189,10 @@ fn cut_everywhere(
     for op in 1..7u64 {
         for landed in [0, 8, 100, 4096] {
             for back in [false, true] {
-                let mut cuts = Vec::new(alloc);
-                cuts.push(Cut { op, landed, back })?;
-                let ran = run_with(
-                    alloc,
-                    "run",
-                    "boot\nboot\n",
-                    Vec::new(alloc),
-                    image.clone()?,
-                    cuts,
-                )?;
-                assert_eq!(rt; ran.status, 0);
+                let cut = Cut { op, landed, back };
                 assert!(rt;
-                    lines
-                        .iter()
-                        .any(|line| ends_with(ran.printed.as_slice(), line))
+                    comes_back(alloc, image, cut, lines)?,
+                    "operation {op} after {landed}"
                 );
             }
         }
@@ -262,25 +260,31 @@ fn boot_by_list(alloc: Global, list: &str) -> Result<Ran, Fail> {
     )
 }
 
+// The first of these lists by which a boot ends in another way.
+fn other_boot<'a>(alloc: Global, cases: &[(&'a str, u8, &str)]) -> Result<Option<&'a str>, Fail> {
+    for (list, status, line) in cases {
+        let ran = boot_by_list(alloc, list)?;
+        if ran.status != *status || ran.printed.as_slice() != line.as_bytes() {
+            return Ok(Some(*list));
+        }
+    }
+    Ok(None)
+}
+
 #[test]
 fn a_list_says_which_manifests_pass(rt: HostRuntime) -> Result<(), Fail> {
+    let cases = [
+        (LIST, 0, "boot bank=0 version=1 trials=0 counter=1\n"),
+        ("", 6, "boot no-bank active=0 previous=0\n"),
+        ("00\n", 13, "bad-list 1\n"),
+    ];
+    assert_eq!(rt; other_boot(rt.alloc(), &cases)?, None);
+    Ok(())
+}
+
+#[test]
+fn a_list_that_is_not_there_is_a_fault(rt: HostRuntime) -> Result<(), Fail> {
     let alloc = rt.alloc();
-    let mut line = String::from_str(alloc, DIGEST)?;
-    line.push('\n')?;
-    let ran = boot_by_list(alloc, line.as_str())?;
-    assert_eq!(rt;
-        ran.printed.as_slice(),
-        b"boot bank=0 version=1 trials=0 counter=1\n".as_slice()
-    );
-    let ran = boot_by_list(alloc, "")?;
-    assert_eq!(rt;
-        ran.printed.as_slice(),
-        b"boot no-bank active=0 previous=0\n".as_slice()
-    );
-    assert_eq!(rt; ran.status, 6);
-    let ran = boot_by_list(alloc, "00\n")?;
-    assert_eq!(rt; ran.printed.as_slice(), b"bad-list 1\n".as_slice());
-    assert_eq!(rt; ran.status, 13);
     let ran = run(alloc, "--allow none boot", "", two_banks(alloc)?)?;
     assert_eq!(rt; ran.printed.as_slice(), b"read-fault\n".as_slice());
     assert_eq!(rt; ran.status, 2);
