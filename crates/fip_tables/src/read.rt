@@ -78,6 +78,7 @@ pub fn read_toc<H: Files>(files: &mut H, name: &str) -> Result<Toc, TocStop>
     ensures told { (bytes : List ℕ) → Tells (H.contents files.old) name.now bytes → IsAnswer result (toc_of bytes) }
     // Whatever file it is, the answer is that of some bytes. So a table has entries that end below 2 ^ 64, of different types.
     ensures some { IsOfSome result }
+    ensures missing { Lacks (H.contents files.old) name.now → result ≡ Err stop.ReadFailed }
     ensures same { H.contents files.new ≡ H.contents files.old }
     ensures cause { HasReadCause (H.contents files.old) name.now (H.faults files.old) (H.faults files.new) result }
 {

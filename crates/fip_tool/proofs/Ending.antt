@@ -2,9 +2,9 @@
 use Rattle.std.proofs.Common.{◌≡◌, ◌≢◌, ◌⊎◌, inl, inr, ℕ, zero, suc, ◌+◌, List, [], ◌∷◌, ◌++◌, Option, Ok, Err, length, take, drop, refl, sym, ap, subst, ◌∙◌}
 use Rattle.std.specs.Io.KnownBytes.{Appends}
 use Rattle.std.proofs.KnownBytes.{Appends-trans}
-use Rattle.std.proofs.Math.Seq.{take-append-add}
+use Rattle.std.proofs.Math.Seq.{take-append-add, take-length}
 use Rattle.host_io.specs.Contents.{Directory}
-use Rattle.fip_tool.specs.Ends.{EndedBy, HasCauseOf, Reported, SaidFront, StandAfter, Told, stop_line}
+use Rattle.fip_tool.specs.Ends.{EndedBy, HasCauseOf, Reported, SaidFront, SaidOf, StandAfter, Told, stop_line}
 use Rattle.fip_tool.specs.Steps.{Outcome, Makes, Refuses, Step, Writes, Prints, Are, AreUpTo, Did, steps_of, printed, written}
 use Rattle.fip_tool.specs.declared.stops.Stop.{Stop}
 use Rattle.fip_tool.specs.declared.stops.Stop.TheVariants as stop
@@ -24,8 +24,8 @@ module _ (outcome : Outcome) (files : Directory) (now : Option Directory) (was m
 
   no-memory : Did outcome files now was mid files-rose sink-before (Err stop.NoMemory) → EndedBy outcome files now was mid files-rose sink-rose (Err stop.NoMemory)
   no-memory d =
-      let k = front d.0 (steps_of outcome) in
-      (d.0, inl d.1, inl (k.0, subst (Appends was mid) k.1 d.2))
+      let p : List ℕ = printed (take d.0 (steps_of outcome)) in
+      (d.0, inl d.1, inl (length p, subst (Appends was mid) (sym (take-length p)) d.2))
 
   sink-failed : Did outcome files now was mid files-rose sink-before (Err stop.SinkFault) → EndedBy outcome files now was mid files-rose sink-rose (Err stop.SinkFault)
   sink-failed d = (rises d.0, d.1, inl d.2, inl (d.3, d.4))
@@ -40,7 +40,7 @@ module _ (outcome : Outcome) (files : Directory) (now : Option Directory) (was m
   half-told : (s : Stop) → RefusedTo s → (k : ℕ) → Appends mid text (take k (stop_line s)) → (n : ℕ) × StandAfter n outcome files now files-rose × SaidFront n outcome was text files-rose
   half-told s d k a = (0, inl d.1, inr (s, inl d.0, k, Appends-trans was mid text [] (take k (stop_line s)) d.2 a))
 
-  untold : (s : Stop) → RefusedTo s → text ≡ mid → (n : ℕ) × StandAfter n outcome files now files-rose × SaidFront n outcome was text files-rose
+  untold : (s : Stop) → RefusedTo s → text ≡ mid → (n : ℕ) × StandAfter n outcome files now files-rose × SaidOf n outcome was text files-rose
   untold s d e = (0, inl d.1, inl (0, subst (λ (t : Option (List ℕ)). Appends was t []) (sym e) d.2))
 
   -- a file failed, after the first n steps
@@ -80,11 +80,10 @@ module _ (outcome : Outcome) (files : Directory) (now : Option Directory) (was m
         ),
       )
 
-  failed-untold : FailedAfter → text ≡ mid → (n : ℕ) × StandAfter n outcome files now files-rose × SaidFront n outcome was text files-rose
+  failed-untold : FailedAfter → text ≡ mid → (n : ℕ) × StandAfter n outcome files now files-rose × SaidOf n outcome was text files-rose
   failed-untold d e =
       let so-far : List ℕ = printed (take d.1 (steps_of outcome)) in
-      let k = front d.1 (steps_of outcome) in
-      (d.1, stands d.1 d.0 d.2, inl (k.0, subst (λ (t : Option (List ℕ)). Appends was t (take k.0 (printed (steps_of outcome)))) (sym e) (subst (Appends was mid) k.1 d.3)))
+      (d.1, stands d.1 d.0 d.2, inl (length so-far, subst (λ (t : Option (List ℕ)). Appends was t (take (length so-far) so-far)) (sym e) (subst (Appends was mid) (sym (take-length so-far)) d.3)))
 
   at-stop : {s t : Stop} → t ≡ s → EndedBy outcome files now was text files-rose sink-rose (Err s) → EndedBy outcome files now was text files-rose sink-rose (Err t)
   at-stop e h = subst (λ (s : Stop). EndedBy outcome files now was text files-rose sink-rose (Err s)) (sym e) h

@@ -68,12 +68,18 @@ SaidFront n outcome was text files-rose =
     ((k : ℕ) × Appends was text (take k (printed (steps_of outcome))))
     ⊎ ((s : Stop) × HasCauseOf outcome files-rose s × (k : ℕ) × Appends was text (take k (printed (take n (steps_of outcome)) ++ stop_line s)))
 
+-- a front of the text of the first n steps, or of that and a stop's line
+abbrev pub SaidOf : ℕ → Outcome → Option (List ℕ) → Option (List ℕ) → Type 0 → Type 0
+SaidOf n outcome was text files-rose =
+    ((k : ℕ) × Appends was text (take k (printed (take n (steps_of outcome)))))
+    ⊎ ((s : Stop) × HasCauseOf outcome files-rose s × (k : ℕ) × Appends was text (take k (printed (take n (steps_of outcome)) ++ stop_line s)))
+
 -- How the tool ended. The files were `files` and the told contents are `now`; the sink's text was `was` and is `text`.
 abbrev pub EndedBy : Outcome → Directory → Option Directory → Option (List ℕ) → Option (List ℕ) → Type 0 → Type 0 → Result (Unit {0}) Stop → Type 0
 EndedBy outcome files now was text files-rose sink-rose (Ok done) =
     (outcome ≡ Makes (steps_of outcome)) × Are now (written (steps_of outcome) files) × Appends was text (printed (steps_of outcome))
 EndedBy outcome files now was text files-rose sink-rose (Err stop.NoMemory) =
-    (n : ℕ) × StandAfter n outcome files now files-rose × SaidFront n outcome was text files-rose
+    (n : ℕ) × StandAfter n outcome files now files-rose × SaidOf n outcome was text files-rose
 EndedBy outcome files now was text files-rose sink-rose (Err stop.SinkFault) =
     sink-rose × (n : ℕ) × StandAfter n outcome files now files-rose × SaidFront n outcome was text files-rose
 EndedBy outcome files now was text files-rose sink-rose (Err stop.FileFault) =

@@ -97,6 +97,7 @@ fn command<H: Files, I: Source, O: Sink>(
         (O.taken sink.old) (O.taken sink.new) (Rose (I.faults source.old) (I.faults source.new)) (Rose (O.faults sink.old) (O.faults sink.new)) }
     ensures cause { result ≡ Err stop.FileFault → H.contents files.old ≡ None
         → Rose (H.faults files.old) (H.faults files.new) ⊎ Rose (I.faults source.old) (I.faults source.new) }
+    ensures untouched { view order.now ≢ info_of_source → (I.left source.new ≡ I.left source.old) × (I.faults source.new ≡ I.faults source.old) }
     ensures usage { result ≡ Err stop.Usage → ⊥ }
     ensures later { O.faults sink.old ≤ O.faults sink.new }
 {

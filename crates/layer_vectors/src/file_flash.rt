@@ -30,6 +30,7 @@ fn a_file_of_the_system_is_a_flash(rt: HostRuntime) -> Result<(), Fail> {
     fs::remove_file(&rt, name)?;
     assert_eq!(rt; left.len(), 32768);
     assert_eq!(rt; [left[12287], left[12288], left[12289]], [0, 5, 0xFF]);
+    assert_eq!(rt; [left[14336], left[16383], left[16384]], [0xFF, 0xFF, 0]);
     Ok(())
 }
 

@@ -6,7 +6,7 @@ use host_io::{
     StdSource, WriteStop,
 };
 use std::alloc::{AllocError, Global};
-use std::io::{Cursor, ErrorKind, Read};
+use std::io::{Cursor, ErrorKind, Read, Write};
 use std::process::Abort;
 use std::test::Fail;
 use std::{fs, io};
@@ -85,6 +85,20 @@ fn sources(rt: HostRuntime) -> Result<(), Fail> {
     Ok(())
 }
 
+// A writer that takes all, and can't send it on.
+#[derive(Drop)]
+struct Stuck;
+
+impl Write for Stuck {
+    fn write(&mut self, bytes: &[u8]) -> io::Result<usize> {
+        Ok(bytes.len())
+    }
+
+    fn flush(&mut self) -> io::Result<()> {
+        Err(io::Error::from(ErrorKind::Other))
+    }
+}
+
 // The second put fails.
 fn memory_sink(alloc: Global) -> Result<MemorySink, AllocError> {
     let start = b"zero ".to_vec(alloc)?;
@@ -105,6 +119,7 @@ fn sinks(rt: HostRuntime) -> Result<(), Fail> {
     let mut small = StdSink::new(Cursor::new([0; 6]));
     let full = Err(WriteStop::Failed);
     put_words(&rt, &mut small, &[Ok(()), full, full]);
+    put_words(&rt, &mut StdSink::new(Stuck), &[full, full, full]);
     Ok(())
 }
 
