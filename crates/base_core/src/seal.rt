@@ -6,6 +6,7 @@ ghost use Rattle.base_core.specs.Seal.{has_checksum, has_own_seal, has_v1_seal, 
 
 use crate::checksum::crc32;
 use crate::numbers::{le32_at, put_le32};
+use crate::sizes::BLOCK_BYTES;
 
 /// Whether the block has so many bytes, and the checksum of those from 4 on in front.
 fn is_checked(block: &[u8], size: usize) -> bool
@@ -23,7 +24,7 @@ fn is_own_sealed(block: &[u8]) -> bool
         return false;
     }
     let size = le32_at(block, 16) as usize;
-    size >= 32 && size <= 4096 && is_checked(block, size)
+    size >= 32 && size <= BLOCK_BYTES as usize && is_checked(block, size)
 }
 
 /// Whether it has the checksum of metadata version 1 of so many banks.
