@@ -1,20 +1,13 @@
 #!/bin/sh
-# Builds fip and fwu, makes a package, formats a flash file with it, and boots the flash with a cut of power within the boot.
+# Builds fip and fwu (demo/build.sh, which shows what it proves as it goes), makes a package, formats a flash file with it,
+# and boots the flash with a cut of power within the boot.
 set -eu
 here=$(cd "$(dirname "$0")/.." && pwd)
+"$here/demo/build.sh"
+fip=$here/bin/fip
+fwu=$here/bin/fwu
 work=$(mktemp -d)
 trap 'rm -rf "$work"' EXIT
-
-# Proves and builds a program (and runs it once, which tells nothing here).
-build() {
-    (cd "$here/crates/$1" && rt run </dev/null >"$work/build.log" 2>&1) || true
-    test -x "$here/crates/$1/out/$1" || { cat "$work/build.log"; exit 1; }
-}
-
-build fip_prog
-build fwu_prog
-fip=$here/crates/fip_prog/out/fip_prog
-fwu=$here/crates/fwu_prog/out/fwu_prog
 cd "$work"
 
 say() {

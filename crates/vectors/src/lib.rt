@@ -12,4 +12,6 @@ mod runs;
 #[cfg(test)]
 mod scripts;
 #[cfg(test)]
+mod statuses;
+#[cfg(test)]
 mod values;
