@@ -1,7 +1,7 @@
 -- The values of words.
 use Rattle.std.specs.Prelude.{ℕ, ◌==◌, List, [], ◌∷◌, Option, Some, None, length, if◌then◌else◌, nat_lt, option_and_then, option_map}
 use Rattle.std.specs.List.{position_or_len, before_first, after_first}
-use Rattle.fwu_model.specs.Script.{file_of, named, number_of}
+use Rattle.fwu_formats.specs.Words.{file_of, named, number_of}
 
 -- NAME
 unfoldable pub name_of : List ℕ → Option (List ℕ)

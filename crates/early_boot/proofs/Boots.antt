@@ -9,15 +9,15 @@ use Rattle.flash_core.specs.declared.flash.FlashStop.{FlashStop}
 use Rattle.flash_core.specs.Told.{Told}
 use Rattle.flash_core.specs.May.{Keeps}
 use Rattle.flash_core.proofs.Calls.{keeps_then, keeps_wider}
-use Rattle.fwu_model.specs.Layout.{Layout}
-use Rattle.fwu_model.specs.Metadata.{MetaRead, meta_read}
+use Rattle.fwu_formats.specs.Layout.{Layout}
+use Rattle.fwu_formats.specs.Metadata.{MetaRead, meta_read}
 use Rattle.fwu_model.specs.State.{State, Move, Migrate, bank, is_valid, is_accepted, after}
 use Rattle.fwu_model.specs.Sound.{Setting, choice, can_start, can_fall_back, holds_permitted, trial_limit}
 use Rattle.fwu_model.specs.Answer.{migrate_moves}
 use Rattle.fwu_model.specs.Replica.{BothHold, in_version}
-use Rattle.fwu_model.specs.declared.kinds.BankState.{BankState}
-use Rattle.fwu_model.specs.declared.kinds.BankState.TheVariants.{Invalid, Valid, Accepted}
-use Rattle.fwu_model.proofs.Frame.{block-same}
+use Rattle.fwu_formats.specs.declared.kinds.BankState.{BankState}
+use Rattle.fwu_formats.specs.declared.kinds.BankState.TheVariants.{Invalid, Valid, Accepted}
+use Rattle.fwu_formats.proofs.Same.{block-same}
 use Rattle.moves.specs.Moved.{IsShown}
 use Rattle.moves.proofs.Composed.{after-append, does-stopped, does-then}
 use Rattle.early_boot.specs.declared.choosing.Chosen.{Chosen}

@@ -6,14 +6,14 @@ use Rattle.std.specs.Prelude.{IsErr}
 use Rattle.flash_core.specs.declared.flash.FlashStop.{FlashStop}
 use Rattle.flash_core.specs.Told.{Told}
 use Rattle.flash_core.proofs.Calls.{keeps_same, keeps_wider}
-use Rattle.fwu_model.specs.Layout.{Layout}
-use Rattle.fwu_model.specs.Metadata.{fits_meta, state_at}
-use Rattle.fwu_model.specs.Manifest.{version}
+use Rattle.fwu_formats.specs.Layout.{Layout}
+use Rattle.fwu_formats.specs.Metadata.{fits_meta, state_at}
+use Rattle.fwu_formats.specs.Manifest.{version}
 use Rattle.fwu_model.specs.State.{State, Bank, Move, Trial, RaiseTo, bank, is_valid, is_accepted, after}
 use Rattle.fwu_model.specs.Calm.{IsGuarded}
 use Rattle.fwu_model.specs.Answer.{booted_package, chosen_moves, start_moves}
-use Rattle.fwu_model.specs.declared.kinds.BankState.{BankState}
-use Rattle.fwu_model.specs.declared.kinds.BankState.TheVariants.{Invalid, Valid, Accepted}
+use Rattle.fwu_formats.specs.declared.kinds.BankState.{BankState}
+use Rattle.fwu_formats.specs.declared.kinds.BankState.TheVariants.{Invalid, Valid, Accepted}
 use Rattle.marks_core.specs.Marks.{Adds}
 use Rattle.marks_core.specs.Raises.{Raises}
 use Rattle.moves.specs.Moved.{IsReady, IsShown, GuardedBy}

@@ -3,16 +3,16 @@ use Rattle.std.specs.Prelude.{◌≡◌, ℕ, ◌+◌, ◌<◌, ◌==◌, nat_lt
 use Rattle.flash_core.specs.declared.flash.FlashStop.{FlashStop}
 use Rattle.flash_core.specs.Told.{Told}
 use Rattle.flash_core.specs.May.{Keeps}
-use Rattle.fwu_model.specs.Layout.{Layout}
-use Rattle.fwu_model.specs.Metadata.{state_at}
-use Rattle.fwu_model.specs.Manifest.{version}
+use Rattle.fwu_formats.specs.Layout.{Layout}
+use Rattle.fwu_formats.specs.Metadata.{state_at}
+use Rattle.fwu_formats.specs.Manifest.{version}
 use Rattle.fwu_model.specs.State.{State, Move, bank, is_valid, after}
 use Rattle.fwu_model.specs.Sound.{Setting, trial_limit}
 use Rattle.fwu_model.specs.Seen.{IsTidy}
 use Rattle.fwu_model.specs.Calm.{IsAtRest}
 use Rattle.fwu_model.specs.Answer.{booted_package}
-use Rattle.fwu_model.specs.declared.kinds.BankState.{BankState}
-use Rattle.fwu_model.specs.declared.kinds.BankState.TheVariants.{Invalid, Valid, Accepted}
+use Rattle.fwu_formats.specs.declared.kinds.BankState.{BankState}
+use Rattle.fwu_formats.specs.declared.kinds.BankState.TheVariants.{Invalid, Valid, Accepted}
 use Rattle.moves.specs.Moved.{IsReady, Does, IsShown, GuardedBy}
 use Rattle.early_boot.specs.declared.choosing.Chosen.{Chosen}
 use Rattle.early_boot.specs.declared.showing.Shown.{Shown}

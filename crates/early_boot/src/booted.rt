@@ -1,13 +1,13 @@
 //! A boot that started a bank.
 ghost use Rattle.std.specs.Prelude.{◌≡◌, ◌<◌, length, IsTrue};
-ghost use Rattle.fwu_model.specs.Metadata.{fits_meta};
+ghost use Rattle.fwu_formats.specs.Metadata.{fits_meta};
 
 use crate::choosing::Chosen;
 use crate::lengths::Lengths;
 use crate::numbers::Numbers;
 use crate::showing::Shown;
 use flash_core::Flash;
-use fwu_model::BankState;
+use fwu_formats::BankState;
 use meta_layout::{Layout, Meta};
 
 /// The bank that was started, with what its flash shows, and the device, which is on. What it tells stays as it was at the boot.
@@ -29,7 +29,7 @@ pub struct Booted<D: Flash> {
 
 impl<D: Flash> Booted<D> {
     ghost use Rattle.std.specs.Prelude.{slice_index_or};
-    ghost use Rattle.fwu_model.specs.Metadata.{state_at, bit_at};
+    ghost use Rattle.fwu_formats.specs.Metadata.{state_at, bit_at};
     ghost use Rattle.early_boot.specs.Choosing.{IsCandidate};
     ghost use Rattle.early_boot.specs.Numbers.{numbers};
     ghost use Rattle.early_boot.specs.Started.{started, started_as, started_numbers, device};

@@ -6,9 +6,9 @@ use Rattle.std.proofs.lemmas.List.FromFn.{length-range_with_len}
 use Rattle.std.specs.Prelude.{position, if◌then◌else◌}
 use Rattle.std.specs.List.{list_all, list_any, position_or_len, range_with_len}
 use Rattle.base_core.specs.Bytes.{same_bytes}
-use Rattle.fwu_model.specs.Layout.{are_distinct}
-use Rattle.fwu_model.specs.Package.{FitsPackage, Part, entry_limit, is_part, packed}
-use Rattle.fwu_model.proofs.PackWritten.{packed-is-read}
+use Rattle.fwu_formats.specs.Layout.{are_distinct}
+use Rattle.fwu_formats.specs.Package.{FitsPackage, Part, entry_limit, is_part, packed}
+use Rattle.fwu_formats.proofs.PackWritten.{packed-is-read}
 use Rattle.fip_tables.specs.Again.{PassedIsRead, has_fields}
 use Rattle.fip_tables.specs.Packing.{AreOutlines, first_repeat, is_alignment, is_nil, is_repeat, pack_fault, package_limit, part_at, zeroed}
 use Rattle.fip_tables.specs.Frame.{AreSixteen}

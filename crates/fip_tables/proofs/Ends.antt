@@ -1,9 +1,9 @@
 -- What the bytes so far are, by how far their table is read.
 use Rattle.std.proofs.Common.{◌≡◌, ℕ, ◌+◌, ◌-◌, ◌*◌, ◌<◌, true, false, List, [], ◌++◌, length, Option, Some, None, Result, Ok, Err, refl, sym, ap, ◌∙◌, arith, append_assoc, append-nil, length-drop}
 use Rattle.std.specs.Prelude.{position}
-use Rattle.fwu_model.specs.Package.{Toc, entry_limit, entries_from, is_beyond, toc_of, within}
-use Rattle.fwu_model.specs.declared.kinds.FipFault.{FipFault}
-use Rattle.fwu_model.specs.declared.kinds.FipFault.TheVariants as fault
+use Rattle.fwu_formats.specs.Package.{Toc, entry_limit, entries_from, is_beyond, toc_of, within}
+use Rattle.fwu_formats.specs.declared.kinds.FipFault.{FipFault}
+use Rattle.fwu_formats.specs.declared.kinds.FipFault.TheVariants as fault
 use Rattle.fip_tables.specs.Answers.{decided, has_marker, lasting}
 use Rattle.fip_tables.specs.Stream.{HoldsAt, ReadsOn, group_size, met}
 use Rattle.fip_tables.specs.declared.reader.Stage.{Stage}

@@ -4,7 +4,7 @@ use Rattle.std.proofs.lemmas.List.{length-replicate}
 use Rattle.std.proofs.Math.Seq.{drop-append_seam, drop-append-add, take-append_seam}
 use Rattle.std.specs.Int.{next_multiple_of}
 use Rattle.base_core.specs.Bytes.{le, overwritten}
-use Rattle.fwu_model.specs.Package.{Entry, Part, fip_name, packed, packed_entries, payloads, table_bytes}
+use Rattle.fwu_formats.specs.Package.{Entry, Part, fip_name, packed, packed_entries, payloads, table_bytes}
 use Rattle.fip_tables.specs.Frame.{AreSixteen, Filling, IsFrame, last_end, table_end, with_bytes}
 use Rattle.fip_tables.proofs.Plans.{end-le-last, table-length}
 

@@ -4,7 +4,7 @@ use Rattle.std.proofs.lemmas.List.Sums.{position_or_len_is}
 use Rattle.std.proofs.lemmas.List.FromFn.{get_or-range_with_len, length-range_with_len}
 use Rattle.std.specs.Prelude.{position, option_map, nat_lt, not, if◌then◌else◌}
 use Rattle.std.specs.List.{position_or_len, range_with_len}
-use Rattle.fwu_model.specs.Package.{Part, entry_limit, packed}
+use Rattle.fwu_formats.specs.Package.{Part, entry_limit, packed}
 use Rattle.fip_tables.specs.Packing.{IsOutline, first_of, first_repeat, is_alignment, is_nil, is_repeat, pack_fault, package_limit, part_at}
 use Rattle.fip_tables.specs.declared.faults.PackFault.{PackFault}
 use Rattle.fip_tables.specs.declared.faults.PackFault.TheVariants as fault

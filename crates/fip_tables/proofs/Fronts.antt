@@ -2,7 +2,7 @@
 use Rattle.std.proofs.Common.{◌≡◌, ℕ, ◌+◌, ◌*◌, ◌≤◌, List, ◌++◌, length, take, drop, sym, ap, ◌∙◌, arith, length-append, length-drop}
 use Rattle.std.proofs.lemmas.List.{take-append-le, drop-append-le, drop-drop}
 use Rattle.base_core.specs.Bytes.{num, num_at}
-use Rattle.fwu_model.specs.Package.{Entry, Toc, entry_at}
+use Rattle.fwu_formats.specs.Package.{Entry, Toc, entry_at}
 use Rattle.fip_tables.specs.Decoded.{entry_from}
 use Rattle.fip_tables.specs.Stream.{HasHeader}
 

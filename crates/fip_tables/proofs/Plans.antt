@@ -4,7 +4,7 @@ use Rattle.std.proofs.lemmas.List.{length-replicate, replicate-append-replicate,
 use Rattle.std.proofs.Math.Seq.{drop-cons}
 use Rattle.std.specs.Int.{next_multiple_of}
 use Rattle.base_core.specs.Bytes.{le}
-use Rattle.fwu_model.specs.Package.{Entry, Part, fip_name, packed, packed_entries, payloads, table_bytes}
+use Rattle.fwu_formats.specs.Package.{Entry, Part, fip_name, packed, packed_entries, payloads, table_bytes}
 use Rattle.fip_tables.specs.Packing.{AreOutlines}
 use Rattle.std.specs.Prelude.{flat_map}
 use Rattle.fip_tables.specs.Frame.{AreSixteen, entry_bytes, framed, last_end, marker, table_end}

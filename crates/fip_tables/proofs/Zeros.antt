@@ -5,7 +5,7 @@ use Rattle.std.specs.Prelude.{position, option_map, nat_lt, not, if◌then◌els
 use Rattle.std.specs.List.{list_any, position_or_len, range_with_len}
 use Rattle.std.specs.Int.{next_multiple_of}
 use Rattle.base_core.specs.Bytes.{le, same_bytes}
-use Rattle.fwu_model.specs.Package.{Entry, Part, entry_limit, fip_name, packed, packed_entries, payloads, table_bytes}
+use Rattle.fwu_formats.specs.Package.{Entry, Part, entry_limit, fip_name, packed, packed_entries, payloads, table_bytes}
 use Rattle.fip_tables.specs.Packing.{first_of, first_repeat, is_alignment, is_nil, is_repeat, pack_fault, package_limit, part_at, zeroed}
 use Rattle.fip_tables.specs.declared.faults.PackFault.{PackFault}
 use Rattle.fip_tables.specs.declared.faults.PackFault.TheVariants as fault

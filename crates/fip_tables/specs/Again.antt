@@ -1,7 +1,7 @@
 -- What is packed is read again.
 use Rattle.std.specs.Prelude.{◌≡◌, ◌<◌, ◌≤◌, ◌&&◌, ◌==◌, ℕ, Bool, IsTrue, None, Ok, List, length, map, nat_lt}
 use Rattle.std.specs.List.{list_all}
-use Rattle.fwu_model.specs.Package.{Part, Toc, packed, payload, toc_of}
+use Rattle.fwu_formats.specs.Package.{Part, Toc, packed, payload, toc_of}
 use Rattle.fip_tables.specs.Packing.{pack_fault}
 
 -- a type of sixteen bytes, and flags that have room in their field

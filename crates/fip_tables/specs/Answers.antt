@@ -1,8 +1,8 @@
 -- What can be said of a package before all of its bytes are there, by its answer so far.
 use Rattle.std.specs.Prelude.{Bool, true, false, Result, Ok, Err}
-use Rattle.fwu_model.specs.Package.{Toc}
-use Rattle.fwu_model.specs.declared.kinds.FipFault.{FipFault}
-use Rattle.fwu_model.specs.declared.kinds.FipFault.TheVariants.{ShortHeader, BadName, ZeroSerial, NoEnd, TooMany, Duplicate, Beyond}
+use Rattle.fwu_formats.specs.Package.{Toc}
+use Rattle.fwu_formats.specs.declared.kinds.FipFault.{FipFault}
+use Rattle.fwu_formats.specs.declared.kinds.FipFault.TheVariants.{ShortHeader, BadName, ZeroSerial, NoEnd, TooMany, Duplicate, Beyond}
 
 -- a fault that no further bytes mend, and of the others nothing
 abbrev pub lasting : FipFault → Result (Unit {0}) FipFault

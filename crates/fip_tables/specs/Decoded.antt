@@ -1,9 +1,9 @@
 -- What a header's sixteen bytes and an entry's forty say.
 use Rattle.std.specs.Prelude.{◌≡◌, ◌≢◌, ℕ, ◌+◌, List, take, drop, Result, Ok, Err}
 use Rattle.base_core.specs.Bytes.{num_at}
-use Rattle.fwu_model.specs.Package.{Entry, fip_name}
-use Rattle.fwu_model.specs.declared.kinds.FipFault.{FipFault}
-use Rattle.fwu_model.specs.declared.kinds.FipFault.TheVariants.{BadName, ZeroSerial}
+use Rattle.fwu_formats.specs.Package.{Entry, fip_name}
+use Rattle.fwu_formats.specs.declared.kinds.FipFault.{FipFault}
+use Rattle.fwu_formats.specs.declared.kinds.FipFault.TheVariants.{BadName, ZeroSerial}
 
 -- the entry whose bytes begin at a place
 abbrev pub entry_from : List ℕ → ℕ → Entry

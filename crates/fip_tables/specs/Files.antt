@@ -2,8 +2,8 @@
 use Rattle.std.specs.Prelude.{◌≡◌, ◌⊎◌, ◌≤◌, ◌<◌, ◌^◌, ℕ, List, Option, Some, None, Result, Ok, Err, length, take}
 use Rattle.base_core.specs.Counts.{Rose}
 use Rattle.host_io.specs.Contents.{Directory}
-use Rattle.fwu_model.specs.Package.{Toc, toc_of}
-use Rattle.fwu_model.specs.declared.kinds.FipFault.{FipFault}
+use Rattle.fwu_formats.specs.Package.{Toc, toc_of}
+use Rattle.fwu_formats.specs.declared.kinds.FipFault.{FipFault}
 use Rattle.fip_tables.specs.Stream.{Fed, Stream}
 use Rattle.fip_tables.specs.declared.toc.TocStop.{TocStop}
 use Rattle.fip_tables.specs.declared.toc.TocStop.TheVariants.{Fault, ReadFailed}

@@ -4,7 +4,7 @@ use Rattle.std.specs.Int.{next_multiple_of}
 use Rattle.host_io.specs.Contents.{Directory, TellsRange}
 use Rattle.base_core.specs.Bytes.{le, overwritten}
 use Rattle.base_core.specs.Guid.{nil_guid}
-use Rattle.fwu_model.specs.Package.{Entry, Part, fip_name, packed, packed_entries}
+use Rattle.fwu_formats.specs.Package.{Entry, Part, fip_name, packed, packed_entries}
 
 -- where the table of a package ends
 abbrev pub table_end : List Part → ℕ

@@ -1,7 +1,7 @@
 -- Laws of the table, which hold whatever the code does.
 use Rattle.std.specs.Prelude.{◌≡◌, ℕ, List, ◌++◌, Err, IsTrue, length}
-use Rattle.fwu_model.specs.Package.{toc_of}
-use Rattle.fwu_model.specs.declared.kinds.FipFault.{FipFault}
+use Rattle.fwu_formats.specs.Package.{toc_of}
+use Rattle.fwu_formats.specs.declared.kinds.FipFault.{FipFault}
 use Rattle.fip_tables.specs.Answers.{decided, has_marker}
 
 -- a fault that is decided is the first one of whatever continues the bytes

@@ -4,7 +4,7 @@ use Rattle.std.specs.List.{list_any, range_with_len}
 use Rattle.std.specs.Int.{is_power_of_two}
 use Rattle.base_core.specs.Bytes.{same_bytes}
 use Rattle.base_core.specs.Guid.{nil_guid}
-use Rattle.fwu_model.specs.Package.{Part, entry_limit, packed}
+use Rattle.fwu_formats.specs.Package.{Part, entry_limit, packed}
 use Rattle.fip_tables.specs.declared.faults.PackFault.{PackFault}
 use Rattle.fip_tables.specs.declared.faults.PackFault.TheVariants.{TooMany, Duplicate, NilGuid, BadAlign, TooLarge}
 

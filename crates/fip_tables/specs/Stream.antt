@@ -1,8 +1,8 @@
 -- What a reader of a package's front holds, after the bytes so far.
 use Rattle.std.specs.Prelude.{◌≡◌, ◌≢◌, ◌≤◌, ◌<◌, ◌+◌, ◌*◌, ℕ, List, [], ◌++◌, Result, Ok, Err, length, drop}
 use Rattle.base_core.specs.Bytes.{num_at}
-use Rattle.fwu_model.specs.Package.{Entry, Toc, fip_name, entry_limit, entries_from, toc_of}
-use Rattle.fwu_model.specs.declared.kinds.FipFault.{FipFault}
+use Rattle.fwu_formats.specs.Package.{Entry, Toc, fip_name, entry_limit, entries_from, toc_of}
+use Rattle.fwu_formats.specs.declared.kinds.FipFault.{FipFault}
 use Rattle.fip_tables.specs.Answers.{lasting}
 use Rattle.fip_tables.specs.declared.reader.Stage.{Stage}
 use Rattle.fip_tables.specs.declared.reader.Stage.TheVariants.{Header, Table, Whole, Faulty}

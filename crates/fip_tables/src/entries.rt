@@ -4,7 +4,7 @@ ghost use Rattle.std.specs.Prelude.{◌≡◌, ◌+◌, ◌≤◌, ◌<◌, ◌+
 ghost use Rattle.std.specs.List.{list_any};
 ghost use Rattle.base_core.specs.Bytes.{same_bytes};
 ghost use Rattle.base_core.specs.Guid.{nil_guid};
-ghost use Rattle.fwu_model.specs.Package.{has_guid};
+ghost use Rattle.fwu_formats.specs.Package.{has_guid};
 ghost use Rattle.fip_tables.specs.Decoded.{entry_from};
 
 use base_core::{Guid, le64_at};
@@ -20,7 +20,7 @@ pub struct Entry {
 }
 
 impl Model for Entry {
-    ghost use Rattle.fwu_model.specs.Package.{Entry as Payload};
+    ghost use Rattle.fwu_formats.specs.Package.{Entry as Payload};
 
     ghost Value = { Payload };
 
@@ -67,7 +67,7 @@ pub struct Entries {
 
 impl Model for Entries {
     ghost use Rattle.std.specs.Prelude.{◌≤◌, List, take};
-    ghost use Rattle.fwu_model.specs.Package.{Entry as Payload};
+    ghost use Rattle.fwu_formats.specs.Package.{Entry as Payload};
 
     ghost Value = { List Payload };
 

@@ -2,7 +2,7 @@
 
 ghost use Rattle.std.specs.Prelude.{◌≡◌, ◌<◌, ◌≤◌, ◌+◌, ◌-◌, ◌*◌, ◌++◌, ℕ, List, [], Some, None, Ok, Err, IfOk, IfErr, OnOk, length, flat_map};
 ghost use Rattle.base_core.specs.Bytes.{le, overwritten};
-ghost use Rattle.fwu_model.specs.Package.{Part, fip_name, packed_entries};
+ghost use Rattle.fwu_formats.specs.Package.{Part, fip_name, packed_entries};
 ghost use Rattle.host_io.specs.Causes.{HasCause};
 ghost use Rattle.host_io.specs.Contents.{HasRange};
 ghost use Rattle.fip_tables.specs.Packing.{AreOutlines, pack_fault};

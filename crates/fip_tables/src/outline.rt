@@ -20,7 +20,7 @@ pub struct Outline {
 
 impl Model for Outline {
     ghost use Rattle.std.specs.Prelude.{replicate};
-    ghost use Rattle.fwu_model.specs.Package.{Part};
+    ghost use Rattle.fwu_formats.specs.Package.{Part};
 
     ghost Value = { Part };
 

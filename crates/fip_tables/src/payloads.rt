@@ -1,7 +1,7 @@
 //! Packages made from payloads in memory.
 
 ghost use Rattle.std.specs.Prelude.{◌≡◌, ◌≢◌, Some, None, Err, IfOk, OnOk, map};
-ghost use Rattle.fwu_model.specs.Package.{packed};
+ghost use Rattle.fwu_formats.specs.Package.{packed};
 ghost use Rattle.fip_tables.specs.Again.{ReadsAgain};
 ghost use Rattle.fip_tables.specs.Packing.{pack_fault, zeroed};
 ghost use Rattle.fip_tables.specs.declared.faults.PackFault.{PackFault};
@@ -23,7 +23,7 @@ pub struct Part {
 }
 
 impl Model for Part {
-    ghost use Rattle.fwu_model.specs.Package.{Part as Payload};
+    ghost use Rattle.fwu_formats.specs.Package.{Part as Payload};
 
     ghost Value = { Payload };
 

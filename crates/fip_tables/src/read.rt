@@ -3,8 +3,8 @@
 ghost use Rattle.std.specs.Prelude.{◌≡◌, ◌≤◌, ◌<◌, ◌+◌, ◌^◌, ℕ, List, Some, Err, IfOk, OnOk, length, take, drop};
 ghost use Rattle.host_io.specs.Causes.{HasCause};
 ghost use Rattle.host_io.specs.Contents.{TellsSize};
-ghost use Rattle.fwu_model.specs.Package.{payload, toc_of};
-ghost use Rattle.fwu_model.specs.declared.kinds.FipFault.{FipFault};
+ghost use Rattle.fwu_formats.specs.Package.{payload, toc_of};
+ghost use Rattle.fwu_formats.specs.declared.kinds.FipFault.{FipFault};
 ghost use Rattle.fip_tables.specs.Files.{HasFed, HasFedAll, HasReadCause, IsAnswer, IsFault, IsOfSome, Lacks, Tells};
 ghost use Rattle.fip_tables.specs.declared.toc.TocStop.TheVariants as stop;
 

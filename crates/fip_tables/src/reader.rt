@@ -1,7 +1,7 @@
 //! The table of contents at the front of a package, read group by group.
 
 ghost use Rattle.std.specs.Prelude.{◌≡◌, ◌≢◌, ◌+◌, ◌*◌, ◌<◌, ◌≤◌, ◌^◌, ◌++◌, ℕ, List, [], Option, IsTrue, IsNone, OnOk, ◌↔◌, length, take, MatchResult, Ok, Err};
-ghost use Rattle.fwu_model.specs.Package.{toc_of};
+ghost use Rattle.fwu_formats.specs.Package.{toc_of};
 ghost use Rattle.fip_tables.specs.Decoded.{IsHeaderOf};
 ghost use Rattle.fip_tables.specs.Stream.{HoldsAt, IsGroup};
 ghost use Rattle.fip_tables.specs.declared.reader.Stage.TheVariants as stage;
@@ -9,7 +9,7 @@ ghost use Rattle.fip_tables.specs.declared.reader.Stage.TheVariants as stage;
 use crate::entries::{Entries, Entry};
 use crate::toc::Toc;
 use base_core::{le32_at, le64_at};
-use fwu_model::FipFault;
+use fwu_formats::FipFault;
 use std::marker::Model;
 
 const NAME: u32 = 0xAA64_0001;

@@ -1,12 +1,12 @@
 //! A table of contents that is read from a stream.
 
 ghost use Rattle.std.specs.Prelude.{◌≡◌, ◌+◌, ◌<◌, ◌^◌, ◌++◌, ◌↔◌, ℕ, List, [], IsTrue, length};
-ghost use Rattle.fwu_model.specs.Package.{toc_of};
+ghost use Rattle.fwu_formats.specs.Package.{toc_of};
 ghost use Rattle.fip_tables.specs.Answers.{decided, has_marker};
 
 use crate::reader::TableReader;
 use crate::toc::Toc;
-use fwu_model::FipFault;
+use fwu_formats::FipFault;
 use std::marker::Model;
 
 /// A table of contents that is read from the front of a package, in pieces of any lengths. It takes

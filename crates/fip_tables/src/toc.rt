@@ -4,7 +4,7 @@ ghost use Rattle.std.specs.Prelude.{◌≡◌};
 ghost use Rattle.fip_tables.specs.declared.toc.TocStop.TheVariants as stop;
 
 use crate::entries::Entries;
-use fwu_model::FipFault;
+use fwu_formats::FipFault;
 use std::marker::Model;
 
 /// The table of contents of a package: its serial number, its flags, and its entries in order.
@@ -16,7 +16,7 @@ pub struct Toc {
 }
 
 impl Model for Toc {
-    ghost use Rattle.fwu_model.specs.Package.{Toc as Contents};
+    ghost use Rattle.fwu_formats.specs.Package.{Toc as Contents};
 
     ghost Value = { Contents };
 

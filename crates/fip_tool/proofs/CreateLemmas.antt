@@ -3,7 +3,7 @@ use Rattle.std.proofs.Common.{◌≡◌, ◌<◌, ◌+◌, ℕ, zero, suc, List,
 use Rattle.std.specs.Prelude.{option_and_then}
 use Rattle.std.proofs.lemmas.List.{get_or-map, map-append, take_all}
 use Rattle.host_io.specs.Contents.{Directory, HasRange}
-use Rattle.fwu_model.specs.Package.{Entry, Part, packed}
+use Rattle.fwu_formats.specs.Package.{Entry, Part, packed}
 use Rattle.fip_words.specs.Order.{part_view}
 use Rattle.fip_words.specs.Values.{NamedFile, each}
 use Rattle.fip_words.specs.declared.values.Part.{Part as Word}

@@ -3,8 +3,8 @@ use Rattle.std.proofs.Common.{◌≡◌, ◌<◌, ◌+◌, ℕ, suc, List, [], �
 use Rattle.std.specs.Prelude.{IfSome, ◌==◌, ◌||◌, if◌then◌else◌, nat_lt, option_and_then}
 use Rattle.std.proofs.lemmas.List.{length-map, map-append, take-append-drop, take_more}
 use Rattle.host_io.specs.Contents.{Directory}
-use Rattle.fwu_model.specs.Manifest.{Row}
-use Rattle.fwu_model.specs.declared.kinds.ManifestFault.TheVariants as fault
+use Rattle.fwu_formats.specs.Manifest.{Row}
+use Rattle.fwu_formats.specs.declared.kinds.ManifestFault.TheVariants as fault
 use Rattle.manifest_core.specs.Shown.{row}
 use Rattle.manifest_core.specs.declared.rows.Row.{Row as CodeRow}
 use Rattle.fip_words.specs.Order.{image_view}

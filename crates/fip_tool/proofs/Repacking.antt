@@ -7,9 +7,9 @@ use Rattle.std.proofs.lemmas.List.Elements.{All-filter}
 use Rattle.std.proofs.lemmas.List.Sums.{fails_before_first}
 use Rattle.base_core.specs.Bytes.{num_at}
 use Rattle.host_io.specs.Contents.{Directory}
-use Rattle.fwu_model.specs.Package.{Entry, Part, Toc, entries_from, entry_limit, fip_name, is_beyond, toc_of, with_entries, within}
-use Rattle.fwu_model.specs.declared.kinds.FipFault.{FipFault}
-use Rattle.fwu_model.specs.declared.kinds.FipFault.TheVariants as fault
+use Rattle.fwu_formats.specs.Package.{Entry, Part, Toc, entries_from, entry_limit, fip_name, is_beyond, toc_of, with_entries, within}
+use Rattle.fwu_formats.specs.declared.kinds.FipFault.{FipFault}
+use Rattle.fwu_formats.specs.declared.kinds.FipFault.TheVariants as fault
 use Rattle.fip_tables.specs.Files.{Lacks, Tells}
 use Rattle.fip_words.specs.Order.{part_view}
 use Rattle.fip_words.specs.Values.{NamedFile}

@@ -2,8 +2,8 @@
 use Rattle.std.proofs.Common.{◌≡◌, ◌⊎◌, inl, inr, ◌≤◌, ℕ, List, Option, Some, None, Result, Ok, Err, length, arith, refl, sym, ap, ◌∙◌}
 use Rattle.base_core.specs.Counts.{Rose}
 use Rattle.host_io.specs.Contents.{Directory}
-use Rattle.fwu_model.specs.Package.{Toc, toc_of}
-use Rattle.fwu_model.specs.declared.kinds.FipFault.{FipFault}
+use Rattle.fwu_formats.specs.Package.{Toc, toc_of}
+use Rattle.fwu_formats.specs.declared.kinds.FipFault.{FipFault}
 use Rattle.fip_tables.specs.Files.{IsAnswer, Lacks, Tells}
 use Rattle.fip_tables.specs.declared.toc.TocStop.{TocStop}
 use Rattle.fip_tables.specs.declared.toc.TocStop.TheVariants.{Fault, ReadFailed}

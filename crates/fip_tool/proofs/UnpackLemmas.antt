@@ -18,7 +18,7 @@ use Rattle.std.proofs.KnownBytes.{Appends-nil, Appends-trans}
 use Rattle.std.proofs.Math.Seq.{take-append-add, drop-append-add}
 use Rattle.host_io.specs.Contents.{Directory}
 use Rattle.fip_tables.specs.Files.{Lacks, Tells}
-use Rattle.fwu_model.specs.Package.{Entry, payload}
+use Rattle.fwu_formats.specs.Package.{Entry, payload}
 use Rattle.fip_tool.specs.Lines.{unpacked_line, unpacked_name}
 use Rattle.fip_tool.specs.Steps.{Makes, Refuses, Step, Writes, Prints, Are, AreUpTo, Did, printed, with_file, written}
 use Rattle.fip_tool.specs.Tool.{chosen, is_named, there, unpack_steps}

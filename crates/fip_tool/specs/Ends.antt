@@ -3,9 +3,9 @@ use Rattle.std.specs.Prelude.{◌≡◌, ◌⊎◌, ℕ, List, [], ◌++◌, Opt
 use Rattle.std.specs.Io.KnownBytes.{Appends}
 use Rattle.host_io.specs.Contents.{Directory}
 use Rattle.base_core.specs.Guid.{guid_text}
-use Rattle.fwu_model.specs.Text.{fip_fault_text}
-use Rattle.fwu_model.specs.declared.kinds.ManifestFault.{ManifestFault}
-use Rattle.fwu_model.specs.declared.kinds.ManifestFault.TheVariants as manifest
+use Rattle.fwu_formats.specs.FaultText.{fip_fault_text}
+use Rattle.fwu_formats.specs.declared.kinds.ManifestFault.{ManifestFault}
+use Rattle.fwu_formats.specs.declared.kinds.ManifestFault.TheVariants as manifest
 use Rattle.fip_tables.specs.declared.faults.PackFault.{PackFault}
 use Rattle.fip_tables.specs.declared.faults.PackFault.TheVariants as pack
 use Rattle.fip_tool.specs.Steps.{Outcome, Makes, Refuses, Are, AreUpTo, steps_of, printed, written}

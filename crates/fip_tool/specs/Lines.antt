@@ -3,7 +3,7 @@ use Rattle.std.specs.Prelude.{ℕ, List, ◌++◌, codes, decimal, flat_map, len
 use Rattle.hex.specs.Hex.{encode_lower}
 use Rattle.base_core.specs.Bytes.{le}
 use Rattle.base_core.specs.Guid.{guid_text}
-use Rattle.fwu_model.specs.Package.{Entry, Toc}
+use Rattle.fwu_formats.specs.Package.{Entry, Toc}
 use Rattle.fip_words.specs.Values.{bin}
 
 -- eight hexadecimal digits

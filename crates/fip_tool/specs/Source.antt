@@ -1,7 +1,7 @@
 -- One read of the source.
 use Rattle.std.specs.Prelude.{◌≡◌, ℕ, List, ◌++◌, Option, Result, Ok, Err, length}
 use Rattle.std.specs.Io.KnownBytes.{Consumes, IsAtEnd}
-use Rattle.fwu_model.specs.Package.{Toc, toc_of}
+use Rattle.fwu_formats.specs.Package.{Toc, toc_of}
 use Rattle.fip_tables.specs.Answers.{decided}
 use Rattle.fip_tables.specs.Stream.{Fed, Stream}
 use Rattle.fip_tool.specs.Tool.{given_table}

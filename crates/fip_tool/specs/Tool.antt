@@ -5,10 +5,10 @@ use Rattle.std.specs.Io.KnownBytes.{Consumes, IsAtEnd}
 use Rattle.base_core.specs.Bytes.{same_bytes}
 use Rattle.sha2.specs.Sha256.{sha256}
 use Rattle.host_io.specs.Contents.{Directory}
-use Rattle.fwu_model.specs.Package.{Entry, Part, Toc, has_guid, packed, payload, toc_of}
-use Rattle.fwu_model.specs.Manifest.{Row, manifest_bytes}
-use Rattle.fwu_model.specs.declared.kinds.FipFault.{FipFault}
-use Rattle.fwu_model.specs.declared.kinds.ManifestFault.TheVariants as fault
+use Rattle.fwu_formats.specs.Package.{Entry, Part, Toc, has_guid, packed, payload, toc_of}
+use Rattle.fwu_formats.specs.Manifest.{Row, manifest_bytes}
+use Rattle.fwu_formats.specs.declared.kinds.FipFault.{FipFault}
+use Rattle.fwu_formats.specs.declared.kinds.ManifestFault.TheVariants as fault
 use Rattle.fip_tables.specs.Answers.{decided}
 use Rattle.fip_tables.specs.Packing.{pack_fault, zeroed}
 use Rattle.fip_tables.specs.declared.faults.PackFault.{PackFault}

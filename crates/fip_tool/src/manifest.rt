@@ -1,7 +1,7 @@
 //! Manifests of images in files.
 ghost use Rattle.std.specs.Prelude.{◌≡◌, ◌≤◌, ◌==◌, ◌||◌, ◌++◌, ◌∷◌, [], Some, Ok, Err, IfOk, IfSome, if◌then◌else◌, length, map, nat_lt, option_and_then, option_map};
 ghost use Rattle.base_core.specs.Counts.{Rose};
-ghost use Rattle.fwu_model.specs.declared.kinds.ManifestFault.TheVariants as fault;
+ghost use Rattle.fwu_formats.specs.declared.kinds.ManifestFault.TheVariants as fault;
 ghost use Rattle.fip_words.specs.Order.{image_view};
 ghost use Rattle.fip_words.specs.Values.{each};
 ghost use Rattle.host_io.specs.Contents.{Directory};
@@ -16,7 +16,7 @@ use crate::stops::Stop;
 use crate::writing::write_and_print;
 use base_core::{Guid, NoMemory};
 use fip_words::ImageWord;
-use fwu_model::ManifestFault;
+use fwu_formats::ManifestFault;
 use host_io::{Files, Sink};
 use manifest_core::{Manifest, ManifestStop, Row};
 use std::alloc::Global;

@@ -2,7 +2,7 @@
 ghost use Rattle.std.specs.Prelude.{◌≡◌, ◌<◌, ◌≤◌, ◌+◌, ◌^◌, IfOk, List, Some, Ok, Err, ℕ, length};
 ghost use Rattle.base_core.specs.Counts.{Rose};
 ghost use Rattle.fip_tables.specs.Files.{Lacks, Tells};
-ghost use Rattle.fwu_model.specs.Package.{payload};
+ghost use Rattle.fwu_formats.specs.Package.{payload};
 ghost use Rattle.host_io.specs.Contents.{Directory};
 ghost use Rattle.fip_tool.specs.Steps.{Gives, ReadsOnly};
 ghost use Rattle.fip_tool.specs.Tool.{file_value};

@@ -1,14 +1,14 @@
 //! The line that tells why a command ended before all was done.
 ghost use Rattle.std.specs.Prelude.{◌≡◌, ◌++◌, IfOk, codes, decimal};
 ghost use Rattle.base_core.specs.Guid.{guid_text};
-ghost use Rattle.fwu_model.specs.Text as text;
+ghost use Rattle.fwu_formats.specs.FaultText as text;
 ghost use Rattle.fip_tool.specs.Ends as said;
 
 use crate::lines::{add, add_guid, add_number};
 use crate::stops::Stop;
 use base_core::{Guid, NoMemory};
 use fip_tables::PackFault;
-use fwu_model::{FipFault, ManifestFault};
+use fwu_formats::{FipFault, ManifestFault};
 use std::alloc::Global;
 
 fn word(alloc: Global, word: &[u8]) -> Result<Vec<u8>, NoMemory>

@@ -2,7 +2,7 @@
 
 use base_core::{Guid, NoMemory as NoMemoryFound};
 use fip_tables::PackFault;
-use fwu_model::{FipFault, ManifestFault};
+use fwu_formats::{FipFault, ManifestFault};
 
 /// Why a command ended before all was done.
 #[derive(Clone, Copy, Debug, PartialEq, Eq)]

@@ -8,7 +8,7 @@ use fip_tables::{
     Entry, Frame, Outline, PackStop, Part, Parts, StreamToc, Toc, TocStop, pack, payload_at,
     read_toc,
 };
-use fwu_model::FipFault;
+use fwu_formats::FipFault;
 use host_io::{Failed, Files};
 use std::alloc::{AllocError, Global};
 use std::test::Fail;

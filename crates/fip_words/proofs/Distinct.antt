@@ -1,6 +1,6 @@
 -- What is read, where no type is named twice.
 use Rattle.std.proofs.Common.{◌≡◌, ℕ, List, [], ◌∷◌, Some, None, true, false, map, refl, ap}
-use Rattle.fwu_model.specs.Layout.{are_distinct}
+use Rattle.fwu_formats.specs.Layout.{are_distinct}
 use Rattle.fip_words.specs.declared.values.Part.{Part}
 use Rattle.fip_words.specs.declared.values.ImageWord.{ImageWord}
 use Rattle.fip_words.specs.Order.{part_view, image_view}

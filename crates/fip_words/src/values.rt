@@ -2,7 +2,7 @@
 ghost use Rattle.std.specs.Prelude.{◌≡◌, IfOk, map, option_map};
 ghost use Rattle.std.specs.List.{list_any};
 ghost use Rattle.base_core.specs.Bytes.{same_bytes};
-ghost use Rattle.fwu_model.specs.Layout.{are_distinct};
+ghost use Rattle.fwu_formats.specs.Layout.{are_distinct};
 ghost use Rattle.clap_words.specs.Answers.{Answers};
 ghost use Rattle.clap_words.specs.Values.{each, name_of, split_of};
 ghost use Rattle.fip_words.specs.Order.{image_view, part_view};

@@ -5,8 +5,8 @@ use Rattle.std.proofs.lemmas.List.{get_or-append_right}
 use Rattle.std.proofs.lemmas.Option.{same_Some}
 use Rattle.std.proofs.lemmas.List.Elements.{All-head, All-tail}
 use Rattle.std.specs.List.{All, find}
-use Rattle.fwu_model.specs.Layout.{ImageRow}
-use Rattle.fwu_model.specs.Package.{Entry, Toc, entry_of, has_guid}
+use Rattle.fwu_formats.specs.Layout.{ImageRow}
+use Rattle.fwu_formats.specs.Package.{Entry, Toc, entry_of, has_guid}
 use Rattle.fwu_model.specs.Reply.{Reply}
 use Rattle.fwu_model.specs.Reply as reply
 use Rattle.fwu_model.specs.Answer.{image_fault, or_else, first_image_fault}

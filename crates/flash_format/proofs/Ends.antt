@@ -5,9 +5,9 @@ use Rattle.std.specs.List.{All, position_or_len}
 use Rattle.std.proofs.lemmas.Bool.{ltb-false}
 use Rattle.std.proofs.lemmas.List.Sums.{fails_before_first}
 use Rattle.base_core.specs.Bytes.{num_at}
-use Rattle.fwu_model.specs.Package.{Entry, Toc, entries_from, entry_limit, fip_name, is_beyond, toc_of, with_entries, within}
-use Rattle.fwu_model.specs.declared.kinds.FipFault.{FipFault}
-use Rattle.fwu_model.specs.declared.kinds.FipFault.TheVariants as fault
+use Rattle.fwu_formats.specs.Package.{Entry, Toc, entries_from, entry_limit, fip_name, is_beyond, toc_of, with_entries, within}
+use Rattle.fwu_formats.specs.declared.kinds.FipFault.{FipFault}
+use Rattle.fwu_formats.specs.declared.kinds.FipFault.TheVariants as fault
 
 none-found : {X : Type 0} (p : X → Bool) (xs : List X) → position p xs ≡ None → (k : ℕ) (d : X) → k < length xs → p (get_or xs k d) ≡ false
 none-found p xs e = go (nat_lt (position_or_len p xs) (length xs)) refl e

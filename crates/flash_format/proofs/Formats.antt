@@ -6,16 +6,16 @@ use Rattle.std.proofs.lemmas.List.{get_or-map, length-map, take_at}
 use Rattle.base_core.specs.Block.{blank}
 use Rattle.flash_core.specs.Told.{Told, NothingDirty}
 use Rattle.flash_core.specs.May.{Keeps}
-use Rattle.fwu_model.specs.Layout.{ImageRow, Layout, fits_layout, slot_total, slot_bytes, start}
-use Rattle.fwu_model.specs.Metadata.{first_meta}
-use Rattle.fwu_model.specs.Manifest.{is_complete, manifest_part, version}
-use Rattle.fwu_model.specs.Flash.{layout_seen, package_in, slot}
-use Rattle.fwu_model.specs.Package.{Entry, Toc, entry_of, payload}
+use Rattle.fwu_formats.specs.Layout.{ImageRow, Layout, fits_layout, slot_total, slot_bytes, start}
+use Rattle.fwu_formats.specs.Metadata.{first_meta}
+use Rattle.fwu_formats.specs.Manifest.{is_complete, manifest_part, version}
+use Rattle.fwu_formats.specs.Image.{layout_seen, package_in, slot}
+use Rattle.fwu_formats.specs.Package.{Entry, Toc, entry_of, payload}
 use Rattle.fwu_model.specs.Answer.{images_of, payload_of}
 use Rattle.fwu_model.specs.Replica.{BothHold, in_version}
 use Rattle.fwu_model.specs.Seen.{seen}
 use Rattle.fwu_model.specs.Sound.{Setting}
-use Rattle.fwu_model.proofs.SealLaws.{limits}
+use Rattle.fwu_formats.proofs.SealLaws.{limits}
 use Rattle.fwu_model.proofs.Shown.{shown-are-formed}
 use Rattle.image_check.specs.declared.bank.Verdict.{Verdict}
 use Rattle.image_check.specs.declared.bank.Verdict.TheVariants.{Good}

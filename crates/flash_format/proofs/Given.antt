@@ -3,12 +3,12 @@ use Rattle.std.proofs.Common.{◌≡◌, ℕ, ◌+◌, ◌*◌, ◌≤◌, List,
 use Rattle.std.specs.Prelude.{IsTrue, not}
 use Rattle.std.specs.List.{All}
 use Rattle.std.proofs.lemmas.Bool.{not-false, ltb-false}
-use Rattle.fwu_model.specs.Layout.{Layout, fits_layout, blocks_needed}
-use Rattle.fwu_model.specs.Package.{Entry, Toc, toc_of}
+use Rattle.fwu_formats.specs.Layout.{Layout, fits_layout, blocks_needed}
+use Rattle.fwu_formats.specs.Package.{Entry, Toc, toc_of}
 use Rattle.fwu_model.specs.Answer.{images_of}
-use Rattle.fwu_model.specs.declared.kinds.FipFault.{FipFault}
-use Rattle.fwu_model.specs.declared.kinds.LayoutFault.{LayoutFault}
-use Rattle.fwu_model.proofs.SealLaws.{was_not_refused}
+use Rattle.fwu_formats.specs.declared.kinds.FipFault.{FipFault}
+use Rattle.fwu_formats.specs.declared.kinds.LayoutFault.{LayoutFault}
+use Rattle.fwu_formats.proofs.SealLaws.{was_not_refused}
 use Rattle.meta_layout.specs.Rows.{fitted}
 use Rattle.flash_format.specs.Formatted.{HoldsImages}
 use Rattle.flash_format.specs.Places.{AllStand}

@@ -4,8 +4,8 @@ use Rattle.base_core.specs.Block.{blank}
 use Rattle.flash_core.specs.Told.{Told, NothingDirty}
 use Rattle.flash_core.specs.May.{Keeps}
 use Rattle.flash_core.proofs.Calls.{block_kept, quiet_fresh}
-use Rattle.fwu_model.specs.Layout.{Layout, blocks_needed, slot_total}
-use Rattle.fwu_model.specs.Metadata.{meta_read, first_meta}
+use Rattle.fwu_formats.specs.Layout.{Layout, blocks_needed, slot_total}
+use Rattle.fwu_formats.specs.Metadata.{meta_read, first_meta}
 use Rattle.fwu_model.specs.Replica.{BothHold, in_version}
 use Rattle.flash_format.specs.Formatted.{IsBlank, IsOrdered}
 use Rattle.flash_format.specs.Places.{Erased}

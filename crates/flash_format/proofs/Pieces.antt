@@ -8,7 +8,7 @@ use Rattle.base_core.proofs.Blocks.{get_or-blank}
 use Rattle.base_core.proofs.Images.{overwritten_inside, overwritten_above}
 use Rattle.flash_core.specs.Told.{Told, put}
 use Rattle.flash_core.proofs.Calls.{now-put}
-use Rattle.fwu_model.specs.Package.{Entry, payload}
+use Rattle.fwu_formats.specs.Package.{Entry, payload}
 use Rattle.flash_format.specs.Places.{Erased, Stands}
 
 pub length-payload : (file : List ℕ) (e : Entry) → e.offset + e.size ≤ length file → length (payload file e) ≡ e.size

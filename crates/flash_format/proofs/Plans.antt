@@ -3,11 +3,11 @@ use Rattle.std.proofs.Common.{◌≡◌, ◌+◌, ◌^◌, ◌<◌, ◌≤◌, �
 use Rattle.std.specs.List.{All}
 use Rattle.std.proofs.lemmas.List.{get_or_default}
 use Rattle.host_io.specs.Contents.{Directory}
-use Rattle.fwu_model.specs.Layout.{ImageRow, Layout, slot_total, blocks_needed, fits_layout}
-use Rattle.fwu_model.specs.Package.{Entry, Toc, toc_of}
+use Rattle.fwu_formats.specs.Layout.{ImageRow, Layout, slot_total, blocks_needed, fits_layout}
+use Rattle.fwu_formats.specs.Package.{Entry, Toc, toc_of}
 use Rattle.fip_tables.specs.Files.{Lacks, Tells}
 use Rattle.image_check.proofs.OfBank.{bank_fits}
-use Rattle.fwu_model.proofs.SealLaws.{limits}
+use Rattle.fwu_formats.proofs.SealLaws.{limits}
 use Rattle.std.specs.Prelude.{IsTrue}
 use Rattle.flash_format.specs.Choosing.{AreChosen, no_entry, no_row}
 use Rattle.flash_format.specs.Planned.{IsPlanned}

@@ -10,11 +10,11 @@ use Rattle.flash_core.specs.Told.{Told, put, settled, NothingDirty}
 use Rattle.flash_core.specs.May.{Keeps}
 use Rattle.flash_core.specs.Replaces.{padded}
 use Rattle.flash_core.proofs.Calls.{now-put, now-settle, keeps_settle, settle-fresh, now_kept}
-use Rattle.fwu_model.specs.Layout.{Layout, fits_layout, layout_of, blocks_needed}
-use Rattle.fwu_model.specs.Metadata.{Meta, MetaRead, meta_of, meta_read, if_read, meta_bytes, meta_size, replica_bytes, fits_meta}
-use Rattle.fwu_model.specs.Flash.{layout_seen}
+use Rattle.fwu_formats.specs.Layout.{Layout, fits_layout, layout_of, blocks_needed}
+use Rattle.fwu_formats.specs.Metadata.{Meta, MetaRead, meta_of, meta_read, if_read, meta_bytes, meta_size, replica_bytes, fits_meta}
+use Rattle.fwu_formats.specs.Image.{layout_seen}
 use Rattle.fwu_model.specs.Replica.{BothHold, in_version}
-use Rattle.fwu_model.proofs.MetaWritten.{meta-read}
+use Rattle.fwu_formats.proofs.MetaWritten.{meta-read}
 use Rattle.flash_format.specs.Places.{Erased, Stands}
 use Rattle.flash_format.proofs.Ranges.{stands_whole}
 

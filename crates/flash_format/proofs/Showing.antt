@@ -7,19 +7,19 @@ use Rattle.std.proofs.lemmas.Bool.{cases_lt, and_from, le-leb}
 use Rattle.base_core.specs.Block.{blank, block, granule}
 use Rattle.base_core.specs.Bytes.{listed, num_at}
 use Rattle.base_core.proofs.Seals.{blank_unsealed, is_false}
-use Rattle.fwu_model.specs.Layout.{Layout, layout_of, fits_layout}
-use Rattle.fwu_model.specs.Metadata.{Meta, MetaRead, first_meta, state_at, meta_read}
-use Rattle.fwu_model.specs.Manifest.{manifest_part, version}
-use Rattle.fwu_model.specs.Flash.{layout_seen, deciding, first_some, is_blank, marks, package_in}
-use Rattle.fwu_model.specs.Counter.{counter_in, recorded, is_record}
+use Rattle.fwu_formats.specs.Layout.{Layout, layout_of, fits_layout}
+use Rattle.fwu_formats.specs.Metadata.{Meta, MetaRead, first_meta, state_at, meta_read}
+use Rattle.fwu_formats.specs.Manifest.{manifest_part, version}
+use Rattle.fwu_formats.specs.Image.{layout_seen, deciding, first_some, is_blank, marks, package_in}
+use Rattle.fwu_formats.specs.Counter.{counter_in, recorded, is_record}
 use Rattle.fwu_model.specs.Replica.{BothHold, in_version}
 use Rattle.fwu_model.specs.Seen.{bank_in, state_of, seen, SoundFlash}
 use Rattle.fwu_model.specs.State.{State, Bank, no_bank, bank, is_invalid, is_valid, is_accepted, all_set}
 use Rattle.fwu_model.specs.Sound.{Setting}
-use Rattle.fwu_model.specs.declared.kinds.BankState.{BankState}
-use Rattle.fwu_model.specs.declared.kinds.BankState.TheVariants.{Accepted, Invalid, Valid}
-use Rattle.fwu_model.proofs.SealLaws.{layout-sealed, record-sealed, limits}
-use Rattle.fwu_model.proofs.Marks.{marks-are-counted}
+use Rattle.fwu_formats.specs.declared.kinds.BankState.{BankState}
+use Rattle.fwu_formats.specs.declared.kinds.BankState.TheVariants.{Accepted, Invalid, Valid}
+use Rattle.fwu_formats.proofs.SealLaws.{layout-sealed, record-sealed, limits}
+use Rattle.fwu_formats.proofs.Marks.{marks-are-counted}
 use Rattle.fwu_model.proofs.Shown.{seen-by-metadata, shown-are-sound}
 use Rattle.flash_format.specs.Places.{Erased}
 use Rattle.flash_format.specs.Formatted.{full_bank, empty_bank, first_state}

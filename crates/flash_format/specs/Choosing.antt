@@ -1,12 +1,12 @@
 -- Which entries of a package are the images of a layout, and what is refused.
 use Rattle.std.specs.Prelude.{◌≡◌, ◌*◌, ◌<◌, ◌≤◌, ℕ, List, [], Option, Some, None, Result, Ok, Err, length, slice_index_or}
-use Rattle.fwu_model.specs.Layout.{ImageRow, Layout}
-use Rattle.fwu_model.specs.Package.{Entry, Toc, toc_of, entry_of}
+use Rattle.fwu_formats.specs.Layout.{ImageRow, Layout}
+use Rattle.fwu_formats.specs.Package.{Entry, Toc, toc_of, entry_of}
 use Rattle.fwu_model.specs.Reply.{Reply}
 use Rattle.fwu_model.specs.Reply as reply
 use Rattle.fwu_model.specs.Answer.{image_fault, first_image_fault}
-use Rattle.fwu_model.specs.declared.kinds.FipFault.{FipFault}
-use Rattle.fwu_model.specs.declared.kinds.LayoutFault.{LayoutFault}
+use Rattle.fwu_formats.specs.declared.kinds.FipFault.{FipFault}
+use Rattle.fwu_formats.specs.declared.kinds.LayoutFault.{LayoutFault}
 use Rattle.meta_layout.specs.Rows.{fitted}
 use Rattle.flash_format.specs.declared.stops.InputFault.{InputFault}
 use Rattle.flash_format.specs.declared.stops.InputFault.TheVariants.{Layout as BadLayout, Package as BadPackage, Missing, TooLarge}

@@ -3,15 +3,15 @@ use Rattle.std.specs.Prelude.{◌≡◌, ◌⊎◌, ◌+◌, ◌-◌, ◌*◌, �
 use Rattle.base_core.specs.Block.{blank}
 use Rattle.flash_core.specs.Told.{Told, NothingDirty}
 use Rattle.flash_core.specs.May.{May}
-use Rattle.fwu_model.specs.Layout.{Layout, blocks_needed, slot_bytes, slot_total}
-use Rattle.fwu_model.specs.Metadata.{first_meta}
-use Rattle.fwu_model.specs.Manifest.{is_complete, manifest_part, version}
-use Rattle.fwu_model.specs.Flash.{layout_seen, package_in, slot}
+use Rattle.fwu_formats.specs.Layout.{Layout, blocks_needed, slot_bytes, slot_total}
+use Rattle.fwu_formats.specs.Metadata.{first_meta}
+use Rattle.fwu_formats.specs.Manifest.{is_complete, manifest_part, version}
+use Rattle.fwu_formats.specs.Image.{layout_seen, package_in, slot}
 use Rattle.fwu_model.specs.Replica.{BothHold, in_version}
 use Rattle.fwu_model.specs.Seen.{seen, SoundFlash}
 use Rattle.fwu_model.specs.State.{State, Bank}
 use Rattle.fwu_model.specs.Sound.{Setting}
-use Rattle.fwu_model.specs.declared.kinds.BankState.TheVariants.{Accepted, Invalid}
+use Rattle.fwu_formats.specs.declared.kinds.BankState.TheVariants.{Accepted, Invalid}
 use Rattle.flash_format.specs.Places.{Erased}
 use Rattle.image_check.specs.Law.{may_start}
 use Rattle.image_check.specs.Verdict.{verdict_on}

@@ -1,7 +1,7 @@
 -- What stands at a place of a flash.
 use Rattle.std.specs.Prelude.{◌≡◌, ℕ, ◌+◌, ◌*◌, ◌<◌, ◌≤◌, List, slice_index, slice_index_or}
-use Rattle.fwu_model.specs.Layout.{Layout, start, slot_bytes}
-use Rattle.fwu_model.specs.Package.{Entry, payload}
+use Rattle.fwu_formats.specs.Layout.{Layout, start, slot_bytes}
+use Rattle.fwu_formats.specs.Package.{Entry, payload}
 use Rattle.flash_format.specs.Choosing.{no_entry}
 
 -- the bytes from one place to before another are erased

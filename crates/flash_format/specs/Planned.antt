@@ -1,8 +1,8 @@
 -- The entries of a layout's images in a package.
 use Rattle.std.specs.Prelude.{◌≡◌, ◌+◌, ◌*◌, ◌^◌, ◌<◌, ◌≤◌, ℕ, List, Option, Ok, All, length, slice_index_or}
 use Rattle.host_io.specs.Contents.{Directory}
-use Rattle.fwu_model.specs.Layout.{Layout}
-use Rattle.fwu_model.specs.Package.{Entry, Toc, toc_of}
+use Rattle.fwu_formats.specs.Layout.{Layout}
+use Rattle.fwu_formats.specs.Package.{Entry, Toc, toc_of}
 use Rattle.fip_tables.specs.Files.{Lacks, Tells}
 use Rattle.flash_format.specs.Choosing.{AreChosen, no_entry, no_row}
 

@@ -1,7 +1,7 @@
 -- The table that was read of a file.
 use Rattle.std.specs.Prelude.{◌≡◌, ⊤, Result, Ok, Err}
-use Rattle.fwu_model.specs.Package.{Toc}
-use Rattle.fwu_model.specs.declared.kinds.FipFault.{FipFault}
+use Rattle.fwu_formats.specs.Package.{Toc}
+use Rattle.fwu_formats.specs.declared.kinds.FipFault.{FipFault}
 use Rattle.flash_format.specs.declared.stops.FormatStop.{FormatStop}
 use Rattle.flash_format.specs.declared.stops.FormatStop.TheVariants.{Input, ReadFailed, Flash}
 use Rattle.flash_format.specs.declared.stops.InputFault.TheVariants.{Package}

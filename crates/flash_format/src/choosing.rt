@@ -1,6 +1,6 @@
 //! The entries of a package that are the images of a layout.
 ghost use Rattle.std.specs.Prelude.{◌≡◌, ◌≤◌, find, length};
-ghost use Rattle.fwu_model.specs.Package.{has_guid};
+ghost use Rattle.fwu_formats.specs.Package.{has_guid};
 ghost use Rattle.flash_format.specs.Choosing.{ChoosesOne, Chooses};
 
 use crate::stops::InputFault;

@@ -3,11 +3,11 @@ ghost use Rattle.std.specs.Prelude.{◌≡◌, ◌⊎◌, ◌*◌, ◌≤◌, �
 ghost use Rattle.flash_core.specs.Counts.{Spends, StaysUnarmed};
 ghost use Rattle.flash_core.specs.May.{Keeps};
 ghost use Rattle.flash_core.specs.Told.{NothingDirty};
-ghost use Rattle.fwu_model.specs.Layout.{blocks_needed};
-ghost use Rattle.fwu_model.specs.Flash.{layout_seen};
-ghost use Rattle.fwu_model.specs.Package.{Toc, toc_of};
+ghost use Rattle.fwu_formats.specs.Layout.{blocks_needed};
+ghost use Rattle.fwu_formats.specs.Image.{layout_seen};
+ghost use Rattle.fwu_formats.specs.Package.{Toc, toc_of};
 ghost use Rattle.fwu_model.specs.Answer.{images_of};
-ghost use Rattle.fwu_model.specs.Manifest.{is_complete, manifest_part};
+ghost use Rattle.fwu_formats.specs.Manifest.{is_complete, manifest_part};
 ghost use Rattle.meta_layout.specs.Rows.{fitted};
 ghost use Rattle.fip_tables.specs.Files.{Tells};
 ghost use Rattle.image_check.specs.declared.bank.Verdict.{Verdict};

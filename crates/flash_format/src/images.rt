@@ -4,7 +4,7 @@ ghost use Rattle.base_core.specs.Block.{blank};
 ghost use Rattle.flash_core.specs.Counts.{Spends, StaysUnarmed};
 ghost use Rattle.flash_core.specs.May.{Keeps};
 ghost use Rattle.host_io.specs.Causes.{HasCause};
-ghost use Rattle.fwu_model.specs.Package.{payload};
+ghost use Rattle.fwu_formats.specs.Package.{payload};
 ghost use Rattle.fip_tables.specs.Files.{Lacks, Tells};
 ghost use Rattle.flash_format.specs.Places.{Erased, Stands};
 ghost use Rattle.flash_format.specs.Stops.{flash_result, ReadsBy, RefusesNothing};

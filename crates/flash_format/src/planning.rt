@@ -1,6 +1,6 @@
 //! What is to be written: the layout, and the entries of its images. It is found before the flash is touched.
 ghost use Rattle.std.specs.Prelude.{◌≡◌, ℕ, List, Ok, IfOk, IfErr};
-ghost use Rattle.fwu_model.specs.Package.{toc_of};
+ghost use Rattle.fwu_formats.specs.Package.{toc_of};
 ghost use Rattle.meta_layout.specs.Rows.{fitted};
 ghost use Rattle.fip_tables.specs.Files.{Tells};
 ghost use Rattle.flash_format.specs.Choosing.{refusal, refusal_by};

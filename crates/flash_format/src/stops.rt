@@ -4,7 +4,7 @@ ghost use Rattle.flash_format.specs.declared.stops.FormatStop.TheVariants.{Flash
 
 use base_core::Guid;
 use flash_core::FlashStop;
-use fwu_model::{FipFault, LayoutFault};
+use fwu_formats::{FipFault, LayoutFault};
 use image_check::Verdict;
 
 /// What is wrong with what was given, the first of these that is so.

@@ -1,6 +1,6 @@
 //! The table of a package in a file.
 ghost use Rattle.std.specs.Prelude.{◌≡◌, ◌+◌, ◌^◌, ◌<◌, ℕ, List, Ok, All, IfOk};
-ghost use Rattle.fwu_model.specs.Package.{toc_of};
+ghost use Rattle.fwu_formats.specs.Package.{toc_of};
 ghost use Rattle.fip_tables.specs.Files.{Lacks, Tells};
 ghost use Rattle.flash_format.specs.Stops.{flash_result, ReadsBy};
 ghost use Rattle.flash_format.specs.Table.{IsTable, StopsTable};

@@ -2,7 +2,7 @@
 ghost use Rattle.std.specs.Prelude.{◌≡◌, ◌*◌, ◌≤◌, ℕ, List, Ok, Err, true, false, length, is_ok, IsTrue, IfOk, OnOk};
 ghost use Rattle.flash_core.specs.Counts.{Spends, StaysUnarmed};
 ghost use Rattle.flash_core.specs.May.{Keeps};
-ghost use Rattle.fwu_model.specs.Layout.{blocks_needed};
+ghost use Rattle.fwu_formats.specs.Layout.{blocks_needed};
 ghost use Rattle.fip_tables.specs.Files.{Tells};
 ghost use Rattle.image_check.specs.Law.{may_start};
 ghost use Rattle.image_check.specs.Verdict.{verdict_on};

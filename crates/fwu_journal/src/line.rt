@@ -1,6 +1,7 @@
 //! The printed line of a turn, in room that was made before. Nothing here takes memory.
 ghost use Rattle.std.specs.Prelude.{◌≡◌, ◌≤◌, [], if◌then◌else◌, length, codes};
-ghost use Rattle.fwu_model.specs.Text.{call_word, layout_fault_number, line, no_boot_text, reply_text};
+ghost use Rattle.fwu_formats.specs.FaultText.{layout_fault_number};
+ghost use Rattle.fwu_model.specs.Text.{call_word, line, no_boot_text, reply_text};
 ghost use Rattle.fwu_model.specs.Reply as model;
 ghost use Rattle.script_text.specs.Shown.{shown};
 ghost use Rattle.fwu_journal.specs.Room.{Grows, HasRoom};
@@ -9,7 +10,8 @@ ghost use Rattle.fwu_journal.specs.Shown.{reply, turn};
 use crate::adding::add;
 use crate::journal::{Reply, Turn};
 use crate::numbers::{NUMBERS_ROOM, add_banks, add_counts, add_named, add_numbers};
-use fwu_model::{LayoutFault, NoBoot};
+use fwu_formats::LayoutFault;
+use fwu_model::NoBoot;
 use script_text::Call;
 
 /// Bytes that are enough for each line; the longest is that of `show` on 4 banks of 16 images.

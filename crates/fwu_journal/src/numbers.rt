@@ -8,7 +8,7 @@ ghost use Rattle.fwu_journal.specs.Joined.{comma_before};
 
 use crate::adding::{add, add_number};
 use early_boot::Numbers;
-use fwu_model::BankState;
+use fwu_formats::BankState;
 use meta_layout::{BankBits, Bits, States};
 
 /// Bytes that are enough for the numbers of each flash.

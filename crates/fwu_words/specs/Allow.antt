@@ -1,7 +1,7 @@
 -- Whether the words begin with a list of the manifests that pass.
 use Rattle.std.specs.Prelude.{◌≡◌, ℕ, true, false, List, ◌∷◌, None, codes, map, string_bytes, IsTrue}
 use Rattle.fwu_model.specs.Allow.{asks_list, list_name}
-use Rattle.fwu_model.specs.Script.{is_file}
+use Rattle.fwu_formats.specs.Words.{is_file}
 use Rattle.fwu_words.specs.declared.allow.Allow.{Allow}
 use Rattle.fwu_words.specs.declared.allow.Allow.TheVariants.{No, Usage, File}
 

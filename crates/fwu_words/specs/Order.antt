@@ -2,7 +2,7 @@
 use Rattle.std.specs.Prelude.{ℕ, List, Option, Some, None, codes, if◌then◌else◌, option_and_then}
 use Rattle.base_core.specs.Bytes.{same_bytes}
 use Rattle.clap.specs.Words.{Row, Text, first_of}
-use Rattle.fwu_model.specs.Layout.{ImageRow}
+use Rattle.fwu_formats.specs.Layout.{ImageRow}
 use Rattle.clap_words.specs.Words.{reads}
 use Rattle.clap_words.specs.Answers.{file_in}
 use Rattle.fwu_words.specs.Commands.{fwu_app}

@@ -1,7 +1,7 @@
 -- The values on the command line of `fwu`.
 use Rattle.std.specs.Prelude.{ℕ, ◌==◌, ◌&&◌, List, Option, Some, None, if◌then◌else◌, nat_le, option_and_then}
 use Rattle.std.specs.List.{slice_split}
-use Rattle.fwu_model.specs.Layout.{ImageRow}
+use Rattle.fwu_formats.specs.Layout.{ImageRow}
 pub use Rattle.clap_words.specs.Values.{each}
 unfoldable pub use Rattle.clap_words.specs.Values.{file_named, name_of, number_read, split_of}
 

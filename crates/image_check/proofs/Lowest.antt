@@ -4,13 +4,13 @@ use Rattle.std.proofs.lemmas.Bool.{cases_eq, cases_lt}
 use Rattle.std.specs.Prelude.{IsTrue}
 use Rattle.base_core.specs.Bytes.{same_bytes}
 use Rattle.sha2.specs.Sha256.{sha256}
-use Rattle.fwu_model.specs.Manifest.{row_at}
+use Rattle.fwu_formats.specs.Manifest.{row_at}
 use Rattle.image_check.specs.Found.{is_good}
 use Rattle.image_check.proofs.Sums.{total_more}
 use Rattle.flash_core.specs.Told.{Told}
 use Rattle.flash_core.specs.declared.flash.Arming.{Arming}
 use Rattle.flash_core.specs.declared.flash.Counts.{Counts}
-use Rattle.fwu_model.specs.Layout.{ImageRow, slot_total}
+use Rattle.fwu_formats.specs.Layout.{ImageRow, slot_total}
 use Rattle.image_check.specs.Verdict.{lowest_bad}
 use Rattle.image_check.proofs.Stays.{Stays}
 

@@ -9,11 +9,11 @@ use Rattle.std.specs.Prelude.{IsTrue}
 use Rattle.std.specs.List.{list_all}
 use Rattle.base_core.specs.Bytes.{num_at, same_bytes}
 use Rattle.sha2.specs.Sha256.{sha256}
-use Rattle.fwu_model.specs.Layout.{Layout, ImageRow, slot_total, fits_layout, is_row}
-use Rattle.fwu_model.specs.Manifest.{Row, Manifest, manifest_of, manifest_at, manifest_size, row_at, is_image_of}
-use Rattle.fwu_model.specs.Flash.{slot, images_in}
-use Rattle.fwu_model.specs.declared.kinds.ManifestFault.{ManifestFault}
-use Rattle.fwu_model.proofs.SealLaws.{limits}
+use Rattle.fwu_formats.specs.Layout.{Layout, ImageRow, slot_total, fits_layout, is_row}
+use Rattle.fwu_formats.specs.Manifest.{Row, Manifest, manifest_of, manifest_at, manifest_size, row_at, is_image_of}
+use Rattle.fwu_formats.specs.Image.{slot, images_in}
+use Rattle.fwu_formats.specs.declared.kinds.ManifestFault.{ManifestFault}
+use Rattle.fwu_formats.proofs.SealLaws.{limits}
 use Rattle.manifest_core.specs.Shown.{version_of}
 use Rattle.manifest_core.proofs.InTurn.{of_front, num_front}
 use Rattle.manifest_core.proofs.Passed.{manifest_passed, sizes_fit}

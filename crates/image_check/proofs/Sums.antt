@@ -1,7 +1,7 @@
 -- The blocks of images in order.
 use Rattle.std.proofs.Common.{◌≡◌, ℕ, ◌+◌, ◌<◌, ◌≤◌, List, [], length, get_or, take}
 use Rattle.std.proofs.lemmas.List.Sums.{sum_by_more, sum_by_more_le}
-use Rattle.fwu_model.specs.Layout.{ImageRow, slot_total}
+use Rattle.fwu_formats.specs.Layout.{ImageRow, slot_total}
 
 -- what stands past the end of the rows
 abbrev pub no_row : ImageRow

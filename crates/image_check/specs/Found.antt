@@ -2,9 +2,9 @@
 use Rattle.std.specs.Prelude.{ℕ, ◌+◌, ◌-◌, ◌*◌, ◌<◌, ◌≤◌, Bool, not, if◌then◌else◌, List, length, take, drop, Option, Result, Ok, Err, slice_index_or}
 use Rattle.base_core.specs.Bytes.{same_bytes}
 use Rattle.sha2.specs.Sha256.{sha256}
-use Rattle.fwu_model.specs.Layout.{ImageRow, slot_total}
-use Rattle.fwu_model.specs.Manifest.{manifest_of, manifest_size, row_at}
-use Rattle.fwu_model.specs.declared.kinds.ManifestFault.{ManifestFault}
+use Rattle.fwu_formats.specs.Layout.{ImageRow, slot_total}
+use Rattle.fwu_formats.specs.Manifest.{manifest_of, manifest_size, row_at}
+use Rattle.fwu_formats.specs.declared.kinds.ManifestFault.{ManifestFault}
 use Rattle.manifest_core.specs.Shown.{version_of}
 use Rattle.image_check.specs.declared.bank.Verdict.{Verdict}
 use Rattle.image_check.specs.declared.bank.Verdict.TheVariants as verdict

@@ -1,8 +1,8 @@
 -- A bank is good exactly where it holds a complete package that is permitted.
 use Rattle.std.specs.Prelude.{◌≡◌, ℕ, Bool, true, false, List, Some, IsTrue}
-use Rattle.fwu_model.specs.Layout.{fits_layout}
-use Rattle.fwu_model.specs.Manifest.{version}
-use Rattle.fwu_model.specs.Flash.{package_in}
+use Rattle.fwu_formats.specs.Layout.{fits_layout}
+use Rattle.fwu_formats.specs.Manifest.{version}
+use Rattle.fwu_formats.specs.Image.{package_in}
 use Rattle.fwu_model.specs.Sound.{Setting, is_permitted, holds_permitted}
 use Rattle.image_check.specs.declared.bank.Verdict.{Verdict}
 use Rattle.image_check.specs.declared.bank.Verdict.TheVariants.{Good, BadManifest, NotAccepted, BadImage, BelowCounter}

@@ -1,9 +1,9 @@
 -- The verdict on a bank, by what a flash holds.
 use Rattle.std.specs.Prelude.{ℕ, zero, suc, ◌+◌, Bool, not, nat_lt, if◌then◌else◌, List, [], length, Option, Some, None, Result, Ok, Err, slice_index_or}
-use Rattle.fwu_model.specs.Layout.{Layout}
-use Rattle.fwu_model.specs.Manifest.{Manifest, manifest_of, manifest_part, is_image_of}
-use Rattle.fwu_model.specs.Flash.{slot, images_in}
-use Rattle.fwu_model.specs.declared.kinds.ManifestFault.{ManifestFault}
+use Rattle.fwu_formats.specs.Layout.{Layout}
+use Rattle.fwu_formats.specs.Manifest.{Manifest, manifest_of, manifest_part, is_image_of}
+use Rattle.fwu_formats.specs.Image.{slot, images_in}
+use Rattle.fwu_formats.specs.declared.kinds.ManifestFault.{ManifestFault}
 use Rattle.image_check.specs.declared.bank.Verdict.{Verdict}
 use Rattle.image_check.specs.declared.bank.Verdict.TheVariants as verdict
 

@@ -1,8 +1,8 @@
 //! The verdict on a bank.
 ghost use Rattle.std.specs.Prelude.{◌≡◌, ◌+◌, ◌-◌, ◌<◌, ◌≤◌, length, is_ok, IsTrue, IfOk};
 ghost use Rattle.flash_core.specs.Counts.{Spends, ReachesNone, arming_kept};
-ghost use Rattle.fwu_model.specs.Layout.{slot_total, blocks_needed};
-ghost use Rattle.fwu_model.specs.Manifest as model;
+ghost use Rattle.fwu_formats.specs.Layout.{slot_total, blocks_needed};
+ghost use Rattle.fwu_formats.specs.Manifest as model;
 ghost use Rattle.image_check.specs.Found.{found, front_of};
 ghost use Rattle.image_check.specs.Verdict.{by_counter, verdict_on};
 

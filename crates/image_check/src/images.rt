@@ -3,8 +3,8 @@ ghost use Rattle.std.specs.Prelude.{◌≡◌, ◌+◌, ◌-◌, ◌*◌, ◌<�
 ghost use Rattle.base_core.specs.Bytes.{same_bytes};
 ghost use Rattle.sha2.specs.Sha256.{sha256};
 ghost use Rattle.flash_core.specs.Counts.{Spends, ReachesNone, arming_kept};
-ghost use Rattle.fwu_model.specs.Layout.{slot_total};
-ghost use Rattle.fwu_model.specs.Manifest as model;
+ghost use Rattle.fwu_formats.specs.Layout.{slot_total};
+ghost use Rattle.fwu_formats.specs.Manifest as model;
 ghost use Rattle.image_check.specs.Found.{is_good, FitSlots};
 ghost use Rattle.image_check.specs.Verdict.{lowest_bad};
 

@@ -2,8 +2,9 @@
 
 use crate::fixtures::same;
 use early_boot::Numbers;
+use fwu_formats::{BankState, LayoutFault};
 use fwu_journal::{Journal, LINE_ROOM, Reply, Turn, add_line};
-use fwu_model::{BankState, LayoutFault, NoBoot};
+use fwu_model::NoBoot;
 use meta_layout::{BankBits, Bits, States};
 use script_text::Call;
 use std::alloc::{AllocError, Global};

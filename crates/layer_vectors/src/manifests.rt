@@ -1,7 +1,7 @@
 //! Manifests of both forms, as bytes and as values.
 
 use crate::fixtures::{MANIFEST, image_rows, image_type, same};
-use fwu_model::ManifestFault;
+use fwu_formats::ManifestFault;
 use manifest_core::{Manifest, ManifestStop, Row, row_at, test};
 use std::test::Fail;
 

@@ -5,10 +5,10 @@ use Rattle.std.proofs.lemmas.List.{take_all, length-take-le, drop-take, take-tak
 use Rattle.std.specs.Prelude.{if◌then◌else◌, nat_lt}
 use Rattle.base_core.specs.Bytes.{num, num_at, listed, same_bytes}
 use Rattle.sha2.specs.Sha256.{sha256}
-use Rattle.fwu_model.specs.Layout.{ImageRow}
-use Rattle.fwu_model.specs.Manifest.{Manifest, manifest_of, manifest_at, manifest_size, manifest_magic, row_at, has_form, is_version_too_high, all_paired}
-use Rattle.fwu_model.specs.declared.kinds.ManifestFault.{ManifestFault}
-use Rattle.fwu_model.specs.declared.kinds.ManifestFault.TheVariants as fault
+use Rattle.fwu_formats.specs.Layout.{ImageRow}
+use Rattle.fwu_formats.specs.Manifest.{Manifest, manifest_of, manifest_at, manifest_size, manifest_magic, row_at, has_form, is_version_too_high, all_paired}
+use Rattle.fwu_formats.specs.declared.kinds.ManifestFault.{ManifestFault}
+use Rattle.fwu_formats.specs.declared.kinds.ManifestFault.TheVariants as fault
 use Rattle.manifest_core.specs.Shown.{version_of, is_named, is_within}
 
 -- the first fault, where tests after the first one are to be true

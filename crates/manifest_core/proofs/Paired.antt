@@ -1,7 +1,7 @@
 -- Tests of two lists side by side, of which the second one is listed.
 use Rattle.std.proofs.Common.{◌≡◌, ℕ, zero, suc, ◌+◌, ◌<◌, Bool, true, false, ◌&&◌, List, [], ◌∷◌, length, get_or, map, refl, sym, ap, ◌∙◌, arith, add-zero, zero-add}
 use Rattle.std.specs.List.{range_with_len}
-use Rattle.fwu_model.specs.Manifest.{all_paired}
+use Rattle.fwu_formats.specs.Manifest.{all_paired}
 
 and_true : (a b : Bool) → true ≡ a → true ≡ b → true ≡ (a && b)
 and_true true b ha hb = hb

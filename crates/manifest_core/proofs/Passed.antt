@@ -5,9 +5,9 @@ use Rattle.std.proofs.lemmas.List.{get_or-drop, length-map, length-drop}
 use Rattle.std.specs.Prelude.{IsTrue}
 use Rattle.std.specs.List.{range_with_len}
 use Rattle.base_core.specs.Bytes.{num_at, listed}
-use Rattle.fwu_model.specs.Layout.{ImageRow}
-use Rattle.fwu_model.specs.Manifest.{Row, Manifest, manifest_of, manifest_at, manifest_size, row_at, all_paired}
-use Rattle.fwu_model.specs.declared.kinds.ManifestFault.{ManifestFault}
+use Rattle.fwu_formats.specs.Layout.{ImageRow}
+use Rattle.fwu_formats.specs.Manifest.{Row, Manifest, manifest_of, manifest_at, manifest_size, row_at, all_paired}
+use Rattle.fwu_formats.specs.declared.kinds.ManifestFault.{ManifestFault}
 use Rattle.manifest_core.specs.Shown.{version_of, is_within, row}
 use Rattle.manifest_core.specs.declared.rows.Row.{Row as SpecRow}
 use Rattle.std.proofs.lemmas.List.FromFn.{length-map-range_with_len}

@@ -2,8 +2,8 @@
 use Rattle.std.specs.Prelude.{◌≡◌, ℕ, ◌+◌, ◌*◌, Bool, IsTrue, List, length, drop, Result, Ok, Err, nat_le}
 use Rattle.base_core.specs.Bytes.{same_bytes}
 use Rattle.base_core.specs.declared.rows.ImageRow.{ImageRow}
-use Rattle.fwu_model.specs.Manifest as model
-use Rattle.fwu_model.specs.declared.kinds.ManifestFault.{ManifestFault}
+use Rattle.fwu_formats.specs.Manifest as model
+use Rattle.fwu_formats.specs.declared.kinds.ManifestFault.{ManifestFault}
 use Rattle.manifest_core.specs.declared.rows.Row.{Row}
 use Rattle.manifest_core.specs.declared.value.ManifestStop.{ManifestStop}
 use Rattle.manifest_core.specs.declared.value.ManifestStop.TheVariants.{Fault, NoMemory}

@@ -2,11 +2,11 @@
 ghost use Rattle.std.specs.Prelude.{◌≡◌, ◌+◌, ◌-◌, ◌*◌, ◌≤◌, ◌==◌, length, take, drop, nat_le, OnOk};
 ghost use Rattle.base_core.specs.Bytes.{num_at, same_bytes, listed};
 ghost use Rattle.sha2.specs.Sha256.{sha256};
-ghost use Rattle.fwu_model.specs.Manifest as model;
+ghost use Rattle.fwu_formats.specs.Manifest as model;
 ghost use Rattle.manifest_core.specs.Shown.{version_of, is_named, is_within};
 
 use base_core::{Guid, ImageRow, le32_at};
-use fwu_model::ManifestFault;
+use fwu_formats::ManifestFault;
 use sha2::{Digest, Sha256};
 
 pub const MAGIC: u32 = 0x464D_5746;

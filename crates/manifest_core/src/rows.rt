@@ -1,7 +1,7 @@
 //! What a manifest says of one image.
 ghost use Rattle.std.specs.Prelude.{◌≡◌, ◌+◌, ◌*◌, ◌≤◌, length, take, drop};
 ghost use Rattle.sha2.specs.Sha256.{sha256};
-ghost use Rattle.fwu_model.specs.Manifest as model;
+ghost use Rattle.fwu_formats.specs.Manifest as model;
 ghost use Rattle.manifest_core.specs.Shown.{row};
 
 use base_core::{Guid, le32_at};

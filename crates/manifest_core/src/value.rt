@@ -3,13 +3,13 @@ ghost use Rattle.std.specs.Prelude.{◌≡◌, ◌↔◌, ◌+◌, ◌-◌, ◌*
 ghost use Rattle.std.specs.List.{list_all};
 ghost use Rattle.base_core.specs.Bytes.{le, listed};
 ghost use Rattle.base_core.specs.declared.rows.ImageRow.{ImageRow as SpecRow};
-ghost use Rattle.fwu_model.specs.Manifest as model;
+ghost use Rattle.fwu_formats.specs.Manifest as model;
 ghost use Rattle.manifest_core.specs.Shown.{row, IsStopOf, Suits};
 
 use super::reading::{MAGIC, VERSION_LIMIT, manifest_size, test};
 use super::rows::{Row, row_at};
 use base_core::{ImageRow, NoMemory};
-use fwu_model::ManifestFault;
+use fwu_formats::ManifestFault;
 use sha2::{Digest, Sha256};
 use std::alloc::{AllocError, Global};
 use std::marker::Model;
@@ -30,7 +30,7 @@ pub struct Manifest {
 
 impl Model for Manifest {
     ghost use Rattle.std.specs.Prelude.{◌≤◌, length, map};
-    ghost use Rattle.fwu_model.specs.Manifest as model;
+    ghost use Rattle.fwu_formats.specs.Manifest as model;
     ghost use Rattle.manifest_core.specs.Shown.{row};
 
     ghost Value = { model.Manifest };

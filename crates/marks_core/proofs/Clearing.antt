@@ -11,7 +11,7 @@ use Rattle.flash_core.specs.Told.{Told, IsSound, put, halt, settled}
 use Rattle.flash_core.specs.May.{Keeps}
 use Rattle.flash_core.proofs.Images.{block-overwritten_front}
 use Rattle.flash_core.proofs.Calls.{keeps_same, keeps_put, keeps_halt, keeps_settle, now-put, now-settle, quiet_settle}
-use Rattle.fwu_model.specs.Flash.{is_blank}
+use Rattle.fwu_formats.specs.Image.{is_blank}
 use Rattle.marks_core.specs.Marks.{Clears}
 use Rattle.marks_core.proofs.Granules.{blank_list}
 

@@ -8,8 +8,8 @@ use Rattle.flash_core.specs.declared.flash.FlashStop.{FlashStop}
 use Rattle.flash_core.specs.Told.{Told, IsSound, put, halt, settled, NothingDirty}
 use Rattle.flash_core.specs.May.{Keeps}
 use Rattle.flash_core.proofs.Calls.{keeps_same, keeps_put, keeps_halt, keeps_settle, now-put, now-settle, settle-fresh}
-use Rattle.fwu_model.specs.Flash.{is_blank, marks, is_tidy}
-use Rattle.fwu_model.proofs.Marks.{marks-are-counted}
+use Rattle.fwu_formats.specs.Image.{is_blank, marks, is_tidy}
+use Rattle.fwu_formats.proofs.Marks.{marks-are-counted}
 use Rattle.marks_core.specs.Marks.{IsNext, CountsOnce, Adds}
 use Rattle.marks_core.proofs.Granules.{granule-overwritten, granule_kept, granule_left}
 

@@ -7,8 +7,8 @@ use Rattle.base_core.specs.Block.{blank, granule}
 use Rattle.flash_core.specs.Told.{Told, overwritten}
 use Rattle.flash_core.specs.May.{Leaves, Keeps, Quiet}
 use Rattle.flash_core.proofs.Images.{slice_range-overwritten}
-use Rattle.fwu_model.specs.Flash.{is_blank}
-use Rattle.fwu_model.proofs.Frame.{range-same}
+use Rattle.fwu_formats.specs.Image.{is_blank}
+use Rattle.fwu_formats.proofs.Same.{range-same}
 
 pub granule_range : (b j : ℕ) (image : List ℕ) → granule b j image ≡ slice_range image (4096 * b + 16 * j) (4096 * b + 16 * j + 16)
 unfolding granule

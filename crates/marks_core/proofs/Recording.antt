@@ -11,11 +11,11 @@ use Rattle.flash_core.specs.Told.{Told}
 use Rattle.flash_core.specs.May.{May, Quiet}
 use Rattle.flash_core.specs.Replaces.{padded, IsOldOrNew, Replaces}
 use Rattle.flash_core.proofs.Calls.{block_quiet, keeps_same, keeps_wider, block_kept, now_kept}
-use Rattle.fwu_model.specs.Flash.{marks}
-use Rattle.fwu_model.specs.Counter.{record_bytes, is_record, recorded, counter_in}
-use Rattle.fwu_model.proofs.Frame.{marks-same}
-use Rattle.fwu_model.proofs.SealLaws.{record-sealed}
-use Rattle.fwu_model.proofs.Written.{record-read}
+use Rattle.fwu_formats.specs.Image.{marks}
+use Rattle.fwu_formats.specs.Counter.{record_bytes, is_record, recorded, counter_in}
+use Rattle.fwu_formats.proofs.Same.{marks-same}
+use Rattle.fwu_formats.proofs.SealLaws.{record-sealed}
+use Rattle.fwu_formats.proofs.Written.{record-read}
 use Rattle.marks_core.specs.Raises.{value_in, place_for, record_place, Raises}
 
 -- a block without a seal counts as 0

@@ -4,7 +4,7 @@ use Rattle.base_core.specs.Block.{block, blank, granule}
 use Rattle.flash_core.specs.declared.flash.FlashStop.{FlashStop}
 use Rattle.flash_core.specs.Told.{Told, NothingDirty}
 use Rattle.flash_core.specs.May.{May, Keeps, Quiet}
-use Rattle.fwu_model.specs.Flash.{marks, is_tidy}
+use Rattle.fwu_formats.specs.Image.{marks, is_tidy}
 
 -- A mark may go to this place of a block: it is the count, below the limit, and up to the limit no mark follows it.
 pub record IsNext (image : List ℕ) (b at limit : ℕ) : Type 0 where

@@ -6,7 +6,7 @@ use Rattle.flash_core.specs.declared.flash.FlashStop.{FlashStop}
 use Rattle.flash_core.specs.Told.{Told, NothingDirty}
 use Rattle.flash_core.specs.May.{May, Guards, Keeps, Quiet}
 use Rattle.flash_core.specs.Replaces.{padded, Replaces}
-use Rattle.fwu_model.specs.Counter.{is_record, record_bytes, counter_in}
+use Rattle.fwu_formats.specs.Counter.{is_record, record_bytes, counter_in}
 
 -- the value of a block that is a record
 abbrev pub value_in : List ℕ → Option ℕ

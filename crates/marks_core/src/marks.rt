@@ -2,7 +2,7 @@
 ghost use Rattle.std.specs.Prelude.{◌≡◌, ◌+◌, ◌*◌, ◌<◌, ◌≤◌, is_ok, IsTrue, IfOk, length};
 ghost use Rattle.base_core.specs.Block.{granule};
 ghost use Rattle.flash_core.specs.Counts.{Spends, ReachesNone, arming_kept};
-ghost use Rattle.fwu_model.specs.Flash.{is_blank, marks};
+ghost use Rattle.fwu_formats.specs.Image.{is_blank, marks};
 ghost use Rattle.marks_core.specs.Marks.{Adds, Clears};
 
 use flash_core::{Flash, FlashStop, read_block};

@@ -1,7 +1,7 @@
 //! Records of the counter, an own format of 32 bytes, with little-endian numbers.
 ghost use Rattle.std.specs.Prelude.{◌≡◌, ◌≤◌, length};
-ghost use Rattle.fwu_model.specs.Layout.{are_zero};
-ghost use Rattle.fwu_model.specs.Counter.{is_record, record_bytes};
+ghost use Rattle.fwu_formats.specs.Layout.{are_zero};
+ghost use Rattle.fwu_formats.specs.Counter.{is_record, record_bytes};
 ghost use Rattle.marks_core.specs.Raises.{value_in};
 
 use base_core::{crc32, le32_at, put_le32};
@@ -14,7 +14,7 @@ fn all_zero(bytes: &[u8]) -> bool
     bytes.iter().all(|byte| *byte == 0)
 }
 
-#[tactic(auto, unfolding(fwu_model::specs::Counter::is_record))]
+#[tactic(auto, unfolding(fwu_formats::specs::Counter::is_record))]
 fn is_record(block: &[u8]) -> bool
     ensures { result ≡ is_record block.now }
 {
@@ -40,7 +40,7 @@ pub fn value_in(block: &[u8]) -> Option<u32>
 }
 
 /// A record of a value.
-#[tactic(auto, unfolding(fwu_model::specs::Counter::record_bytes, base_core::specs::Bytes::overwritten))]
+#[tactic(auto, unfolding(fwu_formats::specs::Counter::record_bytes, base_core::specs::Bytes::overwritten))]
 pub fn record_bytes(value: u32) -> [u8; 32]
     ensures { result ≡ record_bytes value }
 {

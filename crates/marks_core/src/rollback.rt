@@ -2,7 +2,7 @@
 ghost use Rattle.std.specs.Prelude.{◌≡◌, ◌<◌, ◌≤◌, length, is_ok, IsTrue, IfOk, max, unwrap_or};
 ghost use Rattle.base_core.specs.Block.{block};
 ghost use Rattle.flash_core.specs.Counts.{Spends, ReachesNone, arming_kept};
-ghost use Rattle.fwu_model.specs.Counter.{counter_in};
+ghost use Rattle.fwu_formats.specs.Counter.{counter_in};
 ghost use Rattle.marks_core.specs.Raises.{value_in, place_for, record_place, Raises};
 
 use crate::marks::count;

@@ -1,15 +1,13 @@
 -- Image rows: tests of all of them, their types, and the sum of their slots.
 use Rattle.std.proofs.Common.{zero, suc, ◌-◌, length-drop, take_all, false, not, get_or, drop, drop-cons, add-one, arith, ◌⊎◌, inl, inr, ◌≡◌, ℕ, ◌+◌, ◌<◌, ◌≤◌, Bool, true, false, ◌&&◌, nat_le, ◌==◌, IsTrue, eq-eqb, List, [], ◌∷◌, ◌++◌, length, take, map, refl, ap, sym, ◌∙◌}
 use Rattle.std.proofs.lemmas.List.{take_more, drop_all}
-use Rattle.fwu_model.proofs.Written.{rows-limits}
+use Rattle.fwu_formats.proofs.Written.{rows-limits}
 use Rattle.base_core.specs.Bytes.{same_bytes, are_bytes}
-use Rattle.fwu_model.specs.Layout.{ImageRow, nil_guid, dir_guid, is_row}
+use Rattle.fwu_formats.specs.Layout.{ImageRow, nil_guid, dir_guid, is_row, are_distinct, slot_total}
 use Rattle.std.specs.List.{list_all, list_any, range_with_len}
 use Rattle.std.proofs.lemmas.Bool.{cases_lt, and_parts, and_from}
-use Rattle.fwu_model.specs.Layout.{are_distinct}
-use Rattle.fwu_model.proofs.Spell.{all-range}
+use Rattle.fwu_formats.proofs.Spell.{all-range}
 use Rattle.std.proofs.lemmas.Grind.{common_steps}
-use Rattle.fwu_model.specs.Layout.{slot_total}
 
 pub row-fits : (r : ImageRow) (nil directory b : Bool) → length r.guid ≡ 16 → IsTrue (are_bytes r.guid)
     → nil ≡ same_bytes r.guid nil_guid → directory ≡ same_bytes r.guid dir_guid

@@ -3,10 +3,10 @@ use Rattle.std.proofs.Common.{◌≡◌, ℕ, zero, suc, ◌≤◌, ◌<◌, Boo
 use Rattle.std.proofs.lemmas.Bool.{lt-ltb, ne_eqb}
 use Rattle.base_core.specs.Bytes.{num_at, part, listed}
 use Rattle.base_core.specs.Crc.{crc}
-use Rattle.fwu_model.specs.Layout.{Layout}
-use Rattle.fwu_model.specs.Metadata.{MetaRead, meta_size, meta_size_v1, read_v2, read_v1, meta_of, fits_v2, fits_v1, meta_at, meta_at_v1, state_at_v1, bits_from}
-use Rattle.fwu_model.specs.declared.kinds.BankState.{BankState}
-use Rattle.fwu_model.specs.declared.kinds.MetaFault.TheVariants as fault
+use Rattle.fwu_formats.specs.Layout.{Layout}
+use Rattle.fwu_formats.specs.Metadata.{MetaRead, meta_size, meta_size_v1, read_v2, read_v1, meta_of, fits_v2, fits_v1, meta_at, meta_at_v1, state_at_v1, bits_from}
+use Rattle.fwu_formats.specs.declared.kinds.BankState.{BankState}
+use Rattle.fwu_formats.specs.declared.kinds.MetaFault.TheVariants as fault
 use Rattle.meta_layout.specs.Entries.{state_from, bits_at_v1}
 use Rattle.meta_layout.proofs.Layouts.{ge-ltb}
 

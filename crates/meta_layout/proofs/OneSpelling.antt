@@ -10,14 +10,14 @@ use Rattle.std.proofs.lemmas.List.FromFn.{get_or-map-range_with_len, length-map-
 use Rattle.base_core.specs.Bytes.{num, le, num_at, part, same_bytes, listed, are_bytes}
 use Rattle.base_core.specs.Crc.{crc}
 use Rattle.base_core.proofs.Spelled.{same_is}
-use Rattle.fwu_model.specs.Layout.{Layout, nil_guid, fits_layout, blocks_needed, layout_magic, layout_of, layout_at, layout_size, layout_body, layout_bytes, row_bytes, has_zeros}
-use Rattle.fwu_model.specs.declared.kinds.LayoutFault.{LayoutFault}
+use Rattle.fwu_formats.specs.Layout.{Layout, nil_guid, fits_layout, blocks_needed, layout_magic, layout_of, layout_at, layout_size, layout_body, layout_bytes, row_bytes, has_zeros}
+use Rattle.fwu_formats.specs.declared.kinds.LayoutFault.{LayoutFault}
 use Rattle.meta_layout.specs.Rows.{row_at}
-use Rattle.fwu_model.specs.Metadata.{Meta, MetaRead, meta_of, meta_bytes, meta_body, meta_size, meta_size_v1, entry_size, entry_place, entry_bytes, entries_bytes, bit_at, bit_number, bits_from, has_bank_entry, has_entry, has_entries, has_states, has_indices, has_fields, header_fields, is_state_byte, state_byte, state_of_byte, meta_at, meta_at_v1, read_v2, read_v1, fits_v2, fits_v1}
-use Rattle.fwu_model.specs.declared.kinds.BankState.{BankState}
-use Rattle.fwu_model.specs.declared.kinds.MetaFault.{MetaFault}
-use Rattle.fwu_model.specs.declared.kinds.MetaFault.TheVariants as fault
-use Rattle.fwu_model.proofs.SealLaws.{was_not_refused, limits}
+use Rattle.fwu_formats.specs.Metadata.{Meta, MetaRead, meta_of, meta_bytes, meta_body, meta_size, meta_size_v1, entry_size, entry_place, entry_bytes, entries_bytes, bit_at, bit_number, bits_from, has_bank_entry, has_entry, has_entries, has_states, has_indices, has_fields, header_fields, is_state_byte, state_byte, state_of_byte, meta_at, meta_at_v1, read_v2, read_v1, fits_v2, fits_v1}
+use Rattle.fwu_formats.specs.declared.kinds.BankState.{BankState}
+use Rattle.fwu_formats.specs.declared.kinds.MetaFault.{MetaFault}
+use Rattle.fwu_formats.specs.declared.kinds.MetaFault.TheVariants as fault
+use Rattle.fwu_formats.proofs.SealLaws.{was_not_refused, limits}
 use Rattle.meta_layout.proofs.Fits.{all-at, same-Ok}
 use Rattle.meta_layout.proofs.Places.{within}
 use Rattle.meta_layout.proofs.Writes.{listed-more, map-last}

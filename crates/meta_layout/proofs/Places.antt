@@ -5,8 +5,8 @@ use Rattle.std.specs.List.{list_all}
 use Rattle.std.proofs.Common.{Bool, true, false, ◌&&◌, ◌==◌, ◌-◌, take, drop, [], ◌∷◌, ◌++◌, zero-add, ◌≡◌, ℕ, ◌+◌, ◌*◌, ◌≤◌, ◌<◌, List, length, get_or, refl, sym, ap, ◌∙◌, arith}
 use Rattle.std.proofs.Math.Nat.{mul-le-mul_right, mul-le-mul_left}
 use Rattle.std.proofs.lemmas.List.{get_or_default}
-use Rattle.fwu_model.specs.Layout.{Layout, ImageRow, nil_guid}
-use Rattle.fwu_model.specs.Metadata.{entry_size, entry_place, has_entry, has_fields, header_fields, has_states, is_state_byte}
+use Rattle.fwu_formats.specs.Layout.{Layout, ImageRow, nil_guid}
+use Rattle.fwu_formats.specs.Metadata.{entry_size, entry_place, has_entry, has_fields, header_fields, has_states, is_state_byte}
 use Rattle.meta_layout.specs.Entries.{has_entry_at}
 
 pub near : (image size : ℕ) → image ≤ 16 → size ≤ 128 → image * size ≤ 2048

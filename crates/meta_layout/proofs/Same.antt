@@ -4,8 +4,8 @@ use Rattle.std.specs.Prelude.{◌↔◌}
 use Rattle.std.proofs.Math.Bool.{beq}
 use Rattle.std.proofs.Math.Seq.{take-append_seam}
 use Rattle.std.proofs.lemmas.Bool.{and_parts, and_from, false≢true}
-use Rattle.fwu_model.specs.Metadata.{MetaRead}
-use Rattle.fwu_model.specs.declared.kinds.BankState.{BankState}
+use Rattle.fwu_formats.specs.Metadata.{MetaRead}
+use Rattle.fwu_formats.specs.declared.kinds.BankState.{BankState}
 use lib.Pointwise.{pointwise}
 
 -- the test tells whether two are one

@@ -3,15 +3,15 @@ use Rattle.std.proofs.Common.{◌%◌, IsTrue, map, ◌≡◌, ℕ, ◌+◌, ◌
 use Rattle.std.proofs.Math.Seq.{take-append-add}
 use Rattle.std.proofs.lemmas.List.{take-replicate, length-replicate, take_all, drop-replicate, get_or_default, length-drop, drop_all, drop-take, drop-append-le, length-take-le, take_at, drop_at, take_more}
 use Rattle.std.specs.Prelude.{flat_map}
-use Rattle.fwu_model.specs.Metadata.{Meta, meta_size, entry_size, state_byte, fits_meta, entry_bytes}
-use Rattle.fwu_model.specs.declared.kinds.BankState.{BankState}
-use Rattle.fwu_model.specs.declared.kinds.BankState.TheVariants.{Invalid}
+use Rattle.fwu_formats.specs.Metadata.{Meta, meta_size, entry_size, state_byte, fits_meta, entry_bytes}
+use Rattle.fwu_formats.specs.declared.kinds.BankState.{BankState}
+use Rattle.fwu_formats.specs.declared.kinds.BankState.TheVariants.{Invalid}
 use Rattle.meta_layout.proofs.Fits.{meta-fits, row-length}
 use Rattle.meta_layout.specs.Entries.{HasBits, entry_of, front_bytes}
 use Rattle.std.proofs.lemmas.List.FromFn.{map-range_with_len_more}
 use Rattle.base_core.specs.Bytes.{overwritten, le, part, listed}
 use Rattle.base_core.specs.Crc.{crc}
-use Rattle.fwu_model.specs.Layout.{ImageRow, Layout, nil_guid, row_bytes, layout_magic, layout_size, layout_body}
+use Rattle.fwu_formats.specs.Layout.{ImageRow, Layout, nil_guid, row_bytes, layout_magic, layout_size, layout_body}
 
 pub front : (at : ℕ) (bytes image : List ℕ) → at + length bytes ≤ length image → take (at + length bytes) (overwritten at bytes image) ≡ take at image ++ bytes
 unfolding overwritten

@@ -2,9 +2,9 @@
 use Rattle.std.specs.Prelude.{ℕ, ◌+◌, ◌*◌, ◌==◌, nat_lt, not, if◌then◌else◌, Bool, List, take, drop, Result, Ok, Err}
 use Rattle.std.specs.List.{list_all, range_with_len}
 use Rattle.base_core.specs.Bytes.{num_at}
-use Rattle.fwu_model.specs.Layout.{ImageRow, Layout, fits_layout, blocks_needed, nil_guid}
-use Rattle.fwu_model.specs.declared.kinds.LayoutFault.{LayoutFault}
-use Rattle.fwu_model.specs.declared.kinds.LayoutFault.TheVariants as fault
+use Rattle.fwu_formats.specs.Layout.{ImageRow, Layout, fits_layout, blocks_needed, nil_guid}
+use Rattle.fwu_formats.specs.declared.kinds.LayoutFault.{LayoutFault}
+use Rattle.fwu_formats.specs.declared.kinds.LayoutFault.TheVariants as fault
 
 -- no image, in the unused places of an array
 abbrev pub no_row : ImageRow

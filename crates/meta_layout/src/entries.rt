@@ -2,7 +2,7 @@
 ghost use Rattle.std.specs.Prelude.{◌≡◌, ◌+◌, ◌*◌, ◌<◌, ◌≤◌, ◌&&◌, ◌==◌, nat_lt, length, drop, take};
 ghost use Rattle.std.specs.List.{list_all, range_with_len};
 ghost use Rattle.base_core.specs.Bytes.{num_at};
-ghost use Rattle.fwu_model.specs.Metadata.{entry_size, entry_place, has_bank_entry, has_entries};
+ghost use Rattle.fwu_formats.specs.Metadata.{entry_size, entry_place, has_bank_entry, has_entries};
 ghost use Rattle.meta_layout.specs.Entries.{has_bank_entries, has_entry_at};
 
 use crate::layout::Layout;

@@ -2,8 +2,8 @@
 ghost use Rattle.std.specs.Prelude.{◌≡◌, ◌+◌, ◌*◌, ◌<◌, ◌≤◌, ◌&&◌, ◌||◌, ◌==◌, nat_lt, length, drop, take, IsTrue};
 ghost use Rattle.std.specs.List.{list_all};
 ghost use Rattle.base_core.specs.Bytes.{num_at, part, listed};
-ghost use Rattle.fwu_model.specs.Layout.{fits_layout};
-ghost use Rattle.fwu_model.specs.Metadata.{entry_size, meta_size, meta_size_v1, header_fields, has_fields, has_indices, has_states, is_state_byte, state_of_byte, bits_from, fits_v2, fits_v1};
+ghost use Rattle.fwu_formats.specs.Layout.{fits_layout};
+ghost use Rattle.fwu_formats.specs.Metadata.{entry_size, meta_size, meta_size_v1, header_fields, has_fields, has_indices, has_states, is_state_byte, state_of_byte, bits_from, fits_v2, fits_v1};
 ghost use Rattle.meta_layout.specs.Entries.{bit_from, state_from};
 
 use crate::bytes::{all_four, both, byte_at, le16_at};
@@ -11,7 +11,7 @@ use crate::entries::{are_entries, entry_at};
 use crate::layout::Layout;
 use crate::lists::{BankBits, Bits, States};
 use base_core::le32_at;
-use fwu_model::BankState;
+use fwu_formats::BankState;
 
 /// The bytes of all entries.
 pub fn entries_size(layout: &Layout) -> usize

@@ -1,12 +1,12 @@
 //! The metadata after a format.
 ghost use Rattle.std.specs.Prelude.{◌≡◌, ◌+◌, ◌-◌, ◌<◌, ◌≤◌, ◌∷◌, true, false, replicate, IsTrue};
-ghost use Rattle.fwu_model.specs.Metadata.{first_meta, fits_meta};
-ghost use Rattle.fwu_model.specs.declared.kinds.BankState.TheVariants.{Invalid, Accepted};
+ghost use Rattle.fwu_formats.specs.Metadata.{first_meta, fits_meta};
+ghost use Rattle.fwu_formats.specs.declared.kinds.BankState.TheVariants.{Invalid, Accepted};
 
 use crate::layout::Layout;
 use crate::lists::{BankBits, Bits, States};
 use crate::meta::Meta;
-use fwu_model::BankState;
+use fwu_formats::BankState;
 
 fn same_bits(count: usize, bit: bool) -> Bits
     requires { count ≤ 16 }

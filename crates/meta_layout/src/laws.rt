@@ -1,8 +1,8 @@
 //! Laws of the formats: functions that do nothing, whose contract is the law.
 ghost use Rattle.std.specs.Prelude.{◌≡◌, ℕ, List, Ok, IsTrue, take};
 ghost use Rattle.base_core.specs.Bytes.{are_bytes};
-ghost use Rattle.fwu_model.specs.Layout.{Layout, fits_layout, layout_of, layout_size, layout_bytes};
-ghost use Rattle.fwu_model.specs.Metadata.{Meta, meta_of, meta_size, meta_bytes};
+ghost use Rattle.fwu_formats.specs.Layout.{Layout, fits_layout, layout_of, layout_size, layout_bytes};
+ghost use Rattle.fwu_formats.specs.Metadata.{Meta, meta_of, meta_size, meta_bytes};
 
 /// Blocks that are read as the same metadata in version 2 have the same bytes: those that are written.
 pub fn metadata_has_one_spelling()

@@ -1,7 +1,7 @@
 //! The layout block (own format), and where it puts each image of each bank.
 ghost use Rattle.std.specs.Prelude.{◌≡◌, ℕ, ◌+◌, ◌-◌, ◌*◌, ◌<◌, ◌≤◌, ◌++◌, ◌&&◌, ◌==◌, nat_le, length, take, drop, replicate, Ok, IsTrue};
 ghost use Rattle.base_core.specs.Bytes.{num_at};
-ghost use Rattle.fwu_model.specs.Layout.{are_zero, fits_layout, blocks_needed, find_image, start, layout_of, layout_size, layout_body, layout_bytes};
+ghost use Rattle.fwu_formats.specs.Layout.{are_zero, fits_layout, blocks_needed, find_image, start, layout_of, layout_size, layout_body, layout_bytes};
 ghost use Rattle.meta_layout.specs.Rows.{has_row_zeros, fitted};
 
 use crate::bytes::is_checked;
@@ -11,7 +11,7 @@ use crate::rows::{
     are_apart, are_rows, find_row, has_zero_rows, put_rows, rows_in, rows_of, slot_sum,
 };
 use base_core::{Guid, ImageRow, le32_at};
-use fwu_model::LayoutFault;
+use fwu_formats::LayoutFault;
 use std::marker::Model;
 
 const MAGIC: u32 = 0x4C55_5746;
@@ -78,7 +78,7 @@ pub struct Layout {
 
 impl Model for Layout {
     ghost use Rattle.std.specs.Prelude.{IsTrue};
-    ghost use Rattle.fwu_model.specs.Layout.{Layout as LayoutValue, fits_layout};
+    ghost use Rattle.fwu_formats.specs.Layout.{Layout as LayoutValue, fits_layout};
 
     ghost Value = { LayoutValue };
 

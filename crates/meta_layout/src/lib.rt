@@ -15,7 +15,7 @@ mod read;
 mod rows;
 mod write;
 
-pub use fwu_model::{BankState, LayoutFault, MetaFault};
+pub use fwu_formats::{BankState, LayoutFault, MetaFault};
 pub use laws::{layouts_have_one_spelling, metadata_has_one_spelling};
 pub use layout::Layout;
 pub use lists::{BankBits, Bits, States};

@@ -1,10 +1,10 @@
 //! Lists of few elements that take no memory: bits, bank states, rows of bits, image rows.
 ghost use Rattle.std.specs.Prelude.{◌≡◌, ◌+◌, ◌<◌, ◌≤◌, ◌++◌, [], ◌∷◌, false, length, map, slice_index_or, slice_set, ◌↔◌, IsTrue};
 ghost use Rattle.std.specs.List.{list_all};
-ghost use Rattle.fwu_model.specs.declared.kinds.BankState.TheVariants.{Invalid};
+ghost use Rattle.fwu_formats.specs.declared.kinds.BankState.TheVariants.{Invalid};
 
 use base_core::{Guid, ImageRow};
-use fwu_model::BankState;
+use fwu_formats::BankState;
 use std::marker::Model;
 
 /// A list of at most 16 bits, one for each image. A contract sees the list.
@@ -106,8 +106,8 @@ pub struct States {
 impl Model for States {
     ghost use Rattle.std.specs.Prelude.{◌-◌, ◌++◌, List, length, take, replicate};
     ghost use Rattle.std.proofs.Common.{ap, ◌∙◌};
-    ghost use Rattle.fwu_model.specs.declared.kinds.BankState.{BankState};
-    ghost use Rattle.fwu_model.specs.declared.kinds.BankState.TheVariants.{Invalid};
+    ghost use Rattle.fwu_formats.specs.declared.kinds.BankState.{BankState};
+    ghost use Rattle.fwu_formats.specs.declared.kinds.BankState.TheVariants.{Invalid};
     ghost use Rattle.meta_layout.specs.Padded.{IsPadded, length-padded, array-padded};
 
     ghost Value = { List BankState };

@@ -1,11 +1,11 @@
 //! The metadata of a firmware store as a value: its parts, told and set.
 ghost use Rattle.std.specs.Prelude.{◌≡◌, ◌<◌, ◌≤◌, ◌==◌, [], length, slice_index_or, slice_set, ◌↔◌, IsTrue};
-ghost use Rattle.fwu_model.specs.Layout.{Layout as LayoutValue};
-ghost use Rattle.fwu_model.specs.Metadata.{fits_meta, state_at, bit_at};
+ghost use Rattle.fwu_formats.specs.Layout.{Layout as LayoutValue};
+ghost use Rattle.fwu_formats.specs.Metadata.{fits_meta, state_at, bit_at};
 
 use crate::bytes::{all_four, both};
 use crate::lists::{BankBits, Bits, States};
-use fwu_model::BankState;
+use fwu_formats::BankState;
 use std::marker::Model;
 
 /// The metadata of a firmware store (DEN0118): which bank is active and which was before, the state of each bank, and for
@@ -20,7 +20,7 @@ pub struct Meta {
 }
 
 impl Model for Meta {
-    ghost use Rattle.fwu_model.specs.Metadata.{MetaRead};
+    ghost use Rattle.fwu_formats.specs.Metadata.{MetaRead};
 
     ghost Value = { MetaRead };
 

@@ -1,7 +1,7 @@
 //! Metadata blocks read exactly, in version 2 and in version 1.
 ghost use Rattle.std.specs.Prelude.{◌≡◌, ◌<◌, ◌≤◌, length, IfOk, IsTrue};
 ghost use Rattle.base_core.specs.Bytes.{listed};
-ghost use Rattle.fwu_model.specs.Metadata.{meta_size, state_v1, bits_v1, state_at_v1, read_v2, read_v1, meta_of, fits_meta};
+ghost use Rattle.fwu_formats.specs.Metadata.{meta_size, state_v1, bits_v1, state_at_v1, read_v2, read_v1, meta_of, fits_meta};
 ghost use Rattle.meta_layout.specs.Entries.{bits_at_v1};
 
 use crate::bytes::is_checked;
@@ -12,7 +12,7 @@ use crate::layout::Layout;
 use crate::lists::{BankBits, Bits, States};
 use crate::meta::Meta;
 use base_core::le32_at;
-use fwu_model::{BankState, MetaFault};
+use fwu_formats::{BankState, MetaFault};
 
 /// The state of a bank that follows in version 1.
 fn implied_state(active: u32, previous: u32, bank: u32, bits: &Bits) -> BankState

@@ -2,7 +2,7 @@
 ghost use Rattle.std.specs.Prelude.{◌≡◌, ◌+◌, ◌*◌, ◌≤◌, ◌++◌, ◌&&◌, not, nat_le, length, take, drop, map, flat_map, IsTrue};
 ghost use Rattle.std.specs.List.{list_all, list_any};
 ghost use Rattle.base_core.specs.Bytes.{same_bytes, listed};
-ghost use Rattle.fwu_model.specs.Layout.{dir_guid, is_row, find_image, slot_total, are_distinct, row_bytes};
+ghost use Rattle.fwu_formats.specs.Layout.{dir_guid, is_row, find_image, slot_total, are_distinct, row_bytes};
 ghost use Rattle.meta_layout.specs.Rows.{row_at, has_row_zeros};
 
 use crate::lists::Rows;

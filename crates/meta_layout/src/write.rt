@@ -1,7 +1,7 @@
 //! Metadata blocks written, in version 2 and in version 1.
 ghost use Rattle.std.specs.Prelude.{◌≡◌, ◌+◌, ◌*◌, ◌<◌, ◌≤◌, ◌++◌, ◌-◌, ◌%◌, Ok, IsTrue, length, take, map, replicate, flat_map};
 ghost use Rattle.base_core.specs.Bytes.{le, listed};
-ghost use Rattle.fwu_model.specs.Metadata.{bit_number, state_byte, entry_size, entries_bytes, fits_meta, meta_size, meta_size_v1, meta_body, meta_body_v1, meta_bytes, meta_bytes_v1, meta_of, replica_bytes, IsSayableInV1};
+ghost use Rattle.fwu_formats.specs.Metadata.{bit_number, state_byte, entry_size, entries_bytes, fits_meta, meta_size, meta_size_v1, meta_body, meta_body_v1, meta_bytes, meta_bytes_v1, meta_of, replica_bytes, IsSayableInV1};
 ghost use Rattle.meta_layout.specs.Entries.{bank_bytes, entry_of, front_bytes, replica_size, HasBits};
 
 use crate::fields::entries_size;
@@ -9,7 +9,7 @@ use crate::layout::Layout;
 use crate::meta::Meta;
 use crate::put::{put, put1, put2, put4, seal};
 use base_core::Guid;
-use fwu_model::BankState;
+use fwu_formats::BankState;
 
 fn bit_value(bit: bool) -> u32
     ensures { result ≡ bit_number bit }

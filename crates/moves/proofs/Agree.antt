@@ -7,16 +7,16 @@ use Rattle.base_core.specs.Block.{block}
 use Rattle.base_core.specs.Bytes.{listed}
 use Rattle.flash_core.specs.Told.{Told}
 use Rattle.flash_core.specs.May.{Leaves, Keeps, Quiet}
-use Rattle.fwu_model.specs.Layout.{Layout, layout_of, start}
-use Rattle.fwu_model.specs.Metadata.{Meta, MetaRead, state_at}
-use Rattle.fwu_model.specs.Flash.{layout_seen, deciding, marks, is_tidy, is_blank}
-use Rattle.fwu_model.specs.Counter.{counter_in}
+use Rattle.fwu_formats.specs.Layout.{Layout, layout_of, start}
+use Rattle.fwu_formats.specs.Metadata.{Meta, MetaRead, state_at}
+use Rattle.fwu_formats.specs.Image.{layout_seen, deciding, marks, is_tidy, is_blank}
+use Rattle.fwu_formats.specs.Counter.{counter_in}
 use Rattle.fwu_model.specs.State.{State, Bank, bank, no_bank, is_invalid, is_valid}
 use Rattle.fwu_model.specs.Sound.{trial_limit}
 use Rattle.fwu_model.specs.Seen.{state_of, bank_in, IsTidy}
 use Rattle.fwu_model.proofs.Banks.{in_range}
-use Rattle.fwu_model.proofs.Frame.{block-same, listed-same, marks-same}
-use Rattle.fwu_model.proofs.Marks.{marks-are-counted}
+use Rattle.fwu_formats.proofs.Same.{block-same, listed-same, marks-same}
+use Rattle.fwu_formats.proofs.Marks.{marks-are-counted}
 use Rattle.fwu_model.proofs.Shown.{seen-by-metadata}
 use Rattle.marks_core.proofs.Granules.{same_granule}
 use Rattle.replicas.proofs.Reading.{deciding_of}

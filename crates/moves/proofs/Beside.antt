@@ -3,11 +3,11 @@ use Rattle.std.proofs.Common.{◌≡◌, inl, ℕ, ◌+◌, ◌*◌, ◌≤◌, 
 use Rattle.flash_core.specs.Told.{Told, NothingDirty}
 use Rattle.flash_core.specs.May.{Keeps, Leaves, Quiet}
 use Rattle.flash_core.proofs.Calls.{quiet_fresh, guards_kept}
-use Rattle.fwu_model.specs.declared.kinds.BankState.{BankState}
-use Rattle.fwu_model.specs.declared.kinds.BankState.TheVariants.{Invalid, Valid, Accepted}
-use Rattle.fwu_model.specs.Layout.{Layout, start}
-use Rattle.fwu_model.specs.Metadata.{MetaRead, meta_read, state_at}
-use Rattle.fwu_model.specs.Flash.{marks}
+use Rattle.fwu_formats.specs.declared.kinds.BankState.{BankState}
+use Rattle.fwu_formats.specs.declared.kinds.BankState.TheVariants.{Invalid, Valid, Accepted}
+use Rattle.fwu_formats.specs.Layout.{Layout, start}
+use Rattle.fwu_formats.specs.Metadata.{MetaRead, meta_read, state_at}
+use Rattle.fwu_formats.specs.Image.{marks}
 use Rattle.fwu_model.specs.State.{State, bank, is_invalid, is_valid}
 use Rattle.fwu_model.specs.Sound.{Setting, Sound, trial_limit}
 use Rattle.fwu_model.specs.Seen.{IsTidy, state_of}

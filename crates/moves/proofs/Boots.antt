@@ -6,11 +6,11 @@ use Rattle.moves.proofs.Calm.{calm-sound}
 use Rattle.std.specs.Prelude.{IsSome, IsErr, OnOk}
 use Rattle.flash_core.specs.declared.flash.FlashStop.{FlashStop}
 use Rattle.flash_core.specs.Told.{Told}
-use Rattle.fwu_model.specs.declared.kinds.BankState.{BankState}
-use Rattle.fwu_model.specs.declared.kinds.BankState.TheVariants.{Invalid, Valid, Accepted}
-use Rattle.fwu_model.specs.Layout.{Layout}
-use Rattle.fwu_model.specs.Metadata.{MetaRead}
-use Rattle.fwu_model.specs.Manifest.{version}
+use Rattle.fwu_formats.specs.declared.kinds.BankState.{BankState}
+use Rattle.fwu_formats.specs.declared.kinds.BankState.TheVariants.{Invalid, Valid, Accepted}
+use Rattle.fwu_formats.specs.Layout.{Layout}
+use Rattle.fwu_formats.specs.Metadata.{MetaRead}
+use Rattle.fwu_formats.specs.Manifest.{version}
 use Rattle.fwu_model.specs.State.{State, Move, Trial, RaiseTo, Migrate, bank, is_valid, is_accepted, after}
 use Rattle.fwu_model.specs.Sound.{Setting, choice, trial_limit}
 use Rattle.fwu_model.specs.Seen.{IsTidy, state_of}

@@ -8,16 +8,16 @@ use Rattle.flash_core.specs.declared.flash.FlashStop.{FlashStop}
 use Rattle.flash_core.specs.Told.{Told}
 use Rattle.flash_core.specs.May.{May, Quiet}
 use Rattle.flash_core.proofs.Calls.{may_now, guards_kept}
-use Rattle.fwu_model.specs.declared.kinds.BankState.{BankState}
-use Rattle.fwu_model.specs.declared.kinds.BankState.TheVariants.{Invalid, Valid, Accepted}
-use Rattle.fwu_model.specs.Layout.{Layout}
-use Rattle.fwu_model.specs.Metadata.{MetaRead, state_at}
-use Rattle.fwu_model.specs.Flash.{layout_seen, deciding, marks, is_tidy, is_blank}
+use Rattle.fwu_formats.specs.declared.kinds.BankState.{BankState}
+use Rattle.fwu_formats.specs.declared.kinds.BankState.TheVariants.{Invalid, Valid, Accepted}
+use Rattle.fwu_formats.specs.Layout.{Layout}
+use Rattle.fwu_formats.specs.Metadata.{MetaRead, state_at}
+use Rattle.fwu_formats.specs.Image.{layout_seen, deciding, marks, is_tidy, is_blank}
 use Rattle.fwu_model.specs.State.{State, bank, is_valid, is_accepted}
 use Rattle.fwu_model.specs.Sound.{Setting, trial_limit}
 use Rattle.fwu_model.specs.Seen.{IsTidy, state_of}
 use Rattle.fwu_model.proofs.Banks.{accepted-used, accepted-not_valid}
-use Rattle.fwu_model.proofs.Marks.{marks-are-counted}
+use Rattle.fwu_formats.proofs.Marks.{marks-are-counted}
 use Rattle.marks_core.specs.Marks.{Clears}
 use Rattle.fwu_model.specs.Calm.{IsAtRest}
 use Rattle.moves.specs.Moved.{IsReady, IsShown, Does, GuardedBy}

@@ -8,8 +8,8 @@ use Rattle.base_core.specs.Block.{block}
 use Rattle.flash_core.specs.declared.flash.FlashStop.{FlashStop}
 use Rattle.flash_core.specs.Told.{Told, NothingDirty, fresh}
 use Rattle.flash_core.specs.May.{May, Guards}
-use Rattle.fwu_model.specs.Metadata.{MetaRead, meta_read}
-use Rattle.fwu_model.specs.Flash.{deciding}
+use Rattle.fwu_formats.specs.Metadata.{MetaRead, meta_read}
+use Rattle.fwu_formats.specs.Image.{deciding}
 use Rattle.fwu_model.specs.State.{State, Move, after, after_move}
 use Rattle.fwu_model.specs.Sound.{Setting}
 use Rattle.fwu_model.specs.Seen.{seen, SoundFlash}

@@ -3,9 +3,9 @@ use Rattle.std.proofs.Common.{◌≡◌, ℕ, suc, ◌<◌, Bool, true, false, �
 use Rattle.std.proofs.lemmas.Bool.{and_from, cases_eq}
 use Rattle.std.proofs.lemmas.List.{length-map}
 use Rattle.std.specs.List.{list_all}
-use Rattle.fwu_model.specs.declared.kinds.BankState.TheVariants.{Invalid}
-use Rattle.fwu_model.specs.Layout.{Layout}
-use Rattle.fwu_model.specs.Metadata.{Meta, fits_meta}
+use Rattle.fwu_formats.specs.declared.kinds.BankState.TheVariants.{Invalid}
+use Rattle.fwu_formats.specs.Layout.{Layout}
+use Rattle.fwu_formats.specs.Metadata.{Meta, fits_meta}
 use Rattle.fwu_model.specs.State.{Free, Switch, Accept, Back, state_by}
 use Rattle.meta_layout.proofs.Fits.{MetaFits, meta-fits, fits-meta, row-length}
 use Rattle.moves.specs.Metas.{bits_in, accepted_bits, meta_after}

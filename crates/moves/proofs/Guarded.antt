@@ -7,9 +7,9 @@ use Rattle.flash_core.specs.declared.flash.FlashStop.{FlashStop}
 use Rattle.flash_core.specs.Told.{Told, NothingDirty}
 use Rattle.flash_core.specs.May.{May, Guards, Keeps, Quiet}
 use Rattle.flash_core.proofs.Calls.{keeps_wider, guards_kept, quiet_fresh, may_now}
-use Rattle.fwu_model.specs.Layout.{Layout, start}
-use Rattle.fwu_model.specs.Metadata.{MetaRead}
-use Rattle.fwu_model.specs.Flash.{layout_seen, deciding}
+use Rattle.fwu_formats.specs.Layout.{Layout, start}
+use Rattle.fwu_formats.specs.Metadata.{MetaRead}
+use Rattle.fwu_formats.specs.Image.{layout_seen, deciding}
 use Rattle.fwu_model.specs.Sound.{trial_limit}
 use Rattle.fwu_model.specs.Seen.{state_of}
 use Rattle.fwu_model.specs.Calm.{IsGuarded, IsAtRest}

@@ -3,12 +3,12 @@ use Rattle.std.proofs.Common.{◌≡◌, ◌≢◌, ℕ, ◌<◌, Bool, true, fa
 use Rattle.std.proofs.lemmas.Bool.{cases_Bool, cases_eq}
 use Rattle.std.proofs.lemmas.List.FromFn.{length-map-range_with_len, get_or-map-range_with_len}
 use Rattle.base_core.specs.Bytes.{listed}
-use Rattle.fwu_model.specs.declared.kinds.BankState.{BankState}
-use Rattle.fwu_model.specs.declared.kinds.BankState.TheVariants.{Invalid, Valid, Accepted}
-use Rattle.fwu_model.specs.Layout.{Layout}
-use Rattle.fwu_model.specs.Metadata.{Meta, state_at}
-use Rattle.fwu_model.specs.Flash.{marks, package_in}
-use Rattle.fwu_model.specs.Counter.{counter_in}
+use Rattle.fwu_formats.specs.declared.kinds.BankState.{BankState}
+use Rattle.fwu_formats.specs.declared.kinds.BankState.TheVariants.{Invalid, Valid, Accepted}
+use Rattle.fwu_formats.specs.Layout.{Layout}
+use Rattle.fwu_formats.specs.Metadata.{Meta, state_at}
+use Rattle.fwu_formats.specs.Image.{marks, package_in}
+use Rattle.fwu_formats.specs.Counter.{counter_in}
 use Rattle.fwu_model.specs.State.{Bank, bank, no_bank, is_invalid, is_valid, is_accepted, all_set, state_by, freed, with_bit, Free, Switch, Accept, Back, after_move}
 use Rattle.fwu_model.specs.Sound.{trial_limit}
 use Rattle.fwu_model.specs.Seen.{state_of, bank_in}

@@ -10,9 +10,9 @@ use Rattle.flash_core.specs.Told.{Told, is_unsure}
 use Rattle.flash_core.specs.May.{May, Guards, Keeps, Quiet}
 use Rattle.flash_core.proofs.Calls.{may_now, quiet_fresh, guards_kept}
 use Rattle.flash_core.proofs.Costs.{on_ok_both}
-use Rattle.fwu_model.specs.Layout.{Layout}
-use Rattle.fwu_model.specs.Metadata.{Meta, MetaRead, meta_read}
-use Rattle.fwu_model.specs.Flash.{layout_seen, deciding}
+use Rattle.fwu_formats.specs.Layout.{Layout}
+use Rattle.fwu_formats.specs.Metadata.{Meta, MetaRead, meta_read}
+use Rattle.fwu_formats.specs.Image.{layout_seen, deciding}
 use Rattle.fwu_model.specs.State.{State}
 use Rattle.fwu_model.specs.Sound.{Setting, Sound}
 use Rattle.fwu_model.specs.Seen.{IsTidy, state_of}

@@ -6,11 +6,11 @@ use Rattle.std.proofs.lemmas.List.FromFn.{length-map-range_with_len, get_or-map-
 use Rattle.std.specs.Prelude.{is_ok}
 use Rattle.base_core.specs.Bytes.{num, num_at, listed, same_bytes}
 use Rattle.sha2.specs.Sha256.{sha256}
-use Rattle.fwu_model.specs.declared.kinds.ManifestFault.{ManifestFault}
-use Rattle.fwu_model.specs.Layout.{ImageRow, Layout}
-use Rattle.fwu_model.specs.Manifest.{Row, Manifest, manifest_of, manifest_at, manifest_size, manifest_magic, manifest_part, has_form, is_version_too_high, all_paired, is_image_of, is_complete}
-use Rattle.fwu_model.specs.Flash.{slot, images_in, if_complete, package_by, package_in}
-use Rattle.fwu_model.proofs.SealLaws.{was_not_refused}
+use Rattle.fwu_formats.specs.declared.kinds.ManifestFault.{ManifestFault}
+use Rattle.fwu_formats.specs.Layout.{ImageRow, Layout}
+use Rattle.fwu_formats.specs.Manifest.{Row, Manifest, manifest_of, manifest_at, manifest_size, manifest_magic, manifest_part, has_form, is_version_too_high, all_paired, is_image_of, is_complete}
+use Rattle.fwu_formats.specs.Image.{slot, images_in, if_complete, package_by, package_in}
+use Rattle.fwu_formats.proofs.SealLaws.{was_not_refused}
 
 -- ---- a manifest is read from its own bytes alone
 

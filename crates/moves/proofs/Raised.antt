@@ -6,11 +6,11 @@ use Rattle.flash_core.specs.declared.flash.FlashStop.{FlashStop}
 use Rattle.flash_core.specs.Told.{Told}
 use Rattle.flash_core.specs.May.{May}
 use Rattle.flash_core.proofs.Calls.{may_now}
-use Rattle.fwu_model.specs.Layout.{Layout}
-use Rattle.fwu_model.specs.Metadata.{MetaRead, state_at}
-use Rattle.fwu_model.specs.Manifest.{version}
-use Rattle.fwu_model.specs.Flash.{deciding}
-use Rattle.fwu_model.specs.Counter.{counter_in}
+use Rattle.fwu_formats.specs.Layout.{Layout}
+use Rattle.fwu_formats.specs.Metadata.{MetaRead, state_at}
+use Rattle.fwu_formats.specs.Manifest.{version}
+use Rattle.fwu_formats.specs.Image.{deciding}
+use Rattle.fwu_formats.specs.Counter.{counter_in}
 use Rattle.fwu_model.specs.State.{State, RaiseTo, bank, is_valid, is_accepted, after_move}
 use Rattle.fwu_model.specs.Sound.{Setting, Sound, trial_limit, holds_permitted}
 use Rattle.fwu_model.specs.Seen.{IsTidy, state_of}

@@ -1,10 +1,10 @@
 -- Metadata that decides is of the layout.
 use Rattle.std.proofs.Common.{◌≡◌, ℕ, List, Option, Some, None, inl, inr, ◌⊎◌, IsTrue}
 use Rattle.base_core.specs.Block.{block}
-use Rattle.fwu_model.specs.Layout.{Layout}
-use Rattle.fwu_model.specs.Metadata.{MetaRead, meta_read, fits_meta}
-use Rattle.fwu_model.specs.Flash.{deciding, first_some}
-use Rattle.fwu_model.proofs.Shown.{read-is}
+use Rattle.fwu_formats.specs.Layout.{Layout}
+use Rattle.fwu_formats.specs.Metadata.{MetaRead, meta_read, fits_meta}
+use Rattle.fwu_formats.specs.Image.{deciding, first_some}
+use Rattle.fwu_formats.proofs.Read.{read-is}
 use Rattle.meta_layout.proofs.Fits.{MetaFits, meta-fits, read-fits}
 
 either : (a b : Option MetaRead) (r : MetaRead) → first_some a b ≡ Some r → (a ≡ Some r) ⊎ (b ≡ Some r)

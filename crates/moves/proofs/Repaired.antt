@@ -4,11 +4,11 @@ use Rattle.std.specs.Prelude.{Contains}
 use Rattle.flash_core.specs.declared.flash.FlashStop.{FlashStop}
 use Rattle.flash_core.specs.Told.{Told}
 use Rattle.flash_core.specs.May.{Guards}
-use Rattle.fwu_model.specs.declared.kinds.LayoutFault.{LayoutFault}
-use Rattle.fwu_model.specs.Layout.{Layout}
-use Rattle.fwu_model.specs.Metadata.{MetaRead}
-use Rattle.fwu_model.specs.Flash.{layout_seen, marks}
-use Rattle.fwu_model.specs.Counter.{counter_in}
+use Rattle.fwu_formats.specs.declared.kinds.LayoutFault.{LayoutFault}
+use Rattle.fwu_formats.specs.Layout.{Layout}
+use Rattle.fwu_formats.specs.Metadata.{MetaRead}
+use Rattle.fwu_formats.specs.Image.{layout_seen, marks}
+use Rattle.fwu_formats.specs.Counter.{counter_in}
 use Rattle.fwu_model.specs.State.{State, Migrate, after, after_move}
 use Rattle.fwu_model.specs.Sound.{Setting, Sound}
 use Rattle.fwu_model.specs.Seen.{IsTidy, state_of}

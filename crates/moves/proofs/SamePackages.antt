@@ -2,11 +2,11 @@
 use Rattle.std.proofs.Common.{◌≡◌, ℕ, zero, suc, ◌+◌, ◌*◌, ◌<◌, ◌≤◌, List, [], ◌∷◌, length, get_or, take, Result, Ok, Err, ap, ◌∙◌, arith, refl}
 use Rattle.std.proofs.lemmas.List.Sums.{sum_by-cons}
 use Rattle.std.specs.List.{range_with_len}
-use Rattle.fwu_model.specs.declared.kinds.ManifestFault.{ManifestFault}
-use Rattle.fwu_model.specs.Layout.{ImageRow, Layout, slot_total, start}
-use Rattle.fwu_model.specs.Manifest.{Manifest, manifest_of, manifest_size}
-use Rattle.fwu_model.specs.Flash.{slot, images_in, if_complete, package_by, package_in}
-use Rattle.fwu_model.proofs.Frame.{map-same, range-same}
+use Rattle.fwu_formats.specs.declared.kinds.ManifestFault.{ManifestFault}
+use Rattle.fwu_formats.specs.Layout.{ImageRow, Layout, slot_total, start}
+use Rattle.fwu_formats.specs.Manifest.{Manifest, manifest_of, manifest_size}
+use Rattle.fwu_formats.specs.Image.{slot, images_in, if_complete, package_by, package_in}
+use Rattle.fwu_formats.proofs.Same.{map-same, range-same}
 
 -- ---- slots lie in their bank
 

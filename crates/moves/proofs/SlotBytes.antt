@@ -2,8 +2,8 @@
 use Rattle.std.proofs.Common.{◌≡◌, ◌≢◌, ℕ, ◌+◌, ◌-◌, ◌*◌, ◌%◌, ◌≤◌, List, [], length, get_or, take, drop, sym, ap, ◌∙◌, arith, IsTrue, length-set, get_or-set_same, get_or-set_other}
 use Rattle.std.proofs.lemmas.List.{take-take, take-append-le}
 use Rattle.base_core.specs.Block.{block, blank}
-use Rattle.fwu_model.specs.Layout.{Layout, start}
-use Rattle.fwu_model.specs.Flash.{slot}
+use Rattle.fwu_formats.specs.Layout.{Layout, start}
+use Rattle.fwu_formats.specs.Image.{slot}
 use Rattle.fwu_model.specs.State.{State, Bank, Free, bank, no_bank, freed, is_invalid, is_accepted, update_bank, after_move}
 use Rattle.fwu_model.specs.Sound.{Setting, Sound}
 use Rattle.fwu_model.proofs.Banks.{update-other, update-below}

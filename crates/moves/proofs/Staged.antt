@@ -6,12 +6,13 @@ use Rattle.flash_core.specs.declared.flash.FlashStop.{FlashStop}
 use Rattle.flash_core.specs.Told.{Told}
 use Rattle.flash_core.specs.May.{May, Keeps, Quiet}
 use Rattle.flash_core.proofs.Calls.{guards_kept}
-use Rattle.fwu_model.specs.Layout.{Layout, start, slot_total}
-use Rattle.fwu_model.specs.Metadata.{meta_read}
+use Rattle.fwu_formats.specs.Layout.{Layout, start, slot_total}
+use Rattle.fwu_formats.specs.Metadata.{meta_read}
 use Rattle.fwu_model.specs.State.{State, bank, is_invalid}
 use Rattle.fwu_model.specs.Sound.{Setting}
 use Rattle.fwu_model.specs.Seen.{SameWhereUsed}
-use Rattle.fwu_model.proofs.Frame.{block-same, seen-where-used}
+use Rattle.fwu_formats.proofs.Same.{block-same}
+use Rattle.fwu_model.proofs.Frame.{seen-where-used}
 use Rattle.replicas.proofs.Reading.{deciding_of}
 use Rattle.moves.specs.Moved.{IsReady, IsShown, Does}
 use Rattle.fwu_model.specs.Calm.{IsAtRest}

@@ -4,12 +4,12 @@ use Rattle.std.proofs.lemmas.Bool.{cases_eq}
 use Rattle.flash_core.specs.declared.flash.FlashStop.{FlashStop}
 use Rattle.flash_core.specs.Told.{Told}
 use Rattle.flash_core.specs.May.{Quiet}
-use Rattle.fwu_model.specs.declared.kinds.BankState.{BankState}
-use Rattle.fwu_model.specs.declared.kinds.BankState.TheVariants.{Accepted}
-use Rattle.fwu_model.specs.Layout.{start}
-use Rattle.fwu_model.specs.Metadata.{Meta, MetaRead, state_at}
-use Rattle.fwu_model.specs.Manifest.{is_complete}
-use Rattle.fwu_model.specs.Flash.{deciding, package_in, marks, is_tidy}
+use Rattle.fwu_formats.specs.declared.kinds.BankState.{BankState}
+use Rattle.fwu_formats.specs.declared.kinds.BankState.TheVariants.{Accepted}
+use Rattle.fwu_formats.specs.Layout.{start}
+use Rattle.fwu_formats.specs.Metadata.{Meta, MetaRead, state_at}
+use Rattle.fwu_formats.specs.Manifest.{is_complete}
+use Rattle.fwu_formats.specs.Image.{deciding, package_in, marks, is_tidy}
 use Rattle.fwu_model.specs.State.{State, Bank, Move, Free, Switch, Accept, Back, bank, no_bank, is_invalid, is_valid, is_accepted, all_set, state_by, freed, with_bit, update_bank, after_move}
 use Rattle.fwu_model.specs.Sound.{Setting, Sound, is_permitted, holds_permitted, trial_limit}
 use Rattle.fwu_model.specs.Seen.{IsTidy, state_of}

@@ -7,18 +7,18 @@ use Rattle.flash_core.specs.declared.flash.FlashStop.{FlashStop}
 use Rattle.flash_core.specs.Told.{Told}
 use Rattle.flash_core.specs.May.{Quiet}
 use Rattle.flash_core.proofs.Calls.{guards_kept}
-use Rattle.fwu_model.specs.declared.kinds.BankState.TheVariants.{Invalid}
-use Rattle.fwu_model.specs.Layout.{Layout, start}
-use Rattle.fwu_model.specs.Metadata.{Meta, MetaRead, meta_read, state_at}
-use Rattle.fwu_model.specs.Flash.{layout_seen, deciding, marks, package_in}
+use Rattle.fwu_formats.specs.declared.kinds.BankState.TheVariants.{Invalid}
+use Rattle.fwu_formats.specs.Layout.{Layout, start}
+use Rattle.fwu_formats.specs.Metadata.{Meta, MetaRead, meta_read, state_at}
+use Rattle.fwu_formats.specs.Image.{layout_seen, deciding, marks, package_in}
 use Rattle.fwu_model.specs.State.{State, Move, Free, Switch, Accept, Back, bank, is_invalid, is_valid, is_accepted, state_by, update_bank, after_move}
 use Rattle.fwu_model.specs.Sound.{trial_limit}
 use Rattle.fwu_model.specs.Seen.{state_of}
 use Rattle.fwu_model.specs.Calm.{IsAtRest}
 use Rattle.fwu_model.specs.Replica.{Decides, in_version}
 use Rattle.fwu_model.proofs.Banks.{next-other, next-below}
-use Rattle.fwu_model.proofs.SealLaws.{limits}
-use Rattle.fwu_model.proofs.Shown.{layout-fits}
+use Rattle.fwu_formats.proofs.SealLaws.{limits}
+use Rattle.fwu_formats.proofs.Read.{layout-fits}
 use Rattle.base_core.specs.Block.{block}
 use Rattle.meta_layout.proofs.Fits.{MetaFits}
 use Rattle.replicas.specs.Stores.{Stores}

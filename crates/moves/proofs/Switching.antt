@@ -7,10 +7,10 @@ use Rattle.flash_core.specs.May.{Keeps, Quiet}
 use Rattle.flash_core.proofs.Calls.{now-settle, guard-settle, quiet_settle}
 use Rattle.std.specs.List.{list_any}
 use Rattle.std.specs.Prelude.{◌==◌}
-use Rattle.fwu_model.specs.Layout.{start}
-use Rattle.fwu_model.specs.Metadata.{Meta, meta_read}
-use Rattle.fwu_model.specs.Manifest.{is_complete}
-use Rattle.fwu_model.specs.Flash.{deciding, package_in}
+use Rattle.fwu_formats.specs.Layout.{start}
+use Rattle.fwu_formats.specs.Metadata.{Meta, meta_read}
+use Rattle.fwu_formats.specs.Manifest.{is_complete}
+use Rattle.fwu_formats.specs.Image.{deciding, package_in}
 use Rattle.fwu_model.specs.State.{State, Switch, bank, update_bank, is_accepted}
 use Rattle.fwu_model.specs.Sound.{Setting, is_permitted}
 use Rattle.fwu_model.specs.Seen.{seen, SoundFlash}

@@ -6,9 +6,9 @@ use Rattle.flash_core.specs.Told.{Told}
 use Rattle.flash_core.specs.May.{May, Keeps, Quiet}
 use Rattle.flash_core.proofs.Calls.{keeps_wider, may_now}
 use Rattle.flash_core.proofs.Costs.{on_ok_both}
-use Rattle.fwu_model.specs.Layout.{Layout}
-use Rattle.fwu_model.specs.Metadata.{MetaRead}
-use Rattle.fwu_model.specs.Flash.{deciding, marks}
+use Rattle.fwu_formats.specs.Layout.{Layout}
+use Rattle.fwu_formats.specs.Metadata.{MetaRead}
+use Rattle.fwu_formats.specs.Image.{deciding, marks}
 use Rattle.fwu_model.specs.State.{State, Trial, bank, is_valid, after_move}
 use Rattle.fwu_model.specs.Sound.{Setting, trial_limit}
 use Rattle.fwu_model.specs.Seen.{IsTidy, state_of}

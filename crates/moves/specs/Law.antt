@@ -4,11 +4,11 @@ use Rattle.base_core.specs.Block.{block}
 use Rattle.flash_core.specs.declared.flash.FlashStop.{FlashStop}
 use Rattle.flash_core.specs.Told.{Told, NothingDirty, fresh}
 use Rattle.flash_core.specs.May.{May, Guards, Keeps}
-use Rattle.fwu_model.specs.Layout.{Layout}
-use Rattle.fwu_model.specs.Metadata.{MetaRead, meta_read}
-use Rattle.fwu_model.specs.Manifest.{version}
-use Rattle.fwu_model.specs.Flash.{layout_seen, deciding, marks}
-use Rattle.fwu_model.specs.Counter.{counter_in}
+use Rattle.fwu_formats.specs.Layout.{Layout}
+use Rattle.fwu_formats.specs.Metadata.{MetaRead, meta_read}
+use Rattle.fwu_formats.specs.Manifest.{version}
+use Rattle.fwu_formats.specs.Image.{layout_seen, deciding, marks}
+use Rattle.fwu_formats.specs.Counter.{counter_in}
 use Rattle.fwu_model.specs.State.{State, Move, Trial, RaiseTo, bank, is_valid, is_accepted, after}
 use Rattle.fwu_model.specs.Sound.{Setting, choice, trial_limit}
 use Rattle.fwu_model.specs.Session.{Off}

@@ -4,9 +4,9 @@ use Rattle.base_core.specs.Block.{block}
 use Rattle.flash_core.specs.declared.flash.FlashStop.{FlashStop}
 use Rattle.flash_core.specs.Told.{Told}
 use Rattle.flash_core.specs.May.{Guards}
-use Rattle.fwu_model.specs.Layout.{Layout}
-use Rattle.fwu_model.specs.Metadata.{MetaRead, meta_read}
-use Rattle.fwu_model.specs.Flash.{layout_seen, deciding}
+use Rattle.fwu_formats.specs.Layout.{Layout}
+use Rattle.fwu_formats.specs.Metadata.{MetaRead, meta_read}
+use Rattle.fwu_formats.specs.Image.{layout_seen, deciding}
 use Rattle.fwu_model.specs.State.{State, Move, Migrate, after}
 use Rattle.fwu_model.specs.Sound.{Setting}
 use Rattle.fwu_model.specs.Seen.{seen}

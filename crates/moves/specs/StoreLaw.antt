@@ -3,10 +3,10 @@ use Rattle.std.specs.Prelude.{◌≡◌, ℕ, ◌+◌, ◌*◌, ◌<◌, ◌≤�
 use Rattle.base_core.specs.Block.{block}
 use Rattle.flash_core.specs.Told.{Told, settle}
 use Rattle.flash_core.specs.May.{Keeps, Quiet}
-use Rattle.fwu_model.specs.Layout.{Layout, start}
-use Rattle.fwu_model.specs.Metadata.{Meta, MetaRead, meta_read, fits_meta, state_at}
-use Rattle.fwu_model.specs.Manifest.{is_complete}
-use Rattle.fwu_model.specs.Flash.{layout_seen, deciding, marks, is_tidy, slot, package_in}
+use Rattle.fwu_formats.specs.Layout.{Layout, start}
+use Rattle.fwu_formats.specs.Metadata.{Meta, MetaRead, meta_read, fits_meta, state_at}
+use Rattle.fwu_formats.specs.Manifest.{is_complete}
+use Rattle.fwu_formats.specs.Image.{layout_seen, deciding, marks, is_tidy, slot, package_in}
 use Rattle.fwu_model.specs.State.{State, Free, Switch, Accept, Back, bank, update_bank, is_invalid, is_valid, is_accepted, state_by}
 use Rattle.fwu_model.specs.Sound.{Setting, is_permitted, holds_permitted, trial_limit}
 use Rattle.fwu_model.specs.Calm.{IsAtRest}

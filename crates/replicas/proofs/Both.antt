@@ -8,8 +8,8 @@ use Rattle.flash_core.specs.Told.{Told, is_guarded}
 use Rattle.flash_core.specs.May.{May, Guards, Quiet}
 use Rattle.flash_core.specs.Replaces.{padded, IsOldOrNew, IsSettled, Replaces}
 use Rattle.flash_core.proofs.Calls.{keeps_wider, keeps_then, block_kept, now_kept, quiet_fresh}
-use Rattle.fwu_model.specs.Layout.{Layout, fits_layout}
-use Rattle.fwu_model.specs.Metadata.{Meta, MetaRead, meta_read, fits_meta, replica_bytes}
+use Rattle.fwu_formats.specs.Layout.{Layout, fits_layout}
+use Rattle.fwu_formats.specs.Metadata.{Meta, MetaRead, meta_read, fits_meta, replica_bytes}
 use Rattle.fwu_model.specs.Replica.{BothHold, Decides, in_version}
 use Rattle.replicas.specs.Stores.{IsBetween, IsBacked, WritesBoth, Stores}
 use Rattle.replicas.proofs.Reading.{by_zero, by_one, deciding_of, unread, replica_read}

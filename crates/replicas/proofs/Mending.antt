@@ -9,9 +9,9 @@ use Rattle.flash_core.specs.Told.{Told}
 use Rattle.flash_core.specs.May.{May, Guards, Quiet}
 use Rattle.flash_core.specs.Replaces.{IsOldOrNew, IsSettled, Replaces}
 use Rattle.flash_core.proofs.Calls.{keeps_same, block_quiet, keeps_wider, keeps_then, block_kept, now_kept, guards_kept, quiet_fresh}
-use Rattle.fwu_model.specs.Layout.{Layout, fits_layout}
-use Rattle.fwu_model.specs.Metadata.{MetaRead, meta_read}
-use Rattle.fwu_model.specs.Flash.{deciding}
+use Rattle.fwu_formats.specs.Layout.{Layout, fits_layout}
+use Rattle.fwu_formats.specs.Metadata.{MetaRead, meta_read}
+use Rattle.fwu_formats.specs.Image.{deciding}
 use Rattle.fwu_model.specs.Replica.{BothHold, Decides, in_version}
 use Rattle.replicas.specs.Stores.{WritesBoth}
 use Rattle.replicas.specs.Which.{Loads}

@@ -5,9 +5,9 @@ use Rattle.flash_core.specs.declared.flash.FlashStop.{FlashStop}
 use Rattle.flash_core.specs.Told.{Told, NothingDirty}
 use Rattle.flash_core.specs.May.{May, Guards, Keeps, Quiet}
 use Rattle.flash_core.specs.Replaces.{padded, IsOldOrNew}
-use Rattle.fwu_model.specs.Layout.{Layout}
-use Rattle.fwu_model.specs.Metadata.{Meta, MetaRead, meta_read, replica_bytes}
-use Rattle.fwu_model.specs.Flash.{deciding}
+use Rattle.fwu_formats.specs.Layout.{Layout}
+use Rattle.fwu_formats.specs.Metadata.{Meta, MetaRead, meta_read, replica_bytes}
+use Rattle.fwu_formats.specs.Image.{deciding}
 use Rattle.fwu_model.specs.Replica.{BothHold, Decides, in_version}
 
 -- Replica 0 is the old one, the new one or unsealed while replica 1 is as it was, or else replica 0 is the new one.

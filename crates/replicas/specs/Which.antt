@@ -2,9 +2,9 @@
 use Rattle.std.specs.Prelude.{◌≡◌, ◌≢◌, ◌⊎◌, List, ℕ, Option, Some, None, Result, Ok, Err}
 use Rattle.base_core.specs.Block.{block}
 use Rattle.flash_core.specs.declared.flash.FlashStop.{FlashStop}
-use Rattle.fwu_model.specs.Layout.{Layout}
-use Rattle.fwu_model.specs.Metadata.{MetaRead, meta_read}
-use Rattle.fwu_model.specs.Flash.{deciding}
+use Rattle.fwu_formats.specs.Layout.{Layout}
+use Rattle.fwu_formats.specs.Metadata.{MetaRead, meta_read}
+use Rattle.fwu_formats.specs.Image.{deciding}
 use Rattle.replicas.specs.declared.which.Which.{Which}
 use Rattle.replicas.specs.declared.which.Which.TheVariants.{Same, RepairZero, RepairOne, MigrateZero, MigrateOne}
 use Rattle.replicas.specs.declared.which.ReplicaStop.{ReplicaStop}

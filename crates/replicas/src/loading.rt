@@ -3,8 +3,8 @@ ghost use Rattle.std.specs.Prelude.{◌≡◌, ◌<◌, None, is_ok, IsTrue, IsE
 ghost use Rattle.std.specs.Option.{ForSome};
 ghost use Rattle.base_core.specs.Block.{block};
 ghost use Rattle.flash_core.specs.Counts.{Spends, ReachesNone, arming_kept};
-ghost use Rattle.fwu_model.specs.Metadata.{fits_meta, meta_read};
-ghost use Rattle.fwu_model.specs.Flash.{deciding};
+ghost use Rattle.fwu_formats.specs.Metadata.{fits_meta, meta_read};
+ghost use Rattle.fwu_formats.specs.Image.{deciding};
 ghost use Rattle.replicas.specs.Which.{HasForm, Finds, Loads, flash_result};
 
 use crate::which::{ReplicaStop, Which};

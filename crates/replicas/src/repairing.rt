@@ -3,8 +3,8 @@ ghost use Rattle.std.specs.Prelude.{◌≡◌, ◌↔◌, ◌%◌, ◌<◌, ◌�
 ghost use Rattle.base_core.specs.Block.{block};
 ghost use Rattle.flash_core.specs.Counts.{Spends};
 ghost use Rattle.flash_core.specs.Replaces.{padded};
-ghost use Rattle.fwu_model.specs.Layout.{fits_layout};
-ghost use Rattle.fwu_model.specs.Metadata.{fits_meta, meta_read};
+ghost use Rattle.fwu_formats.specs.Layout.{fits_layout};
+ghost use Rattle.fwu_formats.specs.Metadata.{fits_meta, meta_read};
 ghost use Rattle.fwu_model.specs.Replica.{in_version};
 ghost use Rattle.replicas.specs.Which.{Loads};
 ghost use Rattle.replicas.specs.Repairs.{Repairs};

@@ -2,8 +2,8 @@
 ghost use Rattle.std.specs.Prelude.{◌≡◌, ◌%◌, ◌<◌, ◌≤◌, length, take, is_ok, IsTrue};
 ghost use Rattle.flash_core.specs.Counts.{Spends};
 ghost use Rattle.flash_core.specs.Replaces.{padded};
-ghost use Rattle.fwu_model.specs.Layout.{fits_layout};
-ghost use Rattle.fwu_model.specs.Metadata.{fits_meta, replica_bytes};
+ghost use Rattle.fwu_formats.specs.Layout.{fits_layout};
+ghost use Rattle.fwu_formats.specs.Metadata.{fits_meta, replica_bytes};
 ghost use Rattle.replicas.specs.Stores.{WritesBoth, Stores};
 
 use flash_core::{Flash, FlashStop, replace};

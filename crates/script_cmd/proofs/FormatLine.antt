@@ -1,7 +1,7 @@
 -- The line of a flash that was formatted, from its pieces.
 use Rattle.std.proofs.Common.{◌≡◌, ℕ, List, [], ◌∷◌, ◌++◌, length, decimal, ap, sym, ◌∙◌, append_assoc}
 use Rattle.std.specs.Prelude.{codes}
-use Rattle.fwu_model.specs.Layout.{Layout, blocks_needed}
+use Rattle.fwu_formats.specs.Layout.{Layout, blocks_needed}
 use Rattle.fwu_model.specs.Text.{format_line}
 use Rattle.script_cmd.specs.Formatting.{images_text}
 

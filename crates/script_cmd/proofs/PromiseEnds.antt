@@ -11,7 +11,8 @@ use Rattle.fwu_model.specs.Reply.{Reply, Turn}
 use Rattle.fwu_model.specs.Reply as reply
 use Rattle.fwu_model.specs.Run.{ends_run}
 use Rattle.fwu_model.specs.Script.{script_of, is_too_long}
-use Rattle.fwu_model.specs.Allow.{digests_of, list_bytes}
+use Rattle.fwu_formats.specs.Digests.{digests_of}
+use Rattle.fwu_model.specs.Allow.{list_bytes}
 use Rattle.fwu_model.specs.Wrote.{may_lack, IsBadScript, IsBadList}
 use Rattle.fwu_model.specs.Causes.{EndsAs, Faults, LossesAreCounted, LacksList, may_end_before, may_fail_before, has_note, runs_script, reads_source, status_by, note_by}
 use Rattle.fwu_words.specs.Order.{Asked}

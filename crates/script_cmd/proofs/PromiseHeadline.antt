@@ -5,7 +5,7 @@ use Rattle.std.proofs.lemmas.Option.{same_Some}
 use Rattle.base_core.specs.Block.{block}
 use Rattle.flash_core.specs.Told.{Told}
 use Rattle.flash_core.specs.declared.flash.Counts.{Counts}
-use Rattle.fwu_model.specs.Layout.{fits_layout}
+use Rattle.fwu_formats.specs.Layout.{fits_layout}
 use Rattle.fwu_model.specs.State.{State, Numbers}
 use Rattle.fwu_model.specs.Sound.{Setting, Sound}
 use Rattle.fwu_model.specs.Seen.{SoundFlash}
@@ -19,7 +19,7 @@ use Rattle.fwu_model.specs.Headline.{LeavesOneOf}
 use Rattle.fwu_model.specs.declared.kinds.Note.{Note}
 use Rattle.fwu_model.proofs.Frame.{calm-stays, start-is-calm}
 use Rattle.fwu_model.proofs.Selects.{runs-select}
-use Rattle.fwu_model.proofs.Shown.{layout-fits}
+use Rattle.fwu_formats.proofs.Read.{layout-fits}
 use Rattle.fwu_words.specs.Order.{Asked}
 use Rattle.script_cmd.specs.Asking.{plainly}
 use Rattle.script_cmd.specs.Machine.{Moment, Shows, at}

@@ -3,8 +3,8 @@ use Rattle.std.proofs.Common.{◌≡◌, ◌⊎◌, inl, inr, ℕ, Bool, true, L
 use Rattle.flash_core.specs.Counts.{Rose}
 use Rattle.flash_core.specs.Told.{Told, NothingDirty}
 use Rattle.flash_core.specs.declared.flash.Counts.{Counts}
-use Rattle.fwu_model.specs.Layout.{Layout}
-use Rattle.fwu_model.specs.Flash.{deciding}
+use Rattle.fwu_formats.specs.Layout.{Layout}
+use Rattle.fwu_formats.specs.Image.{deciding}
 use Rattle.fwu_model.specs.Causes.{Faults}
 use Rattle.fwu_model.specs.declared.kinds.Note.{Note}
 use Rattle.fwu_model.specs.declared.kinds.NoBoot.{NoBoot}

@@ -7,7 +7,7 @@ use Rattle.fip_tables.specs.Files.{Lacks}
 use Rattle.flash_format.specs.Stops.{ReadsBy}
 use Rattle.flash_format.specs.declared.formatting.Formatted.{Formatted}
 use Rattle.flash_format.specs.declared.stops.FormatStop.{FormatStop}
-use Rattle.fwu_model.specs.Layout.{ImageRow, Layout}
+use Rattle.fwu_formats.specs.Layout.{ImageRow, Layout}
 use Rattle.fwu_model.specs.Reply.{Turn}
 use Rattle.fwu_model.specs.Causes.{Faults}
 use Rattle.fwu_model.specs.declared.kinds.Note as model

@@ -8,10 +8,12 @@ use Rattle.flash_core.specs.Told.{Told}
 use Rattle.fwu_model.specs.Call.{Call}
 use Rattle.fwu_model.specs.State.{Numbers}
 use Rattle.fwu_model.specs.Reply.{Turn}
-use Rattle.fwu_model.specs.Script.{is_file, is_too_long, script_of}
+use Rattle.fwu_formats.specs.Words.{is_file}
+use Rattle.fwu_model.specs.Script.{is_too_long, script_of}
 use Rattle.fwu_model.specs.Causes.{Faults}
 use Rattle.fwu_model.specs.Wrote.{bad_script_line, script_asked}
-use Rattle.fwu_model.specs.Allow.{after_list, asks_list, digests_of, list_bytes, list_name, passes_any, passes_listed}
+use Rattle.fwu_formats.specs.Digests.{digests_of, passes_any, passes_listed}
+use Rattle.fwu_model.specs.Allow.{after_list, asks_list, list_bytes, list_name}
 use Rattle.host_io.specs.Contents.{Directory}
 use Rattle.fwu_model.specs.declared.kinds.Note.{Note}
 use Rattle.fwu_model.specs.declared.kinds.Note.TheVariants as note

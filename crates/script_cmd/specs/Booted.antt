@@ -2,9 +2,9 @@
 use Rattle.std.specs.Prelude.{◌≡◌, ℕ, Bool, List, Some, None, ⊤, Ok, Err}
 use Rattle.fwu_model.specs.declared.kinds.NoBoot.{NoBoot}
 use Rattle.fwu_model.specs.declared.kinds.NoBoot.TheVariants as no_boot
-use Rattle.fwu_model.specs.Layout.{Layout}
-use Rattle.fwu_model.specs.Manifest.{version}
-use Rattle.fwu_model.specs.Flash.{layout_seen, deciding}
+use Rattle.fwu_formats.specs.Layout.{Layout}
+use Rattle.fwu_formats.specs.Manifest.{version}
+use Rattle.fwu_formats.specs.Image.{layout_seen, deciding}
 use Rattle.fwu_model.specs.State.{State}
 use Rattle.fwu_model.specs.Answer.{booted_package}
 use Rattle.fwu_model.specs.Reply.{Reply}

@@ -6,14 +6,15 @@ use Rattle.flash_core.specs.declared.flash.Counts.{Counts}
 use Rattle.flash_core.specs.declared.flash.FlashStop.{FlashStop}
 use Rattle.base_core.specs.Guid.{guid_text}
 use Rattle.host_io.specs.Contents.{Directory}
-use Rattle.fwu_model.specs.Layout.{Layout, blocks_needed}
-use Rattle.fwu_model.specs.Flash.{layout_seen}
-use Rattle.fwu_model.specs.Package.{Toc, toc_of}
+use Rattle.fwu_formats.specs.Layout.{Layout, blocks_needed}
+use Rattle.fwu_formats.specs.Image.{layout_seen}
+use Rattle.fwu_formats.specs.Package.{Toc, toc_of}
 use Rattle.fwu_model.specs.Answer.{images_of}
-use Rattle.fwu_model.specs.Manifest.{is_complete, manifest_part}
+use Rattle.fwu_formats.specs.Manifest.{is_complete, manifest_part}
 use Rattle.fwu_model.specs.Reply.{Turn}
 use Rattle.fwu_model.specs.Causes.{Faults}
-use Rattle.fwu_model.specs.Text.{fip_fault_text, format_line, no_boot_text}
+use Rattle.fwu_formats.specs.FaultText.{fip_fault_text}
+use Rattle.fwu_model.specs.Text.{format_line, no_boot_text}
 use Rattle.fwu_model.specs.declared.kinds.NoBoot.TheVariants as no_boot
 use Rattle.meta_layout.specs.Rows.{fitted}
 use Rattle.fip_tables.specs.Files.{Tells}

@@ -7,7 +7,8 @@ use Rattle.fwu_model.specs.Reply.{Turn}
 use Rattle.fwu_model.specs.Script.{script_of, is_too_long}
 use Rattle.fwu_model.specs.Wrote.{usage_line, not_read_line, too_long_line, bad_script_line, bad_list_line, IsBadScript, IsBadList}
 use Rattle.fwu_model.specs.Causes.{Faults, LacksList}
-use Rattle.fwu_model.specs.Allow.{digests_of, list_bytes, passes_any, passes_listed}
+use Rattle.fwu_formats.specs.Digests.{digests_of, passes_any, passes_listed}
+use Rattle.fwu_model.specs.Allow.{list_bytes}
 use Rattle.fwu_model.specs.declared.kinds.Note.{Note}
 use Rattle.fwu_model.specs.declared.kinds.Note.TheVariants as note
 use Rattle.fwu_words.specs.Order.{Asked}

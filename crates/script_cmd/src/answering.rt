@@ -2,7 +2,7 @@
 ghost use Rattle.std.specs.Prelude.{◌≡◌, ◌≤◌, ℕ, Bool, List, [], Option, Some, None, IfSome, map, string_bytes, IsFalse, length, false, true};
 ghost use Rattle.fwu_model.specs.Allow.{asks_list, list_name};
 ghost use Rattle.fwu_model.specs.Causes.{Faults};
-ghost use Rattle.fwu_model.specs.Layout.{ImageRow};
+ghost use Rattle.fwu_formats.specs.Layout.{ImageRow};
 ghost use Rattle.fwu_model.specs.Script.{is_too_long};
 ghost use Rattle.fwu_model.specs.Wrote.{script_asked};
 ghost use Rattle.fwu_journal.specs.Shown.{turns};

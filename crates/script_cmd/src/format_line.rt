@@ -1,6 +1,7 @@
 //! The line of a flash that was formatted or was not, in room that was made before. Nothing here takes memory.
 ghost use Rattle.std.specs.Prelude.{◌≡◌, ◌≤◌, ◌+◌, ◌++◌, Err, length, decimal};
-ghost use Rattle.fwu_model.specs.Text.{fip_fault_text, format_line};
+ghost use Rattle.fwu_formats.specs.FaultText.{fip_fault_text};
+ghost use Rattle.fwu_model.specs.Text.{format_line};
 ghost use Rattle.fwu_journal.specs.Room.{Grows, HasRoom};
 ghost use Rattle.script_cmd.specs.Formatting.{blocks_text, format_text, images_text, input_text, named_text, verdict_text, version_text};
 ghost use Rattle.script_cmd.specs.declared.format_line.TheConstants.{FORMAT_ROOM};
@@ -8,8 +9,9 @@ ghost use Rattle.flash_format.specs.declared.stops.FormatStop.TheVariants.{Input
 
 use base_core::Guid;
 use flash_format::{FormatStop, Formatted, InputFault};
+use fwu_formats::FipFault;
 use fwu_journal::{add, add_named, add_no_boot};
-use fwu_model::{FipFault, NoBoot};
+use fwu_model::NoBoot;
 use image_check::Verdict;
 use meta_layout::Layout;
 

@@ -1,7 +1,7 @@
 //! The program as one call.
 ghost use Rattle.std.specs.Prelude.{◌≡◌, ℕ, Bool, List, [], Some, None, IfSome, map, string_bytes, IsFalse};
 ghost use Rattle.fwu_model.specs.Allow.{asks_list, list_name};
-ghost use Rattle.fwu_model.specs.Layout.{ImageRow};
+ghost use Rattle.fwu_formats.specs.Layout.{ImageRow};
 ghost use Rattle.fwu_journal.specs.Shown.{turns};
 ghost use Rattle.fwu_words.specs.Order.{asked};
 ghost use Rattle.fwu_words.specs.Order as ask;

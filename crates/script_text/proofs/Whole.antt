@@ -8,7 +8,8 @@ use Rattle.std.proofs.lemmas.Option.{cond_some}
 use Rattle.base_core.specs.Bytes.{same_bytes}
 use Rattle.fwu_model.specs.Call.{Call}
 use Rattle.fwu_model.specs.Call as call
-use Rattle.fwu_model.specs.Script.{is_word, digits_value, both, named, open_call, number_of, number_up_to, bytes_of, file_of, request_of, at_least_one, simple_call, call_of_three, call_of_words, line_of, onto_calls, after_line, calls_from, script_lines, whole_script_of}
+use Rattle.fwu_formats.specs.Words.{is_word, digits_value, named, number_of, number_up_to, bytes_of, file_of, request_of, at_least_one}
+use Rattle.fwu_model.specs.Script.{both, open_call, simple_call, call_of_three, call_of_words, line_of, onto_calls, after_line, calls_from, script_lines, whole_script_of}
 use Rattle.script_text.specs.Built.{is_built, kept_line, built_calls_from, script_of, IsArmable}
 use Rattle.script_text.specs.Law.{BuiltAreScripts, ScriptsAreBuilt, CutsAreArmable, CallsHaveLines}
 

@@ -6,7 +6,8 @@ use Rattle.std.proofs.lemmas.Bool.{cond_both, both_ways}
 use Rattle.base_core.proofs.Spelled.{same_is}
 use Rattle.fwu_model.specs.Call.{Call}
 use Rattle.fwu_model.specs.Call as call
-use Rattle.fwu_model.specs.Script.{is_word, both, named, open_call, number_of, number_up_to, bytes_of, file_of, request_of, at_least_one, simple_call, call_of_three, call_of_words, line_of}
+use Rattle.fwu_formats.specs.Words.{is_word, named, number_of, number_up_to, bytes_of, file_of, request_of, at_least_one}
+use Rattle.fwu_model.specs.Script.{both, open_call, simple_call, call_of_three, call_of_words, line_of}
 use Rattle.script_text.specs.Built.{is_built, built_call, kept_line, line_built_of}
 use Rattle.script_text.specs.Shown.{is_nothing}
 

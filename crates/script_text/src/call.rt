@@ -2,7 +2,8 @@
 ghost use Rattle.std.specs.Prelude.{◌≡◌, ◌==◌, ◌∷◌, [], option_map, option_and_then};
 ghost use Rattle.std.specs.List.{slice_split};
 ghost use Rattle.fwu_model.specs.Call as call;
-ghost use Rattle.fwu_model.specs.Script.{at_least_one, both, call_of_three, call_of_words, number_of, number_up_to, simple_call};
+ghost use Rattle.fwu_formats.specs.Words.{at_least_one, number_of, number_up_to};
+ghost use Rattle.fwu_model.specs.Script.{both, call_of_three, call_of_words, simple_call};
 ghost use Rattle.script_text.specs.Built.{built_call, line_built_of};
 ghost use Rattle.script_text.specs.Shown.{shown, is_nothing};
 

@@ -3,7 +3,7 @@ use Rattle.std.proofs.Common.{◌≡◌, ℕ, ◌+◌, ◌<◌, ◌≤◌, Bool,
 use Rattle.std.proofs.lemmas.Bool.{cases_Bool, cases_lt, lt-ltb, le-ltb, ne_eqb}
 use Rattle.std.proofs.lemmas.List.Splits.{slice_split_first, length-slice_split}
 use Rattle.std.specs.List.{slice_split, position, position_or_len, before_first, after_first}
-use Rattle.fwu_model.specs.Allow.{digest_of, onto_digests, digests_from}
+use Rattle.fwu_formats.specs.Digests.{digest_of, onto_digests, digests_from}
 
 -- the digests that were read before these
 abbrev pub behind : List (List ℕ) → Result (List (List ℕ)) ℕ → Result (List (List ℕ)) ℕ

@@ -2,7 +2,7 @@
 ghost use Rattle.std.specs.Prelude.{◌≡◌, ◌+◌, ◌<◌, ◌==◌, ℕ, List, Ok, IfOk, IfErr, drop, length, position};
 ghost use Rattle.std.specs.List.{list_any};
 ghost use Rattle.base_core.specs.Bytes.{same_bytes};
-ghost use Rattle.fwu_model.specs.Allow.{digests_of, digest_of, passes_listed};
+ghost use Rattle.fwu_formats.specs.Digests.{digests_of, digest_of, passes_listed};
 ghost use Rattle.verify_core.specs.Shown.{IsFaultOf};
 
 use crate::verifier::Verifier;
@@ -99,7 +99,7 @@ impl DigestList {
 impl Verifier for DigestList {
     ghost passes = { λ list manifest. passes_listed list manifest };
 
-    #[tactic(auto, unfolding(fwu_model::specs::Allow::passes_listed))]
+    #[tactic(auto, unfolding(fwu_formats::specs::Digests::passes_listed))]
     fn accepts(&self, manifest: &[u8]) -> bool {
         is_listed(&Sha256::digest(manifest), self.digests.as_slice())
     }

@@ -1,6 +1,6 @@
 //! The test of a manifest, and the tests made of others.
 ghost use Rattle.std.specs.Prelude.{◌≡◌, ◌&&◌, ℕ, Bool, List};
-ghost use Rattle.fwu_model.specs.Allow.{passes_any};
+ghost use Rattle.fwu_formats.specs.Digests.{passes_any};
 
 /// A test of manifests beside their format.
 pub trait Verifier {

@@ -1,6 +1,6 @@
 //! Bytes as hexadecimal digits.
 ghost use Rattle.std.specs.Prelude.{◌≡◌, IfOk, option_map};
-ghost use Rattle.fwu_model.specs.Script.{bytes_of};
+ghost use Rattle.fwu_formats.specs.Words.{bytes_of};
 
 use crate::names::is_word;
 use base_core::NoMemory;

@@ -3,7 +3,7 @@ ghost use Rattle.std.specs.Prelude.{◌≡◌};
 ghost use Rattle.std.specs.List.{list_all};
 ghost use Rattle.std.specs.Prelude.{nat_le, ◌&&◌};
 ghost use Rattle.base_core.specs.Guid.{guid_of};
-ghost use Rattle.fwu_model.specs.Script.{is_file, is_word, named};
+ghost use Rattle.fwu_formats.specs.Words.{is_file, is_word, named};
 
 use base_core::Guid;
 use std::str;

@@ -1,6 +1,6 @@
 //! Decimal numbers of 32 bits, each in its one spelling.
 ghost use Rattle.std.specs.Prelude.{◌≡◌, ◌≤◌, length};
-ghost use Rattle.fwu_model.specs.Script.{digits_value, number_of};
+ghost use Rattle.fwu_formats.specs.Words.{digits_value, number_of};
 
 use crate::names::is_word;
 use itoa::Buffer;

@@ -1,7 +1,7 @@
 use Rattle.std.proofs.Common.{◌∙◌, ◌++◌, ap, ℕ, List}
 use Rattle.base_core.proofs.Spelled.{eight_spelled}
 use Rattle.base_core.specs.Bytes.{le}
-use Rattle.fwu_model.specs.Package.{Entry}
+use Rattle.fwu_formats.specs.Package.{Entry}
 use Rattle.fip_tables.specs.Frame.{entry_bytes}
 use Rattle.fip_tables.proofs.Plans.{appended}
 use Rattle.fip_tables.proofs.frame.add_entry.Goals as goal

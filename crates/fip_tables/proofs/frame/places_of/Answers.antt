@@ -1,6 +1,6 @@
 use Rattle.std.proofs.Common.{◌≡◌, ◌∙◌, ◌<◌, ℕ, ap, sym, arith, length, refl}
 use Rattle.std.proofs.lemmas.List.{length-replicate}
-use Rattle.fwu_model.specs.Package.{Part}
+use Rattle.fwu_formats.specs.Package.{Part}
 use Rattle.fip_tables.specs.Frame.{last_end, table_end}
 use Rattle.fip_tables.proofs.Plans.{next-le-last}
 use Rattle.fip_tables.proofs.frame.places_of.Goals.{then-offset-gt-LIMIT-via-then-offset-gt-LIMIT, then-offset-gt-LIMIT-via-else-offset-gt-LIMIT+then-part-offset}

@@ -1,6 +1,6 @@
 use Rattle.std.proofs.Common.{◌≡◌, ◌∙◌, ◌++◌, ◌-◌, ◌*◌, ap, subst, ℕ, List, length, take, replicate}
 use Rattle.std.specs.Prelude.{flat_map}
-use Rattle.fwu_model.specs.Package.{Entry}
+use Rattle.fwu_formats.specs.Package.{Entry}
 use Rattle.fip_tables.specs.Frame.{entry_bytes}
 use Rattle.fip_tables.proofs.Plans.{framed-bytes}
 use Rattle.fip_tables.proofs.frame.zeroed.Goals as goal

@@ -2,7 +2,7 @@ use Rattle.std.proofs.Common.{◌∙◌, ap, ℕ, List, take}
 use Rattle.std.proofs.lemmas.List.{get_or_default}
 use Rattle.std.specs.List.{list_any}
 use Rattle.base_core.specs.Bytes.{same_bytes}
-use Rattle.fwu_model.specs.Package.{Part}
+use Rattle.fwu_formats.specs.Package.{Part}
 use Rattle.fip_tables.proofs.outline.repeats.Goals as goal
 
 pub returns : goal.returns

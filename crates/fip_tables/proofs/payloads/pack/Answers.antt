@@ -1,5 +1,5 @@
 use Rattle.std.proofs.Common.{◌≡◌, ◌∙◌, ◌<◌, ap, sym, subst, arith, List, Result, Err, [], map, length, get_or}
-use Rattle.fwu_model.specs.Package.{Entry, Part, packed}
+use Rattle.fwu_formats.specs.Package.{Entry, Part, packed}
 use Rattle.fip_tables.specs.Again.{ReadsAgain}
 use Rattle.fip_tables.specs.Packing.{AreOutlines, pack_fault, zeroed}
 use Rattle.fip_tables.specs.Frame.{IsFrame, table_end, with_bytes}

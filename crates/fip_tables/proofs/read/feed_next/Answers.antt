@@ -1,7 +1,7 @@
 use Rattle.std.proofs.Common.{◌≡◌, ◌∙◌, ◌+◌, ◌-◌, ◌≤◌, ◌++◌, ap, sym, subst, arith, ℕ, List, length, take, drop, length-append, append-nil, [], Err, Result}
 use Rattle.std.proofs.lemmas.List.{length-take-le}
-use Rattle.fwu_model.specs.Package.{toc_of}
-use Rattle.fwu_model.specs.declared.kinds.FipFault.{FipFault}
+use Rattle.fwu_formats.specs.Package.{toc_of}
+use Rattle.fwu_formats.specs.declared.kinds.FipFault.{FipFault}
 use Rattle.fip_tables.specs.declared.toc.TocStop.TheVariants as stop
 use Rattle.fip_tables.specs.declared.toc.TocStop.{TocStop}
 use Rattle.fip_tables.proofs.Stand.{faults-stand}

@@ -1,8 +1,8 @@
 use Rattle.std.proofs.Common.{◌≢◌, ◌∙◌, ap, sym, subst, ℕ, length}
 use Rattle.std.specs.List.{list_any}
-use Rattle.fwu_model.specs.Package.{Entry, has_guid}
+use Rattle.fwu_formats.specs.Package.{Entry, has_guid}
 use Rattle.fip_tables.specs.Stream.{HasLastingFault}
-use Rattle.fwu_model.specs.declared.kinds.FipFault.TheVariants as fault
+use Rattle.fwu_formats.specs.declared.kinds.FipFault.TheVariants as fault
 use Rattle.fip_tables.proofs.Groups.{after-duplicate, after-entry, after-marker, after-too-many}
 use Rattle.fip_tables.proofs.reader.take_entry.Goals as goal
 

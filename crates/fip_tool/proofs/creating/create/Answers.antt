@@ -1,6 +1,6 @@
 use Rattle.std.proofs.Common.{◌≡◌, ◌∙◌, ℕ, List, Vec, Ok, ap, arith, length, map, sym}
 use Rattle.std.specs.Global.{Global}
-use Rattle.fwu_model.specs.Package.{Part}
+use Rattle.fwu_formats.specs.Package.{Part}
 use Rattle.fip_words.specs.Order.{part_view}
 use Rattle.fip_tables.specs.Frame.{Filling, table_end}
 use Rattle.fip_tables.proofs.Filled.{entries-count}

@@ -1,4 +1,4 @@
-use Rattle.fwu_model.specs.Package.{Part}
+use Rattle.fwu_formats.specs.Package.{Part}
 use Rattle.fip_words.specs.Order.{part_view}
 use Rattle.fip_tool.proofs.CreateLemmas.{outline-made, outline-stopped}
 use Rattle.fip_tool.proofs.Tables.{gives-err}

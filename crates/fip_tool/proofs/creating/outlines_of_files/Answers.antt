@@ -1,7 +1,7 @@
 use Rattle.std.proofs.Common.{◌∙◌, Ok, List, Vec, [], ◌∷◌, ap, arith, sym, length}
 use Rattle.std.proofs.lemmas.List.{length-append}
 use Rattle.std.specs.Global.{Global}
-use Rattle.fwu_model.specs.Package.{Part}
+use Rattle.fwu_formats.specs.Package.{Part}
 use Rattle.fip_tool.proofs.CreateLemmas.{more-outlines, outlines-stopped}
 use Rattle.fip_tool.proofs.Tables.{gives-err, rose-from}
 use Rattle.fip_tool.proofs.creating.outlines_of_files.Goals as goal

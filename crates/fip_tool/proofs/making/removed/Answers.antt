@@ -1,6 +1,6 @@
 use Rattle.std.proofs.Common.{◌∙◌, Vec, ℕ}
 use Rattle.std.specs.Global.{Global}
-use Rattle.fwu_model.specs.Package.{Toc}
+use Rattle.fwu_formats.specs.Package.{Toc}
 use Rattle.fip_tool.proofs.PartLemmas.{gives-same}
 use Rattle.fip_tool.proofs.Repacking.{opened, remove-err, remove-of, stored-of, there-of}
 use Rattle.fip_tool.proofs.Tables.{gives-err, rose-from, tells}

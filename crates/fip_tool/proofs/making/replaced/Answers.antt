@@ -1,6 +1,6 @@
 use Rattle.std.proofs.Common.{◌∙◌, Vec, ℕ, ap, map}
 use Rattle.std.specs.Global.{Global}
-use Rattle.fwu_model.specs.Package.{Toc}
+use Rattle.fwu_formats.specs.Package.{Toc}
 use Rattle.fip_words.specs.Order.{part_view}
 use Rattle.fip_tool.specs.Tool.{parts_in}
 use Rattle.fip_tool.proofs.PartLemmas.{gives-same}

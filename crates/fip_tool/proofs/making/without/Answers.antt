@@ -1,7 +1,7 @@
 use Rattle.std.proofs.Common.{◌∙◌, ◌+◌, ◌<◌, ◌≤◌, ◌^◌, Vec, ℕ, ap, length}
 use Rattle.std.specs.Prelude.{filter, not}
 use Rattle.std.specs.Global.{Global}
-use Rattle.fwu_model.specs.Package.{Entry, Toc}
+use Rattle.fwu_formats.specs.Package.{Entry, Toc}
 use Rattle.fip_tool.specs.Tool.{is_named}
 use Rattle.fip_tool.proofs.Repacking.{kept-all, without-gives}
 use Rattle.fip_tool.proofs.making.without.Goals as goal

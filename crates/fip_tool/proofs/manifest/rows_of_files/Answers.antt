@@ -1,7 +1,7 @@
 use Rattle.std.proofs.Common.{◌≡◌, ◌∙◌, Ok, Option, List, Vec, ap, map, option_map, arith, sym, take}
 use Rattle.std.proofs.lemmas.List.{take_all}
 use Rattle.std.specs.Global.{Global}
-use Rattle.fwu_model.specs.Manifest.{Row}
+use Rattle.fwu_formats.specs.Manifest.{Row}
 use Rattle.fip_words.specs.Order.{image_view}
 use Rattle.fip_words.specs.declared.values.ImageWord.{ImageWord}
 use Rattle.manifest_core.specs.Shown.{row}

@@ -1,6 +1,6 @@
 use Rattle.std.proofs.Common.{Vec, ℕ}
 use Rattle.std.specs.Global.{Global}
-use Rattle.fwu_model.specs.Package.{Part}
+use Rattle.fwu_formats.specs.Package.{Part}
 use Rattle.fip_words.specs.Order.{part_view}
 use Rattle.fip_tool.proofs.PartLemmas.{part-made, part-stopped}
 use Rattle.fip_tool.proofs.Tables.{gives-err}

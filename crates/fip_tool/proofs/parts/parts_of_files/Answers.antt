@@ -1,6 +1,6 @@
 use Rattle.std.proofs.Common.{◌∙◌, Ok, List, Vec, ap, arith, sym}
 use Rattle.std.specs.Global.{Global}
-use Rattle.fwu_model.specs.Package.{Part}
+use Rattle.fwu_formats.specs.Package.{Part}
 use Rattle.fip_tool.proofs.PartLemmas.{more-at, stopped-at}
 use Rattle.fip_tool.proofs.Tables.{gives-err, rose-from}
 use Rattle.fip_tool.proofs.parts.parts_of_files.Goals as goal

@@ -1,6 +1,6 @@
 use Rattle.std.proofs.Common.{◌∙◌, ◌≤◌, ◌+◌, ℕ, All, List, ap, length, subst, sym, refl}
 use Rattle.base_core.specs.Counts.{Rose}
-use Rattle.fwu_model.specs.Package.{Entry, Toc}
+use Rattle.fwu_formats.specs.Package.{Entry, Toc}
 use Rattle.fip_tool.specs.Steps.{Did, Makes}
 use Rattle.fip_tool.specs.Tool.{chosen, unpack_steps, unpack_value}
 use Rattle.fip_tool.proofs.Did.{made-steps, refused}

@@ -1,7 +1,7 @@
 use Rattle.std.proofs.Common.{◌∙◌, ◌+◌, ◌≤◌, ◌<◌, ◌^◌, length, arith, sym, subst}
 use Rattle.std.specs.Prelude.{◌==◌, ◌||◌}
 use Rattle.std.proofs.lemmas.List.Elements.{All-get_or}
-use Rattle.fwu_model.specs.Package.{Entry}
+use Rattle.fwu_formats.specs.Package.{Entry}
 use Rattle.fip_tool.specs.Tool.{is_named}
 use Rattle.fip_tool.proofs.Tables.{rose-from}
 use Rattle.fip_tool.proofs.UnpackLemmas.{all-done, begins, step-done, step-passed, step-stops, tells-still, there-still}

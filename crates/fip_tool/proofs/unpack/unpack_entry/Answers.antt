@@ -1,6 +1,6 @@
 use Rattle.std.proofs.Common.{◌≡◌, ◌∙◌, ◌∷◌, [], ℕ, List, Ok, Vec, ap, refl, string_bytes}
 use Rattle.std.specs.Global.{Global}
-use Rattle.fwu_model.specs.Package.{Entry, payload}
+use Rattle.fwu_formats.specs.Package.{Entry, payload}
 use Rattle.fip_tool.specs.Lines.{unpacked_name}
 use Rattle.fip_tool.specs.Tool.{unpack_steps}
 use Rattle.fip_tool.proofs.Did.{refused}

@@ -1,7 +1,7 @@
 use Rattle.std.proofs.Common.{◌∙◌, ap, sym, subst, rules, arith, ℕ, [], List, Option, Some, length, get_or}
 use Rattle.std.proofs.lemmas.List.{length-replicate}
 use Rattle.host_io.specs.Contents.{Directory, HasRange, TellsSize}
-use Rattle.fwu_model.specs.Package.{Entry}
+use Rattle.fwu_formats.specs.Package.{Entry}
 use Rattle.fip_tables.proofs.Told.{has_all}
 use Rattle.fip_vectors.proofs.tables.packed_file.Goals as goal
 

@@ -1,5 +1,5 @@
 use Rattle.std.proofs.Common.{◌≡◌, drop}
-use Rattle.fwu_model.specs.Layout.{are_distinct}
+use Rattle.fwu_formats.specs.Layout.{are_distinct}
 use Rattle.fip_words.proofs.values.differ.Given as goal
 
 -- those so far are not among the ones after them

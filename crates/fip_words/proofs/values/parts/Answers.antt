@@ -1,5 +1,5 @@
 use Rattle.std.proofs.Common.{◌≡◌, ◌∙◌, List, ap, map, subst, sym}
-use Rattle.fwu_model.specs.Layout.{are_distinct}
+use Rattle.fwu_formats.specs.Layout.{are_distinct}
 use Rattle.fip_words.specs.declared.values.Part.{Part}
 use Rattle.fip_words.proofs.Distinct.{parts-distinct, parts-repeated}
 use Rattle.fip_words.proofs.values.parts.Goals as goal

@@ -6,9 +6,9 @@ use Rattle.flash_core.proofs.Calls.{keeps_wider, keeps_then}
 use Rattle.flash_core.proofs.Costs.{spends_then}
 use Rattle.host_io.specs.Contents.{Directory}
 use Rattle.fip_tables.specs.Files.{Tells}
-use Rattle.fwu_model.specs.Layout.{ImageRow, slot_total, start, slot_bytes}
-use Rattle.fwu_model.specs.Package.{Entry, payload}
-use Rattle.fwu_model.proofs.SealLaws.{limits}
+use Rattle.fwu_formats.specs.Layout.{ImageRow, slot_total, start, slot_bytes}
+use Rattle.fwu_formats.specs.Package.{Entry, payload}
+use Rattle.fwu_formats.proofs.SealLaws.{limits}
 use Rattle.image_check.proofs.OfBank.{bank_fits}
 use Rattle.flash_format.specs.Choosing.{no_row, no_entry}
 use Rattle.flash_format.specs.Places.{Stands}

@@ -2,7 +2,7 @@ use Rattle.std.proofs.Common.{◌≡◌, ℕ, ◌+◌, ◌*◌, ◌≤◌, List,
 use Rattle.std.specs.Prelude.{IsTrue, Ok}
 use Rattle.flash_core.specs.Counts.{Spends, StaysUnarmed}
 use Rattle.flash_core.specs.May.{Keeps}
-use Rattle.fwu_model.specs.Layout.{slot_total}
+use Rattle.fwu_formats.specs.Layout.{slot_total}
 use Rattle.fip_tables.specs.Files.{Tells}
 use Rattle.flash_format.specs.Places.{Erased, AllStand}
 use Rattle.flash_format.proofs.bank.write_bank.Given as goal

@@ -1,8 +1,8 @@
 use Rattle.std.proofs.Common.{◌≡◌, inl, inr, ℕ, ◌*◌, ◌<◌, ◌≤◌, List, [], ◌∷◌, length, get_or, Some, Ok, Err, sym, ap, subst, ◌∙◌, arith}
 use Rattle.std.proofs.lemmas.Bool.{cases_lt}
 use Rattle.std.proofs.lemmas.List.{get_or_default, get_or_append_left, drop_all, length-append}
-use Rattle.fwu_model.specs.Layout.{ImageRow}
-use Rattle.fwu_model.specs.Package.{Entry, entry_of}
+use Rattle.fwu_formats.specs.Layout.{ImageRow}
+use Rattle.fwu_formats.specs.Package.{Entry, entry_of}
 use Rattle.fwu_model.specs.Answer.{first_image_fault}
 use Rattle.flash_format.specs.Choosing.{no_row, no_entry, ChoosesOne, refused_image}
 use Rattle.flash_format.proofs.Chosen.{passes_on, stops_here, none_left, last_pushed}

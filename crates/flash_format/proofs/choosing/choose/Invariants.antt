@@ -1,5 +1,5 @@
 use Rattle.std.proofs.Common.{◌≡◌, ℕ, ◌*◌, ◌<◌, ◌≤◌, length, get_or, drop, Some}
-use Rattle.fwu_model.specs.Package.{entry_of}
+use Rattle.fwu_formats.specs.Package.{entry_of}
 use Rattle.fwu_model.specs.Answer.{first_image_fault}
 use Rattle.flash_format.specs.Choosing.{no_row, no_entry}
 use Rattle.flash_format.proofs.choosing.choose.Given as goal

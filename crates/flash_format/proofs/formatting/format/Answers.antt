@@ -2,9 +2,9 @@ use Rattle.std.proofs.Common.{◌≡◌, ◌*◌, ℕ, List, length, ap, sym, su
 use Rattle.std.specs.Prelude.{IsTrue}
 use Rattle.flash_core.specs.May.{Keeps}
 use Rattle.host_io.specs.Contents.{Directory}
-use Rattle.fwu_model.specs.Layout.{Layout, blocks_needed, fits_layout}
+use Rattle.fwu_formats.specs.Layout.{Layout, blocks_needed, fits_layout}
 use Rattle.fwu_model.specs.Answer.{images_of}
-use Rattle.fwu_model.specs.Package.{Toc, toc_of}
+use Rattle.fwu_formats.specs.Package.{Toc, toc_of}
 use Rattle.fip_tables.specs.Files.{Tells}
 use Rattle.flash_format.specs.Formatted.{HoldsImages, IsBlank, IsRefused}
 use Rattle.flash_format.specs.Places.{AllStand}

@@ -1,7 +1,7 @@
 use Rattle.std.proofs.Common.{◌≡◌, ◌≤◌, ℕ, length, take, drop, ap, ◌∙◌, arith}
 use Rattle.std.proofs.lemmas.List.{length-take-le, length-drop, length-append}
 use Rattle.base_core.proofs.Blocks.{length-blank}
-use Rattle.fwu_model.specs.Package.{Entry, payload}
+use Rattle.fwu_formats.specs.Package.{Entry, payload}
 use Rattle.flash_format.proofs.Pieces.{length-payload, piece_erased, piece_stands}
 use Rattle.flash_format.proofs.images.read_piece.Goals as goal
 

@@ -4,7 +4,7 @@ use Rattle.flash_core.proofs.Calls.{keeps_wider, keeps_then}
 use Rattle.flash_core.proofs.Costs.{spends_then}
 use Rattle.host_io.specs.Contents.{Directory}
 use Rattle.fip_tables.specs.Files.{Tells}
-use Rattle.fwu_model.specs.Package.{Entry, payload}
+use Rattle.fwu_formats.specs.Package.{Entry, payload}
 use Rattle.flash_format.specs.Places.{Stands}
 use Rattle.flash_format.proofs.Ranges.{erased_stays, stands_stays}
 use Rattle.flash_format.proofs.Pieces.{stands_more}

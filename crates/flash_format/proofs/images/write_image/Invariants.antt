@@ -2,7 +2,7 @@ use Rattle.std.proofs.Common.{◌≡◌, ℕ, ◌+◌, ◌*◌, ◌≤◌, List}
 use Rattle.std.specs.Prelude.{IsTrue, Ok}
 use Rattle.flash_core.specs.Counts.{Spends, StaysUnarmed}
 use Rattle.flash_core.specs.May.{Keeps}
-use Rattle.fwu_model.specs.Package.{payload}
+use Rattle.fwu_formats.specs.Package.{payload}
 use Rattle.fip_tables.specs.Files.{Tells}
 use Rattle.flash_format.specs.Places.{Erased, Stands}
 use Rattle.flash_format.proofs.images.write_image.Given as goal

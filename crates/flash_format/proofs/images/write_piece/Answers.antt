@@ -5,7 +5,7 @@ use Rattle.base_core.specs.Block.{blank}
 use Rattle.flash_core.specs.Told.{Told}
 use Rattle.flash_core.specs.May.{Keeps}
 use Rattle.flash_core.proofs.Calls.{keeps_same}
-use Rattle.fwu_model.specs.Package.{payload}
+use Rattle.fwu_formats.specs.Package.{payload}
 use Rattle.flash_format.specs.Places.{Stands}
 use Rattle.flash_format.proofs.Ranges.{keeps_written, erased_range}
 use Rattle.flash_format.proofs.Pieces.{piece_written}

@@ -1,7 +1,7 @@
 use Rattle.std.proofs.Common.{◌∙◌, inl, refl, sym, subst, Result, Err}
-use Rattle.fwu_model.specs.Layout.{Layout}
-use Rattle.fwu_model.specs.Package.{toc_of}
-use Rattle.fwu_model.specs.declared.kinds.LayoutFault.{LayoutFault}
+use Rattle.fwu_formats.specs.Layout.{Layout}
+use Rattle.fwu_formats.specs.Package.{toc_of}
+use Rattle.fwu_formats.specs.declared.kinds.LayoutFault.{LayoutFault}
 use Rattle.flash_format.specs.Choosing.{refusal, refusal_by}
 use Rattle.flash_format.specs.Stops.{Answers}
 use Rattle.flash_format.specs.declared.plan.Plan.{Plan}

@@ -1,5 +1,5 @@
 use Rattle.std.proofs.Common.{List, subst}
-use Rattle.fwu_model.specs.Layout.{ImageRow}
+use Rattle.fwu_formats.specs.Layout.{ImageRow}
 use Rattle.flash_format.specs.Choosing.{AreChosen}
 use Rattle.flash_format.proofs.Plans.{planned_from}
 use Rattle.flash_format.proofs.planning.plan_of.Goals as goal

@@ -1,5 +1,5 @@
 use Rattle.std.proofs.Common.{arith}
-use Rattle.fwu_model.specs.Metadata.{first_meta}
+use Rattle.fwu_formats.specs.Metadata.{first_meta}
 use Rattle.fwu_model.specs.Replica.{in_version}
 use Rattle.flash_format.proofs.Recorded.{on_ok_from, both_stay}
 use Rattle.flash_format.proofs.Ordered.{ordered_before, ordered_after}

@@ -1,7 +1,7 @@
 use Rattle.std.proofs.Common.{◌≡◌, ℕ, List, take, ap, subst, ◌∙◌, Some, arith, IsTrue}
 use Rattle.base_core.specs.Block.{block}
 use Rattle.flash_core.specs.Replaces.{padded}
-use Rattle.fwu_model.specs.Metadata.{Meta, MetaRead, meta_read, first_meta, fits_meta, replica_bytes}
+use Rattle.fwu_formats.specs.Metadata.{Meta, MetaRead, meta_read, first_meta, fits_meta, replica_bytes}
 use Rattle.fwu_model.specs.Replica.{in_version}
 use Rattle.flash_format.proofs.Recorded.{on_ok_two, replica_read}
 use Rattle.flash_format.proofs.records.write_replicas.Goals as goal

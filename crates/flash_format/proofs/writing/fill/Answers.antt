@@ -2,8 +2,8 @@ use Rattle.std.proofs.Common.{◌+◌, ◌*◌, ℕ, List, length, inl, inr, ap,
 use Rattle.flash_core.specs.Told.{Told, NothingDirty}
 use Rattle.flash_core.specs.May.{Keeps}
 use Rattle.flash_core.proofs.Calls.{keeps_wider, keeps_then, settle-fresh}
-use Rattle.fwu_model.specs.Layout.{slot_total, blocks_needed}
-use Rattle.fwu_model.specs.Package.{Entry}
+use Rattle.fwu_formats.specs.Layout.{slot_total, blocks_needed}
+use Rattle.fwu_formats.specs.Package.{Entry}
 use Rattle.flash_format.specs.Formatted.{IsBlank}
 use Rattle.flash_format.specs.Places.{AllStand, Erased}
 use Rattle.flash_format.proofs.Ranges.{erased_stays}

@@ -1,6 +1,6 @@
 use Rattle.std.proofs.Common.{◌<◌, length, arith}
 use Rattle.fwu_model.specs.Text.{bank_state_text}
-use Rattle.fwu_model.specs.declared.kinds.BankState.TheVariants.{Invalid}
+use Rattle.fwu_formats.specs.declared.kinds.BankState.TheVariants.{Invalid}
 use Rattle.fwu_journal.proofs.Joined.{pieces-more, length-more}
 use Rattle.fwu_journal.proofs.numbers.add_states.Goals as goal
 

@@ -1,7 +1,7 @@
 use Rattle.std.proofs.Common.{◌≡◌, ◌∙◌, List, ℕ, codes, string_bytes, sym, subst}
 use Rattle.std.specs.Prelude.{IsTrue}
 use Rattle.base_core.proofs.Spelled.{same_is}
-use Rattle.fwu_model.specs.Script.{is_file}
+use Rattle.fwu_formats.specs.Words.{is_file}
 use Rattle.fwu_words.proofs.AllowLemmas.{front_two}
 use Rattle.fwu_words.proofs.allow.allow_of.Goals as goal
 

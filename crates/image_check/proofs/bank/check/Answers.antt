@@ -1,7 +1,7 @@
 use Rattle.std.proofs.Common.{◌≡◌, ◌+◌, ◌*◌, ◌∙◌, ap, arith, List}
 use Rattle.std.specs.Prelude.{IsTrue}
 use Rattle.std.proofs.lemmas.Result.{IfOk-weaker}
-use Rattle.fwu_model.specs.Layout.{ImageRow, slot_total}
+use Rattle.fwu_formats.specs.Layout.{ImageRow, slot_total}
 use Rattle.image_check.specs.declared.bank.Verdict.{Verdict}
 use Rattle.image_check.specs.Found.{found, front_of}
 use Rattle.image_check.specs.Verdict.{verdict_on}

@@ -1,7 +1,7 @@
 use Rattle.std.proofs.Common.{◌∙◌, ap, sym, subst, arith, IsTrue}
 use Rattle.base_core.specs.Block.{granule}
 use Rattle.flash_core.specs.Told.{Told}
-use Rattle.fwu_model.specs.Flash.{is_blank}
+use Rattle.fwu_formats.specs.Image.{is_blank}
 use Rattle.marks_core.proofs.Counting.{blank_at_count}
 use Rattle.layer_vectors.proofs.marks.marks_are_counted_cleared_and_added.Goals as goal
 

@@ -1,5 +1,5 @@
 use Rattle.std.proofs.Common.{◌∙◌, sym, arith}
-use Rattle.fwu_model.specs.Manifest.{row_at}
+use Rattle.fwu_formats.specs.Manifest.{row_at}
 use Rattle.manifest_core.specs.Shown.{is_within}
 use Rattle.manifest_core.proofs.Paired.{all_pass, one_fails}
 use Rattle.manifest_core.proofs.reading.fits_slots.Goals as goal

@@ -1,6 +1,6 @@
 use Rattle.std.proofs.Common.{◌≡◌, ◌<◌, ℕ, true, slice_index_or}
 use Rattle.base_core.specs.declared.rows.ImageRow.{ImageRow}
-use Rattle.fwu_model.specs.Manifest.{row_at}
+use Rattle.fwu_formats.specs.Manifest.{row_at}
 use Rattle.manifest_core.specs.Shown.{is_within}
 use Rattle.manifest_core.proofs.reading.fits_slots.Given as goal
 

@@ -2,7 +2,7 @@ use Rattle.std.proofs.Common.{◌≡◌, ℕ, ◌∙◌, sym, ap, true, get_or, 
 use Rattle.std.proofs.lemmas.Bool.{cases_lt}
 use Rattle.std.proofs.lemmas.List.{get_or_default}
 use Rattle.base_core.specs.declared.rows.ImageRow.{ImageRow}
-use Rattle.fwu_model.specs.Manifest.{row_at}
+use Rattle.fwu_formats.specs.Manifest.{row_at}
 use Rattle.manifest_core.specs.Shown.{is_named}
 use Rattle.manifest_core.proofs.Paired.{all_pass, one_fails}
 use Rattle.manifest_core.proofs.reading.is_in_order.Goals as goal

@@ -1,6 +1,6 @@
 use Rattle.std.proofs.Common.{◌∙◌, ap, ℕ, take, Result, Ok, Err, arith}
 use Rattle.std.specs.Prelude.{OnOk}
-use Rattle.fwu_model.specs.Manifest.{manifest_of}
+use Rattle.fwu_formats.specs.Manifest.{manifest_of}
 use Rattle.manifest_core.specs.Shown.{version_of}
 use Rattle.manifest_core.proofs.InTurn.{short_is, of_front}
 use Rattle.manifest_core.proofs.reading.test.Goals as goal

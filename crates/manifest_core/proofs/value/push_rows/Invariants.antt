@@ -1,6 +1,6 @@
 use Rattle.std.proofs.Common.{◌≡◌, ◌++◌, take, map, flat_map, IsTrue}
 use Rattle.std.specs.List.{list_all}
-use Rattle.fwu_model.specs.Manifest.{manifest_row_bytes, is_manifest_row}
+use Rattle.fwu_formats.specs.Manifest.{manifest_row_bytes, is_manifest_row}
 use Rattle.manifest_core.specs.Shown.{row}
 use Rattle.manifest_core.proofs.value.push_rows.Given as goal
 

@@ -4,7 +4,7 @@ use Rattle.std.specs.Prelude.{IsTrue, IsFalse, Ok}
 use Rattle.flash_core.specs.Told.{Told}
 use Rattle.flash_core.proofs.Costs.{spends_then}
 use Rattle.base_core.specs.Block.{granule}
-use Rattle.fwu_model.specs.Flash.{is_blank}
+use Rattle.fwu_formats.specs.Image.{is_blank}
 use Rattle.marks_core.proofs.Granules.{granule_read}
 use Rattle.marks_core.proofs.Counting.{marks_is, marks_all}
 use Rattle.marks_core.proofs.marks.count.Goals as goal

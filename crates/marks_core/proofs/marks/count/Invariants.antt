@@ -2,7 +2,7 @@ use Rattle.std.proofs.Common.{◌≡◌, ℕ, ◌<◌, length}
 use Rattle.std.specs.Prelude.{IsTrue, IsFalse, Ok}
 use Rattle.flash_core.specs.Counts.{Spends}
 use Rattle.base_core.specs.Block.{granule}
-use Rattle.fwu_model.specs.Flash.{is_blank}
+use Rattle.fwu_formats.specs.Image.{is_blank}
 use Rattle.marks_core.proofs.marks.count.Given as goal
 
 abbrev pub invariant-loop-place : goal.invariant-loop-place

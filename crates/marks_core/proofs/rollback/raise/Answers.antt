@@ -2,7 +2,7 @@ use Rattle.std.proofs.Common.{◌≤◌, length, sym, subst, arith}
 use Rattle.std.specs.Prelude.{List, ℕ}
 use Rattle.flash_core.specs.Told.{Told}
 use Rattle.flash_core.specs.Replaces.{padded, Replaces}
-use Rattle.fwu_model.specs.Counter.{record_bytes}
+use Rattle.fwu_formats.specs.Counter.{record_bytes}
 use Rattle.marks_core.specs.Raises.{Raises, record_place}
 use Rattle.marks_core.proofs.Recording.{raised, unwritten}
 use Rattle.marks_core.proofs.rollback.raise.Goals as goal

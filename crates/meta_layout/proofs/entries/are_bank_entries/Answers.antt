@@ -1,5 +1,5 @@
 use Rattle.std.proofs.Common.{◌+◌, ◌*◌, ◌∙◌, arith, below_more, sym}
-use Rattle.fwu_model.specs.Metadata.{has_bank_entry}
+use Rattle.fwu_formats.specs.Metadata.{has_bank_entry}
 use Rattle.meta_layout.proofs.ImageRows.{range-true, range-false}
 use Rattle.meta_layout.proofs.entries.are_bank_entries.Goals as goal
 

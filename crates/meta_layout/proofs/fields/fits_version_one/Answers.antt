@@ -1,5 +1,5 @@
 use Rattle.std.proofs.Common.{◌∙◌}
-use Rattle.fwu_model.specs.Metadata.{has_indices, has_entries}
+use Rattle.fwu_formats.specs.Metadata.{has_indices, has_entries}
 use Rattle.meta_layout.proofs.Places.{and-both}
 use Rattle.meta_layout.proofs.fields.fits_version_one.Goals as goal
 

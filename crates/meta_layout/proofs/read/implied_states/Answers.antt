@@ -1,5 +1,5 @@
 use Rattle.std.proofs.Common.{◌≡◌, ◌≤◌, length, ◌∙◌, arith}
-use Rattle.fwu_model.specs.Metadata.{state_at_v1}
+use Rattle.fwu_formats.specs.Metadata.{state_at_v1}
 use Rattle.meta_layout.proofs.Places.{pushed, length-listed, listed-count}
 use Rattle.meta_layout.proofs.read.implied_states.Goals as goal
 

@@ -1,5 +1,5 @@
 use Rattle.std.proofs.Common.{◌≡◌, ◌+◌, sym, ap, ◌∙◌}
-use Rattle.fwu_model.specs.Metadata.{meta_size}
+use Rattle.fwu_formats.specs.Metadata.{meta_size}
 use Rattle.meta_layout.proofs.Metas.{meta-short, meta-two, meta-one, meta-none}
 use Rattle.meta_layout.proofs.read.read_either.Goals as goal
 

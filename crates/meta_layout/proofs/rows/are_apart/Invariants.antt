@@ -1,5 +1,5 @@
 use Rattle.std.proofs.Common.{◌≡◌, drop, map}
-use Rattle.fwu_model.specs.Layout.{are_distinct}
+use Rattle.fwu_formats.specs.Layout.{are_distinct}
 use Rattle.meta_layout.proofs.rows.are_apart.Given as goal
 
 abbrev pub invariant-loop-index : goal.invariant-loop-index

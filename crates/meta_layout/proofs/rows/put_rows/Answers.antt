@@ -1,7 +1,7 @@
 use Rattle.std.proofs.Common.{◌++◌, take, ap, ◌∙◌, arith}
 use Rattle.std.specs.Prelude.{flat_map}
 use Rattle.std.proofs.lemmas.List.{take_all}
-use Rattle.fwu_model.specs.Layout.{row_bytes}
+use Rattle.fwu_formats.specs.Layout.{row_bytes}
 use Rattle.meta_layout.proofs.Writes.{rows-more}
 use Rattle.meta_layout.proofs.rows.put_rows.Goals as goal
 

@@ -1,6 +1,6 @@
 use Rattle.std.proofs.Common.{◌≡◌, ◌+◌, ◌*◌, ◌++◌, take}
 use Rattle.std.specs.Prelude.{flat_map}
-use Rattle.fwu_model.specs.Layout.{row_bytes}
+use Rattle.fwu_formats.specs.Layout.{row_bytes}
 use Rattle.meta_layout.proofs.rows.put_rows.Given as goal
 
 abbrev pub invariant-loop-index : goal.invariant-loop-index

@@ -1,5 +1,5 @@
 use Rattle.std.proofs.Common.{◌≡◌, ◌*◌, ◌≤◌, take}
-use Rattle.fwu_model.specs.Layout.{slot_total}
+use Rattle.fwu_formats.specs.Layout.{slot_total}
 use Rattle.meta_layout.proofs.rows.slot_sum.Given as goal
 
 abbrev pub invariant-loop-row : goal.invariant-loop-row

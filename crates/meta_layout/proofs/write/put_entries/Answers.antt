@@ -1,6 +1,6 @@
 use Rattle.std.proofs.Common.{◌≡◌, ◌+◌, ◌*◌, ◌<◌, ◌≤◌, ◌++◌, ℕ, List, length, take, ap, sym, subst, ◌∙◌, arith}
-use Rattle.fwu_model.specs.Layout.{ImageRow}
-use Rattle.fwu_model.specs.Metadata.{entry_bytes}
+use Rattle.fwu_formats.specs.Layout.{ImageRow}
+use Rattle.fwu_formats.specs.Metadata.{entry_bytes}
 use Rattle.meta_layout.proofs.Places.{within}
 use Rattle.meta_layout.proofs.Writes.{has-bits, entry-bytes, listed-more, listed-all}
 use Rattle.meta_layout.proofs.write.put_entries.Goals as goal

@@ -1,6 +1,6 @@
 use Rattle.std.proofs.Common.{◌≡◌, ◌-◌, ◌++◌, take, ap, ◌∙◌, arith}
 use Rattle.base_core.specs.Bytes.{le}
-use Rattle.fwu_model.specs.Metadata.{meta_size_v1, entries_bytes}
+use Rattle.fwu_formats.specs.Metadata.{meta_size_v1, entries_bytes}
 use Rattle.meta_layout.proofs.write.put_version_one.Goals as goal
 
 pub returns : goal.returns

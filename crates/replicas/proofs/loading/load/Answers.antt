@@ -1,6 +1,6 @@
 use Rattle.std.proofs.Common.{◌∙◌, ap, sym}
 use Rattle.base_core.specs.Block.{block}
-use Rattle.fwu_model.specs.Metadata.{meta_read}
+use Rattle.fwu_formats.specs.Metadata.{meta_read}
 use Rattle.replicas.proofs.Reading.{by_none, found_loads}
 use Rattle.replicas.proofs.loading.load.Goals as goal
 

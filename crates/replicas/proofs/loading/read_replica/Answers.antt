@@ -1,5 +1,5 @@
 use Rattle.std.proofs.Common.{◌∙◌, ap, sym, subst}
-use Rattle.fwu_model.specs.Metadata.{MetaRead, meta_read}
+use Rattle.fwu_formats.specs.Metadata.{MetaRead, meta_read}
 use Rattle.std.proofs.lemmas.Option.{same_Some}
 use Rattle.replicas.specs.Which.{HasForm}
 use Rattle.replicas.proofs.Reading.{read_is, none_is, has_form}

@@ -1,7 +1,7 @@
 use Rattle.std.proofs.Common.{◌≤◌, ◌∙◌, ap, length, subst, arith, List, ℕ}
 use Rattle.std.specs.Prelude.{Ok}
 use Rattle.flash_core.specs.Replaces.{padded}
-use Rattle.fwu_model.specs.Metadata.{meta_read}
+use Rattle.fwu_formats.specs.Metadata.{meta_read}
 use Rattle.replicas.specs.Which.{Loads}
 use Rattle.replicas.specs.declared.which.Which.{Which}
 use Rattle.replicas.proofs.Reading.{replica_read}

@@ -1,7 +1,8 @@
 use Rattle.script_cmd.proofs.TopFormats.{formatted-at, none-some}
 use Rattle.std.proofs.Common.{List, ℕ, ap, map, subst, sym, ◌∙◌}
 use Rattle.std.specs.Prelude.{string_bytes}
-use Rattle.fwu_model.specs.Allow.{list_name, passes_any}
+use Rattle.fwu_formats.specs.Digests.{passes_any}
+use Rattle.fwu_model.specs.Allow.{list_name}
 use Rattle.fwu_model.specs.Wrote.{usage_line}
 use Rattle.fwu_model.specs.declared.kinds.Note.TheVariants as note
 use Rattle.script_cmd.specs.Noted.{noted}

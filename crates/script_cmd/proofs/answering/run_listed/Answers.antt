@@ -1,6 +1,6 @@
 use Rattle.script_cmd.proofs.TopFormats.{formats-with-list, refused-formats, starved-formats}
 use Rattle.std.proofs.Common.{◌≡◌, ◌∙◌, ℕ, List, Ok, Err, Some, ap, refl, sym}
-use Rattle.fwu_model.specs.Allow.{digests_of, passes_listed}
+use Rattle.fwu_formats.specs.Digests.{digests_of, passes_listed}
 use Rattle.fwu_model.specs.Wrote.{bad_list_line, not_read_line}
 use Rattle.fwu_model.specs.declared.kinds.Note.TheVariants as note
 use Rattle.script_cmd.specs.Noted.{noted}

@@ -1,5 +1,5 @@
 use Rattle.std.proofs.Common.{◌≡◌, ◌≤◌, ◌+◌, ◌*◌, ◌^◌, take}
-use Rattle.fwu_model.specs.Script.{digits_value}
+use Rattle.fwu_formats.specs.Words.{digits_value}
 use Rattle.words_core.proofs.numbers.value_of.Given as goal
 
 -- the value of the digits so far, which is small

@@ -1,5 +1,5 @@
 use Rattle.std.proofs.Common.{◌≡◌, ◌∙◌, ◌≤◌, ◌<◌, ◌+◌, ap, sym, subst, arith, ℕ, List, length, get_or, Some, Result, Err}
-use Rattle.fwu_model.specs.Package.{Entry, packed_entries}
+use Rattle.fwu_formats.specs.Package.{Entry, packed_entries}
 use Rattle.fip_tables.specs.Frame.{framed, last_end, table_end}
 use Rattle.fip_tables.specs.declared.faults.PackFault.{PackFault}
 use Rattle.fip_tables.specs.declared.faults.PackStop.{PackStop}

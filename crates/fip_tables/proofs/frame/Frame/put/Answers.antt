@@ -1,7 +1,7 @@
 use Rattle.std.proofs.Common.{◌≡◌, ◌∙◌, ap, arith, List, length, get_or}
 use Rattle.std.proofs.lemmas.List.{get_or_default}
 use Rattle.base_core.specs.Bytes.{overwritten}
-use Rattle.fwu_model.specs.Package.{Entry}
+use Rattle.fwu_formats.specs.Package.{Entry}
 use Rattle.fip_tables.specs.Frame.{Filling}
 use Rattle.fip_tables.proofs.Filled.{frame-filled}
 use Rattle.fip_tables.proofs.frame.Frame.put.Goals as goal

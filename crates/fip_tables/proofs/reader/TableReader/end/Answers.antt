@@ -1,7 +1,7 @@
 use Rattle.std.proofs.Common.{◌≡◌, ◌∙◌, ap, sym, subst, ℕ, List, length, Err, Option, Some, None, ◌+◌}
 use Rattle.std.specs.Prelude.{nat_lt, position}
-use Rattle.fwu_model.specs.Package.{Toc, is_beyond, toc_of}
-use Rattle.fwu_model.specs.declared.kinds.FipFault.TheVariants as fault
+use Rattle.fwu_formats.specs.Package.{Toc, is_beyond, toc_of}
+use Rattle.fwu_formats.specs.declared.kinds.FipFault.TheVariants as fault
 use Rattle.fip_tables.specs.Stream.{Holds, IsPartial, Reader}
 use Rattle.fip_tables.specs.declared.reader.Stage.{Stage}
 use Rattle.fip_tables.specs.declared.reader.Stage.TheVariants as stage

@@ -1,6 +1,6 @@
 use Rattle.std.proofs.Common.{sym, subst, ℕ, [], take, Result}
-use Rattle.fwu_model.specs.Package.{Toc}
-use Rattle.fwu_model.specs.declared.kinds.FipFault.{FipFault}
+use Rattle.fwu_formats.specs.Package.{Toc}
+use Rattle.fwu_formats.specs.declared.kinds.FipFault.{FipFault}
 use Rattle.fip_tables.specs.Decoded.{IsHeaderOf}
 use Rattle.fip_tables.specs.Stream.{Holds, HoldsAt, IsGroup, Reader}
 use Rattle.fip_tables.specs.declared.reader.Stage.{Stage}

@@ -1,6 +1,6 @@
 use Rattle.std.proofs.Common.{◌≡◌, ◌∙◌, ◌-◌, ℕ, ap, sym, take, length, arith}
 use Rattle.base_core.specs.Bytes.{listed}
-use Rattle.fwu_model.specs.Manifest.{row_at}
+use Rattle.fwu_formats.specs.Manifest.{row_at}
 use Rattle.manifest_core.proofs.Passed.{fault_is, read_is, count_is}
 use Rattle.manifest_core.proofs.value.Manifest.read.Goals as goal
 

@@ -4,8 +4,8 @@ use Rattle.std.specs.List.{list_all}
 use Rattle.std.proofs.lemmas.List.{length-map}
 use Rattle.sha2.specs.Sha256.{sha256}
 use Rattle.base_core.specs.Bytes.{le}
-use Rattle.fwu_model.specs.Manifest.{Manifest, manifest_of, manifest_body, manifest_bytes, manifest_magic, manifest_row_bytes, is_manifest_row, form_of}
-use Rattle.fwu_model.proofs.ManifestWritten.{written-is-read}
+use Rattle.fwu_formats.specs.Manifest.{Manifest, manifest_of, manifest_body, manifest_bytes, manifest_magic, manifest_row_bytes, is_manifest_row, form_of}
+use Rattle.fwu_formats.proofs.ManifestWritten.{written-is-read}
 use Rattle.manifest_core.specs.declared.rows.Row.{Row as SpecRow}
 use Rattle.manifest_core.specs.Shown.{row}
 use Rattle.manifest_core.proofs.value.Manifest.write.Goals as goal

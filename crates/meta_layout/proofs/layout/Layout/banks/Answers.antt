@@ -1,4 +1,4 @@
-use Rattle.fwu_model.proofs.SealLaws.{limits}
+use Rattle.fwu_formats.proofs.SealLaws.{limits}
 use Rattle.meta_layout.proofs.layout.Layout.banks.Goals as goal
 
 pub returns-clause-low : goal.returns-clause-low

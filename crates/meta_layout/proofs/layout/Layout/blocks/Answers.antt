@@ -1,7 +1,7 @@
 use Rattle.std.proofs.Common.{List, sym, subst, IsTrue}
 use Rattle.std.specs.List.{list_all}
-use Rattle.fwu_model.specs.Layout.{ImageRow, is_row}
-use Rattle.fwu_model.proofs.Written.{rows-fit}
+use Rattle.fwu_formats.specs.Layout.{ImageRow, is_row}
+use Rattle.fwu_formats.proofs.Written.{rows-fit}
 use Rattle.meta_layout.proofs.layout.Layout.blocks.Goals as goal
 
 pub slot_sum-requires-clause-fit : goal.slot_sum-requires-clause-fit

@@ -1,7 +1,7 @@
 use Rattle.std.proofs.Common.{◌≡◌, List, length, ap, sym, ◌∙◌, arith}
 use Rattle.std.proofs.lemmas.List.Quantifiers.{position-Some}
 use Rattle.base_core.specs.Bytes.{same_bytes}
-use Rattle.fwu_model.specs.Layout.{ImageRow, find_image}
+use Rattle.fwu_formats.specs.Layout.{ImageRow, find_image}
 use Rattle.meta_layout.specs.Rows.{no_row}
 use Rattle.meta_layout.proofs.layout.Layout.find.Goals as goal
 

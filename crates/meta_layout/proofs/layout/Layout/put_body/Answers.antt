@@ -1,5 +1,5 @@
 use Rattle.std.proofs.Common.{◌≡◌, ◌+◌, ◌-◌, ◌*◌, List, length, take, ap, ◌∙◌, arith}
-use Rattle.fwu_model.specs.Layout.{ImageRow, layout_size}
+use Rattle.fwu_formats.specs.Layout.{ImageRow, layout_size}
 use Rattle.meta_layout.proofs.Writes.{body-is}
 use Rattle.meta_layout.proofs.layout.Layout.put_body.Goals as goal
 

@@ -1,7 +1,7 @@
 use Rattle.std.proofs.Common.{refl, ◌≡◌, ℕ, ◌≤◌, ◌&&◌, ◌==◌, List, length, sym, ap, ◌∙◌, arith}
 use Rattle.base_core.specs.Bytes.{num_at, part, listed}
 use Rattle.base_core.specs.Crc.{crc}
-use Rattle.fwu_model.specs.Layout.{Layout, ImageRow, layout_at, are_zero}
+use Rattle.fwu_formats.specs.Layout.{Layout, ImageRow, layout_at, are_zero}
 use Rattle.meta_layout.specs.Rows.{has_row_zeros, row_at, fitted}
 use Rattle.meta_layout.proofs.Layouts.{short, bad-magic, bad-size, short-rows, bad-sum, not-zero, as-fitted, sized}
 use Rattle.meta_layout.proofs.layout.Layout.read.Goals as goal

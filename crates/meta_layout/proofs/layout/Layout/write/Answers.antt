@@ -1,7 +1,7 @@
 use Rattle.std.proofs.Common.{◌≡◌, ◌+◌, ◌-◌, ◌*◌, ◌++◌, List, length, take, drop, replicate, ap, ◌∙◌, arith}
 use Rattle.std.proofs.lemmas.List.{length-take-le, length-drop}
-use Rattle.fwu_model.specs.Layout.{ImageRow, layout_size, layout_body, layout_bytes, layout_of}
-use Rattle.fwu_model.proofs.Written.{layout-read}
+use Rattle.fwu_formats.specs.Layout.{ImageRow, layout_size, layout_body, layout_bytes, layout_of}
+use Rattle.fwu_formats.proofs.Written.{layout-read}
 use Rattle.meta_layout.proofs.Writes.{written}
 use Rattle.meta_layout.proofs.layout.Layout.write.Goals as goal
 

@@ -1,4 +1,4 @@
-use Rattle.fwu_model.specs.declared.kinds.BankState.TheVariants.{Invalid}
+use Rattle.fwu_formats.specs.declared.kinds.BankState.TheVariants.{Invalid}
 use Rattle.meta_layout.proofs.Arrays.{set-view}
 use Rattle.meta_layout.proofs.lists.States.set.Goals as goal
 

@@ -1,5 +1,5 @@
 use Rattle.std.proofs.Common.{IsTrue, sym, subst}
-use Rattle.fwu_model.specs.Metadata.{MetaRead, fits_meta}
+use Rattle.fwu_formats.specs.Metadata.{MetaRead, fits_meta}
 use Rattle.meta_layout.proofs.Fits.{fits-active}
 use Rattle.meta_layout.proofs.meta.Meta.set_active.Goals as goal
 

@@ -1,5 +1,5 @@
 use Rattle.std.proofs.Common.{◌<◌, IsTrue, length, sym, subst}
-use Rattle.fwu_model.specs.Metadata.{MetaRead, fits_meta}
+use Rattle.fwu_formats.specs.Metadata.{MetaRead, fits_meta}
 use Rattle.meta_layout.proofs.Fits.{fits-bit}
 use Rattle.meta_layout.proofs.meta.Meta.set_bit.Goals as goal
 

@@ -1,7 +1,7 @@
 use Rattle.std.proofs.Common.{◌≡◌, ◌+◌, ◌-◌, ◌%◌, ◌++◌, ℕ, List, length, take, drop, replicate, ap, ◌∙◌, arith}
 use Rattle.std.proofs.lemmas.List.{length-take-le, length-drop, length-append, length-replicate}
-use Rattle.fwu_model.specs.Metadata.{meta_size, meta_body, meta_bytes, meta_of}
-use Rattle.fwu_model.proofs.MetaWritten.{meta-read}
+use Rattle.fwu_formats.specs.Metadata.{meta_size, meta_body, meta_bytes, meta_of}
+use Rattle.fwu_formats.proofs.MetaWritten.{meta-read}
 use Rattle.meta_layout.proofs.Writes.{written, padded}
 use Rattle.meta_layout.proofs.meta.Meta.write.Goals as goal
 

@@ -1,7 +1,7 @@
 use Rattle.std.proofs.Common.{◌≡◌, ◌+◌, ◌-◌, ◌++◌, ℕ, length, take, drop, replicate, ap, ◌∙◌, arith}
 use Rattle.std.proofs.lemmas.List.{length-take-le, length-drop, length-replicate}
-use Rattle.fwu_model.specs.Metadata.{meta_size_v1, meta_body_v1, meta_bytes_v1, meta_of}
-use Rattle.fwu_model.proofs.MetaWritten.{meta_v1-read}
+use Rattle.fwu_formats.specs.Metadata.{meta_size_v1, meta_body_v1, meta_bytes_v1, meta_of}
+use Rattle.fwu_formats.proofs.MetaWritten.{meta_v1-read}
 use Rattle.meta_layout.proofs.Writes.{written}
 use Rattle.meta_layout.proofs.meta.Meta.write_one.Goals as goal
 

@@ -1,6 +1,6 @@
 use Rattle.std.proofs.Common.{◌≡◌, ◌++◌, ◌∷◌, [], drop, ◌+◌, ◌∙◌, sym, ap, refl, arith, true, not, is_ok, length, List, ℕ, append-nil, Ok}
 use Rattle.std.proofs.lemmas.List.{length-drop}
-use Rattle.fwu_model.specs.Allow.{digests_of}
+use Rattle.fwu_formats.specs.Digests.{digests_of}
 use Rattle.verify_core.proofs.Lines.{behind, from_line, no_end, bad_line, next_line, end_is, some_left, none_left}
 use Rattle.verify_core.proofs.list.DigestList.read.Goals as goal
 

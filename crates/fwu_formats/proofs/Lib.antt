@@ -1,0 +1,11 @@
+pub mod Worked
+pub mod Packages
+pub mod SealLaws
+pub mod Read
+pub mod Same
+pub mod Spell
+pub mod Written
+pub mod MetaWritten
+pub mod ManifestWritten
+pub mod PackWritten
+pub mod Marks

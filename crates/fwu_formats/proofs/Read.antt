@@ -1,0 +1,120 @@
+-- What was read: metadata has a known version and a bit for each image in each bank, a layout is within its limits, a bank's package is complete.
+use Rattle.std.proofs.Common.{◌≡◌, ℕ, ◌+◌, ◌*◌, ◌<◌, Bool, false, not, ◌&&◌, ◌==◌, List, [], length, get_or, Option, Some, None, Result, Ok, Err, refl, ap, subst, ◌∙◌, arith, inl, inr, ◌⊎◌, IsTrue, leb, ltb}
+use Rattle.std.proofs.lemmas.Bool.{cond_both, and_parts, not-false}
+use Rattle.std.proofs.lemmas.List.{length-map}
+use Rattle.std.proofs.lemmas.List.FromFn.{length-map-range_with_len, get_or-map-range_with_len}
+use Rattle.std.proofs.lemmas.Option.{same_Some}
+use Rattle.base_core.specs.Block.{block}
+use Rattle.base_core.specs.Bytes.{num_at, part}
+use Rattle.base_core.specs.Crc.{crc}
+use Rattle.fwu_formats.specs.Layout.{Layout, ImageRow, layout_of, layout_at, layout_magic, has_zeros, fits_layout, blocks_needed}
+use Rattle.fwu_formats.specs.Metadata.{MetaRead, meta_of, meta_read, if_read, read_v2, read_v1, meta_at, meta_at_v1, meta_size, meta_size_v1, fits_v2, fits_v1, bits_from, state_at_v1, bits_v1}
+use Rattle.fwu_formats.specs.Manifest.{Manifest, is_complete, manifest_of}
+use Rattle.fwu_formats.specs.Image.{deciding, first_some, slot, images_in, if_complete, package_by, package_in}
+use Rattle.fwu_formats.specs.declared.kinds.BankState.{BankState}
+use Rattle.fwu_formats.specs.declared.kinds.BankState.TheVariants.{Invalid, Valid, Accepted}
+use Rattle.fwu_formats.specs.declared.kinds.MetaFault.{MetaFault}
+use Rattle.fwu_formats.specs.declared.kinds.MetaFault.TheVariants as fault
+use Rattle.fwu_formats.specs.declared.kinds.ManifestFault.{ManifestFault}
+use Rattle.fwu_formats.specs.declared.kinds.LayoutFault.{LayoutFault}
+use Rattle.fwu_formats.proofs.SealLaws.{was_not_refused}
+
+-- ---- metadata that was read
+
+-- a known version, and a bit for each image in each bank
+pub record IsWholeMeta (L : Layout) (r : MetaRead) : Type 0 where
+  pub form : (r.form ≡ 1) ⊎ (r.form ≡ 2)
+  pub bits : (b : ℕ) → b < L.banks → length (get_or r.meta.bits b []) ≡ length L.rows
+
+pub same-Ok : {X F : Type 0} (x y : X) → ◌≡◌ {A = Result X F} (Ok x) (Ok y) → x ≡ y
+same-Ok x y e = cc
+
+bits-length : (L : Layout) (from : ℕ) (block : List ℕ) (b : ℕ) → length (bits_from L from block b) ≡ length L.rows
+bits-length L from block b = length-map-range_with_len _ 0 (length L.rows)
+
+v1-length : (k : BankState) (bits : List Bool) → length (bits_v1 k bits) ≡ length bits
+v1-length Invalid bits = length-map bits (λ bit. false)
+v1-length Valid bits = refl
+v1-length Accepted bits = refl
+
+two-whole : (L : Layout) (block : List ℕ) (r : MetaRead) → read_v2 L block ≡ Ok r → IsWholeMeta L r
+two-whole L block r e =
+    let c = was_not_refused (not (num_at 4 block 16 == meta_size L)) _ _ r e in
+    let d = was_not_refused (not (num_at 4 block 0 == crc (part block 4 (meta_size L)))) _ _ r c.1 in
+    let f = was_not_refused (not (fits_v2 L block)) _ _ r d.1 in
+    let m = meta_at L block in
+    subst (λ (x : MetaRead). IsWholeMeta L x) (same-Ok {F = MetaFault} (record { form = 2; meta = m }) r f.1) (record {
+      form = inr refl;
+      bits = λ b lt. ap length (get_or-map-range_with_len (bits_from L 0x28 block) 0 L.banks b b [] lt (omega arith)) ∙ bits-length L 0x28 block b;
+    })
+
+one-whole : (L : Layout) (block : List ℕ) (r : MetaRead) → read_v1 L block ≡ Ok r → IsWholeMeta L r
+one-whole L block r e =
+    let d = was_not_refused (not (num_at 4 block 0 == crc (part block 4 (meta_size_v1 L)))) _ _ r e in
+    let f = was_not_refused (not (fits_v1 L block)) _ _ r d.1 in
+    let m = meta_at_v1 L block in
+    let row = λ (b : ℕ). bits_v1 (state_at_v1 L block b) (bits_from L 0x10 block b) in
+    subst (λ (x : MetaRead). IsWholeMeta L x) (same-Ok {F = MetaFault} (record { form = 1; meta = m }) r f.1) (record {
+      form = inl refl;
+      bits = λ b lt. ap length (get_or-map-range_with_len row 0 L.banks b b [] lt (omega arith)) ∙ v1-length (state_at_v1 L block b) (bits_from L 0x10 block b) ∙ bits-length L 0x10 block b;
+    })
+
+meta-whole : (L : Layout) (block : List ℕ) (r : MetaRead) → meta_of L block ≡ Ok r → IsWholeMeta L r
+unfolding meta_of
+meta-whole L block r e =
+    let a = was_not_refused (ltb (length block) (meta_size L)) fault.Short _ r e in
+    cond_both (num_at 4 block 4 == 2) (read_v2 L block) _ (λ (x : Result MetaRead MetaFault). x ≡ Ok r → IsWholeMeta L r)
+    (λ two h. two-whole L block r h)
+    (λ not_two h. cond_both (num_at 4 block 4 == 1) (read_v1 L block) (Err fault.NotTwo) (λ (x : Result MetaRead MetaFault). x ≡ Ok r → IsWholeMeta L r)
+    (λ one g. one-whole L block r g)
+    (λ not_v1 g. absurd cc) h) a.1
+
+-- metadata that is read is that of the block
+pub read-is : (L : Layout) (block : List ℕ) (r : MetaRead) → meta_read L block ≡ Some r → meta_of L block ≡ Ok r
+unfolding meta_read
+read-is L block r e = by-result (meta_of L block) e
+  where
+    by-result : (x : Result MetaRead MetaFault) → if_read x ≡ Some r → x ≡ Ok r
+    by-result (Ok k) e = ap Ok (same_Some k r e)
+    by-result (Err f) e = absurd cc
+
+first-whole : (a b : Option MetaRead) (r : MetaRead) → first_some a b ≡ Some r → (a ≡ Some r) ⊎ (b ≡ Some r)
+first-whole (Some x) b r e = inl e
+first-whole None b r e = inr e
+
+pub deciding-whole : (L : Layout) (image : List ℕ) (r : MetaRead) → deciding L image ≡ Some r → IsWholeMeta L r
+unfolding deciding
+deciding-whole L image r e =
+    elim (first-whole (meta_read L (block 1 image)) (meta_read L (block 2 image)) r e) [ inl h ↦ meta-whole L (block 1 image) r (read-is L (block 1 image) r h) | inr h ↦ meta-whole L (block 2 image) r (read-is L (block 2 image) r h) ]
+
+-- ---- a layout that was read is within its limits
+
+pub layout-fits : (block : List ℕ) (blocks : ℕ) (L : Layout) → layout_of block blocks ≡ Ok L → IsTrue (fits_layout L)
+unfolding layout_of
+layout-fits block blocks L e =
+    let images = num_at 4 block 12 in
+    let size = num_at 4 block 16 in
+    let a = was_not_refused (ltb (length block) 32) _ _ L e in
+    let b = was_not_refused (not (num_at 4 block 4 == layout_magic)) _ _ L a.1 in
+    let c = was_not_refused (not (leb 2 images && leb images 16 && (size == 32 + 24 * images))) _ _ L b.1 in
+    let d = was_not_refused (ltb (length block) size) _ _ L c.1 in
+    let f = was_not_refused (not (num_at 4 block 0 == crc (part block 4 size))) _ _ L d.1 in
+    let g = was_not_refused (not (fits_layout (layout_at block) && has_zeros block)) _ _ L f.1 in
+    let h = was_not_refused (ltb blocks (blocks_needed (layout_at block))) _ _ L g.1 in
+    subst (λ (x : Layout). IsTrue (fits_layout x)) (same-Ok {F = LayoutFault} (layout_at block) L h.1) (and_parts (fits_layout (layout_at block)) _ (not-false _ g.0)).0
+
+-- ---- packages that are read
+
+complete-is : (rows : List ImageRow) (q p : List (List ℕ)) → if_complete rows q ≡ Some p → IsTrue (is_complete rows p)
+complete-is rows q p e =
+    cond_both (is_complete rows q) (Some q) None (λ (o : Option (List (List ℕ))). o ≡ Some p → IsTrue (is_complete rows p))
+    (λ h f. subst (λ (x : List (List ℕ)). IsTrue (is_complete rows x)) (same_Some q p f) h)
+    (λ h f. absurd cc) e
+
+by-complete : (L : Layout) (image : List ℕ) (b : ℕ) (m : Result Manifest ManifestFault) (p : List (List ℕ)) → package_by L image b m ≡ Some p → IsTrue (is_complete L.rows p)
+by-complete L image b (Err f) p e = absurd cc
+by-complete L image b (Ok m) p e = complete-is L.rows (images_in L image b m) p e
+
+pub package-complete : (L : Layout) (image : List ℕ) (b : ℕ) (p : List (List ℕ)) → package_in L image b ≡ Some p → IsTrue (is_complete L.rows p)
+unfolding package_in
+package-complete L image b p e = by-complete L image b (manifest_of L.rows (slot L image b 0)) p e

@@ -1,0 +1,24 @@
+-- What is printed of a fault of a format.
+use Rattle.std.specs.Prelude.{ℕ, List, ◌++◌, codes, decimal}
+use Rattle.fwu_formats.specs.declared.kinds.LayoutFault.{LayoutFault}
+use Rattle.fwu_formats.specs.declared.kinds.LayoutFault.TheVariants as layout
+use Rattle.fwu_formats.specs.declared.kinds.FipFault.{FipFault}
+use Rattle.fwu_formats.specs.declared.kinds.FipFault.TheVariants as fip
+
+-- a layout fault's number
+abbrev pub layout_fault_number : LayoutFault → ℕ
+layout_fault_number layout.Short = 1
+layout_fault_number layout.BadMagic = 2
+layout_fault_number layout.BadSize = 3
+layout_fault_number layout.BadCrc = 4
+layout_fault_number layout.BadField = 5
+layout_fault_number layout.BeyondFlash = 6
+
+abbrev pub fip_fault_text : FipFault → List ℕ
+fip_fault_text fip.ShortHeader = codes "short-header"
+fip_fault_text fip.BadName = codes "bad-name"
+fip_fault_text fip.ZeroSerial = codes "zero-serial"
+fip_fault_text (fip.NoEnd i) = codes "no-end " ++ decimal i
+fip_fault_text fip.TooMany = codes "too-many"
+fip_fault_text (fip.Duplicate i) = codes "duplicate " ++ decimal i
+fip_fault_text (fip.Beyond i) = codes "beyond " ++ decimal i

@@ -1,0 +1,10 @@
+pub mod Layout
+pub mod Metadata
+pub mod Manifest
+pub mod Package
+pub mod Image
+pub mod Counter
+pub mod Words
+pub mod Digests
+pub mod FaultText
+pub mod Law

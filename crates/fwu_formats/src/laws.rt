@@ -1,0 +1,28 @@
+//! Laws of the formats: functions that do nothing, whose contract is the law.
+
+ghost use Rattle.fwu_formats.specs.Law.{FormatsAreSealed, MarksAreCounted, PackedIsRead, ReadLayoutsFit, WrittenIsRead};
+
+/// A block that isn't sealed is no layout, no metadata and no record of the counter.
+pub fn formats_are_sealed()
+    ensures { FormatsAreSealed }
+{}
+
+/// Layouts, metadata, manifests and records of the counter that are written are read again as what they say.
+pub fn written_is_read()
+    ensures { WrittenIsRead }
+{}
+
+/// A package that is packed is read again, with the parts and payloads in their order.
+pub fn packed_is_read()
+    ensures { PackedIsRead }
+{}
+
+/// A layout that was read is within its limits.
+pub fn read_layouts_fit()
+    ensures { ReadLayoutsFit }
+{}
+
+/// What the number of marks of a block is, and when a block is tidy.
+pub fn marks_are_counted()
+    ensures { MarksAreCounted }
+{}
