@@ -12,7 +12,8 @@ use Rattle.flash_core.proofs.Calls.{keeps_then, keeps_wider}
 use Rattle.fwu_formats.specs.Layout.{Layout}
 use Rattle.fwu_formats.specs.Metadata.{MetaRead, meta_read}
 use Rattle.fwu_model.specs.State.{State, Move, Migrate, bank, is_valid, is_accepted, after}
-use Rattle.fwu_model.specs.Sound.{Setting, choice, can_start, can_fall_back, holds_permitted, trial_limit}
+use Rattle.fwu_formats.specs.Places.{trial_limit}
+use Rattle.fwu_model.specs.Sound.{Setting, choice, can_start, can_fall_back, holds_permitted}
 use Rattle.fwu_model.specs.Answer.{migrate_moves}
 use Rattle.fwu_model.specs.Replica.{BothHold, in_version}
 use Rattle.fwu_formats.specs.declared.kinds.BankState.{BankState}

@@ -7,7 +7,8 @@ use Rattle.fwu_formats.specs.Layout.{Layout}
 use Rattle.fwu_formats.specs.Metadata.{state_at}
 use Rattle.fwu_formats.specs.Manifest.{version}
 use Rattle.fwu_model.specs.State.{State, Move, bank, is_valid, after}
-use Rattle.fwu_model.specs.Sound.{Setting, trial_limit}
+use Rattle.fwu_formats.specs.Places.{trial_limit}
+use Rattle.fwu_model.specs.Sound.{Setting}
 use Rattle.fwu_model.specs.Seen.{IsTidy}
 use Rattle.fwu_model.specs.Calm.{IsAtRest}
 use Rattle.fwu_model.specs.Answer.{booted_package}

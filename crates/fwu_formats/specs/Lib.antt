@@ -1,3 +1,4 @@
+pub mod Places
 pub mod Layout
 pub mod Metadata
 pub mod Manifest

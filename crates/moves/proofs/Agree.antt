@@ -12,7 +12,7 @@ use Rattle.fwu_formats.specs.Metadata.{Meta, MetaRead, state_at}
 use Rattle.fwu_formats.specs.Image.{layout_seen, deciding, marks, is_tidy, is_blank}
 use Rattle.fwu_formats.specs.Counter.{counter_in}
 use Rattle.fwu_model.specs.State.{State, Bank, bank, no_bank, is_invalid, is_valid}
-use Rattle.fwu_model.specs.Sound.{trial_limit}
+use Rattle.fwu_formats.specs.Places.{trial_limit}
 use Rattle.fwu_model.specs.Seen.{state_of, bank_in, IsTidy}
 use Rattle.fwu_model.proofs.Banks.{in_range}
 use Rattle.fwu_formats.proofs.Same.{block-same, listed-same, marks-same}

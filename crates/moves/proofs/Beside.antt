@@ -9,7 +9,8 @@ use Rattle.fwu_formats.specs.Layout.{Layout, start}
 use Rattle.fwu_formats.specs.Metadata.{MetaRead, meta_read, state_at}
 use Rattle.fwu_formats.specs.Image.{marks}
 use Rattle.fwu_model.specs.State.{State, bank, is_invalid, is_valid}
-use Rattle.fwu_model.specs.Sound.{Setting, Sound, trial_limit}
+use Rattle.fwu_formats.specs.Places.{trial_limit}
+use Rattle.fwu_model.specs.Sound.{Setting, Sound}
 use Rattle.fwu_model.specs.Seen.{IsTidy, state_of}
 use Rattle.moves.specs.Moved.{IsReady, IsShown}
 use Rattle.fwu_model.specs.Replica.{BothHold}

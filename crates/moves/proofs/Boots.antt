@@ -12,7 +12,8 @@ use Rattle.fwu_formats.specs.Layout.{Layout}
 use Rattle.fwu_formats.specs.Metadata.{MetaRead}
 use Rattle.fwu_formats.specs.Manifest.{version}
 use Rattle.fwu_model.specs.State.{State, Move, Trial, RaiseTo, Migrate, bank, is_valid, is_accepted, after}
-use Rattle.fwu_model.specs.Sound.{Setting, choice, trial_limit}
+use Rattle.fwu_formats.specs.Places.{trial_limit}
+use Rattle.fwu_model.specs.Sound.{Setting, choice}
 use Rattle.fwu_model.specs.Seen.{IsTidy, state_of}
 use Rattle.fwu_model.specs.Session.{Off}
 use Rattle.fwu_model.specs.Call as call

@@ -14,7 +14,8 @@ use Rattle.fwu_formats.specs.Layout.{Layout}
 use Rattle.fwu_formats.specs.Metadata.{MetaRead, state_at}
 use Rattle.fwu_formats.specs.Image.{layout_seen, deciding, marks, is_tidy, is_blank}
 use Rattle.fwu_model.specs.State.{State, bank, is_valid, is_accepted}
-use Rattle.fwu_model.specs.Sound.{Setting, trial_limit}
+use Rattle.fwu_formats.specs.Places.{trial_limit}
+use Rattle.fwu_model.specs.Sound.{Setting}
 use Rattle.fwu_model.specs.Seen.{IsTidy, state_of}
 use Rattle.fwu_model.proofs.Banks.{accepted-used, accepted-not_valid}
 use Rattle.fwu_formats.proofs.Marks.{marks-are-counted}

@@ -10,7 +10,7 @@ use Rattle.flash_core.proofs.Calls.{keeps_wider, guards_kept, quiet_fresh, may_n
 use Rattle.fwu_formats.specs.Layout.{Layout, start}
 use Rattle.fwu_formats.specs.Metadata.{MetaRead}
 use Rattle.fwu_formats.specs.Image.{layout_seen, deciding}
-use Rattle.fwu_model.specs.Sound.{trial_limit}
+use Rattle.fwu_formats.specs.Places.{trial_limit}
 use Rattle.fwu_model.specs.Seen.{state_of}
 use Rattle.fwu_model.specs.Calm.{IsGuarded, IsAtRest}
 use Rattle.fwu_model.specs.Replica.{Decides, in_version}

@@ -7,7 +7,8 @@ use Rattle.flash_core.proofs.Calls.{keeps_wider, keeps_then}
 use Rattle.fwu_formats.specs.Layout.{Layout}
 use Rattle.fwu_formats.specs.Metadata.{MetaRead}
 use Rattle.fwu_model.specs.State.{State}
-use Rattle.fwu_model.specs.Sound.{Setting, trial_limit}
+use Rattle.fwu_formats.specs.Places.{trial_limit}
+use Rattle.fwu_model.specs.Sound.{Setting}
 use Rattle.fwu_model.specs.Calm.{IsCalm, IsAtRest}
 use Rattle.fwu_model.specs.Replica.{BothHold}
 use Rattle.fwu_model.proofs.Guarded.{calm-is-guarded}

@@ -10,7 +10,7 @@ use Rattle.fwu_formats.specs.Metadata.{Meta, state_at}
 use Rattle.fwu_formats.specs.Image.{marks, package_in}
 use Rattle.fwu_formats.specs.Counter.{counter_in}
 use Rattle.fwu_model.specs.State.{Bank, bank, no_bank, is_invalid, is_valid, is_accepted, all_set, state_by, freed, with_bit, Free, Switch, Accept, Back, after_move}
-use Rattle.fwu_model.specs.Sound.{trial_limit}
+use Rattle.fwu_formats.specs.Places.{trial_limit}
 use Rattle.fwu_model.specs.Seen.{state_of, bank_in}
 use Rattle.fwu_model.specs.Replica.{in_version}
 use Rattle.meta_layout.proofs.Fits.{MetaFits}

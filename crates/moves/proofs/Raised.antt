@@ -12,7 +12,8 @@ use Rattle.fwu_formats.specs.Manifest.{version}
 use Rattle.fwu_formats.specs.Image.{deciding}
 use Rattle.fwu_formats.specs.Counter.{counter_in}
 use Rattle.fwu_model.specs.State.{State, RaiseTo, bank, is_valid, is_accepted, after_move}
-use Rattle.fwu_model.specs.Sound.{Setting, Sound, trial_limit, holds_permitted}
+use Rattle.fwu_formats.specs.Places.{trial_limit}
+use Rattle.fwu_model.specs.Sound.{Setting, Sound, holds_permitted}
 use Rattle.fwu_model.specs.Seen.{IsTidy, state_of}
 use Rattle.fwu_model.specs.Answer.{held_package, booted_package}
 use Rattle.fwu_model.specs.Headline.{ShowsOneOf}

@@ -11,7 +11,8 @@ use Rattle.fwu_formats.specs.Metadata.{Meta, MetaRead, state_at}
 use Rattle.fwu_formats.specs.Manifest.{is_complete}
 use Rattle.fwu_formats.specs.Image.{deciding, package_in, marks, is_tidy}
 use Rattle.fwu_model.specs.State.{State, Bank, Move, Free, Switch, Accept, Back, bank, no_bank, is_invalid, is_valid, is_accepted, all_set, state_by, freed, with_bit, update_bank, after_move}
-use Rattle.fwu_model.specs.Sound.{Setting, Sound, is_permitted, holds_permitted, trial_limit}
+use Rattle.fwu_formats.specs.Places.{trial_limit}
+use Rattle.fwu_model.specs.Sound.{Setting, Sound, is_permitted, holds_permitted}
 use Rattle.fwu_model.specs.Seen.{IsTidy, state_of}
 use Rattle.fwu_model.specs.Replica.{in_version}
 use Rattle.fwu_model.proofs.Banks.{accepted-used, accepted-not_valid, in_range, update-other, update-below, active-below, sound-free, sound-switch, sound-accept, sound-back}

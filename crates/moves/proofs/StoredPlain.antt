@@ -12,7 +12,7 @@ use Rattle.fwu_formats.specs.Layout.{Layout, start}
 use Rattle.fwu_formats.specs.Metadata.{Meta, MetaRead, meta_read, state_at}
 use Rattle.fwu_formats.specs.Image.{layout_seen, deciding, marks, package_in}
 use Rattle.fwu_model.specs.State.{State, Move, Free, Switch, Accept, Back, bank, is_invalid, is_valid, is_accepted, state_by, update_bank, after_move}
-use Rattle.fwu_model.specs.Sound.{trial_limit}
+use Rattle.fwu_formats.specs.Places.{trial_limit}
 use Rattle.fwu_model.specs.Seen.{state_of}
 use Rattle.fwu_model.specs.Calm.{IsAtRest}
 use Rattle.fwu_model.specs.Replica.{Decides, in_version}

@@ -10,7 +10,8 @@ use Rattle.fwu_formats.specs.Layout.{Layout}
 use Rattle.fwu_formats.specs.Metadata.{MetaRead}
 use Rattle.fwu_formats.specs.Image.{deciding, marks}
 use Rattle.fwu_model.specs.State.{State, Trial, bank, is_valid, after_move}
-use Rattle.fwu_model.specs.Sound.{Setting, trial_limit}
+use Rattle.fwu_formats.specs.Places.{trial_limit}
+use Rattle.fwu_model.specs.Sound.{Setting}
 use Rattle.fwu_model.specs.Seen.{IsTidy, state_of}
 use Rattle.fwu_model.specs.Headline.{ShowsOneOf}
 use Rattle.fwu_model.proofs.Banks.{sound-trial}

@@ -10,7 +10,8 @@ use Rattle.fwu_formats.specs.Manifest.{version}
 use Rattle.fwu_formats.specs.Image.{layout_seen, deciding, marks}
 use Rattle.fwu_formats.specs.Counter.{counter_in}
 use Rattle.fwu_model.specs.State.{State, Move, Trial, RaiseTo, bank, is_valid, is_accepted, after}
-use Rattle.fwu_model.specs.Sound.{Setting, choice, trial_limit}
+use Rattle.fwu_formats.specs.Places.{trial_limit}
+use Rattle.fwu_model.specs.Sound.{Setting, choice}
 use Rattle.fwu_model.specs.Session.{Off}
 use Rattle.fwu_model.specs.Call as call
 use Rattle.fwu_model.specs.Seen.{seen, IsTidy, SoundFlash}

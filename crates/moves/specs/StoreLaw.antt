@@ -8,7 +8,8 @@ use Rattle.fwu_formats.specs.Metadata.{Meta, MetaRead, meta_read, fits_meta, sta
 use Rattle.fwu_formats.specs.Manifest.{is_complete}
 use Rattle.fwu_formats.specs.Image.{layout_seen, deciding, marks, is_tidy, slot, package_in}
 use Rattle.fwu_model.specs.State.{State, Free, Switch, Accept, Back, bank, update_bank, is_invalid, is_valid, is_accepted, state_by}
-use Rattle.fwu_model.specs.Sound.{Setting, is_permitted, holds_permitted, trial_limit}
+use Rattle.fwu_formats.specs.Places.{trial_limit}
+use Rattle.fwu_model.specs.Sound.{Setting, is_permitted, holds_permitted}
 use Rattle.fwu_model.specs.Calm.{IsAtRest}
 use Rattle.fwu_model.specs.Replica.{in_version}
 use Rattle.marks_core.specs.Marks.{Clears}
