@@ -1,5 +1,5 @@
 -- What files and sinks hold, where they tell it.
-use Rattle.std.specs.Prelude.{◌≡◌, ◌≢◌, ◌≤◌, ◌+◌, ℕ, ⊤, List, [], ◌∷◌, Option, Some, None, IsSome, IfSome, IsSomeAnd, if◌then◌else◌, length, take, drop, map, option_map, String, Vec, string_bytes}
+use Rattle.std.specs.Prelude.{◌≡◌, ◌≢◌, ◌≤◌, ◌+◌, ℕ, ⊤, List, [], ◌∷◌, ◌++◌, Option, Some, None, IsSome, IfSome, IsSomeAnd, if◌then◌else◌, length, take, drop, map, option_map, String, Vec, string_bytes}
 use Rattle.std.specs.Global.{Global}
 use Rattle.std.specs.Str.{bytes_eq}
 use Rattle.std.specs.Io.KnownBytes.{Appends}
@@ -24,6 +24,13 @@ HasRange (Some files) name at count = IsSomeAnd (files name) (λ bytes. at + cou
 abbrev pub TellsRange : Option Directory → List ℕ → ℕ → List ℕ → Type 0
 TellsRange None name at out = ⊤
 TellsRange (Some files) name at out = IfSome (files name) (λ bytes. out ≡ take (length out) (drop at bytes))
+
+-- a range of the file's bytes was put behind the old ones; of a file that isn't told it's so many bytes, and no more is known
+pub record AddsRange (files : Option Directory) (name : List ℕ) (at count : ℕ) (old new : List ℕ) : Type 0 where
+  pub piece : List ℕ
+  pub size : length piece ≡ count
+  pub range : TellsRange files name at piece
+  pub added : new ≡ old ++ piece
 
 -- told contents stay at every other name, and those that aren't told stay so
 abbrev pub ChangesOnly : Option Directory → Option Directory → List ℕ → Type 0

@@ -4,9 +4,9 @@ use crate::stops::{Failed, WriteStop};
 
 /// Files by their names.
 pub trait Files {
-    ghost use Rattle.std.specs.Prelude.{◌≡◌, ℕ, Option, Err, IfOk, OnOk, length};
+    ghost use Rattle.std.specs.Prelude.{◌≡◌, ◌+◌, ◌≤◌, ℕ, Option, Err, IfOk, OnOk, OnErr, length, vec_capacity, vec_len};
     ghost use Rattle.host_io.specs.Causes.{HasCause, HasWriteCause};
-    ghost use Rattle.host_io.specs.Contents.{ChangesOnly, Directory, HasRange, Holds, TellsRange, TellsSize};
+    ghost use Rattle.host_io.specs.Contents.{AddsRange, ChangesOnly, Directory, HasRange, Holds, TellsRange, TellsSize};
     ghost use Rattle.host_io.specs.declared.stops.WriteStop.TheVariants as stop;
 
     /// The bytes of each name, where they are told.
@@ -26,6 +26,24 @@ pub trait Files {
     fn read_at(&mut self, name: &str, at: u64, out: &mut [u8]) -> Result<(), Failed>
         requires { HasRange (contents self.old) name.now at (length out.old) }
         ensures bytes { OnOk result (TellsRange (contents self.old) name.now at out.new) }
+        ensures same { contents self.new ≡ contents self.old }
+        ensures cause { HasCause (faults self.old) (faults self.new) result };
+
+    /// Adds `count` bytes of the file, from place `at` on, at the end of `out`, which has the room for
+    /// them, so that no memory is taken. After `Failed` it is as it was.
+    fn read_onto(
+        &mut self,
+        name: &str,
+        at: u64,
+        count: usize,
+        out: &mut Vec<u8>,
+    ) -> Result<(), Failed>
+        requires range { HasRange (contents self.old) name.now at count }
+        requires room { vec_len out.old + count ≤ vec_capacity out.old }
+        ensures bytes { OnOk result
+            (AddsRange (contents self.old) name.now at count out.old.items out.new.items) }
+        ensures unchanged { OnErr result (out.new.items ≡ out.old.items) }
+        ensures capacity { vec_capacity out.old ≤ vec_capacity out.new }
         ensures same { contents self.new ≡ contents self.old }
         ensures cause { HasCause (faults self.old) (faults self.new) result };
 

@@ -1,6 +1,6 @@
 //! The files of the system.
 
-ghost use Rattle.std.specs.Prelude.{◌≡◌, ◌≤◌, None};
+ghost use Rattle.std.specs.Prelude.{◌≡◌, ◌+◌, ◌≤◌, None, OnOk, length, take, vec_capacity, vec_len};
 ghost use Rattle.base_core.specs.Counts.{Rose};
 
 use crate::files::Files;
@@ -9,6 +9,23 @@ use std::fs::OpenFile;
 use std::io::{Read, Seek, SeekFrom};
 use std::marker::Model;
 use std::{fs, io};
+
+// How many bytes are read at a time to be added to others: few enough that they are still in the
+// processor's cache when they are copied. That costs less than a first fill of the place with zeros.
+const PIECE: usize = 32768;
+
+// Fills the piece with the next bytes of the file, and adds them to those that were read.
+fn read_piece<F: Read>(file: &mut F, piece: &mut [u8], out: &mut Vec<u8>) -> io::Result<()>
+    requires { vec_len out.old + length piece.old ≤ vec_capacity out.old }
+    ensures front { take (vec_len out.old) out.new.items ≡ out.old.items }
+    ensures grown { OnOk result (vec_len out.new ≡ vec_len out.old + length piece.old) }
+    ensures longer { vec_len out.old ≤ vec_len out.new }
+    ensures capacity { vec_capacity out.old ≤ vec_capacity out.new }
+{
+    file.read_exact(piece)?;
+    out.extend_from_slice(piece)?;
+    Ok(())
+}
 
 /// The files of the system. They tell nothing of their contents. Each error is a fault, and so are
 /// a name that no file has, and a range outside the file.
@@ -43,14 +60,39 @@ impl<R: std::rt::Files> HostFiles<R> {
         Failed
     }
 
-    // Fills `out` with the bytes from place `at` on. A range outside the file is an error.
-    fn fill(&self, name: &str, at: u64, out: &mut [u8]) -> io::Result<()> {
+    // The file, at this place. A place behind its end is an error.
+    fn open_at(&self, name: &str, at: u64) -> io::Result<R::File> {
         let mut file = fs::open(&self.rt, name)?;
         if at > file.metadata()?.len() {
             return Err(io::Error::from(io::ErrorKind::UnexpectedEof));
         }
         file.seek(SeekFrom::Start(at))?;
-        file.read_exact(out)
+        Ok(file)
+    }
+
+    // Fills `out` with the bytes from place `at` on. A range outside the file is an error.
+    fn fill(&self, name: &str, at: u64, out: &mut [u8]) -> io::Result<()> {
+        self.open_at(name, at)?.read_exact(out)
+    }
+
+    // Adds the bytes from place `at` on at the end of a list that has the room for them. A range
+    // outside the file is an error, which leaves some of the bytes there.
+    fn append(&self, name: &str, at: u64, count: usize, out: &mut Vec<u8>) -> io::Result<()>
+        requires { vec_len out.old + count ≤ vec_capacity out.old }
+        ensures front { take (vec_len out.old) out.new.items ≡ out.old.items }
+        ensures grown { OnOk result (vec_len out.new ≡ vec_len out.old + count) }
+        ensures longer { vec_len out.old ≤ vec_len out.new }
+        ensures capacity { vec_capacity out.old ≤ vec_capacity out.new }
+    {
+        let mut file = self.open_at(name, at)?;
+        let mut piece = [0; PIECE];
+        let mut left = count;
+        while left > 0 {
+            let size = left.min(PIECE);
+            read_piece(&mut file, &mut piece[..size], out)?;
+            left -= size;
+        }
+        Ok(())
     }
 }
 
@@ -70,6 +112,23 @@ impl<R: std::rt::Files> Files for HostFiles<R> {
         match self.fill(name, at, out) {
             Ok(()) => Ok(()),
             Err(_) => Err(self.fail()),
+        }
+    }
+
+    fn read_onto(
+        &mut self,
+        name: &str,
+        at: u64,
+        count: usize,
+        out: &mut Vec<u8>,
+    ) -> Result<(), Failed> {
+        let before = out.len();
+        match self.append(name, at, count, out) {
+            Ok(()) => Ok(()),
+            Err(_) => {
+                out.truncate(before);
+                Err(self.fail())
+            }
         }
     }
 

@@ -1,9 +1,9 @@
 //! Files in memory.
 
-ghost use Rattle.std.specs.Prelude.{◌≡◌, ◌≢◌, ◌↔◌, ℕ, List, Some, Err, IsErr, IfOk, OnOk, OnErr, length, option_map};
+ghost use Rattle.std.specs.Prelude.{◌≡◌, ◌≢◌, ◌↔◌, ◌+◌, ◌≤◌, ℕ, List, Some, Err, IsErr, IfOk, OnOk, OnErr, length, option_map, vec_capacity, vec_len};
 ghost use Rattle.host_io.specs.Calls.{IsListed, counted, unused, write_counted};
 ghost use Rattle.host_io.specs.Causes.{HasCause, HasWriteCause};
-ghost use Rattle.host_io.specs.Contents.{ChangesOnly, HasRange, Holds, TellsRange, TellsSize, bytes_in, pairs_of, place_in};
+ghost use Rattle.host_io.specs.Contents.{AddsRange, ChangesOnly, HasRange, Holds, TellsRange, TellsSize, bytes_in, pairs_of, place_in};
 ghost use Rattle.host_io.specs.declared.stops.WriteStop.TheVariants as stop;
 
 use crate::calls::CallCounter;
@@ -127,6 +127,33 @@ impl Files for MemoryFiles {
         if let Some(bytes) = bytes_of(self.files.as_slice(), name) {
             let start = at as usize;
             out.copy_from_slice(&bytes[start..start + out.len()]);
+        }
+        Ok(())
+    }
+
+    /// Besides what the trait says, it fails exactly at the listed calls.
+    fn read_onto(
+        &mut self,
+        name: &str,
+        at: u64,
+        count: usize,
+        out: &mut Vec<u8>,
+    ) -> Result<(), Failed>
+        requires range { HasRange (Some (bytes_in self.old.files)) name.now at count }
+        requires room { vec_len out.old + count ≤ vec_capacity out.old }
+        ensures bytes { OnOk result
+            (AddsRange (Some (bytes_in self.old.files)) name.now at count out.old.items out.new.items) }
+        ensures unchanged { OnErr result (out.new.items ≡ out.old.items) }
+        ensures capacity { vec_capacity out.old ≤ vec_capacity out.new }
+        ensures same { Some (bytes_in self.new.files) ≡ Some (bytes_in self.old.files) }
+        ensures cause { HasCause self.old.calls.faults self.new.calls.faults result }
+        ensures listed { IsErr result ↔ IsListed self.old.calls }
+        ensures calls { self.new.calls ≡ counted result self.old.calls }
+    {
+        self.calls.count()?;
+        if let Some(bytes) = bytes_of(self.files.as_slice(), name) {
+            let start = at as usize;
+            out.extend_from_slice(&bytes[start..start + count]).unwrap();
         }
         Ok(())
     }
