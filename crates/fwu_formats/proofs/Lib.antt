@@ -8,4 +8,5 @@ pub mod Written
 pub mod MetaWritten
 pub mod ManifestWritten
 pub mod PackWritten
+pub mod Tables
 pub mod Marks

@@ -6,7 +6,7 @@ use Rattle.base_core.specs.Seal.{is_sealed}
 use Rattle.fwu_formats.specs.Layout.{Layout, ImageRow, layout_of, layout_bytes, fits_layout, blocks_needed}
 use Rattle.fwu_formats.specs.Metadata.{Meta, MetaRead, meta_of, meta_read, meta_bytes, meta_bytes_v1, fits_meta, IsSayableInV1}
 use Rattle.fwu_formats.specs.Manifest.{Manifest, FitsImages, manifest_of, manifest_bytes}
-use Rattle.fwu_formats.specs.Package.{Toc, Part, FitsPackage, toc_of, packed, payload}
+use Rattle.fwu_formats.specs.Package.{Toc, Part, FitsPackage, IsTable, toc_of, packed, payload}
 use Rattle.fwu_formats.specs.Image.{marks, is_blank, is_tidy}
 use Rattle.fwu_formats.specs.Counter.{is_record, record_bytes, recorded}
 
@@ -22,6 +22,11 @@ pub record FormatsAreSealed : Type 0 where
   pub metadata : (L : Layout) (block : List ℕ) (r : MetaRead) → IsTrue (fits_layout L) → meta_of L block ≡ Ok r → IsTrue (is_sealed block)
   pub replica : (L : Layout) (block : List ℕ) (r : MetaRead) → IsTrue (fits_layout L) → meta_read L block ≡ Some r → IsTrue (is_sealed block)
   pub counter : (block : List ℕ) → IsTrue (is_record block) → IsTrue (is_sealed block)
+
+-- a package is read exactly where the equations of its table hold
+pub record TablesAreRead : Type 0 where
+  pub read : (bytes : List ℕ) (toc : Toc) → IsTable bytes toc → toc_of bytes ≡ Ok toc
+  pub table : (bytes : List ℕ) (toc : Toc) → toc_of bytes ≡ Ok toc → IsTable bytes toc
 
 -- ---- what is written
 

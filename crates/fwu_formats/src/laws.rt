@@ -1,6 +1,6 @@
 //! Laws of the formats: functions that do nothing, whose contract is the law.
 
-ghost use Rattle.fwu_formats.specs.Law.{FormatsAreSealed, MarksAreCounted, PackedIsRead, ReadLayoutsFit, WrittenIsRead};
+ghost use Rattle.fwu_formats.specs.Law.{FormatsAreSealed, MarksAreCounted, PackedIsRead, ReadLayoutsFit, TablesAreRead, WrittenIsRead};
 
 /// A block that isn't sealed is no layout, no metadata and no record of the counter.
 pub fn formats_are_sealed()
@@ -25,4 +25,9 @@ pub fn read_layouts_fit()
 /// What the number of marks of a block is, and when a block is tidy.
 pub fn marks_are_counted()
     ensures { MarksAreCounted }
+{}
+
+/// A package is read exactly where the equations of its table hold.
+pub fn tables_are_read()
+    ensures { TablesAreRead }
 {}
