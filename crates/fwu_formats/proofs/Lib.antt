@@ -10,3 +10,5 @@ pub mod ManifestWritten
 pub mod PackWritten
 pub mod Tables
 pub mod Marks
+pub mod OneSpelling
+pub mod ManifestSpelled

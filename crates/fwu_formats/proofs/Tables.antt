@@ -1,6 +1,6 @@
 -- A package is read exactly where the equations of its table hold.
-use Rattle.std.proofs.Common.{◌≡◌, ◌≢◌, ℕ, zero, suc, ◌+◌, ◌*◌, ◌<◌, ◌≤◌, Bool, true, false, cond, not, ◌==◌, List, [], ◌∷◌, ◌++◌, length, get_or, take, map, Option, Some, None, Result, Ok, Err, refl, sym, ap, subst, ◌∙◌, arith, inl, inr, IsTrue, IsFalse, ltb, eqb, ltb-false, le-ltb, eq-eqb, ne_eqb, eqb-true, append-nil, length-append, length-take, ext_get_or}
-use Rattle.std.specs.List.{All, AllPairs, list_any, range_with_len, position_or_len}
+use Rattle.std.proofs.Common.{◌≡◌, ◌≢◌, ℕ, zero, suc, ◌+◌, ◌*◌, ◌<◌, ◌≤◌, Bool, true, false, cond, not, ◌==◌, List, [], ◌∷◌, ◌++◌, length, get_or, take, Option, Some, None, Result, Ok, Err, refl, sym, ap, subst, ◌∙◌, arith, inl, inr, IsTrue, IsFalse, ltb, ltb-false, le-ltb, eq-eqb, ne_eqb, eqb-true, length-append, length-take, ext_get_or}
+use Rattle.std.specs.List.{All, AllPairs, list_any, position_or_len}
 use Rattle.std.specs.Prelude.{position}
 use Rattle.std.proofs.lemmas.Bool.{cases_Bool, cases_lt, cond_both, not-false}
 use Rattle.std.proofs.lemmas.List.Folds.{list_any_at, list_any_none}
@@ -61,7 +61,7 @@ more-entries bytes es i is are nil new = record {
         ap (λ (j : ℕ). get_or (es ++ entry_at bytes i ∷ []) j no_entry) here ∙ get_or-append_seam es (entry_at bytes i) [] no_entry ∙ ap (entry_at bytes) (sym is ∙ sym here)
   ];
   types = All-append (λ (e : Entry). e.guid ≢ nil_guid) es (entry_at bytes i ∷ []) are.types (λ k d lt.
-    subst (λ (j : ℕ). (get_or (entry_at bytes i ∷ []) j d).guid ≢ nil_guid) (let none : 0 ≡ k = omega (arith, lt) in none) (differs (entry_at bytes i).guid nil_guid nil));
+      subst (λ (j : ℕ). (get_or (entry_at bytes i ∷ []) j d).guid ≢ nil_guid) (let none : 0 ≡ k = omega (arith, lt) in none) (differs (entry_at bytes i).guid nil_guid nil));
   distinct = all_pairs_push (λ (e : Entry) (f : Entry). e.guid ≢ f.guid) es (entry_at bytes i) are.distinct (λ k d lt. differs (get_or es k d).guid (entry_at bytes i).guid (fails-at (has_guid (entry_at bytes i).guid) es new k d lt));
 }
 
@@ -97,9 +97,9 @@ entries-read bytes front i (suc left) es is are e =
     cond_both (same_bytes entry.guid nil_guid) (Ok front) (cond (list_any (has_guid entry.guid) front) (Err (fault.Duplicate i)) (entries_from bytes (front ++ entry ∷ []) (i + 1) left)) (λ (r : Result (List Entry) FipFault). r ≡ Ok es → IsRead bytes es (i + suc left))
     (λ nil h. subst (λ (xs : List Entry). IsRead bytes xs (i + suc left)) (same-Ok {F = FipFault} front es h) (ended bytes front i (i + suc left) is (omega arith) are long nil))
     (λ other h.
-      let b = was_not_refused (list_any (has_guid entry.guid) front) (fault.Duplicate i) _ es h in
-      let read = entries-read bytes (front ++ entry ∷ []) (i + 1) left es (length-append front (entry ∷ []) ∙ ap (λ (k : ℕ). k + 1) is) (more-entries bytes front i is are other b.0) b.1 in
-      record { whole = read.whole; few = omega (arith, read.few); marker = read.marker; are = read.are }) a.1
+    let b = was_not_refused (list_any (has_guid entry.guid) front) (fault.Duplicate i) _ es h in
+    let read = entries-read bytes (front ++ entry ∷ []) (i + 1) left es (length-append front (entry ∷ []) ∙ ap (λ (k : ℕ). k + 1) is) (more-entries bytes front i is are other b.0) b.1 in
+    record { whole = read.whole; few = omega (arith, read.few); marker = read.marker; are = read.are }) a.1
 
 abbrev headed : List ℕ → List Entry → Toc
 headed bytes es = record { serial = num_at 4 bytes 4; flags = num_at 8 bytes 8; entries = es }
@@ -128,14 +128,15 @@ module _ (bytes : List ℕ) (es : List Entry) where
     whole = read.whole;
     few = read.few;
     entries = ext_get_or no_entry es (listed (length es) (entry_at bytes)) (sym (length-map-range_with_len (entry_at bytes) 0 (length es))) (λ k lt.
-      read.are.at k lt ∙ sym (get_or-map-range_with_len (entry_at bytes) 0 (length es) k k no_entry lt (omega arith)));
+        read.are.at k lt ∙ sym (get_or-map-range_with_len (entry_at bytes) 0 (length es) k k no_entry lt (omega arith)));
     marker = read.marker;
     types = read.are.types;
     distinct = read.are.distinct;
     within = λ k d lt. ltb-false (length bytes) _ (none-found (is_beyond bytes) es fits k d lt);
   }
 
-table-of : (bytes : List ℕ) (toc : Toc) → toc_of bytes ≡ Ok toc → IsTable bytes toc
+-- the equations of a table that was read
+pub table-of : (bytes : List ℕ) (toc : Toc) → toc_of bytes ≡ Ok toc → IsTable bytes toc
 unfolding toc_of
 table-of bytes toc e =
     let a = was_not_refused (ltb (length bytes) 16) fault.ShortHeader _ toc e in
@@ -171,12 +172,13 @@ module _ (bytes : List ℕ) (toc : Toc) (t : IsTable bytes toc) where
 
   goes-on : (i : ℕ) → i < length es → IsFalse (same_bytes (entry_at bytes i).guid nil_guid) × IsFalse (list_any (has_guid (entry_at bytes i).guid) (take i es))
   goes-on i lt =
-      let guid = λ (d : Entry). ap (λ (e : Entry). e.guid) (entry-is i d lt) in
-      (is-other (entry_at bytes i).guid nil_guid (λ nil. t.types i no_entry lt (sym (guid no_entry) ∙ nil)),
-      list_any_none (has_guid (entry_at bytes i).guid) (take i es) (λ k d below.
-        let short : k < i = omega (arith, below, length-take i es) in
-        let there : (get_or (take i es) k d).guid ≡ (get_or es k d).guid = ap (λ (e : Entry). e.guid) (get_or-take i es k d short) in
-        is-other (get_or (take i es) k d).guid (entry_at bytes i).guid (λ same. t.distinct k i d short lt (sym there ∙ same ∙ guid d))))
+      let guid = λ (d : Entry). ap (λ (e : Entry). e.guid) (entry-is i d lt) in (
+        is-other (entry_at bytes i).guid nil_guid (λ nil. t.types i no_entry lt (sym (guid no_entry) ∙ nil)),
+        list_any_none (has_guid (entry_at bytes i).guid) (take i es) (λ k d below.
+            let short : k < i = omega (arith, below, length-take i es) in
+            let there : (get_or (take i es) k d).guid ≡ (get_or es k d).guid = ap (λ (e : Entry). e.guid) (get_or-take i es k d short) in
+            is-other (get_or (take i es) k d).guid (entry_at bytes i).guid (λ same. t.distinct k i d short lt (sym there ∙ same ∙ guid d))),
+      )
 
   entries-there : (left i : ℕ) → i ≤ length es → length es ≤ i + left → entries_from bytes (take i es) i left ≡ Ok es
   unfolding entries_from

@@ -1,14 +1,15 @@
 -- The laws of the formats: what is read is within its limits and sealed, what is written is read again, and how marks are counted.
 -- Each stands as a clause of a function of its own.
-use Rattle.std.specs.Prelude.{◌≡◌, ℕ, ◌<◌, ◌≤◌, List, ◌++◌, Some, Ok, IsTrue, length, IsFalse, map}
+use Rattle.std.specs.Prelude.{◌≡◌, ℕ, ◌<◌, ◌≤◌, List, ◌++◌, Some, Ok, IsTrue, length, IsFalse, map, ◌-◌, take}
 use Rattle.base_core.specs.Block.{granule}
+use Rattle.base_core.specs.Bytes.{are_bytes}
 use Rattle.base_core.specs.Seal.{is_sealed}
-use Rattle.fwu_formats.specs.Layout.{Layout, ImageRow, layout_of, layout_bytes, fits_layout, blocks_needed}
-use Rattle.fwu_formats.specs.Metadata.{Meta, MetaRead, meta_of, meta_read, meta_bytes, meta_bytes_v1, fits_meta, IsSayableInV1}
-use Rattle.fwu_formats.specs.Manifest.{Manifest, FitsImages, manifest_of, manifest_bytes}
+use Rattle.fwu_formats.specs.Layout.{Layout, ImageRow, layout_of, layout_size, layout_bytes, fits_layout, blocks_needed}
+use Rattle.fwu_formats.specs.Metadata.{Meta, MetaRead, meta_of, meta_read, meta_size, meta_bytes, meta_bytes_v1, fits_meta, IsSayableInV1}
+use Rattle.fwu_formats.specs.Manifest.{Manifest, FitsImages, manifest_of, manifest_size, manifest_bytes}
 use Rattle.fwu_formats.specs.Package.{Toc, Part, FitsPackage, IsTable, toc_of, packed, payload}
 use Rattle.fwu_formats.specs.Image.{marks, is_blank, is_tidy}
-use Rattle.fwu_formats.specs.Counter.{is_record, record_bytes, recorded}
+use Rattle.fwu_formats.specs.Counter.{is_record, record_size, record_bytes, recorded}
 
 -- ---- what is read
 
@@ -46,6 +47,13 @@ PackedIsRead =
     → (toc : Toc) × (toc_of (packed serial flags parts a) ≡ Ok toc) × (toc.serial ≡ serial) × (toc.flags ≡ flags)
     × (map (λ e. e.guid) toc.entries ≡ map (λ p. p.guid) parts) × (map (λ e. e.flags) toc.entries ≡ map (λ p. p.flags) parts)
     × (map (payload (packed serial flags parts a)) toc.entries ≡ map (λ p. p.bytes) parts)
+
+-- what is read has one spelling: the bytes follow from the value, up to its length
+pub record HaveOneSpelling : Type 0 where
+  pub layout : (L : Layout) (blocks : ℕ) (block : List ℕ) → IsTrue (are_bytes block) → layout_of block blocks ≡ Ok L → take (layout_size L) block ≡ layout_bytes L
+  pub metadata : (L : Layout) (m : Meta) (block : List ℕ) → IsTrue (fits_layout L) → IsTrue (are_bytes block) → meta_of L block ≡ Ok (record { form = 2; meta = m }) → take (meta_size L) block ≡ meta_bytes L m
+  pub counter : (block : List ℕ) → IsTrue (are_bytes block) → IsTrue (is_record block) → take record_size block ≡ record_bytes (recorded block)
+  pub manifest : (images : List ImageRow) (m : Manifest) (bytes : List ℕ) → IsTrue (are_bytes bytes) → manifest_of images bytes ≡ Ok m → take (manifest_size (length images - 1)) bytes ≡ manifest_bytes m
 
 -- ---- marks
 

@@ -1,6 +1,6 @@
 //! Laws of the formats: functions that do nothing, whose contract is the law.
 
-ghost use Rattle.fwu_formats.specs.Law.{FormatsAreSealed, MarksAreCounted, PackedIsRead, ReadLayoutsFit, TablesAreRead, WrittenIsRead};
+ghost use Rattle.fwu_formats.specs.Law.{FormatsAreSealed, HaveOneSpelling, MarksAreCounted, PackedIsRead, ReadLayoutsFit, TablesAreRead, WrittenIsRead};
 
 /// A block that isn't sealed is no layout, no metadata and no record of the counter.
 pub fn formats_are_sealed()
@@ -30,4 +30,10 @@ pub fn marks_are_counted()
 /// A package is read exactly where the equations of its table hold.
 pub fn tables_are_read()
     ensures { TablesAreRead }
+{}
+
+/// Layouts, metadata of version 2, manifests and records of the counter have one spelling: bytes that are read as the
+/// same value are the same, and those that are written.
+pub fn formats_have_one_spelling()
+    ensures { HaveOneSpelling }
 {}

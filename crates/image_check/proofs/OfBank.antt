@@ -15,7 +15,8 @@ use Rattle.fwu_formats.specs.Image.{slot, images_in}
 use Rattle.fwu_formats.specs.declared.kinds.ManifestFault.{ManifestFault}
 use Rattle.fwu_formats.proofs.SealLaws.{limits}
 use Rattle.manifest_core.specs.Shown.{version_of}
-use Rattle.manifest_core.proofs.InTurn.{of_front, num_front}
+use Rattle.fwu_formats.proofs.Spell.{num_front}
+use Rattle.manifest_core.proofs.InTurn.{of_front}
 use Rattle.manifest_core.proofs.Passed.{manifest_passed, sizes_fit}
 use Rattle.image_check.specs.Found.{is_good, place, by_version, found, front_of}
 use Rattle.image_check.specs.Verdict.{lowest_bad, by_manifest, has_image, verdict_on}

@@ -12,7 +12,8 @@ use Rattle.fwu_formats.specs.Image.{slot, images_in, package_by, package_in}
 use Rattle.fwu_model.specs.Sound.{Setting, is_permitted, holds_permitted}
 use Rattle.fwu_formats.specs.declared.kinds.ManifestFault.{ManifestFault}
 use Rattle.fwu_formats.proofs.SealLaws.{limits}
-use Rattle.manifest_core.proofs.InTurn.{of_front, num_front}
+use Rattle.fwu_formats.proofs.Spell.{num_front}
+use Rattle.manifest_core.proofs.InTurn.{of_front}
 use Rattle.manifest_core.proofs.Passed.{manifest_passed}
 use Rattle.image_check.specs.declared.bank.Verdict.TheVariants as verdict
 use Rattle.image_check.specs.Verdict.{lowest_bad, by_images, by_manifest, has_image, verdict_on}

@@ -1,15 +1,16 @@
 -- The manifest's tests one after the other.
 use Rattle.std.proofs.Common.{◌≡◌, ℕ, ◌+◌, ◌-◌, ◌*◌, ◌≤◌, ◌<◌, Bool, true, false, not, ◌==◌, List, length, take, drop, Result, Ok, Err, refl, sym, ap, ◌∙◌, arith, ltb, inl, inr}
 use Rattle.std.proofs.lemmas.Bool.{cases_eq, ne_eqb, le-ltb, lt-ltb}
-use Rattle.std.proofs.lemmas.List.{take_all, length-take-le, drop-take, take-take, length-drop}
+use Rattle.std.proofs.lemmas.List.{take_all, length-take-le, take-take, length-drop}
 use Rattle.std.specs.Prelude.{if◌then◌else◌, nat_lt}
-use Rattle.base_core.specs.Bytes.{num, num_at, listed, same_bytes}
+use Rattle.base_core.specs.Bytes.{num_at, listed, same_bytes}
 use Rattle.sha2.specs.Sha256.{sha256}
 use Rattle.fwu_formats.specs.Layout.{ImageRow}
 use Rattle.fwu_formats.specs.Manifest.{Manifest, manifest_of, manifest_at, manifest_size, manifest_magic, row_at, has_form, is_version_too_high, all_paired}
 use Rattle.fwu_formats.specs.declared.kinds.ManifestFault.{ManifestFault}
 use Rattle.fwu_formats.specs.declared.kinds.ManifestFault.TheVariants as fault
 use Rattle.manifest_core.specs.Shown.{version_of, is_named, is_within}
+use Rattle.fwu_formats.proofs.Spell.{num_front}
 
 -- the first fault, where tests after the first one are to be true
 abbrev pub outcome : {X : Type 0} → Bool → Bool → Bool → Bool → Bool → Bool → Bool → Bool → X → Result X ManifestFault
@@ -46,18 +47,6 @@ pub by_tests : (images : List ImageRow) (bytes : List ℕ) → version_of (manif
     (same_bytes (drop (16 + 56 * count) whole) (sha256 (take (16 + 56 * count) bytes))) (num_at 4 whole 8))
 unfolding manifest_of
 by_tests images bytes = version_outcome _ _ _ _ _ _ _ _ (manifest_at (take (manifest_size (length images - 1)) bytes))
-
--- a part of the front of the bytes
-pub part_front : (n at size : ℕ) (bytes : List ℕ) → at + n ≤ size → take n (drop at (take size bytes)) ≡ take n (drop at bytes)
-part_front n at size bytes h =
-    let split : at + (size - at) ≡ size = omega arith in
-    let room : n ≤ size - at = omega arith in
-    ap (λ (k : ℕ). take n (drop at (take k bytes))) (sym split)
-    ∙ ap (take n) (drop-take at (size - at) bytes)
-    ∙ take-take n (size - at) (drop at bytes) room
-
-pub num_front : (n at size : ℕ) (bytes : List ℕ) → at + n ≤ size → num_at n (take size bytes) at ≡ num_at n bytes at
-num_front n at size bytes h = ap num (part_front n at size bytes h)
 
 -- the front of the bytes alone counts
 pub of_front : (images : List ImageRow) (bytes : List ℕ) → manifest_size (length images - 1) ≤ length bytes

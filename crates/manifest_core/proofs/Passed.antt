@@ -11,7 +11,8 @@ use Rattle.fwu_formats.specs.declared.kinds.ManifestFault.{ManifestFault}
 use Rattle.manifest_core.specs.Shown.{version_of, is_within, row}
 use Rattle.manifest_core.specs.declared.rows.Row.{Row as SpecRow}
 use Rattle.std.proofs.lemmas.List.FromFn.{length-map-range_with_len}
-use Rattle.manifest_core.proofs.InTurn.{outcome, by_tests, num_front}
+use Rattle.fwu_formats.proofs.Spell.{num_front}
+use Rattle.manifest_core.proofs.InTurn.{outcome, by_tests}
 
 -- what is left of the tests where all passed
 record Outcome {X : Type 0} (short count room : Bool) (x y : X) : Type 0 where

@@ -14,6 +14,7 @@ use Rattle.fwu_formats.specs.declared.kinds.BankState.TheVariants.{Invalid, Vali
 use Rattle.fwu_formats.specs.declared.kinds.MetaFault.{MetaFault}
 use Rattle.fwu_formats.specs.declared.kinds.MetaFault.TheVariants as fault
 use Rattle.fwu_formats.proofs.SealLaws.{was_not_refused}
+use Rattle.fwu_formats.proofs.OneSpelling.{all-at}
 
 -- the parts of the condition
 pub record MetaFits (L : Layout) (m : Meta) : Type 0 where
@@ -38,11 +39,6 @@ fits-meta L m f =
     and_from _ _ (and_from _ _ (and_from _ _ (and_from _ _ (lt-ltb m.active L.banks f.active) (lt-ltb m.previous L.banks f.previous)) (eq-eqb _ _ f.states)) (eq-eqb _ _ f.bits)) f.rows
 
 -- ---- tests that each element meets
-
-pub all-at : {X : Type 0} (test : X → Bool) (xs : List X) (i : ℕ) (d : X) → IsTrue (list_all test xs) → i < length xs → IsTrue (test (get_or xs i d))
-all-at test [] i d h lt = absurd (omega arith)
-all-at test (x ∷ xs) zero d h lt = (and_parts (test x) _ h).0
-all-at test (x ∷ xs) (suc i) d h lt = all-at test xs i d (and_parts (test x) _ h).1 (omega arith)
 
 all-set : {X : Type 0} (test : X → Bool) (xs : List X) (i : ℕ) (x : X) → IsTrue (list_all test xs) → IsTrue (test x) → IsTrue (list_all test (set xs i x))
 all-set test [] i x h t = refl

@@ -6,5 +6,4 @@ pub mod Fits
 pub mod Metas
 pub mod Writes
 pub mod Firsts
-pub mod OneSpelling
 pub mod Same

@@ -1,5 +1,5 @@
 -- Bytes that are written one after another.
-use Rattle.std.proofs.Common.{◌%◌, IsTrue, map, ◌≡◌, ℕ, ◌+◌, ◌-◌, ◌≤◌, ◌<◌, List, [], ◌∷◌, ◌++◌, length, get_or, take, drop, replicate, refl, sym, ap, ◌∙◌, arith, append_assoc, append-nil, length-append, zero-add}
+use Rattle.std.proofs.Common.{◌%◌, IsTrue, map, ◌≡◌, ℕ, ◌+◌, ◌-◌, ◌≤◌, ◌<◌, List, [], ◌∷◌, ◌++◌, length, get_or, take, drop, replicate, refl, sym, ap, ◌∙◌, arith, append_assoc, append-nil, length-append}
 use Rattle.std.proofs.Math.Seq.{take-append-add}
 use Rattle.std.proofs.lemmas.List.{take-replicate, length-replicate, take_all, drop-replicate, get_or_default, length-drop, drop_all, drop-take, drop-append-le, length-take-le, take_at, drop_at, take_more}
 use Rattle.std.specs.Prelude.{flat_map}
@@ -8,10 +8,10 @@ use Rattle.fwu_formats.specs.declared.kinds.BankState.{BankState}
 use Rattle.fwu_formats.specs.declared.kinds.BankState.TheVariants.{Invalid}
 use Rattle.meta_layout.proofs.Fits.{meta-fits, row-length}
 use Rattle.meta_layout.specs.Entries.{HasBits, entry_of, front_bytes}
-use Rattle.std.proofs.lemmas.List.FromFn.{map-range_with_len_more}
 use Rattle.base_core.specs.Bytes.{overwritten, le, part, listed}
 use Rattle.base_core.specs.Crc.{crc}
 use Rattle.fwu_formats.specs.Layout.{ImageRow, Layout, nil_guid, row_bytes, layout_magic, layout_size, layout_body}
+use Rattle.fwu_formats.proofs.OneSpelling.{map-last}
 
 pub front : (at : ℕ) (bytes image : List ℕ) → at + length bytes ≤ length image → take (at + length bytes) (overwritten at bytes image) ≡ take at image ++ bytes
 unfolding overwritten
@@ -72,16 +72,6 @@ written body out w new size low room long is so =
     let inner : part one 4 size ≡ body = ap (λ (l : List ℕ). take (size - 4) (drop 4 l)) plain ∙ ap (take (size - 4)) (drop_at (take 4 out) w 4 four) ∙ is in
     so ∙ ap (λ l. le 4 (crc l) ++ l ++ replicate (length one - size) 0xFF) inner ∙ ap (λ n. le 4 (crc body) ++ body ++ replicate (n - size) 0xFF) count
 
-flat-last : {X : Type 0} (f : X → List ℕ) (xs : List X) (x : X) → flat_map f (xs ++ x ∷ []) ≡ flat_map f xs ++ f x
-flat-last f [] x = append-nil (f x)
-flat-last f (y ∷ xs) x = ap (λ l. f y ++ l) (flat-last f xs x) ∙ sym (append_assoc (f y) (flat_map f xs) (f x))
-
--- one more piece of a loop that writes the pieces of 0, 1, ..
-pub listed-more : (f : ℕ → List ℕ) (i : ℕ) (first before after : List ℕ) → before ≡ first ++ flat_map f (listed i (λ k. k)) → after ≡ before ++ f i → after ≡ first ++ flat_map f (listed (i + 1) (λ k. k))
-listed-more f i first before after so next =
-    next ∙ ap (λ l. l ++ f i) so ∙ append_assoc first (flat_map f (listed i (λ k. k))) (f i)
-    ∙ ap (λ l. first ++ l) (sym (flat-last f (listed i (λ k. k)) i) ∙ ap (flat_map f) (sym (map-range_with_len_more (λ k. k) 0 i i (zero-add i))))
-
 pub listed-all : (f : ℕ → List ℕ) (i n : ℕ) (first after : List ℕ) → i ≡ n → after ≡ first ++ flat_map f (listed i (λ k. k)) → after ≡ first ++ flat_map f (listed n (λ k. k))
 listed-all f i n first after e so = so ∙ ap (λ k. first ++ flat_map f (listed k (λ x. x))) e
 
@@ -102,10 +92,6 @@ entry-bytes L m image row rows banks is same lt count =
     let guid : row.guid ≡ (get_or L.rows image none).guid =
     ap (λ (r : ImageRow). r.guid) (is ∙ get_or_default rows image row none lt ∙ ap (λ l. get_or l image none) same) in
     rw (guid, count) refl
-
-pub map-last : (xs : List BankState) (x : BankState) → map state_byte (xs ++ x ∷ []) ≡ map state_byte xs ++ state_byte x ∷ []
-map-last [] x = refl
-map-last (y ∷ xs) x = ap (λ l. state_byte y ∷ l) (map-last xs x)
 
 pub states-more : (states : List BankState) (i v : ℕ) (s : BankState) (first before after : List ℕ) → i < length states → s ≡ get_or states i Invalid → v ≡ state_byte s
     → v < 256 → before ≡ first ++ map state_byte (take i states) → after ≡ before ++ le 1 v → after ≡ first ++ map state_byte (take (i + 1) states)

@@ -6,7 +6,6 @@ mod bytes;
 mod entries;
 mod fields;
 mod first;
-mod laws;
 mod layout;
 mod lists;
 mod meta;
@@ -16,7 +15,6 @@ mod rows;
 mod write;
 
 pub use fwu_formats::{BankState, LayoutFault, MetaFault};
-pub use laws::{layouts_have_one_spelling, metadata_has_one_spelling};
 pub use layout::Layout;
 pub use lists::{BankBits, Bits, States};
 pub use meta::Meta;

@@ -2,7 +2,8 @@ use Rattle.std.proofs.Common.{◌≡◌, ◌+◌, ◌*◌, ◌<◌, ◌≤◌, �
 use Rattle.fwu_formats.specs.Layout.{ImageRow}
 use Rattle.fwu_formats.specs.Metadata.{entry_bytes}
 use Rattle.meta_layout.proofs.Places.{within}
-use Rattle.meta_layout.proofs.Writes.{has-bits, entry-bytes, listed-more, listed-all}
+use Rattle.fwu_formats.proofs.OneSpelling.{listed-more}
+use Rattle.meta_layout.proofs.Writes.{has-bits, entry-bytes, listed-all}
 use Rattle.meta_layout.proofs.write.put_entries.Goals as goal
 
 pub put_entry-end-requires-clause-bits : goal.put_entry-end-requires-clause-bits

@@ -1,8 +1,8 @@
--- What is read in version 2 has one spelling: the bytes of a block follow from the value.
-use Rattle.std.proofs.Common.{◌≡◌, ℕ, zero, suc, ◌+◌, ◌-◌, ◌*◌, ◌/◌, ◌%◌, ◌<◌, ◌≤◌, ◌⊎◌, inl, inr, Bool, true, false, not, ◌&&◌, ◌||◌, ◌==◌, IsTrue, ltb, leb, leb-true, eqb, eqb-true, ltb-true, ltb-false, List, [], ◌∷◌, ◌++◌, length, get_or, take, drop, drop-cons, map, replicate, Result, Ok, Err, refl, sym, ap, subst, ◌∙◌, arith, length-drop, zero-add}
+-- What is read has one spelling: the bytes follow from the value.
+use Rattle.std.proofs.Common.{◌≡◌, ℕ, zero, suc, ◌+◌, ◌-◌, ◌*◌, ◌/◌, ◌%◌, ◌<◌, ◌≤◌, ◌⊎◌, inl, inr, Bool, true, false, not, ◌&&◌, ◌||◌, ◌==◌, IsTrue, ltb, leb, leb-true, eqb, eqb-true, ltb-true, ltb-false, List, [], ◌∷◌, ◌++◌, length, get_or, take, drop, drop-cons, map, replicate, Result, Ok, Err, refl, sym, ap, subst, ◌∙◌, arith, length-drop, zero-add, append-nil, append_assoc}
 use Rattle.std.specs.Prelude.{flat_map, nat_lt}
 use Rattle.std.specs.List.{list_all, range_with_len}
-use Rattle.std.proofs.Math.Nat.{suc-mul}
+use Rattle.std.proofs.Math.Nat.{suc-mul, mul-le-mul_right}
 use Rattle.std.proofs.Math.Seq.{take-add}
 use Rattle.std.proofs.lemmas.Bool.{and_parts, and_from, not-false, cond_both, cases_lt}
 use Rattle.std.proofs.lemmas.List.{drop-drop, length-take-le, get_or-take, get_or-drop}
@@ -10,19 +10,41 @@ use Rattle.std.proofs.lemmas.List.FromFn.{get_or-map-range_with_len, length-map-
 use Rattle.base_core.specs.Bytes.{num, le, num_at, part, same_bytes, listed, are_bytes}
 use Rattle.base_core.specs.Crc.{crc}
 use Rattle.base_core.proofs.Spelled.{same_is}
-use Rattle.fwu_formats.specs.Layout.{Layout, nil_guid, fits_layout, blocks_needed, layout_magic, layout_of, layout_at, layout_size, layout_body, layout_bytes, row_bytes, has_zeros}
+use Rattle.fwu_formats.specs.Layout.{Layout, ImageRow, nil_guid, fits_layout, blocks_needed, layout_magic, layout_of, layout_at, layout_size, layout_body, layout_bytes, row_bytes, has_zeros}
 use Rattle.fwu_formats.specs.declared.kinds.LayoutFault.{LayoutFault}
-use Rattle.meta_layout.specs.Rows.{row_at}
 use Rattle.fwu_formats.specs.Metadata.{Meta, MetaRead, meta_of, meta_bytes, meta_body, meta_size, meta_size_v1, entry_size, entry_place, entry_bytes, entries_bytes, bit_at, bit_number, bits_from, has_bank_entry, has_entry, has_entries, has_states, has_indices, has_fields, header_fields, is_state_byte, state_byte, state_of_byte, meta_at, meta_at_v1, read_v2, read_v1, fits_v2, fits_v1}
+use Rattle.fwu_formats.specs.Counter.{is_record, record_magic, record_size, record_body, record_bytes, recorded}
 use Rattle.fwu_formats.specs.declared.kinds.BankState.{BankState}
 use Rattle.fwu_formats.specs.declared.kinds.MetaFault.{MetaFault}
 use Rattle.fwu_formats.specs.declared.kinds.MetaFault.TheVariants as fault
 use Rattle.fwu_formats.proofs.SealLaws.{was_not_refused, limits}
-use Rattle.meta_layout.proofs.Fits.{all-at, same-Ok}
-use Rattle.meta_layout.proofs.Places.{within}
-use Rattle.meta_layout.proofs.Writes.{listed-more, map-last}
+use Rattle.fwu_formats.proofs.Read.{same-Ok}
 
-all-take : {X : Type 0} (test : X → Bool) (n : ℕ) (xs : List X) → IsTrue (list_all test xs) → IsTrue (list_all test (take n xs))
+-- ---- lists
+
+pub all-at : {X : Type 0} (test : X → Bool) (xs : List X) (i : ℕ) (d : X) → IsTrue (list_all test xs) → i < length xs → IsTrue (test (get_or xs i d))
+all-at test [] i d h lt = absurd (omega arith)
+all-at test (x ∷ xs) zero d h lt = (and_parts (test x) _ h).0
+all-at test (x ∷ xs) (suc i) d h lt = all-at test xs i d (and_parts (test x) _ h).1 (omega arith)
+
+flat-last : {X : Type 0} (f : X → List ℕ) (xs : List X) (x : X) → flat_map f (xs ++ x ∷ []) ≡ flat_map f xs ++ f x
+flat-last f [] x = append-nil (f x)
+flat-last f (y ∷ xs) x = ap (λ l. f y ++ l) (flat-last f xs x) ∙ sym (append_assoc (f y) (flat_map f xs) (f x))
+
+-- one more piece of a loop that writes the pieces of 0, 1, ..
+pub listed-more : (f : ℕ → List ℕ) (i : ℕ) (first before after : List ℕ) → before ≡ first ++ flat_map f (listed i (λ k. k)) → after ≡ before ++ f i → after ≡ first ++ flat_map f (listed (i + 1) (λ k. k))
+listed-more f i first before after so next =
+    next ∙ ap (λ l. l ++ f i) so ∙ append_assoc first (flat_map f (listed i (λ k. k))) (f i)
+    ∙ ap (λ l. first ++ l) (sym (flat-last f (listed i (λ k. k)) i) ∙ ap (flat_map f) (sym (map-range_with_len_more (λ k. k) 0 i i (zero-add i))))
+
+pub map-last : (xs : List BankState) (x : BankState) → map state_byte (xs ++ x ∷ []) ≡ map state_byte xs ++ state_byte x ∷ []
+map-last [] x = refl
+map-last (y ∷ xs) x = ap (λ l. state_byte y ∷ l) (map-last xs x)
+
+piece-within : (image images size : ℕ) → image < images → image * size + size ≤ images * size
+piece-within image images size lt = omega (arith, mul-le-mul_right size lt)
+
+pub all-take : {X : Type 0} (test : X → Bool) (n : ℕ) (xs : List X) → IsTrue (list_all test xs) → IsTrue (list_all test (take n xs))
 all-take test zero xs h = refl
 all-take test (suc n) [] h = refl
 all-take test (suc n) (x ∷ xs) h = let both = and_parts (test x) _ h in and_from _ _ both.0 (all-take test n xs both.1)
@@ -79,21 +101,21 @@ at-range test from (suc n) i h low high =
     ]
 
 module _ (block : List ℕ) (bytes : IsTrue (are_bytes block)) where
-  field : (at n : ℕ) → at + n ≤ length block → take n (drop at block) ≡ le n (num_at n block at)
+  pub field : (at n : ℕ) → at + n ≤ length block → take n (drop at block) ≡ le n (num_at n block at)
   field at n room =
       let long : length (take n (drop at block)) ≡ n = length-take-le n (drop at block) (omega (arith, length-drop at block, room)) in
       let fit : IsTrue (are_bytes (take n (drop at block))) = all-take (λ b. nat_lt b 256) n (drop at block) (all-drop (λ b. nat_lt b 256) at block bytes) in
       sym (le-num (take n (drop at block)) fit) ∙ ap (λ k. le k (num_at n block at)) long
 
   -- one piece more, behind those from a place on
-  next : (from at n : ℕ) (front piece : List ℕ) → take at (drop from block) ≡ front → take n (drop (from + at) block) ≡ piece → take (at + n) (drop from block) ≡ front ++ piece
+  pub next : (from at n : ℕ) (front piece : List ℕ) → take at (drop from block) ≡ front → take n (drop (from + at) block) ≡ piece → take (at + n) (drop from block) ≡ front ++ piece
   next from at n front piece so is =
       take-add at n (drop from block) ∙ ap (λ l. l ++ take n (drop at (drop from block))) so ∙ ap (λ (l : List ℕ). front ++ take n l) (drop-drop at from block) ∙ ap (λ l. front ++ l) is
 
-  next-num : (from at n v : ℕ) (front : List ℕ) → from + at + n ≤ length block → take at (drop from block) ≡ front → num_at n block (from + at) ≡ v → take (at + n) (drop from block) ≡ front ++ le n v
+  pub next-num : (from at n v : ℕ) (front : List ℕ) → from + at + n ≤ length block → take at (drop from block) ≡ front → num_at n block (from + at) ≡ v → take (at + n) (drop from block) ≡ front ++ le n v
   next-num from at n v front room so is = next from at n front (le n v) so (field (from + at) n room ∙ ap (le n) is)
 
-  pieces : (f : ℕ → List ℕ) (from size count : ℕ) → ((i : ℕ) → i < count → take size (drop (from + i * size) block) ≡ f i) → take (count * size) (drop from block) ≡ flat_map f (listed count (λ k. k))
+  pub pieces : (f : ℕ → List ℕ) (from size count : ℕ) → ((i : ℕ) → i < count → take size (drop (from + i * size) block) ≡ f i) → take (count * size) (drop from block) ≡ flat_map f (listed count (λ k. k))
   pieces f from size zero h = let none : 0 * size ≡ 0 = omega arith in ap (λ (k : ℕ). take k (drop from block)) none
   pieces f from size (suc n) h =
       let so = pieces f from size n (λ i lt. h i (omega arith)) in
@@ -173,7 +195,7 @@ module _ (block : List ℕ) (bytes : IsTrue (are_bytes block)) where
     entries-spelled : IsTrue (has_entries L 0x28 block) → take (length L.rows * entry_size L) (drop 0x28 block) ≡ entries_bytes L m
     entries-spelled h =
         pieces (entry_bytes L m) 0x28 (entry_size L) (length L.rows) (λ image lt.
-        entry-spelled image lt (let h = within image (length L.rows) (entry_size L) lt in omega (arith, h, room)) (at-range (has_entry L 0x28 block) 0 (length L.rows) image h (omega arith) (omega (arith, lt))))
+        entry-spelled image lt (let h = piece-within image (length L.rows) (entry_size L) lt in omega (arith, h, room)) (at-range (has_entry L 0x28 block) 0 (length L.rows) image h (omega arith) (omega (arith, lt))))
 
     body-spelled : num_at 4 block 4 ≡ 2 → num_at 4 block 16 ≡ meta_size L → IsTrue (fits_v2 L block) → part block 4 (meta_size L) ≡ meta_body L m
     body-spelled version size h =
@@ -220,9 +242,9 @@ module _ (block : List ℕ) (bytes : IsTrue (are_bytes block)) where
         ap (λ (k : ℕ). take k block) n ∙ take-add 4 (meta_size L - 4) block ∙ ap (λ l. l ++ part block 4 (meta_size L)) (field 0 4 (omega (arith, room)) ∙ ap (le 4) (sum ∙ ap crc body)) ∙ ap (λ l. le 4 (crc (meta_body L m)) ++ l) body
 
 -- metadata of version 2 has one spelling
-pub one-spelling : (L : Layout) (m : Meta) (block : List ℕ) → IsTrue (fits_layout L) → IsTrue (are_bytes block) → meta_of L block ≡ Ok (record { form = 2; meta = m }) → take (meta_size L) block ≡ meta_bytes L m
+pub meta-one-spelling : (L : Layout) (m : Meta) (block : List ℕ) → IsTrue (fits_layout L) → IsTrue (are_bytes block) → meta_of L block ≡ Ok (record { form = 2; meta = m }) → take (meta_size L) block ≡ meta_bytes L m
 unfolding meta_of
-one-spelling L m block fits bytes e =
+meta-one-spelling L m block fits bytes e =
     let r : MetaRead = record { form = 2; meta = m } in
     let a = was_not_refused (ltb (length block) (meta_size L)) fault.Short _ r e in
     let room = ltb-false (length block) (meta_size L) a.0 in
@@ -251,7 +273,11 @@ one-spelling L m block fits bytes e =
 
 -- ---- layouts
 
-flat-map : {X Y : Type 0} (f : Y → List ℕ) (g : X → Y) (xs : List X) → flat_map f (map g xs) ≡ flat_map (λ x. f (g x)) xs
+-- the row that a layout block has at an index
+abbrev row_at : List ℕ → ℕ → ImageRow
+row_at block i = record { guid = take 16 (drop (32 + 24 * i) block); slots = num_at 4 block (48 + 24 * i) }
+
+pub flat-map : {X Y : Type 0} (f : Y → List ℕ) (g : X → Y) (xs : List X) → flat_map f (map g xs) ≡ flat_map (λ x. f (g x)) xs
 flat-map f g [] = refl
 flat-map f g (x ∷ xs) = ap (λ l. f (g x) ++ l) (flat-map f g xs)
 
@@ -300,9 +326,9 @@ module _ (block : List ℕ) (bytes : IsTrue (are_bytes block)) (images : ℕ) (f
       ∙ ap (λ l. l ++ part block 4 (32 + 24 * images)) (field block bytes 0 4 (omega (arith, room)) ∙ ap (le 4) (sum ∙ ap crc body)) ∙ ap (λ l. le 4 (crc (layout_body L)) ++ l) body
 
 -- a layout has one spelling
-pub one-layout-spelling : (L : Layout) (blocks : ℕ) (block : List ℕ) → IsTrue (are_bytes block) → layout_of block blocks ≡ Ok L → take (layout_size L) block ≡ layout_bytes L
+pub layout-one-spelling : (L : Layout) (blocks : ℕ) (block : List ℕ) → IsTrue (are_bytes block) → layout_of block blocks ≡ Ok L → take (layout_size L) block ≡ layout_bytes L
 unfolding layout_of
-one-layout-spelling L blocks block bytes e =
+layout-one-spelling L blocks block bytes e =
     let images = num_at 4 block 12 in
     let size = num_at 4 block 16 in
     let a = was_not_refused (ltb (length block) 32) _ _ L e in
@@ -321,3 +347,25 @@ one-layout-spelling L blocks block bytes e =
     let zeros = (and_parts (fits_layout (layout_at block)) (has_zeros block) (not-false _ g.0)).1 in
     subst (λ (x : Layout). take (layout_size x) block ≡ layout_bytes x) same
     (layout_block-spelled block bytes images few (omega (arith, is, room)) (eqb-true _ layout_magic (not-false _ b.0)) refl is sum zeros)
+
+-- ---- records of the counter
+
+pub record-one-spelling : (block : List ℕ) → IsTrue (are_bytes block) → IsTrue (is_record block) → take record_size block ≡ record_bytes (recorded block)
+unfolding is_record record_bytes
+record-one-spelling block bytes is =
+    let v = num_at 4 block 8 in
+    let zeros = and_parts _ (list_all (λ b. b == 0) (part block 20 32)) is in
+    let unused = and_parts _ (num_at 4 block 12 == 0) zeros.0 in
+    let magic = and_parts _ (num_at 4 block 4 == record_magic) unused.0 in
+    let sum = and_parts _ (num_at 4 block 0 == crc (part block 4 32)) magic.0 in
+    let size = and_parts (leb 32 (length block)) (num_at 4 block 16 == 32) sum.0 in
+    let room : 32 ≤ length block = leb-true 32 (length block) size.0 in
+    let value : recorded block ≡ v = rw is refl in
+    let gap : part block 20 32 ≡ replicate 12 0 = all-one 0 (part block 20 32) zeros.1 ∙ ap (λ k. replicate k 0) (length-take-le 12 (drop 20 block) (omega (arith, length-drop 20 block, room))) in
+    let a = next-num block bytes 4 0 4 record_magic [] (omega (arith, room)) refl (eqb-true _ record_magic magic.1) in
+    let b = next-num block bytes 4 4 4 v _ (omega (arith, room)) a refl in
+    let c = next-num block bytes 4 8 4 0 _ (omega (arith, room)) b (eqb-true _ 0 unused.1) in
+    let d = next-num block bytes 4 12 4 32 _ (omega (arith, room)) c (eqb-true _ 32 size.1) in
+    let body : take 28 (drop 4 block) ≡ record_body v = next block bytes 4 16 12 _ (replicate 12 0) d gap in
+    take-add 4 28 block ∙ ap (λ l. l ++ take 28 (drop 4 block)) (field block bytes 0 4 (omega (arith, room)) ∙ ap (le 4) (eqb-true _ _ sum.1 ∙ ap crc body))
+    ∙ ap (λ l. le 4 (crc (record_body v)) ++ l) body ∙ ap (λ (n : ℕ). le 4 (crc (record_body n)) ++ record_body n) (sym value)

@@ -1,0 +1,106 @@
+-- A manifest that is read has one spelling.
+use Rattle.std.proofs.Common.{◌≡◌, ◌⊎◌, inl, inr, ℕ, ◌+◌, ◌-◌, ◌*◌, ◌<◌, ◌≤◌, Bool, true, false, not, ◌&&◌, ◌||◌, ◌==◌, cond, IsTrue, IsFalse, ltb, leb, ltb-true, ltb-false, eqb-true, le-leb, leb-true, List, [], ◌++◌, length, take, drop, Ok, refl, sym, ap, ◌∙◌, arith}
+use Rattle.std.specs.Prelude.{flat_map}
+use Rattle.std.specs.List.{range_with_len}
+use Rattle.std.proofs.lemmas.Bool.{not-false, cases_Bool}
+use Rattle.std.proofs.lemmas.List.{take-take, take-append-drop, length-take-le}
+use Rattle.std.proofs.lemmas.List.FromFn.{length-map-range_with_len}
+use Rattle.sha2.specs.Sha256.{sha256}
+use Rattle.base_core.specs.Bytes.{num_at, same_bytes, listed, are_bytes}
+use Rattle.base_core.proofs.Spelled.{same_is}
+use Rattle.fwu_formats.specs.Layout.{ImageRow}
+use Rattle.fwu_formats.specs.Manifest.{Manifest, manifest_magic, version_limit, form_of, manifest_size, manifest_row_bytes, manifest_body, manifest_bytes, all_paired, row_at, manifest_at, has_form, is_version_too_high, manifest_of}
+use Rattle.fwu_formats.specs.Law.{HaveOneSpelling}
+use Rattle.fwu_formats.specs.declared.kinds.ManifestFault.{ManifestFault}
+use Rattle.fwu_formats.specs.declared.kinds.ManifestFault.TheVariants as fault
+use Rattle.fwu_formats.proofs.SealLaws.{was_not_refused}
+use Rattle.fwu_formats.proofs.Read.{same-Ok}
+use Rattle.fwu_formats.proofs.Spell.{num_front}
+use Rattle.fwu_formats.proofs.OneSpelling.{all-take, flat-map, next, next-num, pieces, layout-one-spelling, meta-one-spelling, record-one-spelling}
+
+by-form : (one two above : Bool) → IsTrue (one || (two && above)) → IsFalse (one && above) → ((one ≡ true) × (above ≡ false)) ⊎ ((two ≡ true) × (above ≡ true))
+by-form true two true has high = absurd cc
+by-form true two false has high = inl (refl, refl)
+by-form false true true has high = inr (refl, refl)
+by-form false true false has high = absurd cc
+by-form false false above has high = absurd cc
+
+-- the form is the version's
+form-is : (form security : ℕ) → IsTrue ((form == 1) || ((form == 2) && ltb version_limit security)) → IsFalse ((form == 1) && ltb version_limit security) → form ≡ form_of security
+form-is form security has high =
+    elim (by-form (form == 1) (form == 2) (ltb version_limit security) has high) [
+      | inl narrow ↦ eqb-true form 1 narrow.0 ∙ sym (ap (λ (b : Bool). cond b 1 2) (le-leb security version_limit (ltb-false version_limit security narrow.1)))
+      | inr wide ↦
+          let over = ltb-true version_limit security wide.1 in
+          eqb-true form 2 wide.0 ∙ sym (ap (λ (b : Bool). cond b 1 2) (not-within security over))
+    ]
+  where
+    not-within : (v : ℕ) → version_limit < v → leb v version_limit ≡ false
+    not-within v over =
+        elim (cases_Bool (leb v version_limit)) [
+          | inl fits ↦ absurd (let le = leb-true v version_limit fits in omega (arith, le, over))
+          | inr past ↦ past
+        ]
+
+module _ (B : List ℕ) (bytes : IsTrue (are_bytes B)) (count : ℕ) (room : manifest_size count ≤ length B) where
+  row-spelled : (j : ℕ) → j < count → take 56 (drop (16 + j * 56) B) ≡ manifest_row_bytes (row_at B j)
+  row-spelled j lt =
+      let p = 16 + 56 * j in
+      let place : 16 + j * 56 ≡ p = omega arith in
+      let size : num_at 4 B (p + 16) ≡ num_at 4 B (32 + 56 * j) = ap (num_at 4 B) (omega arith) in
+      let version : num_at 4 B (p + 20) ≡ num_at 4 B (36 + 56 * j) = ap (num_at 4 B) (omega arith) in
+      let digest : take 32 (drop (p + 24) B) ≡ take 32 (drop (40 + 56 * j) B) = ap (λ (k : ℕ). take 32 (drop k B)) (omega arith) in
+      let a = next-num B bytes p 16 4 (num_at 4 B (32 + 56 * j)) (take 16 (drop p B)) (omega (arith, lt, room)) refl size in
+      let b = next-num B bytes p 20 4 (num_at 4 B (36 + 56 * j)) _ (omega (arith, lt, room)) a version in
+      ap (λ (k : ℕ). take 56 (drop k B)) place ∙ next B bytes p 24 32 _ (take 32 (drop (40 + 56 * j) B)) b digest
+
+  rows-spelled : take (count * 56) (drop 16 B) ≡ flat_map manifest_row_bytes (listed count (row_at B))
+  rows-spelled =
+      pieces B bytes (λ j. manifest_row_bytes (row_at B j)) 16 56 count row-spelled
+      ∙ flat-map (λ j. manifest_row_bytes (row_at B j)) (λ (k : ℕ). k) (range_with_len 0 count) ∙ sym (flat-map manifest_row_bytes (row_at B) (range_with_len 0 count))
+
+  body-spelled : num_at 4 B 0 ≡ manifest_magic → num_at 4 B 4 ≡ form_of (num_at 4 B 8) → num_at 4 B 12 ≡ count → take (16 + 56 * count) B ≡ manifest_body (manifest_at B)
+  body-spelled magic form counted =
+      let m = manifest_at B in
+      let rows : length m.rows ≡ num_at 4 B 12 = length-map-range_with_len (row_at B) 0 (num_at 4 B 12) in
+      let a = next-num B bytes 0 0 4 manifest_magic [] (omega (arith, room)) refl magic in
+      let b = next-num B bytes 0 4 4 (form_of m.security) _ (omega (arith, room)) a form in
+      let c = next-num B bytes 0 8 4 m.security _ (omega (arith, room)) b refl in
+      let d = next-num B bytes 0 12 4 (length m.rows) _ (omega (arith, room)) c (sym rows) in
+      let size : 16 + 56 * count ≡ 16 + count * 56 = omega arith in
+      ap (λ (k : ℕ). take k B) size ∙ next B bytes 0 16 (count * 56) _ (flat_map manifest_row_bytes m.rows) d (rows-spelled ∙ ap (λ (k : ℕ). flat_map manifest_row_bytes (listed k (row_at B))) (sym counted))
+
+manifest-one-spelling : (images : List ImageRow) (m : Manifest) (bytes : List ℕ) → IsTrue (are_bytes bytes) → manifest_of images bytes ≡ Ok m → take (manifest_size (length images - 1)) bytes ≡ manifest_bytes m
+unfolding manifest_of manifest_bytes
+manifest-one-spelling images m bytes are e =
+    let count = length images - 1 in
+    let size = manifest_size count in
+    let B = take size bytes in
+    let a = was_not_refused (ltb (length bytes) size) fault.Short _ m e in
+    let b = was_not_refused (not (num_at 4 bytes 0 == manifest_magic)) fault.BadMagic _ m a.1 in
+    let c = was_not_refused (not (has_form bytes)) fault.BadForm _ m b.1 in
+    let d = was_not_refused (is_version_too_high bytes) fault.VersionTooHigh _ m c.1 in
+    let f = was_not_refused (not (num_at 4 bytes 12 == count)) fault.BadCount _ m d.1 in
+    let g = was_not_refused (not (all_paired (λ i r. same_bytes i.guid r.guid) (drop 1 images) (manifest_at B).rows)) fault.WrongOrder _ m f.1 in
+    let h = was_not_refused (not (all_paired (λ i r. leb r.size (4096 * i.slots)) (drop 1 images) (manifest_at B).rows)) fault.TooLarge _ m g.1 in
+    let k = was_not_refused (not (same_bytes (drop (16 + 56 * count) B) (sha256 (take (16 + 56 * count) bytes)))) fault.BadDigest _ m h.1 in
+    let is : manifest_at B ≡ m = same-Ok {F = ManifestFault} (manifest_at B) m k.1 in
+    let room : size ≤ length B = omega (arith, length-take-le size bytes (ltb-false (length bytes) size a.0)) in
+    let fit : IsTrue (are_bytes B) = all-take (λ b. ltb b 256) size bytes are in
+    let at = λ (place : ℕ) (low : place + 4 ≤ size). num_front 4 place size bytes low in
+    let magic : num_at 4 B 0 ≡ manifest_magic = at 0 (omega arith) ∙ eqb-true _ manifest_magic (not-false _ b.0) in
+    let form : num_at 4 B 4 ≡ form_of (num_at 4 B 8) = at 4 (omega arith) ∙ form-is (num_at 4 bytes 4) (num_at 4 bytes 8) (not-false _ c.0) d.0 ∙ ap form_of (sym (at 8 (omega arith))) in
+    let counted : num_at 4 B 12 ≡ count = at 12 (omega arith) ∙ eqb-true _ count (not-false _ f.0) in
+    let body = body-spelled B fit count room magic form counted in
+    let digest : drop (16 + 56 * count) B ≡ sha256 (manifest_body (manifest_at B)) =
+    same_is _ _ (not-false _ k.0) ∙ ap sha256 (sym (take-take (16 + 56 * count) size bytes (omega arith)) ∙ body) in
+    sym (take-append-drop (16 + 56 * count) B) ∙ ap (λ l. l ++ drop (16 + 56 * count) B) body ∙ ap (λ l. manifest_body (manifest_at B) ++ l) digest
+    ∙ ap (λ (x : Manifest). manifest_body x ++ sha256 (manifest_body x)) is
+
+pub one-spelling : HaveOneSpelling
+one-spelling = record {
+  layout = layout-one-spelling;
+  metadata = meta-one-spelling;
+  counter = record-one-spelling;
+  manifest = manifest-one-spelling;
+}
