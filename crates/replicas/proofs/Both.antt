@@ -1,5 +1,5 @@
 -- What each exit of `store` leaves: one replica after the other.
-use Rattle.std.proofs.Common.{◌≡◌, inl, inr, ℕ, ◌+◌, ◌*◌, ◌≤◌, List, length, Some, ◌∙◌, ap, arith, IsTrue}
+use Rattle.std.proofs.Common.{◌≡◌, inl, inr, ℕ, ◌+◌, ◌*◌, ◌≤◌, List, length, Some, ◌∙◌, ap, subst, arith, IsTrue}
 use Rattle.std.proofs.lemmas.Result.{on_ok_weaker}
 use Rattle.std.specs.Prelude.{Result, Ok, Err, OnOk}
 use Rattle.base_core.specs.Block.{block}
@@ -7,7 +7,7 @@ use Rattle.flash_core.specs.declared.flash.FlashStop.{FlashStop}
 use Rattle.flash_core.specs.Told.{Told, is_guarded}
 use Rattle.flash_core.specs.May.{May, Guards, Quiet}
 use Rattle.flash_core.specs.Replaces.{padded, IsOldOrNew, IsSettled, Replaces}
-use Rattle.flash_core.proofs.Calls.{keeps_wider, keeps_then, block_kept, now_kept, quiet_fresh}
+use Rattle.flash_core.proofs.Calls.{keeps_wider, keeps_then, block_kept, now_kept, guarded_kept, quiet_fresh}
 use Rattle.fwu_formats.specs.Layout.{Layout, fits_layout}
 use Rattle.fwu_formats.specs.Metadata.{Meta, MetaRead, meta_read, fits_meta, replica_bytes}
 use Rattle.fwu_model.specs.Replica.{BothHold, Decides, in_version}
@@ -37,17 +37,23 @@ module _ {T U : Type 0} (given : Result U FlashStop) (result : Result T FlashSto
       replaced.either (guard_zero s guards) (quiet_zero s quiet) image may,
       block_kept 2 4096 8192 s t image (omega (arith, room)) (inr (omega arith)) (quiet_one s quiet) replaced.keeps may.leaves,
     );
+    other = λ guards quiet image may.
+        inl (block_kept 2 4096 8192 s t image (omega (arith, room)) (inr (omega arith)) (quiet_one s quiet) replaced.keeps may.leaves);
     zero = stopped _;
     one = stopped _;
     stable = stopped _;
   }
 
   -- replica 0 is the new one, whatever replica 1 is
-  pub one_written : (s m t : Told) → 12288 ≤ length m.now → Replaces given 1 new s m → IsSettled 1 new m → Replaces result 2 new m t → WritesBoth result new s t
-  one_written s m t room first settled second = record {
+  pub one_written : (s m t : Told) → 12288 ≤ length s.now → 12288 ≤ length m.now → Replaces given 1 new s m → IsSettled 1 new m → Replaces result 2 new m t → WritesBoth result new s t
+  one_written s m t space room first settled second = record {
     keeps = keeps_then 4096 12288 s m t (keeps_wider 4096 8192 4096 12288 s m (omega arith) (omega arith) first.keeps) (keeps_wider 8192 12288 4096 12288 m t (omega arith) (omega arith) second.keeps);
     between = λ guards quiet image may.
         inr (block_kept 1 8192 12288 m t image (omega (arith, room)) (inl (omega arith)) (quiet_fresh (4096 * 1) (4096 * 1 + 4096) m settled.stable) second.keeps may.leaves ∙ settled.bytes_are);
+    other = λ guards quiet image may.
+        subst (λ (old : List ℕ). IsOldOrNew old new (block 2 image))
+        (now_kept 2 4096 8192 s m (omega (arith, space)) (inr (omega arith)) first.keeps)
+        (second.either (guarded_kept 2 4096 8192 s m first.keeps (guard_one s guards)) (quiet_fresh (4096 * 2) (4096 * 2 + 4096) m settled.stable) image may);
     zero = on_ok_weaker result (λ ok. now_kept 1 8192 12288 m t (omega (arith, room)) (inl (omega arith)) second.keeps ∙ settled.bytes_are) second.ok;
     one = on_ok_weaker result (λ ok. ok.bytes_are) second.ok;
     stable = on_ok_weaker result (λ ok. ok.stable) second.ok;

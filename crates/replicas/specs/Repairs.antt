@@ -4,9 +4,23 @@ use Rattle.base_core.specs.Block.{block}
 use Rattle.flash_core.specs.declared.flash.FlashStop.{FlashStop}
 use Rattle.flash_core.specs.Told.{Told}
 use Rattle.flash_core.specs.May.{May, Guards, Keeps, Quiet}
+use Rattle.flash_core.specs.Replaces.{padded, IsOldOrNew}
 use Rattle.fwu_formats.specs.Layout.{Layout}
-use Rattle.fwu_formats.specs.Metadata.{MetaRead, meta_read}
+use Rattle.fwu_formats.specs.Metadata.{MetaRead, meta_read, replica_bytes}
 use Rattle.fwu_model.specs.Replica.{BothHold, Decides, in_version}
+
+-- what a repair writes over the replica in block b, where that lacks the metadata
+pub record Rewrites {T : Type 0} (result : Result T FlashStop) (L : Layout) (b : ℕ)
+    (r : MetaRead) (new : List ℕ) (s t : Told) : Type 0 where
+  -- when done, the block is the new one, to the last byte
+  pub written : (meta_read L (block b s.now) ≡ Some r → ⊥) → OnOk result (block b t.now ≡ new)
+  -- in each image that a power-on may leave it is the old one, the new one, or has no seal
+  pub either : Guards 1 2 s → Quiet 4096 12288 s → (image : List ℕ) → May t image
+      → IsOldOrNew (block b s.now) new (block b image)
+
+-- the block of a replica: the metadata's bytes in version 2, 0xFF to a whole granule, and else erased ones
+abbrev pub replica_block : Layout → MetaRead → List ℕ
+replica_block L r = padded (replica_bytes L r.meta)
 
 -- what a repair leaves, at any exit, where this metadata decided
 pub record Repairs {T : Type 0} (result : Result T FlashStop) (L : Layout) (r : MetaRead) (s t : Told) : Type 0 where
@@ -16,6 +30,9 @@ pub record Repairs {T : Type 0} (result : Result T FlashStop) (L : Layout) (r : 
   pub idle : BothHold L (in_version 2 r.meta) s.now → t ≡ s
   pub zero_alone : meta_read L (block 2 s.now) ≡ Some (in_version 2 r.meta) → Keeps 4096 8192 s t
   pub one_alone : meta_read L (block 1 s.now) ≡ Some (in_version 2 r.meta) → Keeps 8192 12288 s t
+  -- and one that lacks it becomes its bytes, and never another block
+  pub zero : Rewrites result L 1 (in_version 2 r.meta) (replica_block L r) s t
+  pub one : Rewrites result L 2 (in_version 2 r.meta) (replica_block L r) s t
   -- in each image that a power-on may leave it decides, as it was or in version 2
   pub stays : Guards 1 2 s → Quiet 4096 12288 s → (image : List ℕ) → May t image → Decides L r (in_version 2 r.meta) image
   -- when done, both replicas hold it in version 2, and are stable where they were so before

@@ -19,6 +19,8 @@ pub record WritesBoth {T : Type 0} (result : Result T FlashStop) (new : List ℕ
   -- but for the replicas nothing changes
   pub keeps : Keeps 4096 12288 s t
   pub between : Guards 1 2 s → Quiet 4096 12288 s → (image : List ℕ) → May t image → IsBetween s.now new image
+  -- nor is replica 1 ever another one than the old and the new
+  pub other : Guards 1 2 s → Quiet 4096 12288 s → (image : List ℕ) → May t image → IsOldOrNew (block 2 s.now) new (block 2 image)
   -- when done, both replicas are the new one, and nothing is dirty
   pub zero : OnOk result (block 1 t.now ≡ new)
   pub one : OnOk result (block 2 t.now ≡ new)

@@ -2,9 +2,8 @@
 ghost use Rattle.std.specs.Prelude.{◌≡◌, ◌↔◌, ◌%◌, ◌<◌, ◌≤◌, Some, length, is_ok, IsTrue, IfOk};
 ghost use Rattle.base_core.specs.Block.{block};
 ghost use Rattle.flash_core.specs.Counts.{Spends};
-ghost use Rattle.flash_core.specs.Replaces.{padded};
 ghost use Rattle.fwu_formats.specs.Layout.{fits_layout};
-ghost use Rattle.fwu_formats.specs.Metadata.{fits_meta, meta_read};
+ghost use Rattle.fwu_formats.specs.Metadata.{fits_meta, meta_read, replica_bytes};
 ghost use Rattle.fwu_model.specs.Replica.{in_version};
 ghost use Rattle.replicas.specs.Which.{Loads};
 ghost use Rattle.replicas.specs.Repairs.{Repairs};
@@ -46,7 +45,8 @@ fn migrate_zero<D: Flash>(
     requires some { 0 < length bytes.now }
     requires fits { length bytes.now ≤ 4096 }
     requires layout { IsTrue (fits_layout layout.now) }
-    requires spelled { meta_read layout.now (padded bytes.now) ≡ Some (in_version 2 meta.now.meta) }
+    requires spelled { bytes.now ≡ replica_bytes layout.now meta.now.meta }
+    requires of_layout { IsTrue (fits_meta layout.now meta.now.meta) }
     requires loaded { IsTrue D.tells → Loads layout.now MigrateZero meta.now (D.told flash.old).now }
 
     ensures repairs { IsTrue D.tells → Repairs result layout.now meta.now (D.told flash.old) (D.told flash.new) }

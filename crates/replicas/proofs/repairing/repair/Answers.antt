@@ -1,16 +1,12 @@
-use Rattle.std.proofs.Common.{◌≤◌, ◌∙◌, ap, length, subst, arith, List, ℕ}
+use Rattle.std.proofs.Common.{◌≤◌, length, refl, subst, arith, List, ℕ}
 use Rattle.std.specs.Prelude.{Ok}
 use Rattle.flash_core.specs.Replaces.{padded}
-use Rattle.fwu_formats.specs.Metadata.{meta_read}
+use Rattle.replicas.specs.Stores.{WritesBoth}
 use Rattle.replicas.specs.Which.{Loads}
 use Rattle.replicas.specs.declared.which.Which.{Which}
 use Rattle.replicas.proofs.Reading.{replica_read}
-use Rattle.replicas.proofs.Mending.{same_mended, zero_repaired, one_repaired, one_migrated}
+use Rattle.replicas.proofs.Mending.{spelled_out, same_mended, zero_repaired, one_repaired, one_migrated}
 use Rattle.replicas.proofs.repairing.repair.Goals as goal
-
-pub migrate_zero-requires-clause-spelled : goal.migrate_zero-requires-clause-spelled
-migrate_zero-requires-clause-spelled g c =
-    ap (λ (bytes : List ℕ). meta_read c.args.layout.now (padded bytes)) c.spell-size.ensures.spelled ∙ replica_read c.args.layout.now c.args.meta.now.meta c.spell-size.ensures.layout c.requires.fits
 
 pub returns-in-Same-clause-repairs : goal.returns-in-Same-clause-repairs
 returns-in-Same-clause-repairs g c tells =
@@ -18,9 +14,9 @@ returns-in-Same-clause-repairs g c tells =
     let r = c.args.meta.now in
     let s = g.D.Flash.told c.args.flash.now in
     let room : 12288 ≤ length s.now = omega (arith, (g.met.D.Flash.sizes c.args.flash.now).0, (g.met.D.Flash.sound c.args.flash.now tells).size) in
-    let spelled = ap (λ (bytes : List ℕ). meta_read L (padded bytes)) c.spell-size.ensures.spelled ∙ replica_read L r.meta c.spell-size.ensures.layout c.requires.fits in
+    let spelled = replica_read L r.meta c.spell-size.ensures.layout c.requires.fits in
     let loads = subst (λ (w : Which). Loads L w r s.now) c.in-Same.is (c.requires.loaded tells) in
-    same_mended L c.spell-size.ensures.layout r _ spelled (Ok tt) s s room tt loads
+    same_mended L c.spell-size.ensures.layout r spelled (Ok tt) s s room tt loads
 
 pub returns-in-RepairZero-clause-repairs : goal.returns-in-RepairZero-clause-repairs
 returns-in-RepairZero-clause-repairs g c tells =
@@ -28,9 +24,10 @@ returns-in-RepairZero-clause-repairs g c tells =
     let r = c.args.meta.now in
     let s = g.D.Flash.told c.args.flash.now in
     let room : 12288 ≤ length s.now = omega (arith, (g.met.D.Flash.sizes c.args.flash.now).0, (g.met.D.Flash.sound c.args.flash.now tells).size) in
-    let spelled = ap (λ (bytes : List ℕ). meta_read L (padded bytes)) c.spell-size.ensures.spelled ∙ replica_read L r.meta c.spell-size.ensures.layout c.requires.fits in
+    let spelled = replica_read L r.meta c.spell-size.ensures.layout c.requires.fits in
     let loads = subst (λ (w : Which). Loads L w r s.now) c.in-RepairZero.is (c.requires.loaded tells) in
-    zero_repaired L c.spell-size.ensures.layout r _ spelled c.replace.result s _ room loads (c.replace.ensures.replaces tells)
+    zero_repaired L c.spell-size.ensures.layout r spelled c.replace.result s _ room loads
+    (spelled_out c.replace.result 1 _ _ s s _ c.spell-size.ensures.spelled refl (c.replace.ensures.replaces tells))
 
 pub returns-in-RepairOne-clause-repairs : goal.returns-in-RepairOne-clause-repairs
 returns-in-RepairOne-clause-repairs g c tells =
@@ -38,9 +35,10 @@ returns-in-RepairOne-clause-repairs g c tells =
     let r = c.args.meta.now in
     let s = g.D.Flash.told c.args.flash.now in
     let room : 12288 ≤ length s.now = omega (arith, (g.met.D.Flash.sizes c.args.flash.now).0, (g.met.D.Flash.sound c.args.flash.now tells).size) in
-    let spelled = ap (λ (bytes : List ℕ). meta_read L (padded bytes)) c.spell-size.ensures.spelled ∙ replica_read L r.meta c.spell-size.ensures.layout c.requires.fits in
+    let spelled = replica_read L r.meta c.spell-size.ensures.layout c.requires.fits in
     let loads = subst (λ (w : Which). Loads L w r s.now) c.in-RepairOne.is (c.requires.loaded tells) in
-    one_repaired L c.spell-size.ensures.layout r _ spelled c.replace-in-RepairOne.result s _ room loads (c.replace-in-RepairOne.ensures.replaces tells)
+    one_repaired L c.spell-size.ensures.layout r spelled c.replace-in-RepairOne.result s _ room loads
+    (spelled_out c.replace-in-RepairOne.result 2 _ _ s s _ c.spell-size.ensures.spelled refl (c.replace-in-RepairOne.ensures.replaces tells))
 
 pub returns-in-MigrateOne-clause-repairs : goal.returns-in-MigrateOne-clause-repairs
 returns-in-MigrateOne-clause-repairs g c tells =
@@ -48,6 +46,7 @@ returns-in-MigrateOne-clause-repairs g c tells =
     let r = c.args.meta.now in
     let s = g.D.Flash.told c.args.flash.now in
     let room : 12288 ≤ length s.now = omega (arith, (g.met.D.Flash.sizes c.args.flash.now).0, (g.met.D.Flash.sound c.args.flash.now tells).size) in
-    let spelled = ap (λ (bytes : List ℕ). meta_read L (padded bytes)) c.spell-size.ensures.spelled ∙ replica_read L r.meta c.spell-size.ensures.layout c.requires.fits in
+    let spelled = replica_read L r.meta c.spell-size.ensures.layout c.requires.fits in
     let loads = subst (λ (w : Which). Loads L w r s.now) c.in-MigrateOne.is (c.requires.loaded tells) in
-    one_migrated L c.spell-size.ensures.layout r _ spelled c.write_both.result s _ room loads (c.write_both.ensures.writes tells)
+    one_migrated L c.spell-size.ensures.layout r spelled c.write_both.result s _ room loads
+    (subst (λ (bytes : List ℕ). WritesBoth c.write_both.result (padded bytes) s (g.D.Flash.told c.write_both.new.flash)) c.spell-size.ensures.spelled (c.write_both.ensures.writes tells))

@@ -14,5 +14,7 @@ pub returns-clause-writes : goal.returns-clause-writes
 returns-clause-writes g c tells =
     let first = c.in_ok-replace.ensures.replaces tells in
     let m = g.D.Flash.told c.replace.new.flash in
+    let s = g.D.Flash.told c.args.flash.now in
+    let space : 12288 ≤ length s.now = omega (arith, (g.met.D.Flash.sizes c.args.flash.now).0, (g.met.D.Flash.sound c.args.flash.now tells).size) in
     let room : 12288 ≤ length m.now = omega (arith, (g.met.D.Flash.sizes c.replace.new.flash).0, (g.met.D.Flash.sound c.replace.new.flash tells).size) in
-    one_written _ c.replace-2.result (padded c.args.bytes.now) (g.D.Flash.told c.args.flash.now) m _ room first first.ok (c.replace-2.ensures.replaces tells)
+    one_written _ c.replace-2.result (padded c.args.bytes.now) s m _ space room first first.ok (c.replace-2.ensures.replaces tells)
