@@ -1,5 +1,5 @@
 -- A repair, then the choice and the count of a start, in one.
-use Rattle.std.proofs.Common.{◌≡◌, inl, ℕ, ◌<◌, ◌≤◌, ◌==◌, not, ◌&&◌, ◌||◌, eq-eqb, ltb, ltb-true, cond, Bool, true, false, List, [], ◌∷◌, Option, Some, None, Result, Ok, Err, refl, sym, ap, subst, ◌∙◌, arith, IsTrue}
+use Rattle.std.proofs.Common.{◌≡◌, inl, inr, ℕ, ◌<◌, ◌≤◌, ◌==◌, not, ◌&&◌, ◌||◌, eq-eqb, ltb, ltb-true, cond, Bool, true, false, List, [], ◌∷◌, Option, Some, None, Result, Ok, Err, refl, sym, ap, subst, ◌∙◌, arith, IsTrue}
 use Rattle.std.proofs.lemmas.Bool.{cond_both, and_parts}
 use Rattle.std.proofs.lemmas.Option.{same_Some}
 use Rattle.std.proofs.lemmas.Result.{IfOk-from_err, on_ok_weaker}
@@ -9,6 +9,7 @@ use Rattle.flash_core.specs.declared.flash.FlashStop.{FlashStop}
 use Rattle.flash_core.specs.Told.{Told}
 use Rattle.flash_core.specs.May.{Keeps}
 use Rattle.flash_core.proofs.Calls.{keeps_then, keeps_wider}
+use Rattle.fwu_formats.specs.Counter.{counter_in}
 use Rattle.fwu_formats.specs.Layout.{Layout}
 use Rattle.fwu_formats.specs.Metadata.{MetaRead, meta_read}
 use Rattle.fwu_model.specs.State.{State, Move, Migrate, bank, is_valid, is_accepted, after}
@@ -19,6 +20,7 @@ use Rattle.fwu_model.specs.Replica.{BothHold, in_version}
 use Rattle.fwu_formats.specs.declared.kinds.BankState.{BankState}
 use Rattle.fwu_formats.specs.declared.kinds.BankState.TheVariants.{Invalid, Valid, Accepted}
 use Rattle.fwu_formats.proofs.Same.{block-same}
+use Rattle.replicas.specs.Repairs.{Repairs}
 use Rattle.moves.specs.Moved.{IsShown}
 use Rattle.moves.proofs.Composed.{after-append, does-stopped, does-then}
 use Rattle.early_boot.specs.declared.choosing.Chosen.{Chosen}
@@ -26,10 +28,10 @@ use Rattle.early_boot.specs.declared.showing.Shown.{Shown}
 use Rattle.early_boot.specs.Showing.{Shows, state_shown}
 use Rattle.early_boot.specs.Choosing.{boot_setting, chosen_in, tried_in, with_package}
 use Rattle.early_boot.specs.Mending.{Mends, mended}
-use Rattle.early_boot.specs.CountingStarts.{IsStart, Leads}
-use Rattle.early_boot.specs.Starting.{Boots, all_moves, count_moves}
+use Rattle.early_boot.specs.CountingStarts.{IsStart, Leads, WritesMoves}
+use Rattle.early_boot.specs.Starting.{BootWrites, Boots, RepairsAndCounts, all_moves, count_moves}
 use Rattle.early_boot.proofs.Endings.{chosen-parts}
-use Rattle.early_boot.proofs.Led.{guarded-stop}
+use Rattle.early_boot.proofs.Led.{guarded-stop, on-ok, writes-done, writes-stopped}
 
 -- ---- what was chosen may be started
 
@@ -107,9 +109,39 @@ replica-stays L r b s t low keeps is = ap (meta_read L) (block-same t.now s.now 
 both-stay : (L : Layout) (r : MetaRead) (s t : Told) → Keeps 12288 28672 s t → BothHold L r s.now → BothHold L r t.now
 both-stay L r s t keeps both = record { zero = replica-stays L r 1 s t (omega arith) keeps both.zero; one = replica-stays L r 2 s t (omega arith) keeps both.one }
 
-on-ok : {T : Type 0} (result : Result T FlashStop) (A : Type 0) → A → OnOk result A
-on-ok (Ok x) A a = a
-on-ok (Err e) A a = tt
+-- what a repair wrote is the same by another value
+repairs-at : {T U : Type 0} (given : Result T FlashStop) (result : Result U FlashStop) (L : Layout) (r : MetaRead) (s t : Told) → ((A : Type 0) → OnOk given A → OnOk result A) → Repairs given L r s t → Repairs result L r s t
+repairs-at given result L r s t pass repairs = record {
+  keeps = repairs.keeps;
+  idle = repairs.idle;
+  zero_alone = repairs.zero_alone;
+  one_alone = repairs.one_alone;
+  zero = record { written = λ lacks. pass _ (repairs.zero.written lacks); either = repairs.zero.either };
+  one = record { written = λ lacks. pass _ (repairs.one.written lacks); either = repairs.one.either };
+  stays = repairs.stays;
+  both = pass _ repairs.both;
+  quiet = λ quiet. pass _ (repairs.quiet quiet);
+}
+
+-- where nothing was to be counted, the repair is all
+pub repaired-alone : {T : Type 0} (x : T) (L : Layout) (r : MetaRead) (ms : List Move) (trials : ℕ) (s t : Told) → ms ≡ [] → RepairsAndCounts {T = T} (Ok x) L r ms trials s t → Repairs {T = Unit {0}} (Ok tt) L r s t
+repaired-alone {T} x L r ms trials s t none writes =
+    let idle : t ≡ writes.repaired = subst (λ (moves : List Move). WritesMoves {T = T} (Ok x) moves trials writes.repaired t) none writes.counts in
+    subst (λ (u : Told). Repairs {T = Unit {0}} (Ok tt) L r s u) (sym idle) writes.repairs
+
+-- the same at another value
+pub counts-at : {T : Type 0} (x : T) (L : Layout) (r : MetaRead) (ms : List Move) (trials : ℕ) (s t : Told) → RepairsAndCounts {T = T} (Ok x) L r ms trials s t → RepairsAndCounts {T = Unit {0}} (Ok tt) L r ms trials s t
+counts-at x L r ms trials s t writes = record { repaired = writes.repaired; repairs = writes.repairs; counts = writes-done x (Ok tt) ms trials writes.repaired t writes.counts }
+
+module _ {U : Type 0} (L : Layout) (r : MetaRead) (ms : List Move) (trials : ℕ) (s t : Told) where
+  stopped-writes : {T : Type 0} (stop : FlashStop) (result : Result U FlashStop) → IsErr result → Repairs {T = T} (Err stop) L r s t → BootWrites result L r ms trials s t
+  stopped-writes {T} stop (Ok y) err repairs = absurd cc
+  stopped-writes {T} stop (Err why) err repairs = inl (repairs-at {T = T} (Err stop) (Err why) L r s t (λ A a. tt) repairs)
+
+  next-writes : {T : Type 0} (x : T) (result : Result U FlashStop) (m : Told) → Repairs {T = T} (Ok x) L r s m → WritesMoves result ms trials m t → BootWrites result L r ms trials s t
+  next-writes {T} x (Ok y) m repairs counts = record { repaired = m; repairs = repairs-at {T = T} (Ok x) (Ok tt) L r s m (λ A a. a) repairs; counts = counts }
+  next-writes {T} x (Err why) m repairs counts =
+      inr (record { repaired = m; repairs = repairs-at {T = T} (Ok x) (Ok tt) L r s m (λ A a. a) repairs; counts = writes-stopped U {U = Unit {0}} why (Err why) ms trials m t refl counts })
 
 module _ (passes : List ℕ → Bool) (shown : Shown) (s : Told) where
   abbrev state : State
@@ -120,9 +152,11 @@ module _ (passes : List ℕ → Bool) (shown : Shown) (s : Told) where
 
   -- the repair was stopped
   pub boots-stopped : {T U : Type 0} (stop : FlashStop) (result : Result U FlashStop) (t : Told) → IsErr result → Mends {T = T} (Err stop) shown s t → Boots result passes shown s t
-  boots-stopped stop result t err mends = record {
+  boots-stopped {T} stop result t err mends = record {
     keeps = keeps_wider 4096 12288 4096 28672 s t (omega arith) (omega arith) mends.keeps;
     none = λ e. mends.keeps;
+    writes = stopped-writes shown.layout shown.meta (count_moves state (choice E0 state)) state.trials s t {T = T} stop result err mends.repairs;
+    counter = IfOk-from_err result (λ x. counter_in t.now ≡ (after state (all_moves E0 state)).counter) err;
     both = IfOk-from_err result (λ x. BothHold shown.layout (in_version 2 shown.meta.meta) t.now) err;
     shows = λ tidy. IfOk-from_err result (λ x. IsShown shown.layout t.now (after state (all_moves E0 state))) err;
     does = λ E calm guards. does-stopped (Err stop) result E state (migrate_moves state) (count_moves state (choice E0 state)) t err (mends.does E calm guards);
@@ -137,7 +171,12 @@ module _ (passes : List ℕ → Bool) (shown : Shown) (s : Told) where
     boots-next : Leads result shown.layout (migrated state) ms m t → Boots result passes shown s t
     boots-next leads = record {
       keeps = keeps_then 4096 28672 s m t (keeps_wider 4096 12288 4096 28672 s m (omega arith) (omega arith) mends.keeps) (keeps_wider 12288 28672 4096 28672 m t (omega arith) (omega arith) leads.keeps);
-      none = λ e. subst (λ (u : Told). Keeps 4096 12288 s u) (sym (leads.idle (ap (count_moves state) e))) mends.keeps;
+      none = λ e.
+          let idle : t ≡ m = subst (λ (moves : List Move). WritesMoves result moves (migrated state).trials m t) (ap (count_moves state) e) leads.writes in
+          subst (λ (u : Told). Keeps 4096 12288 s u) (sym idle) mends.keeps;
+      writes = next-writes shown.layout shown.meta ms state.trials s t {T = T} x result m mends.repairs
+          (subst (λ (n : ℕ). WritesMoves result ms n m t) (past-migration state (λ (y : State). y.trials ≡ state.trials) refl refl) leads.writes);
+      counter = on_ok_weaker result (λ (h : counter_in t.now ≡ (after (migrated state) ms).counter). h ∙ ap (λ (y : State). y.counter) (sym (after-append state (migrate_moves state) ms))) leads.counter;
       both = on-ok result (BothHold shown.layout (in_version 2 shown.meta.meta) t.now) (both-stay shown.layout (in_version 2 shown.meta.meta) m t leads.keeps mends.both);
       shows = λ tidy. on_ok_weaker result (λ (h : IsShown shown.layout t.now (after (migrated state) ms)). subst (IsShown shown.layout t.now) (sym (after-append state (migrate_moves state) ms)) h) (leads.shows (mends.tidy tidy));
       does = λ E calm guards. does-then x result E state (migrate_moves state) ms m t (mends.does E calm guards) (λ ready. leads.does E ready);

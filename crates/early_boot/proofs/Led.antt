@@ -1,23 +1,29 @@
 -- What a call with moves leaves: calls that write nothing, the three writes of a start, and which moves a start is.
-use Rattle.std.proofs.Common.{◌≡◌, ◌≢◌, ℕ, ◌+◌, ◌*◌, ◌<◌, ◌≤◌, eqb, eq-eqb, eqb-true, ne_eqb, ltb, ltb-true, ltb-false, cond, Bool, true, false, List, [], ◌∷◌, Result, Ok, Err, refl, sym, ap, subst, ◌∙◌, arith, IsTrue}
+use Rattle.std.proofs.Common.{◌≡◌, ◌≢◌, inl, inr, ℕ, ◌+◌, ◌*◌, ◌<◌, ◌≤◌, eqb, eq-eqb, eqb-true, ne_eqb, ltb, ltb-true, ltb-false, cond, Bool, true, false, List, [], ◌∷◌, length, Option, Some, None, Result, Ok, Err, refl, sym, ap, subst, ◌∙◌, arith, IsTrue}
 use Rattle.std.proofs.lemmas.Bool.{cond_both}
-use Rattle.std.proofs.lemmas.Result.{IfOk-from_err}
-use Rattle.std.specs.Prelude.{IsErr}
+use Rattle.std.proofs.lemmas.Result.{IfOk-from_err, on_ok_weaker}
+use Rattle.std.specs.Prelude.{IsErr, OnOk}
 use Rattle.flash_core.specs.declared.flash.FlashStop.{FlashStop}
 use Rattle.flash_core.specs.Told.{Told}
+use Rattle.base_core.specs.Block.{block, granule}
+use Rattle.flash_core.specs.May.{Keeps}
 use Rattle.flash_core.proofs.Calls.{keeps_same, keeps_wider}
 use Rattle.fwu_formats.specs.Layout.{Layout}
-use Rattle.fwu_formats.specs.Metadata.{fits_meta, state_at}
+use Rattle.fwu_formats.specs.Metadata.{fits_meta, state_at, MetaRead, meta_read}
 use Rattle.fwu_formats.specs.Manifest.{version}
-use Rattle.fwu_model.specs.State.{State, Bank, Move, Trial, RaiseTo, bank, is_valid, is_accepted, after}
-use Rattle.fwu_model.specs.Calm.{IsGuarded}
+use Rattle.fwu_formats.specs.Image.{marks}
+use Rattle.fwu_formats.specs.Counter.{counter_in}
+use Rattle.fwu_model.specs.State.{State, Bank, Move, Free, Switch, Accept, Back, Trial, RaiseTo, Migrate, bank, is_valid, is_accepted, after}
+use Rattle.fwu_model.specs.Calm.{IsGuarded, IsAtRest}
 use Rattle.fwu_model.specs.Answer.{booted_package, chosen_moves, start_moves}
 use Rattle.fwu_formats.specs.declared.kinds.BankState.{BankState}
 use Rattle.fwu_formats.specs.declared.kinds.BankState.TheVariants.{Invalid, Valid, Accepted}
+use Rattle.marks_core.proofs.Counting.{blank_at_count}
+use Rattle.marks_core.proofs.Recording.{unwritten}
 use Rattle.marks_core.specs.Marks.{Adds}
 use Rattle.marks_core.specs.Raises.{Raises}
 use Rattle.moves.specs.Moved.{IsReady, IsShown, GuardedBy}
-use Rattle.moves.proofs.Agree.{shown-as}
+use Rattle.moves.proofs.Agree.{shown-as, shown-counter, counter-agrees, layout-kept, marks-agree, block-agrees, decides-agrees, front-kept, no_meta}
 use Rattle.moves.proofs.Composed.{does-nothing, does-idle}
 use Rattle.moves.proofs.Trials.{trial-does, trial-shows}
 use Rattle.moves.proofs.Raised.{raise-does, raise-shows}
@@ -25,8 +31,12 @@ use Rattle.moves.proofs.Guarded.{trial-guarded, raise-guarded}
 use Rattle.meta_layout.proofs.Fits.{meta-fits}
 use Rattle.early_boot.specs.declared.choosing.Chosen.{Chosen}
 use Rattle.early_boot.specs.declared.showing.Shown.{Shown}
-use Rattle.early_boot.specs.Showing.{Shows, state_shown}
-use Rattle.early_boot.specs.CountingStarts.{IsStart, Leads, counted, counted_in}
+use Rattle.replicas.specs.Which.{Finds, Loads}
+use Rattle.early_boot.specs.declared.counting_starts.Counting.{Counting}
+use Rattle.early_boot.specs.declared.counting_starts.Counting.TheVariants as counting
+use Rattle.early_boot.specs.Showing.{Shows, state_shown, trials_in}
+use Rattle.early_boot.specs.Starting.{count_moves}
+use Rattle.early_boot.specs.CountingStarts.{IsStart, Leads, WritesMove, WritesMoves, counting_in, counting_moves, counting_of, with_counts}
 use Rattle.early_boot.proofs.Lookups.{bank-is}
 
 -- a stop from which the flash is guarded
@@ -34,44 +44,138 @@ pub guarded-stop : {T : Type 0} (result : Result T FlashStop) (t : Told) → IsE
 guarded-stop (Ok x) t err guarded = absurd cc
 guarded-stop (Err stop) t err guarded = guarded
 
+pub on-ok : {T : Type 0} (result : Result T FlashStop) (A : Type 0) → A → OnOk result A
+on-ok (Ok x) A a = a
+on-ok (Err e) A a = tt
+
+-- what was written is the same at another value, or where a later read stopped
+writes-move : {T U : Type 0} (x : T) (result : Result U FlashStop) (m : Move) (at : ℕ) (s t : Told) → WritesMove {T = T} (Ok x) m at s t → WritesMove result m at s t
+writes-move x result Trial at s t writes = record { keeps = writes.keeps; one_more = on-ok result _ writes.one_more }
+writes-move x result (RaiseTo v) at s t writes =
+    record { keeps = writes.keeps; record_is = record { keeps = writes.record_is.keeps; either = writes.record_is.either; ok = on-ok result _ writes.record_is.ok }; counter = on-ok result _ writes.counter }
+writes-move x result (Free b) at s t writes = absurd writes
+writes-move x result (Switch b p bits) at s t writes = absurd writes
+writes-move x result (Accept image) at s t writes = absurd writes
+writes-move x result Back at s t writes = absurd writes
+writes-move x result Migrate at s t writes = absurd writes
+
+pub writes-done : {T U : Type 0} (x : T) (result : Result U FlashStop) (ms : List Move) (at : ℕ) (s t : Told) → WritesMoves {T = T} (Ok x) ms at s t → WritesMoves result ms at s t
+writes-done x result [] at s t writes = writes
+writes-done x result (m ∷ ms) at s t writes = writes-move x result m at s t writes
+
+move-stopped : (T : Type 0) {U : Type 0} (stop : FlashStop) (result : Result U FlashStop) (m : Move) (at : ℕ) (s t : Told) → IsErr result → WritesMove {T = T} (Err stop) m at s t → WritesMove result m at s t
+move-stopped T stop result Trial at s t err writes = record { keeps = writes.keeps; one_more = IfOk-from_err result (λ x. _) err }
+move-stopped T stop result (RaiseTo v) at s t err writes =
+    record { keeps = writes.keeps; record_is = record { keeps = writes.record_is.keeps; either = writes.record_is.either; ok = IfOk-from_err result (λ x. _) err }; counter = IfOk-from_err result (λ x. _) err }
+move-stopped T stop result (Free b) at s t err writes = absurd writes
+move-stopped T stop result (Switch b p bits) at s t err writes = absurd writes
+move-stopped T stop result (Accept image) at s t err writes = absurd writes
+move-stopped T stop result Back at s t err writes = absurd writes
+move-stopped T stop result Migrate at s t err writes = absurd writes
+
+pub writes-stopped : (T : Type 0) {U : Type 0} (stop : FlashStop) (result : Result U FlashStop) (ms : List Move) (at : ℕ) (s t : Told) → IsErr result → WritesMoves {T = T} (Err stop) ms at s t → WritesMoves result ms at s t
+writes-stopped T stop result [] at s t err writes = writes
+writes-stopped T stop result (m ∷ ms) at s t err writes = move-stopped T stop result m at s t err writes
+
 -- a call that wrote nothing, and is done
 pub leads-nothing : {T : Type 0} (x : T) (L : Layout) (state : State) (s : Told) → IsShown L s.now state → Leads {T = T} (Ok x) L state [] s s
 leads-nothing x L state s shown = record {
   keeps = keeps_same 12288 28672 s;
-  idle = λ e. refl;
+  writes = refl;
+  counter = shown-counter L s.now state shown;
   shows = λ tidy. shown;
   does = λ E ready. does-nothing (Ok x) E state s ready;
   guarded = λ rest. rest;
 }
 
 -- and one that stopped before it wrote
-pub leads-idle : {T : Type 0} (result : Result T FlashStop) (L : Layout) (state : State) (ms : List Move) (s : Told) → IsErr result → Leads result L state ms s s
-leads-idle result L state ms s err = record {
-  keeps = keeps_same 12288 28672 s;
-  idle = λ e. refl;
-  shows = λ tidy. IfOk-from_err result (λ x. IsShown L s.now (after state ms)) err;
-  does = λ E ready. does-idle result E state ms s err ready.calm;
-  guarded = λ rest. guarded-stop result s err rest.guarded;
-}
+module _ {T : Type 0} (result : Result T FlashStop) (s : Told) (room : 32768 ≤ length s.now) (err : IsErr result) where
+  idle-start : (k : BankState) (counter v at : ℕ) → WritesMoves result (start_moves k counter v) at s s
+  idle-start Invalid counter v at = refl
+  idle-start Valid counter v at = record { keeps = keeps_same (4096 * 3 + 16 * at) (4096 * 3 + 16 * at + 16) s; one_more = IfOk-from_err result (λ x. _) err }
+  idle-start Accepted counter v at =
+      cond_both (ltb counter v) (RaiseTo v ∷ []) [] (λ (ms : List Move). WritesMoves result ms at s s)
+      (λ e. record { keeps = keeps_same 20480 28672 s; record_is = unwritten result _ s room err; counter = IfOk-from_err result (λ x. _) err })
+      (λ e. refl)
 
--- the same at another value
-pub leads-done : {T U : Type 0} (x : T) (y : U) (L : Layout) (state : State) (ms : List Move) (s t : Told) → Leads {T = T} (Ok x) L state ms s t → Leads {T = U} (Ok y) L state ms s t
-leads-done x y L state ms s t leads = record {
+  idle-count : (state : State) (o : Option ℕ) (at : ℕ) → WritesMoves result (count_moves state o) at s s
+  idle-count state None at = refl
+  idle-count state (Some b) at =
+      cond_both (eqb b state.active) (start_moves (bank state b).state state.counter (version (booted_package state b))) [] (λ (ms : List Move). WritesMoves result ms at s s)
+      (λ e. idle-start (bank state b).state state.counter (version (booted_package state b)) at) (λ e. refl)
+
+  pub leads-idle : (L : Layout) (state : State) (o : Option ℕ) → Leads result L state (count_moves state o) s s
+  leads-idle L state o = record {
+    keeps = keeps_same 12288 28672 s;
+    writes = idle-count state o state.trials;
+    counter = IfOk-from_err result (λ x. counter_in s.now ≡ (after state (count_moves state o)).counter) err;
+    shows = λ tidy. IfOk-from_err result (λ x. IsShown L s.now (after state (count_moves state o))) err;
+    does = λ E ready. does-idle result E state (count_moves state o) s err ready.calm;
+    guarded = λ rest. guarded-stop result s err rest.guarded;
+  }
+
+-- the same at another value, or where a later read stopped
+pub leads-done : {T U : Type 0} (x : T) (result : Result U FlashStop) (L : Layout) (state : State) (ms : List Move) (s t : Told) → Leads {T = T} (Ok x) L state ms s t → Leads result L state ms s t
+leads-done x result L state ms s t leads = record {
   keeps = leads.keeps;
-  idle = leads.idle;
-  shows = leads.shows;
-  does = λ E ready. record { each = (leads.does E ready).each; all = (leads.does E ready).all };
-  guarded = leads.guarded;
+  writes = writes-done x result ms state.trials s t leads.writes;
+  counter = on-ok result _ leads.counter;
+  shows = λ tidy. on-ok result _ (leads.shows tidy);
+  does = λ E ready. record { each = (leads.does E ready).each; all = on-ok result _ (leads.does E ready).all };
+  guarded = λ rest. by-result result (leads.guarded rest);
 }
+  where
+    by-result : {V : Type 0} (r : Result V FlashStop) → IsAtRest t → GuardedBy r t
+    by-result (Ok y) rest = rest
+    by-result (Err stop) rest = rest.guarded
 
 pub leads-stopped : {T U : Type 0} (stop : FlashStop) (result : Result U FlashStop) (L : Layout) (state : State) (ms : List Move) (s t : Told) → IsErr result → Leads {T = T} (Err stop) L state ms s t → Leads result L state ms s t
-leads-stopped stop result L state ms s t err leads = record {
+leads-stopped {T} stop result L state ms s t err leads = record {
   keeps = leads.keeps;
-  idle = leads.idle;
+  writes = writes-stopped T stop result ms state.trials s t err leads.writes;
+  counter = IfOk-from_err result (λ x. counter_in t.now ≡ (after state ms).counter) err;
   shows = λ tidy. IfOk-from_err result (λ x. IsShown L t.now (after state ms)) err;
   does = λ E ready. record { each = (leads.does E ready).each; all = IfOk-from_err result (λ x. IsReady E t (after state ms)) err };
   guarded = λ rest. guarded-stop result t err (leads.guarded rest);
 }
+
+-- ---- what a start is counted as
+
+counted-place : (shown : Shown) (c : Chosen) (what : Counting) → (counting.Nothing ≡ what → ⊥) → counting_in shown c ≡ what
+    → (c.bank ≡ shown.meta.meta.active) × (counting_of (state_at shown.meta.meta shown.meta.meta.active) shown.counter c.version ≡ what)
+counted-place shown c what other = by-place (eqb c.bank shown.meta.meta.active) refl
+  where
+    by-place : (here : Bool) → eqb c.bank shown.meta.meta.active ≡ here → cond here (counting_of (state_at shown.meta.meta shown.meta.meta.active) shown.counter c.version) counting.Nothing ≡ what
+        → (c.bank ≡ shown.meta.meta.active) × (counting_of (state_at shown.meta.meta shown.meta.meta.active) shown.counter c.version ≡ what)
+    by-place true e is = (eqb-true c.bank shown.meta.meta.active e, is)
+    by-place false e is = absurd (other is)
+
+pub counting-trial : (shown : Shown) (c : Chosen) → counting_in shown c ≡ counting.Trial → (c.bank ≡ shown.meta.meta.active) × (state_at shown.meta.meta shown.meta.meta.active ≡ Valid)
+counting-trial shown c is = let at = counted-place shown c counting.Trial (λ e. absurd cc) is in (at.0, by-state (state_at shown.meta.meta shown.meta.meta.active) at.1)
+  where
+    by-test : (test : Bool) → cond test counting.Raise counting.Nothing ≡ counting.Trial → ⊥
+    by-test true e = absurd cc
+    by-test false e = absurd cc
+
+    by-state : (k : BankState) → counting_of k shown.counter c.version ≡ counting.Trial → k ≡ Valid
+    by-state Invalid e = absurd cc
+    by-state Valid e = refl
+    by-state Accepted e = absurd (by-test (ltb shown.counter c.version) e)
+
+pub counting-raise : (shown : Shown) (c : Chosen) → counting_in shown c ≡ counting.Raise → (c.bank ≡ shown.meta.meta.active) × (state_at shown.meta.meta shown.meta.meta.active ≡ Accepted) × (shown.counter < c.version)
+counting-raise shown c is =
+    let at = counted-place shown c counting.Raise (λ e. absurd cc) is in
+    let found = by-state (state_at shown.meta.meta shown.meta.meta.active) at.1 in
+    (at.0, found.0, found.1)
+  where
+    by-test : (test : Bool) → ltb shown.counter c.version ≡ test → cond test counting.Raise counting.Nothing ≡ counting.Raise → shown.counter < c.version
+    by-test true e is = ltb-true shown.counter c.version e
+    by-test false e is = absurd cc
+
+    by-state : (k : BankState) → counting_of k shown.counter c.version ≡ counting.Raise → (k ≡ Accepted) × (shown.counter < c.version)
+    by-state Invalid e = absurd cc
+    by-state Valid e = absurd cc
+    by-state Accepted e = (refl, by-test (ltb shown.counter c.version) refl e)
 
 -- ---- by what is shown
 
@@ -91,13 +195,19 @@ module _ (shown : Shown) (s : Told) (shows : Shows s.now shown) (fits : IsTrue (
   pub active-in : (k : BankState) → state_at shown.meta.meta active ≡ k → (bank state active).state ≡ k
   active-in k is = active-is ∙ is
 
+  -- while the active bank is on trial, its trials are the marks
+  pub counted-by : state_at shown.meta.meta active ≡ Valid → shown.trials ≡ marks s.now 3 3
+  counted-by valid = shows.trials_are ∙ ap (λ (v : Bool). cond v (marks s.now 3 3) 0) (ap is_valid valid)
+
   module _ {T : Type 0} (result : Result T FlashStop) (t : Told) where
     pub leads-trial : state_at shown.meta.meta active ≡ Valid → shown.trials < 3 → Adds result 3 shown.trials s t → Leads result shown.layout state (Trial ∷ []) s t
     leads-trial valid left adds =
         let on_trial : IsTrue (is_valid (bank state state.active).state) = ap is_valid (active-in Valid valid) in
         record {
           keeps = keeps_wider (4096 * 3 + 16 * shown.trials) (4096 * 3 + 16 * shown.trials + 16) 12288 28672 s t (omega arith) (omega (arith, left)) adds.keeps;
-          idle = λ e. absurd cc;
+          writes = subst (λ (at : ℕ). WritesMoves result (Trial ∷ []) at s t) shows.trials_are
+              (record { keeps = adds.keeps; one_more = on_ok_weaker result (λ zero. record { below = left; blank = blank_at_count s.now 3 3 shown.trials (counted-by valid) left; mark = zero }) adds.written });
+          counter = on-ok result (counter_in t.now ≡ counter_in s.now) (counter-agrees shown.layout no_meta 12288 16384 s.now t.now (front-kept shown.layout 12288 16384 s t (keeps_wider (4096 * 3 + 16 * shown.trials) (4096 * 3 + 16 * shown.trials + 16) 12288 16384 s t (omega arith) (omega (arith, left)) adds.keeps)) (inr (omega arith)));
           shows = λ tidy. trial-shows result s t state shown.trials on_trial shows.trials_are left adds shown.layout is-shown tidy;
           does = λ E ready. trial-does result s t state shown.trials on_trial shows.trials_are left adds E ready;
           guarded = λ rest. trial-guarded shown.layout s shows.layout_is rest result t shown.trials left adds;
@@ -107,7 +217,8 @@ module _ (shown : Shown) (s : Told) (shows : Shows s.now shown) (fits : IsTrue (
     leads-raise v accepted is raises =
         record {
           keeps = keeps_wider 20480 28672 12288 28672 s t (omega arith) (omega arith) raises.keeps;
-          idle = λ e. absurd cc;
+          writes = record { keeps = raises.keeps; record_is = raises.writes; counter = raises.done };
+          counter = raises.done;
           shows = λ tidy. raise-shows result v s t state raises shown.layout is-shown;
           does = λ E ready. raise-does result v s t state raises E ready (ap is_accepted (active-in Accepted accepted)) is;
           guarded = λ rest. raise-guarded shown.layout s shows.layout_is rest result t v raises;
@@ -115,63 +226,63 @@ module _ (shown : Shown) (s : Told) (shows : Shows s.now shown) (fits : IsTrue (
 
   -- ---- which moves a start is
 
-  pub moves-other : (b : ℕ) → b ≢ active → chosen_moves state b ≡ []
-  moves-other b other = ap (λ (same : Bool). cond same (start_moves (bank state b).state state.counter (version (booted_package state b))) []) (ne_eqb b active other)
+  of-active : (b : ℕ) → b ≡ active → chosen_moves state b ≡ start_moves (state_at shown.meta.meta active) shown.counter (version (booted_package state b))
+  of-active b here =
+      ap (λ (same : Bool). cond same (start_moves (bank state b).state state.counter (version (booted_package state b))) []) (eq-eqb b active here)
+      ∙ ap (λ (k : BankState). start_moves k state.counter (version (booted_package state b))) (ap (λ (a : ℕ). (bank state a).state) here ∙ active-is)
+      ∙ ap (λ (n : ℕ). start_moves (state_at shown.meta.meta active) n (version (booted_package state b))) (sym shows.counter_is)
 
-  pub moves-active : (b a : ℕ) → a ≡ active → (k : BankState) → b ≡ active → state_at shown.meta.meta a ≡ k → chosen_moves state b ≡ start_moves k shown.counter (version (booted_package state active))
-  moves-active b a at k here is =
-      ap (chosen_moves state) here
-      ∙ ap (λ (same : Bool). cond same (start_moves (bank state active).state state.counter (version (booted_package state active))) []) (eq-eqb active active refl)
-      ∙ ap (λ (x : BankState). start_moves x state.counter (version (booted_package state active))) (active-in k (ap (state_at shown.meta.meta) (sym at) ∙ is))
-      ∙ ap (λ (n : ℕ). start_moves k n (version (booted_package state active))) (sym shows.counter_is)
+  -- what a start is counted as is the machine's move
+  pub counting-is : (c : Chosen) → IsStart state c → counting_moves (counting_in shown c) c.version ≡ chosen_moves state c.bank
+  counting-is c start = by-place (eqb c.bank active) refl
+    where
+      by-test : (test : Bool) → counting_moves (cond test counting.Raise counting.Nothing) c.version ≡ cond test (RaiseTo c.version ∷ []) []
+      by-test true = refl
+      by-test false = refl
 
-  pub version-active : (c : Chosen) → c.bank ≡ active → IsStart state c → c.version ≡ version (booted_package state active)
-  version-active c here start = start.version_is ∙ ap (λ (b : ℕ). version (booted_package state b)) here
+      by-state : (k : BankState) → counting_moves (counting_of k shown.counter c.version) c.version ≡ start_moves k shown.counter c.version
+      by-state Invalid = refl
+      by-state Valid = refl
+      by-state Accepted = by-test (ltb shown.counter c.version)
 
-  pub trials-left : (c : Chosen) → c.bank ≡ active → (a : ℕ) → a ≡ active → state_at shown.meta.meta a ≡ Valid → IsStart state c → shown.trials < 3
-  trials-left c here a at valid start =
-      let in_state : IsTrue (is_valid (bank state c.bank).state) = ap (λ (b : ℕ). is_valid (bank state b).state) here ∙ ap is_valid (active-in Valid (ap (state_at shown.meta.meta) (sym at) ∙ valid)) in
-      let left = start.left here in_state in
+      by-place : (here : Bool) → eqb c.bank active ≡ here → counting_moves (cond here (counting_of (state_at shown.meta.meta active) shown.counter c.version) counting.Nothing) c.version ≡ chosen_moves state c.bank
+      by-place true e =
+          by-state (state_at shown.meta.meta active) ∙ ap (start_moves (state_at shown.meta.meta active) shown.counter) start.version_is ∙ sym (of-active c.bank (eqb-true c.bank active e))
+      by-place false e = sym (ap (λ (same : Bool). cond same (start_moves (bank state c.bank).state state.counter (version (booted_package state c.bank))) []) e)
+
+  -- a trial is one of the active bank, which has some left
+  pub trials-left : (c : Chosen) → counting_in shown c ≡ counting.Trial → IsStart state c → shown.trials < 3
+  trials-left c is start =
+      let here = counting-trial shown c is in
+      let in_state : IsTrue (is_valid (bank state c.bank).state) = ap (λ (b : ℕ). is_valid (bank state b).state) here.0 ∙ ap is_valid (active-in Valid here.1) in
+      let left = start.left here.0 in_state in
       omega (arith, left, shows.trials_are)
 
--- ---- whether a version is above the counter
+  -- and a raise one to the version of the active bank
+  pub version-active : (c : Chosen) → counting_in shown c ≡ counting.Raise → IsStart state c → c.version ≡ version (booted_package state active)
+  version-active c is start = start.version_is ∙ ap (λ (b : ℕ). version (booted_package state b)) (counting-raise shown c is).0
 
-pub is-above : (counter v : ℕ) → counter < v → ◌≡◌ {A = List Move} (cond (ltb counter v) (RaiseTo v ∷ []) []) (RaiseTo v ∷ [])
-is-above counter v lt =
-    cond_both (ltb counter v) (RaiseTo v ∷ []) [] (λ (ms : List Move). ms ≡ RaiseTo v ∷ []) (λ e. refl) (λ e. absurd (let le = ltb-false counter v e in omega (arith, le, lt)))
+  -- ---- what is shown once a start was counted
 
-pub not-above : (counter v : ℕ) → v ≤ counter → ◌≡◌ {A = List Move} (cond (ltb counter v) (RaiseTo v ∷ []) []) []
-not-above counter v le =
-    cond_both (ltb counter v) (RaiseTo v ∷ []) [] (λ (ms : List Move). ms ≡ []) (λ e. absurd (let lt = ltb-true counter v e in omega (arith, le, lt))) (λ e. refl)
+  pub shows-later : (t : Told) (trials counter : ℕ) → Keeps 12288 28672 s t → trials ≡ trials_in t.now shown.meta.meta → counter ≡ counter_in t.now → Shows t.now (with_counts shown trials counter)
+  shows-later t trials counter keeps tries count =
+      let agree = front-kept shown.layout 12288 28672 s t keeps in
+      let zero = block-agrees shown.layout no_meta 12288 28672 s.now t.now agree 1 (omega arith) (inl (omega arith)) in
+      let one = block-agrees shown.layout no_meta 12288 28672 s.now t.now agree 2 (omega arith) (inl (omega arith)) in
+      record {
+        layout_is = layout-kept shown.layout 12288 28672 s t (omega arith) keeps shows.layout_is;
+        loads = record {
+          decides = decides-agrees shown.layout no_meta 12288 28672 s.now t.now agree (omega arith) ∙ shows.loads.decides;
+          finds = subst (λ (bytes : List ℕ). Finds shown.which shown.meta (meta_read shown.layout bytes) (meta_read shown.layout (block 2 t.now))) (sym zero)
+              (subst (λ (bytes : List ℕ). Finds shown.which shown.meta (meta_read shown.layout (block 1 s.now)) (meta_read shown.layout bytes)) (sym one) shows.loads.finds);
+        };
+        trials_are = tries;
+        counter_is = count;
+      }
 
--- ---- what is counted
-
-counts-in : (k : BankState) (shown : Shown) (x : State) (v : ℕ) → x.trials ≡ shown.trials → x.counter ≡ shown.counter
-    → ((counted_in k shown v).trials ≡ (after x (start_moves k x.counter v)).trials) × ((counted_in k shown v).counter ≡ (after x (start_moves k x.counter v)).counter)
-counts-in Invalid shown x v trials counter = (sym trials, sym counter)
-counts-in Valid shown x v trials counter = (ap (λ (n : ℕ). n + 1) (sym trials), sym counter)
-counts-in Accepted shown x v trials counter =
-    subst (λ (n : ℕ). (shown.trials ≡ (after x (cond (ltb n v) (RaiseTo v ∷ []) [])).trials) × (cond (ltb shown.counter v) v shown.counter ≡ (after x (cond (ltb n v) (RaiseTo v ∷ []) [])).counter)) (sym counter)
-    (by-test (ltb shown.counter v))
-  where
-    by-test : (test : Bool) → (shown.trials ≡ (after x (cond test (RaiseTo v ∷ []) [])).trials) × (cond test v shown.counter ≡ (after x (cond test (RaiseTo v ∷ []) [])).counter)
-    by-test true = (sym trials, refl)
-    by-test false = (sym trials, sym counter)
-
--- What is shown once a start is counted has the trials and the counter of the state after its moves.
-pub counts-moves : (shown : Shown) (x : State) (c : Chosen) → x.active ≡ shown.meta.meta.active → (bank x x.active).state ≡ state_at shown.meta.meta shown.meta.meta.active → c.version ≡ version (booted_package x c.bank) → x.trials ≡ shown.trials → x.counter ≡ shown.counter
-    → ((counted shown c).trials ≡ (after x (chosen_moves x c.bank)).trials) × ((counted shown c).counter ≡ (after x (chosen_moves x c.bank)).counter)
-counts-moves shown x c active in_state is trials counter =
-    subst (λ (a : ℕ). ((cond (eqb c.bank a) (counted_in (state_at shown.meta.meta shown.meta.meta.active) shown c.version) shown).trials ≡ (after x (chosen_moves x c.bank)).trials) × ((cond (eqb c.bank a) (counted_in (state_at shown.meta.meta shown.meta.meta.active) shown c.version) shown).counter ≡ (after x (chosen_moves x c.bank)).counter)) active
-    (subst (λ (k : BankState). ((cond (eqb c.bank x.active) (counted_in k shown c.version) shown).trials ≡ (after x (chosen_moves x c.bank)).trials) × ((cond (eqb c.bank x.active) (counted_in k shown c.version) shown).counter ≡ (after x (chosen_moves x c.bank)).counter)) in_state
-    (subst (λ (v : ℕ). ((cond (eqb c.bank x.active) (counted_in (bank x x.active).state shown v) shown).trials ≡ (after x (chosen_moves x c.bank)).trials) × ((cond (eqb c.bank x.active) (counted_in (bank x x.active).state shown v) shown).counter ≡ (after x (chosen_moves x c.bank)).counter)) (sym is)
-    (by-place (eqb c.bank x.active) refl)))
-  where
-    by-place : (here : Bool) → eqb c.bank x.active ≡ here
-        → ((cond here (counted_in (bank x x.active).state shown (version (booted_package x c.bank))) shown).trials ≡ (after x (cond here (start_moves (bank x c.bank).state x.counter (version (booted_package x c.bank))) [])).trials)
-        × ((cond here (counted_in (bank x x.active).state shown (version (booted_package x c.bank))) shown).counter ≡ (after x (cond here (start_moves (bank x c.bank).state x.counter (version (booted_package x c.bank))) [])).counter)
-    by-place true e =
-        let p = version (booted_package x c.bank) in
-        subst (λ (b : ℕ). ((counted_in (bank x b).state shown p).trials ≡ (after x (start_moves (bank x c.bank).state x.counter p)).trials) × ((counted_in (bank x b).state shown p).counter ≡ (after x (start_moves (bank x c.bank).state x.counter p)).counter)) (eqb-true c.bank x.active e)
-        (counts-in (bank x c.bank).state shown x p trials counter)
-    by-place false e = (sym trials, sym counter)
+  -- after a record the marks are as before
+  pub trials-stay : (t : Told) → Keeps (4096 * 5) (4096 * 7) s t → shown.trials ≡ trials_in t.now shown.meta.meta
+  trials-stay t keeps =
+      let agree = front-kept shown.layout (4096 * 5) (4096 * 7) s t keeps in
+      shows.trials_are
+      ∙ ap (λ (n : ℕ). cond (is_valid (state_at shown.meta.meta active)) n 0) (sym (marks-agree shown.layout no_meta (4096 * 5) (4096 * 7) s.now t.now agree 3 3 (omega arith) (inl (omega arith)) (omega arith)))

@@ -3,6 +3,7 @@ pub mod Choices
 pub mod Shapes
 pub mod Verdicts
 pub mod Endings
+pub mod Written
 pub mod Exact
 pub mod Mended
 pub mod Led

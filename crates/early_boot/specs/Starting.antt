@@ -1,25 +1,29 @@
 -- What a boot leaves of a flash that shows this: the replicas are repaired, a bank is chosen, and its start is counted.
-use Rattle.std.specs.Prelude.{◌≡◌, ℕ, Bool, List, [], ◌++◌, Option, Some, None, Result, OnOk}
+use Rattle.std.specs.Prelude.{◌≡◌, ◌⊎◌, ℕ, Bool, List, [], ◌++◌, Option, Some, None, Result, Ok, Err, OnOk}
 use Rattle.flash_core.specs.declared.flash.FlashStop.{FlashStop}
 use Rattle.flash_core.specs.Told.{Told}
 use Rattle.flash_core.specs.May.{Guards, Keeps}
+use Rattle.fwu_formats.specs.Counter.{counter_in}
+use Rattle.fwu_formats.specs.Layout.{Layout}
+use Rattle.fwu_formats.specs.Metadata.{MetaRead}
 use Rattle.fwu_model.specs.State.{State, Move, after}
 use Rattle.fwu_model.specs.Sound.{Setting, choice}
 use Rattle.fwu_model.specs.Seen.{IsTidy}
 use Rattle.fwu_model.specs.Calm.{IsCalm, IsAtRest}
 use Rattle.fwu_model.specs.Answer.{migrate_moves, chosen_moves}
 use Rattle.fwu_model.specs.Replica.{BothHold, in_version}
+use Rattle.replicas.specs.Repairs.{Repairs}
 use Rattle.moves.specs.Moved.{IsShown, Does, GuardedBy}
 use Rattle.early_boot.specs.declared.choosing.Chosen.{Chosen}
 use Rattle.early_boot.specs.declared.showing.Shown.{Shown}
 use Rattle.early_boot.specs.Showing.{state_shown}
 use Rattle.early_boot.specs.Choosing.{boot_setting}
-use Rattle.early_boot.specs.CountingStarts.{counted}
+use Rattle.early_boot.specs.CountingStarts.{WritesMoves}
 
--- a bank that was chosen, with what is shown once its start is counted
-abbrev pub with_counts : Shown → Option Chosen → Option (Shown × Chosen)
-with_counts shown None = None
-with_counts shown (Some c) = Some (counted shown c, c)
+-- the bank that was chosen, without what is shown once its start is counted
+abbrev pub chosen_of : Option (Shown × Chosen) → Option Chosen
+chosen_of None = None
+chosen_of (Some start) = Some start.1
 
 -- the moves that count the start of what was chosen
 abbrev pub count_moves : State → Option ℕ → List Move
@@ -29,12 +33,32 @@ count_moves s (Some b) = chosen_moves s b
 abbrev pub all_moves : Setting → State → List Move
 all_moves E s = migrate_moves s ++ count_moves s (choice E s)
 
+-- ---- what is written, on any flash, tidy or not
+
+-- The replicas were repaired, where this metadata decided, and then a start was counted, by these moves.
+pub record RepairsAndCounts {T : Type 0} (result : Result T FlashStop) (L : Layout) (r : MetaRead)
+    (ms : List Move) (trials : ℕ) (s t : Told) : Type 0 where
+  pub repaired : Told
+  pub repairs : Repairs {T = Unit {0}} (Ok tt) L r s repaired
+  pub counts : WritesMoves result ms trials repaired t
+
+-- a stop comes in the repair or after it
+abbrev pub BootWrites : {T : Type 0} → Result T FlashStop → Layout → MetaRead → List Move → ℕ → Told → Told → Type 0
+BootWrites (Ok x) L r ms trials s t = RepairsAndCounts (Ok x) L r ms trials s t
+BootWrites (Err stop) L r ms trials s t =
+    Repairs {T = Unit {0}} (Err stop) L r s t ⊎ RepairsAndCounts {T = Unit {0}} (Err stop) L r ms trials s t
+
 pub record Boots {T : Type 0} (result : Result T FlashStop) (passes : List ℕ → Bool) (shown : Shown) (s t : Told) : Type 0 where
   -- nothing but the replicas, the marks and the records changes; where none is chosen, nothing but the replicas
   pub keeps : Keeps 4096 28672 s t
   pub none : choice (boot_setting passes shown.layout) (state_shown s.now shown) ≡ None → Keeps 4096 12288 s t
+  -- and of these no more than the repair and the moves of the bank that is chosen
+  pub writes : let state = state_shown s.now shown in
+      BootWrites result shown.layout shown.meta (count_moves state (choice (boot_setting passes shown.layout) state)) state.trials s t
   -- when done, both replicas hold the metadata in version 2
   pub both : OnOk result (BothHold shown.layout (in_version 2 shown.meta.meta) t.now)
+  -- on any flash: when done, the counter is that of the state after all moves
+  pub counter : OnOk result (counter_in t.now ≡ (after (state_shown s.now shown) (all_moves (boot_setting passes shown.layout) (state_shown s.now shown))).counter)
   -- on any flash with tidy marks: when done, it shows the state after all moves
   pub shows : IsTidy s.now (state_shown s.now shown) → OnOk result (IsShown shown.layout t.now (after (state_shown s.now shown) (all_moves (boot_setting passes shown.layout) (state_shown s.now shown))))
   -- from a flash that is calm at least, with each loss

@@ -1,17 +1,19 @@
-use Rattle.std.proofs.Common.{ℕ, Option, Ok, Err, sym, ap, subst, ◌∙◌}
+use Rattle.std.proofs.Common.{ℕ, Option, Ok, Err, sym, ap, subst, ◌∙◌, IsTrue}
+use Rattle.std.specs.Prelude.{IfSome}
 use Rattle.flash_core.specs.Told.{Told}
 use Rattle.early_boot.specs.declared.choosing.Chosen.{Chosen}
 use Rattle.early_boot.specs.declared.showing.Shown.{Shown}
-use Rattle.early_boot.specs.Showing.{state_shown}
+use Rattle.early_boot.specs.Showing.{Shows, state_shown}
 use Rattle.early_boot.specs.Choosing.{boot_setting, chosen_in}
 use Rattle.early_boot.specs.Mending.{mended}
 use Rattle.early_boot.specs.Numbers.{numbers}
-use Rattle.early_boot.specs.Starting.{Boots, with_counts}
+use Rattle.early_boot.specs.Starting.{Boots, chosen_of}
+use Rattle.early_boot.specs.CountingStarts.{CountsLater}
 use Rattle.early_boot.specs.Started.{Started, started}
 use Rattle.early_boot.specs.Ends.{Ended, booted, device_of, no_bank}
 use Rattle.early_boot.specs.EndsBy.{EndsByAnswer, EndsByBytes, EndsByMachine, stopped_with, unshown_end}
 use Rattle.early_boot.proofs.Endings.{shown-numbers}
-use Rattle.early_boot.proofs.Ended.{unshown-answer, unshown-machine, counts-some, counts-none, started-is, started-bytes, started-answer, started-machine, none-bytes, none-answer, none-machine, stopped-bytes, stopped-machine}
+use Rattle.early_boot.proofs.Ended.{unshown-answer, unshown-machine, started-bytes, started-answer, started-machine, none-bytes, none-answer, none-machine, stopped-bytes, stopped-machine}
 use Rattle.early_boot.proofs.start.boot.Goals as goal
 
 pub returns-in-Err-clause-by_answer : goal.returns-in-Err-clause-by_answer
@@ -44,12 +46,12 @@ returns-in-Ok-Some-clause-by_bytes g c tells =
     let n = numbers c.numbers_in-numbers.result in
     let read = c.numbers_in-numbers.ensures ∙ shown-numbers old.now shown shows fits in
     let ends = subst (λ (u : Told). Boots {T = Option (Shown × Chosen)} (Ok c.in-Ok-Some.field-0) passes shown u new) content (c.in-Ok-Some.ensures.boots tells) in
-    let parts = counts-some (mended shown) (chosen_in (boot_setting passes shown.layout) (state_shown old.now shown)) c.in-Ok-Some.after c.in-Ok-Some.chosen
-    (sym c.in-Ok-Some.field-0-is ∙ c.in-Ok-Some.ensures.chosen tells ∙ ap (λ (u : Told). with_counts (mended shown) (chosen_in (boot_setting passes shown.layout) (state_shown u.now shown))) content) in
-    let is = c.of.ensures.started ∙ started-is passes shown old new shows fits c.in-Ok-Some.chosen parts.0 c.in-Ok-Some.after parts.1 in
+    let found = sym (ap chosen_of (sym c.in-Ok-Some.field-0-is) ∙ c.in-Ok-Some.ensures.chosen tells ∙ ap (λ (u : Told). chosen_in (boot_setting passes shown.layout) (state_shown u.now shown)) content) in
+    let later = subst (λ (o : Option (Shown × Chosen)). IfSome o (λ (start : Shown × Chosen). CountsLater (mended shown) start.0)) c.in-Ok-Some.field-0-is c.in-Ok-Some.ensures.later in
+    let now = subst (λ (o : Option (Shown × Chosen)). IfSome o (λ (start : Shown × Chosen). IsTrue g.D.Flash.tells → Shows new.now start.0)) c.in-Ok-Some.field-0-is c.in-Ok-Some.ensures.shows in
     subst (λ (t : Told). EndsByBytes passes old (booted (started c.of.result) n) t) (sym (ap g.D.Flash.told c.of.ensures.device))
-    (subst (λ (b : Started). EndsByBytes passes old (booted b n) new) (sym is)
-    (started-bytes passes shown old new shows fits c.in-Ok-Some.chosen parts.0 c.in-Ok-Some.field-0 ends n read))
+    (subst (λ (b : Started). EndsByBytes passes old (booted b n) new) (sym c.of.ensures.started)
+    (started-bytes passes shown old new shows fits c.in-Ok-Some.chosen found c.in-Ok-Some.field-0 c.in-Ok-Some.after later (now tells) ends n read))
 
 pub returns-in-Ok-Some-clause-by_answer : goal.returns-in-Ok-Some-clause-by_answer
 returns-in-Ok-Some-clause-by_answer g c tells E s test layout sees tidy =
@@ -63,12 +65,12 @@ returns-in-Ok-Some-clause-by_answer g c tells E s test layout sees tidy =
     let n = numbers c.numbers_in-numbers.result in
     let read = c.numbers_in-numbers.ensures ∙ shown-numbers old.now shown shows fits in
     let ends = subst (λ (u : Told). Boots {T = Option (Shown × Chosen)} (Ok c.in-Ok-Some.field-0) passes shown u new) content (c.in-Ok-Some.ensures.boots tells) in
-    let parts = counts-some (mended shown) (chosen_in (boot_setting passes shown.layout) (state_shown old.now shown)) c.in-Ok-Some.after c.in-Ok-Some.chosen
-    (sym c.in-Ok-Some.field-0-is ∙ c.in-Ok-Some.ensures.chosen tells ∙ ap (λ (u : Told). with_counts (mended shown) (chosen_in (boot_setting passes shown.layout) (state_shown u.now shown))) content) in
-    let is = c.of.ensures.started ∙ started-is passes shown old new shows fits c.in-Ok-Some.chosen parts.0 c.in-Ok-Some.after parts.1 in
+    let found = sym (ap chosen_of (sym c.in-Ok-Some.field-0-is) ∙ c.in-Ok-Some.ensures.chosen tells ∙ ap (λ (u : Told). chosen_in (boot_setting passes shown.layout) (state_shown u.now shown)) content) in
+    let later = subst (λ (o : Option (Shown × Chosen)). IfSome o (λ (start : Shown × Chosen). CountsLater (mended shown) start.0)) c.in-Ok-Some.field-0-is c.in-Ok-Some.ensures.later in
+    let now = subst (λ (o : Option (Shown × Chosen)). IfSome o (λ (start : Shown × Chosen). IsTrue g.D.Flash.tells → Shows new.now start.0)) c.in-Ok-Some.field-0-is c.in-Ok-Some.ensures.shows in
     subst (λ (t : Told). EndsByAnswer E s (booted (started c.of.result) n) t) (sym (ap g.D.Flash.told c.of.ensures.device))
-    (subst (λ (b : Started). EndsByAnswer E s (booted b n) new) (sym is)
-    (started-answer passes shown old new shows fits c.in-Ok-Some.chosen parts.0 c.in-Ok-Some.field-0 ends E s n test sees tidy))
+    (subst (λ (b : Started). EndsByAnswer E s (booted b n) new) (sym c.of.ensures.started)
+    (started-answer passes shown old new shows fits c.in-Ok-Some.chosen found c.in-Ok-Some.field-0 c.in-Ok-Some.after later (now tells) ends E s n test sees tidy))
 
 pub returns-in-Ok-Some-clause-by_machine : goal.returns-in-Ok-Some-clause-by_machine
 returns-in-Ok-Some-clause-by_machine g c tells E s test calm guards =
@@ -82,12 +84,12 @@ returns-in-Ok-Some-clause-by_machine g c tells E s test calm guards =
     let n = numbers c.numbers_in-numbers.result in
     let read = c.numbers_in-numbers.ensures ∙ shown-numbers old.now shown shows fits in
     let ends = subst (λ (u : Told). Boots {T = Option (Shown × Chosen)} (Ok c.in-Ok-Some.field-0) passes shown u new) content (c.in-Ok-Some.ensures.boots tells) in
-    let parts = counts-some (mended shown) (chosen_in (boot_setting passes shown.layout) (state_shown old.now shown)) c.in-Ok-Some.after c.in-Ok-Some.chosen
-    (sym c.in-Ok-Some.field-0-is ∙ c.in-Ok-Some.ensures.chosen tells ∙ ap (λ (u : Told). with_counts (mended shown) (chosen_in (boot_setting passes shown.layout) (state_shown u.now shown))) content) in
-    let is = c.of.ensures.started ∙ started-is passes shown old new shows fits c.in-Ok-Some.chosen parts.0 c.in-Ok-Some.after parts.1 in
+    let found = sym (ap chosen_of (sym c.in-Ok-Some.field-0-is) ∙ c.in-Ok-Some.ensures.chosen tells ∙ ap (λ (u : Told). chosen_in (boot_setting passes shown.layout) (state_shown u.now shown)) content) in
+    let later = subst (λ (o : Option (Shown × Chosen)). IfSome o (λ (start : Shown × Chosen). CountsLater (mended shown) start.0)) c.in-Ok-Some.field-0-is c.in-Ok-Some.ensures.later in
+    let now = subst (λ (o : Option (Shown × Chosen)). IfSome o (λ (start : Shown × Chosen). IsTrue g.D.Flash.tells → Shows new.now start.0)) c.in-Ok-Some.field-0-is c.in-Ok-Some.ensures.shows in
     subst (λ (t : Told). EndsByMachine E s (booted (started c.of.result) n) t) (sym (ap g.D.Flash.told c.of.ensures.device))
-    (subst (λ (b : Started). EndsByMachine E s (booted b n) new) (sym is)
-    (started-machine passes shown old new shows fits c.in-Ok-Some.chosen parts.0 c.in-Ok-Some.field-0 ends E s n read test calm guards))
+    (subst (λ (b : Started). EndsByMachine E s (booted b n) new) (sym c.of.ensures.started)
+    (started-machine passes shown old new shows fits c.in-Ok-Some.chosen found c.in-Ok-Some.field-0 c.in-Ok-Some.after later (now tells) ends E s n read test calm guards))
 
 pub returns-in-Ok-None-clause-by_bytes : goal.returns-in-Ok-None-clause-by_bytes
 returns-in-Ok-None-clause-by_bytes g c tells =
@@ -99,8 +101,7 @@ returns-in-Ok-None-clause-by_bytes g c tells =
     let fits = c.in-Ok.ensures.fits in
     let content = c.in-Ok.ensures.content tells in
     let ends = subst (λ (u : Told). Boots {T = Option (Shown × Chosen)} (Ok c.in-Ok-None.field-0) passes shown u new) content (c.in-Ok-None.ensures.boots tells) in
-    let found = counts-none (mended shown) (chosen_in (boot_setting passes shown.layout) (state_shown old.now shown))
-    (sym c.in-Ok-None.field-0-is ∙ c.in-Ok-None.ensures.chosen tells ∙ ap (λ (u : Told). with_counts (mended shown) (chosen_in (boot_setting passes shown.layout) (state_shown u.now shown))) content) in
+    let found = sym (ap chosen_of (sym c.in-Ok-None.field-0-is) ∙ c.in-Ok-None.ensures.chosen tells ∙ ap (λ (u : Told). chosen_in (boot_setting passes shown.layout) (state_shown u.now shown)) content) in
     subst (λ (a : ℕ). EndsByBytes passes old (no_bank a c.previous.result) new) (sym c.active.ensures)
     (subst (λ (p : ℕ). EndsByBytes passes old (no_bank shown.meta.meta.active p) new) (sym c.previous.ensures)
     (none-bytes passes shown old new shows fits {T = Option (Shown × Chosen)} c.in-Ok-None.field-0 ends found))
@@ -115,8 +116,7 @@ returns-in-Ok-None-clause-by_answer g c tells E s test layout sees tidy =
     let fits = c.in-Ok.ensures.fits in
     let content = c.in-Ok.ensures.content tells in
     let ends = subst (λ (u : Told). Boots {T = Option (Shown × Chosen)} (Ok c.in-Ok-None.field-0) passes shown u new) content (c.in-Ok-None.ensures.boots tells) in
-    let found = counts-none (mended shown) (chosen_in (boot_setting passes shown.layout) (state_shown old.now shown))
-    (sym c.in-Ok-None.field-0-is ∙ c.in-Ok-None.ensures.chosen tells ∙ ap (λ (u : Told). with_counts (mended shown) (chosen_in (boot_setting passes shown.layout) (state_shown u.now shown))) content) in
+    let found = sym (ap chosen_of (sym c.in-Ok-None.field-0-is) ∙ c.in-Ok-None.ensures.chosen tells ∙ ap (λ (u : Told). chosen_in (boot_setting passes shown.layout) (state_shown u.now shown)) content) in
     subst (λ (a : ℕ). EndsByAnswer E s (no_bank a c.previous.result) new) (sym c.active.ensures)
     (subst (λ (p : ℕ). EndsByAnswer E s (no_bank shown.meta.meta.active p) new) (sym c.previous.ensures)
     (none-answer passes shown old new shows fits {T = Option (Shown × Chosen)} c.in-Ok-None.field-0 ends found E s test sees tidy))
@@ -131,8 +131,7 @@ returns-in-Ok-None-clause-by_machine g c tells E s test calm guards =
     let fits = c.in-Ok.ensures.fits in
     let content = c.in-Ok.ensures.content tells in
     let ends = subst (λ (u : Told). Boots {T = Option (Shown × Chosen)} (Ok c.in-Ok-None.field-0) passes shown u new) content (c.in-Ok-None.ensures.boots tells) in
-    let found = counts-none (mended shown) (chosen_in (boot_setting passes shown.layout) (state_shown old.now shown))
-    (sym c.in-Ok-None.field-0-is ∙ c.in-Ok-None.ensures.chosen tells ∙ ap (λ (u : Told). with_counts (mended shown) (chosen_in (boot_setting passes shown.layout) (state_shown u.now shown))) content) in
+    let found = sym (ap chosen_of (sym c.in-Ok-None.field-0-is) ∙ c.in-Ok-None.ensures.chosen tells ∙ ap (λ (u : Told). chosen_in (boot_setting passes shown.layout) (state_shown u.now shown)) content) in
     none-machine passes shown old new shows fits {T = Option (Shown × Chosen)} c.in-Ok-None.field-0 ends found E s test calm
 
 pub returns-in-Err-mend_and_start-clause-by_bytes : goal.returns-in-Err-mend_and_start-clause-by_bytes
