@@ -9,3 +9,4 @@ pub mod Mended
 pub mod Led
 pub mod Boots
 pub mod Ended
+pub mod Known

@@ -9,6 +9,7 @@ use Rattle.flash_core.specs.May.{Keeps}
 use Rattle.fwu_formats.specs.Layout.{Layout}
 use Rattle.fwu_formats.specs.Metadata.{MetaRead}
 use Rattle.fwu_formats.specs.Image.{is_blank, marks}
+use Rattle.fwu_formats.specs.Counter.{counter_in}
 use Rattle.fwu_model.specs.State as move
 use Rattle.fwu_model.specs.State.{State, Move, Numbers}
 use Rattle.fwu_model.specs.Seen.{state_of}
@@ -90,3 +91,6 @@ module _ (passes : List ℕ → Bool) (old : Told) (b : Started) (n : Numbers) (
 
   pub trials-then : b.trials ≡ trials_in t.now b.meta.meta
   trials-then = ap (λ (x : Numbers). x.trials) starts.shows.2 ∙ ap (λ (s : State). s.trials) state-then
+
+  pub counter-then : b.counter ≡ counter_in t.now
+  counter-then = ap (λ (x : Numbers). x.counter) starts.shows.2 ∙ ap (λ (s : State). s.counter) state-then

@@ -1,6 +1,8 @@
 pub mod Showing
 pub mod Choosing
 pub mod Numbers
+pub mod Tells
+pub mod Knows
 pub mod Started
 pub mod Ends
 pub mod Mending

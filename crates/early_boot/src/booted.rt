@@ -1,9 +1,12 @@
 //! A boot that started a bank.
-ghost use Rattle.std.specs.Prelude.{◌≡◌, ◌<◌, length, IsTrue};
+ghost use Rattle.std.specs.Prelude.{◌≡◌, ◌<◌, ◌≤◌, length, take, IsTrue};
+ghost use Rattle.fwu_formats.specs.Layout.{blocks_needed, slot_bytes};
 ghost use Rattle.fwu_formats.specs.Metadata.{fits_meta};
+ghost use Rattle.early_boot.specs.Choosing.{FitSlots, IsCandidate};
+ghost use Rattle.early_boot.specs.Tells.{started_as};
+ghost use Rattle.early_boot.specs.Knows.{KnowsStarted};
 
 use crate::choosing::Chosen;
-use crate::lengths::Lengths;
 use crate::numbers::Numbers;
 use crate::showing::Shown;
 use flash_core::Flash;
@@ -14,48 +17,37 @@ use meta_layout::{Layout, Meta};
 #[derive(Drop)]
 pub struct Booted<D: Flash> {
     flash: D,
-    layout: Layout,
-    meta: Meta,
-    bank: u32,
-    version: u32,
-    trials: u32,
-    counter: u32,
-    lengths: Lengths,
+    shown: Shown,
+    chosen: Chosen,
     ghost power: { IsTrue (D.on flash) },
-    ghost fits: { IsTrue (fits_meta layout meta.meta) },
-    ghost below: { bank < layout.banks },
-    ghost images: { length lengths ≡ length layout.rows },
+    ghost fits: { IsTrue (fits_meta shown.layout shown.meta.meta) },
+    ghost few: { shown.trials ≤ 3 },
+    ghost candidate: { IsCandidate shown.layout chosen },
+    ghost inside: { blocks_needed shown.layout ≤ D.blocks flash },
+    ghost knows: { IsTrue D.tells → KnowsStarted (started_as shown chosen) (D.told flash) },
 }
 
 impl<D: Flash> Booted<D> {
     ghost use Rattle.std.specs.Prelude.{slice_index_or};
     ghost use Rattle.fwu_formats.specs.Metadata.{state_at, bit_at};
-    ghost use Rattle.early_boot.specs.Choosing.{IsCandidate};
     ghost use Rattle.early_boot.specs.Numbers.{numbers};
-    ghost use Rattle.early_boot.specs.Started.{started, started_as, started_numbers, device};
+    ghost use Rattle.early_boot.specs.Started.{started, started_numbers, device};
 
     /// The bank was chosen by what the device shows.
     pub(crate) fn of(flash: D, shown: Shown, chosen: Chosen) -> Booted<D>
         requires on { IsTrue (D.on flash) }
         requires fits { IsTrue (fits_meta shown.layout shown.meta.meta) }
+        requires few { shown.trials ≤ 3 }
         requires candidate { IsCandidate shown.layout chosen }
+        requires inside { blocks_needed shown.layout ≤ D.blocks flash }
+        requires knows { IsTrue D.tells → KnowsStarted (started_as shown chosen) (D.told flash) }
         ensures device { device result ≡ flash }
         ensures started { started result ≡ started_as shown chosen }
     {
-        let Chosen {
-            bank,
-            version,
-            lengths,
-        } = chosen;
         Booted {
             flash,
-            layout: shown.layout,
-            meta: shown.meta,
-            bank,
-            version,
-            trials: shown.trials,
-            counter: shown.counter,
-            lengths,
+            shown,
+            chosen,
         }
     }
 
@@ -63,7 +55,7 @@ impl<D: Flash> Booted<D> {
     pub fn layout(&self) -> &Layout
         ensures { result.now ≡ (started self.now).layout }
     {
-        &self.layout
+        &self.shown.layout
     }
 
     /// The bank that was started.
@@ -71,28 +63,28 @@ impl<D: Flash> Booted<D> {
         ensures value { result ≡ (started self.now).bank }
         ensures below { result < (started self.now).layout.banks }
     {
-        self.bank
+        self.chosen.bank
     }
 
     /// The security version of the package in the bank that was started.
     pub fn version(&self) -> u32
         ensures { result ≡ (started self.now).version }
     {
-        self.version
+        self.chosen.version
     }
 
     /// The bank that boot tries first.
     pub fn active(&self) -> u32
         ensures { result ≡ (started self.now).meta.meta.active }
     {
-        self.meta.active()
+        self.shown.meta.active()
     }
 
     /// The bank that was active before.
     pub fn previous(&self) -> u32
         ensures { result ≡ (started self.now).meta.meta.previous }
     {
-        self.meta.previous()
+        self.shown.meta.previous()
     }
 
     /// The state of a bank.
@@ -100,7 +92,7 @@ impl<D: Flash> Booted<D> {
         requires { bank < (started self.now).layout.banks }
         ensures { result ≡ state_at (started self.now).meta.meta bank }
     {
-        self.meta.state(bank)
+        self.shown.meta.state(bank)
     }
 
     /// Whether an image in a bank is accepted.
@@ -109,21 +101,22 @@ impl<D: Flash> Booted<D> {
         requires within { image < length (started self.now).layout.rows }
         ensures { result ≡ bit_at (started self.now).meta.meta bank image }
     {
-        self.meta.bit(bank, image)
+        self.shown.meta.bit(bank, image)
     }
 
     /// How often the active bank was started on trial, and 0 where it is not on trial.
     pub fn trials(&self) -> u32
-        ensures { result ≡ (started self.now).trials }
+        ensures value { result ≡ (started self.now).trials }
+        ensures few { result ≤ 3 }
     {
-        self.trials
+        self.shown.trials
     }
 
     /// The anti-rollback counter.
     pub fn counter(&self) -> u32
         ensures { result ≡ (started self.now).counter }
     {
-        self.counter
+        self.shown.counter
     }
 
     /// The numbers of the flash after the boot.
@@ -131,13 +124,13 @@ impl<D: Flash> Booted<D> {
         ensures { numbers result ≡ started_numbers (started self.now) }
     {
         Numbers {
-            form: self.meta.form(),
-            active: self.meta.active(),
-            previous: self.meta.previous(),
-            states: *self.meta.states(),
-            bits: *self.meta.bits(),
-            trials: self.trials,
-            counter: self.counter,
+            form: self.shown.meta.form(),
+            active: self.shown.meta.active(),
+            previous: self.shown.meta.previous(),
+            states: *self.shown.meta.states(),
+            bits: *self.shown.meta.bits(),
+            trials: self.shown.trials,
+            counter: self.shown.counter,
         }
     }
 
@@ -145,15 +138,26 @@ impl<D: Flash> Booted<D> {
     pub fn fallback(&self) -> bool
         ensures { result ≡ (started self.now).fallback }
     {
-        self.bank != self.meta.active()
+        self.chosen.bank != self.shown.meta.active()
     }
 
     /// The length in bytes of an image of the bank that was started.
     pub fn image_bytes(&self, image: u32) -> u32
         requires { image < length (started self.now).layout.rows }
-        ensures { result ≡ slice_index_or (started self.now).lengths image 0 }
+        ensures value { result ≡ slice_index_or (started self.now).lengths image 0 }
+        ensures within { result ≤ slot_bytes (started self.now).layout image }
     {
-        self.lengths.get(image as usize)
+        self.chosen.lengths.get(image as usize)
+    }
+
+    /// The lengths in bytes of the images of the bank that was started, one for each image of the layout, at the front of 16 numbers.
+    pub fn lengths(&self) -> [u32; 16]
+        ensures front { take (length (started self.now).lengths) result ≡ (started self.now).lengths }
+        ensures count { length (started self.now).lengths ≡ length (started self.now).layout.rows }
+        ensures within { FitSlots (started self.now).layout (started self.now).lengths }
+        ensures all { length result ≡ 16 }
+    {
+        self.chosen.lengths.all()
     }
 
     /// The device, which is on, the layout, and the metadata, which both replicas hold in version 2 when the boot ends.
@@ -163,17 +167,15 @@ impl<D: Flash> Booted<D> {
         ensures layout { result.1 ≡ (started self).layout }
         ensures metadata { result.2 ≡ (started self).meta }
         ensures fits { IsTrue (fits_meta result.1 result.2.meta) }
+        ensures inside { blocks_needed result.1 ≤ D.blocks result.0 }
+        // What the boot knows of its flash, sound or not.
+        ensures knows { IsTrue D.tells → KnowsStarted (started self) (D.told result.0) }
     {
         let Booted {
             flash,
-            layout,
-            meta,
-            bank: _,
-            version: _,
-            trials: _,
-            counter: _,
-            lengths: _,
+            shown,
+            chosen: _,
         } = self;
-        (flash, layout, meta)
+        (flash, shown.layout, shown.meta)
     }
 }

@@ -1,5 +1,5 @@
 //! The lengths of a package's images.
-ghost use Rattle.std.specs.Prelude.{◌≡◌, ◌+◌, ◌<◌, ◌≤◌, ◌++◌, [], ◌∷◌, length, slice_index_or};
+ghost use Rattle.std.specs.Prelude.{◌≡◌, ◌+◌, ◌<◌, ◌≤◌, ◌++◌, [], ◌∷◌, length, take, slice_index_or};
 
 use std::marker::Model;
 
@@ -37,6 +37,15 @@ impl Lengths {
     {
         self.lengths[self.count] = bytes;
         self.count += 1;
+    }
+
+    /// The lengths, at the front of 16 numbers.
+    pub fn all(&self) -> [u32; 16]
+        ensures front { take (length self.now) result ≡ self.now }
+        ensures all { length result ≡ 16 }
+    {
+        let _count = self.count;
+        self.lengths
     }
 
     pub fn get(&self, image: usize) -> u32

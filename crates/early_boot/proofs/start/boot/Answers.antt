@@ -9,11 +9,12 @@ use Rattle.early_boot.specs.Mending.{mended}
 use Rattle.early_boot.specs.Numbers.{numbers}
 use Rattle.early_boot.specs.Starting.{Boots, chosen_of}
 use Rattle.early_boot.specs.CountingStarts.{CountsLater}
-use Rattle.early_boot.specs.Started.{Started, started}
+use Rattle.early_boot.specs.Started.{Started, started, started_as}
 use Rattle.early_boot.specs.Ends.{Ended, booted, device_of, no_bank}
 use Rattle.early_boot.specs.EndsBy.{EndsByAnswer, EndsByBytes, EndsByMachine, stopped_with, unshown_end}
 use Rattle.early_boot.proofs.Endings.{shown-numbers}
 use Rattle.early_boot.proofs.Ended.{unshown-answer, unshown-machine, started-bytes, started-answer, started-machine, none-bytes, none-answer, none-machine, stopped-bytes, stopped-machine}
+use Rattle.early_boot.proofs.Known.{started-knows}
 use Rattle.early_boot.proofs.start.boot.Goals as goal
 
 pub returns-in-Err-clause-by_answer : goal.returns-in-Err-clause-by_answer
@@ -167,3 +168,21 @@ returns-in-Err-mend_and_start-clause-by_machine g c tells E s test calm guards =
     subst (λ (e : Ended). EndsByMachine E s e (g.D.Flash.told (device_of c.stopped_with.result))) (sym c.stopped_with.ensures.ended)
     (subst (λ (t : Told). EndsByMachine E s (stopped_with stop n) t) (sym (ap g.D.Flash.told c.stopped_with.ensures.device))
     (stopped-machine passes shown old new shows fits {T = Option (Shown × Chosen)} stop ends n read E s test calm guards))
+
+pub of-requires-clause-knows : goal.of-requires-clause-knows
+of-requires-clause-knows g c tells =
+    let passes = g.V.Verifier.passes c.args.verifier.now in
+    let old = g.D.Flash.told c.args.flash in
+    let new = g.D.Flash.told c.mend_and_start.new.flash in
+    let shown = c.in-Ok.shown in
+    let shows = c.in-Ok.ensures.shows tells in
+    let fits = c.in-Ok.ensures.fits in
+    let content = c.in-Ok.ensures.content tells in
+    let n = numbers c.numbers_in-numbers.result in
+    let read = c.numbers_in-numbers.ensures ∙ shown-numbers old.now shown shows fits in
+    let ends = subst (λ (u : Told). Boots {T = Option (Shown × Chosen)} (Ok c.in-Ok-Some.field-0) passes shown u new) content (c.in-Ok-Some.ensures.boots tells) in
+    let found = sym (ap chosen_of (sym c.in-Ok-Some.field-0-is) ∙ c.in-Ok-Some.ensures.chosen tells ∙ ap (λ (u : Told). chosen_in (boot_setting passes shown.layout) (state_shown u.now shown)) content) in
+    let later = subst (λ (o : Option (Shown × Chosen)). IfSome o (λ (start : Shown × Chosen). CountsLater (mended shown) start.0)) c.in-Ok-Some.field-0-is c.in-Ok-Some.ensures.later in
+    let now = subst (λ (o : Option (Shown × Chosen)). IfSome o (λ (start : Shown × Chosen). IsTrue g.D.Flash.tells → Shows new.now start.0)) c.in-Ok-Some.field-0-is c.in-Ok-Some.ensures.shows in
+    started-knows passes old (started_as c.in-Ok-Some.after c.in-Ok-Some.chosen) n new
+    (started-bytes passes shown old new shows fits c.in-Ok-Some.chosen found c.in-Ok-Some.field-0 c.in-Ok-Some.after later (now tells) ends n read)
