@@ -8,7 +8,6 @@ pub mod Beside
 pub mod Trials
 pub mod Raised
 pub mod Guarded
-pub mod Boots
 pub mod Read
 pub mod MetaMoves
 pub mod MetaIn
@@ -20,4 +19,3 @@ pub mod Cleared
 pub mod Staged
 pub mod Switching
 pub mod StoredPlain
-pub mod Left

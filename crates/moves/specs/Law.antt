@@ -24,7 +24,6 @@ use Rattle.marks_core.specs.Raises.{Raises}
 use Rattle.replicas.specs.declared.which.Which.{Which}
 use Rattle.replicas.specs.Which.{Loads}
 use Rattle.replicas.specs.Repairs.{Repairs}
-use Rattle.moves.specs.Boots.{chosen_by}
 use Rattle.moves.specs.Moved.{IsReady, Does, IsShown, ShowsAfter, GuardedBy, repair_moves}
 
 -- the result of a call without a value
@@ -111,54 +110,3 @@ pub record WritesStayGuarded : Type 0 where
   pub repair : (result : Done) (L : Layout) (s t : Told) → layout_seen s.now ≡ Ok L → IsAtRest s → (which : Which) (r : MetaRead) → Loads L which r s.now → Repairs result L r s t → GuardedBy result t
   pub trial : (result : Done) (L : Layout) (s t : Told) → layout_seen s.now ≡ Ok L → IsAtRest s → (at : ℕ) → at < trial_limit → Adds result 3 at s t → GuardedBy result t
   pub raise : (result : Done) (L : Layout) (s t : Told) → layout_seen s.now ≡ Ok L → IsAtRest s → (v : ℕ) → Raises result v s t → GuardedBy result t
-
--- ---- a boot: the repair, and then what the chosen bank needs
-
--- From a calm flash, what a boot did is what the machine answers: by the bank that is chosen, a trial, a raise or nothing more, and at a stop a prefix.
-pub record BootsDo (E : Setting) (L : Layout) (which : Which) (r : MetaRead) (s : State) (old : Told) : Type 0 where
-  -- it stopped in the repair, or between that and the next write
-  pub stopped : (given result : Done) (t : Told) → IsErr result → Does given E s (repair_moves which) t → Does result E s (answer E s Off call.Boot).moves t
-  pub trial : (result : Done) (b at : ℕ) (m t : Told) → Does {T = Unit {0}} (Ok tt) E s (repair_moves which) m → choice E s ≡ Some b → b ≡ s.active → IsTrue (is_valid (bank s s.active).state) → at ≡ s.trials → at < trial_limit
-      → Adds result 3 at m t → Does result E s (answer E s Off call.Boot).moves t
-  pub raise : (result : Done) (b v : ℕ) (m t : Told) → Does {T = Unit {0}} (Ok tt) E s (repair_moves which) m → choice E s ≡ Some b → b ≡ s.active → IsTrue (is_accepted (bank s s.active).state) → v ≡ version (booted_package s s.active) → s.counter < v
-      → Raises result v m t → Does result E s (answer E s Off call.Boot).moves t
-  pub still : (t : Told) → Does {T = Unit {0}} (Ok tt) E s (repair_moves which) t → chosen_by s (choice E s) ≡ [] → Does {T = Unit {0}} (Ok tt) E s (answer E s Off call.Boot).moves t
-
--- so every boot
-abbrev pub BootsDoAnswers : Type 0
-BootsDoAnswers = (E : Setting) (L : Layout) (which : Which) (r : MetaRead) (s : State) (old : Told) → IsShown L old.now s → Loads L which r old.now → BootsDo E L which r s old
-
--- The same of what is seen, on any flash that shows a state.
-pub record BootsShow (E : Setting) (L : Layout) (which : Which) (s : State) (m : Told) : Type 0 where
-  pub trial : (result : Done) (b at : ℕ) (t : Told) → IsTidy m.now (after s (repair_moves which)) → choice E s ≡ Some b → b ≡ s.active → IsTrue (is_valid (bank s s.active).state) → at ≡ s.trials → at < trial_limit
-      → Adds result 3 at m t → ShowsAfter result L s (answer E s Off call.Boot).moves t
-  pub raise : (result : Done) (b v : ℕ) (t : Told) → choice E s ≡ Some b → b ≡ s.active → IsTrue (is_accepted (bank s s.active).state) → v ≡ version (booted_package s s.active) → s.counter < v
-      → Raises result v m t → ShowsAfter result L s (answer E s Off call.Boot).moves t
-  pub still : chosen_by s (choice E s) ≡ [] → IsShown L m.now (after s (answer E s Off call.Boot).moves)
-
--- so every boot
-abbrev pub BootsShowAnswers : Type 0
-BootsShowAnswers =
-    (E : Setting) (L : Layout) (which : Which) (r : MetaRead) (s : State) (old m : Told) → IsShown L old.now s → Loads L which r old.now → IsShown L m.now (after s (repair_moves which)) → BootsShow E L which s m
-
--- ---- what a boot does after the repair, by the bank that is chosen, and what it leaves as it was
-
--- The moves of the bank that boot starts.
-pub record ChosenMoves (s : State) (b : ℕ) : Type 0 where
-  pub trial : b ≡ s.active → IsTrue (is_valid (bank s s.active).state) → chosen_moves s b ≡ Trial ∷ []
-  pub raise : b ≡ s.active → IsTrue (is_accepted (bank s s.active).state) → s.counter < version (booted_package s s.active) → chosen_moves s b ≡ RaiseTo (version (booted_package s s.active)) ∷ []
-  pub still : b ≡ s.active → IsTrue (is_accepted (bank s s.active).state) → version (booted_package s s.active) ≤ s.counter → chosen_moves s b ≡ []
-  pub other : b ≢ s.active → chosen_moves s b ≡ []
-
-pub record BootsChoose : Type 0 where
-  pub moves : (E : Setting) (L : Layout) (which : Which) (image : List ℕ) (r : MetaRead) (s : State) → IsShown L image s → Loads L which r image → (answer E s Off call.Boot).moves ≡ repair_moves which ++ chosen_by s (choice E s)
-  pub chosen : (s : State) (b : ℕ) → ChosenMoves s b
-  -- on a calm flash some bank is
-  pub some : (E : Setting) (t : Told) (s : State) → IsCalm E t s → choice E s ≡ None → ⊥
-
--- At any exit, on any flash, all but the replicas, the marks and the records is as it was; and what both replicas hold after the repair stays.
-pub record BootsLeave : Type 0 where
-  pub trial : (given result : Done) (L : Layout) (r : MetaRead) (at : ℕ) (s m t : Told) → at < trial_limit → Repairs given L r s m → Adds result 3 at m t → Keeps 4096 28672 s t
-  pub raise : (given result : Done) (L : Layout) (r : MetaRead) (v : ℕ) (s m t : Told) → Repairs given L r s m → Raises result v m t → Keeps 4096 28672 s t
-  pub trial_both : (result : Done) (L : Layout) (r : MetaRead) (at : ℕ) (m t : Told) → at < trial_limit → Adds result 3 at m t → BothHold L r m.now → BothHold L r t.now
-  pub raise_both : (result : Done) (L : Layout) (r : MetaRead) (v : ℕ) (m t : Told) → Raises result v m t → BothHold L r m.now → BothHold L r t.now

@@ -1,8 +1,8 @@
 -- What stores of metadata, cleared marks and writes in a free bank are to the machine, as laws.
-use Rattle.std.specs.Prelude.{◌≡◌, ℕ, ◌+◌, ◌*◌, ◌<◌, ◌≤◌, Bool, List, [], ◌∷◌, length, take, Some, Ok, IsTrue, IsFalse, slice_index_or}
+use Rattle.std.specs.Prelude.{◌≡◌, ℕ, ◌+◌, ◌*◌, ◌<◌, ◌≤◌, Bool, List, [], ◌∷◌, length, take, Some, Ok, IsErr, IsTrue, IsFalse, slice_index_or}
 use Rattle.base_core.specs.Block.{block}
 use Rattle.flash_core.specs.Told.{Told, settle}
-use Rattle.flash_core.specs.May.{Keeps, Quiet}
+use Rattle.flash_core.specs.May.{Guards, Keeps, Quiet}
 use Rattle.fwu_formats.specs.Layout.{Layout, start}
 use Rattle.fwu_formats.specs.Metadata.{Meta, MetaRead, meta_read, fits_meta, state_at}
 use Rattle.fwu_formats.specs.Manifest.{is_complete}
@@ -10,8 +10,8 @@ use Rattle.fwu_formats.specs.Image.{layout_seen, deciding, marks, is_tidy, slot,
 use Rattle.fwu_model.specs.State.{State, Free, Switch, Accept, Back, bank, update_bank, is_invalid, is_valid, is_accepted, state_by}
 use Rattle.fwu_formats.specs.Places.{trial_limit}
 use Rattle.fwu_model.specs.Sound.{Setting, is_permitted, holds_permitted}
-use Rattle.fwu_model.specs.Calm.{IsAtRest}
-use Rattle.fwu_model.specs.Replica.{in_version}
+use Rattle.fwu_model.specs.Calm.{IsCalm, IsAtRest}
+use Rattle.fwu_model.specs.Replica.{BothHold, in_version}
 use Rattle.marks_core.specs.Marks.{Clears}
 use Rattle.replicas.specs.Stores.{Stores}
 use Rattle.moves.specs.Moved.{IsReady, Does, IsShown, ShowsAfter, GuardedBy}
@@ -55,12 +55,28 @@ pub record StoresDo (result : Done) (E : Setting) (s t : Told) (state : State) :
 abbrev pub StoresDoMoves : Type 0
 StoresDoMoves = (result : Done) (E : Setting) (s t : Told) (state : State) → IsReady E s state → state.form ≡ 2 → StoresDo result E s t state
 
--- the whole way to a switch: a barrier, the marks cleared, and the store
-abbrev pub SwitchesDo : Type 0
-SwitchesDo =
-    (result : Done) (E : Setting) (s cleared t : Told) (state : State) → IsReady E s state → state.form ≡ 2 → IsTrue (is_accepted (bank state state.active).state) → Clears {T = Unit {0}} (Ok tt) 3 (settle s) cleared
-    → (p : List (List ℕ)) (bits : List Bool) → package_in E.layout s.now (update_bank state) ≡ Some p → length bits ≡ length E.layout.rows → IsTrue (is_complete E.layout.rows p) → IsTrue (is_permitted E state.counter p)
-    → Stores result E.layout (meta_after (meta_in state) (Switch (update_bank state) p bits)) cleared t → Does result E state (Switch (update_bank state) p bits ∷ []) t
+-- The whole way to a switch, from a flash that shows a state: the marks are cleared, or that is stopped, and then the metadata is stored.
+pub record EndsBy (L : Layout) (state : State) (p : List (List ℕ)) (bits : List Bool) (s : Told) : Type 0 where
+  -- stopped as the marks are cleared
+  pub unclear : (given result : Done) (E : Setting) (t : Told) → IsErr result → E.layout ≡ L → IsCalm E s state → Guards 1 7 s → Clears given 3 s t
+      → Does result E state (Switch (update_bank state) p bits ∷ []) t
+  -- on a calm flash, with each loss
+  pub does : (result : Done) (E : Setting) (m t : Told) → E.layout ≡ L → IsTrue (is_permitted E state.counter p) → IsCalm E s state → Guards 1 7 s → Clears {T = Unit {0}} (Ok tt) 3 s m
+      → Stores result L (meta_after (meta_in state) (Switch (update_bank state) p bits)) m t → Does result E state (Switch (update_bank state) p bits ∷ []) t
+  -- on any flash, when done
+  pub shows : (result : Done) (m t : Told) → Clears {T = Unit {0}} (Ok tt) 3 s m → Stores result L (meta_after (meta_in state) (Switch (update_bank state) p bits)) m t
+      → ShowsAfter result L state (Switch (update_bank state) p bits ∷ []) t
+  -- on any flash at rest
+  pub guarded : (result : Done) (m t : Told) → IsAtRest s → Clears {T = Unit {0}} (Ok tt) 3 s m → Stores result L (meta_after (meta_in state) (Switch (update_bank state) p bits)) m t
+      → GuardedBy result t
+
+-- so where both replicas hold the metadata, the active bank is accepted, and the slots of the update bank begin with the images of a complete package and are quiet
+abbrev pub EndsSwitch : Type 0
+EndsSwitch =
+    (L : Layout) (state : State) (p : List (List ℕ)) (bits : List Bool) (s : Told) → IsShown L s.now state → state.form ≡ 2 → BothHold L (in_version 2 (meta_in state)) s.now
+    → IsTrue (is_accepted (bank state state.active).state) → 1 ≤ length L.rows → length bits ≡ length L.rows → IsTrue (is_complete L.rows p)
+    → ((i : ℕ) → i < length p → take (length (slice_index_or p i [])) (slot L s.now (update_bank state) i) ≡ slice_index_or p i [])
+    → Quiet (4096 * start L (update_bank state) 0) (4096 * start L (update_bank state + 1) 0) s → EndsBy L state p bits s
 
 -- a barrier leaves a ready flash ready
 abbrev pub BarriersKeepReady : Type 0

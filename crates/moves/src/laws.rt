@@ -1,6 +1,6 @@
 //! Laws of the definitions: functions that do nothing, whose contract is the law.
 
-ghost use Rattle.moves.specs.Law.{CallsCompose, LossesAreRepaired, StartsAreReady, RepairsDo, TrialsDo, RaisesDo, RepairsShow, RepairsKeepCounts, TrialsShow, RaisesShow, WritesStayGuarded, BootsDoAnswers, BootsShowAnswers, BootsChoose, BootsLeave};
+ghost use Rattle.moves.specs.Law.{CallsCompose, LossesAreRepaired, StartsAreReady, RepairsDo, TrialsDo, RaisesDo, RepairsShow, RepairsKeepCounts, TrialsShow, RaisesShow, WritesStayGuarded};
 
 /// Calls in a row do the moves of each, and a call that stops a prefix of them.
 pub fn calls_compose()
@@ -55,24 +55,4 @@ pub fn raises_show()
 /// On any flash at rest, a repair, a mark and a record put no place at risk that the layout or a bank in use has.
 pub fn writes_stay_guarded()
     ensures { WritesStayGuarded }
-{}
-
-/// What a boot does to a calm flash is what the machine answers, and a prefix of it where it is stopped.
-pub fn boots_do_answers()
-    ensures { BootsDoAnswers }
-{}
-
-/// What a boot that is done shows, on any flash that shows a state and has tidy marks, is what the machine answers.
-pub fn boots_show_answers()
-    ensures { BootsShowAnswers }
-{}
-
-/// The moves of a boot are the repair's and those of the bank that is chosen.
-pub fn boots_choose_moves()
-    ensures { BootsChoose }
-{}
-
-/// A boot leaves all but the replicas, the marks and the records as it was, and both replicas as the repair left them.
-pub fn boots_leave_the_rest()
-    ensures { BootsLeave }
 {}

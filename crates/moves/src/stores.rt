@@ -1,6 +1,6 @@
 //! Laws of stores of metadata, of cleared marks and of writes in a free bank: functions that do nothing, whose contract is the law.
 
-ghost use Rattle.moves.specs.StoreLaw.{StatesHaveMetadata, MovesKeepFit, StoresDoMoves, SwitchesDo, BarriersKeepReady, ClearsDo, StagingKeepsReady, StoresShowMoves, OthersShowNothing, SlotsHold, OthersStayGuarded, MovesKeepQuiet};
+ghost use Rattle.moves.specs.StoreLaw.{StatesHaveMetadata, MovesKeepFit, StoresDoMoves, EndsSwitch, BarriersKeepReady, ClearsDo, StagingKeepsReady, StoresShowMoves, OthersShowNothing, SlotsHold, OthersStayGuarded, MovesKeepQuiet};
 
 /// The metadata that decides follows from the state that is shown.
 pub fn states_have_metadata()
@@ -17,9 +17,9 @@ pub fn stores_do_moves()
     ensures { StoresDoMoves }
 {}
 
-/// A barrier, the marks cleared and a store switch to the update bank.
-pub fn switches_do_moves()
-    ensures { SwitchesDo }
+/// The marks cleared, and then a store, switch to the update bank, whose slots begin with a complete package and are quiet.
+pub fn ends_switch()
+    ensures { EndsSwitch }
 {}
 
 /// A barrier leaves a ready flash ready.
