@@ -1,0 +1,24 @@
+-- What a file in memory holds, and which of its calls fail.
+use Rattle.std.specs.Prelude.{◌≡◌, ℕ, Bool, List}
+use Rattle.flash_devices.specs.Meters.{is_listed, following}
+use Rattle.flash_devices.specs.declared.memory_file.MemoryFile.{MemoryFile}
+
+abbrev pub bytes_of : MemoryFile → List ℕ
+bytes_of f = f.bytes.items
+
+-- the numbers of the calls that fail
+abbrev pub fails_of : MemoryFile → List ℕ
+fails_of f = f.fails.items
+
+-- how many calls were made
+abbrev pub calls_of : MemoryFile → ℕ
+calls_of f = f.calls
+
+-- whether the next call is listed
+abbrev pub fails_next : MemoryFile → Bool
+fails_next f = is_listed (fails_of f) (following (calls_of f))
+
+-- One more call, and the same ones are listed.
+pub record IsCalled (old new : MemoryFile) : Type 0 where
+  pub calls : calls_of new ≡ following (calls_of old)
+  pub fails : fails_of new ≡ fails_of old

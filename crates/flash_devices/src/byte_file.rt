@@ -1,0 +1,89 @@
+ghost use Rattle.std.specs.Prelude.{None};
+ghost use Rattle.flash_devices.specs.File.{size_of};
+
+use std::io::{self, Read, Seek, SeekFrom, Write};
+
+/// A file whose bytes are read and written at places, counted in bytes from its start.
+pub trait ByteFile {
+    ghost use Rattle.std.specs.Prelude.{◌≡◌, ℕ, Bool, List, Option, IfOk, IfSome, OnOk, is_err, length};
+    ghost use Rattle.flash_devices.specs.ByteFiles.{FailsAs, FailsWithin, HoldsAt, Writes};
+
+    /// Its bytes, where they are told.
+    ghost content: { Self → Option (List ℕ) };
+
+    /// How many bytes it has, where this is told.
+    ghost size: { Self → Option ℕ };
+
+    /// Whether its next call fails, where this is told.
+    ghost fails: { Self → Option Bool };
+
+    /// How many bytes it has.
+    fn size(&mut self) -> io::Result<u64>
+        ensures size { IfOk result (λ n. IfSome (size self.old) (λ known. n ≡ known)) }
+        ensures length { IfOk result (λ n. IfSome (content self.old) (λ all. n ≡ length all)) }
+        ensures same { content self.new ≡ content self.old }
+        ensures fails { FailsAs (fails self.old) (is_err result) };
+
+    /// Fills the buffer with the bytes from a place on. A range outside the file is an error.
+    fn read_at(&mut self, at: u64, out: &mut [u8]) -> io::Result<()>
+        ensures bytes { OnOk result (HoldsAt at out.new (content self.old)) }
+        ensures same { content self.new ≡ content self.old }
+        ensures fails { FailsWithin (fails self.old) (content self.old) at (length out.old) (is_err result) };
+
+    /// Writes over the bytes from a place on. After an error some of the first were written, or none.
+    fn write_at(&mut self, at: u64, bytes: &[u8]) -> io::Result<()>
+        ensures writes { Writes result at bytes.now (content self.old) (content self.new) }
+        ensures fails { FailsWithin (fails self.old) (content self.old) at (length bytes.now) (is_err result) };
+
+    /// Hands on to the system what was written.
+    fn flush(&mut self) -> io::Result<()>
+        ensures same { content self.new ≡ content self.old }
+        ensures fails { FailsAs (fails self.old) (is_err result) };
+}
+
+/// Files that are read and written at a position, as those of the system. They tell no bytes, since
+/// what a write leaves isn't told by readers and writers. Each call seeks to its place first, and
+/// then all bytes are read or written.
+impl<F: Read + Write + Seek> ByteFile for F {
+    ghost use Rattle.std.specs.Prelude.{◌≡◌, Option, IfOk, IfSome, IsErr, OnOk, is_err, length};
+    ghost use Rattle.std.specs.Io.KnownBytes.{Keeps};
+    ghost use Rattle.flash_devices.specs.ByteFiles.{untold, FailsAs, FailsWithin, HoldsAt, Writes};
+    ghost use Rattle.flash_devices.specs.Positions.{ReadsFrom, WritesFrom};
+
+    ghost content = { λ _. untold };
+
+    ghost size = { λ f. size_of (F.stream_position f) (F.stream_bytes f) };
+
+    ghost fails = { λ _. None };
+
+    fn size(&mut self) -> io::Result<u64> {
+        self.seek(SeekFrom::End(0))
+    }
+
+    fn read_at(&mut self, at: u64, out: &mut [u8]) -> io::Result<()>
+        ensures bytes { OnOk result (HoldsAt at out.new untold) }
+        ensures same { untold ≡ untold }
+        ensures fails { FailsWithin None untold at (length out.old) (is_err result) }
+        ensures reads { OnOk result (ReadsFrom F.stream_position F.stream_bytes F.remaining at out.new self.old self.new) }
+    {
+        self.seek(SeekFrom::Start(at))?;
+        self.read_exact(out)
+    }
+
+    fn write_at(&mut self, at: u64, bytes: &[u8]) -> io::Result<()>
+        ensures writes { Writes result at bytes.now untold untold }
+        ensures fails { FailsWithin None untold at (length bytes.now) (is_err result) }
+        ensures takes { OnOk result (WritesFrom F.stream_position F.stream_bytes F.contents at bytes.now self.old self.new) }
+    {
+        self.seek(SeekFrom::Start(at))?;
+        self.write_all(bytes)
+    }
+
+    fn flush(&mut self) -> io::Result<()>
+        ensures same { untold ≡ untold }
+        ensures fails { FailsAs None (is_err result) }
+        ensures keeps { Keeps (F.contents self.old) (F.contents self.new) }
+    {
+        Write::flush(self)
+    }
+}

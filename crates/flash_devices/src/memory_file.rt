@@ -1,0 +1,116 @@
+ghost use Rattle.std.specs.Prelude.{◌≡◌, ◌+◌, ◌≤◌, Some, IfOk, OnErr, OnOk, is_err, length};
+ghost use Rattle.flash_devices.specs.ByteFiles.{FailsAs, FailsWithin, HoldsAt, Lies, Writes};
+ghost use Rattle.flash_devices.specs.MemoryFiles.{bytes_of, calls_of, fails_next, fails_of, IsCalled};
+
+use crate::byte_file::ByteFile;
+use crate::images::put_in;
+use std::io::{self, ErrorKind};
+
+/// A file in memory, which tells its bytes. Its calls of the listed numbers, counted from 1, fail, and
+/// so does one on a range outside of it. A call that fails changes no byte.
+#[derive(Drop)]
+pub struct MemoryFile {
+    bytes: Vec<u8>,
+    fails: Vec<u64>,
+    calls: u64,
+}
+
+/// The place as an index, where so many bytes from there on lie in the file.
+fn place(bytes: &[u8], at: u64, n: usize) -> io::Result<usize>
+    ensures place { IfOk result (λ i. (i ≡ at) × Lies at n bytes.now) }
+    ensures outside { OnErr result (Lies at n bytes.now → ⊥) }
+{
+    let size = bytes.len();
+    if at > size as u64 || n > size - at as usize {
+        return Err(io::Error::from(ErrorKind::UnexpectedEof));
+    }
+    Ok(at as usize)
+}
+
+impl MemoryFile {
+    /// A file of these bytes, whose calls of these numbers fail.
+    pub fn new(bytes: Vec<u8>, fails: Vec<u64>) -> MemoryFile
+        ensures bytes { bytes_of result ≡ bytes.items }
+        ensures fails { fails_of result ≡ fails.items }
+        ensures calls { calls_of result ≡ 0 }
+    {
+        MemoryFile {
+            bytes,
+            fails,
+            calls: 0,
+        }
+    }
+
+    /// Its bytes.
+    pub fn bytes(&self) -> &[u8]
+        ensures { result.now ≡ bytes_of self.now }
+    {
+        &self.bytes
+    }
+
+    /// One more call, which fails where it is listed.
+    fn call(&mut self) -> io::Result<()>
+        ensures fails { is_err result ≡ fails_next self.old }
+        ensures called { IsCalled self.old self.new }
+        ensures same { bytes_of self.new ≡ bytes_of self.old }
+    {
+        self.calls = self.calls.saturating_add(1);
+        if self.fails.contains(&self.calls) {
+            return Err(io::Error::from(ErrorKind::Other));
+        }
+        Ok(())
+    }
+}
+
+impl ByteFile for MemoryFile {
+    ghost content = { λ f. Some (bytes_of f) };
+
+    ghost size = { λ f. Some (length (bytes_of f)) };
+
+    ghost fails = { λ f. Some (fails_next f) };
+
+    fn size(&mut self) -> io::Result<u64>
+        ensures size { IfOk result (λ n. n ≡ length (bytes_of self.old)) }
+        ensures length { IfOk result (λ n. n ≡ length (bytes_of self.old)) }
+        ensures same { Some (bytes_of self.new) ≡ Some (bytes_of self.old) }
+        ensures fails { FailsAs (Some (fails_next self.old)) (is_err result) }
+        ensures called { IsCalled self.old self.new }
+    {
+        self.call()?;
+        Ok(self.bytes.len() as u64)
+    }
+
+    fn read_at(&mut self, at: u64, out: &mut [u8]) -> io::Result<()>
+        ensures bytes { OnOk result (HoldsAt at out.new (Some (bytes_of self.old))) }
+        ensures same { Some (bytes_of self.new) ≡ Some (bytes_of self.old) }
+        ensures fails { FailsWithin (Some (fails_next self.old)) (Some (bytes_of self.old))
+            at (length out.old) (is_err result) }
+        ensures called { IsCalled self.old self.new }
+    {
+        self.call()?;
+        let from = place(&self.bytes, at, out.len())?;
+        out.copy_from_slice(&self.bytes[from..from + out.len()]);
+        Ok(())
+    }
+
+    fn write_at(&mut self, at: u64, bytes: &[u8]) -> io::Result<()>
+        ensures writes { Writes result at bytes.now (Some (bytes_of self.old)) (Some (bytes_of self.new)) }
+        ensures fails { FailsWithin (Some (fails_next self.old)) (Some (bytes_of self.old))
+            at (length bytes.now) (is_err result) }
+        ensures unchanged { OnErr result (bytes_of self.new ≡ bytes_of self.old) }
+        ensures called { IsCalled self.old self.new }
+    {
+        self.call()?;
+        let from = place(&self.bytes, at, bytes.len())?;
+        put_in(&mut self.bytes, from, bytes);
+        Ok(())
+    }
+
+    fn flush(&mut self) -> io::Result<()>
+        ensures same { Some (bytes_of self.new) ≡ Some (bytes_of self.old) }
+        ensures fails { FailsAs (Some (fails_next self.old)) (is_err result) }
+        ensures called { IsCalled self.old self.new }
+    {
+        self.call()
+    }
+}
