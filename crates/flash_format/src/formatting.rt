@@ -9,13 +9,13 @@ ghost use Rattle.fwu_formats.specs.Package.{Toc, toc_of};
 ghost use Rattle.fwu_model.specs.Answer.{images_of};
 ghost use Rattle.fwu_formats.specs.Manifest.{is_complete, manifest_part};
 ghost use Rattle.meta_layout.specs.Rows.{fitted};
-ghost use Rattle.fip_tables.specs.Files.{Tells};
+ghost use Rattle.fip_tables.specs.Files.{Lacks, Tells};
 ghost use Rattle.image_check.specs.declared.bank.Verdict.{Verdict};
 ghost use Rattle.flash_format.specs.Choosing.{refusal};
 ghost use Rattle.flash_format.specs.Formatted.{HoldsImages, IsBlank, IsFormatted, IsOrdered, IsRefused};
 ghost use Rattle.flash_format.specs.Places.{AllStand, Erased};
 ghost use Rattle.flash_format.specs.Planned.{IsPlanned};
-ghost use Rattle.flash_format.specs.Stops.{flash_result, Answers, Finishes, IsEarly, LayoutBy, ReadsBy, RefusesBank};
+ghost use Rattle.flash_format.specs.Stops.{flash_result, Answers, Finishes, IsEarly, IsOfLayout, LayoutBy, ReadsBy, RefusesBank};
 ghost use Rattle.flash_format.specs.declared.stops.FormatStop.TheVariants.{Input as InputRefused, ReadFailed as FileFailed};
 ghost use Rattle.flash_format.specs.declared.stops.InputFault.TheVariants.{Incomplete as BankRefused};
 
@@ -125,6 +125,9 @@ pub fn format<D: Flash, H: Files, V: Verifier>(
     ensures untouched { IsEarly result → flash.new ≡ flash.old }
     // A file that could not be read: the flash is as it was, or has no layout.
     ensures failed { result ≡ Err FileFailed → IsTrue D.tells → (D.told flash.new ≡ D.told flash.old) ⊎ IsErr (layout_seen (D.told flash.new).now) }
+    // A name that told files lack gives a file that could not be read, unless there is no layout; and nothing was done.
+    ensures missing { Lacks (H.contents files.old) name.now
+        → (IsOfLayout result ⊎ (result ≡ Err FileFailed)) × (flash.new ≡ flash.old) }
     // Formatted: what the flash shows, and that it is sound.
     ensures given { IfOk result (λ done. fitted (record { banks = banks; rows = rows.now }) (D.blocks flash.old) ≡ Ok done.layout) }
     ensures formatted { IfOk result (λ done. IsTrue D.tells → IsFormatted (V.passes verifier.now) done.layout done.version (D.told flash.new)) }

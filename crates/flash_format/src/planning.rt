@@ -1,11 +1,12 @@
 //! What is to be written: the layout, and the entries of its images. It is found before the flash is touched.
-ghost use Rattle.std.specs.Prelude.{◌≡◌, ℕ, List, Ok, IfOk, IfErr};
+ghost use Rattle.std.specs.Prelude.{◌≡◌, ◌⊎◌, ℕ, List, Ok, Err, IfOk, IfErr};
 ghost use Rattle.fwu_formats.specs.Package.{toc_of};
 ghost use Rattle.meta_layout.specs.Rows.{fitted};
-ghost use Rattle.fip_tables.specs.Files.{Tells};
+ghost use Rattle.fip_tables.specs.Files.{Lacks, Tells};
 ghost use Rattle.flash_format.specs.Choosing.{refusal, refusal_by};
 ghost use Rattle.flash_format.specs.Planned.{IsPlanned, HasToc};
 ghost use Rattle.flash_format.specs.Stops.{Answers, IsOfLayout, LayoutBy, ReadsBy, StopsEarly};
+ghost use Rattle.flash_format.specs.declared.stops.FormatStop.TheVariants.{ReadFailed as FileFailed};
 
 use crate::choosing::choose;
 use crate::plan::Plan;
@@ -21,6 +22,7 @@ fn plan_of<H: Files>(files: &mut H, name: &str, layout: Layout) -> Result<Plan, 
     ensures planned { IfOk result (λ plan. IsPlanned (H.contents files.old) name.now plan.layout plan.entries) }
     ensures toc { IfOk result (λ plan. (file : List ℕ) → Tells (H.contents files.old) name.now file → HasToc file plan.layout plan.entries) }
     ensures answers { (file : List ℕ) → Tells (H.contents files.old) name.now file → Answers (refusal_by (Ok layout) (toc_of file)) result }
+    ensures missing { Lacks (H.contents files.old) name.now → result ≡ Err FileFailed }
     ensures other { IsOfLayout result → ⊥ }
     ensures stops { IfErr result StopsEarly }
     ensures same { H.contents files.new ≡ H.contents files.old }
@@ -51,6 +53,7 @@ pub fn plan<H: Files>(
     ensures toc { IfOk result (λ plan. (file : List ℕ) → Tells (H.contents files.old) name.now file → HasToc file plan.layout plan.entries) }
     ensures answers { (file : List ℕ) → Tells (H.contents files.old) name.now file → Answers (refusal (record { banks = banks; rows = rows.now }) blocks file) result }
     ensures layout { LayoutBy (fitted (record { banks = banks; rows = rows.now }) blocks) result }
+    ensures missing { Lacks (H.contents files.old) name.now → IsOfLayout result ⊎ (result ≡ Err FileFailed) }
     ensures stops { IfErr result StopsEarly }
     ensures same { H.contents files.new ≡ H.contents files.old }
     ensures reads { ReadsBy (H.contents files.old) name.now (H.faults files.old) (H.faults files.new) result }

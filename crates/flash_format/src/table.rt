@@ -1,9 +1,10 @@
 //! The table of a package in a file.
-ghost use Rattle.std.specs.Prelude.{◌≡◌, ◌+◌, ◌^◌, ◌<◌, ℕ, List, Ok, All, IfOk};
+ghost use Rattle.std.specs.Prelude.{◌≡◌, ◌+◌, ◌^◌, ◌<◌, ℕ, List, Ok, Err, All, IfOk};
 ghost use Rattle.fwu_formats.specs.Package.{toc_of};
 ghost use Rattle.fip_tables.specs.Files.{Lacks, Tells};
 ghost use Rattle.flash_format.specs.Stops.{flash_result, ReadsBy};
 ghost use Rattle.flash_format.specs.Table.{IsTable, StopsTable};
+ghost use Rattle.flash_format.specs.declared.stops.FormatStop.TheVariants.{ReadFailed as FileFailed};
 
 use crate::stops::{FormatStop, InputFault};
 use fip_tables::{Toc, TocStop, read_toc};
@@ -14,15 +15,13 @@ use host_io::Files;
 pub fn read_table<H: Files>(files: &mut H, name: &str) -> Result<Toc, FormatStop>
     ensures told { (file : List ℕ) → Tells (H.contents files.old) name.now file → IsTable (toc_of file) result }
     ensures stops { StopsTable result }
+    // A name that told files lack is no package that is refused.
+    ensures missing { Lacks (H.contents files.old) name.now → result ≡ Err FileFailed }
     ensures there { IfOk result (λ toc. Lacks (H.contents files.old) name.now → ⊥) }
     ensures ends { IfOk result (λ toc. All (λ e. e.offset + e.size < 2 ^ 64) toc.entries) }
     ensures same { H.contents files.new ≡ H.contents files.old }
     ensures reads { ReadsBy (H.contents files.old) name.now (H.faults files.old) (H.faults files.new) result }
 {
-    match files.size(name) {
-        Ok(Some(_)) => {}
-        Ok(None) | Err(_) => return Err(FormatStop::ReadFailed),
-    }
     match read_toc(files, name) {
         Ok(toc) => Ok(toc),
         Err(TocStop::Fault(fault)) => Err(FormatStop::Input(InputFault::Package(fault))),
