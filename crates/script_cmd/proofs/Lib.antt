@@ -11,6 +11,7 @@ pub mod PromiseGuarded
 pub mod PromiseComplete
 pub mod PromiseReplies
 pub mod PromiseAll
+pub mod OutcomeLemmas
 mod RunTurns
 mod RunEnds
 pub mod TopReads

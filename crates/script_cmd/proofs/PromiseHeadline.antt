@@ -59,7 +59,7 @@ module _ (passes : List ℕ → Bool) (tells : Bool) (asked : Option Asked) (fil
     last = start_of start;
     run = refl;
     left = calm-stays E old.told start (start-is-calm E old.told start given.clean given.sound given.shows);
-    armed = λ h. record { made = inl (omega arith); last = tt };
+    armed = λ h. record { made = refl; last = tt };
     selects = runs-select E start [] (start_of start) (fits E old.told given.sound) (sound-start E start old.told files passes old.counts old.counts given) refl;
   }
 
@@ -71,7 +71,7 @@ module _ (passes : List ℕ → Bool) (tells : Bool) (asked : Option Asked) (fil
   -- ---- turns ran
 
   ran-keeps : (journal : List Turn) (noted : Note) (new : Moment) (mine : List Call) (on : Option Numbers) → HasCalls (script_asked (plainly asked) source) mine
-      → Ran passes tells journal old (at on new.told new.counts new.armed) → Ended mine journal status noted → HeadlineHolds passes tells asked files source journal status old new
+      → Ran passes tells journal old (at on new.told new.counts new.armed new.power) → Ended mine journal status noted → HeadlineHolds passes tells asked files source journal status old new
   ran-keeps journal noted new mine on has turns ended told E start calls given asks =
       let same : mine ≡ calls = asked-calls (plainly asked) source calls mine asks has in
       let starts : StartsSound E start passes old = record { clean = given.clean; sound = given.sound; shows = given.shows; guarded = given.guarded; passes_are = sym given.verifier_is } in
@@ -88,7 +88,7 @@ module _ (passes : List ℕ → Bool) (tells : Bool) (asked : Option Asked) (fil
       }
 
 pub ways-keep-the-headline : WaysKeepTheHeadline
-ways-keep-the-headline passes tells asked list files source journal status noted old new taken takes was are (starved empty same nine stuck) =
+ways-keep-the-headline passes tells asked list files source journal status noted old new taken takes was are (starved empty same nine quiet stuck) =
     none-keeps passes tells asked files source status old journal new empty same (λ e. omega arith)
 ways-keep-the-headline passes tells asked list files source journal status noted old new taken takes was are (refused planned line empty same why prints) =
     none-keeps passes tells asked files source status old journal new empty same

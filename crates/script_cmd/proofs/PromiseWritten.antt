@@ -11,7 +11,7 @@ use Rattle.fwu_model.specs.Text.{text}
 use Rattle.fwu_model.specs.Allow.{list_bytes}
 use Rattle.fwu_model.specs.Causes.{Faults}
 use Rattle.fwu_model.specs.Headline.{IsPrefixOf}
-use Rattle.fwu_model.specs.Wrote.{Wrote, LineAlone, Usage, NotRead, TooLong, BadScript, BadList, may_lack, not_read_line, usage_line, too_long_line, bad_script_line, bad_list_line, IsBadScript, IsBadList}
+use Rattle.fwu_model.specs.Wrote.{Wrote, StopsAlone, may_lack, not_read_line, usage_line, too_long_line, bad_script_line, bad_list_line, IsBadScript, IsBadList}
 use Rattle.fwu_words.specs.Order.{Asked}
 use Rattle.script_cmd.specs.Printed.{Prints, all, front, nothing}
 use Rattle.script_cmd.specs.Running.{Writes}
@@ -24,10 +24,10 @@ appended None new piece before is appends = absurd (cc)
 appended (Some xs) None piece before is appends = absurd appends
 appended (Some xs) (Some ys) piece before is appends = ap Some (appends ∙ ap (λ (b : List ℕ). b ++ piece) (same_Some xs before is))
 
-module _ (script list : Option (List ℕ)) (status : ℕ) (noted : Note) where
+module _ (Alone : ℕ → Note → List ℕ → Type 0) (script list : Option (List ℕ)) (status : ℕ) (noted : Note) where
   -- ---- turns ran
 
-  wrote-turns : (journal : List Turn) (w : List ℕ) → IsTrue (is_ran status) → Writes journal status w → Wrote script list status noted journal w
+  wrote-turns : (journal : List Turn) (w : List ℕ) → IsTrue (is_ran status) → Writes journal status w → Wrote Alone script list status noted journal w
   unfolding text
   wrote-turns journal w is writes = record {
     nothing_ran = λ early. absurd (early-not-ran status early is);
@@ -38,8 +38,8 @@ module _ (script list : Option (List ℕ)) (status : ℕ) (noted : Note) where
     bad_list = λ e. absurd (false≢true (ran-at status 13 is e));
     turns = λ lacks some. writes.whole lacks;
     no_turns = λ e empty. writes.whole (subst (λ (k : ℕ). IsFalse (may_lack k)) (sym e) refl) ∙ ap text empty;
-    sink_fault = λ e. inl (writes.front (subst (λ (k : ℕ). IsTrue (may_lack k)) (sym e) refl));
-    no_memory = λ e. writes.front (subst (λ (k : ℕ). IsTrue (may_lack k)) (sym e) refl);
+    sink_fault = λ e. inl (writes.front e);
+    no_memory = λ e. inl (writes.none e);
     not_all = λ e. inr (writes.less e);
   }
 
@@ -49,8 +49,8 @@ module _ (script list : Option (List ℕ)) (status : ℕ) (noted : Note) where
       → (status ≡ 1 → w ≡ usage_line) → (status ≡ 2 → w ≡ not_read_line)
       → (status ≡ 4 → (n : ℕ) × (noted ≡ note.BadLine n) × IsBadScript script n × (w ≡ bad_script_line n)) → (status ≡ 8 → w ≡ too_long_line)
       → (status ≡ 13 → (n : ℕ) × (noted ≡ note.BadList n) × IsBadList list n × (w ≡ bad_list_line n))
-      → (status ≡ 0 → ⊥) → (status ≡ 3 → (line : List ℕ) × LineAlone script list line × IsPrefixOf w line) → (status ≡ 9 → w ≡ [])
-      → Wrote script list status noted [] w
+      → (status ≡ 0 → ⊥) → (status ≡ 3 → StopsAlone Alone noted [] w) → (status ≡ 9 → w ≡ [])
+      → Wrote Alone script list status noted [] w
   wrote-alone w one two four eight thirteen zero three nine = record {
     nothing_ran = λ early. refl;
     usage = one;
@@ -60,70 +60,62 @@ module _ (script list : Option (List ℕ)) (status : ℕ) (noted : Note) where
     bad_list = thirteen;
     turns = λ lacks some. absurd (some refl);
     no_turns = λ e empty. absurd (zero e);
-    sink_fault = λ e. let h = three e in inr (refl, h.0, h.1, h.2);
-    no_memory = λ e. (text [], ap (λ (x : List ℕ). x ++ text []) (nine e));
+    sink_fault = λ e. inr (three e);
+    no_memory = λ e. inr (refl, nine e);
     not_all = λ e. inl refl;
   }
 
-  wrote-nothing : status ≡ 9 → Wrote script list status noted [] []
+  wrote-nothing : status ≡ 9 → Wrote Alone script list status noted [] []
   wrote-nothing is =
       wrote-alone [] (λ e. absurd (omega arith)) (λ e. absurd (omega arith)) (λ e. absurd (omega arith)) (λ e. absurd (omega arith)) (λ e. absurd (omega arith))
       (λ e. omega arith) (λ e. absurd (omega arith)) (λ e. refl)
 
-  wrote-front : (line : List ℕ) (n : ℕ) → LineAlone script list line → status ≡ 3 → Wrote script list status noted [] (take n line)
-  wrote-front line n alone is =
+  wrote-front : (planned : ℕ) (line : List ℕ) (n : ℕ) → Alone planned noted line → status ≡ 3 → Wrote Alone script list status noted [] (take n line)
+  wrote-front planned line n alone is =
       wrote-alone (take n line) (λ e. absurd (omega arith)) (λ e. absurd (omega arith)) (λ e. absurd (omega arith)) (λ e. absurd (omega arith)) (λ e. absurd (omega arith))
-      (λ e. omega arith) (λ e. (line, alone, (drop n line, take-append-drop n line))) (λ e. absurd (omega arith))
+      (λ e. omega arith) (λ e. record { no_turns = refl; planned = planned; line = line; alone = alone; front = (drop n line, take-append-drop n line) }) (λ e. absurd (omega arith))
 
 module _ (asked : Option Asked) (g : Given) (was are : Faults) (status : ℕ) where
-  line-alone : (planned : ℕ) (noted : Note) (line : List ℕ) → Refuses asked g was are planned noted line → LineAlone g.script (list_bytes g.list g.files) line
-  line-alone planned noted line (usage good none) = Usage
-  line-alone planned noted line (not_read is rose) = NotRead
-  line-alone planned noted line (list_not_read why) = NotRead
-  line-alone planned noted line (too_long good is long) = TooLong
-  line-alone planned noted line (bad_script n good is short bad) = BadScript n bad
-  line-alone planned noted line (bad_list n some bad) = BadList n bad
-
-  wrote-line : (planned : ℕ) (noted : Note) (line : List ℕ) → Refuses asked g was are planned noted line → status ≡ planned → Wrote g.script (list_bytes g.list g.files) status noted [] line
+  wrote-line : (planned : ℕ) (noted : Note) (line : List ℕ) → Refuses asked g was are planned noted line → status ≡ planned → Wrote (Refuses asked g was are) g.script (list_bytes g.list g.files) status noted [] line
   wrote-line planned noted line (usage good none) is =
-      wrote-alone g.script (list_bytes g.list g.files) status noted line (λ e. refl) (λ e. absurd (omega arith)) (λ e. absurd (omega arith)) (λ e. absurd (omega arith)) (λ e. absurd (omega arith))
+      wrote-alone (Refuses asked g was are) g.script (list_bytes g.list g.files) status noted line (λ e. refl) (λ e. absurd (omega arith)) (λ e. absurd (omega arith)) (λ e. absurd (omega arith)) (λ e. absurd (omega arith))
       (λ e. omega arith) (λ e. absurd (omega arith)) (λ e. absurd (omega arith))
-  wrote-line planned noted line (not_read run rose) is =
-      wrote-alone g.script (list_bytes g.list g.files) status noted line (λ e. absurd (omega arith)) (λ e. refl) (λ e. absurd (omega arith)) (λ e. absurd (omega arith)) (λ e. absurd (omega arith))
+  wrote-line planned noted line (not_read good run rose) is =
+      wrote-alone (Refuses asked g was are) g.script (list_bytes g.list g.files) status noted line (λ e. absurd (omega arith)) (λ e. refl) (λ e. absurd (omega arith)) (λ e. absurd (omega arith)) (λ e. absurd (omega arith))
       (λ e. omega arith) (λ e. absurd (omega arith)) (λ e. absurd (omega arith))
-  wrote-line planned noted line (list_not_read why) is =
-      wrote-alone g.script (list_bytes g.list g.files) status noted line (λ e. absurd (omega arith)) (λ e. refl) (λ e. absurd (omega arith)) (λ e. absurd (omega arith)) (λ e. absurd (omega arith))
+  wrote-line planned noted line (list_not_read some why) is =
+      wrote-alone (Refuses asked g was are) g.script (list_bytes g.list g.files) status noted line (λ e. absurd (omega arith)) (λ e. refl) (λ e. absurd (omega arith)) (λ e. absurd (omega arith)) (λ e. absurd (omega arith))
       (λ e. omega arith) (λ e. absurd (omega arith)) (λ e. absurd (omega arith))
   wrote-line planned noted line (too_long good run long) is =
-      wrote-alone g.script (list_bytes g.list g.files) status noted line (λ e. absurd (omega arith)) (λ e. absurd (omega arith)) (λ e. absurd (omega arith)) (λ e. refl) (λ e. absurd (omega arith))
+      wrote-alone (Refuses asked g was are) g.script (list_bytes g.list g.files) status noted line (λ e. absurd (omega arith)) (λ e. absurd (omega arith)) (λ e. absurd (omega arith)) (λ e. refl) (λ e. absurd (omega arith))
       (λ e. omega arith) (λ e. absurd (omega arith)) (λ e. absurd (omega arith))
   wrote-line planned noted line (bad_script n good asks short bad) is =
-      wrote-alone g.script (list_bytes g.list g.files) status noted line (λ e. absurd (omega arith)) (λ e. absurd (omega arith)) (λ e. (n, refl, bad, refl)) (λ e. absurd (omega arith)) (λ e. absurd (omega arith))
+      wrote-alone (Refuses asked g was are) g.script (list_bytes g.list g.files) status noted line (λ e. absurd (omega arith)) (λ e. absurd (omega arith)) (λ e. (n, refl, bad, refl)) (λ e. absurd (omega arith)) (λ e. absurd (omega arith))
       (λ e. omega arith) (λ e. absurd (omega arith)) (λ e. absurd (omega arith))
-  wrote-line planned noted line (bad_list n some bad) is =
-      wrote-alone g.script (list_bytes g.list g.files) status noted line (λ e. absurd (omega arith)) (λ e. absurd (omega arith)) (λ e. absurd (omega arith)) (λ e. absurd (omega arith)) (λ e. (n, refl, bad, refl))
+  wrote-line planned noted line (bad_list n some there bad) is =
+      wrote-alone (Refuses asked g was are) g.script (list_bytes g.list g.files) status noted line (λ e. absurd (omega arith)) (λ e. absurd (omega arith)) (λ e. absurd (omega arith)) (λ e. absurd (omega arith)) (λ e. (n, refl, bad, refl))
       (λ e. omega arith) (λ e. absurd (omega arith)) (λ e. absurd (omega arith))
 
   stays : (taken takes : Option (List ℕ)) (before : List ℕ) → taken ≡ Some before → takes ≡ taken → takes ≡ Some (before ++ [])
   stays taken takes before is same = same ∙ is ∙ ap Some (sym (append-nil before))
 
   refused-writes : (planned : ℕ) (noted : Note) (line : List ℕ) (taken takes : Option (List ℕ)) (low high : ℕ) → Refuses asked g was are planned noted line → Prints line planned status taken takes low high
-      → WroteHolds g [] status noted taken takes
+      → WroteHolds asked g [] status noted taken takes was are
   refused-writes planned noted line taken takes low high why (all is bytes later) before told =
       (line, appended taken takes line before told bytes, wrote-line planned noted line why is)
   refused-writes planned noted line taken takes low high why (front is n bytes later rose) before told =
-      (take n line, appended taken takes (take n line) before told bytes, wrote-front g.script (list_bytes g.list g.files) status noted line n (line-alone planned noted line why) is)
+      (take n line, appended taken takes (take n line) before told bytes, wrote-front (Refuses asked g was are) g.script (list_bytes g.list g.files) status noted planned line n why is)
   refused-writes planned noted line taken takes low high why (nothing is same later) before told =
-      ([], stays taken takes before told same, wrote-nothing g.script (list_bytes g.list g.files) status noted is)
+      ([], stays taken takes before told same, wrote-nothing (Refuses asked g was are) g.script (list_bytes g.list g.files) status noted is)
 
 pub ways-write : WaysWrite
-ways-write passes tells asked g journal status noted old new taken takes was are (starved empty same nine stuck) before told = (
+ways-write passes tells asked g journal status noted old new taken takes was are (starved empty same nine quiet stuck) before told = (
   [],
   stays asked g was are status taken takes before told stuck,
-  subst (λ (j : List Turn). Wrote g.script (list_bytes g.list g.files) status noted j []) (sym empty) (wrote-nothing g.script (list_bytes g.list g.files) status noted nine),
+  subst (λ (j : List Turn). Wrote (Refuses asked g was are) g.script (list_bytes g.list g.files) status noted j []) (sym empty) (wrote-nothing (Refuses asked g was are) g.script (list_bytes g.list g.files) status noted nine),
 )
 ways-write passes tells asked g journal status noted old new taken takes was are (refused planned line empty same why prints) before told =
-    subst (λ (j : List Turn). WroteHolds g j status noted taken takes) (sym empty) (refused-writes asked g was are status planned noted line taken takes was.sink are.sink why prints) before told
+    subst (λ (j : List Turn). WroteHolds asked g j status noted taken takes was are) (sym empty) (refused-writes asked g was are status planned noted line taken takes was.sink are.sink why prints) before told
 ways-write passes tells asked g journal status noted old new taken takes was are (ran calls on good asks has turns ended printed) before told =
     let h = printed.bytes before told in
-    (h.0, h.1, wrote-turns g.script (list_bytes g.list g.files) status noted journal h.0 (ran-status calls journal status noted turns.reads_no_file ended) h.2)
+    (h.0, h.1, wrote-turns (Refuses asked g was are) g.script (list_bytes g.list g.files) status noted journal h.0 (ran-status calls journal status noted turns.reads_no_file ended) h.2)

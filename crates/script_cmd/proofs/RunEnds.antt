@@ -148,7 +148,8 @@ module _ (script : List Call) (n : ℕ) (c : Call) (journal : List Turn) (t : Tu
     more-bytes (line t.call t.reply) before is bytes,
     record {
       whole = λ whole. sym (text-more journal t);
-      front = λ lacks. ([], append-nil (text journal ++ line t.call t.reply) ∙ sym (text-more journal t));
+      front = λ three. absurd (lacks-not (status_by t.reply) 3 (sym planned ∙ three) refl (status-whole t.reply));
+      none = λ nine. absurd (lacks-not (status_by t.reply) 9 (sym planned ∙ nine) refl (status-whole t.reply));
       less = λ nine. absurd (lacks-not (status_by t.reply) 9 (sym planned ∙ nine) refl (status-whole t.reply));
     },
   )
@@ -157,11 +158,8 @@ module _ (script : List Call) (n : ℕ) (c : Call) (journal : List Turn) (t : Tu
     more-bytes (take k (line t.call t.reply)) before is bytes,
     record {
       whole = λ whole. absurd (lacks-not status 3 three refl whole);
-      front = λ lacks. (
-        drop k (line t.call t.reply),
-        append_assoc (text journal) (take k (line t.call t.reply)) (drop k (line t.call t.reply))
-            ∙ ap (λ (w : List ℕ). text journal ++ w) (take-append-drop k (line t.call t.reply)) ∙ sym (text-more journal t),
-      );
+      front = λ again. record { earlier = journal; last = t; journal_is = refl; count = k; written = refl };
+      none = λ nine. absurd (omega arith);
       less = λ nine. absurd (omega arith);
     },
   )
@@ -170,7 +168,8 @@ module _ (script : List Call) (n : ℕ) (c : Call) (journal : List Turn) (t : Tu
     same ∙ is,
     record {
       whole = λ whole. absurd (lacks-not status 9 nine refl whole);
-      front = λ lacks. (line t.call t.reply, sym (text-more journal t));
+      front = λ three. absurd (omega arith);
+      none = λ again. record { earlier = journal; last = t; journal_is = refl; written = refl };
       less = λ again all_of_it. line-some t (sym (append_cancel_left (text journal) [] (line t.call t.reply) (append-nil (text journal) ∙ all_of_it ∙ text-more journal t)));
     },
   )
@@ -256,7 +255,8 @@ module _ (passes : List ℕ → Bool) (tells : Bool) (script : List Call) (old :
         goes.bytes before is,
         record {
           whole = λ whole. refl;
-          front = λ lacks. absurd (false≢true lacks);
+          front = λ three. absurd (omega arith);
+          none = λ nine. absurd (omega arith);
           less = λ nine. absurd (omega arith);
         },
       );

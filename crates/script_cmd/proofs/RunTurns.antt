@@ -1,5 +1,5 @@
 -- A run of turns, and one turn more.
-use Rattle.std.proofs.Common.{◌≡◌, ◌⊎◌, ℕ, zero, suc, ◌+◌, ◌-◌, ◌<◌, ◌≤◌, Bool, true, false, cond, List, [], ◌∷◌, ◌++◌, length, Option, Some, None, refl, sym, ap, subst, ◌∙◌, inl, inr, IsTrue, IsFalse, Contains, arith, length-append}
+use Rattle.std.proofs.Common.{◌≡◌, ◌⊎◌, ℕ, zero, suc, ◌+◌, ◌-◌, ◌*◌, ◌<◌, ◌≤◌, min, Bool, true, false, cond, List, [], ◌∷◌, ◌++◌, length, Option, Some, None, refl, sym, ap, subst, ◌∙◌, inl, inr, IsTrue, IsFalse, Contains, add-one, arith, length-append}
 use Rattle.std.specs.List.{slice_get, list_any, count_by}
 use Rattle.std.proofs.Math.Seq.{get_or-append_seam}
 use Rattle.std.proofs.lemmas.Bool.{cases_Bool, cases_lt, false≢true, or_parts}
@@ -10,7 +10,7 @@ use Rattle.flash_core.specs.Counts.{Rose}
 use Rattle.flash_core.specs.declared.flash.Arming.{Arming}
 use Rattle.flash_core.specs.declared.flash.Counts.{Counts}
 use Rattle.flash_core.specs.Told.{Told, NothingDirty, fresh, is_unsure}
-use Rattle.flash_core.specs.May.{Quiet}
+use Rattle.flash_core.specs.May.{Guards, Quiet}
 use Rattle.fwu_model.specs.State.{State, Numbers}
 use Rattle.fwu_model.specs.Sound.{Setting}
 use Rattle.fwu_model.specs.Call.{Call}
@@ -19,13 +19,13 @@ use Rattle.fwu_model.specs.Reply.{Reply, Turn}
 use Rattle.fwu_model.specs.Reply as reply
 use Rattle.fwu_model.specs.Calm.{IsGuarded}
 use Rattle.fwu_model.specs.Run.{Condition, start_of, arming_after, ends_run, Step, Answered, Idle, Stopped, StoppedEarly}
-use Rattle.fwu_model.specs.Headline.{ArmedBy, IsCut}
-use Rattle.fwu_model.specs.Causes.{LossesAreCounted, greatest, is_lost}
+use Rattle.fwu_model.specs.Headline.{ArmedBy, IsCut, made_after}
+use Rattle.fwu_model.specs.Causes.{LossesAreCounted, cuts_in, greatest, is_cut, is_lost}
 use Rattle.fwu_model.proofs.Runs.{runs-grow}
 use Rattle.fwu_model.proofs.Frame.{calm-stays, start-is-calm}
 use Rattle.script_cmd.specs.Booted.{BootsFrom}
 use Rattle.script_cmd.specs.Machine.{Moment, IsSafe, Shows}
-use Rattle.script_cmd.specs.Replies.{Follows, Replies}
+use Rattle.script_cmd.specs.Replies.{Follows, Replies, power_after, power_left}
 use Rattle.script_cmd.specs.Turning.{Makes, NoneFalls, Turns}
 use Rattle.script_cmd.specs.Running.{Ran, RunsTo}
 
@@ -117,6 +117,10 @@ clean-guarded t clean = record {
   banks = λ image L s may layout shows b valid i from below. clean-quiet t clean i (i + 1) i (omega arith) (omega arith);
 }
 
+clean-safe : (power : Bool) (t : Told) → NothingDirty t → Guards 1 7 t → IsSafe power t
+clean-safe false t clean guard = (guard, clean-guarded t clean)
+clean-safe true t clean guard = record { guard = guard; front = clean-quiet t clean 0 (4096 * 8); guarded = clean-guarded t clean }
+
 -- ---- the arming
 
 next-cuts : {E : Setting} {c : Condition} {t : Turn} {next : Condition} → Step E c t next → next.cuts ≡ (arming_after c t.call).0
@@ -125,13 +129,14 @@ next-cuts (Idle asks is) = ap (λ (x : Condition). x.cuts) is.next_is
 next-cuts (Stopped stops asks is) = ap (λ (x : Condition). x.cuts) is.next_is
 next-cuts (StoppedEarly stops is) = ap (λ (x : Condition). x.cuts) is.next_is
 
+-- one arming more, or none
+made-more : (before n mid after : ℕ) → after ≡ min (mid + 1) greatest → mid ≡ made_after before n → after ≡ made_after before (n + 1)
+made-more before n mid after one was = rw (add-one) (one ∙ ap (λ (k : ℕ). min (k + 1) greatest) was)
+
 made-on : (c : Condition) (what : Call) (before mid after next : ℕ) → next ≡ (arming_after c what).0 → Makes what mid after
-    → (mid ≡ before + c.cuts) ⊎ (mid ≡ greatest) → (after ≡ before + next) ⊎ (after ≡ greatest)
-made-on c (call.Cut n k) before mid after next is (inl one, fits) (inl was) = inl (omega arith)
-made-on c (call.Cut n k) before mid after next is (inl one, fits) (inr top) = absurd (omega arith)
-made-on c (call.Cut n k) before mid after next is (inr top, fits) was = inr top
-made-on c other before mid after next is same (inl was) = inl (omega arith)
-made-on c other before mid after next is same (inr top) = inr (same ∙ top)
+    → mid ≡ made_after before c.cuts → after ≡ made_after before next
+made-on c (call.Cut n k) before mid after next is one was = made-more before c.cuts mid after one was ∙ ap (made_after before) (sym is)
+made-on c other before mid after next is same was = same ∙ was ∙ ap (made_after before) (sym is)
 
 armed-on : (E : Setting) (c next : Condition) (t : Turn) (journal : List Turn) (old mid new : Counts) (was armed : Option Arming)
     → ArmedBy c journal old mid was → Step E c t next → Makes t.call mid.made new.made → IsCut (Some t) armed → ArmedBy next (journal ++ t ∷ []) old new armed
@@ -139,6 +144,20 @@ armed-on E c next t journal old mid new was armed by step makes cut = record {
   made = made-on c t.call old.made mid.made new.made next.cuts (next-cuts step) makes by.made;
   last = subst (λ (x : Option Turn). IsCut x armed) (sym (slice_get-last journal t)) cut;
 }
+
+cuts-more : (journal : List Turn) (t : Turn) → cuts_in (journal ++ t ∷ []) ≡ cuts_in journal + cond (is_cut t.call) 1 0
+cuts-more journal t = sum_by-append (λ (x : Turn). cond (is_cut x.call) 1 0) journal (t ∷ []) ∙ omega arith
+
+-- the armings of a journal, and of one turn more
+made-by : (n before mid after : ℕ) (what : Call) → Makes what mid after → mid ≡ made_after before n → after ≡ made_after before (n + cond (is_cut what) 1 0)
+made-by n before mid after (call.Cut m k) one was = made-more before n mid after one was
+made-by n before mid after other same was = let none : n ≡ n + 0 = omega arith in same ∙ was ∙ ap (made_after before) none
+
+-- ---- the power
+
+power-more : (power : Bool) (journal : List Turn) (t : Turn) → power_left power (journal ++ t ∷ []) ≡ power_after (power_left power journal) t.reply
+power-more power [] t = refl
+power-more power (u ∷ turns) t = power-more (power_after power u.reply) turns t
 
 -- ---- the replies
 
@@ -156,6 +175,9 @@ module _ (passes : List ℕ → Bool) (tells : Bool) where
     fault_turns = λ t in_it is. absurd (no-turn t in_it);
     reads_no_file = λ t in_it is. no-turn t in_it;
     replies = refl;
+    made = refl;
+    power = refl;
+    guard = λ told. refl;
     ends = λ n t is ends. absurd (cc);
     run = λ told E start sound no_chance. record {
       last = start_of start;
@@ -165,9 +187,9 @@ module _ (passes : List ℕ → Bool) (tells : Bool) where
         shows = subst (λ (on : Option Numbers). Shows E (start_of start) on old.told) (sym off)
             (refl, calm-stays E old.told start (start-is-calm E old.told start sound.clean sound.sound sound.shows));
       };
-      armed = record { made = inl (omega arith); last = tt };
+      armed = record { made = refl; last = tt };
     };
-    safe = λ told clean guard. subst (λ (on : Option Numbers). IsSafe on old.told) (sym off) (guard, clean-guarded old.told clean);
+    safe = λ told clean guard. clean-safe old.power old.told clean guard;
     untouched = λ empty. refl;
     first = λ told clean t is. absurd (cc);
   }
@@ -219,6 +241,10 @@ module _ (passes : List ℕ → Bool) (tells : Bool) where
       | inl before ↦ ran.reads_no_file u before is
       | inr last ↦ turned.reads_no_file (ap (λ (x : Turn). x.reply) last ∙ is)
     ];
+    made = subst (λ (n : ℕ). new.counts.made ≡ made_after old.counts.made n) (sym (cuts-more journal t))
+        (made-by (cuts_in journal) old.counts.made mid.counts.made new.counts.made t.call (subst (λ (x : Call). Makes x mid.counts.made new.counts.made) (sym turned.call_is) turned.made) ran.made);
+    power = turned.power ∙ ap (λ (b : Bool). power_after b t.reply) ran.power ∙ sym (power-more old.power journal t);
+    guard = λ told. turned.guard told ∙ ran.guard told;
     replies = follows-on journal t old.on mid.on new.on ran.replies (subst (λ (x : Call). Replies x mid.on t.reply new.on) (sym turned.call_is) turned.replies);
     ends = ends-on t journal none;
     run = λ told E start sound no_chance.

@@ -1,8 +1,9 @@
 -- The command `show`: a clean flash is read as it is.
-use Rattle.std.proofs.Common.{◌≡◌, ℕ, ◌≤◌, arith, List, ext_get_or, Err, Result, refl, sym, ap, subst, ◌∙◌, inl, inr, IsFalse}
+use Rattle.std.proofs.Common.{◌≡◌, ℕ, ◌≤◌, arith, List, ext_get_or, Option, None, Ok, Err, Result, refl, sym, ap, subst, ◌∙◌, inl, inr, IsFalse}
 use Rattle.flash_core.specs.Told.{Told, NothingDirty, fresh, is_unsure}
 use Rattle.flash_core.specs.May.{Leaves}
-use Rattle.flash_core.specs.Counts.{Rose, Idles, ReachesNone, Spends}
+use Rattle.flash_core.specs.Counts.{Rose, Idles, ReachesNone, Spends, arming_kept}
+use Rattle.flash_core.specs.declared.flash.Arming.{Arming}
 use Rattle.flash_core.specs.declared.flash.Counts.{Counts}
 use Rattle.flash_core.specs.declared.flash.FlashStop.{FlashStop}
 use Rattle.flash_core.specs.declared.flash.FlashStop.TheVariants as flash_stop
@@ -26,6 +27,20 @@ pub power-on-keeps : (old new : Told) → NothingDirty old → new ≡ fresh old
 power-on-keeps old new clean is leaves =
     let same : new.now ≡ old.now = ext_get_or 0 new.now old.now leaves.size (λ i below. leaves.sure i (clean-sure old clean i)) in
     is ∙ ap (fresh old.guard) same ∙ sym clean
+
+-- a power-on guards the same blocks
+pub power-on-guards : (old new : Told) → new ≡ fresh old.guard new.now → new.guard ≡ old.guard
+unfolding fresh
+power-on-guards old new is = ap (λ (t : Told). t.guard) is
+
+-- where no loss is armed, none is after a call that arms none
+pub kept-none : {T : Type 0} (result : Result T FlashStop) (old new : Option Arming) → old ≡ None → new ≡ arming_kept result old → new ≡ None
+kept-none result old new none is = is ∙ ap (arming_kept result) none ∙ still result
+  where
+    still : {T : Type 0} (r : Result T FlashStop) → arming_kept r None ≡ None
+    still (Ok x) = refl
+    still (Err flash_stop.Lost) = refl
+    still (Err flash_stop.Failed) = refl
 
 -- power comes back, and then calls are made
 pub none-falls : {T : Type 0} (result : Result T FlashStop) (before mid after : Counts) → Idles before mid → Spends result mid after → NoneFalls before after

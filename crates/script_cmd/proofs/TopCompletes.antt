@@ -1,7 +1,7 @@
 -- `show` and `format` do all that they are asked for, where nothing is lacking and nothing failed, unless memory was wanting.
 use Rattle.std.proofs.Common.{◌≡◌, ◌⊎◌, inl, inr, ℕ, Bool, true, List, Option, Some, None, Result, Ok, Err, refl, subst, IsTrue}
 use Rattle.flash_core.specs.Counts.{Rose}
-use Rattle.flash_core.specs.Told.{Told, NothingDirty}
+use Rattle.flash_core.specs.Told.{NothingDirty}
 use Rattle.flash_core.specs.declared.flash.Counts.{Counts}
 use Rattle.fwu_formats.specs.Layout.{Layout}
 use Rattle.fwu_formats.specs.Image.{deciding}
@@ -19,6 +19,7 @@ use Rattle.flash_format.specs.declared.stops.InputFault.TheVariants as fault
 use Rattle.host_io.specs.Contents.{Directory}
 use Rattle.fwu_words.specs.Order.{Asked}
 use Rattle.fwu_words.specs.Order as ask
+use Rattle.script_cmd.specs.Machine.{Moment}
 use Rattle.script_cmd.specs.Noted.{noted}
 use Rattle.script_cmd.specs.Printed.{Prints, all, front, nothing}
 use Rattle.script_cmd.specs.Ways.{Given, Refuses, bad_list, bad_script, list_not_read, not_read, too_long, usage}
@@ -38,13 +39,13 @@ printed line status old new was are fails (nothing is same later) = inr is
 granted : (asked : Asked) (g : Given) (before after : Counts) (was are : Faults) (planned : ℕ) (noted : Note) (line : List ℕ) → (Some asked ≡ Some ask.run → ⊥) → (Some asked ≡ Some ask.boot → ⊥)
     → IsGranted g before after was are → Refuses (Some asked) g was are planned noted line → ⊥
 granted asked g before after was are planned noted line runs boots has (usage good is) = cc
-granted asked g before after was are planned noted line runs boots has (not_read is rose) = runs is
-granted asked g before after was are planned noted line runs boots has (list_not_read (inl rose)) = has.no_file_fault rose
-granted asked g before after was are planned noted line runs boots has (list_not_read (inr lacks)) = has.list_there lacks
+granted asked g before after was are planned noted line runs boots has (not_read good is rose) = runs is
+granted asked g before after was are planned noted line runs boots has (list_not_read some (inl rose)) = has.no_file_fault rose
+granted asked g before after was are planned noted line runs boots has (list_not_read some (inr lacks)) = has.list_there lacks
 granted asked g before after was are planned noted line runs boots has (too_long good is long) = runs is
 granted asked g before after was are planned noted line runs boots has (bad_script n good (inl is) short bad) = runs is
 granted asked g before after was are planned noted line runs boots has (bad_script n good (inr is) short bad) = boots is
-granted asked g before after was are planned noted line runs boots has (bad_list n some bad) = has.list_is n some bad
+granted asked g before after was are planned noted line runs boots has (bad_list n some there bad) = has.list_is n some bad
 
 module _ (g : Given) (before after : Counts) (status : ℕ) (taken takes : Option (List ℕ)) (was are : Faults) where
   -- a flash with metadata shows its numbers
@@ -60,11 +61,14 @@ module _ (g : Given) (before after : Counts) (status : ℕ) (taken takes : Optio
   found known image planned told line knows has grants (show.stopped (inl fault)) prints = absurd (grants.no_fault fault)
   found known image planned told line knows has grants (show.stopped (inr cut)) prints = absurd (grants.no_cut cut)
 
-  pub show-completes : (tells : Bool) (old : Told) (told : Note) → Showed (IsTrue tells × NothingDirty old) old.now before after status told taken takes was.sink are.sink ⊎ RefusedList ask.show g status told taken takes was are
-      → IsTrue tells → NothingDirty old → HasMetadata old.now → IsGranted g before after was are → (status ≡ 0) ⊎ (status ≡ 9)
-  show-completes tells old told (inl (show.starved is same)) knows clean has grants = inr is
-  show-completes tells old told (inl (show.found planned line finds prints)) knows clean has grants = found (IsTrue tells × NothingDirty old) old.now planned told line (knows, clean) has grants finds prints
-  show-completes tells old told (inr refused) knows clean has grants = absurd (granted ask.show g before after was are refused.0 told refused.1 (λ is. cc) (λ is. cc) grants refused.2)
+  pub show-completes : (tells : Bool) (old new : Moment) (told : Note) → old.counts ≡ before → new.counts ≡ after → Showed tells g old new status told taken takes was are
+      → IsTrue tells → NothingDirty old.told → HasMetadata old.told.now → IsGranted g before after was are → (status ≡ 0) ⊎ (status ≡ 9)
+  show-completes tells old new told first last (show.starved is quiet same none) knows clean has grants = inr is
+  show-completes tells old new told first last (show.found good planned line finds prints) knows clean has grants =
+      found (IsTrue tells × NothingDirty old.told) old.told.now planned told line (knows, clean) has grants
+      (subst (λ (x : Counts). Finds (IsTrue tells × NothingDirty old.told) old.told.now x after planned told line) first
+      (subst (λ (x : Counts). Finds (IsTrue tells × NothingDirty old.told) old.told.now old.counts x planned told line) last finds)) prints
+  show-completes tells old new told first last (show.list_refused same refused) knows clean has grants = absurd (granted ask.show g before after was are refused.0 told refused.1 (λ is. cc) (λ is. cc) grants refused.2)
 
 -- a name that is told isn't lacking
 there : (told : Option Directory) (name file : List ℕ) → Tells told name file → Lacks told name → ⊥
@@ -74,9 +78,9 @@ there (Some files) name file tells lacks = cc
 not-refused : (r : Result Formatted FormatStop) (asks : Option InputFault) → asks ≡ None → Answers asks r → IsEarly r → ⊥
 not-refused r asks none answers = subst (λ (o : Option InputFault). Answers o r) none answers
 
-module _ (passes : List ℕ → Bool) (g : Given) (name : List ℕ) (L : Layout) (blocks : ℕ) (old new : Told) (before after : Counts) (status : ℕ) (said : Said) (taken takes : Option (List ℕ)) (was are : Faults) where
-  tried : (r : Result Formatted FormatStop) → IsFormattable passes g.files name L blocks → IsGranted g before after was are
-      → Tries passes true g.files name L blocks old new before after was.files are.files r → Prints (format_text r) (format_status r) status taken takes was.sink are.sink → (status ≡ 0) ⊎ (status ≡ 9)
+module _ (passes : List ℕ → Bool) (g : Given) (name : List ℕ) (L : Layout) (blocks : ℕ) (old new : Moment) (status : ℕ) (said : Said) (taken takes : Option (List ℕ)) (was are : Faults) where
+  tried : (r : Result Formatted FormatStop) → IsFormattable passes g.files name L blocks → IsGranted g old.counts new.counts was are
+      → Tries passes true g.files name L blocks old new was.files are.files r → Prints (format_text r) (format_status r) status taken takes was.sink are.sink → (status ≡ 0) ⊎ (status ≡ 9)
   tried (Ok done) can grants tries prints = printed (format_text (Ok done)) status taken takes was.sink are.sink grants.no_sink_fault prints
   tried (Err (Input (fault.Layout f))) can grants tries prints = absurd (not-refused _ _ can.fits (tries.answers can.file can.is_there) tt)
   tried (Err (Input (fault.Package f))) can grants tries prints = absurd (not-refused _ _ can.fits (tries.answers can.file can.is_there) tt)
@@ -90,14 +94,16 @@ module _ (passes : List ℕ → Bool) (g : Given) (name : List ℕ) (L : Layout)
       unread (inr lacks) = there g.files name can.file can.is_there lacks
   tried (Err (Flash stop)) can grants tries prints = absurd (stopped (tries.stopped stop refl))
     where
-      stopped : HasCause before after → ⊥
+      stopped : HasCause old.counts new.counts → ⊥
       stopped (inl fault) = grants.no_fault fault
       stopped (inr cut) = grants.no_cut cut
 
-  by-formats : Formats passes true g name L blocks old new before after status said taken takes was are → IsFormattable passes g.files name L blocks → IsGranted g before after was are → (status ≡ 0) ⊎ (status ≡ 9)
-  by-formats (format.starved nine is same none takes) can grants = inr nine
-  by-formats (format.tried r tries prints is) can grants = tried r can grants tries prints
-  by-formats (format.list_refused same none refused) can grants = absurd (granted (ask.format L.banks L.rows name) g before after was are refused.0 (noted said) refused.1 (λ is. cc) (λ is. cc) grants refused.2)
+  by-formats : Formats passes true g name L blocks old new status said taken takes was are → IsFormattable passes g.files name L blocks → IsGranted g old.counts new.counts was are → (status ≡ 0) ⊎ (status ≡ 9)
+  by-formats (format.starved nine is same takes) can grants = inr nine
+  by-formats (format.tried good r tries prints is) can grants = tried r can grants tries prints
+  by-formats (format.list_refused same quiet refused) can grants =
+      absurd (granted (ask.format L.banks L.rows name) g old.counts new.counts was are refused.0 (noted said) refused.1 (λ is. cc) (λ is. cc) grants refused.2)
 
-  pub format-completes : (tells : Bool) → Formats passes tells g name L blocks old new before after status said taken takes was are → IsTrue tells → IsFormattable passes g.files name L blocks → IsGranted g before after was are → (status ≡ 0) ⊎ (status ≡ 9)
-  format-completes tells formats told = by-formats (subst (λ (x : Bool). Formats passes x g name L blocks old new before after status said taken takes was are) told formats)
+  pub format-completes : (tells : Bool) → Formats passes tells g name L blocks old new status said taken takes was are → IsTrue tells → IsFormattable passes g.files name L blocks → IsGranted g old.counts new.counts was are
+      → (status ≡ 0) ⊎ (status ≡ 9)
+  format-completes tells formats told = by-formats (subst (λ (x : Bool). Formats passes x g name L blocks old new status said taken takes was are) told formats)

@@ -1,71 +1,144 @@
 -- The command `format`, by the words and behind a list.
-use Rattle.std.proofs.Common.{◌≡◌, ◌≤◌, ℕ, Bool, List, [], Option, Some, None, Result, sym, ap, subst, ◌⊎◌, inl, inr, arith}
+use Rattle.std.proofs.Common.{◌≡◌, ◌≤◌, ◌||◌, ◌==◌, ℕ, Bool, List, [], Option, Some, None, Result, Ok, Err, refl, sym, ap, subst, ◌∙◌, ◌⊎◌, inl, inr, arith, IsTrue, IsFalse}
+use Rattle.std.proofs.lemmas.Bool.{false≢true}
 use Rattle.base_core.specs.Counts.{Rose}
-use Rattle.flash_core.specs.Told.{Told}
-use Rattle.flash_core.specs.declared.flash.Counts.{Counts}
 use Rattle.fip_tables.specs.Files.{Lacks}
-use Rattle.flash_format.specs.Stops.{ReadsBy}
+use Rattle.flash_format.specs.Formatted.{IsBlank}
+use Rattle.flash_format.specs.Stops.{IsOfLayout, LayoutBy, ReadsBy}
+use Rattle.flash_format.specs.declared.stops.FormatStop.TheVariants.{Input, ReadFailed, Flash}
+use Rattle.meta_layout.specs.Rows.{fitted}
 use Rattle.flash_format.specs.declared.formatting.Formatted.{Formatted}
 use Rattle.flash_format.specs.declared.stops.FormatStop.{FormatStop}
 use Rattle.fwu_formats.specs.Layout.{ImageRow, Layout}
 use Rattle.fwu_model.specs.Reply.{Turn}
-use Rattle.fwu_model.specs.Causes.{Faults}
+use Rattle.fwu_model.specs.Causes.{Faults, may_fail_before}
+use Rattle.fwu_formats.specs.declared.kinds.LayoutFault.{LayoutFault}
 use Rattle.fwu_model.specs.declared.kinds.Note as model
 use Rattle.host_io.specs.Contents.{Directory}
 use Rattle.fwu_words.specs.Order.{Asked}
 use Rattle.fwu_words.specs.Order as ask
 use Rattle.script_cmd.specs.Formatting.{Formats, FormattedBy, Tries, format_status, format_text, list_refused, starved, tried}
-use Rattle.script_cmd.specs.Noted.{noted}
+use Rattle.script_cmd.specs.Machine.{Moment}
+use Rattle.script_cmd.specs.Noted.{is_input, noted}
+use Rattle.script_cmd.specs.Showing.{RefusesBadList}
 use Rattle.script_cmd.specs.Printed.{Prints}
-use Rattle.script_cmd.specs.Ways.{Given, HasNoBadLine, Refuses}
+use Rattle.script_cmd.specs.Ways.{Given, HasGoodList, Refuses, bad_list, bad_script, list_not_read, not_read, too_long, usage}
 use Rattle.script_cmd.specs.declared.done.Note.{Note}
 use Rattle.script_cmd.specs.declared.done.Note.TheVariants as note
 use Rattle.script_cmd.proofs.TopCompletes.{format-completes}
+use Rattle.script_cmd.proofs.PromiseTurns.{by-plan}
+use Rattle.script_cmd.proofs.TopPrints.{not-done}
+use Rattle.script_cmd.proofs.TopShows.{good-list-kept, refused-list, starved-list}
 use Rattle.script_cmd.proofs.TopWays.{refuses, rose-from}
 
--- by what it did
-by-formats : (passes : List ℕ → Bool) (tells : Bool) (g : Given) (file : List ℕ) (L : Layout) (blocks : ℕ) (old new : Told) (before after : Counts) (status : ℕ) (said : Note) (journal : List Turn) (taken takes : Option (List ℕ)) (was are : Faults)
-    → journal ≡ [] → Formats passes tells g file L blocks old new before after status said taken takes was are → FormattedBy passes tells g file L blocks old new before after status said journal taken takes was are
-by-formats passes tells g file L blocks old new before after status said journal taken takes was are none formats = record {
-  formats = formats;
-  no_turns = none;
-  complete = format-completes passes g file L blocks old new before after status said taken takes was are tells formats;
-}
+-- ---- by what it did
+
+-- a command that runs no script is refused for its list alone
+list-planned : (asked : Asked) (g : Given) (was are : Faults) (planned : ℕ) (told : model.Note) (line : List ℕ) → (Some asked ≡ Some ask.run → ⊥) → (Some asked ≡ Some ask.boot → ⊥)
+    → Refuses (Some asked) g was are planned told line → IsTrue (may_fail_before planned || (planned == 13))
+list-planned asked g was are planned told line runs boots (usage good is) = cc
+list-planned asked g was are planned told line runs boots (not_read good is rose) = absurd (runs is)
+list-planned asked g was are planned told line runs boots (list_not_read some why) = refl
+list-planned asked g was are planned told line runs boots (too_long good is long) = absurd (runs is)
+list-planned asked g was are planned told line runs boots (bad_script n good (inl is) short bad) = absurd (runs is)
+list-planned asked g was are planned told line runs boots (bad_script n good (inr is) short bad) = absurd (boots is)
+list-planned asked g was are planned told line runs boots (bad_list n some there bad) = refl
+
+some-planned : (planned : ℕ) → IsTrue (may_fail_before planned || (planned == 13)) → planned ≡ 0 → ⊥
+some-planned planned is zero = false≢true (subst (λ (k : ℕ). IsTrue (may_fail_before k || (k == 13))) zero is)
+
+module _ (passes : List ℕ → Bool) (tells : Bool) (g : Given) (file : List ℕ) (L : Layout) (blocks : ℕ) (old new : Moment) (status : ℕ) (said : Note) (journal : List Turn) (taken takes : Option (List ℕ)) (was are : Faults) where
+  lists : Formats passes tells g file L blocks old new status said taken takes was are → RefusesBadList g old new status was are
+  lists (starved nine is same none) = starved-list g old new status was are same nine
+  lists (tried good r t prints is) = good-list-kept g old new status was are good
+  lists (list_refused same quiet refused) = refused-list g old new status was are (ask.format L.banks L.rows file) (noted said) taken takes same refused
+
+  made-none : Formats passes tells g file L blocks old new status said taken takes was are → new.counts.made ≡ old.counts.made
+  made-none (starved nine is same none) = ap (λ (m : Moment). m.counts.made) same
+  made-none (tried good r t prints is) = t.made
+  made-none (list_refused same quiet refused) = ap (λ (m : Moment). m.counts.made) same
+
+  arms-none : old.armed ≡ None → Formats passes tells g file L blocks old new status said taken takes was are → new.armed ≡ None
+  arms-none unarmed (starved nine is same none) = ap (λ (m : Moment). m.armed) same ∙ unarmed
+  arms-none unarmed (tried good r t prints is) = t.unarmed
+  arms-none unarmed (list_refused same quiet refused) = ap (λ (m : Moment). m.armed) same ∙ unarmed
+
+  guards : Formats passes tells g file L blocks old new status said taken takes was are → IsTrue tells → new.told.guard ≡ old.told.guard
+  guards (starved nine is same none) told = ap (λ (m : Moment). m.told.guard) same
+  guards (tried good r t prints is) told = t.guard told
+  guards (list_refused same quiet refused) told = ap (λ (m : Moment). m.told.guard) same
+
+  -- a package that told files lack
+  unread : (r : Result Formatted FormatStop) (M : Layout) → fitted L blocks ≡ Ok M → LayoutBy (fitted L blocks) r → IsOfLayout r ⊎ (r ≡ Err ReadFailed) → format_status r ≡ 2
+  unread r M fits by (inl layout) = absurd (subst (λ (f : Result Layout LayoutFault). LayoutBy f r) fits by layout)
+  unread r M fits by (inr is) = ap format_status is
+
+  lacks-package : Formats passes tells g file L blocks old new status said taken takes was are → Lacks g.files file → (M : Layout) → fitted L blocks ≡ Ok M → IsTrue (may_fail_before status || (status == 13))
+  lacks-package (starved nine is same none) lacks M fits = subst (λ (k : ℕ). IsTrue (may_fail_before k || (k == 13))) (sym nine) refl
+  lacks-package (tried good r t prints is) lacks M fits =
+      by-plan (format_text r) (format_status r) status taken takes was.sink are.sink prints (λ k. may_fail_before k || (k == 13)) refl refl
+      (subst (λ (k : ℕ). IsTrue (may_fail_before k || (k == 13))) (sym (unread r M fits t.layout (t.missing lacks).0)) refl)
+  lacks-package (list_refused same quiet (planned, line, why, prints)) lacks M fits =
+      by-plan line planned status taken takes was.sink are.sink prints (λ k. may_fail_before k || (k == 13)) refl refl
+      (list-planned (ask.format L.banks L.rows file) g was are planned (noted said) line (λ is. cc) (λ is. cc) why)
+
+  -- status 0 is of a flash that was formatted
+  blanks-at : (r : Result Formatted FormatStop) → Tries passes tells g.files file L blocks old new was.files are.files r → Prints (format_text r) (format_status r) status taken takes was.sink are.sink
+      → status ≡ 0 → IsTrue tells → IsBlank L new.told.now
+  blanks-at (Ok done) t prints zero told = t.blank told
+  blanks-at (Err (Input f)) t prints zero told = absurd (not-done (format_text (Err (Input f))) 7 status taken takes was.sink are.sink (λ e. omega arith) prints zero)
+  blanks-at (Err ReadFailed) t prints zero told = absurd (not-done (format_text (Err ReadFailed)) 2 status taken takes was.sink are.sink (λ e. omega arith) prints zero)
+  blanks-at (Err (Flash stop)) t prints zero told = absurd (not-done (format_text (Err (Flash stop))) 5 status taken takes was.sink are.sink (λ e. omega arith) prints zero)
+
+  blanks : Formats passes tells g file L blocks old new status said taken takes was are → status ≡ 0 → IsTrue tells → IsBlank L new.told.now
+  blanks (starved nine is same none) zero told = absurd (omega arith)
+  blanks (tried good r t prints is) zero told = blanks-at r t prints zero told
+  blanks (list_refused same quiet (planned, line, why, prints)) zero told =
+      absurd (not-done line planned status taken takes was.sink are.sink (some-planned planned (list-planned (ask.format L.banks L.rows file) g was are planned (noted said) line (λ is. cc) (λ is. cc) why)) prints zero)
+
+  by-formats : old.armed ≡ None → journal ≡ [] → Formats passes tells g file L blocks old new status said taken takes was are → FormattedBy passes tells g file L blocks old new status said journal taken takes was are
+  by-formats unarmed none formats = record {
+    formats = formats;
+    refuses_list = lists formats;
+    lacking = lacks-package formats;
+    blank = blanks formats;
+    no_turns = none;
+    made = made-none formats;
+    unarmed = arms-none unarmed formats;
+    guard = guards formats;
+    complete = format-completes passes g file L blocks old new status said taken takes was are tells formats;
+  }
+
+  -- a list was refused, and nothing else was done
+  pub refused-formats : (planned : ℕ) (line : List ℕ) (n : model.Note) → new ≡ old → old.armed ≡ None → journal ≡ [] → IsFalse (is_input said) → noted said ≡ n
+      → Refuses (Some (ask.format L.banks L.rows file)) g was are planned n line → Prints line planned status taken takes was.sink are.sink
+      → FormattedBy passes tells g file L blocks old new status said journal taken takes was are
+  refused-formats planned line n same unarmed none quiet is why prints =
+      by-formats unarmed none
+      (list_refused same quiet
+      (planned, line, subst (λ (x : model.Note). Refuses (Some (ask.format L.banks L.rows file)) g was are planned x line) (sym is) why, prints))
+
+  -- nothing was done for want of memory
+  pub starved-formats : new ≡ old → old.armed ≡ None → journal ≡ [] → said ≡ note.Nothing → status ≡ 9 → takes ≡ taken → FormattedBy passes tells g file L blocks old new status said journal taken takes was are
+  starved-formats same unarmed none is nine stuck = by-formats unarmed none (starved nine is same stuck)
 
 pub none-some : {A : Type 0} (x : A) (o : Option A) → o ≡ None → o ≡ Some x → ⊥
 none-some x o none some = cc
 
 -- what is asked is one command
-pub formatted-as : (passes : List ℕ → Bool) (tells : Bool) (g : Given) (blocks : ℕ) (old new : Told) (before after : Counts) (status : ℕ) (said : Note) (journal : List Turn) (taken takes : Option (List ℕ)) (was are : Faults)
-    (asked : Option Asked) (b banks : ℕ) (rs items rows : List ImageRow) (f file : List ℕ) → rs ≡ items → asked ≡ Some (ask.format b items f) → asked ≡ Some (ask.format banks rows file) → journal ≡ []
-    → Formats passes tells g f (record { banks = b; rows = rs }) blocks old new before after status said taken takes was are
-    → FormattedBy passes tells g file (record { banks = banks; rows = rows }) blocks old new before after status said journal taken takes was are
-formatted-as passes tells g blocks old new before after status said journal taken takes was are asked b banks rs items rows f file slice by is none formats =
+pub formatted-as : (passes : List ℕ → Bool) (tells : Bool) (g : Given) (blocks : ℕ) (old new : Moment) (status : ℕ) (said : Note) (journal : List Turn) (taken takes : Option (List ℕ)) (was are : Faults)
+    (asked : Option Asked) (b banks : ℕ) (rs items rows : List ImageRow) (f file : List ℕ) → rs ≡ items → asked ≡ Some (ask.format b items f) → asked ≡ Some (ask.format banks rows file) → old.armed ≡ None → journal ≡ []
+    → Formats passes tells g f (record { banks = b; rows = rs }) blocks old new status said taken takes was are
+    → FormattedBy passes tells g file (record { banks = banks; rows = rows }) blocks old new status said journal taken takes was are
+formatted-as passes tells g blocks old new status said journal taken takes was are asked b banks rs items rows f file slice by is unarmed none formats =
     let same-banks : b ≡ banks = cc in
     let same-rows : rs ≡ rows = cc in
     let same-file : f ≡ file = cc in
-    let here : Formats passes tells g file (record { banks = banks; rows = rows }) blocks old new before after status said taken takes was are =
-    subst (λ (n : ℕ). Formats passes tells g file (record { banks = n; rows = rows }) blocks old new before after status said taken takes was are) same-banks
-    (subst (λ (l : List ImageRow). Formats passes tells g file (record { banks = b; rows = l }) blocks old new before after status said taken takes was are) same-rows
-    (subst (λ (l : List ℕ). Formats passes tells g l (record { banks = b; rows = rs }) blocks old new before after status said taken takes was are) same-file formats)) in
-    by-formats passes tells g file (record { banks = banks; rows = rows }) blocks old new before after status said journal taken takes was are none here
-
--- a list was refused, and nothing else was done
-pub refused-formats : {D : Type 0} (told : D → Told) (counts : D → Counts) (passes : List ℕ → Bool) (tells : Bool) (g : Given) (file : List ℕ) (L : Layout) (blocks : ℕ) (old new : D) (status : ℕ) (said : Note) (journal : List Turn) (taken takes : Option (List ℕ)) (was are : Faults) (planned : ℕ) (line : List ℕ) (n : model.Note)
-    → new ≡ old → journal ≡ [] → noted said ≡ n → Refuses (Some (ask.format L.banks L.rows file)) g was are planned n line → Prints line planned status taken takes was.sink are.sink
-    → FormattedBy passes tells g file L blocks (told old) (told new) (counts old) (counts new) status said journal taken takes was are
-refused-formats told counts passes tells g file L blocks old new status said journal taken takes was are planned line n same none is why prints =
-    by-formats passes tells g file L blocks (told old) (told new) (counts old) (counts new) status said journal taken takes was are none
-    (list_refused (ap told same) (ap counts same)
-    (planned, line, subst (λ (x : model.Note). Refuses (Some (ask.format L.banks L.rows file)) g was are planned x line) (sym is) why, prints))
-
--- nothing was done for want of memory
-pub starved-formats : {D : Type 0} (told : D → Told) (counts : D → Counts) (passes : List ℕ → Bool) (tells : Bool) (g : Given) (file : List ℕ) (L : Layout) (blocks : ℕ) (old new : D) (status : ℕ) (said : Note) (journal : List Turn) (taken takes : Option (List ℕ)) (was are : Faults)
-    → new ≡ old → journal ≡ [] → said ≡ note.Nothing → status ≡ 9 → takes ≡ taken
-    → FormattedBy passes tells g file L blocks (told old) (told new) (counts old) (counts new) status said journal taken takes was are
-starved-formats told counts passes tells g file L blocks old new status said journal taken takes was are same none is nine takes-none =
-    by-formats passes tells g file L blocks (told old) (told new) (counts old) (counts new) status said journal taken takes was are none
-    (starved nine is (ap told same) (ap counts same) takes-none)
+    let here : Formats passes tells g file (record { banks = banks; rows = rows }) blocks old new status said taken takes was are =
+    subst (λ (n : ℕ). Formats passes tells g file (record { banks = n; rows = rows }) blocks old new status said taken takes was are) same-banks
+    (subst (λ (l : List ImageRow). Formats passes tells g file (record { banks = b; rows = l }) blocks old new status said taken takes was are) same-rows
+    (subst (λ (l : List ℕ). Formats passes tells g l (record { banks = b; rows = rs }) blocks old new status said taken takes was are) same-file formats)) in
+    by-formats passes tells g file (record { banks = banks; rows = rows }) blocks old new status said journal taken takes was are unarmed none here
 
 -- a file's cause, from before
 reads-from : (told : Option Directory) (name : List ℕ) (first was are : ℕ) (r : Result Formatted FormatStop) → first ≤ was → ReadsBy told name was are r → ReadsBy told name first are r
@@ -78,56 +151,61 @@ reads-from told name first was are r later reads = record {
     by (inl rose) = inl (rose-from first was are later rose)
     by (inr lacks) = inr lacks
 
-tries-from : (passes : List ℕ → Bool) (tells : Bool) (told : Option Directory) (name : List ℕ) (L : Layout) (blocks : ℕ) (old new : Told) (before after : Counts) (first was are : ℕ) (r : Result Formatted FormatStop) → first ≤ was
-    → Tries passes tells told name L blocks old new before after was are r → Tries passes tells told name L blocks old new before after first are r
-tries-from passes tells told name L blocks old new before after first was are r later t = record {
+tries-from : (passes : List ℕ → Bool) (tells : Bool) (told : Option Directory) (name : List ℕ) (L : Layout) (blocks : ℕ) (old new : Moment) (first was are : ℕ) (r : Result Formatted FormatStop) → first ≤ was
+    → Tries passes tells told name L blocks old new was are r → Tries passes tells told name L blocks old new first are r
+tries-from passes tells told name L blocks old new first was are r later t = record {
   mid = t.mid;
   fresh = t.fresh;
   layout = t.layout;
   answers = t.answers;
   untouched = t.untouched;
+  missing = t.missing;
   failed = t.failed;
   reads = reads-from told name first was are r later t.reads;
   given = t.given;
   formatted = t.formatted;
   refused = t.refused;
   images = t.images;
+  blank = t.blank;
   deserved = t.deserved;
   keeps = t.keeps;
+  guard = t.guard;
   counts = t.counts;
+  made = t.made;
+  unarmed = t.unarmed;
   stopped = t.stopped;
 }
 
-module _ (passes : List ℕ → Bool) (tells : Bool) (told files : Option Directory) (name : List ℕ) (script : Option (List ℕ)) (file : List ℕ) (L : Layout) (blocks : ℕ) (old new : Told) (before after : Counts) (status : ℕ) (said : Note) (journal : List Turn) (taken takes : Option (List ℕ)) (first was are : Faults) where
+module _ (passes : List ℕ → Bool) (tells : Bool) (told files : Option Directory) (name : List ℕ) (script : Option (List ℕ)) (file : List ℕ) (L : Layout) (blocks : ℕ) (old new : Moment) (status : ℕ) (said : Note) (journal : List Turn) (taken takes : Option (List ℕ)) (first was are : Faults) where
   -- what is formatted without a list is formatted behind one that was read and is one
-  pub formats-with-list : told ≡ files → HasNoBadLine (record { list = Some name; files = files; script = script }) → first.files ≤ was.files → first.source ≡ was.source → first.sink ≡ was.sink
-      → FormattedBy passes tells (record { list = None; files = told; script = script }) file L blocks old new before after status said journal taken takes was are
-      → FormattedBy passes tells (record { list = Some name; files = files; script = script }) file L blocks old new before after status said journal taken takes first are
-  formats-with-list same good later source sink by =
-      by-formats passes tells (record { list = Some name; files = files; script = script }) file L blocks old new before after status said journal taken takes first are by.no_turns (go by.formats)
+  pub formats-with-list : told ≡ files → HasGoodList (Some name) files → first.files ≤ was.files → first.source ≡ was.source → first.sink ≡ was.sink → old.armed ≡ None
+      → FormattedBy passes tells (record { list = None; files = told; script = script }) file L blocks old new status said journal taken takes was are
+      → FormattedBy passes tells (record { list = Some name; files = files; script = script }) file L blocks old new status said journal taken takes first are
+  formats-with-list same good later source sink unarmed by =
+      by-formats passes tells (record { list = Some name; files = files; script = script }) file L blocks old new status said journal taken takes first are unarmed by.no_turns (go by.formats)
     where
       at-sink : (line : List ℕ) (planned : ℕ) → Prints line planned status taken takes was.sink are.sink → Prints line planned status taken takes first.sink are.sink
       at-sink line planned p = subst (λ (n : ℕ). Prints line planned status taken takes n are.sink) (sym sink) p
 
-      go : Formats passes tells (record { list = None; files = told; script = script }) file L blocks old new before after status said taken takes was are
-          → Formats passes tells (record { list = Some name; files = files; script = script }) file L blocks old new before after status said taken takes first are
-      go (starved nine is kept spent none) = starved nine is kept spent none
-      go (tried r t prints is) =
-          tried r
-          (tries-from passes tells files file L blocks old new before after first.files was.files are.files r later
-          (subst (λ (d : Option Directory). Tries passes tells d file L blocks old new before after was.files are.files r) same t))
+      go : Formats passes tells (record { list = None; files = told; script = script }) file L blocks old new status said taken takes was are
+          → Formats passes tells (record { list = Some name; files = files; script = script }) file L blocks old new status said taken takes first are
+      go (starved nine is kept none) = starved nine is kept none
+      go (tried listed r t prints is) =
+          tried good r
+          (tries-from passes tells files file L blocks old new first.files was.files are.files r later
+          (subst (λ (d : Option Directory). Tries passes tells d file L blocks old new was.files are.files r) same t))
           (at-sink (format_text r) (format_status r) prints) is
-      go (list_refused kept spent refused) =
-          list_refused kept spent (
+      go (list_refused kept quiet refused) =
+          list_refused kept quiet (
             refused.0,
             refused.1,
             refuses (Some (ask.format L.banks L.rows file)) told files name script first was are refused.0 (noted said) refused.1 good later source refused.2,
             at-sink refused.1 refused.0 refused.3,
           )
 
-module _ (passes : List ℕ → Bool) (tells : Bool) (list other : Option (List ℕ)) (files : Option Directory) (script : Option (List ℕ)) (file : List ℕ) (L : Layout) (blocks : ℕ) (old new : Told) (before after : Counts) (status : ℕ) (said : Note) (journal : List Turn) (taken takes : Option (List ℕ)) (was are : Faults) where
+module _ (passes : List ℕ → Bool) (tells : Bool) (list other : Option (List ℕ)) (files : Option Directory) (script : Option (List ℕ)) (file : List ℕ) (L : Layout) (blocks : ℕ) (old new : Moment) (status : ℕ) (said : Note) (journal : List Turn) (taken takes : Option (List ℕ)) (was are : Faults) where
   -- the list that the words name
   pub formatted-at : list ≡ other
-      → FormattedBy passes tells (record { list = other; files = files; script = script }) file L blocks old new before after status said journal taken takes was are
-      → FormattedBy passes tells (record { list = list; files = files; script = script }) file L blocks old new before after status said journal taken takes was are
-  formatted-at is by = subst (λ (l : Option (List ℕ)). FormattedBy passes tells (record { list = l; files = files; script = script }) file L blocks old new before after status said journal taken takes was are) (sym is) by
+      → FormattedBy passes tells (record { list = other; files = files; script = script }) file L blocks old new status said journal taken takes was are
+      → FormattedBy passes tells (record { list = list; files = files; script = script }) file L blocks old new status said journal taken takes was are
+  formatted-at is by = subst (λ (l : Option (List ℕ)). FormattedBy passes tells (record { list = l; files = files; script = script }) file L blocks old new status said journal taken takes was are) (sym is) by

@@ -10,7 +10,7 @@ use Rattle.fwu_model.specs.State.{Numbers}
 use Rattle.fwu_model.specs.Reply.{Turn}
 use Rattle.fwu_formats.specs.Words.{is_file}
 use Rattle.fwu_model.specs.Script.{is_too_long, script_of}
-use Rattle.fwu_model.specs.Causes.{Faults}
+use Rattle.fwu_model.specs.Causes.{Faults, LacksList}
 use Rattle.fwu_model.specs.Wrote.{bad_script_line, script_asked}
 use Rattle.fwu_formats.specs.Digests.{digests_of, passes_any, passes_listed}
 use Rattle.fwu_model.specs.Allow.{after_list, asks_list, list_bytes, list_name}
@@ -21,17 +21,22 @@ use Rattle.fwu_words.specs.Order.{Asked, asked}
 use Rattle.fwu_words.specs.Allow.{NamesList, NamesNone}
 use Rattle.fwu_words.specs.Order as ask
 use Rattle.script_cmd.specs.Asking.{asked_after, asked_with_list, plainly}
+use Rattle.script_cmd.proofs.PromiseTurns.{by-plan}
 use Rattle.script_cmd.specs.Machine.{Moment, at}
 use Rattle.script_cmd.specs.Printed.{Prints}
 use Rattle.script_cmd.specs.Running.{Ended, Printed, Ran}
-use Rattle.script_cmd.specs.Ways.{AsksTurns, Given, HasNoBadLine, HasPasses, IsScriptOf, Refuses, Way, bad_list, bad_script, list_not_read, not_read, ran, refused, starved, too_long, usage}
+use Rattle.script_cmd.specs.Ways.{AsksTurns, ByList, Given, HasGoodList, HasPasses, IsIdle, IsScriptOf, ReadsList, Refuses, StandsIn, Way, may_lack_list, bad_list, bad_script, list_not_read, not_read, ran, refused, starved, too_long, usage}
 
 false_true : false ≡ true → ⊥
 false_true e = cc
 
+none_some : (bytes : List ℕ) → None ≡ Some bytes → ⊥
+none_some bytes e = cc
+
 -- a flash that is as it was
-pub same-moment : {D : Type 0} (told : D → Told) (counts : D → Counts) (arming : D → Option Arming) (old new : D) → new ≡ old → at None (told new) (counts new) (arming new) ≡ at None (told old) (counts old) (arming old)
-same-moment told counts arming old new e = ap (λ d. at None (told d) (counts d) (arming d)) e
+pub same-moment : {D : Type 0} (told : D → Told) (counts : D → Counts) (arming : D → Option Arming) (on : D → Bool) (old new : D) → new ≡ old
+    → at None (told new) (counts new) (arming new) (on new) ≡ at None (told old) (counts old) (arming old) (on old)
+same-moment told counts arming on old new e = ap (λ d. at None (told d) (counts d) (arming d) (on d)) e
 
 -- a fact of the text, where the script is told
 of-script : (script : Option (List ℕ)) (text : List ℕ) (P : List ℕ → Type 0) → IsScriptOf script text → P text → IfSome script P
@@ -43,10 +48,26 @@ pub of-told : {A : Type 0} (told : Option A) (P : A → Type 0) → ((value : A)
 of-told None P all = tt
 of-told (Some value) P all = all value refl
 
+-- a list that was read has no bad line
+pub no-bad-line : (bytes : List ℕ) (digests : List (List ℕ)) → digests_of bytes ≡ Ok digests → (n : ℕ) → digests_of bytes ≡ Err n → ⊥
+no-bad-line bytes digests read n bad = cc
+
 -- a fact of a list's bytes, where the files are told
 pub of-list : (files : Option Directory) (name bytes : List ℕ) (P : List ℕ → Type 0) → ((directory : Directory) → files ≡ Some directory → directory name ≡ Some bytes) → P bytes → IfSome (list_bytes (Some name) files) P
 of-list None name bytes P whole p = tt
 of-list (Some directory) name bytes P whole p = subst (λ (o : Option (List ℕ)). IfSome o P) (sym (whole directory refl)) p
+
+-- a list that was read, where the files are told, is there
+pub list-there : (files : Option Directory) (name bytes : List ℕ) → ((directory : Directory) → files ≡ Some directory → directory name ≡ Some bytes) → LacksList files (Some name) → ⊥
+list-there None name bytes whole lacks = lacks
+list-there (Some directory) name bytes whole lacks = let both = sym lacks ∙ whole directory refl in none_some bytes both
+
+pub good-list : (files : Option Directory) (name bytes : List ℕ) (digests : List (List ℕ)) → ((directory : Directory) → files ≡ Some directory → directory name ≡ Some bytes)
+    → digests_of bytes ≡ Ok digests → HasGoodList (Some name) files
+good-list files name bytes digests whole read = record {
+  there = list-there files name bytes whole;
+  good = of-list files name bytes (λ (l : List ℕ). (n : ℕ) → digests_of l ≡ Err n → ⊥) whole (no-bad-line bytes digests read);
+}
 
 pub rose-from : (first before after : ℕ) → first ≤ before → Rose before after → Rose first after
 rose-from first before after later (inl less) = inl (omega arith)
@@ -54,16 +75,15 @@ rose-from first before after later (inr most) = inr most
 
 -- a refusal without a list is one behind a list that was read and is one
 pub refuses : (asked : Option Asked) (told files : Option Directory) (name : List ℕ) (script : Option (List ℕ)) (first was are : Faults) (planned : ℕ) (noted : Note) (line : List ℕ)
-    → HasNoBadLine (record { list = Some name; files = files; script = script }) → first.files ≤ was.files → first.source ≡ was.source
+    → HasGoodList (Some name) files → first.files ≤ was.files → first.source ≡ was.source
     → Refuses asked (record { list = None; files = told; script = script }) was are planned noted line
     → Refuses asked (record { list = Some name; files = files; script = script }) first are planned noted line
 refuses asked told files name script first was are planned noted line good later source (usage listed is) = usage good is
-refuses asked told files name script first was are planned noted line good later source (not_read is rose) = not_read is (subst (λ (n : ℕ). Rose n are.source) (sym source) rose)
-refuses asked told files name script first was are planned noted line good later source (list_not_read (inl rose)) = list_not_read (inl (rose-from first.files was.files are.files later rose))
-refuses asked told files name script first was are planned noted line good later source (list_not_read (inr lacks)) = absurd lacks
+refuses asked told files name script first was are planned noted line good later source (not_read listed is rose) = not_read good is (subst (λ (n : ℕ). Rose n are.source) (sym source) rose)
+refuses asked told files name script first was are planned noted line good later source (list_not_read some why) = let no : false ≡ true = some in absurd (false_true no)
 refuses asked told files name script first was are planned noted line good later source (too_long listed is long) = too_long good is long
 refuses asked told files name script first was are planned noted line good later source (bad_script n listed asks short bad) = bad_script n good asks short bad
-refuses asked told files name script first was are planned noted line good later source (bad_list n some bad) = let no : false ≡ true = some in absurd (false_true no)
+refuses asked told files name script first was are planned noted line good later source (bad_list n some there bad) = let no : false ≡ true = some in absurd (false_true no)
 
 module _ (passes : List ℕ → Bool) (tells : Bool) (journal : List Turn) (status : ℕ) (noted : Note) (old new : Moment) (taken takes : Option (List ℕ)) where
   -- nothing ran, and the line of the cause was put
@@ -71,15 +91,15 @@ module _ (passes : List ℕ → Bool) (tells : Bool) (journal : List Turn) (stat
       → Prints line planned status taken takes was.sink are.sink → Way passes tells asked g journal status noted old new taken takes was are
   refused-by asked g was are planned line told none same is why prints = refused planned line none same (subst (λ (n : Note). Refuses asked g was are planned n line) (sym is) why) prints
 
-  pub text-refused : (asked : Option Asked) (g : Given) (was are : Faults) (text : List ℕ) (n : ℕ) → HasNoBadLine g → AsksTurns asked → IsScriptOf g.script text → is_too_long text ≡ false → script_of text ≡ Err n
+  pub text-refused : (asked : Option Asked) (g : Given) (was are : Faults) (text : List ℕ) (n : ℕ) → HasGoodList g.list g.files → AsksTurns asked → IsScriptOf g.script text → is_too_long text ≡ false → script_of text ≡ Err n
       → journal ≡ [] → new ≡ old → noted ≡ note.BadLine n → Prints (bad_script_line n) 4 status taken takes was.sink are.sink → Way passes tells asked g journal status noted old new taken takes was are
   text-refused asked g was are text n listed asks is short bad none same told prints =
       refused-by asked g was are 4 (bad_script_line n) (note.BadLine n) none same told
       (bad_script n listed asks (of-script g.script text (λ b. is_too_long b ≡ false) is short) (of-script g.script text (λ b. script_of b ≡ Err n) is bad))
       prints
 
-  pub text-ran : (asked : Option Asked) (g : Given) (was are : Faults) (text : List ℕ) (calls : List Call) (on : Option Numbers) → HasNoBadLine g → AsksTurns asked → IsScriptOf g.script text → is_too_long text ≡ false
-      → script_of text ≡ Ok calls → Ran passes tells journal old (at on new.told new.counts new.armed) → Ended calls journal status noted → Printed journal status taken takes was.sink are.sink
+  pub text-ran : (asked : Option Asked) (g : Given) (was are : Faults) (text : List ℕ) (calls : List Call) (on : Option Numbers) → HasGoodList g.list g.files → AsksTurns asked → IsScriptOf g.script text → is_too_long text ≡ false
+      → script_of text ≡ Ok calls → Ran passes tells journal old (at on new.told new.counts new.armed new.power) → Ended calls journal status noted → Printed journal status taken takes was.sink are.sink
       → Way passes tells asked g journal status noted old new taken takes was are
   text-ran asked g was are text calls on listed asks is short read does ended printed =
       ran calls on listed asks (of-script g.script text (λ b. (is_too_long b ≡ false) × (script_of b ≡ Ok calls)) is (short, read)) does ended printed
@@ -105,11 +125,11 @@ module _ (passes : List ℕ → Bool) (tells : Bool) (journal : List Turn) (stat
   way-of-boot asked files left was are is way = way-at asked (Some ask.boot) None None files left was are is refl way
 
   -- a way without a list is one behind a list that was read and is one
-  pub with-list : (asked : Option Asked) (told files : Option Directory) (name : List ℕ) (script : Option (List ℕ)) (first was are : Faults) → HasNoBadLine (record { list = Some name; files = files; script = script })
+  pub with-list : (asked : Option Asked) (told files : Option Directory) (name : List ℕ) (script : Option (List ℕ)) (first was are : Faults) → HasGoodList (Some name) files
       → first.files ≤ was.files → first.source ≡ was.source → first.sink ≡ was.sink
       → Way passes tells asked (record { list = None; files = told; script = script }) journal status noted old new taken takes was are
       → Way passes tells asked (record { list = Some name; files = files; script = script }) journal status noted old new taken takes first are
-  with-list asked told files name script first was are good later source sink (starved none same nine takes) = starved none same nine takes
+  with-list asked told files name script first was are good later source sink (starved none same nine quiet takes) = starved none same nine quiet takes
   with-list asked told files name script first was are good later source sink (refused planned line none same why prints) =
       refused planned line none same
       (refuses asked told files name script first was are planned noted line good later source why)
@@ -119,51 +139,53 @@ module _ (passes : List ℕ → Bool) (tells : Bool) (journal : List Turn) (stat
 
 -- ---- whose manifests pass
 
-none_some : (bytes : List ℕ) → None ≡ Some bytes → ⊥
-none_some bytes e = cc
+pub has-any : (asks : Bool) (list : Option (List ℕ)) (files : Option Directory) → asks ≡ false → HasPasses asks list files passes_any
+has-any asks list files unasked = record {
+  any = λ again. refl;
+  listed = λ is. absurd (false_true (sym unasked ∙ is));
+}
 
-same-digests : (bytes others : List ℕ) (digests listed : List (List ℕ)) (file : Option (List ℕ)) → file ≡ Some bytes → file ≡ Some others → digests_of bytes ≡ Ok digests → digests_of others ≡ Ok listed → digests ≡ listed
-same-digests bytes others digests listed file one two read is = cc
+stands-in : (files : Option Directory) (name bytes : List ℕ) → ((directory : Directory) → files ≡ Some directory → directory name ≡ Some bytes) → StandsIn files name bytes
+stands-in None name bytes whole = tt
+stands-in (Some directory) name bytes whole = whole directory refl
 
-passes-read : Result (List (List ℕ)) ℕ → List ℕ → Bool
-passes-read (Ok digests) = passes_listed digests
-passes-read (Err n) = passes_any
+pub reads-list : (name bytes : List ℕ) (digests : List (List ℕ)) (files : Option Directory) → ((directory : Directory) → files ≡ Some directory → directory name ≡ Some bytes) → digests_of bytes ≡ Ok digests
+    → ReadsList (Some name) files (passes_listed digests)
+reads-list name bytes digests files whole read = record {
+  name = name;
+  named = refl;
+  bytes = bytes;
+  stands = stands-in files name bytes whole;
+  digests = digests;
+  is_list = read;
+  passes_are = refl;
+}
 
-passes-in : Option (List ℕ) → List ℕ → Bool
-passes-in None = passes_any
-passes-in (Some bytes) = passes-read (digests_of bytes)
-
--- those whose manifests pass, by the list where it is told
-pub passes-told : Option (List ℕ) → Option Directory → List ℕ → Bool
-passes-told list files = passes-in (list_bytes list files)
-
-pub has-told : (asks : Bool) (list : Option (List ℕ)) (files : Option Directory) → asks ≡ true → HasPasses asks list files (passes-told list files)
-unfolding passes-told passes-in passes-read
-has-told asks list files is = record {
+has-list : (asks : Bool) (list : Option (List ℕ)) (name : List ℕ) (files : Option Directory) (passes : List ℕ → Bool) → asks ≡ true → list ≡ Some name → ReadsList (Some name) files passes → HasPasses asks list files passes
+has-list asks list name files passes is named reads = record {
   any = λ no. absurd (false_true (sym no ∙ is));
-  listed = λ bytes digests there read. ap passes-in there ∙ ap passes-read read;
+  listed = λ again. subst (λ (l : Option (List ℕ)). ReadsList l files passes) (sym named) reads;
 }
 
-pub has-any : (asks : Bool) (list : Option (List ℕ)) (files : Option Directory) → list ≡ None → HasPasses asks list files passes_any
-has-any asks list files is = record {
-  any = λ no. refl;
-  listed = λ bytes digests there read. absurd (let no : None ≡ Some bytes = ap (λ (l : Option (List ℕ)). list_bytes l files) (sym is) ∙ there in none_some bytes no);
-}
+-- what is promised by the list is promised by the words that name it
+pub by-words : (asks : Bool) (list : Option (List ℕ)) (name : List ℕ) (files : Option Directory) (Idle : Type 0) (P Q : (List ℕ → Bool) → Type 0) → asks ≡ true → list ≡ Some name → ((passes : List ℕ → Bool) → P passes → Q passes)
+    → ByList (ReadsList (Some name) files) Idle P → ByList (HasPasses asks list files) Idle Q
+by-words asks list name files Idle P Q is named goes (inl (passes, reads, p)) = inl (passes, has-list asks list name files passes is named reads, goes passes p)
+by-words asks list name files Idle P Q is named goes (inr (idle, all)) = inr (idle, λ passes. goes passes (all passes))
 
-pub has-listed : (name bytes : List ℕ) (digests : List (List ℕ)) (files : Option Directory) → ((directory : Directory) → files ≡ Some directory → directory name ≡ Some bytes) → digests_of bytes ≡ Ok digests
-    → HasPasses true (Some name) files (passes_listed digests)
-has-listed name bytes digests None whole read = record {
-  any = λ no. absurd (false_true (sym no));
-  listed = λ others listed there is. absurd (none_some others there);
-}
-has-listed name bytes digests (Some directory) whole read = record {
-  any = λ no. absurd (false_true (sym no));
-  listed = λ others listed there is. ap passes_listed (same-digests bytes others digests listed (directory name) (whole directory refl) there read is);
-}
+-- and so is what follows from it
+pub by-list : (Has : (List ℕ → Bool) → Type 0) (Idle : Type 0) (P Q : (List ℕ → Bool) → Type 0) → ((passes : List ℕ → Bool) → P passes → Q passes) → ByList Has Idle P → ByList Has Idle Q
+by-list Has Idle P Q goes (inl (passes, has, p)) = inl (passes, has, goes passes p)
+by-list Has Idle P Q goes (inr (idle, all)) = inr (idle, λ passes. goes passes (all passes))
 
-pub has-at : (asks : Bool) (list : Option (List ℕ)) (name : List ℕ) (files : Option Directory) (passes : List ℕ → Bool) → asks ≡ true → list ≡ Some name → HasPasses true (Some name) files passes → HasPasses asks list files passes
-has-at asks list name files passes is named has =
-    subst (λ (l : Option (List ℕ)). HasPasses asks l files passes) (sym named) (subst (λ (b : Bool). HasPasses b (Some name) files passes) (sym is) has)
+-- nothing was done, for want of memory or for a line that stands alone
+pub idles : (journal : List Turn) (status : ℕ) (old new : Moment) → journal ≡ [] → new ≡ old → status ≡ 9 → IsIdle journal status old new
+idles journal status old new none same nine = record { no_turns = none; same = same; status_is = subst (λ (n : ℕ). IsTrue (may_lack_list n)) (sym nine) refl }
+
+pub idles-at : (journal : List Turn) (status : ℕ) (old new : Moment) (line : List ℕ) (planned : ℕ) (taken takes : Option (List ℕ)) (was are : ℕ) → journal ≡ [] → new ≡ old → IsTrue (may_lack_list planned)
+    → Prints line planned status taken takes was are → IsIdle journal status old new
+idles-at journal status old new line planned taken takes was are none same lacks prints =
+    record { no_turns = none; same = same; status_is = by-plan line planned status taken takes was are prints may_lack_list refl refl lacks }
 
 -- ---- the words
 
@@ -194,10 +216,9 @@ some-list words rest name names =
 
 -- ---- lists
 
--- a list that was read has no bad line
-pub no-bad-line : (bytes : List ℕ) (digests : List (List ℕ)) → digests_of bytes ≡ Ok digests → (n : ℕ) → digests_of bytes ≡ Err n → ⊥
-no-bad-line bytes digests read n bad = cc
-
 -- where no list is named, none has a bad line
-pub none-bad : (list : Option (List ℕ)) (files : Option Directory) → list ≡ None → HasNoBadLine (record { list = list; files = files; script = None })
-none-bad list files is = subst (λ (l : Option (List ℕ)). HasNoBadLine (record { list = l; files = files; script = None })) (sym is) tt
+pub none-bad : (list : Option (List ℕ)) (files : Option Directory) → list ≡ None → HasGoodList list files
+none-bad list files is = subst (λ (l : Option (List ℕ)). HasGoodList l files) (sym is) (record { there = λ lacks. lacks; good = tt })
+
+pub no-list-named : {files : Option Directory} → HasGoodList None files
+no-list-named = record { there = λ lacks. lacks; good = tt }

@@ -1,5 +1,5 @@
 -- A boot of a flash, from how it ends: a step of a run, what no loss harms, and what the reply says of the bytes.
-use Rattle.std.proofs.Common.{◌≡◌, ◌≢◌, Contains, ℕ, ◌≤◌, ◌==◌, Bool, List, [], ◌∷◌, ext_get_or, Option, Some, None, refl, sym, ap, subst, ◌∙◌, inl, inr, arith, IsTrue, IsFalse}
+use Rattle.std.proofs.Common.{◌≡◌, ◌≢◌, Contains, ℕ, ◌≤◌, ◌==◌, Bool, true, false, List, [], ◌∷◌, ext_get_or, Option, Some, None, refl, sym, ap, subst, ◌∙◌, inl, inr, arith, IsTrue, IsFalse}
 use Rattle.std.specs.Prelude.{◌⊎◌, is_some, is_ok}
 use Rattle.std.specs.List.{list_any}
 use Rattle.flash_core.specs.declared.flash.Arming.{Arming}
@@ -28,7 +28,7 @@ use Rattle.early_boot.specs.Ends.{Ended, booted, bad_layout, no_metadata, no_ban
 use Rattle.early_boot.specs.EndsBy.{EndsByBytes, EndsByMachine, StartsReady, StopsWith}
 use Rattle.script_cmd.specs.Machine.{at, IsAt, IsSafe}
 use Rattle.script_cmd.specs.Booted.{BootsFrom}
-use Rattle.script_cmd.specs.Replies.{LeavesOn}
+use Rattle.script_cmd.specs.Replies.{LeavesOn, power_after}
 use Rattle.script_cmd.specs.Turning.{NoneFalls, Turns, EndsTurn, boot_turn, on_after, reply_of_end}
 
 -- ---- the guard
@@ -131,13 +131,22 @@ powered-after (no_bank active previous) h = absurd cc
 powered-after (lost n) h = refl
 powered-after (failed n) h = absurd cc
 
-safe-after : (e : Ended) (new : Told) → Guards 1 7 new → GuardedBy (stop_of e) new → IsSafe (on_after e) new
+safe-after : (e : Ended) (new : Told) → Guards 1 7 new → GuardedBy (stop_of e) new → IsSafe (is_ok (stop_of e)) new
 safe-after (booted b n) new guards h = h
-safe-after (bad_layout f) new guards h = (guards, h.guarded)
-safe-after no_metadata new guards h = (guards, h.guarded)
-safe-after (no_bank active previous) new guards h = (guards, h.guarded)
+safe-after (bad_layout f) new guards h = h
+safe-after no_metadata new guards h = h
+safe-after (no_bank active previous) new guards h = h
 safe-after (lost n) new guards h = (guards, h)
 safe-after (failed n) new guards h = (guards, h)
+
+-- the device has power by the reply
+power-after-end : (e : Ended) (power : Bool) → is_ok (stop_of e) ≡ power_after power (reply_of_end e)
+power-after-end (booted b n) power = refl
+power-after-end (bad_layout f) power = refl
+power-after-end no_metadata power = refl
+power-after-end (no_bank active previous) power = refl
+power-after-end (lost n) power = refl
+power-after-end (failed n) power = refl
 
 boots-from : (passes : List ℕ → Bool) (e : Ended) (old new : Told) → EndsByBytes passes old e new → BootsFrom passes old.now (reply_of_end e)
 boots-from passes (booted b n) old new h = record { layout = b.layout; state = h.state; chose = h.chose; version_is = h.version_is }
@@ -266,9 +275,10 @@ no-chance tells old was are before mid on test le none = by-case (on.chance test
 
 -- ---- the turn
 
-module _ (passes : List ℕ → Bool) (tells : Bool) (e : Ended) (was are : Counts) (mid new : Told) (armed after_armed : Option Arming) where
+module _ (passes : List ℕ → Bool) (tells : Bool) (e : Ended) (was are : Counts) (mid new : Told) (armed after_armed : Option Arming) (after_power : Bool) where
   -- on a flash that was on
-  turns-again : (n : Numbers) → EndsTurn passes tells e (boot_turn e) was are mid new (on_after e) → Turns passes tells call.Boot (boot_turn e) (at (Some n) mid was armed) (at (on_after e) new are after_armed)
+  turns-again : (n : Numbers) → EndsTurn passes tells e (boot_turn e) was are mid new (on_after e) after_power
+      → Turns passes tells call.Boot (boot_turn e) (at (Some n) mid was armed true) (at (on_after e) new are after_armed after_power)
   turns-again n ends = record {
     call_is = refl;
     counts = falls-then was was are (waits-none was) e ends.costs;
@@ -278,9 +288,12 @@ module _ (passes : List ℕ → Bool) (tells : Bool) (e : Ended) (was are : Coun
     failed = failed-then was was are (waits-none was) e ends.costs;
     reads_no_file = reads-none e;
     replies = ends.leaves;
+    power = ends.power_is ∙ power-after-end e true;
+    guard = λ test. guard-kept passes e mid new (ends.by_bytes test);
     step = λ test E c passes_are is none. step-again test E c passes_are is;
     safe = λ test rest.
-        safe-after e new (same-guards mid new (guard-kept passes e mid new (ends.by_bytes test)) rest.guard) (ends.guarded test rest);
+        subst (λ (b : Bool). IsSafe b new) (sym ends.power_is)
+        (safe-after e new (same-guards mid new (guard-kept passes e mid new (ends.by_bytes test)) rest.guard) (ends.guarded test rest));
     boots = λ test off clean is. absurd cc;
   }
     where
@@ -292,7 +305,8 @@ module _ (passes : List ℕ → Bool) (tells : Bool) (e : Ended) (was are : Coun
           (ends.by_machine test E s passes_are is.shows.4.calm is.guard)
 
   -- on one that was off
-  turns-off : (old : Counts) (before : Told) → PowersOn tells old was before mid → EndsTurn passes tells e (boot_turn e) was are mid new (on_after e) → Turns passes tells call.Boot (boot_turn e) (at None before old armed) (at (on_after e) new are after_armed)
+  turns-off : (old : Counts) (before : Told) → PowersOn tells old was before mid → EndsTurn passes tells e (boot_turn e) was are mid new (on_after e) after_power
+      → Turns passes tells call.Boot (boot_turn e) (at None before old armed false) (at (on_after e) new are after_armed after_power)
   turns-off old before on ends = record {
     call_is = refl;
     counts = falls-then old was are waits e ends.costs;
@@ -302,10 +316,13 @@ module _ (passes : List ℕ → Bool) (tells : Bool) (e : Ended) (was are : Coun
     failed = failed-then old was are waits e ends.costs;
     reads_no_file = reads-none e;
     replies = ends.leaves;
+    power = ends.power_is ∙ power-after-end e false;
+    guard = λ test. guard-kept passes e mid new (ends.by_bytes test) ∙ fresh-guard before mid (on.fresh test);
     step = λ test E c passes_are is none. step-off test E c passes_are is none;
     safe = λ test guards.
         let rest = fresh-rests before mid (on.fresh test) guards.0 in
-        safe-after e new (same-guards mid new (guard-kept passes e mid new (ends.by_bytes test)) rest.guard) (ends.guarded test rest);
+        subst (λ (b : Bool). IsSafe b new) (sym ends.power_is)
+        (safe-after e new (same-guards mid new (guard-kept passes e mid new (ends.by_bytes test)) rest.guard) (ends.guarded test rest));
     boots = λ test off clean is.
         subst (λ (image : List ℕ). BootsFrom passes image (reply_of_end e)) (same-bytes before mid clean (on.leaves test)) (boots-from passes e mid new (ends.by_bytes test));
   }
@@ -321,11 +338,13 @@ module _ (passes : List ℕ → Bool) (tells : Bool) (e : Ended) (was are : Coun
           step-boot E c again.0 new again.1 (boots-off E again.0 c.session is.shows.0) (same-guards mid new (guard-kept passes e mid new (ends.by_bytes test)) guards) e
           (ends.by_machine test E again.0 passes_are again.2 guards)
 
-module _ (passes : List ℕ → Bool) (tells : Bool) (e : Ended) (t : Turn) (was are : Counts) (mid new : Told) (armed after_armed : Option Arming) (on : Option Numbers) (ends : EndsTurn passes tells e t was are mid new on) where
-  as-turn : EndsTurn passes tells e (boot_turn e) was are mid new (on_after e)
+module _ (passes : List ℕ → Bool) (tells : Bool) (e : Ended) (t : Turn) (was are : Counts) (mid new : Told) (armed after_armed : Option Arming) (on : Option Numbers) (power after_power : Bool)
+    (ends : EndsTurn passes tells e t was are mid new on after_power) where
+  as-turn : EndsTurn passes tells e (boot_turn e) was are mid new (on_after e) after_power
   as-turn = record {
     turn_is = refl;
     on_is = refl;
+    power_is = ends.power_is;
     leaves = subst (LeavesOn (boot_turn e).reply) ends.on_is (subst (λ (x : Turn). LeavesOn x.reply on) ends.turn_is ends.leaves);
     costs = ends.costs;
     by_bytes = ends.by_bytes;
@@ -333,14 +352,17 @@ module _ (passes : List ℕ → Bool) (tells : Bool) (e : Ended) (t : Turn) (was
     guarded = ends.guarded;
   }
 
-  pub boot-turns-again : (n : Numbers) → Turns passes tells call.Boot t (at (Some n) mid was armed) (at on new are after_armed)
-  boot-turns-again n =
-      subst (λ (x : Turn). Turns passes tells call.Boot x (at (Some n) mid was armed) (at on new are after_armed)) (sym ends.turn_is)
-      (subst (λ (o : Option Numbers). Turns passes tells call.Boot (boot_turn e) (at (Some n) mid was armed) (at o new are after_armed)) (sym ends.on_is)
-      (turns-again passes tells e was are mid new armed after_armed n as-turn))
+  pub boot-turns-again : (n : Numbers) → power ≡ true → Turns passes tells call.Boot t (at (Some n) mid was armed power) (at on new are after_armed after_power)
+  boot-turns-again n powered =
+      subst (λ (x : Turn). Turns passes tells call.Boot x (at (Some n) mid was armed power) (at on new are after_armed after_power)) (sym ends.turn_is)
+      (subst (λ (o : Option Numbers). Turns passes tells call.Boot (boot_turn e) (at (Some n) mid was armed power) (at o new are after_armed after_power)) (sym ends.on_is)
+      (subst (λ (b : Bool). Turns passes tells call.Boot (boot_turn e) (at (Some n) mid was armed b) (at (on_after e) new are after_armed after_power)) (sym powered)
+      (turns-again passes tells e was are mid new armed after_armed after_power n as-turn)))
 
-  pub boot-turns-off : (old : Counts) (before : Told) → PowersOn tells old was before mid → Turns passes tells call.Boot t (at None before old armed) (at on new are after_armed)
-  boot-turns-off old before powers =
-      subst (λ (x : Turn). Turns passes tells call.Boot x (at None before old armed) (at on new are after_armed)) (sym ends.turn_is)
-      (subst (λ (o : Option Numbers). Turns passes tells call.Boot (boot_turn e) (at None before old armed) (at o new are after_armed)) (sym ends.on_is)
-      (turns-off passes tells e was are mid new armed after_armed old before powers as-turn))
+  pub boot-turns-off : (old : Counts) (before : Told) → PowersOn tells old was before mid → power ≡ false
+      → Turns passes tells call.Boot t (at None before old armed power) (at on new are after_armed after_power)
+  boot-turns-off old before powers off =
+      subst (λ (x : Turn). Turns passes tells call.Boot x (at None before old armed power) (at on new are after_armed after_power)) (sym ends.turn_is)
+      (subst (λ (o : Option Numbers). Turns passes tells call.Boot (boot_turn e) (at None before old armed power) (at o new are after_armed after_power)) (sym ends.on_is)
+      (subst (λ (b : Bool). Turns passes tells call.Boot (boot_turn e) (at None before old armed b) (at (on_after e) new are after_armed after_power)) (sym off)
+      (turns-off passes tells e was are mid new armed after_armed after_power old before powers as-turn)))

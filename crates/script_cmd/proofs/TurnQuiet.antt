@@ -14,7 +14,7 @@ use Rattle.fwu_model.specs.Reply as reply
 use Rattle.fwu_model.specs.Answer.{Answer, answer, answered}
 use Rattle.fwu_model.specs.Run.{Condition, Step, Answered, Idle, is_boot, is_off, is_stop, moved_on}
 use Rattle.script_cmd.specs.Machine.{at, IsAt, IsSafe}
-use Rattle.script_cmd.specs.Replies.{Replies}
+use Rattle.script_cmd.specs.Replies.{Replies, power_after}
 use Rattle.script_cmd.specs.Turning.{Turns, LeavesFlash, quiet_turn}
 
 -- what the machine answers to it while a bank is booted
@@ -31,10 +31,11 @@ stays r other no_stop stop is = let e = ap is_stop is in cc
 no-numbers : (what : Call) → IsFalse (is_boot what) → MatchBool (is_boot what) (IsSome {T = Numbers} None) (IsNone {T = Numbers} None)
 no-numbers what no_boot = subst (λ (b : Bool). MatchBool b (IsSome {T = Numbers} None) (IsNone {T = Numbers} None)) (sym no_boot) refl
 
-module _ (passes : List ℕ → Bool) (tells : Bool) (what : Call) (r : Reply) (was are : Counts) (old new : Told) (armed after_armed : Option Arming) (quiet : LeavesFlash tells what r was are old new after_armed) where
+module _ (passes : List ℕ → Bool) (tells : Bool) (what : Call) (r : Reply) (was are : Counts) (old new : Told) (armed after_armed : Option Arming) (power after_power : Bool)
+    (quiet : LeavesFlash tells what r was are old new after_armed power after_power) where
   turns-by : (on : Option Numbers) → Replies what on r on
       → (IsTrue tells → (E : Setting) (c : Condition) → IsAt E c on old → (next : Condition) × Step E c (quiet_turn what r) next × IsAt E next on old)
-      → Turns passes tells what (quiet_turn what r) (at on old was armed) (at on new are after_armed)
+      → Turns passes tells what (quiet_turn what r) (at on old was armed power) (at on new are after_armed after_power)
   turns-by on replied step = record {
     call_is = refl;
     counts = quiet.counts;
@@ -44,12 +45,14 @@ module _ (passes : List ℕ → Bool) (tells : Bool) (what : Call) (r : Reply) (
     failed = λ e. absurd (stays r reply.Fault quiet.no_stop refl e);
     reads_no_file = stays r reply.ReadFault quiet.no_stop refl;
     replies = replied;
+    power = quiet.power_is ∙ sym quiet.keeps_power;
+    guard = λ test. ap (λ (t : Told). t.guard) (quiet.same test);
     step = λ test E c passes_are is none. subst (λ (t : Told). (next : Condition) × Step E c (quiet_turn what r) next × IsAt E next on t) (sym (quiet.same test)) (step test E c is);
-    safe = λ test safe. subst (IsSafe on) (sym (quiet.same test)) safe;
+    safe = λ test safe. subst (λ (b : Bool). IsSafe b new) (sym quiet.power_is) (subst (IsSafe power) (sym (quiet.same test)) safe);
     boots = λ test off clean is. let e = ap is_boot is in let f = quiet.no_boot in absurd cc;
   }
 
-  pub quiet-off : Replies what None r None → AnswersOff what r → Turns passes tells what (quiet_turn what r) (at None old was armed) (at None new are after_armed)
+  pub quiet-off : Replies what None r None → AnswersOff what r → Turns passes tells what (quiet_turn what r) (at None old was armed power) (at None new are after_armed after_power)
   quiet-off replied answers = turns-by None replied step
     where
       step : IsTrue tells → (E : Setting) (c : Condition) → IsAt E c None old → (next : Condition) × Step E c (quiet_turn what r) next × IsAt E next None old
@@ -64,7 +67,7 @@ module _ (passes : List ℕ → Bool) (tells : Bool) (what : Call) (r : Reply) (
               subst (λ (b : Bool). IsFalse (b || not (is_off c.session))) (sym quiet.no_boot)
               (subst (λ (session : Session). IsFalse (not (is_off session))) (sym is.shows.0) refl)
 
-  pub quiet-on : (n : Numbers) → Replies what (Some n) r (Some n) → AnswersOn what r n → Turns passes tells what (quiet_turn what r) (at (Some n) old was armed) (at (Some n) new are after_armed)
+  pub quiet-on : (n : Numbers) → Replies what (Some n) r (Some n) → AnswersOn what r n → Turns passes tells what (quiet_turn what r) (at (Some n) old was armed power) (at (Some n) new are after_armed after_power)
   quiet-on n replied answers = turns-by (Some n) replied step
     where
       step : IsTrue tells → (E : Setting) (c : Condition) → IsAt E c (Some n) old → (next : Condition) × Step E c (quiet_turn what r) next × IsAt E next (Some n) old
@@ -108,12 +111,15 @@ unfolding answer
 cut-on n k numbers E s b is = refl
 
 -- `show` does nothing
-pub show-leaves : (tells : Bool) (r : Reply) (was : Counts) (old : Told) (armed : Option Arming) → IsFalse (is_stop r) → LeavesFlash tells call.Show r was was old old armed
-show-leaves tells r was old armed no_stop = record {
+pub show-leaves : (tells : Bool) (r : Reply) (was : Counts) (old : Told) (armed : Option Arming) (power : Bool) → IsFalse (is_stop r) → power_after power r ≡ power
+    → LeavesFlash tells call.Show r was was old old armed power power
+show-leaves tells r was old armed power no_stop keeps = record {
   no_boot = refl;
   no_stop = no_stop;
   counts = record { faults = omega arith; cuts = omega arith; reached = omega arith; chances = omega arith };
   made = refl;
   armed_is = tt;
   same = λ test. refl;
+  power_is = refl;
+  keeps_power = keeps;
 }

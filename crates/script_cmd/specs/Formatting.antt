@@ -1,8 +1,7 @@
 -- What the command `format` does, tells and prints.
-use Rattle.std.specs.Prelude.{◌≡◌, ◌⊎◌, ◌*◌, ℕ, ◌++◌, ◌∷◌, [], Bool, List, Option, None, Result, Ok, Err, IfOk, IsErr, IsTrue, codes, decimal, length}
+use Rattle.std.specs.Prelude.{◌≡◌, ◌⊎◌, ◌*◌, ◌||◌, ◌==◌, ℕ, ◌++◌, ◌∷◌, [], Bool, List, Option, None, Result, Ok, Err, IfOk, IsErr, IsTrue, IsFalse, codes, decimal, length}
 use Rattle.flash_core.specs.May.{Keeps}
 use Rattle.flash_core.specs.Told.{Told, NothingDirty}
-use Rattle.flash_core.specs.declared.flash.Counts.{Counts}
 use Rattle.flash_core.specs.declared.flash.FlashStop.{FlashStop}
 use Rattle.base_core.specs.Guid.{guid_text}
 use Rattle.host_io.specs.Contents.{Directory}
@@ -12,28 +11,29 @@ use Rattle.fwu_formats.specs.Package.{Toc, toc_of}
 use Rattle.fwu_model.specs.Answer.{images_of}
 use Rattle.fwu_formats.specs.Manifest.{is_complete, manifest_part}
 use Rattle.fwu_model.specs.Reply.{Turn}
-use Rattle.fwu_model.specs.Causes.{Faults}
+use Rattle.fwu_model.specs.Causes.{Faults, may_fail_before}
 use Rattle.fwu_formats.specs.FaultText.{fip_fault_text}
 use Rattle.fwu_model.specs.Text.{format_line, no_boot_text}
 use Rattle.fwu_model.specs.declared.kinds.NoBoot.TheVariants as no_boot
 use Rattle.meta_layout.specs.Rows.{fitted}
-use Rattle.fip_tables.specs.Files.{Tells}
+use Rattle.fip_tables.specs.Files.{Lacks, Tells}
 use Rattle.image_check.specs.declared.bank.Verdict.{Verdict}
 use Rattle.image_check.specs.declared.bank.Verdict.TheVariants as verdict
 use Rattle.flash_format.specs.Choosing.{refusal}
-use Rattle.flash_format.specs.Formatted.{HoldsImages, IsFormatted, IsRefused}
-use Rattle.flash_format.specs.Stops.{Answers, Finishes, IsEarly, LayoutBy, ReadsBy}
+use Rattle.flash_format.specs.Formatted.{HoldsImages, IsBlank, IsFormatted, IsRefused}
+use Rattle.flash_format.specs.Stops.{Answers, Finishes, IsEarly, IsOfLayout, LayoutBy, ReadsBy}
 use Rattle.flash_format.specs.declared.formatting.Formatted.{Formatted}
 use Rattle.flash_format.specs.declared.stops.FormatStop.{FormatStop}
 use Rattle.flash_format.specs.declared.stops.FormatStop.TheVariants.{Input, ReadFailed, Flash}
 use Rattle.flash_format.specs.declared.stops.InputFault.{InputFault}
 use Rattle.flash_format.specs.declared.stops.InputFault.TheVariants as fault
 use Rattle.fwu_words.specs.Order as ask
-use Rattle.script_cmd.specs.Noted.{noted}
+use Rattle.script_cmd.specs.Machine.{Moment}
+use Rattle.script_cmd.specs.Noted.{is_input, noted}
 use Rattle.script_cmd.specs.Printed.{Prints}
-use Rattle.script_cmd.specs.Showing.{HasCause, IsGranted, RefusedList, flash_fault_line}
+use Rattle.script_cmd.specs.Showing.{HasCause, IsGranted, RefusedList, RefusesBadList, flash_fault_line}
 use Rattle.script_cmd.specs.Turning.{NoneFalls}
-use Rattle.script_cmd.specs.Ways.{Given}
+use Rattle.script_cmd.specs.Ways.{Given, HasGoodList}
 use Rattle.script_cmd.specs.declared.done.Note.{Note}
 use Rattle.script_cmd.specs.declared.done.Note.TheVariants as note
 
@@ -91,43 +91,50 @@ format_note (Err (Flash stop)) = note.Nothing
 -- ---- what became of the flash
 
 -- The result r of formatting a flash of so many blocks, by the rows and banks L and the package of this name, and by a verifier of these
--- manifests. What is told and counted was old, and is new; the faults of the files were was, and are are.
-pub record Tries (passes : List ℕ → Bool) (tells : Bool) (told : Option Directory) (name : List ℕ) (L : Layout) (blocks : ℕ) (old new : Told) (before after : Counts) (was are : ℕ) (r : Result Formatted FormatStop) : Type 0 where
+-- manifests, from the moment old to new. The faults of the files were was, and are are.
+pub record Tries (passes : List ℕ → Bool) (tells : Bool) (told : Option Directory) (name : List ℕ) (L : Layout) (blocks : ℕ) (old new : Moment) (was are : ℕ) (r : Result Formatted FormatStop) : Type 0 where
   -- what is told after the power came, which is what was told where nothing was dirty
   pub mid : Told
-  pub fresh : IsTrue tells → NothingDirty old → mid ≡ old
+  pub fresh : IsTrue tells → NothingDirty old.told → mid ≡ old.told
   -- what is refused before the flash is touched, exactly
   pub layout : LayoutBy (fitted L blocks) r
   pub answers : (file : List ℕ) → Tells told name file → Answers (refusal L blocks file) r
-  pub untouched : IsEarly r → new ≡ mid
+  pub untouched : IsEarly r → new.told ≡ mid
+  -- a name that told files lack, and nothing was touched
+  pub missing : Lacks told name → (IsOfLayout r ⊎ (r ≡ Err ReadFailed)) × (new.told ≡ mid)
   -- a file that could not be read, and why
-  pub failed : r ≡ Err ReadFailed → IsTrue tells → (new ≡ mid) ⊎ IsErr (layout_seen new.now)
+  pub failed : r ≡ Err ReadFailed → IsTrue tells → (new.told ≡ mid) ⊎ IsErr (layout_seen new.told.now)
   pub reads : ReadsBy told name was are r
   -- formatted
   pub given : IfOk r (λ done. fitted L blocks ≡ Ok done.layout)
-  pub formatted : IfOk r (λ done. IsTrue tells → IsFormatted passes done.layout done.version new)
+  pub formatted : IfOk r (λ done. IsTrue tells → IsFormatted passes done.layout done.version new.told)
   -- refused for what is in bank 0
-  pub refused : (found : Verdict) → r ≡ Err (Input (fault.Incomplete found)) → IsTrue tells → IsRefused passes L found new.now
-  pub images : Finishes r (IsTrue tells → (file : List ℕ) (toc : Toc) → Tells told name file → toc_of file ≡ Ok toc → HoldsImages L (images_of L.rows file toc) new.now)
+  pub refused : (found : Verdict) → r ≡ Err (Input (fault.Incomplete found)) → IsTrue tells → IsRefused passes L found new.told.now
+  pub images : Finishes r (IsTrue tells → (file : List ℕ) (toc : Toc) → Tells told name file → toc_of file ≡ Ok toc → HoldsImages L (images_of L.rows file toc) new.told.now)
+  -- blocks 3 to 7 and the banks behind bank 0 are erased: no old mark, record of the counter or package is left
+  pub blank : Finishes r (IsTrue tells → IsBlank L new.told.now)
   pub deserved : (found : Verdict) → r ≡ Err (Input (fault.Incomplete found)) → IsTrue tells → (file : List ℕ) (toc : Toc) → Tells told name file → toc_of file ≡ Ok toc
       → IsTrue (is_complete L.rows (images_of L.rows file toc)) → IsTrue (passes (manifest_part (images_of L.rows file toc))) → ⊥
   -- nothing changes beyond the last bank
-  pub keeps : IsTrue tells → Keeps 0 (4096 * blocks_needed L) mid new
-  -- no count falls, and a stop of the flash has its cause
-  pub counts : NoneFalls before after
-  pub stopped : (stop : FlashStop) → r ≡ Err (Flash stop) → HasCause before after
+  pub keeps : IsTrue tells → Keeps 0 (4096 * blocks_needed L) mid new.told
+  pub guard : IsTrue tells → new.told.guard ≡ old.told.guard
+  -- no count falls, no loss is armed, and a stop of the flash has its cause
+  pub counts : NoneFalls old.counts new.counts
+  pub made : new.counts.made ≡ old.counts.made
+  pub unarmed : new.armed ≡ None
+  pub stopped : (stop : FlashStop) → r ≡ Err (Flash stop) → HasCause old.counts new.counts
 
 -- ---- what the command did
 
 -- Nothing was done for want of memory, or since a list of digests was not read or is none; or the flash was formatted or was not, and the line
 -- of that was put into the sink.
-pub data Formats (passes : List ℕ → Bool) (tells : Bool) (g : Given) (name : List ℕ) (L : Layout) (blocks : ℕ) (old new : Told) (before after : Counts) (status : ℕ) (told : Note) (taken takes : Option (List ℕ)) (was are : Faults) : Type 0 where
-  starved : status ≡ 9 → told ≡ note.Nothing → new ≡ old → after ≡ before → takes ≡ taken → Formats passes tells g name L blocks old new before after status told taken takes was are
-  tried : (r : Result Formatted FormatStop) → Tries passes tells g.files name L blocks old new before after was.files are.files r
+pub data Formats (passes : List ℕ → Bool) (tells : Bool) (g : Given) (name : List ℕ) (L : Layout) (blocks : ℕ) (old new : Moment) (status : ℕ) (told : Note) (taken takes : Option (List ℕ)) (was are : Faults) : Type 0 where
+  starved : status ≡ 9 → told ≡ note.Nothing → new ≡ old → takes ≡ taken → Formats passes tells g name L blocks old new status told taken takes was are
+  tried : HasGoodList g.list g.files → (r : Result Formatted FormatStop) → Tries passes tells g.files name L blocks old new was.files are.files r
       → Prints (format_text r) (format_status r) status taken takes was.sink are.sink → told ≡ format_note r
-      → Formats passes tells g name L blocks old new before after status told taken takes was are
-  list_refused : new ≡ old → after ≡ before → RefusedList (ask.format L.banks L.rows name) g status (noted told) taken takes was are
-      → Formats passes tells g name L blocks old new before after status told taken takes was are
+      → Formats passes tells g name L blocks old new status told taken takes was are
+  list_refused : new ≡ old → IsFalse (is_input told) → RefusedList (ask.format L.banks L.rows name) g status (noted told) taken takes was are
+      → Formats passes tells g name L blocks old new status told taken takes was are
 
 -- The rows and banks are a layout of the flash, the file is told and is a package, and its images are a complete package of the layout that passes.
 pub record IsFormattable (passes : List ℕ → Bool) (told : Option Directory) (name : List ℕ) (L : Layout) (blocks : ℕ) : Type 0 where
@@ -139,9 +146,17 @@ pub record IsFormattable (passes : List ℕ → Bool) (told : Option Directory) 
   pub complete : IsTrue (is_complete L.rows (images_of L.rows file toc))
   pub permitted : IsTrue (passes (manifest_part (images_of L.rows file toc)))
 
--- What the command does, and that it makes no turn.
-pub record FormattedBy (passes : List ℕ → Bool) (tells : Bool) (g : Given) (name : List ℕ) (L : Layout) (blocks : ℕ) (old new : Told) (before after : Counts) (status : ℕ) (told : Note) (journal : List Turn) (taken takes : Option (List ℕ)) (was are : Faults) : Type 0 where
-  pub formats : Formats passes tells g name L blocks old new before after status told taken takes was are
+-- What the command does, and that it makes no turn and arms nothing.
+pub record FormattedBy (passes : List ℕ → Bool) (tells : Bool) (g : Given) (name : List ℕ) (L : Layout) (blocks : ℕ) (old new : Moment) (status : ℕ) (told : Note) (journal : List Turn) (taken takes : Option (List ℕ)) (was are : Faults) : Type 0 where
+  pub formats : Formats passes tells g name L blocks old new status told taken takes was are
+  pub refuses_list : RefusesBadList g old new status was are
+  -- a package that told files lack is answered by 2, where there is a layout for it, or by a failure at the line, or on the way there
+  pub lacking : Lacks g.files name → (M : Layout) → fitted L blocks ≡ Ok M → IsTrue (may_fail_before status || (status == 13))
+  -- done: no old mark, record of the counter or package is left
+  pub blank : status ≡ 0 → IsTrue tells → IsBlank L new.told.now
   pub no_turns : journal ≡ []
+  pub made : new.counts.made ≡ old.counts.made
+  pub unarmed : new.armed ≡ None
+  pub guard : IsTrue tells → new.told.guard ≡ old.told.guard
   -- a flash that tells its content is formatted where all is there and nothing failed, unless memory was wanting
-  pub complete : IsTrue tells → IsFormattable passes g.files name L blocks → IsGranted g before after was are → (status ≡ 0) ⊎ (status ≡ 9)
+  pub complete : IsTrue tells → IsFormattable passes g.files name L blocks → IsGranted g old.counts new.counts was are → (status ≡ 0) ⊎ (status ≡ 9)

@@ -11,3 +11,4 @@ pub mod Ways
 pub mod Showing
 pub mod Formatting
 pub mod Promises
+pub mod Outcomes

@@ -1,5 +1,5 @@
 -- The flash of a run between two turns, as the definitions have it.
-use Rattle.std.specs.Prelude.{◌≡◌, ℕ, [], ◌∷◌, Option, Some, None}
+use Rattle.std.specs.Prelude.{◌≡◌, ℕ, Bool, true, false, [], ◌∷◌, Option, Some, None}
 use Rattle.flash_core.specs.declared.flash.Arming.{Arming}
 use Rattle.flash_core.specs.declared.flash.Counts.{Counts}
 use Rattle.flash_core.specs.Told.{Told}
@@ -31,9 +31,22 @@ pub record Moment : Type 0 where
   pub told : Told
   pub counts : Counts
   pub armed : Option Arming
+  -- whether it has power
+  pub power : Bool
 
-abbrev pub at : Option Numbers → Told → Counts → Option Arming → Moment
-at on told counts armed = record { on = on; told = told; counts = counts; armed = armed }
+abbrev pub at : Option Numbers → Told → Counts → Option Arming → Bool → Moment
+at on told counts armed power = record { on = on; told = told; counts = counts; armed = armed; power = power }
+
+-- A device that is off, or whose numbers are not asked, by what it tells.
+abbrev pub moment : {D : Type 0} → (D → Told) → (D → Counts) → (D → Option Arming) → (D → Bool) → D → Moment
+moment told counts arming power flash = at None (told flash) (counts flash) (arming flash) (power flash)
+
+-- the device is as it was
+pub record SameDevice (old new : Moment) : Type 0 where
+  pub told : new.told ≡ old.told
+  pub counts : new.counts ≡ old.counts
+  pub armed : new.armed ≡ old.armed
+  pub power : new.power ≡ old.power
 
 -- ---- the condition of a run, on a flash that tells its content
 
@@ -49,7 +62,7 @@ pub record IsAt (E : Setting) (c : Condition) (on : Option Numbers) (t : Told) :
 
 -- ---- what a loss may harm, on any flash
 
--- Off, no loss harms what is in use; once a bank was booted the flash is at rest.
-abbrev pub IsSafe : Option Numbers → Told → Type 0
-IsSafe None t = Guards 1 7 t × IsGuarded t
-IsSafe (Some n) t = IsAtRest t
+-- Off, no loss harms what is in use; with power the flash is at rest: nothing dirty or under way meets blocks 0 to 7 either.
+abbrev pub IsSafe : Bool → Told → Type 0
+IsSafe false t = Guards 1 7 t × IsGuarded t
+IsSafe true t = IsAtRest t

@@ -1,4 +1,5 @@
 -- What a run met, as the definitions have it.
+use Rattle.std.specs.Prelude.{Bool, true, false}
 use Rattle.fwu_model.specs.declared.kinds.Note as model
 use Rattle.fwu_model.specs.declared.kinds.Note.TheVariants as model_note
 use Rattle.script_cmd.specs.declared.done.Note.{Note}
@@ -11,3 +12,11 @@ noted (note.BadList n) = model_note.BadList n
 noted (note.Boot why) = model_note.Boot why
 -- what the definitions note is of runs alone
 noted (note.Input fault) = model_note.Nothing
+
+-- only `format` notes what was given
+abbrev pub is_input : Note → Bool
+is_input note.Nothing = false
+is_input (note.BadLine n) = false
+is_input (note.BadList n) = false
+is_input (note.Boot why) = false
+is_input (note.Input fault) = true

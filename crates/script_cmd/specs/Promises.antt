@@ -1,14 +1,15 @@
 -- What `run` or `boot` promises, whichever way it ends.
-use Rattle.std.specs.Prelude.{◌≡◌, ◌⊎◌, ℕ, Bool, List, ◌++◌, Option, Some, IsTrue, IsFalse, ◌||◌, ◌==◌}
+use Rattle.std.specs.Prelude.{◌≡◌, ◌⊎◌, ℕ, Bool, List, ◌++◌, Option, Some, IsTrue, IsFalse, ◌||◌, ◌==◌, [], slice_get}
 use Rattle.flash_core.specs.Counts.{Rose}
 use Rattle.flash_core.specs.Told.{NothingDirty}
 use Rattle.flash_core.specs.May.{Guards}
 use Rattle.fwu_model.specs.State.{State, Numbers}
 use Rattle.fwu_model.specs.Sound.{Setting}
 use Rattle.fwu_model.specs.Call.{Call}
+use Rattle.fwu_model.specs.Call as call
 use Rattle.fwu_model.specs.Reply.{Turn}
 use Rattle.fwu_model.specs.Allow.{list_bytes}
-use Rattle.fwu_model.specs.Calm.{IsGuarded}
+use Rattle.fwu_model.specs.Calm.{IsAtRest, IsGuarded}
 use Rattle.fwu_model.specs.Contract.{Premises, Asks}
 use Rattle.fwu_model.specs.Headline.{Headline, Outcome}
 use Rattle.fwu_model.specs.Wrote.{Wrote, script_asked}
@@ -18,9 +19,10 @@ use Rattle.fwu_words.specs.Order.{Asked}
 use Rattle.fwu_words.specs.Order as ask
 use Rattle.script_cmd.specs.Asking.{plainly}
 use Rattle.script_cmd.specs.BootWord.{BootsBy}
-use Rattle.script_cmd.specs.Machine.{Moment}
-use Rattle.script_cmd.specs.Replies.{Follows}
-use Rattle.script_cmd.specs.Ways.{Given, Way}
+use Rattle.script_cmd.specs.Booted.{BootsFrom}
+use Rattle.script_cmd.specs.Machine.{Moment, SameDevice}
+use Rattle.script_cmd.specs.Replies.{Follows, power_left}
+use Rattle.script_cmd.specs.Ways.{Given, Refuses, Way}
 
 -- what the program was given to read, with what the source tells
 abbrev pub given_to : Option Asked → Option (List ℕ) → Option (List ℕ → Option (List ℕ)) → Option (List ℕ) → Given
@@ -38,9 +40,9 @@ HeadlineHolds passes tells asked files source journal status old new =
     → Headline E start (outcome calls journal status old new)
 
 -- what the sink took, where it tells that
-abbrev pub WroteHolds : Given → List Turn → ℕ → Note → Option (List ℕ) → Option (List ℕ) → Type 0
-WroteHolds g journal status noted taken takes =
-    (before : List ℕ) → taken ≡ Some before → (w : List ℕ) × (takes ≡ Some (before ++ w)) × Wrote g.script (list_bytes g.list g.files) status noted journal w
+abbrev pub WroteHolds : Option Asked → Given → List Turn → ℕ → Note → Option (List ℕ) → Option (List ℕ) → Faults → Faults → Type 0
+WroteHolds asked g journal status noted taken takes was are =
+    (before : List ℕ) → taken ≡ Some before → (w : List ℕ) × (takes ≡ Some (before ++ w)) × Wrote (Refuses asked g was are) g.script (list_bytes g.list g.files) status noted journal w
 
 -- why it ended as it did
 abbrev pub EndsHold : Option Asked → Given → List Turn → ℕ → Note → Moment → Moment → Faults → Faults → Type 0
@@ -57,9 +59,22 @@ BootWordHolds passes tells asked journal status noted old new =
     → (Rose old.counts.faults new.counts.faults → ⊥) → (Rose old.counts.cuts new.counts.cuts → ⊥) → (Rose old.counts.reached new.counts.reached → ⊥)
     → BootsBy passes old.told.now status noted journal
 
--- on any flash with nothing dirty, no loss then harms what is in use, even where a seal came about by chance
+-- What a run does to any device: where no turn ran it is as it was; its power is by the replies; the same blocks are guarded.
+pub record LeavesDevice (tells : Bool) (journal : List Turn) (old new : Moment) : Type 0 where
+  pub untouched : journal ≡ [] → SameDevice old new
+  pub power : new.power ≡ power_left old.power journal
+  pub guard : IsTrue tells → new.told.guard ≡ old.told.guard
+
+-- on any flash with nothing dirty a first turn that is a boot goes by the bytes
+abbrev pub FirstHolds : (List ℕ → Bool) → Bool → List Turn → Moment → Type 0
+FirstHolds passes tells journal old =
+    IsTrue tells → NothingDirty old.told → (t : Turn) → slice_get journal 0 ≡ Some t → t.call ≡ call.Boot → BootsFrom passes old.told.now t.reply
+
+-- on any flash with nothing dirty, no loss then harms what is in use, even where a seal came about by chance; and with power nothing dirty
+-- or under way meets blocks 0 to 7
 abbrev pub GuardedHolds : Bool → Moment → Moment → Type 0
-GuardedHolds tells old new = IsTrue tells → NothingDirty old.told → Guards 1 7 old.told → IsGuarded new.told
+GuardedHolds tells old new =
+    IsTrue tells → NothingDirty old.told → Guards 1 7 old.told → IsGuarded new.told × (IsTrue new.power → IsAtRest new.told)
 
 -- from a sound flash all is done, where nothing was lacking and nothing failed, unless memory was wanting
 abbrev pub CompleteHolds : (List ℕ → Bool) → Bool → Option Asked → Option (List ℕ) → Option (List ℕ → Option (List ℕ)) → Option (List ℕ) → List Turn → ℕ → Moment → Moment → Faults → Faults → Type 0
@@ -72,7 +87,7 @@ CompleteHolds passes tells asked list files source journal status old new was ar
 abbrev pub WaysWrite : Type 0
 WaysWrite =
     (passes : List ℕ → Bool) (tells : Bool) (asked : Option Asked) (g : Given) (journal : List Turn) (status : ℕ) (noted : Note) (old new : Moment) (taken takes : Option (List ℕ)) (was are : Faults)
-    → Way passes tells asked g journal status noted old new taken takes was are → WroteHolds g journal status noted taken takes
+    → Way passes tells asked g journal status noted old new taken takes was are → WroteHolds asked g journal status noted taken takes was are
 
 abbrev pub WaysEnd : Type 0
 WaysEnd =
@@ -83,6 +98,16 @@ abbrev pub WaysReply : Type 0
 WaysReply =
     (passes : List ℕ → Bool) (tells : Bool) (asked : Option Asked) (g : Given) (journal : List Turn) (status : ℕ) (noted : Note) (old new : Moment) (taken takes : Option (List ℕ)) (was are : Faults)
     → Way passes tells asked g journal status noted old new taken takes was are → RepliesHold journal old
+
+abbrev pub WaysLeaveTheDevice : Type 0
+WaysLeaveTheDevice =
+    (passes : List ℕ → Bool) (tells : Bool) (asked : Option Asked) (g : Given) (journal : List Turn) (status : ℕ) (noted : Note) (old new : Moment) (taken takes : Option (List ℕ)) (was are : Faults)
+    → Way passes tells asked g journal status noted old new taken takes was are → LeavesDevice tells journal old new
+
+abbrev pub WaysBootFirst : Type 0
+WaysBootFirst =
+    (passes : List ℕ → Bool) (tells : Bool) (asked : Option Asked) (g : Given) (journal : List Turn) (status : ℕ) (noted : Note) (old new : Moment) (taken takes : Option (List ℕ)) (was are : Faults)
+    → Way passes tells asked g journal status noted old new taken takes was are → FirstHolds passes tells journal old
 
 abbrev pub WaysKeepTheHeadline : Type 0
 WaysKeepTheHeadline =
@@ -111,19 +136,25 @@ WaysAreComplete =
 
 -- All that `run` or `boot` promises.
 pub record Promised (passes : List ℕ → Bool) (tells : Bool) (asked : Option Asked) (list : Option (List ℕ)) (files : Option (List ℕ → Option (List ℕ))) (source : Option (List ℕ)) (journal : List Turn) (status : ℕ) (noted : Note) (old new : Moment) (taken takes : Option (List ℕ)) (was are : Faults) : Type 0 where
+  -- For every device, files, source and sink, told or not: which way it ended.
+  pub way : Way passes tells asked (given_to asked list files source) journal status noted old new taken takes was are
   -- From a sound flash: the turns are those of the machine, every image that a loss may leave shows a state that they lead to, and each boot
   -- selects a complete and permitted package.
   pub headline : HeadlineHolds passes tells asked files source journal status old new
   -- For every device, files and source: the lines of what was done, at every status.
-  pub wrote : WroteHolds (given_to asked list files source) journal status noted taken takes
+  pub wrote : WroteHolds asked (given_to asked list files source) journal status noted taken takes was are
   -- For every device, files, source and sink: which turns and causes ended the run.
   pub ends : EndsHold asked (given_to asked list files source) journal status noted old new was are
   -- For every device: a boot's reply tells whether the flash is on; `show` tells `off` while off, and else the same numbers until the next boot,
   -- with the trials and the counter that the last boot told, and its fallback; and each `cut` is taken.
   pub replies : RepliesHold journal old
+  -- For every device: where no turn ran it is as it was, and its power is by the replies.
+  pub device : LeavesDevice tells journal old new
+  -- On any flash with nothing dirty, sound or not: a first turn that is a boot goes by the bytes.
+  pub first : FirstHolds passes tells journal old
   -- `boot` on any flash with nothing dirty, sound or not, where nothing failed.
   pub boot_word : BootWordHolds passes tells asked journal status noted old new
-  -- From a flash with nothing dirty, sound or not: no loss may harm what is in use.
+  -- From a flash with nothing dirty, sound or not: no loss may harm what is in use, and with power it is at rest.
   pub guarded : GuardedHolds tells old new
   -- From a sound flash all is done, where nothing was lacking and nothing failed, unless memory was wanting.
   pub complete : CompleteHolds passes tells asked list files source journal status old new was are

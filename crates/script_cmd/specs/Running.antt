@@ -12,14 +12,14 @@ use Rattle.fwu_model.specs.Reply.{Turn}
 use Rattle.fwu_model.specs.Reply as reply
 use Rattle.fwu_model.specs.Text.{line, text}
 use Rattle.fwu_model.specs.Run.{Condition, Runs, ends_run}
-use Rattle.fwu_model.specs.Headline.{ArmedBy, IsPrefixOf}
-use Rattle.fwu_model.specs.Causes.{LossesAreCounted, status_by, note_by}
-use Rattle.fwu_model.specs.Wrote.{may_lack}
+use Rattle.fwu_model.specs.Headline.{ArmedBy, IsPrefixOf, made_after}
+use Rattle.fwu_model.specs.Causes.{LossesAreCounted, cuts_in, status_by, note_by}
+use Rattle.fwu_model.specs.Wrote.{LacksLast, StopsInLast, may_lack}
 use Rattle.fwu_model.specs.declared.kinds.Note.{Note}
 use Rattle.fwu_model.specs.declared.kinds.Note.TheVariants as note
 use Rattle.script_cmd.specs.Machine.{Moment, IsAt, IsSafe}
 use Rattle.script_cmd.specs.Booted.{BootsFrom}
-use Rattle.script_cmd.specs.Replies.{Follows}
+use Rattle.script_cmd.specs.Replies.{Follows, power_left}
 use Rattle.script_cmd.specs.Turning.{NoneFalls, Turns}
 use Rattle.script_cmd.specs.Printed.{Prints}
 
@@ -44,15 +44,19 @@ pub record RunsTo (E : Setting) (start : State) (journal : List Turn) (old new :
 -- The turns of the journal were done, from a device that was off and unarmed.
 pub record Ran (passes : List ℕ → Bool) (tells : Bool) (journal : List Turn) (old new : Moment) : Type 0 where
   pub counts : NoneFalls old.counts new.counts
+  -- each `cut` is an arming, and there are no others
+  pub made : new.counts.made ≡ made_after old.counts.made (cuts_in journal)
   pub lost_turns : LossesAreCounted journal old.counts new.counts
   pub fault_turns : (t : Turn) → Contains journal t → t.reply ≡ reply.Fault → Rose old.counts.faults new.counts.faults
   pub reads_no_file : (t : Turn) → Contains journal t → t.reply ≢ reply.ReadFault
   -- which replies they have, on any device
   pub replies : Follows old.on journal new.on
+  pub power : new.power ≡ power_left old.power journal
+  pub guard : IsTrue tells → new.told.guard ≡ old.told.guard
   -- a turn that ends the run is the last
   pub ends : (n : ℕ) (t : Turn) → slice_get journal n ≡ Some t → IsTrue (ends_run t.reply) → n + 1 ≡ length journal
   pub run : IsTrue tells → (E : Setting) (start : State) → StartsSound E start passes old → (Rose old.counts.chances new.counts.chances → ⊥) → RunsTo E start journal old new
-  pub safe : IsTrue tells → NothingDirty old.told → Guards 1 7 old.told → IsSafe new.on new.told
+  pub safe : IsTrue tells → NothingDirty old.told → Guards 1 7 old.told → IsSafe new.power new.told
   -- until the first turn nothing is done, and where it is a boot it goes by the bytes
   pub untouched : journal ≡ [] → (new ≡ old)
   pub first : IsTrue tells → NothingDirty old.told → (t : Turn) → slice_get journal 0 ≡ Some t → t.call ≡ call.Boot → BootsFrom passes old.told.now t.reply
@@ -92,10 +96,11 @@ pub record Ended (script : List Call) (journal : List Turn) (status : ℕ) (note
   -- where the sink failed at a line, there was a turn
   pub some : IsTrue (may_lack status) → journal ≢ []
 
--- what was written: the lines of all turns, or where the sink failed or found no memory a part of them
+-- what was written: the lines of all turns, or where the sink failed or found no memory those of all but the last
 pub record Writes (journal : List Turn) (status : ℕ) (w : List ℕ) : Type 0 where
   pub whole : IsFalse (may_lack status) → w ≡ text journal
-  pub front : IsTrue (may_lack status) → IsPrefixOf w (text journal)
+  pub front : status ≡ 3 → StopsInLast journal w
+  pub none : status ≡ 9 → LacksLast journal w
   pub less : status ≡ 9 → w ≢ text journal
 
 -- what the sink took, and its faults, before and after

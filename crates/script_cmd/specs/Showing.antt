@@ -1,7 +1,7 @@
 -- What the command `show` tells and prints.
-use Rattle.std.specs.Prelude.{◌≡◌, ◌⊎◌, ℕ, ◌++◌, ◌∷◌, [], Bool, List, Option, Some, Ok, Err, IsSome, IsTrue, codes}
+use Rattle.std.specs.Prelude.{◌≡◌, ◌⊎◌, ℕ, ◌++◌, ◌∷◌, [], Bool, List, Option, Some, None, Ok, Err, IfSome, IsSome, IsTrue, codes}
 use Rattle.flash_core.specs.Counts.{Rose}
-use Rattle.flash_core.specs.Told.{Told, NothingDirty}
+use Rattle.flash_core.specs.Told.{NothingDirty}
 use Rattle.flash_core.specs.declared.flash.Counts.{Counts}
 use Rattle.fwu_model.specs.State.{Numbers}
 use Rattle.fwu_formats.specs.Layout.{Layout}
@@ -15,9 +15,11 @@ use Rattle.early_boot.specs.Numbers.{ShowsNumbers}
 use Rattle.fwu_model.specs.Reply.{Turn}
 use Rattle.script_cmd.specs.Printed.{Prints}
 use Rattle.script_cmd.specs.Turning.{NoneFalls}
-use Rattle.script_cmd.specs.Ways.{Given, Refuses}
+use Rattle.script_cmd.specs.Machine.{Moment}
+use Rattle.script_cmd.specs.Ways.{Given, HasGoodList, Refuses}
+use Rattle.fwu_formats.specs.Digests.{digests_of}
 use Rattle.fwu_model.specs.Allow.{list_bytes}
-use Rattle.fwu_model.specs.Causes.{Faults, LacksList}
+use Rattle.fwu_model.specs.Causes.{Faults, LacksList, RefusesList, may_fail_before}
 use Rattle.fwu_formats.specs.Metadata.{MetaRead}
 use Rattle.fwu_model.specs.Wrote.{IsBadList}
 use Rattle.fwu_words.specs.Order.{Asked}
@@ -48,16 +50,24 @@ pub data Finds (known : Type 0) (image : List ℕ) (before after : Counts) : ℕ
   none : (why : NoBoot) → (known → ShowsNone image why) → Finds known image before after 6 (note.Boot why) (not_shown_line why)
   stopped : HasCause before after → Finds known image before after 5 note.Nothing flash_fault_line
 
--- How it ended: for want of memory, with nothing done and nothing written; or by what it found, whose line was put into the sink.
-pub data Showed (known : Type 0) (image : List ℕ) (before after : Counts) (status : ℕ) (noted : Note) (taken takes : Option (List ℕ)) (was are : ℕ) : Type 0 where
-  starved : status ≡ 9 → takes ≡ taken → Showed known image before after status noted taken takes was are
-  found : (planned : ℕ) (line : List ℕ) → Finds known image before after planned noted line → Prints line planned status taken takes was are
-      → Showed known image before after status noted taken takes was are
-
 -- a list of digests was not read or is none, so nothing was looked at
 abbrev pub RefusedList : Asked → Given → ℕ → Note → Option (List ℕ) → Option (List ℕ) → Faults → Faults → Type 0
 RefusedList asked g status noted taken takes was are =
     (planned : ℕ) × (line : List ℕ) × Refuses (Some asked) g was are planned noted line × Prints line planned status taken takes was.sink are.sink
+
+-- How it ended: nothing was done for want of memory, or since a list of digests was not read or is none; or by what it found, whose line was
+-- put into the sink.
+pub data Showed (tells : Bool) (g : Given) (old new : Moment) (status : ℕ) (noted : Note) (taken takes : Option (List ℕ)) (was are : Faults) : Type 0 where
+  starved : status ≡ 9 → noted ≡ note.Nothing → new ≡ old → takes ≡ taken → Showed tells g old new status noted taken takes was are
+  list_refused : new ≡ old → RefusedList ask.show g status noted taken takes was are → Showed tells g old new status noted taken takes was are
+  found : HasGoodList g.list g.files → (planned : ℕ) (line : List ℕ) → Finds (IsTrue tells × NothingDirty old.told) old.told.now old.counts new.counts planned noted line
+      → Prints line planned status taken takes was.sink are.sink → Showed tells g old new status noted taken takes was are
+
+-- A list that told files lack is answered by 2, and one with a bad line by 13, or 2 where it could not be read; the sink may fail at that
+-- line, or memory be wanting. And nothing was done.
+pub record RefusesBadList (g : Given) (old new : Moment) (status : ℕ) (was are : Faults) : Type 0 where
+  pub lacking : LacksList g.files g.list → (new ≡ old) × IsTrue (may_fail_before status)
+  pub bad : IfSome (list_bytes g.list g.files) (λ bytes. (n : ℕ) → digests_of bytes ≡ Err n → (new ≡ old) × RefusesList status was are)
 
 -- A command that runs no script is given what it asks for: a list of digests, where one is named, that is there and has no bad line; and
 -- nothing failed, and no power was lost.
@@ -76,11 +86,15 @@ pub record HasMetadata (image : List ℕ) : Type 0 where
   pub has_layout : layout_seen image ≡ Ok layout
   pub decides : deciding layout image ≡ Option.Some meta
 
--- What the command answers and leaves: no turn, no count lower, and the content of a flash with nothing dirty.
-pub record ShowedBy (tells : Bool) (g : Given) (old new : Told) (before after : Counts) (status : ℕ) (noted : Note) (journal : List Turn) (taken takes : Option (List ℕ)) (was are : Faults) : Type 0 where
-  pub showed : Showed (IsTrue tells × NothingDirty old) old.now before after status noted taken takes was.sink are.sink ⊎ RefusedList ask.show g status noted taken takes was are
-  pub content : IsTrue tells → NothingDirty old → new ≡ old
+-- What the command answers and leaves: no turn, no count lower, no arming, and the content of a flash with nothing dirty.
+pub record ShowedBy (tells : Bool) (g : Given) (old new : Moment) (status : ℕ) (noted : Note) (journal : List Turn) (taken takes : Option (List ℕ)) (was are : Faults) : Type 0 where
+  pub showed : Showed tells g old new status noted taken takes was are
+  pub refuses_list : RefusesBadList g old new status was are
+  pub content : IsTrue tells → NothingDirty old.told → new.told ≡ old.told
+  pub guard : IsTrue tells → new.told.guard ≡ old.told.guard
   pub no_turns : journal ≡ []
-  pub counts : NoneFalls before after
+  pub counts : NoneFalls old.counts new.counts
+  pub made : new.counts.made ≡ old.counts.made
+  pub unarmed : new.armed ≡ None
   -- the numbers are shown where all is there and nothing failed, unless memory was wanting
-  pub complete : IsTrue tells → NothingDirty old → HasMetadata old.now → IsGranted g before after was are → (status ≡ 0) ⊎ (status ≡ 9)
+  pub complete : IsTrue tells → NothingDirty old.told → HasMetadata old.told.now → IsGranted g old.counts new.counts was are → (status ≡ 0) ⊎ (status ≡ 9)

@@ -1,5 +1,5 @@
 -- What one turn of a run does.
-use Rattle.std.specs.Prelude.{◌≡◌, ◌≢◌, ◌⊎◌, ℕ, ◌+◌, ◌≤◌, Bool, List, Option, Some, None, IsTrue, IsFalse}
+use Rattle.std.specs.Prelude.{◌≡◌, ◌≢◌, ◌⊎◌, ℕ, ◌+◌, ◌≤◌, min, Bool, List, Option, Some, None, is_ok, IsTrue, IsFalse}
 use Rattle.flash_core.specs.Counts.{Rose, Spends}
 use Rattle.flash_core.specs.declared.flash.Arming.{Arming}
 use Rattle.flash_core.specs.declared.flash.Counts.{Counts}
@@ -22,7 +22,7 @@ use Rattle.early_boot.specs.Ends.{Ended, booted, bad_layout, no_metadata, no_ban
 use Rattle.early_boot.specs.EndsBy.{EndsByBytes, EndsByMachine}
 use Rattle.script_cmd.specs.Machine.{Moment, IsAt, IsSafe}
 use Rattle.script_cmd.specs.Booted.{BootsFrom}
-use Rattle.script_cmd.specs.Replies.{LeavesOn, Replies}
+use Rattle.script_cmd.specs.Replies.{LeavesOn, Replies, power_after}
 
 -- no count of failures, losses or chances falls
 pub record NoneFalls (old new : Counts) : Type 0 where
@@ -31,9 +31,9 @@ pub record NoneFalls (old new : Counts) : Type 0 where
   pub reached : old.reached ≤ new.reached
   pub chances : old.chances ≤ new.chances
 
--- a `cut` makes one arming, and no other call makes any
+-- a `cut` makes one arming, and no other call makes any; the count stands still at the greatest number
 abbrev pub Makes : Call → ℕ → ℕ → Type 0
-Makes (call.Cut n k) before after = ((after ≡ before + 1) ⊎ (after ≡ greatest)) × (after ≤ greatest)
+Makes (call.Cut n k) before after = after ≡ min (before + 1) greatest
 Makes other before after = after ≡ before
 
 -- The turn t does the call c, by a verifier of these manifests, on a device that tells its content or not.
@@ -48,11 +48,14 @@ pub record Turns (passes : List ℕ → Bool) (tells : Bool) (c : Call) (t : Tur
   pub reads_no_file : t.reply ≢ reply.ReadFault
   -- on any device the reply is by whether the flash was on, and by its numbers
   pub replies : Replies c old.on t.reply new.on
+  pub power : new.power ≡ power_after old.power t.reply
+  -- no call changes which blocks are guarded
+  pub guard : IsTrue tells → new.told.guard ≡ old.told.guard
   -- from a condition of a run it is a step, where no torn block was sealed by chance
   pub step : IsTrue tells → (E : Setting) (was : Condition) → E.passes ≡ passes → IsAt E was old.on old.told → (Rose old.counts.chances new.counts.chances → ⊥)
       → (next : Condition) × Step E was t next × IsAt E next new.on new.told
   -- on any flash no loss harms what is in use
-  pub safe : IsTrue tells → IsSafe old.on old.told → IsSafe new.on new.told
+  pub safe : IsTrue tells → IsSafe old.power old.told → IsSafe new.power new.told
   -- a boot of a flash that is off and has nothing dirty goes by its bytes, and the other calls leave these
   pub boots : IsTrue tells → old.on ≡ None → NothingDirty old.told → c ≡ call.Boot → BootsFrom passes old.told.now t.reply
 
@@ -88,9 +91,10 @@ abbrev pub boot_turn : Ended → Turn
 boot_turn e = record { call = call.Boot; reply = reply_of_end e; numbers = numbers_of_end e }
 
 -- The turn t is a boot that ended so, by a verifier of these manifests, on a device that tells its content or not. What is told and counted was old, and is new.
-pub record EndsTurn (passes : List ℕ → Bool) (tells : Bool) (e : Ended) (t : Turn) (was are : Counts) (old new : Told) (on : Option Numbers) : Type 0 where
+pub record EndsTurn (passes : List ℕ → Bool) (tells : Bool) (e : Ended) (t : Turn) (was are : Counts) (old new : Told) (on : Option Numbers) (power : Bool) : Type 0 where
   pub turn_is : t ≡ boot_turn e
   pub on_is : on ≡ on_after e
+  pub power_is : power ≡ is_ok (stop_of e)
   -- the reply tells of these numbers
   pub leaves : LeavesOn t.reply on
   pub costs : Spends (stop_of e) was are
@@ -104,10 +108,13 @@ abbrev pub quiet_turn : Call → Reply → Turn
 quiet_turn what r = record { call = what; reply = r; numbers = None }
 
 -- The call is no boot, the reply no stop, and what is told stays.
-pub record LeavesFlash (tells : Bool) (what : Call) (r : Reply) (was are : Counts) (old new : Told) (armed : Option Arming) : Type 0 where
+pub record LeavesFlash (tells : Bool) (what : Call) (r : Reply) (was are : Counts) (old new : Told) (armed : Option Arming) (power after_power : Bool) : Type 0 where
   pub no_boot : IsFalse (is_boot what)
   pub no_stop : IsFalse (is_stop r)
   pub counts : NoneFalls was are
   pub made : Makes what was.made are.made
   pub armed_is : IsCut (Some (quiet_turn what r)) armed
   pub same : IsTrue tells → new ≡ old
+  pub power_is : after_power ≡ power
+  -- the reply tells of no other
+  pub keeps_power : power_after power r ≡ power

@@ -1,5 +1,5 @@
 -- The ways that `run` or `boot` may end: before the first turn, or by the turns of a script.
-use Rattle.std.specs.Prelude.{◌≡◌, ◌⊎◌, ℕ, ◌≤◌, ⊤, Bool, false, List, [], Option, Some, None, Ok, Err, IfSome, IsTrue, IsSome}
+use Rattle.std.specs.Prelude.{◌≡◌, ◌⊎◌, ℕ, ◌≤◌, ⊤, Bool, true, false, ◌||◌, ◌==◌, List, [], Option, Some, None, Ok, Err, IfSome, IsTrue, IsSome}
 use Rattle.flash_core.specs.Counts.{Rose}
 use Rattle.fwu_model.specs.Call.{Call}
 use Rattle.fwu_model.specs.State.{Numbers}
@@ -27,9 +27,10 @@ pub record Given : Type 0 where
 abbrev pub AsksTurns : Option Asked → Type 0
 AsksTurns asked = (asked ≡ Some ask.run) ⊎ (asked ≡ Some ask.boot)
 
--- the named list, where it is told and there, has no bad line
-abbrev pub HasNoBadLine : Given → Type 0
-HasNoBadLine g = IfSome (list_bytes g.list g.files) (λ bytes. (n : ℕ) → digests_of bytes ≡ Err n → ⊥)
+-- the named list, where the files are told, is there and has no bad line
+pub record HasGoodList (list : Option (List ℕ)) (files : Option (List ℕ → Option (List ℕ))) : Type 0 where
+  pub there : LacksList files list → ⊥
+  pub good : IfSome (list_bytes list files) (λ bytes. (n : ℕ) → digests_of bytes ≡ Err n → ⊥)
 
 -- the asked script, where it is told, is within the limits of a script
 abbrev pub IsShort : Option (List ℕ) → Type 0
@@ -37,16 +38,20 @@ IsShort script = IfSome script (λ bytes. is_too_long bytes ≡ false)
 
 -- Why nothing ran, with the status, the note and the line of that. A fault of the list comes before the others.
 pub data Refuses (asked : Option Asked) (g : Given) (was are : Faults) : ℕ → Note → List ℕ → Type 0 where
-  usage : HasNoBadLine g → asked ≡ None → Refuses asked g was are 1 note.Nothing usage_line
-  not_read : asked ≡ Some ask.run → Rose was.source are.source → Refuses asked g was are 2 note.Nothing not_read_line
-  list_not_read : Rose was.files are.files ⊎ LacksList g.files g.list → Refuses asked g was are 2 note.Nothing not_read_line
-  too_long : HasNoBadLine g → asked ≡ Some ask.run → IfSome g.script (λ bytes. IsTrue (is_too_long bytes)) → Refuses asked g was are 8 note.Nothing too_long_line
-  bad_script : (n : ℕ) → HasNoBadLine g → AsksTurns asked → IsShort g.script → IsBadScript g.script n → Refuses asked g was are 4 (note.BadLine n) (bad_script_line n)
-  bad_list : (n : ℕ) → IsSome g.list → IsBadList (list_bytes g.list g.files) n → Refuses asked g was are 13 (note.BadList n) (bad_list_line n)
+  usage : HasGoodList g.list g.files → asked ≡ None → Refuses asked g was are 1 note.Nothing usage_line
+  not_read : HasGoodList g.list g.files → asked ≡ Some ask.run → Rose was.source are.source → Refuses asked g was are 2 note.Nothing not_read_line
+  list_not_read : IsSome g.list → Rose was.files are.files ⊎ LacksList g.files g.list → Refuses asked g was are 2 note.Nothing not_read_line
+  too_long : HasGoodList g.list g.files → asked ≡ Some ask.run → IfSome g.script (λ bytes. IsTrue (is_too_long bytes)) → Refuses asked g was are 8 note.Nothing too_long_line
+  bad_script : (n : ℕ) → HasGoodList g.list g.files → AsksTurns asked → IsShort g.script → IsBadScript g.script n → Refuses asked g was are 4 (note.BadLine n) (bad_script_line n)
+  bad_list : (n : ℕ) → IsSome g.list → (LacksList g.files g.list → ⊥) → IsBadList (list_bytes g.list g.files) n → Refuses asked g was are 13 (note.BadList n) (bad_list_line n)
 
 -- the asked script, where it is told, was read whole, within the limits, and has these calls
 abbrev pub HasCalls : Option (List ℕ) → List Call → Type 0
 HasCalls script calls = IfSome script (λ bytes. (is_too_long bytes ≡ false) × (script_of bytes ≡ Ok calls))
+
+-- what the files, the source and the sink count
+abbrev pub faults_of : {H I O : Type 0} → (H → ℕ) → (I → ℕ) → (O → ℕ) → H → I → O → Faults
+faults_of files source sink h i o = record { files = files h; source = source i; sink = sink o }
 
 -- no fault count falls
 pub record Later (was are : Faults) : Type 0 where
@@ -56,11 +61,11 @@ pub record Later (was are : Faults) : Type 0 where
 
 -- Nothing ran for want of memory; or for a cause, whose line was put into the sink; or the turns of the script ran.
 pub data Way (passes : List ℕ → Bool) (tells : Bool) (asked : Option Asked) (g : Given) (journal : List Turn) (status : ℕ) (noted : Note) (old new : Moment) (taken takes : Option (List ℕ)) (was are : Faults) : Type 0 where
-  starved : journal ≡ [] → new ≡ old → status ≡ 9 → takes ≡ taken → Way passes tells asked g journal status noted old new taken takes was are
+  starved : journal ≡ [] → new ≡ old → status ≡ 9 → noted ≡ note.Nothing → takes ≡ taken → Way passes tells asked g journal status noted old new taken takes was are
   refused : (planned : ℕ) (line : List ℕ) → journal ≡ [] → new ≡ old → Refuses asked g was are planned noted line
       → Prints line planned status taken takes was.sink are.sink → Way passes tells asked g journal status noted old new taken takes was are
-  ran : (calls : List Call) (on : Option Numbers) → HasNoBadLine g → AsksTurns asked → HasCalls g.script calls
-      → Ran passes tells journal old (at on new.told new.counts new.armed) → Ended calls journal status noted → Printed journal status taken takes was.sink are.sink
+  ran : (calls : List Call) (on : Option Numbers) → HasGoodList g.list g.files → AsksTurns asked → HasCalls g.script calls
+      → Ran passes tells journal old (at on new.told new.counts new.armed new.power) → Ended calls journal status noted → Printed journal status taken takes was.sink are.sink
       → Way passes tells asked g journal status noted old new taken takes was are
 
 -- ---- by the words
@@ -77,7 +82,38 @@ RunsOrNone (Some ask.boot) = ⊤
 RunsOrNone (Some ask.show) = ⊥
 RunsOrNone (Some (ask.format banks rows file)) = ⊥
 
--- Whose manifests pass: any, where no list is asked for, and where a list is told and is one, those that it lists.
+-- ---- whose manifests pass
+
+-- the file of this name has these bytes, where the files are told
+abbrev pub StandsIn : Option (List ℕ → Option (List ℕ)) → List ℕ → List ℕ → Type 0
+StandsIn (Some files) name bytes = files name ≡ Some bytes
+StandsIn None name bytes = ⊤
+
+-- A list of digests was read from the file that is named, and the manifests that it lists pass.
+pub record ReadsList (list : Option (List ℕ)) (files : Option (List ℕ → Option (List ℕ))) (passes : List ℕ → Bool) : Type 0 where
+  pub name : List ℕ
+  pub named : list ≡ Some name
+  pub bytes : List ℕ
+  pub stands : StandsIn files name bytes
+  pub digests : List (List ℕ)
+  pub is_list : digests_of bytes ≡ Ok digests
+  pub passes_are : passes ≡ passes_listed digests
+
+-- Whose manifests pass: any where no list is asked for, and else those of the list.
 pub record HasPasses (asks : Bool) (list : Option (List ℕ)) (files : Option (List ℕ → Option (List ℕ))) (passes : List ℕ → Bool) : Type 0 where
   pub any : asks ≡ false → passes ≡ passes_any
-  pub listed : (bytes : List ℕ) (digests : List (List ℕ)) → list_bytes list files ≡ Some bytes → digests_of bytes ≡ Ok digests → passes ≡ passes_listed digests
+  pub listed : asks ≡ true → ReadsList list files passes
+
+-- these end a command whose list of digests was not read: by usage, the list, the sink, or want of memory
+abbrev pub may_lack_list : ℕ → Bool
+may_lack_list status = (status == 1) || ((status == 2) || ((status == 3) || ((status == 9) || (status == 13))))
+
+-- nothing was done
+pub record IsIdle (journal : List Turn) (status : ℕ) (old new : Moment) : Type 0 where
+  pub no_turns : journal ≡ []
+  pub same : new ≡ old
+  pub status_is : IsTrue (may_lack_list status)
+
+-- The promise holds for the manifests that pass, by the list that was read. Where none was read nothing was done, and it holds whichever pass.
+abbrev pub ByList : (HasPasses : (List ℕ → Bool) → Type 0) → (Idle : Type 0) → (Promise : (List ℕ → Bool) → Type 0) → Type 0
+ByList Has Idle Promise = ((passes : List ℕ → Bool) × Has passes × Promise passes) ⊎ (Idle × ((passes : List ℕ → Bool) → Promise passes))

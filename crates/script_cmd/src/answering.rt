@@ -8,12 +8,12 @@ ghost use Rattle.fwu_model.specs.Wrote.{script_asked};
 ghost use Rattle.fwu_journal.specs.Shown.{turns};
 ghost use Rattle.fwu_words.specs.Order.{Asked, asked};
 ghost use Rattle.fwu_words.specs.Order as ask;
-ghost use Rattle.script_cmd.specs.Asking.{asked_with_list, plainly};
+ghost use Rattle.script_cmd.specs.Asking.{asked_with_list, asks_format, asks_run, plainly};
 ghost use Rattle.script_cmd.specs.Formatting.{FormattedBy};
-ghost use Rattle.script_cmd.specs.Machine.{at};
-ghost use Rattle.script_cmd.specs.Noted.{noted};
+ghost use Rattle.script_cmd.specs.Machine.{moment};
+ghost use Rattle.script_cmd.specs.Noted.{is_input, noted};
 ghost use Rattle.script_cmd.specs.Showing.{ShowedBy};
-ghost use Rattle.script_cmd.specs.Ways.{AsksTurns, Given, HasNoBadLine, HasPasses, IsScriptOf, Later, RunsOrNone, Way};
+ghost use Rattle.script_cmd.specs.Ways.{AsksTurns, ByList, Given, HasGoodList, HasPasses, IsIdle, IsScriptOf, Later, ReadsList, RunsOrNone, Way, faults_of};
 
 use crate::done::{Done, Note};
 use crate::formatting::format_flash;
@@ -43,10 +43,14 @@ fn run_text<D: Flash, O: Sink, V: Verifier>(
     requires unarmed { D.arming flash ≡ None }
     requires within { is_too_long text.now ≡ false }
     requires few { length text.now ≤ 4194304 }
-    ensures way { (asked : Option Asked) (g : Given) (was are : Faults) → HasNoBadLine g → AsksTurns asked → IsScriptOf g.script text.now
-        → Way (V.passes verifier.now) D.tells asked g (turns result.journal) result.status (noted result.note)
-        (at None (D.told flash) (D.counts flash) (D.arming flash)) (at None (D.told result.flash) (D.counts result.flash) (D.arming result.flash))
-        (O.taken sink.old) (O.taken sink.new) (record was { sink = O.faults sink.old }) (record are { sink = O.faults sink.new }) }
+    ensures way { (asked : Option Asked) (g : Given) (was are : Faults) → HasGoodList g.list g.files
+        → AsksTurns asked → IsScriptOf g.script text.now
+        → Way (V.passes verifier.now) D.tells asked g (turns result.journal) result.status
+        (noted result.note) (moment D.told D.counts D.arming D.on flash)
+        (moment D.told D.counts D.arming D.on result.flash) (O.taken sink.old)
+        (O.taken sink.new) (record was { sink = O.faults sink.old })
+        (record are { sink = O.faults sink.new }) }
+    ensures note { IsFalse (is_input result.note) }
     ensures later { O.faults sink.old ≤ O.faults sink.new }
     ensures size { D.blocks result.flash ≡ D.blocks flash }
 {
@@ -71,11 +75,15 @@ fn run_source<D: Flash, I: Source, O: Sink, V: Verifier>(
 ) -> Done<D>
     requires off { IsFalse (D.on flash) }
     requires unarmed { D.arming flash ≡ None }
-    ensures way { (g : Given) (was are : Faults) → HasNoBadLine g
-        → Way (V.passes verifier.now) D.tells (Some ask.run) (record g { script = I.left source.old }) (turns result.journal) result.status (noted result.note)
-        (at None (D.told flash) (D.counts flash) (D.arming flash)) (at None (D.told result.flash) (D.counts result.flash) (D.arming result.flash))
-        (O.taken sink.old) (O.taken sink.new)
-        (record was { source = I.faults source.old; sink = O.faults sink.old }) (record are { source = I.faults source.new; sink = O.faults sink.new }) }
+    ensures way { (g : Given) (was are : Faults) → HasGoodList g.list g.files
+        → Way (V.passes verifier.now) D.tells (Some ask.run)
+        (record g { script = I.left source.old }) (turns result.journal) result.status
+        (noted result.note) (moment D.told D.counts D.arming D.on flash)
+        (moment D.told D.counts D.arming D.on result.flash) (O.taken sink.old)
+        (O.taken sink.new)
+        (record was { source = I.faults source.old; sink = O.faults sink.old })
+        (record are { source = I.faults source.new; sink = O.faults sink.new }) }
+    ensures note { IsFalse (is_input result.note) }
     ensures later_source { I.faults source.old ≤ I.faults source.new }
     ensures later_sink { O.faults sink.old ≤ O.faults sink.new }
     ensures read_to_end { result.status ≡ 0 → IfSome (I.left source.new) (λ rest. rest ≡ []) }
@@ -101,25 +109,49 @@ pub fn answer_with<D: Flash, H: Files, I: Source, O: Sink, V: Verifier>(
 ) -> Done<D>
     requires off { IsFalse (D.on flash) }
     requires unarmed { D.arming flash ≡ None }
-    ensures way { RunsOrNone (asked (map string_bytes words.now)) → Way (V.passes verifier.now) D.tells (asked (map string_bytes words.now))
-        (record { list = None; files = H.contents files.old; script = script_asked (plainly (asked (map string_bytes words.now))) (I.left source.old) })
+    ensures way { RunsOrNone (asked (map string_bytes words.now))
+        → Way (V.passes verifier.now) D.tells (asked (map string_bytes words.now))
+        (record {
+          list = None;
+          files = H.contents files.old;
+          script = script_asked (plainly (asked (map string_bytes words.now))) (I.left source.old);
+        })
         (turns result.journal) result.status (noted result.note)
-        (at None (D.told flash) (D.counts flash) (D.arming flash)) (at None (D.told result.flash) (D.counts result.flash) (D.arming result.flash))
-        (O.taken sink.old) (O.taken sink.new)
-        (record { files = H.faults files.old; source = I.faults source.old; sink = O.faults sink.old })
-        (record { files = H.faults files.new; source = I.faults source.new; sink = O.faults sink.new }) }
+        (moment D.told D.counts D.arming D.on flash)
+        (moment D.told D.counts D.arming D.on result.flash) (O.taken sink.old)
+        (O.taken sink.new) (faults_of H.faults I.faults O.faults files.old source.old sink.old)
+        (faults_of H.faults I.faults O.faults files.new source.new sink.new) }
     // No fault count falls.
-    ensures later { Later (record { files = H.faults files.old; source = I.faults source.old; sink = O.faults sink.old })
-        (record { files = H.faults files.new; source = I.faults source.new; sink = O.faults sink.new }) }
-    ensures shows { asked (map string_bytes words.now) ≡ Some ask.show → ShowedBy D.tells (record { list = None; files = H.contents files.old; script = I.left source.old })
-        (D.told flash) (D.told result.flash) (D.counts flash) (D.counts result.flash) result.status (noted result.note) (turns result.journal) (O.taken sink.old) (O.taken sink.new)
-        (record { files = H.faults files.old; source = I.faults source.old; sink = O.faults sink.old })
-        (record { files = H.faults files.new; source = I.faults source.new; sink = O.faults sink.new }) }
-    ensures formats { (banks : ℕ) (rows : List ImageRow) (file : List ℕ) → asked (map string_bytes words.now) ≡ Some (ask.format banks rows file) → FormattedBy (V.passes verifier.now) D.tells (record { list = None; files = H.contents files.old; script = I.left source.old })
-        file (record { banks = banks; rows = rows }) (D.blocks flash) (D.told flash) (D.told result.flash) (D.counts flash) (D.counts result.flash) result.status result.note (turns result.journal) (O.taken sink.old) (O.taken sink.new)
-        (record { files = H.faults files.old; source = I.faults source.old; sink = O.faults sink.old })
-        (record { files = H.faults files.new; source = I.faults source.new; sink = O.faults sink.new }) }
-    ensures read_to_end { result.status ≡ 0 → asked (map string_bytes words.now) ≡ Some ask.run → IfSome (I.left source.new) (λ rest. rest ≡ []) }
+    ensures later { Later (faults_of H.faults I.faults O.faults files.old source.old sink.old)
+        (faults_of H.faults I.faults O.faults files.new source.new sink.new) }
+    ensures shows { asked (map string_bytes words.now) ≡ Some ask.show
+        → ShowedBy D.tells
+        (record { list = None; files = H.contents files.old; script = I.left source.old })
+        (moment D.told D.counts D.arming D.on flash)
+        (moment D.told D.counts D.arming D.on result.flash) result.status (noted result.note)
+        (turns result.journal) (O.taken sink.old) (O.taken sink.new)
+        (faults_of H.faults I.faults O.faults files.old source.old sink.old)
+        (faults_of H.faults I.faults O.faults files.new source.new sink.new) }
+    ensures formats { (banks : ℕ) (rows : List ImageRow) (file : List ℕ)
+        → asked (map string_bytes words.now) ≡ Some (ask.format banks rows file)
+        → FormattedBy (V.passes verifier.now) D.tells
+        (record { list = None; files = H.contents files.old; script = I.left source.old }) file
+        (record { banks = banks; rows = rows }) (D.blocks flash)
+        (moment D.told D.counts D.arming D.on flash)
+        (moment D.told D.counts D.arming D.on result.flash) result.status result.note
+        (turns result.journal) (O.taken sink.old) (O.taken sink.new)
+        (faults_of H.faults I.faults O.faults files.old source.old sink.old)
+        (faults_of H.faults I.faults O.faults files.new source.new sink.new) }
+    ensures read_to_end { result.status ≡ 0 → asked (map string_bytes words.now) ≡ Some ask.run
+        → IfSome (I.left source.new) (λ rest. rest ≡ []) }
+    // Only `run` reads the source.
+    ensures source { IsFalse (asks_run (asked (map string_bytes words.now)))
+        → source.new ≡ source.old }
+    // Only `format` and a list name files.
+    ensures files { IsFalse (asks_format (asked (map string_bytes words.now)))
+        → files.new ≡ files.old }
+    ensures note { IsFalse (asks_format (asked (map string_bytes words.now)))
+        → IsFalse (is_input result.note) }
     ensures same_files { H.contents files.new ≡ H.contents files.old }
     ensures size { D.blocks result.flash ≡ D.blocks flash }
 {
@@ -160,25 +192,58 @@ fn run_listed<D: Flash, H: Files, I: Source, O: Sink>(
 ) -> Done<D>
     requires off { IsFalse (D.on flash) }
     requires unarmed { D.arming flash ≡ None }
-    ensures way { RunsOrNone (asked (map string_bytes rest.now)) → (passes : List ℕ → Bool) × HasPasses true (Some name.now) (H.contents files.old) passes
-        × Way passes D.tells (asked (map string_bytes rest.now))
-        (record { list = Some name.now; files = H.contents files.old; script = script_asked (plainly (asked (map string_bytes rest.now))) (I.left source.old) })
+    ensures way { RunsOrNone (asked (map string_bytes rest.now))
+        → ByList (ReadsList (Some name.now) (H.contents files.old))
+        (IsIdle (turns result.journal) result.status
+        (moment D.told D.counts D.arming D.on flash)
+        (moment D.told D.counts D.arming D.on result.flash))
+        (λ passes. Way passes D.tells (asked (map string_bytes rest.now))
+        (record {
+          list = Some name.now;
+          files = H.contents files.old;
+          script = script_asked (plainly (asked (map string_bytes rest.now))) (I.left source.old);
+        })
         (turns result.journal) result.status (noted result.note)
-        (at None (D.told flash) (D.counts flash) (D.arming flash)) (at None (D.told result.flash) (D.counts result.flash) (D.arming result.flash))
-        (O.taken sink.old) (O.taken sink.new)
-        (record { files = H.faults files.old; source = I.faults source.old; sink = O.faults sink.old })
-        (record { files = H.faults files.new; source = I.faults source.new; sink = O.faults sink.new }) }
-    ensures later { Later (record { files = H.faults files.old; source = I.faults source.old; sink = O.faults sink.old })
-        (record { files = H.faults files.new; source = I.faults source.new; sink = O.faults sink.new }) }
-    ensures shows { asked (map string_bytes rest.now) ≡ Some ask.show → ShowedBy D.tells (record { list = Some name.now; files = H.contents files.old; script = I.left source.old })
-        (D.told flash) (D.told result.flash) (D.counts flash) (D.counts result.flash) result.status (noted result.note) (turns result.journal) (O.taken sink.old) (O.taken sink.new)
-        (record { files = H.faults files.old; source = I.faults source.old; sink = O.faults sink.old })
-        (record { files = H.faults files.new; source = I.faults source.new; sink = O.faults sink.new }) }
-    ensures formats { (banks : ℕ) (rows : List ImageRow) (file : List ℕ) → asked (map string_bytes rest.now) ≡ Some (ask.format banks rows file) → (passes : List ℕ → Bool) × HasPasses true (Some name.now) (H.contents files.old) passes × FormattedBy passes D.tells (record { list = Some name.now; files = H.contents files.old; script = I.left source.old })
-        file (record { banks = banks; rows = rows }) (D.blocks flash) (D.told flash) (D.told result.flash) (D.counts flash) (D.counts result.flash) result.status result.note (turns result.journal) (O.taken sink.old) (O.taken sink.new)
-        (record { files = H.faults files.old; source = I.faults source.old; sink = O.faults sink.old })
-        (record { files = H.faults files.new; source = I.faults source.new; sink = O.faults sink.new }) }
-    ensures read_to_end { result.status ≡ 0 → asked (map string_bytes rest.now) ≡ Some ask.run → IfSome (I.left source.new) (λ left. left ≡ []) }
+        (moment D.told D.counts D.arming D.on flash)
+        (moment D.told D.counts D.arming D.on result.flash) (O.taken sink.old)
+        (O.taken sink.new)
+        (faults_of H.faults I.faults O.faults files.old source.old sink.old)
+        (faults_of H.faults I.faults O.faults files.new source.new sink.new)) }
+    ensures later { Later (faults_of H.faults I.faults O.faults files.old source.old sink.old)
+        (faults_of H.faults I.faults O.faults files.new source.new sink.new) }
+    ensures shows { asked (map string_bytes rest.now) ≡ Some ask.show
+        → ShowedBy D.tells
+        (record
+        { list = Some name.now; files = H.contents files.old; script = I.left source.old })
+        (moment D.told D.counts D.arming D.on flash)
+        (moment D.told D.counts D.arming D.on result.flash) result.status (noted result.note)
+        (turns result.journal) (O.taken sink.old) (O.taken sink.new)
+        (faults_of H.faults I.faults O.faults files.old source.old sink.old)
+        (faults_of H.faults I.faults O.faults files.new source.new sink.new) }
+    ensures formats { (banks : ℕ) (rows : List ImageRow) (file : List ℕ)
+        → asked (map string_bytes rest.now) ≡ Some (ask.format banks rows file)
+        → ByList (ReadsList (Some name.now) (H.contents files.old))
+        (IsIdle (turns result.journal) result.status
+        (moment D.told D.counts D.arming D.on flash)
+        (moment D.told D.counts D.arming D.on result.flash))
+        (λ passes. FormattedBy passes D.tells
+        (record {
+          list = Some name.now;
+          files = H.contents files.old;
+          script = I.left source.old;
+        }) file (record { banks = banks; rows = rows })
+        (D.blocks flash) (moment D.told D.counts D.arming D.on flash)
+        (moment D.told D.counts D.arming D.on result.flash) result.status result.note
+        (turns result.journal) (O.taken sink.old) (O.taken sink.new)
+        (faults_of H.faults I.faults O.faults files.old source.old sink.old)
+        (faults_of H.faults I.faults O.faults files.new source.new sink.new)) }
+    ensures read_to_end { result.status ≡ 0 → asked (map string_bytes rest.now) ≡ Some ask.run
+        → IfSome (I.left source.new) (λ left. left ≡ []) }
+    // Only `run` reads the source.
+    ensures source { IsFalse (asks_run (asked (map string_bytes rest.now)))
+        → source.new ≡ source.old }
+    ensures note { IsFalse (asks_format (asked (map string_bytes rest.now)))
+        → IsFalse (is_input result.note) }
     ensures same_files { H.contents files.new ≡ H.contents files.old }
     ensures size { D.blocks result.flash ≡ D.blocks flash }
 {
@@ -206,26 +271,71 @@ pub fn answer<D: Flash, H: Files, I: Source, O: Sink>(
     requires off { IsFalse (D.on flash) }
     requires unarmed { D.arming flash ≡ None }
     ensures way { RunsOrNone (asked_with_list (map string_bytes words.now))
-        → (passes : List ℕ → Bool) × HasPasses (asks_list (map string_bytes words.now)) (list_name (map string_bytes words.now)) (H.contents files.old) passes
-        × Way passes D.tells (asked_with_list (map string_bytes words.now))
-        (record { list = list_name (map string_bytes words.now); files = H.contents files.old; script = script_asked (plainly (asked_with_list (map string_bytes words.now))) (I.left source.old) })
+        → ByList
+        (HasPasses (asks_list (map string_bytes words.now))
+        (list_name (map string_bytes words.now)) (H.contents files.old))
+        (IsIdle (turns result.journal) result.status
+        (moment D.told D.counts D.arming D.on flash)
+        (moment D.told D.counts D.arming D.on result.flash))
+        (λ passes. Way passes D.tells (asked_with_list (map string_bytes words.now))
+        (record {
+          list = list_name (map string_bytes words.now);
+          files = H.contents files.old;
+          script = script_asked (plainly (asked_with_list (map string_bytes words.now))) (I.left source.old);
+        })
         (turns result.journal) result.status (noted result.note)
-        (at None (D.told flash) (D.counts flash) (D.arming flash)) (at None (D.told result.flash) (D.counts result.flash) (D.arming result.flash))
-        (O.taken sink.old) (O.taken sink.new)
-        (record { files = H.faults files.old; source = I.faults source.old; sink = O.faults sink.old })
-        (record { files = H.faults files.new; source = I.faults source.new; sink = O.faults sink.new }) }
+        (moment D.told D.counts D.arming D.on flash)
+        (moment D.told D.counts D.arming D.on result.flash) (O.taken sink.old)
+        (O.taken sink.new)
+        (faults_of H.faults I.faults O.faults files.old source.old sink.old)
+        (faults_of H.faults I.faults O.faults files.new source.new sink.new)) }
     // No fault count falls.
-    ensures later { Later (record { files = H.faults files.old; source = I.faults source.old; sink = O.faults sink.old })
-        (record { files = H.faults files.new; source = I.faults source.new; sink = O.faults sink.new }) }
-    ensures shows { asked_with_list (map string_bytes words.now) ≡ Some ask.show → ShowedBy D.tells (record { list = list_name (map string_bytes words.now); files = H.contents files.old; script = I.left source.old })
-        (D.told flash) (D.told result.flash) (D.counts flash) (D.counts result.flash) result.status (noted result.note) (turns result.journal) (O.taken sink.old) (O.taken sink.new)
-        (record { files = H.faults files.old; source = I.faults source.old; sink = O.faults sink.old })
-        (record { files = H.faults files.new; source = I.faults source.new; sink = O.faults sink.new }) }
-    ensures formats { (banks : ℕ) (rows : List ImageRow) (file : List ℕ) → asked_with_list (map string_bytes words.now) ≡ Some (ask.format banks rows file) → (passes : List ℕ → Bool) × HasPasses (asks_list (map string_bytes words.now)) (list_name (map string_bytes words.now)) (H.contents files.old) passes × FormattedBy passes D.tells (record { list = list_name (map string_bytes words.now); files = H.contents files.old; script = I.left source.old })
-        file (record { banks = banks; rows = rows }) (D.blocks flash) (D.told flash) (D.told result.flash) (D.counts flash) (D.counts result.flash) result.status result.note (turns result.journal) (O.taken sink.old) (O.taken sink.new)
-        (record { files = H.faults files.old; source = I.faults source.old; sink = O.faults sink.old })
-        (record { files = H.faults files.new; source = I.faults source.new; sink = O.faults sink.new }) }
-    ensures read_to_end { result.status ≡ 0 → asked_with_list (map string_bytes words.now) ≡ Some ask.run → IfSome (I.left source.new) (λ rest. rest ≡ []) }
+    ensures later { Later (faults_of H.faults I.faults O.faults files.old source.old sink.old)
+        (faults_of H.faults I.faults O.faults files.new source.new sink.new) }
+    ensures shows { asked_with_list (map string_bytes words.now) ≡ Some ask.show
+        → ShowedBy D.tells
+        (record {
+          list = list_name (map string_bytes words.now);
+          files = H.contents files.old;
+          script = I.left source.old;
+        })
+        (moment D.told D.counts D.arming D.on flash)
+        (moment D.told D.counts D.arming D.on result.flash) result.status (noted result.note)
+        (turns result.journal) (O.taken sink.old) (O.taken sink.new)
+        (faults_of H.faults I.faults O.faults files.old source.old sink.old)
+        (faults_of H.faults I.faults O.faults files.new source.new sink.new) }
+    ensures formats { (banks : ℕ) (rows : List ImageRow) (file : List ℕ)
+        → asked_with_list (map string_bytes words.now) ≡ Some (ask.format banks rows file)
+        → ByList
+        (HasPasses (asks_list (map string_bytes words.now))
+        (list_name (map string_bytes words.now)) (H.contents files.old))
+        (IsIdle (turns result.journal) result.status
+        (moment D.told D.counts D.arming D.on flash)
+        (moment D.told D.counts D.arming D.on result.flash))
+        (λ passes. FormattedBy passes D.tells
+        (record {
+          list = list_name (map string_bytes words.now);
+          files = H.contents files.old;
+          script = I.left source.old;
+        }) file
+        (record { banks = banks; rows = rows }) (D.blocks flash)
+        (moment D.told D.counts D.arming D.on flash)
+        (moment D.told D.counts D.arming D.on result.flash) result.status result.note
+        (turns result.journal) (O.taken sink.old) (O.taken sink.new)
+        (faults_of H.faults I.faults O.faults files.old source.old sink.old)
+        (faults_of H.faults I.faults O.faults files.new source.new sink.new)) }
+    ensures read_to_end { result.status ≡ 0
+        → asked_with_list (map string_bytes words.now) ≡ Some ask.run
+        → IfSome (I.left source.new) (λ rest. rest ≡ []) }
+    // Only `run` reads the source.
+    ensures source { IsFalse (asks_run (asked_with_list (map string_bytes words.now)))
+        → source.new ≡ source.old }
+    // Only `format` and a list name files.
+    ensures files { list_name (map string_bytes words.now) ≡ None
+        → IsFalse (asks_format (asked_with_list (map string_bytes words.now)))
+        → files.new ≡ files.old }
+    ensures note { IsFalse (asks_format (asked_with_list (map string_bytes words.now)))
+        → IsFalse (is_input result.note) }
     ensures same_files { H.contents files.new ≡ H.contents files.old }
     ensures size { D.blocks result.flash ≡ D.blocks flash }
 {

@@ -1,6 +1,7 @@
 //! The command `format`.
 ghost use Rattle.std.specs.Prelude.{◌≡◌, ◌≤◌, ℕ, List, [], Option, None, IsFalse};
 ghost use Rattle.fwu_journal.specs.Shown.{turns};
+ghost use Rattle.script_cmd.specs.Machine.{moment};
 ghost use Rattle.script_cmd.specs.Formatting.{Formats, Tries, format_note, format_status};
 
 use crate::done::{Done, Note};
@@ -50,8 +51,11 @@ fn try_format<D: Flash, H: Files, V: Verifier>(
 ) -> Result<Formatted, FormatStop>
     requires off { IsFalse (D.on flash.old) }
     requires unarmed { D.arming flash.old ≡ None }
-    ensures tries { Tries (V.passes verifier.now) D.tells (H.contents files.old) name.now (record { banks = banks; rows = rows.now }) (D.blocks flash.old)
-        (D.told flash.old) (D.told flash.new) (D.counts flash.old) (D.counts flash.new) (H.faults files.old) (H.faults files.new) result }
+    ensures tries { Tries (V.passes verifier.now) D.tells (H.contents files.old) name.now
+        (record { banks = banks; rows = rows.now }) (D.blocks flash.old)
+        (moment D.told D.counts D.arming D.on flash.old)
+        (moment D.told D.counts D.arming D.on flash.new) (H.faults files.old) (H.faults files.new)
+        result }
     ensures same { H.contents files.new ≡ H.contents files.old }
     ensures later { H.faults files.old ≤ H.faults files.new }
     ensures size { D.blocks flash.new ≡ D.blocks flash.old }
@@ -77,9 +81,15 @@ pub fn format_flash<D: Flash, H: Files, O: Sink, V: Verifier>(
 ) -> Done<D>
     requires off { IsFalse (D.on flash) }
     requires unarmed { D.arming flash ≡ None }
-    ensures formats { (script : Option (List ℕ)) (source sources : ℕ) → Formats (V.passes verifier.now) D.tells (record { list = None; files = H.contents files.old; script = script }) name.now (record { banks = banks; rows = rows.now }) (D.blocks flash)
-        (D.told flash) (D.told result.flash) (D.counts flash) (D.counts result.flash) result.status result.note (O.taken sink.old) (O.taken sink.new)
-        (record { files = H.faults files.old; source = source; sink = O.faults sink.old }) (record { files = H.faults files.new; source = sources; sink = O.faults sink.new }) }
+    ensures formats { (script : Option (List ℕ)) (source sources : ℕ)
+        → Formats (V.passes verifier.now) D.tells
+        (record { list = None; files = H.contents files.old; script = script }) name.now
+        (record { banks = banks; rows = rows.now }) (D.blocks flash)
+        (moment D.told D.counts D.arming D.on flash)
+        (moment D.told D.counts D.arming D.on result.flash) result.status result.note
+        (O.taken sink.old) (O.taken sink.new)
+        (record { files = H.faults files.old; source = source; sink = O.faults sink.old })
+        (record { files = H.faults files.new; source = sources; sink = O.faults sink.new }) }
     ensures no_turns { turns result.journal ≡ [] }
     ensures same { H.contents files.new ≡ H.contents files.old }
     ensures later_files { H.faults files.old ≤ H.faults files.new }

@@ -1,5 +1,6 @@
-//! Laws of the ways that a run may end: functions that do nothing, whose contract is the law.
-ghost use Rattle.script_cmd.specs.Promises.{WaysAreComplete, WaysBoot, WaysEnd, WaysGuard, WaysKeepTheHeadline, WaysReply, WaysWrite};
+//! Laws of the ways that a run may end, and of wrong outcomes that none is promised: functions that do nothing, whose contract is the law.
+ghost use Rattle.script_cmd.specs.Outcomes.{BadListIsNone, ListIsSome, MissingListIsNone, NoMetadataIsNone, NothingFollowsTheSink, NothingIsArmed, NothingIsPassedOver, NothingIsTouched, UsageReadsNoSource};
+ghost use Rattle.script_cmd.specs.Promises.{WaysAreComplete, WaysBoot, WaysBootFirst, WaysEnd, WaysGuard, WaysKeepTheHeadline, WaysLeaveTheDevice, WaysReply, WaysWrite};
 
 /// Whichever way a run ends, what the sink took is the lines of its turns, or one line where nothing ran.
 pub fn ways_write()
@@ -35,4 +36,59 @@ pub fn ways_guard()
 /// From a sound flash, a run that is given what it asks for, and meets no failure, does it all, unless memory is wanting.
 pub fn ways_are_complete()
     ensures { WaysAreComplete }
+{}
+
+/// Whichever way a run ends, where no turn ran the device is as it was, its power is by the replies, and it guards the same blocks.
+pub fn ways_leave_the_device()
+    ensures { WaysLeaveTheDevice }
+{}
+
+/// Whichever way a run ends, a first turn that is a boot goes by the bytes of a flash with nothing dirty.
+pub fn ways_boot_first()
+    ensures { WaysBootFirst }
+{}
+
+/// A run of a script with calls that does none of them doesn't end with 0.
+pub fn nothing_is_passed_over()
+    ensures { NothingIsPassedOver }
+{}
+
+/// A run without a turn leaves the device as it was.
+pub fn nothing_is_touched()
+    ensures { NothingIsTouched }
+{}
+
+/// The armings are those of the script's turns.
+pub fn nothing_is_armed()
+    ensures { NothingIsArmed }
+{}
+
+/// A run ends at the line that the sink didn't take.
+pub fn nothing_follows_the_sink()
+    ensures { NothingFollowsTheSink }
+{}
+
+/// A first boot answers that there is no metadata only where the bytes have none.
+pub fn no_metadata_is_none()
+    ensures { NoMetadataIsNone }
+{}
+
+/// Words that ask for nothing are answered by 2 only for a list of digests.
+pub fn usage_reads_no_source()
+    ensures { UsageReadsNoSource }
+{}
+
+/// Behind a list that told files lack no manifests pass.
+pub fn missing_list_is_none()
+    ensures { MissingListIsNone }
+{}
+
+/// Behind a list with a bad line no manifests pass.
+pub fn bad_list_is_none()
+    ensures { BadListIsNone }
+{}
+
+/// Behind a list those of some digests pass.
+pub fn list_is_some()
+    ensures { ListIsSome }
 {}

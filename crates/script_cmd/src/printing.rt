@@ -8,7 +8,8 @@ use host_io::{Sink, WriteStop};
 /// Puts a line into the sink in one piece, and gives the exit status that comes of it: the planned one, or 3 where the sink failed,
 /// or 9 where it found no memory.
 pub fn put_line<O: Sink>(sink: &mut O, bytes: &[u8], planned: u8) -> u8
-    ensures { Prints bytes.now planned result (O.taken sink.old) (O.taken sink.new) (O.faults sink.old) (O.faults sink.new) }
+    ensures { Prints bytes.now planned result (O.taken sink.old) (O.taken sink.new)
+        (O.faults sink.old) (O.faults sink.new) }
 {
     match sink.put(bytes) {
         Ok(()) => planned,
@@ -19,7 +20,8 @@ pub fn put_line<O: Sink>(sink: &mut O, bytes: &[u8], planned: u8) -> u8
 
 /// Puts the line of usage into the sink in one piece, and gives the exit status that comes of it, where 1 is planned.
 pub fn put_usage<O: Sink>(sink: &mut O) -> u8
-    ensures { Prints usage_line 1 result (O.taken sink.old) (O.taken sink.new) (O.faults sink.old) (O.faults sink.new) }
+    ensures { Prints usage_line 1 result (O.taken sink.old) (O.taken sink.new) (O.faults sink.old)
+        (O.faults sink.new) }
 {
     let line = b"usage: fwu FLASH run|boot|show|format [--banks N] LAYOUT PACKAGE|soak SEED N\n";
     put_line(sink, line.as_slice(), 1)

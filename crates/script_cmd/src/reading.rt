@@ -31,12 +31,17 @@ pub enum FileStop {
 
 /// Reads a script's text to the source's end, or to the first byte with which it is too long.
 pub fn read_source<I: Source>(alloc: Global, source: &mut I) -> Result<Vec<u8>, SourceStop>
-    ensures whole { IfOk result (λ text. (rest : List ℕ) → I.left source.old ≡ Some rest → (text.items ≡ rest) × (I.left source.new ≡ Some [])) }
+    ensures whole { IfOk result
+        (λ text. (rest : List ℕ) → I.left source.old ≡ Some rest
+        → (text.items ≡ rest) × (I.left source.new ≡ Some [])) }
     ensures end { OnOk result (IsAtEnd (I.left source.new)) }
-    ensures short { IfOk result (λ text. (is_too_long text.items ≡ false) × (length text.items ≤ 4194304)) }
-    ensures long { result ≡ Err SourceStop.TooLong → (rest : List ℕ) → I.left source.old ≡ Some rest → IsTrue (is_too_long rest) }
+    ensures short { IfOk result
+        (λ text. (is_too_long text.items ≡ false) × (length text.items ≤ 4194304)) }
+    ensures long { result ≡ Err SourceStop.TooLong → (rest : List ℕ) → I.left source.old ≡ Some rest
+        → IsTrue (is_too_long rest) }
     ensures later { I.faults source.old ≤ I.faults source.new }
-    ensures failed { result ≡ Err SourceStop.Failed → Rose (I.faults source.old) (I.faults source.new) }
+    ensures failed { result ≡ Err SourceStop.Failed
+        → Rose (I.faults source.old) (I.faults source.new) }
 {
     let mut text = Vec::new(alloc);
     let mut limit = TextLimit::new();
@@ -70,10 +75,14 @@ fn zeros(alloc: Global, size: u64) -> Result<Vec<u8>, NoMemory>
 
 /// Reads a file whole.
 pub fn read_file<H: Files>(alloc: Global, files: &mut H, name: &str) -> Result<Vec<u8>, FileStop>
-    ensures whole { IfOk result (λ bytes. (directory : Directory) → H.contents files.old ≡ Some directory → directory name.now ≡ Some bytes.items) }
+    ensures whole { IfOk result
+        (λ bytes. (directory : Directory) → H.contents files.old ≡ Some directory
+        → directory name.now ≡ Some bytes.items) }
     ensures same { H.contents files.new ≡ H.contents files.old }
     ensures later { H.faults files.old ≤ H.faults files.new }
-    ensures failed { result ≡ Err FileStop.Failed → Rose (H.faults files.old) (H.faults files.new) ⊎ LacksFile (H.contents files.old) name.now }
+    ensures failed { result ≡ Err FileStop.Failed
+        → Rose (H.faults files.old) (H.faults files.new) ⊎ LacksFile (H.contents files.old)
+        name.now }
 {
     let size = match files.size(name) {
         Ok(Some(size)) => size,

@@ -35,7 +35,8 @@ pub fn refuse<D: Flash, O: Sink>(
     note: Note,
     flash: D,
 ) -> Done<D>
-    ensures prints { Prints line.now status result.status (O.taken sink.old) (O.taken sink.new) (O.faults sink.old) (O.faults sink.new) }
+    ensures prints { Prints line.now status result.status (O.taken sink.old) (O.taken sink.new)
+        (O.faults sink.old) (O.faults sink.new) }
     ensures note { result.note ≡ note }
     ensures flash { result.flash ≡ flash }
     ensures no_turns { turns result.journal ≡ [] }
@@ -46,7 +47,8 @@ pub fn refuse<D: Flash, O: Sink>(
 
 /// Puts the line of usage into the sink, and does nothing else.
 pub fn print_usage<D: Flash, O: Sink>(alloc: Global, sink: &mut O, flash: D) -> Done<D>
-    ensures prints { Prints usage_line 1 result.status (O.taken sink.old) (O.taken sink.new) (O.faults sink.old) (O.faults sink.new) }
+    ensures prints { Prints usage_line 1 result.status (O.taken sink.old) (O.taken sink.new)
+        (O.faults sink.old) (O.faults sink.new) }
     ensures note { result.note ≡ Note.Nothing }
     ensures flash { result.flash ≡ flash }
     ensures no_turns { turns result.journal ≡ [] }
@@ -57,7 +59,8 @@ pub fn print_usage<D: Flash, O: Sink>(alloc: Global, sink: &mut O, flash: D) -> 
 
 /// Refuses what was not read: the source, or the file of a list of digests.
 pub fn refuse_reading<D: Flash, O: Sink>(alloc: Global, sink: &mut O, flash: D) -> Done<D>
-    ensures prints { Prints not_read_line 2 result.status (O.taken sink.old) (O.taken sink.new) (O.faults sink.old) (O.faults sink.new) }
+    ensures prints { Prints not_read_line 2 result.status (O.taken sink.old) (O.taken sink.new)
+        (O.faults sink.old) (O.faults sink.new) }
     ensures note { result.note ≡ Note.Nothing }
     ensures flash { result.flash ≡ flash }
     ensures no_turns { turns result.journal ≡ [] }
@@ -67,7 +70,8 @@ pub fn refuse_reading<D: Flash, O: Sink>(alloc: Global, sink: &mut O, flash: D) 
 
 /// Refuses a script that is too long.
 pub fn refuse_length<D: Flash, O: Sink>(alloc: Global, sink: &mut O, flash: D) -> Done<D>
-    ensures prints { Prints too_long_line 8 result.status (O.taken sink.old) (O.taken sink.new) (O.faults sink.old) (O.faults sink.new) }
+    ensures prints { Prints too_long_line 8 result.status (O.taken sink.old) (O.taken sink.new)
+        (O.faults sink.old) (O.faults sink.new) }
     ensures note { result.note ≡ Note.Nothing }
     ensures flash { result.flash ≡ flash }
     ensures no_turns { turns result.journal ≡ [] }
@@ -77,7 +81,8 @@ pub fn refuse_length<D: Flash, O: Sink>(alloc: Global, sink: &mut O, flash: D) -
 
 /// Refuses a script whose first bad line this is. Where memory is wanting for the answer, nothing is written.
 pub fn refuse_script<D: Flash, O: Sink>(alloc: Global, sink: &mut O, line: u32, flash: D) -> Done<D>
-    ensures prints { Prints (bad_script_line line) 4 result.status (O.taken sink.old) (O.taken sink.new) (O.faults sink.old) (O.faults sink.new) }
+    ensures prints { Prints (bad_script_line line) 4 result.status (O.taken sink.old)
+        (O.taken sink.new) (O.faults sink.old) (O.faults sink.new) }
     ensures note { result.note ≡ Note.BadLine line }
     ensures flash { result.flash ≡ flash }
     ensures no_turns { turns result.journal ≡ [] }
@@ -91,7 +96,8 @@ pub fn refuse_script<D: Flash, O: Sink>(alloc: Global, sink: &mut O, line: u32, 
 
 /// Refuses a list of digests whose first bad line this is. Where memory is wanting for the answer, nothing is written.
 pub fn refuse_list<D: Flash, O: Sink>(alloc: Global, sink: &mut O, line: u64, flash: D) -> Done<D>
-    ensures prints { Prints (bad_list_line line) 13 result.status (O.taken sink.old) (O.taken sink.new) (O.faults sink.old) (O.faults sink.new) }
+    ensures prints { Prints (bad_list_line line) 13 result.status (O.taken sink.old)
+        (O.taken sink.new) (O.faults sink.old) (O.faults sink.new) }
     ensures note { result.note ≡ Note.BadList line }
     ensures flash { result.flash ≡ flash }
     ensures no_turns { turns result.journal ≡ [] }

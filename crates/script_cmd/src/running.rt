@@ -8,8 +8,8 @@ ghost use Rattle.script_text.specs.Shown.{shown};
 ghost use Rattle.fwu_journal.specs.Room.{HasRoom};
 ghost use Rattle.fwu_journal.specs.Shown.{HasRoomFor, reply, turn as shown_turn, turns};
 ghost use Rattle.fwu_journal.specs.declared.line.TheConstants.{LINE_ROOM};
-ghost use Rattle.script_cmd.specs.Machine.{at, device, shown_on};
-ghost use Rattle.script_cmd.specs.Noted.{noted};
+ghost use Rattle.script_cmd.specs.Machine.{at, device, moment, shown_on};
+ghost use Rattle.script_cmd.specs.Noted.{is_input, noted};
 ghost use Rattle.script_cmd.specs.Printed.{Prints};
 ghost use Rattle.script_cmd.specs.Running.{Ended, Printed, Ran, Steps};
 
@@ -59,7 +59,8 @@ fn status_of(last: &Reply) -> u8
 
 /// The note after a last turn with this reply.
 fn note_of(last: &Reply) -> Note
-    ensures { noted result ≡ note_by (reply last.now) }
+    ensures noted { noted result ≡ note_by (reply last.now) }
+    ensures note { IsFalse (is_input result) }
 {
     match last {
         Reply::NotBooted(why) => Note::Boot(*why),
@@ -75,8 +76,11 @@ fn note_of(last: &Reply) -> Note
 /// Prints the line of a turn, and tells how the run ends where it ends by it: at the status 0 it goes on.
 fn print_turn<O: Sink>(text: &mut Vec<u8>, next: &Turn, sink: &mut O) -> End
     requires { LINE_ROOM ≤ vec_capacity text.old }
-    ensures prints { Prints (line (shown_turn next.now).call (shown_turn next.now).reply) (status_by (shown_turn next.now).reply) result.status (O.taken sink.old) (O.taken sink.new) (O.faults sink.old) (O.faults sink.new) }
+    ensures prints { Prints (line (shown_turn next.now).call (shown_turn next.now).reply)
+        (status_by (shown_turn next.now).reply) result.status (O.taken sink.old) (O.taken sink.new)
+        (O.faults sink.old) (O.faults sink.new) }
     ensures noted { noted result.note ≡ note_by (shown_turn next.now).reply }
+    ensures note { IsFalse (is_input result.note) }
     ensures line_fits { LINE_ROOM ≤ vec_capacity text.new }
 {
     text.clear();
@@ -98,10 +102,21 @@ fn step<D: Flash, O: Sink, V: Verifier>(
     requires armable { IsArmable (shown call) }
     requires turn_fits { HasRoomFor running.journal 1 }
     requires line_fits { LINE_ROOM ≤ vec_capacity running.text }
-    ensures steps { Steps (V.passes verifier.now) D.tells (shown call) (turns running.journal) (turns result.running.journal) (at (shown_on running.machine) (D.told (device running.machine)) (D.counts (device running.machine)) (D.arming (device running.machine))) (at (shown_on result.running.machine) (D.told (device result.running.machine)) (D.counts (device result.running.machine)) (D.arming (device result.running.machine))) result.end.status (noted result.end.note) (O.taken sink.old) (O.taken sink.new) (O.faults sink.old) (O.faults sink.new) }
+    ensures steps { Steps (V.passes verifier.now) D.tells (shown call) (turns running.journal)
+        (turns result.running.journal)
+        (at (shown_on running.machine) (D.told (device running.machine))
+        (D.counts (device running.machine)) (D.arming (device running.machine))
+        (D.on (device running.machine)))
+        (at (shown_on result.running.machine) (D.told (device result.running.machine))
+        (D.counts (device result.running.machine)) (D.arming (device result.running.machine))
+        (D.on (device result.running.machine))) result.end.status (noted result.end.note)
+        (O.taken sink.old) (O.taken sink.new) (O.faults sink.old) (O.faults sink.new) }
+    ensures note { IsFalse (is_input result.end.note) }
     // Where the run goes on.
-    ensures powered { result.end.status ≡ 0 → D.on (device result.running.machine) ≡ is_some (shown_on result.running.machine) }
-    ensures turns_fit { (n : ℕ) → HasRoomFor running.journal (n + 1) → HasRoomFor result.running.journal n }
+    ensures powered { result.end.status ≡ 0
+        → D.on (device result.running.machine) ≡ is_some (shown_on result.running.machine) }
+    ensures turns_fit { (n : ℕ) → HasRoomFor running.journal (n + 1)
+        → HasRoomFor result.running.journal n }
     ensures line_fits { LINE_ROOM ≤ vec_capacity result.running.text }
     ensures size { D.blocks (device result.running.machine) ≡ D.blocks (device running.machine) }
 {
@@ -161,9 +176,14 @@ pub fn run_script<D: Flash, O: Sink, V: Verifier>(
     requires turns_fit { HasRoomFor room.journal (length script.now) }
     requires line_fits { HasRoom room.text LINE_ROOM }
 
-    ensures ran { (on : Option Numbers) × Ran (V.passes verifier.now) D.tells (turns result.journal) (at None (D.told flash) (D.counts flash) (D.arming flash)) (at on (D.told result.flash) (D.counts result.flash) (D.arming result.flash)) }
+    ensures ran { (on : Option Numbers) × Ran (V.passes verifier.now) D.tells (turns result.journal)
+        (moment D.told D.counts D.arming D.on flash)
+        (at on (D.told result.flash) (D.counts result.flash) (D.arming result.flash)
+        (D.on result.flash)) }
     ensures ended { Ended script.now (turns result.journal) result.status (noted result.note) }
-    ensures printed { Printed (turns result.journal) result.status (O.taken sink.old) (O.taken sink.new) (O.faults sink.old) (O.faults sink.new) }
+    ensures note { IsFalse (is_input result.note) }
+    ensures printed { Printed (turns result.journal) result.status (O.taken sink.old)
+        (O.taken sink.new) (O.faults sink.old) (O.faults sink.new) }
     ensures size { D.blocks result.flash ≡ D.blocks flash }
 {
     let Room { journal, text } = room;

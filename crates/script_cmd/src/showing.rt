@@ -1,11 +1,14 @@
 //! The command `show`.
-ghost use Rattle.std.specs.Prelude.{◌≡◌, ◌≤◌, ◌++◌, [], length, IsTrue, IsFalse};
+ghost use Rattle.std.specs.Prelude.{◌≡◌, ◌≤◌, ◌++◌, [], None, length, IsTrue, IsFalse};
 ghost use Rattle.flash_core.specs.Told.{NothingDirty};
 ghost use Rattle.early_boot.specs.Numbers.{numbers as read};
 ghost use Rattle.fwu_journal.specs.Room.{Grows, HasRoom};
 ghost use Rattle.fwu_journal.specs.Shown.{turns};
 ghost use Rattle.fwu_journal.specs.declared.line.TheConstants.{LINE_ROOM};
-ghost use Rattle.script_cmd.specs.Noted.{noted};
+ghost use Rattle.fwu_model.specs.Causes.{Faults};
+ghost use Rattle.script_cmd.specs.Machine.{moment};
+ghost use Rattle.script_cmd.specs.Ways.{Given, HasGoodList};
+ghost use Rattle.script_cmd.specs.Noted.{is_input, noted};
 ghost use Rattle.script_cmd.specs.Turning.{NoneFalls};
 ghost use Rattle.script_cmd.specs.Showing.{Finds, Showed, shown_line, not_shown_line};
 
@@ -48,11 +51,18 @@ struct Found {
 /// Reads the numbers of a flash and makes the line of what was found.
 fn find<D: Flash>(flash: &mut D, text: &mut Vec<u8>) -> Found
     requires off { IsFalse (D.on flash.old) }
+    requires unarmed { D.arming flash.old ≡ None }
     requires room { HasRoom text.old LINE_ROOM }
     requires empty { text.old.items ≡ [] }
-    ensures finds { Finds (IsTrue D.tells × NothingDirty (D.told flash.old)) (D.told flash.old).now (D.counts flash.old) (D.counts flash.new) result.status (noted result.note) text.new.items }
-    ensures content { IsTrue D.tells → NothingDirty (D.told flash.old) → D.told flash.new ≡ D.told flash.old }
+    ensures finds { Finds (IsTrue D.tells × NothingDirty (D.told flash.old)) (D.told flash.old).now
+        (D.counts flash.old) (D.counts flash.new) result.status (noted result.note) text.new.items }
+    ensures note { IsFalse (is_input result.note) }
+    ensures content { IsTrue D.tells → NothingDirty (D.told flash.old)
+        → D.told flash.new ≡ D.told flash.old }
+    ensures guard { IsTrue D.tells → (D.told flash.new).guard ≡ (D.told flash.old).guard }
     ensures counts { NoneFalls (D.counts flash.old) (D.counts flash.new) }
+    ensures made { (D.counts flash.new).made ≡ (D.counts flash.old).made }
+    ensures unarmed { D.arming flash.new ≡ None }
     ensures size { D.blocks flash.new ≡ D.blocks flash.old }
 {
     flash.power_on();
@@ -94,10 +104,20 @@ fn not_found(text: &mut Vec<u8>, why: NoBoot) -> Found
 /// Status 6 says that there is no layout or no metadata, and 5 that power was lost or the flash failed.
 pub fn show<D: Flash, O: Sink>(alloc: Global, sink: &mut O, flash: D) -> Done<D>
     requires off { IsFalse (D.on flash) }
-    ensures showed { Showed (IsTrue D.tells × NothingDirty (D.told flash)) (D.told flash).now (D.counts flash) (D.counts result.flash) result.status (noted result.note) (O.taken sink.old) (O.taken sink.new) (O.faults sink.old) (O.faults sink.new) }
-    ensures content { IsTrue D.tells → NothingDirty (D.told flash) → D.told result.flash ≡ D.told flash }
+    requires unarmed { D.arming flash ≡ None }
+    ensures showed { (g : Given) (was are : Faults) → HasGoodList g.list g.files
+        → Showed D.tells g (moment D.told D.counts D.arming D.on flash)
+        (moment D.told D.counts D.arming D.on result.flash) result.status (noted result.note)
+        (O.taken sink.old) (O.taken sink.new) (record was { sink = O.faults sink.old })
+        (record are { sink = O.faults sink.new }) }
+    ensures note { IsFalse (is_input result.note) }
+    ensures content { IsTrue D.tells → NothingDirty (D.told flash)
+        → D.told result.flash ≡ D.told flash }
+    ensures guard { IsTrue D.tells → (D.told result.flash).guard ≡ (D.told flash).guard }
     ensures no_turns { turns result.journal ≡ [] }
     ensures counts { NoneFalls (D.counts flash) (D.counts result.flash) }
+    ensures made { (D.counts result.flash).made ≡ (D.counts flash).made }
+    ensures unarmed { D.arming result.flash ≡ None }
     ensures later { O.faults sink.old ≤ O.faults sink.new }
     ensures size { D.blocks result.flash ≡ D.blocks flash }
 {

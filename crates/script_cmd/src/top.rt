@@ -5,13 +5,13 @@ ghost use Rattle.fwu_formats.specs.Layout.{ImageRow};
 ghost use Rattle.fwu_journal.specs.Shown.{turns};
 ghost use Rattle.fwu_words.specs.Order.{asked};
 ghost use Rattle.fwu_words.specs.Order as ask;
-ghost use Rattle.script_cmd.specs.Asking.{asked_with_list};
+ghost use Rattle.script_cmd.specs.Asking.{asked_with_list, asks_format, asks_run};
 ghost use Rattle.script_cmd.specs.Formatting.{FormattedBy};
-ghost use Rattle.script_cmd.specs.Machine.{at};
-ghost use Rattle.script_cmd.specs.Noted.{noted};
+ghost use Rattle.script_cmd.specs.Machine.{moment};
+ghost use Rattle.script_cmd.specs.Noted.{is_input, noted};
 ghost use Rattle.script_cmd.specs.Promises.{Promised};
 ghost use Rattle.script_cmd.specs.Showing.{ShowedBy};
-ghost use Rattle.script_cmd.specs.Ways.{HasPasses, Later, RunsOrNone};
+ghost use Rattle.script_cmd.specs.Ways.{ByList, HasPasses, IsIdle, Later, RunsOrNone, faults_of};
 
 use crate::answering::{answer, answer_with};
 use crate::done::Done;
@@ -39,25 +39,47 @@ pub fn fwu_top_with<D: Flash, H: Files, I: Source, O: Sink, V: Verifier>(
     requires unarmed { D.arming flash ≡ None }
 
     // For the commands `run` and `boot`, and for words that ask for nothing.
-    ensures promises { RunsOrNone (asked (map string_bytes words.now)) → Promised (V.passes verifier.now) D.tells (asked (map string_bytes words.now)) None (H.contents files.old) (I.left source.old)
-        (turns result.journal) result.status (noted result.note) (at None (D.told flash) (D.counts flash) (D.arming flash)) (at None (D.told result.flash) (D.counts result.flash) (D.arming result.flash))
-        (O.taken sink.old) (O.taken sink.new)
-        (record { files = H.faults files.old; source = I.faults source.old; sink = O.faults sink.old })
-        (record { files = H.faults files.new; source = I.faults source.new; sink = O.faults sink.new }) }
-    ensures read_to_end { result.status ≡ 0 → (asked (map string_bytes words.now)) ≡ Some ask.run → IfSome (I.left source.new) (λ rest. rest ≡ []) }
-    // For the command `show`: what it found and wrote, and that nothing changed.
-    ensures shows { (asked (map string_bytes words.now)) ≡ Some ask.show → ShowedBy D.tells (record { list = None; files = H.contents files.old; script = I.left source.old })
-        (D.told flash) (D.told result.flash) (D.counts flash) (D.counts result.flash) result.status (noted result.note) (turns result.journal) (O.taken sink.old) (O.taken sink.new)
-        (record { files = H.faults files.old; source = I.faults source.old; sink = O.faults sink.old })
-        (record { files = H.faults files.new; source = I.faults source.new; sink = O.faults sink.new }) }
+    ensures promises { RunsOrNone (asked (map string_bytes words.now))
+        → Promised (V.passes verifier.now) D.tells (asked (map string_bytes words.now)) None
+        (H.contents files.old) (I.left source.old) (turns result.journal) result.status
+        (noted result.note) (moment D.told D.counts D.arming D.on flash)
+        (moment D.told D.counts D.arming D.on result.flash) (O.taken sink.old)
+        (O.taken sink.new) (faults_of H.faults I.faults O.faults files.old source.old sink.old)
+        (faults_of H.faults I.faults O.faults files.new source.new sink.new) }
+    ensures read_to_end { result.status ≡ 0 → (asked (map string_bytes words.now)) ≡ Some ask.run
+        → IfSome (I.left source.new) (λ rest. rest ≡ []) }
+    // For the command `show`: what it found and wrote, and that nothing changed and nothing is armed.
+    ensures shows { (asked (map string_bytes words.now)) ≡ Some ask.show
+        → ShowedBy D.tells
+        (record { list = None; files = H.contents files.old; script = I.left source.old })
+        (moment D.told D.counts D.arming D.on flash)
+        (moment D.told D.counts D.arming D.on result.flash) result.status (noted result.note)
+        (turns result.journal) (O.taken sink.old) (O.taken sink.new)
+        (faults_of H.faults I.faults O.faults files.old source.old sink.old)
+        (faults_of H.faults I.faults O.faults files.new source.new sink.new) }
     // For the command `format`: what became of the flash, exactly what is refused, and what was written.
-    ensures formats { (banks : ℕ) (rows : List ImageRow) (file : List ℕ) → asked (map string_bytes words.now) ≡ Some (ask.format banks rows file) → FormattedBy (V.passes verifier.now) D.tells (record { list = None; files = H.contents files.old; script = I.left source.old })
-        file (record { banks = banks; rows = rows }) (D.blocks flash) (D.told flash) (D.told result.flash) (D.counts flash) (D.counts result.flash) result.status result.note (turns result.journal) (O.taken sink.old) (O.taken sink.new)
-        (record { files = H.faults files.old; source = I.faults source.old; sink = O.faults sink.old })
-        (record { files = H.faults files.new; source = I.faults source.new; sink = O.faults sink.new }) }
+    ensures formats { (banks : ℕ) (rows : List ImageRow) (file : List ℕ)
+        → asked (map string_bytes words.now) ≡ Some (ask.format banks rows file)
+        → FormattedBy (V.passes verifier.now) D.tells
+        (record { list = None; files = H.contents files.old; script = I.left source.old }) file
+        (record { banks = banks; rows = rows }) (D.blocks flash)
+        (moment D.told D.counts D.arming D.on flash)
+        (moment D.told D.counts D.arming D.on result.flash) result.status result.note
+        (turns result.journal) (O.taken sink.old) (O.taken sink.new)
+        (faults_of H.faults I.faults O.faults files.old source.old sink.old)
+        (faults_of H.faults I.faults O.faults files.new source.new sink.new) }
     // No fault count falls.
-    ensures later { Later (record { files = H.faults files.old; source = I.faults source.old; sink = O.faults sink.old })
-        (record { files = H.faults files.new; source = I.faults source.new; sink = O.faults sink.new }) }
+    ensures later { Later (faults_of H.faults I.faults O.faults files.old source.old sink.old)
+        (faults_of H.faults I.faults O.faults files.new source.new sink.new) }
+    // Only `run` reads the source.
+    ensures source { IsFalse (asks_run (asked (map string_bytes words.now)))
+        → source.new ≡ source.old }
+    // Only `format` and a list name files.
+    ensures files { IsFalse (asks_format (asked (map string_bytes words.now)))
+        → files.new ≡ files.old }
+    // What was given is noted by `format` alone.
+    ensures note { IsFalse (asks_format (asked (map string_bytes words.now)))
+        → IsFalse (is_input result.note) }
     ensures same_files { H.contents files.new ≡ H.contents files.old }
     ensures size { D.blocks result.flash ≡ D.blocks flash }
 {
@@ -78,25 +100,71 @@ pub fn fwu_top<D: Flash, H: Files, I: Source, O: Sink>(
     requires unarmed { D.arming flash ≡ None }
 
     // For the commands `run` and `boot`, and for words that ask for nothing.
-    ensures promises { RunsOrNone (asked_with_list (map string_bytes words.now)) → (passes : List ℕ → Bool) × HasPasses (asks_list (map string_bytes words.now)) (list_name (map string_bytes words.now)) (H.contents files.old) passes × Promised passes D.tells (asked_with_list (map string_bytes words.now)) (list_name (map string_bytes words.now)) (H.contents files.old) (I.left source.old)
-        (turns result.journal) result.status (noted result.note) (at None (D.told flash) (D.counts flash) (D.arming flash)) (at None (D.told result.flash) (D.counts result.flash) (D.arming result.flash))
-        (O.taken sink.old) (O.taken sink.new)
-        (record { files = H.faults files.old; source = I.faults source.old; sink = O.faults sink.old })
-        (record { files = H.faults files.new; source = I.faults source.new; sink = O.faults sink.new }) }
-    ensures read_to_end { result.status ≡ 0 → (asked_with_list (map string_bytes words.now)) ≡ Some ask.run → IfSome (I.left source.new) (λ rest. rest ≡ []) }
-    // For the command `show`: what it found and wrote, and that nothing changed.
-    ensures shows { (asked_with_list (map string_bytes words.now)) ≡ Some ask.show → ShowedBy D.tells (record { list = (list_name (map string_bytes words.now)); files = H.contents files.old; script = I.left source.old })
-        (D.told flash) (D.told result.flash) (D.counts flash) (D.counts result.flash) result.status (noted result.note) (turns result.journal) (O.taken sink.old) (O.taken sink.new)
-        (record { files = H.faults files.old; source = I.faults source.old; sink = O.faults sink.old })
-        (record { files = H.faults files.new; source = I.faults source.new; sink = O.faults sink.new }) }
+    ensures promises { RunsOrNone (asked_with_list (map string_bytes words.now))
+        → ByList
+        (HasPasses (asks_list (map string_bytes words.now))
+        (list_name (map string_bytes words.now)) (H.contents files.old))
+        (IsIdle (turns result.journal) result.status
+        (moment D.told D.counts D.arming D.on flash)
+        (moment D.told D.counts D.arming D.on result.flash))
+        (λ passes. Promised passes D.tells (asked_with_list (map string_bytes words.now))
+        (list_name (map string_bytes words.now)) (H.contents files.old) (I.left source.old)
+        (turns result.journal) result.status (noted result.note)
+        (moment D.told D.counts D.arming D.on flash)
+        (moment D.told D.counts D.arming D.on result.flash) (O.taken sink.old)
+        (O.taken sink.new)
+        (faults_of H.faults I.faults O.faults files.old source.old sink.old)
+        (faults_of H.faults I.faults O.faults files.new source.new sink.new)) }
+    ensures read_to_end { result.status ≡ 0
+        → (asked_with_list (map string_bytes words.now)) ≡ Some ask.run
+        → IfSome (I.left source.new) (λ rest. rest ≡ []) }
+    // For the command `show`: what it found and wrote, and that nothing changed and nothing is armed.
+    ensures shows { (asked_with_list (map string_bytes words.now)) ≡ Some ask.show
+        → ShowedBy D.tells
+        (record {
+          list = (list_name (map string_bytes words.now));
+          files = H.contents files.old;
+          script = I.left source.old;
+        })
+        (moment D.told D.counts D.arming D.on flash)
+        (moment D.told D.counts D.arming D.on result.flash) result.status (noted result.note)
+        (turns result.journal) (O.taken sink.old) (O.taken sink.new)
+        (faults_of H.faults I.faults O.faults files.old source.old sink.old)
+        (faults_of H.faults I.faults O.faults files.new source.new sink.new) }
     // For the command `format`: what became of the flash, exactly what is refused, and what was written.
-    ensures formats { (banks : ℕ) (rows : List ImageRow) (file : List ℕ) → asked_with_list (map string_bytes words.now) ≡ Some (ask.format banks rows file) → (passes : List ℕ → Bool) × HasPasses (asks_list (map string_bytes words.now)) (list_name (map string_bytes words.now)) (H.contents files.old) passes × FormattedBy passes D.tells (record { list = list_name (map string_bytes words.now); files = H.contents files.old; script = I.left source.old })
-        file (record { banks = banks; rows = rows }) (D.blocks flash) (D.told flash) (D.told result.flash) (D.counts flash) (D.counts result.flash) result.status result.note (turns result.journal) (O.taken sink.old) (O.taken sink.new)
-        (record { files = H.faults files.old; source = I.faults source.old; sink = O.faults sink.old })
-        (record { files = H.faults files.new; source = I.faults source.new; sink = O.faults sink.new }) }
+    ensures formats { (banks : ℕ) (rows : List ImageRow) (file : List ℕ)
+        → asked_with_list (map string_bytes words.now) ≡ Some (ask.format banks rows file)
+        → ByList
+        (HasPasses (asks_list (map string_bytes words.now))
+        (list_name (map string_bytes words.now)) (H.contents files.old))
+        (IsIdle (turns result.journal) result.status
+        (moment D.told D.counts D.arming D.on flash)
+        (moment D.told D.counts D.arming D.on result.flash))
+        (λ passes. FormattedBy passes D.tells
+        (record {
+          list = list_name (map string_bytes words.now);
+          files = H.contents files.old;
+          script = I.left source.old;
+        }) file
+        (record { banks = banks; rows = rows }) (D.blocks flash)
+        (moment D.told D.counts D.arming D.on flash)
+        (moment D.told D.counts D.arming D.on result.flash) result.status result.note
+        (turns result.journal) (O.taken sink.old) (O.taken sink.new)
+        (faults_of H.faults I.faults O.faults files.old source.old sink.old)
+        (faults_of H.faults I.faults O.faults files.new source.new sink.new)) }
     // No fault count falls.
-    ensures later { Later (record { files = H.faults files.old; source = I.faults source.old; sink = O.faults sink.old })
-        (record { files = H.faults files.new; source = I.faults source.new; sink = O.faults sink.new }) }
+    ensures later { Later (faults_of H.faults I.faults O.faults files.old source.old sink.old)
+        (faults_of H.faults I.faults O.faults files.new source.new sink.new) }
+    // Only `run` reads the source.
+    ensures source { IsFalse (asks_run (asked_with_list (map string_bytes words.now)))
+        → source.new ≡ source.old }
+    // Only `format` and a list name files.
+    ensures files { list_name (map string_bytes words.now) ≡ None
+        → IsFalse (asks_format (asked_with_list (map string_bytes words.now)))
+        → files.new ≡ files.old }
+    // What was given is noted by `format` alone.
+    ensures note { IsFalse (asks_format (asked_with_list (map string_bytes words.now)))
+        → IsFalse (is_input result.note) }
     ensures same_files { H.contents files.new ≡ H.contents files.old }
     ensures size { D.blocks result.flash ≡ D.blocks flash }
 {

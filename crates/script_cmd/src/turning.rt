@@ -10,7 +10,7 @@ ghost use Rattle.early_boot.specs.Ends.{Ended, device_of, ended, some_numbers};
 ghost use Rattle.fwu_journal.specs.Shown.{reply, turn};
 ghost use Rattle.script_text.specs.Built.{IsArmable};
 ghost use Rattle.script_text.specs.Shown.{shown};
-ghost use Rattle.script_cmd.specs.Machine.{at, device, shown_on};
+ghost use Rattle.script_cmd.specs.Machine.{at, device, moment, shown_on};
 ghost use Rattle.script_cmd.specs.Turning.{Turns, EndsTurn, LeavesFlash, boot_turn, on_after};
 
 use crate::machine::Machine;
@@ -54,7 +54,8 @@ fn booted_reply<D: Flash>(booted: &Booted<D>) -> Reply
 
 /// The turn of a boot.
 fn turn_with(answer: Reply, read: Option<Numbers>) -> Turn
-    ensures { turn result ≡ record { call = call.Boot; reply = reply answer; numbers = some_numbers numbers read } }
+    ensures { turn result ≡ record
+        { call = call.Boot; reply = reply answer; numbers = some_numbers numbers read } }
 {
     Turn {
         call: Call::Boot,
@@ -65,7 +66,8 @@ fn turn_with(answer: Reply, read: Option<Numbers>) -> Turn
 
 /// The turn of a boot that started no bank.
 fn not_booted<D: Flash>(flash: D, answer: Reply, read: Option<Numbers>) -> Turned<D>
-    ensures turn { turn result.turn ≡ record { call = call.Boot; reply = reply answer; numbers = some_numbers numbers read } }
+    ensures turn { turn result.turn ≡ record
+        { call = call.Boot; reply = reply answer; numbers = some_numbers numbers read } }
     ensures on { shown_on result.machine ≡ None }
     ensures device { device result.machine ≡ flash }
 {
@@ -77,7 +79,11 @@ fn not_booted<D: Flash>(flash: D, answer: Reply, read: Option<Numbers>) -> Turne
 
 /// The turn of a boot that started a bank.
 fn was_booted<D: Flash>(booted: Booted<D>, read: Numbers) -> Turned<D>
-    ensures turn { turn result.turn ≡ record { call = call.Boot; reply = started_reply (started booted); numbers = Some (numbers read) } }
+    ensures turn { turn result.turn ≡ record {
+      call = call.Boot;
+      reply = started_reply (started booted);
+      numbers = Some (numbers read);
+    } }
     ensures on { shown_on result.machine ≡ Some (started_numbers (started booted)) }
     ensures device { device result.machine ≡ booted_device booted }
 {
@@ -119,8 +125,11 @@ fn turned_by<D: Flash>(end: BootEnd<D>) -> Turned<D>
 /// Boots a flash that is on.
 fn boot_on<D: Flash, V: Verifier>(flash: D, verifier: &V) -> Turned<D>
     requires { IsTrue (D.on flash) }
-    ensures ends { (e : Ended) × EndsTurn (V.passes verifier.now) D.tells e (turn result.turn) (D.counts flash) (D.counts (device result.machine)) (D.told flash) (D.told (device result.machine)) (shown_on result.machine) }
-    ensures powered { IsFalse (ends_run (turn result.turn).reply) → D.on (device result.machine) ≡ is_some (shown_on result.machine) }
+    ensures ends { (e : Ended) × EndsTurn (V.passes verifier.now) D.tells e (turn result.turn)
+        (D.counts flash) (D.counts (device result.machine)) (D.told flash)
+        (D.told (device result.machine)) (shown_on result.machine) (D.on (device result.machine)) }
+    ensures powered { IsFalse (ends_run (turn result.turn).reply)
+        → D.on (device result.machine) ≡ is_some (shown_on result.machine) }
     ensures size { D.blocks (device result.machine) ≡ D.blocks flash }
 {
     turned_by(boot(flash, verifier))
@@ -129,8 +138,13 @@ fn boot_on<D: Flash, V: Verifier>(flash: D, verifier: &V) -> Turned<D>
 /// Brings power back to a flash, and boots it.
 fn boot_off<D: Flash, V: Verifier>(flash: D, verifier: &V) -> Turned<D>
     requires { IsFalse (D.on flash) }
-    ensures turns { Turns (V.passes verifier.now) D.tells call.Boot (turn result.turn) (at None (D.told flash) (D.counts flash) (D.arming flash)) (at (shown_on result.machine) (D.told (device result.machine)) (D.counts (device result.machine)) (D.arming (device result.machine))) }
-    ensures powered { IsFalse (ends_run (turn result.turn).reply) → D.on (device result.machine) ≡ is_some (shown_on result.machine) }
+    ensures turns { Turns (V.passes verifier.now) D.tells call.Boot (turn result.turn)
+        (moment D.told D.counts D.arming D.on flash)
+        (at (shown_on result.machine) (D.told (device result.machine))
+        (D.counts (device result.machine)) (D.arming (device result.machine))
+        (D.on (device result.machine))) }
+    ensures powered { IsFalse (ends_run (turn result.turn).reply)
+        → D.on (device result.machine) ≡ is_some (shown_on result.machine) }
     ensures size { D.blocks (device result.machine) ≡ D.blocks flash }
 {
     let mut flash = flash;
@@ -141,8 +155,14 @@ fn boot_off<D: Flash, V: Verifier>(flash: D, verifier: &V) -> Turned<D>
 /// The turn of `boot`.
 fn boot_turn<D: Flash, V: Verifier>(machine: Machine<D>, verifier: &V) -> Turned<D>
     requires { D.on (device machine) ≡ is_some (shown_on machine) }
-    ensures turns { Turns (V.passes verifier.now) D.tells call.Boot (turn result.turn) (at (shown_on machine) (D.told (device machine)) (D.counts (device machine)) (D.arming (device machine))) (at (shown_on result.machine) (D.told (device result.machine)) (D.counts (device result.machine)) (D.arming (device result.machine))) }
-    ensures powered { IsFalse (ends_run (turn result.turn).reply) → D.on (device result.machine) ≡ is_some (shown_on result.machine) }
+    ensures turns { Turns (V.passes verifier.now) D.tells call.Boot (turn result.turn)
+        (at (shown_on machine) (D.told (device machine)) (D.counts (device machine))
+        (D.arming (device machine)) (D.on (device machine)))
+        (at (shown_on result.machine) (D.told (device result.machine))
+        (D.counts (device result.machine)) (D.arming (device result.machine))
+        (D.on (device result.machine))) }
+    ensures powered { IsFalse (ends_run (turn result.turn).reply)
+        → D.on (device result.machine) ≡ is_some (shown_on result.machine) }
     ensures size { D.blocks (device result.machine) ≡ D.blocks (device machine) }
 {
     match machine {
@@ -153,14 +173,21 @@ fn boot_turn<D: Flash, V: Verifier>(machine: Machine<D>, verifier: &V) -> Turned
 
 /// The turn that tells numbers.
 fn shows_turn(shows: &Numbers) -> Turn
-    ensures { turn result ≡ record { call = call.Show; reply = model_reply.Shown (numbers shows.now); numbers = None } }
+    ensures { turn result ≡ record
+        { call = call.Show; reply = model_reply.Shown (numbers shows.now); numbers = None } }
 {
     turn_of(Call::Show, Reply::Shown(*shows))
 }
 
 /// The turn of `show`.
 fn show_turn<D: Flash>(machine: Machine<D>) -> Turned<D>
-    ensures turns { (passes : List ℕ → Bool) → Turns passes D.tells call.Show (turn result.turn) (at (shown_on machine) (D.told (device machine)) (D.counts (device machine)) (D.arming (device machine))) (at (shown_on result.machine) (D.told (device result.machine)) (D.counts (device result.machine)) (D.arming (device result.machine))) }
+    ensures turns { (passes : List ℕ → Bool)
+        → Turns passes D.tells call.Show (turn result.turn)
+        (at (shown_on machine) (D.told (device machine)) (D.counts (device machine))
+        (D.arming (device machine)) (D.on (device machine)))
+        (at (shown_on result.machine) (D.told (device result.machine))
+        (D.counts (device result.machine)) (D.arming (device result.machine))
+        (D.on (device result.machine))) }
     ensures on { shown_on result.machine ≡ shown_on machine }
     ensures device { device result.machine ≡ device machine }
 {
@@ -182,7 +209,9 @@ fn show_turn<D: Flash>(machine: Machine<D>) -> Turned<D>
 /// Arms a loss of power.
 fn arm<D: Flash>(flash: D, n: u32, k: u32) -> D
     requires { 1 ≤ n }
-    ensures leaves { LeavesFlash D.tells (call.Cut n k) model_reply.CutOk (D.counts flash) (D.counts result) (D.told flash) (D.told result) (D.arming result) }
+    ensures leaves { LeavesFlash D.tells (call.Cut n k) model_reply.CutOk (D.counts flash)
+        (D.counts result) (D.told flash) (D.told result) (D.arming result) (D.on flash)
+        (D.on result) }
     ensures power { D.on result ≡ D.on flash }
     ensures size { D.blocks result ≡ D.blocks flash }
 {
@@ -194,7 +223,13 @@ fn arm<D: Flash>(flash: D, n: u32, k: u32) -> D
 /// The turn of `cut`.
 fn cut_turn<D: Flash>(machine: Machine<D>, n: u32, k: u32) -> Turned<D>
     requires { 1 ≤ n }
-    ensures turns { (passes : List ℕ → Bool) → Turns passes D.tells (call.Cut n k) (turn result.turn) (at (shown_on machine) (D.told (device machine)) (D.counts (device machine)) (D.arming (device machine))) (at (shown_on result.machine) (D.told (device result.machine)) (D.counts (device result.machine)) (D.arming (device result.machine))) }
+    ensures turns { (passes : List ℕ → Bool)
+        → Turns passes D.tells (call.Cut n k) (turn result.turn)
+        (at (shown_on machine) (D.told (device machine)) (D.counts (device machine))
+        (D.arming (device machine)) (D.on (device machine)))
+        (at (shown_on result.machine) (D.told (device result.machine))
+        (D.counts (device result.machine)) (D.arming (device result.machine))
+        (D.on (device result.machine))) }
     ensures on { shown_on result.machine ≡ shown_on machine }
     ensures power { D.on (device result.machine) ≡ D.on (device machine) }
     ensures size { D.blocks (device result.machine) ≡ D.blocks (device machine) }
@@ -218,9 +253,15 @@ pub fn turn<D: Flash, V: Verifier>(machine: Machine<D>, call: Call, verifier: &V
     requires powered { D.on (device machine) ≡ is_some (shown_on machine) }
     requires armable { IsArmable (shown call) }
 
-    ensures turns { Turns (V.passes verifier.now) D.tells (shown call) (turn result.turn) (at (shown_on machine) (D.told (device machine)) (D.counts (device machine)) (D.arming (device machine))) (at (shown_on result.machine) (D.told (device result.machine)) (D.counts (device result.machine)) (D.arming (device result.machine))) }
+    ensures turns { Turns (V.passes verifier.now) D.tells (shown call) (turn result.turn)
+        (at (shown_on machine) (D.told (device machine)) (D.counts (device machine))
+        (D.arming (device machine)) (D.on (device machine)))
+        (at (shown_on result.machine) (D.told (device result.machine))
+        (D.counts (device result.machine)) (D.arming (device result.machine))
+        (D.on (device result.machine))) }
     // Where the run goes on.
-    ensures powered { IsFalse (ends_run (turn result.turn).reply) → D.on (device result.machine) ≡ is_some (shown_on result.machine) }
+    ensures powered { IsFalse (ends_run (turn result.turn).reply)
+        → D.on (device result.machine) ≡ is_some (shown_on result.machine) }
     ensures size { D.blocks (device result.machine) ≡ D.blocks (device machine) }
 {
     match call {

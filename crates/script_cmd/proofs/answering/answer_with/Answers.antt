@@ -8,15 +8,15 @@ use Rattle.fwu_words.specs.Order as ask
 use Rattle.script_cmd.specs.Noted.{noted}
 use Rattle.script_cmd.specs.Ways.{usage}
 use Rattle.script_cmd.proofs.PromiseWords.{boot-is-short}
-use Rattle.script_cmd.proofs.TopCompletes.{show-completes}
-use Rattle.script_cmd.proofs.TopWays.{refused-by, same-moment, way-of-boot, way-of-run}
+use Rattle.script_cmd.proofs.TopShows.{showed-by}
+use Rattle.script_cmd.proofs.TopWays.{no-list-named, refused-by, same-moment, way-of-boot, way-of-run}
 use Rattle.script_cmd.proofs.answering.answer_with.Goals as goal
 
 pub returns-in-Ok-Run-clause-way : goal.returns-in-Ok-Run-clause-way
 returns-in-Ok-Run-clause-way g c = λ plain.
     let files = g.H.Files.faults c.args.files.now in
     way-of-run _ _ _ _ _ _ _ _ _ _ (g.H.Files.contents c.args.files.now) (g.I.Source.left c.args.source.now) _ _ (rw c.in-Ok-Run.field-0-is at c.in-Ok-Run.ensures)
-    (c.run_source.ensures.way (record { list = None; files = g.H.Files.contents c.args.files.now; script = None }) (record { files = files; source = 0; sink = 0 }) (record { files = files; source = 0; sink = 0 }) tt)
+    (c.run_source.ensures.way (record { list = None; files = g.H.Files.contents c.args.files.now; script = None }) (record { files = files; source = 0; sink = 0 }) (record { files = files; source = 0; sink = 0 }) no-list-named)
 
 pub run_text-requires-clause-within : goal.run_text-requires-clause-within
 run_text-requires-clause-within g c = boot-is-short
@@ -26,29 +26,27 @@ returns-in-Ok-Boot-clause-way g c = λ plain.
     let files = g.H.Files.faults c.args.files.now in
     let source = g.I.Source.faults c.args.source.now in
     way-of-boot _ _ _ _ _ _ _ _ _ _ (g.H.Files.contents c.args.files.now) (g.I.Source.left c.args.source.now) _ _ (rw c.in-Ok-Boot.field-0-is at c.in-Ok-Boot.ensures)
-    (c.run_text.ensures.way (Some ask.boot) _ (record { files = files; source = source; sink = 0 }) (record { files = files; source = source; sink = 0 }) tt (inr refl) refl)
+    (c.run_text.ensures.way (Some ask.boot) _ (record { files = files; source = source; sink = 0 }) (record { files = files; source = source; sink = 0 }) no-list-named (inr refl) refl)
 
 pub returns-in-Err-Usage-clause-way : goal.returns-in-Err-Usage-clause-way
 returns-in-Err-Usage-clause-way g c = λ plain.
     let e = c.print_usage.ensures in
-    refused-by _ _ _ _ _ _ _ _ _ _ _ _ _ 1 usage_line note.Nothing e.no_turns (same-moment g.D.Flash.told g.D.Flash.counts g.D.Flash.arming _ _ e.flash) (ap noted e.note)
-    (usage tt (rw c.in-Err-Usage.field-0-is at c.in-Err-Usage.ensures)) e.prints
+    refused-by _ _ _ _ _ _ _ _ _ _ _ _ _ 1 usage_line note.Nothing e.no_turns (same-moment g.D.Flash.told g.D.Flash.counts g.D.Flash.arming g.D.Flash.on _ _ e.flash) (ap noted e.note)
+    (usage no-list-named (rw c.in-Err-Usage.field-0-is at c.in-Err-Usage.ensures)) e.prints
 
 pub returns-in-Ok-Show-clause-shows : goal.returns-in-Ok-Show-clause-shows
 returns-in-Ok-Show-clause-shows g c is =
+    let e = c.show.ensures in
     let files = g.H.Files.faults c.args.files.now in
     let source = g.I.Source.faults c.args.source.now in
-    record {
-      showed = inl c.show.ensures.showed;
-      content = c.show.ensures.content;
-      no_turns = c.show.ensures.no_turns;
-      counts = c.show.ensures.counts;
-      complete = show-completes (record { list = None; files = g.H.Files.contents c.args.files.now; script = g.I.Source.left c.args.source.now }) _ _ _ _ _
-          (record { files = files; source = source; sink = _ }) (record { files = files; source = source; sink = _ }) g.D.Flash.tells _ _ (inl c.show.ensures.showed);
-    }
+    showed-by g.D.Flash.tells (record { list = None; files = g.H.Files.contents c.args.files.now; script = g.I.Source.left c.args.source.now }) _ _ _ _ _ _ _
+    (record { files = files; source = source; sink = _ }) (record { files = files; source = source; sink = _ })
+    (e.showed (record { list = None; files = g.H.Files.contents c.args.files.now; script = g.I.Source.left c.args.source.now }) (record { files = files; source = source; sink = 0 })
+    (record { files = files; source = source; sink = 0 }) no-list-named)
+    e.content e.guard e.no_turns e.counts e.made e.unarmed
 
 pub returns-in-Ok-Format-clause-formats : goal.returns-in-Ok-Format-clause-formats
 returns-in-Ok-Format-clause-formats g c banks rows file is =
-    formatted-as _ _ _ _ _ _ _ _ _ _ _ _ _ _ _ (asked (map string_bytes c.args.words.now)) c.in-Ok-Format.banks banks c.as_slice.result.now c.in-Ok-Format.rows.items rows c.in-Ok-Format.package.now file
-    c.as_slice.ensures.value (rw c.in-Ok-Format.field-0-is at c.in-Ok-Format.ensures) is c.format_flash.ensures.no_turns
+    formatted-as _ _ _ _ _ _ _ _ _ _ _ _ _ (asked (map string_bytes c.args.words.now)) c.in-Ok-Format.banks banks c.as_slice.result.now c.in-Ok-Format.rows.items rows c.in-Ok-Format.package.now file
+    c.as_slice.ensures.value (rw c.in-Ok-Format.field-0-is at c.in-Ok-Format.ensures) is c.requires.unarmed c.format_flash.ensures.no_turns
     (c.format_flash.ensures.formats (g.I.Source.left c.args.source.now) (g.I.Source.faults c.args.source.now) (g.I.Source.faults c.args.source.now))

@@ -1,32 +1,31 @@
-use Rattle.script_cmd.proofs.TopFormats.{formats-with-list, refused-formats, starved-formats}
-use Rattle.std.proofs.Common.{◌≡◌, ◌∙◌, ℕ, List, Ok, Err, Some, ap, refl, sym}
+use Rattle.std.proofs.Common.{◌≡◌, ◌∙◌, ℕ, List, Ok, Err, Some, None, inl, inr, ap, refl, sym}
 use Rattle.fwu_formats.specs.Digests.{digests_of, passes_listed}
 use Rattle.fwu_model.specs.Wrote.{bad_list_line, not_read_line}
 use Rattle.fwu_model.specs.declared.kinds.Note.TheVariants as note
-use Rattle.script_cmd.specs.Noted.{noted}
+use Rattle.script_cmd.specs.Noted.{is_input, noted}
 use Rattle.script_cmd.specs.Ways.{bad_list, list_not_read, starved}
-use Rattle.script_cmd.proofs.TopWays.{has-listed, has-told, no-bad-line, of-list, passes-told, refused-by, same-moment, with-list}
-use Rattle.script_cmd.proofs.TopShows.{refused-shows, shows-with-list}
+use Rattle.script_cmd.proofs.TopFormats.{formats-with-list, refused-formats, starved-formats}
+use Rattle.script_cmd.proofs.TopShows.{refused-shows, shows-with-list, starved-shows}
+use Rattle.script_cmd.proofs.TopWays.{good-list, idles, idles-at, list-there, of-list, reads-list, refused-by, same-moment, with-list}
 use Rattle.script_cmd.proofs.answering.run_listed.Goals as goal
+
+-- ---- for the turns of a script
 
 pub returns-in-Err-Failed-clause-way : goal.returns-in-Err-Failed-clause-way
 returns-in-Err-Failed-clause-way g c = λ plain.
     let e = c.refuse_reading.ensures in
-    let files = g.H.Files.contents c.args.files.now in (
-      passes-told (Some c.args.name.now) files,
-      has-told _ (Some c.args.name.now) files refl,
-      refused-by _ _ _ _ _ _ _ _ _ _ _ _ _ 2 not_read_line note.Nothing e.no_turns (same-moment g.D.Flash.told g.D.Flash.counts g.D.Flash.arming _ _ e.flash) (ap noted e.note)
-          (list_not_read (c.in-Err-Failed.ensures.failed (ap Err c.in-Err-Failed.field-0-is))) e.prints,
+    inr (
+      idles-at _ _ _ _ not_read_line 2 _ _ _ _ e.no_turns (same-moment g.D.Flash.told g.D.Flash.counts g.D.Flash.arming g.D.Flash.on _ _ e.flash) refl e.prints,
+      λ passes.
+          refused-by passes _ _ _ _ _ _ _ _ _ _ _ _ 2 not_read_line note.Nothing e.no_turns (same-moment g.D.Flash.told g.D.Flash.counts g.D.Flash.arming g.D.Flash.on _ _ e.flash) (ap noted e.note)
+          (list_not_read refl (c.in-Err-Failed.ensures.failed (ap Err c.in-Err-Failed.field-0-is))) e.prints,
     )
 
 pub returns-in-Err-NoMemory-clause-way : goal.returns-in-Err-NoMemory-clause-way
 returns-in-Err-NoMemory-clause-way g c = λ plain.
     let e = c.idle.ensures in
-    let files = g.H.Files.contents c.args.files.now in (
-      passes-told (Some c.args.name.now) files,
-      has-told _ (Some c.args.name.now) files refl,
-      starved e.no_turns (same-moment g.D.Flash.told g.D.Flash.counts g.D.Flash.arming _ _ e.flash) e.status refl,
-    )
+    let same = same-moment g.D.Flash.told g.D.Flash.counts g.D.Flash.arming g.D.Flash.on _ _ e.flash in
+    inr (idles _ _ _ _ e.no_turns same e.status, λ passes. starved e.no_turns same e.status (ap noted e.note) refl)
 
 pub returns-in-Ok-read-clause-way : goal.returns-in-Ok-read-clause-way
 returns-in-Ok-read-clause-way g c = λ plain.
@@ -35,11 +34,11 @@ returns-in-Ok-read-clause-way g c = λ plain.
     let digests = c.in-Ok-read.list in
     let files = g.H.Files.contents c.args.files.now in
     let whole = c.in-Ok.ensures.whole in
-    let read : digests_of bytes ≡ Ok digests = ap digests_of (sym c.as_slice.ensures.value) ∙ c.in-Ok-read.ensures.ok in (
+    let read : digests_of bytes ≡ Ok digests = ap digests_of (sym c.as_slice.ensures.value) ∙ c.in-Ok-read.ensures.ok in
+    inl (
       passes_listed digests,
-      has-listed name bytes digests files whole read,
-      with-list _ _ _ _ _ _ _ _ _ _ _ files name _ _ _ _ (of-list files name bytes (λ (l : List ℕ). (n : ℕ) → digests_of l ≡ Err n → ⊥) whole (no-bad-line bytes digests read))
-          c.read_file.ensures.later refl refl (c.answer_with.ensures.way plain),
+      reads-list name bytes digests files whole read,
+      with-list _ _ _ _ _ _ _ _ _ _ _ files name _ _ _ _ (good-list files name bytes digests whole read) c.read_file.ensures.later refl refl (c.answer_with.ensures.way plain),
     )
 
 pub returns-in-Err-BadLine-clause-way : goal.returns-in-Err-BadLine-clause-way
@@ -49,27 +48,34 @@ returns-in-Err-BadLine-clause-way g c = λ plain.
     let bytes = c.in-Ok.bytes.items in
     let line = c.in-Err-BadLine.line in
     let files = g.H.Files.contents c.args.files.now in
-    let fault = rw c.in-Err-BadLine.field-0-is at c.in-Err-BadLine.ensures.fault in (
-      passes-told (Some name) files,
-      has-told _ (Some name) files refl,
-      refused-by _ _ _ _ _ _ _ _ _ _ _ _ _ 13 (bad_list_line line) (note.BadList line) e.no_turns (same-moment g.D.Flash.told g.D.Flash.counts g.D.Flash.arming _ _ e.flash) (ap noted e.note)
-          (bad_list line refl (of-list files name bytes (λ (l : List ℕ). digests_of l ≡ Err line) c.in-Ok.ensures.whole (ap digests_of (sym c.as_slice.ensures.value) ∙ fault))) e.prints,
+    let whole = c.in-Ok.ensures.whole in
+    let fault = rw c.in-Err-BadLine.field-0-is at c.in-Err-BadLine.ensures.fault in
+    let same = same-moment g.D.Flash.told g.D.Flash.counts g.D.Flash.arming g.D.Flash.on _ _ e.flash in
+    inr (
+      idles-at _ _ _ _ (bad_list_line line) 13 _ _ _ _ e.no_turns same refl e.prints,
+      λ passes.
+          refused-by passes _ _ _ _ _ _ _ _ _ _ _ _ 13 (bad_list_line line) (note.BadList line) e.no_turns same (ap noted e.note)
+          (bad_list line refl (list-there files name bytes whole) (of-list files name bytes (λ (l : List ℕ). digests_of l ≡ Err line) whole (ap digests_of (sym c.as_slice.ensures.value) ∙ fault))) e.prints,
     )
 
 pub returns-clause-way : goal.returns-clause-way
 returns-clause-way g c = λ plain.
     let e = c.idle-in-Err-NoMemory-read.ensures in
-    let files = g.H.Files.contents c.args.files.now in (
-      passes-told (Some c.args.name.now) files,
-      has-told _ (Some c.args.name.now) files refl,
-      starved e.no_turns (same-moment g.D.Flash.told g.D.Flash.counts g.D.Flash.arming _ _ e.flash) e.status refl,
-    )
+    let same = same-moment g.D.Flash.told g.D.Flash.counts g.D.Flash.arming g.D.Flash.on _ _ e.flash in
+    inr (idles _ _ _ _ e.no_turns same e.status, λ passes. starved e.no_turns same e.status (ap noted e.note) refl)
+
+-- ---- for `show`
 
 pub returns-in-Err-Failed-clause-shows : goal.returns-in-Err-Failed-clause-shows
 returns-in-Err-Failed-clause-shows g c is =
     let e = c.refuse_reading.ensures in
-    refused-shows g.D.Flash.told g.D.Flash.counts g.D.Flash.tells _ c.args.flash _ _ _ _ _ _ _ _ 2 not_read_line note.Nothing e.flash e.no_turns (ap noted e.note)
-    (list_not_read (c.in-Err-Failed.ensures.failed (ap Err c.in-Err-Failed.field-0-is))) e.prints
+    refused-shows g.D.Flash.tells _ _ _ _ _ _ _ _ _ _ 2 not_read_line note.Nothing (same-moment g.D.Flash.told g.D.Flash.counts g.D.Flash.arming g.D.Flash.on _ _ e.flash) c.requires.unarmed e.no_turns (ap noted e.note)
+    (list_not_read refl (c.in-Err-Failed.ensures.failed (ap Err c.in-Err-Failed.field-0-is))) e.prints
+
+pub returns-in-Err-NoMemory-clause-shows : goal.returns-in-Err-NoMemory-clause-shows
+returns-in-Err-NoMemory-clause-shows g c is =
+    let e = c.idle.ensures in
+    starved-shows g.D.Flash.tells _ _ _ _ _ _ _ _ _ _ (same-moment g.D.Flash.told g.D.Flash.counts g.D.Flash.arming g.D.Flash.on _ _ e.flash) c.requires.unarmed e.no_turns e.status (ap noted e.note) refl
 
 pub returns-in-Err-BadLine-clause-shows : goal.returns-in-Err-BadLine-clause-shows
 returns-in-Err-BadLine-clause-shows g c is =
@@ -78,9 +84,10 @@ returns-in-Err-BadLine-clause-shows g c is =
     let bytes = c.in-Ok.bytes.items in
     let line = c.in-Err-BadLine.line in
     let files = g.H.Files.contents c.args.files.now in
+    let whole = c.in-Ok.ensures.whole in
     let fault = rw c.in-Err-BadLine.field-0-is at c.in-Err-BadLine.ensures.fault in
-    refused-shows g.D.Flash.told g.D.Flash.counts g.D.Flash.tells _ c.args.flash _ _ _ _ _ _ _ _ 13 (bad_list_line line) (note.BadList line) e.flash e.no_turns (ap noted e.note)
-    (bad_list line refl (of-list files name bytes (λ (l : List ℕ). digests_of l ≡ Err line) c.in-Ok.ensures.whole (ap digests_of (sym c.as_slice.ensures.value) ∙ fault))) e.prints
+    refused-shows g.D.Flash.tells _ _ _ _ _ _ _ _ _ _ 13 (bad_list_line line) (note.BadList line) (same-moment g.D.Flash.told g.D.Flash.counts g.D.Flash.arming g.D.Flash.on _ _ e.flash) c.requires.unarmed e.no_turns (ap noted e.note)
+    (bad_list line refl (list-there files name bytes whole) (of-list files name bytes (λ (l : List ℕ). digests_of l ≡ Err line) whole (ap digests_of (sym c.as_slice.ensures.value) ∙ fault))) e.prints
 
 pub returns-in-Ok-read-clause-shows : goal.returns-in-Ok-read-clause-shows
 returns-in-Ok-read-clause-shows g c is =
@@ -90,27 +97,31 @@ returns-in-Ok-read-clause-shows g c is =
     let files = g.H.Files.contents c.args.files.now in
     let whole = c.in-Ok.ensures.whole in
     let read : digests_of bytes ≡ Ok digests = ap digests_of (sym c.as_slice.ensures.value) ∙ c.in-Ok-read.ensures.ok in
-    shows-with-list g.D.Flash.tells _ files name _ _ _ _ _ _ _ _ _ _ _ _ _ (of-list files name bytes (λ (l : List ℕ). (n : ℕ) → digests_of l ≡ Err n → ⊥) whole (no-bad-line bytes digests read))
-    c.read_file.ensures.later refl refl (c.answer_with.ensures.shows is)
+    shows-with-list g.D.Flash.tells _ files name _ _ _ _ _ _ _ _ _ _ _ (good-list files name bytes digests whole read) c.read_file.ensures.later refl refl (c.answer_with.ensures.shows is)
+
+pub returns-clause-shows : goal.returns-clause-shows
+returns-clause-shows g c is =
+    let e = c.idle-in-Err-NoMemory-read.ensures in
+    starved-shows g.D.Flash.tells _ _ _ _ _ _ _ _ _ _ (same-moment g.D.Flash.told g.D.Flash.counts g.D.Flash.arming g.D.Flash.on _ _ e.flash) c.requires.unarmed e.no_turns e.status (ap noted e.note) refl
+
+-- ---- for `format`
 
 pub returns-in-Err-Failed-clause-formats : goal.returns-in-Err-Failed-clause-formats
 returns-in-Err-Failed-clause-formats g c banks rows file is =
     let e = c.refuse_reading.ensures in
-    let files = g.H.Files.contents c.args.files.now in (
-      passes-told (Some c.args.name.now) files,
-      has-told _ (Some c.args.name.now) files refl,
-      refused-formats g.D.Flash.told g.D.Flash.counts _ g.D.Flash.tells _ _ _ _ c.args.flash _ _ _ _ _ _ _ _ 2 not_read_line note.Nothing e.flash e.no_turns (ap noted e.note)
-          (list_not_read (c.in-Err-Failed.ensures.failed (ap Err c.in-Err-Failed.field-0-is))) e.prints,
+    let same = same-moment g.D.Flash.told g.D.Flash.counts g.D.Flash.arming g.D.Flash.on _ _ e.flash in
+    inr (
+      idles-at _ _ _ _ not_read_line 2 _ _ _ _ e.no_turns same refl e.prints,
+      λ passes.
+          refused-formats passes g.D.Flash.tells _ _ _ _ _ _ _ _ _ _ _ _ _ 2 not_read_line note.Nothing same c.requires.unarmed e.no_turns (ap is_input e.note) (ap noted e.note)
+          (list_not_read refl (c.in-Err-Failed.ensures.failed (ap Err c.in-Err-Failed.field-0-is))) e.prints,
     )
 
 pub returns-in-Err-NoMemory-clause-formats : goal.returns-in-Err-NoMemory-clause-formats
 returns-in-Err-NoMemory-clause-formats g c banks rows file is =
     let e = c.idle.ensures in
-    let files = g.H.Files.contents c.args.files.now in (
-      passes-told (Some c.args.name.now) files,
-      has-told _ (Some c.args.name.now) files refl,
-      starved-formats g.D.Flash.told g.D.Flash.counts _ g.D.Flash.tells _ _ _ _ c.args.flash _ _ _ _ _ _ _ _ e.flash e.no_turns e.note e.status refl,
-    )
+    let same = same-moment g.D.Flash.told g.D.Flash.counts g.D.Flash.arming g.D.Flash.on _ _ e.flash in
+    inr (idles _ _ _ _ e.no_turns same e.status, λ passes. starved-formats passes g.D.Flash.tells _ _ _ _ _ _ _ _ _ _ _ _ _ same c.requires.unarmed e.no_turns e.note e.status refl)
 
 pub returns-in-Ok-read-clause-formats : goal.returns-in-Ok-read-clause-formats
 returns-in-Ok-read-clause-formats g c banks rows file is =
@@ -119,11 +130,11 @@ returns-in-Ok-read-clause-formats g c banks rows file is =
     let digests = c.in-Ok-read.list in
     let files = g.H.Files.contents c.args.files.now in
     let whole = c.in-Ok.ensures.whole in
-    let read : digests_of bytes ≡ Ok digests = ap digests_of (sym c.as_slice.ensures.value) ∙ c.in-Ok-read.ensures.ok in (
+    let read : digests_of bytes ≡ Ok digests = ap digests_of (sym c.as_slice.ensures.value) ∙ c.in-Ok-read.ensures.ok in
+    inl (
       passes_listed digests,
-      has-listed name bytes digests files whole read,
-      formats-with-list _ g.D.Flash.tells _ files name _ _ _ _ _ _ _ _ _ _ _ _ _ _ _ _ c.read_file.ensures.same
-          (of-list files name bytes (λ (l : List ℕ). (n : ℕ) → digests_of l ≡ Err n → ⊥) whole (no-bad-line bytes digests read)) c.read_file.ensures.later refl refl
+      reads-list name bytes digests files whole read,
+      formats-with-list _ g.D.Flash.tells _ files name _ _ _ _ _ _ _ _ _ _ _ _ _ _ c.read_file.ensures.same (good-list files name bytes digests whole read) c.read_file.ensures.later refl refl c.requires.unarmed
           (c.answer_with.ensures.formats banks rows file is),
     )
 
@@ -134,18 +145,18 @@ returns-in-Err-BadLine-clause-formats g c banks rows file is =
     let bytes = c.in-Ok.bytes.items in
     let line = c.in-Err-BadLine.line in
     let files = g.H.Files.contents c.args.files.now in
-    let fault = rw c.in-Err-BadLine.field-0-is at c.in-Err-BadLine.ensures.fault in (
-      passes-told (Some name) files,
-      has-told _ (Some name) files refl,
-      refused-formats g.D.Flash.told g.D.Flash.counts _ g.D.Flash.tells _ _ _ _ c.args.flash _ _ _ _ _ _ _ _ 13 (bad_list_line line) (note.BadList line) e.flash e.no_turns (ap noted e.note)
-          (bad_list line refl (of-list files name bytes (λ (l : List ℕ). digests_of l ≡ Err line) c.in-Ok.ensures.whole (ap digests_of (sym c.as_slice.ensures.value) ∙ fault))) e.prints,
+    let whole = c.in-Ok.ensures.whole in
+    let fault = rw c.in-Err-BadLine.field-0-is at c.in-Err-BadLine.ensures.fault in
+    let same = same-moment g.D.Flash.told g.D.Flash.counts g.D.Flash.arming g.D.Flash.on _ _ e.flash in
+    inr (
+      idles-at _ _ _ _ (bad_list_line line) 13 _ _ _ _ e.no_turns same refl e.prints,
+      λ passes.
+          refused-formats passes g.D.Flash.tells _ _ _ _ _ _ _ _ _ _ _ _ _ 13 (bad_list_line line) (note.BadList line) same c.requires.unarmed e.no_turns (ap is_input e.note) (ap noted e.note)
+          (bad_list line refl (list-there files name bytes whole) (of-list files name bytes (λ (l : List ℕ). digests_of l ≡ Err line) whole (ap digests_of (sym c.as_slice.ensures.value) ∙ fault))) e.prints,
     )
 
 pub returns-clause-formats : goal.returns-clause-formats
 returns-clause-formats g c banks rows file is =
     let e = c.idle-in-Err-NoMemory-read.ensures in
-    let files = g.H.Files.contents c.args.files.now in (
-      passes-told (Some c.args.name.now) files,
-      has-told _ (Some c.args.name.now) files refl,
-      starved-formats g.D.Flash.told g.D.Flash.counts _ g.D.Flash.tells _ _ _ _ c.args.flash _ _ _ _ _ _ _ _ e.flash e.no_turns e.note e.status refl,
-    )
+    let same = same-moment g.D.Flash.told g.D.Flash.counts g.D.Flash.arming g.D.Flash.on _ _ e.flash in
+    inr (idles _ _ _ _ e.no_turns same e.status, λ passes. starved-formats passes g.D.Flash.tells _ _ _ _ _ _ _ _ _ _ _ _ _ same c.requires.unarmed e.no_turns e.note e.status refl)

@@ -7,7 +7,7 @@ pub returns-in-Err-BadLine-clause-way : goal.returns-in-Err-BadLine-clause-way
 returns-in-Err-BadLine-clause-way g c = λ asked given was are listed asks is.
     let e = c.refuse_script.ensures in
     text-refused _ _ _ _ _ _ _ _ _ asked given _ _ c.args.text.now c.in-Err-BadLine.line listed asks is c.requires.within (rw c.in-Err-BadLine.field-0-is at c.in-Err-BadLine.ensures.fault)
-    e.no_turns (same-moment g.D.Flash.told g.D.Flash.counts g.D.Flash.arming _ _ e.flash) (ap noted e.note) e.prints
+    e.no_turns (same-moment g.D.Flash.told g.D.Flash.counts g.D.Flash.arming g.D.Flash.on _ _ e.flash) (ap noted e.note) e.prints
 
 pub returns-in-Ok-make-clause-way : goal.returns-in-Ok-make-clause-way
 returns-in-Ok-make-clause-way g c = λ asked given was are listed asks is.

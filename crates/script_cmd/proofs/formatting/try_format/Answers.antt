@@ -1,6 +1,7 @@
-use Rattle.std.proofs.Common.{ℕ, ap, subst, ◌∙◌}
+use Rattle.std.proofs.Common.{ℕ, None, ap, subst, ◌∙◌}
 use Rattle.script_cmd.specs.Formatting.{Tries}
-use Rattle.script_cmd.proofs.ShowFlash.{power-on-keeps, none-falls}
+use Rattle.script_cmd.specs.Machine.{at}
+use Rattle.script_cmd.proofs.ShowFlash.{power-on-guards, power-on-keeps, none-falls}
 use Rattle.script_cmd.proofs.FormatFlash.{stop-cause}
 use Rattle.script_cmd.proofs.formatting.try_format.Goals as goal
 
@@ -13,7 +14,7 @@ returns-clause-tries g c =
     let new = c.format.new.flash in
     let e = c.format.ensures in
     subst (λ (blocks : ℕ). Tries (g.V.Verifier.passes c.args.verifier.now) g.D.Flash.tells (g.H.Files.contents c.args.files.now) c.args.name.now (record { banks = c.args.banks; rows = c.args.rows.now }) blocks
-    (told old) (told new) (counts old) (counts new) (g.H.Files.faults c.args.files.now) (g.H.Files.faults c.format.new.files) c.format.result)
+    (at None (told old) (counts old) (g.D.Flash.arming old) (g.D.Flash.on old)) (at None (told new) (counts new) (g.D.Flash.arming new) (g.D.Flash.on new)) (g.H.Files.faults c.args.files.now) (g.H.Files.faults c.format.new.files) c.format.result)
     c.power_on.ensures.size
     (record {
       mid = told mid;
@@ -21,14 +22,19 @@ returns-clause-tries g c =
       layout = e.layout;
       answers = e.answers;
       untouched = λ early. ap told (e.untouched early);
+      missing = λ lacks. let m = e.missing lacks in (m.0, ap told m.1);
       failed = e.failed;
       reads = e.reads;
       given = e.given;
       formatted = e.formatted;
       refused = e.refused;
       images = e.images;
+      blank = e.blank;
       deserved = e.deserved;
       keeps = e.keeps;
+      guard = λ tells. (e.keeps tells).guard ∙ power-on-guards (told old) (told mid) (c.power_on.ensures.fresh tells);
       counts = none-falls _ (counts old) (counts mid) (counts new) c.power_on.ensures.counts e.costs;
+      made = e.costs.made ∙ c.power_on.ensures.made;
+      unarmed = (e.unarmed (c.power_on.ensures.arming ∙ c.requires.unarmed)).0;
       stopped = λ stop is. stop-cause _ stop (counts old) (counts mid) (counts new) is c.power_on.ensures.counts e.costs (e.unarmed (c.power_on.ensures.arming ∙ c.requires.unarmed)).1;
     })

@@ -11,7 +11,7 @@ use Rattle.script_cmd.proofs.running.run_script.Goals as goal
 pub loop-index-init : goal.loop-index-init
 loop-index-init g c =
     let d = c.args.flash in
-    let old = at None (g.D.Flash.told d) (g.D.Flash.counts d) (g.D.Flash.arming d) in
+    let old = at None (g.D.Flash.told d) (g.D.Flash.counts d) (g.D.Flash.arming d) (g.D.Flash.on d) in
     let passes = g.V.Verifier.passes c.args.verifier.now in
     let taken = g.O.Sink.taken c.args.sink.now in
     let was = g.O.Sink.faults c.args.sink.now in
@@ -36,12 +36,12 @@ loop-index-preserved g c = record {
 pub returns-then-end-ne0-clause-ran : goal.returns-then-end-ne0-clause-ran
 returns-then-end-ne0-clause-ran g c =
     let d = c.args.flash in
-    let old = at None (g.D.Flash.told d) (g.D.Flash.counts d) (g.D.Flash.arming d) in
+    let old = at None (g.D.Flash.told d) (g.D.Flash.counts d) (g.D.Flash.arming d) (g.D.Flash.on d) in
     let passes = g.V.Verifier.passes c.args.verifier.now in
     let m = c.step-after.result.running.machine in (
       shown_on m,
-      subst (λ (x : g.row.D.Denot). Ran passes g.D.Flash.tells (turns c.done.result.journal) old (at (shown_on m) (g.D.Flash.told x) (g.D.Flash.counts x) (g.D.Flash.arming x))) (sym c.done.ensures.flash)
-          (subst (λ (j : Journal). Ran passes g.D.Flash.tells (turns j) old (at (shown_on m) (g.D.Flash.told (device m)) (g.D.Flash.counts (device m)) (g.D.Flash.arming (device m)))) (sym c.done.ensures.journal)
+      subst (λ (x : g.row.D.Denot). Ran passes g.D.Flash.tells (turns c.done.result.journal) old (at (shown_on m) (g.D.Flash.told x) (g.D.Flash.counts x) (g.D.Flash.arming x) (g.D.Flash.on x))) (sym c.done.ensures.flash)
+          (subst (λ (j : Journal). Ran passes g.D.Flash.tells (turns j) old (at (shown_on m) (g.D.Flash.told (device m)) (g.D.Flash.counts (device m)) (g.D.Flash.arming (device m)) (g.D.Flash.on (device m)))) (sym c.done.ensures.journal)
           (ends-ran _ _ _ _ _ _ c.loop-index.index (shown c.at.result) _ _ _ _ _ _ _ _ _ _ refl c.loop-index.invariant.goes c.step-after.ensures.steps)),
     )
 

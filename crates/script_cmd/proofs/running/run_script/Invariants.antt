@@ -9,8 +9,8 @@ use Rattle.script_cmd.proofs.running.run_script.Given as goal
 abbrev pub invariant-loop-index : goal.invariant-loop-index
 invariant-loop-index g l = record {
   goes : GoesOn (g.V.Verifier.passes l.verifier) g.D.Flash.tells l.script l.index (turns l.running.journal)
-      (at None (g.D.Flash.told l.fn.flash) (g.D.Flash.counts l.fn.flash) (g.D.Flash.arming l.fn.flash))
-      (at (shown_on l.running.machine) (g.D.Flash.told (device l.running.machine)) (g.D.Flash.counts (device l.running.machine)) (g.D.Flash.arming (device l.running.machine)))
+      (at None (g.D.Flash.told l.fn.flash) (g.D.Flash.counts l.fn.flash) (g.D.Flash.arming l.fn.flash) (g.D.Flash.on l.fn.flash))
+      (at (shown_on l.running.machine) (g.D.Flash.told (device l.running.machine)) (g.D.Flash.counts (device l.running.machine)) (g.D.Flash.arming (device l.running.machine)) (g.D.Flash.on (device l.running.machine)))
       (g.O.Sink.taken l.fn.sink) (g.O.Sink.taken l.sink) (g.O.Sink.faults l.fn.sink) (g.O.Sink.faults l.sink);
   powered : g.D.Flash.on (device l.running.machine) ≡ is_some (shown_on l.running.machine);
   turns_fit : HasRoomFor l.running.journal (length l.script - l.index);

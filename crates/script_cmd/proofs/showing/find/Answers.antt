@@ -1,4 +1,4 @@
-use Rattle.std.proofs.Common.{ℕ, List, sym, ap, subst, ◌∙◌, ◌++◌, IsTrue}
+use Rattle.std.proofs.Common.{ℕ, List, Err, sym, ap, subst, ◌∙◌, ◌++◌, IsTrue}
 use Rattle.flash_core.specs.Told.{Told, NothingDirty}
 use Rattle.fwu_model.specs.declared.kinds.Note.TheVariants as note
 use Rattle.fwu_model.specs.declared.kinds.NoBoot.TheVariants as no_boot
@@ -6,7 +6,7 @@ use Rattle.early_boot.specs.Numbers.{numbers as read, ShowsNumbers}
 use Rattle.script_cmd.specs.Noted.{noted}
 use Rattle.script_cmd.specs.Showing as show
 use Rattle.script_cmd.specs.Showing.{Finds, ShowsNone, shown_line, not_shown_line, flash_fault_line}
-use Rattle.script_cmd.proofs.ShowFlash.{power-on-keeps, has-cause, not-found}
+use Rattle.script_cmd.proofs.ShowFlash.{kept-none, power-on-guards, power-on-keeps, has-cause, not-found}
 use Rattle.script_cmd.proofs.showing.find.Goals as goal
 
 pub returns-in-Ok-clause-content : goal.returns-in-Ok-clause-content
@@ -75,3 +75,31 @@ returns-in-Err-Flash-clause-finds g c =
     (sym (c.add.ensures.items ∙ ap (λ (l : List ℕ). l ++ flash_fault_line) c.requires.empty))
     (show.stopped
     (has-cause c.in-Err-Flash.field-0-0 before mid after c.power_on.ensures.counts (rw c.in-Err-Flash.field-0-is at c.in-Err-Flash.ensures.costs) (rw c.in-Err-Flash.field-0-is at c.in-Err-Flash.ensures.reached)))
+
+pub returns-in-Ok-clause-guard : goal.returns-in-Ok-clause-guard
+returns-in-Ok-clause-guard g c tells =
+    ap (λ (t : Told). t.guard) (c.in-Ok.ensures.content tells) ∙ power-on-guards (g.D.Flash.told c.args.flash.now) (g.D.Flash.told c.power_on.new.self) (c.power_on.ensures.fresh tells)
+
+pub returns-in-Ok-clause-unarmed : goal.returns-in-Ok-clause-unarmed
+returns-in-Ok-clause-unarmed g c = c.in-Ok.ensures.arming ∙ c.power_on.ensures.arming ∙ c.requires.unarmed
+
+pub returns-in-Err-Layout-clause-guard : goal.returns-in-Err-Layout-clause-guard
+returns-in-Err-Layout-clause-guard g c tells =
+    ap (λ (t : Told). t.guard) (c.in-Err-Layout.ensures.content tells) ∙ power-on-guards (g.D.Flash.told c.args.flash.now) (g.D.Flash.told c.power_on.new.self) (c.power_on.ensures.fresh tells)
+
+pub returns-in-Err-Layout-clause-unarmed : goal.returns-in-Err-Layout-clause-unarmed
+returns-in-Err-Layout-clause-unarmed g c = (rw c.in-Err-Layout.field-0-is at c.in-Err-Layout.ensures.arming) ∙ c.power_on.ensures.arming ∙ c.requires.unarmed
+
+pub returns-in-Err-Metadata-clause-guard : goal.returns-in-Err-Metadata-clause-guard
+returns-in-Err-Metadata-clause-guard g c tells =
+    ap (λ (t : Told). t.guard) (c.in-Err-Metadata.ensures.content tells) ∙ power-on-guards (g.D.Flash.told c.args.flash.now) (g.D.Flash.told c.power_on.new.self) (c.power_on.ensures.fresh tells)
+
+pub returns-in-Err-Metadata-clause-unarmed : goal.returns-in-Err-Metadata-clause-unarmed
+returns-in-Err-Metadata-clause-unarmed g c = (rw c.in-Err-Metadata.field-0-is at c.in-Err-Metadata.ensures.arming) ∙ c.power_on.ensures.arming ∙ c.requires.unarmed
+
+pub returns-in-Err-Flash-clause-guard : goal.returns-in-Err-Flash-clause-guard
+returns-in-Err-Flash-clause-guard g c tells =
+    ap (λ (t : Told). t.guard) (c.in-Err-Flash.ensures.content tells) ∙ power-on-guards (g.D.Flash.told c.args.flash.now) (g.D.Flash.told c.power_on.new.self) (c.power_on.ensures.fresh tells)
+
+pub returns-in-Err-Flash-clause-unarmed : goal.returns-in-Err-Flash-clause-unarmed
+returns-in-Err-Flash-clause-unarmed g c = kept-none {T = Unit {0}} (Err c.in-Err-Flash.field-0-0) (g.D.Flash.arming c.power_on.new.self) _ (c.power_on.ensures.arming ∙ c.requires.unarmed) (rw c.in-Err-Flash.field-0-is at c.in-Err-Flash.ensures.arming)

@@ -1,5 +1,6 @@
 use Rattle.script_cmd.proofs.PromiseAll.{promised}
+use Rattle.script_cmd.proofs.TopWays.{by-list}
 use Rattle.script_cmd.proofs.top.fwu_top.Goals as goal
 
 pub returns-clause-promises : goal.returns-clause-promises
-returns-clause-promises g c runs = let way = c.answer.ensures.way runs in (way.0, way.1, promised _ _ _ _ _ _ _ _ _ _ _ _ _ _ _ way.2)
+returns-clause-promises g c runs = by-list _ _ _ _ (λ passes. promised passes _ _ _ _ _ _ _ _ _ _ _ _ _ _) (c.answer.ensures.way runs)

@@ -15,11 +15,12 @@ returns-in-Off-clause-turns g c passes =
     let told = g.D.Flash.told d in
     let counts = g.D.Flash.counts d in
     let armed = g.D.Flash.arming d in
-    subst (λ m. Turns passes g.D.Flash.tells call.Show (turn c.turn_of.result) (at (shown_on m) (g.D.Flash.told (device m)) (g.D.Flash.counts (device m)) (g.D.Flash.arming (device m))) (at None told counts armed))
+    let power = g.D.Flash.on d in
+    subst (λ m. Turns passes g.D.Flash.tells call.Show (turn c.turn_of.result) (at (shown_on m) (g.D.Flash.told (device m)) (g.D.Flash.counts (device m)) (g.D.Flash.arming (device m)) (g.D.Flash.on (device m))) (at None told counts armed power))
     (sym c.in-Off.is)
-    (subst (λ (t : Turn). Turns passes g.D.Flash.tells call.Show t (at None told counts armed) (at None told counts armed))
+    (subst (λ (t : Turn). Turns passes g.D.Flash.tells call.Show t (at None told counts armed power) (at None told counts armed power))
     (sym c.turn_of.ensures)
-    (quiet-off passes g.D.Flash.tells call.Show model_reply.IsOff counts counts told told armed armed (show-leaves g.D.Flash.tells model_reply.IsOff counts told armed refl) (refl, refl) show-off))
+    (quiet-off passes g.D.Flash.tells call.Show model_reply.IsOff counts counts told told armed armed power power (show-leaves g.D.Flash.tells model_reply.IsOff counts told armed power refl refl) (refl, refl) show-off))
 
 pub returns-in-On-clause-turns : goal.returns-in-On-clause-turns
 returns-in-On-clause-turns g c passes =
@@ -28,8 +29,9 @@ returns-in-On-clause-turns g c passes =
     let told = g.D.Flash.told d in
     let counts = g.D.Flash.counts d in
     let armed = g.D.Flash.arming d in
-    subst (λ m. Turns passes g.D.Flash.tells call.Show (turn c.shows_turn-turn.result) (at (shown_on m) (g.D.Flash.told (device m)) (g.D.Flash.counts (device m)) (g.D.Flash.arming (device m))) (at (Some n) told counts armed))
+    let power = g.D.Flash.on d in
+    subst (λ m. Turns passes g.D.Flash.tells call.Show (turn c.shows_turn-turn.result) (at (shown_on m) (g.D.Flash.told (device m)) (g.D.Flash.counts (device m)) (g.D.Flash.arming (device m)) (g.D.Flash.on (device m))) (at (Some n) told counts armed power))
     (sym c.in-On.is)
-    (subst (λ (t : Turn). Turns passes g.D.Flash.tells call.Show t (at (Some n) told counts armed) (at (Some n) told counts armed))
+    (subst (λ (t : Turn). Turns passes g.D.Flash.tells call.Show t (at (Some n) told counts armed power) (at (Some n) told counts armed power))
     (sym c.shows_turn-turn.ensures)
-    (quiet-on passes g.D.Flash.tells call.Show (model_reply.Shown n) counts counts told told armed armed (show-leaves g.D.Flash.tells (model_reply.Shown n) counts told armed refl) n (refl, refl) (show-on n)))
+    (quiet-on passes g.D.Flash.tells call.Show (model_reply.Shown n) counts counts told told armed armed power power (show-leaves g.D.Flash.tells (model_reply.Shown n) counts told armed power refl refl) n (refl, refl) (show-on n)))

@@ -11,7 +11,7 @@ returns-in-Show-clause-turns g c =
     let passes = g.V.Verifier.passes c.args.verifier.now in
     let old = device c.args.machine in
     let new = device c.show_turn.result.machine in
-    subst (λ (what : Call). Turns passes g.D.Flash.tells what (turn c.show_turn.result.turn) (at (shown_on c.args.machine) (g.D.Flash.told old) (g.D.Flash.counts old) (g.D.Flash.arming old)) (at (shown_on c.show_turn.result.machine) (g.D.Flash.told new) (g.D.Flash.counts new) (g.D.Flash.arming new)))
+    subst (λ (what : Call). Turns passes g.D.Flash.tells what (turn c.show_turn.result.turn) (at (shown_on c.args.machine) (g.D.Flash.told old) (g.D.Flash.counts old) (g.D.Flash.arming old) (g.D.Flash.on old)) (at (shown_on c.show_turn.result.machine) (g.D.Flash.told new) (g.D.Flash.counts new) (g.D.Flash.arming new) (g.D.Flash.on new)))
     (sym (ap shown c.in-Show.is))
     (c.show_turn.ensures.turns passes)
 
@@ -20,6 +20,6 @@ returns-in-Cut-clause-turns g c =
     let passes = g.V.Verifier.passes c.args.verifier.now in
     let old = device c.args.machine in
     let new = device c.cut_turn.result.machine in
-    subst (λ (what : Call). Turns passes g.D.Flash.tells what (turn c.cut_turn.result.turn) (at (shown_on c.args.machine) (g.D.Flash.told old) (g.D.Flash.counts old) (g.D.Flash.arming old)) (at (shown_on c.cut_turn.result.machine) (g.D.Flash.told new) (g.D.Flash.counts new) (g.D.Flash.arming new)))
+    subst (λ (what : Call). Turns passes g.D.Flash.tells what (turn c.cut_turn.result.turn) (at (shown_on c.args.machine) (g.D.Flash.told old) (g.D.Flash.counts old) (g.D.Flash.arming old) (g.D.Flash.on old)) (at (shown_on c.cut_turn.result.machine) (g.D.Flash.told new) (g.D.Flash.counts new) (g.D.Flash.arming new) (g.D.Flash.on new)))
     (sym (ap shown c.in-Cut.is))
     (c.cut_turn.ensures.turns passes)

@@ -1,0 +1,56 @@
+-- No run is promised one of the wrong outcomes.
+use Rattle.std.proofs.Common.{◌≡◌, ℕ, Bool, true, List, [], Option, Some, None, Ok, Err, refl, sym, subst, ◌∙◌, inl, inr, IsTrue}
+use Rattle.std.proofs.lemmas.Bool.{false≢true}
+use Rattle.fwu_formats.specs.Digests.{digests_of}
+use Rattle.script_cmd.specs.Booted.{BootsFrom}
+use Rattle.script_cmd.specs.Outcomes.{BadListIsNone, ListIsSome, MissingListIsNone, NoMetadataIsNone, NothingFollowsTheSink, NothingIsArmed, NothingIsPassedOver, NothingIsTouched, UsageReadsNoSource}
+
+pub nothing-is-passed-over : NothingIsPassedOver
+nothing-is-passed-over passes tells bytes calls old new taken takes reads p = sym ((p.holds.ends.does calls reads).all_calls refl)
+
+pub nothing-is-touched : NothingIsTouched
+nothing-is-touched passes tells asked source status old new taken takes p = p.holds.device.untouched refl
+
+pub nothing-is-armed : NothingIsArmed
+nothing-is-armed passes tells asked source journal status old new taken takes p = p.holds.ends.made
+
+pub nothing-follows-the-sink : NothingFollowsTheSink
+nothing-follows-the-sink passes tells asked source journal old new before takes some p =
+    let w = p.holds.wrote before refl in (
+      w.0,
+      w.1,
+      elim (w.2.sink_fault refl) [ inl stops ↦ stops | inr alone ↦ absurd (some alone.no_turns) ],
+    )
+
+pub no-metadata-is-none : NoMetadataIsNone
+no-metadata-is-none passes asked source t turns status old new taken takes clean boots is p =
+    let h = subst (BootsFrom passes old.told.now) is (p.holds.first refl clean t refl boots) in
+    (h.0, h.1, h.2)
+
+pub usage-reads-no-source : UsageReadsNoSource
+usage-reads-no-source passes tells source old new taken takes p =
+    elim (p.holds.ends.not_read refl refl) [ inl source ↦ absurd (false≢true source.0) | inr list ↦ list ]
+
+same-name : (x y : List ℕ) → ◌≡◌ {A = Option (List ℕ)} (Some x) (Some y) → x ≡ y
+same-name x y e = cc
+
+pub missing-list-is-none : MissingListIsNone
+missing-list-is-none name files passes lacks has =
+    let reads = has.listed refl in
+    let is = same-name name reads.name reads.named in
+    let stands : files name ≡ Some reads.bytes = subst (λ (n : List ℕ). files n ≡ Some reads.bytes) (sym is) reads.stands in
+    let both = sym lacks ∙ stands in
+    cc
+
+pub bad-list-is-none : BadListIsNone
+bad-list-is-none name bytes n files passes there bad has =
+    let reads = has.listed refl in
+    let is = same-name name reads.name reads.named in
+    let stands : files name ≡ Some reads.bytes = subst (λ (k : List ℕ). files k ≡ Some reads.bytes) (sym is) reads.stands in
+    let same : bytes ≡ reads.bytes = same-name bytes reads.bytes (sym there ∙ stands) in
+    let read : digests_of bytes ≡ Ok reads.digests = subst (λ (b : List ℕ). digests_of b ≡ Ok reads.digests) (sym same) reads.is_list in
+    let both = sym bad ∙ read in
+    cc
+
+pub list-is-some : ListIsSome
+list-is-some list files passes has = let reads = has.listed refl in (reads.digests, reads.passes_are)

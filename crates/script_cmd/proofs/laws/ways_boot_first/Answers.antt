@@ -1,0 +1,5 @@
+use Rattle.script_cmd.proofs.PromiseReplies.{ways-boot-first}
+use Rattle.script_cmd.proofs.laws.ways_boot_first.Goals as goal
+
+pub returns : goal.returns
+returns c = ways-boot-first
