@@ -2,33 +2,21 @@
 use Rattle.std.proofs.Common.{◌≡◌, ◌≢◌, ◌⊎◌, inl, inr, ℕ, zero, suc, ◌+◌, List, [], ◌∷◌, ◌++◌, Option, Ok, Err, length, take, drop, refl, sym, ap, subst, ◌∙◌}
 use Rattle.std.specs.Io.KnownBytes.{Appends}
 use Rattle.std.proofs.KnownBytes.{Appends-trans}
-use Rattle.std.proofs.Math.Seq.{take-append-add, take-length}
 use Rattle.host_io.specs.Contents.{Directory}
-use Rattle.fip_tool.specs.Ends.{EndedBy, HasCauseOf, Reported, SaidFront, SaidOf, StandAfter, Told, stop_line}
+use Rattle.fip_tool.specs.Ends.{EndedBy, HasCauseOf, Reported, SinkFailed, StandAfter, Told, stop_line}
 use Rattle.fip_tool.specs.Steps.{Outcome, Makes, Refuses, Step, Writes, Prints, Are, AreUpTo, Did, steps_of, printed, written}
 use Rattle.fip_tool.specs.declared.stops.Stop.{Stop}
 use Rattle.fip_tool.specs.declared.stops.Stop.TheVariants as stop
-
--- the text of the first steps is a front of the text of all
-front : (n : ℕ) (steps : List Step) → (k : ℕ) × (printed (take n steps) ≡ take k (printed steps))
-front zero steps = (0, refl)
-front (suc n) [] = (0, refl)
-front (suc n) (Writes name bytes ∷ steps) = front n steps
-front (suc n) (Prints text ∷ steps) =
-    let rest = front n steps in
-    (length text + rest.0, ap (λ (l : List ℕ). text ++ l) rest.1 ∙ sym (take-append-add text (printed steps) rest.0))
 
 module _ (outcome : Outcome) (files : Directory) (now : Option Directory) (was mid text : Option (List ℕ)) (files-rose sink-before sink-rose : Type 0) (rises : sink-before → sink-rose) where
   pub done : (u : Unit {0}) → Did outcome files now was mid files-rose sink-before (Ok u) → EndedBy outcome files now was mid files-rose sink-rose (Ok u)
   done u d = d
 
   no-memory : Did outcome files now was mid files-rose sink-before (Err stop.NoMemory) → EndedBy outcome files now was mid files-rose sink-rose (Err stop.NoMemory)
-  no-memory d =
-      let p : List ℕ = printed (take d.0 (steps_of outcome)) in
-      (d.0, inl d.1, inl (length p, subst (Appends was mid) (sym (take-length p)) d.2))
+  no-memory d = (d.0, inl d.1, d.2)
 
   sink-failed : Did outcome files now was mid files-rose sink-before (Err stop.SinkFault) → EndedBy outcome files now was mid files-rose sink-rose (Err stop.SinkFault)
-  sink-failed d = (rises d.0, d.1, inl d.2, inl (d.3, d.4))
+  sink-failed d = (rises d.0, d.1, inl (d.2, (d.3, d.4)))
 
   -- a refusal, with its line
   abbrev RefusedTo : Stop → Type 0
@@ -37,11 +25,11 @@ module _ (outcome : Outcome) (files : Directory) (now : Option Directory) (was m
   told : (s : Stop) → RefusedTo s → Appends mid text (stop_line s) → (outcome ≡ Refuses s) × Are now files × Appends was text (stop_line s)
   told s d a = (d.0, d.1, Appends-trans was mid text [] (stop_line s) d.2 a)
 
-  half-told : (s : Stop) → RefusedTo s → (k : ℕ) → Appends mid text (take k (stop_line s)) → (n : ℕ) × StandAfter n outcome files now files-rose × SaidFront n outcome was text files-rose
-  half-told s d k a = (0, inl d.1, inr (s, inl d.0, k, Appends-trans was mid text [] (take k (stop_line s)) d.2 a))
+  half-told : (s : Stop) → RefusedTo s → (k : ℕ) → Appends mid text (take k (stop_line s)) → (n : ℕ) × SinkFailed n outcome files now was text files-rose
+  half-told s d k a = (0, inr (inl d.1, (s, inl d.0, k, Appends-trans was mid text [] (take k (stop_line s)) d.2 a)))
 
-  untold : (s : Stop) → RefusedTo s → text ≡ mid → (n : ℕ) × StandAfter n outcome files now files-rose × SaidOf n outcome was text files-rose
-  untold s d e = (0, inl d.1, inl (0, subst (λ (t : Option (List ℕ)). Appends was t []) (sym e) d.2))
+  untold : (s : Stop) → RefusedTo s → text ≡ mid → (n : ℕ) × StandAfter n outcome files now files-rose × Appends was text (printed (take n (steps_of outcome)))
+  untold s d e = (0, inl d.1, subst (λ (t : Option (List ℕ)). Appends was t []) (sym e) d.2)
 
   -- a file failed, after the first n steps
   abbrev FailedAfter : Type 0
@@ -67,23 +55,15 @@ module _ (outcome : Outcome) (files : Directory) (now : Option Directory) (was m
   failed-told : FailedAfter → Appends mid text (stop_line stop.FileFault) → EndedBy outcome files now was text files-rose sink-rose (Err stop.FileFault)
   failed-told d a = (cause-of d.0, d.1, d.2, Appends-trans was mid text _ _ d.3 a)
 
-  failed-half-told : FailedAfter → (k : ℕ) → Appends mid text (take k (stop_line stop.FileFault)) → (n : ℕ) × StandAfter n outcome files now files-rose × SaidFront n outcome was text files-rose
+  failed-half-told : FailedAfter → (k : ℕ) → Appends mid text (take k (stop_line stop.FileFault)) → (n : ℕ) × SinkFailed n outcome files now was text files-rose
   failed-half-told d k a =
-      let so-far : List ℕ = printed (take d.1 (steps_of outcome)) in (
-        d.1,
-        stands d.1 d.0 d.2,
-        inr (
-          stop.FileFault,
-          cause-of d.0,
-          length so-far + k,
-          subst (Appends was text) (sym (take-append-add so-far (stop_line stop.FileFault) k)) (Appends-trans was mid text so-far (take k (stop_line stop.FileFault)) d.3 a),
-        ),
-      )
+      let so-far : List ℕ = printed (take d.1 (steps_of outcome)) in
+      (d.1, inr (stands d.1 d.0 d.2, (stop.FileFault, cause-of d.0, k, Appends-trans was mid text so-far (take k (stop_line stop.FileFault)) d.3 a)))
 
-  failed-untold : FailedAfter → text ≡ mid → (n : ℕ) × StandAfter n outcome files now files-rose × SaidOf n outcome was text files-rose
+  failed-untold : FailedAfter → text ≡ mid → (n : ℕ) × StandAfter n outcome files now files-rose × Appends was text (printed (take n (steps_of outcome)))
   failed-untold d e =
       let so-far : List ℕ = printed (take d.1 (steps_of outcome)) in
-      (d.1, stands d.1 d.0 d.2, inl (length so-far, subst (λ (t : Option (List ℕ)). Appends was t (take (length so-far) so-far)) (sym e) (subst (Appends was mid) (sym (take-length so-far)) d.3)))
+      (d.1, stands d.1 d.0 d.2, subst (λ (t : Option (List ℕ)). Appends was t so-far) (sym e) d.3)
 
   at-stop : {s t : Stop} → t ≡ s → EndedBy outcome files now was text files-rose sink-rose (Err s) → EndedBy outcome files now was text files-rose sink-rose (Err t)
   at-stop e h = subst (λ (s : Stop). EndedBy outcome files now was text files-rose sink-rose (Err s)) (sym e) h
@@ -91,12 +71,12 @@ module _ (outcome : Outcome) (files : Directory) (now : Option Directory) (was m
   refused-ends : (s t : Stop) → RefusedTo s → (Appends mid text (stop_line s) → EndedBy outcome files now was text files-rose sink-rose (Err s))
       → Told mid text sink-rose s t → EndedBy outcome files now was text files-rose sink-rose (Err t)
   refused-ends s t d whole (inl r) = at-stop r.0 (whole r.1)
-  refused-ends s t d whole (inr (inl r)) = at-stop r.0 (let h = half-told s d r.2 r.3 in (r.1, h.0, h.1, h.2))
+  refused-ends s t d whole (inr (inl r)) = at-stop r.0 (let h = half-told s d r.2 r.3 in (r.1, h.0, h.1))
   refused-ends s t d whole (inr (inr r)) = at-stop r.0 (untold s d r.1)
 
   failed-ends : (t : Stop) → FailedAfter → Told mid text sink-rose stop.FileFault t → EndedBy outcome files now was text files-rose sink-rose (Err t)
   failed-ends t d (inl r) = at-stop r.0 (failed-told d r.1)
-  failed-ends t d (inr (inl r)) = at-stop r.0 (let h = failed-half-told d r.2 r.3 in (r.1, h.0, h.1, h.2))
+  failed-ends t d (inr (inl r)) = at-stop r.0 (let h = failed-half-told d r.2 r.3 in (r.1, h.0, h.1))
   failed-ends t d (inr (inr r)) = at-stop r.0 (failed-untold d r.1)
 
   pub ends : (s t : Stop) → Did outcome files now was mid files-rose sink-before (Err s) → Reported mid text sink-rose s t

@@ -20,7 +20,7 @@ use Rattle.host_io.specs.Contents.{Directory}
 use Rattle.fip_tables.specs.Files.{Lacks, Tells}
 use Rattle.fwu_formats.specs.Package.{Entry, payload}
 use Rattle.fip_tool.specs.Lines.{unpacked_line, unpacked_name}
-use Rattle.fip_tool.specs.Steps.{Makes, Refuses, Step, Writes, Prints, Are, AreUpTo, Did, printed, with_file, written}
+use Rattle.fip_tool.specs.Steps.{Makes, Refuses, Step, Writes, Prints, Are, AreUpTo, Did, half_printed, printed, with_file, written}
 use Rattle.fip_tool.specs.Tool.{chosen, is_named, there, unpack_steps}
 use Rattle.fip_tool.specs.declared.stops.Stop.{Stop}
 use Rattle.fip_tool.specs.declared.stops.Stop.TheVariants as stop
@@ -88,6 +88,16 @@ more-left [] rest files now are = are-up-to rest now files are
 more-left (Writes name bytes ∷ left) rest files now are = are
 more-left (Prints text ∷ left) rest files now are = are
 
+half-none : (steps : List Step) → half_printed 0 steps ≡ []
+half-none [] = refl
+half-none (Writes name bytes ∷ steps) = refl
+half-none (Prints text ∷ steps) = refl
+
+half-more : (k : ℕ) (left rest : List Step) → (j : ℕ) × (half_printed j (left ++ rest) ≡ half_printed k left)
+half-more k [] rest = (0, half-none rest)
+half-more k (Writes name bytes ∷ left) rest = (k, refl)
+half-more k (Prints text ∷ left) rest = (k, refl)
+
 module _ (first second rest : List Step) (files mid : Directory) (now : Option Directory) (was at text : Option (List ℕ)) (rose late sink-rose sink-late : Type 0)
     (done : IsDone first files mid was at) (rises : rose → late) (sink-rises : sink-rose → sink-late) where
   -- the first n of the second steps are some of the first of all
@@ -111,19 +121,24 @@ module _ (first second rest : List Step) (files mid : Directory) (now : Option D
   there-said n said =
       subst (λ (l : List Step). Appends was text (printed l)) (sym (reached n)) (said-then first (take n second) was at text done.said said)
 
-  said-front : (k : ℕ) → Appends at text (take k (printed second)) → (j : ℕ) × Appends was text (take j (printed (first ++ (second ++ rest))))
-  said-front k said =
-      let f = fewer k (printed second) (printed rest) in
-      let whole : printed (first ++ (second ++ rest)) ≡ printed first ++ (printed second ++ printed rest) =
-      printed-append first (second ++ rest) ∙ ap (λ (l : List ℕ). printed first ++ l) (printed-append second rest) in
-      let front : take (length (printed first) + f.0) (printed (first ++ (second ++ rest))) ≡ printed first ++ take k (printed second) =
-      ap (take (length (printed first) + f.0)) whole ∙ take-append-add (printed first) (printed second ++ printed rest) f.0 ∙ ap (λ (l : List ℕ). printed first ++ l) f.1 in
-      (length (printed first) + f.0, subst (Appends was text) (sym front) (Appends-trans was at text (printed first) (take k (printed second)) done.said said))
+  there-half : (n k : ℕ) → Appends at text (printed (take n second) ++ half_printed k (drop n second))
+      → (j : ℕ) × Appends was text (printed (take (reach n) (first ++ (second ++ rest))) ++ half_printed j (drop (reach n) (first ++ (second ++ rest))))
+  there-half n k said =
+      let h = half-more k (drop n second) rest in
+      let half : List ℕ = half_printed k (drop n second) in
+      let whole : printed (take (reach n) (first ++ (second ++ rest))) ++ half_printed h.0 (drop (reach n) (first ++ (second ++ rest)))
+      ≡ printed first ++ (printed (take n second) ++ half) =
+      ap (λ (l : List Step). printed l ++ half_printed h.0 (drop (reach n) (first ++ (second ++ rest)))) (reached n)
+      ∙ ap (λ (l : List Step). printed (first ++ take n second) ++ half_printed h.0 l) (unreached n)
+      ∙ ap (λ (l : List ℕ). printed (first ++ take n second) ++ l) h.1
+      ∙ ap (λ (l : List ℕ). l ++ half) (printed-append first (take n second))
+      ∙ append_assoc (printed first) (printed (take n second)) half in
+      (h.0, subst (Appends was text) (sym whole) (Appends-trans was at text (printed first) (printed (take n second) ++ half) done.said said))
 
   -- a stop in steps that others follow, after steps that were done
   pub stops : (s : Stop) → Did (Makes second) mid now at text rose sink-rose (Err s) → Did (Makes (first ++ (second ++ rest))) files now was text late sink-late (Err s)
   stops stop.NoMemory d = (reach d.0, there-are d.0 d.1, there-said d.0 d.2)
-  stops stop.SinkFault d = let f = said-front d.3 d.4 in (sink-rises d.0, reach d.1, there-are d.1 d.2, f.0, f.1)
+  stops stop.SinkFault d = let f = there-half d.1 d.3 d.4 in (sink-rises d.0, reach d.1, there-are d.1 d.2, f.0, f.1)
   stops stop.FileFault d = (cause d.0, reach d.1, upto d.1 d.2, there-said d.1 d.3)
     where
       cause : (Makes second ≡ Refuses stop.FileFault) ⊎ rose → (Makes (first ++ (second ++ rest)) ≡ Refuses stop.FileFault) ⊎ late

@@ -8,7 +8,7 @@ use Rattle.fwu_formats.specs.declared.kinds.ManifestFault.{ManifestFault}
 use Rattle.fwu_formats.specs.declared.kinds.ManifestFault.TheVariants as manifest
 use Rattle.fip_tables.specs.declared.faults.PackFault.{PackFault}
 use Rattle.fip_tables.specs.declared.faults.PackFault.TheVariants as pack
-use Rattle.fip_tool.specs.Steps.{Outcome, Makes, Refuses, Are, AreUpTo, steps_of, printed, written}
+use Rattle.fip_tool.specs.Steps.{Outcome, Makes, Refuses, Are, AreUpTo, half_printed, steps_of, printed, written}
 use Rattle.fip_tool.specs.declared.stops.Stop.{Stop}
 use Rattle.fip_tool.specs.declared.stops.Stop.TheVariants as stop
 
@@ -62,26 +62,27 @@ StandAfter n outcome files now files-rose =
     Are now (written (take n (steps_of outcome)) files)
     ⊎ (files-rose × AreUpTo (drop n (steps_of outcome)) now (written (take n (steps_of outcome)) files))
 
--- a front of the text of all steps, or of that of the first n and a stop's line
-abbrev pub SaidFront : ℕ → Outcome → Option (List ℕ) → Option (List ℕ) → Type 0 → Type 0
-SaidFront n outcome was text files-rose =
-    ((k : ℕ) × Appends was text (take k (printed (steps_of outcome))))
-    ⊎ ((s : Stop) × HasCauseOf outcome files-rose s × (k : ℕ) × Appends was text (take k (printed (take n (steps_of outcome)) ++ stop_line s)))
+-- the text of the first n steps, and a front of a stop's line
+abbrev pub SaidStop : ℕ → Outcome → Option (List ℕ) → Option (List ℕ) → Type 0 → Type 0
+SaidStop n outcome was text files-rose =
+    (s : Stop) × HasCauseOf outcome files-rose s
+    × (k : ℕ) × Appends was text (printed (take n (steps_of outcome)) ++ take k (stop_line s))
 
--- a front of the text of the first n steps, or of that and a stop's line
-abbrev pub SaidOf : ℕ → Outcome → Option (List ℕ) → Option (List ℕ) → Type 0 → Type 0
-SaidOf n outcome was text files-rose =
-    ((k : ℕ) × Appends was text (take k (printed (take n (steps_of outcome)))))
-    ⊎ ((s : Stop) × HasCauseOf outcome files-rose s × (k : ℕ) × Appends was text (take k (printed (take n (steps_of outcome)) ++ stop_line s)))
+-- The sink failed behind the first n steps: at the text of the next one, or at the line of a stop.
+abbrev pub SinkFailed : ℕ → Outcome → Directory → Option Directory → Option (List ℕ) → Option (List ℕ) → Type 0 → Type 0
+SinkFailed n outcome files now was text files-rose =
+    (Are now (written (take n (steps_of outcome)) files)
+    × ((k : ℕ) × Appends was text (printed (take n (steps_of outcome)) ++ half_printed k (drop n (steps_of outcome)))))
+    ⊎ (StandAfter n outcome files now files-rose × SaidStop n outcome was text files-rose)
 
 -- How the tool ended. The files were `files` and the told contents are `now`; the sink's text was `was` and is `text`.
 abbrev pub EndedBy : Outcome → Directory → Option Directory → Option (List ℕ) → Option (List ℕ) → Type 0 → Type 0 → Result (Unit {0}) Stop → Type 0
 EndedBy outcome files now was text files-rose sink-rose (Ok done) =
     (outcome ≡ Makes (steps_of outcome)) × Are now (written (steps_of outcome) files) × Appends was text (printed (steps_of outcome))
 EndedBy outcome files now was text files-rose sink-rose (Err stop.NoMemory) =
-    (n : ℕ) × StandAfter n outcome files now files-rose × SaidOf n outcome was text files-rose
+    (n : ℕ) × StandAfter n outcome files now files-rose × Appends was text (printed (take n (steps_of outcome)))
 EndedBy outcome files now was text files-rose sink-rose (Err stop.SinkFault) =
-    sink-rose × (n : ℕ) × StandAfter n outcome files now files-rose × SaidFront n outcome was text files-rose
+    sink-rose × (n : ℕ) × SinkFailed n outcome files now was text files-rose
 EndedBy outcome files now was text files-rose sink-rose (Err stop.FileFault) =
     HasCauseOf outcome files-rose stop.FileFault × (n : ℕ) × AreUpTo (drop n (steps_of outcome)) now (written (take n (steps_of outcome)) files)
     × Appends was text (printed (take n (steps_of outcome)) ++ stop_line stop.FileFault)

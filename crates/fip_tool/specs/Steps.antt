@@ -52,6 +52,12 @@ AreUpTo [] now files = Are now files
 AreUpTo (Writes name bytes ∷ steps) now files = AreBut name now files
 AreUpTo (Prints text ∷ steps) now files = Are now files
 
+-- so many bytes of what the first of these steps prints
+abbrev pub half_printed : ℕ → List Step → List ℕ
+half_printed k [] = []
+half_printed k (Writes name bytes ∷ steps) = []
+half_printed k (Prints text ∷ steps) = take k text
+
 -- What was done of a command, by its result. The files were `files` and the told contents are `now`; the sink's text was
 -- `was` and is `text`. Nothing but the command's steps was done, in their order.
 abbrev pub Did : Outcome → Directory → Option Directory → Option (List ℕ) → Option (List ℕ) → Type 0 → Type 0 → Result (Unit {0}) Stop → Type 0
@@ -60,7 +66,8 @@ Did outcome files now was text files-rose sink-rose (Ok done) =
 Did outcome files now was text files-rose sink-rose (Err NoMemory) =
     (n : ℕ) × Are now (written (take n (steps_of outcome)) files) × Appends was text (printed (take n (steps_of outcome)))
 Did outcome files now was text files-rose sink-rose (Err SinkFault) =
-    sink-rose × (n : ℕ) × Are now (written (take n (steps_of outcome)) files) × (k : ℕ) × Appends was text (take k (printed (steps_of outcome)))
+    sink-rose × (n : ℕ) × Are now (written (take n (steps_of outcome)) files)
+    × (k : ℕ) × Appends was text (printed (take n (steps_of outcome)) ++ half_printed k (drop n (steps_of outcome)))
 Did outcome files now was text files-rose sink-rose (Err FileFault) =
     ((outcome ≡ Refuses FileFault) ⊎ files-rose) × (n : ℕ) × AreUpTo (drop n (steps_of outcome)) now (written (take n (steps_of outcome)) files)
     × Appends was text (printed (take n (steps_of outcome)))

@@ -97,7 +97,8 @@ fn command<H: Files, I: Source, O: Sink>(
         (O.taken sink.old) (O.taken sink.new) (Rose (I.faults source.old) (I.faults source.new)) (Rose (O.faults sink.old) (O.faults sink.new)) }
     ensures cause { result ≡ Err stop.FileFault → H.contents files.old ≡ None
         → Rose (H.faults files.old) (H.faults files.new) ⊎ Rose (I.faults source.old) (I.faults source.new) }
-    ensures untouched { view order.now ≢ info_of_source → (I.left source.new ≡ I.left source.old) × (I.faults source.new ≡ I.faults source.old) }
+    ensures source_stays { view order.now ≢ info_of_source
+        → (I.left source.new ≡ I.left source.old) × (I.faults source.new ≡ I.faults source.old) }
     ensures usage { result ≡ Err stop.Usage → ⊥ }
     ensures later { O.faults sink.old ≤ O.faults sink.new }
 {
@@ -147,6 +148,8 @@ fn run<H: Files, I: Source, O: Sink>(
         (I.left source.old) (I.left source.new) (O.taken sink.old) (O.taken sink.new)
         (Rose (I.faults source.old) (I.faults source.new)) (Rose (O.faults sink.old) (O.faults sink.new)) }
     ensures words { asked (map string_bytes words.now) ≡ None → (result ≡ Err stop.Usage) ⊎ (result ≡ Err stop.NoMemory) }
+    ensures source_stays { asked (map string_bytes words.now) ≢ Some info_of_source
+        → (I.left source.new ≡ I.left source.old) × (I.faults source.new ≡ I.faults source.old) }
     ensures cause { result ≡ Err stop.FileFault → H.contents files.old ≡ None
         → Rose (H.faults files.old) (H.faults files.new) ⊎ Rose (I.faults source.old) (I.faults source.new) }
     ensures usage { result ≡ Err stop.Usage → asked (map string_bytes words.now) ≡ None }
@@ -181,6 +184,9 @@ pub fn fip_top<H: Files, I: Source, O: Sink>(
     // Usage is answered exactly by the words, whatever files there are.
     ensures usage { result ≡ 1 → asked (map string_bytes words.now) ≡ None }
     ensures words { asked (map string_bytes words.now) ≡ None → (result ≡ 1) ⊎ (result ≡ 3) ⊎ (result ≡ 9) }
+    // Nothing but a listing of the source reads it.
+    ensures source_stays { asked (map string_bytes words.now) ≢ Some info_of_source
+        → (I.left source.new ≡ I.left source.old) × (I.faults source.new ≡ I.faults source.old) }
 {
     match run(alloc, words, files, source, sink) {
         Ok(()) => 0,
