@@ -1,0 +1,46 @@
+use Rattle.std.proofs.Common.{ℕ, refl, ◌+◌, ◌-◌, ◌*◌, ◌≤◌, length, ◌∙◌, sym, subst, ap, arith}
+use Rattle.std.proofs.lemmas.Result.{err_from_is_err_and}
+use Rattle.std.specs.Prelude.{is_err, Ok, Err}
+use Rattle.flash_core.proofs.Costs.{spends_then}
+use Rattle.slot_writer.specs.Slots.{Erases}
+use Rattle.slot_writer.proofs.Erasing.{erase_stopped, erase_more}
+use Rattle.slot_writer.proofs.Spending.{spends_one, spends_stopped, spends_then_arming}
+use Rattle.slot_writer.specs.Writes.{SpendsArming}
+use Rattle.slot_writer.proofs.writing.erase_blocks.Goals as goal
+
+pub returns-in_err-erase-clause-erases : goal.returns-in_err-erase-clause-erases
+returns-in_err-erase-clause-erases g c tells =
+    let b = c.loop-block.block in
+    let s = g.D.Flash.told c.args.flash.now in
+    let room : 4096 * c.args.end ≤ length s.now = omega (arith, c.requires.inside, (g.met.D.Flash.sound c.args.flash.now tells).size) in
+    let p = err_from_is_err_and c.from_residual.result c.from_residual.ensures.1 in
+    subst (Erases c.from_residual.result c.args.first c.args.end s) (sym (c.in_err-erase.ensures.content tells))
+    (erase_stopped c.args.first c.args.end b s _ (omega arith) (omega arith) room _ tt (c.loop-block.invariant.erases tells) c.from_residual.result (ap is_err p.1))
+
+pub loop-block-preserved : goal.loop-block-preserved
+loop-block-preserved g c = record {
+  on = c.in_ok-erase.ensures.power;
+  size = c.in_ok-erase.ensures.size ∙ c.loop-block.invariant.size;
+  costs = spends_then (Ok tt) (Ok tt) _ _ _ c.loop-block.invariant.costs c.in_ok-erase.ensures.counts;
+  arming =
+      spends_then_arming tt (Ok tt) (c.loop-block.block - c.args.first) 1 _ _ _ _ _ _ _ (omega arith) c.loop-block.invariant.costs.cuts c.loop-block.invariant.arming
+      (spends_one (Ok tt) _ _ _ _ c.in_ok-erase.ensures.arming c.in_ok-erase.ensures.reached);
+  erases = λ tells.
+      let b = c.loop-block.block in
+      let s = g.D.Flash.told c.args.flash.now in
+      let room : 4096 * c.args.end ≤ length s.now = omega (arith, c.requires.inside, (g.met.D.Flash.sound c.args.flash.now tells).size) in
+      subst (Erases (Ok tt) c.args.first (b + 1) s) (sym (c.in_ok-erase.ensures.content tells))
+      (erase_more c.args.first c.args.end b s _ (omega arith) (omega arith) room _ tt (c.loop-block.invariant.erases tells));
+}
+
+pub returns-in_err-erase-clause-arming : goal.returns-in_err-erase-clause-arming
+returns-in_err-erase-clause-arming g c =
+    let p = err_from_is_err_and c.from_residual.result c.from_residual.ensures.1 in
+    spends_stopped c.in_err-erase.field-0.0 c.from_residual.result (c.loop-block.block - c.args.first + 1) _ _ _ _ _ (p.1 ∙ ap Err p.2)
+    (spends_then_arming tt (Err c.in_err-erase.field-0.0) (c.loop-block.block - c.args.first) 1 _ _ _ _ _ _ _ refl c.loop-block.invariant.costs.cuts c.loop-block.invariant.arming
+    (spends_one (Err c.in_err-erase.field-0.0) _ _ _ _ c.in_err-erase.ensures.arming c.in_err-erase.ensures.reached))
+
+pub returns-clause-arming : goal.returns-clause-arming
+returns-clause-arming g c =
+    subst (λ (n : ℕ). SpendsArming {T = Unit {0}} (Ok tt) n (g.D.Flash.arming c.args.flash.now) (g.D.Flash.arming c.loop-block.flash) (g.D.Flash.counts c.args.flash.now) (g.D.Flash.counts c.loop-block.flash)) (omega arith)
+    c.loop-block.invariant.arming

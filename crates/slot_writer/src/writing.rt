@@ -1,0 +1,207 @@
+//! Writing behind what was written.
+ghost use Rattle.std.specs.Prelude.{◌≡◌, ◌+◌, ◌-◌, ◌*◌, ◌/◌, ◌%◌, ◌<◌, ◌≤◌, ◌++◌, length, take, is_ok, IsTrue, OnOk, replicate, drop};
+ghost use Rattle.flash_core.specs.Counts.{Spends};
+ghost use Rattle.slot_writer.specs.Slots.{Appends, Erases, Finishes, IsBlankAhead, Programs, blocks_for, done_of, kept_of};
+ghost use Rattle.slot_writer.specs.Writes.{SpendsArming, writes_behind, writes_to_append, writes_to_finish};
+
+use flash_core::{Flash, FlashStop};
+
+/// What an erase takes, in bytes.
+const BLOCK: u32 = 4096;
+
+/// What a program takes, in bytes.
+const GRANULE: usize = 16;
+
+/// How many blocks so many bytes reach.
+fn blocks_for(bytes: u32) -> u32
+    requires { bytes ≤ 1048576 }
+    ensures { result ≡ blocks_for bytes }
+{
+    (bytes + (BLOCK - 1)) / BLOCK
+}
+
+/// Erases the blocks from the first to before the end, rising.
+fn erase_blocks<D: Flash>(flash: &mut D, first: u32, end: u32) -> Result<(), FlashStop>
+    requires on { IsTrue (D.on flash.old) }
+    requires inside { end ≤ D.blocks flash.old }
+    requires order { first ≤ end }
+
+    ensures erases { IsTrue D.tells → Erases result first end (D.told flash.old) (D.told flash.new) }
+    ensures power { D.on flash.new ≡ is_ok result }
+    ensures size { D.blocks flash.new ≡ D.blocks flash.old }
+    ensures arming { SpendsArming result (end - first) (D.arming flash.old) (D.arming flash.new)
+        (D.counts flash.old) (D.counts flash.new) }
+    ensures costs { Spends result (D.counts flash.old) (D.counts flash.new) }
+{
+    for block in first..end {
+        flash.erase(block)?;
+    }
+    Ok(())
+}
+
+/// Programs whole granules behind those of an image whose slot begins at a block. Before that it
+/// erases the blocks that the image reaches with them for the first time.
+fn program_behind<D: Flash>(
+    flash: &mut D,
+    first: u32,
+    done: u32,
+    bytes: &[u8],
+) -> Result<(), FlashStop>
+    requires on { IsTrue (D.on flash.old) }
+    requires behind { 8 ≤ first }
+    requires granule { done % 16 ≡ 0 }
+    requires granules { length bytes.now % 16 ≡ 0 }
+    requires size { done + length bytes.now ≤ 1048576 }
+    requires inside { first + blocks_for (done + length bytes.now) ≤ D.blocks flash.old }
+    requires ahead { IsTrue D.tells → IsBlankAhead first done (D.told flash.old).now }
+
+    ensures programs { IsTrue D.tells →
+        Programs result first done bytes.now (D.told flash.old) (D.told flash.new) }
+    ensures power { D.on flash.new ≡ is_ok result }
+    ensures size { D.blocks flash.new ≡ D.blocks flash.old }
+    ensures arming { SpendsArming result (writes_behind done (length bytes.now))
+        (D.arming flash.old) (D.arming flash.new) (D.counts flash.old) (D.counts flash.new) }
+    ensures costs { Spends result (D.counts flash.old) (D.counts flash.new) }
+{
+    if bytes.is_empty() {
+        return Ok(());
+    }
+    let end = done + bytes.len() as u32;
+    erase_blocks(flash, first + blocks_for(done), first + blocks_for(end))?;
+    flash.program(BLOCK * first + done, bytes)
+}
+
+/// Keeps bytes behind those that are kept.
+fn keep(rest: &mut [u8; 16], kept: usize, bytes: &[u8])
+    requires { kept + length bytes.now ≤ 16 }
+    ensures { take (kept + length bytes.now) rest.new ≡ take kept rest.old ++ bytes.now }
+{
+    rest[kept..kept + bytes.len()].copy_from_slice(bytes);
+}
+
+/// Appends bytes where nothing is kept.
+fn append_whole<D: Flash>(
+    flash: &mut D,
+    first: u32,
+    size: u32,
+    rest: &mut [u8; 16],
+    bytes: &[u8],
+) -> Result<(), FlashStop>
+    requires on { IsTrue (D.on flash.old) }
+    requires behind { 8 ≤ first }
+    requires granule { size % 16 ≡ 0 }
+    requires size { size + length bytes.now ≤ 1048576 }
+    requires inside { first + blocks_for (size + length bytes.now) ≤ D.blocks flash.old }
+    requires ahead { IsTrue D.tells → IsBlankAhead first size (D.told flash.old).now }
+
+    ensures appends { IsTrue D.tells →
+        Appends result first size rest.old bytes.now rest.new
+        (D.told flash.old) (D.told flash.new) }
+    ensures kept { OnOk result
+        (take (length bytes.now % 16) rest.new
+        ≡ drop (length bytes.now - length bytes.now % 16) bytes.now) }
+    ensures power { D.on flash.new ≡ is_ok result }
+    ensures size { D.blocks flash.new ≡ D.blocks flash.old }
+    ensures arming { SpendsArming result (writes_behind size (length bytes.now - length bytes.now % 16))
+        (D.arming flash.old) (D.arming flash.new) (D.counts flash.old) (D.counts flash.new) }
+    ensures costs { Spends result (D.counts flash.old) (D.counts flash.new) }
+{
+    let whole = bytes.len() - bytes.len() % GRANULE;
+    program_behind(flash, first, size, &bytes[..whole])?;
+    keep(rest, 0, &bytes[whole..]);
+    Ok(())
+}
+
+/// Appends bytes to an image whose slot begins at block `first` and that has `size` bytes so far, of
+/// which `rest` begins with those that fill no granule of 16 bytes. Whole granules are programmed,
+/// the first of them alone where bytes were kept, and what fills none is kept. A block of 4096 bytes
+/// is erased before the program that reaches it first. No barrier is made.
+///
+/// A stop is the flash's. What is kept is of no use after one.
+pub fn append<D: Flash>(
+    flash: &mut D,
+    first: u32,
+    size: u32,
+    rest: &mut [u8; 16],
+    bytes: &[u8],
+) -> Result<(), FlashStop>
+    requires on { IsTrue (D.on flash.old) }
+    requires behind { 8 ≤ first }
+    requires size { size + length bytes.now ≤ 1048576 }
+    requires inside { first + blocks_for (size + length bytes.now) ≤ D.blocks flash.old }
+    requires ahead { IsTrue D.tells → IsBlankAhead first (done_of size) (D.told flash.old).now }
+
+    ensures appends { IsTrue D.tells →
+        Appends result first size rest.old bytes.now rest.new
+        (D.told flash.old) (D.told flash.new) }
+    // on every device: the bytes that are kept, and how many erases and programs were made
+    ensures kept { OnOk result
+        (take ((size + length bytes.now) % 16) rest.new ≡ kept_of size rest.old bytes.now) }
+    ensures arming { SpendsArming result (writes_to_append size (length bytes.now))
+        (D.arming flash.old) (D.arming flash.new) (D.counts flash.old) (D.counts flash.new) }
+    ensures power { D.on flash.new ≡ is_ok result }
+    ensures size { D.blocks flash.new ≡ D.blocks flash.old }
+    ensures costs { Spends result (D.counts flash.old) (D.counts flash.new) }
+{
+    let kept = size as usize % GRANULE;
+    if kept == 0 {
+        return append_whole(flash, first, size, rest, bytes);
+    }
+    if kept + bytes.len() < GRANULE {
+        keep(rest, kept, bytes);
+        return Ok(());
+    }
+    let done = size - kept as u32;
+    let room = GRANULE - kept;
+    keep(rest, kept, &bytes[..room]);
+    program_behind(flash, first, done, &*rest)?;
+    append_whole(flash, first, done + GRANULE as u32, rest, &bytes[room..])
+}
+
+/// The kept bytes with 0xFF behind them.
+fn padded(rest: &[u8; 16], kept: usize) -> [u8; 16]
+    requires { kept ≤ 16 }
+    ensures { result ≡ take kept rest.now ++ replicate (16 - kept) 255 }
+{
+    let mut last = [0xFF; 16];
+    last[..kept].copy_from_slice(&rest[..kept]);
+    last
+}
+
+/// How many bytes of whole granules so many kept bytes take: one granule, or none.
+fn granule_for(kept: usize) -> usize
+    requires { kept < 16 }
+    ensures { result ≡ 16 * ((kept + 15) / 16) }
+{
+    if kept == 0 { 0 } else { GRANULE }
+}
+
+/// Ends an image whose slot begins at block `first` and that has `size` bytes, of which `rest` begins
+/// with those that fill no granule: they are programmed, with 0xFF up to 16 bytes, behind an erase
+/// where they begin a block. A barrier is made in any case.
+pub fn finish<D: Flash>(
+    flash: &mut D,
+    first: u32,
+    size: u32,
+    rest: &[u8; 16],
+) -> Result<(), FlashStop>
+    requires on { IsTrue (D.on flash.old) }
+    requires behind { 8 ≤ first }
+    requires size { size ≤ 1048576 }
+    requires inside { first + blocks_for size ≤ D.blocks flash.old }
+    requires ahead { IsTrue D.tells → IsBlankAhead first (done_of size) (D.told flash.old).now }
+
+    ensures finishes { IsTrue D.tells →
+        Finishes result first size rest.now (D.told flash.old) (D.told flash.new) }
+    // on every device: how many erases and programs were made
+    ensures arming { SpendsArming result (writes_to_finish size)
+        (D.arming flash.old) (D.arming flash.new) (D.counts flash.old) (D.counts flash.new) }
+    ensures power { D.on flash.new ≡ is_ok result }
+    ensures size { D.blocks flash.new ≡ D.blocks flash.old }
+    ensures costs { Spends result (D.counts flash.old) (D.counts flash.new) }
+{
+    let kept = size as usize % GRANULE;
+    let last = padded(rest, kept);
+    program_behind(flash, first, size - kept as u32, &last[..granule_for(kept)])?;
+    flash.barrier()
+}
