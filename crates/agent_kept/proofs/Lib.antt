@@ -1,0 +1,4 @@
+pub mod Installable
+pub mod Grown
+pub mod Sounds
+pub mod Changes

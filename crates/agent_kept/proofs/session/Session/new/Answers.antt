@@ -1,0 +1,20 @@
+use Rattle.std.proofs.Common.{◌≡◌, ◌++◌, ℕ, false, List, length, take, get_or, replicate, sym, subst, arith}
+use Rattle.std.proofs.lemmas.Grind.{common_steps}
+use Rattle.fwu_formats.specs.Layout.{ImageRow}
+use Rattle.agent_kept.specs.declared.parts.Handle.TheVariants.{Free}
+use Rattle.agent_kept.specs.Sound.{IsSound}
+use Rattle.agent_kept.proofs.Sounds.{new-sound}
+use Rattle.agent_kept.proofs.session.Session.new.Goals as goal
+
+took : (xs ys zs : List ImageRow) → ys ≡ xs → take (length xs) (ys ++ zs) ≡ xs
+took xs ys zs e = grind (arith, common_steps)
+
+frees : (n place : ℕ) → get_or (replicate n Free) place Free ≡ Free
+frees n place = grind (arith, common_steps)
+
+pub invariant_of-result : goal.invariant_of-result
+invariant_of-result c = record {
+  few = c.requires.few;
+  sound = subst (λ (l : List ImageRow). IsSound false l c.no_parts.result (replicate 32 Free)) (sym (took c.args.rows.now c.copy_from_slice.new.self _ (c.copy_from_slice.ensures.after)))
+      (new-sound false c.args.rows.now c.no_parts.result (replicate 32 Free) c.requires.few c.requires.slots c.no_parts.ensures (frees 32));
+}

@@ -1,0 +1,225 @@
+//! What an agent keeps between its calls.
+ghost use Rattle.std.specs.Prelude.{◌≡◌, ◌+◌, ◌<◌, ◌≤◌, ◌++◌, ℕ, length, take, slice_index_or};
+ghost use Rattle.agent_kept.specs.Sound.{IsSound};
+ghost use Rattle.agent_kept.specs.Fronts.{FrontGrows};
+
+use crate::parts::{Handle, Part};
+use base_core::{Guid, ImageRow};
+use sha2::{Digest, Sha256};
+use std::{array, mem};
+
+/// How many handles there are.
+pub const HANDLES: usize = 32;
+
+/// The most bytes that a manifest has.
+pub const FRONT: usize = 888;
+
+/// The images that are staged and the handles that are open.
+#[derive(Drop)]
+pub struct Session {
+    pub images: usize,
+    pub rows: [ImageRow; 16],
+    pub staging: bool,
+    pub parts: [Part; 16],
+    pub front: [u8; 888],
+    pub handles: [Handle; 32],
+    ghost few: { images ≤ 16 },
+    ghost sound: { IsSound staging (take images rows) parts handles },
+}
+
+/// Puts bytes behind the first ones.
+fn put_front(front: &mut [u8; 888], at: usize, bytes: &[u8])
+    requires { at + length bytes.now ≤ 888 }
+    ensures { take (at + length bytes.now) front.new ≡ take at front.old ++ bytes.now }
+{
+    front[at..at + bytes.len()].copy_from_slice(bytes);
+}
+
+/// Keeps bytes behind the first ones, as far as there is room.
+fn keep_front(front: &mut [u8; 888], size: usize, bytes: &[u8])
+    requires { size ≤ 1048576 }
+    ensures { FrontGrows size bytes.now front.old front.new }
+{
+    let at = size.min(888);
+    let count = bytes.len().min(888 - at);
+    put_front(front, at, &bytes[..count]);
+}
+
+/// Nothing of each image.
+fn no_parts() -> [Part; 16]
+    ensures { (image : ℕ) → slice_index_or result image Part.Nothing ≡ Part.Nothing }
+{
+    array::from_fn(|_image| Part::Nothing)
+}
+
+impl Session {
+    ghost use Rattle.std.specs.Prelude.{replicate, slice_set, ◌≢◌, ◌+◌, IsTrue, ℕ, ◌-◌, List, Option, Some, None, false, true, length, take, slice_index_or, IfSome};
+    ghost use Rattle.fwu_formats.specs.Layout.{find_image};
+    ghost use Rattle.agent_kept.specs.Kept.{kept, part_at, handle_kept, HasNothing, size_of, committed_size, is_part_open, slot_of, IsSound, GrowsPart, SameBesideParts, GrowsFront, OpensPart, CommitsPart};
+    /// Nothing is staged of the images of a layout, and no handle is open.
+    pub fn new(rows: &[ImageRow]) -> Session
+        requires few { length rows.now ≤ 16 }
+        requires slots { (image : ℕ) → slot_of rows.now image ≤ 1048576 }
+        ensures rows { (kept result).rows ≡ rows.now }
+        ensures nothing { HasNothing (kept result) }
+        ensures idle { (kept result).staging ≡ false }
+        ensures closed { (kept result).handles ≡ replicate 32 Handle.Free }
+    {
+        let none = ImageRow {
+            guid: Guid::nil(),
+            slots: 0,
+        };
+        let mut own = [none; 16];
+        own[..rows.len()].copy_from_slice(rows);
+        Session {
+            images: rows.len(),
+            rows: own,
+            staging: false,
+            parts: no_parts(),
+            front: [0; 888],
+            handles: [Handle::Free; 32],
+        }
+    }
+
+    /// The images, in the order of their slots.
+    pub fn rows(&self) -> &[ImageRow]
+        ensures value { result.now ≡ (kept self.now).rows }
+        ensures few { length result.now ≤ 16 }
+    {
+        &self.rows[..self.images]
+    }
+
+    /// The number of the image of a type.
+    pub fn find(&self, guid: &Guid) -> Option<usize>
+        ensures value { result ≡ find_image (kept self.now).rows guid.now }
+        ensures within { IfSome result (λ image. image < length (kept self.now).rows) }
+    {
+        self.rows().iter().position(|row| row.guid.is(guid))
+    }
+
+    /// The handle of a number from 1 on, and a free one for another number.
+    pub fn handle(&self, number: u32) -> Handle
+        ensures zero { number ≡ 0 → result ≡ Handle.Free }
+        ensures at { 0 < number → result ≡ handle_kept (kept self.now) (number - 1) }
+    {
+        if number == 0 || number > 32 {
+            return Handle::Free;
+        }
+        self.handles[number as usize - 1]
+    }
+
+    /// How many bytes were written of an image that is committed.
+    pub fn staged(&self, image: u32) -> Option<u32>
+        requires { image < 16 }
+        ensures { result ≡ committed_size (kept self.now) image }
+    {
+        if !self.staging {
+            return None;
+        }
+        match &self.parts[image as usize] {
+            Part::Committed { size, .. } => Some(*size),
+            Part::Nothing | Part::Open { .. } => None,
+        }
+    }
+
+    /// Counts and hashes bytes that were written behind an open image.
+    pub fn append(&mut self, image: usize, bytes: &[u8])
+        requires within { image < length (kept self.old).rows }
+        requires opened { IsTrue (is_part_open (part_at (kept self.old) image)) }
+        requires size { size_of (part_at (kept self.old) image) + length bytes.now ≤ slot_of (kept self.old).rows image }
+        ensures grows { GrowsPart (part_at (kept self.old) image) (part_at (kept self.new) image) bytes.now }
+        ensures others { (other : ℕ) → other ≢ image → part_at (kept self.new) other ≡ part_at (kept self.old) other }
+        ensures rest { SameBesideParts (kept self.old) (kept self.new) }
+        ensures front { GrowsFront image (size_of (part_at (kept self.old) image)) bytes.now (kept self.old).front (kept self.new).front }
+    {
+        if image == 0 {
+            let size = self.parts[image].size() as usize;
+            keep_front(&mut self.front, size, bytes);
+        }
+        match &mut self.parts[image] {
+            Part::Open { size, hasher } => {
+                hasher.update(bytes);
+                *size += bytes.len() as u32;
+            }
+            Part::Nothing | Part::Committed { .. } => {}
+        }
+    }
+
+    /// From here on nothing is kept of any image, and no handle is open. A package may be staged, or not.
+    pub fn restart(&mut self, staging: bool)
+        ensures rows { (kept self.new).rows ≡ (kept self.old).rows }
+        ensures staging { (kept self.new).staging ≡ staging }
+        ensures nothing { HasNothing (kept self.new) }
+        ensures closed { (kept self.new).handles ≡ replicate 32 Handle.Free }
+    {
+        self.staging = staging;
+        self.parts = no_parts();
+        self.handles = [Handle::Free; 32];
+    }
+
+    /// The handle of a number from 1 to 32 reads an image or, where there is none, the directory, from
+    /// this place on, in bytes. What it reads has this total.
+    pub fn set_reader(&mut self, number: u32, image: Option<u32>, at: u32, total: u32)
+        requires number { (1 ≤ number) × (number ≤ 32) }
+        requires within { at ≤ total }
+        ensures { kept self.new ≡ record (kept self.old) {
+          handles = slice_set (kept self.old).handles (number - 1) (Handle.Reads image at total);
+        } }
+    {
+        self.handles[number as usize - 1] = Handle::Reads { image, at, total };
+    }
+
+    /// The handle of a number from 1 to 32 is free from here on.
+    pub fn close(&mut self, number: u32)
+        requires number { (1 ≤ number) × (number ≤ 32) }
+        ensures { kept self.new ≡ record (kept self.old) {
+          handles = slice_set (kept self.old).handles (number - 1) Handle.Free;
+        } }
+    {
+        self.handles[number as usize - 1] = Handle::Free;
+    }
+
+    /// An image of the staged package is open from here on, without bytes, and the handle of a number
+    /// from 1 to 32 writes it.
+    pub fn open_part(&mut self, number: u32, image: u32)
+        requires number { (1 ≤ number) × (number ≤ 32) }
+        requires within { image < length (kept self.old).rows }
+        requires staging { (kept self.old).staging ≡ true }
+        requires closed { is_part_open (part_at (kept self.old) image) ≡ false }
+        ensures opens { OpensPart (kept self.old) image (number - 1) (kept self.new) }
+    {
+        self.parts[image as usize] = Part::Open {
+            size: 0,
+            hasher: Sha256::new(),
+        };
+        self.handles[number as usize - 1] = Handle::Writes { image };
+    }
+
+    /// The image that the handle of a number from 1 to 32 writes is committed, with this bit, and the
+    /// handle is free.
+    pub fn commit_part(&mut self, number: u32, image: u32, bit: bool)
+        requires number { (1 ≤ number) × (number ≤ 32) }
+        requires writes { handle_kept (kept self.old) (number - 1) ≡ Handle.Writes image }
+        ensures commits { CommitsPart (kept self.old) image (number - 1) bit (kept self.new) }
+    {
+        let part = mem::replace(&mut self.parts[image as usize], Part::Nothing);
+        self.parts[image as usize] = part.committed(bit);
+        self.handles[number as usize - 1] = Handle::Free;
+    }
+
+    /// How many bytes an image has room for.
+    pub fn slot(&self, image: usize) -> u32
+        requires { image < length (kept self.now).rows }
+        ensures { result ≡ slot_of (kept self.now).rows image }
+    {
+        4096 * self.rows[image].slots
+    }
+
+    /// How many bytes were written of an image.
+    pub fn size(&self, image: usize) -> u32
+        requires { image < 16 }
+        ensures { result ≡ size_of (part_at (kept self.now) image) }
+    {
+        self.parts[image].size()
+    }
+}

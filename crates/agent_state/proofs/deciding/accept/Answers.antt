@@ -1,0 +1,72 @@
+use Rattle.std.proofs.Common.{◌≡◌, ℕ, ◌+◌, ◌-◌, ◌*◌, ◌<◌, ◌≤◌, min, ◌==◌, ◌&&◌, ◌||◌, not, Bool, true, false, cond, leb, List, [], length, get_or, Option, Some, None, refl, sym, ap, ap₂, ◌∙◌, subst, arith, IsTrue}
+use Rattle.std.proofs.lemmas.Grind.{common_steps}
+use Rattle.std.proofs.lemmas.Bool.{lt-ltb, le-ltb, eqb-true, eq-eqb}
+use Rattle.fwu_model.specs.declared.kinds.Status.TheVariants as status
+use Rattle.fwu_model.specs.declared.kinds.Op.TheVariants as op
+use Rattle.fwu_model.specs.Session.{Staged, On, is_open, is_committed}
+use Rattle.agent_kept.specs.declared.parts.Part.{Part}
+use Rattle.fwu_model.specs.Session as session
+use Rattle.fwu_model.specs.State.{is_invalid, bank, update_bank}
+use Rattle.fwu_formats.specs.Layout.{ImageRow, find_image}
+use Rattle.fwu_formats.specs.Metadata.{state_at}
+use Rattle.fwu_model.specs.Call as call
+use Rattle.agent_kept.specs.declared.kinds.Decision.TheVariants.{Refused, Do, ByVerdict}
+use Rattle.agent_kept.specs.declared.kinds.Plan.TheVariants as plan
+use Rattle.agent_kept.specs.declared.parts.Handle.TheVariants.{Free, Reads, Writes}
+use Rattle.agent_kept.specs.Kept.{kept, handles_meant, session_meant, staging_meant, parts_meant, part_meant, handle_meant}
+use Rattle.fwu_model.specs.declared.kinds.Op.{Op}
+use Rattle.agent_kept.specs.declared.kinds.Request.TheVariants as request
+use Rattle.agent_kept.specs.Plans.{DecidesAs, call_of, by_verdict}
+use Rattle.fwu_model.specs.Answer.{answer, may_go_back}
+use Rattle.meta_layout.proofs.Fits.{meta-fits, row-length}
+use Rattle.agent_state.proofs.Machine as machine
+use Rattle.agent_state.proofs.Replies as replies
+use Rattle.agent_state.proofs.deciding.accept.Goals as goal
+
+pub returns-then-not-may_accept : goal.returns-then-not-may_accept
+returns-then-not-may_accept c = record {
+  decides = λ passes counter E s staged bytes speaks fits.
+      let k = kept c.args.session.now in
+      let m = c.args.meta.now in
+      let boot = c.args.boot_index in
+      let stg = staging_meant k staged in
+      let hs = handles_meant k in
+      replies.accept-denied E s boot bytes k m.meta.active staged c.args.guid.now (machine.active-is s m speaks.meta) (sym c.may_accept.ensures ∙ c.if-not-may_accept.true);
+}
+
+pub bit-requires-clause-below : goal.bit-requires-clause-below
+bit-requires-clause-below c =
+    let f = meta-fits _ c.args.meta.now.meta c.requires.fits in
+    omega (arith, f.active, f.bits, c.active.ensures)
+
+pub bit-requires-clause-within : goal.bit-requires-clause-within
+bit-requires-clause-within c =
+    let f = meta-fits _ c.args.meta.now.meta c.requires.fits in
+    let long = row-length _ c.args.meta.now.meta c.active.result f (omega (arith, f.active, c.active.ensures)) in
+    let low = c.in-Some.ensures.within in
+    omega (arith, long, low)
+
+pub returns-in-None : goal.returns-in-None
+returns-in-None c = record {
+  decides = λ passes counter E s staged bytes speaks fits.
+      let k = kept c.args.session.now in
+      let m = c.args.meta.now in
+      let boot = c.args.boot_index in
+      let stg = staging_meant k staged in
+      let hs = handles_meant k in
+      let on = replies.accepting k.staging (boot == m.meta.active) (sym c.may_accept.ensures ∙ c.if-not-may_accept.false) in
+      subst (λ (x : Option (List Staged)). DecidesAs E s (On boot x hs) (call.Accepts c.args.guid.now) bytes (Refused status.Unknown)) (sym (machine.is-idle k staged on.0)) (replies.accept-unknown E s boot hs bytes c.args.guid.now (sym (machine.elsewhere-is s m speaks.meta boot) ∙ ap not on.1) (ap (λ (l : List ImageRow). find_image l c.args.guid.now) (sym speaks.rows) ∙ sym c.find.ensures.value ∙ c.in-None.is));
+}
+
+pub returns-in-Some : goal.returns-in-Some
+returns-in-Some c = record {
+  decides = λ passes counter E s staged bytes speaks fits.
+      let k = kept c.args.session.now in
+      let m = c.args.meta.now in
+      let boot = c.args.boot_index in
+      let stg = staging_meant k staged in
+      let hs = handles_meant k in
+      let on = replies.accepting k.staging (boot == m.meta.active) (sym c.may_accept.ensures ∙ c.if-not-may_accept.false) in
+      let bit = c.bit.ensures ∙ ap (λ (b : ℕ). get_or (get_or m.meta.bits b []) c.in-Some.image false) (c.active.ensures ∙ machine.active-is s m speaks.meta) ∙ ap (λ (l : List Bool). get_or l c.in-Some.image false) (machine.bits-is s m speaks.meta s.active) in
+      subst (λ (x : Option (List Staged)). DecidesAs E s (On boot x hs) (call.Accepts c.args.guid.now) bytes (Do (plan.Accept c.in-Some.image (not c.bit.result)))) (sym (machine.is-idle k staged on.0)) (replies.accept-does E s boot hs bytes c.args.guid.now c.in-Some.image (not c.bit.result) (sym (machine.elsewhere-is s m speaks.meta boot) ∙ ap not on.1) (ap (λ (l : List ImageRow). find_image l c.args.guid.now) (sym speaks.rows) ∙ sym c.find.ensures.value ∙ c.in-Some.is) (ap not bit));
+}

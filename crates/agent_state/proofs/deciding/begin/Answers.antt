@@ -1,0 +1,58 @@
+use Rattle.std.proofs.Common.{◌≡◌, ℕ, ◌+◌, ◌-◌, ◌*◌, ◌<◌, ◌≤◌, min, ◌==◌, ◌&&◌, ◌||◌, not, Bool, true, false, cond, leb, List, length, get_or, Option, Some, None, refl, sym, ap, ap₂, ◌∙◌, subst, arith, IsTrue}
+use Rattle.std.proofs.lemmas.Grind.{common_steps}
+use Rattle.std.proofs.lemmas.Bool.{lt-ltb, le-ltb, eqb-true, eq-eqb}
+use Rattle.fwu_model.specs.declared.kinds.Status.TheVariants as status
+use Rattle.fwu_model.specs.declared.kinds.Op.TheVariants as op
+use Rattle.fwu_model.specs.Session.{Staged, On, is_open, is_committed}
+use Rattle.agent_kept.specs.declared.parts.Part.{Part}
+use Rattle.fwu_model.specs.Session as session
+use Rattle.fwu_model.specs.State.{is_invalid, bank, update_bank}
+use Rattle.fwu_formats.specs.Layout.{ImageRow, find_image}
+use Rattle.fwu_formats.specs.Metadata.{state_at}
+use Rattle.fwu_model.specs.Call as call
+use Rattle.agent_kept.specs.declared.kinds.Decision.TheVariants.{Refused, Do, ByVerdict}
+use Rattle.agent_kept.specs.declared.kinds.Plan.TheVariants as plan
+use Rattle.agent_kept.specs.declared.parts.Handle.TheVariants.{Free, Reads, Writes}
+use Rattle.agent_kept.specs.Kept.{kept, handles_meant, session_meant, staging_meant, parts_meant, part_meant, handle_meant}
+use Rattle.fwu_model.specs.declared.kinds.Op.{Op}
+use Rattle.agent_kept.specs.declared.kinds.Request.TheVariants as request
+use Rattle.agent_kept.specs.Plans.{DecidesAs, call_of, by_verdict}
+use Rattle.fwu_model.specs.Answer.{answer, may_go_back}
+use Rattle.agent_state.proofs.Machine as machine
+use Rattle.agent_state.proofs.Replies as replies
+use Rattle.agent_state.proofs.deciding.begin.Goals as goal
+
+pub returns-then-cannot_begin : goal.returns-then-cannot_begin
+returns-then-cannot_begin c = record {
+  decides = λ passes counter E s staged bytes speaks fits.
+      let k = kept c.args.session.now in
+      let m = c.args.meta.now in
+      let boot = c.args.boot_index in
+      let stg = staging_meant k staged in
+      let hs = handles_meant k in
+      replies.begin-denied E s boot stg hs bytes c.args.partial_count (sym (machine.cannot-is s m speaks.meta k boot staged) ∙ sym c.cannot_begin.ensures ∙ c.if-cannot_begin.true);
+}
+
+pub returns-then-partial_count-ne0 : goal.returns-then-partial_count-ne0
+returns-then-partial_count-ne0 c = record {
+  decides = λ passes counter E s staged bytes speaks fits.
+      let k = kept c.args.session.now in
+      let m = c.args.meta.now in
+      let boot = c.args.boot_index in
+      let stg = staging_meant k staged in
+      let hs = handles_meant k in
+      replies.begin-late E s boot stg hs bytes c.args.partial_count (sym (machine.cannot-is s m speaks.meta k boot staged) ∙ sym c.cannot_begin.ensures ∙ c.if-cannot_begin.false) c.if-partial_count-ne0.true;
+}
+
+pub returns : goal.returns
+returns c = record {
+  decides = λ passes counter E s staged bytes speaks fits.
+      let k = kept c.args.session.now in
+      let m = c.args.meta.now in
+      let boot = c.args.boot_index in
+      let stg = staging_meant k staged in
+      let hs = handles_meant k in
+      let used = ap is_invalid (c.state.ensures ∙ ap (state_at m.meta) (c.update_bank.ensures.value ∙ machine.next-is s m speaks.meta) ∙ machine.state-is s m speaks.meta (update_bank s)) in
+      replies.begin-does E s boot stg hs bytes c.args.partial_count (not c.is_invalid-store.result) (sym (machine.cannot-is s m speaks.meta k boot staged) ∙ sym c.cannot_begin.ensures ∙ c.if-cannot_begin.false) c.if-partial_count-ne0.false
+      (ap not (c.is_invalid-store.ensures ∙ used));
+}

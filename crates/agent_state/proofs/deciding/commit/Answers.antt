@@ -1,0 +1,50 @@
+use Rattle.std.proofs.Common.{◌≡◌, ℕ, ◌+◌, ◌-◌, ◌*◌, ◌<◌, ◌≤◌, min, ◌==◌, ◌&&◌, ◌||◌, not, Bool, true, false, cond, leb, List, length, get_or, Option, Some, None, refl, sym, ap, ap₂, ◌∙◌, subst, arith, IsTrue}
+use Rattle.std.proofs.lemmas.Grind.{common_steps}
+use Rattle.std.proofs.lemmas.Bool.{lt-ltb, le-ltb, eqb-true, eq-eqb}
+use Rattle.fwu_model.specs.declared.kinds.Status.TheVariants as status
+use Rattle.fwu_model.specs.declared.kinds.Op.TheVariants as op
+use Rattle.fwu_model.specs.Session.{Staged, On, is_open, is_committed}
+use Rattle.agent_kept.specs.declared.parts.Part.{Part}
+use Rattle.fwu_model.specs.Session as session
+use Rattle.fwu_model.specs.State.{is_invalid, bank, update_bank}
+use Rattle.fwu_formats.specs.Layout.{ImageRow, find_image}
+use Rattle.fwu_formats.specs.Metadata.{state_at}
+use Rattle.fwu_model.specs.Call as call
+use Rattle.agent_kept.specs.declared.kinds.Decision.TheVariants.{Refused, Do, ByVerdict}
+use Rattle.agent_kept.specs.declared.kinds.Plan.TheVariants as plan
+use Rattle.agent_kept.specs.declared.parts.Handle.TheVariants.{Free, Reads, Writes}
+use Rattle.agent_kept.specs.Kept.{kept, handles_meant, session_meant, staging_meant, parts_meant, part_meant, handle_meant}
+use Rattle.fwu_model.specs.declared.kinds.Op.{Op}
+use Rattle.agent_kept.specs.declared.kinds.Request.TheVariants as request
+use Rattle.agent_kept.specs.Plans.{DecidesAs, call_of, by_verdict}
+use Rattle.fwu_model.specs.Answer.{answer, may_go_back}
+use Rattle.agent_state.proofs.Machine as machine
+use Rattle.agent_state.proofs.Replies as replies
+use Rattle.agent_state.proofs.deciding.commit.Goals as goal
+
+pub returns-in-Free : goal.returns-in-Free
+returns-in-Free c = record {
+  decides = λ m boot passes counter E s staged bytes speaks fits.
+      let k = kept c.args.session.now in
+      let stg = staging_meant k staged in
+      let hs = handles_meant k in
+      replies.commit-free E s boot stg hs bytes c.args.handle c.args.acceptance_req (machine.handle-is k c.args.handle c.handle.result c.handle.ensures.zero c.handle.ensures.at ∙ ap handle_meant c.in-Free.is);
+}
+
+pub returns-in-Reads : goal.returns-in-Reads
+returns-in-Reads c = record {
+  decides = λ m boot passes counter E s staged bytes speaks fits.
+      let k = kept c.args.session.now in
+      let stg = staging_meant k staged in
+      let hs = handles_meant k in
+      replies.commit-reads E s boot stg hs bytes c.args.handle c.args.acceptance_req c.in-Reads.image c.in-Reads.at (c.args.acceptance_req == 0) (machine.handle-is k c.args.handle c.handle.result c.handle.ensures.zero c.handle.ensures.at ∙ ap handle_meant c.in-Reads.is);
+}
+
+pub returns-in-Writes : goal.returns-in-Writes
+returns-in-Writes c = record {
+  decides = λ m boot passes counter E s staged bytes speaks fits.
+      let k = kept c.args.session.now in
+      let stg = staging_meant k staged in
+      let hs = handles_meant k in
+      replies.commit-writes E s boot stg hs bytes c.args.handle c.args.acceptance_req c.in-Writes.image (c.args.acceptance_req == 0) (machine.handle-is k c.args.handle c.handle.result c.handle.ensures.zero c.handle.ensures.at ∙ ap handle_meant c.in-Writes.is) refl;
+}

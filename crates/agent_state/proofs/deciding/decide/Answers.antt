@@ -1,0 +1,65 @@
+use Rattle.std.proofs.Common.{◌≡◌, ℕ, ◌+◌, ◌-◌, ◌*◌, ◌<◌, ◌≤◌, min, ◌==◌, ◌&&◌, ◌||◌, not, Bool, true, false, cond, leb, List, length, get_or, Option, Some, None, refl, sym, ap, ap₂, ◌∙◌, subst, arith, IsTrue}
+use Rattle.std.proofs.lemmas.Grind.{common_steps}
+use Rattle.std.proofs.lemmas.Bool.{lt-ltb, le-ltb, eqb-true, eq-eqb}
+use Rattle.fwu_model.specs.declared.kinds.Status.TheVariants as status
+use Rattle.fwu_model.specs.declared.kinds.Op.TheVariants as op
+use Rattle.fwu_model.specs.Session.{Staged, On, is_open, is_committed}
+use Rattle.agent_kept.specs.declared.parts.Part.{Part}
+use Rattle.fwu_model.specs.Session as session
+use Rattle.fwu_model.specs.State.{is_invalid, bank, update_bank}
+use Rattle.fwu_formats.specs.Layout.{ImageRow, find_image}
+use Rattle.fwu_formats.specs.Metadata.{state_at}
+use Rattle.fwu_model.specs.Call as call
+use Rattle.agent_kept.specs.declared.kinds.Decision.TheVariants.{Refused, Do, ByVerdict}
+use Rattle.agent_kept.specs.declared.kinds.Plan.TheVariants as plan
+use Rattle.agent_kept.specs.declared.parts.Handle.TheVariants.{Free, Reads, Writes}
+use Rattle.agent_kept.specs.Kept.{kept, handles_meant, session_meant, staging_meant, parts_meant, part_meant, handle_meant}
+use Rattle.fwu_model.specs.declared.kinds.Op.{Op}
+use Rattle.agent_kept.specs.declared.kinds.Request.TheVariants as request
+use Rattle.agent_kept.specs.Plans.{DecidesAs, call_of, by_verdict}
+use Rattle.fwu_model.specs.Answer.{answer, may_go_back}
+use Rattle.meta_layout.proofs.Fits.{meta-fits}
+use Rattle.agent_kept.specs.declared.kinds.Request.{Request}
+use Rattle.agent_state.specs.Decides.{Decides}
+use Rattle.agent_state.proofs.Machine as machine
+use Rattle.agent_state.proofs.Replies as replies
+use Rattle.agent_state.proofs.deciding.decide.Goals as goal
+
+pub returns-in-Discover : goal.returns-in-Discover
+returns-in-Discover g c = record { decides = subst (λ (r : Request). Decides (g.V.Verifier.passes c.args.verifier.now) c.args.meta.now c.args.counter (kept c.args.session.now) c.args.boot_index r (Do plan.Tell)) (sym c.in-Discover.is) (λ E s staged bytes speaks fits. replies.discover-tells E s c.args.boot_index (staging_meant (kept c.args.session.now) staged) (handles_meant (kept c.args.session.now)) bytes) }
+
+pub returns-in-Begin : goal.returns-in-Begin
+returns-in-Begin g c = record { decides = subst (λ (r : Request). Decides (g.V.Verifier.passes c.args.verifier.now) c.args.meta.now c.args.counter (kept c.args.session.now) c.args.boot_index r c.begin.result) (sym c.in-Begin.is) (c.begin.ensures.decides (g.V.Verifier.passes c.args.verifier.now) c.args.counter) }
+
+pub returns-in-Open : goal.returns-in-Open
+returns-in-Open g c = record { decides = subst (λ (r : Request). Decides (g.V.Verifier.passes c.args.verifier.now) c.args.meta.now c.args.counter (kept c.args.session.now) c.args.boot_index r c.open.result) (sym c.in-Open.is) (c.open.ensures.decides c.args.meta.now c.args.boot_index (g.V.Verifier.passes c.args.verifier.now) c.args.counter) }
+
+pub returns-in-Write : goal.returns-in-Write
+returns-in-Write g c = record { decides = subst (λ (r : Request). Decides (g.V.Verifier.passes c.args.verifier.now) c.args.meta.now c.args.counter (kept c.args.session.now) c.args.boot_index r c.write.result) (sym c.in-Write.is) (c.write.ensures.decides c.args.meta.now c.args.boot_index (g.V.Verifier.passes c.args.verifier.now) c.args.counter) }
+
+pub returns-in-Read : goal.returns-in-Read
+returns-in-Read g c = record { decides = subst (λ (r : Request). Decides (g.V.Verifier.passes c.args.verifier.now) c.args.meta.now c.args.counter (kept c.args.session.now) c.args.boot_index r c.read.result) (sym c.in-Read.is) (c.read.ensures.decides c.args.meta.now c.args.boot_index (g.V.Verifier.passes c.args.verifier.now) c.args.counter) }
+
+pub returns-in-Commit : goal.returns-in-Commit
+returns-in-Commit g c = record { decides = subst (λ (r : Request). Decides (g.V.Verifier.passes c.args.verifier.now) c.args.meta.now c.args.counter (kept c.args.session.now) c.args.boot_index r c.commit.result) (sym c.in-Commit.is) (c.commit.ensures.decides c.args.meta.now c.args.boot_index (g.V.Verifier.passes c.args.verifier.now) c.args.counter) }
+
+pub returns-in-End : goal.returns-in-End
+returns-in-End g c = record { decides = subst (λ (r : Request). Decides (g.V.Verifier.passes c.args.verifier.now) c.args.meta.now c.args.counter (kept c.args.session.now) c.args.boot_index r c.end.result) (sym c.in-End.is) (c.end.ensures.decides c.args.meta.now c.args.boot_index) }
+
+pub returns-in-Cancel : goal.returns-in-Cancel
+returns-in-Cancel g c = record { decides = subst (λ (r : Request). Decides (g.V.Verifier.passes c.args.verifier.now) c.args.meta.now c.args.counter (kept c.args.session.now) c.args.boot_index r c.cancel.result) (sym c.in-Cancel.is) (c.cancel.ensures.decides c.args.meta.now c.args.boot_index (g.V.Verifier.passes c.args.verifier.now) c.args.counter) }
+
+pub returns-in-Accept : goal.returns-in-Accept
+returns-in-Accept g c = record { decides = subst (λ (r : Request). Decides (g.V.Verifier.passes c.args.verifier.now) c.args.meta.now c.args.counter (kept c.args.session.now) c.args.boot_index r c.accept.result) (sym c.in-Accept.is) (c.accept.ensures.decides (g.V.Verifier.passes c.args.verifier.now) c.args.counter) }
+
+pub returns-in-Previous : goal.returns-in-Previous
+returns-in-Previous g c = record { decides = subst (λ (r : Request). Decides (g.V.Verifier.passes c.args.verifier.now) c.args.meta.now c.args.counter (kept c.args.session.now) c.args.boot_index r c.previous.result) (sym c.in-Previous.is) (c.previous.ensures.decides (g.V.Verifier.passes c.args.verifier.now) c.args.counter) }
+
+pub begin-requires : goal.begin-requires
+begin-requires g c = record { active = (meta-fits _ c.args.meta.now.meta c.requires.fits).active }
+
+pub previous-requires-clause-active : goal.previous-requires-clause-active
+previous-requires-clause-active g c = (meta-fits _ c.args.meta.now.meta c.requires.fits).active
+
+pub previous-requires-clause-previous : goal.previous-requires-clause-previous
+previous-requires-clause-previous g c = (meta-fits _ c.args.meta.now.meta c.requires.fits).previous

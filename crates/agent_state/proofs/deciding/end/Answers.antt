@@ -1,0 +1,61 @@
+use Rattle.std.proofs.Common.{◌≡◌, ℕ, ◌+◌, ◌-◌, ◌*◌, ◌<◌, ◌≤◌, min, ◌==◌, ◌&&◌, ◌||◌, not, Bool, true, false, cond, leb, List, length, get_or, Option, Some, None, refl, sym, ap, ap₂, ◌∙◌, subst, arith, IsTrue}
+use Rattle.std.proofs.lemmas.Grind.{common_steps}
+use Rattle.std.proofs.lemmas.Bool.{lt-ltb, le-ltb, eqb-true, eq-eqb}
+use Rattle.fwu_model.specs.declared.kinds.Status.TheVariants as status
+use Rattle.fwu_model.specs.declared.kinds.Op.TheVariants as op
+use Rattle.fwu_model.specs.Session.{Staged, On, is_open, is_committed}
+use Rattle.agent_kept.specs.declared.parts.Part.{Part}
+use Rattle.fwu_model.specs.Session as session
+use Rattle.fwu_model.specs.State.{is_invalid, bank, update_bank}
+use Rattle.fwu_formats.specs.Layout.{ImageRow, find_image}
+use Rattle.fwu_formats.specs.Metadata.{state_at}
+use Rattle.fwu_model.specs.Call as call
+use Rattle.agent_kept.specs.declared.kinds.Decision.TheVariants.{Refused, Do, ByVerdict}
+use Rattle.agent_kept.specs.declared.kinds.Plan.TheVariants as plan
+use Rattle.agent_kept.specs.declared.parts.Handle.TheVariants.{Free, Reads, Writes}
+use Rattle.agent_kept.specs.Kept.{kept, handles_meant, session_meant, staging_meant, parts_meant, part_meant, handle_meant}
+use Rattle.fwu_model.specs.declared.kinds.Op.{Op}
+use Rattle.agent_kept.specs.declared.kinds.Request.TheVariants as request
+use Rattle.agent_kept.specs.Plans.{DecidesAs, call_of, by_verdict}
+use Rattle.fwu_model.specs.Answer.{answer, may_go_back}
+use Rattle.agent_kept.specs.Judged.{is_installable}
+use Rattle.agent_kept.proofs.Installable.{judging-exact}
+use Rattle.agent_state.proofs.Machine as machine
+use Rattle.agent_state.proofs.Replies as replies
+use Rattle.agent_state.proofs.deciding.end.Goals as goal
+
+pub returns-then-not-session : goal.returns-then-not-session
+returns-then-not-session g c = record {
+  decides = λ m boot E s staged bytes speaks fits.
+      let k = kept c.args.session.now in
+      let stg = staging_meant k staged in
+      let hs = handles_meant k in
+      subst (λ (x : Option (List Staged)). DecidesAs E s (On boot x hs) call.End bytes (Refused status.Denied)) (sym (machine.is-idle k staged c.if-not-session.true)) (replies.end-idle E s boot hs bytes);
+}
+
+pub returns-then-is_writing : goal.returns-then-is_writing
+returns-then-is_writing g c = record {
+  decides = λ m boot E s staged bytes speaks fits.
+      let k = kept c.args.session.now in
+      let stg = staging_meant k staged in
+      let hs = handles_meant k in
+      subst (λ (x : Option (List Staged)). DecidesAs E s (On boot x hs) call.End bytes (Refused status.Busy)) (sym (machine.is-staging k staged c.if-not-session.false)) (replies.end-busy E s boot (parts_meant k staged) hs bytes (sym (replies.writers-is c.args.session.now.handles) ∙ sym c.is_writing.ensures ∙ c.if-is_writing.true));
+}
+
+pub returns-then-not-may_install : goal.returns-then-not-may_install
+returns-then-not-may_install g c = record {
+  decides = λ m boot E s staged bytes speaks fits.
+      let k = kept c.args.session.now in
+      let stg = staging_meant k staged in
+      let hs = handles_meant k in
+      subst (λ (x : Option (List Staged)). DecidesAs E s (On boot x hs) call.End bytes (Refused status.AuthFail)) (sym (machine.is-staging k staged c.if-not-session.false)) (replies.end-unfit E s boot (parts_meant k staged) hs bytes (sym (replies.writers-is c.args.session.now.handles) ∙ sym c.is_writing.ensures ∙ c.if-is_writing.false) (sym (judging-exact E s k staged speaks.rows c.requires.some speaks.kept) ∙ ap₂ (λ (p : List ℕ → Bool) (n : ℕ). is_installable p n k) speaks.verifier (sym speaks.counter_is) ∙ sym c.may_install.ensures ∙ c.if-not-may_install.true));
+}
+
+pub returns : goal.returns
+returns g c = record {
+  decides = λ m boot E s staged bytes speaks fits.
+      let k = kept c.args.session.now in
+      let stg = staging_meant k staged in
+      let hs = handles_meant k in
+      subst (λ (x : Option (List Staged)). DecidesAs E s (On boot x hs) call.End bytes (Do plan.End)) (sym (machine.is-staging k staged c.if-not-session.false)) (replies.end-does E s boot (parts_meant k staged) hs bytes (sym (replies.writers-is c.args.session.now.handles) ∙ sym c.is_writing.ensures ∙ c.if-is_writing.false) (sym (judging-exact E s k staged speaks.rows c.requires.some speaks.kept) ∙ ap₂ (λ (p : List ℕ → Bool) (n : ℕ). is_installable p n k) speaks.verifier (sym speaks.counter_is) ∙ sym c.may_install.ensures ∙ c.if-not-may_install.false));
+}

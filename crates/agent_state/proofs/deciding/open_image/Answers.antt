@@ -1,0 +1,43 @@
+use Rattle.std.proofs.Common.{◌≡◌, ℕ, ◌+◌, ◌-◌, ◌*◌, ◌<◌, ◌≤◌, min, ◌==◌, ◌&&◌, ◌||◌, not, Bool, true, false, cond, leb, List, length, get_or, Option, Some, None, refl, sym, ap, ap₂, ◌∙◌, subst, arith, IsTrue}
+use Rattle.std.proofs.lemmas.Grind.{common_steps}
+use Rattle.std.proofs.lemmas.Bool.{lt-ltb, le-ltb, eqb-true, eq-eqb}
+use Rattle.fwu_model.specs.declared.kinds.Status.TheVariants as status
+use Rattle.fwu_model.specs.declared.kinds.Op.TheVariants as op
+use Rattle.fwu_model.specs.Session.{Staged, On, is_open, is_committed}
+use Rattle.agent_kept.specs.declared.parts.Part.{Part}
+use Rattle.fwu_model.specs.Session as session
+use Rattle.fwu_model.specs.State.{is_invalid, bank, update_bank}
+use Rattle.fwu_formats.specs.Layout.{ImageRow, find_image}
+use Rattle.fwu_formats.specs.Metadata.{state_at}
+use Rattle.fwu_model.specs.Call as call
+use Rattle.agent_kept.specs.declared.kinds.Decision.TheVariants.{Refused, Do, ByVerdict}
+use Rattle.agent_kept.specs.declared.kinds.Plan.TheVariants as plan
+use Rattle.agent_kept.specs.declared.parts.Handle.TheVariants.{Free, Reads, Writes}
+use Rattle.agent_kept.specs.Kept.{kept, handles_meant, session_meant, staging_meant, parts_meant, part_meant, handle_meant}
+use Rattle.fwu_model.specs.declared.kinds.Op.{Op}
+use Rattle.agent_kept.specs.declared.kinds.Request.TheVariants as request
+use Rattle.agent_kept.specs.Plans.{DecidesAs, call_of, by_verdict}
+use Rattle.fwu_model.specs.Answer.{answer, may_go_back}
+use Rattle.agent_state.proofs.Machine as machine
+use Rattle.agent_state.proofs.Replies as replies
+use Rattle.agent_state.proofs.deciding.open_image.Goals as goal
+
+pub returns-in-Read : goal.returns-in-Read
+returns-in-Read c = record {
+  decides = λ guid found m boot passes counter E s staged bytes speaks fits.
+      let k = kept c.args.session.now in
+      let stg = staging_meant k staged in
+      let hs = handles_meant k in
+      let at = ap (λ (l : List ImageRow). find_image l guid) (sym speaks.rows) ∙ found in
+      subst (λ (o : Op). DecidesAs E s (session_meant k boot staged) (call_of (request.Open guid o c.args.total) bytes) bytes c.opened.result) (sym c.in-Read.is) (replies.opened-decides E s (On boot stg hs) (call.OpenRead guid) bytes k (Some c.args.image) op.Read c.args.total c.opened.result c.opened.ensures (replies.reads-opened E s boot stg hs bytes (call.OpenRead guid) (Some c.args.image) c.args.total (replies.open-read-image E s boot stg hs bytes guid c.args.image at)));
+}
+
+pub returns-in-Write : goal.returns-in-Write
+returns-in-Write c = record {
+  decides = λ guid found m boot passes counter E s staged bytes speaks fits.
+      let k = kept c.args.session.now in
+      let stg = staging_meant k staged in
+      let hs = handles_meant k in
+      let at = ap (λ (l : List ImageRow). find_image l guid) (sym speaks.rows) ∙ found in
+      subst (λ (o : Op). DecidesAs E s (session_meant k boot staged) (call_of (request.Open guid o c.args.total) bytes) bytes c.open_to_write.result) (sym c.in-Write.is) (c.open_to_write.ensures.decides guid found m boot passes counter E s staged bytes speaks tt);
+}

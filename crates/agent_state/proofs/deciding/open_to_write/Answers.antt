@@ -1,0 +1,63 @@
+use Rattle.std.proofs.Common.{◌≡◌, ℕ, ◌+◌, ◌-◌, ◌*◌, ◌<◌, ◌≤◌, min, ◌==◌, ◌&&◌, ◌||◌, not, Bool, true, false, cond, leb, List, length, get_or, Option, Some, None, refl, sym, ap, ap₂, ◌∙◌, subst, arith, IsTrue}
+use Rattle.std.proofs.lemmas.Grind.{common_steps}
+use Rattle.std.proofs.lemmas.Bool.{lt-ltb, le-ltb, eqb-true, eq-eqb}
+use Rattle.fwu_model.specs.declared.kinds.Status.TheVariants as status
+use Rattle.fwu_model.specs.declared.kinds.Op.TheVariants as op
+use Rattle.fwu_model.specs.Session.{Staged, On, is_open, is_committed}
+use Rattle.agent_kept.specs.declared.parts.Part.{Part}
+use Rattle.fwu_model.specs.Session as session
+use Rattle.fwu_model.specs.State.{is_invalid, bank, update_bank}
+use Rattle.fwu_formats.specs.Layout.{ImageRow, find_image}
+use Rattle.fwu_formats.specs.Metadata.{state_at}
+use Rattle.fwu_model.specs.Call as call
+use Rattle.agent_kept.specs.declared.kinds.Decision.TheVariants.{Refused, Do, ByVerdict}
+use Rattle.agent_kept.specs.declared.kinds.Plan.TheVariants as plan
+use Rattle.agent_kept.specs.declared.parts.Handle.TheVariants.{Free, Reads, Writes}
+use Rattle.agent_kept.specs.Kept.{kept, handles_meant, session_meant, staging_meant, parts_meant, part_meant, handle_meant}
+use Rattle.fwu_model.specs.declared.kinds.Op.{Op}
+use Rattle.agent_kept.specs.declared.kinds.Request.TheVariants as request
+use Rattle.agent_kept.specs.Plans.{DecidesAs, call_of, by_verdict}
+use Rattle.fwu_model.specs.Answer.{answer, may_go_back}
+use Rattle.agent_state.proofs.Machine as machine
+use Rattle.agent_state.proofs.Replies as replies
+use Rattle.agent_state.proofs.deciding.open_to_write.Goals as goal
+
+pub returns-then-not-session : goal.returns-then-not-session
+returns-then-not-session c = record {
+  decides = λ guid found m boot passes counter E s staged bytes speaks fits.
+      let k = kept c.args.session.now in
+      let stg = staging_meant k staged in
+      let hs = handles_meant k in
+      let at = ap (λ (l : List ImageRow). find_image l guid) (sym speaks.rows) ∙ found in
+      subst (λ (x : Option (List Staged)). DecidesAs E s (On boot x hs) (call.OpenWrite guid) bytes (Refused status.Denied)) (sym (machine.is-idle k staged c.if-not-session.true)) (replies.open-write-idle E s boot hs bytes guid c.args.image at);
+}
+
+pub returns-in-Committed : goal.returns-in-Committed
+returns-in-Committed c = record {
+  decides = λ guid found m boot passes counter E s staged bytes speaks fits.
+      let k = kept c.args.session.now in
+      let stg = staging_meant k staged in
+      let hs = handles_meant k in
+      let at = ap (λ (l : List ImageRow). find_image l guid) (sym speaks.rows) ∙ found in
+      subst (λ (x : Option (List Staged)). DecidesAs E s (On boot x hs) (call.OpenWrite guid) bytes (Refused status.Denied)) (sym (machine.is-staging k staged c.if-not-session.false)) (replies.open-write-committed E s boot (parts_meant k staged) hs bytes guid c.args.image at (ap is_committed (machine.part-is k staged c.args.image c.requires.within ∙ ap (λ (p : Part). part_meant p (staged c.args.image)) c.in-Committed.is)));
+}
+
+pub returns-in-Open : goal.returns-in-Open
+returns-in-Open c = record {
+  decides = λ guid found m boot passes counter E s staged bytes speaks fits.
+      let k = kept c.args.session.now in
+      let stg = staging_meant k staged in
+      let hs = handles_meant k in
+      let at = ap (λ (l : List ImageRow). find_image l guid) (sym speaks.rows) ∙ found in
+      subst (λ (x : Option (List Staged)). DecidesAs E s (On boot x hs) (call.OpenWrite guid) bytes (Refused status.Busy)) (sym (machine.is-staging k staged c.if-not-session.false)) (replies.open-write-open E s boot (parts_meant k staged) hs bytes guid c.args.image at (ap is_committed (machine.part-is k staged c.args.image c.requires.within ∙ ap (λ (p : Part). part_meant p (staged c.args.image)) c.in-Open.is)) (ap is_open (machine.part-is k staged c.args.image c.requires.within ∙ ap (λ (p : Part). part_meant p (staged c.args.image)) c.in-Open.is)));
+}
+
+pub returns-in-Nothing : goal.returns-in-Nothing
+returns-in-Nothing c = record {
+  decides = λ guid found m boot passes counter E s staged bytes speaks fits.
+      let k = kept c.args.session.now in
+      let stg = staging_meant k staged in
+      let hs = handles_meant k in
+      let at = ap (λ (l : List ImageRow). find_image l guid) (sym speaks.rows) ∙ found in
+      subst (λ (x : Option (List Staged)). DecidesAs E s (On boot x hs) (call.OpenWrite guid) bytes c.opened.result) (sym (machine.is-staging k staged c.if-not-session.false)) (replies.opened-decides E s (On boot (Some (parts_meant k staged)) hs) (call.OpenWrite guid) bytes k (Some c.args.image) op.Write c.args.total c.opened.result c.opened.ensures (replies.open-write-nothing E s boot (parts_meant k staged) hs bytes guid c.args.image c.args.total at (ap is_committed (machine.part-is k staged c.args.image c.requires.within ∙ ap (λ (p : Part). part_meant p (staged c.args.image)) c.in-Nothing.is)) (ap is_open (machine.part-is k staged c.args.image c.requires.within ∙ ap (λ (p : Part). part_meant p (staged c.args.image)) c.in-Nothing.is))));
+}

@@ -1,0 +1,58 @@
+use Rattle.std.proofs.Common.{◌≡◌, ℕ, ◌+◌, ◌-◌, ◌*◌, ◌<◌, ◌≤◌, min, ◌==◌, ◌&&◌, ◌||◌, not, Bool, true, false, cond, leb, List, length, get_or, Option, Some, None, refl, sym, ap, ap₂, ◌∙◌, subst, arith, IsTrue}
+use Rattle.std.proofs.lemmas.Grind.{common_steps}
+use Rattle.std.proofs.lemmas.Bool.{lt-ltb, le-ltb, eqb-true, eq-eqb}
+use Rattle.fwu_model.specs.declared.kinds.Status.TheVariants as status
+use Rattle.fwu_model.specs.declared.kinds.Op.TheVariants as op
+use Rattle.fwu_model.specs.Session.{Staged, On, is_open, is_committed}
+use Rattle.agent_kept.specs.declared.parts.Part.{Part}
+use Rattle.fwu_model.specs.Session as session
+use Rattle.fwu_model.specs.State.{is_invalid, bank, update_bank}
+use Rattle.fwu_formats.specs.Layout.{ImageRow, find_image}
+use Rattle.fwu_formats.specs.Metadata.{state_at}
+use Rattle.fwu_model.specs.Call as call
+use Rattle.agent_kept.specs.declared.kinds.Decision.TheVariants.{Refused, Do, ByVerdict}
+use Rattle.agent_kept.specs.declared.kinds.Plan.TheVariants as plan
+use Rattle.agent_kept.specs.declared.parts.Handle.TheVariants.{Free, Reads, Writes}
+use Rattle.agent_kept.specs.Kept.{kept, handles_meant, session_meant, staging_meant, parts_meant, part_meant, handle_meant}
+use Rattle.fwu_model.specs.declared.kinds.Op.{Op}
+use Rattle.agent_kept.specs.declared.kinds.Request.TheVariants as request
+use Rattle.agent_kept.specs.Plans.{DecidesAs, call_of, by_verdict}
+use Rattle.fwu_model.specs.Answer.{answer, may_go_back}
+use Rattle.agent_state.proofs.Machine as machine
+use Rattle.agent_state.proofs.Replies as replies
+use Rattle.agent_state.proofs.deciding.previous.Goals as goal
+
+pub returns-then-not-may_leave : goal.returns-then-not-may_leave
+returns-then-not-may_leave c = record {
+  decides = λ passes counter E s staged bytes speaks fits.
+      let k = kept c.args.session.now in
+      let m = c.args.meta.now in
+      let boot = c.args.boot_index in
+      let stg = staging_meant k staged in
+      let hs = handles_meant k in
+      replies.previous-denied E s boot bytes k staged _ (sym c.may_leave.ensures ∙ c.if-not-may_leave.true) (sym (machine.leave-is s m speaks.meta boot));
+}
+
+pub returns-then-not-has_other : goal.returns-then-not-has_other
+returns-then-not-has_other c = record {
+  decides = λ passes counter E s staged bytes speaks fits.
+      let k = kept c.args.session.now in
+      let m = c.args.meta.now in
+      let boot = c.args.boot_index in
+      let stg = staging_meant k staged in
+      let hs = handles_meant k in
+      let on = replies.accepting k.staging _ (sym c.may_leave.ensures ∙ c.if-not-may_leave.false) in
+      subst (λ (x : Option (List Staged)). DecidesAs E s (On boot x hs) call.Previous bytes (Refused status.Denied)) (sym (machine.is-idle k staged on.0)) (replies.previous-alone E s boot hs bytes (sym (machine.leave-is s m speaks.meta boot) ∙ on.1) (sym (machine.other-is s m speaks.meta) ∙ sym c.has_other.ensures ∙ c.if-not-has_other.true));
+}
+
+pub returns : goal.returns
+returns c = record {
+  decides = λ passes counter E s staged bytes speaks fits.
+      let k = kept c.args.session.now in
+      let m = c.args.meta.now in
+      let boot = c.args.boot_index in
+      let stg = staging_meant k staged in
+      let hs = handles_meant k in
+      let on = replies.accepting k.staging _ (sym c.may_leave.ensures ∙ c.if-not-may_leave.false) in
+      subst (λ (x : Option (List Staged)). DecidesAs E s (On boot x hs) call.Previous bytes (ByVerdict c.previous.result)) (sym (machine.is-idle k staged on.0)) ((c.previous.ensures ∙ machine.previous-is s m speaks.meta, subst (λ (b : ℕ). answer E s (On boot None hs) call.Previous ≡ by_verdict (On boot None hs) (may_go_back E s (bank s b).held)) (sym (c.previous.ensures ∙ machine.previous-is s m speaks.meta)) (replies.previous-asks E s boot hs bytes (sym (machine.leave-is s m speaks.meta boot) ∙ on.1) (sym (machine.other-is s m speaks.meta) ∙ sym c.has_other.ensures ∙ c.if-not-has_other.false))));
+}
