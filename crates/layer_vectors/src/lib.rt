@@ -26,6 +26,8 @@ mod memory_flash;
 #[cfg(test)]
 mod scripts;
 #[cfg(test)]
+mod slot_pieces;
+#[cfg(test)]
 mod stored_metadata;
 #[cfg(test)]
 mod values;

@@ -79,6 +79,17 @@ module _ (L : Layout) (m : Meta) (fits : IsTrue (fits_meta L m)) where
         rows = all-set (λ r. length r == length L.rows) m.bits bank (set (get_or m.bits bank []) image on) f.rows (eq-eqb _ _ row);
       })
 
+  pub fits-bits : (bank : ℕ) (bits : List Bool) → length bits ≡ length L.rows → IsTrue (fits_meta L (record m { bits = set m.bits bank bits }))
+  fits-bits bank bits row =
+      let f = meta-fits L m fits in
+      fits-meta L (record m { bits = set m.bits bank bits }) (record {
+        active = f.active;
+        previous = f.previous;
+        states = f.states;
+        bits = length-set m.bits bank bits ∙ f.bits;
+        rows = all-set (λ r. length r == length L.rows) m.bits bank bits f.rows (eq-eqb _ _ row);
+      })
+
 -- ---- what is read is of the layout
 
 pub same-Ok : {X F : Type 0} (x y : X) → ◌≡◌ {A = Result X F} (Ok x) (Ok y) → x ≡ y

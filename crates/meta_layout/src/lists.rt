@@ -246,6 +246,15 @@ impl BankBits {
         bits.set(image, bit);
         self.banks[bank] = bits;
     }
+
+    /// Sets all bits of a bank.
+    pub fn set_bank(&mut self, bank: usize, bits: Bits)
+        requires { bank < length self.old }
+        ensures { self.new ≡ slice_set self.old bank bits }
+    {
+        let _count = self.count;
+        self.banks[bank] = bits;
+    }
 }
 
 /// A list of at most 16 image rows. A contract sees the list.

@@ -161,4 +161,16 @@ impl Meta {
     {
         self.bits.set(bank as usize, image as usize, on);
     }
+
+    /// Sets, for each image in a bank, whether it was accepted, and changes nothing else.
+    pub fn set_bits(&mut self, bank: u32, bits: Bits)
+        requires { bank < length self.old.meta.bits }
+        ensures set { self.new ≡ record self.old {
+          meta = record self.old.meta { bits = slice_set self.old.meta.bits bank bits };
+        } }
+        ensures fits { (L : LayoutValue) → length bits ≡ length L.rows → IsTrue (fits_meta L self.old.meta) →
+            IsTrue (fits_meta L self.new.meta) }
+    {
+        self.bits.set_bank(bank as usize, bits);
+    }
 }
