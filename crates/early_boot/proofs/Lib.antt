@@ -10,3 +10,4 @@ pub mod Led
 pub mod Boots
 pub mod Ended
 pub mod Known
+pub mod Whole

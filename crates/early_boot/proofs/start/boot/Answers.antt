@@ -11,163 +11,20 @@ use Rattle.early_boot.specs.Starting.{Boots, chosen_of}
 use Rattle.early_boot.specs.CountingStarts.{CountsLater}
 use Rattle.early_boot.specs.Started.{Started, started, started_as}
 use Rattle.early_boot.specs.Ends.{Ended, booted, device_of, no_bank}
-use Rattle.early_boot.specs.EndsBy.{EndsByAnswer, EndsByBytes, EndsByMachine, stopped_with, unshown_end}
+use Rattle.early_boot.specs.EndsBy.{BootEnds, stopped_with, unshown_end}
 use Rattle.early_boot.proofs.Endings.{shown-numbers}
-use Rattle.early_boot.proofs.Ended.{unshown-answer, unshown-machine, started-bytes, started-answer, started-machine, none-bytes, none-answer, none-machine, stopped-bytes, stopped-machine}
+use Rattle.early_boot.proofs.Ended.{unshown-ends, started-bytes, started-ends, none-ends, stopped-ends}
 use Rattle.early_boot.proofs.Known.{started-knows}
 use Rattle.early_boot.proofs.start.boot.Goals as goal
 
-pub returns-in-Err-clause-by_answer : goal.returns-in-Err-clause-by_answer
-returns-in-Err-clause-by_answer g c tells E s test layout shows tidy =
+pub returns-in-Err-clause-ends : goal.returns-in-Err-clause-ends
+returns-in-Err-clause-ends g c tells =
+    let passes = g.V.Verifier.passes c.args.verifier.now in
     let old = g.D.Flash.told c.args.flash in
     let new = g.D.Flash.told c.read_shown.new.flash in
-    let same = c.in-Err.ensures.content tells in
-    subst (λ (e : Ended). EndsByAnswer E s e (g.D.Flash.told (device_of c.unshown.result))) (sym c.unshown.ensures.ended)
-    (subst (λ (t : Told). EndsByAnswer E s (unshown_end c.in-Err.why) t) (sym (ap g.D.Flash.told c.unshown.ensures.device))
-    (unshown-answer old new same E s c.in-Err.why (c.in-Err.ensures.nothing tells) layout shows))
-
-pub returns-in-Err-clause-by_machine : goal.returns-in-Err-clause-by_machine
-returns-in-Err-clause-by_machine g c tells E s test calm guards =
-    let old = g.D.Flash.told c.args.flash in
-    let new = g.D.Flash.told c.read_shown.new.flash in
-    let same = c.in-Err.ensures.content tells in
-    subst (λ (e : Ended). EndsByMachine E s e (g.D.Flash.told (device_of c.unshown.result))) (sym c.unshown.ensures.ended)
-    (subst (λ (t : Told). EndsByMachine E s (unshown_end c.in-Err.why) t) (sym (ap g.D.Flash.told c.unshown.ensures.device))
-    (unshown-machine old new same E s c.in-Err.why (c.in-Err.ensures.nothing tells) calm))
-
-pub returns-in-Ok-Some-clause-by_bytes : goal.returns-in-Ok-Some-clause-by_bytes
-returns-in-Ok-Some-clause-by_bytes g c tells =
-    let passes = g.V.Verifier.passes c.args.verifier.now in
-    let old = g.D.Flash.told c.args.flash in
-    let new = g.D.Flash.told c.mend_and_start.new.flash in
-    let shown = c.in-Ok.shown in
-    let shows = c.in-Ok.ensures.shows tells in
-    let fits = c.in-Ok.ensures.fits in
-    let content = c.in-Ok.ensures.content tells in
-    let n = numbers c.numbers_in-numbers.result in
-    let read = c.numbers_in-numbers.ensures ∙ shown-numbers old.now shown shows fits in
-    let ends = subst (λ (u : Told). Boots {T = Option (Shown × Chosen)} (Ok c.in-Ok-Some.field-0) passes shown u new) content (c.in-Ok-Some.ensures.boots tells) in
-    let found = sym (ap chosen_of (sym c.in-Ok-Some.field-0-is) ∙ c.in-Ok-Some.ensures.chosen tells ∙ ap (λ (u : Told). chosen_in (boot_setting passes shown.layout) (state_shown u.now shown)) content) in
-    let later = subst (λ (o : Option (Shown × Chosen)). IfSome o (λ (start : Shown × Chosen). CountsLater (mended shown) start.0)) c.in-Ok-Some.field-0-is c.in-Ok-Some.ensures.later in
-    let now = subst (λ (o : Option (Shown × Chosen)). IfSome o (λ (start : Shown × Chosen). IsTrue g.D.Flash.tells → Shows new.now start.0)) c.in-Ok-Some.field-0-is c.in-Ok-Some.ensures.shows in
-    subst (λ (t : Told). EndsByBytes passes old (booted (started c.of.result) n) t) (sym (ap g.D.Flash.told c.of.ensures.device))
-    (subst (λ (b : Started). EndsByBytes passes old (booted b n) new) (sym c.of.ensures.started)
-    (started-bytes passes shown old new shows fits c.in-Ok-Some.chosen found c.in-Ok-Some.field-0 c.in-Ok-Some.after later (now tells) ends n read))
-
-pub returns-in-Ok-Some-clause-by_answer : goal.returns-in-Ok-Some-clause-by_answer
-returns-in-Ok-Some-clause-by_answer g c tells E s test layout sees tidy =
-    let passes = g.V.Verifier.passes c.args.verifier.now in
-    let old = g.D.Flash.told c.args.flash in
-    let new = g.D.Flash.told c.mend_and_start.new.flash in
-    let shown = c.in-Ok.shown in
-    let shows = c.in-Ok.ensures.shows tells in
-    let fits = c.in-Ok.ensures.fits in
-    let content = c.in-Ok.ensures.content tells in
-    let n = numbers c.numbers_in-numbers.result in
-    let read = c.numbers_in-numbers.ensures ∙ shown-numbers old.now shown shows fits in
-    let ends = subst (λ (u : Told). Boots {T = Option (Shown × Chosen)} (Ok c.in-Ok-Some.field-0) passes shown u new) content (c.in-Ok-Some.ensures.boots tells) in
-    let found = sym (ap chosen_of (sym c.in-Ok-Some.field-0-is) ∙ c.in-Ok-Some.ensures.chosen tells ∙ ap (λ (u : Told). chosen_in (boot_setting passes shown.layout) (state_shown u.now shown)) content) in
-    let later = subst (λ (o : Option (Shown × Chosen)). IfSome o (λ (start : Shown × Chosen). CountsLater (mended shown) start.0)) c.in-Ok-Some.field-0-is c.in-Ok-Some.ensures.later in
-    let now = subst (λ (o : Option (Shown × Chosen)). IfSome o (λ (start : Shown × Chosen). IsTrue g.D.Flash.tells → Shows new.now start.0)) c.in-Ok-Some.field-0-is c.in-Ok-Some.ensures.shows in
-    subst (λ (t : Told). EndsByAnswer E s (booted (started c.of.result) n) t) (sym (ap g.D.Flash.told c.of.ensures.device))
-    (subst (λ (b : Started). EndsByAnswer E s (booted b n) new) (sym c.of.ensures.started)
-    (started-answer passes shown old new shows fits c.in-Ok-Some.chosen found c.in-Ok-Some.field-0 c.in-Ok-Some.after later (now tells) ends E s n test sees tidy))
-
-pub returns-in-Ok-Some-clause-by_machine : goal.returns-in-Ok-Some-clause-by_machine
-returns-in-Ok-Some-clause-by_machine g c tells E s test calm guards =
-    let passes = g.V.Verifier.passes c.args.verifier.now in
-    let old = g.D.Flash.told c.args.flash in
-    let new = g.D.Flash.told c.mend_and_start.new.flash in
-    let shown = c.in-Ok.shown in
-    let shows = c.in-Ok.ensures.shows tells in
-    let fits = c.in-Ok.ensures.fits in
-    let content = c.in-Ok.ensures.content tells in
-    let n = numbers c.numbers_in-numbers.result in
-    let read = c.numbers_in-numbers.ensures ∙ shown-numbers old.now shown shows fits in
-    let ends = subst (λ (u : Told). Boots {T = Option (Shown × Chosen)} (Ok c.in-Ok-Some.field-0) passes shown u new) content (c.in-Ok-Some.ensures.boots tells) in
-    let found = sym (ap chosen_of (sym c.in-Ok-Some.field-0-is) ∙ c.in-Ok-Some.ensures.chosen tells ∙ ap (λ (u : Told). chosen_in (boot_setting passes shown.layout) (state_shown u.now shown)) content) in
-    let later = subst (λ (o : Option (Shown × Chosen)). IfSome o (λ (start : Shown × Chosen). CountsLater (mended shown) start.0)) c.in-Ok-Some.field-0-is c.in-Ok-Some.ensures.later in
-    let now = subst (λ (o : Option (Shown × Chosen)). IfSome o (λ (start : Shown × Chosen). IsTrue g.D.Flash.tells → Shows new.now start.0)) c.in-Ok-Some.field-0-is c.in-Ok-Some.ensures.shows in
-    subst (λ (t : Told). EndsByMachine E s (booted (started c.of.result) n) t) (sym (ap g.D.Flash.told c.of.ensures.device))
-    (subst (λ (b : Started). EndsByMachine E s (booted b n) new) (sym c.of.ensures.started)
-    (started-machine passes shown old new shows fits c.in-Ok-Some.chosen found c.in-Ok-Some.field-0 c.in-Ok-Some.after later (now tells) ends E s n read test calm guards))
-
-pub returns-in-Ok-None-clause-by_bytes : goal.returns-in-Ok-None-clause-by_bytes
-returns-in-Ok-None-clause-by_bytes g c tells =
-    let passes = g.V.Verifier.passes c.args.verifier.now in
-    let old = g.D.Flash.told c.args.flash in
-    let new = g.D.Flash.told c.mend_and_start.new.flash in
-    let shown = c.in-Ok.shown in
-    let shows = c.in-Ok.ensures.shows tells in
-    let fits = c.in-Ok.ensures.fits in
-    let content = c.in-Ok.ensures.content tells in
-    let ends = subst (λ (u : Told). Boots {T = Option (Shown × Chosen)} (Ok c.in-Ok-None.field-0) passes shown u new) content (c.in-Ok-None.ensures.boots tells) in
-    let found = sym (ap chosen_of (sym c.in-Ok-None.field-0-is) ∙ c.in-Ok-None.ensures.chosen tells ∙ ap (λ (u : Told). chosen_in (boot_setting passes shown.layout) (state_shown u.now shown)) content) in
-    subst (λ (a : ℕ). EndsByBytes passes old (no_bank a c.previous.result) new) (sym c.active.ensures)
-    (subst (λ (p : ℕ). EndsByBytes passes old (no_bank shown.meta.meta.active p) new) (sym c.previous.ensures)
-    (none-bytes passes shown old new shows fits {T = Option (Shown × Chosen)} c.in-Ok-None.field-0 ends found))
-
-pub returns-in-Ok-None-clause-by_answer : goal.returns-in-Ok-None-clause-by_answer
-returns-in-Ok-None-clause-by_answer g c tells E s test layout sees tidy =
-    let passes = g.V.Verifier.passes c.args.verifier.now in
-    let old = g.D.Flash.told c.args.flash in
-    let new = g.D.Flash.told c.mend_and_start.new.flash in
-    let shown = c.in-Ok.shown in
-    let shows = c.in-Ok.ensures.shows tells in
-    let fits = c.in-Ok.ensures.fits in
-    let content = c.in-Ok.ensures.content tells in
-    let ends = subst (λ (u : Told). Boots {T = Option (Shown × Chosen)} (Ok c.in-Ok-None.field-0) passes shown u new) content (c.in-Ok-None.ensures.boots tells) in
-    let found = sym (ap chosen_of (sym c.in-Ok-None.field-0-is) ∙ c.in-Ok-None.ensures.chosen tells ∙ ap (λ (u : Told). chosen_in (boot_setting passes shown.layout) (state_shown u.now shown)) content) in
-    subst (λ (a : ℕ). EndsByAnswer E s (no_bank a c.previous.result) new) (sym c.active.ensures)
-    (subst (λ (p : ℕ). EndsByAnswer E s (no_bank shown.meta.meta.active p) new) (sym c.previous.ensures)
-    (none-answer passes shown old new shows fits {T = Option (Shown × Chosen)} c.in-Ok-None.field-0 ends found E s test sees tidy))
-
-pub returns-in-Ok-None-clause-by_machine : goal.returns-in-Ok-None-clause-by_machine
-returns-in-Ok-None-clause-by_machine g c tells E s test calm guards =
-    let passes = g.V.Verifier.passes c.args.verifier.now in
-    let old = g.D.Flash.told c.args.flash in
-    let new = g.D.Flash.told c.mend_and_start.new.flash in
-    let shown = c.in-Ok.shown in
-    let shows = c.in-Ok.ensures.shows tells in
-    let fits = c.in-Ok.ensures.fits in
-    let content = c.in-Ok.ensures.content tells in
-    let ends = subst (λ (u : Told). Boots {T = Option (Shown × Chosen)} (Ok c.in-Ok-None.field-0) passes shown u new) content (c.in-Ok-None.ensures.boots tells) in
-    let found = sym (ap chosen_of (sym c.in-Ok-None.field-0-is) ∙ c.in-Ok-None.ensures.chosen tells ∙ ap (λ (u : Told). chosen_in (boot_setting passes shown.layout) (state_shown u.now shown)) content) in
-    none-machine passes shown old new shows fits {T = Option (Shown × Chosen)} c.in-Ok-None.field-0 ends found E s test calm
-
-pub returns-in-Err-mend_and_start-clause-by_bytes : goal.returns-in-Err-mend_and_start-clause-by_bytes
-returns-in-Err-mend_and_start-clause-by_bytes g c tells =
-    let passes = g.V.Verifier.passes c.args.verifier.now in
-    let old = g.D.Flash.told c.args.flash in
-    let new = g.D.Flash.told c.mend_and_start.new.flash in
-    let shown = c.in-Ok.shown in
-    let shows = c.in-Ok.ensures.shows tells in
-    let fits = c.in-Ok.ensures.fits in
-    let content = c.in-Ok.ensures.content tells in
-    let n = numbers c.numbers_in-numbers.result in
-    let read = c.numbers_in-numbers.ensures ∙ shown-numbers old.now shown shows fits in
-    let stop = c.in-Err-mend_and_start.stop in
-    let ends = subst (λ (u : Told). Boots {T = Option (Shown × Chosen)} (Err stop) passes shown u new) content (c.in-Err-mend_and_start.ensures.boots tells) in
-    subst (λ (e : Ended). EndsByBytes passes old e (g.D.Flash.told (device_of c.stopped_with.result))) (sym c.stopped_with.ensures.ended)
-    (subst (λ (t : Told). EndsByBytes passes old (stopped_with stop n) t) (sym (ap g.D.Flash.told c.stopped_with.ensures.device))
-    (stopped-bytes passes shown old new shows fits {T = Option (Shown × Chosen)} stop ends n read))
-
-pub returns-in-Err-mend_and_start-clause-by_machine : goal.returns-in-Err-mend_and_start-clause-by_machine
-returns-in-Err-mend_and_start-clause-by_machine g c tells E s test calm guards =
-    let passes = g.V.Verifier.passes c.args.verifier.now in
-    let old = g.D.Flash.told c.args.flash in
-    let new = g.D.Flash.told c.mend_and_start.new.flash in
-    let shown = c.in-Ok.shown in
-    let shows = c.in-Ok.ensures.shows tells in
-    let fits = c.in-Ok.ensures.fits in
-    let content = c.in-Ok.ensures.content tells in
-    let n = numbers c.numbers_in-numbers.result in
-    let read = c.numbers_in-numbers.ensures ∙ shown-numbers old.now shown shows fits in
-    let stop = c.in-Err-mend_and_start.stop in
-    let ends = subst (λ (u : Told). Boots {T = Option (Shown × Chosen)} (Err stop) passes shown u new) content (c.in-Err-mend_and_start.ensures.boots tells) in
-    subst (λ (e : Ended). EndsByMachine E s e (g.D.Flash.told (device_of c.stopped_with.result))) (sym c.stopped_with.ensures.ended)
-    (subst (λ (t : Told). EndsByMachine E s (stopped_with stop n) t) (sym (ap g.D.Flash.told c.stopped_with.ensures.device))
-    (stopped-machine passes shown old new shows fits {T = Option (Shown × Chosen)} stop ends n read E s test calm guards))
+    subst (λ (e : Ended). BootEnds passes old e (g.D.Flash.told (device_of c.unshown.result))) (sym c.unshown.ensures.ended)
+    (subst (λ (t : Told). BootEnds passes old (unshown_end c.in-Err.why) t) (sym (ap g.D.Flash.told c.unshown.ensures.device))
+    (unshown-ends old new (c.in-Err.ensures.content tells) passes c.in-Err.why (c.in-Err.ensures.nothing tells)))
 
 pub of-requires-clause-knows : goal.of-requires-clause-knows
 of-requires-clause-knows g c tells =
@@ -186,3 +43,54 @@ of-requires-clause-knows g c tells =
     let now = subst (λ (o : Option (Shown × Chosen)). IfSome o (λ (start : Shown × Chosen). IsTrue g.D.Flash.tells → Shows new.now start.0)) c.in-Ok-Some.field-0-is c.in-Ok-Some.ensures.shows in
     started-knows passes old (started_as c.in-Ok-Some.after c.in-Ok-Some.chosen) n new
     (started-bytes passes shown old new shows fits c.in-Ok-Some.chosen found c.in-Ok-Some.field-0 c.in-Ok-Some.after later (now tells) ends n read)
+
+pub returns-in-Ok-Some-clause-ends : goal.returns-in-Ok-Some-clause-ends
+returns-in-Ok-Some-clause-ends g c tells =
+    let passes = g.V.Verifier.passes c.args.verifier.now in
+    let old = g.D.Flash.told c.args.flash in
+    let new = g.D.Flash.told c.mend_and_start.new.flash in
+    let shown = c.in-Ok.shown in
+    let shows = c.in-Ok.ensures.shows tells in
+    let fits = c.in-Ok.ensures.fits in
+    let content = c.in-Ok.ensures.content tells in
+    let n = numbers c.numbers_in-numbers.result in
+    let read = c.numbers_in-numbers.ensures ∙ shown-numbers old.now shown shows fits in
+    let ends = subst (λ (u : Told). Boots {T = Option (Shown × Chosen)} (Ok c.in-Ok-Some.field-0) passes shown u new) content (c.in-Ok-Some.ensures.boots tells) in
+    let found = sym (ap chosen_of (sym c.in-Ok-Some.field-0-is) ∙ c.in-Ok-Some.ensures.chosen tells ∙ ap (λ (u : Told). chosen_in (boot_setting passes shown.layout) (state_shown u.now shown)) content) in
+    let later = subst (λ (o : Option (Shown × Chosen)). IfSome o (λ (start : Shown × Chosen). CountsLater (mended shown) start.0)) c.in-Ok-Some.field-0-is c.in-Ok-Some.ensures.later in
+    let now = subst (λ (o : Option (Shown × Chosen)). IfSome o (λ (start : Shown × Chosen). IsTrue g.D.Flash.tells → Shows new.now start.0)) c.in-Ok-Some.field-0-is c.in-Ok-Some.ensures.shows in
+    subst (λ (t : Told). BootEnds passes old (booted (started c.of.result) n) t) (sym (ap g.D.Flash.told c.of.ensures.device))
+    (subst (λ (b : Started). BootEnds passes old (booted b n) new) (sym c.of.ensures.started)
+    (started-ends passes shown old new shows fits c.in-Ok-Some.chosen found c.in-Ok-Some.field-0 c.in-Ok-Some.after later (now tells) ends n read))
+
+pub returns-in-Ok-None-clause-ends : goal.returns-in-Ok-None-clause-ends
+returns-in-Ok-None-clause-ends g c tells =
+    let passes = g.V.Verifier.passes c.args.verifier.now in
+    let old = g.D.Flash.told c.args.flash in
+    let new = g.D.Flash.told c.mend_and_start.new.flash in
+    let shown = c.in-Ok.shown in
+    let shows = c.in-Ok.ensures.shows tells in
+    let fits = c.in-Ok.ensures.fits in
+    let content = c.in-Ok.ensures.content tells in
+    let ends = subst (λ (u : Told). Boots {T = Option (Shown × Chosen)} (Ok c.in-Ok-None.field-0) passes shown u new) content (c.in-Ok-None.ensures.boots tells) in
+    let found = sym (ap chosen_of (sym c.in-Ok-None.field-0-is) ∙ c.in-Ok-None.ensures.chosen tells ∙ ap (λ (u : Told). chosen_in (boot_setting passes shown.layout) (state_shown u.now shown)) content) in
+    subst (λ (a : ℕ). BootEnds passes old (no_bank a c.previous.result) new) (sym c.active.ensures)
+    (subst (λ (p : ℕ). BootEnds passes old (no_bank shown.meta.meta.active p) new) (sym c.previous.ensures)
+    (none-ends passes shown old new shows fits {T = Option (Shown × Chosen)} c.in-Ok-None.field-0 ends found))
+
+pub returns-in-Err-mend_and_start-clause-ends : goal.returns-in-Err-mend_and_start-clause-ends
+returns-in-Err-mend_and_start-clause-ends g c tells =
+    let passes = g.V.Verifier.passes c.args.verifier.now in
+    let old = g.D.Flash.told c.args.flash in
+    let new = g.D.Flash.told c.mend_and_start.new.flash in
+    let shown = c.in-Ok.shown in
+    let shows = c.in-Ok.ensures.shows tells in
+    let fits = c.in-Ok.ensures.fits in
+    let content = c.in-Ok.ensures.content tells in
+    let n = numbers c.numbers_in-numbers.result in
+    let read = c.numbers_in-numbers.ensures ∙ shown-numbers old.now shown shows fits in
+    let stop = c.in-Err-mend_and_start.stop in
+    let ends = subst (λ (u : Told). Boots {T = Option (Shown × Chosen)} (Err stop) passes shown u new) content (c.in-Err-mend_and_start.ensures.boots tells) in
+    subst (λ (e : Ended). BootEnds passes old e (g.D.Flash.told (device_of c.stopped_with.result))) (sym c.stopped_with.ensures.ended)
+    (subst (λ (t : Told). BootEnds passes old (stopped_with stop n) t) (sym (ap g.D.Flash.told c.stopped_with.ensures.device))
+    (stopped-ends passes shown old new shows fits {T = Option (Shown × Chosen)} stop ends n read))

@@ -1,0 +1,5 @@
+use Rattle.early_boot.proofs.Whole.{whole-replicas-stay}
+use Rattle.early_boot.proofs.laws.whole_replicas_stay.Goals as goal
+
+pub returns : goal.returns
+returns c = whole-replicas-stay
