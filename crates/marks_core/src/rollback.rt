@@ -6,6 +6,7 @@ ghost use Rattle.fwu_formats.specs.Counter.{counter_in};
 ghost use Rattle.marks_core.specs.Raises.{value_in, place_for, record_place, Raises};
 
 use crate::marks::count;
+use crate::places::{COUNTER_BLOCK, COUNTER_LIMIT, FIRST_RECORD, SECOND_RECORD};
 use crate::record::{record_bytes, value_in};
 use flash_core::{Flash, FlashStop, read_block, replace};
 
@@ -47,9 +48,9 @@ pub fn counter<D: Flash>(flash: &mut D) -> Result<u32, FlashStop>
     ensures reached { ReachesNone result (D.counts flash.old) (D.counts flash.new) }
 {
     let mut block = [0; 4096];
-    let marks = count(flash, 4, 223)?;
-    let first = record_at(flash, 5, &mut block)?;
-    let second = record_at(flash, 6, &mut block)?;
+    let marks = count(flash, COUNTER_BLOCK, COUNTER_LIMIT)?;
+    let first = record_at(flash, FIRST_RECORD, &mut block)?;
+    let second = record_at(flash, SECOND_RECORD, &mut block)?;
     Ok(greatest(marks, first, second))
 }
 
@@ -59,12 +60,12 @@ fn place_for(first: Option<u32>, second: Option<u32>) -> u32
     ensures inside { (5 ≤ result) × (result ≤ 6) }
 {
     let Some(a) = first else {
-        return 5;
+        return FIRST_RECORD;
     };
     let Some(b) = second else {
-        return 6;
+        return SECOND_RECORD;
     };
-    if b < a { 6 } else { 5 }
+    if b < a { SECOND_RECORD } else { FIRST_RECORD }
 }
 
 fn record_place<D: Flash>(flash: &mut D, buf: &mut [u8]) -> Result<u32, FlashStop>
@@ -81,8 +82,8 @@ fn record_place<D: Flash>(flash: &mut D, buf: &mut [u8]) -> Result<u32, FlashSto
     ensures reached { ReachesNone result (D.counts flash.old) (D.counts flash.new) }
     ensures buffer { length buf.new ≡ length buf.old }
 {
-    let first = record_at(flash, 5, buf)?;
-    let second = record_at(flash, 6, buf)?;
+    let first = record_at(flash, FIRST_RECORD, buf)?;
+    let second = record_at(flash, SECOND_RECORD, buf)?;
     Ok(place_for(first, second))
 }
 

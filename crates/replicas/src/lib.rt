@@ -2,6 +2,7 @@
 #![tactic(auto)]
 
 mod loading;
+mod places;
 mod repairing;
 mod storing;
 mod which;

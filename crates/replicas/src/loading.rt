@@ -7,6 +7,7 @@ ghost use Rattle.fwu_formats.specs.Metadata.{fits_meta, meta_read};
 ghost use Rattle.fwu_formats.specs.Image.{deciding};
 ghost use Rattle.replicas.specs.Which.{HasForm, Finds, Loads, flash_result};
 
+use crate::places::{FIRST_REPLICA, SECOND_REPLICA};
 use crate::which::{ReplicaStop, Which};
 use flash_core::{Flash, FlashStop, read_block};
 use meta_layout::{Layout, Meta};
@@ -79,8 +80,8 @@ pub fn load<D: Flash>(flash: &mut D, layout: &Layout) -> Result<(Meta, Which), R
     ensures costs { Spends (flash_result result) (D.counts flash.old) (D.counts flash.new) }
     ensures reached { ReachesNone (flash_result result) (D.counts flash.old) (D.counts flash.new) }
 {
-    let zero = read_replica(flash, layout, 1)?;
-    let one = read_replica(flash, layout, 2)?;
+    let zero = read_replica(flash, layout, FIRST_REPLICA)?;
+    let one = read_replica(flash, layout, SECOND_REPLICA)?;
     match decide(zero, one) {
         Some(found) => Ok(found),
         None => Err(ReplicaStop::NoMetadata),

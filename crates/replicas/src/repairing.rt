@@ -10,6 +10,7 @@ ghost use Rattle.replicas.specs.Repairs.{Repairs};
 ghost use Rattle.replicas.specs.declared.which.Which.TheVariants.{MigrateZero};
 
 use crate::loading::read_replica;
+use crate::places::{FIRST_REPLICA, SECOND_REPLICA};
 use crate::storing::{spell, write_both};
 use crate::which::Which;
 use flash_core::{Flash, FlashStop, replace};
@@ -27,7 +28,7 @@ fn holds<D: Flash>(flash: &mut D, layout: &Layout, meta: &Meta) -> Result<bool, 
 {
     let mut migrated = *meta;
     migrated.migrate();
-    match read_replica(flash, layout, 2)? {
+    match read_replica(flash, layout, SECOND_REPLICA)? {
         Some(other) => Ok(other.is(&migrated)),
         None => Ok(false),
     }
@@ -55,10 +56,10 @@ fn migrate_zero<D: Flash>(
     ensures costs { Spends result (D.counts flash.old) (D.counts flash.new) }
 {
     if holds(flash, layout, meta)? {
-        return replace(flash, 1, bytes);
+        return replace(flash, FIRST_REPLICA, bytes);
     }
-    replace(flash, 2, bytes)?;
-    replace(flash, 1, bytes)
+    replace(flash, SECOND_REPLICA, bytes)?;
+    replace(flash, FIRST_REPLICA, bytes)
 }
 
 /// Writes the metadata that `load` gave over the replica that lacks it, or, where version 1 decides, over the other replica, unless it
@@ -85,8 +86,8 @@ pub fn repair<D: Flash>(
     let bytes = &buf[..size];
     match which {
         Which::Same => Ok(()),
-        Which::RepairZero => replace(flash, 1, bytes),
-        Which::RepairOne => replace(flash, 2, bytes),
+        Which::RepairZero => replace(flash, FIRST_REPLICA, bytes),
+        Which::RepairOne => replace(flash, SECOND_REPLICA, bytes),
         Which::MigrateZero => migrate_zero(flash, layout, meta, bytes),
         Which::MigrateOne => write_both(flash, bytes),
     }

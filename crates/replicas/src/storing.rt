@@ -6,6 +6,7 @@ ghost use Rattle.fwu_formats.specs.Layout.{fits_layout};
 ghost use Rattle.fwu_formats.specs.Metadata.{fits_meta, replica_bytes};
 ghost use Rattle.replicas.specs.Stores.{WritesBoth, Stores};
 
+use crate::places::{FIRST_REPLICA, SECOND_REPLICA};
 use flash_core::{Flash, FlashStop, replace};
 use meta_layout::{Layout, Meta};
 
@@ -21,8 +22,8 @@ pub fn write_both<D: Flash>(flash: &mut D, bytes: &[u8]) -> Result<(), FlashStop
     ensures size { D.blocks flash.new ≡ D.blocks flash.old }
     ensures costs { Spends result (D.counts flash.old) (D.counts flash.new) }
 {
-    replace(flash, 1, bytes)?;
-    replace(flash, 2, bytes)
+    replace(flash, FIRST_REPLICA, bytes)?;
+    replace(flash, SECOND_REPLICA, bytes)
 }
 
 /// Spells metadata in version 2 at the front of a buffer, up to a whole granule. How many bytes that takes.
