@@ -50,7 +50,7 @@ on-ok (Err e) A a = tt
 
 -- what was written is the same at another value, or where a later read stopped
 writes-move : {T U : Type 0} (x : T) (result : Result U FlashStop) (m : Move) (at : ℕ) (s t : Told) → WritesMove {T = T} (Ok x) m at s t → WritesMove result m at s t
-writes-move x result Trial at s t writes = record { keeps = writes.keeps; one_more = on-ok result _ writes.one_more }
+writes-move x result Trial at s t writes = record { keeps = writes.keeps; one_more = on-ok result _ writes.one_more; stable = on-ok result _ writes.stable }
 writes-move x result (RaiseTo v) at s t writes =
     record { keeps = writes.keeps; record_is = record { keeps = writes.record_is.keeps; either = writes.record_is.either; ok = on-ok result _ writes.record_is.ok }; counter = on-ok result _ writes.counter }
 writes-move x result (Free b) at s t writes = absurd writes
@@ -64,7 +64,7 @@ writes-done x result [] at s t writes = writes
 writes-done x result (m ∷ ms) at s t writes = writes-move x result m at s t writes
 
 move-stopped : (T : Type 0) {U : Type 0} (stop : FlashStop) (result : Result U FlashStop) (m : Move) (at : ℕ) (s t : Told) → IsErr result → WritesMove {T = T} (Err stop) m at s t → WritesMove result m at s t
-move-stopped T stop result Trial at s t err writes = record { keeps = writes.keeps; one_more = IfOk-from_err result (λ x. _) err }
+move-stopped T stop result Trial at s t err writes = record { keeps = writes.keeps; one_more = IfOk-from_err result (λ x. _) err; stable = IfOk-from_err result (λ x. _) err }
 move-stopped T stop result (RaiseTo v) at s t err writes =
     record { keeps = writes.keeps; record_is = record { keeps = writes.record_is.keeps; either = writes.record_is.either; ok = IfOk-from_err result (λ x. _) err }; counter = IfOk-from_err result (λ x. _) err }
 move-stopped T stop result (Free b) at s t err writes = absurd writes
@@ -92,7 +92,7 @@ leads-nothing x L state s shown = record {
 module _ {T : Type 0} (result : Result T FlashStop) (s : Told) (room : 32768 ≤ length s.now) (err : IsErr result) where
   idle-start : (k : BankState) (counter v at : ℕ) → WritesMoves result (start_moves k counter v) at s s
   idle-start Invalid counter v at = refl
-  idle-start Valid counter v at = record { keeps = keeps_same (4096 * 3 + 16 * at) (4096 * 3 + 16 * at + 16) s; one_more = IfOk-from_err result (λ x. _) err }
+  idle-start Valid counter v at = record { keeps = keeps_same (4096 * 3 + 16 * at) (4096 * 3 + 16 * at + 16) s; one_more = IfOk-from_err result (λ x. _) err; stable = IfOk-from_err result (λ x. _) err }
   idle-start Accepted counter v at =
       cond_both (ltb counter v) (RaiseTo v ∷ []) [] (λ (ms : List Move). WritesMoves result ms at s s)
       (λ e. record { keeps = keeps_same 20480 28672 s; record_is = unwritten result _ s room err; counter = IfOk-from_err result (λ x. _) err })
@@ -206,7 +206,7 @@ module _ (shown : Shown) (s : Told) (shows : Shows s.now shown) (fits : IsTrue (
         record {
           keeps = keeps_wider (4096 * 3 + 16 * shown.trials) (4096 * 3 + 16 * shown.trials + 16) 12288 28672 s t (omega arith) (omega (arith, left)) adds.keeps;
           writes = subst (λ (at : ℕ). WritesMoves result (Trial ∷ []) at s t) shows.trials_are
-              (record { keeps = adds.keeps; one_more = on_ok_weaker result (λ zero. record { below = left; blank = blank_at_count s.now 3 3 shown.trials (counted-by valid) left; mark = zero }) adds.written });
+              (record { keeps = adds.keeps; one_more = on_ok_weaker result (λ zero. record { below = left; blank = blank_at_count s.now 3 3 shown.trials (counted-by valid) left; mark = zero }) adds.written; stable = adds.stable });
           counter = on-ok result (counter_in t.now ≡ counter_in s.now) (counter-agrees shown.layout no_meta 12288 16384 s.now t.now (front-kept shown.layout 12288 16384 s t (keeps_wider (4096 * 3 + 16 * shown.trials) (4096 * 3 + 16 * shown.trials + 16) 12288 16384 s t (omega arith) (omega (arith, left)) adds.keeps)) (inr (omega arith)));
           shows = λ tidy. trial-shows result s t state shown.trials on_trial shows.trials_are left adds shown.layout is-shown tidy;
           does = λ E ready. trial-does result s t state shown.trials on_trial shows.trials_are left adds E ready;

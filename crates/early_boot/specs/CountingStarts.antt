@@ -2,7 +2,7 @@
 use Rattle.std.specs.Prelude.{◌≡◌, ℕ, ◌+◌, ◌*◌, ◌<◌, ◌≤◌, ◌==◌, nat_lt, if◌then◌else◌, List, [], ◌∷◌, replicate, Result, OnOk, IsTrue}
 use Rattle.base_core.specs.Block.{granule}
 use Rattle.flash_core.specs.declared.flash.FlashStop.{FlashStop}
-use Rattle.flash_core.specs.Told.{Told}
+use Rattle.flash_core.specs.Told.{Told, NothingDirty}
 use Rattle.flash_core.specs.May.{Keeps}
 use Rattle.flash_core.specs.Replaces.{padded, Replaces}
 use Rattle.fwu_formats.specs.Layout.{Layout}
@@ -33,10 +33,11 @@ pub record IsOneMore (at : ℕ) (old new : List ℕ) : Type 0 where
   pub blank : IsTrue (is_blank (granule trial_block at old))
   pub mark : granule trial_block at new ≡ replicate 16 0
 
--- No more than one granule of the block of the trials changes, and when done it is one mark more.
+-- No more than one granule of the block of the trials changes, and when done it is one mark more, and nothing is dirty.
 pub record MarksTrial {T : Type 0} (result : Result T FlashStop) (at : ℕ) (s t : Told) : Type 0 where
   pub keeps : Keeps (4096 * trial_block + 16 * at) (4096 * trial_block + 16 * at + 16) s t
   pub one_more : OnOk result (IsOneMore at s.now t.now)
+  pub stable : OnOk result (NothingDirty t)
 
 -- One record is written over block 5 or 6, and when done the counter is its value.
 pub record RecordsCounter {T : Type 0} (result : Result T FlashStop) (v : ℕ) (s t : Told) : Type 0 where

@@ -11,9 +11,9 @@ use Rattle.early_boot.specs.Starting.{Boots, chosen_of}
 use Rattle.early_boot.specs.CountingStarts.{CountsLater}
 use Rattle.early_boot.specs.Started.{Started, started, started_as}
 use Rattle.early_boot.specs.Ends.{Ended, booted, device_of, no_bank}
-use Rattle.early_boot.specs.EndsBy.{BootEnds, stopped_with, unshown_end}
+use Rattle.early_boot.specs.EndsBy.{BootEnds, IdleEnd, stopped_with, unshown_end}
 use Rattle.early_boot.proofs.Endings.{shown-numbers}
-use Rattle.early_boot.proofs.Ended.{unshown-ends, started-bytes, started-ends, none-ends, stopped-ends}
+use Rattle.early_boot.proofs.Ended.{unshown-ends, unshown-idle, stopped-idle, started-bytes, started-ends, none-ends, stopped-ends}
 use Rattle.early_boot.proofs.Known.{started-knows}
 use Rattle.early_boot.proofs.start.boot.Goals as goal
 
@@ -25,6 +25,20 @@ returns-in-Err-clause-ends g c tells =
     subst (λ (e : Ended). BootEnds passes old e (g.D.Flash.told (device_of c.unshown.result))) (sym c.unshown.ensures.ended)
     (subst (λ (t : Told). BootEnds passes old (unshown_end c.in-Err.why) t) (sym (ap g.D.Flash.told c.unshown.ensures.device))
     (unshown-ends old new (c.in-Err.ensures.content tells) passes c.in-Err.why (c.in-Err.ensures.nothing tells)))
+
+pub returns-in-Err-clause-idle : goal.returns-in-Err-clause-idle
+returns-in-Err-clause-idle g c =
+    let F = c.args.flash in
+    subst (λ (e : Ended). IdleEnd e (g.D.Flash.arming F) (g.D.Flash.arming (device_of c.unshown.result)) (g.D.Flash.counts F) (g.D.Flash.counts (device_of c.unshown.result))) (sym c.unshown.ensures.ended)
+    (subst (λ d. IdleEnd (unshown_end c.in-Err.why) (g.D.Flash.arming F) (g.D.Flash.arming d) (g.D.Flash.counts F) (g.D.Flash.counts d)) (sym c.unshown.ensures.device)
+    (unshown-idle c.in-Err.why (g.D.Flash.arming F) _ (g.D.Flash.counts F) _ c.in-Err.ensures.arming c.in-Err.ensures.reached))
+
+pub returns-in-Err-mend_and_start-clause-idle : goal.returns-in-Err-mend_and_start-clause-idle
+returns-in-Err-mend_and_start-clause-idle g c =
+    let F = c.args.flash in
+    let d = device_of c.stopped_with.result in
+    subst (λ (e : Ended). IdleEnd e (g.D.Flash.arming F) (g.D.Flash.arming d) (g.D.Flash.counts F) (g.D.Flash.counts d)) (sym c.stopped_with.ensures.ended)
+    (stopped-idle c.in-Err-mend_and_start.stop (numbers c.numbers_in-numbers.result) (g.D.Flash.arming F) (g.D.Flash.arming d) (g.D.Flash.counts F) (g.D.Flash.counts d))
 
 pub of-requires-clause-knows : goal.of-requires-clause-knows
 of-requires-clause-knows g c tells =
