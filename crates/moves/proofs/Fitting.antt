@@ -8,7 +8,7 @@ use Rattle.fwu_formats.specs.Layout.{Layout}
 use Rattle.fwu_formats.specs.Metadata.{Meta, fits_meta}
 use Rattle.fwu_model.specs.State.{Free, Switch, Accept, Back, state_by}
 use Rattle.meta_layout.proofs.Fits.{MetaFits, meta-fits, fits-meta, row-length}
-use Rattle.moves.specs.Metas.{bits_in, accepted_bits, meta_after}
+use Rattle.fwu_model.specs.MoveMetas.{bits_in, accepted_bits, meta_after}
 
 rows-all : (n : ℕ) (rows : List (List Bool)) → ((b : ℕ) → b < length rows → length (get_or rows b []) ≡ n) → IsTrue (list_all (λ row. length row == n) rows)
 rows-all n [] each = refl

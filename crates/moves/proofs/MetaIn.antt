@@ -14,7 +14,7 @@ use Rattle.fwu_model.specs.Seen.{state_of, bank_in}
 use Rattle.fwu_model.specs.Replica.{in_version}
 use Rattle.meta_layout.proofs.Fits.{MetaFits}
 use Rattle.moves.specs.Moved.{IsShown}
-use Rattle.moves.specs.Metas.{meta_in}
+use Rattle.fwu_model.specs.MoveMetas.{meta_in}
 use Rattle.moves.proofs.Agree.{shown-meta}
 use Rattle.moves.proofs.Read.{deciding-fits}
 

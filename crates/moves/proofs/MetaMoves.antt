@@ -14,7 +14,7 @@ use Rattle.fwu_formats.specs.Places.{trial_limit}
 use Rattle.fwu_model.specs.Seen.{state_of, bank_in}
 use Rattle.fwu_model.specs.Replica.{in_version}
 use Rattle.meta_layout.proofs.Fits.{MetaFits}
-use Rattle.moves.specs.Metas.{bits_in, accepted_bits, meta_after}
+use Rattle.fwu_model.specs.MoveMetas.{bits_in, accepted_bits, meta_after}
 
 -- a bank with this state and these bits
 abbrev pub bank_with : Layout → List ℕ → ℕ → BankState → List Bool → Bank

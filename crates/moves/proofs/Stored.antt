@@ -19,7 +19,7 @@ use Rattle.fwu_model.proofs.Banks.{accepted-used, accepted-not_valid, in_range, 
 use Rattle.meta_layout.proofs.Fits.{MetaFits}
 use Rattle.replicas.specs.Stores.{Stores}
 use Rattle.moves.specs.Moved.{IsReady, Does}
-use Rattle.moves.specs.Metas.{meta_after}
+use Rattle.fwu_model.specs.MoveMetas.{meta_after}
 use Rattle.moves.proofs.Agree.{QuietUsed, shown-by, state-is, bank-count, at-used}
 use Rattle.moves.proofs.Calm.{calm-shown, calm-sound, calm-tidy}
 use Rattle.moves.proofs.MetaMoves.{free-state, switch-state, accept-state, back-state}

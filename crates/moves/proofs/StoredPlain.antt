@@ -23,7 +23,7 @@ use Rattle.base_core.specs.Block.{block}
 use Rattle.meta_layout.proofs.Fits.{MetaFits}
 use Rattle.replicas.specs.Stores.{Stores}
 use Rattle.moves.specs.Moved.{IsShown, ShowsAfter, GuardedBy}
-use Rattle.moves.specs.Metas.{meta_after}
+use Rattle.fwu_model.specs.MoveMetas.{meta_after}
 use Rattle.moves.proofs.Agree.{QuietUsed, shown-by, state-is, bank-count}
 use Rattle.moves.proofs.Guarded.{guarded-by, rest-used, by-result}
 use Rattle.moves.proofs.MetaMoves.{free-state, switch-state, accept-state, back-state}

@@ -19,7 +19,7 @@ use Rattle.fwu_model.specs.Replica.{BothHold, in_version}
 use Rattle.marks_core.specs.Marks.{Clears}
 use Rattle.replicas.specs.Stores.{Stores}
 use Rattle.moves.specs.Moved.{IsReady, Does, IsShown, ShowsAfter, GuardedBy}
-use Rattle.moves.specs.Metas.{meta_after, meta_in}
+use Rattle.fwu_model.specs.MoveMetas.{meta_after, meta_in}
 use Rattle.moves.specs.Law.{Done}
 use Rattle.moves.specs.StoreLaw.{EndsBy}
 use Rattle.moves.proofs.Agree.{no_meta, Agrees, front-kept, decides-agrees}

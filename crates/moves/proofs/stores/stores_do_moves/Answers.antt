@@ -1,7 +1,7 @@
 use Rattle.moves.proofs.MetaIn.{two-decides}
 use Rattle.moves.proofs.Calm.{calm-shown}
 use Rattle.moves.proofs.Stored.{free-does, accept-does, back-does, switch-does}
-use Rattle.moves.specs.Metas.{meta_in}
+use Rattle.fwu_model.specs.MoveMetas.{meta_in}
 use Rattle.moves.proofs.stores.stores_do_moves.Goals as goal
 
 pub returns : goal.returns
