@@ -2,7 +2,6 @@
 #![tactic(auto)]
 
 mod loading;
-mod places;
 mod repairing;
 mod storing;
 mod which;

@@ -7,9 +7,9 @@ ghost use Rattle.fwu_formats.specs.Metadata.{fits_meta, meta_read};
 ghost use Rattle.fwu_formats.specs.Image.{deciding};
 ghost use Rattle.replicas.specs.Which.{HasForm, Finds, Loads, flash_result};
 
-use crate::places::{FIRST_REPLICA, SECOND_REPLICA};
 use crate::which::{ReplicaStop, Which};
 use flash_core::{Flash, FlashStop, read_block};
+use fwu_formats::{FIRST_REPLICA, SECOND_REPLICA};
 use meta_layout::{Layout, Meta};
 
 /// The metadata that a block is.

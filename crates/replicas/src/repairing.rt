@@ -10,10 +10,10 @@ ghost use Rattle.replicas.specs.Repairs.{Repairs};
 ghost use Rattle.replicas.specs.declared.which.Which.TheVariants.{MigrateZero};
 
 use crate::loading::read_replica;
-use crate::places::{FIRST_REPLICA, SECOND_REPLICA};
 use crate::storing::{spell, write_both};
 use crate::which::Which;
 use flash_core::{Flash, FlashStop, replace};
+use fwu_formats::{FIRST_REPLICA, SECOND_REPLICA};
 use meta_layout::{Layout, Meta};
 
 /// Whether replica 1 holds the metadata in version 2.

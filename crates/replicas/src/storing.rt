@@ -6,8 +6,8 @@ ghost use Rattle.fwu_formats.specs.Layout.{fits_layout};
 ghost use Rattle.fwu_formats.specs.Metadata.{fits_meta, replica_bytes};
 ghost use Rattle.replicas.specs.Stores.{WritesBoth, Stores};
 
-use crate::places::{FIRST_REPLICA, SECOND_REPLICA};
 use flash_core::{Flash, FlashStop, replace};
+use fwu_formats::{FIRST_REPLICA, SECOND_REPLICA};
 use meta_layout::{Layout, Meta};
 
 /// Writes bytes over replica 0, then over replica 1.
