@@ -31,6 +31,17 @@ passed calls = record calls { made = raised calls.made }
 abbrev pub failed : Calls → Calls
 failed calls = record calls { made = raised calls.made; faults = raised calls.faults }
 
+-- how many calls have failed after one with this result
+abbrev pub failures : {T E : Type 0} → Result T E → ℕ → ℕ
+failures (Ok _) before = before
+failures (Err _) before = raised before
+
+-- how many have failed after a write with this result; one that finds no memory is not counted
+abbrev pub write_failures : {T : Type 0} → Result T WriteStop → ℕ → ℕ
+write_failures (Ok _) before = before
+write_failures (Err Failed) before = raised before
+write_failures (Err NoMemory) before = before
+
 -- the calls after one with this result
 abbrev pub counted : {T E : Type 0} → Result T E → Calls → Calls
 counted (Ok _) calls = passed calls

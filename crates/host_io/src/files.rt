@@ -4,10 +4,14 @@ use crate::stops::{Failed, WriteStop};
 
 /// Files by their names.
 pub trait Files {
-    ghost use Rattle.std.specs.Prelude.{◌≡◌, ◌+◌, ◌≤◌, ℕ, Option, Err, IfOk, OnOk, OnErr, length, vec_capacity, vec_len};
+    ghost use Rattle.std.specs.Prelude.{◌≡◌, ◌+◌, ◌≤◌, ℕ, Bool, Option, Err, IfOk, OnOk, OnErr, is_some, length, vec_capacity, vec_len};
+    ghost use Rattle.host_io.specs.Calls.{failures, write_failures};
     ghost use Rattle.host_io.specs.Causes.{HasCause, HasWriteCause};
     ghost use Rattle.host_io.specs.Contents.{AddsRange, ChangesOnly, Directory, HasRange, Holds, TellsRange, TellsSize};
     ghost use Rattle.host_io.specs.declared.stops.WriteStop.TheVariants as stop;
+
+    /// Whether files of this type tell their contents.
+    ghost tells: { Bool };
 
     /// The bytes of each name, where they are told.
     ghost contents: { Self → Option Directory };
@@ -20,14 +24,16 @@ pub trait Files {
     fn size(&mut self, name: &str) -> Result<Option<u64>, Failed>
         ensures size { IfOk result (TellsSize (contents self.old) name.now) }
         ensures same { contents self.new ≡ contents self.old }
-        ensures cause { HasCause (faults self.old) (faults self.new) result };
+        ensures cause { HasCause (faults self.old) (faults self.new) result }
+        ensures count { faults self.new ≡ failures result (faults self.old) };
 
     /// Fills `out` with the bytes of the file from place `at` on.
     fn read_at(&mut self, name: &str, at: u64, out: &mut [u8]) -> Result<(), Failed>
         requires { HasRange (contents self.old) name.now at (length out.old) }
         ensures bytes { OnOk result (TellsRange (contents self.old) name.now at out.new) }
         ensures same { contents self.new ≡ contents self.old }
-        ensures cause { HasCause (faults self.old) (faults self.new) result };
+        ensures cause { HasCause (faults self.old) (faults self.new) result }
+        ensures count { faults self.new ≡ failures result (faults self.old) };
 
     /// Adds `count` bytes of the file, from place `at` on, at the end of `out`, which has the room for
     /// them, so that no memory is taken. After `Failed` it is as it was.
@@ -45,7 +51,8 @@ pub trait Files {
         ensures unchanged { OnErr result (out.new.items ≡ out.old.items) }
         ensures capacity { vec_capacity out.old ≤ vec_capacity out.new }
         ensures same { contents self.new ≡ contents self.old }
-        ensures cause { HasCause (faults self.old) (faults self.new) result };
+        ensures cause { HasCause (faults self.old) (faults self.new) result }
+        ensures count { faults self.new ≡ failures result (faults self.old) };
 
     /// Makes the file anew, of these bytes, or writes over all of an old one. After `Failed` nothing
     /// is known of this name, and no other changed. Files that are not told stay so.
@@ -53,5 +60,9 @@ pub trait Files {
         ensures written { OnOk result (Holds (contents self.new) name.now bytes.now) }
         ensures others { ChangesOnly (contents self.old) (contents self.new) name.now }
         ensures memory { result ≡ Err stop.NoMemory → contents self.new ≡ contents self.old }
-        ensures cause { HasWriteCause (faults self.old) (faults self.new) result };
+        ensures cause { HasWriteCause (faults self.old) (faults self.new) result }
+        ensures count { faults self.new ≡ write_failures result (faults self.old) };
+
+    /// The contents are told at each time, or never.
+    ghost steady: { (f : Self) → is_some (contents f) ≡ tells };
 }

@@ -1,7 +1,11 @@
 //! The files of the system.
 
-ghost use Rattle.std.specs.Prelude.{◌≡◌, ◌+◌, ◌≤◌, None, OnOk, length, take, vec_capacity, vec_len};
+ghost use Rattle.std.specs.Prelude.{◌≡◌, ◌+◌, ◌≤◌, false, refl, None, Err, IsSome, IfOk, OnErr, OnOk, length, take, vec_capacity, vec_len};
 ghost use Rattle.base_core.specs.Counts.{Rose};
+ghost use Rattle.host_io.specs.Calls.{failures, raised, write_failures};
+ghost use Rattle.host_io.specs.Causes.{HasCause, HasWriteCause};
+ghost use Rattle.host_io.specs.Contents.{AddsRange};
+ghost use Rattle.host_io.specs.declared.stops.WriteStop.TheVariants as stop;
 
 use crate::files::Files;
 use crate::stops::{Failed, WriteStop};
@@ -28,7 +32,7 @@ fn read_piece<F: Read>(file: &mut F, piece: &mut [u8], out: &mut Vec<u8>) -> io:
 }
 
 /// The files of the system. They tell nothing of their contents. Each error is a fault, and so are
-/// a name that no file has, and a range outside the file.
+/// a name that no file has or a folder has, and a range outside the file.
 #[derive(Debug, Drop)]
 pub struct HostFiles<R> {
     rt: R,
@@ -53,6 +57,8 @@ impl<R: std::rt::Files> HostFiles<R> {
 
     // Counts a fault.
     fn fail(&mut self) -> Failed
+        ensures count { self.new.faults ≡ raised self.old.faults }
+        ensures inner { self.new.inner ≡ self.old.inner }
         ensures rose { Rose self.old.faults self.new.faults }
         ensures later { self.old.faults ≤ self.new.faults }
     {
@@ -97,18 +103,32 @@ impl<R: std::rt::Files> HostFiles<R> {
 }
 
 impl<R: std::rt::Files> Files for HostFiles<R> {
+    ghost tells = { false };
+
+    ghost steady = { λ _. refl };
+
     ghost contents = { λ _. None };
 
     ghost faults = { λ f. f.faults };
 
-    fn size(&mut self, name: &str) -> Result<Option<u64>, Failed> {
+    /// Besides what the trait says, `Ok` always holds a size.
+    fn size(&mut self, name: &str) -> Result<Option<u64>, Failed>
+        ensures size { IfOk result (λ size. IsSome size) }
+        ensures cause { HasCause self.old.faults self.new.faults result }
+        ensures count { self.new.faults ≡ failures result self.old.faults }
+        ensures inner { self.new.inner ≡ self.old.inner }
+    {
         match fs::metadata(&self.rt, name) {
-            Ok(found) => Ok(Some(found.len())),
-            Err(_) => Err(self.fail()),
+            Ok(found) if !found.is_dir() => Ok(Some(found.len())),
+            _ => Err(self.fail()),
         }
     }
 
-    fn read_at(&mut self, name: &str, at: u64, out: &mut [u8]) -> Result<(), Failed> {
+    fn read_at(&mut self, name: &str, at: u64, out: &mut [u8]) -> Result<(), Failed>
+        ensures cause { HasCause self.old.faults self.new.faults result }
+        ensures count { self.new.faults ≡ failures result self.old.faults }
+        ensures inner { self.new.inner ≡ self.old.inner }
+    {
         match self.fill(name, at, out) {
             Ok(()) => Ok(()),
             Err(_) => Err(self.fail()),
@@ -121,7 +141,16 @@ impl<R: std::rt::Files> Files for HostFiles<R> {
         at: u64,
         count: usize,
         out: &mut Vec<u8>,
-    ) -> Result<(), Failed> {
+    ) -> Result<(), Failed>
+        requires room { vec_len out.old + count ≤ vec_capacity out.old }
+        ensures bytes { OnOk result
+            (AddsRange None name.now at count out.old.items out.new.items) }
+        ensures unchanged { OnErr result (out.new.items ≡ out.old.items) }
+        ensures capacity { vec_capacity out.old ≤ vec_capacity out.new }
+        ensures cause { HasCause self.old.faults self.new.faults result }
+        ensures count { self.new.faults ≡ failures result self.old.faults }
+        ensures inner { self.new.inner ≡ self.old.inner }
+    {
         let before = out.len();
         match self.append(name, at, count, out) {
             Ok(()) => Ok(()),
@@ -132,7 +161,13 @@ impl<R: std::rt::Files> Files for HostFiles<R> {
         }
     }
 
-    fn write_whole(&mut self, name: &str, bytes: &[u8]) -> Result<(), WriteStop> {
+    /// Besides what the trait says, each `Err` is `Failed`.
+    fn write_whole(&mut self, name: &str, bytes: &[u8]) -> Result<(), WriteStop>
+        ensures failed { OnErr result (result ≡ Err stop.Failed) }
+        ensures cause { HasWriteCause self.old.faults self.new.faults result }
+        ensures count { self.new.faults ≡ write_failures result self.old.faults }
+        ensures inner { self.new.inner ≡ self.old.inner }
+    {
         match fs::write(&self.rt, name, bytes) {
             Ok(()) => Ok(()),
             Err(_) => {

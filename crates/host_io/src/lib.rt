@@ -1,6 +1,7 @@
 //! What a program reads and writes besides a flash: files by their names, a source of bytes, and a
-//! sink for bytes. Each counts its faults. The forms in memory tell what they hold, and fail at
-//! listed calls alone; the adapters over the system's files, readers and writers do not.
+//! sink for bytes. Each counts the calls that failed. The forms in memory tell what they hold, and
+//! fail at listed calls alone. The adapter over the system's files tells nothing, and those over a
+//! reader and a writer tell what these tell.
 #![tactic(auto)]
 
 mod calls;
@@ -9,6 +10,7 @@ mod host_files;
 mod memory_files;
 mod sink;
 mod source;
+mod steady;
 mod stops;
 
 pub use files::Files;
@@ -16,4 +18,5 @@ pub use host_files::HostFiles;
 pub use memory_files::MemoryFiles;
 pub use sink::{MemorySink, Sink, StdSink};
 pub use source::{MemorySource, Source, StdSource};
+pub use steady::{SteadyRead, SteadyWrite};
 pub use stops::{Failed, WriteStop};

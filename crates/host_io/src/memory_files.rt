@@ -1,7 +1,7 @@
 //! Files in memory.
 
-ghost use Rattle.std.specs.Prelude.{◌≡◌, ◌≢◌, ◌↔◌, ◌+◌, ◌≤◌, ℕ, List, Some, Err, IsErr, IfOk, OnOk, OnErr, length, option_map, vec_capacity, vec_len};
-ghost use Rattle.host_io.specs.Calls.{IsListed, counted, unused, write_counted};
+ghost use Rattle.std.specs.Prelude.{◌≡◌, ◌≢◌, ◌↔◌, ◌+◌, ◌≤◌, ℕ, true, refl, List, Some, Err, IsErr, IfOk, OnOk, OnErr, length, option_map, vec_capacity, vec_len};
+ghost use Rattle.host_io.specs.Calls.{IsListed, counted, failures, unused, write_counted, write_failures};
 ghost use Rattle.host_io.specs.Causes.{HasCause, HasWriteCause};
 ghost use Rattle.host_io.specs.Contents.{AddsRange, ChangesOnly, HasRange, Holds, TellsRange, TellsSize, bytes_in, pairs_of, place_in};
 ghost use Rattle.host_io.specs.declared.stops.WriteStop.TheVariants as stop;
@@ -98,6 +98,10 @@ impl MemoryFiles {
 }
 
 impl Files for MemoryFiles {
+    ghost tells = { true };
+
+    ghost steady = { λ _. refl };
+
     ghost contents = { λ m. Some (bytes_in m.files) };
 
     ghost faults = { λ m. m.calls.faults };
@@ -107,6 +111,7 @@ impl Files for MemoryFiles {
         ensures size { IfOk result (TellsSize (Some (bytes_in self.old.files)) name.now) }
         ensures same { Some (bytes_in self.new.files) ≡ Some (bytes_in self.old.files) }
         ensures cause { HasCause self.old.calls.faults self.new.calls.faults result }
+        ensures count { self.new.calls.faults ≡ failures result self.old.calls.faults }
         ensures listed { IsErr result ↔ IsListed self.old.calls }
         ensures calls { self.new.calls ≡ counted result self.old.calls }
     {
@@ -120,6 +125,7 @@ impl Files for MemoryFiles {
         ensures bytes { OnOk result (TellsRange (Some (bytes_in self.old.files)) name.now at out.new) }
         ensures same { Some (bytes_in self.new.files) ≡ Some (bytes_in self.old.files) }
         ensures cause { HasCause self.old.calls.faults self.new.calls.faults result }
+        ensures count { self.new.calls.faults ≡ failures result self.old.calls.faults }
         ensures listed { IsErr result ↔ IsListed self.old.calls }
         ensures calls { self.new.calls ≡ counted result self.old.calls }
     {
@@ -147,6 +153,7 @@ impl Files for MemoryFiles {
         ensures capacity { vec_capacity out.old ≤ vec_capacity out.new }
         ensures same { Some (bytes_in self.new.files) ≡ Some (bytes_in self.old.files) }
         ensures cause { HasCause self.old.calls.faults self.new.calls.faults result }
+        ensures count { self.new.calls.faults ≡ failures result self.old.calls.faults }
         ensures listed { IsErr result ↔ IsListed self.old.calls }
         ensures calls { self.new.calls ≡ counted result self.old.calls }
     {
@@ -165,6 +172,7 @@ impl Files for MemoryFiles {
         ensures others { ChangesOnly (Some (bytes_in self.old.files)) (Some (bytes_in self.new.files)) name.now }
         ensures memory { result ≡ Err stop.NoMemory → Some (bytes_in self.new.files) ≡ Some (bytes_in self.old.files) }
         ensures cause { HasWriteCause self.old.calls.faults self.new.calls.faults result }
+        ensures count { self.new.calls.faults ≡ write_failures result self.old.calls.faults }
         ensures listed { (result ≡ Err stop.Failed) ↔ IsListed self.old.calls }
         ensures calls { self.new.calls ≡ write_counted result self.old.calls }
         ensures unchanged { OnErr result (self.new.files ≡ self.old.files) }

@@ -1,14 +1,15 @@
 //! A place for bytes.
 
-ghost use Rattle.std.specs.Prelude.{◌≡◌, ◌↔◌, ◌<◌, ◌≤◌, ℕ, List, Option, Some, Err, IfOk, MatchResult, OnErr, length};
+ghost use Rattle.std.specs.Prelude.{◌≡◌, ◌↔◌, ◌<◌, ◌≤◌, ℕ, Bool, true, refl, List, Option, Some, Err, IfOk, MatchResult, OnErr, is_some, length};
 ghost use Rattle.std.specs.Io.KnownBytes.{Appends, Keeps, WriteAppends};
 ghost use Rattle.base_core.specs.Counts.{Rose};
-ghost use Rattle.host_io.specs.Calls.{IsListed, unused, write_counted};
+ghost use Rattle.host_io.specs.Calls.{IsListed, failures, raised, unused, write_counted, write_failures};
 ghost use Rattle.host_io.specs.Causes.{HasCause, HasWriteCause};
 ghost use Rattle.host_io.specs.Contents.{StopsAt};
 ghost use Rattle.host_io.specs.declared.stops.WriteStop.TheVariants as stop;
 
 use crate::calls::CallCounter;
+use crate::steady::SteadyWrite;
 use crate::stops::{Failed, WriteStop};
 use std::alloc::Global;
 use std::io::Write;
@@ -16,6 +17,9 @@ use std::marker::Model;
 
 /// A place for bytes.
 pub trait Sink {
+    /// Whether sinks of this type tell their bytes.
+    ghost tells: { Bool };
+
     /// The bytes that were taken, where they are told.
     ghost taken: { Self → Option (List ℕ) };
 
@@ -26,7 +30,11 @@ pub trait Sink {
     fn put(&mut self, bytes: &[u8]) -> Result<(), WriteStop>
         ensures bytes { MatchResult result (λ _. Appends (taken self.old) (taken self.new) bytes.now)
             (λ stopped. StopsAt stopped (taken self.old) (taken self.new) bytes.now) }
-        ensures cause { HasWriteCause (faults self.old) (faults self.new) result };
+        ensures cause { HasWriteCause (faults self.old) (faults self.new) result }
+        ensures count { faults self.new ≡ write_failures result (faults self.old) };
+
+    /// The bytes that were taken are told at each time, or never.
+    ghost steady: { (s : Self) → is_some (taken s) ≡ tells };
 }
 
 /// A sink in memory.
@@ -64,6 +72,10 @@ impl MemorySink {
 }
 
 impl Sink for MemorySink {
+    ghost tells = { true };
+
+    ghost steady = { λ _. refl };
+
     ghost taken = { λ s. Some s.taken };
 
     ghost faults = { λ s. s.calls.faults };
@@ -74,6 +86,7 @@ impl Sink for MemorySink {
         ensures bytes { MatchResult result (λ _. Appends (Some self.old.taken) (Some self.new.taken) bytes.now)
             (λ stopped. StopsAt stopped (Some self.old.taken) (Some self.new.taken) bytes.now) }
         ensures cause { HasWriteCause self.old.calls.faults self.new.calls.faults result }
+        ensures count { self.new.calls.faults ≡ write_failures result self.old.calls.faults }
         ensures listed { (result ≡ Err stop.Failed) ↔ IsListed self.old.calls }
         ensures calls { self.new.calls ≡ write_counted result self.old.calls }
         ensures same { OnErr result (self.new.taken ≡ self.old.taken) }
@@ -114,6 +127,7 @@ impl<W: Write> StdSink<W> {
     // Counts a fault.
     fn fail(&mut self) -> Failed
         ensures inner { self.new.inner ≡ self.old.inner }
+        ensures count { self.new.faults ≡ raised self.old.faults }
         ensures rose { Rose self.old.faults self.new.faults }
         ensures later { self.old.faults ≤ self.new.faults }
     {
@@ -126,6 +140,7 @@ impl<W: Write> StdSink<W> {
         ensures some { IfOk result (λ count. (0 < count) × (count ≤ length piece.now)) }
         ensures bytes { WriteAppends (W.contents self.old.inner) (W.contents self.new.inner) result piece.now }
         ensures cause { HasCause self.old.faults self.new.faults result }
+        ensures count { self.new.faults ≡ failures result self.old.faults }
     {
         match self.writer.write(piece) {
             Ok(count) if count > 0 => Ok(count),
@@ -137,6 +152,7 @@ impl<W: Write> StdSink<W> {
     fn flush(&mut self) -> Result<(), Failed>
         ensures bytes { Keeps (W.contents self.old.inner) (W.contents self.new.inner) }
         ensures cause { HasCause self.old.faults self.new.faults result }
+        ensures count { self.new.faults ≡ failures result self.old.faults }
     {
         match self.writer.flush() {
             Ok(()) => Ok(()),
@@ -145,12 +161,26 @@ impl<W: Write> StdSink<W> {
     }
 }
 
-impl<W: Write> Sink for StdSink<W> {
+impl<W: SteadyWrite> Sink for StdSink<W> {
+    ghost tells = { W.tells };
+
+    ghost steady = { λ s. W.steady s.inner };
+
+    /// What the writer holds, where it tells.
     ghost taken = { λ s. W.contents s.inner };
 
     ghost faults = { λ s. s.faults };
 
-    fn put(&mut self, bytes: &[u8]) -> Result<(), WriteStop> {
+    /// Besides what the trait says, each `Err` is `Failed`, also where the writer had no memory.
+    fn put(&mut self, bytes: &[u8]) -> Result<(), WriteStop>
+        ensures bytes { MatchResult result
+            (λ _. Appends (W.contents self.old.inner) (W.contents self.new.inner) bytes.now)
+            (λ stopped. StopsAt stopped
+            (W.contents self.old.inner) (W.contents self.new.inner) bytes.now) }
+        ensures failed { OnErr result (result ≡ Err stop.Failed) }
+        ensures cause { HasWriteCause self.old.faults self.new.faults result }
+        ensures count { self.new.faults ≡ write_failures result self.old.faults }
+    {
         let mut rest = bytes;
         while !rest.is_empty() {
             let count = self.write_some(rest)?;

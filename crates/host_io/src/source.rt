@@ -1,18 +1,22 @@
 //! Bytes that come in pieces.
 
-ghost use Rattle.std.specs.Prelude.{◌≡◌, ◌↔◌, ◌≤◌, ℕ, List, Option, Some, IsErr, drop, length};
+ghost use Rattle.std.specs.Prelude.{◌≡◌, ◌↔◌, ◌≤◌, ℕ, Bool, true, refl, List, Option, Some, IsErr, drop, is_some, length};
 ghost use Rattle.std.specs.Io.{ReadsAtMost};
 ghost use Rattle.std.specs.Io.KnownBytes.{ReadConsumes};
-ghost use Rattle.host_io.specs.Calls.{IsListed, counted, unused};
+ghost use Rattle.host_io.specs.Calls.{IsListed, counted, failures, unused};
 ghost use Rattle.host_io.specs.Causes.{HasCause};
 
 use crate::calls::CallCounter;
+use crate::steady::SteadyRead;
 use crate::stops::Failed;
 use std::io::Read;
 use std::marker::Model;
 
 /// Bytes that come in pieces.
 pub trait Source {
+    /// Whether sources of this type tell their bytes.
+    ghost tells: { Bool };
+
     /// The bytes that are left, where they are told.
     ghost left: { Self → Option (List ℕ) };
 
@@ -24,7 +28,11 @@ pub trait Source {
     fn read(&mut self, out: &mut [u8]) -> Result<usize, Failed>
         ensures bound { ReadsAtMost result out.new }
         ensures bytes { ReadConsumes (left self.old) (left self.new) result out.new }
-        ensures cause { HasCause (faults self.old) (faults self.new) result };
+        ensures cause { HasCause (faults self.old) (faults self.new) result }
+        ensures count { faults self.new ≡ failures result (faults self.old) };
+
+    /// The bytes that are left are told at each time, or never.
+    ghost steady: { (s : Self) → is_some (left s) ≡ tells };
 }
 
 /// A source in memory.
@@ -60,6 +68,10 @@ impl MemorySource {
 }
 
 impl Source for MemorySource {
+    ghost tells = { true };
+
+    ghost steady = { λ _. refl };
+
     ghost left = { λ s. Some s.left };
 
     ghost faults = { λ s. s.calls.faults };
@@ -69,6 +81,7 @@ impl Source for MemorySource {
         ensures bound { ReadsAtMost result out.new }
         ensures bytes { ReadConsumes (Some self.old.left) (Some self.new.left) result out.new }
         ensures cause { HasCause self.old.calls.faults self.new.calls.faults result }
+        ensures count { self.new.calls.faults ≡ failures result self.old.calls.faults }
         ensures listed { IsErr result ↔ IsListed self.old.calls }
         ensures calls { self.new.calls ≡ counted result self.old.calls }
     {
@@ -105,7 +118,12 @@ impl<R: Read> StdSource<R> {
     }
 }
 
-impl<R: Read> Source for StdSource<R> {
+impl<R: SteadyRead> Source for StdSource<R> {
+    ghost tells = { R.tells };
+
+    ghost steady = { λ s. R.steady s.inner };
+
+    /// What the reader has left, where it tells.
     ghost left = { λ s. R.remaining s.inner };
 
     ghost faults = { λ s. s.faults };

@@ -1,9 +1,11 @@
 //! Files, sources and sinks, each form once, with a failing call among others.
 
-use crate::fixtures::same;
+ghost use Rattle.std.specs.Prelude.{◌+◌, ◌≤◌, false, refl, IfOk, vec_capacity, vec_len};
+
+use crate::fixtures::{image, same};
 use host_io::{
     Failed, Files, HostFiles, MemoryFiles, MemorySink, MemorySource, Sink, Source, StdSink,
-    StdSource, WriteStop,
+    StdSource, SteadyRead, SteadyWrite, WriteStop,
 };
 use std::alloc::{AllocError, Global};
 use std::io::{Cursor, ErrorKind, Read, Write};
@@ -56,6 +58,12 @@ impl Read for Faulty {
     }
 }
 
+impl SteadyRead for Faulty {
+    ghost tells = { false };
+
+    ghost steady = { λ _. refl };
+}
+
 // The second read fails.
 fn memory_source(alloc: Global) -> Result<MemorySource, AllocError> {
     let bytes = b"firmware".to_vec(alloc)?;
@@ -99,6 +107,12 @@ impl Write for Stuck {
     }
 }
 
+impl SteadyWrite for Stuck {
+    ghost tells = { false };
+
+    ghost steady = { λ _. refl };
+}
+
 // The second put fails.
 fn memory_sink(alloc: Global) -> Result<MemorySink, AllocError> {
     let start = b"zero ".to_vec(alloc)?;
@@ -139,6 +153,27 @@ fn range(files: &mut MemoryFiles, name: &str, at: usize, out: &mut [u8]) -> Resu
         return Ok(false);
     }
     files.read_at(name, at as u64, out)?;
+    Ok(true)
+}
+
+// A list of these bytes, with room for more.
+fn with_room(alloc: Global, bytes: &[u8], room: usize) -> Result<Vec<u8>, AllocError>
+    ensures { IfOk result (λ v. vec_len v + room ≤ vec_capacity v) }
+{
+    let mut list = bytes.to_vec(alloc)?;
+    list.reserve(room)?;
+    Ok(list)
+}
+
+// Adds three bytes from the third place on, where the file has them.
+fn range_onto(files: &mut MemoryFiles, name: &str, list: &mut Vec<u8>) -> Result<bool, Failed>
+    requires { vec_len list.old + 3 ≤ vec_capacity list.old }
+{
+    match files.get(name) {
+        Some(bytes) if bytes.len() >= 5 => {}
+        _ => return Ok(false),
+    }
+    files.read_onto(name, 2, 3, list)?;
     Ok(true)
 }
 
@@ -189,22 +224,89 @@ fn files_in_memory(rt: HostRuntime) -> Result<(), Fail> {
 }
 
 #[test]
+fn ranges_in_memory(rt: HostRuntime) -> Result<(), Fail> {
+    let mut files = memory_files(rt.alloc())?;
+    let mut list = with_room(rt.alloc(), b"old ", 3)?;
+    same(&rt, range_onto(&mut files, "a", &mut list), Ok(true));
+    same(&rt, list.as_slice(), b"old cde".as_slice());
+    Ok(())
+}
+
+// Files are made, and written over by shorter ones.
+#[test]
 fn files_of_the_system(rt: HostRuntime) -> Result<(), Fail> {
-    let name = "host_io_test.tmp";
+    let name = "host_io_whole.tmp";
     let mut files = HostFiles::new(&rt);
     let mut out = [0; 4];
     same(&rt, stored(&mut files, name, b"firmware"), Ok(Some(8)));
     same(&rt, files.read_at(name, 4, &mut out), Ok(()));
     same(&rt, out.as_slice(), b"ware".as_slice());
-    same(&rt, files.read_at(name, 5, &mut out), Err(Failed));
-    same(&rt, files.read_at(name, 9, &mut []), Err(Failed));
+    same(&rt, stored(&mut files, name, b"short"), Ok(Some(5)));
+    same(&rt, files.read_at(name, 1, &mut out), Ok(()));
+    same(&rt, out.as_slice(), b"hort".as_slice());
+    fs::remove_file(&rt, name)?;
+    Ok(())
+}
+
+// A range outside a file fails, and so does each call on a file that isn't there.
+#[test]
+fn short_and_missing_files(rt: HostRuntime) -> Result<(), Fail> {
+    let name = "host_io_short.tmp";
+    let mut files = HostFiles::new(&rt);
+    let mut out = [0; 4];
+    same(&rt, stored(&mut files, name, b"short"), Ok(Some(5)));
+    same(&rt, files.read_at(name, 2, &mut out), Err(Failed));
+    same(&rt, files.read_at(name, 5, &mut []), Ok(()));
+    same(&rt, files.read_at(name, 6, &mut []), Err(Failed));
     fs::remove_file(&rt, name)?;
     same(&rt, files.size(name), Err(Failed));
     same(&rt, files.read_at(name, 0, &mut out), Err(Failed));
+    same(&rt, files.read_at(name, 0, &mut []), Err(Failed));
+    let stop = Err(WriteStop::Failed);
+    same(&rt, stored(&mut files, "host_io_none/file", b"x"), stop);
+    Ok(())
+}
+
+// Each call on a folder fails.
+#[test]
+fn folders(rt: HostRuntime) -> Result<(), Fail> {
+    let name = "host_io_folder.tmp";
+    fs::create_dir(&rt, name)?;
+    let mut files = HostFiles::new(&rt);
+    let stop = Err(WriteStop::Failed);
+    same(&rt, files.size(name), Err(Failed));
+    same(&rt, files.read_at(name, 0, &mut [0; 4]), Err(Failed));
+    same(&rt, stored(&mut files, name, b"x"), stop);
+    fs::remove_dir(&rt, name)?;
+    Ok(())
+}
+
+// A file of 40,000 bytes, of which the last is 2 and the others are 1.
+fn long_file(alloc: Global) -> Result<Vec<u8>, AllocError> {
+    let mut bytes = image(alloc, 1, 39_999)?;
+    bytes.push(2)?;
+    Ok(bytes)
+}
+
+// A range of more than one piece is added, and one outside the file leaves the list as it was.
+#[test]
+fn ranges_of_the_system(rt: HostRuntime) -> Result<(), Fail> {
+    let name = "host_io_range.tmp";
+    let bytes = long_file(rt.alloc())?;
+    let mut files = HostFiles::new(&rt);
+    same(&rt, files.write_whole(name, bytes.as_slice()), Ok(()));
+    let mut list = with_room(rt.alloc(), b"old ", 39_998)?;
     same(
         &rt,
-        stored(&mut files, "no_folder/file", b"x"),
-        Err(WriteStop::Failed),
+        files.read_onto(name, 3, 39_998, &mut list),
+        Err(Failed),
     );
+    same(&rt, list.as_slice(), b"old ".as_slice());
+    let mut list = with_room(rt.alloc(), b"old ", 39_998)?;
+    same(&rt, files.read_onto(name, 2, 39_998, &mut list), Ok(()));
+    same(&rt, list.len(), 40_002);
+    same(&rt, list.as_slice().get(4).copied(), Some(1));
+    same(&rt, list.as_slice().last().copied(), Some(2));
+    fs::remove_file(&rt, name)?;
     Ok(())
 }
