@@ -1,9 +1,18 @@
 -- No run is promised one of the wrong outcomes.
-use Rattle.std.proofs.Common.{◌≡◌, ℕ, Bool, true, List, [], Option, Some, None, Ok, Err, refl, sym, subst, ◌∙◌, inl, inr, IsTrue}
+use Rattle.std.proofs.Common.{◌≡◌, ℕ, Bool, true, List, [], ◌∷◌, ◌++◌, length, length-append, arith, Option, Some, None, Ok, Err, refl, sym, ap, subst, ◌∙◌, inl, inr, IsTrue}
+use Rattle.std.proofs.lemmas.List.{append_cancel_left}
 use Rattle.std.proofs.lemmas.Bool.{false≢true}
 use Rattle.fwu_formats.specs.Digests.{digests_of}
+use Rattle.fwu_model.specs.Causes.{Faults}
+use Rattle.fwu_model.specs.Wrote.{StopsInLast, usage_line}
+use Rattle.fwu_model.specs.declared.kinds.Note.{Note}
+use Rattle.fwu_words.specs.Order.{Asked}
 use Rattle.script_cmd.specs.Booted.{BootsFrom}
-use Rattle.script_cmd.specs.Outcomes.{BadListIsNone, ListIsSome, MissingListIsNone, NoMetadataIsNone, NothingFollowsTheSink, NothingIsArmed, NothingIsPassedOver, NothingIsTouched, UsageReadsNoSource}
+use Rattle.script_cmd.specs.Ways.{Given, Refuses, bad_list, bad_script, list_not_read, not_read, too_long, usage}
+use Rattle.script_cmd.specs.Outcomes.{BadListIsNone, ListIsSome, MissingListIsNone, NoMetadataIsNone, NothingFollowsTheSink, NothingIsArmed, NothingIsPassedOver, NothingIsTouched, UsageLineIsOfUsage, UsageReadsNoSource}
+
+same-name : (x y : List ℕ) → ◌≡◌ {A = Option (List ℕ)} (Some x) (Some y) → x ≡ y
+same-name x y e = cc
 
 pub nothing-is-passed-over : NothingIsPassedOver
 nothing-is-passed-over passes tells bytes calls old new taken takes reads p = sym ((p.holds.ends.does calls reads).all_calls refl)
@@ -22,6 +31,34 @@ nothing-follows-the-sink passes tells asked source journal old new before takes 
       elim (w.2.sink_fault refl) [ inl stops ↦ stops | inr alone ↦ absurd (some alone.no_turns) ],
     )
 
+-- the first byte of a line
+abbrev first : List ℕ → ℕ
+first [] = 0
+first (b ∷ bytes) = b
+
+-- which begins with `u`
+no-usage : (asked : Option Asked) (g : Given) (was are : Faults) (planned : ℕ) (noted : Note) (line : List ℕ) → Refuses asked g was are planned noted line → first line ≡ 117 → asked ≡ None
+no-usage asked g was are planned noted line (usage good is) e = is
+no-usage asked g was are planned noted line (not_read good run rose) e = let other : ◌≡◌ {A = ℕ} 114 117 = e in absurd (omega arith)
+no-usage asked g was are planned noted line (list_not_read some why) e = let other : ◌≡◌ {A = ℕ} 114 117 = e in absurd (omega arith)
+no-usage asked g was are planned noted line (too_long good run long) e = let other : ◌≡◌ {A = ℕ} 116 117 = e in absurd (omega arith)
+no-usage asked g was are planned noted line (bad_script n good asks short bad) e = let other : ◌≡◌ {A = ℕ} 98 117 = e in absurd (omega arith)
+no-usage asked g was are planned noted line (bad_list n some there bad) e = let other : ◌≡◌ {A = ℕ} 98 117 = e in absurd (omega arith)
+
+none-stops : (w : List ℕ) → StopsInLast [] w → ⊥
+none-stops w stops = let len = ap length stops.journal_is in omega (arith, len, length-append stops.earlier (stops.last ∷ []))
+
+pub usage-line-is-of-usage : UsageLineIsOfUsage
+usage-line-is-of-usage passes tells asked source old new before p =
+    let w = p.holds.wrote before refl in
+    let is : usage_line ≡ w.0 = append_cancel_left before usage_line w.0 (same-name (before ++ usage_line) (before ++ w.0) w.1) in
+    elim (w.2.sink_fault refl) [
+      | inl stops ↦ absurd (none-stops w.0 stops)
+      | inr alone ↦
+          no-usage asked _ p.faults_before p.faults_after alone.planned p.noted alone.line alone.alone
+          (ap first (sym alone.front.1) ∙ ap (λ (l : List ℕ). first (l ++ alone.front.0)) (sym is))
+    ]
+
 pub no-metadata-is-none : NoMetadataIsNone
 no-metadata-is-none passes asked source t turns status old new taken takes clean boots is p =
     let h = subst (BootsFrom passes old.told.now) is (p.holds.first refl clean t refl boots) in
@@ -30,9 +67,6 @@ no-metadata-is-none passes asked source t turns status old new taken takes clean
 pub usage-reads-no-source : UsageReadsNoSource
 usage-reads-no-source passes tells source old new taken takes p =
     elim (p.holds.ends.not_read refl refl) [ inl source ↦ absurd (false≢true source.0) | inr list ↦ list ]
-
-same-name : (x y : List ℕ) → ◌≡◌ {A = Option (List ℕ)} (Some x) (Some y) → x ≡ y
-same-name x y e = cc
 
 pub missing-list-is-none : MissingListIsNone
 missing-list-is-none name files passes lacks has =

@@ -31,7 +31,7 @@ use Rattle.fwu_words.specs.Order as ask
 use Rattle.script_cmd.specs.Asking.{plainly}
 use Rattle.script_cmd.specs.Booted.{BootsFrom, ChoseBank, ChoseNone}
 use Rattle.script_cmd.specs.BootWord.{BootsBy}
-use Rattle.script_cmd.specs.Machine.{Moment, at}
+use Rattle.script_cmd.specs.Powered.{Moment, at}
 use Rattle.script_cmd.specs.Running.{Ran, Ended, status_of_last, note_of_last, last_turn, calls_of}
 use Rattle.script_cmd.specs.Ways.{Given, Refuses, usage, not_read, list_not_read, too_long, bad_script, bad_list, starved, refused, ran}
 use Rattle.script_cmd.specs.Promises.{given_to, WaysBoot}

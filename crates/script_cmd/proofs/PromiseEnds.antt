@@ -19,7 +19,7 @@ use Rattle.fwu_model.specs.Causes as noted_alone
 use Rattle.host_io.specs.Contents.{Directory}
 use Rattle.fwu_words.specs.Order.{Asked}
 use Rattle.script_cmd.specs.Asking.{plainly}
-use Rattle.script_cmd.specs.Machine.{Moment, at}
+use Rattle.script_cmd.specs.Powered.{Moment, at}
 use Rattle.script_cmd.specs.Printed.{Prints, all, front, nothing}
 use Rattle.script_cmd.specs.Running.{Ran, Ended, Printed, status_of_last, note_of_last, last_turn}
 use Rattle.script_cmd.specs.Ways.{Given, HasGoodList, AsksTurns, HasCalls, Refuses, usage, not_read, list_not_read, too_long, bad_script, bad_list, starved, refused, ran}

@@ -4,7 +4,7 @@ use Rattle.std.proofs.lemmas.Bool.{false≢true}
 use Rattle.flash_core.specs.Told.{Told, NothingDirty}
 use Rattle.fwu_model.specs.Calm.{IsAtRest, IsGuarded}
 use Rattle.flash_core.specs.May.{Guards}
-use Rattle.script_cmd.specs.Machine.{Moment, IsSafe}
+use Rattle.script_cmd.specs.Powered.{Moment, IsSafe}
 use Rattle.script_cmd.specs.Ways.{starved, refused, ran}
 use Rattle.script_cmd.specs.Promises.{WaysGuard}
 use Rattle.script_cmd.proofs.ShowFlash.{clean-sure}

@@ -22,7 +22,7 @@ use Rattle.fwu_model.proofs.Selects.{runs-select}
 use Rattle.fwu_formats.proofs.Read.{layout-fits}
 use Rattle.fwu_words.specs.Order.{Asked}
 use Rattle.script_cmd.specs.Asking.{plainly}
-use Rattle.script_cmd.specs.Machine.{Moment, Shows, at}
+use Rattle.script_cmd.specs.Powered.{Moment, Shows, at}
 use Rattle.script_cmd.specs.Running.{Ran, Ended, StartsSound}
 use Rattle.script_cmd.specs.Ways.{HasCalls, starved, refused, ran}
 use Rattle.script_cmd.specs.Promises.{given_to, HeadlineHolds, WaysKeepTheHeadline}

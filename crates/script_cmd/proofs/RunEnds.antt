@@ -19,7 +19,7 @@ use Rattle.fwu_model.specs.Run.{ends_run}
 use Rattle.fwu_model.specs.Text.{line, text, call_word, reply_text}
 use Rattle.fwu_model.specs.Wrote.{may_lack}
 use Rattle.fwu_model.specs.Causes.{status_by, note_by}
-use Rattle.script_cmd.specs.Machine.{Moment}
+use Rattle.script_cmd.specs.Powered.{Moment}
 use Rattle.script_cmd.specs.Printed.{Prints, all, front, nothing}
 use Rattle.script_cmd.specs.Running.{Ran, Steps, Ended, Writes, Printed, calls_of, last_turn, status_of_last, note_of_last}
 use Rattle.script_cmd.proofs.RunTurns.{ran-none, ran-on, rose-before}

@@ -24,7 +24,7 @@ use Rattle.fwu_model.specs.Causes.{LossesAreCounted, cuts_in, greatest, is_cut, 
 use Rattle.fwu_model.proofs.Runs.{runs-grow}
 use Rattle.fwu_model.proofs.Frame.{calm-stays, start-is-calm}
 use Rattle.script_cmd.specs.Booted.{BootsFrom}
-use Rattle.script_cmd.specs.Machine.{Moment, IsSafe, Shows}
+use Rattle.script_cmd.specs.Powered.{Moment, IsSafe, Shows}
 use Rattle.script_cmd.specs.Replies.{Follows, Replies, power_after, power_left}
 use Rattle.script_cmd.specs.Turning.{Makes, NoneFalls, Turns}
 use Rattle.script_cmd.specs.Running.{Ran, RunsTo}

@@ -11,7 +11,7 @@ use Rattle.fwu_model.specs.declared.kinds.Note.TheVariants as note
 use Rattle.host_io.specs.Contents.{Directory}
 use Rattle.fwu_words.specs.Order.{Asked}
 use Rattle.fwu_words.specs.Order as ask
-use Rattle.script_cmd.specs.Machine.{Moment}
+use Rattle.script_cmd.specs.Powered.{Moment}
 use Rattle.script_cmd.specs.Printed.{Prints}
 use Rattle.script_cmd.specs.Turning.{NoneFalls}
 use Rattle.script_cmd.specs.Ways.{Given, HasGoodList, Refuses}

@@ -26,7 +26,7 @@ use Rattle.early_boot.specs.declared.ends.BootEnd.TheVariants as boot_end
 use Rattle.early_boot.specs.Started.{Started}
 use Rattle.early_boot.specs.Ends.{Ended, booted, bad_layout, no_metadata, no_bank, lost, failed, ended, stop_of}
 use Rattle.early_boot.specs.EndsBy.{EndsByBytes, EndsByMachine, StartsReady, StopsWith}
-use Rattle.script_cmd.specs.Machine.{at, IsAt, IsSafe}
+use Rattle.script_cmd.specs.Powered.{at, IsAt, IsSafe}
 use Rattle.script_cmd.specs.Booted.{BootsFrom}
 use Rattle.script_cmd.specs.Replies.{LeavesOn, power_after}
 use Rattle.script_cmd.specs.Turning.{NoneFalls, Turns, EndsTurn, boot_turn, on_after, reply_of_end}

@@ -13,7 +13,7 @@ use Rattle.fwu_model.specs.Reply.{Reply, Turn}
 use Rattle.fwu_model.specs.Reply as reply
 use Rattle.fwu_model.specs.Answer.{Answer, answer, answered}
 use Rattle.fwu_model.specs.Run.{Condition, Step, Answered, Idle, is_boot, is_off, is_stop, moved_on}
-use Rattle.script_cmd.specs.Machine.{at, IsAt, IsSafe}
+use Rattle.script_cmd.specs.Powered.{at, IsAt, IsSafe}
 use Rattle.script_cmd.specs.Replies.{Replies, power_after}
 use Rattle.script_cmd.specs.Turning.{Turns, LeavesFlash, quiet_turn}
 

@@ -28,7 +28,8 @@ pub record ChoseNone (passes : List ℕ → Bool) (image : List ℕ) (active pre
 
 abbrev pub IsRefusedBy : (List ℕ → Bool) → List ℕ → NoBoot → Type 0
 IsRefusedBy passes image (no_boot.Layout f) = layout_seen image ≡ Err f
-IsRefusedBy passes image no_boot.Metadata = (L : Layout) × (layout_seen image ≡ Ok L) × (deciding L image ≡ None)
+IsRefusedBy passes image no_boot.Metadata = (L : Layout) × (layout_seen image ≡ Ok L)
+    × (deciding L image ≡ None)
 IsRefusedBy passes image (no_boot.Bank active previous) = ChoseNone passes image active previous
 
 -- by the layout, the metadata that decides, and the choice; a stop says nothing of them, and a boot has no other reply

@@ -28,7 +28,7 @@ use Rattle.flash_format.specs.declared.stops.FormatStop.TheVariants.{Input, Read
 use Rattle.flash_format.specs.declared.stops.InputFault.{InputFault}
 use Rattle.flash_format.specs.declared.stops.InputFault.TheVariants as fault
 use Rattle.fwu_words.specs.Order as ask
-use Rattle.script_cmd.specs.Machine.{Moment}
+use Rattle.script_cmd.specs.Powered.{Moment}
 use Rattle.script_cmd.specs.Noted.{is_input, noted}
 use Rattle.script_cmd.specs.Printed.{Prints}
 use Rattle.script_cmd.specs.Showing.{HasCause, IsGranted, RefusedList, RefusesBadList, flash_fault_line}
@@ -91,8 +91,10 @@ format_note (Err (Flash stop)) = note.Nothing
 -- ---- what became of the flash
 
 -- The result r of formatting a flash of so many blocks, by the rows and banks L and the package of this name, and by a verifier of these
--- manifests, from the moment old to new. The faults of the files were was, and are are.
-pub record Tries (passes : List ℕ → Bool) (tells : Bool) (told : Option Directory) (name : List ℕ) (L : Layout) (blocks : ℕ) (old new : Moment) (was are : ℕ) (r : Result Formatted FormatStop) : Type 0 where
+-- manifests, from the moment old to new.
+pub record Tries (passes : List ℕ → Bool) (tells : Bool) (told : Option Directory) (name : List ℕ)
+    (L : Layout) (blocks : ℕ) (old new : Moment) (faults_before faults_after : ℕ)
+    (r : Result Formatted FormatStop) : Type 0 where
   -- what is told after the power came, which is what was told where nothing was dirty
   pub mid : Told
   pub fresh : IsTrue tells → NothingDirty old.told → mid ≡ old.told
@@ -103,18 +105,22 @@ pub record Tries (passes : List ℕ → Bool) (tells : Bool) (told : Option Dire
   -- a name that told files lack, and nothing was touched
   pub missing : Lacks told name → (IsOfLayout r ⊎ (r ≡ Err ReadFailed)) × (new.told ≡ mid)
   -- a file that could not be read, and why
-  pub failed : r ≡ Err ReadFailed → IsTrue tells → (new.told ≡ mid) ⊎ IsErr (layout_seen new.told.now)
-  pub reads : ReadsBy told name was are r
+  pub failed : r ≡ Err ReadFailed → IsTrue tells → (new.told ≡ mid)
+      ⊎ IsErr (layout_seen new.told.now)
+  pub reads : ReadsBy told name faults_before faults_after r
   -- formatted
   pub given : IfOk r (λ done. fitted L blocks ≡ Ok done.layout)
   pub formatted : IfOk r (λ done. IsTrue tells → IsFormatted passes done.layout done.version new.told)
   -- refused for what is in bank 0
-  pub refused : (found : Verdict) → r ≡ Err (Input (fault.Incomplete found)) → IsTrue tells → IsRefused passes L found new.told.now
+  pub refused : (found : Verdict) → r ≡ Err (Input (fault.Incomplete found)) → IsTrue tells
+      → IsRefused passes L found new.told.now
   pub images : Finishes r (IsTrue tells → (file : List ℕ) (toc : Toc) → Tells told name file → toc_of file ≡ Ok toc → HoldsImages L (images_of L.rows file toc) new.told.now)
   -- blocks 3 to 7 and the banks behind bank 0 are erased: no old mark, record of the counter or package is left
   pub blank : Finishes r (IsTrue tells → IsBlank L new.told.now)
-  pub deserved : (found : Verdict) → r ≡ Err (Input (fault.Incomplete found)) → IsTrue tells → (file : List ℕ) (toc : Toc) → Tells told name file → toc_of file ≡ Ok toc
-      → IsTrue (is_complete L.rows (images_of L.rows file toc)) → IsTrue (passes (manifest_part (images_of L.rows file toc))) → ⊥
+  pub deserved : (found : Verdict) → r ≡ Err (Input (fault.Incomplete found)) → IsTrue tells
+      → (file : List ℕ) (toc : Toc) → Tells told name file → toc_of file ≡ Ok toc
+      → IsTrue (is_complete L.rows (images_of L.rows file toc))
+      → IsTrue (passes (manifest_part (images_of L.rows file toc))) → ⊥
   -- nothing changes beyond the last bank
   pub keeps : IsTrue tells → Keeps 0 (4096 * blocks_needed L) mid new.told
   pub guard : IsTrue tells → new.told.guard ≡ old.told.guard
@@ -128,16 +134,24 @@ pub record Tries (passes : List ℕ → Bool) (tells : Bool) (told : Option Dire
 
 -- Nothing was done for want of memory, or since a list of digests was not read or is none; or the flash was formatted or was not, and the line
 -- of that was put into the sink.
-pub data Formats (passes : List ℕ → Bool) (tells : Bool) (g : Given) (name : List ℕ) (L : Layout) (blocks : ℕ) (old new : Moment) (status : ℕ) (told : Note) (taken takes : Option (List ℕ)) (was are : Faults) : Type 0 where
-  starved : status ≡ 9 → told ≡ note.Nothing → new ≡ old → takes ≡ taken → Formats passes tells g name L blocks old new status told taken takes was are
-  tried : HasGoodList g.list g.files → (r : Result Formatted FormatStop) → Tries passes tells g.files name L blocks old new was.files are.files r
-      → Prints (format_text r) (format_status r) status taken takes was.sink are.sink → told ≡ format_note r
-      → Formats passes tells g name L blocks old new status told taken takes was are
-  list_refused : new ≡ old → IsFalse (is_input told) → RefusedList (ask.format L.banks L.rows name) g status (noted told) taken takes was are
-      → Formats passes tells g name L blocks old new status told taken takes was are
+pub data Formats (passes : List ℕ → Bool) (tells : Bool) (g : Given) (name : List ℕ) (L : Layout)
+    (blocks : ℕ) (old new : Moment) (status : ℕ) (told : Note)
+    (taken_before taken_after : Option (List ℕ))
+    (faults_before faults_after : Faults) : Type 0 where
+  starved : status ≡ 9 → told ≡ note.Nothing → new ≡ old → taken_after ≡ taken_before
+      → Formats passes tells g name L blocks old new status told taken_before taken_after faults_before faults_after
+  tried : HasGoodList g.list g.files → (r : Result Formatted FormatStop)
+      → Tries passes tells g.files name L blocks old new faults_before.files faults_after.files r
+      → Prints (format_text r) (format_status r) status taken_before taken_after faults_before.sink faults_after.sink
+      → told ≡ format_note r
+      → Formats passes tells g name L blocks old new status told taken_before taken_after faults_before faults_after
+  list_refused : new ≡ old → IsFalse (is_input told)
+      → RefusedList (ask.format L.banks L.rows name) g status (noted told) taken_before taken_after faults_before faults_after
+      → Formats passes tells g name L blocks old new status told taken_before taken_after faults_before faults_after
 
 -- The rows and banks are a layout of the flash, the file is told and is a package, and its images are a complete package of the layout that passes.
-pub record IsFormattable (passes : List ℕ → Bool) (told : Option Directory) (name : List ℕ) (L : Layout) (blocks : ℕ) : Type 0 where
+pub record IsFormattable (passes : List ℕ → Bool) (told : Option Directory) (name : List ℕ)
+    (L : Layout) (blocks : ℕ) : Type 0 where
   pub file : List ℕ
   pub toc : Toc
   pub is_there : Tells told name file
@@ -147,11 +161,15 @@ pub record IsFormattable (passes : List ℕ → Bool) (told : Option Directory) 
   pub permitted : IsTrue (passes (manifest_part (images_of L.rows file toc)))
 
 -- What the command does, and that it makes no turn and arms nothing.
-pub record FormattedBy (passes : List ℕ → Bool) (tells : Bool) (g : Given) (name : List ℕ) (L : Layout) (blocks : ℕ) (old new : Moment) (status : ℕ) (told : Note) (journal : List Turn) (taken takes : Option (List ℕ)) (was are : Faults) : Type 0 where
-  pub formats : Formats passes tells g name L blocks old new status told taken takes was are
-  pub refuses_list : RefusesBadList g old new status was are
+pub record FormattedBy (passes : List ℕ → Bool) (tells : Bool) (g : Given) (name : List ℕ)
+    (L : Layout) (blocks : ℕ) (old new : Moment) (status : ℕ) (told : Note) (journal : List Turn)
+    (taken_before taken_after : Option (List ℕ))
+    (faults_before faults_after : Faults) : Type 0 where
+  pub formats : Formats passes tells g name L blocks old new status told taken_before taken_after faults_before faults_after
+  pub refuses_list : RefusesBadList g old new status faults_before faults_after
   -- a package that told files lack is answered by 2, where there is a layout for it, or by a failure at the line, or on the way there
-  pub lacking : Lacks g.files name → (M : Layout) → fitted L blocks ≡ Ok M → IsTrue (may_fail_before status || (status == 13))
+  pub lacking : Lacks g.files name → (M : Layout) → fitted L blocks ≡ Ok M
+      → IsTrue (may_fail_before status || (status == 13))
   -- done: no old mark, record of the counter or package is left
   pub blank : status ≡ 0 → IsTrue tells → IsBlank L new.told.now
   pub no_turns : journal ≡ []
@@ -159,4 +177,5 @@ pub record FormattedBy (passes : List ℕ → Bool) (tells : Bool) (g : Given) (
   pub unarmed : new.armed ≡ None
   pub guard : IsTrue tells → new.told.guard ≡ old.told.guard
   -- a flash that tells its content is formatted where all is there and nothing failed, unless memory was wanting
-  pub complete : IsTrue tells → IsFormattable passes g.files name L blocks → IsGranted g old.counts new.counts was are → (status ≡ 0) ⊎ (status ≡ 9)
+  pub complete : IsTrue tells → IsFormattable passes g.files name L blocks
+      → IsGranted g old.counts new.counts faults_before faults_after → (status ≡ 0) ⊎ (status ≡ 9)

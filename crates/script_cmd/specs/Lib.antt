@@ -1,4 +1,4 @@
-pub mod Machine
+pub mod Powered
 pub mod Booted
 pub mod Replies
 pub mod Turning

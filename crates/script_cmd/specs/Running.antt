@@ -17,7 +17,7 @@ use Rattle.fwu_model.specs.Causes.{LossesAreCounted, cuts_in, status_by, note_by
 use Rattle.fwu_model.specs.Wrote.{LacksLast, StopsInLast, may_lack}
 use Rattle.fwu_model.specs.declared.kinds.Note.{Note}
 use Rattle.fwu_model.specs.declared.kinds.Note.TheVariants as note
-use Rattle.script_cmd.specs.Machine.{Moment, IsAt, IsSafe}
+use Rattle.script_cmd.specs.Powered.{Moment, IsAt, IsSafe}
 use Rattle.script_cmd.specs.Booted.{BootsFrom}
 use Rattle.script_cmd.specs.Replies.{Follows, power_left}
 use Rattle.script_cmd.specs.Turning.{NoneFalls, Turns}
@@ -27,7 +27,8 @@ abbrev pub calls_of : List Turn → List Call
 calls_of journal = map (λ (t : Turn). t.call) journal
 
 -- a flash from which the headline holds: sound, with nothing dirty, and guarded at the front
-pub record StartsSound (E : Setting) (start : State) (passes : List ℕ → Bool) (old : Moment) : Type 0 where
+pub record StartsSound (E : Setting) (start : State) (passes : List ℕ → Bool)
+    (old : Moment) : Type 0 where
   pub clean : NothingDirty old.told
   pub sound : SoundFlash E old.told.now
   pub shows : seen old.told.now ≡ Some start
@@ -35,40 +36,48 @@ pub record StartsSound (E : Setting) (start : State) (passes : List ℕ → Bool
   pub passes_are : E.passes ≡ passes
 
 -- the machine's run leads to a condition that the flash is at
-pub record RunsTo (E : Setting) (start : State) (journal : List Turn) (old new : Moment) : Type 0 where
+pub record RunsTo (E : Setting) (start : State) (journal : List Turn)
+    (old new : Moment) : Type 0 where
   pub last : Condition
   pub runs : Runs E start journal last
   pub is_at : IsAt E last new.on new.told
   pub armed : ArmedBy last journal old.counts new.counts new.armed
 
 -- The turns of the journal were done, from a device that was off and unarmed.
-pub record Ran (passes : List ℕ → Bool) (tells : Bool) (journal : List Turn) (old new : Moment) : Type 0 where
+pub record Ran (passes : List ℕ → Bool) (tells : Bool) (journal : List Turn)
+    (old new : Moment) : Type 0 where
   pub counts : NoneFalls old.counts new.counts
   -- each `cut` is an arming, and there are no others
   pub made : new.counts.made ≡ made_after old.counts.made (cuts_in journal)
   pub lost_turns : LossesAreCounted journal old.counts new.counts
-  pub fault_turns : (t : Turn) → Contains journal t → t.reply ≡ reply.Fault → Rose old.counts.faults new.counts.faults
+  pub fault_turns : (t : Turn) → Contains journal t → t.reply ≡ reply.Fault
+      → Rose old.counts.faults new.counts.faults
   pub reads_no_file : (t : Turn) → Contains journal t → t.reply ≢ reply.ReadFault
   -- which replies they have, on any device
   pub replies : Follows old.on journal new.on
   pub power : new.power ≡ power_left old.power journal
   pub guard : IsTrue tells → new.told.guard ≡ old.told.guard
   -- a turn that ends the run is the last
-  pub ends : (n : ℕ) (t : Turn) → slice_get journal n ≡ Some t → IsTrue (ends_run t.reply) → n + 1 ≡ length journal
-  pub run : IsTrue tells → (E : Setting) (start : State) → StartsSound E start passes old → (Rose old.counts.chances new.counts.chances → ⊥) → RunsTo E start journal old new
+  pub ends : (n : ℕ) (t : Turn) → slice_get journal n ≡ Some t → IsTrue (ends_run t.reply)
+      → n + 1 ≡ length journal
+  pub run : IsTrue tells → (E : Setting) (start : State) → StartsSound E start passes old
+      → (Rose old.counts.chances new.counts.chances → ⊥) → RunsTo E start journal old new
   pub safe : IsTrue tells → NothingDirty old.told → Guards 1 7 old.told → IsSafe new.power new.told
   -- until the first turn nothing is done, and where it is a boot it goes by the bytes
   pub untouched : journal ≡ [] → (new ≡ old)
-  pub first : IsTrue tells → NothingDirty old.told → (t : Turn) → slice_get journal 0 ≡ Some t → t.call ≡ call.Boot → BootsFrom passes old.told.now t.reply
+  pub first : IsTrue tells → NothingDirty old.told → (t : Turn) → slice_get journal 0 ≡ Some t
+      → t.call ≡ call.Boot → BootsFrom passes old.told.now t.reply
 
 -- ---- one turn
 
 -- What one turn leaves: it does the call c, it is kept, and its line was printed with this status.
-pub record Steps (passes : List ℕ → Bool) (tells : Bool) (c : Call) (before after : List Turn) (old new : Moment) (status : ℕ) (noted : Note) (taken takes : Option (List ℕ)) (was are : ℕ) : Type 0 where
+pub record Steps (passes : List ℕ → Bool) (tells : Bool) (c : Call) (before after : List Turn)
+    (old new : Moment) (status : ℕ) (noted : Note) (taken_before taken_after : Option (List ℕ))
+    (faults_before faults_after : ℕ) : Type 0 where
   pub turn : Turn
   pub turns : Turns passes tells c turn old new
   pub kept : after ≡ before ++ turn ∷ []
-  pub prints : Prints (line turn.call turn.reply) (status_by turn.reply) status taken takes was are
+  pub prints : Prints (line turn.call turn.reply) (status_by turn.reply) status taken_before taken_after faults_before faults_after
   pub noted_is : noted ≡ note_by turn.reply
 
 -- ---- how a run ended
@@ -88,7 +97,8 @@ last_turn (t ∷ []) = Some t
 last_turn (t ∷ u ∷ turns) = last_turn (u ∷ turns)
 
 -- Its turns are those of the script up to one that ended it, and of the whole script at status 0.
-pub record Ended (script : List Call) (journal : List Turn) (status : ℕ) (noted : Note) : Type 0 where
+pub record Ended (script : List Call) (journal : List Turn) (status : ℕ)
+    (noted : Note) : Type 0 where
   pub calls : IsPrefixOf (calls_of journal) script
   pub all_calls : status ≡ 0 → calls_of journal ≡ script
   pub status_is : IsFalse (may_lack status) → status ≡ status_of_last (last_turn journal)
@@ -104,7 +114,9 @@ pub record Writes (journal : List Turn) (status : ℕ) (w : List ℕ) : Type 0 w
   pub less : status ≡ 9 → w ≢ text journal
 
 -- what the sink took, and its faults, before and after
-pub record Printed (journal : List Turn) (status : ℕ) (old new : Option (List ℕ)) (was are : ℕ) : Type 0 where
-  pub bytes : (before : List ℕ) → old ≡ Some before → (w : List ℕ) × (new ≡ Some (before ++ w)) × Writes journal status w
-  pub later : was ≤ are
-  pub failed : status ≡ 3 → Rose was are
+pub record Printed (journal : List Turn) (status : ℕ) (old new : Option (List ℕ))
+    (faults_before faults_after : ℕ) : Type 0 where
+  pub bytes : (before : List ℕ) → old ≡ Some before → (w : List ℕ) × (new ≡ Some (before ++ w))
+      × Writes journal status w
+  pub later : faults_before ≤ faults_after
+  pub failed : status ≡ 3 → Rose faults_before faults_after

@@ -15,7 +15,7 @@ use Rattle.early_boot.specs.Numbers.{ShowsNumbers}
 use Rattle.fwu_model.specs.Reply.{Turn}
 use Rattle.script_cmd.specs.Printed.{Prints}
 use Rattle.script_cmd.specs.Turning.{NoneFalls}
-use Rattle.script_cmd.specs.Machine.{Moment}
+use Rattle.script_cmd.specs.Powered.{Moment}
 use Rattle.script_cmd.specs.Ways.{Given, HasGoodList, Refuses}
 use Rattle.fwu_formats.specs.Digests.{digests_of}
 use Rattle.fwu_model.specs.Allow.{list_bytes}
@@ -37,7 +37,8 @@ flash_fault_line = codes "flash-fault\n"
 -- an image has no layout, or no metadata
 abbrev pub ShowsNone : List ℕ → NoBoot → Type 0
 ShowsNone image (no_boot.Layout f) = layout_seen image ≡ Err f
-ShowsNone image no_boot.Metadata = (L : Layout) × (layout_seen image ≡ Ok L) × (deciding L image ≡ Option.None)
+ShowsNone image no_boot.Metadata = (L : Layout) × (layout_seen image ≡ Ok L)
+    × (deciding L image ≡ Option.None)
 ShowsNone image (no_boot.Bank active previous) = ⊥
 
 -- why a flash stopped a command that arms no loss: it failed, or power was lost
@@ -45,39 +46,54 @@ abbrev pub HasCause : Counts → Counts → Type 0
 HasCause before after = Rose before.faults after.faults ⊎ Rose before.cuts after.cuts
 
 -- What `show` found on a flash of which so much is told, with the status, the note and the line of that.
-pub data Finds (known : Type 0) (image : List ℕ) (before after : Counts) : ℕ → Note → List ℕ → Type 0 where
-  numbers : (n : Numbers) → (known → ShowsNumbers image n) → Finds known image before after 0 note.Nothing (shown_line n)
-  none : (why : NoBoot) → (known → ShowsNone image why) → Finds known image before after 6 (note.Boot why) (not_shown_line why)
+pub data Finds (known : Type 0) (image : List ℕ) (before after : Counts) : ℕ → Note → List ℕ
+    → Type 0 where
+  numbers : (n : Numbers) → (known → ShowsNumbers image n)
+      → Finds known image before after 0 note.Nothing (shown_line n)
+  none : (why : NoBoot) → (known → ShowsNone image why)
+      → Finds known image before after 6 (note.Boot why) (not_shown_line why)
   stopped : HasCause before after → Finds known image before after 5 note.Nothing flash_fault_line
 
 -- a list of digests was not read or is none, so nothing was looked at
-abbrev pub RefusedList : Asked → Given → ℕ → Note → Option (List ℕ) → Option (List ℕ) → Faults → Faults → Type 0
-RefusedList asked g status noted taken takes was are =
-    (planned : ℕ) × (line : List ℕ) × Refuses (Some asked) g was are planned noted line × Prints line planned status taken takes was.sink are.sink
+abbrev pub RefusedList : Asked → Given → ℕ → Note → Option (List ℕ) → Option (List ℕ) → Faults
+    → Faults → Type 0
+RefusedList asked g status noted taken_before taken_after faults_before faults_after =
+    (planned : ℕ) × (line : List ℕ) × Refuses
+    (Some asked) g faults_before faults_after planned noted line
+    × Prints line planned status taken_before taken_after faults_before.sink faults_after.sink
 
 -- How it ended: nothing was done for want of memory, or since a list of digests was not read or is none; or by what it found, whose line was
 -- put into the sink.
-pub data Showed (tells : Bool) (g : Given) (old new : Moment) (status : ℕ) (noted : Note) (taken takes : Option (List ℕ)) (was are : Faults) : Type 0 where
-  starved : status ≡ 9 → noted ≡ note.Nothing → new ≡ old → takes ≡ taken → Showed tells g old new status noted taken takes was are
-  list_refused : new ≡ old → RefusedList ask.show g status noted taken takes was are → Showed tells g old new status noted taken takes was are
-  found : HasGoodList g.list g.files → (planned : ℕ) (line : List ℕ) → Finds (IsTrue tells × NothingDirty old.told) old.told.now old.counts new.counts planned noted line
-      → Prints line planned status taken takes was.sink are.sink → Showed tells g old new status noted taken takes was are
+pub data Showed (tells : Bool) (g : Given) (old new : Moment) (status : ℕ) (noted : Note)
+    (taken_before taken_after : Option (List ℕ))
+    (faults_before faults_after : Faults) : Type 0 where
+  starved : status ≡ 9 → noted ≡ note.Nothing → new ≡ old → taken_after ≡ taken_before
+      → Showed tells g old new status noted taken_before taken_after faults_before faults_after
+  list_refused : new ≡ old
+      → RefusedList ask.show g status noted taken_before taken_after faults_before faults_after
+      → Showed tells g old new status noted taken_before taken_after faults_before faults_after
+  found : HasGoodList g.list g.files → (planned : ℕ) (line : List ℕ)
+      → Finds (IsTrue tells × NothingDirty old.told) old.told.now old.counts new.counts planned noted line
+      → Prints line planned status taken_before taken_after faults_before.sink faults_after.sink
+      → Showed tells g old new status noted taken_before taken_after faults_before faults_after
 
 -- A list that told files lack is answered by 2, and one with a bad line by 13, or 2 where it could not be read; the sink may fail at that
 -- line, or memory be wanting. And nothing was done.
-pub record RefusesBadList (g : Given) (old new : Moment) (status : ℕ) (was are : Faults) : Type 0 where
+pub record RefusesBadList (g : Given) (old new : Moment) (status : ℕ)
+    (faults_before faults_after : Faults) : Type 0 where
   pub lacking : LacksList g.files g.list → (new ≡ old) × IsTrue (may_fail_before status)
-  pub bad : IfSome (list_bytes g.list g.files) (λ bytes. (n : ℕ) → digests_of bytes ≡ Err n → (new ≡ old) × RefusesList status was are)
+  pub bad : IfSome (list_bytes g.list g.files) (λ bytes. (n : ℕ) → digests_of bytes ≡ Err n → (new ≡ old) × RefusesList status faults_before faults_after)
 
 -- A command that runs no script is given what it asks for: a list of digests, where one is named, that is there and has no bad line; and
 -- nothing failed, and no power was lost.
-pub record IsGranted (g : Given) (before after : Counts) (was are : Faults) : Type 0 where
+pub record IsGranted (g : Given) (before after : Counts)
+    (faults_before faults_after : Faults) : Type 0 where
   pub list_there : LacksList g.files g.list → ⊥
   pub list_is : (n : ℕ) → IsSome g.list → IsBadList (list_bytes g.list g.files) n → ⊥
   pub no_fault : Rose before.faults after.faults → ⊥
   pub no_cut : Rose before.cuts after.cuts → ⊥
-  pub no_file_fault : Rose was.files are.files → ⊥
-  pub no_sink_fault : Rose was.sink are.sink → ⊥
+  pub no_file_fault : Rose faults_before.files faults_after.files → ⊥
+  pub no_sink_fault : Rose faults_before.sink faults_after.sink → ⊥
 
 -- an image has a layout, and a replica with metadata of it
 pub record HasMetadata (image : List ℕ) : Type 0 where
@@ -87,9 +103,11 @@ pub record HasMetadata (image : List ℕ) : Type 0 where
   pub decides : deciding layout image ≡ Option.Some meta
 
 -- What the command answers and leaves: no turn, no count lower, no arming, and the content of a flash with nothing dirty.
-pub record ShowedBy (tells : Bool) (g : Given) (old new : Moment) (status : ℕ) (noted : Note) (journal : List Turn) (taken takes : Option (List ℕ)) (was are : Faults) : Type 0 where
-  pub showed : Showed tells g old new status noted taken takes was are
-  pub refuses_list : RefusesBadList g old new status was are
+pub record ShowedBy (tells : Bool) (g : Given) (old new : Moment) (status : ℕ) (noted : Note)
+    (journal : List Turn) (taken_before taken_after : Option (List ℕ))
+    (faults_before faults_after : Faults) : Type 0 where
+  pub showed : Showed tells g old new status noted taken_before taken_after faults_before faults_after
+  pub refuses_list : RefusesBadList g old new status faults_before faults_after
   pub content : IsTrue tells → NothingDirty old.told → new.told ≡ old.told
   pub guard : IsTrue tells → new.told.guard ≡ old.told.guard
   pub no_turns : journal ≡ []
@@ -97,4 +115,5 @@ pub record ShowedBy (tells : Bool) (g : Given) (old new : Moment) (status : ℕ)
   pub made : new.counts.made ≡ old.counts.made
   pub unarmed : new.armed ≡ None
   -- the numbers are shown where all is there and nothing failed, unless memory was wanting
-  pub complete : IsTrue tells → NothingDirty old.told → HasMetadata old.told.now → IsGranted g old.counts new.counts was are → (status ≡ 0) ⊎ (status ≡ 9)
+  pub complete : IsTrue tells → NothingDirty old.told → HasMetadata old.told.now
+      → IsGranted g old.counts new.counts faults_before faults_after → (status ≡ 0) ⊎ (status ≡ 9)

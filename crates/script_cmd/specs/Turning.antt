@@ -20,7 +20,7 @@ use Rattle.moves.specs.Moved.{GuardedBy}
 use Rattle.early_boot.specs.Started.{started_reply, started_numbers}
 use Rattle.early_boot.specs.Ends.{Ended, booted, bad_layout, no_metadata, no_bank, lost, failed, stop_of}
 use Rattle.early_boot.specs.EndsBy.{EndsByBytes, EndsByMachine}
-use Rattle.script_cmd.specs.Machine.{Moment, IsAt, IsSafe}
+use Rattle.script_cmd.specs.Powered.{Moment, IsAt, IsSafe}
 use Rattle.script_cmd.specs.Booted.{BootsFrom}
 use Rattle.script_cmd.specs.Replies.{LeavesOn, Replies, power_after}
 
@@ -37,13 +37,15 @@ Makes (call.Cut n k) before after = after ≡ min (before + 1) greatest
 Makes other before after = after ≡ before
 
 -- The turn t does the call c, by a verifier of these manifests, on a device that tells its content or not.
-pub record Turns (passes : List ℕ → Bool) (tells : Bool) (c : Call) (t : Turn) (old new : Moment) : Type 0 where
+pub record Turns (passes : List ℕ → Bool) (tells : Bool) (c : Call) (t : Turn)
+    (old new : Moment) : Type 0 where
   pub call_is : t.call ≡ c
   pub counts : NoneFalls old.counts new.counts
   pub made : Makes c old.counts.made new.counts.made
   pub armed : IsCut (Some t) new.armed
   -- each stop has its cause
-  pub lost : t.reply ≡ reply.Lost → Rose old.counts.cuts new.counts.cuts ⊎ Rose old.counts.reached new.counts.reached
+  pub lost : t.reply ≡ reply.Lost → Rose old.counts.cuts new.counts.cuts
+      ⊎ Rose old.counts.reached new.counts.reached
   pub failed : t.reply ≡ reply.Fault → Rose old.counts.faults new.counts.faults
   pub reads_no_file : t.reply ≢ reply.ReadFault
   -- on any device the reply is by whether the flash was on, and by its numbers
@@ -52,12 +54,14 @@ pub record Turns (passes : List ℕ → Bool) (tells : Bool) (c : Call) (t : Tur
   -- no call changes which blocks are guarded
   pub guard : IsTrue tells → new.told.guard ≡ old.told.guard
   -- from a condition of a run it is a step, where no torn block was sealed by chance
-  pub step : IsTrue tells → (E : Setting) (was : Condition) → E.passes ≡ passes → IsAt E was old.on old.told → (Rose old.counts.chances new.counts.chances → ⊥)
+  pub step : IsTrue tells → (E : Setting) (was : Condition) → E.passes ≡ passes
+      → IsAt E was old.on old.told → (Rose old.counts.chances new.counts.chances → ⊥)
       → (next : Condition) × Step E was t next × IsAt E next new.on new.told
   -- on any flash no loss harms what is in use
   pub safe : IsTrue tells → IsSafe old.power old.told → IsSafe new.power new.told
   -- a boot of a flash that is off and has nothing dirty goes by its bytes, and the other calls leave these
-  pub boots : IsTrue tells → old.on ≡ None → NothingDirty old.told → c ≡ call.Boot → BootsFrom passes old.told.now t.reply
+  pub boots : IsTrue tells → old.on ≡ None → NothingDirty old.told → c ≡ call.Boot
+      → BootsFrom passes old.told.now t.reply
 
 -- ---- a boot of a flash that is on
 
@@ -91,15 +95,18 @@ abbrev pub boot_turn : Ended → Turn
 boot_turn e = record { call = call.Boot; reply = reply_of_end e; numbers = numbers_of_end e }
 
 -- The turn t is a boot that ended so, by a verifier of these manifests, on a device that tells its content or not. What is told and counted was old, and is new.
-pub record EndsTurn (passes : List ℕ → Bool) (tells : Bool) (e : Ended) (t : Turn) (was are : Counts) (old new : Told) (on : Option Numbers) (power : Bool) : Type 0 where
+pub record EndsTurn (passes : List ℕ → Bool) (tells : Bool) (e : Ended) (t : Turn)
+    (counts_before counts_after : Counts) (old new : Told) (on : Option Numbers)
+    (power : Bool) : Type 0 where
   pub turn_is : t ≡ boot_turn e
   pub on_is : on ≡ on_after e
   pub power_is : power ≡ is_ok (stop_of e)
   -- the reply tells of these numbers
   pub leaves : LeavesOn t.reply on
-  pub costs : Spends (stop_of e) was are
+  pub costs : Spends (stop_of e) counts_before counts_after
   pub by_bytes : IsTrue tells → EndsByBytes passes old e new
-  pub by_machine : IsTrue tells → (E : Setting) (s : State) → E.passes ≡ passes → IsCalm E old s → Guards 1 7 old → EndsByMachine E s e new
+  pub by_machine : IsTrue tells → (E : Setting) (s : State) → E.passes ≡ passes → IsCalm E old s
+      → Guards 1 7 old → EndsByMachine E s e new
   pub guarded : IsTrue tells → IsAtRest old → GuardedBy (stop_of e) new
 
 -- ---- a call that leaves the flash as it is
@@ -108,11 +115,13 @@ abbrev pub quiet_turn : Call → Reply → Turn
 quiet_turn what r = record { call = what; reply = r; numbers = None }
 
 -- The call is no boot, the reply no stop, and what is told stays.
-pub record LeavesFlash (tells : Bool) (what : Call) (r : Reply) (was are : Counts) (old new : Told) (armed : Option Arming) (power after_power : Bool) : Type 0 where
+pub record LeavesFlash (tells : Bool) (what : Call) (r : Reply)
+    (counts_before counts_after : Counts) (old new : Told) (armed : Option Arming)
+    (power after_power : Bool) : Type 0 where
   pub no_boot : IsFalse (is_boot what)
   pub no_stop : IsFalse (is_stop r)
-  pub counts : NoneFalls was are
-  pub made : Makes what was.made are.made
+  pub counts : NoneFalls counts_before counts_after
+  pub made : Makes what counts_before.made counts_after.made
   pub armed_is : IsCut (Some (quiet_turn what r)) armed
   pub same : IsTrue tells → new ≡ old
   pub power_is : after_power ≡ power

@@ -13,7 +13,7 @@ use Rattle.fwu_model.specs.declared.kinds.Note.{Note}
 use Rattle.fwu_model.specs.declared.kinds.Note.TheVariants as note
 use Rattle.fwu_words.specs.Order.{Asked}
 use Rattle.fwu_words.specs.Order as ask
-use Rattle.script_cmd.specs.Machine.{Moment, at}
+use Rattle.script_cmd.specs.Powered.{Moment, at}
 use Rattle.script_cmd.specs.Printed.{Prints}
 use Rattle.script_cmd.specs.Running.{Ran, Ended, Printed}
 
@@ -28,7 +28,8 @@ abbrev pub AsksTurns : Option Asked → Type 0
 AsksTurns asked = (asked ≡ Some ask.run) ⊎ (asked ≡ Some ask.boot)
 
 -- the named list, where the files are told, is there and has no bad line
-pub record HasGoodList (list : Option (List ℕ)) (files : Option (List ℕ → Option (List ℕ))) : Type 0 where
+pub record HasGoodList (list : Option (List ℕ))
+    (files : Option (List ℕ → Option (List ℕ))) : Type 0 where
   pub there : LacksList files list → ⊥
   pub good : IfSome (list_bytes list files) (λ bytes. (n : ℕ) → digests_of bytes ≡ Err n → ⊥)
 
@@ -37,13 +38,25 @@ abbrev pub IsShort : Option (List ℕ) → Type 0
 IsShort script = IfSome script (λ bytes. is_too_long bytes ≡ false)
 
 -- Why nothing ran, with the status, the note and the line of that. A fault of the list comes before the others.
-pub data Refuses (asked : Option Asked) (g : Given) (was are : Faults) : ℕ → Note → List ℕ → Type 0 where
-  usage : HasGoodList g.list g.files → asked ≡ None → Refuses asked g was are 1 note.Nothing usage_line
-  not_read : HasGoodList g.list g.files → asked ≡ Some ask.run → Rose was.source are.source → Refuses asked g was are 2 note.Nothing not_read_line
-  list_not_read : IsSome g.list → Rose was.files are.files ⊎ LacksList g.files g.list → Refuses asked g was are 2 note.Nothing not_read_line
-  too_long : HasGoodList g.list g.files → asked ≡ Some ask.run → IfSome g.script (λ bytes. IsTrue (is_too_long bytes)) → Refuses asked g was are 8 note.Nothing too_long_line
-  bad_script : (n : ℕ) → HasGoodList g.list g.files → AsksTurns asked → IsShort g.script → IsBadScript g.script n → Refuses asked g was are 4 (note.BadLine n) (bad_script_line n)
-  bad_list : (n : ℕ) → IsSome g.list → (LacksList g.files g.list → ⊥) → IsBadList (list_bytes g.list g.files) n → Refuses asked g was are 13 (note.BadList n) (bad_list_line n)
+pub data Refuses (asked : Option Asked) (g : Given) (faults_before faults_after : Faults) : ℕ → Note
+    → List ℕ → Type 0 where
+  usage : HasGoodList g.list g.files → asked ≡ None
+      → Refuses asked g faults_before faults_after 1 note.Nothing usage_line
+  not_read : HasGoodList g.list g.files → asked ≡ Some ask.run
+      → Rose faults_before.source faults_after.source
+      → Refuses asked g faults_before faults_after 2 note.Nothing not_read_line
+  list_not_read : IsSome g.list → Rose faults_before.files faults_after.files
+      ⊎ LacksList g.files g.list
+      → Refuses asked g faults_before faults_after 2 note.Nothing not_read_line
+  too_long : HasGoodList g.list g.files → asked ≡ Some ask.run
+      → IfSome g.script (λ bytes. IsTrue (is_too_long bytes))
+      → Refuses asked g faults_before faults_after 8 note.Nothing too_long_line
+  bad_script : (n : ℕ) → HasGoodList g.list g.files → AsksTurns asked → IsShort g.script
+      → IsBadScript g.script n
+      → Refuses asked g faults_before faults_after 4 (note.BadLine n) (bad_script_line n)
+  bad_list : (n : ℕ) → IsSome g.list → (LacksList g.files g.list → ⊥)
+      → IsBadList (list_bytes g.list g.files) n
+      → Refuses asked g faults_before faults_after 13 (note.BadList n) (bad_list_line n)
 
 -- the asked script, where it is told, was read whole, within the limits, and has these calls
 abbrev pub HasCalls : Option (List ℕ) → List Call → Type 0
@@ -54,19 +67,29 @@ abbrev pub faults_of : {H I O : Type 0} → (H → ℕ) → (I → ℕ) → (O �
 faults_of files source sink h i o = record { files = files h; source = source i; sink = sink o }
 
 -- no fault count falls
-pub record Later (was are : Faults) : Type 0 where
-  pub files : was.files ≤ are.files
-  pub source : was.source ≤ are.source
-  pub sink : was.sink ≤ are.sink
+pub record Later (faults_before faults_after : Faults) : Type 0 where
+  pub files : faults_before.files ≤ faults_after.files
+  pub source : faults_before.source ≤ faults_after.source
+  pub sink : faults_before.sink ≤ faults_after.sink
 
 -- Nothing ran for want of memory; or for a cause, whose line was put into the sink; or the turns of the script ran.
-pub data Way (passes : List ℕ → Bool) (tells : Bool) (asked : Option Asked) (g : Given) (journal : List Turn) (status : ℕ) (noted : Note) (old new : Moment) (taken takes : Option (List ℕ)) (was are : Faults) : Type 0 where
-  starved : journal ≡ [] → new ≡ old → status ≡ 9 → noted ≡ note.Nothing → takes ≡ taken → Way passes tells asked g journal status noted old new taken takes was are
-  refused : (planned : ℕ) (line : List ℕ) → journal ≡ [] → new ≡ old → Refuses asked g was are planned noted line
-      → Prints line planned status taken takes was.sink are.sink → Way passes tells asked g journal status noted old new taken takes was are
-  ran : (calls : List Call) (on : Option Numbers) → HasGoodList g.list g.files → AsksTurns asked → HasCalls g.script calls
-      → Ran passes tells journal old (at on new.told new.counts new.armed new.power) → Ended calls journal status noted → Printed journal status taken takes was.sink are.sink
-      → Way passes tells asked g journal status noted old new taken takes was are
+pub data Way (passes : List ℕ → Bool) (tells : Bool) (asked : Option Asked) (g : Given)
+    (journal : List Turn) (status : ℕ) (noted : Note) (old new : Moment)
+    (taken_before taken_after : Option (List ℕ))
+    (faults_before faults_after : Faults) : Type 0 where
+  starved : journal ≡ [] → new ≡ old → status ≡ 9 → noted ≡ note.Nothing
+      → taken_after ≡ taken_before
+      → Way passes tells asked g journal status noted old new taken_before taken_after faults_before faults_after
+  refused : (planned : ℕ) (line : List ℕ) → journal ≡ [] → new ≡ old
+      → Refuses asked g faults_before faults_after planned noted line
+      → Prints line planned status taken_before taken_after faults_before.sink faults_after.sink
+      → Way passes tells asked g journal status noted old new taken_before taken_after faults_before faults_after
+  ran : (calls : List Call) (on : Option Numbers) → HasGoodList g.list g.files → AsksTurns asked
+      → HasCalls g.script calls
+      → Ran passes tells journal old (at on new.told new.counts new.armed new.power)
+      → Ended calls journal status noted
+      → Printed journal status taken_before taken_after faults_before.sink faults_after.sink
+      → Way passes tells asked g journal status noted old new taken_before taken_after faults_before faults_after
 
 -- ---- by the words
 
@@ -90,7 +113,8 @@ StandsIn (Some files) name bytes = files name ≡ Some bytes
 StandsIn None name bytes = ⊤
 
 -- A list of digests was read from the file that is named, and the manifests that it lists pass.
-pub record ReadsList (list : Option (List ℕ)) (files : Option (List ℕ → Option (List ℕ))) (passes : List ℕ → Bool) : Type 0 where
+pub record ReadsList (list : Option (List ℕ)) (files : Option (List ℕ → Option (List ℕ)))
+    (passes : List ℕ → Bool) : Type 0 where
   pub name : List ℕ
   pub named : list ≡ Some name
   pub bytes : List ℕ
@@ -100,7 +124,8 @@ pub record ReadsList (list : Option (List ℕ)) (files : Option (List ℕ → Op
   pub passes_are : passes ≡ passes_listed digests
 
 -- Whose manifests pass: any where no list is asked for, and else those of the list.
-pub record HasPasses (asks : Bool) (list : Option (List ℕ)) (files : Option (List ℕ → Option (List ℕ))) (passes : List ℕ → Bool) : Type 0 where
+pub record HasPasses (asks : Bool) (list : Option (List ℕ))
+    (files : Option (List ℕ → Option (List ℕ))) (passes : List ℕ → Bool) : Type 0 where
   pub any : asks ≡ false → passes ≡ passes_any
   pub listed : asks ≡ true → ReadsList list files passes
 
@@ -115,5 +140,7 @@ pub record IsIdle (journal : List Turn) (status : ℕ) (old new : Moment) : Type
   pub status_is : IsTrue (may_lack_list status)
 
 -- The promise holds for the manifests that pass, by the list that was read. Where none was read nothing was done, and it holds whichever pass.
-abbrev pub ByList : (HasPasses : (List ℕ → Bool) → Type 0) → (Idle : Type 0) → (Promise : (List ℕ → Bool) → Type 0) → Type 0
-ByList Has Idle Promise = ((passes : List ℕ → Bool) × Has passes × Promise passes) ⊎ (Idle × ((passes : List ℕ → Bool) → Promise passes))
+abbrev pub ByList : (HasPasses : (List ℕ → Bool) → Type 0) → (Idle : Type 0)
+    → (Promise : (List ℕ → Bool) → Type 0) → Type 0
+ByList Has Idle Promise = ((passes : List ℕ → Bool) × Has passes × Promise passes)
+    ⊎ (Idle × ((passes : List ℕ → Bool) → Promise passes))

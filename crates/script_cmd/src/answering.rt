@@ -10,7 +10,7 @@ ghost use Rattle.fwu_words.specs.Order.{Asked, asked};
 ghost use Rattle.fwu_words.specs.Order as ask;
 ghost use Rattle.script_cmd.specs.Asking.{asked_with_list, asks_format, asks_run, plainly};
 ghost use Rattle.script_cmd.specs.Formatting.{FormattedBy};
-ghost use Rattle.script_cmd.specs.Machine.{moment};
+ghost use Rattle.script_cmd.specs.Powered.{moment};
 ghost use Rattle.script_cmd.specs.Noted.{is_input, noted};
 ghost use Rattle.script_cmd.specs.Showing.{ShowedBy};
 ghost use Rattle.script_cmd.specs.Ways.{AsksTurns, ByList, Given, HasGoodList, HasPasses, IsIdle, IsScriptOf, Later, ReadsList, RunsOrNone, Way, faults_of};

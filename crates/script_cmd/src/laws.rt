@@ -1,5 +1,5 @@
 //! Laws of the ways that a run may end, and of wrong outcomes that none is promised: functions that do nothing, whose contract is the law.
-ghost use Rattle.script_cmd.specs.Outcomes.{BadListIsNone, ListIsSome, MissingListIsNone, NoMetadataIsNone, NothingFollowsTheSink, NothingIsArmed, NothingIsPassedOver, NothingIsTouched, UsageReadsNoSource};
+ghost use Rattle.script_cmd.specs.Outcomes.{BadListIsNone, ListIsSome, MissingListIsNone, NoMetadataIsNone, NothingFollowsTheSink, NothingIsArmed, NothingIsPassedOver, NothingIsTouched, UsageLineIsOfUsage, UsageReadsNoSource};
 ghost use Rattle.script_cmd.specs.Promises.{WaysAreComplete, WaysBoot, WaysBootFirst, WaysEnd, WaysGuard, WaysKeepTheHeadline, WaysLeaveTheDevice, WaysReply, WaysWrite};
 
 /// Whichever way a run ends, what the sink took is the lines of its turns, or one line where nothing ran.
@@ -91,4 +91,9 @@ pub fn bad_list_is_none()
 /// Behind a list those of some digests pass.
 pub fn list_is_some()
     ensures { ListIsSome }
+{}
+
+/// The line of usage stands for words that ask for nothing alone, also where the sink failed behind it.
+pub fn usage_line_is_of_usage()
+    ensures { UsageLineIsOfUsage }
 {}

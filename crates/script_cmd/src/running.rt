@@ -8,13 +8,13 @@ ghost use Rattle.script_text.specs.Shown.{shown};
 ghost use Rattle.fwu_journal.specs.Room.{HasRoom};
 ghost use Rattle.fwu_journal.specs.Shown.{HasRoomFor, reply, turn as shown_turn, turns};
 ghost use Rattle.fwu_journal.specs.declared.line.TheConstants.{LINE_ROOM};
-ghost use Rattle.script_cmd.specs.Machine.{at, device, moment, shown_on};
+ghost use Rattle.script_cmd.specs.Powered.{at, device, moment, shown_on};
 ghost use Rattle.script_cmd.specs.Noted.{is_input, noted};
 ghost use Rattle.script_cmd.specs.Printed.{Prints};
 ghost use Rattle.script_cmd.specs.Running.{Ended, Printed, Ran, Steps};
 
 use crate::done::{Done, Note};
-use crate::machine::Machine;
+use crate::powered::Powered;
 use crate::printing::put_line;
 use crate::room::Room;
 use crate::turning::{Turned, turn};
@@ -27,7 +27,7 @@ use verify_core::Verifier;
 /// A run between two turns.
 #[derive(Drop)]
 struct Running<D: Flash> {
-    machine: Machine<D>,
+    powered: Powered<D>,
     journal: Journal,
     text: Vec<u8>,
 }
@@ -98,42 +98,42 @@ fn step<D: Flash, O: Sink, V: Verifier>(
     sink: &mut O,
     verifier: &V,
 ) -> Stepped<D>
-    requires powered { D.on (device running.machine) ≡ is_some (shown_on running.machine) }
+    requires powered { D.on (device running.powered) ≡ is_some (shown_on running.powered) }
     requires armable { IsArmable (shown call) }
     requires turn_fits { HasRoomFor running.journal 1 }
     requires line_fits { LINE_ROOM ≤ vec_capacity running.text }
     ensures steps { Steps (V.passes verifier.now) D.tells (shown call) (turns running.journal)
         (turns result.running.journal)
-        (at (shown_on running.machine) (D.told (device running.machine))
-        (D.counts (device running.machine)) (D.arming (device running.machine))
-        (D.on (device running.machine)))
-        (at (shown_on result.running.machine) (D.told (device result.running.machine))
-        (D.counts (device result.running.machine)) (D.arming (device result.running.machine))
-        (D.on (device result.running.machine))) result.end.status (noted result.end.note)
+        (at (shown_on running.powered) (D.told (device running.powered))
+        (D.counts (device running.powered)) (D.arming (device running.powered))
+        (D.on (device running.powered)))
+        (at (shown_on result.running.powered) (D.told (device result.running.powered))
+        (D.counts (device result.running.powered)) (D.arming (device result.running.powered))
+        (D.on (device result.running.powered))) result.end.status (noted result.end.note)
         (O.taken sink.old) (O.taken sink.new) (O.faults sink.old) (O.faults sink.new) }
     ensures note { IsFalse (is_input result.end.note) }
     // Where the run goes on.
     ensures powered { result.end.status ≡ 0
-        → D.on (device result.running.machine) ≡ is_some (shown_on result.running.machine) }
+        → D.on (device result.running.powered) ≡ is_some (shown_on result.running.powered) }
     ensures turns_fit { (n : ℕ) → HasRoomFor running.journal (n + 1)
         → HasRoomFor result.running.journal n }
     ensures line_fits { LINE_ROOM ≤ vec_capacity result.running.text }
-    ensures size { D.blocks (device result.running.machine) ≡ D.blocks (device running.machine) }
+    ensures size { D.blocks (device result.running.powered) ≡ D.blocks (device running.powered) }
 {
     let Running {
-        machine,
+        powered,
         mut journal,
         mut text,
     } = running;
     let Turned {
         turn: next,
-        machine,
-    } = turn(machine, call, verifier);
+        powered,
+    } = turn(powered, call, verifier);
     journal.add(next);
     let end = print_turn(&mut text, &next, sink);
     Stepped {
         running: Running {
-            machine,
+            powered,
             journal,
             text,
         },
@@ -145,18 +145,18 @@ fn step<D: Flash, O: Sink, V: Verifier>(
 fn done<D: Flash>(running: Running<D>, end: End) -> Done<D>
     ensures status { result.status ≡ end.status }
     ensures note { result.note ≡ end.note }
-    ensures flash { result.flash ≡ device running.machine }
+    ensures flash { result.flash ≡ device running.powered }
     ensures journal { result.journal ≡ running.journal }
 {
     let Running {
-        machine,
+        powered,
         journal,
         ..
     } = running;
     Done {
         status: end.status,
         note: end.note,
-        flash: machine.into_flash(),
+        flash: powered.into_flash(),
         journal,
     }
 }
@@ -188,7 +188,7 @@ pub fn run_script<D: Flash, O: Sink, V: Verifier>(
 {
     let Room { journal, text } = room;
     let mut running = Running {
-        machine: Machine::Off(flash),
+        powered: Powered::Off(flash),
         journal,
         text,
     };

@@ -6,7 +6,7 @@ ghost use Rattle.fwu_journal.specs.Room.{Grows, HasRoom};
 ghost use Rattle.fwu_journal.specs.Shown.{turns};
 ghost use Rattle.fwu_journal.specs.declared.line.TheConstants.{LINE_ROOM};
 ghost use Rattle.fwu_model.specs.Causes.{Faults};
-ghost use Rattle.script_cmd.specs.Machine.{moment};
+ghost use Rattle.script_cmd.specs.Powered.{moment};
 ghost use Rattle.script_cmd.specs.Ways.{Given, HasGoodList};
 ghost use Rattle.script_cmd.specs.Noted.{is_input, noted};
 ghost use Rattle.script_cmd.specs.Turning.{NoneFalls};

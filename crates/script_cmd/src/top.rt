@@ -7,7 +7,7 @@ ghost use Rattle.fwu_words.specs.Order.{asked};
 ghost use Rattle.fwu_words.specs.Order as ask;
 ghost use Rattle.script_cmd.specs.Asking.{asked_with_list, asks_format, asks_run};
 ghost use Rattle.script_cmd.specs.Formatting.{FormattedBy};
-ghost use Rattle.script_cmd.specs.Machine.{moment};
+ghost use Rattle.script_cmd.specs.Powered.{moment};
 ghost use Rattle.script_cmd.specs.Noted.{is_input, noted};
 ghost use Rattle.script_cmd.specs.Promises.{Promised};
 ghost use Rattle.script_cmd.specs.Showing.{ShowedBy};

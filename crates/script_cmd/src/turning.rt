@@ -10,10 +10,10 @@ ghost use Rattle.early_boot.specs.Ends.{Ended, device_of, ended, some_numbers};
 ghost use Rattle.fwu_journal.specs.Shown.{reply, turn};
 ghost use Rattle.script_text.specs.Built.{IsArmable};
 ghost use Rattle.script_text.specs.Shown.{shown};
-ghost use Rattle.script_cmd.specs.Machine.{at, device, moment, shown_on};
+ghost use Rattle.script_cmd.specs.Powered.{at, device, moment, shown_on};
 ghost use Rattle.script_cmd.specs.Turning.{Turns, EndsTurn, LeavesFlash, boot_turn, on_after};
 
-use crate::machine::Machine;
+use crate::powered::Powered;
 use early_boot::{BootEnd, Booted, Numbers, boot};
 use flash_core::Flash;
 use fwu_journal::{Reply, Turn};
@@ -25,7 +25,7 @@ use verify_core::Verifier;
 #[derive(Drop)]
 pub struct Turned<D: Flash> {
     pub turn: Turn,
-    pub machine: Machine<D>,
+    pub powered: Powered<D>,
 }
 
 /// The turn of a call that has no numbers.
@@ -68,12 +68,12 @@ fn turn_with(answer: Reply, read: Option<Numbers>) -> Turn
 fn not_booted<D: Flash>(flash: D, answer: Reply, read: Option<Numbers>) -> Turned<D>
     ensures turn { turn result.turn ≡ record
         { call = call.Boot; reply = reply answer; numbers = some_numbers numbers read } }
-    ensures on { shown_on result.machine ≡ None }
-    ensures device { device result.machine ≡ flash }
+    ensures on { shown_on result.powered ≡ None }
+    ensures device { device result.powered ≡ flash }
 {
     Turned {
         turn: turn_with(answer, read),
-        machine: Machine::Off(flash),
+        powered: Powered::Off(flash),
     }
 }
 
@@ -84,23 +84,23 @@ fn was_booted<D: Flash>(booted: Booted<D>, read: Numbers) -> Turned<D>
       reply = started_reply (started booted);
       numbers = Some (numbers read);
     } }
-    ensures on { shown_on result.machine ≡ Some (started_numbers (started booted)) }
-    ensures device { device result.machine ≡ booted_device booted }
+    ensures on { shown_on result.powered ≡ Some (started_numbers (started booted)) }
+    ensures device { device result.powered ≡ booted_device booted }
 {
     let turn = turn_with(booted_reply(&booted), Some(read));
     let shows = booted.numbers();
     let (flash, _, _) = booted.into_parts();
     Turned {
         turn,
-        machine: Machine::On(flash, shows),
+        powered: Powered::On(flash, shows),
     }
 }
 
 /// The turn of a boot that ended like this.
 fn turned_by<D: Flash>(end: BootEnd<D>) -> Turned<D>
     ensures turn { turn result.turn ≡ boot_turn (ended end) }
-    ensures on { shown_on result.machine ≡ on_after (ended end) }
-    ensures device { device result.machine ≡ device_of end }
+    ensures on { shown_on result.powered ≡ on_after (ended end) }
+    ensures device { device result.powered ≡ device_of end }
 {
     match end {
         BootEnd::Booted(booted, read) => was_booted(booted, read),
@@ -126,11 +126,11 @@ fn turned_by<D: Flash>(end: BootEnd<D>) -> Turned<D>
 fn boot_on<D: Flash, V: Verifier>(flash: D, verifier: &V) -> Turned<D>
     requires { IsTrue (D.on flash) }
     ensures ends { (e : Ended) × EndsTurn (V.passes verifier.now) D.tells e (turn result.turn)
-        (D.counts flash) (D.counts (device result.machine)) (D.told flash)
-        (D.told (device result.machine)) (shown_on result.machine) (D.on (device result.machine)) }
+        (D.counts flash) (D.counts (device result.powered)) (D.told flash)
+        (D.told (device result.powered)) (shown_on result.powered) (D.on (device result.powered)) }
     ensures powered { IsFalse (ends_run (turn result.turn).reply)
-        → D.on (device result.machine) ≡ is_some (shown_on result.machine) }
-    ensures size { D.blocks (device result.machine) ≡ D.blocks flash }
+        → D.on (device result.powered) ≡ is_some (shown_on result.powered) }
+    ensures size { D.blocks (device result.powered) ≡ D.blocks flash }
 {
     turned_by(boot(flash, verifier))
 }
@@ -140,12 +140,12 @@ fn boot_off<D: Flash, V: Verifier>(flash: D, verifier: &V) -> Turned<D>
     requires { IsFalse (D.on flash) }
     ensures turns { Turns (V.passes verifier.now) D.tells call.Boot (turn result.turn)
         (moment D.told D.counts D.arming D.on flash)
-        (at (shown_on result.machine) (D.told (device result.machine))
-        (D.counts (device result.machine)) (D.arming (device result.machine))
-        (D.on (device result.machine))) }
+        (at (shown_on result.powered) (D.told (device result.powered))
+        (D.counts (device result.powered)) (D.arming (device result.powered))
+        (D.on (device result.powered))) }
     ensures powered { IsFalse (ends_run (turn result.turn).reply)
-        → D.on (device result.machine) ≡ is_some (shown_on result.machine) }
-    ensures size { D.blocks (device result.machine) ≡ D.blocks flash }
+        → D.on (device result.powered) ≡ is_some (shown_on result.powered) }
+    ensures size { D.blocks (device result.powered) ≡ D.blocks flash }
 {
     let mut flash = flash;
     flash.power_on();
@@ -153,21 +153,21 @@ fn boot_off<D: Flash, V: Verifier>(flash: D, verifier: &V) -> Turned<D>
 }
 
 /// The turn of `boot`.
-fn boot_turn<D: Flash, V: Verifier>(machine: Machine<D>, verifier: &V) -> Turned<D>
-    requires { D.on (device machine) ≡ is_some (shown_on machine) }
+fn boot_turn<D: Flash, V: Verifier>(powered: Powered<D>, verifier: &V) -> Turned<D>
+    requires { D.on (device powered) ≡ is_some (shown_on powered) }
     ensures turns { Turns (V.passes verifier.now) D.tells call.Boot (turn result.turn)
-        (at (shown_on machine) (D.told (device machine)) (D.counts (device machine))
-        (D.arming (device machine)) (D.on (device machine)))
-        (at (shown_on result.machine) (D.told (device result.machine))
-        (D.counts (device result.machine)) (D.arming (device result.machine))
-        (D.on (device result.machine))) }
+        (at (shown_on powered) (D.told (device powered)) (D.counts (device powered))
+        (D.arming (device powered)) (D.on (device powered)))
+        (at (shown_on result.powered) (D.told (device result.powered))
+        (D.counts (device result.powered)) (D.arming (device result.powered))
+        (D.on (device result.powered))) }
     ensures powered { IsFalse (ends_run (turn result.turn).reply)
-        → D.on (device result.machine) ≡ is_some (shown_on result.machine) }
-    ensures size { D.blocks (device result.machine) ≡ D.blocks (device machine) }
+        → D.on (device result.powered) ≡ is_some (shown_on result.powered) }
+    ensures size { D.blocks (device result.powered) ≡ D.blocks (device powered) }
 {
-    match machine {
-        Machine::Off(flash) => boot_off(flash, verifier),
-        Machine::On(flash, _) => boot_on(flash, verifier),
+    match powered {
+        Powered::Off(flash) => boot_off(flash, verifier),
+        Powered::On(flash, _) => boot_on(flash, verifier),
     }
 }
 
@@ -180,27 +180,27 @@ fn shows_turn(shows: &Numbers) -> Turn
 }
 
 /// The turn of `show`.
-fn show_turn<D: Flash>(machine: Machine<D>) -> Turned<D>
+fn show_turn<D: Flash>(powered: Powered<D>) -> Turned<D>
     ensures turns { (passes : List ℕ → Bool)
         → Turns passes D.tells call.Show (turn result.turn)
-        (at (shown_on machine) (D.told (device machine)) (D.counts (device machine))
-        (D.arming (device machine)) (D.on (device machine)))
-        (at (shown_on result.machine) (D.told (device result.machine))
-        (D.counts (device result.machine)) (D.arming (device result.machine))
-        (D.on (device result.machine))) }
-    ensures on { shown_on result.machine ≡ shown_on machine }
-    ensures device { device result.machine ≡ device machine }
+        (at (shown_on powered) (D.told (device powered)) (D.counts (device powered))
+        (D.arming (device powered)) (D.on (device powered)))
+        (at (shown_on result.powered) (D.told (device result.powered))
+        (D.counts (device result.powered)) (D.arming (device result.powered))
+        (D.on (device result.powered))) }
+    ensures on { shown_on result.powered ≡ shown_on powered }
+    ensures device { device result.powered ≡ device powered }
 {
-    match machine {
-        Machine::Off(flash) => Turned {
+    match powered {
+        Powered::Off(flash) => Turned {
             turn: turn_of(Call::Show, Reply::Off),
-            machine: Machine::Off(flash),
+            powered: Powered::Off(flash),
         },
-        Machine::On(flash, shows) => {
+        Powered::On(flash, shows) => {
             let turn = shows_turn(&shows);
             Turned {
                 turn,
-                machine: Machine::On(flash, shows),
+                powered: Powered::On(flash, shows),
             }
         }
     }
@@ -221,52 +221,52 @@ fn arm<D: Flash>(flash: D, n: u32, k: u32) -> D
 }
 
 /// The turn of `cut`.
-fn cut_turn<D: Flash>(machine: Machine<D>, n: u32, k: u32) -> Turned<D>
+fn cut_turn<D: Flash>(powered: Powered<D>, n: u32, k: u32) -> Turned<D>
     requires { 1 ≤ n }
     ensures turns { (passes : List ℕ → Bool)
         → Turns passes D.tells (call.Cut n k) (turn result.turn)
-        (at (shown_on machine) (D.told (device machine)) (D.counts (device machine))
-        (D.arming (device machine)) (D.on (device machine)))
-        (at (shown_on result.machine) (D.told (device result.machine))
-        (D.counts (device result.machine)) (D.arming (device result.machine))
-        (D.on (device result.machine))) }
-    ensures on { shown_on result.machine ≡ shown_on machine }
-    ensures power { D.on (device result.machine) ≡ D.on (device machine) }
-    ensures size { D.blocks (device result.machine) ≡ D.blocks (device machine) }
+        (at (shown_on powered) (D.told (device powered)) (D.counts (device powered))
+        (D.arming (device powered)) (D.on (device powered)))
+        (at (shown_on result.powered) (D.told (device result.powered))
+        (D.counts (device result.powered)) (D.arming (device result.powered))
+        (D.on (device result.powered))) }
+    ensures on { shown_on result.powered ≡ shown_on powered }
+    ensures power { D.on (device result.powered) ≡ D.on (device powered) }
+    ensures size { D.blocks (device result.powered) ≡ D.blocks (device powered) }
 {
     let turn = turn_of(Call::Cut { n, k }, Reply::CutOk);
-    match machine {
-        Machine::Off(flash) => Turned {
+    match powered {
+        Powered::Off(flash) => Turned {
             turn,
-            machine: Machine::Off(arm(flash, n, k)),
+            powered: Powered::Off(arm(flash, n, k)),
         },
-        Machine::On(flash, shows) => Turned {
+        Powered::On(flash, shows) => Turned {
             turn,
-            machine: Machine::On(arm(flash, n, k), shows),
+            powered: Powered::On(arm(flash, n, k), shows),
         },
     }
 }
 
 /// Does a call. `boot` brings power back where it is off; where it is on, the flash boots again as it reads now. Of the other calls,
 /// `cut` arms the flash on or off, and `show` tells the numbers, or while off `off`.
-pub fn turn<D: Flash, V: Verifier>(machine: Machine<D>, call: Call, verifier: &V) -> Turned<D>
-    requires powered { D.on (device machine) ≡ is_some (shown_on machine) }
+pub fn turn<D: Flash, V: Verifier>(powered: Powered<D>, call: Call, verifier: &V) -> Turned<D>
+    requires powered { D.on (device powered) ≡ is_some (shown_on powered) }
     requires armable { IsArmable (shown call) }
 
     ensures turns { Turns (V.passes verifier.now) D.tells (shown call) (turn result.turn)
-        (at (shown_on machine) (D.told (device machine)) (D.counts (device machine))
-        (D.arming (device machine)) (D.on (device machine)))
-        (at (shown_on result.machine) (D.told (device result.machine))
-        (D.counts (device result.machine)) (D.arming (device result.machine))
-        (D.on (device result.machine))) }
+        (at (shown_on powered) (D.told (device powered)) (D.counts (device powered))
+        (D.arming (device powered)) (D.on (device powered)))
+        (at (shown_on result.powered) (D.told (device result.powered))
+        (D.counts (device result.powered)) (D.arming (device result.powered))
+        (D.on (device result.powered))) }
     // Where the run goes on.
     ensures powered { IsFalse (ends_run (turn result.turn).reply)
-        → D.on (device result.machine) ≡ is_some (shown_on result.machine) }
-    ensures size { D.blocks (device result.machine) ≡ D.blocks (device machine) }
+        → D.on (device result.powered) ≡ is_some (shown_on result.powered) }
+    ensures size { D.blocks (device result.powered) ≡ D.blocks (device powered) }
 {
     match call {
-        Call::Boot => boot_turn(machine, verifier),
-        Call::Show => show_turn(machine),
-        Call::Cut { n, k } => cut_turn(machine, n, k),
+        Call::Boot => boot_turn(powered, verifier),
+        Call::Show => show_turn(powered),
+        Call::Cut { n, k } => cut_turn(powered, n, k),
     }
 }

@@ -3,7 +3,7 @@ use Rattle.fwu_model.specs.Reply.{Turn}
 use Rattle.fwu_journal.specs.declared.journal.Journal.{Journal}
 use Rattle.fwu_journal.specs.Shown.{turns}
 use Rattle.script_text.specs.Shown.{shown}
-use Rattle.script_cmd.specs.Machine.{at, device, shown_on}
+use Rattle.script_cmd.specs.Powered.{at, device, shown_on}
 use Rattle.script_cmd.specs.Running.{Ran}
 use Rattle.script_cmd.proofs.RunEnds.{GoesOn, goes-none, goes-on, ends-ran, ends-by, ends-printed, all-ended, all-printed}
 use Rattle.script_cmd.proofs.running.run_script.Goals as goal
@@ -38,7 +38,7 @@ returns-then-end-ne0-clause-ran g c =
     let d = c.args.flash in
     let old = at None (g.D.Flash.told d) (g.D.Flash.counts d) (g.D.Flash.arming d) (g.D.Flash.on d) in
     let passes = g.V.Verifier.passes c.args.verifier.now in
-    let m = c.step-after.result.running.machine in (
+    let m = c.step-after.result.running.powered in (
       shown_on m,
       subst (λ (x : g.row.D.Denot). Ran passes g.D.Flash.tells (turns c.done.result.journal) old (at (shown_on m) (g.D.Flash.told x) (g.D.Flash.counts x) (g.D.Flash.arming x) (g.D.Flash.on x))) (sym c.done.ensures.flash)
           (subst (λ (j : Journal). Ran passes g.D.Flash.tells (turns j) old (at (shown_on m) (g.D.Flash.told (device m)) (g.D.Flash.counts (device m)) (g.D.Flash.arming (device m)) (g.D.Flash.on (device m)))) (sym c.done.ensures.journal)

@@ -4,7 +4,7 @@ use Rattle.fwu_model.specs.Reply.{Turn}
 use Rattle.fwu_model.specs.Reply as model_reply
 use Rattle.early_boot.specs.Numbers.{numbers}
 use Rattle.fwu_journal.specs.Shown.{turn}
-use Rattle.script_cmd.specs.Machine.{at, device, shown_on}
+use Rattle.script_cmd.specs.Powered.{at, device, shown_on}
 use Rattle.script_cmd.specs.Turning.{Turns}
 use Rattle.script_cmd.proofs.TurnQuiet.{quiet-off, quiet-on, cut-off, cut-on}
 use Rattle.script_cmd.proofs.turning.cut_turn.Goals as goal

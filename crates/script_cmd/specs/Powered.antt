@@ -12,17 +12,17 @@ use Rattle.fwu_model.specs.Headline.{LeavesOneOf}
 use Rattle.fwu_model.specs.Calm.{IsGuarded, IsAtRest}
 use Rattle.moves.specs.Moved.{IsReady}
 use Rattle.early_boot.specs.Numbers.{numbers}
-use Rattle.script_cmd.specs.declared.machine.Machine.{Machine}
-use Rattle.script_cmd.specs.declared.machine.Machine.TheVariants as machine
+use Rattle.script_cmd.specs.declared.powered.Powered.{Powered}
+use Rattle.script_cmd.specs.declared.powered.Powered.TheVariants as powered
 
-abbrev pub device : {D : Type 0} → Machine D → D
-device (machine.Off flash) = flash
-device (machine.On flash n) = flash
+abbrev pub device : {D : Type 0} → Powered D → D
+device (powered.Off flash) = flash
+device (powered.On flash n) = flash
 
 -- the numbers of the flash, where a bank was booted on it
-abbrev pub shown_on : {D : Type 0} → Machine D → Option Numbers
-shown_on (machine.Off flash) = None
-shown_on (machine.On flash n) = Some (numbers n)
+abbrev pub shown_on : {D : Type 0} → Powered D → Option Numbers
+shown_on (powered.Off flash) = None
+shown_on (powered.On flash n) = Some (numbers n)
 
 -- what is known of a device between two turns
 pub record Moment : Type 0 where
@@ -38,7 +38,8 @@ abbrev pub at : Option Numbers → Told → Counts → Option Arming → Bool �
 at on told counts armed power = record { on = on; told = told; counts = counts; armed = armed; power = power }
 
 -- A device that is off, or whose numbers are not asked, by what it tells.
-abbrev pub moment : {D : Type 0} → (D → Told) → (D → Counts) → (D → Option Arming) → (D → Bool) → D → Moment
+abbrev pub moment : {D : Type 0} → (D → Told) → (D → Counts) → (D → Option Arming) → (D → Bool) → D
+    → Moment
 moment told counts arming power flash = at None (told flash) (counts flash) (arming flash) (power flash)
 
 -- the device is as it was
@@ -54,7 +55,8 @@ pub record SameDevice (old new : Moment) : Type 0 where
 -- the flash shows and is ready for, with these numbers.
 abbrev pub Shows : Setting → Condition → Option Numbers → Told → Type 0
 Shows E c None t = (c.session ≡ Off) × LeavesOneOf E c.candidates t
-Shows E c (Some n) t = (s : State) × (b : ℕ) × (c.candidates ≡ s ∷ []) × (c.session ≡ On b None no_handles) × IsReady E t s × (n ≡ numbers_of s)
+Shows E c (Some n) t = (s : State) × (b : ℕ) × (c.candidates ≡ s ∷ [])
+    × (c.session ≡ On b None no_handles) × IsReady E t s × (n ≡ numbers_of s)
 
 pub record IsAt (E : Setting) (c : Condition) (on : Option Numbers) (t : Told) : Type 0 where
   pub guard : Guards 1 7 t
