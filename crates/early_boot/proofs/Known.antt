@@ -1,5 +1,5 @@
 -- What a boot that started a bank knows of its flash.
-use Rattle.std.proofs.Common.{◌≡◌, inl, inr, ℕ, ◌+◌, ◌*◌, ◌<◌, ◌≤◌, Bool, List, length, map, Option, Some, None, refl, sym, ap, ◌∙◌, arith, IsFalse}
+use Rattle.std.proofs.Common.{◌≡◌, inl, inr, ℕ, Bool, List, length, map, Option, Some, None, refl, sym, ap, ◌∙◌, arith, IsFalse}
 use Rattle.std.proofs.lemmas.Bool.{cases_Bool}
 use Rattle.std.specs.Prelude.{is_some}
 use Rattle.flash_core.specs.Told.{Told}

@@ -1,15 +1,15 @@
 -- What a call with moves leaves: calls that write nothing, the three writes of a start, and which moves a start is.
-use Rattle.std.proofs.Common.{◌≡◌, ◌≢◌, inl, inr, ℕ, ◌+◌, ◌*◌, ◌<◌, ◌≤◌, eqb, eq-eqb, eqb-true, ne_eqb, ltb, ltb-true, ltb-false, cond, Bool, true, false, List, [], ◌∷◌, length, Option, Some, None, Result, Ok, Err, refl, sym, ap, subst, ◌∙◌, arith, IsTrue}
+use Rattle.std.proofs.Common.{◌≡◌, inl, inr, ℕ, ◌+◌, ◌*◌, ◌<◌, ◌≤◌, eqb, eq-eqb, eqb-true, ltb, ltb-true, cond, Bool, true, false, List, [], ◌∷◌, length, Option, Some, None, Result, Ok, Err, refl, sym, ap, subst, ◌∙◌, arith, IsTrue}
 use Rattle.std.proofs.lemmas.Bool.{cond_both}
 use Rattle.std.proofs.lemmas.Result.{IfOk-from_err, on_ok_weaker}
 use Rattle.std.specs.Prelude.{IsErr, OnOk}
 use Rattle.flash_core.specs.declared.flash.FlashStop.{FlashStop}
 use Rattle.flash_core.specs.Told.{Told}
-use Rattle.base_core.specs.Block.{block, granule}
+use Rattle.base_core.specs.Block.{block}
 use Rattle.flash_core.specs.May.{Keeps}
 use Rattle.flash_core.proofs.Calls.{keeps_same, keeps_wider}
 use Rattle.fwu_formats.specs.Layout.{Layout}
-use Rattle.fwu_formats.specs.Metadata.{fits_meta, state_at, MetaRead, meta_read}
+use Rattle.fwu_formats.specs.Metadata.{fits_meta, state_at, meta_read}
 use Rattle.fwu_formats.specs.Manifest.{version}
 use Rattle.fwu_formats.specs.Image.{marks}
 use Rattle.fwu_formats.specs.Counter.{counter_in}
@@ -31,7 +31,7 @@ use Rattle.moves.proofs.Guarded.{trial-guarded, raise-guarded}
 use Rattle.meta_layout.proofs.Fits.{meta-fits}
 use Rattle.early_boot.specs.declared.choosing.Chosen.{Chosen}
 use Rattle.early_boot.specs.declared.showing.Shown.{Shown}
-use Rattle.replicas.specs.Which.{Finds, Loads}
+use Rattle.replicas.specs.Which.{Finds}
 use Rattle.early_boot.specs.declared.counting_starts.Counting.{Counting}
 use Rattle.early_boot.specs.declared.counting_starts.Counting.TheVariants as counting
 use Rattle.early_boot.specs.Showing.{Shows, state_shown, trials_in}

@@ -2,6 +2,7 @@
 #![tactic(auto)]
 
 mod marks;
+mod places;
 mod record;
 mod rollback;
 

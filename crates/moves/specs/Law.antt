@@ -1,9 +1,9 @@
 -- What writes are to the machine, as laws over what is told before and after. Each stands as the contract of a function of its own.
-use Rattle.std.specs.Prelude.{◌≡◌, ◌≢◌, ℕ, ◌<◌, ◌≤◌, List, [], ◌∷◌, ◌++◌, Some, None, Ok, Result, IsErr, IsTrue, Contains}
+use Rattle.std.specs.Prelude.{◌≡◌, ℕ, ◌<◌, ◌≤◌, List, [], ◌∷◌, ◌++◌, Some, Ok, Result, IsErr, IsTrue, Contains}
 use Rattle.base_core.specs.Block.{block}
 use Rattle.flash_core.specs.declared.flash.FlashStop.{FlashStop}
 use Rattle.flash_core.specs.Told.{Told, NothingDirty, fresh}
-use Rattle.flash_core.specs.May.{May, Guards, Keeps}
+use Rattle.flash_core.specs.May.{May, Guards}
 use Rattle.fwu_formats.specs.Layout.{Layout}
 use Rattle.fwu_formats.specs.Metadata.{MetaRead, meta_read}
 use Rattle.fwu_formats.specs.Manifest.{version}
@@ -11,13 +11,10 @@ use Rattle.fwu_formats.specs.Image.{layout_seen, deciding, marks}
 use Rattle.fwu_formats.specs.Counter.{counter_in}
 use Rattle.fwu_model.specs.State.{State, Move, Trial, RaiseTo, bank, is_valid, is_accepted, after}
 use Rattle.fwu_formats.specs.Places.{trial_limit}
-use Rattle.fwu_model.specs.Sound.{Setting, choice}
-use Rattle.fwu_model.specs.Session.{Off}
-use Rattle.fwu_model.specs.Call as call
+use Rattle.fwu_model.specs.Sound.{Setting}
 use Rattle.fwu_model.specs.Seen.{seen, IsTidy, SoundFlash}
-use Rattle.fwu_model.specs.Answer.{answer, booted_package, chosen_moves}
+use Rattle.fwu_model.specs.Answer.{booted_package}
 use Rattle.fwu_model.specs.Calm.{IsCalm, IsAtRest}
-use Rattle.fwu_model.specs.Replica.{BothHold}
 use Rattle.fwu_model.specs.Run.{prefixes}
 use Rattle.marks_core.specs.Marks.{Adds}
 use Rattle.marks_core.specs.Raises.{Raises}
