@@ -152,9 +152,12 @@ impl<D: Flash> Booted<D> {
 
     /// The lengths in bytes of the images of the bank that was started, one for each image of the layout, at the front of 16 numbers.
     pub fn lengths(&self) -> [u32; 16]
-        ensures front { take (length (started self.now).lengths) result ≡ (started self.now).lengths }
-        ensures count { length (started self.now).lengths ≡ length (started self.now).layout.rows }
-        ensures within { FitSlots (started self.now).layout (started self.now).lengths }
+        ensures front { let b = started self.now in
+            take (length b.lengths) result ≡ b.lengths }
+        ensures count { let b = started self.now in
+            length b.lengths ≡ length b.layout.rows }
+        ensures within { let b = started self.now in
+            FitSlots b.layout b.lengths }
         ensures all { length result ≡ 16 }
     {
         self.chosen.lengths.all()
