@@ -39,8 +39,8 @@ pub record CallsCompose : Type 0 where
   pub idle : (result : Done) (E : Setting) (s : State) (ms : List Move) (t : Told) → IsErr result → IsCalm E t s → Does result E s ms t
 
 -- Power that comes back after a call, with no chance met, gives a flash that is calm at a state after some of its moves. A repair makes it ready again.
-abbrev pub LossesAreRepaired : Type 0
-LossesAreRepaired =
+abbrev pub LossesLeaveCalm : Type 0
+LossesLeaveCalm =
     (result : Done) (E : Setting) (s : State) (ms : List Move) (old new : Told) → Does result E s ms old → new ≡ fresh old.guard new.now → May old new.now
     → (x : State) × Contains (prefixes s ms) x × IsCalm E new x
 

@@ -1,6 +1,6 @@
 //! Laws of the definitions: functions that do nothing, whose contract is the law.
 
-ghost use Rattle.moves.specs.Law.{CallsCompose, LossesAreRepaired, StartsAreReady, RepairsDo, TrialsDo, RaisesDo, RepairsShow, RepairsKeepCounts, TrialsShow, RaisesShow, WritesStayGuarded};
+ghost use Rattle.moves.specs.Law.{CallsCompose, LossesLeaveCalm, StartsAreReady, RepairsDo, TrialsDo, RaisesDo, RepairsShow, RepairsKeepCounts, TrialsShow, RaisesShow, WritesStayGuarded};
 
 /// Calls in a row do the moves of each, and a call that stops a prefix of them.
 pub fn calls_compose()
@@ -8,8 +8,8 @@ pub fn calls_compose()
 {}
 
 /// After a loss of power the flash is calm at a state after some of the moves.
-pub fn losses_are_repaired()
-    ensures { LossesAreRepaired }
+pub fn losses_leave_calm()
+    ensures { LossesLeaveCalm }
 {}
 
 /// A sound flash with nothing dirty and two like replicas is ready.

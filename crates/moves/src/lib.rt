@@ -5,7 +5,7 @@ mod laws;
 mod stores;
 
 pub use laws::{
-    calls_compose, losses_are_repaired, marks_do_trials, raises_show, records_do_raises,
+    calls_compose, losses_leave_calm, marks_do_trials, raises_show, records_do_raises,
     repairs_do_moves, repairs_keep_counts, repairs_show, starts_are_ready, trials_show,
     writes_stay_guarded,
 };
