@@ -2,7 +2,6 @@
 #![tactic(auto)]
 
 mod marks;
-mod places;
 mod record;
 mod rollback;
 

@@ -6,9 +6,9 @@ ghost use Rattle.fwu_formats.specs.Counter.{counter_in};
 ghost use Rattle.marks_core.specs.Raises.{value_in, place_for, record_place, Raises};
 
 use crate::marks::count;
-use crate::places::{COUNTER_BLOCK, COUNTER_LIMIT, FIRST_RECORD, SECOND_RECORD};
 use crate::record::{record_bytes, value_in};
 use flash_core::{Flash, FlashStop, read_block, replace};
+use fwu_formats::{COUNTER_BLOCK, COUNTER_LIMIT, FIRST_RECORD, SECOND_RECORD};
 
 /// The value of the record in a block.
 fn record_at<D: Flash>(flash: &mut D, b: u32, buf: &mut [u8]) -> Result<Option<u32>, FlashStop>
