@@ -1,13 +1,13 @@
 -- Where the payloads of a package go.
-use Rattle.std.proofs.Common.{◌≡◌, ◌≤◌, ◌<◌, ◌+◌, ◌-◌, ◌*◌, ℕ, suc, List, [], ◌∷◌, ◌++◌, length, get_or, take, drop, replicate, refl, sym, ap, subst, ◌∙◌, arith, length-append, append_assoc}
-use Rattle.std.proofs.lemmas.List.{length-replicate, replicate-append-replicate, take_all}
+use Rattle.std.proofs.Common.{◌≡◌, ◌≤◌, ◌<◌, ◌+◌, ◌-◌, ◌*◌, ℕ, suc, List, [], ◌∷◌, ◌++◌, length, get_or, map, drop, replicate, refl, sym, ap, subst, ◌∙◌, arith, length-append, append_assoc}
+use Rattle.std.proofs.lemmas.List.{length-replicate}
 use Rattle.std.proofs.Math.Seq.{drop-cons}
 use Rattle.std.specs.Int.{next_multiple_of}
 use Rattle.base_core.specs.Bytes.{le}
 use Rattle.fwu_formats.specs.Package.{Entry, Part, fip_name, packed, packed_entries, payloads, table_bytes}
-use Rattle.fip_tables.specs.Packing.{AreOutlines}
+use Rattle.fip_tables.specs.Packing.{AreOutlines, zeroed}
 use Rattle.std.specs.Prelude.{flat_map}
-use Rattle.fip_tables.specs.Frame.{AreSixteen, entry_bytes, framed, last_end, marker, table_end}
+use Rattle.fip_tables.specs.Frame.{AreSixteen, entry_bytes, last_end, marker, tabled, table_end}
 
 -- the first payloads are placed
 pub record IsPlanning (parts : List Part) (a : ℕ) (entries : List Entry) (end at : ℕ) : Type 0 where
@@ -47,41 +47,15 @@ appended v a b c d g o s f p q r t =
     ∙ append_assoc ((v ++ g) ++ o) s f ∙ append_assoc (v ++ g) o (s ++ f) ∙ append_assoc v g (o ++ (s ++ f))
     ∙ ap (λ (x : List ℕ). v ++ x) (sym (append_assoc g o (s ++ f)) ∙ sym (append_assoc (g ++ o) s f))
 
--- a buffer that is filled up with zeros
-pub framed-bytes : (serial flags : ℕ) (entries : List Entry) (size : ℕ) (a b c d : List ℕ) → a ≡ le 4 fip_name ++ le 4 serial ++ le 8 flags → b ≡ a ++ flat_map entry_bytes entries → length (flat_map entry_bytes entries) ≡ 40 * length entries
-    → c ≡ b ++ entry_bytes (marker size) → 16 + 40 * (length entries + 1) ≤ size → d ≡ take size c ++ replicate (size - length c) 0 → d ≡ framed serial flags entries size
-framed-bytes serial flags entries size a b c d p q forty r room t =
-    let long : length c ≡ 16 + 40 * (length entries + 1) = omega (arith, ap length p, ap length q, ap length r, length-append a (flat_map entry_bytes entries), length-append b (entry_bytes (marker size)), forty) in
-    t ∙ ap (λ (x : List ℕ). x ++ replicate (size - length c) 0) (take_all size c (omega (arith, long, room)))
-    ∙ ap (λ (n : ℕ). c ++ replicate (size - n) 0) long
-    ∙ ap (λ (x : List ℕ). x ++ replicate (size - (16 + 40 * (length entries + 1))) 0)
-    (r ∙ ap (λ (x : List ℕ). x ++ entry_bytes (marker size)) (q ∙ ap (λ (x : List ℕ). x ++ flat_map entry_bytes entries) p))
+-- a header, entries and a marker, one after another
+pub tabled-bytes : (serial flags : ℕ) (entries : List Entry) (size : ℕ) (a b c : List ℕ) → a ≡ le 4 fip_name ++ le 4 serial ++ le 8 flags → b ≡ a ++ flat_map entry_bytes entries
+    → c ≡ b ++ entry_bytes (marker size) → c ≡ tabled serial flags entries size
+tabled-bytes serial flags entries size a b c p q r =
+    r ∙ ap (λ (x : List ℕ). x ++ entry_bytes (marker size)) (q ∙ ap (λ (x : List ℕ). x ++ flat_map entry_bytes entries) p)
 
--- ---- a package of zeros
+-- ---- the table of a package
 
--- each payload is of zeros
-abbrev AreZeros : List Part → Type 0
-AreZeros [] = Unit {0}
-AreZeros (p ∷ ps) = (p.bytes ≡ replicate (length p.bytes) 0) × AreZeros ps
-
-zeros-by-index : (parts : List Part) → AreOutlines parts → AreZeros parts
-zeros-by-index [] h = tt
-zeros-by-index (p ∷ ps) h = ((h 0 (omega arith)).blank, zeros-by-index ps (λ i lt. h (suc i) (omega (arith, lt))))
-
-zero-payloads : (a end : ℕ) (ps : List Part) → AreZeros ps → payloads a end ps ≡ replicate (last_end a end ps - end) 0
-zero-payloads a end [] h = refl
-zero-payloads a end (p ∷ ps) h =
-    let offset = next_multiple_of end a in
-    let next = offset + length p.bytes in
-    let far = end-le-last a next ps in
-    let sum : (offset - end) + length p.bytes + (last_end a next ps - next) ≡ last_end a next ps - end = omega (arith, far) in
-    ap (λ (x : List ℕ). replicate (offset - end) 0 ++ x ++ payloads a next ps) h.0
-    ∙ ap (λ (x : List ℕ). x ++ payloads a next ps) (replicate-append-replicate (offset - end) (length p.bytes) 0)
-    ∙ ap (λ (x : List ℕ). replicate ((offset - end) + length p.bytes) 0 ++ x) (zero-payloads a next ps h.1)
-    ∙ replicate-append-replicate ((offset - end) + length p.bytes) (last_end a next ps - next) 0
-    ∙ ap (λ (n : ℕ). replicate n 0) sum
-
-table-spelled : (a end : ℕ) (ps : List Part) → table_bytes a end ps ≡ flat_map entry_bytes (packed_entries a end ps) ++ entry_bytes (marker (last_end a end ps))
+pub table-spelled : (a end : ℕ) (ps : List Part) → table_bytes a end ps ≡ flat_map entry_bytes (packed_entries a end ps) ++ entry_bytes (marker (last_end a end ps))
 table-spelled a end [] = refl
 table-spelled a end (p ∷ ps) =
     let offset = next_multiple_of end a in
@@ -89,23 +63,6 @@ table-spelled a end (p ∷ ps) =
     let e = p.guid ++ le 8 offset ++ le 8 (length p.bytes) ++ le 8 p.flags in
     ap (λ (x : List ℕ). e ++ x) (table-spelled a next ps)
     ∙ sym (append_assoc e (flat_map entry_bytes (packed_entries a next ps)) (entry_bytes (marker (last_end a next ps))))
-
-entries-length : (a end : ℕ) (ps : List Part) → length (packed_entries a end ps) ≡ length ps
-entries-length a end [] = refl
-entries-length a end (p ∷ ps) = omega (arith, entries-length a (next_multiple_of end a + length p.bytes) ps)
-
-pub framed-is-packed : (serial flags : ℕ) (parts : List Part) (a : ℕ) → AreOutlines parts
-    → framed serial flags (packed_entries a (table_end parts) parts) (last_end a (table_end parts) parts) ≡ packed serial flags parts a
-unfolding packed
-framed-is-packed serial flags parts a ok =
-    let end = table_end parts in
-    let head = le 4 fip_name ++ le 4 serial ++ le 8 flags in
-    let size = last_end a end parts in
-    let entries = flat_map entry_bytes (packed_entries a end parts) in
-    let count : 16 + 40 * (length (packed_entries a end parts) + 1) ≡ end = omega (arith, entries-length a end parts) in
-    ap (λ (n : ℕ). ((head ++ entries) ++ entry_bytes (marker size)) ++ replicate (size - n) 0) count
-    ∙ ap (λ (x : List ℕ). x ++ replicate (size - end) 0) (append_assoc head entries (entry_bytes (marker size)) ∙ ap (λ (x : List ℕ). head ++ x) (sym (table-spelled a end parts)))
-    ∙ ap (λ (x : List ℕ). (head ++ table_bytes a end parts) ++ x) (sym (zero-payloads a end parts (zeros-by-index parts ok)))
 
 -- ---- the length of a package
 
@@ -115,6 +72,10 @@ sixteen-by-index (p ∷ ps) h = ((h 0 (omega arith)).sixteen, sixteen-by-index p
 
 pub outlines-sixteen : (parts : List Part) → AreOutlines parts → AreSixteen parts
 outlines-sixteen = sixteen-by-index
+
+pub sixteen-zeroed : (ps : List Part) → AreSixteen (map zeroed ps) → AreSixteen ps
+sixteen-zeroed [] h = tt
+sixteen-zeroed (p ∷ ps) h = (h.0, sixteen-zeroed ps h.1)
 
 pub table-length : (a end : ℕ) (ps : List Part) → AreSixteen ps → length (table_bytes a end ps) ≡ 40 * (length ps + 1)
 table-length a end [] ok = refl

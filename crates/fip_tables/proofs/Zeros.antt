@@ -1,4 +1,4 @@
--- Parts with zeros in place of their bytes: the same faults, and they are filled in one by one.
+-- Parts with zeros in place of their bytes: the same faults, and the same places.
 use Rattle.std.proofs.Common.{◌≡◌, ◌<◌, ◌+◌, ◌*◌, ℕ, zero, suc, Bool, List, [], ◌∷◌, ◌++◌, length, get_or, take, map, replicate, cond, ltb, Option, Some, None, refl, sym, ap, ◌∙◌, arith, length-append}
 use Rattle.std.proofs.lemmas.List.{length-replicate}
 use Rattle.std.specs.Prelude.{position, option_map, nat_lt, not, if◌then◌else◌}
@@ -9,42 +9,8 @@ use Rattle.fwu_formats.specs.Package.{Entry, Part, entry_limit, fip_name, packed
 use Rattle.fip_tables.specs.Packing.{first_of, first_repeat, is_alignment, is_nil, is_repeat, pack_fault, package_limit, part_at, zeroed}
 use Rattle.fip_tables.specs.declared.faults.PackFault.{PackFault}
 use Rattle.fip_tables.specs.declared.faults.PackFault.TheVariants as fault
-use Rattle.fip_tables.specs.Frame.{last_end, table_end, with_bytes}
+use Rattle.fip_tables.specs.Frame.{last_end, table_end}
 use Rattle.fip_tables.proofs.Plans.{payloads-length}
-
--- the first parts have their bytes, the others zeros
-abbrev pub partly : List Part → ℕ → List Part
-partly [] i = []
-partly (p ∷ ps) zero = zeroed p ∷ partly ps zero
-partly (p ∷ ps) (suc i) = p ∷ partly ps i
-
-pub partly-none : (ps : List Part) → partly ps 0 ≡ map zeroed ps
-partly-none [] = refl
-partly-none (p ∷ ps) = ap (λ (xs : List Part). zeroed p ∷ xs) (partly-none ps)
-
-pub partly-all : (ps : List Part) → partly ps (length ps) ≡ ps
-partly-all [] = refl
-partly-all (p ∷ ps) = ap (λ (xs : List Part). p ∷ xs) (partly-all ps)
-
-partly-suc : (ps : List Part) (i : ℕ) (d : Part) → with_bytes (partly ps i) i (get_or ps i d).bytes ≡ partly ps (suc i)
-partly-suc [] i d = refl
-partly-suc (p ∷ ps) zero d = refl
-partly-suc (p ∷ ps) (suc i) d = ap (λ (xs : List Part). p ∷ xs) (partly-suc ps i d)
-
-pub partly-more : (ps : List Part) (i : ℕ) (d : Part) → with_bytes (partly ps i) i (get_or ps i d).bytes ≡ partly ps (i + 1)
-partly-more ps i d = partly-suc ps i d ∙ ap (partly ps) (let e : suc i ≡ i + 1 = omega arith in e)
-
-pub partly-size : (a end : ℕ) (ps : List Part) (i j : ℕ) (d : Part) (e : Entry) → i < length ps → (get_or (packed_entries a end (partly ps j)) i e).size ≡ length (get_or ps i d).bytes
-partly-size a end [] i j d e lt = absurd (omega (arith, lt))
-partly-size a end (p ∷ ps) zero zero d e lt = length-replicate {A = ℕ} (length p.bytes) 0
-partly-size a end (p ∷ ps) zero (suc j) d e lt = refl
-partly-size a end (p ∷ ps) (suc i) zero d e lt = partly-size a (next_multiple_of end a + length (replicate {A = ℕ} (length p.bytes) 0)) ps i zero d e (omega (arith, lt))
-partly-size a end (p ∷ ps) (suc i) (suc j) d e lt = partly-size a (next_multiple_of end a + length p.bytes) ps i j d e (omega (arith, lt))
-
-pub length-partly : (ps : List Part) (i : ℕ) → length (partly ps i) ≡ length ps
-length-partly [] i = refl
-length-partly (p ∷ ps) zero = let e = length-partly ps zero in cc
-length-partly (p ∷ ps) (suc i) = let e = length-partly ps i in cc
 
 -- ---- the same first fault
 
@@ -56,7 +22,7 @@ same-places : (p q : ℕ → Bool) (xs : List ℕ) → ((x : ℕ) → p x ≡ q 
 same-places p q [] h = refl
 same-places p q (x ∷ xs) h = let e = same-places p q xs h in let f = h x in cc
 
-length-zeroed : (ps : List Part) → length (map zeroed ps) ≡ length ps
+pub length-zeroed : (ps : List Part) → length (map zeroed ps) ≡ length ps
 length-zeroed [] = refl
 length-zeroed (p ∷ ps) = let e = length-zeroed ps in cc
 
@@ -85,11 +51,17 @@ same-first-repeat ps =
     ap (λ (n : ℕ). position (is_repeat (map zeroed ps)) (range_with_len 0 n)) (length-zeroed ps)
     ∙ same-position (is_repeat (map zeroed ps)) (is_repeat ps) (range_with_len 0 (length ps)) (range_with_len 0 (length ps)) (same-places (is_repeat (map zeroed ps)) (is_repeat ps) (range_with_len 0 (length ps)) (same-repeat ps)) refl
 
-same-end : (a end : ℕ) (ps : List Part) → last_end a end (map zeroed ps) ≡ last_end a end ps
+pub same-end : (a end : ℕ) (ps : List Part) → last_end a end (map zeroed ps) ≡ last_end a end ps
 same-end a end [] = refl
 same-end a end (p ∷ ps) = ap (λ (n : ℕ). last_end a (next_multiple_of end a + n) (map zeroed ps)) (length-replicate {A = ℕ} (length p.bytes) 0) ∙ same-end a (next_multiple_of end a + length p.bytes) ps
 
-same-table : (a end : ℕ) (ps : List Part) → table_bytes a end (map zeroed ps) ≡ table_bytes a end ps
+pub same-entries : (a end : ℕ) (ps : List Part) → packed_entries a end (map zeroed ps) ≡ packed_entries a end ps
+same-entries a end [] = refl
+same-entries a end (p ∷ ps) =
+    ap (λ (n : ℕ). record { guid = p.guid; offset = next_multiple_of end a; size = n; flags = p.flags } ∷ packed_entries a (next_multiple_of end a + n) (map zeroed ps)) (length-replicate {A = ℕ} (length p.bytes) 0)
+    ∙ ap (λ (es : List Entry). record { guid = p.guid; offset = next_multiple_of end a; size = length p.bytes; flags = p.flags } ∷ es) (same-entries a (next_multiple_of end a + length p.bytes) ps)
+
+pub same-table : (a end : ℕ) (ps : List Part) → table_bytes a end (map zeroed ps) ≡ table_bytes a end ps
 same-table a end [] = refl
 same-table a end (p ∷ ps) =
     ap (λ (n : ℕ). p.guid ++ le 8 (next_multiple_of end a) ++ le 8 n ++ le 8 p.flags ++ table_bytes a (next_multiple_of end a + n) (map zeroed ps)) (length-replicate {A = ℕ} (length p.bytes) 0)

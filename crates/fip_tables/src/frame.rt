@@ -1,19 +1,19 @@
 //! A package whose payloads are filled in one by one, in one buffer.
 
-ghost use Rattle.std.specs.Prelude.{◌≡◌, ◌<◌, ◌≤◌, ◌+◌, ◌-◌, ◌*◌, ◌++◌, ℕ, List, [], Some, None, Ok, Err, IfOk, IfErr, OnOk, length, flat_map};
-ghost use Rattle.base_core.specs.Bytes.{le, overwritten};
-ghost use Rattle.fwu_formats.specs.Package.{Part, fip_name, packed_entries};
+ghost use Rattle.std.specs.Prelude.{◌≡◌, ◌<◌, ◌≤◌, ◌+◌, ◌*◌, ◌++◌, ℕ, List, None, Some, Err, IfOk, IfErr, OnErr, OnOk, length, flat_map, map, vec_capacity, vec_len};
+ghost use Rattle.base_core.specs.Bytes.{le};
+ghost use Rattle.fwu_formats.specs.Package.{Part, fip_name, packed, packed_entries};
 ghost use Rattle.host_io.specs.Causes.{HasCause};
-ghost use Rattle.host_io.specs.Contents.{HasRange};
-ghost use Rattle.fip_tables.specs.Packing.{AreOutlines, pack_fault};
+ghost use Rattle.host_io.specs.Contents.{HasRange, TellsRange};
+ghost use Rattle.fip_tables.specs.Packing.{AreOutlines, pack_fault, zeroed};
 ghost use Rattle.fip_tables.specs.declared.faults.PackFault.{PackFault};
 ghost use Rattle.fip_tables.specs.declared.faults.PackStop.TheVariants as stop;
-ghost use Rattle.fip_tables.specs.Frame.{IsReadTo, entry_bytes, framed, last_end, table_end};
+ghost use Rattle.fip_tables.specs.Frame.{entry_bytes, last_end, place, table_end, tabled, up_to};
 
 use crate::entries::{Entries, Entry};
 use crate::faults::{PackFault, PackStop};
 use crate::outline::{Outline, check};
-use base_core::{Guid, put_at};
+use base_core::Guid;
 use host_io::{Failed, Files};
 use std::alloc::{AllocError, Global};
 use std::marker::Model;
@@ -67,6 +67,7 @@ fn places_of(parts: &[Outline], align: u64) -> Result<Places, PackFault>
 fn add_entry(bytes: &mut Vec<u8>, entry: &Entry) -> Result<(), AllocError>
     ensures added { OnOk result (bytes.new.items ≡ bytes.old.items ++ entry_bytes entry.now) }
     ensures forty { length (entry_bytes entry.now) ≡ 40 }
+    ensures capacity { vec_capacity bytes.old ≤ vec_capacity bytes.new }
 {
     bytes.extend_from_slice(entry.guid.bytes())?;
     bytes.extend_from_slice(&entry.offset.to_le_bytes())?;
@@ -79,6 +80,7 @@ fn add_entry(bytes: &mut Vec<u8>, entry: &Entry) -> Result<(), AllocError>
 fn add_entries(bytes: &mut Vec<u8>, entries: &[Entry]) -> Result<(), AllocError>
     ensures added { OnOk result (bytes.new.items ≡ bytes.old.items ++ flat_map entry_bytes entries.now) }
     ensures forty { OnOk result (length (flat_map entry_bytes entries.now) ≡ 40 * length entries.now) }
+    ensures capacity { vec_capacity bytes.old ≤ vec_capacity bytes.new }
 {
     for entry in entries {
         add_entry(bytes, entry)?;
@@ -86,10 +88,11 @@ fn add_entries(bytes: &mut Vec<u8>, entries: &[Entry]) -> Result<(), AllocError>
     Ok(())
 }
 
-// A buffer with room for a package, that has its header.
+// A buffer with room for so many bytes, that has a package's header.
 #[tactic(auto, using(base_core::proofs::Spelled::eight_spelled, base_core::proofs::Spelled::four_spelled))]
 fn header(alloc: Global, serial: u32, flags: u64, size: usize) -> Result<Vec<u8>, AllocError>
-    ensures { IfOk result (λ v. v.items ≡ le 4 fip_name ++ le 4 serial ++ le 8 flags) }
+    ensures bytes { IfOk result (λ v. v.items ≡ le 4 fip_name ++ le 4 serial ++ le 8 flags) }
+    ensures room { IfOk result (λ v. size ≤ vec_capacity v) }
 {
     let mut bytes = Vec::with_capacity(alloc, size)?;
     bytes.extend_from_slice(&NAME.to_le_bytes())?;
@@ -98,14 +101,13 @@ fn header(alloc: Global, serial: u32, flags: u64, size: usize) -> Result<Vec<u8>
     Ok(bytes)
 }
 
-// The bytes of a package that has zeros for its payloads.
-fn zeroed(alloc: Global, serial: u32, flags: u64, places: &Places) -> Result<Vec<u8>, AllocError>
+// A buffer with room for a package, that has its header and its table.
+fn table(alloc: Global, serial: u32, flags: u64, places: &Places) -> Result<Vec<u8>, AllocError>
     requires small { places.now.size ≤ 67108864 }
-    requires room { 16 + 40 * (length places.now.entries + 1) ≤ places.now.size }
-    ensures { IfOk result (λ v. v.items ≡ framed serial flags places.now.entries places.now.size) }
+    ensures bytes { IfOk result (λ v. v.items ≡ tabled serial flags places.now.entries places.now.size) }
+    ensures room { IfOk result (λ v. places.now.size ≤ vec_capacity v) }
 {
-    let size = places.size as usize;
-    let mut bytes = header(alloc, serial, flags, size)?;
+    let mut bytes = header(alloc, serial, flags, places.size as usize)?;
     add_entries(&mut bytes, places.entries.as_slice())?;
     let marker = Entry {
         guid: Guid::nil(),
@@ -114,107 +116,116 @@ fn zeroed(alloc: Global, serial: u32, flags: u64, places: &Places) -> Result<Vec
         flags: 0,
     };
     add_entry(&mut bytes, &marker)?;
-    bytes.resize(size, 0)?;
     Ok(bytes)
 }
 
-// Writes bytes at a place.
-fn put_in(buffer: &mut Vec<u8>, at: usize, bytes: &[u8])
-    requires { at + length bytes.now ≤ length buffer.old.items }
-    ensures written { buffer.new.items ≡ overwritten at bytes.now buffer.old.items }
-    ensures size { length buffer.new.items ≡ length buffer.old.items }
+// Where the payload of an entry goes. Behind the last of them that is the package's end.
+fn place(entries: &Entries, size: u64, i: usize) -> u64
+    ensures { result ≡ place entries.now size i }
 {
-    put_at(buffer.as_mut_slice(), at, bytes);
+    match entries.as_slice().get(i) {
+        Some(entry) => entry.offset,
+        None => size,
+    }
 }
 
-// Reads a file's bytes from `at` on to a range.
-fn read_range<H: Files>(
-    buffer: &mut [u8],
-    from: usize,
-    to: usize,
-    files: &mut H,
-    name: &str,
-    at: u64,
-) -> Result<(), Failed>
-    requires order { from ≤ to }
-    requires inside { to ≤ length buffer.old }
-    requires stored { HasRange (H.contents files.old) name.now at (to - from) }
-    ensures read { IsReadTo (H.contents files.old) name.now at from to buffer.old buffer.new result }
-    ensures same { H.contents files.new ≡ H.contents files.old }
-    ensures cause { HasCause (H.faults files.old) (H.faults files.new) result }
+// Where the payload behind that of an entry goes, or the package ends.
+fn place_after(entries: &Entries, size: u64, i: usize) -> u64
+    requires { i < length entries.now }
+    ensures value { result ≡ place entries.now size (i + 1) }
+    ensures few { i < 64 }
 {
-    files.read_at(name, at, &mut buffer[from..to])
+    let _few = entries.len();
+    place(entries, size, i + 1)
 }
 
-fn read_in<H: Files>(
+// Adds bytes, and zeros up to a place behind them, to a buffer that has the room.
+fn add_payload(buffer: &mut Vec<u8>, payload: &[u8], next: usize)
+    requires room { vec_len buffer.old + length payload.now ≤ vec_capacity buffer.old }
+    requires more { next ≤ vec_capacity buffer.old }
+    ensures added { buffer.new.items ≡ up_to next (buffer.old.items ++ payload.now) }
+    ensures capacity { vec_capacity buffer.old ≤ vec_capacity buffer.new }
+{
+    buffer.extend_from_slice(payload).unwrap();
+    buffer.resize(next, 0).unwrap();
+}
+
+// The same of a range of a file.
+fn add_range<H: Files>(
     buffer: &mut Vec<u8>,
-    from: usize,
-    to: usize,
     files: &mut H,
     name: &str,
     at: u64,
+    size: usize,
+    next: usize,
 ) -> Result<(), Failed>
-    requires order { from ≤ to }
-    requires inside { to ≤ length buffer.old.items }
-    requires stored { HasRange (H.contents files.old) name.now at (to - from) }
-    ensures read { IsReadTo (H.contents files.old) name.now at from to buffer.old.items buffer.new.items result }
-    ensures size { length buffer.new.items ≡ length buffer.old.items }
+    requires range { HasRange (H.contents files.old) name.now at size }
+    requires room { vec_len buffer.old + size ≤ vec_capacity buffer.old }
+    requires more { next ≤ vec_capacity buffer.old }
+    ensures added { OnOk result ((piece : List ℕ) × (length piece ≡ size)
+        × TellsRange (H.contents files.old) name.now at piece
+        × (buffer.new.items ≡ up_to next (buffer.old.items ++ piece))) }
+    ensures unchanged { OnErr result (buffer.new.items ≡ buffer.old.items) }
+    ensures capacity { vec_capacity buffer.old ≤ vec_capacity buffer.new }
     ensures same { H.contents files.new ≡ H.contents files.old }
     ensures cause { HasCause (H.faults files.old) (H.faults files.new) result }
 {
-    read_range(buffer.as_mut_slice(), from, to, files, name, at)
+    files.read_onto(name, at, size, buffer)?;
+    buffer.resize(next, 0).unwrap();
+    Ok(())
 }
 
-/// A package in one buffer: its header and its table are there, and its payloads are filled in one by
-/// one. Until then they are zeros.
+/// A package that is made in one buffer: its header and its table are there, and its payloads are
+/// added one by one, in the order of its parts, each with the zeros behind it.
 #[derive(Drop)]
 pub struct Frame {
     bytes: Vec<u8>,
     entries: Entries,
+    size: u64,
+    count: usize,
 }
 
 impl Model for Frame {
-    ghost use Rattle.std.specs.Prelude.{length};
-    ghost use Rattle.fip_tables.specs.Frame.{AreInside, Filling};
+    ghost use Rattle.std.specs.Prelude.{◌≡◌, ◌≤◌, length, vec_capacity};
+    ghost use Rattle.fip_tables.specs.Frame.{AreInside, Filling, place};
 
     ghost Value = { Filling };
 
-    ghost view = { λ f. record { bytes = f.bytes.items; entries = f.entries } };
+    ghost view = { λ f. record { bytes = f.bytes.items; entries = f.entries; size = f.size; count = f.count } };
 
-    ghost invariant = { λ f. AreInside f.entries (length f.bytes.items) };
+    ghost invariant = { λ f. (length f.bytes.items ≡ place f.entries f.size f.count)
+        × (f.size ≤ vec_capacity f.bytes) × AreInside f.entries f.size };
 }
 
 impl Frame {
-    ghost use Rattle.fip_tables.specs.Frame.{IsFrame, ReadsIn, payload_entry, with_bytes};
+    ghost use Rattle.fip_tables.specs.Frame.{Fills, FillsFrom, IsFrame, next_entry};
 
-    /// The package of these parts with zeros for their payloads, in a buffer of its own.
+    /// The package of these parts, of which none is in yet, in a buffer that has room for all.
     pub fn new(
         alloc: Global,
         serial: u32,
         flags: u64,
-        parts: &[Outline],
+        outlines: &[Outline],
         align: u32,
     ) -> Result<Frame, PackStop>
-        ensures ok { IfOk result (λ f. IsFrame f serial flags parts.now align) }
-        ensures fits { OnOk result (pack_fault parts.now align ≡ None) }
-        ensures outlines { OnOk result (AreOutlines parts.now) }
-        ensures err { (f : PackFault) → result ≡ Err (stop.Fault f) → pack_fault parts.now align ≡ Some f }
+        ensures ok { IfOk result (λ f. (parts : List Part) → map zeroed parts ≡ outlines.now
+            → IsFrame f serial flags parts align) }
+        ensures none_in { IfOk result (λ f. f.count ≡ 0) }
+        ensures entries { IfOk result (λ f. f.entries ≡ packed_entries align (table_end outlines.now) outlines.now) }
+        ensures fits { OnOk result (pack_fault outlines.now align ≡ None) }
+        ensures outlines { OnOk result (AreOutlines outlines.now) }
+        ensures err { (f : PackFault) → result ≡ Err (stop.Fault f) → pack_fault outlines.now align ≡ Some f }
     {
-        match check(parts, align) {
-            Ok(()) => {}
-            Err(fault) => return Err(PackStop::Fault(fault)),
-        }
-        let places = match places_of(parts, align as u64) {
-            Ok(places) => places,
-            Err(fault) => return Err(PackStop::Fault(fault)),
-        };
-        let bytes = match zeroed(alloc, serial, flags, &places) {
-            Ok(bytes) => bytes,
-            Err(_) => return Err(PackStop::NoMemory),
-        };
+        check(outlines, align)?;
+        let places = places_of(outlines, align as u64)?;
+        let mut bytes = table(alloc, serial, flags, &places)?;
+        let first = place(&places.entries, places.size, 0);
+        bytes.resize(first as usize, 0)?;
         Ok(Frame {
             bytes,
             entries: places.entries,
+            size: places.size,
+            count: 0,
         })
     }
 
@@ -225,53 +236,48 @@ impl Frame {
         self.entries.as_slice()
     }
 
-    /// Puts the bytes of a part in.
-    pub fn put(&mut self, i: usize, bytes: &[u8])
-        requires there { i < length self.old.entries }
-        requires whole { length bytes.now ≡ (payload_entry self.old i).size }
-        ensures filled { (serial flags : ℕ) (parts : List Part) (align : ℕ) → IsFrame self.old serial flags parts align → IsFrame self.new serial flags (with_bytes parts i bytes.now) align }
-        ensures entries { self.new.entries ≡ self.old.entries }
+    /// Adds the bytes of the next part.
+    pub fn put(&mut self, payload: &[u8])
+        requires next { self.old.count < length self.old.entries }
+        requires whole { length payload.now ≡ (next_entry self.old).size }
+        ensures { Fills self.old self.new payload.now }
     {
-        let entries = self.entries.as_slice();
-        let entry = &entries[i];
-        let at = entry.offset as usize;
-        put_in(&mut self.bytes, at, bytes);
+        let next = place_after(&self.entries, self.size, self.count) as usize;
+        add_payload(&mut self.bytes, payload, next);
+        self.count += 1;
     }
 
-    /// Reads the bytes of a part in, from place `at` of a file on.
-    pub fn read<H: Files>(
-        &mut self,
-        i: usize,
-        files: &mut H,
-        name: &str,
-        at: u64,
-    ) -> Result<(), Failed>
-        requires there { i < length self.old.entries }
-        requires stored { HasRange (H.contents files.old) name.now at (payload_entry self.old i).size }
-        ensures filled { ReadsIn (H.contents files.old) name.now at i self.old self.new result }
-        ensures entries { self.new.entries ≡ self.old.entries }
+    /// Adds the bytes of the next part, which are those of a file from place `at` on. Where the file
+    /// can't be read, nothing is added.
+    pub fn read<H: Files>(&mut self, files: &mut H, name: &str, at: u64) -> Result<(), Failed>
+        requires next { self.old.count < length self.old.entries }
+        requires stored { HasRange (H.contents files.old) name.now at (next_entry self.old).size }
+        ensures filled { OnOk result (FillsFrom (H.contents files.old) name.now at self.old self.new) }
+        ensures unchanged { OnErr result (self.new ≡ self.old) }
         ensures same { H.contents files.new ≡ H.contents files.old }
         ensures cause { HasCause (H.faults files.old) (H.faults files.new) result }
     {
         let entries = self.entries.as_slice();
-        let entry = &entries[i];
-        let from = entry.offset as usize;
-        let to = from + entry.size as usize;
-        read_in(&mut self.bytes, from, to, files, name, at)
+        let entry = &entries[self.count];
+        let size = entry.size as usize;
+        let next = place_after(&self.entries, self.size, self.count) as usize;
+        add_range(&mut self.bytes, files, name, at, size, next)?;
+        self.count += 1;
+        Ok(())
     }
 
-    /// The bytes of the package, as far as it is filled in.
-    pub fn as_bytes(&self) -> &[u8]
-        ensures { result.now ≡ self.now.bytes }
-    {
-        self.bytes.as_slice()
-    }
-
-    /// The bytes of the package.
+    /// The bytes of the package, whose parts are all in.
     pub fn into_bytes(self) -> Vec<u8>
-        ensures { result.items ≡ self.bytes }
+        requires whole { self.count ≡ length self.entries }
+        ensures { (serial flags : ℕ) (parts : List Part) (align : ℕ)
+            → IsFrame self serial flags parts align → result.items ≡ packed serial flags parts align }
     {
-        let Frame { bytes, entries: _ } = self;
+        let Frame {
+            bytes,
+            entries: _,
+            size: _,
+            count: _,
+        } = self;
         bytes
     }
 }

@@ -65,18 +65,10 @@ pub fn pack(alloc: Global, parts: &Parts, align: u32) -> Result<Vec<u8>, PackSto
     ensures fits { OnOk result (pack_fault parts.now.parts.items align ≡ None) }
     ensures err { (f : PackFault) → result ≡ Err (stop.Fault f) → pack_fault parts.now.parts.items align ≡ Some f }
 {
-    let all = match outlines(alloc, parts.parts.as_slice()) {
-        Ok(all) => all,
-        Err(_) => return Err(PackStop::NoMemory),
-    };
-    let mut frame = match Frame::new(alloc, parts.serial, parts.flags, all.as_slice(), align) {
-        Ok(frame) => frame,
-        Err(stop) => return Err(stop),
-    };
-    let payloads = parts.parts.as_slice();
-    for i in 0..payloads.len() {
-        let part = &payloads[i];
-        frame.put(i, part.bytes.as_slice());
+    let all = outlines(alloc, parts.parts.as_slice())?;
+    let mut frame = Frame::new(alloc, parts.serial, parts.flags, all.as_slice(), align)?;
+    for part in parts.parts.as_slice() {
+        frame.put(part.bytes.as_slice());
     }
     Ok(frame.into_bytes())
 }

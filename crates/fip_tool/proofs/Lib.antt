@@ -1,12 +1,13 @@
-pub mod CreateLemmas
 pub mod Did
 pub mod Ending
 pub mod ManifestLemmas
+pub mod Packings
 pub mod PartLemmas
 pub mod Repacking
 pub mod SourceEnds
 pub mod SourceLemmas
 pub mod Tables
+pub mod Texts
 pub mod UnpackLemmas
 pub mod UnpackWords
 pub mod UsageEnds

@@ -1,6 +1,7 @@
 -- Manifests of images in files.
 use Rattle.std.proofs.Common.{◌≡◌, ◌<◌, ◌+◌, ℕ, suc, List, [], ◌∷◌, ◌++◌, Bool, true, false, Option, Some, None, Result, Ok, Err, get_or, length, map, take, drop, drop-cons, length-append, option_map, arith, refl, sym, ap, subst, ◌∙◌}
 use Rattle.std.specs.Prelude.{IfSome, ◌==◌, ◌||◌, if◌then◌else◌, nat_lt, option_and_then}
+use Rattle.std.specs.List.{list_any}
 use Rattle.std.proofs.lemmas.List.{length-map, map-append, take-append-drop, take_more}
 use Rattle.host_io.specs.Contents.{Directory}
 use Rattle.fwu_formats.specs.Manifest.{Row}
@@ -12,7 +13,7 @@ use Rattle.fip_words.specs.Values.{NamedImage, each}
 use Rattle.fip_words.specs.declared.values.ImageWord.{ImageWord}
 use Rattle.fip_tool.specs.Lines.{manifest_line}
 use Rattle.fip_tool.specs.Steps.{Did, Gives, Makes, Step, Writes, Prints, outcome_by}
-use Rattle.fip_tool.specs.Tool.{Image, after, file_value, image_in, image_row, manifest_value, of_rows, there, writes_manifest}
+use Rattle.fip_tool.specs.Tool.{Image, after, file_value, image_in, image_limit, image_row, is_long, manifest_value, of_rows, size_in, sizes_value, there, unless_long, writes_manifest}
 use Rattle.fip_tool.specs.declared.stops.Stop.{Stop}
 use Rattle.fip_tool.specs.declared.stops.Stop.TheVariants as stop
 use Rattle.fip_tool.proofs.Did.{made-steps}
@@ -138,6 +139,112 @@ value-stopped told security xs s e = go (each (image_in told) xs) e
     go None h = let same : ◌≡◌ {A = Stop} stop.FileFault s = cc in ap (λ (t : Stop). Err t) same
     go (Some images) h = cc
 
+-- ---- whether one is too long
+
+abbrev pub long_value : Directory → NamedImage → Result Bool Stop
+long_value told x = after (there (image_in told x)) (λ i. Ok (is_long i))
+
+abbrev pub longs_value : Directory → List NamedImage → Result Bool Stop
+longs_value told xs = after (there (each (image_in told) xs)) (λ images. Ok (list_any is_long images))
+
+pub long-made : (told : Directory) (x : NamedImage) (n : ℕ) (long : Bool) → size_in told x.file ≡ Ok n → long ≡ nat_lt image_limit n → long_value told x ≡ Ok long
+unfolding size_in
+long-made told x n long e is = go (told x.file) e
+  where
+    go : (o : Option (List ℕ)) → after (there o) (λ bytes. Ok (length bytes)) ≡ Ok n
+        → after (there (option_map (λ (b : List ℕ). let i : Image = record { guid = x.guid; version = x.version; bytes = b } in i) o)) (λ i. Ok (is_long i)) ≡ Ok long
+    go None h = cc
+    go (Some b) h = let same : length b ≡ n = cc in ap (λ (m : ℕ). Ok (nat_lt image_limit m)) same ∙ ap (λ (l : Bool). Ok l) (sym is)
+
+pub long-stopped : (told : Directory) (x : NamedImage) (s : Stop) → size_in told x.file ≡ Err s → long_value told x ≡ Err s
+unfolding size_in
+long-stopped told x s e = go (told x.file) e
+  where
+    go : (o : Option (List ℕ)) → after (there o) (λ bytes. Ok (length bytes)) ≡ Err s
+        → after (there (option_map (λ (b : List ℕ). let i : Image = record { guid = x.guid; version = x.version; bytes = b } in i) o)) (λ i. Ok (is_long i)) ≡ Err s
+    go None h = let same : ◌≡◌ {A = Stop} stop.FileFault s = cc in ap (λ (t : Stop). Err t) same
+    go (Some b) h = cc
+
+any-more : (images : List Image) (i : Image) → list_any is_long (images ++ (i ∷ [])) ≡ list_any is_long images || is_long i
+any-more [] i = or-false (is_long i)
+  where
+    or-false : (b : Bool) → b || false ≡ false || b
+    or-false true = refl
+    or-false false = refl
+any-more (x ∷ images) i = ap (λ (b : Bool). is_long x || b) (any-more images i) ∙ assoc (is_long x) (list_any is_long images) (is_long i)
+  where
+    assoc : (a b c : Bool) → a || (b || c) ≡ (a || b) || c
+    assoc true b c = refl
+    assoc false b c = refl
+
+longs-more : (told : Directory) (xs : List NamedImage) (x : NamedImage) (longs long : Bool) → longs_value told xs ≡ Ok longs → long_value told x ≡ Ok long → longs_value told (xs ++ (x ∷ [])) ≡ Ok (longs || long)
+longs-more told xs x longs long e h =
+    ap (λ (a : Option (List Image)). after (there a) (λ images. Ok (list_any is_long images))) (each-more (image_in told) xs x) ∙ go (each (image_in told) xs) (image_in told x) e h
+  where
+    go : (a : Option (List Image)) (b : Option Image) → after (there a) (λ images. Ok (list_any is_long images)) ≡ Ok longs → after (there b) (λ i. Ok (is_long i)) ≡ Ok long
+        → after (there (with_one a b)) (λ images. Ok (list_any is_long images)) ≡ Ok (longs || long)
+    go None b p q = cc
+    go (Some images) None p q = cc
+    go (Some images) (Some i) p q =
+        let were : list_any is_long images ≡ longs = cc in
+        let is : is_long i ≡ long = cc in
+        ap (λ (r : Bool). Ok r) (any-more images i ∙ ap (λ (r : Bool). r || is_long i) were ∙ ap (λ (r : Bool). longs || r) is)
+
+longs-stopped : (told : Directory) (xs : List NamedImage) (x : NamedImage) (ys : List NamedImage) (s : Stop) → long_value told x ≡ Err s → sizes_value told (xs ++ (x ∷ ys)) ≡ Err s
+unfolding sizes_value
+longs-stopped told xs x ys s e = go (image_in told x) refl
+  where
+    go : (b : Option Image) → image_in told x ≡ b → sizes_value told (xs ++ (x ∷ ys)) ≡ Err s
+    go None is =
+        let value : long_value told x ≡ Err stop.FileFault = ap (λ (b : Option Image). after (there b) (λ i. Ok (is_long i))) is in
+        let all : sizes_value told (xs ++ (x ∷ ys)) ≡ Err stop.FileFault = ap (λ (a : Option (List Image)). after (there a) (λ images. unless_long (length images) (list_any is_long images))) (each-stops (image_in told) xs x ys is) in
+        let same : ◌≡◌ {A = Stop} stop.FileFault s = (let both : ◌≡◌ {A = Result Bool Stop} (Err stop.FileFault) (Err s) = sym value ∙ e in cc) in
+        all ∙ ap (λ (t : Stop). Err t) same
+    go (Some i) is =
+        let value : long_value told x ≡ Ok (is_long i) = ap (λ (b : Option Image). after (there b) (λ i. Ok (is_long i))) is in
+        let no : ◌≡◌ {A = Result Bool Stop} (Ok (is_long i)) (Err s) = sym value ∙ e in
+        cc
+
+-- the sizes of all decide
+pub sizes-of : (told : Directory) (named : List ImageWord) (longs : Bool) → longs_value told (map image_view named) ≡ Ok longs → sizes_value told (map image_view named) ≡ unless_long (length named) longs
+unfolding sizes_value
+sizes-of told named longs e = go (each (image_in told) (map image_view named)) (each-long (image_in told) (map image_view named)) e
+  where
+    go : (a : Option (List Image)) → IfSome a (λ images. length images ≡ length (map image_view named)) → after (there a) (λ images. Ok (list_any is_long images)) ≡ Ok longs
+        → after (there a) (λ images. unless_long (length images) (list_any is_long images)) ≡ unless_long (length named) longs
+    go None long h = cc
+    go (Some images) long h =
+        let were : list_any is_long images ≡ longs = cc in
+        ap (λ (n : ℕ). unless_long n (list_any is_long images)) (long ∙ length-map named image_view) ∙ ap (unless_long (length named)) were
+
+-- an image that is too long has no row
+no-row : (images : List Image) → list_any is_long images ≡ true → each image_row images ≡ None
+unfolding image_row
+no-row [] e = cc
+no-row (x ∷ images) e = go (is_long x) refl (λ h. no-row images h) e
+  where
+    go : (b : Bool) → is_long x ≡ b → (list_any is_long images ≡ true → each image_row images ≡ None) → b || list_any is_long images ≡ true → before (image_row x) (each image_row images) ≡ None
+    go true is rest h = rw is refl
+    go false is rest h = ap (before (image_row x)) (rest h) ∙ before-none (image_row x)
+
+-- a refusal by the sizes is one of the manifest
+pub sizes-refuse : (told : Directory) (security : ℕ) (xs : List NamedImage) (s : Stop) → sizes_value told xs ≡ Err s → manifest_value told security xs ≡ Err s
+unfolding sizes_value manifest_value
+sizes-refuse told security xs s e = go (each (image_in told) xs) e
+  where
+    by : (images : List Image) (a b : Bool) → list_any is_long images ≡ b → ◌≡◌ {A = Result (Unit {0}) Stop} (if a then Err (stop.NoManifest fault.BadCount) else if b then Err (stop.NoManifest fault.TooLarge) else Ok tt) (Err s)
+        → (if a then Err (stop.NoManifest fault.BadCount) else of_rows security (each image_row images)) ≡ Err s
+    by images true b is h = let same : ◌≡◌ {A = Stop} (stop.NoManifest fault.BadCount) s = cc in ap (λ (t : Stop). Err t) same
+    by images false true is h =
+        let same : ◌≡◌ {A = Stop} (stop.NoManifest fault.TooLarge) s = cc in
+        ap (of_rows security) (no-row images is) ∙ ap (λ (t : Stop). Err t) same
+    by images false false is h = cc
+
+    go : (a : Option (List Image)) → after (there a) (λ images. unless_long (length images) (list_any is_long images)) ≡ Err s
+        → after (there a) (λ images. counted (length images) security (each image_row images)) ≡ Err s
+    go None h = let same : ◌≡◌ {A = Stop} stop.FileFault s = cc in ap (λ (t : Stop). Err t) same
+    go (Some images) h = by images ((length images == 0) || nat_lt 15 (length images)) (list_any is_long images) refl h
+
 -- ---- over the named images of the words
 
 module _ (told : Directory) (all : List ImageWord) (i : ℕ) (x : ImageWord) (within : i < length all) (is : x ≡ get_or all i x) where
@@ -148,6 +255,22 @@ module _ (told : Directory) (all : List ImageWord) (i : ℕ) (x : ImageWord) (wi
       ap (λ (l : List ImageWord). rows_value told (map image_view l)) split
       ∙ ap (rows_value told) (map-append image_view (take i all) (x ∷ drop (suc i) all))
       ∙ rows-stopped told (map image_view (take i all)) (image_view x) (map image_view (drop (suc i) all)) s e
+
+  pub sizes-stopped-at : (s : Stop) → long_value told (image_view x) ≡ Err s → sizes_value told (map image_view all) ≡ Err s
+  sizes-stopped-at s e =
+      let split : all ≡ take i all ++ (x ∷ drop (suc i) all) =
+      sym (take-append-drop i all) ∙ ap (λ (l : List ImageWord). take i all ++ l) (drop-cons all i x within ∙ ap (λ (y : ImageWord). y ∷ drop (suc i) all) (sym is)) in
+      ap (λ (l : List ImageWord). sizes_value told (map image_view l)) split
+      ∙ ap (sizes_value told) (map-append image_view (take i all) (x ∷ drop (suc i) all))
+      ∙ longs-stopped told (map image_view (take i all)) (image_view x) (map image_view (drop (suc i) all)) s e
+
+  pub longs-more-at : (longs long : Bool) → longs_value told (map image_view (take i all)) ≡ Ok longs → long_value told (image_view x) ≡ Ok long
+      → longs_value told (map image_view (take (i + 1) all)) ≡ Ok (longs || long)
+  longs-more-at longs long e h =
+      let split : take (i + 1) all ≡ take i all ++ (x ∷ []) = take_more all i x within ∙ ap (λ (y : ImageWord). take i all ++ (y ∷ [])) (sym is) in
+      ap (λ (l : List ImageWord). longs_value told (map image_view l)) split
+      ∙ ap (longs_value told) (map-append image_view (take i all) (x ∷ []))
+      ∙ longs-more told (map image_view (take i all)) (image_view x) longs long e h
 
   pub rows-more-at : (rows : Option (List Row)) (more : Option Row) → rows_value told (map image_view (take i all)) ≡ Ok rows → row_value told (image_view x) ≡ Ok more
       → rows_value told (map image_view (take (i + 1) all)) ≡ Ok (with_one rows more)

@@ -56,25 +56,6 @@ each-stops : {X Y : Type 0} (f : X → Option Y) (xs : List X) (x : X) (ys : Lis
 each-stops f [] x ys e = ap (λ a. before a (each f ys)) e
 each-stops f (z ∷ xs) x ys e = ap (before (f z)) (each-stops f xs x ys e) ∙ before-none (f z)
 
-abbrev part_with : NamedFile → List ℕ → Part
-part_with x bytes = record { guid = x.guid; flags = 0; bytes = bytes }
-
-pub part-made : (told : Directory) (x : NamedFile) (bytes : List ℕ) → file_value told x.file ≡ Ok bytes → there (part_in told x) ≡ Ok (record { guid = x.guid; flags = 0; bytes = bytes })
-unfolding file_value
-part-made told x bytes e = go (told x.file) e
-  where
-    go : (o : Option (List ℕ)) → there o ≡ Ok bytes → there (option_map (part_with x) o) ≡ Ok (part_with x bytes)
-    go None h = cc
-    go (Some b) h = let same : b ≡ bytes = cc in ap (λ (l : List ℕ). Ok (part_with x l)) same
-
-pub part-stopped : (told : Directory) (x : NamedFile) (s : Stop) → file_value told x.file ≡ Err s → there (part_in told x) ≡ Err s
-unfolding file_value
-part-stopped told x s e = go (told x.file) e
-  where
-    go : (o : Option (List ℕ)) → there o ≡ Err s → there (option_map (part_with x) o) ≡ Err s
-    go None h = let same : ◌≡◌ {A = Stop} stop.FileFault s = cc in ap (λ (t : Stop). Err t) same
-    go (Some b) h = cc
-
 parts-more : (told : Directory) (xs : List NamedFile) (x : NamedFile) (ps : List Part) (p : Part) → parts_in told xs ≡ Ok ps → there (part_in told x) ≡ Ok p → parts_in told (xs ++ (x ∷ [])) ≡ Ok (ps ++ (p ∷ []))
 parts-more told xs x ps p e h = ap (λ (a : Option (List Part)). there a) (each-more (part_in told) xs x) ∙ go (each (part_in told) xs) (part_in told x) e h
   where
@@ -129,11 +110,3 @@ create-of told a xs ps e = ap (λ (r : Result (List Part) Stop). after r (λ qs.
 pub create-err : (told : Directory) (a : ℕ) (xs : List NamedFile) (s : Stop) → parts_in told xs ≡ Err s → create_value told a xs ≡ Err s
 unfolding create_value
 create-err told a xs s e = ap (λ (r : Result (List Part) Stop). after r (λ qs. pack_value new_serial 0 qs a)) e
-
--- the file and the line of a package
-pub package-put : (files : Directory) (out : List ℕ) (value : Result (ℕ × List ℕ) Stop) (n : ℕ) (bytes same : List ℕ) (now : Option Directory) (was text : Option (List ℕ)) (a b c : ℕ) (sink-rose : Type 0)
-    (r : Result (Unit {0}) Stop) → value ≡ Ok (n, bytes) → same ≡ bytes → a ≤ b → Did (Makes (packs out (n, same))) files now was text (Rose b c) sink-rose r
-    → Did (outcome_by (packs out) value) files now was text (Rose a c) sink-rose r
-package-put files out value n bytes same now was text a b c sink-rose r v is le did =
-    made-steps (packs out) value (n, bytes) files now was text (Rose b c) (Rose a c) sink-rose r v (rose-from a b c le)
-    (subst (λ (l : List ℕ). Did (Makes (packs out (n, l))) files now was text (Rose b c) sink-rose r) is did)

@@ -1,5 +1,5 @@
 -- What a package in a file gives.
-use Rattle.std.proofs.Common.{◌≡◌, ◌⊎◌, inl, inr, ◌≤◌, ℕ, List, Option, Some, None, Result, Ok, Err, length, arith, refl, sym, ap, ◌∙◌}
+use Rattle.std.proofs.Common.{◌≡◌, ◌⊎◌, inl, inr, ◌≤◌, ℕ, List, Option, Some, None, Result, Ok, Err, IfOk, length, arith, refl, sym, ap, ◌∙◌}
 use Rattle.base_core.specs.Counts.{Rose}
 use Rattle.host_io.specs.Contents.{Directory}
 use Rattle.fwu_formats.specs.Package.{Toc, toc_of}
@@ -42,6 +42,16 @@ gives-err view other rose late v w (stop.NoSuchEntry guid) rises so g = so g
 gives-err view other rose late v w (stop.NotPacked f) rises so g = so g
 gives-err view other rose late v w (stop.NoManifest f) rises so g = so g
 gives-err view other rose late v w stop.TooLong rises so g = so g
+
+-- a fault of a first part, or of the next
+pub either-rose : {A : Type 0} (a b c : ℕ) → a ≤ b → b ≤ c → (A → Rose a b) → A ⊎ Rose b c → Rose a c
+either-rose a b c le more first (inl x) = rose-until a b c (first x) more
+either-rose a b c le more first (inr r) = rose-from a b c le r
+
+-- what is known of what was made
+pub if-ok-as : {X E : Type 0} (r : Result X E) (P Q : X → Type 0) → ((x : X) → P x → Q x) → IfOk r P → IfOk r Q
+if-ok-as (Ok x) P Q turns h = turns x h
+if-ok-as (Err s) P Q turns h = h
 
 -- a file that has a size has bytes
 pub sized : (files : Directory) (name : List ℕ) (n : ℕ) → size_in files name ≡ Ok n → (bytes : List ℕ) × (files name ≡ Some bytes) × (length bytes ≡ n)

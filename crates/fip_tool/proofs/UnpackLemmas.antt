@@ -301,6 +301,10 @@ module _ (prefix from : List ℕ) (es : List Entry) (start now : Option Director
 
 -- ---- one payload
 
+pub line-is : (prefix : List ℕ) (e : Entry) (shown line : List ℕ) → shown ≡ unpacked_name prefix e.guid → line ≡ guid_text e.guid ++ codes " size=" ++ decimal e.size ++ codes " file=" ++ shown ++ codes "\n" → line ≡ unpacked_line prefix e
+unfolding unpacked_line
+line-is prefix e shown line seen said = said ∙ ap (λ (n : List ℕ). guid_text e.guid ++ codes " size=" ++ decimal e.size ++ codes " file=" ++ n ++ codes "\n") seen
+
 -- a file that was written, and its line
 pub entry-did : (prefix bytes : List ℕ) (e : Entry) (name shown out line : List ℕ) (told : Directory) (now : Option Directory) (was text : Option (List ℕ)) (rose late sink-rose : Type 0) (r : Result (Unit {0}) Stop)
     → name ≡ unpacked_name prefix e.guid → shown ≡ unpacked_name prefix e.guid → out ≡ payload bytes e → line ≡ guid_text e.guid ++ codes " size=" ++ decimal e.size ++ codes " file=" ++ shown ++ codes "\n" → (rose → late)
@@ -318,7 +322,7 @@ same-ok a b e = cc
 -- ---- one entry after the other
 
 module _ (p : Entry → Bool) (es : List Entry) (i : ℕ) (e : Entry) (lt : i < length es) (here : get_or es i e ≡ e) where
-  next-chosen : p e ≡ true → filter p (take (i + 1) es) ≡ filter p (take i es) ++ (e ∷ [])
+  pub next-chosen : p e ≡ true → filter p (take (i + 1) es) ≡ filter p (take i es) ++ (e ∷ [])
   next-chosen h =
       ap (filter p) (take_more es i e lt ∙ ap (λ (x : Entry). take i es ++ (x ∷ [])) here) ∙ filter-append p (take i es) (e ∷ []) ∙ ap (λ (l : List Entry). filter p (take i es) ++ l) (one (p e) h)
     where
@@ -326,7 +330,7 @@ module _ (p : Entry → Bool) (es : List Entry) (i : ℕ) (e : Entry) (lt : i < 
       one true q = refl
       one false q = cc
 
-  next-passed : p e ≡ false → filter p (take (i + 1) es) ≡ filter p (take i es)
+  pub next-passed : p e ≡ false → filter p (take (i + 1) es) ≡ filter p (take i es)
   next-passed h =
       ap (filter p) (take_more es i e lt ∙ ap (λ (x : Entry). take i es ++ (x ∷ [])) here) ∙ filter-append p (take i es) (e ∷ []) ∙ ap (λ (l : List Entry). filter p (take i es) ++ l) (one (p e) h) ∙ append-nil (filter p (take i es))
     where
@@ -334,7 +338,7 @@ module _ (p : Entry → Bool) (es : List Entry) (i : ℕ) (e : Entry) (lt : i < 
       one true q = cc
       one false q = refl
 
-  split-chosen : p e ≡ true → filter p es ≡ filter p (take i es) ++ (e ∷ filter p (drop (i + 1) es))
+  pub split-chosen : p e ≡ true → filter p es ≡ filter p (take i es) ++ (e ∷ filter p (drop (i + 1) es))
   split-chosen h =
       ap (filter p) (sym (take-append-drop i es)) ∙ filter-append p (take i es) (drop i es) ∙ ap (λ (l : List Entry). filter p (take i es) ++ l) (ap (filter p) (drop_more es i e lt ∙ ap (λ (x : Entry). x ∷ drop (i + 1) es) here) ∙ one (p e) h)
     where

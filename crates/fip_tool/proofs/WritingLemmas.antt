@@ -1,13 +1,17 @@
 -- What a writing and a line leave.
-use Rattle.std.proofs.Common.{◌≡◌, ◌≢◌, inr, ℕ, List, [], ◌∷◌, Bool, true, false, Option, Some, None, Result, Ok, Err, take, refl, sym, ap, subst, ◌∙◌, append-nil, true≢false}
+use Rattle.std.proofs.Common.{◌≡◌, ◌≢◌, inr, ℕ, List, [], ◌∷◌, Bool, true, false, Option, Some, None, Result, Ok, Err, ◌≤◌, length, take, refl, sym, ap, subst, ◌∙◌, append-nil, true≢false}
 use Rattle.std.specs.Str.{bytes_eq}
 use Rattle.std.proofs.lemmas.Slice.Eq.{bytes_eq-Decides}
 use Rattle.std.specs.Io.KnownBytes.{Appends}
+use Rattle.base_core.specs.Counts.{Rose}
 use Rattle.host_io.specs.Contents.{ChangesOnly, Directory, Holds}
-use Rattle.fip_tool.specs.Steps.{Makes, Writes, Prints, Are, AreBut, Did, Printed, Written, with_file}
+use Rattle.fip_tool.specs.Lines.{packed_line}
+use Rattle.fip_tool.specs.Steps.{Makes, Step, Writes, Prints, Are, AreBut, Did, Printed, Written, outcome_by, with_file}
+use Rattle.fip_tool.specs.Tool.{packs}
 use Rattle.fip_tool.specs.declared.stops.Stop.{Stop}
 use Rattle.fip_tool.specs.declared.stops.Stop.TheVariants as stop
-use Rattle.fip_tool.proofs.Did.{appends-none}
+use Rattle.fip_tool.proofs.Did.{appends-none, made-steps}
+use Rattle.fip_tool.proofs.Tables.{rose-from}
 
 with-other : (name bytes other : List ℕ) (files new : Directory) → new name ≡ Some bytes → ((other : List ℕ) → other ≢ name → new other ≡ files other) → new other ≡ with_file name bytes files other
 with-other name bytes other files new holds only = go (bytes_eq name other) refl
@@ -48,6 +52,16 @@ write-stopped files now was text files-rose sink-rose name bytes line (stop.NoSu
 write-stopped files now was text files-rose sink-rose name bytes line (stop.NotPacked f) w t = absurd w
 write-stopped files now was text files-rose sink-rose name bytes line (stop.NoManifest f) w t = absurd w
 write-stopped files now was text files-rose sink-rose name bytes line stop.TooLong w t = absurd w
+
+-- the file and the line of a package
+pub package-put : (files : Directory) (out : List ℕ) (value : Result (ℕ × List ℕ) Stop) (n : ℕ) (bytes same line : List ℕ) (now : Option Directory) (was text : Option (List ℕ)) (a b c : ℕ) (sink-rose : Type 0)
+    (r : Result (Unit {0}) Stop) → value ≡ Ok (n, bytes) → same ≡ bytes → line ≡ packed_line n (length bytes) → a ≤ b → Did (Makes (Writes out same ∷ Prints line ∷ [])) files now was text (Rose b c) sink-rose r
+    → Did (outcome_by (packs out) value) files now was text (Rose a c) sink-rose r
+package-put files out value n bytes same line now was text a b c sink-rose r v is lined le did =
+    let steps : Writes out same ∷ Prints line ∷ [] ≡ packs out (n, bytes) =
+    ap (λ (l : List ℕ). Writes out l ∷ Prints line ∷ []) is ∙ ap (λ (l : List ℕ). Writes out bytes ∷ Prints l ∷ []) lined in
+    made-steps (packs out) value (n, bytes) files now was text (Rose b c) (Rose a c) sink-rose r v (rose-from a b c le)
+    (subst (λ (s : List Step). Did (Makes s) files now was text (Rose b c) sink-rose r) steps did)
 
 pub then-printed : (files : Directory) (now : Option Directory) (was text : Option (List ℕ)) (files-rose sink-rose : Type 0) (name bytes line : List ℕ) (r : Result (Unit {0}) Stop)
     → Are now (with_file name bytes files) → Printed was text sink-rose line r → Did (Makes (Writes name bytes ∷ Prints line ∷ [])) files now was text files-rose sink-rose r

@@ -3,3 +3,5 @@ pub mod Lines
 pub mod Tool
 pub mod Source
 pub mod Ends
+pub mod Payloads
+pub mod Said

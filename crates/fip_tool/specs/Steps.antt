@@ -86,12 +86,21 @@ Gives view files-rose value (Err SinkFault) = ⊥
 Gives view files-rose value (Err FileFault) = (value ≡ Err FileFault) ⊎ files-rose
 Gives view files-rose value (Err stop) = value ≡ Err stop
 
--- A part that reads alone answers that a file failed only where faults rose, or told files lack one. It never answers usage.
+-- a stop that may come when some steps are done
+abbrev pub IsLate : Stop → Type 0
+IsLate FileFault = ⊤
+IsLate SinkFault = ⊤
+IsLate NoMemory = ⊤
+IsLate s = ⊥
+
+-- A part that reads alone answers that a file failed only where faults rose, or told files lack one. It answers neither usage
+-- nor that the sink failed.
 pub record ReadsOnly {X : Type 0} (told now : Option Directory) (before after : ℕ) (result : Result X Stop) : Type 0 where
   pub same : now ≡ told
   pub later : before ≤ after
   pub cause : result ≡ Err FileFault → told ≡ None → Rose before after
   pub usage : result ≡ Err Usage → ⊥
+  pub sink : result ≡ Err SinkFault → ⊥
 
 -- what the sink took of a text
 abbrev pub Printed : Option (List ℕ) → Option (List ℕ) → Type 0 → List ℕ → Result (Unit {0}) Stop → Type 0

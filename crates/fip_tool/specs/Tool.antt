@@ -208,6 +208,20 @@ image_row i =
     if nat_lt image_limit (length i.bytes) then None
     else Some (record { guid = i.guid; size = length i.bytes; version = i.version; digest = sha256 i.bytes })
 
+abbrev pub is_long : Image → Bool
+is_long i = nat_lt image_limit (length i.bytes)
+
+-- why there is no manifest of so many images, or of one that is too long
+abbrev pub unless_long : ℕ → Bool → Result (Unit {0}) Stop
+unless_long count long =
+    if (count == 0) || nat_lt 15 count then Err (stop.NoManifest fault.BadCount)
+    else if long then Err (stop.NoManifest fault.TooLarge)
+    else Ok tt
+
+-- whether there is a manifest of named images, by how many they are and how long
+unfoldable pub sizes_value : Directory → List NamedImage → Result (Unit {0}) Stop
+sizes_value files named = after (there (each (image_in files) named)) (λ images. unless_long (length images) (list_any is_long images))
+
 abbrev pub of_rows : ℕ → Option (List Row) → Result (ℕ × List ℕ) Stop
 of_rows security None = Err (stop.NoManifest fault.TooLarge)
 of_rows security (Some rows) = Ok (length rows, manifest_bytes (record { security = security; rows = rows }))

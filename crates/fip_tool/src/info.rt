@@ -1,7 +1,8 @@
 //! `info`: what a package has.
-ghost use Rattle.std.specs.Prelude.{◌≡◌, ◌≤◌, List, Some, Err, ℕ};
+ghost use Rattle.std.specs.Prelude.{◌≡◌, ◌≤◌, IfOk, List, Some, Err, ℕ};
 ghost use Rattle.base_core.specs.Counts.{Rose};
 ghost use Rattle.host_io.specs.Contents.{Directory};
+ghost use Rattle.fip_tool.specs.Said.{IsListing};
 ghost use Rattle.fip_tool.specs.Steps.{Gives, ReadsOnly};
 ghost use Rattle.fip_tool.specs.Tool.{GivenTo, given_value, info_value};
 ghost use Rattle.fip_tool.specs.declared.stops.Stop.TheVariants as stop;
@@ -16,6 +17,7 @@ use std::alloc::Global;
 pub fn file_info<H: Files>(alloc: Global, files: &mut H, name: &str) -> Result<Vec<u8>, Stop>
     ensures told { (told : Directory) → H.contents files.old ≡ Some told
         → Gives (λ text. text.items) (Rose (H.faults files.old) (H.faults files.new)) (info_value told name.now) result }
+    ensures listed { IfOk result (λ text. IsListing text.items) }
     ensures reads { ReadsOnly (H.contents files.old) (H.contents files.new) (H.faults files.old) (H.faults files.new) result }
 {
     match read_package(files, name) {
@@ -30,7 +32,9 @@ pub fn file_info<H: Files>(alloc: Global, files: &mut H, name: &str) -> Result<V
 /// What is printed of the package that the source gives.
 pub fn source_info<I: Source>(alloc: Global, source: &mut I) -> Result<Vec<u8>, Stop>
     ensures given { (given : List ℕ) × GivenTo (λ text. text.items) given_value (I.left source.old) (I.left source.new) (Rose (I.faults source.old) (I.faults source.new)) result given }
+    ensures listed { IfOk result (λ text. IsListing text.items) }
     ensures usage { result ≡ Err stop.Usage → ⊥ }
+    ensures sink { result ≡ Err stop.SinkFault → ⊥ }
     ensures later { I.faults source.old ≤ I.faults source.new }
 {
     match read_given(source) {

@@ -1,13 +1,13 @@
 //! The tool for firmware image packages: it lists, makes, changes and unpacks them, and makes manifests.
 #![tactic(auto)]
 
-mod creating;
 mod info;
 mod lines;
 mod making;
 mod manifest;
 mod named;
-mod parts;
+mod packing;
+mod payloads;
 mod printing;
 mod reading;
 mod stop_lines;

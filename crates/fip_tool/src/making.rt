@@ -2,22 +2,45 @@
 ghost use Rattle.std.specs.Prelude.{◌≡◌, ◌≤◌, ◌<◌, ◌+◌, ◌^◌, All, IfOk, List, Some, None, Ok, Err, ℕ, filter, length, map, not};
 ghost use Rattle.base_core.specs.Counts.{Rose};
 ghost use Rattle.fip_tables.specs.Files.{Lacks, Tells};
+ghost use Rattle.fwu_formats.specs.Package.{Toc};
 ghost use Rattle.host_io.specs.Contents.{Directory};
-ghost use Rattle.fip_words.specs.Order.{part_view};
+ghost use Rattle.fip_words.specs.Order.{Asked, part_view};
+ghost use Rattle.fip_tool.specs.Payloads.{IsThere, part_told};
+ghost use Rattle.fip_tool.specs.Said.{IsTexts, Says};
 ghost use Rattle.fip_tool.specs.Steps.{Did, Gives, ReadsOnly, outcome_by};
-ghost use Rattle.fip_tool.specs.Tool.{after, create_value, is_named, kept_part, pack_value, packs, parts_in, remove_value, update_value, updated_part};
+ghost use Rattle.fip_tool.specs.Tool.{after, create_value, first_missing, is_named, kept_part, pack_value, packs, parts_in, remove_value, update_value, updated_part};
 ghost use Rattle.fip_tool.specs.declared.stops.Stop.TheVariants as stop;
 
-use crate::creating::create;
 use crate::named::{is_named, table_with};
-use crate::parts::{packed, parts_of_entries, parts_of_files};
+use crate::packing::packed;
+use crate::payloads::{Payload, payloads_of_entries, payloads_of_files};
 use crate::stops::Stop;
-use crate::writing::put_package;
+use crate::writing::put_made;
 use base_core::Guid;
-use fip_tables::{Entry, Part, Parts, Toc};
+use fip_tables::{Entry, Toc};
 use fip_words::Part as NamedFile;
 use host_io::{Files, Sink};
 use std::alloc::{AllocError, Global};
+
+const NEW_SERIAL: u32 = 0x1234_5678;
+
+// A new package of named files: how many entries, and its bytes.
+fn created<H: Files>(
+    alloc: Global,
+    files: &mut H,
+    align: u32,
+    named: &[NamedFile<'_>],
+) -> Result<(u64, Vec<u8>), Stop>
+    ensures told { (told : Directory) → H.contents files.old ≡ Some told
+        → Gives (λ m. (m.0, m.1.items)) (Rose (H.faults files.old) (H.faults files.new)) (create_value told align (map part_view named.now)) result }
+    ensures count { IfOk result (λ m. m.0 ≡ length named.now) }
+    ensures reads { ReadsOnly (H.contents files.old) (H.contents files.new) (H.faults files.old) (H.faults files.new) result }
+{
+    match payloads_of_files(alloc, files, named) {
+        Ok(payloads) => packed(alloc, files, NEW_SERIAL, 0, align, payloads.as_slice()),
+        Err(stop) => Err(stop),
+    }
+}
 
 // A package of these entries of another, with the new payloads where there are some.
 fn repacked<H: Files>(
@@ -27,26 +50,28 @@ fn repacked<H: Files>(
     from: &str,
     toc: &Toc,
     entries: &[Entry],
-    new: &[Part],
+    new: &[Payload<'_>],
 ) -> Result<(u64, Vec<u8>), Stop>
-    requires ends { All (λ e. e.offset + e.size < 2 ^ 64) entries.now }
     requires stored { (bytes : List ℕ) → Tells (H.contents files.old) from.now bytes → All (λ e. e.offset + e.size ≤ length bytes) entries.now }
     requires there { Lacks (H.contents files.old) from.now → ⊥ }
-    ensures told { (bytes : List ℕ) → Tells (H.contents files.old) from.now bytes
-        → Gives (λ m. (m.0, m.1.items)) (Rose (H.faults files.old) (H.faults files.new)) (pack_value toc.now.serial toc.now.flags (map (updated_part bytes new.now) entries.now) align) result }
+    requires new { All (IsThere (H.contents files.old)) new.now }
+    ensures told { (told : Directory) (bytes : List ℕ) → H.contents files.old ≡ Some told → told from.now ≡ Some bytes
+        → Gives (λ m. (m.0, m.1.items)) (Rose (H.faults files.old) (H.faults files.new))
+        (pack_value toc.now.serial toc.now.flags (map (updated_part bytes (map (part_told told) new.now)) entries.now) align) result }
+    ensures count { IfOk result (λ m. m.0 ≡ length entries.now) }
     ensures reads { ReadsOnly (H.contents files.old) (H.contents files.new) (H.faults files.old) (H.faults files.new) result }
 {
-    match parts_of_entries(alloc, files, from, entries, new) {
-        Ok(parts) => {
-            let parts = Parts {
-                serial: toc.serial,
-                flags: toc.flags,
-                parts,
-            };
-            packed(alloc, &parts, align)
-        }
-        Err(stop) => Err(stop),
-    }
+    let Ok(payloads) = payloads_of_entries(alloc, from, entries, new) else {
+        return Err(Stop::NoMemory);
+    };
+    packed(
+        alloc,
+        files,
+        toc.serial,
+        toc.flags,
+        align,
+        payloads.as_slice(),
+    )
 }
 
 // The entries that are not named.
@@ -76,12 +101,12 @@ fn without<H: Files>(
     toc: &Toc,
     guids: &[Guid],
 ) -> Result<(u64, Vec<u8>), Stop>
-    requires ends { All (λ e. e.offset + e.size < 2 ^ 64) toc.now.entries }
     requires stored { (bytes : List ℕ) → Tells (H.contents files.old) from.now bytes → All (λ e. e.offset + e.size ≤ length bytes) toc.now.entries }
     requires there { Lacks (H.contents files.old) from.now → ⊥ }
-    ensures told { (bytes : List ℕ) → Tells (H.contents files.old) from.now bytes
+    ensures told { (told : Directory) (bytes : List ℕ) → H.contents files.old ≡ Some told → told from.now ≡ Some bytes
         → Gives (λ m. (m.0, m.1.items)) (Rose (H.faults files.old) (H.faults files.new))
         (pack_value toc.now.serial toc.now.flags (map (kept_part bytes) (filter (λ e. not (is_named guids.now e)) toc.now.entries)) align) result }
+    ensures count { IfOk result (λ m. m.0 ≡ length (filter (λ e. not (is_named guids.now e)) toc.now.entries)) }
     ensures reads { ReadsOnly (H.contents files.old) (H.contents files.new) (H.faults files.old) (H.faults files.new) result }
 {
     let Ok(kept) = kept_entries(alloc, toc.entries.as_slice(), guids) else {
@@ -99,7 +124,7 @@ fn without<H: Files>(
     )
 }
 
-/// The package without the named entries.
+// The package without the named entries.
 fn removed<H: Files>(
     alloc: Global,
     files: &mut H,
@@ -109,6 +134,8 @@ fn removed<H: Files>(
 ) -> Result<(u64, Vec<u8>), Stop>
     ensures told { (told : Directory) → H.contents files.old ≡ Some told
         → Gives (λ m. (m.0, m.1.items)) (Rose (H.faults files.old) (H.faults files.new)) (remove_value told align from.now guids.now) result }
+    ensures count { IfOk result (λ m. (t : Toc) × (first_missing t guids.now ≡ None)
+        × (m.0 ≡ length (filter (λ e. not (is_named guids.now e)) t.entries))) }
     ensures reads { ReadsOnly (H.contents files.old) (H.contents files.new) (H.faults files.old) (H.faults files.new) result }
 {
     match table_with(files, from, guids) {
@@ -124,17 +151,17 @@ fn replaced<H: Files>(
     align: u32,
     from: &str,
     toc: &Toc,
-    named: &[NamedFile],
+    named: &[NamedFile<'_>],
 ) -> Result<(u64, Vec<u8>), Stop>
-    requires ends { All (λ e. e.offset + e.size < 2 ^ 64) toc.now.entries }
     requires stored { (bytes : List ℕ) → Tells (H.contents files.old) from.now bytes → All (λ e. e.offset + e.size ≤ length bytes) toc.now.entries }
     requires there { Lacks (H.contents files.old) from.now → ⊥ }
     ensures told { (told : Directory) (bytes : List ℕ) → H.contents files.old ≡ Some told → told from.now ≡ Some bytes
         → Gives (λ m. (m.0, m.1.items)) (Rose (H.faults files.old) (H.faults files.new))
         (after (parts_in told (map part_view named.now)) (λ new. pack_value toc.now.serial toc.now.flags (map (updated_part bytes new) toc.now.entries) align)) result }
+    ensures count { IfOk result (λ m. m.0 ≡ length toc.now.entries) }
     ensures reads { ReadsOnly (H.contents files.old) (H.contents files.new) (H.faults files.old) (H.faults files.new) result }
 {
-    match parts_of_files(alloc, files, named) {
+    match payloads_of_files(alloc, files, named) {
         Ok(new) => {
             let entries = toc.entries.as_slice();
             repacked(alloc, files, align, from, toc, entries, new.as_slice())
@@ -143,16 +170,18 @@ fn replaced<H: Files>(
     }
 }
 
-/// The package with new payloads.
+// The package with new payloads.
 fn updated<H: Files>(
     alloc: Global,
     files: &mut H,
     align: u32,
     from: &str,
-    named: &[NamedFile],
+    named: &[NamedFile<'_>],
 ) -> Result<(u64, Vec<u8>), Stop>
     ensures told { (told : Directory) → H.contents files.old ≡ Some told
         → Gives (λ m. (m.0, m.1.items)) (Rose (H.faults files.old) (H.faults files.new)) (update_value told align from.now (map part_view named.now)) result }
+    ensures count { IfOk result (λ m. (t : Toc) × (first_missing t (map (λ p. p.guid) (map part_view named.now)) ≡ None)
+        × (m.0 ≡ length t.entries)) }
     ensures reads { ReadsOnly (H.contents files.old) (H.contents files.new) (H.faults files.old) (H.faults files.new) result }
 {
     let Ok(types) = types_of(alloc, named) else {
@@ -171,19 +200,19 @@ pub fn run_create<H: Files, O: Sink>(
     sink: &mut O,
     align: u32,
     out: &str,
-    named: &[NamedFile],
+    named: &[NamedFile<'_>],
 ) -> Result<(), Stop>
     ensures told { (told : Directory) → H.contents files.old ≡ Some told
         → Did (outcome_by (packs out.now) (create_value told align (map part_view named.now))) told (H.contents files.new) (O.taken sink.old) (O.taken sink.new)
         (Rose (H.faults files.old) (H.faults files.new)) (Rose (O.faults sink.old) (O.faults sink.new)) result }
+    ensures says { Says (IsTexts (Asked.create align out.now (map part_view named.now))) (O.taken sink.old) (O.taken sink.new)
+        (Rose (O.faults sink.old) (O.faults sink.new)) result }
     ensures cause { result ≡ Err stop.FileFault → H.contents files.old ≡ None → Rose (H.faults files.old) (H.faults files.new) }
     ensures usage { result ≡ Err stop.Usage → ⊥ }
     ensures later { O.faults sink.old ≤ O.faults sink.new }
 {
-    match create(alloc, files, align, named) {
-        Ok((entries, bytes)) => put_package(alloc, files, sink, out, entries, bytes.as_slice()),
-        Err(stop) => Err(stop),
-    }
+    let made = created(alloc, files, align, named);
+    put_made(alloc, files, sink, out, made)
 }
 
 /// Writes the package in the file `from` without the named entries to the file `out`, and prints its line.
@@ -199,18 +228,18 @@ pub fn run_remove<H: Files, O: Sink>(
     ensures told { (told : Directory) → H.contents files.old ≡ Some told
         → Did (outcome_by (packs out.now) (remove_value told align from.now guids.now)) told (H.contents files.new) (O.taken sink.old) (O.taken sink.new)
         (Rose (H.faults files.old) (H.faults files.new)) (Rose (O.faults sink.old) (O.faults sink.new)) result }
+    ensures says { Says (IsTexts (Asked.remove align from.now out.now guids.now)) (O.taken sink.old) (O.taken sink.new)
+        (Rose (O.faults sink.old) (O.faults sink.new)) result }
     ensures cause { result ≡ Err stop.FileFault → H.contents files.old ≡ None → Rose (H.faults files.old) (H.faults files.new) }
     ensures usage { result ≡ Err stop.Usage → ⊥ }
     ensures later { O.faults sink.old ≤ O.faults sink.new }
 {
-    match removed(alloc, files, align, from, guids) {
-        Ok((entries, bytes)) => put_package(alloc, files, sink, out, entries, bytes.as_slice()),
-        Err(stop) => Err(stop),
-    }
+    let made = removed(alloc, files, align, from, guids);
+    put_made(alloc, files, sink, out, made)
 }
 
 /// Writes the package in the file `from` with the payloads of named files to the file `out`, and prints its line. The named files
-/// are read once the package has an entry of each of their types.
+/// are asked for once the package has an entry of each of their types.
 pub fn run_update<H: Files, O: Sink>(
     alloc: Global,
     files: &mut H,
@@ -218,17 +247,17 @@ pub fn run_update<H: Files, O: Sink>(
     align: u32,
     from: &str,
     out: &str,
-    named: &[NamedFile],
+    named: &[NamedFile<'_>],
 ) -> Result<(), Stop>
     ensures told { (told : Directory) → H.contents files.old ≡ Some told
         → Did (outcome_by (packs out.now) (update_value told align from.now (map part_view named.now))) told (H.contents files.new) (O.taken sink.old) (O.taken sink.new)
         (Rose (H.faults files.old) (H.faults files.new)) (Rose (O.faults sink.old) (O.faults sink.new)) result }
+    ensures says { Says (IsTexts (Asked.update align from.now out.now (map part_view named.now))) (O.taken sink.old) (O.taken sink.new)
+        (Rose (O.faults sink.old) (O.faults sink.new)) result }
     ensures cause { result ≡ Err stop.FileFault → H.contents files.old ≡ None → Rose (H.faults files.old) (H.faults files.new) }
     ensures usage { result ≡ Err stop.Usage → ⊥ }
     ensures later { O.faults sink.old ≤ O.faults sink.new }
 {
-    match updated(alloc, files, align, from, named) {
-        Ok((entries, bytes)) => put_package(alloc, files, sink, out, entries, bytes.as_slice()),
-        Err(stop) => Err(stop),
-    }
+    let made = updated(alloc, files, align, from, named);
+    put_made(alloc, files, sink, out, made)
 }

@@ -2,17 +2,19 @@
 ghost use Rattle.std.specs.Prelude.{◌≡◌, ◌≤◌, ◌==◌, ◌||◌, ◌++◌, ◌∷◌, [], Some, Ok, Err, IfOk, IfSome, if◌then◌else◌, length, map, nat_lt, option_and_then, option_map};
 ghost use Rattle.base_core.specs.Counts.{Rose};
 ghost use Rattle.fwu_formats.specs.declared.kinds.ManifestFault.TheVariants as fault;
-ghost use Rattle.fip_words.specs.Order.{image_view};
+ghost use Rattle.fip_words.specs.Order.{Asked, image_view};
 ghost use Rattle.fip_words.specs.Values.{each};
 ghost use Rattle.host_io.specs.Contents.{Directory};
 ghost use Rattle.manifest_core.specs.Shown.{row};
+ghost use Rattle.fip_tool.specs.Said.{IsTexts, Says};
 ghost use Rattle.fip_tool.specs.Steps.{Did, Gives, ReadsOnly, outcome_by};
-ghost use Rattle.fip_tool.specs.Tool.{after, image_in, image_row, manifest_value, of_rows, there, writes_manifest};
+ghost use Rattle.fip_tool.specs.Tool.{after, image_in, image_row, is_long, manifest_value, nothing, of_rows, sizes_value, there, unless_long, writes_manifest};
 ghost use Rattle.fip_tool.specs.declared.stops.Stop.TheVariants as stop;
 
 use crate::lines::manifest_line;
 use crate::reading::read_file;
 use crate::stops::Stop;
+use crate::table::size_of;
 use crate::writing::write_and_print;
 use base_core::{Guid, NoMemory};
 use fip_words::ImageWord;
@@ -67,7 +69,7 @@ fn with_row(rows: Option<Vec<Row>>, more: Option<Row>) -> Result<Option<Vec<Row>
     }
 }
 
-// The rows of named images, or nothing where one is too long. All files are read.
+// The rows of named images, or nothing where one is too long by now. All files are read.
 fn rows_of_files<H: Files>(
     alloc: Global,
     files: &mut H,
@@ -95,7 +97,9 @@ fn rows_of_files<H: Files>(
 // The manifest of these rows: how many, and its bytes.
 fn manifest_of_rows(alloc: Global, security: u32, rows: Vec<Row>) -> Result<(u64, Vec<u8>), Stop>
     ensures value { Gives (λ m. (m.0, m.1.items)) ⊥ (if (length rows.items == 0) || nat_lt 15 (length rows.items) then Err (stop.NoManifest fault.BadCount) else of_rows security (Some (map row rows.items))) result }
+    ensures count { IfOk result (λ m. m.0 ≡ length rows.items) }
     ensures usage { result ≡ Err stop.Usage → ⊥ }
+    ensures sink { result ≡ Err stop.SinkFault → ⊥ }
 {
     let count = rows.len() as u64;
     let manifest = match Manifest::of_rows(alloc, security, rows) {
@@ -113,6 +117,7 @@ fn manifest_of_rows(alloc: Global, security: u32, rows: Vec<Row>) -> Result<(u64
 fn refusal(count: usize) -> Stop
     ensures value { result ≡ (if (count == 0) || nat_lt 15 count then stop.NoManifest fault.BadCount else stop.NoManifest fault.TooLarge) }
     ensures usage { result ≡ stop.Usage → ⊥ }
+    ensures sink { result ≡ stop.SinkFault → ⊥ }
 {
     if count == 0 || count > 15 {
         Stop::NoManifest(ManifestFault::BadCount)
@@ -121,18 +126,63 @@ fn refusal(count: usize) -> Stop
     }
 }
 
-/// A manifest of named images: how many rows, and its bytes. All files are read first; then `BadCount` comes where there are not
-/// 1 to 15 images, and else `TooLarge` where one has more than 1,048,576 bytes.
+// Whether there is a manifest of so many images, where one of them may be too long.
+fn check_count(count: usize, is_long: bool) -> Result<(), Stop>
+    ensures value { Gives nothing ⊥ (unless_long count is_long) result }
+    ensures usage { result ≡ Err stop.Usage → ⊥ }
+    ensures sink { result ≡ Err stop.SinkFault → ⊥ }
+{
+    if count == 0 || count > 15 || is_long {
+        return Err(refusal(count));
+    }
+    Ok(())
+}
+
+// Whether the image of a file is too long, by its size.
+fn is_long_file<H: Files>(files: &mut H, named: &ImageWord<'_>) -> Result<bool, Stop>
+    ensures told { (told : Directory) → H.contents files.old ≡ Some told
+        → Gives (λ long. long) (Rose (H.faults files.old) (H.faults files.new)) (after (there (image_in told (image_view named.now))) (λ i. Ok (is_long i))) result }
+    ensures reads { ReadsOnly (H.contents files.old) (H.contents files.new) (H.faults files.old) (H.faults files.new) result }
+{
+    match size_of(files, named.file) {
+        Ok(size) => Ok(size > IMAGE_LIMIT as u64),
+        Err(stop) => Err(stop),
+    }
+}
+
+// Whether there is a manifest of named images. It asks for the sizes of all files, and reads none.
+fn check_sizes<H: Files>(files: &mut H, named: &[ImageWord<'_>]) -> Result<(), Stop>
+    ensures told { (told : Directory) → H.contents files.old ≡ Some told
+        → Gives nothing (Rose (H.faults files.old) (H.faults files.new)) (sizes_value told (map image_view named.now)) result }
+    ensures reads { ReadsOnly (H.contents files.old) (H.contents files.new) (H.faults files.old) (H.faults files.new) result }
+{
+    let mut is_long = false;
+    for one in named {
+        match is_long_file(files, one) {
+            Ok(more) => is_long = is_long || more,
+            Err(stop) => return Err(stop),
+        }
+    }
+    check_count(named.len(), is_long)
+}
+
+/// A manifest of named images: how many rows, and its bytes. The sizes of all files are asked for first; then `BadCount` comes
+/// where there are not 1 to 15 images, and else `TooLarge` where one has more than 1,048,576 bytes. No file is read before that.
 pub fn manifest<H: Files>(
     alloc: Global,
     files: &mut H,
     security: u32,
-    named: &[ImageWord],
+    named: &[ImageWord<'_>],
 ) -> Result<(u64, Vec<u8>), Stop>
     ensures told { (told : Directory) → H.contents files.old ≡ Some told
         → Gives (λ m. (m.0, m.1.items)) (Rose (H.faults files.old) (H.faults files.new)) (manifest_value told security (map image_view named.now)) result }
+    ensures count { IfOk result (λ m. m.0 ≡ length named.now) }
     ensures reads { ReadsOnly (H.contents files.old) (H.contents files.new) (H.faults files.old) (H.faults files.new) result }
 {
+    match check_sizes(files, named) {
+        Ok(()) => {}
+        Err(stop) => return Err(stop),
+    }
     match rows_of_files(alloc, files, named) {
         Ok(Some(rows)) => manifest_of_rows(alloc, security, rows),
         Ok(None) => Err(refusal(named.len())),
@@ -152,6 +202,8 @@ pub fn run_manifest<H: Files, O: Sink>(
     ensures told { (told : Directory) → H.contents files.old ≡ Some told
         → Did (outcome_by (writes_manifest out.now security) (manifest_value told security (map image_view named.now))) told (H.contents files.new) (O.taken sink.old) (O.taken sink.new)
         (Rose (H.faults files.old) (H.faults files.new)) (Rose (O.faults sink.old) (O.faults sink.new)) result }
+    ensures says { Says (IsTexts (Asked.manifest out.now security (map image_view named.now))) (O.taken sink.old) (O.taken sink.new)
+        (Rose (O.faults sink.old) (O.faults sink.new)) result }
     ensures cause { result ≡ Err stop.FileFault → H.contents files.old ≡ None → Rose (H.faults files.old) (H.faults files.new) }
     ensures usage { result ≡ Err stop.Usage → ⊥ }
     ensures later { O.faults sink.old ≤ O.faults sink.new }

@@ -1,5 +1,5 @@
 //! The entries of a package that the words name, each by its type.
-ghost use Rattle.std.specs.Prelude.{◌≡◌, ◌<◌, ◌+◌, ◌^◌, All, IfOk, Some, Ok};
+ghost use Rattle.std.specs.Prelude.{◌≡◌, ◌<◌, ◌+◌, ◌^◌, All, IfOk, None, Some, Ok};
 ghost use Rattle.base_core.specs.Counts.{Rose};
 ghost use Rattle.host_io.specs.Contents.{Directory};
 ghost use Rattle.fip_tool.specs.Steps.{Gives, ReadsOnly};
@@ -30,6 +30,7 @@ pub fn is_named(guids: &[Guid], entry: &Entry) -> bool
 pub fn table_with<H: Files>(files: &mut H, name: &str, guids: &[Guid]) -> Result<Toc, Stop>
     ensures told { (told : Directory) → H.contents files.old ≡ Some told
         → Gives (λ t. t) (Rose (H.faults files.old) (H.faults files.new)) (after (sized_table told name.now) (λ t. unless_missing (first_missing t.0 guids.now) (Ok t.0))) result }
+    ensures all { IfOk result (λ t. first_missing t guids.now ≡ None) }
     ensures ends { IfOk result (λ t. All (λ e. e.offset + e.size < 2 ^ 64) t.entries) }
     ensures reads { ReadsOnly (H.contents files.old) (H.contents files.new) (H.faults files.old) (H.faults files.new) result }
 {

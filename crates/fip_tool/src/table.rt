@@ -64,6 +64,7 @@ fn feed_some<I: Source>(source: &mut I, stream: &mut StreamToc) -> Result<usize,
     ensures fed { (given : List ℕ) → Fed stream.old given
         → (piece : List ℕ) × FedSome stream.new given piece (I.left source.old) (I.left source.new) (Rose (I.faults source.old) (I.faults source.new)) result }
     ensures usage { result ≡ Err stop.Usage → ⊥ }
+    ensures sink { result ≡ Err stop.SinkFault → ⊥ }
     ensures later { I.faults source.old ≤ I.faults source.new }
 {
     let mut buffer = [0u8; 4096];
@@ -83,6 +84,7 @@ fn ended(stream: StreamToc, count: u64) -> Result<(Toc, u64), Stop>
     ensures table { (given : List ℕ) → Fed stream given → length given ≡ count → decided (toc_of given) ≡ Ok tt
         → EndsAs given result }
     ensures usage { result ≡ Err stop.Usage → ⊥ }
+    ensures sink { result ≡ Err stop.SinkFault → ⊥ }
 {
     match stream.end() {
         Ok(toc) => Ok((toc, count)),
@@ -95,6 +97,7 @@ fn ended(stream: StreamToc, count: u64) -> Result<(Toc, u64), Stop>
 pub fn read_given<I: Source>(source: &mut I) -> Result<(Toc, u64), Stop>
     ensures given { (given : List ℕ) × GivenTo (λ t. t) given_table (I.left source.old) (I.left source.new) (Rose (I.faults source.old) (I.faults source.new)) result given }
     ensures usage { result ≡ Err stop.Usage → ⊥ }
+    ensures sink { result ≡ Err stop.SinkFault → ⊥ }
     ensures later { I.faults source.old ≤ I.faults source.new }
 {
     let mut stream = StreamToc::new();

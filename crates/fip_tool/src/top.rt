@@ -5,6 +5,7 @@ ghost use Rattle.host_io.specs.Contents.{Directory};
 ghost use Rattle.fip_words.specs.Order.{Asked, asked, info_of_source, view};
 ghost use Rattle.fip_words.specs.Values.{is_unpacked};
 ghost use Rattle.fip_tool.specs.Ends.{Ended, Reported, Told};
+ghost use Rattle.fip_tool.specs.Said.{IsTexts, IsTextsOf, SaidWith, Says};
 ghost use Rattle.fip_tool.specs.Steps.{Did};
 ghost use Rattle.fip_tool.specs.Tool.{EndedSource, ReadSource, command_outcome, outcome_of};
 ghost use Rattle.fip_tool.specs.declared.stops.Stop.TheVariants as stop;
@@ -29,6 +30,8 @@ fn info<H: Files, O: Sink>(
     ensures told { (told : Directory) → H.contents files.old ≡ Some told
         → Did (command_outcome (Asked.info name.now) told) told (H.contents files.new) (O.taken sink.old) (O.taken sink.new)
         (Rose (H.faults files.old) (H.faults files.new)) (Rose (O.faults sink.old) (O.faults sink.new)) result }
+    ensures says { Says (IsTexts (Asked.info name.now)) (O.taken sink.old) (O.taken sink.new)
+        (Rose (O.faults sink.old) (O.faults sink.new)) result }
     ensures cause { result ≡ Err stop.FileFault → H.contents files.old ≡ None → Rose (H.faults files.old) (H.faults files.new) }
     ensures usage { result ≡ Err stop.Usage → ⊥ }
     ensures later { O.faults sink.old ≤ O.faults sink.new }
@@ -46,6 +49,8 @@ fn info_of_source<I: Source, O: Sink>(
 ) -> Result<(), Stop>
     ensures listed { (told : Option Directory) → ReadSource result told told (I.left source.old) (I.left source.new) (O.taken sink.old) (O.taken sink.new)
         (Rose (I.faults source.old) (I.faults source.new)) (Rose (O.faults sink.old) (O.faults sink.new)) }
+    ensures says { Says (IsTexts info_of_source) (O.taken sink.old) (O.taken sink.new)
+        (Rose (O.faults sink.old) (O.faults sink.new)) result }
     ensures cause { result ≡ Err stop.FileFault → Rose (I.faults source.old) (I.faults source.new) }
     ensures usage { result ≡ Err stop.Usage → ⊥ }
     ensures later { O.faults sink.old ≤ O.faults sink.new }
@@ -97,6 +102,8 @@ fn command<H: Files, I: Source, O: Sink>(
         (O.taken sink.old) (O.taken sink.new) (Rose (I.faults source.old) (I.faults source.new)) (Rose (O.faults sink.old) (O.faults sink.new)) }
     ensures cause { result ≡ Err stop.FileFault → H.contents files.old ≡ None
         → Rose (H.faults files.old) (H.faults files.new) ⊎ Rose (I.faults source.old) (I.faults source.new) }
+    ensures says { Says (IsTexts (view order.now)) (O.taken sink.old) (O.taken sink.new)
+        (Rose (O.faults sink.old) (O.faults sink.new)) result }
     ensures source_stays { view order.now ≢ info_of_source
         → (I.left source.new ≡ I.left source.old) × (I.faults source.new ≡ I.faults source.old) }
     ensures usage { result ≡ Err stop.Usage → ⊥ }
@@ -147,6 +154,8 @@ fn run<H: Files, I: Source, O: Sink>(
     ensures source { asked (map string_bytes words.now) ≡ Some info_of_source → ReadSource result (H.contents files.old) (H.contents files.new)
         (I.left source.old) (I.left source.new) (O.taken sink.old) (O.taken sink.new)
         (Rose (I.faults source.old) (I.faults source.new)) (Rose (O.faults sink.old) (O.faults sink.new)) }
+    ensures says { Says (IsTextsOf (asked (map string_bytes words.now))) (O.taken sink.old) (O.taken sink.new)
+        (Rose (O.faults sink.old) (O.faults sink.new)) result }
     ensures words { asked (map string_bytes words.now) ≡ None → (result ≡ Err stop.Usage) ⊎ (result ≡ Err stop.NoMemory) }
     ensures source_stays { asked (map string_bytes words.now) ≢ Some info_of_source
         → (I.left source.new ≡ I.left source.old) × (I.faults source.new ≡ I.faults source.old) }
@@ -179,6 +188,10 @@ pub fn fip_top<H: Files, I: Source, O: Sink>(
     ensures source { asked (map string_bytes words.now) ≡ Some info_of_source → EndedSource result (H.contents files.old) (H.contents files.new)
         (I.left source.old) (I.left source.new) (O.taken sink.old) (O.taken sink.new)
         (Rose (I.faults source.old) (I.faults source.new)) (Rose (O.faults sink.old) (O.faults sink.new)) }
+    // What the sink took, whatever files there are: the lines of the command, and where it stopped the line of the stop last.
+    ensures said { SaidWith (asked (map string_bytes words.now)) (O.taken sink.old) (O.taken sink.new)
+        (Rose (O.faults sink.old) (O.faults sink.new)) result }
+    ensures sink { result ≡ 3 → Rose (O.faults sink.old) (O.faults sink.new) }
     ensures cause { result ≡ 2 → H.contents files.old ≡ None
         → Rose (H.faults files.old) (H.faults files.new) ⊎ Rose (I.faults source.old) (I.faults source.new) }
     // Usage is answered exactly by the words, whatever files there are.

@@ -1,12 +1,14 @@
 //! `unpack`: payloads that are written to files of their own.
-ghost use Rattle.std.specs.Prelude.{◌≡◌, ◌≢◌, ◌≤◌, ◌<◌, ◌+◌, ◌^◌, ◌++◌, ◌∷◌, ◌||◌, ◌==◌, [], All, IfOk, OnOk, List, Some, None, Ok, Err, ℕ, codes, decimal, false, filter, length, string_bytes};
+ghost use Rattle.std.specs.Prelude.{◌≡◌, ◌≢◌, ◌≤◌, ◌+◌, ◌++◌, ◌∷◌, ◌||◌, ◌==◌, [], All, IfErr, IfOk, OnOk, List, Some, None, Ok, Err, ℕ, codes, decimal, false, filter, length, map, string_bytes};
 ghost use Rattle.base_core.specs.Counts.{Rose};
 ghost use Rattle.base_core.specs.Guid.{guid_text};
 ghost use Rattle.fip_tables.specs.Files.{Lacks, Tells};
+ghost use Rattle.fip_words.specs.Order.{Asked};
 ghost use Rattle.fip_words.specs.Values.{is_unpacked};
 ghost use Rattle.host_io.specs.Contents.{Directory};
-ghost use Rattle.fip_tool.specs.Lines.{unpacked_name};
-ghost use Rattle.fip_tool.specs.Steps.{Did, Makes, outcome_by};
+ghost use Rattle.fip_tool.specs.Lines.{unpacked_line, unpacked_name};
+ghost use Rattle.fip_tool.specs.Said.{IsTexts, Says};
+ghost use Rattle.fip_tool.specs.Steps.{Did, IsLate, Makes, outcome_by};
 ghost use Rattle.fip_tool.specs.Tool.{is_named, unpack_steps, unpack_value};
 ghost use Rattle.fip_tool.specs.declared.stops.Stop.TheVariants as stop;
 
@@ -59,7 +61,6 @@ fn unpack_entry<H: Files, O: Sink>(
     prefix: &str,
     entry: &Entry,
 ) -> Result<(), Stop>
-    requires ends { entry.now.offset + entry.now.size < 2 ^ 64 }
     requires stored { (bytes : List ℕ) → Tells (H.contents files.old) from.now bytes → entry.now.offset + entry.now.size ≤ length bytes }
     requires there { Lacks (H.contents files.old) from.now → ⊥ }
     ensures told { (told : Directory) → (bytes : List ℕ) → H.contents files.old ≡ Some told → told from.now ≡ Some bytes
@@ -67,6 +68,9 @@ fn unpack_entry<H: Files, O: Sink>(
         (Rose (H.faults files.old) (H.faults files.new)) (Rose (O.faults sink.old) (O.faults sink.new)) result }
     ensures other { OnOk result (is_unpacked prefix.now from.now ≡ false → from.now ≢ unpacked_name prefix.now entry.now.guid) }
     ensures silent { H.contents files.old ≡ None → H.contents files.new ≡ None }
+    ensures says { Says (λ texts. texts ≡ unpacked_line prefix.now entry.now ∷ []) (O.taken sink.old) (O.taken sink.new)
+        (Rose (O.faults sink.old) (O.faults sink.new)) result }
+    ensures late { IfErr result IsLate }
     ensures cause { result ≡ Err stop.FileFault → Rose (H.faults files.old) (H.faults files.new) }
     ensures usage { result ≡ Err stop.Usage → ⊥ }
     ensures later { H.faults files.old ≤ H.faults files.new }
@@ -109,12 +113,13 @@ fn unpack_entries<H: Files, O: Sink>(
     entries: &[Entry],
 ) -> Result<(), Stop>
     requires other { is_unpacked prefix.now from.now ≡ false }
-    requires ends { All (λ e. e.offset + e.size < 2 ^ 64) entries.now }
     requires stored { (bytes : List ℕ) → Tells (H.contents files.old) from.now bytes → All (λ e. e.offset + e.size ≤ length bytes) entries.now }
     requires there { Lacks (H.contents files.old) from.now → ⊥ }
     ensures told { (told : Directory) → (bytes : List ℕ) → H.contents files.old ≡ Some told → told from.now ≡ Some bytes
         → Did (Makes (unpack_steps prefix.now bytes (filter (λ e. (length names.now == 0) || is_named names.now e) entries.now))) told (H.contents files.new) (O.taken sink.old) (O.taken sink.new)
         (Rose (H.faults files.old) (H.faults files.new)) (Rose (O.faults sink.old) (O.faults sink.new)) result }
+    ensures says { Says (λ texts. texts ≡ map (unpacked_line prefix.now) (filter (λ e. (length names.now == 0) || is_named names.now e) entries.now))
+        (O.taken sink.old) (O.taken sink.new) (Rose (O.faults sink.old) (O.faults sink.new)) result }
     ensures cause { result ≡ Err stop.FileFault → Rose (H.faults files.old) (H.faults files.new) }
     ensures usage { result ≡ Err stop.Usage → ⊥ }
     ensures later { H.faults files.old ≤ H.faults files.new }
@@ -145,6 +150,8 @@ pub fn run_unpack<H: Files, O: Sink>(
     ensures told { (told : Directory) → H.contents files.old ≡ Some told
         → Did (outcome_by (λ v. unpack_steps prefix.now v.0 v.1) (unpack_value told from.now names.now)) told (H.contents files.new) (O.taken sink.old) (O.taken sink.new)
         (Rose (H.faults files.old) (H.faults files.new)) (Rose (O.faults sink.old) (O.faults sink.new)) result }
+    ensures says { Says (IsTexts (Asked.unpack from.now prefix.now names.now)) (O.taken sink.old) (O.taken sink.new)
+        (Rose (O.faults sink.old) (O.faults sink.new)) result }
     ensures cause { result ≡ Err stop.FileFault → H.contents files.old ≡ None → Rose (H.faults files.old) (H.faults files.new) }
     ensures usage { result ≡ Err stop.Usage → ⊥ }
     ensures later { O.faults sink.old ≤ O.faults sink.new }

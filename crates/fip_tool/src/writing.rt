@@ -1,9 +1,11 @@
 //! A file that is written, and the line that is printed then.
-ghost use Rattle.std.specs.Prelude.{◌≡◌, ◌≤◌, ◌∷◌, [], Some, None, Err};
+ghost use Rattle.std.specs.Prelude.{◌≡◌, ◌⊎◌, ◌≤◌, ◌∷◌, [], List, Some, None, Ok, Result, Err, IfErr, ℕ, length};
 ghost use Rattle.base_core.specs.Counts.{Rose};
 ghost use Rattle.host_io.specs.Contents.{Directory};
-ghost use Rattle.fip_tool.specs.Steps.{Did, Makes, Printed, Prints, Writes, Written};
+ghost use Rattle.fip_tool.specs.Said.{IsPackedLine, Says};
+ghost use Rattle.fip_tool.specs.Steps.{Did, Gives, IsLate, Makes, Prints, Writes, Written, outcome_by};
 ghost use Rattle.fip_tool.specs.Tool.{packs};
+ghost use Rattle.fip_tool.specs.declared.stops.Stop.{Stop};
 ghost use Rattle.fip_tool.specs.declared.stops.Stop.TheVariants as stop;
 
 use crate::lines::packed_line;
@@ -18,7 +20,9 @@ pub fn write<H: Files>(files: &mut H, name: &str, bytes: &[u8]) -> Result<(), St
         → Written told (H.contents files.new) (Rose (H.faults files.old) (H.faults files.new)) name.now bytes.now result }
     ensures cause { result ≡ Err stop.FileFault → Rose (H.faults files.old) (H.faults files.new) }
     ensures silent { H.contents files.old ≡ None → H.contents files.new ≡ None }
+    ensures late { IfErr result IsLate }
     ensures usage { result ≡ Err stop.Usage → ⊥ }
+    ensures sink { result ≡ Err stop.SinkFault → ⊥ }
     ensures later { H.faults files.old ≤ H.faults files.new }
 {
     match files.write_whole(name, bytes) {
@@ -41,6 +45,9 @@ pub fn write_and_print<H: Files, O: Sink>(
         (Rose (H.faults files.old) (H.faults files.new)) (Rose (O.faults sink.old) (O.faults sink.new)) result }
     ensures cause { result ≡ Err stop.FileFault → Rose (H.faults files.old) (H.faults files.new) }
     ensures silent { H.contents files.old ≡ None → H.contents files.new ≡ None }
+    ensures says { Says (λ texts. texts ≡ line.now ∷ []) (O.taken sink.old) (O.taken sink.new)
+        (Rose (O.faults sink.old) (O.faults sink.new)) result }
+    ensures late { IfErr result IsLate }
     ensures usage { result ≡ Err stop.Usage → ⊥ }
     ensures later { H.faults files.old ≤ H.faults files.new }
     ensures later_sink { O.faults sink.old ≤ O.faults sink.new }
@@ -51,26 +58,31 @@ pub fn write_and_print<H: Files, O: Sink>(
     }
 }
 
-/// Writes a package, and prints how many entries and bytes it has.
-pub fn put_package<H: Files, O: Sink>(
+/// Ends a command that makes a package, of so many entries and with these bytes: writes it to the file `out`, and prints its line.
+pub fn put_made<H: Files, O: Sink>(
     alloc: Global,
     files: &mut H,
     sink: &mut O,
     out: &str,
-    entries: u64,
-    bytes: &[u8],
+    made: Result<(u64, Vec<u8>), Stop>,
 ) -> Result<(), Stop>
-    ensures told { (told : Directory) → H.contents files.old ≡ Some told
-        → Did (Makes (packs out.now (entries, bytes.now))) told (H.contents files.new) (O.taken sink.old) (O.taken sink.new)
-        (Rose (H.faults files.old) (H.faults files.new)) (Rose (O.faults sink.old) (O.faults sink.new)) result }
-    ensures cause { result ≡ Err stop.FileFault → Rose (H.faults files.old) (H.faults files.new) }
-    ensures silent { H.contents files.old ≡ None → H.contents files.new ≡ None }
-    ensures usage { result ≡ Err stop.Usage → ⊥ }
+    ensures told { (told : Directory) (value : Result (ℕ × List ℕ) Stop) (before : ℕ) → H.contents files.old ≡ Some told
+        → before ≤ H.faults files.old → Gives (λ m. (m.0, m.1.items)) (Rose before (H.faults files.old)) value made
+        → Did (outcome_by (packs out.now) value) told (H.contents files.new) (O.taken sink.old) (O.taken sink.new)
+        (Rose before (H.faults files.new)) (Rose (O.faults sink.old) (O.faults sink.new)) result }
+    ensures says { (made ≡ Err stop.SinkFault → ⊥) → Says (IsPackedLine made)
+        (O.taken sink.old) (O.taken sink.new) (Rose (O.faults sink.old) (O.faults sink.new)) result }
+    ensures cause { result ≡ Err stop.FileFault → (made ≡ Err stop.FileFault) ⊎ Rose (H.faults files.old) (H.faults files.new) }
+    ensures usage { result ≡ Err stop.Usage → made ≡ Err stop.Usage }
     ensures later { H.faults files.old ≤ H.faults files.new }
     ensures later_sink { O.faults sink.old ≤ O.faults sink.new }
 {
+    let (entries, bytes) = match made {
+        Ok(made) => made,
+        Err(stop) => return Err(stop),
+    };
     match packed_line(alloc, entries, bytes.len() as u64) {
-        Ok(line) => write_and_print(files, sink, out, bytes, line.as_slice()),
+        Ok(line) => write_and_print(files, sink, out, bytes.as_slice(), line.as_slice()),
         Err(_) => Err(Stop::NoMemory),
     }
 }

@@ -2,7 +2,7 @@
 //! by a Python program from the layout.
 
 use crate::fixtures::{EMPTY, HELLO, files_of, ran, same};
-use host_io::MemoryFiles;
+use host_io::{Files, MemoryFiles};
 use std::alloc::{AllocError, Global};
 use std::test::Fail;
 
@@ -65,19 +65,19 @@ fn first_files(alloc: Global, fails: &[u64]) -> Result<MemoryFiles, AllocError> 
 }
 
 // Whether the command ends so over the files.
-fn is_done(
+fn is_done<H: Files>(
     alloc: Global,
-    files: &mut MemoryFiles,
+    files: &mut H,
     step: (&str, u8, &str),
 ) -> Result<bool, AllocError> {
     let (status, text) = ran(alloc, step.0, files)?;
     Ok(status == step.1 && text.as_slice() == step.2.as_bytes())
 }
 
-// The first of these commands that ends in another way.
-fn other_end<'a>(
+/// The first of these commands that ends in another way.
+pub fn other_end<'a, H: Files>(
     alloc: Global,
-    files: &mut MemoryFiles,
+    files: &mut H,
     steps: &[(&'a str, u8, &str)],
 ) -> Result<Option<&'a str>, AllocError> {
     for step in steps {

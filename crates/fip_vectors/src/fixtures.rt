@@ -1,7 +1,7 @@
-//! Packages, words, and a run of the tool over files in memory.
+//! Packages, words, and a run of the tool.
 
 use fip_tool::fip_top;
-use host_io::{MemoryFiles, MemorySink, MemorySource};
+use host_io::{Files, MemoryFiles, MemorySink, MemorySource};
 use std::alloc::{AllocError, Global};
 use std::fmt::Debug;
 use std::process::Abort;
@@ -46,10 +46,10 @@ pub fn files_of(
 }
 
 /// The status and the text of a line of words over files, with a source and a sink.
-pub fn ran_with(
+pub fn ran_with<H: Files>(
     alloc: Global,
     line: &str,
-    files: &mut MemoryFiles,
+    files: &mut H,
     source: &mut MemorySource,
     sink: &mut MemorySink,
 ) -> Result<(u8, Vec<u8>), AllocError> {
@@ -59,10 +59,10 @@ pub fn ran_with(
 }
 
 /// The status and the text of a line of words over files, with nothing from the source.
-pub fn ran(
+pub fn ran<H: Files>(
     alloc: Global,
     line: &str,
-    files: &mut MemoryFiles,
+    files: &mut H,
 ) -> Result<(u8, Vec<u8>), AllocError> {
     let mut source = MemorySource::new(Vec::new(alloc), Vec::new(alloc));
     let mut sink = MemorySink::new(alloc, Vec::new(alloc), Vec::new(alloc));

@@ -11,6 +11,8 @@ mod listings;
 #[cfg(test)]
 mod manifests;
 #[cfg(test)]
+mod real_files;
+#[cfg(test)]
 mod tables;
 #[cfg(test)]
 mod words;

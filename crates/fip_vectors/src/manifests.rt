@@ -17,8 +17,8 @@ fn is_made(alloc: Global, line: &str, manifest: &[u8], text: &str) -> Result<boo
     Ok(is_written && status == 0 && said.as_slice() == text.as_bytes())
 }
 
-// The rows between a head and a digest.
-fn wanted(alloc: Global, head: &str, digest: &str) -> Result<Vec<u8>, Fail> {
+/// The rows between a head and a digest.
+pub fn wanted(alloc: Global, head: &str, digest: &str) -> Result<Vec<u8>, Fail> {
     let mut bytes = hex::decode(alloc, head)?;
     bytes.extend_from_slice(hex::decode(alloc, ROWS)?.as_slice())?;
     bytes.extend_from_slice(hex::decode(alloc, digest)?.as_slice())?;

@@ -189,16 +189,16 @@ fn packed_file<H: Files>(alloc: Global, files: &mut H, name: &str) -> Result<Vec
         Ok(Some(size)) => size,
         Ok(None) | Err(_) => return Ok(Vec::new(alloc)),
     };
-    let parts = [Outline {
+    let outlines = [Outline {
         guid: first_guid(),
         flags: 0,
         size,
     }];
-    let mut frame = match Frame::new(alloc, 0x1234_5678, 0, &parts, 1) {
+    let mut frame = match Frame::new(alloc, 0x1234_5678, 0, &outlines, 1) {
         Ok(frame) => frame,
         Err(stop) => return Err(stop),
     };
-    match frame.read(0, files, name, 0) {
+    match frame.read(files, name, 0) {
         Ok(()) => Ok(frame.into_bytes()),
         Err(_) => Ok(Vec::new(alloc)),
     }

@@ -1,6 +1,10 @@
+use Rattle.std.proofs.Common.{◌≡◌}
 use Rattle.fip_tables.specs.Frame.{IsFrame}
-use Rattle.fip_tables.proofs.Zeros.{partly}
 use Rattle.fip_tables.proofs.payloads.pack.Given as goal
 
-abbrev pub invariant-loop-i : goal.invariant-loop-i
-invariant-loop-i l = IsFrame l.frame l.parts.serial l.parts.flags (partly l.parts.parts.items l.i) l.align
+-- the package is that of the parts, of which the first are in
+abbrev pub invariant-loop-part : goal.invariant-loop-part
+invariant-loop-part l = record {
+  frame : IsFrame l.frame l.parts.serial l.parts.flags l.parts.parts.items l.align;
+  count : l.frame.count ≡ l.part-index;
+}

@@ -7,6 +7,9 @@ pub returns-in-Ok-info_text-clause-told : goal.returns-in-Ok-info_text-clause-to
 returns-in-Ok-info_text-clause-told g c = λ told e.
     info-made told c.args.name.now (c.in-Ok.toc, c.in-Ok.size) c.in-Ok-info_text.text.items (c.in-Ok.ensures.told told e) c.in-Ok-info_text.ensures
 
+pub returns-in-Ok-info_text-clause-listed : goal.returns-in-Ok-info_text-clause-listed
+returns-in-Ok-info_text-clause-listed g c = (c.in-Ok.toc, c.in-Ok.size, c.in-Ok-info_text.ensures)
+
 pub returns-in-Err-clause-told : goal.returns-in-Err-clause-told
 returns-in-Err-clause-told g c = λ told e.
     gives-err (λ t. t) (λ (text : Vec ℕ Global). text.items) _ _ _ _ c.in-Err.stop (λ r. r) (info-err told c.args.name.now _) (c.in-Err.ensures.told told e)

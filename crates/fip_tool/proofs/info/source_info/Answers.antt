@@ -8,6 +8,9 @@ returns-in-Ok-info_text-clause-given g c =
     let given = c.in-Ok.ensures.given in
     (given.0, text-made _ _ (Unit {0}) given.0 (c.in-Ok.toc, c.in-Ok.size) c.in-Ok-info_text.text.items given.1 c.in-Ok-info_text.ensures)
 
+pub returns-in-Ok-info_text-clause-listed : goal.returns-in-Ok-info_text-clause-listed
+returns-in-Ok-info_text-clause-listed g c = (c.in-Ok.toc, c.in-Ok.size, c.in-Ok-info_text.ensures)
+
 pub returns-in-Err-clause-given : goal.returns-in-Err-clause-given
 returns-in-Err-clause-given g c =
     let given = c.in-Err.ensures.given in

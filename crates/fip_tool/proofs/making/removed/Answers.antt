@@ -3,7 +3,7 @@ use Rattle.std.specs.Global.{Global}
 use Rattle.fwu_formats.specs.Package.{Toc}
 use Rattle.fip_tool.proofs.PartLemmas.{gives-same}
 use Rattle.fip_tool.proofs.Repacking.{opened, remove-err, remove-of, stored-of, there-of}
-use Rattle.fip_tool.proofs.Tables.{gives-err, rose-from, tells}
+use Rattle.fip_tool.proofs.Tables.{gives-err, if-ok-as, rose-from}
 use Rattle.fip_tool.proofs.making.removed.Goals as goal
 
 pub without-requires-clause-stored : goal.without-requires-clause-stored
@@ -17,7 +17,10 @@ returns-in-Ok-clause-told g c = λ told e.
     let o = opened told c.args.from.now c.args.guids.now c.in-Ok.toc (c.in-Ok.ensures.told told e) in
     gives-same (λ (m : ℕ × Vec ℕ Global). (m.0, m.1.items)) _ _ _ _ c.without.result (λ r. rose-from _ _ _ c.table_with.ensures.reads.later r)
     (remove-of told c.args.align c.args.from.now c.args.guids.now c.in-Ok.toc o)
-    (c.without.ensures.told o.bytes (tells _ told c.args.from.now o.bytes (c.table_with.ensures.reads.same ∙ e) o.is))
+    (c.without.ensures.told told o.bytes (c.table_with.ensures.reads.same ∙ e) o.is)
+
+pub returns-in-Ok-clause-count : goal.returns-in-Ok-clause-count
+returns-in-Ok-clause-count g c = if-ok-as c.without.result _ _ (λ m e. (c.in-Ok.toc, c.in-Ok.ensures.all, e)) c.without.ensures.count
 
 pub returns-in-Err-clause-told : goal.returns-in-Err-clause-told
 returns-in-Err-clause-told g c = λ told e.

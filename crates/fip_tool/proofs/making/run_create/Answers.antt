@@ -1,16 +1,28 @@
-use Rattle.std.proofs.Common.{◌∙◌, Vec, ℕ, map, refl}
-use Rattle.std.specs.Global.{Global}
+use Rattle.std.proofs.Common.{◌≡◌, ◌∙◌, ◌∷◌, [], ℕ, None, ap, length, map, sym}
+use Rattle.std.specs.Prelude.{filter, not}
+use Rattle.std.proofs.lemmas.List.{length-map}
+use Rattle.fwu_formats.specs.Package.{Toc}
 use Rattle.fip_words.specs.Order.{part_view}
-use Rattle.fip_tool.specs.Tool.{create_value, packs}
-use Rattle.fip_tool.proofs.Did.{refused}
-use Rattle.fip_tool.proofs.PartLemmas.{package-put}
+use Rattle.fip_tool.specs.Lines.{packed_line}
+use Rattle.fip_tool.specs.Said.{IsPackedLine}
+use Rattle.fip_tool.specs.Tool.{create_value, first_missing, is_named}
+use Rattle.fip_tool.proofs.Tables.{either-rose}
+use Rattle.fip_tool.proofs.Texts.{packed-texts, says-as}
 use Rattle.fip_tool.proofs.making.run_create.Goals as goal
 
-pub returns-in-Ok-clause-told : goal.returns-in-Ok-clause-told
-returns-in-Ok-clause-told g c = λ told e.
-    package-put told c.args.out.now (create_value told c.args.align (map part_view c.args.named.now)) c.in-Ok.entries c.in-Ok.bytes.items c.as_slice.result.now _ _ _ _ _ _ _ c.put_package.result
-    (c.in-Ok.ensures.told told e) c.as_slice.ensures.value c.create.ensures.reads.later (c.put_package.ensures.told told (c.create.ensures.reads.same ∙ e))
+pub returns-clause-told : goal.returns-clause-told
+returns-clause-told g c = λ told e.
+    c.put_made.ensures.told told (create_value told c.args.align (map part_view c.args.named.now)) _ (c.created-made.ensures.reads.same ∙ e) c.created-made.ensures.reads.later (c.created-made.ensures.told told e)
 
-pub returns-in-Err-clause-told : goal.returns-in-Err-clause-told
-returns-in-Err-clause-told g c = λ told e.
-    refused (packs c.args.out.now) (λ (m : ℕ × Vec ℕ Global). (m.0, m.1.items)) (create_value told c.args.align (map part_view c.args.named.now)) told _ _ _ _ _ c.in-Err.stop (c.in-Err.ensures.told told e) (c.create.ensures.reads.same ∙ e) refl
+pub returns-clause-says : goal.returns-clause-says
+returns-clause-says g c =
+    says-as (IsPackedLine c.created-made.result) _ _ _ _ _ c.put_made.result
+    (λ texts t. let p = packed-texts c.created-made.result (λ n. n ≡ length c.args.named.now) c.created-made.ensures.count texts t in (p.2, p.3 ∙ ap (λ (n : ℕ). packed_line n p.2 ∷ []) (p.1 ∙ sym (length-map c.args.named.now part_view))))
+    (λ r. r) (c.put_made.ensures.says c.created-made.ensures.reads.sink)
+
+pub returns-clause-cause : goal.returns-clause-cause
+returns-clause-cause g c = λ failed none.
+    either-rose _ _ _ c.created-made.ensures.reads.later c.put_made.ensures.later (λ e. c.created-made.ensures.reads.cause e none) (c.put_made.ensures.cause failed)
+
+pub returns-clause-later : goal.returns-clause-later
+returns-clause-later g c = c.put_made.ensures.later_sink

@@ -1,16 +1,28 @@
-use Rattle.std.proofs.Common.{◌∙◌, Vec, ℕ, map, refl}
-use Rattle.std.specs.Global.{Global}
+use Rattle.std.proofs.Common.{◌≡◌, ◌∙◌, ◌∷◌, [], ℕ, None, ap, length, map, sym}
+use Rattle.std.specs.Prelude.{filter, not}
+use Rattle.std.proofs.lemmas.List.{length-map}
+use Rattle.fwu_formats.specs.Package.{Toc}
 use Rattle.fip_words.specs.Order.{part_view}
-use Rattle.fip_tool.specs.Tool.{update_value, packs}
-use Rattle.fip_tool.proofs.Did.{refused}
-use Rattle.fip_tool.proofs.PartLemmas.{package-put}
+use Rattle.fip_tool.specs.Lines.{packed_line}
+use Rattle.fip_tool.specs.Said.{IsPackedLine}
+use Rattle.fip_tool.specs.Tool.{update_value, first_missing, is_named}
+use Rattle.fip_tool.proofs.Tables.{either-rose}
+use Rattle.fip_tool.proofs.Texts.{packed-texts, says-as}
 use Rattle.fip_tool.proofs.making.run_update.Goals as goal
 
-pub returns-in-Ok-clause-told : goal.returns-in-Ok-clause-told
-returns-in-Ok-clause-told g c = λ told e.
-    package-put told c.args.out.now (update_value told c.args.align c.args.from.now (map part_view c.args.named.now)) c.in-Ok.entries c.in-Ok.bytes.items c.as_slice.result.now _ _ _ _ _ _ _ c.put_package.result
-    (c.in-Ok.ensures.told told e) c.as_slice.ensures.value c.updated.ensures.reads.later (c.put_package.ensures.told told (c.updated.ensures.reads.same ∙ e))
+pub returns-clause-told : goal.returns-clause-told
+returns-clause-told g c = λ told e.
+    c.put_made.ensures.told told (update_value told c.args.align c.args.from.now (map part_view c.args.named.now)) _ (c.updated-made.ensures.reads.same ∙ e) c.updated-made.ensures.reads.later (c.updated-made.ensures.told told e)
 
-pub returns-in-Err-clause-told : goal.returns-in-Err-clause-told
-returns-in-Err-clause-told g c = λ told e.
-    refused (packs c.args.out.now) (λ (m : ℕ × Vec ℕ Global). (m.0, m.1.items)) (update_value told c.args.align c.args.from.now (map part_view c.args.named.now)) told _ _ _ _ _ c.in-Err.stop (c.in-Err.ensures.told told e) (c.updated.ensures.reads.same ∙ e) refl
+pub returns-clause-says : goal.returns-clause-says
+returns-clause-says g c =
+    says-as (IsPackedLine c.updated-made.result) _ _ _ _ _ c.put_made.result
+    (λ texts t. let p = packed-texts c.updated-made.result (λ n. (t : Toc) × (first_missing t (map (λ p. p.guid) (map part_view c.args.named.now)) ≡ None) × (n ≡ length t.entries)) c.updated-made.ensures.count texts t in (p.1.0, p.2, p.1.1, p.3 ∙ ap (λ (n : ℕ). packed_line n p.2 ∷ []) p.1.2))
+    (λ r. r) (c.put_made.ensures.says c.updated-made.ensures.reads.sink)
+
+pub returns-clause-cause : goal.returns-clause-cause
+returns-clause-cause g c = λ failed none.
+    either-rose _ _ _ c.updated-made.ensures.reads.later c.put_made.ensures.later (λ e. c.updated-made.ensures.reads.cause e none) (c.put_made.ensures.cause failed)
+
+pub returns-clause-later : goal.returns-clause-later
+returns-clause-later g c = c.put_made.ensures.later_sink

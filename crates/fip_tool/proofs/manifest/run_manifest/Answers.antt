@@ -1,4 +1,9 @@
-use Rattle.std.proofs.Common.{◌≡◌, ◌∙◌, ℕ, Vec, ap, length, map, refl, rules}
+use Rattle.std.proofs.Common.{◌≡◌, ◌∙◌, ◌∷◌, [], ℕ, List, Vec, ap, inl, length, map, refl, rules, sym}
+use Rattle.std.proofs.KnownBytes.{Appends-nil}
+use Rattle.std.proofs.lemmas.List.{length-map}
+use Rattle.fip_words.specs.Order as asks
+use Rattle.fip_tool.specs.Said.{IsTexts}
+use Rattle.fip_tool.proofs.Texts.{err-same, says-as, says-nothing}
 use Rattle.std.specs.Global.{Global}
 use Rattle.fip_words.specs.Order.{image_view}
 use Rattle.fip_tool.specs.Lines.{manifest_line}
@@ -47,3 +52,17 @@ returns-in_default-clause-cause g c = search rules
 
 pub returns-in_default-clause-later : goal.returns-in_default-clause-later
 returns-in_default-clause-later g c = search rules
+
+pub returns-clause-says : goal.returns-clause-says
+returns-clause-says g c =
+    let long : c.len.result ≡ length c.in-Ok.made.1.items = search rules in
+    let named = c.in-Ok.ensures.count ∙ sym (length-map c.args.named.now image_view) in
+    let lined = c.as_slice-2.ensures.value ∙ c.in-Ok-manifest_line.ensures ∙ ap (λ (n : ℕ). manifest_line n c.len.result c.args.security) named in
+    says-as (λ texts. texts ≡ c.as_slice-2.result.now ∷ []) (IsTexts (asks.manifest c.args.out.now c.args.security (map image_view c.args.named.now))) _ _ _ _ c.write_and_print.result
+    (λ texts t. (c.len.result, t ∙ ap (λ (l : List ℕ). l ∷ []) lined)) (λ r. r) c.write_and_print.ensures.says
+
+pub returns-in-Err-clause-says : goal.returns-in-Err-clause-says
+returns-in-Err-clause-says g c = says-nothing (IsTexts (asks.manifest c.args.out.now c.args.security (map image_view c.args.named.now))) _ _ _ c.in-Err.stop (λ e. c.in-Err.ensures.reads.sink (err-same e)) refl
+
+pub returns-in_default-clause-says : goal.returns-in_default-clause-says
+returns-in_default-clause-says g c = ([], inl refl, Appends-nil _)

@@ -7,3 +7,9 @@ run_unpack-requires g c = record { other = c.requires.other c.in-Unpack.from.now
 
 pub returns-in-Unpack-clause-told : goal.returns-in-Unpack-clause-told
 returns-in-Unpack-clause-told g c = λ told is other. rw (ap view c.in-Unpack.is, ← c.as_slice-in-Unpack.ensures.value) (c.run_unpack.ensures.told told is)
+
+pub returns-in-Unpack-clause-says : goal.returns-in-Unpack-clause-says
+returns-in-Unpack-clause-says g c = rw (ap view c.in-Unpack.is, ← c.as_slice-in-Unpack.ensures.value) c.run_unpack.ensures.says
+
+pub returns-in-Remove-clause-says : goal.returns-in-Remove-clause-says
+returns-in-Remove-clause-says g c = rw (ap view c.in-Remove.is, ← c.as_slice-in-Remove.ensures.value) c.run_remove.ensures.says

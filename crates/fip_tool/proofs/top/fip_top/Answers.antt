@@ -1,9 +1,12 @@
-use Rattle.std.proofs.Common.{◌∙◌, [], Ok, Err, Some, refl, sym, ap}
+use Rattle.std.proofs.Common.{◌∙◌, [], Ok, Err, Some, map, refl, string_bytes, sym, ap}
 use Rattle.base_core.specs.Counts.{Rose}
 use Rattle.fip_tool.proofs.Ending.{ends, reported-later}
 use Rattle.fip_tool.proofs.SourceEnds.{reported-read, reported-two}
 use Rattle.fip_tool.proofs.Tables.{rose-from, rose-until}
 use Rattle.fip_tool.proofs.UsageEnds.{no-usage, reported-one, usage-status}
+use Rattle.fip_words.specs.Order.{asked}
+use Rattle.fip_tool.specs.Said.{IsTextsOf}
+use Rattle.fip_tool.proofs.Texts.{says-ends, sink-rose}
 use Rattle.fip_tool.specs.Tool.{no_files}
 use Rattle.fip_tool.specs.declared.stops.Stop.{Stop}
 use Rattle.fip_tool.proofs.top.fip_top.Goals as goal
@@ -49,3 +52,20 @@ returns-in-Ok-clause-words g c = λ none. absurd (no-usage (c.in-Ok.ensures.word
 
 pub returns-in-Err-clause-words : goal.returns-in-Err-clause-words
 returns-in-Err-clause-words g c = λ none. usage-status _ _ _ c.in-Err.stop c.report.result _ (c.in-Err.ensures.words none) c.report.ensures.reported c.status.ensures
+
+pub returns-in-Ok-clause-said : goal.returns-in-Ok-clause-said
+returns-in-Ok-clause-said g c = (Ok tt, refl, c.in-Ok.ensures.says)
+
+pub returns-in-Err-clause-said : goal.returns-in-Err-clause-said
+returns-in-Err-clause-said g c = (
+  Err c.report.result,
+  c.status.ensures,
+  says-ends (IsTextsOf (asked (map string_bytes c.args.words.now))) _ _ _ _ (Rose (g.O.Sink.faults c.args.sink.now) (g.O.Sink.faults c.report.new.sink)) (λ r. rose-until _ _ _ r c.report.ensures.later) c.in-Err.stop c.report.result
+      c.in-Err.ensures.says (reported-later _ _ _ _ _ _ (λ r. rose-from _ _ _ c.run.ensures.later r) c.report.ensures.reported),
+)
+
+pub returns-in-Err-clause-sink : goal.returns-in-Err-clause-sink
+returns-in-Err-clause-sink g c = λ three.
+    sink-rose (IsTextsOf (asked (map string_bytes c.args.words.now))) _ _ (Rose (g.O.Sink.faults c.args.sink.now) (g.O.Sink.faults c.report.new.sink)) c.report.result (sym c.status.ensures ∙ three)
+    (says-ends (IsTextsOf (asked (map string_bytes c.args.words.now))) _ _ _ _ (Rose (g.O.Sink.faults c.args.sink.now) (g.O.Sink.faults c.report.new.sink)) (λ r. rose-until _ _ _ r c.report.ensures.later) c.in-Err.stop c.report.result
+    c.in-Err.ensures.says (reported-later _ _ _ _ _ _ (λ r. rose-from _ _ _ c.run.ensures.later r) c.report.ensures.reported))

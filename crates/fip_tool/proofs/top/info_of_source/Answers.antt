@@ -1,7 +1,10 @@
-use Rattle.std.proofs.Common.{List, Vec, ℕ, refl, subst}
+use Rattle.std.proofs.Common.{List, Vec, ℕ, refl, subst, sym}
 use Rattle.std.specs.Global.{Global}
 use Rattle.base_core.specs.Counts.{Rose}
 use Rattle.fip_tool.proofs.SourceEnds.{source-printed, source-refused}
+use Rattle.fip_words.specs.Order as asks
+use Rattle.fip_tool.specs.Said.{IsListing, IsTexts}
+use Rattle.fip_tool.proofs.Texts.{err-same, says-nothing, says-printed}
 use Rattle.fip_tool.specs.Steps.{Printed}
 use Rattle.fip_tool.proofs.top.info_of_source.Goals as goal
 
@@ -18,3 +21,11 @@ returns-in-Err-clause-listed g c = λ told.
     let given = c.in-Err.ensures.given in
     let both = source-refused (λ (text : Vec ℕ Global). text.items) _ _ (g.O.Sink.taken c.args.sink.now) _ (Rose (g.O.Sink.faults c.args.sink.now) (g.O.Sink.faults c.args.sink.now)) given.0 c.in-Err.stop given.1 in
     (given.0, refl, both.0, both.1)
+
+pub returns-in-Ok-clause-says : goal.returns-in-Ok-clause-says
+returns-in-Ok-clause-says g c =
+    says-printed (IsTexts asks.info_of_source) c.as_slice.result.now _ _ _ c.print.result
+    (c.as_slice.result.now, subst IsListing (sym c.as_slice.ensures.value) c.in-Ok.ensures.listed, refl) c.print.ensures.printed
+
+pub returns-in-Err-clause-says : goal.returns-in-Err-clause-says
+returns-in-Err-clause-says g c = says-nothing (IsTexts asks.info_of_source) _ _ _ c.in-Err.stop (λ e. c.in-Err.ensures.sink (err-same e)) refl

@@ -1,8 +1,13 @@
-use Rattle.std.proofs.Common.{◌∙◌, ◌≤◌, ◌+◌, ℕ, All, List, ap, length, subst, sym, refl}
+use Rattle.std.proofs.Common.{◌≡◌, ◌∙◌, ◌≤◌, ◌+◌, ℕ, All, List, ap, filter, length, map, subst, sym, refl}
 use Rattle.base_core.specs.Counts.{Rose}
 use Rattle.fwu_formats.specs.Package.{Entry, Toc}
+use Rattle.std.specs.Prelude.{◌==◌, ◌||◌}
+use Rattle.fip_words.specs.Order.{unpack}
+use Rattle.fip_tool.specs.Lines.{unpacked_line}
+use Rattle.fip_tool.specs.Said.{IsTexts}
 use Rattle.fip_tool.specs.Steps.{Did, Makes}
-use Rattle.fip_tool.specs.Tool.{chosen, unpack_steps, unpack_value}
+use Rattle.fip_tool.proofs.Texts.{err-same, says-as, says-nothing}
+use Rattle.fip_tool.specs.Tool.{chosen, is_named, unpack_steps, unpack_value}
 use Rattle.fip_tool.proofs.Did.{made-steps, refused}
 use Rattle.fip_tool.proofs.Repacking.{opened, stored-of, there-of, unpack-err, unpack-of}
 use Rattle.fip_tool.proofs.Tables.{gives-err, rose-from}
@@ -32,3 +37,14 @@ returns-in-Ok-clause-told g c = λ told is.
     (subst (λ (l : List Entry). Did (Makes (unpack_steps c.args.prefix.now o.bytes l)) told (g.H.Files.contents c.unpack_entries.new.files) (g.O.Sink.taken c.args.sink.now) (g.O.Sink.taken c.unpack_entries.new.sink)
     (Rose (g.H.Files.faults c.table_with.new.files) (g.H.Files.faults c.unpack_entries.new.files)) (Rose (g.O.Sink.faults c.args.sink.now) (g.O.Sink.faults c.unpack_entries.new.sink)) c.unpack_entries.result)
     (chosen-filter c.args.names.now c.as_slice-entries.result.now ∙ ap (chosen c.args.names.now) same) did)
+
+pub returns-in-Ok-clause-says : goal.returns-in-Ok-clause-says
+returns-in-Ok-clause-says g c =
+    let same = c.as_slice-entries.ensures ∙ ap (λ (t : Toc). t.entries) c.toc.view_is in
+    says-as (λ texts. texts ≡ map (unpacked_line c.args.prefix.now) (filter (λ e. (length c.args.names.now == 0) || is_named c.args.names.now e) c.as_slice-entries.result.now))
+    (IsTexts (unpack c.args.from.now c.args.prefix.now c.args.names.now)) _ _ _ _ c.unpack_entries.result
+    (λ texts t. (c.in-Ok.toc, c.in-Ok.ensures.all, t ∙ ap (map (unpacked_line c.args.prefix.now)) (chosen-filter c.args.names.now c.as_slice-entries.result.now ∙ ap (chosen c.args.names.now) same)))
+    (λ r. r) c.unpack_entries.ensures.says
+
+pub returns-in-Err-clause-says : goal.returns-in-Err-clause-says
+returns-in-Err-clause-says g c = says-nothing (IsTexts (unpack c.args.from.now c.args.prefix.now c.args.names.now)) _ _ _ c.in-Err.stop (λ e. c.in-Err.ensures.reads.sink (err-same e)) refl

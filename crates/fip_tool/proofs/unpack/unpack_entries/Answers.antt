@@ -1,10 +1,16 @@
-use Rattle.std.proofs.Common.{◌∙◌, ◌+◌, ◌≤◌, ◌<◌, ◌^◌, length, arith, sym, subst}
+use Rattle.std.proofs.Common.{◌∙◌, ◌+◌, ◌≤◌, ◌<◌, ◌^◌, ◌∷◌, [], List, ap, drop, filter, length, map, refl, take, arith, sym, subst}
+use Rattle.std.specs.Io.KnownBytes.{Appends}
+use Rattle.std.proofs.KnownBytes.{Appends-nil}
+use Rattle.std.proofs.lemmas.List.{map-append, take_all}
 use Rattle.std.specs.Prelude.{◌==◌, ◌||◌}
 use Rattle.std.proofs.lemmas.List.Elements.{All-get_or}
 use Rattle.fwu_formats.specs.Package.{Entry}
+use Rattle.fip_tool.specs.Lines.{unpacked_line}
+use Rattle.fip_tool.specs.Said.{joined}
 use Rattle.fip_tool.specs.Tool.{is_named}
+use Rattle.fip_tool.proofs.Texts.{said-more, says-behind}
 use Rattle.fip_tool.proofs.Tables.{rose-from}
-use Rattle.fip_tool.proofs.UnpackLemmas.{all-done, begins, step-done, step-passed, step-stops, tells-still, there-still}
+use Rattle.fip_tool.proofs.UnpackLemmas.{all-done, begins, next-chosen, next-passed, split-chosen, step-done, step-passed, step-stops, tells-still, there-still}
 use Rattle.fip_tool.proofs.unpack.unpack_entries.Goals as goal
 use Rattle.fip_tool.proofs.unpack.unpack_entries.Goals.{then-is_chosen+in-Ok, else-is_chosen}
 
@@ -13,13 +19,9 @@ loop-entry-init g c = record {
   silent = λ e. e;
   later = omega arith;
   later_sink = omega arith;
+  said = Appends-nil _;
   so-far = λ told bytes is stored. begins c.args.prefix.now c.args.from.now bytes told _ _ is stored;
 }
-
-pub unpack_entry-requires-clause-ends : goal.unpack_entry-requires-clause-ends
-unpack_entry-requires-clause-ends g c =
-    subst (λ (x : Entry). x.offset + x.size < 2 ^ 64) (sym c.entry-item.is)
-    (All-get_or (λ x. x.offset + x.size < 2 ^ 64) c.args.entries.now c.loop-entry.entry-index c.entry-item.result c.loop-entry-test.true c.requires.ends)
 
 pub unpack_entry-requires-clause-stored : goal.unpack_entry-requires-clause-stored
 unpack_entry-requires-clause-stored g c = λ bytes tells.
@@ -45,6 +47,14 @@ loop-entry-preserved g c =
             silent = λ e. w.in-Ok.ensures.silent (c.loop-entry.invariant.silent e);
             later = omega (arith, c.loop-entry.invariant.later, w.unpack_entry.ensures.later);
             later_sink = omega (arith, c.loop-entry.invariant.later_sink, w.unpack_entry.ensures.later_sink);
+            said =
+                let p = λ (e : Entry). (length c.args.names.now == 0) || is_named c.args.names.now e in
+                let e = c.entry-item.result in
+                let es = c.args.entries.now in
+                let more = next-chosen p es c.loop-entry.entry-index e c.loop-entry-test.true (sym c.entry-item.is) (sym c.is_chosen.ensures ∙ w.if-is_chosen.true) in
+                said-more (map (unpacked_line c.args.prefix.now) (filter p (take c.loop-entry.entry-index es))) _ (unpacked_line c.args.prefix.now e) _ _ _ (Unit {0}) tt
+                (ap (map (unpacked_line c.args.prefix.now)) more ∙ map-append (unpacked_line c.args.prefix.now) (filter p (take c.loop-entry.entry-index es)) (e ∷ []))
+                c.loop-entry.invariant.said w.in-Ok.ensures.says;
             so-far = λ told bytes is stored.
                 let s = c.loop-entry.invariant.so-far told bytes is stored in
                 step-done c.args.prefix.now c.args.from.now bytes (λ e. (length c.args.names.now == 0) || is_named c.args.names.now e) c.args.entries.now c.loop-entry.entry-index told _
@@ -56,12 +66,38 @@ loop-entry-preserved g c =
             silent = c.loop-entry.invariant.silent;
             later = c.loop-entry.invariant.later;
             later_sink = c.loop-entry.invariant.later_sink;
+            said =
+                let p = λ (e : Entry). (length c.args.names.now == 0) || is_named c.args.names.now e in
+                let same = next-passed p c.args.entries.now c.loop-entry.entry-index c.entry-item.result c.loop-entry-test.true (sym c.entry-item.is) (sym c.is_chosen.ensures ∙ w.if-is_chosen.false) in
+                subst (λ (l : List Entry). Appends (g.O.Sink.taken c.args.sink.now) (g.O.Sink.taken c.loop-entry.sink) (joined (map (unpacked_line c.args.prefix.now) l))) (sym same) c.loop-entry.invariant.said;
             so-far = λ told bytes is stored.
                 step-passed c.args.prefix.now c.args.from.now bytes (λ e. (length c.args.names.now == 0) || is_named c.args.names.now e) c.args.entries.now c.loop-entry.entry-index told _
                 c.entry-item.result c.loop-entry-test.true (sym c.entry-item.is) _ _
                 (c.loop-entry.invariant.so-far told bytes is stored) (sym c.is_chosen.ensures ∙ w.if-is_chosen.false);
           })
     ]
+
+pub returns-in-Err-clause-says : goal.returns-in-Err-clause-says
+returns-in-Err-clause-says g c =
+    let p = λ (e : Entry). (length c.args.names.now == 0) || is_named c.args.names.now e in
+    let e = c.entry-item.result in
+    let es = c.args.entries.now in
+    let i = c.loop-entry.entry-index in
+    let line = unpacked_line c.args.prefix.now in
+    let split = split-chosen p es i e c.loop-entry-test.true (sym c.entry-item.is) (sym c.is_chosen.ensures ∙ c.if-is_chosen.true) in
+    says-behind (map line (filter p (take i es))) (line e) (map line (filter p (drop (i + 1) es))) (map line (filter p es))
+    (ap (map line) split ∙ map-append line (filter p (take i es)) (e ∷ filter p (drop (i + 1) es)))
+    _ _ _ _ _ (λ r. rose-from _ _ _ c.loop-entry.invariant.later_sink r) c.loop-entry.invariant.said c.in-Err.stop c.in-Err.ensures.late c.in-Err.ensures.says
+
+pub returns-clause-says : goal.returns-clause-says
+returns-clause-says g c =
+    let p = λ (e : Entry). (length c.args.names.now == 0) || is_named c.args.names.now e in
+    let far : length c.args.entries.now ≤ c.loop-entry.entry-index = omega (arith, c.loop-entry-test.false) in (
+      map (unpacked_line c.args.prefix.now) (filter p c.args.entries.now),
+      refl,
+      subst (λ (l : List Entry). Appends (g.O.Sink.taken c.args.sink.now) (g.O.Sink.taken c.loop-entry.sink) (joined (map (unpacked_line c.args.prefix.now) (filter p l))))
+          (take_all c.loop-entry.entry-index c.args.entries.now far) c.loop-entry.invariant.said,
+    )
 
 pub returns-clause-told : goal.returns-clause-told
 returns-clause-told g c = λ told bytes is stored.

@@ -1,6 +1,9 @@
-use Rattle.std.proofs.Common.{◌≡◌, ◌≤◌, ℕ, List, None, Some, filter, length, take}
+use Rattle.std.proofs.Common.{◌≡◌, ◌≤◌, ℕ, List, None, Some, filter, length, map, take}
 use Rattle.std.specs.Prelude.{◌==◌, ◌||◌}
+use Rattle.std.specs.Io.KnownBytes.{Appends}
 use Rattle.host_io.specs.Contents.{Directory}
+use Rattle.fip_tool.specs.Lines.{unpacked_line}
+use Rattle.fip_tool.specs.Said.{joined}
 use Rattle.fip_tool.specs.Tool.{is_named}
 use Rattle.fip_tool.proofs.UnpackLemmas.{IsUnpacking}
 use Rattle.fip_tool.proofs.unpack.unpack_entries.Given as goal
@@ -11,6 +14,7 @@ invariant-loop-entry g l = record {
   silent : g.H.Files.contents l.fn.files ≡ None → g.H.Files.contents l.files ≡ None;
   later : g.H.Files.faults l.fn.files ≤ g.H.Files.faults l.files;
   later_sink : g.O.Sink.faults l.fn.sink ≤ g.O.Sink.faults l.sink;
+  said : Appends (g.O.Sink.taken l.fn.sink) (g.O.Sink.taken l.sink) (joined (map (unpacked_line l.prefix) (filter (λ e. (length l.names == 0) || is_named l.names e) (take l.entry-index l.entries))));
   so-far : (told : Directory) (bytes : List ℕ) → g.H.Files.contents l.fn.files ≡ Some told → told l.from ≡ Some bytes
       → IsUnpacking l.prefix l.from bytes (filter (λ e. (length l.names == 0) || is_named l.names e) (take l.entry-index l.entries)) told (g.H.Files.contents l.files) (g.O.Sink.taken l.fn.sink) (g.O.Sink.taken l.sink);
 }

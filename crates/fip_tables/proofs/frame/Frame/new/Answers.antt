@@ -1,63 +1,58 @@
-use Rattle.std.proofs.Common.{◌≡◌, ◌∙◌, ◌≤◌, ◌<◌, ◌+◌, ap, sym, subst, arith, ℕ, List, length, get_or, Some, Result, Err}
+use Rattle.std.proofs.Common.{◌≡◌, ◌∙◌, ◌≤◌, ◌<◌, ◌+◌, ◌-◌, ◌++◌, take, replicate, ap, sym, subst, arith, ℕ, List, length, get_or, Some, Result, Err, refl}
 use Rattle.fwu_formats.specs.Package.{Entry, packed_entries}
-use Rattle.fip_tables.specs.Frame.{framed, last_end, table_end}
+use Rattle.fip_tables.specs.Frame.{AreInside, last_end, place, table_end, tabled, up_to}
 use Rattle.fip_tables.specs.declared.faults.PackFault.{PackFault}
 use Rattle.fip_tables.specs.declared.faults.PackStop.{PackStop}
 use Rattle.fip_tables.specs.declared.faults.PackStop.TheVariants as stop
 use Rattle.fip_tables.proofs.Firsts.{no-fault, size-fault}
-use Rattle.fip_tables.proofs.Plans.{end-le-last, framed-is-packed, outlines-sixteen, packed-length}
-use Rattle.fip_tables.proofs.Filled.{entries-count, packed-inside}
+use Rattle.fip_tables.proofs.Plans.{outlines-sixteen, packed-length}
+use Rattle.fip_tables.proofs.Filled.{frame-begins, length-up_to, packed-inside, place-within}
 use Rattle.fip_tables.proofs.frame.Frame.new.Goals as goal
 
-same-fault : {X : Type 0} (a b : PackFault) → ◌≡◌ {A = Result X PackStop} (Err (stop.Fault a)) (Err (stop.Fault b)) → a ≡ b
+same-fault : (a b : PackFault) → ◌≡◌ {A = PackStop} (stop.Fault b) (stop.Fault a) → a ≡ b
 same-fault a b e = cc
 
-pub returns-in-Err-places_of-clause-err : goal.returns-in-Err-places_of-clause-err
-returns-in-Err-places_of-clause-err c = λ f is.
-    let parts = c.args.parts.now in
+pub returns-in_err-places-clause-err : goal.returns-in_err-places-clause-err
+returns-in_err-places-clause-err c = λ f is.
+    let parts = c.args.outlines.now in
     let a = c.args.align in
-    let ok = c.in-Ok.ensures.ok in
-    let long = packed-length 0 0 parts a (outlines-sixteen parts c.in-Ok.ensures.outlines) in
-    size-fault parts a ok.few ok.distinct ok.some ok.alignment (omega (arith, long, c.in-Err-places_of.ensures.err.1))
-    ∙ ap Some (sym c.in-Err-places_of.ensures.err.0 ∙ same-fault c.in-Err-places_of.fault f is)
-
-pub zeroed-requires-clause-room : goal.zeroed-requires-clause-room
-zeroed-requires-clause-room c =
-    let parts = c.args.parts.now in
-    let a = c.args.align in
-    omega (arith, end-le-last a (table_end parts) parts, entries-count a (table_end parts) parts, c.in-Ok-places_of.ensures.size, ap length c.in-Ok-places_of.ensures.entries)
+    let ok = c.in_ok-check.ensures.ok in
+    let long = packed-length 0 0 parts a (outlines-sixteen parts c.in_ok-check.ensures.outlines) in
+    let why = rw is at c.from_residual-in_err-places.ensures.1 in
+    size-fault parts a ok.few ok.distinct ok.some ok.alignment (omega (arith, long, c.in_err-places.ensures.err.1))
+    ∙ ap Some (sym c.in_err-places.ensures.err.0 ∙ same-fault c.in_err-places.field-0.0 f why)
 
 pub returns-clause-ok : goal.returns-clause-ok
 returns-clause-ok c =
-    let parts = c.args.parts.now in
+    let os = c.args.outlines.now in
     let a = c.args.align in
-    let p = c.in-Ok-places_of.ensures in
-    record {
-      bytes = c.in-Ok-zeroed.ensures
-          ∙ ap (λ (es : List Entry). framed c.args.serial c.args.flags es c.in-Ok-places_of.places.size) p.entries
-          ∙ ap (framed c.args.serial c.args.flags (packed_entries a (table_end parts) parts)) p.size
-          ∙ framed-is-packed c.args.serial c.args.flags parts a c.in-Ok.ensures.outlines;
-      entries = p.entries;
-      sixteen = outlines-sixteen parts c.in-Ok.ensures.outlines;
-    }
+    let end = table_end os in
+    let p = c.in_ok-places.ensures in
+    let places = c.in_ok-places.places in
+    let bytes = c.in_ok-bytes.bytes.items in
+    let first = c.place-first.result in
+    frame-begins _ c.args.serial c.args.flags os a c.in_ok-check.ensures.outlines refl p.entries p.size
+    (c.in_ok-resize.ensures.items ∙ ap (λ n. take first bytes ++ replicate (first - n) 0) c.in_ok-bytes.bytes.ok.0
+    ∙ ap (λ n. up_to n bytes) c.place-first.ensures
+    ∙ ap (up_to (place places.entries places.size 0)) c.in_ok-bytes.ensures.bytes
+    ∙ ap (λ (es : List Entry). up_to (place es places.size 0) (tabled c.args.serial c.args.flags es places.size)) p.entries
+    ∙ ap (λ n. up_to (place (packed_entries a end os) n 0) (tabled c.args.serial c.args.flags (packed_entries a end os) n)) p.size)
 
 pub invariant_of-result : goal.invariant_of-result
 invariant_of-result c =
-    let parts = c.args.parts.now in
-    let a = c.args.align in
-    let p = c.in-Ok-places_of.ensures in
-    let bytes = c.in-Ok-zeroed.ensures
-    ∙ ap (λ (es : List Entry). framed c.args.serial c.args.flags es c.in-Ok-places_of.places.size) p.entries
-    ∙ ap (framed c.args.serial c.args.flags (packed_entries a (table_end parts) parts)) p.size
-    ∙ framed-is-packed c.args.serial c.args.flags parts a c.in-Ok.ensures.outlines in
-    let long : length c.in-Ok-zeroed.bytes.items ≡ last_end a (table_end parts) parts = ap length bytes ∙ packed-length c.args.serial c.args.flags parts a (outlines-sixteen parts c.in-Ok.ensures.outlines) in
-    subst (λ (es : List Entry). (i : ℕ) (d : Entry) → i < length es → (get_or es i d).offset + (get_or es i d).size ≤ length c.in-Ok-zeroed.bytes.items) (sym p.entries)
-    (λ i d lt. omega (arith, long, packed-inside a (table_end parts) parts i d lt))
+    let os = c.args.outlines.now in
+    let p = c.in_ok-places.ensures in
+    let places = c.in_ok-places.places in (
+      sym c.resize.new.self.ok.0 ∙ c.in_ok-resize.ensures.len ∙ c.place-first.ensures,
+      omega (arith, c.in_ok-bytes.ensures.room, c.in_ok-resize.ensures.capacity),
+      subst (λ (es : List Entry). AreInside es places.size) (sym p.entries)
+          (λ i d lt. omega (arith, p.size, packed-inside c.args.align (table_end os) os i d lt)),
+    )
 
 pub returns-clause-fits : goal.returns-clause-fits
 returns-clause-fits c =
-    let parts = c.args.parts.now in
+    let parts = c.args.outlines.now in
     let a = c.args.align in
-    let ok = c.in-Ok.ensures.ok in
-    let long = packed-length 0 0 parts a (outlines-sixteen parts c.in-Ok.ensures.outlines) in
-    no-fault parts a ok.few ok.distinct ok.some ok.alignment (omega (arith, long, c.in-Ok-places_of.ensures.size, c.in-Ok-places_of.ensures.small))
+    let ok = c.in_ok-check.ensures.ok in
+    let long = packed-length 0 0 parts a (outlines-sixteen parts c.in_ok-check.ensures.outlines) in
+    no-fault parts a ok.few ok.distinct ok.some ok.alignment (omega (arith, long, c.in_ok-places.ensures.size, c.in_ok-places.ensures.small))

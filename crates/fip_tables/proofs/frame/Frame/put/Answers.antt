@@ -1,24 +1,34 @@
-use Rattle.std.proofs.Common.{◌≡◌, ◌∙◌, ap, arith, List, length, get_or}
-use Rattle.std.proofs.lemmas.List.{get_or_default}
-use Rattle.base_core.specs.Bytes.{overwritten}
-use Rattle.fwu_formats.specs.Package.{Entry}
-use Rattle.fip_tables.specs.Frame.{Filling}
-use Rattle.fip_tables.proofs.Filled.{frame-filled}
+use Rattle.std.proofs.Common.{◌≡◌, ◌∙◌, ◌<◌, ◌++◌, ◌+◌, ap, arith, sym, subst, length}
+use Rattle.fip_tables.specs.Frame.{Filling, next_entry, place, up_to}
+use Rattle.fip_tables.proofs.Filled.{frame-fills, length-up_to, place-within, room-for}
 use Rattle.fip_tables.proofs.frame.Frame.put.Goals as goal
 
-pub returns-clause-filled : goal.returns-clause-filled
-returns-clause-filled c =
-    let d = c.index-entries-i.result in
-    let i = c.args.i in
-    let bytes = c.args.bytes.now in
-    let entries = ap (λ (f : Filling). f.entries) c.self.view_is in
-    let here = c.index-entries-i.is ∙ ap (λ (es : List Entry). get_or es i d) (c.as_slice-entries.ensures ∙ entries) in
-    let size : length bytes ≡ (get_or c.args.self.now.entries i d).size =
-    c.requires.whole ∙ ap (λ (e : Entry). e.size) (get_or_default c.args.self.now.entries i _ d c.requires.there) in
-    frame-filled c.args.self.now _ i bytes d c.requires.there size
-    (c.put_in.ensures.written ∙ ap (λ (e : Entry). overwritten e.offset bytes c.self.inside.bytes.items) (c.entry.view_is ∙ here)
-    ∙ ap (λ (f : Filling). overwritten (get_or c.args.self.now.entries i d).offset bytes f.bytes) c.self.view_is)
-    entries
+pub add_payload-requires-clause-room : goal.add_payload-requires-clause-room
+add_payload-requires-clause-room c =
+    let f = c.self.inside in
+    let view : Filling = record { bytes = f.bytes.items; entries = f.entries; size = f.size; count = f.count } in
+    let next = subst (λ (v : Filling). v.count < length v.entries) (sym c.self.view_is) c.requires.next in
+    room-for view _ _ _ next (f.bytes.ok.0 ∙ c.self.invariant.0) c.self.invariant.1 c.self.invariant.2
+    (c.requires.whole ∙ ap (λ (v : Filling). (next_entry v).size) (sym c.self.view_is))
+
+pub add_payload-requires-clause-more : goal.add_payload-requires-clause-more
+add_payload-requires-clause-more c =
+    let f = c.self.inside in
+    omega (arith, c.place_after-next.ensures.value, place-within f.entries f.size (f.count + 1) c.self.invariant.2, c.self.invariant.1)
+
+pub returns : goal.returns
+returns c =
+    let f = c.self.inside in
+    let payload = c.args.payload.now in
+    frame-fills c.args.self.now _ payload c.requires.next
+    (subst (λ (v : Filling). length v.bytes ≡ place v.entries v.size v.count) c.self.view_is c.self.invariant.0)
+    (c.add_payload.ensures.added ∙ ap (λ n. up_to n (f.bytes.items ++ payload)) c.place_after-next.ensures.value
+    ∙ ap (λ (v : Filling). up_to (place v.entries v.size (v.count + 1)) (v.bytes ++ payload)) c.self.view_is)
+    (ap (λ (v : Filling). v.entries) c.self.view_is) (ap (λ (v : Filling). v.size) c.self.view_is) (ap (λ (v : Filling). v.count + 1) c.self.view_is)
 
 pub invariant_of-self : goal.invariant_of-self
-invariant_of-self c = λ i d lt. omega (arith, c.self.invariant i d lt, c.put_in.ensures.size)
+invariant_of-self c = (
+  ap length c.add_payload.ensures.added ∙ length-up_to c.place_after-next.result (c.self.inside.bytes.items ++ c.args.payload.now) ∙ c.place_after-next.ensures.value,
+  omega (arith, c.self.invariant.1, c.add_payload.ensures.capacity),
+  c.self.invariant.2,
+)

@@ -1,0 +1,194 @@
+-- What was printed, text by text.
+use Rattle.std.proofs.Common.{◌≡◌, ◌≢◌, ◌⊎◌, inl, inr, ◌≤◌, ◌<◌, ◌+◌, ℕ, zero, suc, List, [], ◌∷◌, ◌++◌, Option, Some, None, Result, Ok, Err, length, map, take, drop, arith, refl, sym, ap, subst, ◌∙◌, append-nil, append_assoc, length-append}
+use Rattle.std.specs.Prelude.{IfOk, Vec}
+use Rattle.std.specs.Global.{Global}
+use Rattle.std.proofs.lemmas.List.{length-map, map-append}
+use Rattle.std.proofs.Math.Seq.{drop-append_seam, take-append_seam}
+use Rattle.std.specs.Io.KnownBytes.{Appends}
+use Rattle.std.proofs.KnownBytes.{Appends-nil, Appends-trans}
+use Rattle.fip_tool.specs.Ends.{Reported, Told, status_number, stop_line}
+use Rattle.fip_tool.specs.Lines.{packed_line}
+use Rattle.fip_tool.specs.Said.{IsBefore, IsBegun, IsCut, IsPackedLine, Says, SaysAll, half_of, joined}
+use Rattle.fip_tool.specs.Steps.{IsLate, Printed}
+use Rattle.fip_tool.specs.declared.stops.Stop.{Stop}
+use Rattle.fip_tool.specs.declared.stops.Stop.TheVariants as stop
+
+appends-same : (was text : Option (List ℕ)) → text ≡ was → Appends was text []
+appends-same was text e = subst (λ (t : Option (List ℕ)). Appends was t []) (sym e) (Appends-nil was)
+
+-- ---- one text
+
+joined-one : (line : List ℕ) → joined (line ∷ []) ≡ line
+joined-one line = append-nil line
+
+-- a text that was printed is all of its kind
+pub says-printed : (T : List (List ℕ) → Type 0) (line : List ℕ) (was text : Option (List ℕ)) (rose : Type 0) (r : Result (Unit {0}) Stop) → T (line ∷ []) → Printed was text rose line r → Says T was text rose r
+says-printed T line was text rose (Ok u) t p = (line ∷ [], t, subst (Appends was text) (sym (joined-one line)) p)
+says-printed T line was text rose (Err stop.SinkFault) t p = (p.0, (line ∷ [], t, 0, omega arith, p.1, p.2))
+says-printed T line was text rose (Err stop.NoMemory) t p = ([], inl refl, appends-same was text p)
+says-printed T line was text rose (Err stop.FileFault) t p = absurd p
+says-printed T line was text rose (Err stop.Usage) t p = absurd p
+says-printed T line was text rose (Err (stop.NotFip f)) t p = absurd p
+says-printed T line was text rose (Err (stop.NoSuchEntry guid)) t p = absurd p
+says-printed T line was text rose (Err (stop.NotPacked f)) t p = absurd p
+says-printed T line was text rose (Err (stop.NoManifest f)) t p = absurd p
+says-printed T line was text rose (Err stop.TooLong) t p = absurd p
+
+-- a part that stopped before anything was printed
+pub says-nothing : (T : List (List ℕ) → Type 0) (was text : Option (List ℕ)) (rose : Type 0) (s : Stop) → s ≢ stop.SinkFault → text ≡ was → Says T was text rose (Err s)
+says-nothing T was text rose stop.SinkFault other e = absurd (other refl)
+says-nothing T was text rose stop.NoMemory other e = ([], inl refl, appends-same was text e)
+says-nothing T was text rose stop.FileFault other e = ([], inl refl, appends-same was text e)
+says-nothing T was text rose stop.Usage other e = e
+says-nothing T was text rose (stop.NotFip f) other e = e
+says-nothing T was text rose (stop.NoSuchEntry guid) other e = e
+says-nothing T was text rose (stop.NotPacked f) other e = e
+says-nothing T was text rose (stop.NoManifest f) other e = e
+says-nothing T was text rose stop.TooLong other e = e
+
+pub err-same : {X : Type 0} {a b : Stop} → a ≡ b → ◌≡◌ {A = Result X Stop} (Err a) (Err b)
+err-same {X} e = ap (λ (s : Stop). Err s) e
+
+-- ---- texts of another kind
+
+begun-as : (T U : List (List ℕ) → Type 0) → ((texts : List (List ℕ)) → T texts → U texts) → (said : List ℕ) → IsBegun T said → IsBegun U said
+begun-as T U turns said (inl e) = inl e
+begun-as T U turns said (inr b) = inr (b.0, turns b.0 b.1, b.2, b.3, b.4)
+
+pub says-as : (T U : List (List ℕ) → Type 0) (was text : Option (List ℕ)) (rose late : Type 0) (r : Result (Unit {0}) Stop) → ((texts : List (List ℕ)) → T texts → U texts) → (rose → late) → Says T was text rose r → Says U was text late r
+says-as T U was text rose late (Ok u) turns rises h = (h.0, turns h.0 h.1, h.2)
+says-as T U was text rose late (Err stop.SinkFault) turns rises h = (rises h.0, (h.1.0, turns h.1.0 h.1.1, h.1.2, h.1.3, h.1.4, h.1.5))
+says-as T U was text rose late (Err stop.NoMemory) turns rises h = (h.0, begun-as T U turns h.0 h.1, h.2)
+says-as T U was text rose late (Err stop.FileFault) turns rises h = (h.0, begun-as T U turns h.0 h.1, h.2)
+says-as T U was text rose late (Err stop.Usage) turns rises h = h
+says-as T U was text rose late (Err (stop.NotFip f)) turns rises h = h
+says-as T U was text rose late (Err (stop.NoSuchEntry guid)) turns rises h = h
+says-as T U was text rose late (Err (stop.NotPacked f)) turns rises h = h
+says-as T U was text rose late (Err (stop.NoManifest f)) turns rises h = h
+says-as T U was text rose late (Err stop.TooLong) turns rises h = h
+
+-- the line of a package that was made
+pub packed-texts : (made : Result (ℕ × Vec ℕ Global) Stop) (P : ℕ → Type 0) → IfOk made (λ m. P m.0) → (texts : List (List ℕ)) → IsPackedLine made texts
+    → (n : ℕ) × P n × (size : ℕ) × (texts ≡ packed_line n size ∷ [])
+packed-texts (Ok m) P h texts t = (m.0, h, length m.1.items, t)
+packed-texts (Err s) P h texts t = absurd t
+
+-- ---- texts one after the other
+
+pub joined-append : (a b : List (List ℕ)) → joined (a ++ b) ≡ joined a ++ joined b
+joined-append [] b = refl
+joined-append (t ∷ a) b = ap (λ (l : List ℕ). t ++ l) (joined-append a b) ∙ sym (append_assoc t (joined a) (joined b))
+
+-- a stop at one text, behind texts that were printed and before others
+module _ (before : List (List ℕ)) (line : List ℕ) (after all : List (List ℕ)) (is : all ≡ before ++ (line ∷ after)) (was at text : Option (List ℕ)) (rose late : Type 0) (rises : rose → late)
+    (so-far : Appends was at (joined before)) where
+  abbrev One : List (List ℕ) → Type 0
+  One texts = texts ≡ line ∷ []
+
+  abbrev All : List (List ℕ) → Type 0
+  All texts = texts ≡ all
+
+  within : length before < length all
+  within = omega (arith, ap length is, length-append before (line ∷ after))
+
+  front : take (length before) all ≡ before
+  front = ap (take (length before)) is ∙ take-append_seam before (line ∷ after)
+
+  back : drop (length before) all ≡ line ∷ after
+  back = ap (drop (length before)) is ∙ drop-append_seam before (line ∷ after)
+
+  none-of-one : (texts : List (List ℕ)) (n : ℕ) → One texts → n < length texts → n ≡ 0
+  none-of-one texts n one lt = omega (arith, lt, ap length one)
+
+  begun : (said : List ℕ) → IsBegun One said → said ≡ []
+  begun said (inl e) = e
+  begun said (inr b) = b.4 ∙ ap (λ (n : ℕ). joined (take n b.0)) (none-of-one b.0 b.2 b.1 b.3)
+
+  whole : (said : List ℕ) → IsBegun One said → Appends at text said → (x : List ℕ) × IsBegun All x × Appends was text x
+  whole said b a =
+      let none = begun said b in
+      let here : Appends at text [] = subst (Appends at text) none a in
+      (joined before, inr (all, refl, length before, within, sym (ap joined front)), subst (Appends was text) (append-nil (joined before)) (Appends-trans was at text (joined before) [] so-far here))
+
+  cut : IsCut One at text → IsCut All was text
+  cut h =
+      let zero-is = none-of-one h.0 h.2 h.1 h.3 in
+      let here : joined (take h.2 h.0) ++ half_of h.4 (drop h.2 h.0) ≡ take h.4 line =
+      ap (λ (n : ℕ). joined (take n h.0) ++ half_of h.4 (drop n h.0)) zero-is ∙ ap (half_of h.4) h.1 in
+      let there : joined (take (length before) all) ++ half_of h.4 (drop (length before) all) ≡ joined before ++ take h.4 line =
+      ap (λ (ts : List (List ℕ)). joined ts ++ half_of h.4 (drop (length before) all)) front ∙ ap (λ (ts : List (List ℕ)). joined before ++ half_of h.4 ts) back in (
+        all,
+        refl,
+        length before,
+        within,
+        h.4,
+        subst (Appends was text) (sym there) (Appends-trans was at text (joined before) (take h.4 line) so-far (subst (Appends at text) here h.5)),
+      )
+
+  pub says-behind : (s : Stop) → IsLate s → Says One at text rose (Err s) → Says All was text late (Err s)
+  says-behind stop.SinkFault l h = (rises h.0, cut h.1)
+  says-behind stop.FileFault l h = whole h.0 h.1 h.2
+  says-behind stop.NoMemory l h = whole h.0 h.1 h.2
+  says-behind stop.Usage l h = absurd l
+  says-behind (stop.NotFip f) l h = absurd l
+  says-behind (stop.NoSuchEntry guid) l h = absurd l
+  says-behind (stop.NotPacked f) l h = absurd l
+  says-behind (stop.NoManifest f) l h = absurd l
+  says-behind stop.TooLong l h = absurd l
+
+-- one more text was printed
+pub said-more : (before all : List (List ℕ)) (line : List ℕ) (was at text : Option (List ℕ)) (rose : Type 0) (u : Unit {0}) → all ≡ before ++ (line ∷ []) → Appends was at (joined before)
+    → Says (λ texts. texts ≡ line ∷ []) at text rose (Ok u) → Appends was text (joined all)
+said-more before all line was at text rose u is so-far h =
+    let here : Appends at text line = subst (Appends at text) (ap joined h.1 ∙ joined-one line) h.2 in
+    subst (Appends was text) (sym (ap joined is ∙ joined-append before (line ∷ []) ∙ ap (λ (l : List ℕ). joined before ++ l) (joined-one line)))
+    (Appends-trans was at text (joined before) line so-far here)
+
+-- ---- with the line of the stop
+
+module _ (T : List (List ℕ) → Type 0) (was mid text : Option (List ℕ)) (early rose : Type 0) (rises : early → rose) where
+  at-stop : {s t : Stop} → t ≡ s → SaysAll T was text rose (Err s) → SaysAll T was text rose (Err t)
+  at-stop e h = subst (λ (s : Stop). SaysAll T was text rose (Err s)) (sym e) h
+
+  abbrev StoppedAt : Stop → Type 0
+  StoppedAt s = (said : List ℕ) × IsBefore T s said × Appends was mid said
+
+  ended : (s t : Stop) → StoppedAt s → ((said : List ℕ) × IsBefore T s said × Appends was text (said ++ stop_line s) → SaysAll T was text rose (Err s))
+      → ((said : List ℕ) → IsBefore T s said → IsBegun T said) → Told mid text rose s t → SaysAll T was text rose (Err t)
+  ended s t d whole begun (inl r) = at-stop r.0 (whole (d.0, d.1, Appends-trans was mid text d.0 (stop_line s) d.2 r.1))
+  ended s t d whole begun (inr (inl r)) =
+      at-stop r.0 (r.1, inr (s, d.0, d.1, r.2, Appends-trans was mid text d.0 (take r.2 (stop_line s)) d.2 r.3))
+  ended s t d whole begun (inr (inr r)) = at-stop r.0 (d.0, begun d.0 d.1, subst (λ (x : Option (List ℕ)). Appends was x d.0) (sym r.1) d.2)
+
+  none-yet : (said : List ℕ) → said ≡ [] → IsBegun T said
+  none-yet said e = inl e
+
+  pub says-ends : (s t : Stop) → Says T was mid early (Err s) → Reported mid text rose s t → SaysAll T was text rose (Err t)
+  says-ends stop.FileFault t h r = ended stop.FileFault t h (λ w. w) (λ said b. b) r
+  says-ends stop.SinkFault t h r =
+      at-stop r.0 (rises h.0, inl (subst (λ (x : Option (List ℕ)). IsCut T was x) (sym r.1) h.1))
+  says-ends stop.NoMemory t h r = at-stop r.0 (h.0, h.1, subst (λ (x : Option (List ℕ)). Appends was x h.0) (sym r.1) h.2)
+  says-ends stop.Usage t h r = ended stop.Usage t ([], refl, appends-same was mid h) (λ w. w) none-yet r
+  says-ends (stop.NotFip f) t h r = ended (stop.NotFip f) t ([], refl, appends-same was mid h) (λ w. w) none-yet r
+  says-ends (stop.NoSuchEntry guid) t h r = ended (stop.NoSuchEntry guid) t ([], refl, appends-same was mid h) (λ w. w) none-yet r
+  says-ends (stop.NotPacked f) t h r = ended (stop.NotPacked f) t ([], refl, appends-same was mid h) (λ w. w) none-yet r
+  says-ends (stop.NoManifest f) t h r = ended (stop.NoManifest f) t ([], refl, appends-same was mid h) (λ w. w) none-yet r
+  says-ends stop.TooLong t h r = ended stop.TooLong t ([], refl, appends-same was mid h) (λ w. w) none-yet r
+
+pub says-ok : (T : List (List ℕ) → Type 0) (was text : Option (List ℕ)) (rose : Type 0) (u : Unit {0}) → Says T was text rose (Ok u) → SaysAll T was text rose (Ok u)
+says-ok T was text rose u h = h
+
+-- status 3 comes where the sink failed alone
+three : (s : Stop) → status_number s ≡ 3 → s ≡ stop.SinkFault
+three stop.SinkFault e = refl
+three stop.Usage e = cc
+three stop.FileFault e = cc
+three (stop.NotFip f) e = cc
+three (stop.NoSuchEntry guid) e = cc
+three (stop.NotPacked f) e = cc
+three (stop.NoManifest f) e = cc
+three stop.TooLong e = cc
+three stop.NoMemory e = cc
+
+pub sink-rose : (T : List (List ℕ) → Type 0) (was text : Option (List ℕ)) (rose : Type 0) (t : Stop) → status_number t ≡ 3 → SaysAll T was text rose (Err t) → rose
+sink-rose T was text rose t e h = (subst (λ (s : Stop). SaysAll T was text rose (Err s)) (three t e) h).0

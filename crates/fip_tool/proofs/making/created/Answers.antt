@@ -1,0 +1,32 @@
+use Rattle.std.proofs.Common.{◌≡◌, ◌∙◌, List, Vec, ℕ, ap, length, map, subst, sym}
+use Rattle.std.specs.Prelude.{IfOk}
+use Rattle.std.specs.List.{All}
+use Rattle.std.specs.Global.{Global}
+use Rattle.host_io.specs.Contents.{Directory}
+use Rattle.fwu_formats.specs.Package.{Part}
+use Rattle.fip_words.specs.Order.{part_view}
+use Rattle.fip_tool.specs.Payloads.{IsThere, part_told}
+use Rattle.fip_tool.specs.Tool.{create_value, new_serial, pack_value}
+use Rattle.fip_tool.specs.declared.payloads.Payload.{Payload}
+use Rattle.fip_tool.proofs.PartLemmas.{create-err, create-of, gives-same}
+use Rattle.fip_tool.proofs.Packings.{there-of-files}
+use Rattle.fip_tool.proofs.Tables.{gives-err, rose-from}
+use Rattle.fip_tool.proofs.making.created.Goals as goal
+
+pub packed-requires : goal.packed-requires
+packed-requires g c = record { there = there-of-files _ _ c.in-Ok.payloads.items c.as_slice.result.now c.payloads_of_files.ensures.reads.same c.as_slice.ensures.value c.in-Ok.ensures.there }
+
+pub returns-in-Ok-clause-told : goal.returns-in-Ok-clause-told
+returns-in-Ok-clause-told g c = λ told e.
+    gives-same (λ (m : ℕ × Vec ℕ Global). (m.0, m.1.items)) _ _ _ _ c.packed.result (λ r. rose-from _ _ _ c.payloads_of_files.ensures.reads.later r)
+    (create-of told c.args.align (map part_view c.args.named.now) (map (part_told told) c.in-Ok.payloads.items) (c.in-Ok.ensures.told told e)
+    ∙ ap (λ (ps : List Payload). pack_value new_serial 0 (map (part_told told) ps) c.args.align) (sym c.as_slice.ensures.value))
+    (c.packed.ensures.told told (c.payloads_of_files.ensures.reads.same ∙ e))
+
+pub returns-in-Err-clause-told : goal.returns-in-Err-clause-told
+returns-in-Err-clause-told g c = λ told e.
+    gives-err (λ (v : Vec Payload Global). map (part_told told) v.items) (λ (m : ℕ × Vec ℕ Global). (m.0, m.1.items)) _ _ _ _ c.in-Err.stop (λ r. r) (create-err told c.args.align (map part_view c.args.named.now) _) (c.in-Err.ensures.told told e)
+
+pub returns-in-Ok-clause-count : goal.returns-in-Ok-clause-count
+returns-in-Ok-clause-count g c =
+    subst (λ (n : ℕ). IfOk c.packed.result (λ m. m.0 ≡ n)) (ap length c.as_slice.ensures.value ∙ c.in-Ok.ensures.count) c.packed.ensures.count

@@ -1,0 +1,39 @@
+use Rattle.std.proofs.Common.{◌≡◌, ◌∙◌, Bool, Ok, Some, List, ap, arith, map, sym, take}
+use Rattle.std.proofs.lemmas.List.{take_all}
+use Rattle.std.specs.Prelude.{◌||◌}
+use Rattle.host_io.specs.Contents.{Directory}
+use Rattle.fip_words.specs.Order.{image_view}
+use Rattle.fip_words.specs.declared.values.ImageWord.{ImageWord}
+use Rattle.fip_tool.specs.Tool.{nothing}
+use Rattle.fip_tool.proofs.ManifestLemmas.{gives-same, longs-more-at, longs_value, sizes-of, sizes-stopped-at}
+use Rattle.fip_tool.proofs.Tables.{gives-err, rose-from}
+use Rattle.fip_tool.proofs.manifest.check_sizes.Goals.{then-is_long, else-is_long}
+use Rattle.fip_tool.proofs.manifest.check_sizes.Goals as goal
+
+pub returns-in-Err-clause-told : goal.returns-in-Err-clause-told
+returns-in-Err-clause-told g c = λ told e.
+    gives-err (λ (long : Bool). long) (nothing {X = Unit {0}}) _ _ _ _ c.in-Err.stop (λ r. rose-from _ _ _ c.loop-one.invariant.later r)
+    (sizes-stopped-at told c.args.named.now c.loop-one.one-index c.one-item.result c.loop-one-test.true c.one-item.is _)
+    (c.in-Err.ensures.told told (c.loop-one.invariant.same ∙ e))
+
+pub loop-one-preserved : goal.loop-one-preserved
+loop-one-preserved g c =
+    let more = λ (told : Directory) (e : g.H.Files.contents c.args.files.now ≡ Some told).
+    longs-more-at told c.args.named.now c.loop-one.one-index c.one-item.result c.loop-one-test.true c.one-item.is c.loop-one.is_long c.in-Ok.more (c.loop-one.invariant.so-far told e)
+    (c.in-Ok.ensures.told told (c.loop-one.invariant.same ∙ e)) in record {
+      same = c.is_long_file.ensures.reads.same ∙ c.loop-one.invariant.same;
+      later = (let a = c.loop-one.invariant.later in let b = c.is_long_file.ensures.reads.later in omega arith);
+      so-far = λ told e.
+          more told e
+          ∙ elim c.if-is_long.branch [
+            | then-is_long w ↦ ap (λ (b : Bool). Ok (b || c.in-Ok.more)) w.if-is_long.true ∙ ap (λ (b : Bool). Ok b) (sym (w.is_long-is ∙ w.if-is_long.true))
+            | else-is_long w ↦ ap (λ (b : Bool). Ok (b || c.in-Ok.more)) w.if-is_long.false ∙ ap (λ (b : Bool). Ok b) (sym w.is_long-is)
+          ];
+    }
+
+pub returns-clause-told : goal.returns-clause-told
+returns-clause-told g c = λ told e.
+    let all = take_all c.loop-one.one-index c.args.named.now (omega (arith, c.loop-one-test.false)) in
+    gives-same (nothing {X = Unit {0}}) _ _ _ _ c.check_count.result (λ r. absurd r)
+    (sizes-of told c.args.named.now c.loop-one.is_long (ap (λ (l : List ImageWord). longs_value told (map image_view l)) (sym all) ∙ c.loop-one.invariant.so-far told e))
+    c.check_count.ensures.value

@@ -1,0 +1,33 @@
+use Rattle.std.proofs.Common.{◌≡◌, ◌∙◌, All, Ok, Option, List, Vec, [], ◌∷◌, ap, arith, sym, subst, length, map, take}
+use Rattle.std.proofs.lemmas.List.{length-append}
+use Rattle.std.specs.Global.{Global}
+use Rattle.host_io.specs.Contents.{Directory}
+use Rattle.fip_tool.specs.Payloads.{IsThere, part_told}
+use Rattle.fip_tool.specs.Tool.{parts_in}
+use Rattle.fip_tool.specs.declared.payloads.Payload.{Payload}
+use Rattle.fip_tool.proofs.Packings.{more-payloads, one-more-there}
+use Rattle.fip_tool.proofs.PartLemmas.{stopped-at}
+use Rattle.fip_tool.proofs.Tables.{gives-err, rose-from}
+use Rattle.fip_tool.proofs.payloads.payloads_of_files.Goals as goal
+
+pub returns-in-Err-clause-told : goal.returns-in-Err-clause-told
+returns-in-Err-clause-told g c = λ told e.
+    gives-err (part_told told) (λ (v : Vec Payload Global). map (part_told told) v.items) _ _ _ _ c.in-Err.stop (λ r. rose-from _ _ _ c.loop-one.invariant.later r)
+    (stopped-at told c.args.named.now c.loop-one.one-index c.one-item.result c.loop-one-test.true c.one-item.is _)
+    (c.in-Err.ensures.told told (c.loop-one.invariant.same ∙ e))
+
+pub loop-one-preserved : goal.loop-one-preserved
+loop-one-preserved g c =
+    let more = c.in-Ok-push.ensures.items in record {
+      same = c.payload_of_file.ensures.reads.same ∙ c.loop-one.invariant.same;
+      later = (let a = c.loop-one.invariant.later in let b = c.payload_of_file.ensures.reads.later in omega arith);
+      count = omega (arith, ap length more, length-append c.loop-one.payloads.items (c.in-Ok.payload ∷ []), c.loop-one.invariant.count);
+      there = subst (All (IsThere (g.H.Files.contents c.args.files.now))) (sym more)
+          (one-more-there (IsThere (g.H.Files.contents c.args.files.now)) c.loop-one.payloads.items c.in-Ok.payload c.loop-one.invariant.there
+          (subst (λ (o : Option Directory). IsThere o c.in-Ok.payload) c.loop-one.invariant.same c.in-Ok.ensures.there));
+      so-far = λ told e.
+          more-payloads told c.args.named.now c.loop-one.one-index c.one-item.result c.loop-one-test.true c.one-item.is
+          c.loop-one.payloads.items c.in-Ok.payload (c.loop-one.invariant.so-far told e)
+          (c.in-Ok.ensures.told told (c.loop-one.invariant.same ∙ e))
+          ∙ ap (λ (l : List Payload). Ok (map (part_told told) l)) (sym more);
+    }

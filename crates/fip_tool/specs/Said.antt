@@ -1,0 +1,85 @@
+-- What the tool prints, whatever files there are.
+use Rattle.std.specs.Prelude.{◌≡◌, ◌⊎◌, ◌<◌, ℕ, List, [], ◌∷◌, ◌++◌, Option, Some, None, Result, Ok, Err, filter, length, map, take, drop, not, Vec}
+use Rattle.std.specs.Global.{Global}
+use Rattle.std.specs.Io.KnownBytes.{Appends}
+use Rattle.fwu_formats.specs.Package.{Toc}
+use Rattle.fip_words.specs.Order.{Asked, info, info_of_source, create, update, remove, unpack, manifest}
+use Rattle.fip_tool.specs.Lines.{info_text, manifest_line, packed_line, unpacked_line}
+use Rattle.fip_tool.specs.Ends.{exit_status, stop_line}
+use Rattle.fip_tool.specs.Tool.{chosen, first_missing, is_named}
+use Rattle.fip_tool.specs.declared.stops.Stop.{Stop}
+use Rattle.fip_tool.specs.declared.stops.Stop.TheVariants.{FileFault, SinkFault, NoMemory}
+
+-- the listing of some package
+abbrev pub IsListing : List ℕ → Type 0
+IsListing text = (t : Toc) × (size : ℕ) × (text ≡ info_text t size)
+
+-- The texts that a command prints, one after the other, when all is done: of some package where one is read, and with some size.
+abbrev pub IsTexts : Asked → List (List ℕ) → Type 0
+IsTexts (info file) texts = (text : List ℕ) × IsListing text × (texts ≡ text ∷ [])
+IsTexts info_of_source texts = (text : List ℕ) × IsListing text × (texts ≡ text ∷ [])
+IsTexts (create align out parts) texts = (size : ℕ) × (texts ≡ packed_line (length parts) size ∷ [])
+IsTexts (update align from out parts) texts =
+    (t : Toc) × (size : ℕ) × (first_missing t (map (λ p. p.guid) parts) ≡ None) × (texts ≡ packed_line (length t.entries) size ∷ [])
+IsTexts (remove align from out names) texts =
+    (t : Toc) × (size : ℕ) × (first_missing t names ≡ None)
+    × (texts ≡ packed_line (length (filter (λ e. not (is_named names e)) t.entries)) size ∷ [])
+IsTexts (unpack from prefix names) texts =
+    (t : Toc) × (first_missing t names ≡ None) × (texts ≡ map (unpacked_line prefix) (chosen names t.entries))
+IsTexts (manifest out security rows) texts = (size : ℕ) × (texts ≡ manifest_line (length rows) size security ∷ [])
+
+-- words that ask for nothing have none
+abbrev pub IsTextsOf : Option Asked → List (List ℕ) → Type 0
+IsTextsOf None texts = ⊥
+IsTextsOf (Some asked) texts = IsTexts asked texts
+
+abbrev pub joined : List (List ℕ) → List ℕ
+joined [] = []
+joined (text ∷ texts) = text ++ joined texts
+
+-- so many bytes of the first text
+abbrev pub half_of : ℕ → List (List ℕ) → List ℕ
+half_of k [] = []
+half_of k (text ∷ texts) = take k text
+
+-- nothing, or the first ones of such texts, but not all of them
+abbrev pub IsBegun : (List (List ℕ) → Type 0) → List ℕ → Type 0
+IsBegun T said = (said ≡ []) ⊎ ((texts : List (List ℕ)) × T texts × (n : ℕ) × (n < length texts) × (said ≡ joined (take n texts)))
+
+-- the sink failed at one of such texts: those before it are printed, and a front of it
+abbrev pub IsCut : (List (List ℕ) → Type 0) → Option (List ℕ) → Option (List ℕ) → Type 0
+IsCut T was text =
+    (texts : List (List ℕ)) × T texts × (n : ℕ) × (n < length texts)
+    × (k : ℕ) × Appends was text (joined (take n texts) ++ half_of k (drop n texts))
+
+-- what was printed by the result of a command, before the line that tells why it stopped
+abbrev pub Says : (List (List ℕ) → Type 0) → Option (List ℕ) → Option (List ℕ) → Type 0 → Result (Unit {0}) Stop → Type 0
+Says T was text sink-rose (Ok done) = (texts : List (List ℕ)) × T texts × Appends was text (joined texts)
+Says T was text sink-rose (Err SinkFault) = sink-rose × IsCut T was text
+Says T was text sink-rose (Err FileFault) = (said : List ℕ) × IsBegun T said × Appends was text said
+Says T was text sink-rose (Err NoMemory) = (said : List ℕ) × IsBegun T said × Appends was text said
+Says T was text sink-rose (Err s) = text ≡ was
+
+-- what may be printed before a stop: nothing before a refusal
+abbrev pub IsBefore : (List (List ℕ) → Type 0) → Stop → List ℕ → Type 0
+IsBefore T FileFault said = IsBegun T said
+IsBefore T s said = said ≡ []
+
+-- What was printed in all, by the result. Where there is a stop, its line stands last; where the sink failed it is cut.
+abbrev pub SaysAll : (List (List ℕ) → Type 0) → Option (List ℕ) → Option (List ℕ) → Type 0 → Result (Unit {0}) Stop → Type 0
+SaysAll T was text sink-rose (Ok done) = (texts : List (List ℕ)) × T texts × Appends was text (joined texts)
+SaysAll T was text sink-rose (Err SinkFault) =
+    sink-rose × (IsCut T was text
+    ⊎ ((s : Stop) × (said : List ℕ) × IsBefore T s said × (k : ℕ) × Appends was text (said ++ take k (stop_line s))))
+SaysAll T was text sink-rose (Err NoMemory) = (said : List ℕ) × IsBegun T said × Appends was text said
+SaysAll T was text sink-rose (Err s) = (said : List ℕ) × IsBefore T s said × Appends was text (said ++ stop_line s)
+
+-- and by the status
+abbrev pub SaidWith : Option Asked → Option (List ℕ) → Option (List ℕ) → Type 0 → ℕ → Type 0
+SaidWith asked was text sink-rose status =
+    (result : Result (Unit {0}) Stop) × (status ≡ exit_status result) × SaysAll (IsTextsOf asked) was text sink-rose result
+
+-- the line of a package that was made
+abbrev pub IsPackedLine : Result (ℕ × Vec ℕ Global) Stop → List (List ℕ) → Type 0
+IsPackedLine (Ok made) texts = texts ≡ packed_line made.0 (length made.1.items) ∷ []
+IsPackedLine (Err s) texts = ⊥
