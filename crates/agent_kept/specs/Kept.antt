@@ -1,5 +1,5 @@
 -- What a session keeps, and which session of the machine it means, where the bytes of its staged images are given.
-use Rattle.std.specs.Prelude.{◌≡◌, ◌≢◌, ℕ, ◌+◌, ◌-◌, ◌<◌, ◌≤◌, min, Bool, if◌then◌else◌, List, [], ◌++◌, length, take, map, Option, Some, None, slice_index_or, slice_set}
+use Rattle.std.specs.Prelude.{◌≡◌, ◌≢◌, ℕ, ◌+◌, ◌-◌, ◌<◌, ◌≤◌, min, Bool, if◌then◌else◌, List, [], ◌++◌, length, take, map, Option, Some, None, slice_index_or, slice_set, replicate}
 use Rattle.base_core.specs.Bytes.{listed}
 use Rattle.sha2.specs.Sha256.{sha256}
 use Rattle.sha2.specs.Hashers.{Holds256}
@@ -88,6 +88,24 @@ pub record CommitsPart (old : Kept) (image place : ℕ) (bit : Bool) (new : Kept
 -- nothing is kept of any image
 abbrev pub HasNothing : Kept → Type 0
 HasNothing k = (image : ℕ) → part_at k image ≡ Nothing
+
+-- from here on nothing is kept of any image, and no handle is open; a package may be staged, or not
+pub record Restarts (staging : Bool) (old new : Kept) : Type 0 where
+  pub rows : new.rows ≡ old.rows
+  pub staging_is : new.staging ≡ staging
+  pub nothing : HasNothing new
+  pub closed : new.handles ≡ replicate 32 Free
+
+-- with this handle at a number from 1 on
+abbrev pub with_handle : Kept → ℕ → Handle → Kept
+with_handle k number h = record k { handles = slice_set k.handles (number - 1) h }
+
+-- an open image has more bytes behind it
+pub record AppendsPart (old : Kept) (image : ℕ) (bytes : List ℕ) (new : Kept) : Type 0 where
+  pub part : GrowsPart (part_at old image) (part_at new image) bytes
+  pub others : (other : ℕ) → other ≢ image → part_at new other ≡ part_at old other
+  pub rest : SameBesideParts old new
+  pub front : GrowsFront image (size_of (part_at old image)) bytes old.front new.front
 
 -- ---- the session that is meant
 

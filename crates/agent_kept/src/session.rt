@@ -55,7 +55,7 @@ fn no_parts() -> [Part; 16]
 impl Session {
     ghost use Rattle.std.specs.Prelude.{replicate, slice_set, ◌≢◌, ◌+◌, IsTrue, ℕ, ◌-◌, List, Option, Some, None, false, true, length, take, slice_index_or, IfSome};
     ghost use Rattle.fwu_formats.specs.Layout.{find_image};
-    ghost use Rattle.agent_kept.specs.Kept.{kept, part_at, handle_kept, HasNothing, size_of, committed_size, is_part_open, slot_of, IsSound, GrowsPart, SameBesideParts, GrowsFront, OpensPart, CommitsPart};
+    ghost use Rattle.agent_kept.specs.Kept.{kept, part_at, handle_kept, is_free_kept, HasNothing, size_of, committed_size, is_part_open, slot_of, IsSound, AppendsPart, Restarts, with_handle, OpensPart, CommitsPart};
     /// Nothing is staged of the images of a layout, and no handle is open.
     pub fn new(rows: &[ImageRow]) -> Session
         requires few { length rows.now ≤ 16 }
@@ -101,6 +101,7 @@ impl Session {
     pub fn handle(&self, number: u32) -> Handle
         ensures zero { number ≡ 0 → result ≡ Handle.Free }
         ensures at { 0 < number → result ≡ handle_kept (kept self.now) (number - 1) }
+        ensures opened { is_free_kept result ≡ false → (1 ≤ number) × (number ≤ 32) }
     {
         if number == 0 || number > 32 {
             return Handle::Free;
@@ -127,10 +128,7 @@ impl Session {
         requires within { image < length (kept self.old).rows }
         requires opened { IsTrue (is_part_open (part_at (kept self.old) image)) }
         requires size { size_of (part_at (kept self.old) image) + length bytes.now ≤ slot_of (kept self.old).rows image }
-        ensures grows { GrowsPart (part_at (kept self.old) image) (part_at (kept self.new) image) bytes.now }
-        ensures others { (other : ℕ) → other ≢ image → part_at (kept self.new) other ≡ part_at (kept self.old) other }
-        ensures rest { SameBesideParts (kept self.old) (kept self.new) }
-        ensures front { GrowsFront image (size_of (part_at (kept self.old) image)) bytes.now (kept self.old).front (kept self.new).front }
+        ensures appends { AppendsPart (kept self.old) image bytes.now (kept self.new) }
     {
         if image == 0 {
             let size = self.parts[image].size() as usize;
@@ -147,10 +145,7 @@ impl Session {
 
     /// From here on nothing is kept of any image, and no handle is open. A package may be staged, or not.
     pub fn restart(&mut self, staging: bool)
-        ensures rows { (kept self.new).rows ≡ (kept self.old).rows }
-        ensures staging { (kept self.new).staging ≡ staging }
-        ensures nothing { HasNothing (kept self.new) }
-        ensures closed { (kept self.new).handles ≡ replicate 32 Handle.Free }
+        ensures restarts { Restarts staging (kept self.old) (kept self.new) }
     {
         self.staging = staging;
         self.parts = no_parts();
@@ -162,9 +157,7 @@ impl Session {
     pub fn set_reader(&mut self, number: u32, image: Option<u32>, at: u32, total: u32)
         requires number { (1 ≤ number) × (number ≤ 32) }
         requires within { at ≤ total }
-        ensures { kept self.new ≡ record (kept self.old) {
-          handles = slice_set (kept self.old).handles (number - 1) (Handle.Reads image at total);
-        } }
+        ensures { kept self.new ≡ with_handle (kept self.old) number (Handle.Reads image at total) }
     {
         self.handles[number as usize - 1] = Handle::Reads { image, at, total };
     }
@@ -172,9 +165,7 @@ impl Session {
     /// The handle of a number from 1 to 32 is free from here on.
     pub fn close(&mut self, number: u32)
         requires number { (1 ≤ number) × (number ≤ 32) }
-        ensures { kept self.new ≡ record (kept self.old) {
-          handles = slice_set (kept self.old).handles (number - 1) Handle.Free;
-        } }
+        ensures { kept self.new ≡ with_handle (kept self.old) number Handle.Free }
     {
         self.handles[number as usize - 1] = Handle::Free;
     }

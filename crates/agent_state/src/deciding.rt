@@ -9,6 +9,7 @@ ghost use Rattle.agent_kept.specs.Handles.{is_free_kept, is_writer_kept};
 ghost use Rattle.agent_kept.specs.Kept.{kept};
 ghost use Rattle.agent_state.specs.Ruled.{ruled_as};
 ghost use Rattle.agent_state.specs.Decides.{Decides, DecidesByMeta, DecidesBySession, next_bank, is_trial_kept, cannot_begin_kept, may_leave_kept, has_other_kept, lowest_free_kept, opened_as};
+ghost use Rattle.agent_state.specs.Settles.{IsDecisionOf};
 
 use crate::judging::may_install;
 use agent_kept::{Decision, HANDLES, Handle, Part, Plan, Request, Session};
@@ -80,6 +81,7 @@ fn begin(
 ) -> Decision
     requires active { meta.now.meta.active < length meta.now.meta.states }
     ensures decides { DecidesByMeta meta.now (kept session.now) boot_index (Request.Begin vendor_flags partial_count) result }
+    ensures plan { IsDecisionOf (kept session.now) result }
 {
     if cannot_begin(meta, session, boot_index) {
         return Decision::Refused(Status::Denied);
@@ -128,6 +130,7 @@ fn opened(session: &Session, image: Option<u32>, op: Op, total: u32) -> Decision
 fn open_to_write(session: &Session, image: u32, total: u32) -> Decision
     requires within { image < length (kept session.now).rows }
     ensures decides { (guid : List ℕ) → find_image (kept session.now).rows guid ≡ Some image → DecidesBySession (kept session.now) (Request.Open guid Op.Write total) result }
+    ensures plan { IsDecisionOf (kept session.now) result }
 {
     if !session.staging {
         return Decision::Refused(Status::Denied);
@@ -142,6 +145,7 @@ fn open_to_write(session: &Session, image: u32, total: u32) -> Decision
 fn open_image(session: &Session, image: u32, op: Op, total: u32) -> Decision
     requires within { image < length (kept session.now).rows }
     ensures decides { (guid : List ℕ) → find_image (kept session.now).rows guid ≡ Some image → DecidesBySession (kept session.now) (Request.Open guid op total) result }
+    ensures plan { IsDecisionOf (kept session.now) result }
 {
     match op {
         Op::Read => opened(session, Some(image), Op::Read, total),
@@ -151,6 +155,7 @@ fn open_image(session: &Session, image: u32, op: Op, total: u32) -> Decision
 
 fn open_directory(session: &Session, op: Op, total: u32) -> Decision
     ensures decides { (guid : List ℕ) → find_image (kept session.now).rows guid ≡ None → IsTrue (same_bytes guid dir_guid) → DecidesBySession (kept session.now) (Request.Open guid op total) result }
+    ensures plan { IsDecisionOf (kept session.now) result }
 {
     match op {
         Op::Read => opened(session, None, Op::Read, total),
@@ -160,6 +165,7 @@ fn open_directory(session: &Session, op: Op, total: u32) -> Decision
 
 fn open(session: &Session, guid: &Guid, op: Op, total: u32) -> Decision
     ensures decides { DecidesBySession (kept session.now) (Request.Open guid.now op total) result }
+    ensures plan { IsDecisionOf (kept session.now) result }
 {
     match session.find(guid) {
         Some(image) => open_image(session, image as u32, op, total),
@@ -174,6 +180,7 @@ fn open(session: &Session, guid: &Guid, op: Op, total: u32) -> Decision
 
 fn write(session: &Session, handle: u32, length: u64) -> Decision
     ensures decides { DecidesBySession (kept session.now) (Request.Write handle length) result }
+    ensures plan { IsDecisionOf (kept session.now) result }
 {
     match session.handle(handle) {
         Handle::Free => Decision::Refused(Status::Unknown),
@@ -196,6 +203,7 @@ fn write(session: &Session, handle: u32, length: u64) -> Decision
 
 fn read(session: &Session, handle: u32, room: u64) -> Decision
     ensures decides { DecidesBySession (kept session.now) (Request.Read handle room) result }
+    ensures plan { IsDecisionOf (kept session.now) result }
 {
     match session.handle(handle) {
         Handle::Free => Decision::Refused(Status::Unknown),
@@ -212,6 +220,7 @@ fn read(session: &Session, handle: u32, room: u64) -> Decision
 
 fn commit(session: &Session, handle: u32, acceptance_req: u32, max_atomic_len: u32) -> Decision
     ensures decides { DecidesBySession (kept session.now) (Request.Commit handle acceptance_req max_atomic_len) result }
+    ensures plan { IsDecisionOf (kept session.now) result }
 {
     let bit = acceptance_req == 0;
     match session.handle(handle) {
@@ -239,6 +248,7 @@ fn is_writing(handles: &[Handle]) -> bool
 fn end<V: Verifier>(session: &Session, counter: u32, verifier: &V) -> Decision
     requires some { 1 ≤ length (kept session.now).rows }
     ensures decides { (m : MetaRead) (boot : ℕ) → Decides (V.passes verifier.now) m counter (kept session.now) boot Request.End result }
+    ensures plan { IsDecisionOf (kept session.now) result }
 {
     if !session.staging {
         return Decision::Refused(Status::Denied);
@@ -254,6 +264,7 @@ fn end<V: Verifier>(session: &Session, counter: u32, verifier: &V) -> Decision
 
 fn cancel(session: &Session) -> Decision
     ensures decides { DecidesBySession (kept session.now) Request.Cancel result }
+    ensures plan { IsDecisionOf (kept session.now) result }
 {
     if !session.staging {
         return Decision::Refused(Status::Denied);
@@ -271,6 +282,7 @@ fn may_accept(meta: &Meta, session: &Session, boot_index: u32) -> bool
 fn accept(meta: &Meta, session: &Session, boot_index: u32, guid: &Guid) -> Decision
     requires fits { IsTrue (fits_meta (record { banks = length meta.now.meta.states; rows = (kept session.now).rows }) meta.now.meta) }
     ensures decides { DecidesByMeta meta.now (kept session.now) boot_index (Request.Accept guid.now) result }
+    ensures plan { IsDecisionOf (kept session.now) result }
 {
     if !may_accept(meta, session, boot_index) {
         return Decision::Refused(Status::Denied);
@@ -304,6 +316,7 @@ fn previous(meta: &Meta, session: &Session, boot_index: u32) -> Decision
     requires active { meta.now.meta.active < length meta.now.meta.states }
     requires previous { meta.now.meta.previous < length meta.now.meta.states }
     ensures decides { DecidesByMeta meta.now (kept session.now) boot_index Request.Previous result }
+    ensures plan { IsDecisionOf (kept session.now) result }
 {
     if !may_leave(meta, session, boot_index) {
         return Decision::Refused(Status::Denied);
@@ -329,6 +342,7 @@ pub fn decide<V: Verifier>(
     requires some { 1 ≤ length (kept session.now).rows }
     requires fits { IsTrue (fits_meta (record { banks = length meta.now.meta.states; rows = (kept session.now).rows }) meta.now.meta) }
     ensures decides { Decides (V.passes verifier.now) meta.now counter (kept session.now) boot_index request.now result }
+    ensures plan { IsDecisionOf (kept session.now) result }
 {
     match request {
         Request::Discover => Decision::Do(Plan::Tell),

@@ -23,16 +23,14 @@ use Rattle.agent_state.proofs.Machine as machine
 use Rattle.agent_state.proofs.Replies as replies
 use Rattle.agent_state.proofs.deciding.accept.Goals as goal
 
-pub returns-then-not-may_accept : goal.returns-then-not-may_accept
-returns-then-not-may_accept c = record {
-  decides = λ passes counter E s staged bytes speaks fits.
-      let k = kept c.args.session.now in
-      let m = c.args.meta.now in
-      let boot = c.args.boot_index in
-      let stg = staging_meant k staged in
-      let hs = handles_meant k in
-      replies.accept-denied E s boot bytes k m.meta.active staged c.args.guid.now (machine.active-is s m speaks.meta) (sym c.may_accept.ensures ∙ c.if-not-may_accept.true);
-}
+pub returns-then-not-may_accept-clause-decides : goal.returns-then-not-may_accept-clause-decides
+returns-then-not-may_accept-clause-decides c = λ passes counter E s staged bytes speaks fits.
+    let k = kept c.args.session.now in
+    let m = c.args.meta.now in
+    let boot = c.args.boot_index in
+    let stg = staging_meant k staged in
+    let hs = handles_meant k in
+    replies.accept-denied E s boot bytes k m.meta.active staged c.args.guid.now (machine.active-is s m speaks.meta) (sym c.may_accept.ensures ∙ c.if-not-may_accept.true)
 
 pub bit-requires-clause-below : goal.bit-requires-clause-below
 bit-requires-clause-below c =
@@ -46,27 +44,23 @@ bit-requires-clause-within c =
     let low = c.in-Some.ensures.within in
     omega (arith, long, low)
 
-pub returns-in-None : goal.returns-in-None
-returns-in-None c = record {
-  decides = λ passes counter E s staged bytes speaks fits.
-      let k = kept c.args.session.now in
-      let m = c.args.meta.now in
-      let boot = c.args.boot_index in
-      let stg = staging_meant k staged in
-      let hs = handles_meant k in
-      let on = replies.accepting k.staging (boot == m.meta.active) (sym c.may_accept.ensures ∙ c.if-not-may_accept.false) in
-      subst (λ (x : Option (List Staged)). DecidesAs E s (On boot x hs) (call.Accepts c.args.guid.now) bytes (Refused status.Unknown)) (sym (machine.is-idle k staged on.0)) (replies.accept-unknown E s boot hs bytes c.args.guid.now (sym (machine.elsewhere-is s m speaks.meta boot) ∙ ap not on.1) (ap (λ (l : List ImageRow). find_image l c.args.guid.now) (sym speaks.rows) ∙ sym c.find.ensures.value ∙ c.in-None.is));
-}
+pub returns-in-None-clause-decides : goal.returns-in-None-clause-decides
+returns-in-None-clause-decides c = λ passes counter E s staged bytes speaks fits.
+    let k = kept c.args.session.now in
+    let m = c.args.meta.now in
+    let boot = c.args.boot_index in
+    let stg = staging_meant k staged in
+    let hs = handles_meant k in
+    let on = replies.accepting k.staging (boot == m.meta.active) (sym c.may_accept.ensures ∙ c.if-not-may_accept.false) in
+    subst (λ (x : Option (List Staged)). DecidesAs E s (On boot x hs) (call.Accepts c.args.guid.now) bytes (Refused status.Unknown)) (sym (machine.is-idle k staged on.0)) (replies.accept-unknown E s boot hs bytes c.args.guid.now (sym (machine.elsewhere-is s m speaks.meta boot) ∙ ap not on.1) (ap (λ (l : List ImageRow). find_image l c.args.guid.now) (sym speaks.rows) ∙ sym c.find.ensures.value ∙ c.in-None.is))
 
-pub returns-in-Some : goal.returns-in-Some
-returns-in-Some c = record {
-  decides = λ passes counter E s staged bytes speaks fits.
-      let k = kept c.args.session.now in
-      let m = c.args.meta.now in
-      let boot = c.args.boot_index in
-      let stg = staging_meant k staged in
-      let hs = handles_meant k in
-      let on = replies.accepting k.staging (boot == m.meta.active) (sym c.may_accept.ensures ∙ c.if-not-may_accept.false) in
-      let bit = c.bit.ensures ∙ ap (λ (b : ℕ). get_or (get_or m.meta.bits b []) c.in-Some.image false) (c.active.ensures ∙ machine.active-is s m speaks.meta) ∙ ap (λ (l : List Bool). get_or l c.in-Some.image false) (machine.bits-is s m speaks.meta s.active) in
-      subst (λ (x : Option (List Staged)). DecidesAs E s (On boot x hs) (call.Accepts c.args.guid.now) bytes (Do (plan.Accept c.in-Some.image (not c.bit.result)))) (sym (machine.is-idle k staged on.0)) (replies.accept-does E s boot hs bytes c.args.guid.now c.in-Some.image (not c.bit.result) (sym (machine.elsewhere-is s m speaks.meta boot) ∙ ap not on.1) (ap (λ (l : List ImageRow). find_image l c.args.guid.now) (sym speaks.rows) ∙ sym c.find.ensures.value ∙ c.in-Some.is) (ap not bit));
-}
+pub returns-in-Some-clause-decides : goal.returns-in-Some-clause-decides
+returns-in-Some-clause-decides c = λ passes counter E s staged bytes speaks fits.
+    let k = kept c.args.session.now in
+    let m = c.args.meta.now in
+    let boot = c.args.boot_index in
+    let stg = staging_meant k staged in
+    let hs = handles_meant k in
+    let on = replies.accepting k.staging (boot == m.meta.active) (sym c.may_accept.ensures ∙ c.if-not-may_accept.false) in
+    let bit = c.bit.ensures ∙ ap (λ (b : ℕ). get_or (get_or m.meta.bits b []) c.in-Some.image false) (c.active.ensures ∙ machine.active-is s m speaks.meta) ∙ ap (λ (l : List Bool). get_or l c.in-Some.image false) (machine.bits-is s m speaks.meta s.active) in
+    subst (λ (x : Option (List Staged)). DecidesAs E s (On boot x hs) (call.Accepts c.args.guid.now) bytes (Do (plan.Accept c.in-Some.image (not c.bit.result)))) (sym (machine.is-idle k staged on.0)) (replies.accept-does E s boot hs bytes c.args.guid.now c.in-Some.image (not c.bit.result) (sym (machine.elsewhere-is s m speaks.meta boot) ∙ ap not on.1) (ap (λ (l : List ImageRow). find_image l c.args.guid.now) (sym speaks.rows) ∙ sym c.find.ensures.value ∙ c.in-Some.is) (ap not bit))

@@ -25,35 +25,35 @@ use Rattle.agent_state.proofs.Machine as machine
 use Rattle.agent_state.proofs.Replies as replies
 use Rattle.agent_state.proofs.deciding.decide.Goals as goal
 
-pub returns-in-Discover : goal.returns-in-Discover
-returns-in-Discover g c = record { decides = subst (λ (r : Request). Decides (g.V.Verifier.passes c.args.verifier.now) c.args.meta.now c.args.counter (kept c.args.session.now) c.args.boot_index r (Do plan.Tell)) (sym c.in-Discover.is) (λ E s staged bytes speaks fits. replies.discover-tells E s c.args.boot_index (staging_meant (kept c.args.session.now) staged) (handles_meant (kept c.args.session.now)) bytes) }
+pub returns-in-Discover-clause-decides : goal.returns-in-Discover-clause-decides
+returns-in-Discover-clause-decides g c = subst (λ (r : Request). Decides (g.V.Verifier.passes c.args.verifier.now) c.args.meta.now c.args.counter (kept c.args.session.now) c.args.boot_index r (Do plan.Tell)) (sym c.in-Discover.is) (λ E s staged bytes speaks fits. replies.discover-tells E s c.args.boot_index (staging_meant (kept c.args.session.now) staged) (handles_meant (kept c.args.session.now)) bytes)
 
-pub returns-in-Begin : goal.returns-in-Begin
-returns-in-Begin g c = record { decides = subst (λ (r : Request). Decides (g.V.Verifier.passes c.args.verifier.now) c.args.meta.now c.args.counter (kept c.args.session.now) c.args.boot_index r c.begin.result) (sym c.in-Begin.is) (c.begin.ensures.decides (g.V.Verifier.passes c.args.verifier.now) c.args.counter) }
+pub returns-in-Begin-clause-decides : goal.returns-in-Begin-clause-decides
+returns-in-Begin-clause-decides g c = subst (λ (r : Request). Decides (g.V.Verifier.passes c.args.verifier.now) c.args.meta.now c.args.counter (kept c.args.session.now) c.args.boot_index r c.begin.result) (sym c.in-Begin.is) (c.begin.ensures.decides (g.V.Verifier.passes c.args.verifier.now) c.args.counter)
 
-pub returns-in-Open : goal.returns-in-Open
-returns-in-Open g c = record { decides = subst (λ (r : Request). Decides (g.V.Verifier.passes c.args.verifier.now) c.args.meta.now c.args.counter (kept c.args.session.now) c.args.boot_index r c.open.result) (sym c.in-Open.is) (c.open.ensures.decides c.args.meta.now c.args.boot_index (g.V.Verifier.passes c.args.verifier.now) c.args.counter) }
+pub returns-in-Open-clause-decides : goal.returns-in-Open-clause-decides
+returns-in-Open-clause-decides g c = subst (λ (r : Request). Decides (g.V.Verifier.passes c.args.verifier.now) c.args.meta.now c.args.counter (kept c.args.session.now) c.args.boot_index r c.open.result) (sym c.in-Open.is) (c.open.ensures.decides c.args.meta.now c.args.boot_index (g.V.Verifier.passes c.args.verifier.now) c.args.counter)
 
-pub returns-in-Write : goal.returns-in-Write
-returns-in-Write g c = record { decides = subst (λ (r : Request). Decides (g.V.Verifier.passes c.args.verifier.now) c.args.meta.now c.args.counter (kept c.args.session.now) c.args.boot_index r c.write.result) (sym c.in-Write.is) (c.write.ensures.decides c.args.meta.now c.args.boot_index (g.V.Verifier.passes c.args.verifier.now) c.args.counter) }
+pub returns-in-Write-clause-decides : goal.returns-in-Write-clause-decides
+returns-in-Write-clause-decides g c = subst (λ (r : Request). Decides (g.V.Verifier.passes c.args.verifier.now) c.args.meta.now c.args.counter (kept c.args.session.now) c.args.boot_index r c.write.result) (sym c.in-Write.is) (c.write.ensures.decides c.args.meta.now c.args.boot_index (g.V.Verifier.passes c.args.verifier.now) c.args.counter)
 
-pub returns-in-Read : goal.returns-in-Read
-returns-in-Read g c = record { decides = subst (λ (r : Request). Decides (g.V.Verifier.passes c.args.verifier.now) c.args.meta.now c.args.counter (kept c.args.session.now) c.args.boot_index r c.read.result) (sym c.in-Read.is) (c.read.ensures.decides c.args.meta.now c.args.boot_index (g.V.Verifier.passes c.args.verifier.now) c.args.counter) }
+pub returns-in-Read-clause-decides : goal.returns-in-Read-clause-decides
+returns-in-Read-clause-decides g c = subst (λ (r : Request). Decides (g.V.Verifier.passes c.args.verifier.now) c.args.meta.now c.args.counter (kept c.args.session.now) c.args.boot_index r c.read.result) (sym c.in-Read.is) (c.read.ensures.decides c.args.meta.now c.args.boot_index (g.V.Verifier.passes c.args.verifier.now) c.args.counter)
 
-pub returns-in-Commit : goal.returns-in-Commit
-returns-in-Commit g c = record { decides = subst (λ (r : Request). Decides (g.V.Verifier.passes c.args.verifier.now) c.args.meta.now c.args.counter (kept c.args.session.now) c.args.boot_index r c.commit.result) (sym c.in-Commit.is) (c.commit.ensures.decides c.args.meta.now c.args.boot_index (g.V.Verifier.passes c.args.verifier.now) c.args.counter) }
+pub returns-in-Commit-clause-decides : goal.returns-in-Commit-clause-decides
+returns-in-Commit-clause-decides g c = subst (λ (r : Request). Decides (g.V.Verifier.passes c.args.verifier.now) c.args.meta.now c.args.counter (kept c.args.session.now) c.args.boot_index r c.commit.result) (sym c.in-Commit.is) (c.commit.ensures.decides c.args.meta.now c.args.boot_index (g.V.Verifier.passes c.args.verifier.now) c.args.counter)
 
-pub returns-in-End : goal.returns-in-End
-returns-in-End g c = record { decides = subst (λ (r : Request). Decides (g.V.Verifier.passes c.args.verifier.now) c.args.meta.now c.args.counter (kept c.args.session.now) c.args.boot_index r c.end.result) (sym c.in-End.is) (c.end.ensures.decides c.args.meta.now c.args.boot_index) }
+pub returns-in-End-clause-decides : goal.returns-in-End-clause-decides
+returns-in-End-clause-decides g c = subst (λ (r : Request). Decides (g.V.Verifier.passes c.args.verifier.now) c.args.meta.now c.args.counter (kept c.args.session.now) c.args.boot_index r c.end.result) (sym c.in-End.is) (c.end.ensures.decides c.args.meta.now c.args.boot_index)
 
-pub returns-in-Cancel : goal.returns-in-Cancel
-returns-in-Cancel g c = record { decides = subst (λ (r : Request). Decides (g.V.Verifier.passes c.args.verifier.now) c.args.meta.now c.args.counter (kept c.args.session.now) c.args.boot_index r c.cancel.result) (sym c.in-Cancel.is) (c.cancel.ensures.decides c.args.meta.now c.args.boot_index (g.V.Verifier.passes c.args.verifier.now) c.args.counter) }
+pub returns-in-Cancel-clause-decides : goal.returns-in-Cancel-clause-decides
+returns-in-Cancel-clause-decides g c = subst (λ (r : Request). Decides (g.V.Verifier.passes c.args.verifier.now) c.args.meta.now c.args.counter (kept c.args.session.now) c.args.boot_index r c.cancel.result) (sym c.in-Cancel.is) (c.cancel.ensures.decides c.args.meta.now c.args.boot_index (g.V.Verifier.passes c.args.verifier.now) c.args.counter)
 
-pub returns-in-Accept : goal.returns-in-Accept
-returns-in-Accept g c = record { decides = subst (λ (r : Request). Decides (g.V.Verifier.passes c.args.verifier.now) c.args.meta.now c.args.counter (kept c.args.session.now) c.args.boot_index r c.accept.result) (sym c.in-Accept.is) (c.accept.ensures.decides (g.V.Verifier.passes c.args.verifier.now) c.args.counter) }
+pub returns-in-Accept-clause-decides : goal.returns-in-Accept-clause-decides
+returns-in-Accept-clause-decides g c = subst (λ (r : Request). Decides (g.V.Verifier.passes c.args.verifier.now) c.args.meta.now c.args.counter (kept c.args.session.now) c.args.boot_index r c.accept.result) (sym c.in-Accept.is) (c.accept.ensures.decides (g.V.Verifier.passes c.args.verifier.now) c.args.counter)
 
-pub returns-in-Previous : goal.returns-in-Previous
-returns-in-Previous g c = record { decides = subst (λ (r : Request). Decides (g.V.Verifier.passes c.args.verifier.now) c.args.meta.now c.args.counter (kept c.args.session.now) c.args.boot_index r c.previous.result) (sym c.in-Previous.is) (c.previous.ensures.decides (g.V.Verifier.passes c.args.verifier.now) c.args.counter) }
+pub returns-in-Previous-clause-decides : goal.returns-in-Previous-clause-decides
+returns-in-Previous-clause-decides g c = subst (λ (r : Request). Decides (g.V.Verifier.passes c.args.verifier.now) c.args.meta.now c.args.counter (kept c.args.session.now) c.args.boot_index r c.previous.result) (sym c.in-Previous.is) (c.previous.ensures.decides (g.V.Verifier.passes c.args.verifier.now) c.args.counter)
 
 pub begin-requires : goal.begin-requires
 begin-requires g c = record { active = (meta-fits _ c.args.meta.now.meta c.requires.fits).active }

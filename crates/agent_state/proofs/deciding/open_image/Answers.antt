@@ -22,22 +22,18 @@ use Rattle.agent_state.proofs.Machine as machine
 use Rattle.agent_state.proofs.Replies as replies
 use Rattle.agent_state.proofs.deciding.open_image.Goals as goal
 
-pub returns-in-Read : goal.returns-in-Read
-returns-in-Read c = record {
-  decides = λ guid found m boot passes counter E s staged bytes speaks fits.
-      let k = kept c.args.session.now in
-      let stg = staging_meant k staged in
-      let hs = handles_meant k in
-      let at = ap (λ (l : List ImageRow). find_image l guid) (sym speaks.rows) ∙ found in
-      subst (λ (o : Op). DecidesAs E s (session_meant k boot staged) (call_of (request.Open guid o c.args.total) bytes) bytes c.opened.result) (sym c.in-Read.is) (replies.opened-decides E s (On boot stg hs) (call.OpenRead guid) bytes k (Some c.args.image) op.Read c.args.total c.opened.result c.opened.ensures (replies.reads-opened E s boot stg hs bytes (call.OpenRead guid) (Some c.args.image) c.args.total (replies.open-read-image E s boot stg hs bytes guid c.args.image at)));
-}
+pub returns-in-Read-clause-decides : goal.returns-in-Read-clause-decides
+returns-in-Read-clause-decides c = λ guid found m boot passes counter E s staged bytes speaks fits.
+    let k = kept c.args.session.now in
+    let stg = staging_meant k staged in
+    let hs = handles_meant k in
+    let at = ap (λ (l : List ImageRow). find_image l guid) (sym speaks.rows) ∙ found in
+    subst (λ (o : Op). DecidesAs E s (session_meant k boot staged) (call_of (request.Open guid o c.args.total) bytes) bytes c.opened.result) (sym c.in-Read.is) (replies.opened-decides E s (On boot stg hs) (call.OpenRead guid) bytes k (Some c.args.image) op.Read c.args.total c.opened.result c.opened.ensures (replies.reads-opened E s boot stg hs bytes (call.OpenRead guid) (Some c.args.image) c.args.total (replies.open-read-image E s boot stg hs bytes guid c.args.image at)))
 
-pub returns-in-Write : goal.returns-in-Write
-returns-in-Write c = record {
-  decides = λ guid found m boot passes counter E s staged bytes speaks fits.
-      let k = kept c.args.session.now in
-      let stg = staging_meant k staged in
-      let hs = handles_meant k in
-      let at = ap (λ (l : List ImageRow). find_image l guid) (sym speaks.rows) ∙ found in
-      subst (λ (o : Op). DecidesAs E s (session_meant k boot staged) (call_of (request.Open guid o c.args.total) bytes) bytes c.open_to_write.result) (sym c.in-Write.is) (c.open_to_write.ensures.decides guid found m boot passes counter E s staged bytes speaks tt);
-}
+pub returns-in-Write-clause-decides : goal.returns-in-Write-clause-decides
+returns-in-Write-clause-decides c = λ guid found m boot passes counter E s staged bytes speaks fits.
+    let k = kept c.args.session.now in
+    let stg = staging_meant k staged in
+    let hs = handles_meant k in
+    let at = ap (λ (l : List ImageRow). find_image l guid) (sym speaks.rows) ∙ found in
+    subst (λ (o : Op). DecidesAs E s (session_meant k boot staged) (call_of (request.Open guid o c.args.total) bytes) bytes c.open_to_write.result) (sym c.in-Write.is) (c.open_to_write.ensures.decides guid found m boot passes counter E s staged bytes speaks tt)

@@ -1,0 +1,14 @@
+use Rattle.std.proofs.Common.{◌≡◌, ◌≤◌, List, length, sym, subst, arith}
+use Rattle.agent_kept.specs.declared.kinds.Decision.{Decision}
+use Rattle.agent_kept.specs.Kept.{Kept, kept}
+use Rattle.agent_state.specs.Settles.{IsDecisionOf, SettlesBy}
+use Rattle.agent_state.proofs.Settled.{settled-in}
+use Rattle.agent_state.proofs.settling.settle.Goals as goal
+
+pub returns-in-Do-clause-settles : goal.returns-in-Do-clause-settles
+returns-in-Do-clause-settles c =
+    let k : Kept = kept c.args.session.now in
+    subst (λ (d : Decision). SettlesBy k c.args.meta.now c.args.bytes.now d c.change_meta.new.meta (kept c.change_session.new.session)) (sym c.in-Do.is)
+    (λ E s passes counter boot staged sp total.
+    settled-in E s passes c.args.meta.now counter boot k staged c.args.bytes.now sp c.args.session.now.sound.few _ c.change_meta.new.meta (kept c.change_session.new.session)
+    (subst (IsDecisionOf k) c.in-Do.is c.requires.decided) total c.change_session.ensures.changes c.change_meta.ensures.set)
