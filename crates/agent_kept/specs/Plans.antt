@@ -20,7 +20,7 @@ use Rattle.agent_kept.specs.declared.kinds.Plan.TheVariants as plan
 use Rattle.agent_kept.specs.declared.kinds.Decision.{Decision}
 use Rattle.agent_kept.specs.declared.kinds.Decision.TheVariants as decision
 use Rattle.agent_kept.specs.Kept.{Kept, IsKept, HasTotals}
-use Rattle.agent_kept.specs.Metas.{meta_in}
+use Rattle.fwu_model.specs.MoveMetas.{meta_in}
 
 -- the call that is requested, with the bytes of a write
 abbrev pub call_of : Request → List ℕ → Call

@@ -19,7 +19,7 @@ use Rattle.agent_kept.specs.declared.parts.Part.TheVariants.{Nothing, Open, Comm
 use Rattle.agent_kept.specs.declared.parts.Handle.{Handle}
 use Rattle.agent_kept.specs.declared.parts.Handle.TheVariants.{Free, Reads, Writes}
 use Rattle.agent_kept.specs.Kept.{Kept, part_at, part_meant, parts_meant, staging_meant, handle_meant, handles_meant, handle_kept, size_of, slot_of, IsKept}
-use Rattle.agent_kept.specs.Metas.{meta_in}
+use Rattle.fwu_model.specs.MoveMetas.{meta_in}
 use Rattle.agent_state.specs.Decides.{next_bank, is_trial_kept, cannot_begin_kept, may_leave_kept, has_other_kept}
 
 -- ---- the metadata

@@ -13,7 +13,7 @@ use Rattle.fwu_formats.specs.Metadata.{Meta, state_at, bit_number}
 use Rattle.fwu_model.specs.State.{State, Bank, bank, no_bank, Free, Switch, Accept, Back, after_move, freed, with_bit, state_by, all_set}
 use Rattle.fwu_model.specs.Sound.{Setting}
 use Rattle.fwu_model.specs.Answer.{content, directory, directory_row, booted_package, version_in, held_package}
-use Rattle.agent_kept.specs.Metas.{meta_in, meta_after, bits_in, accepted_bits}
+use Rattle.fwu_model.specs.MoveMetas.{meta_in, meta_after, bits_in, accepted_bits}
 
 -- ---- the metadata
 

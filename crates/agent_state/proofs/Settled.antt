@@ -17,7 +17,7 @@ use Rattle.agent_kept.specs.declared.parts.Handle.TheVariants as handle
 use Rattle.agent_kept.specs.declared.kinds.Plan.{Plan}
 use Rattle.agent_kept.specs.declared.kinds.Plan.TheVariants as plan
 use Rattle.agent_kept.specs.Kept.{Kept, IsKept, HasTotals, part_at, handle_kept, part_meant, parts_meant, staging_meant, handle_meant, handles_meant, session_meant, with_handle, is_part_open, IsNew, GrowsPart, CommitsTo, Restarts, OpensPart, AppendsPart, CommitsPart}
-use Rattle.agent_kept.specs.Metas.{meta_in, meta_after}
+use Rattle.fwu_model.specs.MoveMetas.{meta_in, meta_after}
 use Rattle.agent_kept.specs.Plans.{Speaks, planned, planned_in, with_open, committed_staging, bits_staged, package_staged}
 use Rattle.agent_kept.proofs.Meant.{part-meant, parts-changed, staging-on, handle-meant}
 use Rattle.agent_kept.proofs.After.{kept-opened, kept-committed, kept-appended, kept-restarted}

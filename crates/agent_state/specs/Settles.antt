@@ -15,7 +15,7 @@ use Rattle.agent_kept.specs.declared.kinds.Decision.{Decision}
 use Rattle.agent_kept.specs.declared.kinds.Decision.TheVariants as decision
 use Rattle.agent_kept.specs.Kept.{Kept, part_at, handle_kept, size_of, slot_of, is_part_open, session_meant, with_handle, Restarts, OpensPart, AppendsPart, CommitsPart}
 use Rattle.agent_kept.specs.Judged.{parts_of}
-use Rattle.agent_kept.specs.Metas.{meta_after}
+use Rattle.fwu_model.specs.MoveMetas.{meta_after}
 use Rattle.agent_kept.specs.Plans.{Speaks, planned_in}
 use Rattle.agent_state.specs.Decides.{next_bank}
 

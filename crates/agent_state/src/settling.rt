@@ -4,7 +4,7 @@ ghost use Rattle.fwu_formats.specs.Layout.{Layout as LayoutValue};
 ghost use Rattle.fwu_formats.specs.Metadata.{fits_meta};
 ghost use Rattle.fwu_model.specs.State.{Free, Switch, Accept, Back, all_set, state_by};
 ghost use Rattle.agent_kept.specs.Kept.{kept};
-ghost use Rattle.agent_kept.specs.Metas.{meta_after};
+ghost use Rattle.fwu_model.specs.MoveMetas.{meta_after};
 ghost use Rattle.agent_state.specs.Decides.{next_bank};
 ghost use Rattle.agent_state.specs.Settles.{IsPlanOf, IsDecisionOf, HasBytes, Changes, ChangesBy, bit_kept, bits_kept, meta_planned, meta_settled, SettlesBy, IsNumber};
 
