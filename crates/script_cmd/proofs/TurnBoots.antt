@@ -46,9 +46,9 @@ guard-kept passes (bad_layout f) old new h = same-told old new h.1
 guard-kept passes no_metadata old new h = same-told old new h.3
 guard-kept passes (no_bank active previous) old new h = h.others.guard
 guard-kept passes (lost None) old new h = same-told old new h
-guard-kept passes (lost (Some n)) old new h = h.3.guard
+guard-kept passes (lost (Some n)) old new h = h.others.guard
 guard-kept passes (failed None) old new h = same-told old new h
-guard-kept passes (failed (Some n)) old new h = h.3.guard
+guard-kept passes (failed (Some n)) old new h = h.others.guard
 
 -- ---- a step
 

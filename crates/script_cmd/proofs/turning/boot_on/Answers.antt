@@ -17,8 +17,8 @@ returns-clause-ends g c = (
         power_is = c.boot.ensures.power;
         leaves = end-leaves c.boot.result (turn c.turned_by.result.turn) (shown_on c.turned_by.result.powered) c.turned_by.ensures.turn c.turned_by.ensures.on;
         costs = c.boot.ensures.costs;
-        by_bytes = c.boot.ensures.by_bytes;
-        by_machine = c.boot.ensures.by_machine;
-        guarded = c.boot.ensures.guarded;
+        by_bytes = λ told. (c.boot.ensures.ends told).by_bytes;
+        by_machine = λ told. (c.boot.ensures.ends told).by_machine;
+        guarded = λ told. (c.boot.ensures.ends told).guarded;
       }),
 )
