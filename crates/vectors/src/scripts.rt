@@ -156,6 +156,22 @@ fn three_trials_and_a_fallback(rt: HostRuntime) -> Result<(), Fail> {
     Ok(())
 }
 
+// A mark behind a blank granule: the mark that a start adds joins them, and the trials are what a read then counts.
+#[test]
+fn trials_are_counted_anew(rt: HostRuntime) -> Result<(), Fail> {
+    let alloc = rt.alloc();
+    let mut image = on_trial(alloc)?;
+    put(alloc, &mut image, 12304, "00000000000000000000000000000000")?;
+    prints(
+        &rt,
+        alloc,
+        image,
+        "boot\nshow\nboot\nboot\n",
+        "boot bank=1 version=2 trials=2 counter=1\nshow active=1 previous=0 banks=accepted,valid bits=111,000 trials=2 counter=1\nboot bank=1 version=2 trials=3 counter=1\nboot bank=0 version=1 trials=3 counter=1 fallback\n",
+    )?;
+    Ok(())
+}
+
 #[test]
 fn a_cut_within_a_migration(rt: HostRuntime) -> Result<(), Fail> {
     let alloc = rt.alloc();
