@@ -1,12 +1,14 @@
 #!/bin/sh
-# `fip` beside fiptool, in one run: processor time and peak memory of `create` and `unpack` over three payloads that make a
-# package of nearly 64 MiB, the time of `info`, and the start-up.
+# `fip` beside fiptool, in one run: processor time and peak memory of `create`, `update`, `remove` and `unpack` over three payloads
+# that make a package of nearly 64 MiB, the time of `info`, and the start-up. And what `fip` takes to refuse by sizes alone: an image
+# of 3 GiB, and a package of 60 MiB whose 64 entries overlap.
 set -eu
 cd "$(dirname "$0")/.."
 . bench/build_fip.sh
 for name in a b c; do head -c $((21 << 20)) /dev/urandom >"$work/$name.bin"; done
 python3 - "$work" "$fip" <<'PY'
 import os
+import struct
 import subprocess
 import sys
 
@@ -14,20 +16,18 @@ work, fip = sys.argv[1:]
 os.chdir(work)
 
 
-def cost(words, rounds):
-    """Processor seconds and the peak resident bytes of one run, the least of so many rounds."""
-    least = None
-    for _ in range(rounds):
-        child = subprocess.Popen(words, stdout=subprocess.DEVNULL)
-        _, status, usage = os.wait4(child.pid, 0)
-        assert status == 0, words
-        found = (usage.ru_utime + usage.ru_stime, usage.ru_maxrss * 1024)
-        least = found if least is None or found[0] < least[0] else least
-    return least
+def cost(words):
+    """Processor seconds and the peak resident bytes of one run."""
+    child = subprocess.Popen(words, stdout=subprocess.DEVNULL)
+    _, status, usage = os.wait4(child.pid, 0)
+    assert status == 0, words
+    return usage.ru_utime + usage.ru_stime, usage.ru_maxrss * 1024
 
 
-def compare(title, ours, theirs, rounds=5):
-    one, other = cost(ours, rounds), cost(theirs, rounds)
+def compare(title, ours, theirs, rounds=20):
+    """The least of so many rounds of each, in turns, since other programs share the machine."""
+    costs = [(cost(ours), cost(theirs)) for _ in range(rounds)]
+    one, other = (min(costs, key=lambda round: round[i][0])[i] for i in (0, 1))
     print(f"{title}: fip {one[0] * 1000:.1f} ms, {one[1] / 2**20:.0f} MiB; fiptool {other[0] * 1000:.1f} ms, {other[1] / 2**20:.0f} MiB;"
           f" ratio of time {one[0] / max(other[0], 1e-4):.2f}")
 
@@ -35,10 +35,37 @@ def compare(title, ours, theirs, rounds=5):
 compare("create", [fip, "create", "our.fip", "tb-fw=a.bin", "soc-fw=b.bin", "nt-fw=c.bin"],
         ["fiptool", "create", "--tb-fw", "a.bin", "--soc-fw", "b.bin", "--nt-fw", "c.bin", "their.fip"])
 subprocess.run(["cmp", "our.fip", "their.fip"], check=True)
+compare("update", [fip, "update", "our.fip", "our-new.fip", "nt-fw=a.bin"],
+        ["fiptool", "update", "--nt-fw", "a.bin", "--out", "their-new.fip", "their.fip"])
+subprocess.run(["cmp", "our-new.fip", "their-new.fip"], check=True)
+compare("remove", [fip, "remove", "our.fip", "our-less.fip", "soc-fw"],
+        ["fiptool", "remove", "--force", "--soc-fw", "--out", "their-less.fip", "their.fip"])
+subprocess.run(["cmp", "our-less.fip", "their-less.fip"], check=True)
 compare("unpack", [fip, "unpack", "our.fip", "out-"], ["fiptool", "unpack", "--force", "their.fip"])
 compare("info", [fip, "info", "our.fip"], ["fiptool", "info", "their.fip"])
 open("small.bin", "wb").write(b"hello")
 subprocess.run([fip, "create", "small.fip", "tb-fw=small.bin"], check=True, stdout=subprocess.DEVNULL)
-compare("start-up", [fip, "info", "small.fip"], ["fiptool", "info", "small.fip"], 20)
+compare("start-up", [fip, "info", "small.fip"], ["fiptool", "info", "small.fip"])
 print(f"package of {os.path.getsize('our.fip') / 2**20:.1f} MiB")
+
+
+def refused(title, words, line):
+    """A refusal with status 6: what it prints, and the peak resident bytes."""
+    child = subprocess.Popen(words, stdout=subprocess.PIPE)
+    said = child.stdout.read().decode()
+    _, status, usage = os.wait4(child.pid, 0)
+    assert (os.waitstatus_to_exitcode(status), said) == (6, line), (title, status, said)
+    print(f"{title}: {said.strip()}; {usage.ru_utime + usage.ru_stime:.3f} s, {usage.ru_maxrss / 1024:.0f} MiB")
+
+
+with open("large.bin", "wb") as large:
+    large.truncate(3 << 30)
+refused("manifest of 3 GiB", [fip, "manifest", "m.bin", "1", "tb-fw,7,large.bin"], "manifest too-large\n")
+size = 60 << 20
+with open("overlaps.fip", "wb") as package:
+    package.write(bytes.fromhex("010064aa785634120000000000000000"))
+    for i in range(64):
+        package.write(bytes([1 + i] * 16) + struct.pack("<QQQ", 0, size, 0))
+    package.truncate(size)
+refused("remove of overlaps", [fip, "remove", "overlaps.fip", "less.fip", "01010101-0101-0101-0101-010101010101"], "pack too-large\n")
 PY

@@ -16,9 +16,11 @@ use std::alloc::Global;
 /// What is printed of a package in a file.
 pub fn file_info<H: Files>(alloc: Global, files: &mut H, name: &str) -> Result<Vec<u8>, Stop>
     ensures told { (told : Directory) → H.contents files.old ≡ Some told
-        → Gives (λ text. text.items) (Rose (H.faults files.old) (H.faults files.new)) (info_value told name.now) result }
+        → Gives (λ text. text.items) (Rose (H.faults files.old) (H.faults files.new))
+        (info_value told name.now) result }
     ensures listed { IfOk result (λ text. IsListing text.items) }
-    ensures reads { ReadsOnly (H.contents files.old) (H.contents files.new) (H.faults files.old) (H.faults files.new) result }
+    ensures reads { ReadsOnly (H.contents files.old) (H.contents files.new) (H.faults files.old)
+        (H.faults files.new) result }
 {
     match read_package(files, name) {
         Ok((toc, size)) => match info_text(alloc, &toc, size) {
@@ -31,7 +33,8 @@ pub fn file_info<H: Files>(alloc: Global, files: &mut H, name: &str) -> Result<V
 
 /// What is printed of the package that the source gives.
 pub fn source_info<I: Source>(alloc: Global, source: &mut I) -> Result<Vec<u8>, Stop>
-    ensures given { (given : List ℕ) × GivenTo (λ text. text.items) given_value (I.left source.old) (I.left source.new) (Rose (I.faults source.old) (I.faults source.new)) result given }
+    ensures given { (given : List ℕ) × GivenTo (λ text. text.items) given_value (I.left source.old)
+        (I.left source.new) (Rose (I.faults source.old) (I.faults source.new)) result given }
     ensures listed { IfOk result (λ text. IsListing text.items) }
     ensures usage { result ≡ Err stop.Usage → ⊥ }
     ensures sink { result ≡ Err stop.SinkFault → ⊥ }

@@ -32,9 +32,11 @@ fn created<H: Files>(
     named: &[NamedFile<'_>],
 ) -> Result<(u64, Vec<u8>), Stop>
     ensures told { (told : Directory) → H.contents files.old ≡ Some told
-        → Gives (λ m. (m.0, m.1.items)) (Rose (H.faults files.old) (H.faults files.new)) (create_value told align (map part_view named.now)) result }
+        → Gives (λ m. (m.0, m.1.items)) (Rose (H.faults files.old) (H.faults files.new))
+        (create_value told align (map part_view named.now)) result }
     ensures count { IfOk result (λ m. m.0 ≡ length named.now) }
-    ensures reads { ReadsOnly (H.contents files.old) (H.contents files.new) (H.faults files.old) (H.faults files.new) result }
+    ensures reads { ReadsOnly (H.contents files.old) (H.contents files.new) (H.faults files.old)
+        (H.faults files.new) result }
 {
     match payloads_of_files(alloc, files, named) {
         Ok(payloads) => packed(alloc, files, NEW_SERIAL, 0, align, payloads.as_slice()),
@@ -52,14 +54,18 @@ fn repacked<H: Files>(
     entries: &[Entry],
     new: &[Payload<'_>],
 ) -> Result<(u64, Vec<u8>), Stop>
-    requires stored { (bytes : List ℕ) → Tells (H.contents files.old) from.now bytes → All (λ e. e.offset + e.size ≤ length bytes) entries.now }
+    requires stored { (bytes : List ℕ) → Tells (H.contents files.old) from.now bytes
+        → All (λ e. e.offset + e.size ≤ length bytes) entries.now }
     requires there { Lacks (H.contents files.old) from.now → ⊥ }
     requires new { All (IsThere (H.contents files.old)) new.now }
-    ensures told { (told : Directory) (bytes : List ℕ) → H.contents files.old ≡ Some told → told from.now ≡ Some bytes
+    ensures told { (told : Directory) (bytes : List ℕ) → H.contents files.old ≡ Some told
+        → told from.now ≡ Some bytes
         → Gives (λ m. (m.0, m.1.items)) (Rose (H.faults files.old) (H.faults files.new))
-        (pack_value toc.now.serial toc.now.flags (map (updated_part bytes (map (part_told told) new.now)) entries.now) align) result }
+        (pack_value toc.now.serial toc.now.flags
+        (map (updated_part bytes (map (part_told told) new.now)) entries.now) align) result }
     ensures count { IfOk result (λ m. m.0 ≡ length entries.now) }
-    ensures reads { ReadsOnly (H.contents files.old) (H.contents files.new) (H.faults files.old) (H.faults files.new) result }
+    ensures reads { ReadsOnly (H.contents files.old) (H.contents files.new) (H.faults files.old)
+        (H.faults files.new) result }
 {
     let Ok(payloads) = payloads_of_entries(alloc, from, entries, new) else {
         return Err(Stop::NoMemory);
@@ -101,13 +107,19 @@ fn without<H: Files>(
     toc: &Toc,
     guids: &[Guid],
 ) -> Result<(u64, Vec<u8>), Stop>
-    requires stored { (bytes : List ℕ) → Tells (H.contents files.old) from.now bytes → All (λ e. e.offset + e.size ≤ length bytes) toc.now.entries }
+    requires stored { (bytes : List ℕ) → Tells (H.contents files.old) from.now bytes
+        → All (λ e. e.offset + e.size ≤ length bytes) toc.now.entries }
     requires there { Lacks (H.contents files.old) from.now → ⊥ }
-    ensures told { (told : Directory) (bytes : List ℕ) → H.contents files.old ≡ Some told → told from.now ≡ Some bytes
+    ensures told { (told : Directory) (bytes : List ℕ) → H.contents files.old ≡ Some told
+        → told from.now ≡ Some bytes
         → Gives (λ m. (m.0, m.1.items)) (Rose (H.faults files.old) (H.faults files.new))
-        (pack_value toc.now.serial toc.now.flags (map (kept_part bytes) (filter (λ e. not (is_named guids.now e)) toc.now.entries)) align) result }
-    ensures count { IfOk result (λ m. m.0 ≡ length (filter (λ e. not (is_named guids.now e)) toc.now.entries)) }
-    ensures reads { ReadsOnly (H.contents files.old) (H.contents files.new) (H.faults files.old) (H.faults files.new) result }
+        (pack_value toc.now.serial toc.now.flags
+        (map (kept_part bytes) (filter (λ e. not (is_named guids.now e)) toc.now.entries)) align)
+        result }
+    ensures count { IfOk result (λ m. m.0 ≡ length
+        (filter (λ e. not (is_named guids.now e)) toc.now.entries)) }
+    ensures reads { ReadsOnly (H.contents files.old) (H.contents files.new) (H.faults files.old)
+        (H.faults files.new) result }
 {
     let Ok(kept) = kept_entries(alloc, toc.entries.as_slice(), guids) else {
         return Err(Stop::NoMemory);
@@ -133,10 +145,12 @@ fn removed<H: Files>(
     guids: &[Guid],
 ) -> Result<(u64, Vec<u8>), Stop>
     ensures told { (told : Directory) → H.contents files.old ≡ Some told
-        → Gives (λ m. (m.0, m.1.items)) (Rose (H.faults files.old) (H.faults files.new)) (remove_value told align from.now guids.now) result }
+        → Gives (λ m. (m.0, m.1.items)) (Rose (H.faults files.old) (H.faults files.new))
+        (remove_value told align from.now guids.now) result }
     ensures count { IfOk result (λ m. (t : Toc) × (first_missing t guids.now ≡ None)
         × (m.0 ≡ length (filter (λ e. not (is_named guids.now e)) t.entries))) }
-    ensures reads { ReadsOnly (H.contents files.old) (H.contents files.new) (H.faults files.old) (H.faults files.new) result }
+    ensures reads { ReadsOnly (H.contents files.old) (H.contents files.new) (H.faults files.old)
+        (H.faults files.new) result }
 {
     match table_with(files, from, guids) {
         Ok(toc) => without(alloc, files, align, from, &toc, guids),
@@ -153,13 +167,18 @@ fn replaced<H: Files>(
     toc: &Toc,
     named: &[NamedFile<'_>],
 ) -> Result<(u64, Vec<u8>), Stop>
-    requires stored { (bytes : List ℕ) → Tells (H.contents files.old) from.now bytes → All (λ e. e.offset + e.size ≤ length bytes) toc.now.entries }
+    requires stored { (bytes : List ℕ) → Tells (H.contents files.old) from.now bytes
+        → All (λ e. e.offset + e.size ≤ length bytes) toc.now.entries }
     requires there { Lacks (H.contents files.old) from.now → ⊥ }
-    ensures told { (told : Directory) (bytes : List ℕ) → H.contents files.old ≡ Some told → told from.now ≡ Some bytes
+    ensures told { (told : Directory) (bytes : List ℕ) → H.contents files.old ≡ Some told
+        → told from.now ≡ Some bytes
         → Gives (λ m. (m.0, m.1.items)) (Rose (H.faults files.old) (H.faults files.new))
-        (after (parts_in told (map part_view named.now)) (λ new. pack_value toc.now.serial toc.now.flags (map (updated_part bytes new) toc.now.entries) align)) result }
+        (after (parts_in told (map part_view named.now))
+        (λ new. pack_value toc.now.serial toc.now.flags
+        (map (updated_part bytes new) toc.now.entries) align)) result }
     ensures count { IfOk result (λ m. m.0 ≡ length toc.now.entries) }
-    ensures reads { ReadsOnly (H.contents files.old) (H.contents files.new) (H.faults files.old) (H.faults files.new) result }
+    ensures reads { ReadsOnly (H.contents files.old) (H.contents files.new) (H.faults files.old)
+        (H.faults files.new) result }
 {
     match payloads_of_files(alloc, files, named) {
         Ok(new) => {
@@ -179,10 +198,13 @@ fn updated<H: Files>(
     named: &[NamedFile<'_>],
 ) -> Result<(u64, Vec<u8>), Stop>
     ensures told { (told : Directory) → H.contents files.old ≡ Some told
-        → Gives (λ m. (m.0, m.1.items)) (Rose (H.faults files.old) (H.faults files.new)) (update_value told align from.now (map part_view named.now)) result }
-    ensures count { IfOk result (λ m. (t : Toc) × (first_missing t (map (λ p. p.guid) (map part_view named.now)) ≡ None)
+        → Gives (λ m. (m.0, m.1.items)) (Rose (H.faults files.old) (H.faults files.new))
+        (update_value told align from.now (map part_view named.now)) result }
+    ensures count { IfOk result (λ m. (t : Toc)
+        × (first_missing t (map (λ p. p.guid) (map part_view named.now)) ≡ None)
         × (m.0 ≡ length t.entries)) }
-    ensures reads { ReadsOnly (H.contents files.old) (H.contents files.new) (H.faults files.old) (H.faults files.new) result }
+    ensures reads { ReadsOnly (H.contents files.old) (H.contents files.new) (H.faults files.old)
+        (H.faults files.new) result }
 {
     let Ok(types) = types_of(alloc, named) else {
         return Err(Stop::NoMemory);
@@ -203,11 +225,15 @@ pub fn run_create<H: Files, O: Sink>(
     named: &[NamedFile<'_>],
 ) -> Result<(), Stop>
     ensures told { (told : Directory) → H.contents files.old ≡ Some told
-        → Did (outcome_by (packs out.now) (create_value told align (map part_view named.now))) told (H.contents files.new) (O.taken sink.old) (O.taken sink.new)
-        (Rose (H.faults files.old) (H.faults files.new)) (Rose (O.faults sink.old) (O.faults sink.new)) result }
-    ensures says { Says (IsTexts (Asked.create align out.now (map part_view named.now))) (O.taken sink.old) (O.taken sink.new)
+        → Did (outcome_by (packs out.now) (create_value told align (map part_view named.now))) told
+        (H.contents files.new) (O.taken sink.old) (O.taken sink.new)
+        (Rose (H.faults files.old) (H.faults files.new))
         (Rose (O.faults sink.old) (O.faults sink.new)) result }
-    ensures cause { result ≡ Err stop.FileFault → H.contents files.old ≡ None → Rose (H.faults files.old) (H.faults files.new) }
+    ensures says { Says (IsTexts (Asked.create align out.now (map part_view named.now)))
+        (O.taken sink.old) (O.taken sink.new)
+        (Rose (O.faults sink.old) (O.faults sink.new)) result }
+    ensures cause { result ≡ Err stop.FileFault → H.contents files.old ≡ None
+        → Rose (H.faults files.old) (H.faults files.new) }
     ensures usage { result ≡ Err stop.Usage → ⊥ }
     ensures later { O.faults sink.old ≤ O.faults sink.new }
 {
@@ -226,11 +252,15 @@ pub fn run_remove<H: Files, O: Sink>(
     guids: &[Guid],
 ) -> Result<(), Stop>
     ensures told { (told : Directory) → H.contents files.old ≡ Some told
-        → Did (outcome_by (packs out.now) (remove_value told align from.now guids.now)) told (H.contents files.new) (O.taken sink.old) (O.taken sink.new)
-        (Rose (H.faults files.old) (H.faults files.new)) (Rose (O.faults sink.old) (O.faults sink.new)) result }
-    ensures says { Says (IsTexts (Asked.remove align from.now out.now guids.now)) (O.taken sink.old) (O.taken sink.new)
+        → Did (outcome_by (packs out.now) (remove_value told align from.now guids.now)) told
+        (H.contents files.new) (O.taken sink.old) (O.taken sink.new)
+        (Rose (H.faults files.old) (H.faults files.new))
         (Rose (O.faults sink.old) (O.faults sink.new)) result }
-    ensures cause { result ≡ Err stop.FileFault → H.contents files.old ≡ None → Rose (H.faults files.old) (H.faults files.new) }
+    ensures says { Says (IsTexts (Asked.remove align from.now out.now guids.now)) (O.taken sink.old)
+        (O.taken sink.new)
+        (Rose (O.faults sink.old) (O.faults sink.new)) result }
+    ensures cause { result ≡ Err stop.FileFault → H.contents files.old ≡ None
+        → Rose (H.faults files.old) (H.faults files.new) }
     ensures usage { result ≡ Err stop.Usage → ⊥ }
     ensures later { O.faults sink.old ≤ O.faults sink.new }
 {
@@ -250,11 +280,16 @@ pub fn run_update<H: Files, O: Sink>(
     named: &[NamedFile<'_>],
 ) -> Result<(), Stop>
     ensures told { (told : Directory) → H.contents files.old ≡ Some told
-        → Did (outcome_by (packs out.now) (update_value told align from.now (map part_view named.now))) told (H.contents files.new) (O.taken sink.old) (O.taken sink.new)
-        (Rose (H.faults files.old) (H.faults files.new)) (Rose (O.faults sink.old) (O.faults sink.new)) result }
-    ensures says { Says (IsTexts (Asked.update align from.now out.now (map part_view named.now))) (O.taken sink.old) (O.taken sink.new)
+        → Did (outcome_by (packs out.now)
+        (update_value told align from.now (map part_view named.now))) told (H.contents files.new)
+        (O.taken sink.old) (O.taken sink.new)
+        (Rose (H.faults files.old) (H.faults files.new))
         (Rose (O.faults sink.old) (O.faults sink.new)) result }
-    ensures cause { result ≡ Err stop.FileFault → H.contents files.old ≡ None → Rose (H.faults files.old) (H.faults files.new) }
+    ensures says { Says (IsTexts (Asked.update align from.now out.now (map part_view named.now)))
+        (O.taken sink.old) (O.taken sink.new)
+        (Rose (O.faults sink.old) (O.faults sink.new)) result }
+    ensures cause { result ≡ Err stop.FileFault → H.contents files.old ≡ None
+        → Rose (H.faults files.old) (H.faults files.new) }
     ensures usage { result ≡ Err stop.Usage → ⊥ }
     ensures later { O.faults sink.old ≤ O.faults sink.new }
 {

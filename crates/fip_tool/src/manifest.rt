@@ -29,7 +29,8 @@ const IMAGE_LIMIT: usize = 1_048_576;
 // What a manifest says of an image, which is nothing where it is too long.
 #[tactic(auto, unfolding(crate::specs::Tool::image_row))]
 fn row_of(guid: Guid, version: u32, image: &[u8]) -> Option<Row>
-    ensures { option_map row result ≡ image_row (record { guid = guid; version = version; bytes = image.now }) }
+    ensures { option_map row result ≡ image_row
+        (record { guid = guid; version = version; bytes = image.now }) }
 {
     if image.len() > IMAGE_LIMIT {
         None
@@ -45,8 +46,10 @@ fn row_of_file<H: Files>(
     named: &ImageWord,
 ) -> Result<Option<Row>, Stop>
     ensures told { (told : Directory) → H.contents files.old ≡ Some told
-        → Gives (option_map row) (Rose (H.faults files.old) (H.faults files.new)) (after (there (image_in told (image_view named.now))) (λ i. Ok (image_row i))) result }
-    ensures reads { ReadsOnly (H.contents files.old) (H.contents files.new) (H.faults files.old) (H.faults files.new) result }
+        → Gives (option_map row) (Rose (H.faults files.old) (H.faults files.new))
+        (after (there (image_in told (image_view named.now))) (λ i. Ok (image_row i))) result }
+    ensures reads { ReadsOnly (H.contents files.old) (H.contents files.new) (H.faults files.old)
+        (H.faults files.new) result }
 {
     match read_file(alloc, files, named.file) {
         Ok(image) => Ok(row_of(named.guid, named.version, image.as_slice())),
@@ -56,7 +59,8 @@ fn row_of_file<H: Files>(
 
 // The rows with one more, or nothing where one is wanting.
 fn with_row(rows: Option<Vec<Row>>, more: Option<Row>) -> Result<Option<Vec<Row>>, NoMemory>
-    ensures { IfOk result (λ now. option_map (λ v. v.items) now ≡ option_and_then (λ rs. option_map (λ r. rs ++ (r ∷ [])) more) (option_map (λ v. v.items) rows)) }
+    ensures { IfOk result (λ now. option_map (λ v. v.items) now ≡ option_and_then
+        (λ rs. option_map (λ r. rs ++ (r ∷ [])) more) (option_map (λ v. v.items) rows)) }
 {
     match (rows, more) {
         (Some(mut rows), Some(more)) => {
@@ -76,8 +80,11 @@ fn rows_of_files<H: Files>(
     named: &[ImageWord],
 ) -> Result<Option<Vec<Row>>, Stop>
     ensures told { (told : Directory) → H.contents files.old ≡ Some told
-        → Gives (option_map (λ v. map row v.items)) (Rose (H.faults files.old) (H.faults files.new)) (after (there (each (image_in told) (map image_view named.now))) (λ images. Ok (each image_row images))) result }
-    ensures reads { ReadsOnly (H.contents files.old) (H.contents files.new) (H.faults files.old) (H.faults files.new) result }
+        → Gives (option_map (λ v. map row v.items)) (Rose (H.faults files.old) (H.faults files.new))
+        (after (there (each (image_in told) (map image_view named.now)))
+        (λ images. Ok (each image_row images))) result }
+    ensures reads { ReadsOnly (H.contents files.old) (H.contents files.new) (H.faults files.old)
+        (H.faults files.new) result }
     ensures count { IfOk result (λ rows. IfSome rows (λ v. length v.items ≡ length named.now)) }
 {
     let mut rows = Some(Vec::new(alloc));
@@ -96,7 +103,9 @@ fn rows_of_files<H: Files>(
 
 // The manifest of these rows: how many, and its bytes.
 fn manifest_of_rows(alloc: Global, security: u32, rows: Vec<Row>) -> Result<(u64, Vec<u8>), Stop>
-    ensures value { Gives (λ m. (m.0, m.1.items)) ⊥ (if (length rows.items == 0) || nat_lt 15 (length rows.items) then Err (stop.NoManifest fault.BadCount) else of_rows security (Some (map row rows.items))) result }
+    ensures value { Gives (λ m. (m.0, m.1.items)) ⊥
+        (if (length rows.items == 0) || nat_lt 15 (length rows.items) then Err
+        (stop.NoManifest fault.BadCount) else of_rows security (Some (map row rows.items))) result }
     ensures count { IfOk result (λ m. m.0 ≡ length rows.items) }
     ensures usage { result ≡ Err stop.Usage → ⊥ }
     ensures sink { result ≡ Err stop.SinkFault → ⊥ }
@@ -115,7 +124,8 @@ fn manifest_of_rows(alloc: Global, security: u32, rows: Vec<Row>) -> Result<(u64
 
 // Why there is no manifest of so many images, of which one is too long.
 fn refusal(count: usize) -> Stop
-    ensures value { result ≡ (if (count == 0) || nat_lt 15 count then stop.NoManifest fault.BadCount else stop.NoManifest fault.TooLarge) }
+    ensures value { result ≡ (if (count == 0) || nat_lt 15 count then stop.NoManifest fault.BadCount
+        else stop.NoManifest fault.TooLarge) }
     ensures usage { result ≡ stop.Usage → ⊥ }
     ensures sink { result ≡ stop.SinkFault → ⊥ }
 {
@@ -141,8 +151,10 @@ fn check_count(count: usize, is_long: bool) -> Result<(), Stop>
 // Whether the image of a file is too long, by its size.
 fn is_long_file<H: Files>(files: &mut H, named: &ImageWord<'_>) -> Result<bool, Stop>
     ensures told { (told : Directory) → H.contents files.old ≡ Some told
-        → Gives (λ long. long) (Rose (H.faults files.old) (H.faults files.new)) (after (there (image_in told (image_view named.now))) (λ i. Ok (is_long i))) result }
-    ensures reads { ReadsOnly (H.contents files.old) (H.contents files.new) (H.faults files.old) (H.faults files.new) result }
+        → Gives (λ long. long) (Rose (H.faults files.old) (H.faults files.new))
+        (after (there (image_in told (image_view named.now))) (λ i. Ok (is_long i))) result }
+    ensures reads { ReadsOnly (H.contents files.old) (H.contents files.new) (H.faults files.old)
+        (H.faults files.new) result }
 {
     match size_of(files, named.file) {
         Ok(size) => Ok(size > IMAGE_LIMIT as u64),
@@ -153,8 +165,10 @@ fn is_long_file<H: Files>(files: &mut H, named: &ImageWord<'_>) -> Result<bool, 
 // Whether there is a manifest of named images. It asks for the sizes of all files, and reads none.
 fn check_sizes<H: Files>(files: &mut H, named: &[ImageWord<'_>]) -> Result<(), Stop>
     ensures told { (told : Directory) → H.contents files.old ≡ Some told
-        → Gives nothing (Rose (H.faults files.old) (H.faults files.new)) (sizes_value told (map image_view named.now)) result }
-    ensures reads { ReadsOnly (H.contents files.old) (H.contents files.new) (H.faults files.old) (H.faults files.new) result }
+        → Gives nothing (Rose (H.faults files.old) (H.faults files.new))
+        (sizes_value told (map image_view named.now)) result }
+    ensures reads { ReadsOnly (H.contents files.old) (H.contents files.new) (H.faults files.old)
+        (H.faults files.new) result }
 {
     let mut is_long = false;
     for one in named {
@@ -175,9 +189,11 @@ pub fn manifest<H: Files>(
     named: &[ImageWord<'_>],
 ) -> Result<(u64, Vec<u8>), Stop>
     ensures told { (told : Directory) → H.contents files.old ≡ Some told
-        → Gives (λ m. (m.0, m.1.items)) (Rose (H.faults files.old) (H.faults files.new)) (manifest_value told security (map image_view named.now)) result }
+        → Gives (λ m. (m.0, m.1.items)) (Rose (H.faults files.old) (H.faults files.new))
+        (manifest_value told security (map image_view named.now)) result }
     ensures count { IfOk result (λ m. m.0 ≡ length named.now) }
-    ensures reads { ReadsOnly (H.contents files.old) (H.contents files.new) (H.faults files.old) (H.faults files.new) result }
+    ensures reads { ReadsOnly (H.contents files.old) (H.contents files.new) (H.faults files.old)
+        (H.faults files.new) result }
 {
     match check_sizes(files, named) {
         Ok(()) => {}
@@ -200,11 +216,16 @@ pub fn run_manifest<H: Files, O: Sink>(
     named: &[ImageWord],
 ) -> Result<(), Stop>
     ensures told { (told : Directory) → H.contents files.old ≡ Some told
-        → Did (outcome_by (writes_manifest out.now security) (manifest_value told security (map image_view named.now))) told (H.contents files.new) (O.taken sink.old) (O.taken sink.new)
-        (Rose (H.faults files.old) (H.faults files.new)) (Rose (O.faults sink.old) (O.faults sink.new)) result }
-    ensures says { Says (IsTexts (Asked.manifest out.now security (map image_view named.now))) (O.taken sink.old) (O.taken sink.new)
+        → Did (outcome_by (writes_manifest out.now security)
+        (manifest_value told security (map image_view named.now))) told (H.contents files.new)
+        (O.taken sink.old) (O.taken sink.new)
+        (Rose (H.faults files.old) (H.faults files.new))
         (Rose (O.faults sink.old) (O.faults sink.new)) result }
-    ensures cause { result ≡ Err stop.FileFault → H.contents files.old ≡ None → Rose (H.faults files.old) (H.faults files.new) }
+    ensures says { Says (IsTexts (Asked.manifest out.now security (map image_view named.now)))
+        (O.taken sink.old) (O.taken sink.new)
+        (Rose (O.faults sink.old) (O.faults sink.new)) result }
+    ensures cause { result ≡ Err stop.FileFault → H.contents files.old ≡ None
+        → Rose (H.faults files.old) (H.faults files.new) }
     ensures usage { result ≡ Err stop.Usage → ⊥ }
     ensures later { O.faults sink.old ≤ O.faults sink.new }
 {

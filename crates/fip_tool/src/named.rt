@@ -29,10 +29,13 @@ pub fn is_named(guids: &[Guid], entry: &Entry) -> bool
 /// The table of a package that has an entry of each of these types.
 pub fn table_with<H: Files>(files: &mut H, name: &str, guids: &[Guid]) -> Result<Toc, Stop>
     ensures told { (told : Directory) → H.contents files.old ≡ Some told
-        → Gives (λ t. t) (Rose (H.faults files.old) (H.faults files.new)) (after (sized_table told name.now) (λ t. unless_missing (first_missing t.0 guids.now) (Ok t.0))) result }
+        → Gives (λ t. t) (Rose (H.faults files.old) (H.faults files.new))
+        (after (sized_table told name.now)
+        (λ t. unless_missing (first_missing t.0 guids.now) (Ok t.0))) result }
     ensures all { IfOk result (λ t. first_missing t guids.now ≡ None) }
     ensures ends { IfOk result (λ t. All (λ e. e.offset + e.size < 2 ^ 64) t.entries) }
-    ensures reads { ReadsOnly (H.contents files.old) (H.contents files.new) (H.faults files.old) (H.faults files.new) result }
+    ensures reads { ReadsOnly (H.contents files.old) (H.contents files.new) (H.faults files.old)
+        (H.faults files.new) result }
 {
     match read_package(files, name) {
         Ok((toc, _)) => match first_missing(&toc, guids) {

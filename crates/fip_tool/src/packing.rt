@@ -33,9 +33,11 @@ fn frame_of(
     outlines: &[Outline],
     align: u32,
 ) -> Result<Frame, Stop>
-    ensures frame { IfOk result (λ f. (parts : List Part) → map zeroed parts ≡ outlines.now → IsFrame f serial flags parts align) }
+    ensures frame { IfOk result (λ f. (parts : List Part) → map zeroed parts ≡ outlines.now
+        → IsFrame f serial flags parts align) }
     ensures none_in { IfOk result (λ f. f.count ≡ 0) }
-    ensures entries { IfOk result (λ f. f.entries ≡ packed_entries align (table_end outlines.now) outlines.now) }
+    ensures entries { IfOk result (λ f. f.entries ≡ packed_entries align
+        (table_end outlines.now) outlines.now) }
     ensures value { Gives nothing ⊥ (fit_value outlines.now align) result }
     ensures cause { result ≡ Err stop.FileFault → ⊥ }
     ensures usage { result ≡ Err stop.Usage → ⊥ }
@@ -60,9 +62,11 @@ pub fn packed<H: Files>(
 ) -> Result<(u64, Vec<u8>), Stop>
     requires there { All (IsThere (H.contents files.old)) payloads.now }
     ensures told { (told : Directory) → H.contents files.old ≡ Some told
-        → Gives (λ m. (m.0, m.1.items)) (Rose (H.faults files.old) (H.faults files.new)) (pack_value serial flags (map (part_told told) payloads.now) align) result }
+        → Gives (λ m. (m.0, m.1.items)) (Rose (H.faults files.old) (H.faults files.new))
+        (pack_value serial flags (map (part_told told) payloads.now) align) result }
     ensures count { IfOk result (λ m. m.0 ≡ length payloads.now) }
-    ensures reads { ReadsOnly (H.contents files.old) (H.contents files.new) (H.faults files.old) (H.faults files.new) result }
+    ensures reads { ReadsOnly (H.contents files.old) (H.contents files.new) (H.faults files.old)
+        (H.faults files.new) result }
 {
     let Ok(outlines) = outlines(alloc, payloads) else {
         return Err(Stop::NoMemory);

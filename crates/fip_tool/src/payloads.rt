@@ -43,9 +43,11 @@ impl<'a> Payload<'a> {
 // The payload that a named file is, whole.
 fn payload_of_file<'a, H: Files>(files: &mut H, named: &NamedFile<'a>) -> Result<Payload<'a>, Stop>
     ensures told { (told : Directory) → H.contents files.old ≡ Some told
-        → Gives (part_told told) (Rose (H.faults files.old) (H.faults files.new)) (there (part_in told (part_view named.now))) result }
+        → Gives (part_told told) (Rose (H.faults files.old) (H.faults files.new))
+        (there (part_in told (part_view named.now))) result }
     ensures there { IfOk result (IsThere (H.contents files.old)) }
-    ensures reads { ReadsOnly (H.contents files.old) (H.contents files.new) (H.faults files.old) (H.faults files.new) result }
+    ensures reads { ReadsOnly (H.contents files.old) (H.contents files.new) (H.faults files.old)
+        (H.faults files.new) result }
 {
     match size_of(files, named.file) {
         Ok(size) => Ok(Payload {
@@ -66,10 +68,12 @@ pub fn payloads_of_files<'a, H: Files>(
     named: &[NamedFile<'a>],
 ) -> Result<Vec<Payload<'a>>, Stop>
     ensures told { (told : Directory) → H.contents files.old ≡ Some told
-        → Gives (λ v. map (part_told told) v.items) (Rose (H.faults files.old) (H.faults files.new)) (parts_in told (map part_view named.now)) result }
+        → Gives (λ v. map (part_told told) v.items) (Rose (H.faults files.old) (H.faults files.new))
+        (parts_in told (map part_view named.now)) result }
     ensures there { IfOk result (λ v. All (IsThere (H.contents files.old)) v.items) }
     ensures count { IfOk result (λ v. length v.items ≡ length named.now) }
-    ensures reads { ReadsOnly (H.contents files.old) (H.contents files.new) (H.faults files.old) (H.faults files.new) result }
+    ensures reads { ReadsOnly (H.contents files.old) (H.contents files.new) (H.faults files.old)
+        (H.faults files.new) result }
 {
     let mut payloads = Vec::new(alloc);
     for one in named {
@@ -99,7 +103,8 @@ fn of_type<'a>(payloads: &[Payload<'a>], guid: &Guid) -> Option<Payload<'a>>
 fn payload_of_entry<'a>(from: &'a str, entry: &Entry, new: &[Payload<'a>]) -> Payload<'a>
     ensures told { (told : Directory) (bytes : List ℕ) → told from.now ≡ Some bytes
         → part_told told result ≡ updated_part bytes (map (part_told told) new.now) entry.now }
-    ensures there { (told : Option Directory) → All (IsThere told) new.now → HasEntry told from.now entry.now → IsThere told result }
+    ensures there { (told : Option Directory) → All (IsThere told) new.now
+        → HasEntry told from.now entry.now → IsThere told result }
 {
     match of_type(new, &entry.guid) {
         Some(payload) => Payload {
@@ -127,8 +132,10 @@ pub fn payloads_of_entries<'a>(
     new: &[Payload<'a>],
 ) -> Result<Vec<Payload<'a>>, NoMemory>
     ensures told { (told : Directory) (bytes : List ℕ) → told from.now ≡ Some bytes
-        → IfOk result (λ v. map (part_told told) v.items ≡ map (updated_part bytes (map (part_told told) new.now)) entries.now) }
-    ensures there { (told : Option Directory) → All (IsThere told) new.now → All (HasEntry told from.now) entries.now
+        → IfOk result (λ v. map (part_told told) v.items ≡ map
+        (updated_part bytes (map (part_told told) new.now)) entries.now) }
+    ensures there { (told : Option Directory) → All (IsThere told) new.now
+        → All (HasEntry told from.now) entries.now
         → IfOk result (λ v. All (IsThere told) v.items) }
     ensures count { IfOk result (λ v. length v.items ≡ length entries.now) }
 {

@@ -9,7 +9,8 @@ use host_io::{Sink, WriteStop};
 
 /// Prints a text.
 pub fn print<O: Sink>(sink: &mut O, text: &[u8]) -> Result<(), Stop>
-    ensures printed { Printed (O.taken sink.old) (O.taken sink.new) (Rose (O.faults sink.old) (O.faults sink.new)) text.now result }
+    ensures printed { Printed (O.taken sink.old) (O.taken sink.new)
+        (Rose (O.faults sink.old) (O.faults sink.new)) text.now result }
     ensures late { IfErr result IsLate }
     ensures usage { result ≡ Err stop.Usage → ⊥ }
     ensures later { O.faults sink.old ≤ O.faults sink.new }

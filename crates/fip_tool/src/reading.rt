@@ -27,7 +27,8 @@ fn read_range<H: Files>(
     ensures bytes { IfOk result (λ v. TellsRange (H.contents files.old) name.now at v.items) }
     ensures cause { result ≡ Err stop.FileFault → Rose (H.faults files.old) (H.faults files.new) }
     ensures late { IfErr result IsLate }
-    ensures reads { ReadsOnly (H.contents files.old) (H.contents files.new) (H.faults files.old) (H.faults files.new) result }
+    ensures reads { ReadsOnly (H.contents files.old) (H.contents files.new) (H.faults files.old)
+        (H.faults files.new) result }
 {
     let Ok(mut bytes) = Vec::with_capacity(alloc, size as usize) else {
         return Err(Stop::NoMemory);
@@ -41,8 +42,10 @@ fn read_range<H: Files>(
 /// The bytes of a file.
 pub fn read_file<H: Files>(alloc: Global, files: &mut H, name: &str) -> Result<Vec<u8>, Stop>
     ensures told { (told : Directory) → H.contents files.old ≡ Some told
-        → Gives (λ v. v.items) (Rose (H.faults files.old) (H.faults files.new)) (file_value told name.now) result }
-    ensures reads { ReadsOnly (H.contents files.old) (H.contents files.new) (H.faults files.old) (H.faults files.new) result }
+        → Gives (λ v. v.items) (Rose (H.faults files.old) (H.faults files.new))
+        (file_value told name.now) result }
+    ensures reads { ReadsOnly (H.contents files.old) (H.contents files.new) (H.faults files.old)
+        (H.faults files.new) result }
 {
     match size_of(files, name) {
         Ok(size) => read_range(alloc, files, name, 0, size),
@@ -57,13 +60,16 @@ pub fn read_payload<H: Files>(
     name: &str,
     entry: &Entry,
 ) -> Result<Vec<u8>, Stop>
-    requires stored { (bytes : List ℕ) → Tells (H.contents files.old) name.now bytes → entry.now.offset + entry.now.size ≤ length bytes }
+    requires stored { (bytes : List ℕ) → Tells (H.contents files.old) name.now bytes
+        → entry.now.offset + entry.now.size ≤ length bytes }
     requires there { Lacks (H.contents files.old) name.now → ⊥ }
     ensures told { (bytes : List ℕ) → Tells (H.contents files.old) name.now bytes
-        → Gives (λ v. v.items) (Rose (H.faults files.old) (H.faults files.new)) (Ok (payload bytes entry.now)) result }
+        → Gives (λ v. v.items) (Rose (H.faults files.old) (H.faults files.new))
+        (Ok (payload bytes entry.now)) result }
     ensures cause { result ≡ Err stop.FileFault → Rose (H.faults files.old) (H.faults files.new) }
     ensures late { IfErr result IsLate }
-    ensures reads { ReadsOnly (H.contents files.old) (H.contents files.new) (H.faults files.old) (H.faults files.new) result }
+    ensures reads { ReadsOnly (H.contents files.old) (H.contents files.new) (H.faults files.old)
+        (H.faults files.new) result }
 {
     read_range(alloc, files, name, entry.offset, entry.size)
 }

@@ -72,7 +72,8 @@ fn line_of(alloc: Global, word: &[u8], what: &[u8]) -> Result<Vec<u8>, NoMemory>
 }
 
 fn no_entry_line(alloc: Global, guid: &Guid) -> Result<Vec<u8>, NoMemory>
-    ensures { IfOk result (λ line. line.items ≡ codes "no-entry " ++ guid_text guid.now ++ codes "\n") }
+    ensures { IfOk result (λ line. line.items ≡ codes "no-entry " ++ guid_text guid.now ++ codes
+        "\n") }
 {
     let mut line = Vec::from_slice(alloc, b"no-entry ")?;
     add_guid(&mut line, guid)?;

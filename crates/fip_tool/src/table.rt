@@ -22,8 +22,10 @@ const SOURCE_LIMIT: u64 = 4_294_967_296;
 #[tactic(auto, unfolding(crate::specs::Tool::size_in))]
 pub fn size_of<H: Files>(files: &mut H, name: &str) -> Result<u64, Stop>
     ensures told { (told : Directory) → H.contents files.old ≡ Some told
-        → Gives (λ n. n) (Rose (H.faults files.old) (H.faults files.new)) (size_in told name.now) result }
-    ensures reads { ReadsOnly (H.contents files.old) (H.contents files.new) (H.faults files.old) (H.faults files.new) result }
+        → Gives (λ n. n) (Rose (H.faults files.old) (H.faults files.new))
+        (size_in told name.now) result }
+    ensures reads { ReadsOnly (H.contents files.old) (H.contents files.new) (H.faults files.old)
+        (H.faults files.new) result }
 {
     match files.size(name) {
         Ok(Some(size)) => Ok(size),
@@ -43,9 +45,11 @@ fn stop_of(stop: TocStop) -> Stop
 /// The table of a package in a file, and how many bytes the file has. Each payload ends below 2 ^ 64, whatever file it is.
 pub fn read_package<H: Files>(files: &mut H, name: &str) -> Result<(Toc, u64), Stop>
     ensures told { (told : Directory) → H.contents files.old ≡ Some told
-        → Gives (λ t. t) (Rose (H.faults files.old) (H.faults files.new)) (sized_table told name.now) result }
+        → Gives (λ t. t) (Rose (H.faults files.old) (H.faults files.new))
+        (sized_table told name.now) result }
     ensures ends { IfOk result (λ t. All (λ e. e.offset + e.size < 2 ^ 64) t.0.entries) }
-    ensures reads { ReadsOnly (H.contents files.old) (H.contents files.new) (H.faults files.old) (H.faults files.new) result }
+    ensures reads { ReadsOnly (H.contents files.old) (H.contents files.new) (H.faults files.old)
+        (H.faults files.new) result }
 {
     let size = match size_of(files, name) {
         Ok(size) => size,
@@ -62,7 +66,8 @@ fn feed_some<I: Source>(source: &mut I, stream: &mut StreamToc) -> Result<usize,
     requires room { stream.old.count ≤ source_limit }
     ensures few { IfOk result (λ n. n ≤ 4096) }
     ensures fed { (given : List ℕ) → Fed stream.old given
-        → (piece : List ℕ) × FedSome stream.new given piece (I.left source.old) (I.left source.new) (Rose (I.faults source.old) (I.faults source.new)) result }
+        → (piece : List ℕ) × FedSome stream.new given piece (I.left source.old) (I.left source.new)
+        (Rose (I.faults source.old) (I.faults source.new)) result }
     ensures usage { result ≡ Err stop.Usage → ⊥ }
     ensures sink { result ≡ Err stop.SinkFault → ⊥ }
     ensures later { I.faults source.old ≤ I.faults source.new }
@@ -81,7 +86,8 @@ fn feed_some<I: Source>(source: &mut I, stream: &mut StreamToc) -> Result<usize,
 // The table of what the source gave, which was all.
 fn ended(stream: StreamToc, count: u64) -> Result<(Toc, u64), Stop>
     requires few { count ≤ source_limit }
-    ensures table { (given : List ℕ) → Fed stream given → length given ≡ count → decided (toc_of given) ≡ Ok tt
+    ensures table { (given : List ℕ) → Fed stream given → length given ≡ count
+        → decided (toc_of given) ≡ Ok tt
         → EndsAs given result }
     ensures usage { result ≡ Err stop.Usage → ⊥ }
     ensures sink { result ≡ Err stop.SinkFault → ⊥ }
@@ -95,7 +101,8 @@ fn ended(stream: StreamToc, count: u64) -> Result<(Toc, u64), Stop>
 /// The table of a package that the source gives, and how many bytes it gave. It is read to its end, to a fault that no further
 /// bytes mend, or past the most bytes.
 pub fn read_given<I: Source>(source: &mut I) -> Result<(Toc, u64), Stop>
-    ensures given { (given : List ℕ) × GivenTo (λ t. t) given_table (I.left source.old) (I.left source.new) (Rose (I.faults source.old) (I.faults source.new)) result given }
+    ensures given { (given : List ℕ) × GivenTo (λ t. t) given_table (I.left source.old)
+        (I.left source.new) (Rose (I.faults source.old) (I.faults source.new)) result given }
     ensures usage { result ≡ Err stop.Usage → ⊥ }
     ensures sink { result ≡ Err stop.SinkFault → ⊥ }
     ensures later { I.faults source.old ≤ I.faults source.new }

@@ -28,11 +28,14 @@ fn info<H: Files, O: Sink>(
     name: &str,
 ) -> Result<(), Stop>
     ensures told { (told : Directory) → H.contents files.old ≡ Some told
-        → Did (command_outcome (Asked.info name.now) told) told (H.contents files.new) (O.taken sink.old) (O.taken sink.new)
-        (Rose (H.faults files.old) (H.faults files.new)) (Rose (O.faults sink.old) (O.faults sink.new)) result }
+        → Did (command_outcome (Asked.info name.now) told) told (H.contents files.new)
+        (O.taken sink.old) (O.taken sink.new)
+        (Rose (H.faults files.old) (H.faults files.new))
+        (Rose (O.faults sink.old) (O.faults sink.new)) result }
     ensures says { Says (IsTexts (Asked.info name.now)) (O.taken sink.old) (O.taken sink.new)
         (Rose (O.faults sink.old) (O.faults sink.new)) result }
-    ensures cause { result ≡ Err stop.FileFault → H.contents files.old ≡ None → Rose (H.faults files.old) (H.faults files.new) }
+    ensures cause { result ≡ Err stop.FileFault → H.contents files.old ≡ None
+        → Rose (H.faults files.old) (H.faults files.new) }
     ensures usage { result ≡ Err stop.Usage → ⊥ }
     ensures later { O.faults sink.old ≤ O.faults sink.new }
 {
@@ -47,8 +50,11 @@ fn info_of_source<I: Source, O: Sink>(
     source: &mut I,
     sink: &mut O,
 ) -> Result<(), Stop>
-    ensures listed { (told : Option Directory) → ReadSource result told told (I.left source.old) (I.left source.new) (O.taken sink.old) (O.taken sink.new)
-        (Rose (I.faults source.old) (I.faults source.new)) (Rose (O.faults sink.old) (O.faults sink.new)) }
+    ensures listed { (told : Option Directory)
+        → ReadSource result told told (I.left source.old) (I.left source.new) (O.taken sink.old)
+        (O.taken sink.new)
+        (Rose (I.faults source.old) (I.faults source.new))
+        (Rose (O.faults sink.old) (O.faults sink.new)) }
     ensures says { Says (IsTexts info_of_source) (O.taken sink.old) (O.taken sink.new)
         (Rose (O.faults sink.old) (O.faults sink.new)) result }
     ensures cause { result ≡ Err stop.FileFault → Rose (I.faults source.old) (I.faults source.new) }
@@ -63,7 +69,8 @@ fn info_of_source<I: Source, O: Sink>(
 
 // Tells why a command ended, and says why the tool ends then.
 fn tell<O: Sink>(alloc: Global, sink: &mut O, stop: Stop) -> Stop
-    ensures told { Told (O.taken sink.old) (O.taken sink.new) (Rose (O.faults sink.old) (O.faults sink.new)) stop result }
+    ensures told { Told (O.taken sink.old) (O.taken sink.new)
+        (Rose (O.faults sink.old) (O.faults sink.new)) stop result }
     ensures later { O.faults sink.old ≤ O.faults sink.new }
 {
     match stop_line(alloc, &stop) {
@@ -77,7 +84,8 @@ fn tell<O: Sink>(alloc: Global, sink: &mut O, stop: Stop) -> Stop
 
 // Where the sink takes no more, and for want of memory, nothing is told.
 fn report<O: Sink>(alloc: Global, sink: &mut O, stop: Stop) -> Stop
-    ensures reported { Reported (O.taken sink.old) (O.taken sink.new) (Rose (O.faults sink.old) (O.faults sink.new)) stop result }
+    ensures reported { Reported (O.taken sink.old) (O.taken sink.new)
+        (Rose (O.faults sink.old) (O.faults sink.new)) stop result }
     ensures later { O.faults sink.old ≤ O.faults sink.new }
 {
     match stop {
@@ -94,14 +102,22 @@ fn command<H: Files, I: Source, O: Sink>(
     source: &mut I,
     sink: &mut O,
 ) -> Result<(), Stop>
-    requires other { (from prefix : List ℕ) → (names : List (List ℕ)) → view order.now ≡ Asked.unpack from prefix names → is_unpacked prefix from ≡ false }
-    ensures told { (told : Directory) → H.contents files.old ≡ Some told → view order.now ≢ info_of_source
-        → Did (command_outcome (view order.now) told) told (H.contents files.new) (O.taken sink.old) (O.taken sink.new)
-        (Rose (H.faults files.old) (H.faults files.new)) (Rose (O.faults sink.old) (O.faults sink.new)) result }
-    ensures source { view order.now ≡ info_of_source → ReadSource result (H.contents files.old) (H.contents files.new) (I.left source.old) (I.left source.new)
-        (O.taken sink.old) (O.taken sink.new) (Rose (I.faults source.old) (I.faults source.new)) (Rose (O.faults sink.old) (O.faults sink.new)) }
+    requires other { (from prefix : List ℕ) → (names : List (List ℕ))
+        → view order.now ≡ Asked.unpack from prefix names → is_unpacked prefix from ≡ false }
+    ensures told { (told : Directory) → H.contents files.old ≡ Some told
+        → view order.now ≢ info_of_source
+        → Did (command_outcome (view order.now) told) told (H.contents files.new) (O.taken sink.old)
+        (O.taken sink.new)
+        (Rose (H.faults files.old) (H.faults files.new))
+        (Rose (O.faults sink.old) (O.faults sink.new)) result }
+    ensures source { view order.now ≡ info_of_source
+        → ReadSource result (H.contents files.old) (H.contents files.new) (I.left source.old)
+        (I.left source.new)
+        (O.taken sink.old) (O.taken sink.new) (Rose (I.faults source.old) (I.faults source.new))
+        (Rose (O.faults sink.old) (O.faults sink.new)) }
     ensures cause { result ≡ Err stop.FileFault → H.contents files.old ≡ None
-        → Rose (H.faults files.old) (H.faults files.new) ⊎ Rose (I.faults source.old) (I.faults source.new) }
+        → Rose (H.faults files.old) (H.faults files.new)
+        ⊎ Rose (I.faults source.old) (I.faults source.new) }
     ensures says { Says (IsTexts (view order.now)) (O.taken sink.old) (O.taken sink.new)
         (Rose (O.faults sink.old) (O.faults sink.new)) result }
     ensures source_stays { view order.now ≢ info_of_source
@@ -148,19 +164,27 @@ fn run<H: Files, I: Source, O: Sink>(
     source: &mut I,
     sink: &mut O,
 ) -> Result<(), Stop>
-    ensures told { (told : Directory) → H.contents files.old ≡ Some told → asked (map string_bytes words.now) ≢ Some info_of_source
-        → Did (outcome_of (asked (map string_bytes words.now)) told) told (H.contents files.new) (O.taken sink.old) (O.taken sink.new)
-        (Rose (H.faults files.old) (H.faults files.new)) (Rose (O.faults sink.old) (O.faults sink.new)) result }
-    ensures source { asked (map string_bytes words.now) ≡ Some info_of_source → ReadSource result (H.contents files.old) (H.contents files.new)
-        (I.left source.old) (I.left source.new) (O.taken sink.old) (O.taken sink.new)
-        (Rose (I.faults source.old) (I.faults source.new)) (Rose (O.faults sink.old) (O.faults sink.new)) }
-    ensures says { Says (IsTextsOf (asked (map string_bytes words.now))) (O.taken sink.old) (O.taken sink.new)
+    ensures told { (told : Directory) → H.contents files.old ≡ Some told
+        → asked (map string_bytes words.now) ≢ Some info_of_source
+        → Did (outcome_of (asked (map string_bytes words.now)) told) told (H.contents files.new)
+        (O.taken sink.old) (O.taken sink.new)
+        (Rose (H.faults files.old) (H.faults files.new))
         (Rose (O.faults sink.old) (O.faults sink.new)) result }
-    ensures words { asked (map string_bytes words.now) ≡ None → (result ≡ Err stop.Usage) ⊎ (result ≡ Err stop.NoMemory) }
+    ensures source { asked (map string_bytes words.now) ≡ Some info_of_source
+        → ReadSource result (H.contents files.old) (H.contents files.new)
+        (I.left source.old) (I.left source.new) (O.taken sink.old) (O.taken sink.new)
+        (Rose (I.faults source.old) (I.faults source.new))
+        (Rose (O.faults sink.old) (O.faults sink.new)) }
+    ensures says { Says (IsTextsOf (asked (map string_bytes words.now))) (O.taken sink.old)
+        (O.taken sink.new)
+        (Rose (O.faults sink.old) (O.faults sink.new)) result }
+    ensures words { asked (map string_bytes words.now) ≡ None → (result ≡ Err stop.Usage)
+        ⊎ (result ≡ Err stop.NoMemory) }
     ensures source_stays { asked (map string_bytes words.now) ≢ Some info_of_source
         → (I.left source.new ≡ I.left source.old) × (I.faults source.new ≡ I.faults source.old) }
     ensures cause { result ≡ Err stop.FileFault → H.contents files.old ≡ None
-        → Rose (H.faults files.old) (H.faults files.new) ⊎ Rose (I.faults source.old) (I.faults source.new) }
+        → Rose (H.faults files.old) (H.faults files.new)
+        ⊎ Rose (I.faults source.old) (I.faults source.new) }
     ensures usage { result ≡ Err stop.Usage → asked (map string_bytes words.now) ≡ None }
     ensures later { O.faults sink.old ≤ O.faults sink.new }
 {
@@ -182,21 +206,29 @@ pub fn fip_top<H: Files, I: Source, O: Sink>(
     source: &mut I,
     sink: &mut O,
 ) -> u8
-    ensures told { (told : Directory) → H.contents files.old ≡ Some told → asked (map string_bytes words.now) ≢ Some info_of_source
-        → Ended (outcome_of (asked (map string_bytes words.now)) told) told (H.contents files.new) (O.taken sink.old) (O.taken sink.new)
-        (Rose (H.faults files.old) (H.faults files.new)) (Rose (O.faults sink.old) (O.faults sink.new)) result }
-    ensures source { asked (map string_bytes words.now) ≡ Some info_of_source → EndedSource result (H.contents files.old) (H.contents files.new)
+    ensures told { (told : Directory) → H.contents files.old ≡ Some told
+        → asked (map string_bytes words.now) ≢ Some info_of_source
+        → Ended (outcome_of (asked (map string_bytes words.now)) told) told (H.contents files.new)
+        (O.taken sink.old) (O.taken sink.new)
+        (Rose (H.faults files.old) (H.faults files.new))
+        (Rose (O.faults sink.old) (O.faults sink.new)) result }
+    ensures source { asked (map string_bytes words.now) ≡ Some info_of_source
+        → EndedSource result (H.contents files.old) (H.contents files.new)
         (I.left source.old) (I.left source.new) (O.taken sink.old) (O.taken sink.new)
-        (Rose (I.faults source.old) (I.faults source.new)) (Rose (O.faults sink.old) (O.faults sink.new)) }
+        (Rose (I.faults source.old) (I.faults source.new))
+        (Rose (O.faults sink.old) (O.faults sink.new)) }
     // What the sink took, whatever files there are: the lines of the command, and where it stopped the line of the stop last.
-    ensures said { SaidWith (asked (map string_bytes words.now)) (O.taken sink.old) (O.taken sink.new)
+    ensures said { SaidWith (asked (map string_bytes words.now)) (O.taken sink.old)
+        (O.taken sink.new)
         (Rose (O.faults sink.old) (O.faults sink.new)) result }
     ensures sink { result ≡ 3 → Rose (O.faults sink.old) (O.faults sink.new) }
     ensures cause { result ≡ 2 → H.contents files.old ≡ None
-        → Rose (H.faults files.old) (H.faults files.new) ⊎ Rose (I.faults source.old) (I.faults source.new) }
+        → Rose (H.faults files.old) (H.faults files.new)
+        ⊎ Rose (I.faults source.old) (I.faults source.new) }
     // Usage is answered exactly by the words, whatever files there are.
     ensures usage { result ≡ 1 → asked (map string_bytes words.now) ≡ None }
-    ensures words { asked (map string_bytes words.now) ≡ None → (result ≡ 1) ⊎ (result ≡ 3) ⊎ (result ≡ 9) }
+    ensures words { asked (map string_bytes words.now) ≡ None → (result ≡ 1) ⊎ (result ≡ 3)
+        ⊎ (result ≡ 9) }
     // Nothing but a listing of the source reads it.
     ensures source_stays { asked (map string_bytes words.now) ≢ Some info_of_source
         → (I.left source.new ≡ I.left source.old) × (I.faults source.new ≡ I.faults source.old) }

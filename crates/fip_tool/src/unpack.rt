@@ -25,7 +25,8 @@ use std::alloc::Global;
 // The file of a type's payload.
 fn file_name(alloc: Global, prefix: &str, guid: &Guid) -> Result<String, NoMemory>
     ensures name { IfOk result (λ name. string_bytes name ≡ unpacked_name prefix.now guid.now) }
-    ensures other { OnOk result ((from : List ℕ) → is_unpacked prefix.now from ≡ false → from ≢ unpacked_name prefix.now guid.now) }
+    ensures other { OnOk result ((from : List ℕ) → is_unpacked prefix.now from ≡ false
+        → from ≢ unpacked_name prefix.now guid.now) }
 {
     let mut text = [0; 36];
     guid.text(&mut text);
@@ -40,7 +41,8 @@ fn file_name(alloc: Global, prefix: &str, guid: &Guid) -> Result<String, NoMemor
 
 // The line of a payload that was written to a file.
 fn unpacked_line(alloc: Global, entry: &Entry, file: &str) -> Result<Vec<u8>, NoMemory>
-    ensures { IfOk result (λ line. line.items ≡ guid_text entry.now.guid ++ codes " size=" ++ decimal entry.now.size ++ codes " file=" ++ file.now ++ codes "\n") }
+    ensures { IfOk result (λ line. line.items ≡ guid_text entry.now.guid ++ codes " size=" ++
+        decimal entry.now.size ++ codes " file=" ++ file.now ++ codes "\n") }
 {
     let mut line = Vec::new(alloc);
     add_guid(&mut line, &entry.guid)?;
@@ -61,14 +63,20 @@ fn unpack_entry<H: Files, O: Sink>(
     prefix: &str,
     entry: &Entry,
 ) -> Result<(), Stop>
-    requires stored { (bytes : List ℕ) → Tells (H.contents files.old) from.now bytes → entry.now.offset + entry.now.size ≤ length bytes }
+    requires stored { (bytes : List ℕ) → Tells (H.contents files.old) from.now bytes
+        → entry.now.offset + entry.now.size ≤ length bytes }
     requires there { Lacks (H.contents files.old) from.now → ⊥ }
-    ensures told { (told : Directory) → (bytes : List ℕ) → H.contents files.old ≡ Some told → told from.now ≡ Some bytes
-        → Did (Makes (unpack_steps prefix.now bytes (entry.now ∷ []))) told (H.contents files.new) (O.taken sink.old) (O.taken sink.new)
-        (Rose (H.faults files.old) (H.faults files.new)) (Rose (O.faults sink.old) (O.faults sink.new)) result }
-    ensures other { OnOk result (is_unpacked prefix.now from.now ≡ false → from.now ≢ unpacked_name prefix.now entry.now.guid) }
+    ensures told { (told : Directory) → (bytes : List ℕ) → H.contents files.old ≡ Some told
+        → told from.now ≡ Some bytes
+        → Did (Makes (unpack_steps prefix.now bytes (entry.now ∷ []))) told (H.contents files.new)
+        (O.taken sink.old) (O.taken sink.new)
+        (Rose (H.faults files.old) (H.faults files.new))
+        (Rose (O.faults sink.old) (O.faults sink.new)) result }
+    ensures other { OnOk result (is_unpacked prefix.now from.now ≡ false
+        → from.now ≢ unpacked_name prefix.now entry.now.guid) }
     ensures silent { H.contents files.old ≡ None → H.contents files.new ≡ None }
-    ensures says { Says (λ texts. texts ≡ unpacked_line prefix.now entry.now ∷ []) (O.taken sink.old) (O.taken sink.new)
+    ensures says { Says (λ texts. texts ≡ unpacked_line prefix.now entry.now ∷ [])
+        (O.taken sink.old) (O.taken sink.new)
         (Rose (O.faults sink.old) (O.faults sink.new)) result }
     ensures late { IfErr result IsLate }
     ensures cause { result ≡ Err stop.FileFault → Rose (H.faults files.old) (H.faults files.new) }
@@ -113,13 +121,20 @@ fn unpack_entries<H: Files, O: Sink>(
     entries: &[Entry],
 ) -> Result<(), Stop>
     requires other { is_unpacked prefix.now from.now ≡ false }
-    requires stored { (bytes : List ℕ) → Tells (H.contents files.old) from.now bytes → All (λ e. e.offset + e.size ≤ length bytes) entries.now }
+    requires stored { (bytes : List ℕ) → Tells (H.contents files.old) from.now bytes
+        → All (λ e. e.offset + e.size ≤ length bytes) entries.now }
     requires there { Lacks (H.contents files.old) from.now → ⊥ }
-    ensures told { (told : Directory) → (bytes : List ℕ) → H.contents files.old ≡ Some told → told from.now ≡ Some bytes
-        → Did (Makes (unpack_steps prefix.now bytes (filter (λ e. (length names.now == 0) || is_named names.now e) entries.now))) told (H.contents files.new) (O.taken sink.old) (O.taken sink.new)
-        (Rose (H.faults files.old) (H.faults files.new)) (Rose (O.faults sink.old) (O.faults sink.new)) result }
-    ensures says { Says (λ texts. texts ≡ map (unpacked_line prefix.now) (filter (λ e. (length names.now == 0) || is_named names.now e) entries.now))
-        (O.taken sink.old) (O.taken sink.new) (Rose (O.faults sink.old) (O.faults sink.new)) result }
+    ensures told { (told : Directory) → (bytes : List ℕ) → H.contents files.old ≡ Some told
+        → told from.now ≡ Some bytes
+        → Did (Makes (unpack_steps prefix.now bytes
+        (filter (λ e. (length names.now == 0) || is_named names.now e) entries.now))) told
+        (H.contents files.new) (O.taken sink.old) (O.taken sink.new)
+        (Rose (H.faults files.old) (H.faults files.new))
+        (Rose (O.faults sink.old) (O.faults sink.new)) result }
+    ensures says { Says (λ texts. texts ≡ map (unpacked_line prefix.now)
+        (filter (λ e. (length names.now == 0) || is_named names.now e) entries.now))
+        (O.taken sink.old) (O.taken sink.new)
+        (Rose (O.faults sink.old) (O.faults sink.new)) result }
     ensures cause { result ≡ Err stop.FileFault → Rose (H.faults files.old) (H.faults files.new) }
     ensures usage { result ≡ Err stop.Usage → ⊥ }
     ensures later { H.faults files.old ≤ H.faults files.new }
@@ -148,11 +163,16 @@ pub fn run_unpack<H: Files, O: Sink>(
 ) -> Result<(), Stop>
     requires other { is_unpacked prefix.now from.now ≡ false }
     ensures told { (told : Directory) → H.contents files.old ≡ Some told
-        → Did (outcome_by (λ v. unpack_steps prefix.now v.0 v.1) (unpack_value told from.now names.now)) told (H.contents files.new) (O.taken sink.old) (O.taken sink.new)
-        (Rose (H.faults files.old) (H.faults files.new)) (Rose (O.faults sink.old) (O.faults sink.new)) result }
-    ensures says { Says (IsTexts (Asked.unpack from.now prefix.now names.now)) (O.taken sink.old) (O.taken sink.new)
+        → Did (outcome_by (λ v. unpack_steps prefix.now v.0 v.1)
+        (unpack_value told from.now names.now)) told (H.contents files.new) (O.taken sink.old)
+        (O.taken sink.new)
+        (Rose (H.faults files.old) (H.faults files.new))
         (Rose (O.faults sink.old) (O.faults sink.new)) result }
-    ensures cause { result ≡ Err stop.FileFault → H.contents files.old ≡ None → Rose (H.faults files.old) (H.faults files.new) }
+    ensures says { Says (IsTexts (Asked.unpack from.now prefix.now names.now)) (O.taken sink.old)
+        (O.taken sink.new)
+        (Rose (O.faults sink.old) (O.faults sink.new)) result }
+    ensures cause { result ≡ Err stop.FileFault → H.contents files.old ≡ None
+        → Rose (H.faults files.old) (H.faults files.new) }
     ensures usage { result ≡ Err stop.Usage → ⊥ }
     ensures later { O.faults sink.old ≤ O.faults sink.new }
 {

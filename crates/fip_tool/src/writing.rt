@@ -17,7 +17,8 @@ use std::alloc::Global;
 /// Writes a file whole.
 pub fn write<H: Files>(files: &mut H, name: &str, bytes: &[u8]) -> Result<(), Stop>
     ensures told { (told : Directory) → H.contents files.old ≡ Some told
-        → Written told (H.contents files.new) (Rose (H.faults files.old) (H.faults files.new)) name.now bytes.now result }
+        → Written told (H.contents files.new)
+        (Rose (H.faults files.old) (H.faults files.new)) name.now bytes.now result }
     ensures cause { result ≡ Err stop.FileFault → Rose (H.faults files.old) (H.faults files.new) }
     ensures silent { H.contents files.old ≡ None → H.contents files.new ≡ None }
     ensures late { IfErr result IsLate }
@@ -41,8 +42,10 @@ pub fn write_and_print<H: Files, O: Sink>(
     line: &[u8],
 ) -> Result<(), Stop>
     ensures told { (told : Directory) → H.contents files.old ≡ Some told
-        → Did (Makes (Writes name.now bytes.now ∷ Prints line.now ∷ [])) told (H.contents files.new) (O.taken sink.old) (O.taken sink.new)
-        (Rose (H.faults files.old) (H.faults files.new)) (Rose (O.faults sink.old) (O.faults sink.new)) result }
+        → Did (Makes (Writes name.now bytes.now ∷ Prints line.now ∷ [])) told (H.contents files.new)
+        (O.taken sink.old) (O.taken sink.new)
+        (Rose (H.faults files.old) (H.faults files.new))
+        (Rose (O.faults sink.old) (O.faults sink.new)) result }
     ensures cause { result ≡ Err stop.FileFault → Rose (H.faults files.old) (H.faults files.new) }
     ensures silent { H.contents files.old ≡ None → H.contents files.new ≡ None }
     ensures says { Says (λ texts. texts ≡ line.now ∷ []) (O.taken sink.old) (O.taken sink.new)
@@ -66,13 +69,18 @@ pub fn put_made<H: Files, O: Sink>(
     out: &str,
     made: Result<(u64, Vec<u8>), Stop>,
 ) -> Result<(), Stop>
-    ensures told { (told : Directory) (value : Result (ℕ × List ℕ) Stop) (before : ℕ) → H.contents files.old ≡ Some told
-        → before ≤ H.faults files.old → Gives (λ m. (m.0, m.1.items)) (Rose before (H.faults files.old)) value made
-        → Did (outcome_by (packs out.now) value) told (H.contents files.new) (O.taken sink.old) (O.taken sink.new)
+    ensures told { (told : Directory) (value : Result (ℕ × List ℕ) Stop) (before : ℕ)
+        → H.contents files.old ≡ Some told
+        → before ≤ H.faults files.old → Gives (λ m. (m.0, m.1.items))
+        (Rose before (H.faults files.old)) value made
+        → Did (outcome_by (packs out.now) value) told (H.contents files.new) (O.taken sink.old)
+        (O.taken sink.new)
         (Rose before (H.faults files.new)) (Rose (O.faults sink.old) (O.faults sink.new)) result }
     ensures says { (made ≡ Err stop.SinkFault → ⊥) → Says (IsPackedLine made)
-        (O.taken sink.old) (O.taken sink.new) (Rose (O.faults sink.old) (O.faults sink.new)) result }
-    ensures cause { result ≡ Err stop.FileFault → (made ≡ Err stop.FileFault) ⊎ Rose (H.faults files.old) (H.faults files.new) }
+        (O.taken sink.old) (O.taken sink.new)
+        (Rose (O.faults sink.old) (O.faults sink.new)) result }
+    ensures cause { result ≡ Err stop.FileFault → (made ≡ Err stop.FileFault)
+        ⊎ Rose (H.faults files.old) (H.faults files.new) }
     ensures usage { result ≡ Err stop.Usage → made ≡ Err stop.Usage }
     ensures later { H.faults files.old ≤ H.faults files.new }
     ensures later_sink { O.faults sink.old ≤ O.faults sink.new }
