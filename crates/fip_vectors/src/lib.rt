@@ -13,6 +13,8 @@ mod manifests;
 #[cfg(test)]
 mod real_files;
 #[cfg(test)]
+mod sizes;
+#[cfg(test)]
 mod tables;
 #[cfg(test)]
 mod words;
