@@ -1,5 +1,5 @@
 -- What is kept fits the bytes of the staged images after a change.
-use Rattle.std.proofs.Common.{◌≡◌, ◌≢◌, ◌⊎◌, inl, inr, ℕ, ◌+◌, ◌-◌, ◌*◌, ◌<◌, ◌≤◌, min, Bool, true, false, List, [], ◌++◌, length, get_or, take, refl, sym, ap, ap₂, ◌∙◌, subst, arith}
+use Rattle.std.proofs.Common.{◌≡◌, ◌≢◌, inl, inr, ℕ, ◌+◌, ◌-◌, ◌<◌, ◌≤◌, min, Bool, List, [], ◌++◌, length, take, refl, sym, ap, ◌∙◌, subst, arith}
 use Rattle.std.proofs.Math.Logic.{∥∥₁_map, ∥∥₁_elim}
 use Rattle.std.proofs.lemmas.Bool.{cases_eq, cases_lt}
 use Rattle.std.proofs.lemmas.List.{length-append, length-take, take-take, take_all, take_min, take-append-le}
@@ -11,7 +11,7 @@ use Rattle.fwu_formats.specs.Layout.{ImageRow}
 use Rattle.fwu_formats.specs.Manifest.{manifest_size}
 use Rattle.agent_kept.specs.declared.parts.Part.{Part}
 use Rattle.agent_kept.specs.declared.parts.Part.TheVariants.{Nothing, Open, Committed}
-use Rattle.agent_kept.specs.Kept.{Kept, IsKept, HasNothing, part_at, size_of, GrowsPart, AppendsPart, OpensPart, CommitsPart, IsNew, CommitsTo, Restarts}
+use Rattle.agent_kept.specs.Kept.{Kept, IsKept, part_at, size_of, GrowsPart, AppendsPart, OpensPart, CommitsPart, IsNew, CommitsTo, Restarts}
 use Rattle.agent_kept.specs.Fronts.{FrontGrows}
 
 -- the front that is kept, by its parts

@@ -1,5 +1,5 @@
 -- The session that is meant, where an image or a handle changes.
-use Rattle.std.proofs.Common.{◌≡◌, ◌≢◌, ◌⊎◌, inl, inr, ℕ, ◌+◌, ◌-◌, ◌<◌, ◌≤◌, Bool, true, false, cond, List, [], ◌++◌, length, get_or, set, map, Option, Some, None, refl, sym, ap, ap₂, ◌∙◌, subst, arith, ext_get_or, get_or-set_same, get_or-set_other, length-set}
+use Rattle.std.proofs.Common.{◌≡◌, ◌≢◌, inl, inr, ℕ, ◌-◌, ◌<◌, Bool, true, cond, List, length, get_or, set, Option, Some, None, sym, ap, ap₂, ◌∙◌, arith, ext_get_or, get_or-set_same, get_or-set_other, length-set}
 use Rattle.std.proofs.lemmas.Bool.{cases_eq}
 use Rattle.std.proofs.lemmas.List.{map-set}
 use Rattle.std.proofs.lemmas.List.FromFn.{length-map-range_with_len, get_or-map-range_with_len}
@@ -8,7 +8,7 @@ use Rattle.fwu_model.specs.Session as machine
 use Rattle.fwu_model.specs.Session.{Staged}
 use Rattle.fwu_formats.specs.Layout.{ImageRow}
 use Rattle.agent_kept.specs.declared.parts.Handle.{Handle}
-use Rattle.agent_kept.specs.Kept.{Kept, part_at, part_meant, parts_meant, staging_meant, handle_meant, handles_meant, session_meant, with_handle}
+use Rattle.agent_kept.specs.Kept.{Kept, part_at, part_meant, parts_meant, staging_meant, handle_meant, handles_meant, with_handle}
 
 -- an image of those that are meant
 pub part-meant : (k : Kept) (bytes : ℕ → List ℕ) (image : ℕ) → image < length k.rows → get_or (parts_meant k bytes) image machine.Nothing ≡ part_meant (part_at k image) (bytes image)

@@ -2,8 +2,8 @@
 use base_core::Guid;
 use fwu_model::{Op, Status};
 
-/// A call of the agent. A write has the length of its bytes; an open for reading has the length of what is read; the vendor flags and
-/// the atomic length have no meaning.
+/// A call of the agent. A write has the length of its bytes, and an open for reading the length of
+/// what is read, both in bytes. The vendor flags and the atomic length have no meaning.
 #[derive(Clone, Copy, Debug, PartialEq, Eq)]
 pub enum Request {
     Discover,

@@ -3,7 +3,8 @@ ghost use Rattle.std.specs.Prelude.{◌≡◌};
 
 use sha2::{Digest, Sha256};
 
-/// A staged image: how many bytes were written, and their SHA-256 so far, or, once it is committed, their digest.
+/// A staged image: how many bytes were written, and their SHA-256 so far, or, once it is committed,
+/// their digest.
 #[derive(Drop)]
 pub enum Part {
     Nothing,

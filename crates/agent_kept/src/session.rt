@@ -17,12 +17,12 @@ pub const FRONT: usize = 888;
 /// The images that are staged and the handles that are open.
 #[derive(Drop)]
 pub struct Session {
-    pub images: usize,
-    pub rows: [ImageRow; 16],
-    pub staging: bool,
-    pub parts: [Part; 16],
-    pub front: [u8; 888],
-    pub handles: [Handle; 32],
+    images: usize,
+    rows: [ImageRow; 16],
+    staging: bool,
+    parts: [Part; 16],
+    front: [u8; 888],
+    handles: [Handle; 32],
     ghost few: { images ≤ 16 },
     ghost sound: { IsSound staging (take images rows) parts handles },
 }
@@ -89,6 +89,37 @@ impl Session {
         &self.rows[..self.images]
     }
 
+    /// Whether a package is staged.
+    pub fn is_staging(&self) -> bool
+        ensures { result ≡ (kept self.now).staging }
+    {
+        self.staging
+    }
+
+    /// What is kept of an image.
+    pub fn part(&self, image: usize) -> &Part
+        requires { image < 16 }
+        ensures { result.now ≡ part_at (kept self.now) image }
+    {
+        &self.parts[image]
+    }
+
+    /// The first 888 bytes of image 0, of which as many count as were written.
+    pub fn front(&self) -> &[u8]
+        ensures value { result.now ≡ (kept self.now).front }
+        ensures size { length result.now ≡ 888 }
+    {
+        &self.front
+    }
+
+    /// The handles, from number 1 on.
+    pub fn handles(&self) -> &[Handle]
+        ensures value { result.now ≡ (kept self.now).handles }
+        ensures count { length result.now ≡ 32 }
+    {
+        &self.handles
+    }
+
     /// The number of the image of a type.
     pub fn find(&self, guid: &Guid) -> Option<usize>
         ensures value { result ≡ find_image (kept self.now).rows guid.now }
@@ -127,7 +158,8 @@ impl Session {
     pub fn append(&mut self, image: usize, bytes: &[u8])
         requires within { image < length (kept self.old).rows }
         requires opened { IsTrue (is_part_open (part_at (kept self.old) image)) }
-        requires size { size_of (part_at (kept self.old) image) + length bytes.now ≤ slot_of (kept self.old).rows image }
+        requires size { size_of (part_at (kept self.old) image) + length bytes.now
+            ≤ slot_of (kept self.old).rows image }
         ensures appends { AppendsPart (kept self.old) image bytes.now (kept self.new) }
     {
         if image == 0 {
@@ -143,7 +175,8 @@ impl Session {
         }
     }
 
-    /// From here on nothing is kept of any image, and no handle is open. A package may be staged, or not.
+    /// From here on nothing is kept of any image, and no handle is open. A package may be staged, or
+    /// not.
     pub fn restart(&mut self, staging: bool)
         ensures restarts { Restarts staging (kept self.old) (kept self.new) }
     {
@@ -152,8 +185,8 @@ impl Session {
         self.handles = [Handle::Free; 32];
     }
 
-    /// The handle of a number from 1 to 32 reads an image or, where there is none, the directory, from
-    /// this place on, in bytes. What it reads has this total.
+    /// The handle of a number from 1 to 32 reads an image or, where there is none, the directory,
+    /// from this place on. Place and total of what it reads are in bytes.
     pub fn set_reader(&mut self, number: u32, image: Option<u32>, at: u32, total: u32)
         requires number { (1 ≤ number) × (number ≤ 32) }
         requires within { at ≤ total }
@@ -170,8 +203,8 @@ impl Session {
         self.handles[number as usize - 1] = Handle::Free;
     }
 
-    /// An image of the staged package is open from here on, without bytes, and the handle of a number
-    /// from 1 to 32 writes it.
+    /// An image of the staged package is open from here on, without bytes, and the handle of a
+    /// number from 1 to 32 writes it.
     pub fn open_part(&mut self, number: u32, image: u32)
         requires number { (1 ≤ number) × (number ≤ 32) }
         requires within { image < length (kept self.old).rows }
@@ -186,8 +219,8 @@ impl Session {
         self.handles[number as usize - 1] = Handle::Writes { image };
     }
 
-    /// The image that the handle of a number from 1 to 32 writes is committed, with this bit, and the
-    /// handle is free.
+    /// The image that the handle of a number from 1 to 32 writes is committed, with this bit, and
+    /// the handle is free.
     pub fn commit_part(&mut self, number: u32, image: u32, bit: bool)
         requires number { (1 ≤ number) × (number ≤ 32) }
         requires writes { handle_kept (kept self.old) (number - 1) ≡ Handle.Writes image }

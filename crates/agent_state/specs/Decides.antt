@@ -1,9 +1,9 @@
 -- What each part of a decision promises.
-use Rattle.std.specs.Prelude.{◌≡◌, ℕ, ◌+◌, ◌%◌, Bool, true, false, ◌&&◌, ◌||◌, not, ◌==◌, if◌then◌else◌, List, length, Option, nat_le}
+use Rattle.std.specs.Prelude.{IsTrue, ◌≡◌, ℕ, ◌+◌, ◌%◌, Bool, true, false, ◌&&◌, ◌||◌, not, ◌==◌, if◌then◌else◌, List, length, Option, nat_le}
 use Rattle.std.specs.List.{position_or_len}
 use Rattle.fwu_model.specs.declared.kinds.Status.TheVariants as status
 use Rattle.fwu_model.specs.declared.kinds.Op.{Op}
-use Rattle.fwu_formats.specs.Metadata.{Meta, MetaRead, state_at}
+use Rattle.fwu_formats.specs.Metadata.{Meta, MetaRead, state_at, fits_meta}
 use Rattle.fwu_model.specs.State.{State, is_invalid, is_valid, is_accepted}
 use Rattle.fwu_model.specs.Sound.{Setting}
 use Rattle.agent_kept.specs.declared.kinds.Request.{Request}
@@ -13,6 +13,10 @@ use Rattle.agent_kept.specs.declared.kinds.Plan.TheVariants as plan
 use Rattle.agent_kept.specs.Handles.{is_free_kept}
 use Rattle.agent_kept.specs.Kept.{Kept, session_meant}
 use Rattle.agent_kept.specs.Plans.{DecidesAs, Speaks, FitsRequest, call_of}
+
+-- the metadata is of a layout with these images
+abbrev pub IsMetaOf : Kept → Meta → Type 0
+IsMetaOf k m = IsTrue (fits_meta (record { banks = length m.states; rows = k.rows }) m)
 
 -- The decision of a request is the machine's, in each setting and state that is spoken of.
 abbrev pub Decides : (List ℕ → Bool) → MetaRead → ℕ → Kept → ℕ → Request → Decision → Type 0

@@ -8,7 +8,7 @@ ghost use Rattle.std.specs.List.{list_any, position, position_or_len};
 ghost use Rattle.agent_kept.specs.Handles.{is_free_kept, is_writer_kept};
 ghost use Rattle.agent_kept.specs.Kept.{kept};
 ghost use Rattle.agent_state.specs.Ruled.{ruled_as};
-ghost use Rattle.agent_state.specs.Decides.{Decides, DecidesByMeta, DecidesBySession, next_bank, is_trial_kept, cannot_begin_kept, may_leave_kept, has_other_kept, lowest_free_kept, opened_as};
+ghost use Rattle.agent_state.specs.Decides.{Decides, DecidesByMeta, IsMetaOf, DecidesBySession, next_bank, is_trial_kept, cannot_begin_kept, may_leave_kept, has_other_kept, lowest_free_kept, opened_as};
 ghost use Rattle.agent_state.specs.Settles.{IsDecisionOf};
 
 use crate::judging::may_install;
@@ -62,7 +62,7 @@ fn is_trial(meta: &Meta, session: &Session) -> bool
     requires active { meta.now.meta.active < length meta.now.meta.states }
     ensures { result ≡ is_trial_kept meta.now.meta (kept session.now) }
 {
-    !session.staging && is_valid(meta.state(meta.active()))
+    !session.is_staging() && is_valid(meta.state(meta.active()))
 }
 
 fn cannot_begin(meta: &Meta, session: &Session, boot_index: u32) -> bool
@@ -80,7 +80,8 @@ fn begin(
     partial_count: u32,
 ) -> Decision
     requires active { meta.now.meta.active < length meta.now.meta.states }
-    ensures decides { DecidesByMeta meta.now (kept session.now) boot_index (Request.Begin vendor_flags partial_count) result }
+    ensures decides { DecidesByMeta meta.now (kept session.now) boot_index
+        (Request.Begin vendor_flags partial_count) result }
     ensures plan { IsDecisionOf (kept session.now) result }
 {
     if cannot_begin(meta, session, boot_index) {
@@ -114,7 +115,7 @@ fn lowest_free(handles: &[Handle]) -> usize
 fn opened(session: &Session, image: Option<u32>, op: Op, total: u32) -> Decision
     ensures { result ≡ opened_as (kept session.now) image op total }
 {
-    let place = lowest_free(&session.handles);
+    let place = lowest_free(session.handles());
     if place >= HANDLES {
         return Decision::Refused(Status::Busy);
     }
@@ -129,13 +130,14 @@ fn opened(session: &Session, image: Option<u32>, op: Op, total: u32) -> Decision
 /// An image of the staged package is opened for writing.
 fn open_to_write(session: &Session, image: u32, total: u32) -> Decision
     requires within { image < length (kept session.now).rows }
-    ensures decides { (guid : List ℕ) → find_image (kept session.now).rows guid ≡ Some image → DecidesBySession (kept session.now) (Request.Open guid Op.Write total) result }
+    ensures decides { (guid : List ℕ) → find_image (kept session.now).rows guid ≡ Some image →
+        DecidesBySession (kept session.now) (Request.Open guid Op.Write total) result }
     ensures plan { IsDecisionOf (kept session.now) result }
 {
-    if !session.staging {
+    if !session.is_staging() {
         return Decision::Refused(Status::Denied);
     }
-    match &session.parts[image as usize] {
+    match session.part(image as usize) {
         Part::Committed { .. } => Decision::Refused(Status::Denied),
         Part::Open { .. } => Decision::Refused(Status::Busy),
         Part::Nothing => opened(session, Some(image), Op::Write, total),
@@ -144,7 +146,8 @@ fn open_to_write(session: &Session, image: u32, total: u32) -> Decision
 
 fn open_image(session: &Session, image: u32, op: Op, total: u32) -> Decision
     requires within { image < length (kept session.now).rows }
-    ensures decides { (guid : List ℕ) → find_image (kept session.now).rows guid ≡ Some image → DecidesBySession (kept session.now) (Request.Open guid op total) result }
+    ensures decides { (guid : List ℕ) → find_image (kept session.now).rows guid ≡ Some image →
+        DecidesBySession (kept session.now) (Request.Open guid op total) result }
     ensures plan { IsDecisionOf (kept session.now) result }
 {
     match op {
@@ -154,7 +157,9 @@ fn open_image(session: &Session, image: u32, op: Op, total: u32) -> Decision
 }
 
 fn open_directory(session: &Session, op: Op, total: u32) -> Decision
-    ensures decides { (guid : List ℕ) → find_image (kept session.now).rows guid ≡ None → IsTrue (same_bytes guid dir_guid) → DecidesBySession (kept session.now) (Request.Open guid op total) result }
+    ensures decides { (guid : List ℕ) → find_image (kept session.now).rows guid ≡ None →
+        IsTrue (same_bytes guid dir_guid) →
+        DecidesBySession (kept session.now) (Request.Open guid op total) result }
     ensures plan { IsDecisionOf (kept session.now) result }
 {
     match op {
@@ -219,7 +224,8 @@ fn read(session: &Session, handle: u32, room: u64) -> Decision
 }
 
 fn commit(session: &Session, handle: u32, acceptance_req: u32, max_atomic_len: u32) -> Decision
-    ensures decides { DecidesBySession (kept session.now) (Request.Commit handle acceptance_req max_atomic_len) result }
+    ensures decides { DecidesBySession (kept session.now)
+        (Request.Commit handle acceptance_req max_atomic_len) result }
     ensures plan { IsDecisionOf (kept session.now) result }
 {
     let bit = acceptance_req == 0;
@@ -247,13 +253,14 @@ fn is_writing(handles: &[Handle]) -> bool
 
 fn end<V: Verifier>(session: &Session, counter: u32, verifier: &V) -> Decision
     requires some { 1 ≤ length (kept session.now).rows }
-    ensures decides { (m : MetaRead) (boot : ℕ) → Decides (V.passes verifier.now) m counter (kept session.now) boot Request.End result }
+    ensures decides { (m : MetaRead) (boot : ℕ) →
+        Decides (V.passes verifier.now) m counter (kept session.now) boot Request.End result }
     ensures plan { IsDecisionOf (kept session.now) result }
 {
-    if !session.staging {
+    if !session.is_staging() {
         return Decision::Refused(Status::Denied);
     }
-    if is_writing(&session.handles) {
+    if is_writing(session.handles()) {
         return Decision::Refused(Status::Busy);
     }
     if !may_install(session, counter, verifier) {
@@ -266,7 +273,7 @@ fn cancel(session: &Session) -> Decision
     ensures decides { DecidesBySession (kept session.now) Request.Cancel result }
     ensures plan { IsDecisionOf (kept session.now) result }
 {
-    if !session.staging {
+    if !session.is_staging() {
         return Decision::Refused(Status::Denied);
     }
     Decision::Do(Plan::Cancel)
@@ -276,11 +283,11 @@ fn cancel(session: &Session) -> Decision
 fn may_accept(meta: &Meta, session: &Session, boot_index: u32) -> bool
     ensures { result ≡ (not (kept session.now).staging && (boot_index == meta.now.meta.active)) }
 {
-    !session.staging && boot_index == meta.active()
+    !session.is_staging() && boot_index == meta.active()
 }
 
 fn accept(meta: &Meta, session: &Session, boot_index: u32, guid: &Guid) -> Decision
-    requires fits { IsTrue (fits_meta (record { banks = length meta.now.meta.states; rows = (kept session.now).rows }) meta.now.meta) }
+    requires fits { IsMetaOf (kept session.now) meta.now.meta }
     ensures decides { DecidesByMeta meta.now (kept session.now) boot_index (Request.Accept guid.now) result }
     ensures plan { IsDecisionOf (kept session.now) result }
 {
@@ -301,7 +308,7 @@ fn may_leave(meta: &Meta, session: &Session, boot_index: u32) -> bool
     requires active { meta.now.meta.active < length meta.now.meta.states }
     ensures { result ≡ may_leave_kept meta.now.meta (kept session.now) boot_index }
 {
-    !session.staging && (is_valid(meta.state(meta.active())) || boot_index != meta.active())
+    !session.is_staging() && (is_valid(meta.state(meta.active())) || boot_index != meta.active())
 }
 
 /// Whether there is another bank to go back to.
@@ -329,8 +336,10 @@ fn previous(meta: &Meta, session: &Session, boot_index: u32) -> Decision
     }
 }
 
-/// What is decided of a request, by the metadata, what is kept of the session, the booted bank and the counter. The verifier is asked of
-/// the manifest of a package that `end` would install. Only `previous` needs the verdict on a bank.
+/// What is decided of a request, by the metadata, what is kept of the session, the booted bank and
+/// the counter: a refusal by the first condition that fails, or a plan. Only `previous` waits for the
+/// verdict on a bank. The verifier is asked of the manifest of a package that `end` would install. No
+/// flash is read.
 pub fn decide<V: Verifier>(
     meta: &Meta,
     session: &Session,
@@ -340,8 +349,9 @@ pub fn decide<V: Verifier>(
     verifier: &V,
 ) -> Decision
     requires some { 1 ≤ length (kept session.now).rows }
-    requires fits { IsTrue (fits_meta (record { banks = length meta.now.meta.states; rows = (kept session.now).rows }) meta.now.meta) }
-    ensures decides { Decides (V.passes verifier.now) meta.now counter (kept session.now) boot_index request.now result }
+    requires fits { IsMetaOf (kept session.now) meta.now.meta }
+    ensures decides { Decides (V.passes verifier.now) meta.now counter (kept session.now) boot_index
+        request.now result }
     ensures plan { IsDecisionOf (kept session.now) result }
 {
     match request {
@@ -365,7 +375,8 @@ pub fn decide<V: Verifier>(
     }
 }
 
-/// What the verdict makes of a decision: the plan, where the bank is good, and else the refusal.
+/// What the verdict on a bank makes of a decision that waits for it: the plan where the bank is good,
+/// else DENIED. Any other decision stays.
 pub fn ruled(decision: &Decision, good: bool) -> Decision
     ensures { result ≡ ruled_as decision.now good }
 {

@@ -18,7 +18,12 @@ fn is_same(bytes: &[u8], other: &[u8]) -> bool
 
 /// Whether an image is committed with this length and digest.
 fn is_image(part: &Part, row: &Row) -> bool
-    ensures { result ≡ is_part_of (record { guid = row.now.guid; size = row.now.size; version = row.now.version; digest = row.now.digest }) part.now }
+    ensures { result ≡ is_part_of (record {
+      guid = row.now.guid;
+      size = row.now.size;
+      version = row.now.version;
+      digest = row.now.digest;
+    }) part.now }
 {
     match part {
         Part::Committed { size, digest, .. } => {
@@ -36,7 +41,7 @@ fn are_images(session: &Session, manifest: &[u8]) -> bool
     ensures { result ≡ are_rows_kept (kept session.now) manifest.now }
 {
     for image in 1..session.rows().len() {
-        if !is_image(&session.parts[image], &row_at(manifest, image as u32 - 1)) {
+        if !is_image(session.part(image), &row_at(manifest, image as u32 - 1)) {
             return false;
         }
     }
@@ -48,7 +53,7 @@ fn all_committed(session: &Session) -> bool
     ensures { result ≡ list_all is_part_committed (parts_of (kept session.now)) }
 {
     for image in 0..session.rows().len() {
-        if !session.parts[image].is_committed() {
+        if !session.part(image).is_committed() {
             return false;
         }
     }
@@ -61,7 +66,8 @@ fn all_three(first: bool, second: bool, third: bool) -> bool
     first && second && third
 }
 
-/// Whether the committed images are a complete package whose version is not below the counter and whose manifest the verifier accepts.
+/// Whether the committed images are a complete package whose version is not below the counter and
+/// whose manifest the verifier accepts.
 pub fn may_install<V: Verifier>(session: &Session, counter: u32, verifier: &V) -> bool
     requires some { 1 ≤ length (kept session.now).rows }
     ensures { result ≡ is_installable (V.passes verifier.now) counter (kept session.now) }
@@ -73,7 +79,7 @@ pub fn may_install<V: Verifier>(session: &Session, counter: u32, verifier: &V) -
     if session.size(0) as usize != size {
         return false;
     }
-    let manifest = &session.front[..size];
+    let manifest = &session.front()[..size];
     match test(manifest, session.rows()) {
         Ok(version) => {
             let same = are_images(session, manifest);

@@ -5,7 +5,7 @@ ghost use Rattle.fwu_formats.specs.Metadata.{fits_meta};
 ghost use Rattle.fwu_model.specs.State.{Free, Switch, Accept, Back, all_set, state_by};
 ghost use Rattle.agent_kept.specs.Kept.{kept};
 ghost use Rattle.fwu_model.specs.MoveMetas.{meta_after};
-ghost use Rattle.agent_state.specs.Decides.{next_bank};
+ghost use Rattle.agent_state.specs.Decides.{next_bank, IsMetaOf};
 ghost use Rattle.agent_state.specs.Settles.{IsPlanOf, IsDecisionOf, HasBytes, Changes, ChangesBy, bit_kept, bits_kept, meta_planned, meta_settled, SettlesBy, IsNumber};
 
 use crate::deciding::update_bank;
@@ -30,7 +30,7 @@ fn committed_bits(session: &Session) -> Bits
 {
     let mut bits = Bits::new();
     for image in 0..session.rows().len() {
-        bits.push(bit_of(&session.parts[image]));
+        bits.push(bit_of(session.part(image)));
     }
     bits
 }
@@ -107,9 +107,11 @@ fn go_back(meta: &mut Meta)
 
 /// What a plan makes of the metadata.
 fn change_meta(meta: &mut Meta, session: &Session, plan: &Plan)
-    requires fits { IsTrue (fits_meta (record { banks = length meta.old.meta.states; rows = (kept session.now).rows }) meta.old.meta) }
+    requires fits { IsMetaOf (kept session.now) meta.old.meta }
     requires plan { IsPlanOf (kept session.now) plan.now }
-    ensures set { meta.new ≡ record meta.old { meta = meta_planned (kept session.now) meta.old.meta plan.now } }
+    ensures set { meta.new ≡ record meta.old {
+      meta = meta_planned (kept session.now) meta.old.meta plan.now;
+    } }
 {
     match *plan {
         Plan::Begin { store } => {
@@ -189,16 +191,22 @@ fn change_session(session: &mut Session, plan: &Plan, bytes: &[u8])
     }
 }
 
-/// Makes of the metadata and of what is kept of the session what a decision says that `decide` or `ruled` gave for them. The bytes are
-/// those of a write, else none. A refusal, and what waits for a verdict, changes nothing.
+/// Makes of the metadata and of what is kept of the session what a decision says that `decide` or
+/// `ruled` gave for them. The bytes are those of a write, else none. A refusal, and a decision that
+/// waits for a verdict, change nothing.
 pub fn settle(meta: &mut Meta, session: &mut Session, decision: &Decision, bytes: &[u8])
-    requires fits { IsTrue (fits_meta (record { banks = length meta.old.meta.states; rows = (kept session.old).rows }) meta.old.meta) }
+    requires fits { IsMetaOf (kept session.old) meta.old.meta }
     requires decided { IsDecisionOf (kept session.old) decision.now }
     requires bytes { (p : Plan) → decision.now ≡ Decision.Do p → HasBytes p bytes.now }
 
-    ensures meta { meta.new ≡ record meta.old { meta = meta_settled (kept session.old) meta.old.meta decision.now } }
+    ensures meta { meta.new ≡ record meta.old {
+      meta = meta_settled (kept session.old) meta.old.meta decision.now;
+    } }
     ensures session { ChangesBy (kept session.old) bytes.now decision.now (kept session.new) }
-    ensures settles { SettlesBy (kept session.old) meta.old bytes.now decision.now meta.new (kept session.new) }
+    ensures fits { IsMetaOf (kept session.new) meta.new.meta }
+    // the machine that was spoken of before is spoken of after its moves, with its next session
+    ensures settles { SettlesBy (kept session.old) meta.old bytes.now decision.now
+        meta.new (kept session.new) }
 {
     if let Decision::Do(plan) = decision {
         change_meta(meta, session, plan);

@@ -1,4 +1,4 @@
-use Rattle.std.proofs.Common.{◌≡◌, ◌≤◌, ◌-◌, ℕ, List, length, sym, ap, ◌∙◌, arith}
+use Rattle.std.proofs.Common.{◌≡◌, ◌≤◌, ◌-◌, ℕ, List, length, sym, ap, ap₂, ◌∙◌, arith}
 use Rattle.fwu_formats.specs.Manifest.{Row}
 use Rattle.agent_kept.specs.Kept.{kept, part_at}
 use Rattle.agent_kept.specs.Judged.{is_part_of}
@@ -9,7 +9,7 @@ pub returns-then-not-is_image : goal.returns-then-not-is_image
 returns-then-not-is_image c =
     let k = kept c.args.session.now in
     one-row k c.args.manifest.now c.loop-image.image c.requires.some c.requires.count c.loop-image.auto.image (omega (arith, c.loop-image-test.true, ap length c.rows-image-end.ensures.value))
-    (ap (λ (r : Row). is_part_of r (part_at k c.loop-image.image)) (sym c.row_at.ensures) ∙ sym c.is_image.ensures ∙ c.if-not-is_image.true)
+    (ap₂ is_part_of (sym c.row_at.ensures) (sym c.part.ensures) ∙ sym c.is_image.ensures ∙ c.if-not-is_image.true)
 
 pub returns : goal.returns
 returns c =

@@ -26,14 +26,14 @@ returns-then-size g c =
 pub are_images-same-requires-clause-count : goal.are_images-same-requires-clause-count
 are_images-same-requires-clause-count g c =
     let k = kept c.args.session.now in
-    let m = sizes-is k c.rows.result.now c.rows.ensures.value in
+    let m = ap (take (48 + 56 * (length c.rows.result.now - 1))) c.front.ensures.value ∙ sizes-is k c.rows.result.now c.rows.ensures.value in
     let says = sym c.in-Ok.is ∙ c.test.ensures.is ∙ ap₂ (λ (l : List ImageRow) (b : List ℕ). version_of (manifest_of l b)) c.rows-2.ensures.value m in
     rw m (counted (g.V.Verifier.passes c.args.verifier.now) c.args.counter k c.in-Ok.version says)
 
 pub returns-in-Ok : goal.returns-in-Ok
 returns-in-Ok g c =
     let k = kept c.args.session.now in
-    let m = sizes-is k c.rows.result.now c.rows.ensures.value in
+    let m = ap (take (48 + 56 * (length c.rows.result.now - 1))) c.front.ensures.value ∙ sizes-is k c.rows.result.now c.rows.ensures.value in
     let says = sym c.in-Ok.is ∙ c.test.ensures.is ∙ ap₂ (λ (l : List ImageRow) (b : List ℕ). version_of (manifest_of l b)) c.rows-2.ensures.value m in
     c.all_three.ensures
     ∙ installed (g.V.Verifier.passes c.args.verifier.now) c.args.counter k c.in-Ok.version c.are_images-same.result c.accepts-passes.result (sym c.all_committed.ensures ∙ c.if-not-all_committed.false)
@@ -43,7 +43,7 @@ returns-in-Ok g c =
 pub returns-in-Err : goal.returns-in-Err
 returns-in-Err g c =
     let k = kept c.args.session.now in
-    let m = sizes-is k c.rows.result.now c.rows.ensures.value in
+    let m = ap (take (48 + 56 * (length c.rows.result.now - 1))) c.front.ensures.value ∙ sizes-is k c.rows.result.now c.rows.ensures.value in
     faulty (g.V.Verifier.passes c.args.verifier.now) c.args.counter k c.in-Err.field-0 (sym c.all_committed.ensures ∙ c.if-not-all_committed.false)
     (eq-eqb _ _ (sym c.size.ensures ∙ c.if-size.false ∙ count-is k c.rows.result.now c.rows.ensures.value))
     (sym c.in-Err.is ∙ c.test.ensures.is ∙ ap₂ (λ (l : List ImageRow) (b : List ℕ). version_of (manifest_of l b)) c.rows-2.ensures.value m)

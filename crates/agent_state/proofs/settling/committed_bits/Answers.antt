@@ -2,7 +2,7 @@ use Rattle.std.proofs.Common.{◌≡◌, ◌+◌, ◌<◌, ◌≤◌, ℕ, Bool,
 use Rattle.std.proofs.lemmas.List.{length-take, take_all}
 use Rattle.fwu_formats.specs.Layout.{ImageRow}
 use Rattle.agent_kept.specs.Kept.{kept}
-use Rattle.agent_state.specs.Settles.{bits_kept}
+use Rattle.agent_state.specs.Settles.{bit_kept, bits_kept}
 use Rattle.agent_state.proofs.Collected.{bits-count, bits-step}
 use Rattle.agent_state.proofs.settling.committed_bits.Goals as goal
 
@@ -15,7 +15,7 @@ pub loop-image-preserved : goal.loop-image-preserved
 loop-image-preserved c =
     let k = kept c.args.session.now in
     let lt : c.loop-image.image < length k.rows = omega (arith, c.loop-image-test.true, ap (λ (l : List ImageRow). length l) c.rows-image-end.ensures.value) in
-    c.push.ensures ∙ ap (λ (l : List Bool). l ++ c.bit_of.result ∷ []) c.loop-image.invariant ∙ ap (λ (b : Bool). take c.loop-image.image (bits_kept k) ++ b ∷ []) c.bit_of.ensures
+    c.push.ensures ∙ ap (λ (l : List Bool). l ++ c.bit_of.result ∷ []) c.loop-image.invariant ∙ ap (λ (b : Bool). take c.loop-image.image (bits_kept k) ++ b ∷ []) (c.bit_of.ensures ∙ ap bit_kept c.part.ensures)
     ∙ sym (bits-step k c.loop-image.image lt)
 
 pub returns : goal.returns

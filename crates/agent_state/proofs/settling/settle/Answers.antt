@@ -1,7 +1,9 @@
-use Rattle.std.proofs.Common.{◌≡◌, ◌≤◌, List, length, sym, subst, arith}
+use Rattle.std.proofs.Common.{◌≡◌, ◌≤◌, List, length, sym, subst, ap, arith}
 use Rattle.agent_kept.specs.declared.kinds.Decision.{Decision}
 use Rattle.agent_kept.specs.Kept.{Kept, kept}
 use Rattle.agent_state.specs.Settles.{IsDecisionOf, SettlesBy}
+use Rattle.fwu_formats.specs.Metadata.{MetaRead}
+use Rattle.agent_state.proofs.Planned.{planned-fits}
 use Rattle.agent_state.proofs.Settled.{settled-in}
 use Rattle.agent_state.proofs.settling.settle.Goals as goal
 
@@ -12,3 +14,8 @@ returns-in-Do-clause-settles c =
     (λ E s passes counter boot staged sp total.
     settled-in E s passes c.args.meta.now counter boot k staged c.args.bytes.now sp c.args.session.now.sound.few _ c.change_meta.new.meta (kept c.change_session.new.session)
     (subst (IsDecisionOf k) c.in-Do.is c.requires.decided) total c.change_session.ensures.changes c.change_meta.ensures.set)
+
+pub returns-in-Do-clause-fits : goal.returns-in-Do-clause-fits
+returns-in-Do-clause-fits c =
+    planned-fits (kept c.args.session.now) c.args.meta.now.meta c.requires.fits c.args.bytes.now _ (kept c.change_session.new.session) c.change_meta.new.meta.meta c.change_session.ensures.changes
+    (ap (λ (r : MetaRead). r.meta) c.change_meta.ensures.set)
