@@ -1,0 +1,306 @@
+-- The header that is written reads back as this copy of the table.
+use Rattle.std.proofs.Common.{◌≡◌, ◌⊎◌, inl, inr, ℕ, zero, suc, ◌+◌, ◌*◌, ◌/◌, ◌%◌, ◌<◌, ◌≤◌, List, ◌++◌, length, get_or, take, drop, replicate, refl, sym, ap, ◌∙◌, arith, subst, append_assoc, length-append, le-leb, eq-eqb}
+use Rattle.std.proofs.lemmas.Bool.{and_from}
+use Rattle.std.proofs.lemmas.List.{drop-drop, drop_all, append-nil, length-replicate, length-take-le, drop-replicate}
+use Rattle.std.proofs.Math.Seq.{take-append_seam, drop-append_seam}
+use Rattle.std.proofs.Math.Nat.{mod-add-div}
+use Rattle.std.specs.Prelude.{IsTrue, codes}
+use Rattle.base_core.specs.Block.{block}
+use Rattle.base_core.specs.Bytes.{num, le, num_at, part, overwritten, same_bytes}
+use Rattle.base_core.specs.Crc.{crc}
+use Rattle.base_core.specs.Seal.{has_table_seal}
+use Rattle.base_core.proofs.Blocks.{length-block}
+use Rattle.base_core.proofs.Seals.{table_from}
+use Rattle.flash_core.proofs.Images.{block-overwritten_front, length-overwritten, overwritten_below, overwritten_above}
+use Rattle.gpt_core.specs.declared.table.TableCopy.{TableCopy}
+use Rattle.gpt_core.specs.declared.table.TableCopy.TheVariants.{Primary, Backup}
+use Rattle.gpt_core.specs.Table.{Table, FitsTable, blocks_of, number_of, number_in, header_at, other, entries_at, has_start, has_places, has_fields, is_roomy, is_header, entries_in, table_of, header_lead, header_places, header_back, header_with, header_bytes}
+use Rattle.gpt_core.specs.Repair.{Spells}
+use Rattle.gpt_core.proofs.Copies.{valid_from, range-same, header_within, entries_within, within_image}
+
+-- ---- numbers
+
+-- how many numbers n bytes have
+abbrev numbers : ℕ → ℕ
+numbers zero = 1
+numbers (suc n) = 256 * numbers n
+
+num-le : (n v : ℕ) → v < numbers n → num (le n v) ≡ v
+num-le zero v lt = omega (arith, lt)
+num-le (suc n) v lt =
+    let whole : v % 256 + 256 * (v / 256) ≡ v = mod-add-div v 256 in
+    let rest : num (le n (v / 256)) ≡ v / 256 = num-le n (v / 256) (omega (arith, lt, whole)) in
+    ap (λ (k : ℕ). v % 256 + 256 * k) rest ∙ whole
+
+four : (v : ℕ) → v < 4294967296 → num (le 4 v) ≡ v
+four v lt = num-le 4 v lt
+
+eight : (v : ℕ) → v < 18446744073709551616 → num (le 8 v) ≡ v
+eight v lt = num-le 8 v lt
+
+crc-below : (bytes : List ℕ) → crc bytes < 4294967296
+unfolding crc
+crc-below bytes = omega arith
+
+-- ---- pieces one after another
+
+seam : (k : ℕ) (front l : List ℕ) → length front ≡ k → drop k (front ++ l) ≡ l
+seam k front l is = ap (λ (n : ℕ). drop n (front ++ l)) (sym is) ∙ drop-append_seam front l
+
+front : (k : ℕ) (xs l : List ℕ) → length xs ≡ k → take k (xs ++ l) ≡ xs
+front k xs l is = ap (λ (n : ℕ). take n (xs ++ l)) (sym is) ∙ take-append_seam xs l
+
+fifth : (a s m d b z : List ℕ) → ((((a ++ s) ++ m) ++ d) ++ b) ++ z ≡ ((a ++ s) ++ m) ++ (d ++ (b ++ z))
+fifth a s m d b z = simp append_assoc
+
+first : (a s m d b z : List ℕ) → ((((a ++ s) ++ m) ++ d) ++ b) ++ z ≡ a ++ (s ++ (m ++ (d ++ (b ++ z))))
+first a s m d b z = simp append_assoc
+
+third : (a s m d b z : List ℕ) → ((((a ++ s) ++ m) ++ d) ++ b) ++ z ≡ (a ++ s) ++ ((m ++ (d ++ b)) ++ z)
+third a s m d b z = simp append_assoc
+
+joined : (a o m d b : List ℕ) → (a ++ o) ++ (m ++ (d ++ b)) ≡ (((a ++ o) ++ m) ++ d) ++ b
+joined a o m d b = simp append_assoc
+
+summed_of : (a s m d b o z : List ℕ) → length a ≡ 16 → length s ≡ 4 → length (m ++ (d ++ b)) ≡ 72
+    → (take 16 (((((a ++ s) ++ m) ++ d) ++ b) ++ z) ++ o) ++ take 72 (drop 20 (((((a ++ s) ++ m) ++ d) ++ b) ++ z)) ≡ (((a ++ o) ++ m) ++ d) ++ b
+summed_of a s m d b o z la ls lr =
+    let one : take 16 (((((a ++ s) ++ m) ++ d) ++ b) ++ z) ≡ a = ap (take 16) (first a s m d b z) ∙ front 16 a (s ++ (m ++ (d ++ (b ++ z)))) la in
+    let lead : length (a ++ s) ≡ 20 = length-append a s ∙ omega (arith, la, ls) in
+    let two : take 72 (drop 20 (((((a ++ s) ++ m) ++ d) ++ b) ++ z)) ≡ m ++ (d ++ b) =
+    ap (λ (l : List ℕ). take 72 (drop 20 l)) (third a s m d b z) ∙ ap (take 72) (seam 20 (a ++ s) ((m ++ (d ++ b)) ++ z) lead) ∙ front 72 (m ++ (d ++ b)) z lr in
+    rw (one, two) (joined a o m d b)
+
+-- ---- the fields
+
+module _ (w : TableCopy) (blocks : ℕ) (t : Table) (sum : ℕ) (z : List ℕ) (disk : length t.disk ≡ 16) where
+  abbrev head : List ℕ
+  head = header_with w blocks t sum ++ z
+
+  abbrev back : List ℕ
+  back = header_back w blocks t
+
+  length-lead : length header_lead ≡ 16
+  unfolding header_lead
+  length-lead = refl
+
+  length-places : length (header_places w blocks t) ≡ 36
+  unfolding header_places
+  length-places = refl
+
+  length-back : length back ≡ 20
+  unfolding header_back
+  length-back = refl
+
+  length-rest : length (header_places w blocks t ++ (t.disk ++ back)) ≡ 72
+  length-rest = length-append (header_places w blocks t) (t.disk ++ back) ∙ omega (arith, length-append t.disk back, disk, length-places, length-back)
+
+  length-front : length ((header_lead ++ le 4 sum) ++ header_places w blocks t) ≡ 56
+  length-front = length-append (header_lead ++ le 4 sum) (header_places w blocks t) ∙ omega (arith, length-append header_lead (le 4 sum), length-lead, length-places)
+
+  pub length-header : length (header_with w blocks t sum) ≡ 92
+  length-header =
+      length-append (((header_lead ++ le 4 sum) ++ header_places w blocks t) ++ t.disk) back
+      ∙ omega (arith, length-append ((header_lead ++ le 4 sum) ++ header_places w blocks t) t.disk, disk, length-front, length-back)
+
+  from-disk : drop 56 head ≡ t.disk ++ (back ++ z)
+  from-disk = ap (drop 56) (fifth header_lead (le 4 sum) (header_places w blocks t) t.disk back z) ∙ seam 56 ((header_lead ++ le 4 sum) ++ header_places w blocks t) (t.disk ++ (back ++ z)) length-front
+
+  behind-disk : drop 72 head ≡ back ++ z
+  behind-disk = sym (drop-drop 16 56 head) ∙ ap (drop 16) from-disk ∙ seam 16 t.disk (back ++ z) disk
+
+  pub disk-is : part head 56 72 ≡ t.disk
+  disk-is = ap (take 16) from-disk ∙ front 16 t.disk (back ++ z) disk
+
+  behind : (k n : ℕ) → num_at n head (72 + k) ≡ num_at n (back ++ z) k
+  behind k n = ap (λ (l : List ℕ). num (take n l)) (sym (drop-drop k 72 head) ∙ ap (drop k) behind-disk)
+
+  pub revision-is : num_at 4 head 8 ≡ 65536
+  unfolding header_lead
+  revision-is = four 65536 (omega arith)
+
+  pub size-is : num_at 4 head 12 ≡ 92
+  unfolding header_lead
+  size-is = four 92 (omega arith)
+
+  pub sum-is : sum < 4294967296 → num_at 4 head 16 ≡ sum
+  unfolding header_lead
+  sum-is low = four sum low
+
+  pub zero-is : num_at 4 head 20 ≡ 0
+  unfolding header_lead header_places
+  zero-is = four 0 (omega arith)
+
+  pub own-is : header_at w blocks < 18446744073709551616 → num_at 8 head 24 ≡ header_at w blocks
+  unfolding header_lead header_places
+  own-is low = eight (header_at w blocks) low
+
+  pub other-is : header_at (other w) blocks < 18446744073709551616 → num_at 8 head 32 ≡ header_at (other w) blocks
+  unfolding header_lead header_places
+  other-is low = eight (header_at (other w) blocks) low
+
+  pub first-is : t.first < 18446744073709551616 → num_at 8 head 40 ≡ t.first
+  unfolding header_lead header_places
+  first-is low = eight t.first low
+
+  pub last-is : t.last < 18446744073709551616 → num_at 8 head 48 ≡ t.last
+  unfolding header_lead header_places
+  last-is low = eight t.last low
+
+  pub place-is : entries_at w blocks (blocks_of (number_of t)) < 18446744073709551616 → num_at 8 head 72 ≡ entries_at w blocks (blocks_of (number_of t))
+  unfolding header_back
+  place-is low = behind 0 8 ∙ eight (entries_at w blocks (blocks_of (number_of t))) low
+
+  pub number-is : number_of t < 4294967296 → num_at 4 head 80 ≡ number_of t
+  unfolding header_back
+  number-is low = behind 8 4 ∙ four (number_of t) low
+
+  pub entry-is : num_at 4 head 84 ≡ 128
+  unfolding header_back
+  entry-is = behind 12 4 ∙ four 128 (omega arith)
+
+  pub check-is : num_at 4 head 88 ≡ crc t.entries
+  unfolding header_back
+  check-is = behind 16 4 ∙ four (crc t.entries) (crc-below t.entries)
+
+  -- the bytes that the checksum is of
+  pub summed : part head 0 16 ++ replicate 4 0 ++ part head 20 92 ≡ header_with w blocks t 0
+  summed = summed_of header_lead (le 4 sum) (header_places w blocks t) t.disk back (replicate 4 0) z length-lead refl length-rest
+
+-- ---- the block
+
+module _ (w : TableCopy) (blocks : ℕ) (t : Table) (is : FitsTable blocks t) (few : blocks ≤ 65536) (disk : length t.disk ≡ 16) where
+  abbrev sum : ℕ
+  sum = crc (header_with w blocks t 0)
+
+  abbrev bytes : List ℕ
+  bytes = header_bytes w blocks t
+
+  abbrev zeros : List ℕ
+  zeros = replicate 4004 0
+
+  pub length-bytes : length bytes ≡ 4096
+  length-bytes =
+      let tail : length zeros ≡ 4004 = length-replicate {A = ℕ} 4004 0 in
+      length-append (header_with w blocks t sum) zeros ∙ omega (arith, length-header w blocks t sum zeros disk, tail)
+
+  begins : IsTrue (same_bytes (take 8 bytes) (codes "EFI PART"))
+  unfolding header_lead
+  begins = refl
+
+  seal : IsTrue (has_table_seal bytes)
+  seal = table_from bytes (record {
+    begins = begins;
+    fits = omega (arith, length-bytes);
+    checks = sum-is w blocks t sum zeros disk (crc-below (header_with w blocks t 0)) ∙ ap crc (sym (summed w blocks t sum zeros disk));
+  })
+
+  number : number_in bytes ≡ number_of t
+  number = number-is w blocks t sum zeros disk (omega (arith, is.number.1))
+
+  low-header : (c : TableCopy) → header_at c blocks < 18446744073709551616
+  low-header Primary = omega arith
+  low-header Backup = omega (arith, few)
+
+  low-entries : (c : TableCopy) (e : ℕ) → entries_at c blocks e < 18446744073709551616
+  low-entries Primary e = omega arith
+  low-entries Backup e = omega (arith, few)
+
+  place : num_at 8 bytes 72 ≡ entries_at w blocks (blocks_of (number_in bytes))
+  place = place-is w blocks t sum zeros disk (low-entries w (blocks_of (number_of t))) ∙ ap (λ (n : ℕ). entries_at w blocks (blocks_of n)) (sym number)
+
+  start : IsTrue (has_start bytes)
+  start =
+      and_from _ _ (and_from _ _ (eq-eqb _ _ (revision-is w blocks t sum zeros disk)) (eq-eqb _ _ (size-is w blocks t sum zeros disk)))
+      (eq-eqb _ _ (zero-is w blocks t sum zeros disk))
+
+  places : IsTrue (has_places w blocks bytes)
+  places =
+      and_from _ _ (and_from _ _ (eq-eqb _ _ (own-is w blocks t sum zeros disk (low-header w))) (eq-eqb _ _ (other-is w blocks t sum zeros disk (low-header (other w)))))
+      (eq-eqb _ _ place)
+
+  fields : IsTrue (has_fields w blocks bytes)
+  unfolding has_fields
+  fields =
+      and_from _ _ (and_from _ _ start places) (eq-eqb _ _ (entry-is w blocks t sum zeros disk))
+
+  roomy : IsTrue (is_roomy blocks (number_in bytes))
+  roomy = subst (λ (n : ℕ). IsTrue (is_roomy blocks n)) (sym number)
+      (and_from _ _ (and_from _ _ (le-leb 1 (number_of t) is.number.0) (le-leb (number_of t) 128 is.number.1)) (le-leb (3 + 2 * blocks_of (number_of t)) blocks is.apart))
+
+  header : IsTrue (is_header w blocks bytes)
+  header = and_from _ _ (and_from _ _ seal fields) roomy
+
+  -- THE LAW of the header: over an erased block, in front of the entries, it makes the copy say the table.
+  pub spells : t.first < 18446744073709551616 → t.last < 18446744073709551616 → Spells w blocks t bytes
+  unfolding entries_in
+  spells low_first low_last image size empty stands =
+      let e = blocks_of (number_of t) in
+      let hw = header_within w blocks e is.apart in
+      let ew = entries_within w blocks e is.apart in
+      let inside = within_image w blocks e is.apart in
+      let at = 4096 * header_at w blocks in
+      let image' = overwritten at bytes image in
+      let long : at + 4096 ≤ length image = omega (arith, hw.1, inside, size) in
+      let block_is : block (header_at w blocks) image' ≡ bytes =
+      block-overwritten_front (header_at w blocks) bytes image (omega (arith, length-bytes)) long
+      ∙ ap (λ (l : List ℕ). bytes ++ l) (drop_all (length bytes) (block (header_at w blocks) image) (omega (arith, length-bytes, length-block (header_at w blocks) image long)))
+      ∙ append-nil bytes in
+      let size' : length image' ≡ length image = length-overwritten at bytes image (omega (arith, length-bytes, long)) in
+      let from = 4096 * entries_at w blocks e in
+      let count : length t.entries ≡ number_of t * 128 = is.whole in
+      let entries : part image' from (from + length t.entries) ≡ t.entries =
+      sym (range-same from (length t.entries) image image' (omega (arith, count, ew.1, inside, size)) size'
+      (λ i low high. sym (outside image long i (clear w i low (omega (arith, high, count)))))) ∙ stands in
+      let same : entries_in w blocks bytes image' ≡ t.entries =
+      ap (λ (n : ℕ). part image' (4096 * entries_at w blocks (blocks_of n)) (4096 * entries_at w blocks (blocks_of n) + n * 128)) number
+      ∙ ap (λ (n : ℕ). part image' from (from + n)) (sym count) ∙ entries in
+      let same_in : entries_in w blocks (block (header_at w blocks) image') image' ≡ t.entries = ap (λ (h : List ℕ). entries_in w blocks h image') block_is ∙ same in
+      valid_from w blocks image' t (record {
+        header = subst (λ (h : List ℕ). IsTrue (is_header w blocks h)) (sym block_is) header;
+        checks = ap (λ (h : List ℕ). num_at 4 h 88) block_is ∙ check-is w blocks t sum zeros disk ∙ ap crc (sym same_in);
+        is = ap (table_of (block (header_at w blocks) image')) same_in ∙ ap (λ (h : List ℕ). table_of h t.entries) block_is ∙ table_is;
+      })
+    where
+      table_is : table_of bytes t.entries ≡ t
+      table_is =
+          let d = disk-is w blocks t sum zeros disk in
+          let f = first-is w blocks t sum zeros disk low_first in
+          let l = last-is w blocks t sum zeros disk low_last in
+          rw (d, f, l) refl
+
+      outside : (image : List ℕ) → 4096 * header_at w blocks + 4096 ≤ length image → (i : ℕ) → (i < 4096 * header_at w blocks) ⊎ (4096 * header_at w blocks + 4096 ≤ i) → get_or (overwritten (4096 * header_at w blocks) bytes image) i 0 ≡ get_or image i 0
+      outside image long i (inl l) = overwritten_below (4096 * header_at w blocks) bytes image (omega (arith, length-bytes, long)) i 0 l
+      outside image long i (inr r) = overwritten_above (4096 * header_at w blocks) bytes image (omega (arith, length-bytes, long)) i 0 (omega (arith, length-bytes, r))
+
+      clear : (c : TableCopy) (i : ℕ) → 4096 * entries_at c blocks (blocks_of (number_of t)) ≤ i → i < 4096 * entries_at c blocks (blocks_of (number_of t)) + number_of t * 128
+          → (i < 4096 * header_at c blocks) ⊎ (4096 * header_at c blocks + 4096 ≤ i)
+      clear Primary i low high = inr (omega (arith, low))
+      clear Backup i low high = inl (omega (arith, low, high, is.apart))
+
+-- ---- writing it
+
+pub put_front : (at : ℕ) (bytes image : List ℕ) → at + length bytes ≤ length image → take (at + length bytes) (overwritten at bytes image) ≡ take at image ++ bytes
+unfolding overwritten
+put_front at bytes image fits =
+    let n : length (take at image ++ bytes) ≡ at + length bytes = length-append (take at image) bytes ∙ ap (λ (k : ℕ). k + length bytes) (length-take-le at image (omega (arith, fits))) in
+    front (at + length bytes) (take at image ++ bytes) (drop (at + length bytes) image) n
+
+five : (f a b c d e : List ℕ) → ((((f ++ a) ++ b) ++ c) ++ d) ++ e ≡ f ++ ((((a ++ b) ++ c) ++ d) ++ e)
+five f a b c d e = simp append_assoc
+
+pub put_five : (f x1 x2 x3 x4 x5 a b c d e : List ℕ) → x1 ≡ f ++ a → x2 ≡ x1 ++ b → x3 ≡ x2 ++ c → x4 ≡ x3 ++ d → x5 ≡ x4 ++ e → x5 ≡ f ++ ((((a ++ b) ++ c) ++ d) ++ e)
+put_five f x1 x2 x3 x4 x5 a b c d e h1 h2 h3 h4 h5 = rw (h5, h4, h3, h2, h1) (five f a b c d e)
+
+fourth : (f a b c d : List ℕ) → (((f ++ a) ++ b) ++ c) ++ d ≡ f ++ (((a ++ b) ++ c) ++ d)
+fourth f a b c d = simp append_assoc
+
+pub put_four : (f x1 x2 x3 x4 a b c d : List ℕ) → x1 ≡ f ++ a → x2 ≡ x1 ++ b → x3 ≡ x2 ++ c → x4 ≡ x3 ++ d → x4 ≡ f ++ (((a ++ b) ++ c) ++ d)
+put_four f x1 x2 x3 x4 a b c d h1 h2 h3 h4 = rw (h4, h3, h2, h1) (fourth f a b c d)
+
+-- over zeros
+pub over_zeros : (header out : List ℕ) → length header ≡ 92 → out ≡ overwritten 0 header (replicate 4096 0) → out ≡ header ++ replicate 4004 0
+unfolding overwritten
+over_zeros header out is e =
+    let n : 0 + length header ≡ 92 = omega (arith, is) in
+    e ∙ ap (λ (k : ℕ). header ++ drop k (replicate 4096 0)) n ∙ ap (λ (l : List ℕ). header ++ l) (drop-replicate 92 4096 0)

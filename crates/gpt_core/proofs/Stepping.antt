@@ -1,0 +1,260 @@
+-- The steps of a repair, one after the other. What is left to show is that the header is spelled: `spelled` in the last one.
+use Rattle.std.proofs.Common.{◌≡◌, ◌⊎◌, inl, inr, ℕ, ◌+◌, ◌*◌, ◌/◌, ◌<◌, ◌≤◌, List, ◌++◌, length, get_or, Some, sym, ◌∙◌, ap, arith, refl, subst}
+use Rattle.std.proofs.lemmas.List.{drop_all, append-nil, ext_get_or}
+use Rattle.std.proofs.lemmas.Result.{IfOk-from_err}
+use Rattle.std.specs.Prelude.{IsTrue, Result, Ok, Err, IsErr, OnOk}
+use Rattle.base_core.specs.Block.{block, blank}
+use Rattle.base_core.specs.Bytes.{part, overwritten}
+use Rattle.base_core.proofs.Blocks.{length-blank, length-block, same_block}
+use Rattle.flash_core.specs.declared.flash.FlashStop.{FlashStop}
+use Rattle.flash_core.specs.Told.{Told, NothingDirty, is_guarded, put, halt, settle, settled}
+use Rattle.flash_core.specs.May.{May, Keeps}
+use Rattle.flash_core.proofs.Calls.{now-put, now-settle, guard-put, guard-settle, settle-fresh, keeps_halt, keeps_put, keeps_settle, keeps_same}
+use Rattle.flash_core.proofs.Images.{block-overwritten_front, length-overwritten, overwritten_below, overwritten_above}
+use Rattle.gpt_core.specs.declared.table.TableCopy.{TableCopy}
+use Rattle.gpt_core.specs.declared.table.TableCopy.TheVariants.{Primary, Backup}
+use Rattle.gpt_core.proofs.Copies.{table_roomy, entries_whole, entries_within}
+use Rattle.gpt_core.specs.Table.{Table, blocks_of, number_of, header_at, entries_at, other, copy_in, DecidesTable, BothSay}
+use Rattle.gpt_core.specs.Repair.{Ready, Cleared, Filled, Steps}
+use Rattle.gpt_core.proofs.Guarded.{still_sure}
+use Rattle.gpt_core.proofs.Mending.{decides_with, decides_without, both_say, low, high, head_at, other_stays, head_inside, none_blank, header_stopped, header_done, entries_step}
+
+-- an image of a device with nothing dirty is what it holds
+pub image_is_now : (u : Told) (image : List ℕ) → NothingDirty u → May u image → image ≡ u.now
+image_is_now u image nothing may = ext_get_or 0 image u.now may.leaves.size (λ i below. may.leaves.sure i (still_sure u nothing i))
+
+same_guard : (s u : Told) (b : ℕ) → u.guard ≡ s.guard → IsTrue (is_guarded s b) → IsTrue (is_guarded u b)
+same_guard s u b e h = subst (λ (l : List ℕ). IsTrue (Rattle.std.specs.List.list_any (λ k. Rattle.std.specs.Prelude.nat_eq k b) l)) (sym e) h
+
+module _ (w : TableCopy) (blocks : ℕ) (t : Table) where
+  here : ℕ
+  here = 4096 * header_at w blocks
+
+  -- a step in the header's block: what the other copy says stays
+  module _ (s : Told) (ready : Ready w blocks t s) (bytes : List ℕ) (short : length bytes ≤ 4096) where
+    inside : 4096 * header_at w blocks + 4096 ≤ length s.now
+    inside = head_inside w blocks t s.now ready.size ready.says
+
+    size_done : length (overwritten (4096 * header_at w blocks) bytes s.now) ≡ length s.now
+    size_done = length-overwritten (4096 * header_at w blocks) bytes s.now (omega (arith, inside, short))
+
+    says_done : copy_in (other w) blocks (overwritten (4096 * header_at w blocks) bytes s.now) ≡ Some t
+    says_done =
+        other_stays w blocks t s.now ready.size ready.says (overwritten (4096 * header_at w blocks) bytes s.now) size_done
+        (λ i out. at i (Rattle.gpt_core.proofs.Mending.head_out w blocks t s.now ready.size ready.says i out))
+      where
+        at : (i : ℕ) → (i < 4096 * header_at w blocks) ⊎ (4096 * header_at w blocks + 4096 ≤ i) → get_or (overwritten (4096 * header_at w blocks) bytes s.now) i 0 ≡ get_or s.now i 0
+        at i (inl l) = overwritten_below (4096 * header_at w blocks) bytes s.now (omega (arith, inside, short)) i 0 l
+        at i (inr r) = overwritten_above (4096 * header_at w blocks) bytes s.now (omega (arith, inside, short)) i 0 (omega (arith, r, short))
+
+    now_is : (settle (put (4096 * header_at w blocks) bytes s)).now ≡ overwritten (4096 * header_at w blocks) bytes s.now
+    now_is = now-settle (put (4096 * header_at w blocks) bytes s) ∙ now-put (4096 * header_at w blocks) bytes s
+
+    -- settled after the step
+    ready_after : DecidesTable blocks t (overwritten (4096 * header_at w blocks) bytes s.now) → Ready w blocks t (settle (put (4096 * header_at w blocks) bytes s))
+    ready_after decides = record {
+      nothing = settle-fresh (put (4096 * header_at w blocks) bytes s);
+      size = ap length now_is ∙ size_done ∙ ready.size;
+      guarded = same_guard s (settle (put (4096 * header_at w blocks) bytes s)) (header_at w blocks) (guard-settle (put (4096 * header_at w blocks) bytes s) ∙ guard-put (4096 * header_at w blocks) bytes s) ready.guarded;
+      says = ap (copy_in (other w) blocks) now_is ∙ says_done;
+      decides = subst (DecidesTable blocks t) (sym now_is) decides;
+    }
+
+  -- ---- the header is erased
+
+  module _ (s : Told) (ready : Ready w blocks t s) where
+    erased : block (header_at w blocks) (overwritten (4096 * header_at w blocks) (blank 4096) s.now) ≡ blank 4096
+    erased =
+        let long = head_inside w blocks t s.now ready.size ready.says in
+        block-overwritten_front (header_at w blocks) (blank 4096) s.now (omega (arith, length-blank 4096)) long
+        ∙ ap (λ (l : List ℕ). blank 4096 ++ l) (drop_all (length (blank 4096)) (block (header_at w blocks) s.now) (omega (arith, length-blank 4096, length-block (header_at w blocks) s.now long)))
+        ∙ append-nil (blank 4096)
+
+    blank_short : length (blank 4096) ≤ 4096
+    blank_short = omega (arith, length-blank 4096)
+
+    decides_erased : DecidesTable blocks t (overwritten (4096 * header_at w blocks) (blank 4096) s.now)
+    decides_erased = decides_without w blocks _ t (none_blank w blocks t _ erased) (says_done s ready (blank 4096) blank_short)
+
+    pub clear_stopped : {T : Type 0} (result : Result T FlashStop) → IsErr result → Steps (Cleared w blocks t) result blocks t (halt (4096 * header_at w blocks) (blank 4096) s)
+    clear_stopped result err = record {
+      stays = header_stopped w blocks t s (blank 4096) ready.nothing ready.size blank_short ready.guarded ready.says ready.decides (inl erased);
+      ok = IfOk-from_err result _ err;
+    }
+
+    pub clear_unsettled : {T : Type 0} (result : Result T FlashStop) → IsErr result → Steps (Cleared w blocks t) result blocks t (put (4096 * header_at w blocks) (blank 4096) s)
+    clear_unsettled result err = record {
+      stays = header_done w blocks t s (blank 4096) ready.nothing ready.size blank_short ready.guarded ready.says ready.decides (inl erased);
+      ok = IfOk-from_err result _ err;
+    }
+
+    is_cleared : Cleared w blocks t (settle (put (4096 * header_at w blocks) (blank 4096) s))
+    is_cleared = record {
+      ready = ready_after s ready (blank 4096) blank_short decides_erased;
+      empty = ap (block (header_at w blocks)) (now_is s ready (blank 4096) blank_short) ∙ erased;
+    }
+
+    pub cleared : {T : Type 0} (x : T) → Steps {T = T} (Cleared w blocks t) (Ok x) blocks t (settle (put (4096 * header_at w blocks) (blank 4096) s))
+    cleared x = record {
+      stays = λ image may. subst (DecidesTable blocks t) (sym (image_is_now _ image (settle-fresh (put (4096 * header_at w blocks) (blank 4096) s)) may)) is_cleared.ready.decides;
+      ok = is_cleared;
+    }
+
+    -- all exits of the erase and its barrier
+    pub clears : {T : Type 0} (result : Result T FlashStop) → Steps (Cleared w blocks t) result blocks t (settled result (put (4096 * header_at w blocks) (blank 4096) s))
+    clears (Ok x) = cleared x
+    clears (Err e) = clear_unsettled (Err e) refl
+
+  -- ---- the entries are written, whatever calls that takes
+
+  module _ (s : Told) (cleared : Cleared w blocks t s) (v : Told)
+      (keeps : Keeps (4096 * entries_at w blocks (blocks_of (number_of t))) (4096 * entries_at w blocks (blocks_of (number_of t)) + 4096 * blocks_of (number_of t)) s v) where
+    pub fill_stopped : {T : Type 0} (result : Result T FlashStop) → IsErr result → Steps (Filled w blocks t) result blocks t v
+    fill_stopped result err = record {
+      stays = λ image may. entries_step w blocks t s v image cleared.ready.nothing cleared.ready.size cleared.ready.says cleared.empty keeps may;
+      ok = IfOk-from_err result _ err;
+    }
+
+    same_head : block (header_at w blocks) v.now ≡ blank 4096
+    same_head =
+        let long = head_inside w blocks t s.now cleared.ready.size cleared.ready.says in
+        same_block (header_at w blocks) v.now s.now (omega (arith, long, keeps.size)) (sym keeps.size) (λ i a b. keeps.now i (head_out_of w i a b)) ∙ cleared.empty
+      where
+        apart : 3 + 2 * blocks_of (number_of t) ≤ blocks
+        apart = (table_roomy (other w) blocks s.now t cleared.ready.size cleared.ready.says).apart
+
+        head_out_of : (c : TableCopy) (i : ℕ) → 4096 * header_at c blocks ≤ i → i < 4096 * header_at c blocks + 4096
+            → (i < 4096 * entries_at c blocks (blocks_of (number_of t))) ⊎ (4096 * entries_at c blocks (blocks_of (number_of t)) + 4096 * blocks_of (number_of t) ≤ i)
+        head_out_of Primary i a b = inl (omega (arith, b))
+        head_out_of Backup i a b = inr (omega (arith, a, apart))
+
+    says_v : copy_in (other w) blocks v.now ≡ Some t
+    says_v =
+        other_stays w blocks t s.now cleared.ready.size cleared.ready.says v.now keeps.size
+        (λ i out. keeps.now i (wide i out))
+      where
+        apart : 3 + 2 * blocks_of (number_of t) ≤ blocks
+        apart = (table_roomy (other w) blocks s.now t cleared.ready.size cleared.ready.says).apart
+
+        wide : (i : ℕ) → (i < low w blocks t) ⊎ (high w blocks t ≤ i) → (i < 4096 * entries_at w blocks (blocks_of (number_of t))) ⊎ (4096 * entries_at w blocks (blocks_of (number_of t)) + 4096 * blocks_of (number_of t) ≤ i)
+        wide i (inl l) = inl (omega (arith, l, (entries_within w blocks (blocks_of (number_of t)) apart).0))
+        wide i (inr r) = inr (omega (arith, r, (entries_within w blocks (blocks_of (number_of t)) apart).1))
+
+    is_filled : part v.now (4096 * entries_at w blocks (blocks_of (number_of t))) (4096 * entries_at w blocks (blocks_of (number_of t)) + length t.entries) ≡ t.entries → Filled w blocks t (settle v)
+    is_filled held = record {
+      cleared = record {
+        ready = record {
+          nothing = settle-fresh v;
+          size = ap length (now-settle v) ∙ keeps.size ∙ cleared.ready.size;
+          guarded = same_guard s (settle v) (header_at w blocks) (guard-settle v ∙ keeps.guard) cleared.ready.guarded;
+          says = ap (copy_in (other w) blocks) (now-settle v) ∙ says_v;
+          decides = subst (DecidesTable blocks t) (sym (now-settle v)) (decides_without w blocks v.now t (none_blank w blocks t v.now same_head) says_v);
+        };
+        empty = ap (block (header_at w blocks)) (now-settle v) ∙ same_head;
+      };
+      entries = ap (λ (l : List ℕ). part l (4096 * entries_at w blocks (blocks_of (number_of t))) (4096 * entries_at w blocks (blocks_of (number_of t)) + length t.entries)) (now-settle v) ∙ held;
+    }
+
+    pub fills : {T : Type 0} (result : Result T FlashStop) → part v.now (4096 * entries_at w blocks (blocks_of (number_of t))) (4096 * entries_at w blocks (blocks_of (number_of t)) + length t.entries) ≡ t.entries
+        → Steps (Filled w blocks t) result blocks t (settled result v)
+    fills (Err e) held = fill_stopped (Err e) refl
+    fills (Ok x) held =
+        let filled = is_filled held in
+        record { stays = λ image may. subst (DecidesTable blocks t) (sym (image_is_now _ image filled.cleared.ready.nothing may)) filled.cleared.ready.decides; ok = filled }
+
+  -- ---- the header is written
+
+  module _ (s : Told) (filled : Filled w blocks t s) (bytes : List ℕ) (short : length bytes ≤ 4096)
+      (spelled : copy_in w blocks (overwritten (4096 * header_at w blocks) bytes s.now) ≡ Some t) where
+    ready : Ready w blocks t s
+    ready = filled.cleared.ready
+
+    decides_spelled : DecidesTable blocks t (overwritten (4096 * header_at w blocks) bytes s.now)
+    decides_spelled = decides_with w blocks _ t spelled (says_done s ready bytes short)
+
+    pub write_stopped : {T : Type 0} (result : Result T FlashStop) → IsErr result → Steps (λ u. BothSay blocks t u.now × NothingDirty u) result blocks t (halt (4096 * header_at w blocks) bytes s)
+    write_stopped result err = record {
+      stays = header_stopped w blocks t s bytes ready.nothing ready.size short ready.guarded ready.says ready.decides (inr spelled);
+      ok = IfOk-from_err result _ err;
+    }
+
+    pub write_unsettled : {T : Type 0} (result : Result T FlashStop) → IsErr result → Steps (λ u. BothSay blocks t u.now × NothingDirty u) result blocks t (put (4096 * header_at w blocks) bytes s)
+    write_unsettled result err = record {
+      stays = header_done w blocks t s bytes ready.nothing ready.size short ready.guarded ready.says ready.decides (inr spelled);
+      ok = IfOk-from_err result _ err;
+    }
+
+    pub writes : {T : Type 0} (result : Result T FlashStop) → Steps (λ u. BothSay blocks t u.now × NothingDirty u) result blocks t (settled result (put (4096 * header_at w blocks) bytes s))
+    writes (Err e) = write_unsettled (Err e) refl
+    writes (Ok x) =
+        let after = ready_after s ready bytes short decides_spelled in
+        record {
+          stays = λ image may. subst (DecidesTable blocks t) (sym (image_is_now _ image after.nothing may)) after.decides;
+          ok = (both_say w blocks _ t (ap (copy_in w blocks) (now_is s ready bytes short) ∙ spelled) after.says, after.nothing);
+        }
+
+-- ---- the same by what a device tells after the calls
+
+module _ (w : TableCopy) (blocks : ℕ) (t : Table) (s u : Told) (b : ℕ) (at : b ≡ header_at w blocks) {T : Type 0} (result : Result T FlashStop) where
+  pub clear_halted : Ready w blocks t s → IsErr result → u ≡ halt (4096 * b) (blank 4096) s → Steps (Cleared w blocks t) result blocks t u
+  clear_halted ready err is =
+      subst (Steps (Cleared w blocks t) result blocks t) (sym (is ∙ ap (λ k. halt (4096 * k) (blank 4096) s) at)) (clear_stopped w blocks t s ready result err)
+
+  pub clear_over : Ready w blocks t s → u ≡ settled result (put (4096 * b) (blank 4096) s) → Steps (Cleared w blocks t) result blocks t u
+  clear_over ready is =
+      subst (Steps (Cleared w blocks t) result blocks t) (sym (is ∙ ap (λ k. settled result (put (4096 * k) (blank 4096) s)) at)) (clears w blocks t s ready result)
+
+  module _ (filled : Filled w blocks t s) (bytes : List ℕ) (short : length bytes ≤ 4096) (spelled : copy_in w blocks (overwritten (4096 * b) bytes s.now) ≡ Some t) where
+    spelled_at : copy_in w blocks (overwritten (4096 * header_at w blocks) bytes s.now) ≡ Some t
+    spelled_at = ap (λ k. copy_in w blocks (overwritten (4096 * k) bytes s.now)) (sym at) ∙ spelled
+
+    pub write_halted : IsErr result → u ≡ halt (4096 * b) bytes s → Steps (λ v. BothSay blocks t v.now × NothingDirty v) result blocks t u
+    write_halted err is =
+        subst (Steps (λ v. BothSay blocks t v.now × NothingDirty v) result blocks t) (sym (is ∙ ap (λ k. halt (4096 * k) bytes s) at)) (write_stopped w blocks t s filled bytes short spelled_at result err)
+
+    pub write_over : u ≡ settled result (put (4096 * b) bytes s) → Steps (λ v. BothSay blocks t v.now × NothingDirty v) result blocks t u
+    write_over is =
+        subst (Steps (λ v. BothSay blocks t v.now × NothingDirty v) result blocks t) (sym (is ∙ ap (λ k. settled result (put (4096 * k) bytes s)) at)) (writes w blocks t s filled bytes short spelled_at result)
+
+-- ---- but for the block nothing changes
+
+module _ (b n : ℕ) (s u : Told) (bytes : List ℕ) (inside : b < n) (size : length s.now ≡ 4096 * n) (short : length bytes ≤ 4096) where
+  pub keeps_halted : u ≡ halt (4096 * b) bytes s → Keeps (4096 * b) (4096 * b + 4096) s u
+  keeps_halted is = subst (Keeps (4096 * b) (4096 * b + 4096) s) (sym is) (keeps_halt (4096 * b) (4096 * b + 4096) s s (4096 * b) bytes (omega arith) (omega (arith, short)) (keeps_same _ _ s))
+
+  pub keeps_over : {T : Type 0} (result : Result T FlashStop) → u ≡ settled result (put (4096 * b) bytes s) → Keeps (4096 * b) (4096 * b + 4096) s u
+  keeps_over result is = subst (Keeps (4096 * b) (4096 * b + 4096) s) (sym is) (by result)
+    where
+      once : Keeps (4096 * b) (4096 * b + 4096) s (put (4096 * b) bytes s)
+      once = keeps_put (4096 * b) (4096 * b + 4096) s s (4096 * b) bytes (omega arith) (omega (arith, short)) (omega (arith, short, inside, size)) (keeps_same _ _ s)
+
+      by : {T : Type 0} (result : Result T FlashStop) → Keeps (4096 * b) (4096 * b + 4096) s (settled result (put (4096 * b) bytes s))
+      by (Ok x) = keeps_settle (4096 * b) (4096 * b + 4096) s (put (4096 * b) bytes s) once
+      by (Err e) = once
+
+-- the entries, by what a device tells after the calls
+module _ (w : TableCopy) (blocks : ℕ) (t : Table) (s v : Told) (first n : ℕ) (at : first ≡ entries_at w blocks (blocks_of (number_of t))) (count : n ≡ length t.entries) (cleared : Cleared w blocks t s)
+    (keeps : Keeps (4096 * first) (4096 * first + 4096 * ((n + 4095) / 4096)) s v) where
+  keeps_at : Keeps (4096 * entries_at w blocks (blocks_of (number_of t))) (4096 * entries_at w blocks (blocks_of (number_of t)) + 4096 * blocks_of (number_of t)) s v
+  keeps_at =
+      let whole = count ∙ entries_whole (other w) blocks s.now t cleared.ready.size cleared.ready.says in
+      subst (λ k. Keeps (4096 * entries_at w blocks (blocks_of (number_of t))) (4096 * entries_at w blocks (blocks_of (number_of t)) + 4096 * ((k + 4095) / 4096)) s v) whole
+      (subst (λ k. Keeps (4096 * k) (4096 * k + 4096 * ((n + 4095) / 4096)) s v) at keeps)
+
+  pub entries_stopped : {T : Type 0} (result : Result T FlashStop) → IsErr result → Steps (Filled w blocks t) result blocks t v
+  entries_stopped result err = fill_stopped w blocks t s cleared v keeps_at result err
+
+  pub entries_over : {T : Type 0} (result : Result T FlashStop) (u : Told) → part v.now (4096 * first) (4096 * first + n) ≡ t.entries → u ≡ settled result v → Steps (Filled w blocks t) result blocks t u
+  entries_over result u held is =
+      subst (Steps (Filled w blocks t) result blocks t) (sym is)
+      (fills w blocks t s cleared v keeps_at result
+      (subst (λ k. part v.now (4096 * entries_at w blocks (blocks_of (number_of t))) (4096 * entries_at w blocks (blocks_of (number_of t)) + k) ≡ t.entries) count
+      (subst (λ k. part v.now (4096 * k) (4096 * k + n) ≡ t.entries) at held)))
+
+pub keeps_settled : {T : Type 0} (low high : ℕ) (s v u : Told) (result : Result T FlashStop) → Keeps low high s v → u ≡ settled result v → Keeps low high s u
+keeps_settled low high s v u (Ok x) keeps is = subst (Keeps low high s) (sym is) (keeps_settle low high s v keeps)
+keeps_settled low high s v u (Err e) keeps is = subst (Keeps low high s) (sym is) keeps
+
+-- what a step leaves of one goal is what it leaves of another, where it was stopped
+pub steps_stopped : {T U : Type 0} (P Q : Told → Type 0) (result : Result T FlashStop) (stopped : Result U FlashStop) (blocks : ℕ) (t : Table) (u : Told) → IsErr stopped → Steps P result blocks t u → Steps Q stopped blocks t u
+steps_stopped P Q result stopped blocks t u err steps = record { stays = steps.stays; ok = IfOk-from_err stopped _ err }

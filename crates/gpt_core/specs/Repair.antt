@@ -1,0 +1,72 @@
+-- What a repair of a table leaves.
+use Rattle.std.specs.Prelude.{◌≡◌, ℕ, ◌+◌, ◌-◌, ◌*◌, List, length, Some, IsTrue, Result, OnOk}
+use Rattle.base_core.specs.Block.{block, blank}
+use Rattle.base_core.specs.Bytes.{part, overwritten}
+use Rattle.flash_core.specs.declared.flash.FlashStop.{FlashStop}
+use Rattle.flash_core.specs.Told.{Told, NothingDirty, is_guarded}
+use Rattle.flash_core.specs.May.{May, Keeps}
+use Rattle.gpt_core.specs.declared.table.WhichTable.{WhichTable}
+use Rattle.gpt_core.specs.declared.table.WhichTable.TheVariants.{Same, RepairPrimary, RepairBackup}
+use Rattle.gpt_core.specs.declared.table.TableCopy.{TableCopy}
+use Rattle.gpt_core.specs.Table.{Table, blocks_of, number_of, header_at, entries_at, other, copy_in, DecidesTable, BothSay}
+
+-- Nothing is dirty, and the blocks of both headers are guarded.
+pub record HeadersGuarded (blocks : ℕ) (s : Told) : Type 0 where
+  pub nothing : NothingDirty s
+  pub primary : IsTrue (is_guarded s 1)
+  pub backup : IsTrue (is_guarded s (blocks - 1))
+
+-- But for the copy that is repaired nothing changes, and where none is nothing at all.
+abbrev pub StaysBeside : ℕ → Table → WhichTable → Told → Told → Type 0
+StaysBeside blocks t Same s u = u ≡ s
+StaysBeside blocks t RepairPrimary s u = Keeps 4096 (4096 * (2 + blocks_of (number_of t))) s u
+StaysBeside blocks t RepairBackup s u = Keeps (4096 * (blocks - 1 - blocks_of (number_of t))) (4096 * blocks) s u
+
+-- what a repair leaves, at any exit, of a device of so many blocks whose table this is
+pub record Mends {T : Type 0} (result : Result T FlashStop) (blocks : ℕ) (t : Table) (u : Told) : Type 0 where
+  -- in each image that a power-on may leave it decides
+  pub stays : (image : List ℕ) → May u image → DecidesTable blocks t image
+  -- when done, both copies say it, and nothing is dirty
+  pub both : OnOk result (BothSay blocks t u.now)
+  pub settled : OnOk result (NothingDirty u)
+
+-- ---- the steps, where copy w is repaired
+
+-- nothing is dirty, the header's block of copy w is guarded, the other copy says the table, and it decides
+pub record Ready (w : TableCopy) (blocks : ℕ) (t : Table) (s : Told) : Type 0 where
+  pub nothing : NothingDirty s
+  pub size : length s.now ≡ 4096 * blocks
+  pub guarded : IsTrue (is_guarded s (header_at w blocks))
+  pub says : copy_in (other w) blocks s.now ≡ Some t
+  pub decides : DecidesTable blocks t s.now
+
+-- and the header's block of copy w is erased
+pub record Cleared (w : TableCopy) (blocks : ℕ) (t : Table) (s : Told) : Type 0 where
+  pub ready : Ready w blocks t s
+  pub empty : block (header_at w blocks) s.now ≡ blank 4096
+
+-- and its entries are those of the table
+pub record Filled (w : TableCopy) (blocks : ℕ) (t : Table) (s : Told) : Type 0 where
+  pub cleared : Cleared w blocks t s
+  pub entries : part s.now (4096 * entries_at w blocks (blocks_of (number_of t))) (4096 * entries_at w blocks (blocks_of (number_of t)) + length t.entries) ≡ t.entries
+
+-- What a step leaves, at any exit: in each image the table decides; when done, P.
+pub record Steps {T : Type 0} (P : Told → Type 0) (result : Result T FlashStop) (blocks : ℕ) (t : Table) (u : Told) : Type 0 where
+  pub stays : (image : List ℕ) → May u image → DecidesTable blocks t image
+  pub ok : OnOk result (P u)
+
+-- These bytes are the header of copy w: over an erased block, in front of the table's entries, they make the copy say the table.
+abbrev pub Spells : TableCopy → ℕ → Table → List ℕ → Type 0
+Spells w blocks t bytes = (image : List ℕ) → length image ≡ 4096 * blocks → block (header_at w blocks) image ≡ blank 4096
+    → part image (4096 * entries_at w blocks (blocks_of (number_of t))) (4096 * entries_at w blocks (blocks_of (number_of t)) + length t.entries) ≡ t.entries
+    → copy_in w blocks (overwritten (4096 * header_at w blocks) bytes image) ≡ Some t
+
+-- the copy that these bytes are written for, and the table
+pub record Writing (blocks header first : ℕ) (head entries : List ℕ) (s : Told) : Type 0 where
+  pub w : TableCopy
+  pub t : Table
+  pub header_is : header ≡ header_at w blocks
+  pub first_is : first ≡ entries_at w blocks (blocks_of (number_of t))
+  pub entries_are : entries ≡ t.entries
+  pub spells : Spells w blocks t head
+  pub ready : Ready w blocks t s

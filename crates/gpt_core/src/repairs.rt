@@ -1,0 +1,222 @@
+//! Repairing a table.
+
+ghost use Rattle.std.specs.Prelude.{◌≡◌, ◌+◌, ◌-◌, ◌*◌, ◌<◌, ◌≤◌, ◌++◌, Some, length, take, replicate, is_ok, IsTrue, OnOk};
+ghost use Rattle.base_core.specs.Bytes.{le};
+ghost use Rattle.base_core.specs.Crc.{crc};
+ghost use Rattle.flash_core.specs.Counts.{Spends, StaysUnarmed};
+ghost use Rattle.flash_core.specs.May.{Keeps};
+ghost use Rattle.flash_core.specs.Told.{NothingDirty, is_guarded};
+ghost use Rattle.gpt_core.specs.Table.{FitsTable, blocks_of, number_of, header_at, other, entries_at, copy_in, DecidesTable, BothSay, header_lead, header_places, header_back, header_with, header_bytes, table_in_image, copy_from, copy_to};
+ghost use Rattle.gpt_core.specs.Repair.{Mends, HeadersGuarded, StaysBeside, Ready, Steps, Spells};
+
+use crate::headers::{
+    ENTRY_SIZE, HEADER_SIZE, REVISION, blocks_for, entries_place, header_place, other_copy,
+};
+use crate::reading::Table;
+use crate::steps::repair_copy;
+use crate::table::{TableCopy, WhichTable};
+use base_core::{BLOCK_BYTES, crc32, put_at, put_le32};
+use flash_core::{Flash, FlashStop};
+
+/// A number, with what its type says of it.
+fn ranged(number: u64) -> u64
+    ensures same { result ≡ number }
+    ensures low { number < 18446744073709551616 }
+{
+    number
+}
+
+/// The size of a GUID.
+fn size_of(guid: &[u8; 16]) -> usize
+    ensures value { result ≡ length guid.now }
+    ensures sixteen { length guid.now ≡ 16 }
+{
+    let bytes = *guid;
+    bytes.len()
+}
+
+/// How many entries a table has, with what its type says of it.
+fn number_in_table(table: &Table) -> u32
+    requires few { number_of table.now ≤ 128 }
+    ensures value { result ≡ number_of table.now }
+    ensures disk { length table.now.disk ≡ 16 }
+    ensures first { table.now.first < 18446744073709551616 }
+    ensures last { table.now.last < 18446744073709551616 }
+{
+    let _first = ranged(table.first);
+    let _last = ranged(table.last);
+    let _size = size_of(&table.disk);
+    (table.entries.len() / 128) as u32
+}
+
+/// Writes bytes at a place, and gives the place behind them.
+fn put(out: &mut [u8], at: usize, bytes: &[u8]) -> usize
+    requires { at + length bytes.now ≤ length out.old }
+    ensures next { result ≡ at + length bytes.now }
+    ensures front { take result out.new ≡ take at out.old ++ bytes.now }
+    ensures size { length out.new ≡ length out.old }
+{
+    put_at(out, at, bytes);
+    at + bytes.len()
+}
+
+/// Writes a number as four bytes at a place, and gives the place behind them.
+#[tactic(auto, using(base_core::proofs::Spelled::four_spelled))]
+fn put_four(out: &mut [u8], at: usize, value: u32) -> usize
+    requires { at + 4 ≤ length out.old }
+    ensures next { result ≡ at + 4 }
+    ensures front { take result out.new ≡ take at out.old ++ le 4 value }
+    ensures size { length out.new ≡ length out.old }
+{
+    put(out, at, &value.to_le_bytes())
+}
+
+/// Writes a number as eight bytes at a place, and gives the place behind them.
+#[tactic(auto, using(base_core::proofs::Spelled::eight_spelled))]
+fn put_eight(out: &mut [u8], at: usize, value: u64) -> usize
+    requires { at + 8 ≤ length out.old }
+    ensures next { result ≡ at + 8 }
+    ensures front { take result out.new ≡ take at out.old ++ le 8 value }
+    ensures size { length out.new ≡ length out.old }
+{
+    put(out, at, &value.to_le_bytes())
+}
+
+/// The bytes of a header before its checksum.
+#[tactic(auto, unfolding(crate::specs::Table::header_lead))]
+fn put_lead(out: &mut [u8]) -> usize
+    requires { 92 ≤ length out.old }
+    ensures next { result ≡ 16 }
+    ensures front { take result out.new ≡ header_lead }
+    ensures size { length out.new ≡ length out.old }
+{
+    let named = put(out, 0, b"EFI PART".as_slice());
+    let revised = put_four(out, named, REVISION);
+    put_four(out, revised, HEADER_SIZE)
+}
+
+/// Those from the checksum to the disk's GUID.
+fn put_places(out: &mut [u8], at: usize, copy: TableCopy, blocks: u32, table: &Table) -> usize
+    requires room { at + 36 ≤ length out.old }
+    requires some { 1 ≤ blocks }
+    ensures next { result ≡ at + 36 }
+    ensures front { take result out.new ≡ take at out.old ++ header_places copy blocks table.now }
+    ensures size { length out.new ≡ length out.old }
+{
+    let zero = put_four(out, at, 0);
+    let own = put_eight(out, zero, header_place(copy, blocks) as u64);
+    let beside = put_eight(out, own, header_place(other_copy(copy), blocks) as u64);
+    let first = put_eight(out, beside, table.first);
+    put_eight(out, first, table.last)
+}
+
+/// And those behind the GUID.
+fn put_back(out: &mut [u8], at: usize, copy: TableCopy, blocks: u32, table: &Table) -> usize
+    requires room { at + 20 ≤ length out.old }
+    requires fits { FitsTable blocks table.now }
+    ensures next { result ≡ at + 20 }
+    ensures front { take result out.new ≡ take at out.old ++ header_back copy blocks table.now }
+    ensures size { length out.new ≡ length out.old }
+{
+    let number = number_in_table(table);
+    let place = put_eight(
+        out,
+        at,
+        entries_place(copy, blocks, blocks_for(number)) as u64,
+    );
+    let count = put_four(out, place, number);
+    let entry = put_four(out, count, ENTRY_SIZE);
+    put_four(out, entry, crc32(table.entries.as_slice()))
+}
+
+/// The header of a copy with this checksum.
+fn header_of(copy: TableCopy, blocks: u32, table: &Table, sum: u32) -> [u8; 92]
+    requires fits { FitsTable blocks table.now }
+    ensures bytes { result ≡ header_with copy blocks table.now sum }
+    ensures long { length result ≡ 92 }
+{
+    let mut out = [0; 92];
+    let lead = put_lead(&mut out);
+    let summed = put_four(&mut out, lead, sum);
+    let placed = put_places(&mut out, summed, copy, blocks, table);
+    let named = put(&mut out, placed, &table.disk);
+    put_back(&mut out, named, copy, blocks, table);
+    out
+}
+
+/// Sets each byte to zero.
+fn clear(out: &mut [u8])
+    ensures { out.new ≡ replicate (length out.old) 0 }
+{
+    out.fill(0);
+}
+
+/// Spells the block of a copy's header.
+fn spell(copy: TableCopy, blocks: u32, table: &Table, out: &mut [u8])
+    requires fits { FitsTable blocks table.now }
+    requires size { length out.old ≡ 4096 }
+    ensures { out.new ≡ header_bytes copy blocks table.now }
+{
+    let sum = crc32(&header_of(copy, blocks, table, 0));
+    let header = header_of(copy, blocks, table, sum);
+    clear(out);
+    put_at(out, 0, &header);
+}
+
+/// Repairs a copy, so that it says the table.
+fn mend<D: Flash>(
+    flash: &mut D,
+    table: &Table,
+    copy: TableCopy,
+    buf: &mut [u8],
+) -> Result<(), FlashStop>
+    requires on { IsTrue (D.on flash.old) }
+    requires fits { FitsTable (D.blocks flash.old) table.now }
+    requires room { 4096 ≤ length buf.old }
+
+    ensures steps { IsTrue D.tells → Ready copy (D.blocks flash.old) table.now (D.told flash.old)
+        → Steps (λ u. BothSay (D.blocks flash.old) table.now u.now × NothingDirty u) result (D.blocks flash.old) table.now (D.told flash.new) }
+    ensures keeps { IsTrue D.tells → Keeps (copy_from copy (D.blocks flash.old) (blocks_of (number_of table.now))) (copy_to copy (D.blocks flash.old) (blocks_of (number_of table.now))) (D.told flash.old) (D.told flash.new) }
+    ensures power { D.on flash.new ≡ is_ok result }
+    ensures size { D.blocks flash.new ≡ D.blocks flash.old }
+    ensures costs { Spends result (D.counts flash.old) (D.counts flash.new) }
+    ensures unarmed { StaysUnarmed result (D.arming flash.old) (D.arming flash.new) (D.counts flash.old) (D.counts flash.new) }
+    ensures buffer { length buf.new ≡ length buf.old }
+{
+    let blocks = flash.blocks();
+    let number = number_in_table(table);
+    let header = header_place(copy, blocks);
+    let first = entries_place(copy, blocks, blocks_for(number));
+    let (head, _rest) = buf.split_at_mut(BLOCK_BYTES as usize);
+    spell(copy, blocks, table, head);
+    repair_copy(flash, header, first, head, table.entries.as_slice())
+}
+
+/// Repairs the copy of a table that reading found to need it, from the one that decides: erases the header's block and settles it, then
+/// writes the entries and settles them, then the header. The first 4096 bytes of the buffer are used.
+pub fn repair_table<D: Flash>(
+    flash: &mut D,
+    table: &Table,
+    which: WhichTable,
+    buf: &mut [u8],
+) -> Result<(), FlashStop>
+    requires on { IsTrue (D.on flash.old) }
+    requires fits { FitsTable (D.blocks flash.old) table.now }
+    requires room { 4096 ≤ length buf.old }
+    requires read { IsTrue D.tells → table_in_image (D.blocks flash.old) (D.told flash.old).now ≡ Some (table.now, which) }
+
+    ensures mends { IsTrue D.tells → HeadersGuarded (D.blocks flash.old) (D.told flash.old) → Mends result (D.blocks flash.old) table.now (D.told flash.new) }
+    ensures none { which ≡ WhichTable.Same → flash.new ≡ flash.old }
+    ensures alone { IsTrue D.tells → StaysBeside (D.blocks flash.old) table.now which (D.told flash.old) (D.told flash.new) }
+    ensures power { D.on flash.new ≡ is_ok result }
+    ensures size { D.blocks flash.new ≡ D.blocks flash.old }
+    ensures costs { Spends result (D.counts flash.old) (D.counts flash.new) }
+    ensures unarmed { StaysUnarmed result (D.arming flash.old) (D.arming flash.new) (D.counts flash.old) (D.counts flash.new) }
+    ensures buffer { length buf.new ≡ length buf.old }
+{
+    match which {
+        WhichTable::Same => Ok(()),
+        WhichTable::RepairPrimary => mend(flash, table, TableCopy::Primary, buf),
+        WhichTable::RepairBackup => mend(flash, table, TableCopy::Backup, buf),
+    }
+}
