@@ -36,7 +36,7 @@ build() {
 
 all=$(grep -cE '^[a-z]' crates.txt)
 began=$(date +%s)
-echo "proving $all crates on $(nproc) processors"
+echo "proving $all crates on $(nproc) processors, after a pass over all sources that takes a minute or two"
 { rt all check --jobs "$(nproc)" 2>&1 || echo "failed" >"$log.failed"; } | tee "$log" | progress
 if [ -e "$log.failed" ]; then
     tail -40 "$log"
