@@ -7,21 +7,15 @@ log=$(mktemp)
 trap 'rm -f "$log" "$log.failed"' EXIT
 command -v rt >/dev/null || { echo "rt isn't installed: the toolchain that README names" >&2; exit 1; }
 
-# Prints which crates are proved, of how many, and since when, from the headings that `rt all check` writes.
+# Prints which crates are done, of how many, and since when, from the headings under which `rt all check` tells what became of
+# each. (What it proved before it proves no second time.)
 progress() {
     done=0
-    name=
-    while read -r first second _; do
-        case $first in
-        ==) name=$second ;;
-        logic=proved)
-            [ -n "$name" ] || continue
-            done=$((done + 1))
-            spent=$(($(date +%s) - began))
-            printf 'proved %2d of %d: %s (%d min %02d s)\n' "$done" "$all" "$name" $((spent / 60)) $((spent % 60))
-            name=
-            ;;
-        esac
+    while read -r first name _; do
+        [ "$first" = "==" ] || continue
+        done=$((done + 1))
+        spent=$(($(date +%s) - began))
+        printf '%2d of %d: %s (%d min %02d s)\n' "$done" "$all" "$name" $((spent / 60)) $((spent % 60))
     done
 }
 
