@@ -1,7 +1,7 @@
 //! Marks: granules of 16 bytes that aren't blank. A block of 4096 bytes has 256 of them.
-ghost use Rattle.std.specs.Prelude.{◌≡◌, ◌+◌, ◌*◌, ◌<◌, ◌≤◌, is_ok, IsTrue, IfOk, length};
+ghost use Rattle.std.specs.Prelude.{◌≡◌, ◌⊎◌, ◌+◌, ◌*◌, ◌<◌, ◌≤◌, is_ok, IsTrue, IfOk, OnOk, length};
 ghost use Rattle.base_core.specs.Block.{granule};
-ghost use Rattle.flash_core.specs.Counts.{Spends, ReachesNone, arming_kept};
+ghost use Rattle.flash_core.specs.Counts.{Spends, ReachesNone, StaysUnarmed, arming_kept, lowered};
 ghost use Rattle.fwu_formats.specs.Image.{is_blank, marks};
 ghost use Rattle.marks_core.specs.Marks.{Adds, Clears};
 
@@ -50,6 +50,10 @@ pub fn add<D: Flash>(flash: &mut D, block: u32, at: u32) -> Result<(), FlashStop
     ensures power { D.on flash.new ≡ is_ok result }
     ensures size { D.blocks flash.new ≡ D.blocks flash.old }
     ensures costs { Spends result (D.counts flash.old) (D.counts flash.new) }
+    // on every device: one program
+    ensures spent { OnOk result (D.arming flash.new ≡ lowered (D.arming flash.old)) }
+    ensures unarmed { StaysUnarmed result (D.arming flash.old) (D.arming flash.new)
+        (D.counts flash.old) (D.counts flash.new) }
 {
     flash.program(4096 * block + 16 * at, &[0; 16])?;
     flash.barrier()
@@ -65,6 +69,11 @@ pub fn clear<D: Flash>(flash: &mut D, block: u32, buf: &mut [u8]) -> Result<(), 
     ensures power { D.on flash.new ≡ is_ok result }
     ensures size { D.blocks flash.new ≡ D.blocks flash.old }
     ensures costs { Spends result (D.counts flash.old) (D.counts flash.new) }
+    // on every device: one erase, or none
+    ensures spent { OnOk result ((D.arming flash.new ≡ D.arming flash.old)
+        ⊎ (D.arming flash.new ≡ lowered (D.arming flash.old))) }
+    ensures unarmed { StaysUnarmed result (D.arming flash.old) (D.arming flash.new)
+        (D.counts flash.old) (D.counts flash.new) }
     ensures buffer { length buf.new ≡ length buf.old }
 {
     clear_by(flash, block, &mut buf[..4096])
@@ -79,6 +88,11 @@ fn clear_by<D: Flash>(flash: &mut D, block: u32, buf: &mut [u8]) -> Result<(), F
     ensures power { D.on flash.new ≡ is_ok result }
     ensures size { D.blocks flash.new ≡ D.blocks flash.old }
     ensures costs { Spends result (D.counts flash.old) (D.counts flash.new) }
+    // on every device: one erase, or none
+    ensures spent { OnOk result ((D.arming flash.new ≡ D.arming flash.old)
+        ⊎ (D.arming flash.new ≡ lowered (D.arming flash.old))) }
+    ensures unarmed { StaysUnarmed result (D.arming flash.old) (D.arming flash.new)
+        (D.counts flash.old) (D.counts flash.new) }
     ensures buffer { length buf.new ≡ length buf.old }
 {
     read_block(flash, block, buf)?;

@@ -1,7 +1,7 @@
 //! The anti-rollback counter: marks in block 4, an older form, and records in blocks 5 and 6, an own format.
-ghost use Rattle.std.specs.Prelude.{◌≡◌, ◌<◌, ◌≤◌, length, is_ok, IsTrue, IfOk, max, unwrap_or};
+ghost use Rattle.std.specs.Prelude.{◌≡◌, ◌<◌, ◌≤◌, length, is_ok, IsTrue, IfOk, OnOk, max, unwrap_or};
 ghost use Rattle.base_core.specs.Block.{block};
-ghost use Rattle.flash_core.specs.Counts.{Spends, ReachesNone, arming_kept};
+ghost use Rattle.flash_core.specs.Counts.{Spends, ReachesNone, StaysUnarmed, arming_kept, lowered};
 ghost use Rattle.fwu_formats.specs.Counter.{counter_in};
 ghost use Rattle.marks_core.specs.Raises.{value_in, place_for, record_place, Raises};
 
@@ -98,6 +98,10 @@ pub fn raise<D: Flash>(flash: &mut D, v: u32, buf: &mut [u8]) -> Result<(), Flas
     ensures power { D.on flash.new ≡ is_ok result }
     ensures size { D.blocks flash.new ≡ D.blocks flash.old }
     ensures costs { Spends result (D.counts flash.old) (D.counts flash.new) }
+    // on every device: one erase and one program
+    ensures spent { OnOk result (D.arming flash.new ≡ lowered (lowered (D.arming flash.old))) }
+    ensures unarmed { StaysUnarmed result (D.arming flash.old) (D.arming flash.new)
+        (D.counts flash.old) (D.counts flash.new) }
     ensures buffer { length buf.new ≡ length buf.old }
 {
     let place = record_place(flash, &mut buf[..4096])?;

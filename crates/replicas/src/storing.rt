@@ -1,6 +1,6 @@
 //! Writing metadata over both replicas.
-ghost use Rattle.std.specs.Prelude.{◌≡◌, ◌%◌, ◌<◌, ◌≤◌, length, take, is_ok, IsTrue};
-ghost use Rattle.flash_core.specs.Counts.{Spends};
+ghost use Rattle.std.specs.Prelude.{◌≡◌, ◌%◌, ◌<◌, ◌≤◌, length, take, is_ok, IsTrue, OnOk};
+ghost use Rattle.flash_core.specs.Counts.{Spends, StaysUnarmed, lowered};
 ghost use Rattle.flash_core.specs.Replaces.{padded};
 ghost use Rattle.fwu_formats.specs.Layout.{fits_layout};
 ghost use Rattle.fwu_formats.specs.Metadata.{fits_meta, replica_bytes};
@@ -21,6 +21,11 @@ pub fn write_both<D: Flash>(flash: &mut D, bytes: &[u8]) -> Result<(), FlashStop
     ensures power { D.on flash.new ≡ is_ok result }
     ensures size { D.blocks flash.new ≡ D.blocks flash.old }
     ensures costs { Spends result (D.counts flash.old) (D.counts flash.new) }
+    // on every device: two erases and two programs
+    ensures spent { OnOk result (D.arming flash.new
+        ≡ lowered (lowered (lowered (lowered (D.arming flash.old))))) }
+    ensures unarmed { StaysUnarmed result (D.arming flash.old) (D.arming flash.new)
+        (D.counts flash.old) (D.counts flash.new) }
 {
     replace(flash, FIRST_REPLICA, bytes)?;
     replace(flash, SECOND_REPLICA, bytes)
@@ -60,6 +65,11 @@ pub fn store<D: Flash>(
     ensures power { D.on flash.new ≡ is_ok result }
     ensures size { D.blocks flash.new ≡ D.blocks flash.old }
     ensures costs { Spends result (D.counts flash.old) (D.counts flash.new) }
+    // on every device: two erases and two programs
+    ensures spent { OnOk result (D.arming flash.new
+        ≡ lowered (lowered (lowered (lowered (D.arming flash.old))))) }
+    ensures unarmed { StaysUnarmed result (D.arming flash.old) (D.arming flash.new)
+        (D.counts flash.old) (D.counts flash.new) }
     ensures buffer { length buf.new ≡ length buf.old }
 {
     let size = spell(layout, meta, buf);
