@@ -1,40 +1,116 @@
 #!/bin/sh
-# Proves every crate on all processors, builds both programs, and puts them into bin/ as fwu and fip.
-# It prints a line for each crate as soon as that is proved. README tells how long it takes.
+# Proves the crates that both programs stand on, on all processors, builds the programs, and puts them into bin/ as fwu and fip.
+# It prints a line for each crate as soon as that is done. README tells how long it takes.
 set -eu
 cd "$(dirname "$0")/.."
-log=$(mktemp)
-trap 'rm -f "$log" "$log.failed"' EXIT
 command -v rt >/dev/null || { echo "rt isn't installed: the toolchain that README names" >&2; exit 1; }
+logs=$(mktemp -d)
+trap 'rm -rf "$logs"' EXIT
+workers=$(nproc)
+began=$(date +%s)
+mkdir -p bin
 
-# Prints which crates are done, of how many, and since when, from the headings under which `rt all check` tells what became of
-# each. (What it proved before it proves no second time.)
-progress() {
-    done=0
-    while read -r first name _; do
-        [ "$first" = "==" ] || continue
-        done=$((done + 1))
-        spent=$(($(date +%s) - began))
-        printf '%2d of %d: %s (%d min %02d s)\n' "$done" "$all" "$name" $((spent / 60)) $((spent % 60))
+# The crates that the programs stand on, each with those of this repository that it names, as "crate: names": first the one
+# with the longest way up to a program.
+order() {
+    awk -F: '
+        /^[a-z]/ { names[$1] = $2 }
+        function visit(crate, height,    list, count, i) {
+            if (crate in tall && tall[crate] >= height) return
+            tall[crate] = height
+            count = split(names[crate], list, " ")
+            for (i = 1; i <= count; i++) if (list[i] in names) visit(list[i], height + 1)
+        }
+        END {
+            visit("fwu_prog", 0)
+            visit("fip_prog", 0)
+            for (crate in tall) {
+                count = split(names[crate], list, " ")
+                own = ""
+                for (i = 1; i <= count; i++) if (list[i] in names) own = own " " list[i]
+                print tall[crate] "\t" crate ":" own
+            }
+        }' crates.txt | sort -rn | cut -f2
+}
+
+# Whether all crates of a list are done.
+are_done() {
+    for name in $1; do
+        [ -e "$logs/$name.done" ] || return 1
     done
 }
 
-# Builds a program over what was proved, and runs it once on nothing, which tells nothing here.
+# Builds a program over what was proved: rt runs it once, on nothing, and that tells nothing here.
 build() {
-    (cd "crates/$1" && rt run </dev/null >"$log" 2>&1) || true
-    test -x "crates/$1/out/$1" || { cat "$log"; exit 1; }
-    mkdir -p bin
+    rm -f "crates/$1/out/$1"
+    (cd "crates/$1" && rt run </dev/null) || true
     cp "crates/$1/out/$1" "bin/$2"
-    echo "built bin/$2"
 }
 
-all=$(grep -cE '^[a-z]' crates.txt)
-began=$(date +%s)
-echo "proving $all crates on $(nproc) processors, after a pass over all sources that takes a minute or two"
-{ rt all check --jobs "$(nproc)" 2>&1 || echo "failed" >"$log.failed"; } | tee "$log" | progress
-if [ -e "$log.failed" ]; then
-    tail -40 "$log"
-    exit 1
-fi
-build fip_prog fip
-build fwu_prog fwu
+# Proves a crate, or builds a program, whose libraries are done.
+carry_out() {
+    case $1 in
+        fwu_prog) build fwu_prog fwu ;;
+        fip_prog) build fip_prog fip ;;
+        *) cd "crates/$1" && rt check --jobs 1 ;;
+    esac
+}
+
+# The same, with a mark for how it ended.
+attempt() {
+    if (carry_out "$1") >"$logs/$1.log" 2>&1; then
+        mv "$logs/$1.running" "$logs/$1.done"
+    else
+        mv "$logs/$1.running" "$logs/$1.failed"
+    fi
+}
+
+# Starts the first crate of the order whose turn has come. False where there is none.
+start_one() {
+    while IFS=: read -r crate names; do
+        [ -e "$logs/$crate.begun" ] && continue
+        are_done "$names" || continue
+        : >"$logs/$crate.begun"
+        : >"$logs/$crate.running"
+        attempt "$crate" &
+        return 0
+    done <"$logs/order"
+    return 1
+}
+
+count() {
+    find "$logs" -name "*.$1" | wc -l
+}
+
+# Prints each crate that was done since the last time.
+tell() {
+    for mark in "$logs"/*.done; do
+        [ -e "$mark" ] || continue
+        crate=$(basename "$mark" .done)
+        [ -e "$logs/$crate.told" ] && continue
+        : >"$logs/$crate.told"
+        spent=$(($(date +%s) - began))
+        printf '%2d of %d: %s (%d min %02d s)\n' "$(count told)" "$all" "$crate" $((spent / 60)) $((spent % 60))
+    done
+}
+
+# Ends with the log of a crate that failed, if there is one.
+end_at_failure() {
+    for mark in "$logs"/*.failed; do
+        [ -e "$mark" ] || continue
+        tail -40 "$logs/$(basename "$mark" .failed).log"
+        wait
+        exit 1
+    done
+}
+
+order >"$logs/order"
+all=$(wc -l <"$logs/order")
+echo "proving $all crates on $workers processors"
+while [ "$(count told)" -lt "$all" ]; do
+    while [ "$(count running)" -lt "$workers" ] && start_one; do :; done
+    sleep 1
+    tell
+    end_at_failure
+done
+echo "built bin/fwu and bin/fip"
