@@ -47,7 +47,8 @@ committed_size k image = if k.staging then committed_part (part_at k image) else
 
 -- an open image with more bytes behind it
 abbrev pub GrowsPart : Part → Part → List ℕ → Type 0
-GrowsPart (Open size hasher) (Open grown next) bytes = (grown ≡ size + length bytes) × ((m : List ℕ) → Holds256 hasher m → Holds256 next (m ++ bytes))
+GrowsPart (Open size hasher) (Open grown next) bytes = (grown ≡ size + length bytes)
+    × ((m : List ℕ) → Holds256 hasher m → Holds256 next (m ++ bytes))
 GrowsPart _ _ bytes = ⊥
 
 -- the front after bytes were written behind so many of an image
@@ -140,12 +141,15 @@ IsFrontOf most front bytes = take (min most (length bytes)) front ≡ take most 
 
 pub record IsKept (k : Kept) (bytes : ℕ → List ℕ) : Type 0 where
   -- of an open image the length, and the hash so far
-  pub opened : (i size : ℕ) (hasher : Sha256) → i < length k.rows → part_at k i ≡ Open size hasher → (size ≡ length (bytes i)) × ∥ Holds256 hasher (bytes i) ∥₁
+  pub opened : (i size : ℕ) (hasher : Sha256) → i < length k.rows → part_at k i ≡ Open size hasher
+      → (size ≡ length (bytes i)) × ∥ Holds256 hasher (bytes i) ∥₁
   -- of a committed one the length and the digest
-  pub committed : (i size : ℕ) (digest : List ℕ) (bit : Bool) → i < length k.rows → part_at k i ≡ Committed size digest bit → (size ≡ length (bytes i)) × (digest ≡ sha256 (bytes i))
+  pub committed : (i size : ℕ) (digest : List ℕ) (bit : Bool) → i < length k.rows → part_at k i ≡ Committed size digest bit
+      → (size ≡ length (bytes i)) × (digest ≡ sha256 (bytes i))
   pub front : IsFrontOf (manifest_size (length k.rows - 1)) k.front (take (size_of (part_at k 0)) (bytes 0))
 
 -- each reader has the total of what it reads, and is within it
 pub record HasTotals (E : Setting) (s : State) (boot : ℕ) (k : Kept) : Type 0 where
-  pub total : (place : ℕ) (image : Option ℕ) (at total : ℕ) → handle_kept k place ≡ Reads image at total → total ≡ length (content E s boot image)
+  pub total : (place : ℕ) (image : Option ℕ) (at total : ℕ) → handle_kept k place ≡ Reads image at total
+      → total ≡ length (content E s boot image)
   pub within : (place : ℕ) (image : Option ℕ) (at total : ℕ) → handle_kept k place ≡ Reads image at total → at ≤ total

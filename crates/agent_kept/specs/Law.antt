@@ -8,5 +8,6 @@ use Rattle.agent_kept.specs.Judged.{is_installable}
 
 -- What is kept of the staged images says whether the machine may install them.
 abbrev pub JudgingIsExact : Type 0
-JudgingIsExact = (E : Setting) (s : State) (k : Kept) (staged : ℕ → List ℕ) → k.rows ≡ E.layout.rows → 1 ≤ length k.rows → IsKept k staged
+JudgingIsExact = (E : Setting) (s : State) (k : Kept) (staged : ℕ → List ℕ) → k.rows ≡ E.layout.rows → 1 ≤ length k.rows
+    → IsKept k staged
     → is_installable E.passes s.counter k ≡ may_end E s (parts_meant k staged)

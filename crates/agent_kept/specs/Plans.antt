@@ -92,7 +92,8 @@ by_verdict session good = if good then answered reply.Success (Back ∷ []) sess
 abbrev pub DecidesAs : Setting → State → Session → Call → List ℕ → Decision → Type 0
 DecidesAs E s session c bytes (decision.Refused st) = answer E s session c ≡ refused st session
 DecidesAs E s session c bytes (decision.Do p) = answer E s session c ≡ planned_in E s session bytes p
-DecidesAs E s session c bytes (decision.ByVerdict b) = (b ≡ s.previous) × (answer E s session c ≡ by_verdict session (may_go_back E s (bank s b).held))
+DecidesAs E s session c bytes (decision.ByVerdict b) = (b ≡ s.previous)
+    × (answer E s session c ≡ by_verdict session (may_go_back E s (bank s b).held))
 
 -- The machine that a decision speaks of: its setting and state have the metadata and the counter that are given, and what is kept of the session
 -- fits the bytes of the staged images and the lengths of what is read.

@@ -21,7 +21,8 @@ is_part_open (Committed size digest bit) = false
 
 -- an open image is committed: its length stays, and its digest is that of each message that it holds
 abbrev pub CommitsTo : Part → Part → Bool → Type 0
-CommitsTo (Open size hasher) (Committed n digest b) bit = (n ≡ size) × (b ≡ bit) × ((m : List ℕ) → Holds256 hasher m → digest ≡ sha256 m)
+CommitsTo (Open size hasher) (Committed n digest b) bit = (n ≡ size) × (b ≡ bit)
+    × ((m : List ℕ) → Holds256 hasher m → digest ≡ sha256 m)
 CommitsTo (Open size hasher) Nothing bit = ⊥
 CommitsTo (Open size hasher) (Open n other) bit = ⊥
 CommitsTo Nothing new bit = new ≡ Nothing
@@ -38,9 +39,12 @@ pub record IsSound (staging : Bool) (rows : List ImageRow) (parts : List Part) (
   pub sizes : (image : ℕ) → image < length rows → size_of (slice_index_or parts image Nothing) ≤ slot_of rows image
   -- what a handle writes is an open image, and no other handle writes it
   pub within : (place image : ℕ) → slice_index_or handles place Free ≡ Writes image → image < length rows
-  pub opened : (place image : ℕ) → slice_index_or handles place Free ≡ Writes image → is_part_open (slice_index_or parts image Nothing) ≡ true
-  pub alone : (place other image : ℕ) → slice_index_or handles place Free ≡ Writes image → slice_index_or handles other Free ≡ Writes image → place ≡ other
+  pub opened : (place image : ℕ) → slice_index_or handles place Free ≡ Writes image
+      → is_part_open (slice_index_or parts image Nothing) ≡ true
+  pub alone : (place other image : ℕ) → slice_index_or handles place Free ≡ Writes image
+      → slice_index_or handles other Free ≡ Writes image → place ≡ other
   -- only a staged image is written
   pub staged : (place image : ℕ) → slice_index_or handles place Free ≡ Writes image → staging ≡ true
   -- a reader is within what it reads
-  pub readers : (place : ℕ) (image : Option ℕ) (at total : ℕ) → slice_index_or handles place Free ≡ Reads image at total → at ≤ total
+  pub readers : (place : ℕ) (image : Option ℕ) (at total : ℕ) → slice_index_or handles place Free ≡ Reads image at total
+      → at ≤ total

@@ -21,7 +21,8 @@ IsMetaOf k m = IsTrue (fits_meta (record { banks = length m.states; rows = k.row
 -- The decision of a request is the machine's, in each setting and state that is spoken of.
 abbrev pub Decides : (List ℕ → Bool) → MetaRead → ℕ → Kept → ℕ → Request → Decision → Type 0
 Decides passes m counter k boot request d =
-    (E : Setting) (s : State) (staged : ℕ → List ℕ) (bytes : List ℕ) → Speaks E s passes m counter k boot staged → FitsRequest E s boot request bytes
+    (E : Setting) (s : State) (staged : ℕ → List ℕ) (bytes : List ℕ) → Speaks E s passes m counter k boot staged
+    → FitsRequest E s boot request bytes
     → DecidesAs E s (session_meant k boot staged) (call_of request bytes) bytes d
 
 -- whatever the verifier and the counter are

@@ -34,11 +34,14 @@ IsPlanOf k (plan.Open number None op.Write total) = ⊥
 IsPlanOf k (plan.Open number (Some image) op.Write total) =
     IsNumber number × (image < length k.rows) × (k.staging ≡ true) × (is_part_open (part_at k image) ≡ false)
 IsPlanOf k (plan.Write number image at n) =
-    (image < length k.rows) × (k.staging ≡ true) × (is_part_open (part_at k image) ≡ true) × (size_of (part_at k image) + n ≤ slot_of k.rows image)
-IsPlanOf k (plan.Read number image at n total) = IsNumber number × (handle_kept k (number - 1) ≡ handle.Reads image at total) × (at + n ≤ total)
+    (image < length k.rows) × (k.staging ≡ true) × (is_part_open (part_at k image) ≡ true)
+    × (size_of (part_at k image) + n ≤ slot_of k.rows image)
+IsPlanOf k (plan.Read number image at n total) = IsNumber number × (handle_kept k (number - 1) ≡ handle.Reads image at total)
+    × (at + n ≤ total)
 IsPlanOf k (plan.Commit number None bit) = IsNumber number
 IsPlanOf k (plan.Commit number (Some image) bit) =
-    IsNumber number × (image < length k.rows) × (k.staging ≡ true) × (is_part_open (part_at k image) ≡ true) × (handle_kept k (number - 1) ≡ handle.Writes image)
+    IsNumber number × (image < length k.rows) × (k.staging ≡ true) × (is_part_open (part_at k image) ≡ true)
+    × (handle_kept k (number - 1) ≡ handle.Writes image)
 IsPlanOf k plan.End = k.staging ≡ true
 IsPlanOf k plan.Cancel = Unit {0}
 IsPlanOf k (plan.Accept image store) = image < length k.rows
@@ -131,7 +134,8 @@ pub record SettlesIn (E : Setting) (s : State) (passes : List ℕ → Bool) (cou
 -- in each setting and state that is spoken of
 abbrev pub Settles : Kept → MetaRead → List ℕ → Plan → MetaRead → Kept → Type 0
 Settles k m bytes p new_meta new =
-    (E : Setting) (s : State) (passes : List ℕ → Bool) (counter boot : ℕ) (staged : ℕ → List ℕ) → Speaks E s passes m counter k boot staged → HasTotal E s boot p
+    (E : Setting) (s : State) (passes : List ℕ → Bool) (counter boot : ℕ) (staged : ℕ → List ℕ)
+    → Speaks E s passes m counter k boot staged → HasTotal E s boot p
     → SettlesIn E s passes counter boot staged bytes p k m new_meta new
 
 abbrev pub SettlesBy : Kept → MetaRead → List ℕ → Decision → MetaRead → Kept → Type 0

@@ -137,7 +137,8 @@ fn change_meta(meta: &mut Meta, session: &Session, plan: &Plan)
 
 fn open(session: &mut Session, handle: u32, image: Option<u32>, op: Op, total: u32)
     requires plan { IsPlanOf (kept session.old) (Plan.Open handle image op total) }
-    ensures changes { Changes (kept session.old) [] (Plan.Open handle image op total) (kept session.new) }
+    ensures changes { Changes (kept session.old) [] (Plan.Open handle image op total)
+        (kept session.new) }
 {
     match op {
         Op::Read => session.set_reader(handle, image, 0, total),
@@ -151,7 +152,8 @@ fn open(session: &mut Session, handle: u32, image: Option<u32>, op: Op, total: u
 
 fn commit(session: &mut Session, handle: u32, written: Option<u32>, bit: bool)
     requires plan { IsPlanOf (kept session.old) (Plan.Commit handle written bit) }
-    ensures changes { Changes (kept session.old) [] (Plan.Commit handle written bit) (kept session.new) }
+    ensures changes { Changes (kept session.old) [] (Plan.Commit handle written bit)
+        (kept session.new) }
 {
     match written {
         Some(image) => session.commit_part(handle, image, bit),

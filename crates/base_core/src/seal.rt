@@ -30,7 +30,8 @@ fn is_own_sealed(block: &[u8]) -> bool
 /// Whether it has the checksum of metadata version 1 of so many banks.
 fn is_v1_of(block: &[u8], banks: usize) -> bool
     requires { banks ≤ 4 }
-    ensures { result ≡ list_any (λ images. has_checksum block.now (v1_size banks images)) (range_with_len 2 15) }
+    ensures { result ≡ list_any (λ images. has_checksum block.now (v1_size banks images))
+        (range_with_len 2 15) }
 {
     let entry = 32 + 24 * banks;
     for images in 2..17 {

@@ -41,7 +41,8 @@ pub fn given_all<'a>(
     found: &ArgMatches<'a>,
     id: &str,
 ) -> Result<Vec<&'a str>, AllocError>
-    ensures { IfOk result (λ v. map (λ s. s.now) v.items ≡ values_of id.now (rows_of (found_of found.now))) }
+    ensures { IfOk result (λ v. map (λ s. s.now) v.items ≡
+        values_of id.now (rows_of (found_of found.now))) }
 {
     match found.get_strs(id) {
         Some(values) => Vec::from_slice(alloc, values),

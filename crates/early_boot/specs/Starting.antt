@@ -60,7 +60,8 @@ pub record Boots {T : Type 0} (result : Result T FlashStop) (passes : List ℕ �
   -- on any flash: when done, the counter is that of the state after all moves
   pub counter : OnOk result (counter_in t.now ≡ (after (state_shown s.now shown) (all_moves (boot_setting passes shown.layout) (state_shown s.now shown))).counter)
   -- on any flash with tidy marks: when done, it shows the state after all moves
-  pub shows : IsTidy s.now (state_shown s.now shown) → OnOk result (IsShown shown.layout t.now (after (state_shown s.now shown) (all_moves (boot_setting passes shown.layout) (state_shown s.now shown))))
+  pub shows : IsTidy s.now (state_shown s.now shown)
+      → OnOk result (IsShown shown.layout t.now (after (state_shown s.now shown) (all_moves (boot_setting passes shown.layout) (state_shown s.now shown))))
   -- from a flash that is calm at least, with each loss
   pub does : (E : Setting) → IsCalm E s (state_shown s.now shown) → Guards 1 7 s
       → Does result E (state_shown s.now shown) (all_moves (boot_setting passes shown.layout) (state_shown s.now shown)) t

@@ -28,12 +28,14 @@ pub trait ByteFile {
     fn read_at(&mut self, at: u64, out: &mut [u8]) -> io::Result<()>
         ensures bytes { OnOk result (HoldsAt at out.new (content self.old)) }
         ensures same { content self.new ≡ content self.old }
-        ensures fails { FailsWithin (fails self.old) (content self.old) at (length out.old) (is_err result) };
+        ensures fails { FailsWithin (fails self.old) (content self.old) at (length out.old)
+            (is_err result) };
 
     /// Writes over the bytes from a place on. After an error some of the first were written, or none.
     fn write_at(&mut self, at: u64, bytes: &[u8]) -> io::Result<()>
         ensures writes { Writes result at bytes.now (content self.old) (content self.new) }
-        ensures fails { FailsWithin (fails self.old) (content self.old) at (length bytes.now) (is_err result) };
+        ensures fails { FailsWithin (fails self.old) (content self.old) at (length bytes.now)
+            (is_err result) };
 
     /// Hands on to the system what was written.
     fn flush(&mut self) -> io::Result<()>

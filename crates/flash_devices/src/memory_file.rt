@@ -94,7 +94,8 @@ impl ByteFile for MemoryFile {
     }
 
     fn write_at(&mut self, at: u64, bytes: &[u8]) -> io::Result<()>
-        ensures writes { Writes result at bytes.now (Some (bytes_of self.old)) (Some (bytes_of self.new)) }
+        ensures writes { Writes result at bytes.now (Some (bytes_of self.old))
+            (Some (bytes_of self.new)) }
         ensures fails { FailsWithin (Some (fails_next self.old)) (Some (bytes_of self.old))
             at (length bytes.now) (is_err result) }
         ensures unchanged { OnErr result (bytes_of self.new ≡ bytes_of self.old) }

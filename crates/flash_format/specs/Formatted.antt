@@ -44,7 +44,8 @@ pub record IsFormatted (passes : List ℕ → Bool) (L : Layout) (v : ℕ) (t : 
 -- The images stand in the slots of bank 0, with erased bytes behind them. Where they are a complete package, it is the one that bank 0 holds.
 -- (Where an image has more bytes than its row says, the package in bank 0 has the first of them, and the images themselves are none.)
 pub record HoldsImages (L : Layout) (images : List (List ℕ)) (image : List ℕ) : Type 0 where
-  pub slots : (i : ℕ) → i < length L.rows → slot L image 0 i ≡ slice_index_or images i [] ++ blank (slot_bytes L i - length (slice_index_or images i []))
+  pub slots : (i : ℕ) → i < length L.rows
+      → slot L image 0 i ≡ slice_index_or images i [] ++ blank (slot_bytes L i - length (slice_index_or images i []))
   pub held : IsTrue (is_complete L.rows images) → package_in L image 0 ≡ Some images
 
 -- the flash has no layout, and this is the verdict on bank 0, which isn't good

@@ -14,4 +14,5 @@ Stands at count bytes image = (i : ℕ) → i < count → slice_index image (at 
 
 -- the first images of a file's package stand in their slots of bank 0, with erased bytes behind them
 abbrev pub AllStand : ℕ → Layout → List ℕ → List Entry → List ℕ → Type 0
-AllStand count L file entries image = (k : ℕ) → k < count → Stands (4096 * start L 0 k) (slot_bytes L k) (payload file (slice_index_or entries k no_entry)) image
+AllStand count L file entries image = (k : ℕ) → k < count
+    → Stands (4096 * start L 0 k) (slot_bytes L k) (payload file (slice_index_or entries k no_entry)) image

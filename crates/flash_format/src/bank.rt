@@ -25,22 +25,30 @@ pub fn write_bank<D: Flash, H: Files>(
 ) -> Result<(), FormatStop>
     requires on { IsTrue (D.on flash.old) }
     requires inside { blocks_needed layout.now ≤ D.blocks flash.old }
-    requires erased { IsTrue D.tells → Erased 32768 (4096 * (8 + slot_total layout.now.rows)) (D.told flash.old).now }
+    requires erased { IsTrue D.tells →
+        Erased 32768 (4096 * (8 + slot_total layout.now.rows)) (D.told flash.old).now }
     requires count { length entries.now ≡ length layout.now.rows }
-    requires fit { (k : ℕ) → k < length layout.now.rows → (slice_index_or entries.now k no_entry).size ≤ 4096 * (slice_index_or layout.now.rows k no_row).slots }
+    requires fit { (k : ℕ) → k < length layout.now.rows →
+        (slice_index_or entries.now k no_entry).size ≤ 4096 * (slice_index_or layout.now.rows k no_row).slots }
     requires ends { All (λ e. e.offset + e.size < 2 ^ 64) entries.now }
-    requires stored { (file : List ℕ) → Tells (H.contents files.old) name.now file → All (λ e. e.offset + e.size ≤ length file) entries.now }
+    requires stored { (file : List ℕ) → Tells (H.contents files.old) name.now file →
+        All (λ e. e.offset + e.size ≤ length file) entries.now }
     requires there { Lacks (H.contents files.old) name.now → ⊥ }
 
-    ensures keeps { IsTrue D.tells → Keeps 32768 (4096 * (8 + slot_total layout.now.rows)) (D.told flash.old) (D.told flash.new) }
-    ensures bytes { OnOk result (IsTrue D.tells → (file : List ℕ) → Tells (H.contents files.old) name.now file
+    ensures keeps { IsTrue D.tells →
+        Keeps 32768 (4096 * (8 + slot_total layout.now.rows)) (D.told flash.old)
+        (D.told flash.new) }
+    ensures bytes { OnOk result (IsTrue D.tells → (file : List ℕ) →
+        Tells (H.contents files.old) name.now file
         → AllStand (length layout.now.rows) layout.now file entries.now (D.told flash.new).now) }
     ensures power { D.on flash.new ≡ is_ok (flash_result result) }
     ensures size { D.blocks flash.new ≡ D.blocks flash.old }
     ensures costs { Spends (flash_result result) (D.counts flash.old) (D.counts flash.new) }
-    ensures unarmed { StaysUnarmed (flash_result result) (D.arming flash.old) (D.arming flash.new) (D.counts flash.old) (D.counts flash.new) }
+    ensures unarmed { StaysUnarmed (flash_result result) (D.arming flash.old) (D.arming flash.new)
+        (D.counts flash.old) (D.counts flash.new) }
     ensures same { H.contents files.new ≡ H.contents files.old }
-    ensures reads { ReadsBy (H.contents files.old) name.now (H.faults files.old) (H.faults files.new) result }
+    ensures reads { ReadsBy (H.contents files.old) name.now (H.faults files.old)
+        (H.faults files.new) result }
     ensures stops { RefusesNothing result }
 {
     let rows = layout.rows();

@@ -48,15 +48,19 @@ fn finish<D: Flash, V: Verifier>(
     requires inside { blocks_needed layout.now ≤ D.blocks flash.old }
     requires erased { IsTrue D.tells → Erased 0 32768 (D.told flash.old).now }
 
-    ensures formatted { IfOk result (λ version. IsTrue D.tells → IsFormatted (V.passes verifier.now) layout.now version (D.told flash.new)) }
-    ensures refused { (found : Verdict) → result ≡ Err (InputRefused (BankRefused found)) → IsTrue D.tells → IsRefused (V.passes verifier.now) layout.now found (D.told flash.new).now }
+    ensures formatted { IfOk result (λ version. IsTrue D.tells →
+        IsFormatted (V.passes verifier.now) layout.now version (D.told flash.new)) }
+    ensures refused { (found : Verdict) → result ≡ Err (InputRefused (BankRefused found)) →
+        IsTrue D.tells → IsRefused (V.passes verifier.now) layout.now found (D.told flash.new).now }
     ensures keeps { IsTrue D.tells → Keeps 0 12288 (D.told flash.old) (D.told flash.new) }
     // Whatever a loss leaves, no layout is there before both replicas are.
-    ensures ordered { IsTrue D.tells → NothingDirty (D.told flash.old) → IsOrdered layout.now (D.told flash.new) }
+    ensures ordered { IsTrue D.tells → NothingDirty (D.told flash.old) →
+        IsOrdered layout.now (D.told flash.new) }
     ensures power { D.on flash.new ≡ is_ok (flash_result result) }
     ensures size { D.blocks flash.new ≡ D.blocks flash.old }
     ensures costs { Spends (flash_result result) (D.counts flash.old) (D.counts flash.new) }
-    ensures unarmed { StaysUnarmed (flash_result result) (D.arming flash.old) (D.arming flash.new) (D.counts flash.old) (D.counts flash.new) }
+    ensures unarmed { StaysUnarmed (flash_result result) (D.arming flash.old) (D.arming flash.new)
+        (D.counts flash.old) (D.counts flash.new) }
     ensures stops { RefusesBank result }
 {
     let _rows = layout.rows();
@@ -80,20 +84,29 @@ fn carry_out<D: Flash, H: Files, V: Verifier>(
     requires inside { blocks_needed plan.now.layout ≤ D.blocks flash.old }
     requires planned { IsPlanned (H.contents files.old) name.now plan.now.layout plan.now.entries }
 
-    ensures formatted { IfOk result (λ version. IsTrue D.tells → IsFormatted (V.passes verifier.now) plan.now.layout version (D.told flash.new)) }
-    ensures refused { (found : Verdict) → result ≡ Err (InputRefused (BankRefused found)) → IsTrue D.tells → IsRefused (V.passes verifier.now) plan.now.layout found (D.told flash.new).now }
-    ensures bytes { Finishes result (IsTrue D.tells → (file : List ℕ) → Tells (H.contents files.old) name.now file
+    ensures formatted { IfOk result (λ version. IsTrue D.tells →
+        IsFormatted (V.passes verifier.now) plan.now.layout version (D.told flash.new)) }
+    ensures refused { (found : Verdict) → result ≡ Err (InputRefused (BankRefused found)) →
+        IsTrue D.tells →
+        IsRefused (V.passes verifier.now) plan.now.layout found (D.told flash.new).now }
+    ensures bytes { Finishes result (IsTrue D.tells → (file : List ℕ) →
+        Tells (H.contents files.old) name.now file
         → AllStand (length plan.now.layout.rows) plan.now.layout file plan.now.entries (D.told flash.new).now) }
-    ensures blank { Finishes result (IsTrue D.tells → IsBlank plan.now.layout (D.told flash.new).now) }
-    ensures failed { result ≡ Err FileFailed → IsTrue D.tells → IsErr (layout_seen (D.told flash.new).now) }
-    ensures keeps { IsTrue D.tells → Keeps 0 (4096 * blocks_needed plan.now.layout) (D.told flash.old) (D.told flash.new) }
+    ensures blank { Finishes result (IsTrue D.tells →
+        IsBlank plan.now.layout (D.told flash.new).now) }
+    ensures failed { result ≡ Err FileFailed → IsTrue D.tells →
+        IsErr (layout_seen (D.told flash.new).now) }
+    ensures keeps { IsTrue D.tells →
+        Keeps 0 (4096 * blocks_needed plan.now.layout) (D.told flash.old) (D.told flash.new) }
     ensures power { D.on flash.new ≡ is_ok (flash_result result) }
     ensures size { D.blocks flash.new ≡ D.blocks flash.old }
     ensures costs { Spends (flash_result result) (D.counts flash.old) (D.counts flash.new) }
-    ensures unarmed { StaysUnarmed (flash_result result) (D.arming flash.old) (D.arming flash.new) (D.counts flash.old) (D.counts flash.new) }
+    ensures unarmed { StaysUnarmed (flash_result result) (D.arming flash.old) (D.arming flash.new)
+        (D.counts flash.old) (D.counts flash.new) }
     ensures stops { IsEarly result → ⊥ }
     ensures same { H.contents files.new ≡ H.contents files.old }
-    ensures reads { ReadsBy (H.contents files.old) name.now (H.faults files.old) (H.faults files.new) result }
+    ensures reads { ReadsBy (H.contents files.old) name.now (H.faults files.old)
+        (H.faults files.new) result }
 {
     let _rows = plan.layout.rows();
     match fill(flash, plan, files, name) {
@@ -120,34 +133,49 @@ pub fn format<D: Flash, H: Files, V: Verifier>(
     requires { IsTrue (D.on flash.old) }
 
     // What is refused before the flash is touched, exactly: by the layout, and by the bytes of the file where they are told.
-    ensures layout { LayoutBy (fitted (record { banks = banks; rows = rows.now }) (D.blocks flash.old)) result }
-    ensures answers { (file : List ℕ) → Tells (H.contents files.old) name.now file → Answers (refusal (record { banks = banks; rows = rows.now }) (D.blocks flash.old) file) result }
+    ensures layout { LayoutBy (fitted (record { banks = banks; rows = rows.now })
+        (D.blocks flash.old)) result }
+    ensures answers { (file : List ℕ) → Tells (H.contents files.old) name.now file →
+        Answers (refusal (record { banks = banks; rows = rows.now })
+        (D.blocks flash.old) file) result }
     ensures untouched { IsEarly result → flash.new ≡ flash.old }
     // A file that could not be read: the flash is as it was, or has no layout.
-    ensures failed { result ≡ Err FileFailed → IsTrue D.tells → (D.told flash.new ≡ D.told flash.old) ⊎ IsErr (layout_seen (D.told flash.new).now) }
+    ensures failed { result ≡ Err FileFailed → IsTrue D.tells →
+        (D.told flash.new ≡ D.told flash.old) ⊎ IsErr (layout_seen (D.told flash.new).now) }
     // A name that told files lack gives a file that could not be read, unless there is no layout; and nothing was done.
     ensures missing { Lacks (H.contents files.old) name.now
         → (IsOfLayout result ⊎ (result ≡ Err FileFailed)) × (flash.new ≡ flash.old) }
     // Formatted: what the flash shows, and that it is sound.
-    ensures given { IfOk result (λ done. fitted (record { banks = banks; rows = rows.now }) (D.blocks flash.old) ≡ Ok done.layout) }
-    ensures formatted { IfOk result (λ done. IsTrue D.tells → IsFormatted (V.passes verifier.now) done.layout done.version (D.told flash.new)) }
+    ensures given { IfOk result (λ done. fitted (record { banks = banks; rows = rows.now })
+        (D.blocks flash.old) ≡ Ok done.layout) }
+    ensures formatted { IfOk result (λ done. IsTrue D.tells →
+        IsFormatted (V.passes verifier.now) done.layout done.version (D.told flash.new)) }
     // Refused: the flash has no layout, and what it is refused for is the verdict on what bank 0 holds.
-    ensures refused { (found : Verdict) → result ≡ Err (InputRefused (BankRefused found)) → IsTrue D.tells
+    ensures refused { (found : Verdict) → result ≡ Err (InputRefused (BankRefused found)) →
+        IsTrue D.tells
         → IsRefused (V.passes verifier.now) (record { banks = banks; rows = rows.now }) found (D.told flash.new).now }
     // Either way bank 0 holds the package's images, and they aren't refused where they are a complete package that passes.
-    ensures images { Finishes result (IsTrue D.tells → (file : List ℕ) (toc : Toc) → Tells (H.contents files.old) name.now file → toc_of file ≡ Ok toc
+    ensures images { Finishes result (IsTrue D.tells → (file : List ℕ) (toc : Toc) →
+        Tells (H.contents files.old) name.now file → toc_of file ≡ Ok toc
         → HoldsImages (record { banks = banks; rows = rows.now }) (images_of rows.now file toc) (D.told flash.new).now) }
-    ensures blank { Finishes result (IsTrue D.tells → IsBlank (record { banks = banks; rows = rows.now }) (D.told flash.new).now) }
-    ensures deserved { (found : Verdict) → result ≡ Err (InputRefused (BankRefused found)) → IsTrue D.tells → (file : List ℕ) (toc : Toc) → Tells (H.contents files.old) name.now file → toc_of file ≡ Ok toc
+    ensures blank { Finishes result (IsTrue D.tells →
+        IsBlank (record { banks = banks; rows = rows.now }) (D.told flash.new).now) }
+    ensures deserved { (found : Verdict) → result ≡ Err (InputRefused (BankRefused found)) →
+        IsTrue D.tells → (file : List ℕ) (toc : Toc) → Tells (H.contents files.old) name.now file →
+        toc_of file ≡ Ok toc
         → IsTrue (is_complete rows.now (images_of rows.now file toc)) → IsTrue (V.passes verifier.now (manifest_part (images_of rows.now file toc))) → ⊥ }
     // Beyond the last bank nothing changes, at any exit.
-    ensures keeps { IsTrue D.tells → Keeps 0 (4096 * blocks_needed (record { banks = banks; rows = rows.now })) (D.told flash.old) (D.told flash.new) }
+    ensures keeps { IsTrue D.tells →
+        Keeps 0 (4096 * blocks_needed (record { banks = banks; rows = rows.now }))
+        (D.told flash.old) (D.told flash.new) }
     ensures power { D.on flash.new ≡ is_ok (flash_result result) }
     ensures size { D.blocks flash.new ≡ D.blocks flash.old }
     ensures costs { Spends (flash_result result) (D.counts flash.old) (D.counts flash.new) }
-    ensures unarmed { StaysUnarmed (flash_result result) (D.arming flash.old) (D.arming flash.new) (D.counts flash.old) (D.counts flash.new) }
+    ensures unarmed { StaysUnarmed (flash_result result) (D.arming flash.old) (D.arming flash.new)
+        (D.counts flash.old) (D.counts flash.new) }
     ensures same { H.contents files.new ≡ H.contents files.old }
-    ensures reads { ReadsBy (H.contents files.old) name.now (H.faults files.old) (H.faults files.new) result }
+    ensures reads { ReadsBy (H.contents files.old) name.now (H.faults files.old)
+        (H.faults files.new) result }
 {
     let plan = match plan(rows, banks, flash.blocks(), files, name) {
         Ok(plan) => plan,

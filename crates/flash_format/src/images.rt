@@ -26,10 +26,12 @@ fn read_piece<H: Files>(
     requires erased { out.old ≡ blank 4096 }
     requires some { done < entry.now.size }
     requires ends { entry.now.offset + entry.now.size < 2 ^ 64 }
-    requires stored { (file : List ℕ) → Tells (H.contents files.old) name.now file → entry.now.offset + entry.now.size ≤ length file }
+    requires stored { (file : List ℕ) → Tells (H.contents files.old) name.now file →
+        entry.now.offset + entry.now.size ≤ length file }
     requires there { Lacks (H.contents files.old) name.now → ⊥ }
 
-    ensures bytes { OnOk result ((file : List ℕ) → Tells (H.contents files.old) name.now file → Stands 0 4096 (drop done (payload file entry.now)) out.new) }
+    ensures bytes { OnOk result ((file : List ℕ) → Tells (H.contents files.old) name.now file →
+        Stands 0 4096 (drop done (payload file entry.now)) out.new) }
     ensures granules { IfOk result (λ n. n % 16 ≡ 0) }
     ensures some { IfOk result (λ n. (0 < n) × (n ≤ 4096)) }
     ensures erased { IfOk result (λ n. Erased n 4096 out.new) }
@@ -53,21 +55,27 @@ fn write_piece<D: Flash, H: Files>(
 ) -> Result<(), FormatStop>
     requires on { IsTrue (D.on flash.old) }
     requires inside { block < D.blocks flash.old }
-    requires erased { IsTrue D.tells → Erased (4096 * block) (4096 * block + 4096) (D.told flash.old).now }
+    requires erased { IsTrue D.tells →
+        Erased (4096 * block) (4096 * block + 4096) (D.told flash.old).now }
     requires some { done < entry.now.size }
     requires ends { entry.now.offset + entry.now.size < 2 ^ 64 }
-    requires stored { (file : List ℕ) → Tells (H.contents files.old) name.now file → entry.now.offset + entry.now.size ≤ length file }
+    requires stored { (file : List ℕ) → Tells (H.contents files.old) name.now file →
+        entry.now.offset + entry.now.size ≤ length file }
     requires there { Lacks (H.contents files.old) name.now → ⊥ }
 
-    ensures keeps { IsTrue D.tells → Keeps (4096 * block) (4096 * block + 4096) (D.told flash.old) (D.told flash.new) }
-    ensures bytes { OnOk result (IsTrue D.tells → (file : List ℕ) → Tells (H.contents files.old) name.now file
+    ensures keeps { IsTrue D.tells →
+        Keeps (4096 * block) (4096 * block + 4096) (D.told flash.old) (D.told flash.new) }
+    ensures bytes { OnOk result (IsTrue D.tells → (file : List ℕ) →
+        Tells (H.contents files.old) name.now file
         → Stands (4096 * block) 4096 (drop done (payload file entry.now)) (D.told flash.new).now) }
     ensures power { D.on flash.new ≡ is_ok (flash_result result) }
     ensures size { D.blocks flash.new ≡ D.blocks flash.old }
     ensures costs { Spends (flash_result result) (D.counts flash.old) (D.counts flash.new) }
-    ensures unarmed { StaysUnarmed (flash_result result) (D.arming flash.old) (D.arming flash.new) (D.counts flash.old) (D.counts flash.new) }
+    ensures unarmed { StaysUnarmed (flash_result result) (D.arming flash.old) (D.arming flash.new)
+        (D.counts flash.old) (D.counts flash.new) }
     ensures same { H.contents files.new ≡ H.contents files.old }
-    ensures reads { ReadsBy (H.contents files.old) name.now (H.faults files.old) (H.faults files.new) result }
+    ensures reads { ReadsBy (H.contents files.old) name.now (H.faults files.old)
+        (H.faults files.new) result }
     ensures stops { RefusesNothing result }
 {
     let mut bytes = [0xFF; 4096];
@@ -90,21 +98,27 @@ pub fn write_image<D: Flash, H: Files>(
 ) -> Result<(), FormatStop>
     requires on { IsTrue (D.on flash.old) }
     requires inside { first + slots ≤ D.blocks flash.old }
-    requires erased { IsTrue D.tells → Erased (4096 * first) (4096 * (first + slots)) (D.told flash.old).now }
+    requires erased { IsTrue D.tells →
+        Erased (4096 * first) (4096 * (first + slots)) (D.told flash.old).now }
     requires fits { entry.now.size ≤ 4096 * slots }
     requires ends { entry.now.offset + entry.now.size < 2 ^ 64 }
-    requires stored { (file : List ℕ) → Tells (H.contents files.old) name.now file → entry.now.offset + entry.now.size ≤ length file }
+    requires stored { (file : List ℕ) → Tells (H.contents files.old) name.now file →
+        entry.now.offset + entry.now.size ≤ length file }
     requires there { Lacks (H.contents files.old) name.now → ⊥ }
 
-    ensures keeps { IsTrue D.tells → Keeps (4096 * first) (4096 * (first + slots)) (D.told flash.old) (D.told flash.new) }
-    ensures bytes { OnOk result (IsTrue D.tells → (file : List ℕ) → Tells (H.contents files.old) name.now file
+    ensures keeps { IsTrue D.tells →
+        Keeps (4096 * first) (4096 * (first + slots)) (D.told flash.old) (D.told flash.new) }
+    ensures bytes { OnOk result (IsTrue D.tells → (file : List ℕ) →
+        Tells (H.contents files.old) name.now file
         → Stands (4096 * first) (4096 * slots) (payload file entry.now) (D.told flash.new).now) }
     ensures power { D.on flash.new ≡ is_ok (flash_result result) }
     ensures size { D.blocks flash.new ≡ D.blocks flash.old }
     ensures costs { Spends (flash_result result) (D.counts flash.old) (D.counts flash.new) }
-    ensures unarmed { StaysUnarmed (flash_result result) (D.arming flash.old) (D.arming flash.new) (D.counts flash.old) (D.counts flash.new) }
+    ensures unarmed { StaysUnarmed (flash_result result) (D.arming flash.old) (D.arming flash.new)
+        (D.counts flash.old) (D.counts flash.new) }
     ensures same { H.contents files.new ≡ H.contents files.old }
-    ensures reads { ReadsBy (H.contents files.old) name.now (H.faults files.old) (H.faults files.new) result }
+    ensures reads { ReadsBy (H.contents files.old) name.now (H.faults files.old)
+        (H.faults files.new) result }
     ensures stops { RefusesNothing result }
 {
     let pieces = ((entry.size + 4095) / 4096) as u32;

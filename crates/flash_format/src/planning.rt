@@ -20,13 +20,16 @@ use meta_layout::Layout;
 fn plan_of<H: Files>(files: &mut H, name: &str, layout: Layout) -> Result<Plan, FormatStop>
     ensures layout { IfOk result (λ plan. plan.layout ≡ layout) }
     ensures planned { IfOk result (λ plan. IsPlanned (H.contents files.old) name.now plan.layout plan.entries) }
-    ensures toc { IfOk result (λ plan. (file : List ℕ) → Tells (H.contents files.old) name.now file → HasToc file plan.layout plan.entries) }
-    ensures answers { (file : List ℕ) → Tells (H.contents files.old) name.now file → Answers (refusal_by (Ok layout) (toc_of file)) result }
+    ensures toc { IfOk result (λ plan. (file : List ℕ) →
+        Tells (H.contents files.old) name.now file → HasToc file plan.layout plan.entries) }
+    ensures answers { (file : List ℕ) → Tells (H.contents files.old) name.now file →
+        Answers (refusal_by (Ok layout) (toc_of file)) result }
     ensures missing { Lacks (H.contents files.old) name.now → result ≡ Err FileFailed }
     ensures other { IsOfLayout result → ⊥ }
     ensures stops { IfErr result StopsEarly }
     ensures same { H.contents files.new ≡ H.contents files.old }
-    ensures reads { ReadsBy (H.contents files.old) name.now (H.faults files.old) (H.faults files.new) result }
+    ensures reads { ReadsBy (H.contents files.old) name.now (H.faults files.old)
+        (H.faults files.new) result }
 {
     let toc = match read_table(files, name) {
         Ok(toc) => toc,
@@ -48,15 +51,20 @@ pub fn plan<H: Files>(
     files: &mut H,
     name: &str,
 ) -> Result<Plan, FormatStop>
-    ensures fits { IfOk result (λ plan. fitted (record { banks = banks; rows = rows.now }) blocks ≡ Ok plan.layout) }
+    ensures fits { IfOk result (λ plan. fitted (record { banks = banks; rows = rows.now }) blocks ≡
+        Ok plan.layout) }
     ensures planned { IfOk result (λ plan. IsPlanned (H.contents files.old) name.now plan.layout plan.entries) }
-    ensures toc { IfOk result (λ plan. (file : List ℕ) → Tells (H.contents files.old) name.now file → HasToc file plan.layout plan.entries) }
-    ensures answers { (file : List ℕ) → Tells (H.contents files.old) name.now file → Answers (refusal (record { banks = banks; rows = rows.now }) blocks file) result }
+    ensures toc { IfOk result (λ plan. (file : List ℕ) →
+        Tells (H.contents files.old) name.now file → HasToc file plan.layout plan.entries) }
+    ensures answers { (file : List ℕ) → Tells (H.contents files.old) name.now file →
+        Answers (refusal (record { banks = banks; rows = rows.now }) blocks file) result }
     ensures layout { LayoutBy (fitted (record { banks = banks; rows = rows.now }) blocks) result }
-    ensures missing { Lacks (H.contents files.old) name.now → IsOfLayout result ⊎ (result ≡ Err FileFailed) }
+    ensures missing { Lacks (H.contents files.old) name.now → IsOfLayout result ⊎
+        (result ≡ Err FileFailed) }
     ensures stops { IfErr result StopsEarly }
     ensures same { H.contents files.new ≡ H.contents files.old }
-    ensures reads { ReadsBy (H.contents files.old) name.now (H.faults files.old) (H.faults files.new) result }
+    ensures reads { ReadsBy (H.contents files.old) name.now (H.faults files.old)
+        (H.faults files.new) result }
 {
     match Layout::make(rows, banks, blocks) {
         Ok(layout) => plan_of(files, name, layout),

@@ -24,13 +24,15 @@ fn write_twice<D: Flash>(flash: &mut D, bytes: &[u8]) -> Result<(), FlashStop>
     requires erased { IsTrue D.tells → Erased 4096 12288 (D.told flash.old).now }
 
     ensures keeps { IsTrue D.tells → Keeps 4096 12288 (D.told flash.old) (D.told flash.new) }
-    ensures zero { OnOk result (IsTrue D.tells → block 1 (D.told flash.new).now ≡ padded bytes.now) }
+    ensures zero { OnOk result (IsTrue D.tells →
+        block 1 (D.told flash.new).now ≡ padded bytes.now) }
     ensures one { OnOk result (IsTrue D.tells → block 2 (D.told flash.new).now ≡ padded bytes.now) }
     ensures clean { OnOk result (IsTrue D.tells → NothingDirty (D.told flash.new)) }
     ensures power { D.on flash.new ≡ is_ok result }
     ensures size { D.blocks flash.new ≡ D.blocks flash.old }
     ensures costs { Spends result (D.counts flash.old) (D.counts flash.new) }
-    ensures unarmed { StaysUnarmed result (D.arming flash.old) (D.arming flash.new) (D.counts flash.old) (D.counts flash.new) }
+    ensures unarmed { StaysUnarmed result (D.arming flash.old) (D.arming flash.new)
+        (D.counts flash.old) (D.counts flash.new) }
 {
     flash.program(4096, bytes)?;
     flash.program(8192, bytes)?;
@@ -43,12 +45,14 @@ fn write_replicas<D: Flash>(flash: &mut D, layout: &Layout) -> Result<(), FlashS
     requires erased { IsTrue D.tells → Erased 4096 12288 (D.told flash.old).now }
 
     ensures keeps { IsTrue D.tells → Keeps 4096 12288 (D.told flash.old) (D.told flash.new) }
-    ensures both { OnOk result (IsTrue D.tells → BothHold layout.now (in_version 2 (first_meta layout.now)) (D.told flash.new).now) }
+    ensures both { OnOk result (IsTrue D.tells →
+        BothHold layout.now (in_version 2 (first_meta layout.now)) (D.told flash.new).now) }
     ensures clean { OnOk result (IsTrue D.tells → NothingDirty (D.told flash.new)) }
     ensures power { D.on flash.new ≡ is_ok result }
     ensures size { D.blocks flash.new ≡ D.blocks flash.old }
     ensures costs { Spends result (D.counts flash.old) (D.counts flash.new) }
-    ensures unarmed { StaysUnarmed result (D.arming flash.old) (D.arming flash.new) (D.counts flash.old) (D.counts flash.new) }
+    ensures unarmed { StaysUnarmed result (D.arming flash.old) (D.arming flash.new)
+        (D.counts flash.old) (D.counts flash.new) }
 {
     let mut bytes = [0xFF; 4096];
     let meta = Meta::first(layout);
@@ -65,12 +69,14 @@ fn write_layout<D: Flash>(flash: &mut D, layout: &Layout) -> Result<(), FlashSto
     requires erased { IsTrue D.tells → Erased 0 4096 (D.told flash.old).now }
 
     ensures keeps { IsTrue D.tells → Keeps 0 4096 (D.told flash.old) (D.told flash.new) }
-    ensures layout { OnOk result (IsTrue D.tells → layout_seen (D.told flash.new).now ≡ Ok layout.now) }
+    ensures layout { OnOk result (IsTrue D.tells →
+        layout_seen (D.told flash.new).now ≡ Ok layout.now) }
     ensures clean { OnOk result (IsTrue D.tells → NothingDirty (D.told flash.new)) }
     ensures power { D.on flash.new ≡ is_ok result }
     ensures size { D.blocks flash.new ≡ D.blocks flash.old }
     ensures costs { Spends result (D.counts flash.old) (D.counts flash.new) }
-    ensures unarmed { StaysUnarmed result (D.arming flash.old) (D.arming flash.new) (D.counts flash.old) (D.counts flash.new) }
+    ensures unarmed { StaysUnarmed result (D.arming flash.old) (D.arming flash.new)
+        (D.counts flash.old) (D.counts flash.new) }
 {
     let mut bytes = [0xFF; 4096];
     layout.write(&mut bytes);
@@ -85,15 +91,19 @@ pub fn write_records<D: Flash>(flash: &mut D, layout: &Layout) -> Result<(), Fla
     requires erased { IsTrue D.tells → Erased 0 12288 (D.told flash.old).now }
 
     ensures keeps { IsTrue D.tells → Keeps 0 12288 (D.told flash.old) (D.told flash.new) }
-    ensures both { OnOk result (IsTrue D.tells → BothHold layout.now (in_version 2 (first_meta layout.now)) (D.told flash.new).now) }
-    ensures layout { OnOk result (IsTrue D.tells → layout_seen (D.told flash.new).now ≡ Ok layout.now) }
+    ensures both { OnOk result (IsTrue D.tells →
+        BothHold layout.now (in_version 2 (first_meta layout.now)) (D.told flash.new).now) }
+    ensures layout { OnOk result (IsTrue D.tells →
+        layout_seen (D.told flash.new).now ≡ Ok layout.now) }
     ensures clean { OnOk result (IsTrue D.tells → NothingDirty (D.told flash.new)) }
     // Whatever a loss leaves, no layout is there before both replicas are.
-    ensures ordered { IsTrue D.tells → NothingDirty (D.told flash.old) → IsOrdered layout.now (D.told flash.new) }
+    ensures ordered { IsTrue D.tells → NothingDirty (D.told flash.old) →
+        IsOrdered layout.now (D.told flash.new) }
     ensures power { D.on flash.new ≡ is_ok result }
     ensures size { D.blocks flash.new ≡ D.blocks flash.old }
     ensures costs { Spends result (D.counts flash.old) (D.counts flash.new) }
-    ensures unarmed { StaysUnarmed result (D.arming flash.old) (D.arming flash.new) (D.counts flash.old) (D.counts flash.new) }
+    ensures unarmed { StaysUnarmed result (D.arming flash.old) (D.arming flash.new)
+        (D.counts flash.old) (D.counts flash.new) }
 {
     write_replicas(flash, layout)?;
     write_layout(flash, layout)

@@ -13,14 +13,16 @@ use host_io::Files;
 /// The table of a package in a file, where there is one, or the package's first fault. Each payload ends below 2 ^ 64, whatever
 /// file it is.
 pub fn read_table<H: Files>(files: &mut H, name: &str) -> Result<Toc, FormatStop>
-    ensures told { (file : List ℕ) → Tells (H.contents files.old) name.now file → IsTable (toc_of file) result }
+    ensures told { (file : List ℕ) → Tells (H.contents files.old) name.now file →
+        IsTable (toc_of file) result }
     ensures stops { StopsTable result }
     // A name that told files lack is no package that is refused.
     ensures missing { Lacks (H.contents files.old) name.now → result ≡ Err FileFailed }
     ensures there { IfOk result (λ toc. Lacks (H.contents files.old) name.now → ⊥) }
     ensures ends { IfOk result (λ toc. All (λ e. e.offset + e.size < 2 ^ 64) toc.entries) }
     ensures same { H.contents files.new ≡ H.contents files.old }
-    ensures reads { ReadsBy (H.contents files.old) name.now (H.faults files.old) (H.faults files.new) result }
+    ensures reads { ReadsBy (H.contents files.old) name.now (H.faults files.old)
+        (H.faults files.new) result }
 {
     match read_toc(files, name) {
         Ok(toc) => Ok(toc),

@@ -37,18 +37,23 @@ pub fn fill<D: Flash, H: Files>(
     requires inside { blocks_needed plan.now.layout ≤ D.blocks flash.old }
     requires planned { IsPlanned (H.contents files.old) name.now plan.now.layout plan.now.entries }
 
-    ensures keeps { IsTrue D.tells → Keeps 0 (4096 * blocks_needed plan.now.layout) (D.told flash.old) (D.told flash.new) }
-    ensures erased { OnOk (flash_result result) (IsTrue D.tells → Erased 0 32768 (D.told flash.new).now) }
+    ensures keeps { IsTrue D.tells →
+        Keeps 0 (4096 * blocks_needed plan.now.layout) (D.told flash.old) (D.told flash.new) }
+    ensures erased { OnOk (flash_result result) (IsTrue D.tells →
+        Erased 0 32768 (D.told flash.new).now) }
     ensures blank { OnOk result (IsTrue D.tells → IsBlank plan.now.layout (D.told flash.new).now) }
     ensures clean { OnOk result (IsTrue D.tells → NothingDirty (D.told flash.new)) }
-    ensures bytes { OnOk result (IsTrue D.tells → (file : List ℕ) → Tells (H.contents files.old) name.now file
+    ensures bytes { OnOk result (IsTrue D.tells → (file : List ℕ) →
+        Tells (H.contents files.old) name.now file
         → AllStand (length plan.now.layout.rows) plan.now.layout file plan.now.entries (D.told flash.new).now) }
     ensures power { D.on flash.new ≡ is_ok (flash_result result) }
     ensures size { D.blocks flash.new ≡ D.blocks flash.old }
     ensures costs { Spends (flash_result result) (D.counts flash.old) (D.counts flash.new) }
-    ensures unarmed { StaysUnarmed (flash_result result) (D.arming flash.old) (D.arming flash.new) (D.counts flash.old) (D.counts flash.new) }
+    ensures unarmed { StaysUnarmed (flash_result result) (D.arming flash.old) (D.arming flash.new)
+        (D.counts flash.old) (D.counts flash.new) }
     ensures same { H.contents files.new ≡ H.contents files.old }
-    ensures reads { ReadsBy (H.contents files.old) name.now (H.faults files.old) (H.faults files.new) result }
+    ensures reads { ReadsBy (H.contents files.old) name.now (H.faults files.old)
+        (H.faults files.new) result }
     ensures stops { RefusesNothing result }
 {
     let _rows = plan.layout.rows();
@@ -67,14 +72,19 @@ pub fn check_bank<D: Flash, V: Verifier>(
     requires on { IsTrue (D.on flash.old) }
     requires inside { blocks_needed layout.now ≤ D.blocks flash.old }
 
-    ensures good { IfOk result (λ version. IsTrue D.tells → verdict_on (V.passes verifier.now) 0 layout.now (D.told flash.old).now 0 ≡ Good version) }
-    ensures bad { (found : Found) → result ≡ Err (InputRefused (BankRefused found)) → may_start found ≡ false }
-    ensures found { (found : Found) → result ≡ Err (InputRefused (BankRefused found)) → IsTrue D.tells → verdict_on (V.passes verifier.now) 0 layout.now (D.told flash.old).now 0 ≡ found }
+    ensures good { IfOk result (λ version. IsTrue D.tells →
+        verdict_on (V.passes verifier.now) 0 layout.now (D.told flash.old).now 0 ≡ Good version) }
+    ensures bad { (found : Found) → result ≡ Err (InputRefused (BankRefused found)) →
+        may_start found ≡ false }
+    ensures found { (found : Found) → result ≡ Err (InputRefused (BankRefused found)) →
+        IsTrue D.tells →
+        verdict_on (V.passes verifier.now) 0 layout.now (D.told flash.old).now 0 ≡ found }
     ensures content { IsTrue D.tells → D.told flash.new ≡ D.told flash.old }
     ensures power { D.on flash.new ≡ is_ok (flash_result result) }
     ensures size { D.blocks flash.new ≡ D.blocks flash.old }
     ensures costs { Spends (flash_result result) (D.counts flash.old) (D.counts flash.new) }
-    ensures unarmed { StaysUnarmed (flash_result result) (D.arming flash.old) (D.arming flash.new) (D.counts flash.old) (D.counts flash.new) }
+    ensures unarmed { StaysUnarmed (flash_result result) (D.arming flash.old) (D.arming flash.new)
+        (D.counts flash.old) (D.counts flash.new) }
     ensures stops { RefusesBank result }
 {
     let mut buffer = [0; 4096];

@@ -20,8 +20,10 @@ ReadLayoutsFit = (bytes : List ℕ) (blocks : ℕ) (L : Layout) → layout_of by
 -- layouts, metadata of either version, and records of the counter are sealed, so a block that isn't sealed is none of them
 pub record FormatsAreSealed : Type 0 where
   pub layout : (block : List ℕ) (blocks : ℕ) (L : Layout) → layout_of block blocks ≡ Ok L → IsTrue (is_sealed block)
-  pub metadata : (L : Layout) (block : List ℕ) (r : MetaRead) → IsTrue (fits_layout L) → meta_of L block ≡ Ok r → IsTrue (is_sealed block)
-  pub replica : (L : Layout) (block : List ℕ) (r : MetaRead) → IsTrue (fits_layout L) → meta_read L block ≡ Some r → IsTrue (is_sealed block)
+  pub metadata : (L : Layout) (block : List ℕ) (r : MetaRead) → IsTrue (fits_layout L) → meta_of L block ≡ Ok r
+      → IsTrue (is_sealed block)
+  pub replica : (L : Layout) (block : List ℕ) (r : MetaRead) → IsTrue (fits_layout L) → meta_read L block ≡ Some r
+      → IsTrue (is_sealed block)
   pub counter : (block : List ℕ) → IsTrue (is_record block) → IsTrue (is_sealed block)
 
 -- a package is read exactly where the equations of its table hold
@@ -33,12 +35,17 @@ pub record TablesAreRead : Type 0 where
 
 -- each format that is written is read again as what it says, whatever stands behind it
 pub record WrittenIsRead : Type 0 where
-  pub layout : (L : Layout) (rest : List ℕ) (blocks : ℕ) → IsTrue (fits_layout L) → blocks_needed L ≤ blocks → layout_of (layout_bytes L ++ rest) blocks ≡ Ok L
-  pub metadata : (L : Layout) (m : Meta) (rest : List ℕ) → IsTrue (fits_layout L) → IsTrue (fits_meta L m) → meta_of L (meta_bytes L m ++ rest) ≡ Ok (record { form = 2; meta = m })
+  pub layout : (L : Layout) (rest : List ℕ) (blocks : ℕ) → IsTrue (fits_layout L) → blocks_needed L ≤ blocks
+      → layout_of (layout_bytes L ++ rest) blocks ≡ Ok L
+  pub metadata : (L : Layout) (m : Meta) (rest : List ℕ) → IsTrue (fits_layout L) → IsTrue (fits_meta L m)
+      → meta_of L (meta_bytes L m ++ rest) ≡ Ok (record { form = 2; meta = m })
   -- as many bytes as version 2 has are wanted
-  pub metadata_v1 : (L : Layout) (m : Meta) (rest : List ℕ) → IsTrue (fits_layout L) → IsTrue (fits_meta L m) → IsSayableInV1 L m → 24 ≤ length rest → meta_of L (meta_bytes_v1 L m ++ rest) ≡ Ok (record { form = 1; meta = m })
-  pub counter : (v : ℕ) (rest : List ℕ) → v < 4294967296 → IsTrue (is_record (record_bytes v ++ rest)) × (recorded (record_bytes v ++ rest) ≡ v)
-  pub manifest : (images : List ImageRow) (m : Manifest) (rest : List ℕ) → FitsImages images m → manifest_of images (manifest_bytes m ++ rest) ≡ Ok m
+  pub metadata_v1 : (L : Layout) (m : Meta) (rest : List ℕ) → IsTrue (fits_layout L) → IsTrue (fits_meta L m) → IsSayableInV1 L m
+      → 24 ≤ length rest → meta_of L (meta_bytes_v1 L m ++ rest) ≡ Ok (record { form = 1; meta = m })
+  pub counter : (v : ℕ) (rest : List ℕ) → v < 4294967296
+      → IsTrue (is_record (record_bytes v ++ rest)) × (recorded (record_bytes v ++ rest) ≡ v)
+  pub manifest : (images : List ImageRow) (m : Manifest) (rest : List ℕ) → FitsImages images m
+      → manifest_of images (manifest_bytes m ++ rest) ≡ Ok m
 
 -- a package that is packed is read again: its table has the parts' types and flags in their order, and the payloads are their bytes
 abbrev pub PackedIsRead : Type 0
@@ -50,10 +57,14 @@ PackedIsRead =
 
 -- what is read has one spelling: the bytes follow from the value, up to its length
 pub record HaveOneSpelling : Type 0 where
-  pub layout : (L : Layout) (blocks : ℕ) (block : List ℕ) → IsTrue (are_bytes block) → layout_of block blocks ≡ Ok L → take (layout_size L) block ≡ layout_bytes L
-  pub metadata : (L : Layout) (m : Meta) (block : List ℕ) → IsTrue (fits_layout L) → IsTrue (are_bytes block) → meta_of L block ≡ Ok (record { form = 2; meta = m }) → take (meta_size L) block ≡ meta_bytes L m
-  pub counter : (block : List ℕ) → IsTrue (are_bytes block) → IsTrue (is_record block) → take record_size block ≡ record_bytes (recorded block)
-  pub manifest : (images : List ImageRow) (m : Manifest) (bytes : List ℕ) → IsTrue (are_bytes bytes) → manifest_of images bytes ≡ Ok m → take (manifest_size (length images - 1)) bytes ≡ manifest_bytes m
+  pub layout : (L : Layout) (blocks : ℕ) (block : List ℕ) → IsTrue (are_bytes block) → layout_of block blocks ≡ Ok L
+      → take (layout_size L) block ≡ layout_bytes L
+  pub metadata : (L : Layout) (m : Meta) (block : List ℕ) → IsTrue (fits_layout L) → IsTrue (are_bytes block)
+      → meta_of L block ≡ Ok (record { form = 2; meta = m }) → take (meta_size L) block ≡ meta_bytes L m
+  pub counter : (block : List ℕ) → IsTrue (are_bytes block) → IsTrue (is_record block)
+      → take record_size block ≡ record_bytes (recorded block)
+  pub manifest : (images : List ImageRow) (m : Manifest) (bytes : List ℕ) → IsTrue (are_bytes bytes)
+      → manifest_of images bytes ≡ Ok m → take (manifest_size (length images - 1)) bytes ≡ manifest_bytes m
 
 -- ---- marks
 
@@ -62,6 +73,9 @@ pub record MarksAreCounted : Type 0 where
   pub limit : (image : List ℕ) (b most : ℕ) → marks image b most ≤ most
   pub before : (image : List ℕ) (b most j : ℕ) → j < marks image b most → IsFalse (is_blank (granule b j image))
   pub at : (image : List ℕ) (b most : ℕ) → marks image b most < most → IsTrue (is_blank (granule b (marks image b most) image))
-  pub is : (image : List ℕ) (b most n : ℕ) → n ≤ most → ((j : ℕ) → j < n → IsFalse (is_blank (granule b j image))) → (n < most → IsTrue (is_blank (granule b n image))) → marks image b most ≡ n
-  pub then_blank : (image : List ℕ) (b most : ℕ) → IsTrue (is_tidy image b most) → (j : ℕ) → marks image b most ≤ j → j < most → IsTrue (is_blank (granule b j image))
-  pub where_blank : (image : List ℕ) (b most : ℕ) → ((j : ℕ) → marks image b most ≤ j → j < most → IsTrue (is_blank (granule b j image))) → IsTrue (is_tidy image b most)
+  pub is : (image : List ℕ) (b most n : ℕ) → n ≤ most → ((j : ℕ) → j < n → IsFalse (is_blank (granule b j image)))
+      → (n < most → IsTrue (is_blank (granule b n image))) → marks image b most ≡ n
+  pub then_blank : (image : List ℕ) (b most : ℕ) → IsTrue (is_tidy image b most) → (j : ℕ) → marks image b most ≤ j → j < most
+      → IsTrue (is_blank (granule b j image))
+  pub where_blank : (image : List ℕ) (b most : ℕ)
+      → ((j : ℕ) → marks image b most ≤ j → j < most → IsTrue (is_blank (granule b j image))) → IsTrue (is_tidy image b most)

@@ -15,7 +15,8 @@ digits_value w = fold (λ n c. 10 * n + (c - 48)) 0 w
 
 -- a number of 32 bits in its one spelling
 abbrev pub number_of : List ℕ → Option ℕ
-number_of w = if nat_le (length w) 10 && nat_le (digits_value w) 4294967295 && same_bytes w (decimal (digits_value w)) then Some (digits_value w) else None
+number_of w = if nat_le (length w) 10 && nat_le (digits_value w) 4294967295
+    && same_bytes w (decimal (digits_value w)) then Some (digits_value w) else None
 
 -- a number that isn't above a limit
 abbrev pub number_up_to : ℕ → List ℕ → Option ℕ

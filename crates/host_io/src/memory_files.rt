@@ -169,8 +169,10 @@ impl Files for MemoryFiles {
     /// call that finds no memory has no number.
     fn write_whole(&mut self, name: &str, bytes: &[u8]) -> Result<(), WriteStop>
         ensures written { OnOk result (Holds (Some (bytes_in self.new.files)) name.now bytes.now) }
-        ensures others { ChangesOnly (Some (bytes_in self.old.files)) (Some (bytes_in self.new.files)) name.now }
-        ensures memory { result ≡ Err stop.NoMemory → Some (bytes_in self.new.files) ≡ Some (bytes_in self.old.files) }
+        ensures others { ChangesOnly (Some (bytes_in self.old.files))
+            (Some (bytes_in self.new.files)) name.now }
+        ensures memory { result ≡ Err stop.NoMemory →
+            Some (bytes_in self.new.files) ≡ Some (bytes_in self.old.files) }
         ensures cause { HasWriteCause self.old.calls.faults self.new.calls.faults result }
         ensures count { self.new.calls.faults ≡ write_failures result self.old.calls.faults }
         ensures listed { (result ≡ Err stop.Failed) ↔ IsListed self.old.calls }

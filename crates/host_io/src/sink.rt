@@ -28,7 +28,8 @@ pub trait Sink {
 
     /// Adds the bytes at the end. After `Failed` a front of them was added, after `NoMemory` none.
     fn put(&mut self, bytes: &[u8]) -> Result<(), WriteStop>
-        ensures bytes { MatchResult result (λ _. Appends (taken self.old) (taken self.new) bytes.now)
+        ensures bytes { MatchResult result (λ _. Appends (taken self.old)
+            (taken self.new) bytes.now)
             (λ stopped. StopsAt stopped (taken self.old) (taken self.new) bytes.now) }
         ensures cause { HasWriteCause (faults self.old) (faults self.new) result }
         ensures count { faults self.new ≡ write_failures result (faults self.old) };
@@ -83,7 +84,8 @@ impl Sink for MemorySink {
     /// Besides what the trait says, it fails exactly at the listed calls, and then takes nothing. A
     /// call that finds no memory has no number.
     fn put(&mut self, bytes: &[u8]) -> Result<(), WriteStop>
-        ensures bytes { MatchResult result (λ _. Appends (Some self.old.taken) (Some self.new.taken) bytes.now)
+        ensures bytes { MatchResult result (λ _. Appends (Some self.old.taken)
+            (Some self.new.taken) bytes.now)
             (λ stopped. StopsAt stopped (Some self.old.taken) (Some self.new.taken) bytes.now) }
         ensures cause { HasWriteCause self.old.calls.faults self.new.calls.faults result }
         ensures count { self.new.calls.faults ≡ write_failures result self.old.calls.faults }
@@ -138,7 +140,8 @@ impl<W: Write> StdSink<W> {
     // Writes a front of the piece, of one byte at least.
     fn write_some(&mut self, piece: &[u8]) -> Result<usize, Failed>
         ensures some { IfOk result (λ count. (0 < count) × (count ≤ length piece.now)) }
-        ensures bytes { WriteAppends (W.contents self.old.inner) (W.contents self.new.inner) result piece.now }
+        ensures bytes { WriteAppends (W.contents self.old.inner)
+            (W.contents self.new.inner) result piece.now }
         ensures cause { HasCause self.old.faults self.new.faults result }
         ensures count { self.new.faults ≡ failures result self.old.faults }
     {

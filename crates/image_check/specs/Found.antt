@@ -21,7 +21,8 @@ is_good image rows first manifest k =
 
 -- what the manifest says of each image fits its slot
 abbrev pub FitSlots : List ImageRow → List ℕ → Type 0
-FitSlots rows manifest = (k : ℕ) (d : ImageRow) → k + 1 < length rows → (row_at manifest k).size ≤ 4096 * (slice_index_or rows (k + 1) d).slots
+FitSlots rows manifest = (k : ℕ) (d : ImageRow) → k + 1 < length rows
+    → (row_at manifest k).size ≤ 4096 * (slice_index_or rows (k + 1) d).slots
 
 -- by the manifest's version or fault, whether it is accepted, and the lowest bad image
 abbrev pub by_version : Bool → ℕ → Option ℕ → Result ℕ ManifestFault → Verdict

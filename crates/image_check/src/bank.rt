@@ -51,7 +51,8 @@ fn check_manifest<D: Flash, V: Verifier>(
     requires few { length rows.now ≤ 16 }
     requires manifest { length manifest.now ≡ model.manifest_size (length rows.now - 1) }
     requires inside { first + slot_total rows.now ≤ D.blocks flash.old }
-    ensures verdict { IfOk result (λ verdict. IsTrue D.tells → verdict ≡ found (V.passes verifier.now) counter (D.told flash.old).now rows.now first manifest.now) }
+    ensures verdict { IfOk result (λ verdict. IsTrue D.tells →
+        verdict ≡ found (V.passes verifier.now) counter (D.told flash.old).now rows.now first manifest.now) }
     ensures content { IsTrue D.tells → D.told flash.new ≡ D.told flash.old }
     ensures power { D.on flash.new ≡ is_ok result }
     ensures size { D.blocks flash.new ≡ D.blocks flash.old }
@@ -87,7 +88,8 @@ fn check_at<D: Flash, V: Verifier>(
     requires few { length rows.now ≤ 16 }
     requires block { first < D.blocks flash.old }
     requires inside { first + slot_total rows.now ≤ D.blocks flash.old }
-    ensures verdict { IfOk result (λ verdict. IsTrue D.tells → verdict ≡ found (V.passes verifier.now) counter (D.told flash.old).now rows.now first (front_of (D.told flash.old).now rows.now first)) }
+    ensures verdict { IfOk result (λ verdict. IsTrue D.tells →
+        verdict ≡ found (V.passes verifier.now) counter (D.told flash.old).now rows.now first (front_of (D.told flash.old).now rows.now first)) }
     ensures content { IsTrue D.tells → D.told flash.new ≡ D.told flash.old }
     ensures power { D.on flash.new ≡ is_ok result }
     ensures size { D.blocks flash.new ≡ D.blocks flash.old }
@@ -117,7 +119,8 @@ pub fn check<D: Flash, V: Verifier>(
     requires room { 4096 ≤ length buf.old }
     requires fits { blocks_needed layout.now ≤ D.blocks flash.old }
     requires bank { bank < layout.now.banks }
-    ensures verdict { IfOk result (λ verdict. IsTrue D.tells → verdict ≡ verdict_on (V.passes verifier.now) counter layout.now (D.told flash.old).now bank) }
+    ensures verdict { IfOk result (λ verdict. IsTrue D.tells →
+        verdict ≡ verdict_on (V.passes verifier.now) counter layout.now (D.told flash.old).now bank) }
     ensures content { IsTrue D.tells → D.told flash.new ≡ D.told flash.old }
     ensures power { D.on flash.new ≡ is_ok result }
     ensures size { D.blocks flash.new ≡ D.blocks flash.old }

@@ -23,7 +23,8 @@ fn digest_of<D: Flash>(
     requires on { IsTrue (D.on flash.old) }
     requires room { 0 < length buf.old }
     requires inside { at + count ≤ 4096 * D.blocks flash.old }
-    ensures digest { IfOk result (λ digest. IsTrue D.tells → digest ≡ sha256 (take count (drop at (D.told flash.old).now))) }
+    ensures digest { IfOk result (λ digest. IsTrue D.tells →
+        digest ≡ sha256 (take count (drop at (D.told flash.old).now))) }
     ensures content { IsTrue D.tells → D.told flash.new ≡ D.told flash.old }
     ensures power { D.on flash.new ≡ is_ok result }
     ensures size { D.blocks flash.new ≡ D.blocks flash.old }
@@ -62,7 +63,9 @@ fn is_image_good<D: Flash>(
     requires few { k ≤ 16 }
     requires row { 72 + 56 * k ≤ length manifest.now }
     requires inside { 4096 * block + (model.row_at manifest.now k).size ≤ 4096 * D.blocks flash.old }
-    ensures good { IfOk result (λ good. IsTrue D.tells → good ≡ same_bytes (sha256 (take (model.row_at manifest.now k).size (drop (4096 * block) (D.told flash.old).now))) (model.row_at manifest.now k).digest) }
+    ensures good { IfOk result (λ good. IsTrue D.tells →
+        good ≡ same_bytes (sha256 (take (model.row_at manifest.now k).size (drop (4096 * block)
+        (D.told flash.old).now))) (model.row_at manifest.now k).digest) }
     ensures content { IsTrue D.tells → D.told flash.new ≡ D.told flash.old }
     ensures power { D.on flash.new ≡ is_ok result }
     ensures size { D.blocks flash.new ≡ D.blocks flash.old }
@@ -90,7 +93,8 @@ pub fn first_bad<D: Flash>(
     requires manifest { model.manifest_size (length rows.now - 1) ≤ length manifest.now }
     requires sizes { FitSlots rows.now manifest.now }
     requires inside { first + slot_total rows.now ≤ D.blocks flash.old }
-    ensures bad { IfOk result (λ bad. IsTrue D.tells → bad ≡ lowest_bad (is_good (D.told flash.old).now rows.now first manifest.now) 0 (length rows.now - 1)) }
+    ensures bad { IfOk result (λ bad. IsTrue D.tells →
+        bad ≡ lowest_bad (is_good (D.told flash.old).now rows.now first manifest.now) 0 (length rows.now - 1)) }
     ensures content { IsTrue D.tells → D.told flash.new ≡ D.told flash.old }
     ensures power { D.on flash.new ≡ is_ok result }
     ensures size { D.blocks flash.new ≡ D.blocks flash.old }

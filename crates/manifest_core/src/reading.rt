@@ -85,7 +85,8 @@ fn is_digested(bytes: &[u8], n: usize) -> bool
 fn is_in_order(bytes: &[u8], images: &[ImageRow]) -> bool
     requires few { length images.now ≤ 16 }
     requires room { 16 + 56 * length images.now ≤ length bytes.now }
-    ensures { result ≡ model.all_paired is_named images.now (listed (length images.now) (model.row_at bytes.now)) }
+    ensures { result ≡ model.all_paired is_named images.now (listed (length images.now)
+        (model.row_at bytes.now)) }
 {
     for j in 0..images.len() {
         if !is_row_of(bytes, j, &images[j].guid) {
@@ -99,7 +100,8 @@ fn is_in_order(bytes: &[u8], images: &[ImageRow]) -> bool
 fn fits_slots(bytes: &[u8], images: &[ImageRow]) -> bool
     requires few { length images.now ≤ 16 }
     requires room { 16 + 56 * length images.now ≤ length bytes.now }
-    ensures { result ≡ model.all_paired is_within images.now (listed (length images.now) (model.row_at bytes.now)) }
+    ensures { result ≡ model.all_paired is_within images.now (listed (length images.now)
+        (model.row_at bytes.now)) }
 {
     for j in 0..images.len() {
         if !fits_blocks(bytes, j, images[j].slots) {

@@ -74,7 +74,8 @@ impl Manifest {
 
     /// A manifest of these rows. `BadCount` comes where they are not 1 to 15; no memory is taken.
     pub fn of_rows(_alloc: Global, security: u32, rows: Vec<Row>) -> Result<Manifest, ManifestStop>
-        ensures ok { IfOk result (λ m. m ≡ record { security = security; rows = map row rows.items }) }
+        ensures ok { IfOk result (λ m. m ≡
+            record { security = security; rows = map row rows.items }) }
         ensures count { IsOk result ↔ ((1 ≤ length rows.items) × (length rows.items ≤ 15)) }
         ensures fault { IfErr result (λ stop. stop ≡ ManifestStop.Fault ManifestFault.BadCount) }
     {
@@ -104,7 +105,8 @@ impl Manifest {
     pub fn write(&self, alloc: Global) -> Result<Vec<u8>, NoMemory>
         ensures spelled { IfOk result (λ bytes. bytes.items ≡ model.manifest_bytes self.now) }
         // Read against images that it suits, and whatever follows, it is the same manifest.
-        ensures read_again { IfOk result (λ bytes. (images : List SpecRow) (rest : List ℕ) → Suits images self.now → model.manifest_of images (bytes.items ++ rest) ≡ Ok self.now) }
+        ensures read_again { IfOk result (λ bytes. (images : List SpecRow) (rest : List ℕ) →
+            Suits images self.now → model.manifest_of images (bytes.items ++ rest) ≡ Ok self.now) }
     {
         let mut bytes = head(alloc, self.security, self.rows.len() as u32)?;
         push_rows(&mut bytes, self.rows.as_slice())?;
@@ -129,7 +131,8 @@ fn push_le32(bytes: &mut Vec<u8>, value: u32) -> Result<(), AllocError>
 
 /// The bytes before the rows.
 fn head(alloc: Global, security: u32, count: u32) -> Result<Vec<u8>, AllocError>
-    ensures { IfOk result (λ bytes. bytes.items ≡ le 4 model.manifest_magic ++ le 4 (model.form_of security) ++ le 4 security ++ le 4 count) }
+    ensures { IfOk result (λ bytes. bytes.items ≡
+        le 4 model.manifest_magic ++ le 4 (model.form_of security) ++ le 4 security ++ le 4 count) }
 {
     let mut bytes = Vec::new(alloc);
     push_le32(&mut bytes, MAGIC)?;
@@ -140,7 +143,8 @@ fn head(alloc: Global, security: u32, count: u32) -> Result<Vec<u8>, AllocError>
 }
 
 fn push_row(bytes: &mut Vec<u8>, said: &Row) -> Result<(), AllocError>
-    ensures spelled { OnOk result (bytes.new.items ≡ bytes.old.items ++ model.manifest_row_bytes (row said.now)) }
+    ensures spelled { OnOk result (bytes.new.items ≡
+        bytes.old.items ++ model.manifest_row_bytes (row said.now)) }
     ensures fits { OnOk result (IsTrue (model.is_manifest_row (row said.now))) }
 {
     bytes.extend_from_slice(said.guid.bytes())?;
@@ -151,7 +155,8 @@ fn push_row(bytes: &mut Vec<u8>, said: &Row) -> Result<(), AllocError>
 }
 
 fn push_rows(bytes: &mut Vec<u8>, rows: &[Row]) -> Result<(), AllocError>
-    ensures spelled { OnOk result (bytes.new.items ≡ bytes.old.items ++ flat_map model.manifest_row_bytes (map row rows.now)) }
+    ensures spelled { OnOk result (bytes.new.items ≡
+        bytes.old.items ++ flat_map model.manifest_row_bytes (map row rows.now)) }
     ensures fits { OnOk result (IsTrue (list_all model.is_manifest_row (map row rows.now))) }
 {
     for said in rows {

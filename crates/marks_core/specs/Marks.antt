@@ -23,7 +23,8 @@ pub record Adds {T : Type 0} (result : Result T FlashStop) (b at : ℕ) (s t : T
   -- but for its granule nothing changes
   pub keeps : Keeps (4096 * b + 16 * at) (4096 * b + 16 * at + 16) s t
   -- an image that a power-on may leave has the old count or one more
-  pub either : (limit : ℕ) → IsNext s.now b at limit → Quiet (4096 * b) (4096 * b + 4096) s → (image : List ℕ) → May t image → CountsOnce image b at limit
+  pub either : (limit : ℕ) → IsNext s.now b at limit → Quiet (4096 * b) (4096 * b + 4096) s → (image : List ℕ) → May t image
+      → CountsOnce image b at limit
   -- when done, its granule is zero, the count is one more, and nothing is dirty
   pub written : OnOk result (granule b at t.now ≡ replicate 16 0)
   pub one_more : (limit : ℕ) → IsNext s.now b at limit → OnOk result (marks t.now b limit ≡ at + 1)

@@ -27,7 +27,8 @@ pub record Raises {T : Type 0} (result : Result T FlashStop) (v : ℕ) (s t : To
   pub writes : Replaces result (record_place s.now) (padded (record_bytes v)) s t
   pub keeps : Keeps 20480 28672 s t
   -- each image that a power-on may leave has the old counter or the new
-  pub either : Guards 5 6 s → Quiet 16384 28672 s → (image : List ℕ) → May t image → (counter_in image ≡ counter_in s.now) ⊎ (counter_in image ≡ v)
+  pub either : Guards 5 6 s → Quiet 16384 28672 s → (image : List ℕ) → May t image
+      → (counter_in image ≡ counter_in s.now) ⊎ (counter_in image ≡ v)
   -- when done, the counter is the new one, and nothing is dirty
   pub done : OnOk result (counter_in t.now ≡ v)
   pub stable : OnOk result (NothingDirty t)

@@ -20,7 +20,8 @@ pub fn count<D: Flash>(flash: &mut D, block: u32, limit: u32) -> Result<u32, Fla
     requires inside { block < D.blocks flash.old }
     requires limit { limit ≤ 256 }
 
-    ensures marks { IfOk result (λ n. IsTrue D.tells → n ≡ marks (D.told flash.old).now block limit) }
+    ensures marks { IfOk result (λ n. IsTrue D.tells →
+        n ≡ marks (D.told flash.old).now block limit) }
     ensures within { IfOk result (λ n. n ≤ limit) }
     ensures content { IsTrue D.tells → D.told flash.new ≡ D.told flash.old }
     ensures power { D.on flash.new ≡ is_ok result }

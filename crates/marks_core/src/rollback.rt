@@ -16,7 +16,8 @@ fn record_at<D: Flash>(flash: &mut D, b: u32, buf: &mut [u8]) -> Result<Option<u
     requires inside { b < D.blocks flash.old }
     requires room { length buf.old ≡ 4096 }
 
-    ensures value { IfOk result (λ r. IsTrue D.tells → r ≡ value_in (block b (D.told flash.old).now)) }
+    ensures value { IfOk result (λ r. IsTrue D.tells →
+        r ≡ value_in (block b (D.told flash.old).now)) }
     ensures content { IsTrue D.tells → D.told flash.new ≡ D.told flash.old }
     ensures power { D.on flash.new ≡ is_ok result }
     ensures size { D.blocks flash.new ≡ D.blocks flash.old }

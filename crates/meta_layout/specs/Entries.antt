@@ -51,4 +51,5 @@ pub record HasBits (m : Meta) (banks image : ℕ) : Type 0 where
 -- the body's bytes before the fields that the layout gives
 abbrev pub front_bytes : Layout → Meta → List ℕ
 front_bytes L m =
-    le 4 2 ++ le 4 m.active ++ le 4 m.previous ++ le 4 (meta_size L) ++ le 2 0x20 ++ le 2 0 ++ map state_byte m.states ++ replicate (4 - L.banks) 0xFF
+    le 4 2 ++ le 4 m.active ++ le 4 m.previous ++ le 4 (meta_size L) ++ le 2 0x20 ++ le 2 0 ++ map state_byte m.states
+    ++ replicate (4 - L.banks) 0xFF

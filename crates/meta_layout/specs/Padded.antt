@@ -34,5 +34,6 @@ module _ {X : Type 0} (room : ℕ) (filler : X) (count : ℕ) (array : List X) (
   }
 
 -- an array of fillers alone
-pub padded-fillers : {X : Type 0} (room : ℕ) (filler : X) (count : ℕ) → count ≤ room → length (replicate room filler) ≡ room → IsPadded room filler count (replicate room filler)
+pub padded-fillers : {X : Type 0} (room : ℕ) (filler : X) (count : ℕ) → count ≤ room → length (replicate room filler) ≡ room
+    → IsPadded room filler count (replicate room filler)
 padded-fillers room filler count few whole = record { few = few; whole = whole; padding = drop-replicate count room filler }

@@ -19,7 +19,8 @@ const MAGIC: u32 = 0x4C55_5746;
 /// Whether the block says as many bytes as its number of images asks for.
 fn has_size(block: &[u8]) -> bool
     requires { 32 ≤ length block.now }
-    ensures { let images = num_at 4 block.now 12 in result ≡ (nat_le 2 images && nat_le images 16 && (num_at 4 block.now 16 == 32 + 24 * images)) }
+    ensures { let images = num_at 4 block.now 12 in result ≡
+        (nat_le 2 images && nat_le images 16 && (num_at 4 block.now 16 == 32 + 24 * images)) }
 {
     let images = le32_at(block, 12);
     2 <= images && images <= 16 && le32_at(block, 16) == 32 + 24 * images
@@ -201,7 +202,8 @@ impl Layout {
     pub fn write(&self, out: &mut [u8])
         requires { 4096 ≤ length out.old }
         ensures spelled { out.new ≡ layout_bytes self.now ++ replicate (length out.old - layout_size self.now) 0xFF }
-        ensures read_again { (blocks : ℕ) → blocks_needed self.now ≤ blocks → layout_of out.new blocks ≡ Ok self.now }
+        ensures read_again { (blocks : ℕ) → blocks_needed self.now ≤ blocks →
+            layout_of out.new blocks ≡ Ok self.now }
     {
         let size = 32 + 24 * self.rows().len();
         self.put_body(&mut out[4..]);

@@ -130,7 +130,8 @@ impl Meta {
     /// Sets the active bank, and changes nothing else. It stays metadata of a layout that has the bank.
     pub fn set_active(&mut self, bank: u32)
         ensures set { self.new ≡ record self.old { meta = record self.old.meta { active = bank } } }
-        ensures fits { (L : LayoutValue) → bank < L.banks → IsTrue (fits_meta L self.old.meta) → IsTrue (fits_meta L self.new.meta) }
+        ensures fits { (L : LayoutValue) → bank < L.banks → IsTrue (fits_meta L self.old.meta) →
+            IsTrue (fits_meta L self.new.meta) }
     {
         self.active = bank;
     }
@@ -138,7 +139,8 @@ impl Meta {
     /// Sets the bank that was active before, and changes nothing else. It stays metadata of a layout that has the bank.
     pub fn set_previous(&mut self, bank: u32)
         ensures set { self.new ≡ record self.old { meta = record self.old.meta { previous = bank } } }
-        ensures fits { (L : LayoutValue) → bank < L.banks → IsTrue (fits_meta L self.old.meta) → IsTrue (fits_meta L self.new.meta) }
+        ensures fits { (L : LayoutValue) → bank < L.banks → IsTrue (fits_meta L self.old.meta) →
+            IsTrue (fits_meta L self.new.meta) }
     {
         self.previous = bank;
     }
@@ -147,7 +149,8 @@ impl Meta {
     pub fn set_state(&mut self, bank: u32, state: BankState)
         requires { bank < length self.old.meta.states }
         ensures set { self.new ≡ record self.old { meta = record self.old.meta { states = slice_set self.old.meta.states bank state } } }
-        ensures fits { (L : LayoutValue) → IsTrue (fits_meta L self.old.meta) → IsTrue (fits_meta L self.new.meta) }
+        ensures fits { (L : LayoutValue) → IsTrue (fits_meta L self.old.meta) →
+            IsTrue (fits_meta L self.new.meta) }
     {
         self.states.set(bank as usize, state);
     }
@@ -157,7 +160,8 @@ impl Meta {
         requires below { bank < length self.old.meta.bits }
         requires within { image < length (slice_index_or self.old.meta.bits bank []) }
         ensures set { self.new ≡ record self.old { meta = record self.old.meta { bits = slice_set self.old.meta.bits bank (slice_set (slice_index_or self.old.meta.bits bank []) image on) } } }
-        ensures fits { (L : LayoutValue) → IsTrue (fits_meta L self.old.meta) → IsTrue (fits_meta L self.new.meta) }
+        ensures fits { (L : LayoutValue) → IsTrue (fits_meta L self.old.meta) →
+            IsTrue (fits_meta L self.new.meta) }
     {
         self.bits.set(bank as usize, image as usize, on);
     }
@@ -168,7 +172,8 @@ impl Meta {
         ensures set { self.new ≡ record self.old {
           meta = record self.old.meta { bits = slice_set self.old.meta.bits bank bits };
         } }
-        ensures fits { (L : LayoutValue) → length bits ≡ length L.rows → IsTrue (fits_meta L self.old.meta) →
+        ensures fits { (L : LayoutValue) → length bits ≡ length L.rows →
+            IsTrue (fits_meta L self.old.meta) →
             IsTrue (fits_meta L self.new.meta) }
     {
         self.bits.set_bank(bank as usize, bits);

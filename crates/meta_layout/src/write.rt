@@ -20,7 +20,8 @@ fn bit_value(bit: bool) -> u32
 fn put_bank(out: &mut [u8], at: usize, guid: &Guid, bit: bool) -> usize
     requires { at + 24 ≤ length out.old }
     ensures next { result ≡ at + 24 }
-    ensures front { take result out.new ≡ take at out.old ++ (guid.now ++ le 4 (bit_number bit) ++ le 4 0) }
+    ensures front { take result out.new ≡
+        take at out.old ++ (guid.now ++ le 4 (bit_number bit) ++ le 4 0) }
 {
     let typed = put(out, at, guid.bytes());
     let value = put4(out, typed, bit_value(bit));
@@ -40,7 +41,9 @@ fn put_banks(
     requires room { at + 24 * banks ≤ length out.old }
     requires bits { HasBits meta.now.meta banks image }
     ensures next { result ≡ at + 24 * banks }
-    ensures front { take result out.new ≡ take at out.old ++ flat_map (bank_bytes guid.now meta.now.meta image) (listed banks (λ bank. bank)) }
+    ensures front { take result out.new ≡
+        take at out.old ++ flat_map (bank_bytes guid.now meta.now.meta image)
+        (listed banks (λ bank. bank)) }
 {
     let mut end = at;
     for bank in 0..banks {
@@ -63,7 +66,8 @@ fn put_entry(
     requires room { at + 32 + 24 * banks ≤ length out.old }
     requires bits { HasBits meta.now.meta banks image }
     ensures next { result ≡ at + (32 + 24 * banks) }
-    ensures front { take result out.new ≡ take at out.old ++ entry_of banks guid.now meta.now.meta image }
+    ensures front { take result out.new ≡
+        take at out.old ++ entry_of banks guid.now meta.now.meta image }
 {
     let nil = Guid::nil();
     let typed = put(out, at, guid.bytes());
@@ -76,7 +80,8 @@ pub fn put_entries(out: &mut [u8], at: usize, layout: &Layout, meta: &Meta) -> u
     requires room { at + length layout.now.rows * entry_size layout.now ≤ length out.old }
     requires fit { IsTrue (fits_meta layout.now meta.now.meta) }
     ensures next { result ≡ at + length layout.now.rows * entry_size layout.now }
-    ensures front { take result out.new ≡ take at out.old ++ entries_bytes layout.now meta.now.meta }
+    ensures front { take result out.new ≡
+        take at out.old ++ entries_bytes layout.now meta.now.meta }
 {
     let rows = layout.rows();
     let banks = layout.banks() as usize;
@@ -144,7 +149,8 @@ fn put_front(out: &mut [u8], layout: &Layout, meta: &Meta) -> usize
 fn put_rest(out: &mut [u8], at: usize, layout: &Layout) -> usize
     requires { at + 12 ≤ length out.old }
     ensures next { result ≡ at + 12 }
-    ensures front { take result out.new ≡ take at out.old ++ le 4 0 ++ le 1 layout.now.banks ++ le 1 0 ++ le 2 (length layout.now.rows) ++ le 2 (entry_size layout.now) ++ le 2 24 }
+    ensures front { take result out.new ≡
+        take at out.old ++ le 4 0 ++ le 1 layout.now.banks ++ le 1 0 ++ le 2 (length layout.now.rows) ++ le 2 (entry_size layout.now) ++ le 2 24 }
 {
     let banks = layout.banks();
     let images = layout.rows().len();
@@ -205,8 +211,10 @@ impl Meta {
         requires room { meta_size layout.now ≤ length out.old }
         requires fits { IsTrue (fits_meta layout.now self.now.meta) }
         ensures spelled { out.new ≡ meta_bytes layout.now self.now.meta ++ replicate (length out.old - meta_size layout.now) 0xFF }
-        ensures replica { replica_size layout.now ≤ length out.old → take (replica_size layout.now) out.new ≡ replica_bytes layout.now self.now.meta }
-        ensures read_again { meta_of layout.now out.new ≡ Ok (record { form = 2; meta = self.now.meta }) }
+        ensures replica { replica_size layout.now ≤ length out.old →
+            take (replica_size layout.now) out.new ≡ replica_bytes layout.now self.now.meta }
+        ensures read_again { meta_of layout.now out.new ≡
+            Ok (record { form = 2; meta = self.now.meta }) }
     {
         let size = 40 + entries_size(layout);
         put_version_two(&mut out[4..], layout, self);
@@ -219,7 +227,9 @@ impl Meta {
         requires room { meta_size_v1 layout.now ≤ length out.old }
         requires fits { IsTrue (fits_meta layout.now self.now.meta) }
         ensures spelled { out.new ≡ meta_bytes_v1 layout.now self.now.meta ++ replicate (length out.old - meta_size_v1 layout.now) 0xFF }
-        ensures read_again { IsSayableInV1 layout.now self.now.meta → meta_size layout.now ≤ length out.old → meta_of layout.now out.new ≡ Ok (record { form = 1; meta = self.now.meta }) }
+        ensures read_again { IsSayableInV1 layout.now self.now.meta →
+            meta_size layout.now ≤ length out.old →
+            meta_of layout.now out.new ≡ Ok (record { form = 1; meta = self.now.meta }) }
     {
         let size = 16 + entries_size(layout);
         put_version_one(&mut out[4..], layout, self);

@@ -36,6 +36,7 @@ pub record Stores {T : Type 0} (result : Result T FlashStop) (L : Layout) (m : M
   -- its spelling in version 2 is written over replica 0, then over replica 1
   pub writes : WritesBoth result (padded (replica_bytes L m)) s t
   -- in each image that a power-on may leave the old metadata decides, or the new
-  pub either : Guards 1 2 s → Quiet 4096 12288 s → (old : MetaRead) → IsBacked L old s.now → (image : List ℕ) → May t image → Decides L old (in_version 2 m) image
+  pub either : Guards 1 2 s → Quiet 4096 12288 s → (old : MetaRead) → IsBacked L old s.now → (image : List ℕ) → May t image
+      → Decides L old (in_version 2 m) image
   -- when done, both replicas hold it in version 2
   pub both : OnOk result (BothHold L (in_version 2 m) t.now)

@@ -21,7 +21,8 @@ pub fn read_replica<D: Flash>(
     requires on { IsTrue (D.on flash.old) }
     requires inside { b < D.blocks flash.old }
 
-    ensures value { IfOk result (λ r. IsTrue D.tells → r ≡ meta_read layout.now (block b (D.told flash.old).now)) }
+    ensures value { IfOk result (λ r. IsTrue D.tells →
+        r ≡ meta_read layout.now (block b (D.told flash.old).now)) }
     ensures form { IfOk result (λ r. ForSome r HasForm) }
     ensures fits { IfOk result (λ r. ForSome r (λ m. IsTrue (fits_meta layout.now m.meta))) }
     ensures content { IsTrue D.tells → D.told flash.new ≡ D.told flash.old }
@@ -70,8 +71,10 @@ fn decide(zero: Option<Meta>, one: Option<Meta>) -> Option<(Meta, Which)>
 pub fn load<D: Flash>(flash: &mut D, layout: &Layout) -> Result<(Meta, Which), ReplicaStop>
     requires on { IsTrue (D.on flash.old) }
 
-    ensures loads { IfOk result (λ r. IsTrue D.tells → Loads layout.now r.1 r.0 (D.told flash.old).now) }
-    ensures none { IsErrOf result ReplicaStop.NoMetadata → IsTrue D.tells → deciding layout.now (D.told flash.old).now ≡ None }
+    ensures loads { IfOk result (λ r. IsTrue D.tells →
+        Loads layout.now r.1 r.0 (D.told flash.old).now) }
+    ensures none { IsErrOf result ReplicaStop.NoMetadata → IsTrue D.tells →
+        deciding layout.now (D.told flash.old).now ≡ None }
     ensures fits { IfOk result (λ r. IsTrue (fits_meta layout.now r.0.meta)) }
     ensures content { IsTrue D.tells → D.told flash.new ≡ D.told flash.old }
     ensures power { D.on flash.new ≡ is_ok (flash_result result) }

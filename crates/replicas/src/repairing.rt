@@ -20,7 +20,9 @@ use meta_layout::{Layout, Meta};
 fn holds<D: Flash>(flash: &mut D, layout: &Layout, meta: &Meta) -> Result<bool, FlashStop>
     requires on { IsTrue (D.on flash.old) }
 
-    ensures held { IfOk result (λ held. IsTrue D.tells → IsTrue held ↔ (meta_read layout.now (block 2 (D.told flash.old).now) ≡ Some (in_version 2 meta.now.meta))) }
+    ensures held { IfOk result (λ held. IsTrue D.tells → IsTrue held ↔
+        (meta_read layout.now (block 2 (D.told flash.old).now) ≡
+        Some (in_version 2 meta.now.meta))) }
     ensures content { IsTrue D.tells → D.told flash.new ≡ D.told flash.old }
     ensures power { D.on flash.new ≡ is_ok result }
     ensures size { D.blocks flash.new ≡ D.blocks flash.old }
@@ -48,9 +50,11 @@ fn migrate_zero<D: Flash>(
     requires layout { IsTrue (fits_layout layout.now) }
     requires spelled { bytes.now ≡ replica_bytes layout.now meta.now.meta }
     requires of_layout { IsTrue (fits_meta layout.now meta.now.meta) }
-    requires loaded { IsTrue D.tells → Loads layout.now MigrateZero meta.now (D.told flash.old).now }
+    requires loaded { IsTrue D.tells →
+        Loads layout.now MigrateZero meta.now (D.told flash.old).now }
 
-    ensures repairs { IsTrue D.tells → Repairs result layout.now meta.now (D.told flash.old) (D.told flash.new) }
+    ensures repairs { IsTrue D.tells →
+        Repairs result layout.now meta.now (D.told flash.old) (D.told flash.new) }
     ensures power { D.on flash.new ≡ is_ok result }
     ensures size { D.blocks flash.new ≡ D.blocks flash.old }
     ensures costs { Spends result (D.counts flash.old) (D.counts flash.new) }
@@ -76,7 +80,8 @@ pub fn repair<D: Flash>(
     requires room { 4096 ≤ length buf.old }
     requires loaded { IsTrue D.tells → Loads layout.now which meta.now (D.told flash.old).now }
 
-    ensures repairs { IsTrue D.tells → Repairs result layout.now meta.now (D.told flash.old) (D.told flash.new) }
+    ensures repairs { IsTrue D.tells →
+        Repairs result layout.now meta.now (D.told flash.old) (D.told flash.new) }
     ensures power { D.on flash.new ≡ is_ok result }
     ensures size { D.blocks flash.new ≡ D.blocks flash.old }
     ensures costs { Spends result (D.counts flash.old) (D.counts flash.new) }

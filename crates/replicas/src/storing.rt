@@ -17,7 +17,8 @@ pub fn write_both<D: Flash>(flash: &mut D, bytes: &[u8]) -> Result<(), FlashStop
     requires some { 0 < length bytes.now }
     requires fits { length bytes.now ≤ 4096 }
 
-    ensures writes { IsTrue D.tells → WritesBoth result (padded bytes.now) (D.told flash.old) (D.told flash.new) }
+    ensures writes { IsTrue D.tells →
+        WritesBoth result (padded bytes.now) (D.told flash.old) (D.told flash.new) }
     ensures power { D.on flash.new ≡ is_ok result }
     ensures size { D.blocks flash.new ≡ D.blocks flash.old }
     ensures costs { Spends result (D.counts flash.old) (D.counts flash.new) }
@@ -61,7 +62,8 @@ pub fn store<D: Flash>(
     requires fits { IsTrue (fits_meta layout.now meta.now.meta) }
     requires room { 4096 ≤ length buf.old }
 
-    ensures stores { IsTrue D.tells → Stores result layout.now meta.now.meta (D.told flash.old) (D.told flash.new) }
+    ensures stores { IsTrue D.tells →
+        Stores result layout.now meta.now.meta (D.told flash.old) (D.told flash.new) }
     ensures power { D.on flash.new ≡ is_ok result }
     ensures size { D.blocks flash.new ≡ D.blocks flash.old }
     ensures costs { Spends result (D.counts flash.old) (D.counts flash.new) }

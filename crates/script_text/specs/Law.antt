@@ -10,7 +10,8 @@ BuiltAreScripts = (bytes : List ℕ) (calls : List Call) → script_of bytes ≡
 
 -- a script whose calls are all built is read as it is in the whole grammar
 abbrev pub ScriptsAreBuilt : Type 0
-ScriptsAreBuilt = (bytes : List ℕ) (calls : List Call) → whole_script_of bytes ≡ Ok calls → All (λ c. IsTrue (is_built c)) calls → script_of bytes ≡ Ok calls
+ScriptsAreBuilt = (bytes : List ℕ) (calls : List Call) → whole_script_of bytes ≡ Ok calls → All (λ c. IsTrue (is_built c)) calls
+    → script_of bytes ≡ Ok calls
 
 -- every cut of a script can be armed
 abbrev pub CutsAreArmable : Type 0
@@ -18,7 +19,8 @@ CutsAreArmable = (bytes : List ℕ) (calls : List Call) → whole_script_of byte
 
 -- a script has a line for each call
 abbrev pub CallsHaveLines : Type 0
-CallsHaveLines = (bytes : List ℕ) (calls : List Call) → whole_script_of bytes ≡ Ok calls → length calls ≤ length (script_lines bytes)
+CallsHaveLines = (bytes : List ℕ) (calls : List Call) → whole_script_of bytes ≡ Ok calls
+    → length calls ≤ length (script_lines bytes)
 
 -- what follows a text that is too long doesn't make it shorter
 abbrev pub LongStaysLong : Type 0

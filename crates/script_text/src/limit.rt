@@ -41,9 +41,11 @@ impl TextLimit {
 
     /// Takes one byte more, or leaves it where the text would be too long with it.
     pub fn take(&mut self, byte: u8) -> bool
-        ensures taken { OnTrue result ((text : List ℕ) → IsExtentOf self.old text → IsExtentOf self.new (text ++ byte ∷ [])) }
+        ensures taken { OnTrue result ((text : List ℕ) → IsExtentOf self.old text →
+            IsExtentOf self.new (text ++ byte ∷ [])) }
         ensures left { OnFalse result (self.new ≡ self.old) }
-        ensures full { OnFalse result ((text : List ℕ) → IsExtentOf self.old text → is_too_long (text ++ byte ∷ []) ≡ true) }
+        ensures full { OnFalse result ((text : List ℕ) → IsExtentOf self.old text →
+            is_too_long (text ++ byte ∷ []) ≡ true) }
     {
         if self.bytes == MOST_BYTES || self.ends == MOST_LINES {
             return false;
@@ -58,8 +60,10 @@ impl TextLimit {
     /// Takes the bytes of a piece up to the first with which the text would be too long, and tells how many these are.
     pub fn feed(&mut self, piece: &[u8]) -> usize
         ensures some { result ≤ length piece.now }
-        ensures taken { (text : List ℕ) → IsExtentOf self.old text → IsExtentOf self.new (text ++ take result piece.now) }
-        ensures full { result < length piece.now → (text : List ℕ) → IsExtentOf self.old text → is_too_long (text ++ take (result + 1) piece.now) ≡ true }
+        ensures taken { (text : List ℕ) → IsExtentOf self.old text →
+            IsExtentOf self.new (text ++ take result piece.now) }
+        ensures full { result < length piece.now → (text : List ℕ) → IsExtentOf self.old text →
+            is_too_long (text ++ take (result + 1) piece.now) ≡ true }
     {
         for (place, byte) in piece.iter().enumerate() {
             if !self.take(*byte) {

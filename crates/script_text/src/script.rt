@@ -82,7 +82,8 @@ fn split_line(text: &[u8]) -> (&[u8], &[u8])
 
 /// One call more, where a line has one.
 fn push_call(calls: &mut Vec<Call>, call: Option<Call>) -> Result<(), AllocError>
-    ensures { OnOk result (map shown calls.new.items ≡ map shown calls.old.items ++ cons_option (option_map shown call) []) }
+    ensures { OnOk result (map shown calls.new.items ≡
+        map shown calls.old.items ++ cons_option (option_map shown call) []) }
 {
     if let Some(call) = call {
         calls.push(call)?;

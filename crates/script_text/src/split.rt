@@ -18,7 +18,9 @@ fn after(text: &[u8], place: usize) -> &[u8]
 
 /// What stands before the first such byte and what stands behind it, or nothing where there is none.
 pub fn split(text: &[u8], byte: u8) -> Option<(&[u8], &[u8])>
-    ensures parts { MatchOption result (slice_split (λ b. b == byte) text.now ≡ text.now ∷ []) (λ cut. slice_split (λ b. b == byte) text.now ≡ cut.0.now ∷ slice_split (λ b. b == byte) cut.1.now) }
+    ensures parts { MatchOption result (slice_split (λ b. b == byte) text.now ≡ text.now ∷ [])
+        (λ cut. slice_split (λ b. b == byte) text.now ≡
+        cut.0.now ∷ slice_split (λ b. b == byte) cut.1.now) }
     ensures shorter { IfSome result (λ cut. length cut.1.now < length text.now) }
 {
     match place_of(text, byte) {

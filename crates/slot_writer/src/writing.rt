@@ -26,7 +26,8 @@ fn erase_blocks<D: Flash>(flash: &mut D, first: u32, end: u32) -> Result<(), Fla
     requires inside { end ≤ D.blocks flash.old }
     requires order { first ≤ end }
 
-    ensures erases { IsTrue D.tells → Erases result first end (D.told flash.old) (D.told flash.new) }
+    ensures erases { IsTrue D.tells →
+        Erases result first end (D.told flash.old) (D.told flash.new) }
     ensures power { D.on flash.new ≡ is_ok result }
     ensures size { D.blocks flash.new ≡ D.blocks flash.old }
     ensures arming { SpendsArming result (end - first) (D.arming flash.old) (D.arming flash.new)
