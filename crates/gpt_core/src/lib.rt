@@ -17,5 +17,5 @@ pub use layout::{PlaceFault, Places};
 pub use mapped::{Mapped, Start, losses_are_seen_through_places};
 pub use partitions::{Partition, places};
 pub use reading::{GptStop, Table, a_copy_is_its_bytes, read_table};
-pub use repairs::repair_table;
+pub use repairs::{repair_table, repairs_leave_the_partitions};
 pub use table::{TableCopy, WhichTable};

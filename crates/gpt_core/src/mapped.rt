@@ -13,12 +13,15 @@ use base_core::BLOCK_BYTES;
 use flash_core::{Flash, FlashStop};
 use std::marker::{Brand, PhantomData};
 
-/// The places through which a device's flash is seen, and what the device told when it first was.
+/// The places through which a device's flash is seen, how many blocks the device has, and what it told when it first was.
 pub trait Start {
+    ghost use Rattle.std.specs.Prelude.{ℕ};
     ghost use Rattle.gpt_core.specs.declared.layout.Places.{Places};
     ghost use Rattle.flash_core.specs.Told.{Told};
 
     ghost at: { Places };
+
+    ghost blocks: { ℕ };
 
     ghost was: { Told };
 }
@@ -28,6 +31,8 @@ impl Start for Brand {
     ghost use Rattle.flash_core.specs.Told.{fresh};
 
     ghost at = { record { store_first = 0; store_blocks = 0; replicas = 0 ∷ 0 ∷ [] } };
+
+    ghost blocks = { 0 };
 
     ghost was = { fresh [] [] };
 }
@@ -40,6 +45,7 @@ pub struct Mapped<D: Flash, K: Start> {
     start: PhantomData<K>,
     ghost fits: { Fit (D.blocks flash) places },
     ghost is_at: { places ≡ K.at },
+    ghost has_blocks: { D.blocks flash ≡ K.blocks },
     ghost beside: { IsTrue D.tells → NothingDirty K.was → Beside places K.was (D.told flash) },
 }
 
@@ -53,6 +59,7 @@ impl<D: Flash, K: Start> Mapped<D, K> {
     pub fn new(flash: D, places: Places) -> Mapped<D, K>
         requires fit { Fit (D.blocks flash) places }
         requires at { places ≡ K.at }
+        requires size { D.blocks flash ≡ K.blocks }
         requires start { IsTrue D.tells → D.told flash ≡ K.was }
         ensures device { device result ≡ flash }
         ensures places { places_of result ≡ places }
@@ -67,6 +74,8 @@ impl<D: Flash, K: Start> Mapped<D, K> {
     /// The device.
     pub fn into_flash(self) -> D
         ensures device { result ≡ device self }
+        ensures places { places_of self ≡ K.at }
+        ensures size { D.blocks result ≡ K.blocks }
         ensures beside { IsTrue D.tells → NothingDirty K.was → Beside K.at K.was (D.told result) }
     {
         self.flash

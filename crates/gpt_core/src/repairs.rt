@@ -1,13 +1,17 @@
 //! Repairing a table.
 
-ghost use Rattle.std.specs.Prelude.{◌≡◌, ◌+◌, ◌-◌, ◌*◌, ◌<◌, ◌≤◌, ◌++◌, Some, length, take, replicate, is_ok, IsTrue, OnOk};
+ghost use Rattle.std.specs.Prelude.{◌≡◌, ℕ, Ok, ◌+◌, ◌-◌, ◌*◌, ◌<◌, ◌≤◌, ◌++◌, Some, length, take, replicate, is_ok, IsTrue, OnOk};
 ghost use Rattle.base_core.specs.Bytes.{le};
 ghost use Rattle.base_core.specs.Crc.{crc};
 ghost use Rattle.flash_core.specs.Counts.{Spends, StaysUnarmed};
 ghost use Rattle.flash_core.specs.May.{Keeps};
-ghost use Rattle.flash_core.specs.Told.{NothingDirty, is_guarded};
-ghost use Rattle.gpt_core.specs.Table.{FitsTable, blocks_of, number_of, header_at, other, entries_at, copy_in, DecidesTable, BothSay, header_lead, header_places, header_back, header_with, header_bytes, table_in_image, copy_from, copy_to};
-ghost use Rattle.gpt_core.specs.Repair.{Mends, HeadersGuarded, StaysBeside, Ready, Steps, Spells};
+ghost use Rattle.flash_core.specs.Told.{Told, NothingDirty, is_guarded};
+ghost use Rattle.gpt_core.specs.declared.layout.Places.{Places};
+ghost use Rattle.gpt_core.specs.declared.table.WhichTable.{WhichTable};
+ghost use Rattle.gpt_core.specs.PlacesOf.{places_of};
+ghost use Rattle.gpt_core.specs.View.{view_of};
+ghost use Rattle.gpt_core.specs.Table.{Table as Said, FitsTable, blocks_of, number_of, header_at, other, entries_at, copy_in, DecidesTable, BothSay, header_lead, header_places, header_back, header_with, header_bytes, table_in_image, copy_from, copy_to};
+ghost use Rattle.gpt_core.specs.Repair.{Mends, HeadersGuarded, StaysBeside, Ready, Steps, Spells, lowered_by, writes_of};
 
 use crate::headers::{
     ENTRY_SIZE, HEADER_SIZE, REVISION, blocks_for, entries_place, header_place, other_copy,
@@ -177,9 +181,11 @@ fn mend<D: Flash>(
     ensures steps { IsTrue D.tells → Ready copy (D.blocks flash.old) table.now (D.told flash.old)
         → Steps (λ u. BothSay (D.blocks flash.old) table.now u.now × NothingDirty u) result (D.blocks flash.old) table.now (D.told flash.new) }
     ensures keeps { IsTrue D.tells → Keeps (copy_from copy (D.blocks flash.old) (blocks_of (number_of table.now))) (copy_to copy (D.blocks flash.old) (blocks_of (number_of table.now))) (D.told flash.old) (D.told flash.new) }
+    ensures settled { OnOk result (IsTrue D.tells → NothingDirty (D.told flash.new)) }
     ensures power { D.on flash.new ≡ is_ok result }
     ensures size { D.blocks flash.new ≡ D.blocks flash.old }
     ensures costs { Spends result (D.counts flash.old) (D.counts flash.new) }
+    ensures spent { OnOk result (D.arming flash.new ≡ lowered_by (2 + 2 * blocks_of (number_of table.now)) (D.arming flash.old)) }
     ensures unarmed { StaysUnarmed result (D.arming flash.old) (D.arming flash.new) (D.counts flash.old) (D.counts flash.new) }
     ensures buffer { length buf.new ≡ length buf.old }
 {
@@ -208,9 +214,13 @@ pub fn repair_table<D: Flash>(
     ensures mends { IsTrue D.tells → HeadersGuarded (D.blocks flash.old) (D.told flash.old) → Mends result (D.blocks flash.old) table.now (D.told flash.new) }
     ensures none { which ≡ WhichTable.Same → flash.new ≡ flash.old }
     ensures alone { IsTrue D.tells → StaysBeside (D.blocks flash.old) table.now which (D.told flash.old) (D.told flash.new) }
+    // When done nothing is dirty, whatever is guarded.
+    ensures settled { OnOk result (IsTrue D.tells → NothingDirty (D.told flash.old) → NothingDirty (D.told flash.new)) }
     ensures power { D.on flash.new ≡ is_ok result }
     ensures size { D.blocks flash.new ≡ D.blocks flash.old }
     ensures costs { Spends result (D.counts flash.old) (D.counts flash.new) }
+    // When done, as many erases and programs were done as the copy that is repaired asks for.
+    ensures spent { OnOk result (D.arming flash.new ≡ lowered_by (writes_of which (blocks_of (number_of table.now))) (D.arming flash.old)) }
     ensures unarmed { StaysUnarmed result (D.arming flash.old) (D.arming flash.new) (D.counts flash.old) (D.counts flash.new) }
     ensures buffer { length buf.new ≡ length buf.old }
 {
@@ -220,3 +230,9 @@ pub fn repair_table<D: Flash>(
         WhichTable::RepairBackup => mend(flash, table, TableCopy::Backup, buf),
     }
 }
+
+/// A repair of a table leaves the flash that its partitions are, where nothing is dirty before and afterwards.
+pub fn repairs_leave_the_partitions()
+    ensures { (blocks : ℕ) (t : Said) (which : WhichTable) (p : Places) (s u : Told) → places_of blocks t ≡ Ok p → NothingDirty s → NothingDirty u
+        → StaysBeside blocks t which s u → view_of p u ≡ view_of p s }
+{}

@@ -8,25 +8,26 @@ ghost use Rattle.flash_core.specs.Told.{Told, NothingDirty};
 ghost use Rattle.flash_core.specs.May.{Keeps};
 ghost use Rattle.gpt_core.specs.declared.table.TableCopy.{TableCopy};
 ghost use Rattle.gpt_core.specs.Table.{Table, blocks_of, number_of, header_at, entries_at, copy_in, BothSay};
-ghost use Rattle.gpt_core.specs.Repair.{Ready, Cleared, Filled, Steps, Writing};
+ghost use Rattle.gpt_core.specs.Repair.{Ready, Cleared, Filled, Steps, Writing, lowered_by};
 
 use base_core::BLOCK_BYTES;
 use flash_core::{Flash, FlashStop};
 
 /// Erases the block of a header: erase, barrier.
-pub fn clear_header<D: Flash>(flash: &mut D, b: u32) -> Result<(), FlashStop>
+pub fn clear_header<D: Flash>(flash: &mut D, header: u32) -> Result<(), FlashStop>
     requires on { IsTrue (D.on flash.old) }
-    requires inside { b < D.blocks flash.old }
-    ensures steps { (w : TableCopy) (t : Table) → IsTrue D.tells → b ≡ header_at w (D.blocks flash.old) → Ready w (D.blocks flash.old) t (D.told flash.old)
+    requires inside { header < D.blocks flash.old }
+    ensures steps { (w : TableCopy) (t : Table) → IsTrue D.tells → header ≡ header_at w (D.blocks flash.old) → Ready w (D.blocks flash.old) t (D.told flash.old)
         → Steps (Cleared w (D.blocks flash.old) t) result (D.blocks flash.old) t (D.told flash.new) }
-    ensures keeps { IsTrue D.tells → Keeps (4096 * b) (4096 * b + 4096) (D.told flash.old) (D.told flash.new) }
-    ensures empty { OnOk result (IsTrue D.tells → block b (D.told flash.new).now ≡ blank 4096) }
+    ensures keeps { IsTrue D.tells → Keeps (4096 * header) (4096 * header + 4096) (D.told flash.old) (D.told flash.new) }
+    ensures empty { OnOk result (IsTrue D.tells → block header (D.told flash.new).now ≡ blank 4096) }
     ensures power { D.on flash.new ≡ is_ok result }
     ensures size { D.blocks flash.new ≡ D.blocks flash.old }
     ensures costs { Spends result (D.counts flash.old) (D.counts flash.new) }
+    ensures spent { OnOk result (D.arming flash.new ≡ lowered_by 1 (D.arming flash.old)) }
     ensures unarmed { StaysUnarmed result (D.arming flash.old) (D.arming flash.new) (D.counts flash.old) (D.counts flash.new) }
 {
-    flash.erase(b)?;
+    flash.erase(header)?;
     flash.barrier()
 }
 
@@ -42,9 +43,11 @@ pub fn write_header<D: Flash>(flash: &mut D, b: u32, bytes: &[u8]) -> Result<(),
         → copy_in w (D.blocks flash.old) (overwritten (4096 * b) bytes.now (D.told flash.old).now) ≡ Some t
         → Steps (λ u. BothSay (D.blocks flash.old) t u.now × NothingDirty u) result (D.blocks flash.old) t (D.told flash.new) }
     ensures keeps { IsTrue D.tells → Keeps (4096 * b) (4096 * b + 4096) (D.told flash.old) (D.told flash.new) }
+    ensures settled { OnOk result (IsTrue D.tells → NothingDirty (D.told flash.new)) }
     ensures power { D.on flash.new ≡ is_ok result }
     ensures size { D.blocks flash.new ≡ D.blocks flash.old }
     ensures costs { Spends result (D.counts flash.old) (D.counts flash.new) }
+    ensures spent { OnOk result (D.arming flash.new ≡ lowered_by 1 (D.arming flash.old)) }
     ensures unarmed { StaysUnarmed result (D.arming flash.old) (D.arming flash.new) (D.counts flash.old) (D.counts flash.new) }
 {
     flash.program(BLOCK_BYTES * b, bytes)?;
@@ -63,6 +66,7 @@ fn write_block<D: Flash>(flash: &mut D, b: u32, bytes: &[u8]) -> Result<(), Flas
     ensures power { D.on flash.new ≡ is_ok result }
     ensures size { D.blocks flash.new ≡ D.blocks flash.old }
     ensures costs { Spends result (D.counts flash.old) (D.counts flash.new) }
+    ensures spent { OnOk result (D.arming flash.new ≡ lowered_by 2 (D.arming flash.old)) }
     ensures unarmed { StaysUnarmed result (D.arming flash.old) (D.arming flash.new) (D.counts flash.old) (D.counts flash.new) }
 {
     flash.erase(b)?;
@@ -80,6 +84,7 @@ fn write_blocks<D: Flash>(flash: &mut D, first: u32, bytes: &[u8]) -> Result<(),
     ensures power { D.on flash.new ≡ is_ok result }
     ensures size { D.blocks flash.new ≡ D.blocks flash.old }
     ensures costs { Spends result (D.counts flash.old) (D.counts flash.new) }
+    ensures spent { OnOk result (D.arming flash.new ≡ lowered_by (2 * ((length bytes.now + 4095) / 4096)) (D.arming flash.old)) }
     ensures unarmed { StaysUnarmed result (D.arming flash.old) (D.arming flash.new) (D.counts flash.old) (D.counts flash.new) }
 {
     if bytes.len() <= BLOCK_BYTES as usize {
@@ -102,6 +107,7 @@ pub fn write_entries<D: Flash>(flash: &mut D, first: u32, bytes: &[u8]) -> Resul
     ensures power { D.on flash.new ≡ is_ok result }
     ensures size { D.blocks flash.new ≡ D.blocks flash.old }
     ensures costs { Spends result (D.counts flash.old) (D.counts flash.new) }
+    ensures spent { OnOk result (D.arming flash.new ≡ lowered_by (2 * ((length bytes.now + 4095) / 4096)) (D.arming flash.old)) }
     ensures unarmed { StaysUnarmed result (D.arming flash.old) (D.arming flash.new) (D.counts flash.old) (D.counts flash.new) }
 {
     write_blocks(flash, first, bytes)?;
@@ -130,9 +136,11 @@ pub fn repair_copy<D: Flash>(
         → Steps (λ u. BothSay (D.blocks flash.old) x.t u.now × NothingDirty u) result (D.blocks flash.old) x.t (D.told flash.new) }
     ensures keeps { (low high : ℕ) → low ≤ 4096 * header → 4096 * header + 4096 ≤ high → low ≤ 4096 * first → 4096 * first + 4096 * ((length entries.now + 4095) / 4096) ≤ high
         → IsTrue D.tells → Keeps low high (D.told flash.old) (D.told flash.new) }
+    ensures settled { OnOk result (IsTrue D.tells → NothingDirty (D.told flash.new)) }
     ensures power { D.on flash.new ≡ is_ok result }
     ensures size { D.blocks flash.new ≡ D.blocks flash.old }
     ensures costs { Spends result (D.counts flash.old) (D.counts flash.new) }
+    ensures spent { OnOk result (D.arming flash.new ≡ lowered_by (2 + 2 * ((length entries.now + 4095) / 4096)) (D.arming flash.old)) }
     ensures unarmed { StaysUnarmed result (D.arming flash.old) (D.arming flash.new) (D.counts flash.old) (D.counts flash.new) }
 {
     clear_header(flash, header)?;

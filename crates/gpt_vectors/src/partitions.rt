@@ -29,6 +29,7 @@ fn write_from<D: Flash, K: Start>(flash: D, places: Places) -> (D, Result<(), Fl
     requires on { IsTrue (D.on flash) }
     requires fit { Fit (D.blocks flash) places }
     requires at { places ≡ K.at }
+    requires size { D.blocks flash ≡ K.blocks }
     requires start { IsTrue D.tells → D.told flash ≡ K.was }
     ensures beside { IsTrue D.tells → NothingDirty K.was → Beside K.at K.was (D.told result.0) }
 {

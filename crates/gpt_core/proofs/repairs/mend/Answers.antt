@@ -1,8 +1,9 @@
-use Rattle.std.proofs.Common.{ℕ, length, ap, sym, subst, ◌∙◌}
+use Rattle.std.proofs.Common.{◌≡◌, ℕ, ◌+◌, ◌*◌, ◌/◌, length, ap, sym, subst, ◌∙◌}
 use Rattle.gpt_core.specs.Table.{Table, header_at, entries_at, blocks_of, number_of, header_bytes, copy_from, copy_to}
 use Rattle.gpt_core.specs.Repair.{Spells}
 use Rattle.gpt_core.proofs.Spelling.{spells}
 use Rattle.gpt_core.proofs.Deciding.{inside_copy}
+use Rattle.gpt_core.proofs.Spending.{spent-as}
 use Rattle.gpt_core.proofs.repairs.mend.Goals as goal
 
 pub returns-clause-steps : goal.returns-clause-steps
@@ -33,3 +34,9 @@ returns-clause-keeps g c tells =
     (c.entries_place-first.ensures ∙ ap (λ (k : ℕ). entries_at w k c.blocks_for.result) c.blocks-blocks.ensures ∙ ap (entries_at w n) (c.blocks_for.ensures.value ∙ ap blocks_of number.value))
     (ap length (c.as_slice.ensures.value ∙ ap (λ (u : Table). u.entries) c.table.view_is)) in
     c.repair_copy.ensures.keeps (copy_from w n (blocks_of (number_of t))) (copy_to w n (blocks_of (number_of t))) inside.header_low inside.header_high inside.first_low inside.first_high tells
+
+pub returns-clause-spent : goal.returns-clause-spent
+returns-clause-spent g c =
+    let t = c.args.table.now in
+    let size : length c.as_slice.result.now ≡ number_of t * 128 = ap length (c.as_slice.ensures.value ∙ ap (λ (u : Table). u.entries) c.table.view_is) ∙ c.requires.fits.whole in
+    spent-as c.repair_copy.result (2 + 2 * ((length c.as_slice.result.now + 4095) / 4096)) (2 + 2 * blocks_of (number_of t)) _ _ (ap (λ (n : ℕ). 2 + 2 * ((n + 4095) / 4096)) size) c.repair_copy.ensures.spent

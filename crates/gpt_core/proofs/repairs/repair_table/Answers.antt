@@ -1,7 +1,10 @@
-use Rattle.std.proofs.Common.{◌≡◌, Some, subst}
-use Rattle.gpt_core.specs.Table.{table_in_image}
+use Rattle.std.proofs.Common.{◌≡◌, Some, ap, subst, sym}
+use Rattle.std.proofs.lemmas.Result.{on_ok_weaker}
+use Rattle.gpt_core.specs.Table.{blocks_of, number_of, table_in_image}
 use Rattle.gpt_core.specs.declared.table.WhichTable.{WhichTable}
 use Rattle.gpt_core.proofs.Deciding.{mends_from, mends_same, ready_primary, ready_backup}
+use Rattle.gpt_core.specs.Repair.{lowered_by, writes_of}
+use Rattle.gpt_core.proofs.Spending.{spent-as, spent-none}
 use Rattle.gpt_core.proofs.repairs.repair_table.Goals as goal
 
 pub returns-in-Same-clause-mends : goal.returns-in-Same-clause-mends
@@ -27,3 +30,25 @@ returns-in-RepairBackup-clause-mends g c tells guarded =
     let s = g.D.Flash.told c.args.flash.now in
     let is = subst (λ (w : WhichTable). table_in_image n s.now ≡ Some (t, w)) c.in-RepairBackup.is (c.requires.read tells) in
     mends_from c.mend-in-RepairBackup.result n t _ (c.mend-in-RepairBackup.ensures.steps tells (ready_backup n t s (g.met.D.Flash.sound c.args.flash.now tells).size guarded is))
+
+pub returns-in-Same-clause-spent : goal.returns-in-Same-clause-spent
+returns-in-Same-clause-spent g c =
+    let e = blocks_of (number_of c.args.table.now) in
+    let armed = g.D.Flash.arming c.args.flash.now in
+    subst (λ (w : WhichTable). armed ≡ lowered_by (writes_of w e) armed) (sym c.in-Same.is) (spent-none armed)
+
+pub returns-in-RepairPrimary-clause-spent : goal.returns-in-RepairPrimary-clause-spent
+returns-in-RepairPrimary-clause-spent g c =
+    let e = blocks_of (number_of c.args.table.now) in
+    spent-as c.mend.result _ _ _ _ (ap (λ (w : WhichTable). writes_of w e) (sym c.in-RepairPrimary.is)) c.mend.ensures.spent
+
+pub returns-in-RepairBackup-clause-spent : goal.returns-in-RepairBackup-clause-spent
+returns-in-RepairBackup-clause-spent g c =
+    let e = blocks_of (number_of c.args.table.now) in
+    spent-as c.mend-in-RepairBackup.result _ _ _ _ (ap (λ (w : WhichTable). writes_of w e) (sym c.in-RepairBackup.is)) c.mend-in-RepairBackup.ensures.spent
+
+pub returns-in-RepairPrimary-clause-settled : goal.returns-in-RepairPrimary-clause-settled
+returns-in-RepairPrimary-clause-settled g c = on_ok_weaker c.mend.result (λ clean tells was. clean tells) c.mend.ensures.settled
+
+pub returns-in-RepairBackup-clause-settled : goal.returns-in-RepairBackup-clause-settled
+returns-in-RepairBackup-clause-settled g c = on_ok_weaker c.mend-in-RepairBackup.result (λ clean tells was. clean tells) c.mend-in-RepairBackup.ensures.settled

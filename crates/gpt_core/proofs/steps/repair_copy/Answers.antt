@@ -1,4 +1,4 @@
-use Rattle.std.proofs.Common.{arith, ◌≡◌, ◌*◌, ap, ◌∙◌, subst, Some}
+use Rattle.std.proofs.Common.{arith, refl, length, ◌≡◌, ◌+◌, ◌/◌, ◌*◌, ap, ◌∙◌, subst, Some}
 use Rattle.std.proofs.lemmas.Result.{err_from_is_err_and}
 use Rattle.std.specs.Prelude.{is_err, IsTrue, Ok}
 use Rattle.base_core.specs.Bytes.{overwritten}
@@ -9,6 +9,7 @@ use Rattle.gpt_core.specs.Repair.{Cleared, Filled, Steps}
 use Rattle.gpt_core.proofs.Stepping.{steps_stopped}
 use Rattle.flash_core.proofs.Calls.{keeps_wider, keeps_then}
 use Rattle.gpt_core.proofs.Filling.{empty_stays}
+use Rattle.gpt_core.proofs.Spending.{spent-both, spent-then}
 use Rattle.gpt_core.proofs.steps.repair_copy.Goals as goal
 
 pub write_header-requires-clause-empty : goal.write_header-requires-clause-empty
@@ -57,3 +58,8 @@ returns-clause-keeps g c low high a b e f tells =
     keeps_then low high _ _ _
     (keeps_then low high _ _ _ (keeps_wider _ _ low high _ _ a b (c.clear_header.ensures.keeps tells)) (keeps_wider _ _ low high _ _ e f (c.write_entries.ensures.keeps tells)))
     (keeps_wider _ _ low high _ _ a b (c.write_header.ensures.keeps tells))
+
+pub returns-clause-spent : goal.returns-clause-spent
+returns-clause-spent g c =
+    let k = 2 * ((length c.args.entries.now + 4095) / 4096) in
+    spent-then c.write_header.result (1 + k) 1 (2 + k) _ _ _ (omega arith) (spent-both 1 k (1 + k) _ _ _ refl c.in_ok-clear_header.ensures.spent c.in_ok-write_entries.ensures.spent) c.write_header.ensures.spent
