@@ -7,7 +7,7 @@ use Rattle.flash_core.specs.declared.flash.Counts.{Counts}
 use Rattle.flash_core.specs.declared.flash.Flash.{Ghosts}
 use Rattle.flash_core.specs.Counts.{Rose, Idles, Spends}
 use Rattle.flash_core.specs.Told.{Told, NothingDirty, fresh, is_unsure}
-use Rattle.flash_core.specs.May.{Guards, Leaves, May, NoChance}
+use Rattle.flash_core.specs.May.{Guards, Leaves, May, NoChance, as_now}
 use Rattle.fwu_model.specs.State.{State, Numbers, after}
 use Rattle.fwu_model.specs.Sound.{Setting}
 use Rattle.fwu_model.specs.Session.{Session, Off, On, no_handles}
@@ -123,7 +123,7 @@ boots-off E s session is = ap (λ (x : Session). answer E s x call.Boot) is
 
 -- ---- what the reply and the flash say, by the end
 
-powered-after : (e : Ended) → IsFalse (ends_run (reply_of_end e)) → is_ok (stop_of e) ≡ is_some (on_after e)
+pub powered-after : (e : Ended) → IsFalse (ends_run (reply_of_end e)) → is_ok (stop_of e) ≡ is_some (on_after e)
 powered-after (booted b n) h = refl
 powered-after (bad_layout f) h = absurd cc
 powered-after no_metadata h = absurd cc
@@ -240,6 +240,16 @@ pub record PowersOn (tells : Bool) (old was : Counts) (before mid : Told) : Type
   pub leaves : IsTrue tells → Leaves before mid.now
   pub chance : IsTrue tells → Rose old.chances was.chances ⊎ NoChance before mid.now
 
+-- power that was there, with nothing dirty
+powers-none : (tells : Bool) (was : Counts) (t : Told) → (IsTrue tells → NothingDirty t) → PowersOn tells was was t t
+powers-none tells was t clean = record {
+  idles = record { faults = omega arith; cuts = omega arith; chances = omega arith; reached = refl };
+  made = refl;
+  fresh = clean;
+  leaves = λ test. record { size = refl; sure = λ i sure. refl };
+  chance = λ test. inr (λ b guarded. as_now refl);
+}
+
 fresh-guard : (before mid : Told) → mid ≡ fresh before.guard mid.now → mid.guard ≡ before.guard
 unfolding fresh
 fresh-guard before mid is = ap (λ (t : Told). t.guard) is
@@ -304,10 +314,10 @@ module _ (passes : List ℕ → Bool) (tells : Bool) (e : Ended) (was are : Coun
           step-boot E c s new found (boots-again E s c.session is.shows.1 is.shows.3) (same-guards mid new (guard-kept passes e mid new (ends.by_bytes test)) is.guard) e
           (ends.by_machine test E s passes_are is.shows.4.calm is.guard)
 
-  -- on one that was off
-  turns-off : (old : Counts) (before : Told) → PowersOn tells old was before mid → EndsTurn passes tells e (boot_turn e) was are mid new (on_after e) after_power
-      → Turns passes tells call.Boot (boot_turn e) (at None before old armed false) (at (on_after e) new are after_armed after_power)
-  turns-off old before on ends = record {
+  -- on one on which none was booted, off or on
+  turns-off : (power : Bool) (old : Counts) (before : Told) → PowersOn tells old was before mid → (IsTrue tells → IsSafe power before → IsAtRest mid) → EndsTurn passes tells e (boot_turn e) was are mid new (on_after e) after_power
+      → Turns passes tells call.Boot (boot_turn e) (at None before old armed power) (at (on_after e) new are after_armed after_power)
+  turns-off power old before on rests_then ends = record {
     call_is = refl;
     counts = falls-then old was are waits e ends.costs;
     made = ends.costs.made ∙ on.made;
@@ -316,11 +326,11 @@ module _ (passes : List ℕ → Bool) (tells : Bool) (e : Ended) (was are : Coun
     failed = failed-then old was are waits e ends.costs;
     reads_no_file = reads-none e;
     replies = ends.leaves;
-    power = ends.power_is ∙ power-after-end e false;
+    power = ends.power_is ∙ power-after-end e power;
     guard = λ test. guard-kept passes e mid new (ends.by_bytes test) ∙ fresh-guard before mid (on.fresh test);
     step = λ test E c passes_are is none. step-off test E c passes_are is none;
-    safe = λ test guards.
-        let rest = fresh-rests before mid (on.fresh test) guards.0 in
+    safe = λ test safe.
+        let rest = rests_then test safe in
         subst (λ (b : Bool). IsSafe b new) (sym ends.power_is)
         (safe-after e new (same-guards mid new (guard-kept passes e mid new (ends.by_bytes test)) rest.guard) (ends.guarded test rest));
     boots = λ test off clean is.
@@ -359,10 +369,18 @@ module _ (passes : List ℕ → Bool) (tells : Bool) (e : Ended) (t : Turn) (was
       (subst (λ (b : Bool). Turns passes tells call.Boot (boot_turn e) (at (Some n) mid was armed b) (at (on_after e) new are after_armed after_power)) (sym powered)
       (turns-again passes tells e was are mid new armed after_armed after_power n as-turn)))
 
+  as-turned : (old : Counts) (before : Told) → Turns passes tells call.Boot (boot_turn e) (at None before old armed power) (at (on_after e) new are after_armed after_power)
+      → Turns passes tells call.Boot t (at None before old armed power) (at on new are after_armed after_power)
+  as-turned old before turns =
+      subst (λ (x : Turn). Turns passes tells call.Boot x (at None before old armed power) (at on new are after_armed after_power)) (sym ends.turn_is)
+      (subst (λ (o : Option Numbers). Turns passes tells call.Boot (boot_turn e) (at None before old armed power) (at o new are after_armed after_power)) (sym ends.on_is) turns)
+
   pub boot-turns-off : (old : Counts) (before : Told) → PowersOn tells old was before mid → power ≡ false
       → Turns passes tells call.Boot t (at None before old armed power) (at on new are after_armed after_power)
-  boot-turns-off old before powers off =
-      subst (λ (x : Turn). Turns passes tells call.Boot x (at None before old armed power) (at on new are after_armed after_power)) (sym ends.turn_is)
-      (subst (λ (o : Option Numbers). Turns passes tells call.Boot (boot_turn e) (at None before old armed power) (at o new are after_armed after_power)) (sym ends.on_is)
-      (subst (λ (b : Bool). Turns passes tells call.Boot (boot_turn e) (at None before old armed b) (at (on_after e) new are after_armed after_power)) (sym off)
-      (turns-off passes tells e was are mid new armed after_armed after_power old before powers as-turn)))
+  boot-turns-off old before powers off = as-turned old before (turns-off passes tells e was are mid new armed after_armed after_power power old before powers (λ test safe. fresh-rests before mid (powers.fresh test) (off-guards test safe).0) as-turn)
+    where
+      off-guards : IsTrue tells → IsSafe power before → IsSafe false before
+      off-guards test safe = subst (λ (b : Bool). IsSafe b before) off safe
+
+  pub boot-turns-fresh : (IsTrue tells → NothingDirty mid) → power ≡ true → Turns passes tells call.Boot t (at None mid was armed power) (at on new are after_armed after_power)
+  boot-turns-fresh clean powered = as-turned was mid (turns-off passes tells e was are mid new armed after_armed after_power power was mid (powers-none tells was mid clean) (λ test safe. subst (λ (b : Bool). IsSafe b mid) powered safe) as-turn)

@@ -1,6 +1,7 @@
 -- The flash of a run between two turns, as the definitions have it.
 use Rattle.std.specs.Prelude.{◌≡◌, ℕ, Bool, true, false, [], ◌∷◌, Option, Some, None}
 use Rattle.flash_core.specs.declared.flash.Arming.{Arming}
+use Rattle.flash_core.specs.declared.flash.Flash.{Ghosts}
 use Rattle.flash_core.specs.declared.flash.Counts.{Counts}
 use Rattle.flash_core.specs.Told.{Told}
 use Rattle.flash_core.specs.May.{Guards}
@@ -15,14 +16,22 @@ use Rattle.early_boot.specs.Numbers.{numbers}
 use Rattle.script_cmd.specs.declared.powered.Powered.{Powered}
 use Rattle.script_cmd.specs.declared.powered.Powered.TheVariants as powered
 
-abbrev pub device : {D : Type 0} → Powered D → D
+abbrev pub device : {D : Type 0} {F : Ghosts D} → Powered D F → D
 device (powered.Off flash) = flash
+device (powered.Fresh fresh) = fresh.flash
 device (powered.On flash n) = flash
 
 -- the numbers of the flash, where a bank was booted on it
-abbrev pub shown_on : {D : Type 0} → Powered D → Option Numbers
+abbrev pub shown_on : {D : Type 0} {F : Ghosts D} → Powered D F → Option Numbers
 shown_on (powered.Off flash) = None
+shown_on (powered.Fresh fresh) = None
 shown_on (powered.On flash n) = Some (numbers n)
+
+-- whether it is one that has power
+abbrev pub has_power : {D : Type 0} {F : Ghosts D} → Powered D F → Bool
+has_power (powered.Off flash) = false
+has_power (powered.Fresh fresh) = true
+has_power (powered.On flash n) = true
 
 -- what is known of a device between two turns
 pub record Moment : Type 0 where
@@ -37,7 +46,7 @@ pub record Moment : Type 0 where
 abbrev pub at : Option Numbers → Told → Counts → Option Arming → Bool → Moment
 at on told counts armed power = record { on = on; told = told; counts = counts; armed = armed; power = power }
 
--- A device that is off, or whose numbers are not asked, by what it tells.
+-- A device on which no bank was booted, or whose numbers are not asked, by what it tells.
 abbrev pub moment : {D : Type 0} → (D → Told) → (D → Counts) → (D → Option Arming) → (D → Bool) → D
     → Moment
 moment told counts arming power flash = at None (told flash) (counts flash) (arming flash) (power flash)

@@ -17,6 +17,7 @@ ghost use Rattle.script_cmd.specs.Ways.{AsksTurns, ByList, Given, HasGoodList, H
 
 use crate::done::{Done, Note};
 use crate::formatting::format_flash;
+use crate::powered::Powered;
 use crate::reading::{FileStop, SourceStop, read_file, read_source};
 use crate::refusing::{
     idle, print_usage, refuse_length, refuse_list, refuse_reading, refuse_script,
@@ -60,7 +61,7 @@ fn run_text<D: Flash, O: Sink, V: Verifier>(
         Err(ScriptFault::NoMemory) => return idle(alloc, 9, Note::Nothing, flash),
     };
     match Room::make(alloc, script.len()) {
-        Ok(room) => run_script(room, &script, sink, flash, verifier),
+        Ok(room) => run_script(room, &script, sink, Powered::Off(flash), verifier),
         Err(_) => idle(alloc, 9, Note::Nothing, flash),
     }
 }

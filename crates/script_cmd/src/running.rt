@@ -1,5 +1,5 @@
 //! The turns of a script, one after the other.
-ghost use Rattle.std.specs.Prelude.{◌≡◌, ◌≤◌, ◌+◌, ℕ, Option, Some, None, is_some, [], IsTrue, IsFalse, length, vec_capacity};
+ghost use Rattle.std.specs.Prelude.{◌≡◌, ◌≤◌, ◌+◌, ℕ, Option, Some, None, [], IsTrue, IsFalse, length, vec_capacity};
 ghost use Rattle.fwu_model.specs.State.{Numbers};
 ghost use Rattle.fwu_model.specs.Causes.{status_by, note_by};
 ghost use Rattle.fwu_model.specs.Text.{line};
@@ -8,7 +8,7 @@ ghost use Rattle.script_text.specs.Shown.{shown};
 ghost use Rattle.fwu_journal.specs.Room.{HasRoom};
 ghost use Rattle.fwu_journal.specs.Shown.{HasRoomFor, reply, turn as shown_turn, turns};
 ghost use Rattle.fwu_journal.specs.declared.line.TheConstants.{LINE_ROOM};
-ghost use Rattle.script_cmd.specs.Powered.{at, device, moment, shown_on};
+ghost use Rattle.script_cmd.specs.Powered.{at, device, has_power, moment, shown_on};
 ghost use Rattle.script_cmd.specs.Noted.{is_input, noted};
 ghost use Rattle.script_cmd.specs.Printed.{Prints};
 ghost use Rattle.script_cmd.specs.Running.{Ended, Printed, Ran, Steps};
@@ -98,7 +98,7 @@ fn step<D: Flash, O: Sink, V: Verifier>(
     sink: &mut O,
     verifier: &V,
 ) -> Stepped<D>
-    requires powered { D.on (device running.powered) ≡ is_some (shown_on running.powered) }
+    requires powered { D.on (device running.powered) ≡ has_power running.powered }
     requires armable { IsArmable (shown call) }
     requires turn_fits { HasRoomFor running.journal 1 }
     requires line_fits { LINE_ROOM ≤ vec_capacity running.text }
@@ -114,7 +114,7 @@ fn step<D: Flash, O: Sink, V: Verifier>(
     ensures note { IsFalse (is_input result.end.note) }
     // Where the run goes on.
     ensures powered { result.end.status ≡ 0
-        → D.on (device result.running.powered) ≡ is_some (shown_on result.running.powered) }
+        → D.on (device result.running.powered) ≡ has_power result.running.powered }
     ensures turns_fit { (n : ℕ) → HasRoomFor running.journal (n + 1)
         → HasRoomFor result.running.journal n }
     ensures line_fits { LINE_ROOM ≤ vec_capacity result.running.text }
@@ -162,33 +162,35 @@ fn done<D: Flash>(running: Running<D>, end: End) -> Done<D>
 }
 
 /// Does the calls of a script in their order, and puts the line of each into the sink. A turn that the flash failed, or that found
-/// nothing to boot, ends the run after its line, and so does a line that the sink did not take. The room is for all turns.
+/// nothing to boot, ends the run after its line, and so does a line that the sink did not take. The room is for all turns. No bank was
+/// booted on the flash.
 pub fn run_script<D: Flash, O: Sink, V: Verifier>(
     room: Room,
     script: &Script,
     sink: &mut O,
-    flash: D,
+    start: Powered<D>,
     verifier: &V,
 ) -> Done<D>
-    requires off { IsFalse (D.on flash) }
-    requires unarmed { D.arming flash ≡ None }
+    requires powered { D.on (device start) ≡ has_power start }
+    requires not_booted { shown_on start ≡ None }
+    requires unarmed { D.arming (device start) ≡ None }
     requires no_turns { turns room.journal ≡ [] }
     requires turns_fit { HasRoomFor room.journal (length script.now) }
     requires line_fits { HasRoom room.text LINE_ROOM }
 
     ensures ran { (on : Option Numbers) × Ran (V.passes verifier.now) D.tells (turns result.journal)
-        (moment D.told D.counts D.arming D.on flash)
+        (moment D.told D.counts D.arming D.on (device start))
         (at on (D.told result.flash) (D.counts result.flash) (D.arming result.flash)
         (D.on result.flash)) }
     ensures ended { Ended script.now (turns result.journal) result.status (noted result.note) }
     ensures note { IsFalse (is_input result.note) }
     ensures printed { Printed (turns result.journal) result.status (O.taken sink.old)
         (O.taken sink.new) (O.faults sink.old) (O.faults sink.new) }
-    ensures size { D.blocks result.flash ≡ D.blocks flash }
+    ensures size { D.blocks result.flash ≡ D.blocks (device start) }
 {
     let Room { journal, text } = room;
     let mut running = Running {
-        powered: Powered::Off(flash),
+        powered: start,
         journal,
         text,
     };

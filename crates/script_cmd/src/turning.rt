@@ -1,5 +1,5 @@
 //! One turn of a run.
-ghost use Rattle.std.specs.Prelude.{◌≡◌, ◌≤◌, ℕ, Bool, List, Some, None, is_some, IsTrue, IsFalse};
+ghost use Rattle.std.specs.Prelude.{◌≡◌, ◌≤◌, ℕ, Bool, List, Some, None, is_some, IsTrue, IsFalse, false, true};
 ghost use Rattle.fwu_model.specs.Call as call;
 ghost use Rattle.fwu_model.specs.Reply as model_reply;
 ghost use Rattle.fwu_model.specs.Run.{ends_run};
@@ -10,10 +10,10 @@ ghost use Rattle.early_boot.specs.Ends.{Ended, device_of, ended, some_numbers};
 ghost use Rattle.fwu_journal.specs.Shown.{reply, turn};
 ghost use Rattle.script_text.specs.Built.{IsArmable};
 ghost use Rattle.script_text.specs.Shown.{shown};
-ghost use Rattle.script_cmd.specs.Powered.{at, device, moment, shown_on};
+ghost use Rattle.script_cmd.specs.Powered.{at, device, has_power, moment, shown_on};
 ghost use Rattle.script_cmd.specs.Turning.{Turns, EndsTurn, LeavesFlash, boot_turn, on_after};
 
-use crate::powered::Powered;
+use crate::powered::{Fresh, Powered};
 use early_boot::{BootEnd, Booted, Numbers, boot};
 use flash_core::Flash;
 use fwu_journal::{Reply, Turn};
@@ -69,6 +69,7 @@ fn not_booted<D: Flash>(flash: D, answer: Reply, read: Option<Numbers>) -> Turne
     ensures turn { turn result.turn ≡ record
         { call = call.Boot; reply = reply answer; numbers = some_numbers numbers read } }
     ensures on { shown_on result.powered ≡ None }
+    ensures power { has_power result.powered ≡ false }
     ensures device { device result.powered ≡ flash }
 {
     Turned {
@@ -85,6 +86,7 @@ fn was_booted<D: Flash>(booted: Booted<D>, read: Numbers) -> Turned<D>
       numbers = Some (numbers read);
     } }
     ensures on { shown_on result.powered ≡ Some (started_numbers (started booted)) }
+    ensures power { has_power result.powered ≡ true }
     ensures device { device result.powered ≡ booted_device booted }
 {
     let turn = turn_with(booted_reply(&booted), Some(read));
@@ -100,6 +102,7 @@ fn was_booted<D: Flash>(booted: Booted<D>, read: Numbers) -> Turned<D>
 fn turned_by<D: Flash>(end: BootEnd<D>) -> Turned<D>
     ensures turn { turn result.turn ≡ boot_turn (ended end) }
     ensures on { shown_on result.powered ≡ on_after (ended end) }
+    ensures power { has_power result.powered ≡ is_some (on_after (ended end)) }
     ensures device { device result.powered ≡ device_of end }
 {
     match end {
@@ -129,7 +132,7 @@ fn boot_on<D: Flash, V: Verifier>(flash: D, verifier: &V) -> Turned<D>
         (D.counts flash) (D.counts (device result.powered)) (D.told flash)
         (D.told (device result.powered)) (shown_on result.powered) (D.on (device result.powered)) }
     ensures powered { IsFalse (ends_run (turn result.turn).reply)
-        → D.on (device result.powered) ≡ is_some (shown_on result.powered) }
+        → D.on (device result.powered) ≡ has_power result.powered }
     ensures size { D.blocks (device result.powered) ≡ D.blocks flash }
 {
     turned_by(boot(flash, verifier))
@@ -144,7 +147,7 @@ fn boot_off<D: Flash, V: Verifier>(flash: D, verifier: &V) -> Turned<D>
         (D.counts (device result.powered)) (D.arming (device result.powered))
         (D.on (device result.powered))) }
     ensures powered { IsFalse (ends_run (turn result.turn).reply)
-        → D.on (device result.powered) ≡ is_some (shown_on result.powered) }
+        → D.on (device result.powered) ≡ has_power result.powered }
     ensures size { D.blocks (device result.powered) ≡ D.blocks flash }
 {
     let mut flash = flash;
@@ -152,9 +155,23 @@ fn boot_off<D: Flash, V: Verifier>(flash: D, verifier: &V) -> Turned<D>
     boot_on(flash, verifier)
 }
 
+/// Boots a flash that is on, with nothing dirty.
+fn boot_fresh<D: Flash, V: Verifier>(fresh: Fresh<D>, verifier: &V) -> Turned<D>
+    ensures turns { Turns (V.passes verifier.now) D.tells call.Boot (turn result.turn)
+        (moment D.told D.counts D.arming D.on fresh.flash)
+        (at (shown_on result.powered) (D.told (device result.powered))
+        (D.counts (device result.powered)) (D.arming (device result.powered))
+        (D.on (device result.powered))) }
+    ensures powered { IsFalse (ends_run (turn result.turn).reply)
+        → D.on (device result.powered) ≡ has_power result.powered }
+    ensures size { D.blocks (device result.powered) ≡ D.blocks fresh.flash }
+{
+    boot_on(fresh.flash, verifier)
+}
+
 /// The turn of `boot`.
 fn boot_turn<D: Flash, V: Verifier>(powered: Powered<D>, verifier: &V) -> Turned<D>
-    requires { D.on (device powered) ≡ is_some (shown_on powered) }
+    requires { D.on (device powered) ≡ has_power powered }
     ensures turns { Turns (V.passes verifier.now) D.tells call.Boot (turn result.turn)
         (at (shown_on powered) (D.told (device powered)) (D.counts (device powered))
         (D.arming (device powered)) (D.on (device powered)))
@@ -162,11 +179,12 @@ fn boot_turn<D: Flash, V: Verifier>(powered: Powered<D>, verifier: &V) -> Turned
         (D.counts (device result.powered)) (D.arming (device result.powered))
         (D.on (device result.powered))) }
     ensures powered { IsFalse (ends_run (turn result.turn).reply)
-        → D.on (device result.powered) ≡ is_some (shown_on result.powered) }
+        → D.on (device result.powered) ≡ has_power result.powered }
     ensures size { D.blocks (device result.powered) ≡ D.blocks (device powered) }
 {
     match powered {
         Powered::Off(flash) => boot_off(flash, verifier),
+        Powered::Fresh(fresh) => boot_fresh(fresh, verifier),
         Powered::On(flash, _) => boot_on(flash, verifier),
     }
 }
@@ -189,12 +207,17 @@ fn show_turn<D: Flash>(powered: Powered<D>) -> Turned<D>
         (D.counts (device result.powered)) (D.arming (device result.powered))
         (D.on (device result.powered))) }
     ensures on { shown_on result.powered ≡ shown_on powered }
+    ensures has { has_power result.powered ≡ has_power powered }
     ensures device { device result.powered ≡ device powered }
 {
     match powered {
         Powered::Off(flash) => Turned {
             turn: turn_of(Call::Show, Reply::Off),
             powered: Powered::Off(flash),
+        },
+        Powered::Fresh(fresh) => Turned {
+            turn: turn_of(Call::Show, Reply::Off),
+            powered: Powered::Fresh(fresh),
         },
         Powered::On(flash, shows) => {
             let turn = shows_turn(&shows);
@@ -231,6 +254,7 @@ fn cut_turn<D: Flash>(powered: Powered<D>, n: u32, k: u32) -> Turned<D>
         (D.counts (device result.powered)) (D.arming (device result.powered))
         (D.on (device result.powered))) }
     ensures on { shown_on result.powered ≡ shown_on powered }
+    ensures has { has_power result.powered ≡ has_power powered }
     ensures power { D.on (device result.powered) ≡ D.on (device powered) }
     ensures size { D.blocks (device result.powered) ≡ D.blocks (device powered) }
 {
@@ -240,6 +264,12 @@ fn cut_turn<D: Flash>(powered: Powered<D>, n: u32, k: u32) -> Turned<D>
             turn,
             powered: Powered::Off(arm(flash, n, k)),
         },
+        Powered::Fresh(fresh) => Turned {
+            turn,
+            powered: Powered::Fresh(Fresh {
+                flash: arm(fresh.flash, n, k),
+            }),
+        },
         Powered::On(flash, shows) => Turned {
             turn,
             powered: Powered::On(arm(flash, n, k), shows),
@@ -248,9 +278,9 @@ fn cut_turn<D: Flash>(powered: Powered<D>, n: u32, k: u32) -> Turned<D>
 }
 
 /// Does a call. `boot` brings power back where it is off; where it is on, the flash boots again as it reads now. Of the other calls,
-/// `cut` arms the flash on or off, and `show` tells the numbers, or while off `off`.
+/// `cut` arms the flash on or off, and `show` tells the numbers, or where no bank was booted `off`.
 pub fn turn<D: Flash, V: Verifier>(powered: Powered<D>, call: Call, verifier: &V) -> Turned<D>
-    requires powered { D.on (device powered) ≡ is_some (shown_on powered) }
+    requires powered { D.on (device powered) ≡ has_power powered }
     requires armable { IsArmable (shown call) }
 
     ensures turns { Turns (V.passes verifier.now) D.tells (shown call) (turn result.turn)
@@ -261,7 +291,7 @@ pub fn turn<D: Flash, V: Verifier>(powered: Powered<D>, call: Call, verifier: &V
         (D.on (device result.powered))) }
     // Where the run goes on.
     ensures powered { IsFalse (ends_run (turn result.turn).reply)
-        → D.on (device result.powered) ≡ is_some (shown_on result.powered) }
+        → D.on (device result.powered) ≡ has_power result.powered }
     ensures size { D.blocks (device result.powered) ≡ D.blocks (device powered) }
 {
     match call {

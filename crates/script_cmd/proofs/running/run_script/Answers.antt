@@ -1,5 +1,6 @@
-use Rattle.std.proofs.Common.{◌≡◌, ◌+◌, ◌-◌, List, length, None, refl, sym, subst, ◌∙◌, arith}
+use Rattle.std.proofs.Common.{◌≡◌, ◌+◌, ◌-◌, List, [], length, Option, None, refl, sym, subst, ◌∙◌, arith}
 use Rattle.fwu_model.specs.Reply.{Turn}
+use Rattle.fwu_model.specs.State.{Numbers}
 use Rattle.fwu_journal.specs.declared.journal.Journal.{Journal}
 use Rattle.fwu_journal.specs.Shown.{turns}
 use Rattle.script_text.specs.Shown.{shown}
@@ -10,15 +11,16 @@ use Rattle.script_cmd.proofs.running.run_script.Goals as goal
 
 pub loop-index-init : goal.loop-index-init
 loop-index-init g c =
-    let d = c.args.flash in
+    let d = device c.args.start in
     let old = at None (g.D.Flash.told d) (g.D.Flash.counts d) (g.D.Flash.arming d) (g.D.Flash.on d) in
     let passes = g.V.Verifier.passes c.args.verifier.now in
     let taken = g.O.Sink.taken c.args.sink.now in
     let was = g.O.Sink.faults c.args.sink.now in
     record {
-      goes = subst (λ (j : List Turn). GoesOn passes g.D.Flash.tells c.args.script.now 0 j old old taken taken was was) (sym c.requires.no_turns)
-          (goes-none passes g.D.Flash.tells c.args.script.now old taken was refl);
-      powered = c.requires.off;
+      goes = subst (λ (j : List Turn). GoesOn passes g.D.Flash.tells c.args.script.now 0 j old (at (shown_on c.args.start) old.told old.counts old.armed old.power) taken taken was was) (sym c.requires.no_turns)
+          (subst (λ (on : Option Numbers). GoesOn passes g.D.Flash.tells c.args.script.now 0 [] old (at on old.told old.counts old.armed old.power) taken taken was was) (sym c.requires.not_booted)
+          (goes-none passes g.D.Flash.tells c.args.script.now old taken was refl));
+      powered = c.requires.powered;
       turns_fit = omega (arith, c.requires.turns_fit);
       line_fits = omega (arith, c.requires.line_fits);
       size = refl;
@@ -35,7 +37,7 @@ loop-index-preserved g c = record {
 
 pub returns-then-end-ne0-clause-ran : goal.returns-then-end-ne0-clause-ran
 returns-then-end-ne0-clause-ran g c =
-    let d = c.args.flash in
+    let d = device c.args.start in
     let old = at None (g.D.Flash.told d) (g.D.Flash.counts d) (g.D.Flash.arming d) (g.D.Flash.on d) in
     let passes = g.V.Verifier.passes c.args.verifier.now in
     let m = c.step-after.result.running.powered in (

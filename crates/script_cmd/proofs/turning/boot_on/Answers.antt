@@ -1,9 +1,12 @@
-use Rattle.std.proofs.Common.{sym, subst}
+use Rattle.std.proofs.Common.{ap, sym, subst, ◌∙◌}
 use Rattle.early_boot.specs.Ends.{ended}
 use Rattle.fwu_journal.specs.Shown.{turn}
+use Rattle.fwu_model.specs.Reply.{Turn}
+use Rattle.fwu_model.specs.Run.{ends_run}
+use Rattle.std.specs.Prelude.{IsFalse}
 use Rattle.script_cmd.specs.Powered.{shown_on}
 use Rattle.script_cmd.specs.Turning.{EndsTurn}
-use Rattle.script_cmd.proofs.TurnBoots.{end-leaves}
+use Rattle.script_cmd.proofs.TurnBoots.{end-leaves, powered-after}
 use Rattle.script_cmd.proofs.turning.boot_on.Goals as goal
 
 pub returns-clause-ends : goal.returns-clause-ends
@@ -22,3 +25,7 @@ returns-clause-ends g c = (
         guarded = λ told. (c.boot.ensures.ends told).guarded;
       }),
 )
+
+pub returns-clause-powered : goal.returns-clause-powered
+returns-clause-powered g c goes_on =
+    ap g.D.Flash.on c.turned_by.ensures.device ∙ c.boot.ensures.power ∙ powered-after (ended c.boot.result) (subst (λ (t : Turn). IsFalse (ends_run t.reply)) c.turned_by.ensures.turn goes_on) ∙ sym c.turned_by.ensures.power

@@ -35,3 +35,16 @@ returns-in-On-clause-turns g c passes =
     (subst (λ (t : Turn). Turns passes g.D.Flash.tells call.Show t (at (Some n) told counts armed power) (at (Some n) told counts armed power))
     (sym c.shows_turn-turn.ensures)
     (quiet-on passes g.D.Flash.tells call.Show (model_reply.Shown n) counts counts told told armed armed power power (show-leaves g.D.Flash.tells (model_reply.Shown n) counts told armed power refl refl) n (refl, refl) (show-on n)))
+
+pub returns-in-Fresh-clause-turns : goal.returns-in-Fresh-clause-turns
+returns-in-Fresh-clause-turns g c passes =
+    let d = c.in-Fresh.fresh.flash in
+    let told = g.D.Flash.told d in
+    let counts = g.D.Flash.counts d in
+    let armed = g.D.Flash.arming d in
+    let power = g.D.Flash.on d in
+    subst (λ m. Turns passes g.D.Flash.tells call.Show (turn c.turn_of-in-Fresh.result) (at (shown_on m) (g.D.Flash.told (device m)) (g.D.Flash.counts (device m)) (g.D.Flash.arming (device m)) (g.D.Flash.on (device m))) (at None told counts armed power))
+    (sym c.in-Fresh.is)
+    (subst (λ (t : Turn). Turns passes g.D.Flash.tells call.Show t (at None told counts armed power) (at None told counts armed power))
+    (sym c.turn_of-in-Fresh.ensures)
+    (quiet-off passes g.D.Flash.tells call.Show model_reply.IsOff counts counts told told armed armed power power (show-leaves g.D.Flash.tells model_reply.IsOff counts told armed power refl refl) (refl, refl) show-off))
