@@ -1,5 +1,5 @@
 -- What the words of `fwu` ask for.
-use Rattle.std.specs.Prelude.{ℕ, List, Option, Some, None, codes, if◌then◌else◌, option_and_then}
+use Rattle.std.specs.Prelude.{ℕ, Bool, false, List, Option, Some, None, codes, if◌then◌else◌, option_and_then}
 use Rattle.base_core.specs.Bytes.{same_bytes}
 use Rattle.clap.specs.Words.{Row, Text, first_of}
 use Rattle.fwu_formats.specs.Layout.{ImageRow}
@@ -8,19 +8,24 @@ use Rattle.clap_words.specs.Answers.{file_in}
 use Rattle.fwu_words.specs.Commands.{fwu_app}
 use Rattle.fwu_words.specs.Values.{banks_of, rows_of}
 use Rattle.fwu_words.specs.declared.orders.Order.{Order}
-use Rattle.fwu_words.specs.declared.orders.Order.TheVariants.{Run, Boot, Show, Format}
+use Rattle.fwu_words.specs.declared.orders.Order.TheVariants.{Run, RunPartitioned, Boot, BootPartitioned, Show, Format}
 
 -- a command with its values
 pub data Asked : Type 0 where
   run : Asked
   boot : Asked
+  -- with `--gpt`
+  run_partitioned : Asked
+  boot_partitioned : Asked
   show : Asked
   format : ℕ → List ImageRow → List ℕ → Asked
 
 -- an order, without where its words lie in memory
 abbrev pub view : Order → Asked
 view Run = run
+view RunPartitioned = run_partitioned
 view Boot = boot
+view BootPartitioned = boot_partitioned
 view Show = show
 view (Format banks rows file) = format banks rows.items file.now
 
@@ -37,11 +42,19 @@ layout_in rows = option_and_then rows_of (first_of (codes "layout") rows)
 abbrev pub format_of : List Row → Option Asked
 format_of rows = format_by (banks_in rows) (layout_in rows) (file_in (codes "package") rows)
 
+-- whether `--gpt` is given
+abbrev pub is_true : Option Text → Bool
+is_true None = false
+is_true (Some text) = same_bytes text (codes "true")
+
+abbrev pub is_partitioned : List Row → Bool
+is_partitioned rows = is_true (first_of (codes "gpt") rows)
+
 -- the command of a name, where its values are in their grammars
 abbrev pub order_of : Text → List Row → Option Asked
 order_of name rows =
-    if same_bytes name (codes "run") then Some run
-    else if same_bytes name (codes "boot") then Some boot
+    if same_bytes name (codes "run") then Some (if is_partitioned rows then run_partitioned else run)
+    else if same_bytes name (codes "boot") then Some (if is_partitioned rows then boot_partitioned else boot)
     else if same_bytes name (codes "show") then Some show
     else if same_bytes name (codes "format") then format_of rows
     else None

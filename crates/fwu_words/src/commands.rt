@@ -1,12 +1,30 @@
 //! The command set, built for `clap`.
 ghost use Rattle.std.specs.Prelude.{◌≡◌, IfOk, true};
 ghost use Rattle.clap.specs.Faults.{is_simple_and_free};
-ghost use Rattle.clap_words.specs.Words.{IsApp};
-ghost use Rattle.fwu_words.specs.Commands.{format_app, fwu_app};
+ghost use Rattle.clap_words.specs.Words.{AddsRule, IsApp};
+ghost use Rattle.fwu_words.specs.Commands.{flag, format_app, fwu_app, turns_app};
 
-use clap::Command;
+use clap::{Arg, ArgAction, Command};
 use clap_words::{top, with_leaf_command, with_option, with_word};
 use std::alloc::{AllocError, Global};
+
+/// The command with an option that has no value.
+fn with_flag<'a>(
+    alloc: Global,
+    command: Command<'a>,
+    id: &'a str,
+) -> Result<Command<'a>, AllocError>
+    ensures { IfOk result (λ r. AddsRule command.entry r (flag id.entry.now)) }
+{
+    command.arg(Arg::new(alloc, id).long(id).action(ArgAction::SetTrue))
+}
+
+/// A command that does turns, on the flash or on the one behind its partition table.
+fn turns_command<'a>(alloc: Global, name: &'a str) -> Result<Command<'a>, AllocError>
+    ensures { IfOk result (λ c. IsApp c (turns_app name.entry.now)) }
+{
+    with_flag(alloc, Command::new(alloc, name), "gpt")
+}
 
 fn format_command<'a>(alloc: Global) -> Result<Command<'a>, AllocError>
     ensures { IfOk result (λ c. IsApp c format_app) }
@@ -22,8 +40,8 @@ pub fn fwu_command<'a>(alloc: Global) -> Result<Command<'a>, AllocError>
     ensures { IfOk result (λ c. IsApp c fwu_app) }
 {
     let command = top(alloc, "fwu");
-    let command = with_leaf_command(command, Command::new(alloc, "run"))?;
-    let command = with_leaf_command(command, Command::new(alloc, "boot"))?;
+    let command = with_leaf_command(command, turns_command(alloc, "run")?)?;
+    let command = with_leaf_command(command, turns_command(alloc, "boot")?)?;
     let command = with_leaf_command(command, Command::new(alloc, "show"))?;
     with_leaf_command(command, format_command(alloc)?)
 }

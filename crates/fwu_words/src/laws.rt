@@ -5,7 +5,7 @@ ghost use Rattle.clap.specs.Words.{Text};
 ghost use Rattle.fwu_model.specs.Allow.{Admits, after_list, asks_list, list_name};
 ghost use Rattle.fwu_words.specs.Allow.{NamesList, NamesNone};
 ghost use Rattle.fwu_words.specs.Commands.{fwu_app};
-ghost use Rattle.fwu_words.specs.Order.{asked, boot, format_by, run, show};
+ghost use Rattle.fwu_words.specs.Order.{asked, boot, boot_partitioned, format_by, run, run_partitioned, show};
 ghost use Rattle.clap_words.specs.Plain.{IsPlain};
 ghost use Rattle.fwu_words.specs.Values.{banks_of, file_named, rows_of};
 ghost use Rattle.clap_words.specs.Words.{reads};
@@ -19,6 +19,8 @@ pub fn refusals_are_of_clap()
 pub fn plain_words_are_taken()
     ensures run { asked (codes "run" ∷ []) ≡ Some run }
     ensures boot { asked (codes "boot" ∷ []) ≡ Some boot }
+    ensures run_partitioned { asked (codes "run" ∷ codes "--gpt" ∷ []) ≡ Some run_partitioned }
+    ensures boot_partitioned { asked (codes "boot" ∷ codes "--gpt" ∷ []) ≡ Some boot_partitioned }
     ensures show { asked (codes "show" ∷ []) ≡ Some show }
     ensures format { (layout file : Text) → IsPlain layout → IsPlain file
         → asked (codes "format" ∷ layout ∷ file ∷ []) ≡ format_by (Some 2) (rows_of layout) (file_named file) }

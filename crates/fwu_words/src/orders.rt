@@ -1,8 +1,8 @@
 //! What the words ask for.
-ghost use Rattle.std.specs.Prelude.{map, option_and_then, string_bytes};
+ghost use Rattle.std.specs.Prelude.{◌≡◌, if◌then◌else◌, map, option_and_then, string_bytes};
 ghost use Rattle.clap.specs.Words.{found_of, rows_of, subcommand_rows_of};
 ghost use Rattle.clap_words.specs.Answers.{Answers};
-ghost use Rattle.fwu_words.specs.Order.{asked, banks_in, format_of, layout_in, order_of, view};
+ghost use Rattle.fwu_words.specs.Order.{asked, banks_in, boot, boot_partitioned, format_of, is_partitioned, layout_in, order_of, run, run_partitioned, view};
 
 use crate::commands::fwu_command;
 use crate::values::{banks_value, layout_rows};
@@ -17,8 +17,12 @@ use words_core::is_word;
 pub enum Order<'a> {
     /// Carries out the calls of a script.
     Run,
+    /// The same on the flash that the device has behind a GUID partition table.
+    RunPartitioned,
     /// Boots once.
     Boot,
+    /// The same on the flash that the device has behind a GUID partition table.
+    BootPartitioned,
     /// Tells what the flash holds.
     Show,
     /// Makes a flash of `banks` banks, 2 to 4, each with these images in this order, and stores a package.
@@ -60,6 +64,36 @@ fn format_order<'a>(alloc: Global, found: &ArgMatches<'a>) -> Result<Order<'a>, 
     })
 }
 
+/// Whether `--gpt` is given.
+fn is_over_table<'a>(found: &ArgMatches<'a>) -> bool
+    ensures { result ≡ is_partitioned (rows_of (found_of found.now)) }
+{
+    match given(found, "gpt") {
+        Some(text) => is_word(text.as_bytes(), b"true"),
+        None => false,
+    }
+}
+
+fn run_order<'a>(found: &ArgMatches<'a>) -> Order<'a>
+    ensures { view result ≡ (if is_partitioned (rows_of (found_of found.now)) then run_partitioned else run) }
+{
+    if is_over_table(found) {
+        Order::RunPartitioned
+    } else {
+        Order::Run
+    }
+}
+
+fn boot_order<'a>(found: &ArgMatches<'a>) -> Order<'a>
+    ensures { view result ≡ (if is_partitioned (rows_of (found_of found.now)) then boot_partitioned else boot) }
+{
+    if is_over_table(found) {
+        Order::BootPartitioned
+    } else {
+        Order::Boot
+    }
+}
+
 fn named_order<'a>(
     alloc: Global,
     name: &str,
@@ -69,9 +103,9 @@ fn named_order<'a>(
 {
     let name = name.as_bytes();
     if is_word(name, b"run") {
-        Ok(Order::Run)
+        Ok(run_order(found))
     } else if is_word(name, b"boot") {
-        Ok(Order::Boot)
+        Ok(boot_order(found))
     } else if is_word(name, b"show") {
         Ok(Order::Show)
     } else if is_word(name, b"format") {

@@ -22,3 +22,6 @@ pub mod TopShows
 pub mod FormatLine
 pub mod FormatFlash
 pub mod TopFormats
+mod TableOpens
+pub mod TableWays
+pub mod PromiseTable

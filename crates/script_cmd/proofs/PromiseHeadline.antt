@@ -1,5 +1,5 @@
 -- The headline, whichever way a run ended.
-use Rattle.std.proofs.Common.{◌≡◌, ◌≢◌, ℕ, Bool, List, [], ◌∷◌, length, Option, Some, None, refl, sym, subst, ◌∙◌, arith, inl, IsTrue, IsFalse}
+use Rattle.std.proofs.Common.{◌≡◌, ◌≢◌, ℕ, Bool, List, [], ◌∷◌, length, Option, Some, None, refl, sym, subst, ◌∙◌, arith, IsTrue, IsFalse}
 use Rattle.std.specs.Prelude.{◌/◌}
 use Rattle.std.proofs.lemmas.Option.{same_Some}
 use Rattle.base_core.specs.Block.{block}

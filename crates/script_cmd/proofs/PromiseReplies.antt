@@ -1,5 +1,5 @@
 -- Which replies the turns of a run have, what the first one says, and how the device is left, whichever way the run ended.
-use Rattle.std.proofs.Common.{◌≡◌, Bool, List, [], Some, None, slice_get, refl, sym, ap, subst, ◌∙◌}
+use Rattle.std.proofs.Common.{◌≡◌, Bool, List, [], Some, slice_get, refl, sym, ap, subst, ◌∙◌}
 use Rattle.fwu_model.specs.Reply.{Turn}
 use Rattle.script_cmd.specs.Powered.{Moment, SameDevice}
 use Rattle.script_cmd.specs.Ways.{starved, refused, ran}

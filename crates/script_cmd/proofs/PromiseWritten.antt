@@ -10,7 +10,6 @@ use Rattle.fwu_model.specs.Reply.{Turn}
 use Rattle.fwu_model.specs.Text.{text}
 use Rattle.fwu_model.specs.Allow.{list_bytes}
 use Rattle.fwu_model.specs.Causes.{Faults}
-use Rattle.fwu_model.specs.Headline.{IsPrefixOf}
 use Rattle.fwu_model.specs.Wrote.{Wrote, StopsAlone, may_lack, not_read_line, usage_line, too_long_line, bad_script_line, bad_list_line, IsBadScript, IsBadList}
 use Rattle.fwu_words.specs.Order.{Asked}
 use Rattle.script_cmd.specs.Printed.{Prints, all, front, nothing}

@@ -19,7 +19,7 @@ use Rattle.fwu_words.specs.Order.{Asked}
 use Rattle.fwu_words.specs.Order as ask
 use Rattle.script_cmd.specs.Formatting.{Formats, FormattedBy, Tries, format_status, format_text, list_refused, starved, tried}
 use Rattle.script_cmd.specs.Powered.{Moment}
-use Rattle.script_cmd.specs.Noted.{is_input, noted}
+use Rattle.script_cmd.specs.Noted.{is_beyond, noted}
 use Rattle.script_cmd.specs.Showing.{RefusesBadList}
 use Rattle.script_cmd.specs.Printed.{Prints}
 use Rattle.script_cmd.specs.Ways.{Given, HasGoodList, Refuses, bad_list, bad_script, list_not_read, not_read, too_long, usage}
@@ -110,7 +110,7 @@ module _ (passes : List ℕ → Bool) (tells : Bool) (g : Given) (file : List �
   }
 
   -- a list was refused, and nothing else was done
-  pub refused-formats : (planned : ℕ) (line : List ℕ) (n : model.Note) → new ≡ old → old.armed ≡ None → journal ≡ [] → IsFalse (is_input said) → noted said ≡ n
+  pub refused-formats : (planned : ℕ) (line : List ℕ) (n : model.Note) → new ≡ old → old.armed ≡ None → journal ≡ [] → IsFalse (is_beyond said) → noted said ≡ n
       → Refuses (Some (ask.format L.banks L.rows file)) g was are planned n line → Prints line planned status taken takes was.sink are.sink
       → FormattedBy passes tells g file L blocks old new status said journal taken takes was are
   refused-formats planned line n same unarmed none quiet is why prints =

@@ -1,11 +1,11 @@
 -- The command `show`, by the words and behind a list.
-use Rattle.std.proofs.Common.{◌≡◌, ◌≤◌, ◌||◌, ◌==◌, ℕ, Bool, List, [], Option, Some, None, Err, refl, sym, ap, subst, ◌∙◌, inl, inr, IsTrue, IfSome, le_refl}
-use Rattle.flash_core.specs.Told.{Told, NothingDirty}
+use Rattle.std.proofs.Common.{◌≡◌, ◌≤◌, ◌||◌, ◌==◌, ℕ, Bool, List, [], Option, Some, None, Err, refl, sym, ap, subst, ◌∙◌, inl, IsTrue, le_refl}
+use Rattle.flash_core.specs.Told.{NothingDirty}
 use Rattle.flash_core.specs.declared.flash.Counts.{Counts}
 use Rattle.fwu_formats.specs.Digests.{digests_of}
 use Rattle.fwu_model.specs.Allow.{list_bytes}
 use Rattle.fwu_model.specs.Reply.{Turn}
-use Rattle.fwu_model.specs.Causes.{Faults, LacksList, RefusesList, may_fail_before}
+use Rattle.fwu_model.specs.Causes.{Faults, may_fail_before}
 use Rattle.fwu_model.specs.declared.kinds.Note.{Note}
 use Rattle.fwu_model.specs.declared.kinds.Note.TheVariants as note
 use Rattle.host_io.specs.Contents.{Directory}

@@ -1,5 +1,5 @@
 -- The ways that a run may end, from what its parts did.
-use Rattle.std.proofs.Common.{◌≡◌, ◌≤◌, ℕ, Bool, true, false, List, [], ◌∷◌, Option, Some, None, Result, Ok, Err, refl, sym, ap, subst, ◌∙◌, inl, inr, arith}
+use Rattle.std.proofs.Common.{◌≡◌, ◌≤◌, ℕ, Bool, true, false, List, [], ◌∷◌, Option, Some, None, Ok, Err, refl, sym, ap, subst, ◌∙◌, inl, inr, arith}
 use Rattle.std.specs.Prelude.{IfSome, IsTrue, codes}
 use Rattle.flash_core.specs.declared.flash.Arming.{Arming}
 use Rattle.flash_core.specs.declared.flash.Counts.{Counts}
@@ -39,7 +39,7 @@ pub same-moment : {D : Type 0} (told : D → Told) (counts : D → Counts) (armi
 same-moment told counts arming on old new e = ap (λ d. at None (told d) (counts d) (arming d) (on d)) e
 
 -- a fact of the text, where the script is told
-of-script : (script : Option (List ℕ)) (text : List ℕ) (P : List ℕ → Type 0) → IsScriptOf script text → P text → IfSome script P
+pub of-script : (script : Option (List ℕ)) (text : List ℕ) (P : List ℕ → Type 0) → IsScriptOf script text → P text → IfSome script P
 of-script None text P is p = tt
 of-script (Some bytes) text P is p = subst P (sym is) p
 

@@ -29,7 +29,7 @@ use Rattle.flash_format.specs.declared.stops.InputFault.{InputFault}
 use Rattle.flash_format.specs.declared.stops.InputFault.TheVariants as fault
 use Rattle.fwu_words.specs.Order as ask
 use Rattle.script_cmd.specs.Powered.{Moment}
-use Rattle.script_cmd.specs.Noted.{is_input, noted}
+use Rattle.script_cmd.specs.Noted.{is_beyond, noted}
 use Rattle.script_cmd.specs.Printed.{Prints}
 use Rattle.script_cmd.specs.Showing.{HasCause, IsGranted, RefusedList, RefusesBadList, flash_fault_line}
 use Rattle.script_cmd.specs.Turning.{NoneFalls}
@@ -145,7 +145,7 @@ pub data Formats (passes : List ℕ → Bool) (tells : Bool) (g : Given) (name :
       → Prints (format_text r) (format_status r) status taken_before taken_after faults_before.sink faults_after.sink
       → told ≡ format_note r
       → Formats passes tells g name L blocks old new status told taken_before taken_after faults_before faults_after
-  list_refused : new ≡ old → IsFalse (is_input told)
+  list_refused : new ≡ old → IsFalse (is_beyond told)
       → RefusedList (ask.format L.banks L.rows name) g status (noted told) taken_before taken_after faults_before faults_after
       → Formats passes tells g name L blocks old new status told taken_before taken_after faults_before faults_after
 

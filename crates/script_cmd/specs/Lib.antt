@@ -12,3 +12,6 @@ pub mod Showing
 pub mod Formatting
 pub mod Promises
 pub mod Outcomes
+pub mod ByTable
+pub mod WaysByTable
+pub mod PromisesByTable

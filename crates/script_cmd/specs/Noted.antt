@@ -12,11 +12,13 @@ noted (note.BadList n) = model_note.BadList n
 noted (note.Boot why) = model_note.Boot why
 -- what the definitions note is of runs alone
 noted (note.Input fault) = model_note.Nothing
+noted (note.NoTable why) = model_note.Nothing
 
--- only `format` notes what was given
-abbrev pub is_input : Note → Bool
-is_input note.Nothing = false
-is_input (note.BadLine n) = false
-is_input (note.BadList n) = false
-is_input (note.Boot why) = false
-is_input (note.Input fault) = true
+-- what the definitions don't note: only `format` notes what was given, and only `--gpt` what a partition table lacks
+abbrev pub is_beyond : Note → Bool
+is_beyond note.Nothing = false
+is_beyond (note.BadLine n) = false
+is_beyond (note.BadList n) = false
+is_beyond (note.Boot why) = false
+is_beyond (note.Input fault) = true
+is_beyond (note.NoTable why) = true

@@ -101,7 +101,9 @@ IsScriptOf script text = IfSome script (λ bytes. bytes ≡ text)
 abbrev pub RunsOrNone : Option Asked → Type 0
 RunsOrNone None = ⊤
 RunsOrNone (Some ask.run) = ⊤
+RunsOrNone (Some ask.run_partitioned) = ⊥
 RunsOrNone (Some ask.boot) = ⊤
+RunsOrNone (Some ask.boot_partitioned) = ⊥
 RunsOrNone (Some ask.show) = ⊥
 RunsOrNone (Some (ask.format banks rows file)) = ⊥
 

@@ -8,15 +8,17 @@ ghost use Rattle.fwu_model.specs.Wrote.{script_asked};
 ghost use Rattle.fwu_journal.specs.Shown.{turns};
 ghost use Rattle.fwu_words.specs.Order.{Asked, asked};
 ghost use Rattle.fwu_words.specs.Order as ask;
-ghost use Rattle.script_cmd.specs.Asking.{asked_with_list, asks_format, asks_run, plainly};
+ghost use Rattle.script_cmd.specs.Asking.{asked_with_list, asks_beyond, asks_format, asks_run, plainly};
 ghost use Rattle.script_cmd.specs.Formatting.{FormattedBy};
 ghost use Rattle.script_cmd.specs.Powered.{moment};
-ghost use Rattle.script_cmd.specs.Noted.{is_input, noted};
+ghost use Rattle.script_cmd.specs.Noted.{is_beyond, noted};
 ghost use Rattle.script_cmd.specs.Showing.{ShowedBy};
+ghost use Rattle.script_cmd.specs.WaysByTable.{WayByTable, over_table};
 ghost use Rattle.script_cmd.specs.Ways.{AsksTurns, ByList, Given, HasGoodList, HasPasses, IsIdle, IsScriptOf, Later, ReadsList, RunsOrNone, Way, faults_of};
 
 use crate::done::{Done, Note};
 use crate::formatting::format_flash;
+use crate::partitioned::run_by_table;
 use crate::powered::Powered;
 use crate::reading::{FileStop, SourceStop, read_file, read_source};
 use crate::refusing::{
@@ -51,7 +53,7 @@ fn run_text<D: Flash, O: Sink, V: Verifier>(
         (moment D.told D.counts D.arming D.on result.flash) (O.taken sink.old)
         (O.taken sink.new) (record was { sink = O.faults sink.old })
         (record are { sink = O.faults sink.new }) }
-    ensures note { IsFalse (is_input result.note) }
+    ensures note { IsFalse (is_beyond result.note) }
     ensures later { O.faults sink.old ≤ O.faults sink.new }
     ensures size { D.blocks result.flash ≡ D.blocks flash }
 {
@@ -84,7 +86,7 @@ fn run_source<D: Flash, I: Source, O: Sink, V: Verifier>(
         (O.taken sink.new)
         (record was { source = I.faults source.old; sink = O.faults sink.old })
         (record are { source = I.faults source.new; sink = O.faults sink.new }) }
-    ensures note { IsFalse (is_input result.note) }
+    ensures note { IsFalse (is_beyond result.note) }
     ensures later_source { I.faults source.old ≤ I.faults source.new }
     ensures later_sink { O.faults sink.old ≤ O.faults sink.new }
     ensures read_to_end { result.status ≡ 0 → IfSome (I.left source.new) (λ rest. rest ≡ []) }
@@ -92,6 +94,71 @@ fn run_source<D: Flash, I: Source, O: Sink, V: Verifier>(
 {
     match read_source(alloc, source) {
         Ok(text) => run_text(alloc, text.as_slice(), sink, flash, verifier),
+        Err(SourceStop::Failed) => refuse_reading(alloc, sink, flash),
+        Err(SourceStop::TooLong) => refuse_length(alloc, sink, flash),
+        Err(SourceStop::NoMemory) => idle(alloc, 9, Note::Nothing, flash),
+    }
+}
+
+/// Runs a script's text on the flash that the device has behind a partition table.
+fn run_text_by_table<D: Flash, O: Sink, V: Verifier>(
+    alloc: Global,
+    text: &[u8],
+    sink: &mut O,
+    flash: D,
+    verifier: &V,
+) -> Done<D>
+    requires off { IsFalse (D.on flash) }
+    requires unarmed { D.arming flash ≡ None }
+    requires within { is_too_long text.now ≡ false }
+    requires few { length text.now ≤ 4194304 }
+    ensures way { (asked : Option Asked) (g : Given) (was are : Faults) → HasGoodList g.list g.files
+        → AsksTurns asked → IsScriptOf g.script text.now
+        → WayByTable (V.passes verifier.now) D.tells (D.blocks flash) asked g
+        (turns result.journal) result.status result.note
+        (moment D.told D.counts D.arming D.on flash)
+        (moment D.told D.counts D.arming D.on result.flash) (O.taken sink.old)
+        (O.taken sink.new) (record was { sink = O.faults sink.old })
+        (record are { sink = O.faults sink.new }) }
+    ensures later { O.faults sink.old ≤ O.faults sink.new }
+    ensures size { D.blocks result.flash ≡ D.blocks flash }
+{
+    let script = match read_script(alloc, text) {
+        Ok(script) => script,
+        Err(ScriptFault::BadLine(line)) => return refuse_script(alloc, sink, line, flash),
+        Err(ScriptFault::NoMemory) => return idle(alloc, 9, Note::Nothing, flash),
+    };
+    match Room::make(alloc, script.len()) {
+        Ok(room) => run_by_table(alloc, room, &script, sink, flash, verifier),
+        Err(_) => idle(alloc, 9, Note::Nothing, flash),
+    }
+}
+
+/// Reads a script from the source, and runs it on the flash that the device has behind a partition table.
+fn run_source_by_table<D: Flash, I: Source, O: Sink, V: Verifier>(
+    alloc: Global,
+    source: &mut I,
+    sink: &mut O,
+    flash: D,
+    verifier: &V,
+) -> Done<D>
+    requires off { IsFalse (D.on flash) }
+    requires unarmed { D.arming flash ≡ None }
+    ensures way { (g : Given) (was are : Faults) → HasGoodList g.list g.files
+        → WayByTable (V.passes verifier.now) D.tells (D.blocks flash) (Some ask.run)
+        (record g { script = I.left source.old }) (turns result.journal) result.status
+        result.note (moment D.told D.counts D.arming D.on flash)
+        (moment D.told D.counts D.arming D.on result.flash) (O.taken sink.old)
+        (O.taken sink.new)
+        (record was { source = I.faults source.old; sink = O.faults sink.old })
+        (record are { source = I.faults source.new; sink = O.faults sink.new }) }
+    ensures later_source { I.faults source.old ≤ I.faults source.new }
+    ensures later_sink { O.faults sink.old ≤ O.faults sink.new }
+    ensures read_to_end { result.status ≡ 0 → IfSome (I.left source.new) (λ rest. rest ≡ []) }
+    ensures size { D.blocks result.flash ≡ D.blocks flash }
+{
+    match read_source(alloc, source) {
+        Ok(text) => run_text_by_table(alloc, text.as_slice(), sink, flash, verifier),
         Err(SourceStop::Failed) => refuse_reading(alloc, sink, flash),
         Err(SourceStop::TooLong) => refuse_length(alloc, sink, flash),
         Err(SourceStop::NoMemory) => idle(alloc, 9, Note::Nothing, flash),
@@ -122,6 +189,18 @@ pub fn answer_with<D: Flash, H: Files, I: Source, O: Sink, V: Verifier>(
         (moment D.told D.counts D.arming D.on result.flash) (O.taken sink.old)
         (O.taken sink.new) (faults_of H.faults I.faults O.faults files.old source.old sink.old)
         (faults_of H.faults I.faults O.faults files.new source.new sink.new) }
+    ensures by_table { (plain : Asked) → over_table (asked (map string_bytes words.now)) ≡ Some plain
+        → WayByTable (V.passes verifier.now) D.tells (D.blocks flash) (Some plain)
+        (record {
+          list = None;
+          files = H.contents files.old;
+          script = script_asked (plainly (Some plain)) (I.left source.old);
+        })
+        (turns result.journal) result.status result.note
+        (moment D.told D.counts D.arming D.on flash)
+        (moment D.told D.counts D.arming D.on result.flash) (O.taken sink.old)
+        (O.taken sink.new) (faults_of H.faults I.faults O.faults files.old source.old sink.old)
+        (faults_of H.faults I.faults O.faults files.new source.new sink.new) }
     // No fault count falls.
     ensures later { Later (faults_of H.faults I.faults O.faults files.old source.old sink.old)
         (faults_of H.faults I.faults O.faults files.new source.new sink.new) }
@@ -145,20 +224,25 @@ pub fn answer_with<D: Flash, H: Files, I: Source, O: Sink, V: Verifier>(
         (faults_of H.faults I.faults O.faults files.new source.new sink.new) }
     ensures read_to_end { result.status ≡ 0 → asked (map string_bytes words.now) ≡ Some ask.run
         → IfSome (I.left source.new) (λ rest. rest ≡ []) }
+    ensures read_to_end_by_table { result.status ≡ 0
+        → asked (map string_bytes words.now) ≡ Some ask.run_partitioned
+        → IfSome (I.left source.new) (λ rest. rest ≡ []) }
     // Only `run` reads the source.
     ensures source { IsFalse (asks_run (asked (map string_bytes words.now)))
         → source.new ≡ source.old }
     // Only `format` and a list name files.
     ensures files { IsFalse (asks_format (asked (map string_bytes words.now)))
         → files.new ≡ files.old }
-    ensures note { IsFalse (asks_format (asked (map string_bytes words.now)))
-        → IsFalse (is_input result.note) }
+    ensures note { IsFalse (asks_beyond (asked (map string_bytes words.now)))
+        → IsFalse (is_beyond result.note) }
     ensures same_files { H.contents files.new ≡ H.contents files.old }
     ensures size { D.blocks result.flash ≡ D.blocks flash }
 {
     match fwu_order(alloc, words) {
         Ok(Order::Run) => run_source(alloc, source, sink, flash, verifier),
+        Ok(Order::RunPartitioned) => run_source_by_table(alloc, source, sink, flash, verifier),
         Ok(Order::Boot) => run_text(alloc, b"boot\n", sink, flash, verifier),
+        Ok(Order::BootPartitioned) => run_text_by_table(alloc, b"boot\n", sink, flash, verifier),
         Ok(Order::Show) => show(alloc, sink, flash),
         Ok(
             Order::Format {
@@ -210,6 +294,23 @@ fn run_listed<D: Flash, H: Files, I: Source, O: Sink>(
         (O.taken sink.new)
         (faults_of H.faults I.faults O.faults files.old source.old sink.old)
         (faults_of H.faults I.faults O.faults files.new source.new sink.new)) }
+    ensures by_table { (plain : Asked) → over_table (asked (map string_bytes rest.now)) ≡ Some plain
+        → ByList (ReadsList (Some name.now) (H.contents files.old))
+        (IsIdle (turns result.journal) result.status
+        (moment D.told D.counts D.arming D.on flash)
+        (moment D.told D.counts D.arming D.on result.flash))
+        (λ passes. WayByTable passes D.tells (D.blocks flash) (Some plain)
+        (record {
+          list = Some name.now;
+          files = H.contents files.old;
+          script = script_asked (plainly (Some plain)) (I.left source.old);
+        })
+        (turns result.journal) result.status result.note
+        (moment D.told D.counts D.arming D.on flash)
+        (moment D.told D.counts D.arming D.on result.flash) (O.taken sink.old)
+        (O.taken sink.new)
+        (faults_of H.faults I.faults O.faults files.old source.old sink.old)
+        (faults_of H.faults I.faults O.faults files.new source.new sink.new)) }
     ensures later { Later (faults_of H.faults I.faults O.faults files.old source.old sink.old)
         (faults_of H.faults I.faults O.faults files.new source.new sink.new) }
     ensures shows { asked (map string_bytes rest.now) ≡ Some ask.show
@@ -240,11 +341,14 @@ fn run_listed<D: Flash, H: Files, I: Source, O: Sink>(
         (faults_of H.faults I.faults O.faults files.new source.new sink.new)) }
     ensures read_to_end { result.status ≡ 0 → asked (map string_bytes rest.now) ≡ Some ask.run
         → IfSome (I.left source.new) (λ left. left ≡ []) }
+    ensures read_to_end_by_table { result.status ≡ 0
+        → asked (map string_bytes rest.now) ≡ Some ask.run_partitioned
+        → IfSome (I.left source.new) (λ left. left ≡ []) }
     // Only `run` reads the source.
     ensures source { IsFalse (asks_run (asked (map string_bytes rest.now)))
         → source.new ≡ source.old }
-    ensures note { IsFalse (asks_format (asked (map string_bytes rest.now)))
-        → IsFalse (is_input result.note) }
+    ensures note { IsFalse (asks_beyond (asked (map string_bytes rest.now)))
+        → IsFalse (is_beyond result.note) }
     ensures same_files { H.contents files.new ≡ H.contents files.old }
     ensures size { D.blocks result.flash ≡ D.blocks flash }
 {
@@ -290,6 +394,26 @@ pub fn answer<D: Flash, H: Files, I: Source, O: Sink>(
         (O.taken sink.new)
         (faults_of H.faults I.faults O.faults files.old source.old sink.old)
         (faults_of H.faults I.faults O.faults files.new source.new sink.new)) }
+    ensures by_table { (plain : Asked)
+        → over_table (asked_with_list (map string_bytes words.now)) ≡ Some plain
+        → ByList
+        (HasPasses (asks_list (map string_bytes words.now))
+        (list_name (map string_bytes words.now)) (H.contents files.old))
+        (IsIdle (turns result.journal) result.status
+        (moment D.told D.counts D.arming D.on flash)
+        (moment D.told D.counts D.arming D.on result.flash))
+        (λ passes. WayByTable passes D.tells (D.blocks flash) (Some plain)
+        (record {
+          list = list_name (map string_bytes words.now);
+          files = H.contents files.old;
+          script = script_asked (plainly (Some plain)) (I.left source.old);
+        })
+        (turns result.journal) result.status result.note
+        (moment D.told D.counts D.arming D.on flash)
+        (moment D.told D.counts D.arming D.on result.flash) (O.taken sink.old)
+        (O.taken sink.new)
+        (faults_of H.faults I.faults O.faults files.old source.old sink.old)
+        (faults_of H.faults I.faults O.faults files.new source.new sink.new)) }
     // No fault count falls.
     ensures later { Later (faults_of H.faults I.faults O.faults files.old source.old sink.old)
         (faults_of H.faults I.faults O.faults files.new source.new sink.new) }
@@ -328,6 +452,9 @@ pub fn answer<D: Flash, H: Files, I: Source, O: Sink>(
     ensures read_to_end { result.status ≡ 0
         → asked_with_list (map string_bytes words.now) ≡ Some ask.run
         → IfSome (I.left source.new) (λ rest. rest ≡ []) }
+    ensures read_to_end_by_table { result.status ≡ 0
+        → asked_with_list (map string_bytes words.now) ≡ Some ask.run_partitioned
+        → IfSome (I.left source.new) (λ rest. rest ≡ []) }
     // Only `run` reads the source.
     ensures source { IsFalse (asks_run (asked_with_list (map string_bytes words.now)))
         → source.new ≡ source.old }
@@ -335,8 +462,8 @@ pub fn answer<D: Flash, H: Files, I: Source, O: Sink>(
     ensures files { list_name (map string_bytes words.now) ≡ None
         → IsFalse (asks_format (asked_with_list (map string_bytes words.now)))
         → files.new ≡ files.old }
-    ensures note { IsFalse (asks_format (asked_with_list (map string_bytes words.now)))
-        → IsFalse (is_input result.note) }
+    ensures note { IsFalse (asks_beyond (asked_with_list (map string_bytes words.now)))
+        → IsFalse (is_beyond result.note) }
     ensures same_files { H.contents files.new ≡ H.contents files.old }
     ensures size { D.blocks result.flash ≡ D.blocks flash }
 {

@@ -4,6 +4,19 @@ use flash_format::InputFault;
 use fwu_journal::Journal;
 use fwu_model::NoBoot;
 
+/// Why a device has no flash behind a GUID partition table.
+#[derive(Clone, Copy, Debug, PartialEq, Eq)]
+pub enum NoTable {
+    /// Neither copy of the table is valid.
+    Table,
+    /// Not exactly one partition is a store.
+    Store,
+    /// So many partitions are for metadata, and not two.
+    Replicas(u32),
+    /// The store has fewer than 8 or more than 65,536 blocks, or one of the three isn't in the usable blocks, or two share a block.
+    TooSmall,
+}
+
 /// What a run met, where its status alone doesn't tell it.
 #[derive(Clone, Copy, Debug, PartialEq, Eq)]
 pub enum Note {
@@ -16,13 +29,16 @@ pub enum Note {
     Boot(NoBoot),
     /// Why a flash was not formatted, by what was given.
     Input(InputFault),
+    /// Why there was no flash to run on.
+    NoTable(NoTable),
 }
 
 /// What the program ended with.
 #[derive(Drop)]
 pub struct Done<D: Flash> {
     /// The exit status: 0 done, 1 usage, 2 a file or the source was not read, 3 the sink failed, 4 no script, 5 the flash failed,
-    /// 6 nothing to boot, 7 no layout or package that a flash can be formatted with, 8 a script that is too long, 9 no memory, 13 no list of digests.
+    /// 6 nothing to boot, 7 no layout or package that a flash can be formatted with, 8 a script that is too long, 9 no memory, 10 no partition table that gives
+    /// a flash, 13 no list of digests.
     pub status: u8,
     /// What the run met, where its status alone doesn't tell it.
     pub note: Note,

@@ -6,6 +6,8 @@ mod done;
 mod format_line;
 mod formatting;
 mod laws;
+mod opening;
+mod partitioned;
 mod powered;
 mod printing;
 mod reading;
@@ -16,7 +18,7 @@ mod showing;
 mod top;
 mod turning;
 
-pub use done::{Done, Note};
+pub use done::{Done, NoTable, Note};
 pub use laws::{
     bad_list_is_none, list_is_some, missing_list_is_none, no_metadata_is_none,
     nothing_follows_the_sink, nothing_is_armed, nothing_is_passed_over, nothing_is_touched,

@@ -2,9 +2,10 @@
 ghost use Rattle.std.specs.Prelude.{◌≡◌, []};
 ghost use Rattle.fwu_model.specs.Wrote.{bad_list_line, bad_script_line, not_read_line, too_long_line, usage_line};
 ghost use Rattle.fwu_journal.specs.Shown.{turns};
+ghost use Rattle.script_cmd.specs.ByTable.{flash_fault_line, no_table_line};
 ghost use Rattle.script_cmd.specs.Printed.{Prints};
 
-use crate::done::{Done, Note};
+use crate::done::{Done, NoTable, Note};
 use crate::printing::{put_line, put_usage};
 use flash_core::Flash;
 use fwu_journal::Journal;
@@ -92,6 +93,42 @@ pub fn refuse_script<D: Flash, O: Sink>(alloc: Global, sink: &mut O, line: u32, 
         Ok(text) => refuse(alloc, sink, text.as_bytes(), 4, note, flash),
         Err(_) => idle(alloc, 9, note, flash),
     }
+}
+
+/// Refuses a device whose partition table gives no flash. Where memory is wanting for the answer, nothing is written.
+pub fn refuse_table<D: Flash, O: Sink>(
+    alloc: Global,
+    sink: &mut O,
+    why: NoTable,
+    flash: D,
+) -> Done<D>
+    ensures prints { Prints (no_table_line why) 10 result.status (O.taken sink.old)
+        (O.taken sink.new) (O.faults sink.old) (O.faults sink.new) }
+    ensures note { result.note ≡ Note.NoTable why }
+    ensures flash { result.flash ≡ flash }
+    ensures no_turns { turns result.journal ≡ [] }
+{
+    let note = Note::NoTable(why);
+    match why {
+        NoTable::Table => refuse(alloc, sink, b"gpt no-table\n", 10, note, flash),
+        NoTable::Store => refuse(alloc, sink, b"gpt no-store\n", 10, note, flash),
+        NoTable::Replicas(count) => match format!(in alloc; "gpt replicas {count}\n") {
+            Ok(text) => refuse(alloc, sink, text.as_bytes(), 10, note, flash),
+            Err(_) => idle(alloc, 9, note, flash),
+        },
+        NoTable::TooSmall => refuse(alloc, sink, b"gpt too-small\n", 10, note, flash),
+    }
+}
+
+/// Ends a run before its first turn, since power was lost or the flash failed.
+pub fn refuse_stop<D: Flash, O: Sink>(alloc: Global, sink: &mut O, flash: D) -> Done<D>
+    ensures prints { Prints flash_fault_line 5 result.status (O.taken sink.old) (O.taken sink.new)
+        (O.faults sink.old) (O.faults sink.new) }
+    ensures note { result.note ≡ Note.Nothing }
+    ensures flash { result.flash ≡ flash }
+    ensures no_turns { turns result.journal ≡ [] }
+{
+    refuse(alloc, sink, b"flash-fault\n", 5, Note::Nothing, flash)
 }
 
 /// Refuses a list of digests whose first bad line this is. Where memory is wanting for the answer, nothing is written.

@@ -9,7 +9,7 @@ ghost use Rattle.fwu_journal.specs.Room.{HasRoom};
 ghost use Rattle.fwu_journal.specs.Shown.{HasRoomFor, reply, turn as shown_turn, turns};
 ghost use Rattle.fwu_journal.specs.declared.line.TheConstants.{LINE_ROOM};
 ghost use Rattle.script_cmd.specs.Powered.{at, device, has_power, moment, shown_on};
-ghost use Rattle.script_cmd.specs.Noted.{is_input, noted};
+ghost use Rattle.script_cmd.specs.Noted.{is_beyond, noted};
 ghost use Rattle.script_cmd.specs.Printed.{Prints};
 ghost use Rattle.script_cmd.specs.Running.{Ended, Printed, Ran, Steps};
 
@@ -60,7 +60,7 @@ fn status_of(last: &Reply) -> u8
 /// The note after a last turn with this reply.
 fn note_of(last: &Reply) -> Note
     ensures noted { noted result ≡ note_by (reply last.now) }
-    ensures note { IsFalse (is_input result) }
+    ensures note { IsFalse (is_beyond result) }
 {
     match last {
         Reply::NotBooted(why) => Note::Boot(*why),
@@ -80,7 +80,7 @@ fn print_turn<O: Sink>(text: &mut Vec<u8>, next: &Turn, sink: &mut O) -> End
         (status_by (shown_turn next.now).reply) result.status (O.taken sink.old) (O.taken sink.new)
         (O.faults sink.old) (O.faults sink.new) }
     ensures noted { noted result.note ≡ note_by (shown_turn next.now).reply }
-    ensures note { IsFalse (is_input result.note) }
+    ensures note { IsFalse (is_beyond result.note) }
     ensures line_fits { LINE_ROOM ≤ vec_capacity text.new }
 {
     text.clear();
@@ -111,7 +111,7 @@ fn step<D: Flash, O: Sink, V: Verifier>(
         (D.counts (device result.running.powered)) (D.arming (device result.running.powered))
         (D.on (device result.running.powered))) result.end.status (noted result.end.note)
         (O.taken sink.old) (O.taken sink.new) (O.faults sink.old) (O.faults sink.new) }
-    ensures note { IsFalse (is_input result.end.note) }
+    ensures note { IsFalse (is_beyond result.end.note) }
     // Where the run goes on.
     ensures powered { result.end.status ≡ 0
         → D.on (device result.running.powered) ≡ has_power result.running.powered }
@@ -183,7 +183,7 @@ pub fn run_script<D: Flash, O: Sink, V: Verifier>(
         (at on (D.told result.flash) (D.counts result.flash) (D.arming result.flash)
         (D.on result.flash)) }
     ensures ended { Ended script.now (turns result.journal) result.status (noted result.note) }
-    ensures note { IsFalse (is_input result.note) }
+    ensures note { IsFalse (is_beyond result.note) }
     ensures printed { Printed (turns result.journal) result.status (O.taken sink.old)
         (O.taken sink.new) (O.faults sink.old) (O.faults sink.new) }
     ensures size { D.blocks result.flash ≡ D.blocks (device start) }

@@ -8,7 +8,7 @@ ghost use Rattle.fwu_journal.specs.declared.line.TheConstants.{LINE_ROOM};
 ghost use Rattle.fwu_model.specs.Causes.{Faults};
 ghost use Rattle.script_cmd.specs.Powered.{moment};
 ghost use Rattle.script_cmd.specs.Ways.{Given, HasGoodList};
-ghost use Rattle.script_cmd.specs.Noted.{is_input, noted};
+ghost use Rattle.script_cmd.specs.Noted.{is_beyond, noted};
 ghost use Rattle.script_cmd.specs.Turning.{NoneFalls};
 ghost use Rattle.script_cmd.specs.Showing.{Finds, Showed, shown_line, not_shown_line};
 
@@ -56,7 +56,7 @@ fn find<D: Flash>(flash: &mut D, text: &mut Vec<u8>) -> Found
     requires empty { text.old.items ≡ [] }
     ensures finds { Finds (IsTrue D.tells × NothingDirty (D.told flash.old)) (D.told flash.old).now
         (D.counts flash.old) (D.counts flash.new) result.status (noted result.note) text.new.items }
-    ensures note { IsFalse (is_input result.note) }
+    ensures note { IsFalse (is_beyond result.note) }
     ensures content { IsTrue D.tells → NothingDirty (D.told flash.old)
         → D.told flash.new ≡ D.told flash.old }
     ensures guard { IsTrue D.tells → (D.told flash.new).guard ≡ (D.told flash.old).guard }
@@ -110,7 +110,7 @@ pub fn show<D: Flash, O: Sink>(alloc: Global, sink: &mut O, flash: D) -> Done<D>
         (moment D.told D.counts D.arming D.on result.flash) result.status (noted result.note)
         (O.taken sink.old) (O.taken sink.new) (record was { sink = O.faults sink.old })
         (record are { sink = O.faults sink.new }) }
-    ensures note { IsFalse (is_input result.note) }
+    ensures note { IsFalse (is_beyond result.note) }
     ensures content { IsTrue D.tells → NothingDirty (D.told flash)
         → D.told result.flash ≡ D.told flash }
     ensures guard { IsTrue D.tells → (D.told result.flash).guard ≡ (D.told flash).guard }

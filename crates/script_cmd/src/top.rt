@@ -3,14 +3,16 @@ ghost use Rattle.std.specs.Prelude.{◌≡◌, ℕ, Bool, List, [], Some, None, 
 ghost use Rattle.fwu_model.specs.Allow.{asks_list, list_name};
 ghost use Rattle.fwu_formats.specs.Layout.{ImageRow};
 ghost use Rattle.fwu_journal.specs.Shown.{turns};
-ghost use Rattle.fwu_words.specs.Order.{asked};
+ghost use Rattle.fwu_words.specs.Order.{Asked, asked};
 ghost use Rattle.fwu_words.specs.Order as ask;
-ghost use Rattle.script_cmd.specs.Asking.{asked_with_list, asks_format, asks_run};
+ghost use Rattle.script_cmd.specs.Asking.{asked_with_list, asks_beyond, asks_format, asks_run};
 ghost use Rattle.script_cmd.specs.Formatting.{FormattedBy};
 ghost use Rattle.script_cmd.specs.Powered.{moment};
-ghost use Rattle.script_cmd.specs.Noted.{is_input, noted};
+ghost use Rattle.script_cmd.specs.Noted.{is_beyond, noted};
 ghost use Rattle.script_cmd.specs.Promises.{Promised};
+ghost use Rattle.script_cmd.specs.PromisesByTable.{PromisedByTable};
 ghost use Rattle.script_cmd.specs.Showing.{ShowedBy};
+ghost use Rattle.script_cmd.specs.WaysByTable.{over_table};
 ghost use Rattle.script_cmd.specs.Ways.{ByList, HasPasses, IsIdle, Later, RunsOrNone, faults_of};
 
 use crate::answering::{answer, answer_with};
@@ -46,7 +48,18 @@ pub fn fwu_top_with<D: Flash, H: Files, I: Source, O: Sink, V: Verifier>(
         (moment D.told D.counts D.arming D.on result.flash) (O.taken sink.old)
         (O.taken sink.new) (faults_of H.faults I.faults O.faults files.old source.old sink.old)
         (faults_of H.faults I.faults O.faults files.new source.new sink.new) }
+    // For `run --gpt` and `boot --gpt`, which are `run` and `boot` on the flash behind the partition table.
+    ensures by_table { (plain : Asked) → over_table (asked (map string_bytes words.now)) ≡ Some plain
+        → PromisedByTable (V.passes verifier.now) D.tells (D.blocks flash) (Some plain) None
+        (H.contents files.old) (I.left source.old) (turns result.journal) result.status
+        result.note (moment D.told D.counts D.arming D.on flash)
+        (moment D.told D.counts D.arming D.on result.flash) (O.taken sink.old)
+        (O.taken sink.new) (faults_of H.faults I.faults O.faults files.old source.old sink.old)
+        (faults_of H.faults I.faults O.faults files.new source.new sink.new) }
     ensures read_to_end { result.status ≡ 0 → (asked (map string_bytes words.now)) ≡ Some ask.run
+        → IfSome (I.left source.new) (λ rest. rest ≡ []) }
+    ensures read_to_end_by_table { result.status ≡ 0
+        → asked (map string_bytes words.now) ≡ Some ask.run_partitioned
         → IfSome (I.left source.new) (λ rest. rest ≡ []) }
     // For the command `show`: what it found and wrote, and that nothing changed and nothing is armed.
     ensures shows { (asked (map string_bytes words.now)) ≡ Some ask.show
@@ -77,9 +90,9 @@ pub fn fwu_top_with<D: Flash, H: Files, I: Source, O: Sink, V: Verifier>(
     // Only `format` and a list name files.
     ensures files { IsFalse (asks_format (asked (map string_bytes words.now)))
         → files.new ≡ files.old }
-    // What was given is noted by `format` alone.
-    ensures note { IsFalse (asks_format (asked (map string_bytes words.now)))
-        → IsFalse (is_input result.note) }
+    // What was given is noted by `format` alone, and what a table lacks with `--gpt` alone.
+    ensures note { IsFalse (asks_beyond (asked (map string_bytes words.now)))
+        → IsFalse (is_beyond result.note) }
     ensures same_files { H.contents files.new ≡ H.contents files.old }
     ensures size { D.blocks result.flash ≡ D.blocks flash }
 {
@@ -115,8 +128,28 @@ pub fn fwu_top<D: Flash, H: Files, I: Source, O: Sink>(
         (O.taken sink.new)
         (faults_of H.faults I.faults O.faults files.old source.old sink.old)
         (faults_of H.faults I.faults O.faults files.new source.new sink.new)) }
+    // For `run --gpt` and `boot --gpt`, which are `run` and `boot` on the flash behind the partition table.
+    ensures by_table { (plain : Asked)
+        → over_table (asked_with_list (map string_bytes words.now)) ≡ Some plain
+        → ByList
+        (HasPasses (asks_list (map string_bytes words.now))
+        (list_name (map string_bytes words.now)) (H.contents files.old))
+        (IsIdle (turns result.journal) result.status
+        (moment D.told D.counts D.arming D.on flash)
+        (moment D.told D.counts D.arming D.on result.flash))
+        (λ passes. PromisedByTable passes D.tells (D.blocks flash) (Some plain)
+        (list_name (map string_bytes words.now)) (H.contents files.old) (I.left source.old)
+        (turns result.journal) result.status result.note
+        (moment D.told D.counts D.arming D.on flash)
+        (moment D.told D.counts D.arming D.on result.flash) (O.taken sink.old)
+        (O.taken sink.new)
+        (faults_of H.faults I.faults O.faults files.old source.old sink.old)
+        (faults_of H.faults I.faults O.faults files.new source.new sink.new)) }
     ensures read_to_end { result.status ≡ 0
         → (asked_with_list (map string_bytes words.now)) ≡ Some ask.run
+        → IfSome (I.left source.new) (λ rest. rest ≡ []) }
+    ensures read_to_end_by_table { result.status ≡ 0
+        → asked_with_list (map string_bytes words.now) ≡ Some ask.run_partitioned
         → IfSome (I.left source.new) (λ rest. rest ≡ []) }
     // For the command `show`: what it found and wrote, and that nothing changed and nothing is armed.
     ensures shows { (asked_with_list (map string_bytes words.now)) ≡ Some ask.show
@@ -162,9 +195,9 @@ pub fn fwu_top<D: Flash, H: Files, I: Source, O: Sink>(
     ensures files { list_name (map string_bytes words.now) ≡ None
         → IsFalse (asks_format (asked_with_list (map string_bytes words.now)))
         → files.new ≡ files.old }
-    // What was given is noted by `format` alone.
-    ensures note { IsFalse (asks_format (asked_with_list (map string_bytes words.now)))
-        → IsFalse (is_input result.note) }
+    // What was given is noted by `format` alone, and what a table lacks with `--gpt` alone.
+    ensures note { IsFalse (asks_beyond (asked_with_list (map string_bytes words.now)))
+        → IsFalse (is_beyond result.note) }
     ensures same_files { H.contents files.new ≡ H.contents files.old }
     ensures size { D.blocks result.flash ≡ D.blocks flash }
 {

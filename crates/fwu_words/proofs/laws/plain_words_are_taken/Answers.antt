@@ -28,3 +28,11 @@ returns-clause-help c = refl
 pub returns-clause-nothing : goal.returns-clause-nothing
 unfolding clap_on_literals
 returns-clause-nothing c = refl
+
+pub returns-clause-run_partitioned : goal.returns-clause-run_partitioned
+unfolding clap_on_literals
+returns-clause-run_partitioned c = refl
+
+pub returns-clause-boot_partitioned : goal.returns-clause-boot_partitioned
+unfolding clap_on_literals
+returns-clause-boot_partitioned c = refl

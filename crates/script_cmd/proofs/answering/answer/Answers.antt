@@ -1,4 +1,4 @@
-use Rattle.std.proofs.Common.{List, ℕ, ap, map, refl, subst, sym, ◌∙◌, inl, inr}
+use Rattle.std.proofs.Common.{List, Some, ℕ, ap, map, refl, subst, sym, ◌∙◌, inl, inr}
 use Rattle.std.specs.Prelude.{string_bytes}
 use Rattle.fwu_formats.specs.Digests.{passes_any}
 use Rattle.fwu_model.specs.Allow.{list_name}
@@ -6,6 +6,8 @@ use Rattle.fwu_model.specs.Wrote.{usage_line}
 use Rattle.fwu_model.specs.declared.kinds.Note.TheVariants as note
 use Rattle.script_cmd.specs.Noted.{noted}
 use Rattle.script_cmd.specs.Ways.{RunsOrNone, usage}
+use Rattle.script_cmd.specs.WaysByTable.{over_table}
+use Rattle.script_cmd.proofs.TableWays.{not-over, table-at}
 use Rattle.script_cmd.proofs.TopFormats.{formatted-at, none-some}
 use Rattle.script_cmd.proofs.TopWays.{by-words, has-any, idles-at, no-list, no-words, none-bad, refused-by, same-moment, some-list, way-at}
 use Rattle.script_cmd.proofs.answering.answer.Goals as goal
@@ -37,6 +39,24 @@ returns-in-File-clause-way g c = λ plain.
     let n = some-list _ _ c.in-File.name.now c.in-File.ensures in
     by-words _ _ c.in-File.name.now _ _ _ _ n.1 n.2
     (λ passes. way-at passes _ _ _ _ _ _ _ _ _ _ _ _ (g.H.Files.contents c.args.files.now) (g.I.Source.left c.args.source.now) _ _ n.0 n.2) (c.run_listed.ensures.way (subst RunsOrNone n.0 plain))
+
+pub returns-in-No-clause-by_table : goal.returns-in-No-clause-by_table
+returns-in-No-clause-by_table g c = λ plain over.
+    let n = no-list _ c.in-No.ensures in
+    inl (
+      passes_any,
+      has-any _ _ _ c.in-No.ensures,
+      table-at _ _ _ _ _ _ _ _ _ _ (Some plain) _ _ (g.H.Files.contents c.args.files.now) _ _ _ n.1 (c.answer_with.ensures.by_table plain (sym (ap over_table n.0) ∙ over)),
+    )
+
+pub returns-in-Usage-clause-by_table : goal.returns-in-Usage-clause-by_table
+returns-in-Usage-clause-by_table g c = λ plain over. absurd (not-over _ _ plain (no-words (map string_bytes c.args.words.now) c.in-Usage.ensures) refl over)
+
+pub returns-in-File-clause-by_table : goal.returns-in-File-clause-by_table
+returns-in-File-clause-by_table g c = λ plain over.
+    let n = some-list _ _ c.in-File.name.now c.in-File.ensures in
+    by-words _ _ c.in-File.name.now _ _ _ _ n.1 n.2
+    (λ passes. table-at passes _ _ _ _ _ _ _ _ _ (Some plain) _ _ (g.H.Files.contents c.args.files.now) _ _ _ n.2) (c.run_listed.ensures.by_table plain (sym (ap over_table n.0) ∙ over))
 
 pub returns-in-No-clause-formats : goal.returns-in-No-clause-formats
 returns-in-No-clause-formats g c banks rows file is =

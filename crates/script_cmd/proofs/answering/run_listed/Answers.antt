@@ -1,9 +1,11 @@
-use Rattle.std.proofs.Common.{◌≡◌, ◌∙◌, ℕ, List, Ok, Err, Some, None, inl, inr, ap, refl, sym}
+use Rattle.std.proofs.Common.{◌≡◌, ◌∙◌, ℕ, List, Ok, Err, Some, arith, inl, inr, ap, refl, sym}
 use Rattle.fwu_formats.specs.Digests.{digests_of, passes_listed}
 use Rattle.fwu_model.specs.Wrote.{bad_list_line, not_read_line}
 use Rattle.fwu_model.specs.declared.kinds.Note.TheVariants as note
-use Rattle.script_cmd.specs.Noted.{is_input, noted}
+use Rattle.script_cmd.specs.declared.done.Note.TheVariants as said
+use Rattle.script_cmd.specs.Noted.{is_beyond, noted}
 use Rattle.script_cmd.specs.Ways.{bad_list, list_not_read, starved}
+use Rattle.script_cmd.proofs.TableWays.{table-refused, table-starved, table-with-list}
 use Rattle.script_cmd.proofs.TopFormats.{formats-with-list, refused-formats, starved-formats}
 use Rattle.script_cmd.proofs.TopShows.{refused-shows, shows-with-list, starved-shows}
 use Rattle.script_cmd.proofs.TopWays.{good-list, idles, idles-at, list-there, of-list, reads-list, refused-by, same-moment, with-list}
@@ -64,6 +66,62 @@ returns-clause-way g c = λ plain.
     let same = same-moment g.D.Flash.told g.D.Flash.counts g.D.Flash.arming g.D.Flash.on _ _ e.flash in
     inr (idles _ _ _ _ e.no_turns same e.status, λ passes. starved e.no_turns same e.status (ap noted e.note) refl)
 
+-- ---- behind a partition table
+
+pub returns-in-Err-Failed-clause-by_table : goal.returns-in-Err-Failed-clause-by_table
+returns-in-Err-Failed-clause-by_table g c = λ plain over.
+    let e = c.refuse_reading.ensures in
+    let same = same-moment g.D.Flash.told g.D.Flash.counts g.D.Flash.arming g.D.Flash.on _ _ e.flash in
+    inr (
+      idles-at _ _ _ _ not_read_line 2 _ _ _ _ e.no_turns same refl e.prints,
+      λ passes.
+          table-refused passes _ _ _ _ _ _ _ _ _ (Some plain) _ _ _ 2 not_read_line said.Nothing e.no_turns same e.note (λ two. absurd (omega arith)) refl
+          (list_not_read refl (c.in-Err-Failed.ensures.failed (ap Err c.in-Err-Failed.field-0-is))) e.prints,
+    )
+
+pub returns-in-Err-NoMemory-clause-by_table : goal.returns-in-Err-NoMemory-clause-by_table
+returns-in-Err-NoMemory-clause-by_table g c = λ plain over.
+    let e = c.idle.ensures in
+    let same = same-moment g.D.Flash.told g.D.Flash.counts g.D.Flash.arming g.D.Flash.on _ _ e.flash in
+    inr (idles _ _ _ _ e.no_turns same e.status, λ passes. table-starved passes _ _ _ _ _ _ _ _ _ (Some plain) _ _ _ e.no_turns same e.status e.note refl)
+
+pub returns-in-Ok-read-clause-by_table : goal.returns-in-Ok-read-clause-by_table
+returns-in-Ok-read-clause-by_table g c = λ plain over.
+    let name = c.args.name.now in
+    let bytes = c.in-Ok.bytes.items in
+    let digests = c.in-Ok-read.list in
+    let files = g.H.Files.contents c.args.files.now in
+    let whole = c.in-Ok.ensures.whole in
+    let read : digests_of bytes ≡ Ok digests = ap digests_of (sym c.as_slice.ensures.value) ∙ c.in-Ok-read.ensures.ok in
+    inl (
+      passes_listed digests,
+      reads-list name bytes digests files whole read,
+      table-with-list _ _ _ _ _ _ _ _ _ _ _ _ files name _ _ _ _ (good-list files name bytes digests whole read) c.read_file.ensures.later refl refl (c.answer_with.ensures.by_table plain over),
+    )
+
+pub returns-in-Err-BadLine-clause-by_table : goal.returns-in-Err-BadLine-clause-by_table
+returns-in-Err-BadLine-clause-by_table g c = λ plain over.
+    let e = c.refuse_list.ensures in
+    let name = c.args.name.now in
+    let bytes = c.in-Ok.bytes.items in
+    let line = c.in-Err-BadLine.line in
+    let files = g.H.Files.contents c.args.files.now in
+    let whole = c.in-Ok.ensures.whole in
+    let fault = rw c.in-Err-BadLine.field-0-is at c.in-Err-BadLine.ensures.fault in
+    let same = same-moment g.D.Flash.told g.D.Flash.counts g.D.Flash.arming g.D.Flash.on _ _ e.flash in
+    inr (
+      idles-at _ _ _ _ (bad_list_line line) 13 _ _ _ _ e.no_turns same refl e.prints,
+      λ passes.
+          table-refused passes _ _ _ _ _ _ _ _ _ (Some plain) _ _ _ 13 (bad_list_line line) (said.BadList line) e.no_turns same e.note (λ thirteen. absurd (omega arith)) refl
+          (bad_list line refl (list-there files name bytes whole) (of-list files name bytes (λ (l : List ℕ). digests_of l ≡ Err line) whole (ap digests_of (sym c.as_slice.ensures.value) ∙ fault))) e.prints,
+    )
+
+pub returns-clause-by_table : goal.returns-clause-by_table
+returns-clause-by_table g c = λ plain over.
+    let e = c.idle-in-Err-NoMemory-read.ensures in
+    let same = same-moment g.D.Flash.told g.D.Flash.counts g.D.Flash.arming g.D.Flash.on _ _ e.flash in
+    inr (idles _ _ _ _ e.no_turns same e.status, λ passes. table-starved passes _ _ _ _ _ _ _ _ _ (Some plain) _ _ _ e.no_turns same e.status e.note refl)
+
 -- ---- for `show`
 
 pub returns-in-Err-Failed-clause-shows : goal.returns-in-Err-Failed-clause-shows
@@ -113,7 +171,7 @@ returns-in-Err-Failed-clause-formats g c banks rows file is =
     inr (
       idles-at _ _ _ _ not_read_line 2 _ _ _ _ e.no_turns same refl e.prints,
       λ passes.
-          refused-formats passes g.D.Flash.tells _ _ _ _ _ _ _ _ _ _ _ _ _ 2 not_read_line note.Nothing same c.requires.unarmed e.no_turns (ap is_input e.note) (ap noted e.note)
+          refused-formats passes g.D.Flash.tells _ _ _ _ _ _ _ _ _ _ _ _ _ 2 not_read_line note.Nothing same c.requires.unarmed e.no_turns (ap is_beyond e.note) (ap noted e.note)
           (list_not_read refl (c.in-Err-Failed.ensures.failed (ap Err c.in-Err-Failed.field-0-is))) e.prints,
     )
 
@@ -151,7 +209,7 @@ returns-in-Err-BadLine-clause-formats g c banks rows file is =
     inr (
       idles-at _ _ _ _ (bad_list_line line) 13 _ _ _ _ e.no_turns same refl e.prints,
       λ passes.
-          refused-formats passes g.D.Flash.tells _ _ _ _ _ _ _ _ _ _ _ _ _ 13 (bad_list_line line) (note.BadList line) same c.requires.unarmed e.no_turns (ap is_input e.note) (ap noted e.note)
+          refused-formats passes g.D.Flash.tells _ _ _ _ _ _ _ _ _ _ _ _ _ 13 (bad_list_line line) (note.BadList line) same c.requires.unarmed e.no_turns (ap is_beyond e.note) (ap noted e.note)
           (bad_list line refl (list-there files name bytes whole) (of-list files name bytes (λ (l : List ℕ). digests_of l ≡ Err line) whole (ap digests_of (sym c.as_slice.ensures.value) ∙ fault))) e.prints,
     )
 

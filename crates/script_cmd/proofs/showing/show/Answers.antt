@@ -1,4 +1,3 @@
-use Rattle.std.proofs.Common.{refl}
 use Rattle.script_cmd.specs.Showing as show
 use Rattle.script_cmd.proofs.showing.show.Goals as goal
 

@@ -1,0 +1,181 @@
+-- What a run behind a partition table promises, whichever way it ends.
+use Rattle.std.proofs.Common.{◌≡◌, ◌≢◌, ◌⊎◌, inl, inr, ℕ, ◌≤◌, Bool, List, [], Option, Some, None, Ok, sym, ap, subst, ◌∙◌, arith}
+use Rattle.std.specs.Prelude.{IsTrue, IsFalse}
+use Rattle.std.proofs.lemmas.Bool.{cases_Bool}
+use Rattle.flash_core.specs.Counts.{Rose}
+use Rattle.flash_core.specs.Told.{Told, NothingDirty}
+use Rattle.gpt_core.specs.declared.layout.Places.{Places}
+use Rattle.gpt_core.specs.declared.table.WhichTable.{WhichTable}
+use Rattle.gpt_core.specs.PlacesOf.{places_of}
+use Rattle.gpt_core.specs.Table.{Table, table_in_image}
+use Rattle.gpt_core.specs.View.{view_of}
+use Rattle.gpt_core.proofs.Leaving.{repair-leaves}
+use Rattle.fwu_model.specs.Call.{Call}
+use Rattle.fwu_model.specs.State.{State}
+use Rattle.fwu_model.specs.Sound.{Setting}
+use Rattle.fwu_model.specs.Reply.{Turn}
+use Rattle.fwu_model.specs.Causes.{Faults, IsServed}
+use Rattle.fwu_model.specs.Contract.{Premises}
+use Rattle.fwu_model.specs.Headline.{Headline, made_after}
+use Rattle.fwu_model.specs.Wrote.{may_lack}
+use Rattle.host_io.specs.Contents.{Directory}
+use Rattle.fwu_words.specs.Order.{Asked}
+use Rattle.script_cmd.specs.declared.done.Note.{Note}
+use Rattle.script_cmd.specs.Asking.{plainly}
+use Rattle.script_cmd.specs.ByTable.{Starts, lacked_by, lacked_in, lacked_of, seen_at}
+use Rattle.script_cmd.specs.Noted.{noted}
+use Rattle.script_cmd.specs.Powered.{Moment}
+use Rattle.script_cmd.specs.Promises.{given_to, outcome}
+use Rattle.script_cmd.specs.PromisesByTable.{CompleteByTable, HeadlineByTable, PromisedByTable, RunsByTable, TableGives}
+use Rattle.script_cmd.specs.Running.{last_turn, status_of_last}
+use Rattle.script_cmd.specs.Ways.{Way}
+use Rattle.script_cmd.specs.Ways as way
+use Rattle.script_cmd.specs.WaysByTable.{WayByTable, untouched, starved, lacked, stopped, ran}
+use Rattle.script_cmd.proofs.PromiseAll.{promised}
+use Rattle.script_cmd.proofs.PromiseComplete.{ways-are-complete}
+use Rattle.script_cmd.proofs.TableOpens.{woken-clean, woken-now, woken-same}
+use Rattle.script_cmd.proofs.RunTurns.{rose-before}
+use Rattle.script_cmd.proofs.TableWays.{not-nothing}
+
+same-pair : (t u : Table) (w x : WhichTable) → ◌≡◌ {A = Option (Table × WhichTable)} (Some (t, w)) (Some (u, x)) → t ≡ u
+same-pair t u w x is = ap (λ (o : Option (Table × WhichTable)). of o) is
+  where
+    of : Option (Table × WhichTable) → Table
+    of None = t
+    of (Some found) = found.0
+
+same-places : (p q : Places) → ◌≡◌ {A = Rattle.std.specs.Prelude.Result Places Rattle.gpt_core.specs.declared.layout.PlaceFault.PlaceFault} (Ok p) (Ok q) → p ≡ q
+same-places p q is = cc
+
+module _ (passes : List ℕ → Bool) (tells : Bool) (blocks : ℕ) (asked : Option Asked) (list : Option (List ℕ)) (files : Option Directory) (source : Option (List ℕ))
+    (journal : List Turn) (status : ℕ) (said : Note) (old new : Moment) (taken takes : Option (List ℕ)) (was are : Faults) where
+  abbrev Ends : Type 0
+  Ends = WayByTable passes tells blocks asked (given_to asked list files source) journal status said old new taken takes was are
+
+  abbrev Runs : Type 0
+  Runs = RunsByTable passes tells blocks asked list files source journal status said old new taken takes was are
+
+  not-begun : (journal ≢ []) ⊎ (status ≡ 0) → journal ≡ [] → status ≢ 0 → ⊥
+  not-begun (inl some) none other = some none
+  not-begun (inr zero_is) none other = other zero_is
+
+  start-seen : (p : Places) (start : Moment) → Starts tells blocks old p start → IsTrue tells → NothingDirty old.told → view_of p start.told ≡ view_of p old.told
+  start-seen p start starts told clean =
+      repair-leaves blocks starts.has.table starts.has.which p starts.woken start.told starts.has.gives (woken-clean old.told starts.woken (starts.wakes told)) (starts.clean told) (starts.beside told)
+      ∙ ap (view_of p) (woken-same old.told starts.woken clean (starts.wakes told))
+
+  pub runs-by-table : Ends → (journal ≢ []) ⊎ (status ≡ 0) → Runs
+  runs-by-table (untouched none same other beyond w) began = absurd (not-begun began none other)
+  runs-by-table (starved calls reads none looks nine is quiet) began = absurd (not-begun began none (λ zero_is. absurd (omega arith)))
+  runs-by-table (lacked calls why reads none looks lacks is prints) began = absurd (not-begun began none (not-nothing _ 10 status taken takes was.sink are.sink (λ ten. absurd (omega arith)) prints))
+  runs-by-table (stopped calls reads none stops is prints) began = absurd (not-begun began none (not-nothing _ 5 status taken takes was.sink are.sink (λ five. absurd (omega arith)) prints))
+  runs-by-table (ran calls p start on reads starts does beside ended beyond printed) began = record {
+    places = p;
+    start = start;
+    starts = starts;
+    beside = beside;
+    seen = start-seen p start starts;
+    promises = promised passes tells asked list files source journal status (noted said) (seen_at p start) (seen_at p new) taken takes was are
+        (way.ran calls on reads.good reads.asks reads.has does ended printed);
+  }
+
+  -- the places of the run are those of the table that was handed in
+  module _ (told : IsTrue tells) (clean : NothingDirty old.told) (p q : Places) (start : Moment) (starts : Starts tells blocks old q start) (gives : TableGives blocks old.told.now p) where
+    found-places : q ≡ p
+    found-places =
+        let there : table_in_image blocks old.told.now ≡ Some (starts.has.table, starts.has.which) = subst (λ (image : List ℕ). table_in_image blocks image ≡ Some (starts.has.table, starts.has.which)) (woken-now old.told starts.woken clean (starts.wakes told)) (starts.has.decides told) in
+        let table = same-pair starts.has.table gives.table starts.has.which gives.which (sym there ∙ gives.decides) in
+        same-places q p (sym starts.has.gives ∙ ap (places_of blocks) table ∙ gives.gives)
+
+    start-premises : (E : Setting) (s : State) → Premises E s (view_of p old.told) files passes old.counts new.counts → Premises E s (view_of q start.told) files passes start.counts new.counts
+    start-premises E s premises =
+        subst (λ (t : Told). Premises E s t files passes start.counts new.counts) (ap (λ (x : Places). view_of x old.told) (sym found-places) ∙ sym (start-seen q start starts told clean)) (record {
+          clean = premises.clean;
+          sound = premises.sound;
+          shows = premises.shows;
+          guarded = premises.guarded;
+          files_told = premises.files_told;
+          verifier_is = premises.verifier_is;
+          no_chance = λ rose. premises.no_chance (rose-before old.counts.chances start.counts.chances new.counts.chances starts.waits.falls.chances rose);
+        })
+
+  -- the same headline, counted from where the device was handed in
+  headline-from : (E : Setting) (s : State) (calls : List Call) (p : Places) (start : Moment) → start.counts.made ≡ old.counts.made → Headline E s (outcome calls journal status (seen_at p start) (seen_at p new))
+      → Headline E s (outcome calls journal status (seen_at p old) (seen_at p new))
+  headline-from E s calls p start made holds = record {
+    calls = holds.calls;
+    all_calls = holds.all_calls;
+    last = holds.last;
+    run = holds.run;
+    left = holds.left;
+    armed = λ none. let by = holds.armed none in record { made = subst (λ (n : ℕ). new.counts.made ≡ made_after n holds.last.cuts) made by.made; last = by.last };
+    selects = holds.selects;
+  }
+
+  headline-by-table : Ends → HeadlineByTable passes tells blocks asked files source journal status old new
+  headline-by-table w told p E s calls clean gives premises asks began =
+      let run = runs-by-table w began in
+      let found = found-places told clean p run.places run.start run.starts gives in
+      let holds = run.promises.headline told E s calls (start-premises told clean p run.places run.start run.starts gives E s premises) asks in
+      subst (λ (x : Places). Headline E s (outcome calls journal status (seen_at x old) (seen_at x new))) found
+      (headline-from E s calls run.places run.start run.starts.waits.made holds)
+
+  -- ---- all is done
+
+  served-from : (calls : List Call) (p q : Places) (start : Moment) (script : List ℕ) → old.counts.faults ≤ start.counts.faults
+      → IsServed (outcome calls journal status (seen_at p old) (seen_at p new)) (plainly asked) list files script was are
+      → IsServed (outcome calls journal status (seen_at q start) (seen_at q new)) (plainly asked) list files script was are
+  served-from calls p q start script later served = record {
+    words_are = served.words_are;
+    script_is = served.script_is;
+    short = served.short;
+    list_is = served.list_is;
+    list_there = served.list_there;
+    files_there = served.files_there;
+    no_fault = λ rose. served.no_fault (rose-before old.counts.faults start.counts.faults new.counts.faults later rose);
+    no_file_fault = served.no_file_fault;
+    no_source_fault = served.no_source_fault;
+    no_sink_fault = served.no_sink_fault;
+  }
+
+  -- a way on which nothing was touched, seen through places
+  untouched-seen : (p : Places) → status ≢ 0 → journal ≡ [] → Way passes tells asked (given_to asked list files source) journal status (noted said) old new taken takes was are
+      → Way passes tells asked (given_to asked list files source) journal status (noted said) (seen_at p old) (seen_at p new) taken takes was are
+  untouched-seen p other none (way.starved empty same nine quiet same_bytes) = way.starved empty (ap (seen_at p) same) nine quiet same_bytes
+  untouched-seen p other none (way.refused planned line empty same why prints) = way.refused planned line empty (ap (seen_at p) same) why prints
+  untouched-seen p other none (way.ran calls on good asks has does ended printed) = absurd (no-status)
+    where
+      no-status : ⊥
+      no-status = elim (cases_Bool (may_lack status)) [
+        | inl lacks ↦ ended.some lacks none
+        | inr whole ↦ other (ended.status_is whole ∙ ap (λ (j : List Turn). status_of_last (last_turn j)) none)
+      ]
+
+  gives-all : (image : List ℕ) (p : Places) → TableGives blocks image p → lacked_in blocks image ≡ None
+  gives-all image p gives = ap (lacked_of blocks) gives.decides ∙ ap lacked_by gives.gives
+
+  complete-by-table : Ends → CompleteByTable passes tells blocks asked list files source journal status old new was are
+  complete-by-table (untouched none same other beyond w) told p E s calls script clean gives premises asks is served no_cut =
+      ways-are-complete passes tells asked list files source journal status (noted said) (seen_at p old) (seen_at p new) taken takes was are (untouched-seen p other none w) told E s calls script premises asks is served
+  complete-by-table (starved calls reads none looks nine quiet same) told p E s asked_calls script clean gives premises asks is served no_cut = inr nine
+  complete-by-table (lacked calls why reads none looks lacks noted_is prints) told p E s asked_calls script clean gives premises asks is served no_cut =
+      let one = gives-all old.told.now p gives in
+      let other : lacked_in blocks old.told.now ≡ Some why = subst (λ (image : List ℕ). lacked_in blocks image ≡ Some why) (woken-now old.told new.told clean (looks.wakes told)) (lacks told) in
+      absurd (cc)
+  complete-by-table (stopped calls reads none stops noted_is prints) told p E s asked_calls script clean gives premises asks is served no_cut = absurd (caused stops.cause)
+    where
+      caused : Rose old.counts.faults new.counts.faults ⊎ Rose old.counts.cuts new.counts.cuts → ⊥
+      caused (inl fault) = served.no_fault fault
+      caused (inr cut) = no_cut none cut
+  complete-by-table (ran calls q start on reads starts does beside ended beyond printed) told p E s asked_calls script clean gives premises asks is served no_cut =
+      (promised passes tells asked list files source journal status (noted said) (seen_at q start) (seen_at q new) taken takes was are
+      (way.ran calls on reads.good reads.asks reads.has does ended printed)).complete told E s asked_calls script
+      (start-premises told clean p q start starts gives E s premises) asks is (served-from asked_calls p q start script starts.waits.falls.faults served)
+
+  pub promised-by-table : Ends → PromisedByTable passes tells blocks asked list files source journal status said old new taken takes was are
+  promised-by-table w = record {
+    way = w;
+    run = runs-by-table w;
+    headline = headline-by-table w;
+    complete = complete-by-table w;
+  }

@@ -1,0 +1,102 @@
+-- The ways that a run behind a partition table may end, from what its parts did.
+use Rattle.std.proofs.Common.{◌≡◌, ◌≢◌, ◌≤◌, ℕ, Bool, List, [], Option, Some, None, sym, ap, subst, ◌∙◌, arith}
+use Rattle.std.specs.Prelude.{IsTrue, IsFalse, codes}
+use Rattle.std.proofs.lemmas.Option.{same_Some}
+use Rattle.fwu_model.specs.Call.{Call}
+use Rattle.fwu_model.specs.Reply.{Turn}
+use Rattle.fwu_model.specs.Causes.{Faults}
+use Rattle.fwu_model.specs.Wrote.{script_asked}
+use Rattle.host_io.specs.Contents.{Directory}
+use Rattle.fwu_words.specs.Order.{Asked}
+use Rattle.fwu_words.specs.Order as ask
+use Rattle.script_cmd.specs.declared.done.Note.{Note}
+use Rattle.script_cmd.specs.declared.done.Note.TheVariants as note
+use Rattle.script_cmd.specs.declared.done.NoTable.{NoTable}
+use Rattle.script_cmd.specs.Asking.{plainly}
+use Rattle.script_cmd.specs.ByTable.{Looks, StopsBefore, flash_fault_line, lacked_in, no_table_line}
+use Rattle.script_cmd.specs.Noted.{is_beyond, noted}
+use Rattle.script_cmd.specs.Powered.{Moment}
+use Rattle.script_cmd.specs.Printed.{Prints, all, front, nothing}
+use Rattle.script_cmd.specs.Running.{Printed}
+use Rattle.script_cmd.specs.Ways.{AsksTurns, Given, HasGoodList, Refuses, Way}
+use Rattle.script_cmd.specs.Ways as way
+use Rattle.script_cmd.specs.WaysByTable.{ReadsScript, WayByTable, over_table, untouched, starved, lacked, stopped, ran}
+use Rattle.script_cmd.proofs.TopWays.{refused-by, with-list}
+
+pub not-nothing : (line : List ℕ) (planned status : ℕ) (taken takes : Option (List ℕ)) (was are : ℕ) → planned ≢ 0 → Prints line planned status taken takes was are → status ≢ 0
+not-nothing line planned status taken takes was are some (all is appends later) zero_is = some (sym is ∙ zero_is)
+not-nothing line planned status taken takes was are some (front three n appends later rose) zero_is = absurd (omega arith)
+not-nothing line planned status taken takes was are some (nothing nine same later) zero_is = absurd (omega arith)
+
+module _ (passes : List ℕ → Bool) (tells : Bool) (blocks : ℕ) (journal : List Turn) (status : ℕ) (said : Note) (old new : Moment) (taken takes : Option (List ℕ)) where
+  -- nothing was touched, and the line of the cause was put
+  pub table-refused : (asked : Option Asked) (g : Given) (was are : Faults) (planned : ℕ) (line : List ℕ) (told : Note) → journal ≡ [] → new ≡ old → said ≡ told → planned ≢ 0 → IsFalse (is_beyond told)
+      → Refuses asked g was are planned (noted told) line → Prints line planned status taken takes was.sink are.sink → WayByTable passes tells blocks asked g journal status said old new taken takes was are
+  table-refused asked g was are planned line told none same is some beyond why prints =
+      untouched none same (not-nothing line planned status taken takes was.sink are.sink some prints) (subst (λ (n : Note). IsFalse (is_beyond n)) (sym is) beyond)
+      (refused-by passes tells journal status (noted said) old new taken takes asked g was are planned line (noted told) none same (ap noted is) why prints)
+
+  -- nothing was touched for want of memory
+  pub table-starved : (asked : Option Asked) (g : Given) (was are : Faults) → journal ≡ [] → new ≡ old → status ≡ 9 → said ≡ note.Nothing → takes ≡ taken → WayByTable passes tells blocks asked g journal status said old new taken takes was are
+  table-starved asked g was are none same nine is quiet =
+      untouched none same (λ zero_is. absurd (omega arith)) (ap is_beyond is) (way.starved none same nine (ap noted is) quiet)
+
+  -- by where the search for the flash left the device
+  pub lacked-way : (asked : Option Asked) (g : Given) (was are : Faults) (mid : Moment) (calls : List Call) (why : NoTable) → ReadsScript asked g calls → journal ≡ [] → Looks tells old mid
+      → (IsTrue tells → lacked_in blocks mid.told.now ≡ Some why) → new ≡ mid → said ≡ note.NoTable why → Prints (no_table_line why) 10 status taken takes was.sink are.sink
+      → WayByTable passes tells blocks asked g journal status said old new taken takes was are
+  lacked-way asked g was are mid calls why reads none looks lacks same is prints =
+      lacked calls why reads none (subst (Looks tells old) (sym same) looks) (λ told. subst (λ (m : Moment). lacked_in blocks m.told.now ≡ Some why) (sym same) (lacks told)) is prints
+
+  pub stopped-way : (asked : Option Asked) (g : Given) (was are : Faults) (mid : Moment) (calls : List Call) → ReadsScript asked g calls → journal ≡ [] → StopsBefore tells blocks old mid → new ≡ mid
+      → said ≡ note.Nothing → Prints flash_fault_line 5 status taken takes was.sink are.sink → WayByTable passes tells blocks asked g journal status said old new taken takes was are
+  stopped-way asked g was are mid calls reads none stops same is prints = stopped calls reads none (subst (StopsBefore tells blocks old) (sym same) stops) is prints
+
+  pub starved-way : (asked : Option Asked) (g : Given) (was are : Faults) (mid : Moment) (calls : List Call) → ReadsScript asked g calls → journal ≡ [] → Looks tells old mid → new ≡ mid → status ≡ 9
+      → said ≡ note.Nothing → takes ≡ taken → WayByTable passes tells blocks asked g journal status said old new taken takes was are
+  starved-way asked g was are mid calls reads none looks same nine is quiet = starved calls reads none (subst (Looks tells old) (sym same) looks) nine is quiet
+
+  -- a way without a list is one behind a list that was read and is one
+  pub table-with-list : (asked : Option Asked) (told files : Option Directory) (name : List ℕ) (script : Option (List ℕ)) (first was are : Faults) → HasGoodList (Some name) files
+      → first.files ≤ was.files → first.source ≡ was.source → first.sink ≡ was.sink
+      → WayByTable passes tells blocks asked (record { list = None; files = told; script = script }) journal status said old new taken takes was are
+      → WayByTable passes tells blocks asked (record { list = Some name; files = files; script = script }) journal status said old new taken takes first are
+  table-with-list asked told files name script first was are good later source sink (untouched none same other beyond w) =
+      untouched none same other beyond (with-list passes tells journal status (noted said) old new taken takes asked told files name script first was are good later source sink w)
+  table-with-list asked told files name script first was are good later source sink (starved calls reads none looks nine is quiet) =
+      starved calls (record { good = good; asks = reads.asks; has = reads.has }) none looks nine is quiet
+  table-with-list asked told files name script first was are good later source sink (lacked calls why reads none looks lacks is prints) =
+      lacked calls why (record { good = good; asks = reads.asks; has = reads.has }) none looks lacks is (subst (λ (n : ℕ). Prints (no_table_line why) 10 status taken takes n are.sink) (sym sink) prints)
+  table-with-list asked told files name script first was are good later source sink (stopped calls reads none stops is prints) =
+      stopped calls (record { good = good; asks = reads.asks; has = reads.has }) none stops is (subst (λ (n : ℕ). Prints flash_fault_line 5 status taken takes n are.sink) (sym sink) prints)
+  table-with-list asked told files name script first was are good later source sink (ran calls p start on reads starts does beside ended beyond printed) =
+      ran calls p start on (record { good = good; asks = reads.asks; has = reads.has }) starts does beside ended beyond (subst (λ (n : ℕ). Printed journal status taken takes n are.sink) (sym sink) printed)
+
+  -- a way at an equal list
+  pub table-at : (asked : Option Asked) (list named : Option (List ℕ)) (files : Option Directory) (script : Option (List ℕ)) (was are : Faults) → list ≡ named
+      → WayByTable passes tells blocks asked (record { list = named; files = files; script = script }) journal status said old new taken takes was are
+      → WayByTable passes tells blocks asked (record { list = list; files = files; script = script }) journal status said old new taken takes was are
+  table-at asked list named files script was are is way =
+      subst (λ (l : Option (List ℕ)). WayByTable passes tells blocks asked (record { list = l; files = files; script = script }) journal status said old new taken takes was are) (sym is) way
+
+  -- `run --gpt` with the script that the source gives, and `boot --gpt` with a script of its own
+  pub table-of-run : (asked : Option Asked) (plain : Asked) (files : Option Directory) (left : Option (List ℕ)) (was are : Faults) → asked ≡ Some ask.run_partitioned → over_table asked ≡ Some plain
+      → WayByTable passes tells blocks (Some ask.run) (record { list = None; files = files; script = left }) journal status said old new taken takes was are
+      → WayByTable passes tells blocks (Some plain) (record { list = None; files = files; script = script_asked (plainly (Some plain)) left }) journal status said old new taken takes was are
+  table-of-run asked plain files left was are is over way =
+      subst (λ (a : Asked). WayByTable passes tells blocks (Some a) (record { list = None; files = files; script = script_asked (plainly (Some a)) left }) journal status said old new taken takes was are)
+      (same_Some ask.run plain (sym (ap over_table is) ∙ over)) way
+
+  pub table-of-boot : (asked : Option Asked) (plain : Asked) (files : Option Directory) (left : Option (List ℕ)) (was are : Faults) → asked ≡ Some ask.boot_partitioned → over_table asked ≡ Some plain
+      → WayByTable passes tells blocks (Some ask.boot) (record { list = None; files = files; script = Some (codes "boot\n") }) journal status said old new taken takes was are
+      → WayByTable passes tells blocks (Some plain) (record { list = None; files = files; script = script_asked (plainly (Some plain)) left }) journal status said old new taken takes was are
+  table-of-boot asked plain files left was are is over way =
+      subst (λ (a : Asked). WayByTable passes tells blocks (Some a) (record { list = None; files = files; script = script_asked (plainly (Some a)) left }) journal status said old new taken takes was are)
+      (same_Some ask.boot plain (sym (ap over_table is) ∙ over)) way
+
+-- other words ask for no flash behind a table
+pub not-over : (asked other : Option Asked) (plain : Asked) → asked ≡ other → over_table other ≡ None → over_table asked ≡ Some plain → ⊥
+not-over asked other plain is none over = none-plain plain (sym none ∙ ap over_table (sym is) ∙ over)
+  where
+    none-plain : (a : Asked) → None ≡ Some a → ⊥
+    none-plain a e = cc

@@ -1,0 +1,155 @@
+//! Runs on the flash that a device has behind a GUID partition table.
+ghost use Rattle.std.specs.Prelude.{◌≡◌, ◌≤◌, Option, Some, None, [], IsTrue, IsFalse, length};
+ghost use Rattle.flash_core.specs.Told.{NothingDirty};
+ghost use Rattle.fwu_model.specs.Causes.{Faults};
+ghost use Rattle.fwu_model.specs.State.{Numbers};
+ghost use Rattle.fwu_journal.specs.Room.{HasRoom};
+ghost use Rattle.fwu_journal.specs.Shown.{HasRoomFor, turns};
+ghost use Rattle.fwu_journal.specs.declared.line.TheConstants.{LINE_ROOM};
+ghost use Rattle.fwu_words.specs.Order.{Asked};
+ghost use Rattle.gpt_core.specs.Beside.{Beside};
+ghost use Rattle.gpt_core.specs.Mapped.{device, places_of};
+ghost use Rattle.gpt_core.specs.Places.{Fit};
+ghost use Rattle.script_cmd.specs.ByTable.{seen_at};
+ghost use Rattle.script_cmd.specs.Noted.{is_beyond, noted};
+ghost use Rattle.script_cmd.specs.Powered.{at, moment};
+ghost use Rattle.script_cmd.specs.Running.{Ended, Printed, Ran};
+ghost use Rattle.script_cmd.specs.Ways.{Given};
+ghost use Rattle.script_cmd.specs.WaysByTable.{ReadsScript, WayByTable};
+
+use crate::done::{Done, Note};
+use crate::opening::{Unopened, open};
+use crate::powered::{Fresh, Powered};
+use crate::refusing::{idle, refuse_stop, refuse_table};
+use crate::room::Room;
+use crate::running::run_script;
+use flash_core::Flash;
+use gpt_core::{Mapped, Places, Start};
+use host_io::Sink;
+use script_text::Script;
+use std::alloc::Global;
+use std::marker::Brand;
+use verify_core::Verifier;
+
+/// What is left of a run, with the device in place of the flash that it has at its places.
+fn unmapped<D: Flash, K: Start>(done: Done<Mapped<D, K>>) -> Done<D>
+    ensures status { result.status ≡ done.status }
+    ensures note { result.note ≡ done.note }
+    ensures journal { result.journal ≡ done.journal }
+    ensures device { result.flash ≡ device done.flash }
+    ensures places { places_of done.flash ≡ K.at }
+    ensures size { D.blocks result.flash ≡ K.blocks }
+    ensures beside { IsTrue D.tells → NothingDirty K.was
+        → Beside K.at K.was (D.told result.flash) }
+{
+    let Done {
+        status,
+        note,
+        flash,
+        journal,
+    } = done;
+    Done {
+        status,
+        note,
+        flash: flash.into_flash(),
+        journal,
+    }
+}
+
+/// Does the calls of a script on the flash that a device has at these places. The device is on, with nothing dirty.
+fn run_mapped<D: Flash, K: Start, O: Sink, V: Verifier>(
+    room: Room,
+    script: &Script,
+    sink: &mut O,
+    flash: D,
+    places: Places,
+    verifier: &V,
+) -> Done<D>
+    requires on { IsTrue (D.on flash) }
+    requires clean { IsTrue D.tells → NothingDirty (D.told flash) }
+    requires unarmed { D.arming flash ≡ None }
+    requires fit { Fit (D.blocks flash) places }
+    requires at { places ≡ K.at }
+    requires size { D.blocks flash ≡ K.blocks }
+    requires start { IsTrue D.tells → D.told flash ≡ K.was }
+    requires no_turns { turns room.journal ≡ [] }
+    requires turns_fit { HasRoomFor room.journal (length script.now) }
+    requires line_fits { HasRoom room.text LINE_ROOM }
+    ensures ran { (on : Option Numbers) × Ran (V.passes verifier.now) D.tells (turns result.journal)
+        (seen_at places (moment D.told D.counts D.arming D.on flash))
+        (seen_at places (at on (D.told result.flash) (D.counts result.flash)
+        (D.arming result.flash) (D.on result.flash))) }
+    ensures beside { IsTrue D.tells → Beside places (D.told flash) (D.told result.flash) }
+    ensures ended { Ended script.now (turns result.journal) result.status (noted result.note) }
+    ensures note { IsFalse (is_beyond result.note) }
+    ensures printed { Printed (turns result.journal) result.status (O.taken sink.old)
+        (O.taken sink.new) (O.faults sink.old) (O.faults sink.new) }
+    ensures size { D.blocks result.flash ≡ D.blocks flash }
+{
+    let mapped = Mapped::<D, K>::new(flash, places);
+    let start = Powered::Fresh(Fresh { flash: mapped });
+    unmapped(run_script(room, script, sink, start, verifier))
+}
+
+/// The same, with what the device told as the places' key.
+fn run_at<D: Flash, O: Sink, V: Verifier>(
+    room: Room,
+    script: &Script,
+    sink: &mut O,
+    flash: D,
+    places: Places,
+    verifier: &V,
+) -> Done<D>
+    requires on { IsTrue (D.on flash) }
+    requires clean { IsTrue D.tells → NothingDirty (D.told flash) }
+    requires unarmed { D.arming flash ≡ None }
+    requires fit { Fit (D.blocks flash) places }
+    requires no_turns { turns room.journal ≡ [] }
+    requires turns_fit { HasRoomFor room.journal (length script.now) }
+    requires line_fits { HasRoom room.text LINE_ROOM }
+    ensures ran { (on : Option Numbers) × Ran (V.passes verifier.now) D.tells (turns result.journal)
+        (seen_at places (moment D.told D.counts D.arming D.on flash))
+        (seen_at places (at on (D.told result.flash) (D.counts result.flash)
+        (D.arming result.flash) (D.on result.flash))) }
+    ensures beside { IsTrue D.tells → Beside places (D.told flash) (D.told result.flash) }
+    ensures ended { Ended script.now (turns result.journal) result.status (noted result.note) }
+    ensures note { IsFalse (is_beyond result.note) }
+    ensures printed { Printed (turns result.journal) result.status (O.taken sink.old)
+        (O.taken sink.new) (O.faults sink.old) (O.faults sink.new) }
+    ensures size { D.blocks result.flash ≡ D.blocks flash }
+{
+    run_mapped::<D, Brand, O, V>(room, script, sink, flash, places, verifier)
+}
+
+/// Powers a device on, reads and repairs its partition table, and does the calls of a script on the flash behind it. Where the table
+/// gives no flash the status is 10, and where power is lost or the flash fails before the first turn it is 5.
+pub fn run_by_table<D: Flash, O: Sink, V: Verifier>(
+    alloc: Global,
+    room: Room,
+    script: &Script,
+    sink: &mut O,
+    flash: D,
+    verifier: &V,
+) -> Done<D>
+    requires off { IsFalse (D.on flash) }
+    requires unarmed { D.arming flash ≡ None }
+    requires no_turns { turns room.journal ≡ [] }
+    requires turns_fit { HasRoomFor room.journal (length script.now) }
+    requires line_fits { HasRoom room.text LINE_ROOM }
+    ensures way { (asked : Option Asked) (g : Given) (was are : Faults) → ReadsScript asked g script.now
+        → WayByTable (V.passes verifier.now) D.tells (D.blocks flash) asked g (turns result.journal)
+        result.status result.note (moment D.told D.counts D.arming D.on flash)
+        (moment D.told D.counts D.arming D.on result.flash) (O.taken sink.old)
+        (O.taken sink.new) (record was { sink = O.faults sink.old })
+        (record are { sink = O.faults sink.new }) }
+    ensures later { O.faults sink.old ≤ O.faults sink.new }
+    ensures size { D.blocks result.flash ≡ D.blocks flash }
+{
+    let mut flash = flash;
+    match open(alloc, &mut flash) {
+        Ok(places) => run_at(room, script, sink, flash, places, verifier),
+        Err(Unopened::Lacks(why)) => refuse_table(alloc, sink, why, flash),
+        Err(Unopened::Stopped) => refuse_stop(alloc, sink, flash),
+        Err(Unopened::NoMemory) => idle(alloc, 9, Note::Nothing, flash),
+    }
+}
