@@ -75,7 +75,8 @@ fn is_over_table<'a>(found: &ArgMatches<'a>) -> bool
 }
 
 fn run_order<'a>(found: &ArgMatches<'a>) -> Order<'a>
-    ensures { view result ≡ (if is_partitioned (rows_of (found_of found.now)) then run_partitioned else run) }
+    ensures { view result
+        ≡ (if is_partitioned (rows_of (found_of found.now)) then run_partitioned else run) }
 {
     if is_over_table(found) {
         Order::RunPartitioned
@@ -85,7 +86,8 @@ fn run_order<'a>(found: &ArgMatches<'a>) -> Order<'a>
 }
 
 fn boot_order<'a>(found: &ArgMatches<'a>) -> Order<'a>
-    ensures { view result ≡ (if is_partitioned (rows_of (found_of found.now)) then boot_partitioned else boot) }
+    ensures { view result
+        ≡ (if is_partitioned (rows_of (found_of found.now)) then boot_partitioned else boot) }
 {
     if is_over_table(found) {
         Order::BootPartitioned

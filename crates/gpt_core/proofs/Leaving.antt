@@ -2,7 +2,7 @@
 use Rattle.std.proofs.Common.{◌≡◌, ◌⊎◌, inl, inr, ℕ, ◌+◌, ◌-◌, ◌*◌, ◌<◌, ◌≤◌, List, get_or, Ok, sym, ◌∙◌, ap, subst, arith}
 use Rattle.std.proofs.lemmas.Bool.{cases_lt}
 use Rattle.flash_core.specs.Told.{Told, NothingDirty, fresh}
-use Rattle.flash_core.specs.May.{Keeps}
+use Rattle.flash_core.specs.May.{Keeps, May}
 use Rattle.gpt_core.specs.declared.layout.Places.{Places}
 use Rattle.gpt_core.specs.declared.table.WhichTable.{WhichTable}
 use Rattle.gpt_core.specs.declared.table.WhichTable.TheVariants.{Same, RepairPrimary, RepairBackup}
@@ -11,6 +11,8 @@ use Rattle.gpt_core.specs.PlacesOf.{places_of}
 use Rattle.gpt_core.specs.Repair.{StaysBeside}
 use Rattle.gpt_core.specs.Table.{Table, blocks_of, number_of}
 use Rattle.gpt_core.specs.View.{view_of}
+use Rattle.gpt_core.proofs.Guarded.{still_sure}
+use Rattle.gpt_core.proofs.Stepping.{image_is_now}
 use Rattle.gpt_core.proofs.Placing.{Within, places_within}
 use Rattle.gpt_core.proofs.Seen.{byte_store, byte_zero, byte_one, through-same}
 use Rattle.gpt_core.proofs.Viewed.{now-view, view-fresh}
@@ -67,6 +69,23 @@ module _ (p : Places) (s u : Told) (low high : ℕ) (keeps : Keeps low high s u)
       ∙ ap (fresh (view_of p s).guard) (through-same p u.now s.now (λ i below. keeps.now (byte_behind p i) (out i below)))
       ∙ sym (view-fresh p s s.now)
       ∙ ap (view_of p) (sym was)
+
+-- and so is each image that a loss may leave of it
+module _ (p : Places) (s u : Told) (low high : ℕ) (keeps : Keeps low high s u) (was : NothingDirty s) (image : List ℕ) (may : May u image)
+    (out : (i : ℕ) → i < 4096 * p.store_blocks → (byte_behind p i < low) ⊎ (high ≤ byte_behind p i)) where
+  image-kept : through p image ≡ through p s.now
+  image-kept =
+      through-same p image s.now
+      (λ i below. may.leaves.sure (byte_behind p i) (keeps.sure (byte_behind p i) (out i below) (still_sure s was (byte_behind p i))) ∙ keeps.now (byte_behind p i) (out i below))
+
+pub repair-keeps : (blocks : ℕ) (t : Table) (which : WhichTable) (p : Places) (s u : Told) (image : List ℕ) → places_of blocks t ≡ Ok p → NothingDirty s → StaysBeside blocks t which s u → May u image → through p image ≡ through p s.now
+repair-keeps blocks t Same p s u image gives was beside may = ap (through p) (image_is_now s image was (subst (λ (v : Told). May v image) beside may))
+repair-keeps blocks t RepairPrimary p s u image gives was beside may =
+    image-kept p s u 4096 (4096 * (2 + blocks_of (number_of t))) beside was image may
+    (λ i below. inr (between blocks (blocks_of (number_of t)) p (places_within blocks t p gives) i below).low)
+repair-keeps blocks t RepairBackup p s u image gives was beside may =
+    image-kept p s u (4096 * (blocks - 1 - blocks_of (number_of t))) (4096 * blocks) beside was image may
+    (λ i below. inl (between blocks (blocks_of (number_of t)) p (places_within blocks t p gives) i below).high)
 
 pub repair-leaves : (blocks : ℕ) (t : Table) (which : WhichTable) (p : Places) (s u : Told) → places_of blocks t ≡ Ok p → NothingDirty s → NothingDirty u → StaysBeside blocks t which s u → view_of p u ≡ view_of p s
 repair-leaves blocks t Same p s u gives was clean beside = ap (view_of p) beside

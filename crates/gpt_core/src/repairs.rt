@@ -1,13 +1,14 @@
 //! Repairing a table.
 
-ghost use Rattle.std.specs.Prelude.{◌≡◌, ℕ, Ok, ◌+◌, ◌-◌, ◌*◌, ◌<◌, ◌≤◌, ◌++◌, Some, length, take, replicate, is_ok, IsTrue, OnOk};
+ghost use Rattle.std.specs.Prelude.{◌≡◌, ℕ, List, Ok, ◌+◌, ◌-◌, ◌*◌, ◌<◌, ◌≤◌, ◌++◌, Some, length, take, replicate, is_ok, IsTrue, OnOk};
 ghost use Rattle.base_core.specs.Bytes.{le};
 ghost use Rattle.base_core.specs.Crc.{crc};
 ghost use Rattle.flash_core.specs.Counts.{Spends, StaysUnarmed};
-ghost use Rattle.flash_core.specs.May.{Keeps};
+ghost use Rattle.flash_core.specs.May.{Keeps, May};
 ghost use Rattle.flash_core.specs.Told.{Told, NothingDirty, is_guarded};
 ghost use Rattle.gpt_core.specs.declared.layout.Places.{Places};
 ghost use Rattle.gpt_core.specs.declared.table.WhichTable.{WhichTable};
+ghost use Rattle.gpt_core.specs.Places.{through};
 ghost use Rattle.gpt_core.specs.PlacesOf.{places_of};
 ghost use Rattle.gpt_core.specs.View.{view_of};
 ghost use Rattle.gpt_core.specs.Table.{Table as Said, FitsTable, blocks_of, number_of, header_at, other, entries_at, copy_in, DecidesTable, BothSay, header_lead, header_places, header_back, header_with, header_bytes, table_in_image, copy_from, copy_to};
@@ -185,7 +186,8 @@ fn mend<D: Flash>(
     ensures power { D.on flash.new ≡ is_ok result }
     ensures size { D.blocks flash.new ≡ D.blocks flash.old }
     ensures costs { Spends result (D.counts flash.old) (D.counts flash.new) }
-    ensures spent { OnOk result (D.arming flash.new ≡ lowered_by (2 + 2 * blocks_of (number_of table.now)) (D.arming flash.old)) }
+    ensures spent { OnOk result (D.arming flash.new
+        ≡ lowered_by (2 + 2 * blocks_of (number_of table.now)) (D.arming flash.old)) }
     ensures unarmed { StaysUnarmed result (D.arming flash.old) (D.arming flash.new) (D.counts flash.old) (D.counts flash.new) }
     ensures buffer { length buf.new ≡ length buf.old }
 {
@@ -215,12 +217,14 @@ pub fn repair_table<D: Flash>(
     ensures none { which ≡ WhichTable.Same → flash.new ≡ flash.old }
     ensures alone { IsTrue D.tells → StaysBeside (D.blocks flash.old) table.now which (D.told flash.old) (D.told flash.new) }
     // When done nothing is dirty, whatever is guarded.
-    ensures settled { OnOk result (IsTrue D.tells → NothingDirty (D.told flash.old) → NothingDirty (D.told flash.new)) }
+    ensures settled { OnOk result (IsTrue D.tells → NothingDirty (D.told flash.old)
+        → NothingDirty (D.told flash.new)) }
     ensures power { D.on flash.new ≡ is_ok result }
     ensures size { D.blocks flash.new ≡ D.blocks flash.old }
     ensures costs { Spends result (D.counts flash.old) (D.counts flash.new) }
     // When done, as many erases and programs were done as the copy that is repaired asks for.
-    ensures spent { OnOk result (D.arming flash.new ≡ lowered_by (writes_of which (blocks_of (number_of table.now))) (D.arming flash.old)) }
+    ensures spent { OnOk result (D.arming flash.new
+        ≡ lowered_by (writes_of which (blocks_of (number_of table.now))) (D.arming flash.old)) }
     ensures unarmed { StaysUnarmed result (D.arming flash.old) (D.arming flash.new) (D.counts flash.old) (D.counts flash.new) }
     ensures buffer { length buf.new ≡ length buf.old }
 {
@@ -231,8 +235,13 @@ pub fn repair_table<D: Flash>(
     }
 }
 
-/// A repair of a table leaves the flash that its partitions are, where nothing is dirty before and afterwards.
+/// A repair of a table leaves the flash that its partitions are, in each image that a loss may leave and, where nothing is dirty
+/// afterwards, as it is told.
 pub fn repairs_leave_the_partitions()
-    ensures { (blocks : ℕ) (t : Said) (which : WhichTable) (p : Places) (s u : Told) → places_of blocks t ≡ Ok p → NothingDirty s → NothingDirty u
+    ensures images { (blocks : ℕ) (t : Said) (which : WhichTable) (p : Places) (s u : Told)
+        (image : List ℕ) → places_of blocks t ≡ Ok p → NothingDirty s
+        → StaysBeside blocks t which s u → May u image → through p image ≡ through p s.now }
+    ensures view { (blocks : ℕ) (t : Said) (which : WhichTable) (p : Places) (s u : Told)
+        → places_of blocks t ≡ Ok p → NothingDirty s → NothingDirty u
         → StaysBeside blocks t which s u → view_of p u ≡ view_of p s }
 {}

@@ -84,7 +84,8 @@ fn write_blocks<D: Flash>(flash: &mut D, first: u32, bytes: &[u8]) -> Result<(),
     ensures power { D.on flash.new ≡ is_ok result }
     ensures size { D.blocks flash.new ≡ D.blocks flash.old }
     ensures costs { Spends result (D.counts flash.old) (D.counts flash.new) }
-    ensures spent { OnOk result (D.arming flash.new ≡ lowered_by (2 * ((length bytes.now + 4095) / 4096)) (D.arming flash.old)) }
+    ensures spent { OnOk result (D.arming flash.new
+        ≡ lowered_by (2 * ((length bytes.now + 4095) / 4096)) (D.arming flash.old)) }
     ensures unarmed { StaysUnarmed result (D.arming flash.old) (D.arming flash.new) (D.counts flash.old) (D.counts flash.new) }
 {
     if bytes.len() <= BLOCK_BYTES as usize {
@@ -107,7 +108,8 @@ pub fn write_entries<D: Flash>(flash: &mut D, first: u32, bytes: &[u8]) -> Resul
     ensures power { D.on flash.new ≡ is_ok result }
     ensures size { D.blocks flash.new ≡ D.blocks flash.old }
     ensures costs { Spends result (D.counts flash.old) (D.counts flash.new) }
-    ensures spent { OnOk result (D.arming flash.new ≡ lowered_by (2 * ((length bytes.now + 4095) / 4096)) (D.arming flash.old)) }
+    ensures spent { OnOk result (D.arming flash.new
+        ≡ lowered_by (2 * ((length bytes.now + 4095) / 4096)) (D.arming flash.old)) }
     ensures unarmed { StaysUnarmed result (D.arming flash.old) (D.arming flash.new) (D.counts flash.old) (D.counts flash.new) }
 {
     write_blocks(flash, first, bytes)?;
@@ -140,7 +142,8 @@ pub fn repair_copy<D: Flash>(
     ensures power { D.on flash.new ≡ is_ok result }
     ensures size { D.blocks flash.new ≡ D.blocks flash.old }
     ensures costs { Spends result (D.counts flash.old) (D.counts flash.new) }
-    ensures spent { OnOk result (D.arming flash.new ≡ lowered_by (2 + 2 * ((length entries.now + 4095) / 4096)) (D.arming flash.old)) }
+    ensures spent { OnOk result (D.arming flash.new
+        ≡ lowered_by (2 + 2 * ((length entries.now + 4095) / 4096)) (D.arming flash.old)) }
     ensures unarmed { StaysUnarmed result (D.arming flash.old) (D.arming flash.new) (D.counts flash.old) (D.counts flash.new) }
 {
     clear_header(flash, header)?;

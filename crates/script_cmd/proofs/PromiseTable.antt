@@ -7,9 +7,12 @@ use Rattle.flash_core.specs.Told.{Told, NothingDirty}
 use Rattle.gpt_core.specs.declared.layout.Places.{Places}
 use Rattle.gpt_core.specs.declared.table.WhichTable.{WhichTable}
 use Rattle.gpt_core.specs.PlacesOf.{places_of}
-use Rattle.gpt_core.specs.Table.{Table, table_in_image}
+use Rattle.gpt_core.specs.Places.{through}
+use Rattle.gpt_core.specs.Repair.{HeadersGuarded}
+use Rattle.gpt_core.specs.Table.{DecidesTable, Table, table_in_image}
 use Rattle.gpt_core.specs.View.{view_of}
-use Rattle.gpt_core.proofs.Leaving.{repair-leaves}
+use Rattle.gpt_core.proofs.Leaving.{repair-keeps, repair-leaves}
+use Rattle.gpt_core.proofs.Stepping.{image_is_now}
 use Rattle.fwu_model.specs.Call.{Call}
 use Rattle.fwu_model.specs.State.{State}
 use Rattle.fwu_model.specs.Sound.{Setting}
@@ -22,12 +25,12 @@ use Rattle.host_io.specs.Contents.{Directory}
 use Rattle.fwu_words.specs.Order.{Asked}
 use Rattle.script_cmd.specs.declared.done.Note.{Note}
 use Rattle.script_cmd.specs.Asking.{plainly}
-use Rattle.script_cmd.specs.ByTable.{Starts, lacked_by, lacked_in, lacked_of, seen_at}
+use Rattle.script_cmd.specs.ByTable.{Starts, StopsMending, Wakes, lacked_by, lacked_in, lacked_of, seen_at}
 use Rattle.script_cmd.specs.Noted.{noted}
 use Rattle.script_cmd.specs.Powered.{Moment}
 use Rattle.script_cmd.specs.Promises.{given_to, outcome}
-use Rattle.script_cmd.specs.PromisesByTable.{CompleteByTable, HeadlineByTable, PromisedByTable, RunsByTable, TableGives}
-use Rattle.script_cmd.specs.Running.{last_turn, status_of_last}
+use Rattle.script_cmd.specs.PromisesByTable.{CompleteByTable, HeadlineByTable, KeepsFlash, KeptByTable, PromisedByTable, RunsByTable, TableGives}
+use Rattle.script_cmd.specs.Running.{Ended, last_turn, status_of_last}
 use Rattle.script_cmd.specs.Ways.{Way}
 use Rattle.script_cmd.specs.Ways as way
 use Rattle.script_cmd.specs.WaysByTable.{WayByTable, untouched, starved, lacked, stopped, ran}
@@ -138,18 +141,19 @@ module _ (passes : List ℕ → Bool) (tells : Bool) (blocks : ℕ) (asked : Opt
     no_sink_fault = served.no_sink_fault;
   }
 
+  -- without a turn the turns of a script end with 0
+  none-ended : (calls : List Call) → journal ≡ [] → status ≢ 0 → Ended calls journal status (noted said) → ⊥
+  none-ended calls none other ended = elim (cases_Bool (may_lack status)) [
+    | inl lacks ↦ ended.some lacks none
+    | inr whole ↦ other (ended.status_is whole ∙ ap (λ (j : List Turn). status_of_last (last_turn j)) none)
+  ]
+
   -- a way on which nothing was touched, seen through places
   untouched-seen : (p : Places) → status ≢ 0 → journal ≡ [] → Way passes tells asked (given_to asked list files source) journal status (noted said) old new taken takes was are
       → Way passes tells asked (given_to asked list files source) journal status (noted said) (seen_at p old) (seen_at p new) taken takes was are
   untouched-seen p other none (way.starved empty same nine quiet same_bytes) = way.starved empty (ap (seen_at p) same) nine quiet same_bytes
   untouched-seen p other none (way.refused planned line empty same why prints) = way.refused planned line empty (ap (seen_at p) same) why prints
-  untouched-seen p other none (way.ran calls on good asks has does ended printed) = absurd (no-status)
-    where
-      no-status : ⊥
-      no-status = elim (cases_Bool (may_lack status)) [
-        | inl lacks ↦ ended.some lacks none
-        | inr whole ↦ other (ended.status_is whole ∙ ap (λ (j : List Turn). status_of_last (last_turn j)) none)
-      ]
+  untouched-seen p other none (way.ran calls on good asks has does ended printed) = absurd (none-ended calls none other ended)
 
   gives-all : (image : List ℕ) (p : Places) → TableGives blocks image p → lacked_in blocks image ≡ None
   gives-all image p gives = ap (lacked_of blocks) gives.decides ∙ ap lacked_by gives.gives
@@ -172,10 +176,48 @@ module _ (passes : List ℕ → Bool) (tells : Bool) (blocks : ℕ) (asked : Opt
       (way.ran calls on reads.good reads.asks reads.has does ended printed)).complete told E s asked_calls script
       (start-premises told clean p q start starts gives E s premises) asks is (served-from asked_calls p q start script starts.waits.falls.faults served)
 
+  -- ---- where no turn ran
+
+  module _ (p : Places) (clean : NothingDirty old.told) (gives : TableGives blocks old.told.now p) where
+    -- on a device with nothing dirty that has the bytes that it had
+    kept-same : (mid : Told) → NothingDirty mid → mid.now ≡ old.told.now → KeepsFlash blocks p gives.table old.told mid
+    kept-same mid mid_clean same = record {
+      same = λ image may. ap (through p) (image_is_now mid image mid_clean may ∙ same);
+      decides = λ guarded image may. subst (DecidesTable blocks gives.table) (sym (image_is_now mid image mid_clean may ∙ same)) (gives.which, gives.decides);
+    }
+
+    kept-woken : (mid : Told) → Wakes old.told mid → KeepsFlash blocks p gives.table old.told mid
+    kept-woken mid wakes = kept-same mid (woken-clean old.told mid wakes) (woken-now old.told mid clean wakes)
+
+    -- where the repair of the table was stopped
+    kept-mending : (woken : Told) → Wakes old.told woken → StopsMending blocks woken new.told → KeepsFlash blocks p gives.table old.told new.told
+    kept-mending woken wakes stops =
+        let there : table_in_image blocks old.told.now ≡ Some (stops.table, stops.which) = subst (λ (image : List ℕ). table_in_image blocks image ≡ Some (stops.table, stops.which)) (woken-now old.told woken clean wakes) stops.decides in
+        let table = same-pair stops.table gives.table stops.which gives.which (sym there ∙ gives.decides) in
+        let places : places_of blocks stops.table ≡ Ok p = ap (places_of blocks) table ∙ gives.gives in
+        record {
+          same = λ image may. repair-keeps blocks stops.table stops.which p woken new.told image places (woken-clean old.told woken wakes) stops.beside may
+              ∙ ap (through p) (woken-now old.told woken clean wakes);
+          decides = λ guarded image may. subst (λ (t : Table). DecidesTable blocks t image) table
+              (stops.stays (subst (HeadersGuarded blocks) (sym (woken-same old.told woken clean wakes)) guarded) image may);
+        }
+
+    kept-stopped : (woken : Told) → Wakes old.told woken → (new.told ≡ woken) ⊎ StopsMending blocks woken new.told → KeepsFlash blocks p gives.table old.told new.told
+    kept-stopped woken wakes (inl same) = subst (KeepsFlash blocks p gives.table old.told) (sym same) (kept-woken woken wakes)
+    kept-stopped woken wakes (inr stops) = kept-mending woken wakes stops
+
+  kept-by-table : Ends → KeptByTable tells blocks journal status old new
+  kept-by-table (untouched none same other beyond w) told p clean gives empty some = kept-same p clean gives new.told (subst (λ (m : Moment). NothingDirty m.told) (sym same) clean) (ap (λ (m : Moment). m.told.now) same)
+  kept-by-table (starved calls reads none looks nine quiet same) told p clean gives empty some = kept-woken p clean gives new.told (looks.wakes told)
+  kept-by-table (lacked calls why reads none looks lacks noted_is prints) told p clean gives empty some = kept-woken p clean gives new.told (looks.wakes told)
+  kept-by-table (stopped calls reads none stops noted_is prints) told p clean gives empty some = kept-stopped p clean gives stops.woken (stops.wakes told) (stops.left told)
+  kept-by-table (ran calls q start on reads starts does beside ended beyond printed) told p clean gives empty some = absurd (none-ended calls empty some ended)
+
   pub promised-by-table : Ends → PromisedByTable passes tells blocks asked list files source journal status said old new taken takes was are
   promised-by-table w = record {
     way = w;
     run = runs-by-table w;
+    kept = kept-by-table w;
     headline = headline-by-table w;
     complete = complete-by-table w;
   }

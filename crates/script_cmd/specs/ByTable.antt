@@ -35,7 +35,8 @@ abbrev pub lacked_of : ℕ → Option (Table × WhichTable) → Option NoTable
 lacked_of blocks None = Some no.Table
 lacked_of blocks (Some found) = lacked_by (places_of blocks found.0)
 
--- why the bytes of a device of so many blocks have no flash behind a table: there is no table, or it gives no places
+-- Why the bytes of a device of so many blocks have no flash behind a table: there is no table, or it gives no
+-- places.
 abbrev pub lacked_in : ℕ → List ℕ → Option NoTable
 lacked_in blocks image = lacked_of blocks (table_in_image blocks image)
 
@@ -68,7 +69,8 @@ pub record Looks (tells : Bool) (old new : Moment) : Type 0 where
   pub waits : Waits old new
   pub power : new.power ≡ true
 
--- The table that decides in a device of so many blocks, which copy is to be repaired, and the places that it gives.
+-- The table that decides in a device of so many blocks, which copy is to be repaired, and the places that it
+-- gives.
 pub record HasPlaces (tells : Bool) (blocks : ℕ) (t : Told) (p : Places) : Type 0 where
   pub table : Table
   pub which : WhichTable
@@ -76,14 +78,19 @@ pub record HasPlaces (tells : Bool) (blocks : ℕ) (t : Told) (p : Places) : Typ
   pub decides : IsTrue tells → table_in_image blocks t.now ≡ Some (table, which)
   pub gives : places_of blocks table ≡ Ok p
 
--- Power came to a device, its table was read and repaired, and the places of the flash behind it are these: here a run begins.
-pub record Starts (tells : Bool) (blocks : ℕ) (old : Moment) (p : Places) (start : Moment) : Type 0 where
+-- Power came to a device, its table was read and repaired, and the flash behind it has these places: here a run
+-- begins.
+pub record Starts (tells : Bool) (blocks : ℕ) (old : Moment) (p : Places)
+    (start : Moment) : Type 0 where
   pub woken : Told
   pub wakes : IsTrue tells → Wakes old.told woken
-  pub chance : IsTrue tells → Rose old.counts.chances start.counts.chances ⊎ NoChance old.told woken.now
+  pub chance : IsTrue tells
+      → Rose old.counts.chances start.counts.chances ⊎ NoChance old.told woken.now
   pub has : HasPlaces tells blocks woken p
-  -- where both headers are guarded, both copies now say the table, which decides in each image that a loss may leave
-  pub mends : IsTrue tells → HeadersGuarded blocks woken → Mends {T = Unit {0}} (Ok tt) blocks has.table start.told
+  -- where both headers are guarded, both copies now say the table, and it decides in each image that a loss
+  -- may leave
+  pub mends : IsTrue tells → HeadersGuarded blocks woken
+      → Mends {T = Unit {0}} (Ok tt) blocks has.table start.told
   -- but for the copy that was repaired nothing changed
   pub beside : IsTrue tells → StaysBeside blocks has.table has.which woken start.told
   pub clean : IsTrue tells → NothingDirty start.told
@@ -97,7 +104,8 @@ pub record StopsMending (blocks : ℕ) (woken new : Told) : Type 0 where
   pub which : WhichTable
   pub decides : table_in_image blocks woken.now ≡ Some (table, which)
   -- where both headers are guarded the same table decides in each image that a loss may leave
-  pub stays : HeadersGuarded blocks woken → (image : List ℕ) → May new image → DecidesTable blocks table image
+  pub stays : HeadersGuarded blocks woken → (image : List ℕ) → May new image
+      → DecidesTable blocks table image
   pub beside : StaysBeside blocks table which woken new
 
 -- Power was lost or the flash failed before the first turn, at the reading of the table or at its repair.
@@ -119,6 +127,7 @@ goes_on (Err unopened.NoMemory) = true
 -- What looking for the flash behind a table leaves, by its result.
 abbrev pub Opens : Bool → ℕ → Moment → Moment → Result Places Unopened → Type 0
 Opens tells blocks old new (Ok p) = Starts tells blocks old p new
-Opens tells blocks old new (Err (unopened.Lacks why)) = Looks tells old new × (IsTrue tells → lacked_in blocks new.told.now ≡ Some why)
+Opens tells blocks old new (Err (unopened.Lacks why)) = Looks tells old new
+    × (IsTrue tells → lacked_in blocks new.told.now ≡ Some why)
 Opens tells blocks old new (Err unopened.Stopped) = StopsBefore tells blocks old new
 Opens tells blocks old new (Err unopened.NoMemory) = Looks tells old new

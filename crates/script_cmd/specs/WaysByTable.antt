@@ -34,27 +34,31 @@ pub record ReadsScript (asked : Option Asked) (g : Given) (calls : List Call) : 
   pub asks : AsksTurns asked
   pub has : HasCalls g.script calls
 
--- It ended before the device was touched, as without a table; or power came and memory was wanting, or the table gave no flash, or the
--- device stopped, before the first turn; or the turns ran on the flash that the device has at the table's places.
-pub data WayByTable (passes : List ℕ → Bool) (tells : Bool) (blocks : ℕ) (asked : Option Asked) (g : Given)
-    (journal : List Turn) (status : ℕ) (said : Note) (old new : Moment) (taken_before taken_after : Option (List ℕ))
-    (faults_before faults_after : Faults) : Type 0 where
+-- It ended before the device was touched, as without a table; or power came and memory was wanting, or the table
+-- gave no flash, or the device stopped, before the first turn; or the turns ran on the flash that the device has at
+-- the table's places.
+pub data WayByTable (passes : List ℕ → Bool) (tells : Bool) (blocks : ℕ) (asked : Option Asked)
+    (g : Given) (journal : List Turn) (status : ℕ) (said : Note) (old new : Moment)
+    (taken_before taken_after : Option (List ℕ)) (faults_before faults_after : Faults) : Type 0 where
   untouched : journal ≡ [] → new ≡ old → status ≢ 0 → IsFalse (is_beyond said)
       → Way passes tells asked g journal status (noted said) old new taken_before taken_after faults_before faults_after
       → WayByTable passes tells blocks asked g journal status said old new taken_before taken_after faults_before faults_after
-  starved : (calls : List Call) → ReadsScript asked g calls → journal ≡ [] → Looks tells old new → status ≡ 9 → said ≡ note.Nothing
-      → taken_after ≡ taken_before
+  starved : (calls : List Call) → ReadsScript asked g calls → journal ≡ [] → Looks tells old new
+      → status ≡ 9 → said ≡ note.Nothing → taken_after ≡ taken_before
       → WayByTable passes tells blocks asked g journal status said old new taken_before taken_after faults_before faults_after
-  lacked : (calls : List Call) (why : NoTable) → ReadsScript asked g calls → journal ≡ [] → Looks tells old new
-      → (IsTrue tells → lacked_in blocks new.told.now ≡ Some why) → said ≡ note.NoTable why
+  lacked : (calls : List Call) (why : NoTable) → ReadsScript asked g calls → journal ≡ []
+      → Looks tells old new → (IsTrue tells → lacked_in blocks new.told.now ≡ Some why)
+      → said ≡ note.NoTable why
       → Prints (no_table_line why) 10 status taken_before taken_after faults_before.sink faults_after.sink
       → WayByTable passes tells blocks asked g journal status said old new taken_before taken_after faults_before faults_after
-  stopped : (calls : List Call) → ReadsScript asked g calls → journal ≡ [] → StopsBefore tells blocks old new → said ≡ note.Nothing
+  stopped : (calls : List Call) → ReadsScript asked g calls → journal ≡ []
+      → StopsBefore tells blocks old new → said ≡ note.Nothing
       → Prints flash_fault_line 5 status taken_before taken_after faults_before.sink faults_after.sink
       → WayByTable passes tells blocks asked g journal status said old new taken_before taken_after faults_before faults_after
-  ran : (calls : List Call) (p : Places) (start : Moment) (on : Option Numbers) → ReadsScript asked g calls
-      → Starts tells blocks old p start
-      → Ran passes tells journal (seen_at p start) (seen_at p (at on new.told new.counts new.armed new.power))
+  ran : (calls : List Call) (p : Places) (start : Moment) (on : Option Numbers)
+      → ReadsScript asked g calls → Starts tells blocks old p start
+      → Ran passes tells journal (seen_at p start)
+      (seen_at p (at on new.told new.counts new.armed new.power))
       → (IsTrue tells → Beside p start.told new.told)
       → Ended calls journal status (noted said) → IsFalse (is_beyond said)
       → Printed journal status taken_before taken_after faults_before.sink faults_after.sink

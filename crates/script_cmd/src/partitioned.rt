@@ -136,7 +136,8 @@ pub fn run_by_table<D: Flash, O: Sink, V: Verifier>(
     requires no_turns { turns room.journal ≡ [] }
     requires turns_fit { HasRoomFor room.journal (length script.now) }
     requires line_fits { HasRoom room.text LINE_ROOM }
-    ensures way { (asked : Option Asked) (g : Given) (was are : Faults) → ReadsScript asked g script.now
+    ensures way { (asked : Option Asked) (g : Given) (was are : Faults)
+        → ReadsScript asked g script.now
         → WayByTable (V.passes verifier.now) D.tells (D.blocks flash) asked g (turns result.journal)
         result.status result.note (moment D.told D.counts D.arming D.on flash)
         (moment D.told D.counts D.arming D.on result.flash) (O.taken sink.old)
