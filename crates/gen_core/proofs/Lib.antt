@@ -1,0 +1,4 @@
+pub mod Making
+pub mod Packing
+pub mod Installing
+mod Worked

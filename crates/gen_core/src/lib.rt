@@ -1,0 +1,16 @@
+//! Update packages, rounds and calls that are made from a number, for long runs of updates and power cuts.
+#![tactic(auto)]
+
+mod calls;
+mod laws;
+mod packages;
+mod register;
+mod rounds;
+mod setup;
+
+pub use calls::{SoakCall, file_name, round_calls};
+pub use laws::{generated_are_complete, layouts_have_images};
+pub use packages::package;
+pub use register::Lcg;
+pub use rounds::{Cut, Ending, Round, draw_sizes};
+pub use setup::soak_rows;
