@@ -1,0 +1,174 @@
+-- The images of a package that is made from a number are complete, and it installs them.
+use Rattle.std.proofs.Common.{◌≡◌, ℕ, zero, suc, ◌+◌, ◌-◌, ◌*◌, ◌<◌, ◌≤◌, Bool, true, false, not, ◌&&◌, ◌==◌, List, [], ◌∷◌, ◌++◌, length, get_or, take, drop, map, Ok, is_ok, Result, refl, sym, ap, subst, ◌∙◌, arith, IsTrue, IsFalse, leb, ltb, eqb, leb-true, eq-eqb, append-nil}
+use Rattle.std.proofs.lemmas.Bool.{and_from, and_parts, le-leb, lt-ltb}
+use Rattle.std.proofs.lemmas.List.{length-map}
+use Rattle.std.proofs.Math.Seq.{take-length}
+use Rattle.std.specs.List.{list_all}
+use Rattle.sha2.specs.Sha256.{sha256}
+use Rattle.sha2.proofs.Facts256.{length-sha256}
+use Rattle.base_core.specs.Bytes.{num_at, same_bytes}
+use Rattle.fwu_formats.specs.Layout.{ImageRow, is_row}
+use Rattle.fwu_formats.specs.Manifest.{FitsImages, Manifest, Row, all_paired, has_form, is_complete, is_image_of, is_manifest_row, is_version_too_high, manifest_at, manifest_bytes, manifest_magic, manifest_of, manifest_size, version}
+use Rattle.fwu_formats.specs.Package.{Part, packed}
+use Rattle.fwu_formats.specs.declared.kinds.ManifestFault.{ManifestFault}
+use Rattle.fwu_formats.proofs.ManifestWritten.{written-is-read}
+use Rattle.fwu_formats.proofs.SealLaws.{was_not_refused}
+use Rattle.fwu_formats.proofs.Spell.{same-bytes_refl}
+use Rattle.fwu_formats.proofs.Tables.{tables-are-read}
+use Rattle.fip_tables.proofs.Again.{passed-is-read}
+use Rattle.gen_core.specs.Generated.{generated, generated_images, generated_parts, image_parts, manifest_for, row_of}
+use Rattle.gen_core.specs.Law.{GeneratedAreComplete, Installs}
+use Rattle.gen_core.proofs.Making.{AreImages, FitSizes, guids_of, images-are, image_parts-length, row-limits, sizes-fit}
+use Rattle.gen_core.proofs.Packing.{FitRows, fit-guids, fit-length, generated-fit, have-fields, manifest-length, parts-pass}
+use Rattle.gen_core.proofs.Installing.{entries-fit, images-found, none-missing, none-skipped}
+
+-- ---- the manifest says what the images are
+
+-- each number has room in its field
+rows-have-room : (number : ℕ) (rs : List ImageRow) (ps : List Part) → number < 4294967296 → IsTrue (list_all is_row rs) → FitRows rs ps → IsTrue (list_all is_manifest_row (map (row_of number) ps))
+rows-have-room number [] [] low each fit = refl
+rows-have-room number [] (p ∷ ps) low each fit = absurd fit
+rows-have-room number (r ∷ rs) [] low each fit = absurd fit
+rows-have-room number (r ∷ rs) (p ∷ ps) low each fit =
+    let own = and_parts (is_row r) (list_all is_row rs) each in
+    let row = row-limits r own.0 in
+    let most = row.most in
+    let size = fit.0.size in
+    and_from (is_manifest_row (row_of number p)) (list_all is_manifest_row (map (row_of number) ps))
+    (and_from ((length p.guid == 16) && ltb (length p.bytes) 4294967296 && ltb number 4294967296) (length (sha256 p.bytes) == 32)
+    (and_from ((length p.guid == 16) && ltb (length p.bytes) 4294967296) (ltb number 4294967296)
+    (and_from (length p.guid == 16) (ltb (length p.bytes) 4294967296) (eq-eqb (length p.guid) 16 (ap length fit.0.guid ∙ row.sixteen)) (lt-ltb (length p.bytes) 4294967296 (omega (arith, most, size))))
+    (lt-ltb number 4294967296 low)) (eq-eqb (length (sha256 p.bytes)) 32 (length-sha256 p.bytes)))
+    (rows-have-room number rs ps low own.1 fit.1)
+
+rows-in-order : (number : ℕ) (rs : List ImageRow) (ps : List Part) → FitRows rs ps → IsTrue (all_paired (λ i r. same_bytes i.guid r.guid) rs (map (row_of number) ps))
+rows-in-order number [] [] fit = refl
+rows-in-order number [] (p ∷ ps) fit = absurd fit
+rows-in-order number (r ∷ rs) [] fit = absurd fit
+rows-in-order number (r ∷ rs) (p ∷ ps) fit =
+    and_from (same_bytes r.guid p.guid) (all_paired (λ i q. same_bytes i.guid q.guid) rs (map (row_of number) ps))
+    (subst (λ (g : List ℕ). IsTrue (same_bytes r.guid g)) (sym fit.0.guid) (same-bytes_refl r.guid)) (rows-in-order number rs ps fit.1)
+
+rows-within : (number : ℕ) (rs : List ImageRow) (ps : List Part) → FitRows rs ps → IsTrue (all_paired (λ i r. leb r.size (4096 * i.slots)) rs (map (row_of number) ps))
+rows-within number [] [] fit = refl
+rows-within number [] (p ∷ ps) fit = absurd fit
+rows-within number (r ∷ rs) [] fit = absurd fit
+rows-within number (r ∷ rs) (p ∷ ps) fit =
+    and_from (leb (length p.bytes) (4096 * r.slots)) (all_paired (λ i q. leb q.size (4096 * i.slots)) rs (map (row_of number) ps))
+    (le-leb (length p.bytes) (4096 * r.slots) fit.0.size) (rows-within number rs ps fit.1)
+
+images-are-said : (number : ℕ) (ps : List Part) → IsTrue (all_paired is_image_of (map (row_of number) ps) (map (λ p. p.bytes) ps))
+images-are-said number [] = refl
+images-are-said number (p ∷ ps) =
+    and_from (is_image_of (row_of number p) p.bytes) (all_paired is_image_of (map (row_of number) ps) (map (λ q. q.bytes) ps))
+    (and_from (length p.bytes == length p.bytes) (same_bytes (sha256 p.bytes) (sha256 p.bytes)) (eq-eqb (length p.bytes) (length p.bytes) refl) (same-bytes_refl (sha256 p.bytes)))
+    (images-are-said number ps)
+
+-- ---- the manifest is read again
+
+-- what a manifest that was read says
+says : (rows : List ImageRow) (bytes : List ℕ) (m : Manifest) → manifest_of rows bytes ≡ Ok m → length bytes ≡ manifest_size (length rows - 1) → manifest_at bytes ≡ m
+unfolding manifest_of
+says rows bytes m e len =
+    let count = length rows - 1 in
+    let others = drop 1 rows in
+    let read = manifest_at (take (manifest_size count) bytes) in
+    let a = was_not_refused (ltb (length bytes) (manifest_size count)) _ _ m e in
+    let b = was_not_refused (not (num_at 4 bytes 0 == manifest_magic)) _ _ m a.1 in
+    let c = was_not_refused (not (has_form bytes)) _ _ m b.1 in
+    let d = was_not_refused (is_version_too_high bytes) _ _ m c.1 in
+    let f = was_not_refused (not (num_at 4 bytes 12 == count)) _ _ m d.1 in
+    let g = was_not_refused (not (all_paired (λ (i : ImageRow) (r : Row). same_bytes i.guid r.guid) others read.rows)) _ _ m f.1 in
+    let h = was_not_refused (not (all_paired (λ (i : ImageRow) (r : Row). leb r.size (4096 * i.slots)) others read.rows)) _ _ m g.1 in
+    let i = was_not_refused (not (same_bytes (drop (16 + 56 * count) (take (manifest_size count) bytes)) (sha256 (take (16 + 56 * count) bytes)))) _ _ m h.1 in
+    ap manifest_at (sym (ap (λ (n : ℕ). take n bytes) (sym len) ∙ take-length bytes)) ∙ same-ok {F = ManifestFault} read m i.1
+  where
+    same-ok : {X F : Type 0} (x y : X) → ◌≡◌ {A = Result X F} (Ok x) (Ok y) → x ≡ y
+    same-ok x y e = cc
+
+module _ (r : ImageRow) (rows : List ImageRow) (sizes : List ℕ) (number security : ℕ) (images : AreImages (r ∷ rows)) (fit : FitSizes (r ∷ rows) sizes) (low : number < 4294967296) (least : security ≤ 223) where
+  abbrev ps : List Part
+  ps = image_parts number 1 rows sizes
+
+  abbrev m : Manifest
+  m = manifest_for number security ps
+
+  abbrev bytes : List ℕ
+  bytes = manifest_bytes m
+
+  each : IsTrue (list_all is_row rows)
+  each = (and_parts (is_row r) (list_all is_row rows) images.each).1
+
+  fits : FitRows rows ps
+  fits = (generated-fit (r ∷ rows) sizes number security images fit).1
+
+  counted : length ps ≡ length rows
+  counted = fit-length rows ps fits
+
+  suits : FitsImages (r ∷ rows) m
+  suits = record {
+    count = omega (arith, length-map ps (row_of number), counted);
+    few = images.few;
+    security = omega (arith, least);
+    rows = rows-have-room number rows ps low each fits;
+    order = rows-in-order number rows ps fits;
+    sizes = rows-within number rows ps fits;
+  }
+
+  read : manifest_of (r ∷ rows) bytes ≡ Ok m
+  read = ap (manifest_of (r ∷ rows)) (sym (append-nil bytes)) ∙ written-is-read.manifest (r ∷ rows) m [] suits
+
+  bytes-length : length bytes ≡ manifest_size (length (r ∷ rows) - 1)
+  bytes-length = omega (arith, manifest-length number security rows ps each fits, counted)
+
+  at : manifest_at bytes ≡ m
+  at = says (r ∷ rows) bytes m read bytes-length
+
+  pub are-complete : IsTrue (is_complete (r ∷ rows) (generated_images (r ∷ rows) sizes number security))
+  unfolding is_complete
+  are-complete =
+      let p = generated_images (r ∷ rows) sizes number security in
+      let len : length p ≡ length (r ∷ rows) = omega (arith, length-map ps (λ q. q.bytes), counted) in
+      and_from ((length p == length (r ∷ rows)) && is_ok (manifest_of (r ∷ rows) bytes) && (length bytes == manifest_size (length (r ∷ rows) - 1))) (all_paired is_image_of (manifest_at bytes).rows (map (λ q. q.bytes) ps))
+      (and_from ((length p == length (r ∷ rows)) && is_ok (manifest_of (r ∷ rows) bytes)) (length bytes == manifest_size (length (r ∷ rows) - 1))
+      (and_from (length p == length (r ∷ rows)) (is_ok (manifest_of (r ∷ rows) bytes)) (eq-eqb (length p) (length (r ∷ rows)) len) (ap is_ok read))
+      (eq-eqb (length bytes) (manifest_size (length (r ∷ rows) - 1)) bytes-length))
+      (subst (λ (x : Manifest). IsTrue (all_paired is_image_of x.rows (map (λ q. q.bytes) ps))) (sym at) (images-are-said number ps))
+
+  pub version-is : version (generated_images (r ∷ rows) sizes number security) ≡ security
+  unfolding version
+  version-is = ap (λ (x : Manifest). x.security) at
+
+-- ---- the package
+
+installs-parts : (rows : List ImageRow) (sizes : List ℕ) (number security : ℕ) → AreImages rows → FitSizes rows sizes
+    → IsTrue (is_complete rows (generated_images rows sizes number security)) → version (generated_images rows sizes number security) ≡ security
+    → Installs rows (generated rows sizes number security) (generated_images rows sizes number security) security
+unfolding generated
+installs-parts rows sizes number security images fit complete is =
+    let parts = generated_parts rows sizes number security in
+    let file = packed 0x12345678 0 parts 1 in
+    let fits = generated-fit rows sizes number security images fit in
+    let again = passed-is-read 0x12345678 0 parts 1 (parts-pass rows parts images fits) (have-fields rows parts images.each fits) (omega arith) (omega arith) (omega arith) in
+    let toc = again.0 in
+    let guids : map (λ e. e.guid) toc.entries ≡ guids_of rows = again.4 ∙ fit-guids rows parts fits in
+    let table = tables-are-read.table file toc again.1 in
+    record {
+      toc = toc;
+      table = again.1;
+      whole = none-missing rows toc guids images.distinct (entries-fit file rows toc.entries parts table.within again.6 fits);
+      no_others = none-skipped rows toc guids;
+      images_are = images-found rows file toc guids images.distinct ∙ again.6;
+      complete = complete;
+      version_is = is;
+    }
+
+pub generated-install : (rows : List ImageRow) (sizes : List ℕ) (number security : ℕ) → AreImages rows → FitSizes rows sizes → number < 4294967296 → security ≤ 223
+    → Installs rows (generated rows sizes number security) (generated_images rows sizes number security) security
+generated-install [] sizes number security images fit low least = absurd (let some = images.some in omega (arith, some))
+generated-install (r ∷ rows) sizes number security images fit low least =
+    installs-parts (r ∷ rows) sizes number security images fit (are-complete r rows sizes number security images fit low least) (version-is r rows sizes number security images fit low least)
+
+pub generated-are-complete : GeneratedAreComplete
+generated-are-complete rows sizes number security images sizes-are low least =
+    generated-install rows sizes number security (images-are rows images) (sizes-fit rows sizes sizes-are) low least
