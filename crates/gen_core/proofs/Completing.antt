@@ -1,5 +1,5 @@
 -- The images of a package that is made from a number are complete, and it installs them.
-use Rattle.std.proofs.Common.{◌≡◌, ℕ, zero, suc, ◌+◌, ◌-◌, ◌*◌, ◌<◌, ◌≤◌, Bool, true, false, not, ◌&&◌, ◌==◌, List, [], ◌∷◌, ◌++◌, length, get_or, take, drop, map, Ok, is_ok, Result, refl, sym, ap, subst, ◌∙◌, arith, IsTrue, IsFalse, leb, ltb, eqb, leb-true, eq-eqb, append-nil}
+use Rattle.std.proofs.Common.{◌≡◌, ℕ, suc, ◌+◌, ◌-◌, ◌*◌, ◌<◌, ◌≤◌, not, ◌&&◌, ◌==◌, List, [], ◌∷◌, length, get_or, take, drop, map, None, Ok, is_ok, Result, refl, sym, ap, subst, ◌∙◌, arith, IsTrue, leb, ltb, eq-eqb, append-nil}
 use Rattle.std.proofs.lemmas.Bool.{and_from, and_parts, le-leb, lt-ltb}
 use Rattle.std.proofs.lemmas.List.{length-map}
 use Rattle.std.proofs.Math.Seq.{take-length}
@@ -15,10 +15,11 @@ use Rattle.fwu_formats.proofs.ManifestWritten.{written-is-read}
 use Rattle.fwu_formats.proofs.SealLaws.{was_not_refused}
 use Rattle.fwu_formats.proofs.Spell.{same-bytes_refl}
 use Rattle.fwu_formats.proofs.Tables.{tables-are-read}
+use Rattle.fip_tables.specs.Packing.{pack_fault}
 use Rattle.fip_tables.proofs.Again.{passed-is-read}
-use Rattle.gen_core.specs.Generated.{generated, generated_images, generated_parts, image_parts, manifest_for, row_of}
+use Rattle.gen_core.specs.Generated.{generated, generated_images, generated_parts, image_parts, manifest_for, parts_from, row_of}
 use Rattle.gen_core.specs.Law.{GeneratedAreComplete, Installs}
-use Rattle.gen_core.proofs.Making.{AreImages, FitSizes, guids_of, images-are, image_parts-length, row-limits, sizes-fit}
+use Rattle.gen_core.proofs.Making.{AreImages, FitSizes, guids_of, images-are, row-limits, sizes-fit}
 use Rattle.gen_core.proofs.Packing.{FitRows, fit-guids, fit-length, generated-fit, have-fields, manifest-length, parts-pass}
 use Rattle.gen_core.proofs.Installing.{entries-fit, images-found, none-missing, none-skipped}
 
@@ -172,3 +173,15 @@ generated-install (r ∷ rows) sizes number security images fit low least =
 pub generated-are-complete : GeneratedAreComplete
 generated-are-complete rows sizes number security images sizes-are low least =
     generated-install rows sizes number security (images-are rows images) (sizes-fit rows sizes sizes-are) low least
+
+-- ---- the parts as the code makes them
+
+-- the first row's type, and the rows behind it
+pub parts-made : (rows : List ImageRow) (sizes : List ℕ) (number security : ℕ) (d : ImageRow) → AreImages rows → parts_from (get_or rows 0 d).guid (take (length rows - 1) (drop 1 rows)) sizes number security ≡ generated_parts rows sizes number security
+parts-made [] sizes number security d images = absurd (let some = images.some in omega (arith, some))
+parts-made (r ∷ rows) sizes number security d images =
+    let n : suc (length rows) - 1 ≡ length rows = omega arith in
+    ap (λ (l : List ImageRow). parts_from r.guid l sizes number security) (ap (λ (k : ℕ). take k rows) n ∙ take-length rows)
+
+pub made-pass : (rows : List ImageRow) (sizes : List ℕ) (number security : ℕ) → AreImages rows → FitSizes rows sizes → pack_fault (generated_parts rows sizes number security) 1 ≡ None
+made-pass rows sizes number security images fit = parts-pass rows (generated_parts rows sizes number security) images (generated-fit rows sizes number security images fit)

@@ -1,13 +1,13 @@
 -- What is installed of a package whose entries are the images of a layout, in their order.
-use Rattle.std.proofs.Common.{◌≡◌, ℕ, zero, suc, ◌+◌, ◌-◌, ◌*◌, ◌<◌, ◌≤◌, Bool, true, false, cond, not, ◌&&◌, ◌||◌, List, [], ◌∷◌, length, get_or, take, drop, map, Option, Some, None, Ok, is_some, refl, sym, ap, subst, ◌∙◌, arith, inl, inr, IsTrue, IsFalse, ltb, leb, le-ltb, add-zero}
-use Rattle.std.proofs.lemmas.Bool.{and_parts, cases_Bool, cond-true, cond-false, lt-ltb, not-true, not_from_true, or_cases, or_left, or_parts, or_right}
+use Rattle.std.proofs.Common.{◌≡◌, ℕ, suc, ◌+◌, ◌*◌, ◌<◌, ◌≤◌, Bool, true, false, cond, not, List, [], ◌∷◌, length, drop, map, Option, Some, None, is_some, refl, sym, ap, subst, ◌∙◌, arith, inl, inr, IsTrue, IsFalse, ltb, le-ltb}
+use Rattle.std.proofs.lemmas.Bool.{and_parts, cond-true, cond-false, lt-ltb, not-true, not_from_true, or_cases, or_left, or_parts, or_right}
 use Rattle.std.proofs.lemmas.List.{length-drop, length-take-le}
 use Rattle.std.proofs.lemmas.List.Sums.{sum_by-cons}
 use Rattle.std.specs.Prelude.{count_by, find, All}
 use Rattle.std.specs.List.{list_any, position_or_len}
 use Rattle.base_core.specs.Bytes.{same_bytes}
 use Rattle.fwu_formats.specs.Layout.{ImageRow, are_distinct, find_image}
-use Rattle.fwu_formats.specs.Package.{Entry, Part, Toc, entry_of, has_guid, payload, toc_of}
+use Rattle.fwu_formats.specs.Package.{Entry, Part, Toc, entry_of, has_guid, payload}
 use Rattle.fwu_formats.proofs.Spell.{same-bytes_refl}
 use Rattle.fwu_model.specs.Answer.{first_image_fault, images_of, payload_of, skipped}
 use Rattle.gen_core.proofs.Making.{guids_of}

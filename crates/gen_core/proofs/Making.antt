@@ -1,9 +1,9 @@
 -- The parts of a package that is made from a number.
-use Rattle.std.proofs.Common.{◌≡◌, ℕ, zero, suc, ◌+◌, ◌-◌, ◌*◌, ◌<◌, ◌≤◌, Bool, true, false, not, ◌&&◌, ◌==◌, List, [], ◌∷◌, ◌++◌, length, get_or, take, drop, map, refl, sym, ap, subst, ◌∙◌, arith, IsTrue, IsFalse, leb, eqb, leb-true, eqb-true, eq-eqb, add-zero, length-append}
+use Rattle.std.proofs.Common.{◌≡◌, ℕ, zero, suc, ◌+◌, ◌*◌, ◌<◌, ◌≤◌, Bool, true, not, ◌&&◌, ◌==◌, List, [], ◌∷◌, ◌++◌, length, get_or, take, drop, map, refl, sym, ap, ◌∙◌, arith, IsTrue, IsFalse, leb, eqb, leb-true, eqb-true, add-zero}
 use Rattle.std.proofs.lemmas.Bool.{and_from, and_parts, le-leb, not-true}
 use Rattle.std.specs.List.{All, list_all}
 use Rattle.base_core.specs.Bytes.{same_bytes, are_bytes}
-use Rattle.fwu_formats.specs.Layout.{Layout, ImageRow, is_row, are_distinct, fits_layout, nil_guid, dir_guid}
+use Rattle.fwu_formats.specs.Layout.{ImageRow, is_row, are_distinct, fits_layout, nil_guid, dir_guid}
 use Rattle.fwu_formats.specs.Manifest.{all_paired}
 use Rattle.fwu_formats.specs.Package.{Part}
 use Rattle.gen_core.specs.Generated.{are_images, fit_sizes, image_bytes, image_parts}

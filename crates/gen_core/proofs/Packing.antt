@@ -1,23 +1,23 @@
 -- Nothing keeps the parts of a package that is made from a number from being packed.
-use Rattle.std.proofs.Common.{◌≡◌, ℕ, zero, suc, ◌+◌, ◌-◌, ◌*◌, ◌%◌, ◌<◌, ◌≤◌, Bool, true, false, not, ◌&&◌, ◌==◌, List, [], ◌∷◌, ◌++◌, length, get_or, take, drop, map, None, refl, sym, ap, subst, ◌∙◌, arith, IsTrue, IsFalse, leb, ltb, eqb, leb-true, eq-eqb, length-append}
+use Rattle.std.proofs.Common.{◌≡◌, ℕ, zero, suc, ◌+◌, ◌*◌, ◌<◌, ◌≤◌, Bool, true, false, not, ◌&&◌, ◌==◌, List, [], ◌∷◌, ◌++◌, length, map, None, refl, sym, ap, subst, ◌∙◌, arith, IsTrue, IsFalse, ltb, leb-true, eq-eqb, length-append}
 use Rattle.std.proofs.lemmas.Bool.{and_from, and_parts, or_from, or_parts, lt-ltb, not-true}
 use lib.Count.{ones}
-use Rattle.std.specs.Prelude.{flat_map, position}
+use Rattle.std.specs.Prelude.{flat_map}
 use Rattle.std.specs.List.{list_all, list_any}
 use Rattle.std.specs.Int.{next_multiple_of}
 use Rattle.sha2.specs.Sha256.{sha256}
 use Rattle.sha2.proofs.Facts256.{length-sha256}
 use Rattle.base_core.specs.Bytes.{le, same_bytes}
 use Rattle.fwu_formats.specs.Layout.{ImageRow, is_row, are_distinct, nil_guid}
-use Rattle.fwu_formats.specs.Manifest.{Row, Manifest, all_paired, manifest_row_bytes, manifest_body, manifest_bytes, manifest_size, manifest_magic, form_of}
-use Rattle.fwu_formats.specs.Package.{Part, packed}
+use Rattle.fwu_formats.specs.Manifest.{Manifest, all_paired, manifest_row_bytes, manifest_body, manifest_bytes, manifest_size, manifest_magic, form_of}
+use Rattle.fwu_formats.specs.Package.{Part}
 use Rattle.fip_tables.specs.Again.{has_fields}
 use Rattle.fip_tables.specs.Frame.{AreSixteen, last_end, table_end}
-use Rattle.fip_tables.specs.Packing.{is_alignment, is_nil, is_repeat, pack_fault, package_limit, part_at, first_repeat}
+use Rattle.fip_tables.specs.Packing.{is_alignment, is_nil, is_repeat, pack_fault, part_at}
 use Rattle.fip_tables.proofs.Firsts.{no-fault, none-repeats, position-none}
 use Rattle.fip_tables.proofs.Plans.{packed-length}
-use Rattle.gen_core.specs.Generated.{image_bytes, image_parts, row_of, manifest_for, parts_from, generated_parts, are_images, fit_sizes}
-use Rattle.gen_core.proofs.Making.{AreImages, FitSizes, guids_of, images-are, sizes-fit, is_within, row-limits, image-length, image_parts-length}
+use Rattle.gen_core.specs.Generated.{image_parts, row_of, manifest_for, generated_parts}
+use Rattle.gen_core.proofs.Making.{AreImages, FitSizes, guids_of, is_within, row-limits, image-length, image_parts-length}
 
 -- ---- parts of images
 

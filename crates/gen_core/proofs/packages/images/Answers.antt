@@ -1,6 +1,5 @@
-use Rattle.std.proofs.Common.{◌≡◌, ◌+◌, ◌++◌, ◌∷◌, [], ℕ, suc, List, length, take, sym, ap, subst, ◌∙◌, arith, get_or, add-one, ◌<◌, ◌≤◌}
+use Rattle.std.proofs.Common.{◌≡◌, ◌+◌, ◌++◌, ◌∷◌, [], ℕ, List, length, sym, ap, subst, ◌∙◌, arith, get_or, add-one, ◌≤◌}
 use Rattle.std.specs.List.{All}
-use Rattle.fwu_formats.specs.Layout.{ImageRow}
 use Rattle.fwu_formats.specs.Package.{Part}
 use Rattle.gen_core.specs.Generated.{image_bytes, image_parts}
 use Rattle.gen_core.proofs.Making.{all-parts, image_parts-length, image_parts-more, image_parts-small}

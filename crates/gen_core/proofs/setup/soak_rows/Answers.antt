@@ -1,4 +1,4 @@
-use Rattle.std.proofs.Common.{◌≡◌, [], ◌∷◌, List, IsTrue, sym, subst}
+use Rattle.std.proofs.Common.{◌≡◌, [], ◌∷◌, List, IsTrue, subst}
 use Rattle.fwu_formats.specs.Layout.{ImageRow}
 use Rattle.gen_core.specs.Generated.{are_images}
 use Rattle.gen_core.specs.Setup.{soak_layout}
