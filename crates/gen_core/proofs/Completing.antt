@@ -26,7 +26,8 @@ use Rattle.gen_core.proofs.Installing.{entries-fit, images-found, none-missing, 
 -- ---- the manifest says what the images are
 
 -- each number has room in its field
-rows-have-room : (number : ℕ) (rs : List ImageRow) (ps : List Part) → number < 4294967296 → IsTrue (list_all is_row rs) → FitRows rs ps → IsTrue (list_all is_manifest_row (map (row_of number) ps))
+rows-have-room : (number : ℕ) (rs : List ImageRow) (ps : List Part) → number < 4294967296 → IsTrue (list_all is_row rs) → FitRows rs ps
+    → IsTrue (list_all is_manifest_row (map (row_of number) ps))
 rows-have-room number [] [] low each fit = refl
 rows-have-room number [] (p ∷ ps) low each fit = absurd fit
 rows-have-room number (r ∷ rs) [] low each fit = absurd fit
@@ -38,11 +39,13 @@ rows-have-room number (r ∷ rs) (p ∷ ps) low each fit =
     and_from (is_manifest_row (row_of number p)) (list_all is_manifest_row (map (row_of number) ps))
     (and_from ((length p.guid == 16) && ltb (length p.bytes) 4294967296 && ltb number 4294967296) (length (sha256 p.bytes) == 32)
     (and_from ((length p.guid == 16) && ltb (length p.bytes) 4294967296) (ltb number 4294967296)
-    (and_from (length p.guid == 16) (ltb (length p.bytes) 4294967296) (eq-eqb (length p.guid) 16 (ap length fit.0.guid ∙ row.sixteen)) (lt-ltb (length p.bytes) 4294967296 (omega (arith, most, size))))
+    (and_from (length p.guid == 16) (ltb (length p.bytes) 4294967296) (eq-eqb (length p.guid) 16 (ap length fit.0.guid
+    ∙ row.sixteen)) (lt-ltb (length p.bytes) 4294967296 (omega (arith, most, size))))
     (lt-ltb number 4294967296 low)) (eq-eqb (length (sha256 p.bytes)) 32 (length-sha256 p.bytes)))
     (rows-have-room number rs ps low own.1 fit.1)
 
-rows-in-order : (number : ℕ) (rs : List ImageRow) (ps : List Part) → FitRows rs ps → IsTrue (all_paired (λ i r. same_bytes i.guid r.guid) rs (map (row_of number) ps))
+rows-in-order : (number : ℕ) (rs : List ImageRow) (ps : List Part) → FitRows rs ps
+    → IsTrue (all_paired (λ i r. same_bytes i.guid r.guid) rs (map (row_of number) ps))
 rows-in-order number [] [] fit = refl
 rows-in-order number [] (p ∷ ps) fit = absurd fit
 rows-in-order number (r ∷ rs) [] fit = absurd fit
@@ -50,7 +53,8 @@ rows-in-order number (r ∷ rs) (p ∷ ps) fit =
     and_from (same_bytes r.guid p.guid) (all_paired (λ i q. same_bytes i.guid q.guid) rs (map (row_of number) ps))
     (subst (λ (g : List ℕ). IsTrue (same_bytes r.guid g)) (sym fit.0.guid) (same-bytes_refl r.guid)) (rows-in-order number rs ps fit.1)
 
-rows-within : (number : ℕ) (rs : List ImageRow) (ps : List Part) → FitRows rs ps → IsTrue (all_paired (λ i r. leb r.size (4096 * i.slots)) rs (map (row_of number) ps))
+rows-within : (number : ℕ) (rs : List ImageRow) (ps : List Part) → FitRows rs ps
+    → IsTrue (all_paired (λ i r. leb r.size (4096 * i.slots)) rs (map (row_of number) ps))
 rows-within number [] [] fit = refl
 rows-within number [] (p ∷ ps) fit = absurd fit
 rows-within number (r ∷ rs) [] fit = absurd fit
@@ -62,13 +66,15 @@ images-are-said : (number : ℕ) (ps : List Part) → IsTrue (all_paired is_imag
 images-are-said number [] = refl
 images-are-said number (p ∷ ps) =
     and_from (is_image_of (row_of number p) p.bytes) (all_paired is_image_of (map (row_of number) ps) (map (λ q. q.bytes) ps))
-    (and_from (length p.bytes == length p.bytes) (same_bytes (sha256 p.bytes) (sha256 p.bytes)) (eq-eqb (length p.bytes) (length p.bytes) refl) (same-bytes_refl (sha256 p.bytes)))
+    (and_from (length p.bytes == length p.bytes) (same_bytes (sha256 p.bytes) (sha256 p.bytes)) (eq-eqb (length p.bytes) (length p.bytes) refl)
+    (same-bytes_refl (sha256 p.bytes)))
     (images-are-said number ps)
 
 -- ---- the manifest is read again
 
 -- what a manifest that was read says
-says : (rows : List ImageRow) (bytes : List ℕ) (m : Manifest) → manifest_of rows bytes ≡ Ok m → length bytes ≡ manifest_size (length rows - 1) → manifest_at bytes ≡ m
+says : (rows : List ImageRow) (bytes : List ℕ) (m : Manifest) → manifest_of rows bytes ≡ Ok m → length bytes ≡ manifest_size (length rows - 1)
+    → manifest_at bytes ≡ m
 unfolding manifest_of
 says rows bytes m e len =
     let count = length rows - 1 in
@@ -81,13 +87,15 @@ says rows bytes m e len =
     let f = was_not_refused (not (num_at 4 bytes 12 == count)) _ _ m d.1 in
     let g = was_not_refused (not (all_paired (λ (i : ImageRow) (r : Row). same_bytes i.guid r.guid) others read.rows)) _ _ m f.1 in
     let h = was_not_refused (not (all_paired (λ (i : ImageRow) (r : Row). leb r.size (4096 * i.slots)) others read.rows)) _ _ m g.1 in
-    let i = was_not_refused (not (same_bytes (drop (16 + 56 * count) (take (manifest_size count) bytes)) (sha256 (take (16 + 56 * count) bytes)))) _ _ m h.1 in
+    let i = was_not_refused (not (same_bytes (drop (16 + 56 * count) (take (manifest_size count) bytes))
+    (sha256 (take (16 + 56 * count) bytes)))) _ _ m h.1 in
     ap manifest_at (sym (ap (λ (n : ℕ). take n bytes) (sym len) ∙ take-length bytes)) ∙ same-ok {F = ManifestFault} read m i.1
   where
     same-ok : {X F : Type 0} (x y : X) → ◌≡◌ {A = Result X F} (Ok x) (Ok y) → x ≡ y
     same-ok x y e = cc
 
-module _ (r : ImageRow) (rows : List ImageRow) (sizes : List ℕ) (number security : ℕ) (images : AreImages (r ∷ rows)) (fit : FitSizes (r ∷ rows) sizes) (low : number < 4294967296) (least : security ≤ 223) where
+module _ (r : ImageRow) (rows : List ImageRow) (sizes : List ℕ) (number security : ℕ) (images : AreImages (r ∷ rows)) (fit : FitSizes (r ∷ rows) sizes)
+    (low : number < 4294967296) (least : security ≤ 223) where
   abbrev ps : List Part
   ps = image_parts number 1 rows sizes
 
@@ -130,7 +138,8 @@ module _ (r : ImageRow) (rows : List ImageRow) (sizes : List ℕ) (number securi
   are-complete =
       let p = generated_images (r ∷ rows) sizes number security in
       let len : length p ≡ length (r ∷ rows) = omega (arith, length-map ps (λ q. q.bytes), counted) in
-      and_from ((length p == length (r ∷ rows)) && is_ok (manifest_of (r ∷ rows) bytes) && (length bytes == manifest_size (length (r ∷ rows) - 1))) (all_paired is_image_of (manifest_at bytes).rows (map (λ q. q.bytes) ps))
+      and_from ((length p == length (r ∷ rows)) && is_ok (manifest_of (r ∷ rows) bytes) && (length bytes == manifest_size (length (r ∷ rows) - 1)))
+      (all_paired is_image_of (manifest_at bytes).rows (map (λ q. q.bytes) ps))
       (and_from ((length p == length (r ∷ rows)) && is_ok (manifest_of (r ∷ rows) bytes)) (length bytes == manifest_size (length (r ∷ rows) - 1))
       (and_from (length p == length (r ∷ rows)) (is_ok (manifest_of (r ∷ rows) bytes)) (eq-eqb (length p) (length (r ∷ rows)) len) (ap is_ok read))
       (eq-eqb (length bytes) (manifest_size (length (r ∷ rows) - 1)) bytes-length))
@@ -150,7 +159,8 @@ installs-parts rows sizes number security images fit complete is =
     let parts = generated_parts rows sizes number security in
     let file = packed 0x12345678 0 parts 1 in
     let fits = generated-fit rows sizes number security images fit in
-    let again = passed-is-read 0x12345678 0 parts 1 (parts-pass rows parts images fits) (have-fields rows parts images.each fits) (omega arith) (omega arith) (omega arith) in
+    let again = passed-is-read 0x12345678 0 parts 1 (parts-pass rows parts images fits) (have-fields rows parts images.each fits) (omega arith) (omega arith)
+    (omega arith) in
     let toc = again.0 in
     let guids : map (λ e. e.guid) toc.entries ≡ guids_of rows = again.4 ∙ fit-guids rows parts fits in
     let table = tables-are-read.table file toc again.1 in
@@ -164,11 +174,13 @@ installs-parts rows sizes number security images fit complete is =
       version_is = is;
     }
 
-pub generated-install : (rows : List ImageRow) (sizes : List ℕ) (number security : ℕ) → AreImages rows → FitSizes rows sizes → number < 4294967296 → security ≤ 223
+pub generated-install : (rows : List ImageRow) (sizes : List ℕ) (number security : ℕ) → AreImages rows → FitSizes rows sizes → number < 4294967296
+    → security ≤ 223
     → Installs rows (generated rows sizes number security) (generated_images rows sizes number security) security
 generated-install [] sizes number security images fit low least = absurd (let some = images.some in omega (arith, some))
 generated-install (r ∷ rows) sizes number security images fit low least =
-    installs-parts (r ∷ rows) sizes number security images fit (are-complete r rows sizes number security images fit low least) (version-is r rows sizes number security images fit low least)
+    installs-parts (r ∷ rows) sizes number security images fit (are-complete r rows sizes number security images fit low least)
+    (version-is r rows sizes number security images fit low least)
 
 pub generated-are-complete : GeneratedAreComplete
 generated-are-complete rows sizes number security images sizes-are low least =
@@ -177,11 +189,14 @@ generated-are-complete rows sizes number security images sizes-are low least =
 -- ---- the parts as the code makes them
 
 -- the first row's type, and the rows behind it
-pub parts-made : (rows : List ImageRow) (sizes : List ℕ) (number security : ℕ) (d : ImageRow) → AreImages rows → parts_from (get_or rows 0 d).guid (take (length rows - 1) (drop 1 rows)) sizes number security ≡ generated_parts rows sizes number security
+pub parts-made : (rows : List ImageRow) (sizes : List ℕ) (number security : ℕ) (d : ImageRow) → AreImages rows
+    → parts_from (get_or rows 0 d).guid (take (length rows - 1) (drop 1 rows)) sizes number security ≡ generated_parts rows sizes number security
 parts-made [] sizes number security d images = absurd (let some = images.some in omega (arith, some))
 parts-made (r ∷ rows) sizes number security d images =
     let n : suc (length rows) - 1 ≡ length rows = omega arith in
     ap (λ (l : List ImageRow). parts_from r.guid l sizes number security) (ap (λ (k : ℕ). take k rows) n ∙ take-length rows)
 
-pub made-pass : (rows : List ImageRow) (sizes : List ℕ) (number security : ℕ) → AreImages rows → FitSizes rows sizes → pack_fault (generated_parts rows sizes number security) 1 ≡ None
-made-pass rows sizes number security images fit = parts-pass rows (generated_parts rows sizes number security) images (generated-fit rows sizes number security images fit)
+pub made-pass : (rows : List ImageRow) (sizes : List ℕ) (number security : ℕ) → AreImages rows → FitSizes rows sizes
+    → pack_fault (generated_parts rows sizes number security) 1 ≡ None
+made-pass rows sizes number security images fit = parts-pass rows (generated_parts rows sizes number security) images
+    (generated-fit rows sizes number security images fit)

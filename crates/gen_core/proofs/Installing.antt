@@ -16,15 +16,18 @@ use Rattle.gen_core.proofs.Packing.{FitRows}
 -- ---- each image finds its own entry
 
 -- images of other types pass over an entry
-pass-over : (e : Entry) (es : List Entry) (rs : List ImageRow) → IsFalse (list_any (same_bytes e.guid) (guids_of rs)) → map (λ r. find (has_guid r.guid) (e ∷ es)) rs ≡ map (λ r. find (has_guid r.guid) es) rs
+pass-over : (e : Entry) (es : List Entry) (rs : List ImageRow) → IsFalse (list_any (same_bytes e.guid) (guids_of rs))
+    → map (λ r. find (has_guid r.guid) (e ∷ es)) rs ≡ map (λ r. find (has_guid r.guid) es) rs
 pass-over e es [] none = refl
 pass-over e es (r ∷ rs) none =
     let both = or_parts (same_bytes e.guid r.guid) (list_any (same_bytes e.guid) (guids_of rs)) none in
-    let first : find (has_guid r.guid) (e ∷ es) ≡ find (has_guid r.guid) es = cond-false (same_bytes e.guid r.guid) (Some e) (find (has_guid r.guid) es) both.0 in
+    let first : find (has_guid r.guid) (e ∷ es) ≡ find (has_guid r.guid) es = cond-false (same_bytes e.guid r.guid) (Some e)
+    (find (has_guid r.guid) es) both.0 in
     let others = pass-over e es rs both.1 in
     cc
 
-pub own-entries : (es : List Entry) (rs : List ImageRow) → map (λ e. e.guid) es ≡ guids_of rs → IsTrue (are_distinct (guids_of rs)) → map (λ r. find (has_guid r.guid) es) rs ≡ map Some es
+pub own-entries : (es : List Entry) (rs : List ImageRow) → map (λ e. e.guid) es ≡ guids_of rs → IsTrue (are_distinct (guids_of rs))
+    → map (λ r. find (has_guid r.guid) es) rs ≡ map Some es
 own-entries [] [] same h = refl
 own-entries [] (r ∷ rs) same h = absurd cc
 own-entries (e ∷ es) [] same h = absurd cc
@@ -32,13 +35,15 @@ own-entries (e ∷ es) (r ∷ rs) same h =
     let guid : e.guid ≡ r.guid = cc in
     let rest : map (λ x. x.guid) es ≡ guids_of rs = cc in
     let both = and_parts (not (list_any (same_bytes r.guid) (guids_of rs))) (are_distinct (guids_of rs)) h in
-    let none : IsFalse (list_any (same_bytes e.guid) (guids_of rs)) = subst (λ (g : List ℕ). IsFalse (list_any (same_bytes g) (guids_of rs))) (sym guid) (not-true _ both.0) in
+    let none : IsFalse (list_any (same_bytes e.guid) (guids_of rs)) = subst (λ (g : List ℕ). IsFalse (list_any (same_bytes g) (guids_of rs))) (sym guid)
+    (not-true _ both.0) in
     let test : IsTrue (same_bytes e.guid r.guid) = subst (λ (g : List ℕ). IsTrue (same_bytes e.guid g)) guid (same-bytes_refl e.guid) in
     let first : find (has_guid r.guid) (e ∷ es) ≡ Some e = cond-true (same_bytes e.guid r.guid) (Some e) (find (has_guid r.guid) es) test in
     let others : map (λ x. find (has_guid x.guid) (e ∷ es)) rs ≡ map Some es = pass-over e es rs none ∙ own-entries es rs rest both.1 in
     cc
 
-payloads-found : (file : List ℕ) (f : ImageRow → Option Entry) (rs : List ImageRow) (es : List Entry) → map f rs ≡ map Some es → map (λ r. payload_of file (f r)) rs ≡ map (payload file) es
+payloads-found : (file : List ℕ) (f : ImageRow → Option Entry) (rs : List ImageRow) (es : List Entry) → map f rs ≡ map Some es
+    → map (λ r. payload_of file (f r)) rs ≡ map (payload file) es
 payloads-found file f [] [] same = refl
 payloads-found file f [] (e ∷ es) same = absurd cc
 payloads-found file f (r ∷ rs) [] same = absurd cc
@@ -49,7 +54,8 @@ payloads-found file f (r ∷ rs) (e ∷ es) same =
     let others = payloads-found file f rs es rest in
     cc
 
-pub images-found : (rows : List ImageRow) (file : List ℕ) (toc : Toc) → map (λ e. e.guid) toc.entries ≡ guids_of rows → IsTrue (are_distinct (guids_of rows)) → images_of rows file toc ≡ map (payload file) toc.entries
+pub images-found : (rows : List ImageRow) (file : List ℕ) (toc : Toc) → map (λ e. e.guid) toc.entries ≡ guids_of rows → IsTrue (are_distinct (guids_of rows))
+    → images_of rows file toc ≡ map (payload file) toc.entries
 unfolding images_of
 images-found rows file toc same distinct = payloads-found file (λ r. entry_of toc r.guid) rows toc.entries (own-entries toc.entries rows same distinct)
 
@@ -62,7 +68,8 @@ FitEntries [] (e ∷ es) = ⊥
 FitEntries (r ∷ rs) [] = ⊥
 FitEntries (r ∷ rs) (e ∷ es) = (e.size ≤ 4096 * r.slots) × FitEntries rs es
 
-no-fault-from : (toc : Toc) (rs : List ImageRow) (es : List Entry) → map (λ r. entry_of toc r.guid) rs ≡ map Some es → FitEntries rs es → first_image_fault rs toc ≡ None
+no-fault-from : (toc : Toc) (rs : List ImageRow) (es : List Entry) → map (λ r. entry_of toc r.guid) rs ≡ map Some es → FitEntries rs es
+    → first_image_fault rs toc ≡ None
 unfolding first_image_fault
 no-fault-from toc [] [] same fit = refl
 no-fault-from toc [] (e ∷ es) same fit = absurd fit
@@ -73,11 +80,13 @@ no-fault-from toc (r ∷ rs) (e ∷ es) same fit =
     let low = le-ltb (4096 * r.slots) e.size fit.0 in
     rw (own, low) (no-fault-from toc rs es rest fit.1)
 
-pub none-missing : (rows : List ImageRow) (toc : Toc) → map (λ e. e.guid) toc.entries ≡ guids_of rows → IsTrue (are_distinct (guids_of rows)) → FitEntries rows toc.entries → first_image_fault rows toc ≡ None
+pub none-missing : (rows : List ImageRow) (toc : Toc) → map (λ e. e.guid) toc.entries ≡ guids_of rows → IsTrue (are_distinct (guids_of rows))
+    → FitEntries rows toc.entries → first_image_fault rows toc ≡ None
 none-missing rows toc same distinct fit = no-fault-from toc rows toc.entries (own-entries toc.entries rows same distinct) fit
 
 -- a payload that lies in the file has its entry's size
-pub entries-fit : (file : List ℕ) (rs : List ImageRow) (es : List Entry) (ps : List Part) → All (λ e. e.offset + e.size ≤ length file) es → map (payload file) es ≡ map (λ p. p.bytes) ps → FitRows rs ps → FitEntries rs es
+pub entries-fit : (file : List ℕ) (rs : List ImageRow) (es : List Entry) (ps : List Part) → All (λ e. e.offset + e.size ≤ length file) es
+    → map (payload file) es ≡ map (λ p. p.bytes) ps → FitRows rs ps → FitEntries rs es
 entries-fit file [] [] ps within same fit = tt
 entries-fit file [] (e ∷ es) [] within same fit = absurd cc
 entries-fit file [] (e ∷ es) (p ∷ ps) within same fit = absurd fit
@@ -112,7 +121,8 @@ is-found rows g h =
 abbrev zero_or_one : Bool → ℕ
 zero_or_one b = cond b 1 0
 
-skips-none : (whole rs : List ImageRow) (es : List Entry) → map (λ e. e.guid) es ≡ guids_of rs → ((g : List ℕ) → list_any (λ r. same_bytes r.guid g) rs ≡ true → list_any (λ r. same_bytes r.guid g) whole ≡ true)
+skips-none : (whole rs : List ImageRow) (es : List Entry) → map (λ e. e.guid) es ≡ guids_of rs
+    → ((g : List ℕ) → list_any (λ r. same_bytes r.guid g) rs ≡ true → list_any (λ r. same_bytes r.guid g) whole ≡ true)
     → count_by (λ e. not (is_some (find_image whole e.guid))) es ≡ 0
 skips-none whole [] [] same among = refl
 skips-none whole [] (e ∷ es) same among = absurd cc

@@ -75,12 +75,20 @@ pub record IsRow (r : ImageRow) : Type 0 where
 
 pub row-limits : (r : ImageRow) → IsTrue (is_row r) → IsRow r
 row-limits r h =
-    let a = and_parts ((length r.guid == 16) && are_bytes r.guid && not (same_bytes r.guid nil_guid) && not (same_bytes r.guid dir_guid) && leb 1 r.slots) (leb r.slots 256) h in
-    let b = and_parts ((length r.guid == 16) && are_bytes r.guid && not (same_bytes r.guid nil_guid) && not (same_bytes r.guid dir_guid)) (leb 1 r.slots) a.0 in
+    let a = and_parts ((length r.guid == 16) && are_bytes r.guid && not (same_bytes r.guid nil_guid) && not (same_bytes r.guid dir_guid) && leb 1 r.slots)
+    (leb r.slots 256) h in
+    let b = and_parts ((length r.guid == 16) && are_bytes r.guid && not (same_bytes r.guid nil_guid) && not (same_bytes r.guid dir_guid))
+    (leb 1 r.slots) a.0 in
     let c = and_parts ((length r.guid == 16) && are_bytes r.guid && not (same_bytes r.guid nil_guid)) (not (same_bytes r.guid dir_guid)) b.0 in
     let d = and_parts ((length r.guid == 16) && are_bytes r.guid) (not (same_bytes r.guid nil_guid)) c.0 in
     let e = and_parts (length r.guid == 16) (are_bytes r.guid) d.0 in
-    record { sixteen = eqb-true (length r.guid) 16 e.0; some = not-true (same_bytes r.guid nil_guid) d.1; least = leb-true 1 r.slots b.1; most = leb-true r.slots 256 a.1 }
+    record {
+      sixteen = eqb-true (length r.guid) 16 e.0;
+      some = not-true
+          (same_bytes r.guid nil_guid) d.1;
+      least = leb-true 1 r.slots b.1;
+      most = leb-true r.slots 256 a.1;
+    }
 
 -- ---- the images
 
@@ -91,7 +99,12 @@ image-length number i size = length-map-range_with_len _ 0 size
 -- one part more
 pub image_parts-more : (number i : ℕ) (rows : List ImageRow) (sizes : List ℕ) (k : ℕ) (d : ImageRow) → k < length rows → k < length sizes
     → image_parts number i (take (suc k) rows) (take (suc k) sizes)
-    ≡ image_parts number i (take k rows) (take k sizes) ++ record { guid = (get_or rows k d).guid; flags = 0; bytes = image_bytes number (i + k) (get_or sizes k 0) } ∷ []
+    ≡ image_parts number i (take k rows) (take k sizes) ++ record {
+      guid = (get_or rows k d).guid;
+      flags = 0;
+      bytes = image_bytes number (i + k)
+          (get_or sizes k 0);
+    } ∷ []
 image_parts-more number i [] sizes k d lt mt = absurd (omega (arith, lt))
 image_parts-more number i (r ∷ rows) [] k d lt mt = absurd (omega (arith, mt))
 image_parts-more number i (r ∷ rows) (size ∷ sizes) zero d lt mt =
@@ -100,10 +113,16 @@ image_parts-more number i (r ∷ rows) (size ∷ sizes) (suc k) d lt mt =
     let own : Part = record { guid = r.guid; flags = 0; bytes = image_bytes number i size } in
     let at : i + 1 + k ≡ i + suc k = omega arith in
     ap (λ (ps : List Part). own ∷ ps) (image_parts-more number (i + 1) rows sizes k d (omega (arith, lt)) (omega (arith, mt)))
-    ∙ ap (λ (n : ℕ). own ∷ (image_parts number (i + 1) (take k rows) (take k sizes) ++ record { guid = (get_or rows k d).guid; flags = 0; bytes = image_bytes number n (get_or sizes k 0) } ∷ [])) at
+    ∙ ap (λ (n : ℕ). own ∷ (image_parts number (i + 1) (take k rows) (take k sizes) ++ record {
+      guid =
+          (get_or rows k d).guid;
+      flags = 0;
+      bytes = image_bytes number n (get_or sizes k 0);
+    } ∷ [])) at
 
 -- no size is above that of the largest slot
-sizes-small : (rows : List ImageRow) (sizes : List ℕ) → length sizes ≡ length rows → IsTrue (list_all is_row rows) → IsTrue (all_paired is_within rows sizes) → All (λ size. size ≤ 1048576) sizes
+sizes-small : (rows : List ImageRow) (sizes : List ℕ) → length sizes ≡ length rows → IsTrue (list_all is_row rows) → IsTrue (all_paired is_within rows sizes)
+    → All (λ size. size ≤ 1048576) sizes
 sizes-small [] [] e each within = λ k d lt. absurd (omega (arith, lt))
 sizes-small [] (size ∷ sizes) e each within = absurd (omega (arith, e))
 sizes-small (r ∷ rows) [] e each within = absurd (omega (arith, e))
@@ -137,7 +156,8 @@ are-sizes rows sizes h g = go rows (images-are rows h) (sizes-fit rows sizes g)
       small = sizes-small others sizes (omega (arith, fit.count)) (and_parts (is_row r) (list_all is_row others) images.each).1 fit.within;
     }
 
-pub image_parts-small : (number i : ℕ) (rows : List ImageRow) (sizes : List ℕ) → All (λ size. size ≤ 1048576) sizes → All (λ p. length p.bytes ≤ 1048576) (image_parts number i rows sizes)
+pub image_parts-small : (number i : ℕ) (rows : List ImageRow) (sizes : List ℕ) → All (λ size. size ≤ 1048576) sizes
+    → All (λ p. length p.bytes ≤ 1048576) (image_parts number i rows sizes)
 image_parts-small number i [] sizes low k d lt = absurd (omega (arith, lt))
 image_parts-small number i (r ∷ rows) [] low k d lt = absurd (omega (arith, lt))
 image_parts-small number i (r ∷ rows) (size ∷ sizes) low zero d lt =
@@ -146,13 +166,15 @@ image_parts-small number i (r ∷ rows) (size ∷ sizes) low zero d lt =
 image_parts-small number i (r ∷ rows) (size ∷ sizes) low (suc k) d lt =
     image_parts-small number (i + 1) rows sizes (λ j e below. low (suc j) e (omega (arith, below))) k d (omega (arith, lt))
 
-pub image_parts-length : (number i : ℕ) (rows : List ImageRow) (sizes : List ℕ) → length sizes ≡ length rows → length (image_parts number i rows sizes) ≡ length rows
+pub image_parts-length : (number i : ℕ) (rows : List ImageRow) (sizes : List ℕ) → length sizes ≡ length rows
+    → length (image_parts number i rows sizes) ≡ length rows
 image_parts-length number i [] sizes e = refl
 image_parts-length number i (r ∷ rows) [] e = absurd (omega (arith, e))
 image_parts-length number i (r ∷ rows) (size ∷ sizes) e = ap suc (image_parts-length number (i + 1) rows sizes (omega (arith, e)))
 
 -- all rows and sizes were gone through
-pub all-parts : (number : ℕ) (rows : List ImageRow) (sizes : List ℕ) (k : ℕ) (ps : List Part) → k ≡ length sizes → length rows ≡ length sizes → ps ≡ image_parts number 1 (take k rows) (take k sizes)
+pub all-parts : (number : ℕ) (rows : List ImageRow) (sizes : List ℕ) (k : ℕ) (ps : List Part) → k ≡ length sizes → length rows ≡ length sizes
+    → ps ≡ image_parts number 1 (take k rows) (take k sizes)
     → ps ≡ image_parts number 1 rows sizes
 all-parts number rows sizes k ps e len is =
     let by_rows : k ≡ length rows = omega (arith, e, len) in

@@ -46,17 +46,22 @@ fit-guids [] (p ∷ ps) fit = absurd fit
 fit-guids (r ∷ rs) [] fit = absurd fit
 fit-guids (r ∷ rs) (p ∷ ps) fit = let first = fit.0.guid in let others = fit-guids rs ps fit.1 in cc
 
-image_parts-fit : (number i : ℕ) (rows : List ImageRow) (sizes : List ℕ) → length sizes ≡ length rows → IsTrue (all_paired is_within rows sizes) → FitRows rows (image_parts number i rows sizes)
+image_parts-fit : (number i : ℕ) (rows : List ImageRow) (sizes : List ℕ) → length sizes ≡ length rows → IsTrue (all_paired is_within rows sizes)
+    → FitRows rows (image_parts number i rows sizes)
 image_parts-fit number i [] sizes e within = tt
 image_parts-fit number i (r ∷ rows) [] e within = absurd (omega (arith, e))
 image_parts-fit number i (r ∷ rows) (size ∷ sizes) e within =
     let fit = and_parts (is_within r size) (all_paired is_within rows sizes) within in
-    let low = leb-true size (4096 * r.slots) fit.0 in
-    (record { guid = refl; flags = refl; size = omega (arith, image-length number i size, low) }, image_parts-fit number (i + 1) rows sizes (omega (arith, e)) fit.1)
+    let low = leb-true size (4096 * r.slots) fit.0 in (
+      record { guid = refl; flags = refl; size = omega (arith, image-length number i size, low) },
+      image_parts-fit number (i + 1) rows sizes
+          (omega (arith, e)) fit.1,
+    )
 
 -- ---- the manifest
 
-rows-length : (number : ℕ) (rs : List ImageRow) (ps : List Part) → IsTrue (list_all is_row rs) → FitRows rs ps → length (flat_map manifest_row_bytes (map (row_of number) ps)) ≡ 56 * length ps
+rows-length : (number : ℕ) (rs : List ImageRow) (ps : List Part) → IsTrue (list_all is_row rs) → FitRows rs ps
+    → length (flat_map manifest_row_bytes (map (row_of number) ps)) ≡ 56 * length ps
 rows-length number [] [] each fit = refl
 rows-length number [] (p ∷ ps) each fit = absurd fit
 rows-length number (r ∷ rs) [] each fit = absurd fit
@@ -71,19 +76,29 @@ rows-length number (r ∷ rs) (p ∷ ps) each fit =
     let c = length-append ((p.guid ++ le 4 row.size) ++ le 4 number) (sha256 p.bytes) in
     omega (arith, length-append first others, a, b, c, sixteen, length-sha256 p.bytes, rows-length number rs ps own.1 fit.1)
 
-pub manifest-length : (number security : ℕ) (rs : List ImageRow) (ps : List Part) → IsTrue (list_all is_row rs) → FitRows rs ps → length (manifest_bytes (manifest_for number security ps)) ≡ manifest_size (length ps)
+pub manifest-length : (number security : ℕ) (rs : List ImageRow) (ps : List Part) → IsTrue (list_all is_row rs) → FitRows rs ps
+    → length (manifest_bytes (manifest_for number security ps)) ≡ manifest_size (length ps)
 unfolding manifest_bytes
 manifest-length number security rs ps each fit =
     let m = manifest_for number security ps in
     let rows = flat_map manifest_row_bytes m.rows in
-    omega (arith, length-append (manifest_body m) (sha256 (manifest_body m)), length-sha256 (manifest_body m), body-length m, rows-length number rs ps each fit)
+    omega (
+      arith,
+      length-append (manifest_body m) (sha256 (manifest_body m)),
+      length-sha256
+          (manifest_body m),
+      body-length m,
+      rows-length number rs ps each fit,
+    )
   where
     body-length : (m : Manifest) → length (manifest_body m) ≡ 16 + length (flat_map manifest_row_bytes m.rows)
-    body-length m = length-append (le 4 manifest_magic ++ le 4 (form_of m.security) ++ le 4 m.security ++ le 4 (length m.rows)) (flat_map manifest_row_bytes m.rows)
+    body-length m = length-append (le 4 manifest_magic ++ le 4 (form_of m.security) ++ le 4 m.security ++ le 4 (length m.rows))
+        (flat_map manifest_row_bytes m.rows)
 
 -- ---- all parts
 
-pub generated-fit : (rows : List ImageRow) (sizes : List ℕ) (number security : ℕ) → AreImages rows → FitSizes rows sizes → FitRows rows (generated_parts rows sizes number security)
+pub generated-fit : (rows : List ImageRow) (sizes : List ℕ) (number security : ℕ) → AreImages rows → FitSizes rows sizes
+    → FitRows rows (generated_parts rows sizes number security)
 generated-fit [] sizes number security images fit = tt
 generated-fit (r ∷ rows) sizes number security images fit =
     let own = and_parts (is_row r) (list_all is_row rows) images.each in
@@ -94,7 +109,13 @@ generated-fit (r ∷ rows) sizes number security images fit =
       record {
         guid = refl;
         flags = refl;
-        size = omega (arith, manifest-length number security rows (image_parts number 1 rows sizes) own.1 others, image_parts-length number 1 rows sizes len, least, few);
+        size = omega (
+          arith,
+          manifest-length number security rows (image_parts number 1 rows sizes) own.1 others,
+          image_parts-length number 1 rows sizes len,
+          least,
+          few,
+        );
       },
       others,
     )
@@ -105,19 +126,23 @@ same-sym : (xs ys : List ℕ) → same_bytes xs ys ≡ same_bytes ys xs
 same-sym [] [] = refl
 same-sym [] (y ∷ ys) = refl
 same-sym (x ∷ xs) [] = refl
-same-sym (x ∷ xs) (y ∷ ys) = ap (λ (b : Bool). b && same_bytes xs ys) (let e : (x == y) ≡ (y == x) = grind arith in e) ∙ ap (λ (b : Bool). (y == x) && b) (same-sym xs ys)
+same-sym (x ∷ xs) (y ∷ ys) = ap (λ (b : Bool). b && same_bytes xs ys) (let e : (x == y) ≡ (y == x) = grind arith in e)
+    ∙ ap (λ (b : Bool). (y == x) && b) (same-sym xs ys)
 
-other-type : (g : List ℕ) (ps : List Part) (k : ℕ) → IsFalse (list_any (same_bytes g) (map (λ p. p.guid) ps)) → k < length ps → same_bytes (part_at ps k).guid g ≡ false
+other-type : (g : List ℕ) (ps : List Part) (k : ℕ) → IsFalse (list_any (same_bytes g) (map (λ p. p.guid) ps)) → k < length ps
+    → same_bytes (part_at ps k).guid g ≡ false
 other-type g [] k none lt = absurd (omega (arith, lt))
 other-type g (p ∷ ps) zero none lt = same-sym p.guid g ∙ (or_parts (same_bytes g p.guid) (list_any (same_bytes g) (map (λ q. q.guid) ps)) none).0
-other-type g (p ∷ ps) (suc k) none lt = other-type g ps k (or_parts (same_bytes g p.guid) (list_any (same_bytes g) (map (λ q. q.guid) ps)) none).1 (omega (arith, lt))
+other-type g (p ∷ ps) (suc k) none lt = other-type g ps k (or_parts (same_bytes g p.guid) (list_any (same_bytes g) (map (λ q. q.guid) ps)) none).1
+    (omega (arith, lt))
 
 no-repeat : (ps : List Part) → IsTrue (are_distinct (map (λ p. p.guid) ps)) → (k : ℕ) → k < length ps → is_repeat ps k ≡ false
 no-repeat [] h k lt = absurd (omega (arith, lt))
 no-repeat (p ∷ ps) h zero lt = refl
 no-repeat (p ∷ ps) h (suc k) lt =
     let both = and_parts (not (list_any (same_bytes p.guid) (map (λ q. q.guid) ps))) (are_distinct (map (λ q. q.guid) ps)) h in
-    or_from (same_bytes (part_at ps k).guid p.guid) (is_repeat ps k) (other-type p.guid ps k (not-true _ both.0) (omega (arith, lt))) (no-repeat ps both.1 k (omega (arith, lt)))
+    or_from (same_bytes (part_at ps k).guid p.guid) (is_repeat ps k) (other-type p.guid ps k (not-true _ both.0) (omega (arith, lt)))
+    (no-repeat ps both.1 k (omega (arith, lt)))
 
 none-nil : (rs : List ImageRow) (ps : List Part) → IsTrue (list_all is_row rs) → FitRows rs ps → (k : ℕ) → k < length ps → is_nil (part_at ps k) ≡ false
 none-nil [] [] each fit k lt = absurd (omega (arith, lt))
@@ -144,7 +169,8 @@ have-fields (r ∷ rs) (p ∷ ps) each fit =
     let own = and_parts (is_row r) (list_all is_row rs) each in
     let flags = fit.0.flags in
     and_from (has_fields p) (list_all has_fields ps)
-    (and_from (length p.guid == 16) (ltb p.flags 18446744073709551616) (eq-eqb (length p.guid) 16 (ap length fit.0.guid ∙ (row-limits r own.0).sixteen)) (lt-ltb p.flags 18446744073709551616 (omega (arith, flags))))
+    (and_from (length p.guid == 16) (ltb p.flags 18446744073709551616) (eq-eqb (length p.guid) 16 (ap length fit.0.guid
+    ∙ (row-limits r own.0).sixteen)) (lt-ltb p.flags 18446744073709551616 (omega (arith, flags))))
     (have-fields rs ps own.1 fit.1)
 
 -- with an alignment of one there is nothing between payloads

@@ -37,7 +37,15 @@ first-sizes : sizes_of 1 ≡ 452 ∷ 5758 ∷ []
 unfolding step drawn
 first-sizes = refl
 
-first-round : round_of (register_after 2 1) 1 ≡ record { number = 1; sizes = 1920 ∷ 1130 ∷ []; security = 0; acceptance = 1; cut = Some (record { n = 2; k = 3322 }); ending = Nothing }
+first-round : round_of (register_after 2 1) 1 ≡ record {
+  number = 1;
+  sizes = 1920 ∷ 1130 ∷ [];
+  security = 0;
+  acceptance = 1;
+  cut = Some
+      (record { n = 2; k = 3322 });
+  ending = Nothing;
+}
 unfolding round_of step drawn
 first-round = refl
 
@@ -66,7 +74,8 @@ image = refl
 
 -- ---- the line
 
-line-of_none : soak_line 0 (record { call = call.Boot; reply = reply.Booted 0 1 0 1 false; numbers = None } ∷ []) ≡ codes "soak rounds=0 turns=1 boots=1 losses=0 fallbacks=0 sends=0 bank=0 version=1 counter=1\n"
+line-of_none : soak_line 0 (record { call = call.Boot; reply = reply.Booted 0 1 0 1 false; numbers = None } ∷ [])
+    ≡ codes "soak rounds=0 turns=1 boots=1 losses=0 fallbacks=0 sends=0 bank=0 version=1 counter=1\n"
 unfolding soak_line digits
 line-of_none = refl
 

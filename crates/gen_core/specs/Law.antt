@@ -20,7 +20,8 @@ pub record Installs (rows : List ImageRow) (file : List ℕ) (images : List (Lis
 -- a package that is made from a number installs its manifest and its images
 abbrev pub GeneratedAreComplete : Type 0
 GeneratedAreComplete =
-    (rows : List ImageRow) (sizes : List ℕ) (number security : ℕ) → IsTrue (are_images rows) → IsTrue (fit_sizes rows sizes) → number < 4294967296 → security ≤ 223
+    (rows : List ImageRow) (sizes : List ℕ) (number security : ℕ) → IsTrue (are_images rows) → IsTrue (fit_sizes rows sizes)
+    → number < 4294967296 → security ≤ 223
     → Installs rows (generated rows sizes number security) (generated_images rows sizes number security) security
 
 -- the images of a layout that fits are such

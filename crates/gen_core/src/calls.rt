@@ -20,7 +20,8 @@ pub enum SoakCall {
     Previous,
 }
 
-/// The name of the package of a round: `g` and its number, as `g1`.
+/// The name of the package of a round: `g` and its number, as `g1`. The error comes where memory is
+/// wanting.
 pub fn file_name(alloc: Global, number: u32) -> Result<String, NoMemory>
     ensures { IfOk result (λ name. string_bytes name ≡ file_name number) }
 {
@@ -28,7 +29,8 @@ pub fn file_name(alloc: Global, number: u32) -> Result<String, NoMemory>
 }
 
 fn add_accepts(calls: &mut Vec<SoakCall>, rows: &[ImageRow]) -> Result<(), AllocError>
-    ensures { OnOk result (map shown calls.new.items ≡ map shown calls.old.items ++ accept_calls rows.now) }
+    ensures { OnOk result (map shown calls.new.items
+        ≡ map shown calls.old.items ++ accept_calls rows.now) }
 {
     for row in rows {
         calls.push(SoakCall::Accept { guid: row.guid })?;
@@ -41,7 +43,8 @@ fn add_ending(
     rows: &[ImageRow],
     ending: Ending,
 ) -> Result<(), AllocError>
-    ensures { OnOk result (map shown calls.new.items ≡ map shown calls.old.items ++ ending_calls rows.now ending) }
+    ensures { OnOk result (map shown calls.new.items
+        ≡ map shown calls.old.items ++ ending_calls rows.now ending) }
 {
     match ending {
         Ending::Nothing => return Ok(()),
@@ -54,7 +57,8 @@ fn add_ending(
 }
 
 fn add_cut(calls: &mut Vec<SoakCall>, cut: Option<Cut>) -> Result<(), AllocError>
-    ensures { OnOk result (map shown calls.new.items ≡ map shown calls.old.items ++ cut_calls cut) }
+    ensures { OnOk result (map shown calls.new.items
+        ≡ map shown calls.old.items ++ cut_calls cut) }
 {
     match cut {
         Some(cut) => calls.push(SoakCall::Cut(cut))?,
@@ -64,7 +68,8 @@ fn add_cut(calls: &mut Vec<SoakCall>, cut: Option<Cut>) -> Result<(), AllocError
 }
 
 fn add_calls(calls: &mut Vec<SoakCall>, rows: &[ImageRow], round: &Round) -> Result<(), AllocError>
-    ensures { OnOk result (map shown calls.new.items ≡ map shown calls.old.items ++ round_calls rows.now round.now) }
+    ensures { OnOk result (map shown calls.new.items
+        ≡ map shown calls.old.items ++ round_calls rows.now round.now) }
 {
     add_cut(calls, round.cut)?;
     calls.push(SoakCall::Send {
@@ -76,8 +81,9 @@ fn add_calls(calls: &mut Vec<SoakCall>, rows: &[ImageRow], round: &Round) -> Res
     Ok(())
 }
 
-/// The calls of a round, in their order: a cut where there is one, the package, a boot, and what the round ends with.
-/// Every image of these rows is accepted where it ends so.
+/// The calls of a round, in their order: a cut where there is one, the package, a boot, and what the
+/// round ends with. Every image of these rows is accepted where it ends so. The error comes where
+/// memory is wanting.
 pub fn round_calls(
     alloc: Global,
     rows: &[ImageRow],

@@ -1,4 +1,5 @@
-//! Update packages, rounds and calls that are made from a number, for long runs of updates and power cuts.
+//! Update packages, rounds and calls that are made from a number, for long runs of updates and power
+//! cuts.
 #![tactic(auto)]
 
 mod calls;
@@ -7,6 +8,8 @@ mod packages;
 mod register;
 mod rounds;
 mod setup;
+#[cfg(test)]
+mod tests;
 
 pub use calls::{SoakCall, file_name, round_calls};
 pub use laws::{generated_are_complete, layouts_have_images};

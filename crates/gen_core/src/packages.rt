@@ -73,7 +73,8 @@ fn manifest(alloc: Global, images: &[Part], number: u32, security: u32) -> Resul
     requires some { 1 ≤ length images.now }
     requires few { length images.now ≤ 15 }
     requires small { All (λ p. length p.bytes ≤ 1048576) images.now }
-    ensures { IfOk result (λ bytes. bytes.items ≡ manifest_bytes (manifest_for number security images.now)) }
+    ensures { IfOk result (λ bytes.
+        bytes.items ≡ manifest_bytes (manifest_for number security images.now)) }
 {
     let rows = manifest_rows(alloc, images, number)?;
     match Manifest::of_rows(alloc, security, rows) {
@@ -103,7 +104,8 @@ fn parts(
     requires some { 1 ≤ length sizes.now }
     requires few { length sizes.now ≤ 15 }
     requires small { All (λ size. size ≤ 1048576) sizes.now }
-    ensures { IfOk result (λ parts. parts.items ≡ parts_from first rows.now sizes.now number security) }
+    ensures { IfOk result (λ parts.
+        parts.items ≡ parts_from first rows.now sizes.now number security) }
 {
     let mut parts = images(alloc, rows, sizes, number)?;
     let bytes = manifest(alloc, parts.as_slice(), number, security)?;
@@ -118,10 +120,11 @@ fn parts(
     Ok(parts)
 }
 
-/// The package of a number, for a layout of these image rows: a manifest of this security version whose image versions
-/// are the number, and then the images, each with as many bytes as its size says (the first size is that of image 1). Byte
-/// j of image i is the low byte of `7j + i + number`. The package has the serial number 0x12345678 and no flags, and no
-/// payload is aligned. It is complete for the layout, and each entry is that of an image. It wants memory for twice the
+/// The package of a number, for a layout of these image rows: a manifest of this security version
+/// whose image versions are the number, and then the images, each of as many bytes as its size says;
+/// the first size is that of image 1. Byte j of image i is the low byte of `7j + i + number`. The
+/// package has the serial number 0x12345678 and no flags, and no payload is aligned. It is complete
+/// for the layout, and each of its entries is that of an image. It takes memory for about twice the
 /// images' sizes; the error comes where that is wanting.
 pub fn package(
     alloc: Global,
@@ -135,7 +138,8 @@ pub fn package(
     requires version { security ≤ 223 }
     ensures made { IfOk result (λ file. file.items ≡ generated rows.now sizes.now number security) }
     ensures installs { IfOk result (λ file.
-        Installs rows.now file.items (generated_images rows.now sizes.now number security) security) }
+        let images = generated_images rows.now sizes.now number security in
+        Installs rows.now file.items images security) }
 {
     let parts = Parts {
         serial: SERIAL,

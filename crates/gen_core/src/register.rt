@@ -4,7 +4,8 @@ ghost use Rattle.gen_core.specs.Draws.{drawn, step};
 
 use std::marker::Model;
 
-/// A linear congruential generator of 32 bits, with the constants of the C standard's example of `rand`.
+/// A linear congruential generator of 32 bits, with the constants of the C standard's example of
+/// `rand`.
 #[derive(Clone, Copy, Debug, PartialEq, Eq)]
 pub struct Lcg {
     register: u32,
@@ -35,7 +36,7 @@ impl Lcg {
         Lcg { register: seed }
     }
 
-    /// Moves the register on, and draws a number below n from it.
+    /// Moves the register on, and draws a number below n from it: of its bits 16 to 30.
     pub fn draw(&mut self, n: u32) -> u32
         requires some { 1 ≤ n }
         requires few { n ≤ 32768 }

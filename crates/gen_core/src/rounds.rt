@@ -7,7 +7,8 @@ ghost use Rattle.gen_core.specs.Setup.{soak_layout};
 
 use crate::register::Lcg;
 
-/// A loss of power: at the n-th erase or program from where it is armed on, after its first k bytes.
+/// A loss of power: at the n-th erase or program from there on, after the first k bytes of its range.
+/// A round draws n from 1 to 31, and k from 0 to 4096.
 #[derive(Clone, Copy, Debug, PartialEq, Eq)]
 pub struct Cut {
     pub n: u32,
@@ -65,7 +66,8 @@ fn security(number: u32, lower: u32) -> u32
 /// Draws a cut, or none. The length is drawn only where there is one.
 fn draw_cut(register: &mut Lcg) -> Option<Cut>
     ensures cut { result ≡ cut_of register.old }
-    ensures moves_on { register.new ≡ register_after (if draw register.old 1 32 == 0 then 1 else 2) register.old }
+    ensures moves_on { let draws = if draw register.old 1 32 == 0 then 1 else 2 in
+        register.new ≡ register_after draws register.old }
 {
     let n = register.draw(32);
     if n == 0 {

@@ -17,8 +17,8 @@ const NT_FW: [u8; 16] = [
     0xD6, 0xD0, 0xEE, 0xA7, 0xFC, 0xEA, 0xD5, 0x4B, 0x97, 0x82, 0x99, 0x34, 0xF2, 0x34, 0xB6, 0xE4,
 ];
 
-/// The image rows that a soak formats a flash with, for two banks: the manifest in one block, tb-fw in two, and nt-fw in
-/// four. They need a flash of 22 blocks.
+/// The image rows that a soak formats a flash with, for two banks: the manifest in one block, tb-fw
+/// in two, and nt-fw in four. They need a flash of 22 blocks.
 pub fn soak_rows() -> [ImageRow; 3]
     ensures rows { result ≡ soak_layout.rows }
     ensures images { IsTrue (are_images result) }

@@ -5,12 +5,15 @@ use Rattle.gen_core.specs.Calls.{round_calls, shown}
 use Rattle.gen_core.specs.declared.calls.SoakCall.{SoakCall}
 use Rattle.gen_core.proofs.calls.add_calls.Goals as goal
 
-in-order : (a b c d e : List SoakCall) (x y : SoakCall) (cut ends : List Call) → map shown b ≡ map shown a ++ cut → c ≡ b ++ x ∷ [] → d ≡ c ++ y ∷ [] → map shown e ≡ map shown d ++ ends
+in-order : (a b c d e : List SoakCall) (x y : SoakCall) (cut ends : List Call) → map shown b ≡ map shown a ++ cut → c ≡ b ++ x ∷ [] → d ≡ c ++ y ∷ []
+    → map shown e ≡ map shown d ++ ends
     → map shown e ≡ map shown a ++ (cut ++ (shown x ∷ shown y ∷ ends))
 in-order a b c d e x y cut ends p q r t =
     t ∙ ap (λ (l : List SoakCall). map shown l ++ ends) (r ∙ ap (λ (l : List SoakCall). l ++ y ∷ []) q)
-    ∙ ap (λ (l : List Call). l ++ ends) (map-append shown (b ++ x ∷ []) (y ∷ []) ∙ ap (λ (l : List Call). l ++ shown y ∷ []) (map-append shown b (x ∷ []) ∙ ap (λ (l : List Call). l ++ shown x ∷ []) p))
-    ∙ append_assoc ((map shown a ++ cut) ++ shown x ∷ []) (shown y ∷ []) ends ∙ append_assoc (map shown a ++ cut) (shown x ∷ []) (shown y ∷ ends) ∙ append_assoc (map shown a) cut (shown x ∷ shown y ∷ ends)
+    ∙ ap (λ (l : List Call). l ++ ends) (map-append shown (b ++ x ∷ []) (y ∷ [])
+    ∙ ap (λ (l : List Call). l ++ shown y ∷ []) (map-append shown b (x ∷ []) ∙ ap (λ (l : List Call). l ++ shown x ∷ []) p))
+    ∙ append_assoc ((map shown a ++ cut) ++ shown x ∷ []) (shown y ∷ []) ends ∙ append_assoc (map shown a ++ cut) (shown x ∷ []) (shown y ∷ ends)
+    ∙ append_assoc (map shown a) cut (shown x ∷ shown y ∷ ends)
 
 pub returns : goal.returns
 unfolding round_calls

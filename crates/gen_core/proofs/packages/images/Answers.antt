@@ -17,7 +17,12 @@ loop-k-preserved c =
     rw add-one
     (c.in_ok-push.ensures.items
     ∙ ap (λ (b : List ℕ). c.loop-k.parts.items ++ record { guid = (get_or rows k row).guid; flags = 0; bytes = b } ∷ []) bytes
-    ∙ ap (λ (ps : List Part). ps ++ record { guid = (get_or rows k row).guid; flags = 0; bytes = image_bytes number (1 + k) (get_or sizes k 0) } ∷ []) c.loop-k.invariant
+    ∙ ap (λ (ps : List Part). ps ++ record {
+      guid = (get_or rows k row).guid;
+      flags = 0;
+      bytes = image_bytes number (1 + k)
+          (get_or sizes k 0);
+    } ∷ []) c.loop-k.invariant
     ∙ sym (image_parts-more number 1 rows sizes k row (omega arith) (omega arith)))
 
 pub returns-clause-count : goal.returns-clause-count
@@ -29,4 +34,5 @@ pub returns-clause-small : goal.returns-clause-small
 returns-clause-small c =
     let is : c.loop-k.parts.items ≡ image_parts c.args.number 1 c.args.rows.now c.args.sizes.now =
     all-parts c.args.number c.args.rows.now c.args.sizes.now c.loop-k.k _ (omega arith) c.requires.count c.loop-k.invariant in
-    subst (λ (ps : List Part). All (λ p. length p.bytes ≤ 1048576) ps) (sym is) (image_parts-small c.args.number 1 c.args.rows.now c.args.sizes.now c.requires.small)
+    subst (λ (ps : List Part). All (λ p. length p.bytes ≤ 1048576) ps) (sym is)
+    (image_parts-small c.args.number 1 c.args.rows.now c.args.sizes.now c.requires.small)

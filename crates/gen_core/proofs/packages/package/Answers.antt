@@ -38,7 +38,8 @@ parts-requires-clause-small c = (are-sizes c.args.rows.now c.args.sizes.now c.re
 pub returns-in-Ok-clause-made : goal.returns-in-Ok-clause-made
 unfolding generated
 returns-in-Ok-clause-made c =
-    let made = parts-made c.args.rows.now c.args.sizes.now c.args.number c.args.security c.index-rows-0.result (images-are c.args.rows.now c.requires.images) in
+    let made = parts-made c.args.rows.now c.args.sizes.now c.args.number c.args.security c.index-rows-0.result
+    (images-are c.args.rows.now c.requires.images) in
     c.in-Ok.ensures.ok ∙ ap (λ (ps : List Part). packed 0x12345678 0 ps 1) (c.in_ok-parts.ensures ∙ made)
 
 pub returns-in-Ok-clause-installs : goal.returns-in-Ok-clause-installs
@@ -49,7 +50,8 @@ returns-in-Ok-clause-installs c =
     let number = c.args.number in
     let security = c.args.security in
     let made = parts-made rows sizes number security c.index-rows-0.result (images-are rows c.requires.images) in
-    let is : c.in-Ok.file.items ≡ generated rows sizes number security = c.in-Ok.ensures.ok ∙ ap (λ (ps : List Part). packed 0x12345678 0 ps 1) (c.in_ok-parts.ensures ∙ made) in
+    let is : c.in-Ok.file.items ≡ generated rows sizes number security = c.in-Ok.ensures.ok
+    ∙ ap (λ (ps : List Part). packed 0x12345678 0 ps 1) (c.in_ok-parts.ensures ∙ made) in
     subst (λ (file : List ℕ). Installs rows file (generated_images rows sizes number security) security) (sym is)
     (generated-are-complete rows sizes number security c.requires.images c.requires.sizes (omega arith) c.requires.version)
 

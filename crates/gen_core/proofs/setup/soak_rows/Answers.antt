@@ -7,6 +7,7 @@ use Rattle.gen_core.proofs.setup.soak_rows.Goals as goal
 
 pub returns-clause-images : goal.returns-clause-images
 returns-clause-images c =
-    let rows : List ImageRow = record { guid = c.of.result; slots = 1 } ∷ record { guid = c.of-2.result; slots = 2 } ∷ record { guid = c.of-3.result; slots = 4 } ∷ [] in
+    let rows : List ImageRow = record { guid = c.of.result; slots = 1 } ∷ record { guid = c.of-2.result; slots = 2 } ∷ record
+    { guid = c.of-3.result; slots = 4 } ∷ [] in
     let e : soak_layout.rows ≡ rows = cc in
     subst (λ (x : List ImageRow). IsTrue (are_images x)) e soak-images
