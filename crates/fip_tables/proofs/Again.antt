@@ -10,10 +10,10 @@ use Rattle.fwu_formats.specs.Layout.{are_distinct}
 use Rattle.fwu_formats.specs.Package.{FitsPackage, Part, entry_limit, is_part, packed}
 use Rattle.fwu_formats.proofs.PackWritten.{packed-is-read}
 use Rattle.fip_tables.specs.Again.{PassedIsRead, has_fields}
-use Rattle.fip_tables.specs.Packing.{AreOutlines, first_repeat, is_alignment, is_nil, is_repeat, pack_fault, package_limit, part_at, zeroed}
+use Rattle.fip_tables.specs.Packing.{AreOutlines, first_repeat, is_alignment, is_nil, is_repeat, pack_fault, package_limit, part_at, parts_fault, zeroed}
 use Rattle.fip_tables.specs.Frame.{AreSixteen}
 use Rattle.fip_tables.specs.declared.faults.PackFault.{PackFault}
-use Rattle.fip_tables.proofs.Firsts.{align-fault, nil-fault, numbers, repeat-fault, size-fault, too-many}
+use Rattle.fip_tables.proofs.Firsts.{align-fault, nil-fault, numbers, repeat-fault, shared-fault, size-fault, too-many}
 use Rattle.fip_tables.proofs.Plans.{packed-length}
 
 -- ---- what passes has none of the faults
@@ -21,45 +21,53 @@ use Rattle.fip_tables.proofs.Plans.{packed-length}
 some-none : (f : PackFault) (o : Option PackFault) → o ≡ Some f → o ≡ None → ⊥
 some-none f o e g = let h : Some f ≡ None = sym e ∙ g in absurd cc
 
-module _ (parts : List Part) (a : ℕ) (ok : pack_fault parts a ≡ None) where
-  count-passes : length parts ≤ entry_limit
+module _ (parts : List Part) (ok : parts_fault parts ≡ None) where
+  pub count-passes : length parts ≤ entry_limit
   count-passes = go (ltb entry_limit (length parts)) refl
     where
       go : (b : Bool) → ltb entry_limit (length parts) ≡ b → length parts ≤ entry_limit
-      go true e = absurd (some-none _ _ (too-many parts a (ltb-true entry_limit (length parts) e)) ok)
+      go true e = absurd (some-none _ _ (too-many parts (ltb-true entry_limit (length parts) e)) ok)
       go false e = ltb-false entry_limit (length parts) e
 
-  repeat-passes : first_repeat parts ≡ None
+  pub repeat-passes : first_repeat parts ≡ None
   repeat-passes = go (first_repeat parts) refl
     where
       go : (o : Option ℕ) → first_repeat parts ≡ o → first_repeat parts ≡ None
       go None e = e
-      go (Some i) e = absurd (some-none _ _ (repeat-fault parts a count-passes i e) ok)
+      go (Some i) e = absurd (some-none _ _ (repeat-fault parts count-passes i e) ok)
 
-  nil-passes : position is_nil parts ≡ None
+  pub nil-passes : position is_nil parts ≡ None
   nil-passes = go (position is_nil parts) refl
     where
       go : (o : Option ℕ) → position is_nil parts ≡ o → position is_nil parts ≡ None
       go None e = e
-      go (Some i) e = absurd (some-none _ _ (nil-fault parts a count-passes repeat-passes i e) ok)
+      go (Some i) e = absurd (some-none _ _ (nil-fault parts count-passes repeat-passes i e) ok)
+
+module _ (parts : List Part) (a : ℕ) (ok : pack_fault parts a ≡ None) where
+  parts-pass : parts_fault parts ≡ None
+  parts-pass = go (parts_fault parts) refl
+    where
+      go : (o : Option PackFault) → parts_fault parts ≡ o → parts_fault parts ≡ None
+      go None e = e
+      go (Some f) e = absurd (some-none _ _ (shared-fault parts a f e) ok)
 
   align-passes : is_alignment a ≡ true
   align-passes = go (is_alignment a) refl
     where
       go : (b : Bool) → is_alignment a ≡ b → is_alignment a ≡ true
       go true e = e
-      go false e = absurd (some-none _ _ (align-fault parts a count-passes repeat-passes nil-passes e) ok)
+      go false e = absurd (some-none _ _ (align-fault parts a parts-pass e) ok)
 
   size-passes : length (packed 0 0 parts a) ≤ package_limit
   size-passes = go (ltb package_limit (length (packed 0 0 parts a))) refl
     where
       go : (b : Bool) → ltb package_limit (length (packed 0 0 parts a)) ≡ b → length (packed 0 0 parts a) ≤ package_limit
-      go true e = absurd (some-none _ _ (size-fault parts a count-passes repeat-passes nil-passes align-passes (ltb-true package_limit _ e)) ok)
+      go true e = absurd (some-none _ _ (size-fault parts a parts-pass align-passes (ltb-true package_limit _ e)) ok)
       go false e = ltb-false package_limit _ e
 
 -- ---- each part
 
-none-at : {X : Type 0} (p : X → Bool) (xs : List X) → position p xs ≡ None → (k : ℕ) (d : X) → k < length xs → p (get_or xs k d) ≡ false
+pub none-at : {X : Type 0} (p : X → Bool) (xs : List X) → position p xs ≡ None → (k : ℕ) (d : X) → k < length xs → p (get_or xs k d) ≡ false
 none-at {X} p xs none = go (ltb (position_or_len p xs) (length xs)) refl none
   where
     go : (b : Bool) → ltb (position_or_len p xs) (length xs) ≡ b → (if b then Some (position_or_len p xs) else None) ≡ None → (k : ℕ) (d : X) → k < length xs → p (get_or xs k d) ≡ false
@@ -84,7 +92,7 @@ sixteen-each (p ∷ ps) fields =
 
 -- ---- different types
 
-same-sym : (xs ys : List ℕ) → same_bytes xs ys ≡ same_bytes ys xs
+pub same-sym : (xs ys : List ℕ) → same_bytes xs ys ≡ same_bytes ys xs
 same-sym [] [] = refl
 same-sym [] (y ∷ ys) = refl
 same-sym (x ∷ xs) [] = refl
@@ -105,7 +113,7 @@ distinct-each (p ∷ ps) h =
     apart : (k : ℕ) → k < length ps → (same_bytes (part_at ps k).guid p.guid ≡ false) × (is_repeat ps k ≡ false)
     apart k lt = or_parts (same_bytes (part_at ps k).guid p.guid) (is_repeat ps k) (h (suc k) (omega (arith, lt)))
 
-no-repeat : (ps : List Part) → first_repeat ps ≡ None → (k : ℕ) → k < length ps → is_repeat ps k ≡ false
+pub no-repeat : (ps : List Part) → first_repeat ps ≡ None → (k : ℕ) → k < length ps → is_repeat ps k ≡ false
 no-repeat ps none k lt =
     ap (is_repeat ps) (sym (numbers (length ps) k lt))
     ∙ none-at (is_repeat ps) (range_with_len 0 (length ps)) none k 0 (omega (arith, lt, length-range_with_len 0 (length ps)))
@@ -116,9 +124,9 @@ fits-package : (serial flags : ℕ) (parts : List Part) (a : ℕ) → pack_fault
 fits-package serial flags parts a ok fields some low small =
     let sixteen = sixteen-each parts fields in
     record {
-      few = count-passes parts a ok;
-      each = each-part parts fields (λ k lt. none-at is_nil parts (nil-passes parts a ok) k (record { guid = []; flags = 0; bytes = [] }) lt);
-      distinct = distinct-each parts (no-repeat parts (repeat-passes parts a ok));
+      few = count-passes parts (parts-pass parts a ok);
+      each = each-part parts fields (λ k lt. none-at is_nil parts (nil-passes parts (parts-pass parts a ok)) k (record { guid = []; flags = 0; bytes = [] }) lt);
+      distinct = distinct-each parts (no-repeat parts (repeat-passes parts (parts-pass parts a ok)));
       serial_fits = (some, low);
       flags_fit = small;
       short = omega (arith, size-passes parts a ok, packed-length serial flags parts a sixteen, packed-length 0 0 parts a sixteen);

@@ -5,7 +5,7 @@ use Rattle.std.proofs.lemmas.List.FromFn.{get_or-range_with_len, length-range_wi
 use Rattle.std.specs.Prelude.{position, option_map, nat_lt, not, if◌then◌else◌}
 use Rattle.std.specs.List.{position_or_len, range_with_len}
 use Rattle.fwu_formats.specs.Package.{Part, entry_limit, packed}
-use Rattle.fip_tables.specs.Packing.{IsOutline, first_of, first_repeat, is_alignment, is_nil, is_repeat, pack_fault, package_limit, part_at}
+use Rattle.fip_tables.specs.Packing.{IsOutline, first_of, first_repeat, is_alignment, is_nil, is_repeat, pack_fault, package_limit, part_at, parts_fault}
 use Rattle.fip_tables.specs.declared.faults.PackFault.{PackFault}
 use Rattle.fip_tables.specs.declared.faults.PackFault.TheVariants as fault
 use Rattle.fip_tables.proofs.Steps.{is-less, skips, takes}
@@ -40,45 +40,57 @@ repeats-at parts i lt h here =
     (λ k below. ap (is_repeat parts) (numbers (length parts) k (omega (arith, below, lt))) ∙ h k below)
     (ap (is_repeat parts) (numbers (length parts) i lt) ∙ here)
 
--- ---- the first fault
+-- ---- the first fault, whatever is made
+
+module _ (parts : List Part) where
+  pub too-many : entry_limit < length parts → parts_fault parts ≡ Some fault.TooMany
+  unfolding parts_fault
+  too-many lt = takes (ltb entry_limit (length parts)) (Some fault.TooMany) _ _ (is-less _ _ lt) refl
+
+  module _ (few : length parts ≤ entry_limit) where
+    later : (f : Option PackFault) → first_of (option_map fault.Duplicate (first_repeat parts)) (option_map fault.NilGuid (position is_nil parts)) ≡ f → parts_fault parts ≡ f
+    unfolding parts_fault
+    later f e = skips (ltb entry_limit (length parts)) (Some fault.TooMany) _ _ (le-ltb entry_limit (length parts) few) e
+
+    pub repeat-fault : (i : ℕ) → first_repeat parts ≡ Some i → parts_fault parts ≡ Some (fault.Duplicate i)
+    repeat-fault i e = later _ (ap (λ (o : Option ℕ). first_of (option_map fault.Duplicate o) (option_map fault.NilGuid (position is_nil parts))) e)
+
+    module _ (distinct : first_repeat parts ≡ None) where
+      by-nil : (o : Option ℕ) → position is_nil parts ≡ o → parts_fault parts ≡ option_map fault.NilGuid o
+      by-nil o e =
+          later _ (ap (λ (r : Option ℕ). first_of (option_map fault.Duplicate r) (option_map fault.NilGuid (position is_nil parts))) distinct
+          ∙ ap (λ (n : Option ℕ). option_map fault.NilGuid n) e)
+
+      pub nil-fault : (i : ℕ) → position is_nil parts ≡ Some i → parts_fault parts ≡ Some (fault.NilGuid i)
+      nil-fault i e = by-nil (Some i) e
+
+      pub none-shared : position is_nil parts ≡ None → parts_fault parts ≡ None
+      none-shared e = by-nil None e
+
+-- ---- and as a package
 
 module _ (parts : List Part) (a : ℕ) where
   abbrev by_size : Option PackFault
   by_size = if not (is_alignment a) then Some fault.BadAlign else if nat_lt package_limit (length (packed 0 0 parts a)) then Some fault.TooLarge else None
 
-  abbrev by_nil : Option PackFault
-  by_nil = first_of (option_map fault.NilGuid (position is_nil parts)) by_size
-
-  pub too-many : entry_limit < length parts → pack_fault parts a ≡ Some fault.TooMany
+  pub shared-fault : (f : PackFault) → parts_fault parts ≡ Some f → pack_fault parts a ≡ Some f
   unfolding pack_fault
-  too-many lt = takes (ltb entry_limit (length parts)) (Some fault.TooMany) _ _ (is-less _ _ lt) refl
+  shared-fault f e = ap (λ (o : Option PackFault). first_of o by_size) e
 
-  module _ (few : length parts ≤ entry_limit) where
-    pub repeat-fault : (i : ℕ) → first_repeat parts ≡ Some i → pack_fault parts a ≡ Some (fault.Duplicate i)
+  module _ (shared : parts_fault parts ≡ None) where
+    last : (f : Option PackFault) → by_size ≡ f → pack_fault parts a ≡ f
     unfolding pack_fault
-    repeat-fault i e = skips (ltb entry_limit (length parts)) (Some fault.TooMany) _ _ (le-ltb entry_limit (length parts) few) (ap (λ (o : Option ℕ). first_of (option_map fault.Duplicate o) by_nil) e)
+    last f e = ap (λ (o : Option PackFault). first_of o by_size) shared ∙ e
 
-    module _ (distinct : first_repeat parts ≡ None) where
-      later : (f : Option PackFault) → by_nil ≡ f → pack_fault parts a ≡ f
-      unfolding pack_fault
-      later f e = skips (ltb entry_limit (length parts)) (Some fault.TooMany) _ _ (le-ltb entry_limit (length parts) few) (ap (λ (o : Option ℕ). first_of (option_map fault.Duplicate o) by_nil) distinct ∙ e)
+    pub align-fault : is_alignment a ≡ false → pack_fault parts a ≡ Some fault.BadAlign
+    align-fault no-power = last _ (takes (not (is_alignment a)) (Some fault.BadAlign) _ _ (ap not no-power) refl)
 
-      pub nil-fault : (i : ℕ) → position is_nil parts ≡ Some i → pack_fault parts a ≡ Some (fault.NilGuid i)
-      nil-fault i e = later _ (ap (λ (o : Option ℕ). first_of (option_map fault.NilGuid o) by_size) e)
+    pub size-fault : is_alignment a ≡ true → package_limit < length (packed 0 0 parts a) → pack_fault parts a ≡ Some fault.TooLarge
+    size-fault power large =
+        last _ (skips (not (is_alignment a)) (Some fault.BadAlign) _ _ (ap not power)
+        (takes (ltb package_limit (length (packed 0 0 parts a))) (Some fault.TooLarge) None _ (is-less _ _ large) refl))
 
-      module _ (some : position is_nil parts ≡ None) where
-        last : (f : Option PackFault) → by_size ≡ f → pack_fault parts a ≡ f
-        last f e = later f (ap (λ (o : Option ℕ). first_of (option_map fault.NilGuid o) by_size) some ∙ e)
-
-        pub align-fault : is_alignment a ≡ false → pack_fault parts a ≡ Some fault.BadAlign
-        align-fault no-power = last _ (takes (not (is_alignment a)) (Some fault.BadAlign) _ _ (ap not no-power) refl)
-
-        pub size-fault : is_alignment a ≡ true → package_limit < length (packed 0 0 parts a) → pack_fault parts a ≡ Some fault.TooLarge
-        size-fault power large =
-            last _ (skips (not (is_alignment a)) (Some fault.BadAlign) _ _ (ap not power)
-            (takes (ltb package_limit (length (packed 0 0 parts a))) (Some fault.TooLarge) None _ (is-less _ _ large) refl))
-
-        pub no-fault : is_alignment a ≡ true → length (packed 0 0 parts a) ≤ package_limit → pack_fault parts a ≡ None
-        no-fault power small =
-            last _ (skips (not (is_alignment a)) (Some fault.BadAlign) _ _ (ap not power)
-            (skips (ltb package_limit (length (packed 0 0 parts a))) (Some fault.TooLarge) None _ (le-ltb package_limit (length (packed 0 0 parts a)) small) refl))
+    pub no-fault : is_alignment a ≡ true → length (packed 0 0 parts a) ≤ package_limit → pack_fault parts a ≡ None
+    no-fault power small =
+        last _ (skips (not (is_alignment a)) (Some fault.BadAlign) _ _ (ap not power)
+        (skips (ltb package_limit (length (packed 0 0 parts a))) (Some fault.TooLarge) None _ (le-ltb package_limit (length (packed 0 0 parts a)) small) refl))

@@ -6,7 +6,7 @@ use Rattle.std.specs.List.{list_any, position_or_len, range_with_len}
 use Rattle.std.specs.Int.{next_multiple_of}
 use Rattle.base_core.specs.Bytes.{le, same_bytes}
 use Rattle.fwu_formats.specs.Package.{Entry, Part, entry_limit, fip_name, packed, packed_entries, payloads, table_bytes}
-use Rattle.fip_tables.specs.Packing.{first_of, first_repeat, is_alignment, is_nil, is_repeat, pack_fault, package_limit, part_at, zeroed}
+use Rattle.fip_tables.specs.Packing.{first_of, first_repeat, is_alignment, is_nil, is_repeat, pack_fault, package_limit, part_at, parts_fault, zeroed}
 use Rattle.fip_tables.specs.declared.faults.PackFault.{PackFault}
 use Rattle.fip_tables.specs.declared.faults.PackFault.TheVariants as fault
 use Rattle.fip_tables.specs.Frame.{last_end, table_end}
@@ -76,17 +76,29 @@ same-length ps a =
     ∙ ap (λ (xs : List ℕ). length ((head ++ xs) ++ payloads a end (map zeroed ps))) (same-table a end ps)
     ∙ omega (arith, length-append (head ++ table_bytes a end ps) (payloads a end (map zeroed ps)), length-append (head ++ table_bytes a end ps) (payloads a end ps), payloads-length a end (map zeroed ps), payloads-length a end ps, same-end a end ps)
 
--- the first fault, by what it depends on
-abbrev fault_by : ℕ → ℕ → Option ℕ → Option ℕ → ℕ → Option PackFault
-fault_by a count repeat nil size =
-    if nat_lt entry_limit count then Some fault.TooMany
-    else first_of (option_map fault.Duplicate repeat)
-    (first_of (option_map fault.NilGuid nil)
-    (if not (is_alignment a) then Some fault.BadAlign
-    else if nat_lt package_limit size then Some fault.TooLarge
-    else None))
+-- the first fault that does not go by sizes, by what it depends on
+abbrev shared_by : ℕ → Option ℕ → Option ℕ → Option PackFault
+shared_by count repeat nil =
+    if nat_lt entry_limit count then Some fault.TooMany else first_of (option_map fault.Duplicate repeat) (option_map fault.NilGuid nil)
 
-fault-is : (ps : List Part) (a : ℕ) → pack_fault ps a ≡ fault_by a (length ps) (first_repeat ps) (position is_nil ps) (length (packed 0 0 ps a))
+shared-is : (ps : List Part) → parts_fault ps ≡ shared_by (length ps) (first_repeat ps) (position is_nil ps)
+unfolding parts_fault
+shared-is ps = refl
+
+pub zeros-share : (ps : List Part) → parts_fault (map zeroed ps) ≡ parts_fault ps
+zeros-share ps =
+    let zs = map zeroed ps in
+    shared-is zs
+    ∙ ap (λ (n : ℕ). shared_by n (first_repeat zs) (position is_nil zs)) (length-zeroed ps)
+    ∙ ap (λ (o : Option ℕ). shared_by (length ps) o (position is_nil zs)) (same-first-repeat ps)
+    ∙ ap (λ (o : Option ℕ). shared_by (length ps) (first_repeat ps) o) (same-position is_nil is_nil zs ps (same-nil ps) (length-zeroed ps))
+    ∙ sym (shared-is ps)
+
+-- and the one that does
+abbrev size_by : ℕ → ℕ → Option PackFault
+size_by a size = if not (is_alignment a) then Some fault.BadAlign else if nat_lt package_limit size then Some fault.TooLarge else None
+
+fault-is : (ps : List Part) (a : ℕ) → pack_fault ps a ≡ first_of (parts_fault ps) (size_by a (length (packed 0 0 ps a)))
 unfolding pack_fault
 fault-is ps a = refl
 
@@ -94,8 +106,6 @@ pub zeros-decide : (ps : List Part) (a : ℕ) → pack_fault (map zeroed ps) a �
 zeros-decide ps a =
     let zs = map zeroed ps in
     fault-is zs a
-    ∙ ap (λ (n : ℕ). fault_by a n (first_repeat zs) (position is_nil zs) (length (packed 0 0 zs a))) (length-zeroed ps)
-    ∙ ap (λ (o : Option ℕ). fault_by a (length ps) o (position is_nil zs) (length (packed 0 0 zs a))) (same-first-repeat ps)
-    ∙ ap (λ (o : Option ℕ). fault_by a (length ps) (first_repeat ps) o (length (packed 0 0 zs a))) (same-position is_nil is_nil zs ps (same-nil ps) (length-zeroed ps))
-    ∙ ap (λ (n : ℕ). fault_by a (length ps) (first_repeat ps) (position is_nil ps) n) (same-length ps a)
+    ∙ ap (λ (o : Option PackFault). first_of o (size_by a (length (packed 0 0 zs a)))) (zeros-share ps)
+    ∙ ap (λ (n : ℕ). first_of (parts_fault ps) (size_by a n)) (same-length ps a)
     ∙ sym (fault-is ps a)

@@ -34,14 +34,19 @@ abbrev pub first_of : Option PackFault → Option PackFault → Option PackFault
 first_of (Some f) other = Some f
 first_of None other = other
 
+-- the first fault that parts have whatever is made of them: too many, a type twice, the nil UUID
+unfoldable pub parts_fault : List Part → Option PackFault
+parts_fault parts =
+    if nat_lt entry_limit (length parts) then Some TooMany
+    else first_of (option_map Duplicate (first_repeat parts)) (option_map NilGuid (position is_nil parts))
+
+-- the first fault that parts have as a package
 unfoldable pub pack_fault : List Part → ℕ → Option PackFault
 pack_fault parts a =
-    if nat_lt entry_limit (length parts) then Some TooMany
-    else first_of (option_map Duplicate (first_repeat parts))
-    (first_of (option_map NilGuid (position is_nil parts))
+    first_of (parts_fault parts)
     (if not (is_alignment a) then Some BadAlign
     else if nat_lt package_limit (length (packed 0 0 parts a)) then Some TooLarge
-    else None))
+    else None)
 
 -- a part with zeros in place of its bytes
 abbrev pub zeroed : Part → Part
@@ -59,6 +64,5 @@ AreOutlines parts = (i : ℕ) → i < length parts → IsOutline (part_at parts 
 -- no fault but that the package may be too large
 pub record HasNoFault (parts : List Part) (a : ℕ) : Type 0 where
   pub few : length parts ≤ entry_limit
-  pub distinct : first_repeat parts ≡ None
-  pub some : position is_nil parts ≡ None
+  pub shared : parts_fault parts ≡ None
   pub alignment : is_alignment a ≡ true

@@ -39,8 +39,8 @@ pub struct Parts {
 }
 
 impl Part {
-    // The part by the size of its payload.
-    fn outline(&self) -> Outline
+    /// The part by the size of its payload.
+    pub fn outline(&self) -> Outline
         ensures { result ≡ zeroed self.now }
     {
         Outline {
@@ -51,7 +51,8 @@ impl Part {
     }
 }
 
-fn outlines(alloc: Global, parts: &[Part]) -> Result<Vec<Outline>, AllocError>
+/// The parts by the sizes of their payloads, in their order.
+pub fn outlines(alloc: Global, parts: &[Part]) -> Result<Vec<Outline>, AllocError>
     ensures { IfOk result (λ v. v.items ≡ map zeroed parts.now) }
 {
     parts.iter().map(|part| part.outline()).collect(alloc)

@@ -1,15 +1,15 @@
-use Rattle.std.proofs.Common.{◌∙◌, sym, arith}
-use Rattle.fip_tables.proofs.Firsts.{align-fault, nil-fault, repeat-fault, too-many}
+use Rattle.std.proofs.Common.{◌≡◌, ◌∙◌, ap, subst, sym, Option, Some, Result, IfErr}
+use Rattle.std.proofs.lemmas.Result.{err_from_is_err_and}
+use Rattle.fip_tables.proofs.Firsts.{align-fault, shared-fault}
+use Rattle.fip_tables.specs.Packing.{pack_fault}
+use Rattle.fip_tables.specs.declared.faults.PackFault.{PackFault}
 use Rattle.fip_tables.proofs.outline.check.Goals as goal
 
-pub returns-then-parts-gt64-clause-err : goal.returns-then-parts-gt64-clause-err
-returns-then-parts-gt64-clause-err c = too-many c.args.parts.now c.args.align (omega (arith, c.if-parts-gt64.true))
-
-pub returns-in-Some-clause-err : goal.returns-in-Some-clause-err
-returns-in-Some-clause-err c = repeat-fault c.args.parts.now c.args.align (omega (arith, c.if-parts-gt64.false)) c.in-Some.i (sym c.in-Some.ensures.value)
-
-pub returns-in-Some-first_nil-clause-err : goal.returns-in-Some-first_nil-clause-err
-returns-in-Some-first_nil-clause-err c = nil-fault c.args.parts.now c.args.align (omega (arith, c.if-parts-gt64.false)) (sym c.in-None.ensures.value) c.in-Some-first_nil.i (sym c.in-Some-first_nil.ensures.value)
+pub returns-in_err-check_parts-clause-err : goal.returns-in_err-check_parts-clause-err
+returns-in_err-check_parts-clause-err c =
+    let p = err_from_is_err_and c.from_residual.result c.from_residual.ensures.1 in
+    subst (λ (r : Result (Unit {0}) PackFault). IfErr r (λ f. pack_fault c.args.parts.now c.args.align ≡ Some f)) (sym p.1)
+    (shared-fault c.args.parts.now c.args.align p.0 (c.in_err-check_parts.ensures.err ∙ ap (λ (f : PackFault). Some f) (sym p.2)))
 
 pub returns-then-not-is_alignment-clause-err : goal.returns-then-not-is_alignment-clause-err
-returns-then-not-is_alignment-clause-err c = align-fault c.args.parts.now c.args.align (omega (arith, c.if-parts-gt64.false)) (sym c.in-None.ensures.value) (sym c.in-None-first_nil.ensures.value) (sym c.is_alignment.ensures ∙ c.if-not-is_alignment.true)
+returns-then-not-is_alignment-clause-err c = align-fault c.args.parts.now c.args.align c.in_ok-check_parts.ensures.ok (sym c.is_alignment.ensures ∙ c.if-not-is_alignment.true)

@@ -19,7 +19,7 @@ returns-in_err-places-clause-err c = λ f is.
     let ok = c.in_ok-check.ensures.ok in
     let long = packed-length 0 0 parts a (outlines-sixteen parts c.in_ok-check.ensures.outlines) in
     let why = rw is at c.from_residual-in_err-places.ensures.1 in
-    size-fault parts a ok.few ok.distinct ok.some ok.alignment (omega (arith, long, c.in_err-places.ensures.err.1))
+    size-fault parts a ok.shared ok.alignment (omega (arith, long, c.in_err-places.ensures.err.1))
     ∙ ap Some (sym c.in_err-places.ensures.err.0 ∙ same-fault c.in_err-places.field-0.0 f why)
 
 pub returns-clause-ok : goal.returns-clause-ok
@@ -55,4 +55,4 @@ returns-clause-fits c =
     let a = c.args.align in
     let ok = c.in_ok-check.ensures.ok in
     let long = packed-length 0 0 parts a (outlines-sixteen parts c.in_ok-check.ensures.outlines) in
-    no-fault parts a ok.few ok.distinct ok.some ok.alignment (omega (arith, long, c.in_ok-places.ensures.size, c.in_ok-places.ensures.small))
+    no-fault parts a ok.shared ok.alignment (omega (arith, long, c.in_ok-places.ensures.size, c.in_ok-places.ensures.small))
