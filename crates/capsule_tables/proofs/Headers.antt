@@ -1,0 +1,85 @@
+-- The headers, read range by range.
+use Rattle.std.proofs.Common.{◌≡◌, ◌∙◌, ◌≤◌, ◌<◌, ◌+◌, ℕ, Bool, true, false, cond, not, List, length, take, drop, ap, sym, refl, arith, Result, Ok, Err, ltb, le-ltb}
+use Rattle.std.specs.Prelude.{nat_lt}
+use Rattle.base_core.specs.Bytes.{num_at, same_bytes}
+use Rattle.fip_tables.proofs.Steps.{is-less, skips, takes}
+use Rattle.capsule_tables.specs.Capsule.{fmp_guid, has_sizes, shape_in, shape_of, swapped}
+use Rattle.capsule_tables.specs.Ranges.{header_read, shape_read}
+use Rattle.capsule_tables.specs.declared.faults.CapsuleFault.{CapsuleFault}
+use Rattle.capsule_tables.specs.declared.faults.CapsuleFault.TheVariants as fault
+use Rattle.capsule_tables.proofs.Windows.{num_in}
+use Rattle.fip_tables.proofs.Told.{part_of}
+
+pub too-short : (bytes : List ℕ) → length bytes < 28 → shape_of bytes ≡ Err fault.ShortHeader
+unfolding shape_of
+too-short bytes lt = takes (ltb (length bytes) 28) (Err fault.ShortHeader) _ _ (is-less _ _ lt) refl
+
+-- three tests, and what stands behind them
+abbrev three : {X : Type 0} → Bool → Bool → Bool → CapsuleFault → CapsuleFault → CapsuleFault → Result X CapsuleFault → Result X CapsuleFault
+three a b d e f g last = cond a (Err e) (cond b (Err f) (cond d (Err g) last))
+
+three-err : {X Y : Type 0} (a b d : Bool) (e f g fault : CapsuleFault) (x : X) (last : Result Y CapsuleFault) → three a b d e f g (Ok x) ≡ Err fault → three a b d e f g last ≡ Err fault
+three-err true b d e f g fault x last h = let same : e ≡ fault = cc in ap Err same
+three-err false true d e f g fault x last h = let same : f ≡ fault = cc in ap Err same
+three-err false false true e f g fault x last h = let same : g ≡ fault = cc in ap Err same
+three-err false false false e f g fault x last h = absurd cc
+
+three-ok : {X Y : Type 0} (a b d : Bool) (e f g : CapsuleFault) (x y : X) (last : Result Y CapsuleFault) → three a b d e f g (Ok x) ≡ Ok y → (x ≡ y) × (three a b d e f g last ≡ last)
+three-ok true b d e f g x y last h = absurd cc
+three-ok false true d e f g x y last h = absurd cc
+three-ok false false true e f g x y last h = absurd cc
+three-ok false false false e f g x y last h = let same : x ≡ y = cc in (same, refl)
+
+module _ (bytes : List ℕ) (long : 28 ≤ length bytes) where
+  abbrev head : List ℕ
+  head = take 28 (drop 0 bytes)
+
+  abbrev header : ℕ
+  header = num_at 4 bytes 16
+
+  abbrev end : ℕ
+  end = num_at 4 bytes 24
+
+  abbrev fields : List ℕ
+  fields = take 8 (drop header bytes)
+
+  at-header : num_at 4 head 16 ≡ header
+  at-header = num_in bytes 0 28 16 4 (omega arith)
+
+  at-end : num_at 4 head 24 ≡ end
+  at-end = num_in bytes 0 28 24 4 (omega arith)
+
+  front : take 16 head ≡ take 16 bytes
+  front = part_of bytes 0 28 0 16 (omega arith)
+
+  abbrev no-guid : Bool
+  no-guid = not (same_bytes (take 16 bytes) (swapped fmp_guid))
+
+  abbrev bad-size : Bool
+  bad-size = not (has_sizes (shape_in bytes) (length bytes))
+
+  abbrev no-room : Bool
+  no-room = nat_lt end (header + 8)
+
+  -- the header by its own bytes
+  header-is : header_read head (length bytes) ≡ three no-guid bad-size no-room fault.NotFmp fault.BadSize fault.ShortFmp (Ok (header, end))
+  header-is = rw (at-header, at-end, front) refl
+
+  shape-is : shape_of bytes ≡ three no-guid bad-size no-room fault.NotFmp fault.BadSize fault.ShortFmp (shape_read header end fields)
+  unfolding shape_of
+  shape-is =
+      let a : num_at 4 fields 0 ≡ num_at 4 bytes (header + 0) = num_in bytes header 8 0 4 (omega arith) in
+      let z : header + 0 ≡ header = omega arith in
+      let b : num_at 2 fields 4 ≡ num_at 2 bytes (header + 4) = num_in bytes header 8 4 2 (omega arith) in
+      let d : num_at 2 fields 6 ≡ num_at 2 bytes (header + 6) = num_in bytes header 8 6 2 (omega arith) in
+      skips (ltb (length bytes) 28) (Err fault.ShortHeader) _ _ (le-ltb (length bytes) 28 long) (rw (a, z, b, d) refl)
+
+  pub header-fault : (f : CapsuleFault) → header_read head (length bytes) ≡ Err f → shape_of bytes ≡ Err f
+  header-fault f h = shape-is ∙ three-err no-guid bad-size no-room _ _ _ f (header, end) _ (sym header-is ∙ h)
+
+  pub header-passes : (h e : ℕ) → header_read head (length bytes) ≡ Ok (h, e) → shape_of bytes ≡ shape_read h e (take 8 (drop h bytes))
+  header-passes h e is =
+      let both = three-ok no-guid bad-size no-room _ _ _ (header, end) (h, e) (shape_read header end fields) (sym header-is ∙ is) in
+      let one : header ≡ h = ap (λ (r : ℕ × ℕ). r.0) both.0 in
+      let two : end ≡ e = ap (λ (r : ℕ × ℕ). r.1) both.0 in
+      shape-is ∙ both.1 ∙ rw (one, two) refl

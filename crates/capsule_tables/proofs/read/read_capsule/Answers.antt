@@ -1,0 +1,24 @@
+use Rattle.std.proofs.Common.{Option, sym, subst}
+use Rattle.host_io.specs.Contents.{Directory}
+use Rattle.fip_tables.specs.Files.{Tells}
+use Rattle.capsule_tables.specs.Capsule.{capsule_of, items_of, shape_of}
+use Rattle.capsule_tables.proofs.OneByOne.{capsule-is, headers-fault, items-fault}
+use Rattle.capsule_tables.proofs.Stops.{handed-on, stop-answers}
+use Rattle.capsule_tables.proofs.read.read_capsule.Goals as goal
+
+pub returns-in_err-shape-clause-told : goal.returns-in_err-shape-clause-told
+returns-in_err-shape-clause-told g c = λ bytes told.
+    let later = subst (λ (o : Option Directory). Tells o c.args.name.now bytes) (sym c.size.ensures.same) told in
+    stop-answers _ c.in_err-shape.field-0.0 (shape_of bytes) (capsule_of bytes) (handed-on _ _ c.from_residual-in_err-shape.ensures.1) (c.in_err-shape.ensures.told bytes later) (headers-fault bytes)
+
+pub returns-in_err-entries-clause-told : goal.returns-in_err-entries-clause-told
+returns-in_err-entries-clause-told g c = λ bytes told.
+    let later = subst (λ (o : Option Directory). Tells o c.args.name.now bytes) (sym c.size.ensures.same) told in
+    let last = subst (λ (o : Option Directory). Tells o c.args.name.now bytes) (sym c.read_shape.ensures.same) later in
+    stop-answers _ c.in_err-entries.field-0.0 (items_of bytes c.in_ok-shape.shape) (capsule_of bytes) (handed-on _ _ c.from_residual-in_err-entries.ensures.1) (c.in_err-entries.ensures.told bytes last) (λ f. items-fault bytes c.in_ok-shape.shape f (c.in_ok-shape.ensures.told bytes later))
+
+pub returns-clause-told : goal.returns-clause-told
+returns-clause-told g c = λ bytes told.
+    let later = subst (λ (o : Option Directory). Tells o c.args.name.now bytes) (sym c.size.ensures.same) told in
+    let last = subst (λ (o : Option Directory). Tells o c.args.name.now bytes) (sym c.read_shape.ensures.same) later in
+    capsule-is bytes c.in_ok-shape.shape c.in_ok-entries.entries (c.in_ok-shape.ensures.told bytes later) (c.in_ok-entries.ensures.told bytes last)

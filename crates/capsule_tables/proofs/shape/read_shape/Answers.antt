@@ -1,0 +1,41 @@
+use Rattle.std.proofs.Common.{◌∙◌, ℕ, List, Option, take, drop, ap, sym, subst, arith}
+use Rattle.host_io.specs.Contents.{Directory}
+use Rattle.fip_tables.proofs.Told.{size_is}
+use Rattle.fip_tables.specs.Files.{Tells}
+use Rattle.capsule_tables.specs.Ranges.{header_read, shape_read}
+use Rattle.capsule_tables.proofs.Headers.{header-fault, header-passes, too-short}
+use Rattle.capsule_tables.proofs.Stops.{fault-answers}
+use Rattle.capsule_tables.proofs.shape.read_shape.Goals as goal
+
+pub returns-then-size-lt-HEADER_SIZE-clause-told : goal.returns-then-size-lt-HEADER_SIZE-clause-told
+returns-then-size-lt-HEADER_SIZE-clause-told g c = λ bytes told.
+    too-short bytes (let size = size_is _ c.args.name.now bytes c.args.size told c.requires.known in omega (arith, size, c.if-size-lt-HEADER_SIZE.true))
+
+pub returns-in_err-header-clause-told : goal.returns-in_err-header-clause-told
+returns-in_err-header-clause-told g c = λ bytes told.
+    let size = size_is _ c.args.name.now bytes c.args.size told c.requires.known in
+    let head = c.in_ok-read_range.ensures.bytes bytes told in
+    let found = ap (λ (n : ℕ). header_read (take 28 (drop 0 bytes)) n) (sym size) ∙ ap (λ (h : List ℕ). header_read h c.args.size) (sym head) ∙ sym c.header_in.ensures.value ∙ c.in_err-header.was in
+    fault-answers c.from_residual-in_err-header.result c.in_err-header.field-0.0 _ c.from_residual-in_err-header.ensures.1
+    (header-fault bytes (omega (arith, size, c.if-size-lt-HEADER_SIZE.false)) c.in_err-header.field-0.0 found)
+
+pub returns-in_err-shape-clause-told : goal.returns-in_err-shape-clause-told
+returns-in_err-shape-clause-told g c = λ bytes told.
+    let size = size_is _ c.args.name.now bytes c.args.size told c.requires.known in
+    let later = subst (λ (o : Option Directory). Tells o c.args.name.now bytes) (sym c.read_range.ensures.same) told in
+    let head = c.in_ok-read_range.ensures.bytes bytes told in
+    let fields = c.in_ok-read_range-2.ensures.bytes bytes later in
+    let found = ap (λ (n : ℕ). header_read (take 28 (drop 0 bytes)) n) (sym size) ∙ ap (λ (h : List ℕ). header_read h c.args.size) (sym head) ∙ sym c.header_in.ensures.value ∙ c.in_ok-header.was in
+    let passes = header-passes bytes (omega (arith, size, c.if-size-lt-HEADER_SIZE.false)) c.in_ok-header.header c.in_ok-header.end found in
+    fault-answers c.from_residual-in_err-shape.result c.in_err-shape.field-0.0 _ c.from_residual-in_err-shape.ensures.1
+    (passes ∙ ap (shape_read c.in_ok-header.header c.in_ok-header.end) (sym fields) ∙ sym c.shape_in.ensures.value ∙ c.in_err-shape.was)
+
+pub returns-clause-told : goal.returns-clause-told
+returns-clause-told g c = λ bytes told.
+    let size = size_is _ c.args.name.now bytes c.args.size told c.requires.known in
+    let later = subst (λ (o : Option Directory). Tells o c.args.name.now bytes) (sym c.read_range.ensures.same) told in
+    let head = c.in_ok-read_range.ensures.bytes bytes told in
+    let fields = c.in_ok-read_range-2.ensures.bytes bytes later in
+    let found = ap (λ (n : ℕ). header_read (take 28 (drop 0 bytes)) n) (sym size) ∙ ap (λ (h : List ℕ). header_read h c.args.size) (sym head) ∙ sym c.header_in.ensures.value ∙ c.in_ok-header.was in
+    let passes = header-passes bytes (omega (arith, size, c.if-size-lt-HEADER_SIZE.false)) c.in_ok-header.header c.in_ok-header.end found in
+    passes ∙ ap (shape_read c.in_ok-header.header c.in_ok-header.end) (sym fields) ∙ sym c.shape_in.ensures.value ∙ c.in_ok-shape.was

@@ -1,0 +1,35 @@
+-- What a reading of a file answers, and when it fails.
+use Rattle.std.specs.Prelude.{◌≡◌, ◌≤◌, ◌+◌, ◌⊎◌, ℕ, List, Option, Result, Ok, Err, All, IsTrue, length, map}
+use Rattle.base_core.specs.Counts.{Rose}
+use Rattle.host_io.specs.Contents.{Directory}
+use Rattle.fwu_formats.specs.Layout.{are_distinct}
+use Rattle.fwu_formats.specs.Package.{Entry, Toc}
+use Rattle.fip_tables.specs.Files.{Lacks}
+use Rattle.capsule_tables.specs.Capsule.{usual_serial}
+use Rattle.capsule_tables.specs.declared.faults.CapsuleFault.{CapsuleFault}
+use Rattle.capsule_tables.specs.declared.faults.CapsuleStop.{CapsuleStop}
+use Rattle.capsule_tables.specs.declared.faults.CapsuleStop.TheVariants.{Fault, ReadFailed}
+
+-- what is answered is the value, or the first fault, unless the file could not be read
+abbrev pub IsAnswer : {T : Type 0} → Result T CapsuleStop → Result T CapsuleFault → Type 0
+IsAnswer (Ok x) answer = answer ≡ Ok x
+IsAnswer (Err (Fault f)) answer = answer ≡ Err f
+IsAnswer (Err ReadFailed) answer = Unit {0}
+
+-- a reading fails only where the files' faults rose, or told files lack the name
+pub record HasReadCause {T : Type 0} (told : Option Directory) (name : List ℕ) (before now : ℕ)
+    (result : Result T CapsuleStop) : Type 0 where
+  pub later : before ≤ now
+  pub failed : result ≡ Err ReadFailed → Rose before now ⊎ Lacks told name
+
+-- Whatever file it is: at most 64 entries, which end within so many bytes, of different types.
+pub record AreEntries (entries : List Entry) (end : ℕ) : Type 0 where
+  pub few : length entries ≤ 64
+  pub inside : All (λ e. e.offset + e.size ≤ end) entries
+  pub distinct : IsTrue (are_distinct (map (λ e. e.guid) entries))
+
+-- the usual serial number, no flags, and entries that end below 2 ^ 32
+pub record IsSomeTable (toc : Toc) : Type 0 where
+  pub serial : toc.serial ≡ usual_serial
+  pub flags : toc.flags ≡ 0
+  pub entries : AreEntries toc.entries 4294967295

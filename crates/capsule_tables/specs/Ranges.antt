@@ -1,0 +1,45 @@
+-- What the ranges say that are read of a capsule: the first 28 bytes, the eight of the payloads' header, and the first 32 of an
+-- item.
+use Rattle.std.specs.Prelude.{ℕ, ◌+◌, not, ◌==◌, nat_lt, nat_le, ◌&&◌, if◌then◌else◌, List, take, drop, Option, Some, None, Result, Ok, Err}
+use Rattle.base_core.specs.Bytes.{num_at, same_bytes}
+use Rattle.fwu_formats.specs.Package.{Entry, entry_limit}
+use Rattle.capsule_tables.specs.Capsule.{Item, Shape, entry_in, entry_of_item, fmp_guid, head_size, is_item, item_at, item_place, places_end, swapped}
+use Rattle.capsule_tables.specs.declared.faults.CapsuleFault.{CapsuleFault}
+use Rattle.capsule_tables.specs.declared.faults.CapsuleFault.TheVariants as fault
+
+-- where the payloads' header stands and where the capsule ends, in a file of so many bytes
+abbrev pub header_read : List ℕ → ℕ → Result (ℕ × ℕ) CapsuleFault
+header_read head size =
+    let header = num_at 4 head 16 in
+    let end = num_at 4 head 24 in
+    if not (same_bytes (take 16 head) (swapped fmp_guid)) then Err fault.NotFmp
+    else if not (nat_le 28 header && nat_le header end && nat_le end size) then Err fault.BadSize
+    else if nat_lt end (header + 8) then Err fault.ShortFmp
+    else Ok (header, end)
+
+abbrev pub shape_read : ℕ → ℕ → List ℕ → Result Shape CapsuleFault
+shape_read header end fields =
+    let s : Shape = record { header = header; end = end; drivers = num_at 2 fields 4; items = num_at 2 fields 6 } in
+    if not (num_at 4 fields 0 == 1) then Err fault.BadVersion
+    else if nat_lt entry_limit s.items then Err fault.TooMany
+    else if nat_lt end (places_end s) then Err fault.ShortFmp
+    else Ok s
+
+-- the entry of an item at a place, where it is none of a bad one
+abbrev pub item_read : Shape → ℕ → List ℕ → Option Entry
+item_read s at head =
+    let version = num_at 4 head 0 in
+    let item : Item = record {
+      version = version;
+      guid = swapped (take 16 (drop 4 head));
+      image = at + head_size version;
+      size = num_at 4 head 24;
+      vendor = num_at 4 head 28;
+    } in
+    if is_item s at item then Some (entry_of_item item) else None
+
+-- the entry of item i, where it is none of a bad one
+abbrev pub good_entry : List ℕ → Shape → ℕ → Option Entry
+good_entry bytes s i =
+    let at = item_place bytes s i in
+    if is_item s at (item_at bytes at) then Some (entry_in bytes s i) else None

@@ -1,0 +1,17 @@
+//! Firmware management capsules (UEFI): their tables of contents, read from a file without memory,
+//! and capsules made from payloads.
+#![tactic(auto)]
+
+mod faults;
+mod guids;
+mod items;
+mod laws;
+mod making;
+mod read;
+mod shape;
+mod window;
+
+pub use faults::{CapsuleFault, CapsuleStop};
+pub use laws::made_is_read;
+pub use making::{add_head, capsule_front, make_capsule};
+pub use read::read_capsule;
