@@ -2,7 +2,7 @@
 use Rattle.std.proofs.Common.{◌≡◌, [], ◌∷◌, Some, refl, codes}
 use Rattle.clap.specs.Words.{Text}
 use Rattle.clap.proofs.OnLiterals.{clap_on_literals}
-use Rattle.fip_words.specs.Order.{asked, create_by, info_by, manifest_by, remove_by, unpack_by, update_by}
+use Rattle.fip_words.specs.Order.{asked, capsule_by, create_by, info_by, manifest_by, repackage_by, remove_by, unpack_by, update_by}
 use Rattle.clap_words.specs.Plain.{IsPlain}
 use Rattle.clap_words.proofs.NoFlags.{IsNoFlag, plain_is_no_flag}
 use Rattle.fip_words.specs.Values.{file_named, names_of, number_read, parts_of, rows_of}
@@ -40,6 +40,19 @@ manifest_taken : (a b c : Text) → IsNoFlag a → IsNoFlag b → IsNoFlag c
 unfolding clap_on_literals
 manifest_taken a b c o p q = simp (o.long, o.short, o.dashes) (simp (p.long, p.short, p.dashes) (rw (q.long, q.short, q.dashes) refl))
 
+capsule_taken : (a b : Text) → IsNoFlag a → IsNoFlag b → asked (codes "capsule" ∷ a ∷ b ∷ []) ≡ capsule_by (file_named a) (file_named b)
+unfolding clap_on_literals
+capsule_taken a b p q = simp (p.long, p.short, p.dashes) (rw (q.long, q.short, q.dashes) refl)
+
+package_taken : (a b : Text) → IsNoFlag a → IsNoFlag b → asked (codes "package" ∷ a ∷ b ∷ []) ≡ repackage_by (Some 1) (file_named a) (file_named b)
+unfolding clap_on_literals
+package_taken a b p q = simp (p.long, p.short, p.dashes) (rw (q.long, q.short, q.dashes) refl)
+
+aligned_package_taken : (n a b : Text) → IsNoFlag n → IsNoFlag a → IsNoFlag b
+    → asked (codes "package" ∷ codes "--align" ∷ n ∷ a ∷ b ∷ []) ≡ repackage_by (number_read n) (file_named a) (file_named b)
+unfolding clap_on_literals
+aligned_package_taken n a b o p q = simp (o.long, o.short, o.dashes) (simp (p.long, p.short, p.dashes) (rw (q.long, q.short, q.dashes) refl))
+
 pub plain_info : (a : Text) → IsPlain a → asked (codes "info" ∷ a ∷ []) ≡ info_by (file_named a)
 plain_info a p = info_taken a (plain_is_no_flag a p)
 
@@ -65,3 +78,13 @@ plain_unpack a b c o p q = unpack_taken a b c (plain_is_no_flag a o) (plain_is_n
 pub plain_manifest : (a b c : Text) → IsPlain a → IsPlain b → IsPlain c
     → asked (codes "manifest" ∷ a ∷ b ∷ c ∷ []) ≡ manifest_by (file_named a) (number_read b) (rows_of (c ∷ []))
 plain_manifest a b c o p q = manifest_taken a b c (plain_is_no_flag a o) (plain_is_no_flag b p) (plain_is_no_flag c q)
+
+pub plain_capsule : (a b : Text) → IsPlain a → IsPlain b → asked (codes "capsule" ∷ a ∷ b ∷ []) ≡ capsule_by (file_named a) (file_named b)
+plain_capsule a b p q = capsule_taken a b (plain_is_no_flag a p) (plain_is_no_flag b q)
+
+pub plain_package : (a b : Text) → IsPlain a → IsPlain b → asked (codes "package" ∷ a ∷ b ∷ []) ≡ repackage_by (Some 1) (file_named a) (file_named b)
+plain_package a b p q = package_taken a b (plain_is_no_flag a p) (plain_is_no_flag b q)
+
+pub plain_aligned_package : (n a b : Text) → IsPlain n → IsPlain a → IsPlain b
+    → asked (codes "package" ∷ codes "--align" ∷ n ∷ a ∷ b ∷ []) ≡ repackage_by (number_read n) (file_named a) (file_named b)
+plain_aligned_package n a b o p q = aligned_package_taken n a b (plain_is_no_flag n o) (plain_is_no_flag a p) (plain_is_no_flag b q)

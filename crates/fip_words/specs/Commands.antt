@@ -32,5 +32,19 @@ abbrev pub package_app : App
 package_app = with_leaf (with_leaf (with_leaf (with_leaf (top_app (codes "fip"))
     info_app) create_app) (change_app (codes "update"))) (change_app (codes "remove"))
 
+-- capsule IN OUT
+abbrev pub capsule_app : App
+capsule_app = with_rule (with_rule (new_app (codes "capsule")) (word (codes "in"))) (word (codes "out"))
+
+-- package [--align N] IN OUT
+abbrev pub repackage_app : App
+repackage_app = with_rule (with_rule (with_rule (new_app (codes "package")) (option (codes "align")))
+    (word (codes "in"))) (word (codes "out"))
+
+-- and those that write payloads and manifests
+abbrev pub contents_app : App
+contents_app = with_leaf (with_leaf package_app unpack_app) manifest_app
+
+-- and those that turn a package into a capsule, and back
 abbrev pub fip_app : App
-fip_app = with_leaf (with_leaf package_app unpack_app) manifest_app
+fip_app = with_leaf (with_leaf contents_app capsule_app) repackage_app

@@ -9,7 +9,7 @@ use Rattle.fip_words.specs.Values.{NamedFile, NamedImage, align_of, number_read,
 use Rattle.fip_words.specs.declared.values.Part.{Part}
 use Rattle.fip_words.specs.declared.values.ImageWord.{ImageWord}
 use Rattle.fip_words.specs.declared.order.FipOrder.{FipOrder}
-use Rattle.fip_words.specs.declared.order.FipOrder.TheVariants.{Info, InfoOfSource, Create, Update, Remove, Unpack, Manifest}
+use Rattle.fip_words.specs.declared.order.FipOrder.TheVariants.{Info, InfoOfSource, Create, Update, Remove, Unpack, Manifest, Capsule, Package}
 
 -- a command with its values
 pub data Asked : Type 0 where
@@ -20,6 +20,8 @@ pub data Asked : Type 0 where
   remove : ℕ → List ℕ → List ℕ → List (List ℕ) → Asked
   unpack : List ℕ → List ℕ → List (List ℕ) → Asked
   manifest : List ℕ → ℕ → List NamedImage → Asked
+  capsule : List ℕ → List ℕ → Asked
+  repackage : ℕ → List ℕ → List ℕ → Asked
 
 abbrev pub part_view : Part → NamedFile
 part_view p = record { guid = p.guid; file = p.file.now }
@@ -36,6 +38,8 @@ view (Update align from out parts) = update align from.now out.now (map part_vie
 view (Remove align from out names) = remove align from.now out.now names.items
 view (Unpack from prefix names) = unpack from.now prefix.now names.items
 view (Manifest out security rows) = manifest out.now security (map image_view rows.items)
+view (Capsule from out) = capsule from.now out.now
+view (Package align from out) = repackage align from.now out.now
 
 -- `-` is the source
 abbrev pub info_by : Option Text → Option Asked
@@ -62,6 +66,12 @@ unpack_by from prefix names = option_and_then (λ f. option_and_then (λ p. opti
 abbrev pub manifest_by : Option Text → Option ℕ → Option (List NamedImage) → Option Asked
 manifest_by out security rows = option_and_then (λ o. option_and_then (λ s. option_and_then (λ rs. Some (manifest o s rs)) rows) security) out
 
+abbrev pub capsule_by : Option Text → Option Text → Option Asked
+capsule_by from out = option_and_then (λ f. option_and_then (λ o. Some (capsule f o)) out) from
+
+abbrev pub repackage_by : Option ℕ → Option Text → Option Text → Option Asked
+repackage_by align from out = option_and_then (λ a. option_and_then (λ f. option_and_then (λ o. Some (repackage a f o)) out) from) align
+
 abbrev pub align_in : List Row → Option ℕ
 align_in rows = align_of (first_of (codes "align") rows)
 
@@ -84,6 +94,12 @@ abbrev pub manifest_of : List Row → Option Asked
 manifest_of rows =
     manifest_by (file_in (codes "out") rows) (option_and_then number_read (first_of (codes "security") rows)) (rows_of (values_of (codes "rows") rows))
 
+abbrev pub capsule_of : List Row → Option Asked
+capsule_of rows = capsule_by (file_in (codes "in") rows) (file_in (codes "out") rows)
+
+abbrev pub repackage_of : List Row → Option Asked
+repackage_of rows = repackage_by (align_in rows) (file_in (codes "in") rows) (file_in (codes "out") rows)
+
 -- the command of a name, where its values are in their grammars and keep the rules on names
 abbrev pub order_of : Text → List Row → Option Asked
 order_of name rows =
@@ -93,6 +109,8 @@ order_of name rows =
     else if same_bytes name (codes "remove") then remove_of rows
     else if same_bytes name (codes "unpack") then unpack_of rows
     else if same_bytes name (codes "manifest") then manifest_of rows
+    else if same_bytes name (codes "capsule") then capsule_of rows
+    else if same_bytes name (codes "package") then repackage_of rows
     else None
 
 -- What the words ask for. None where they are refused.

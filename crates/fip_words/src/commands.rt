@@ -2,7 +2,7 @@
 ghost use Rattle.std.specs.Prelude.{◌≡◌, IfOk, true};
 ghost use Rattle.clap.specs.Faults.{is_simple_and_free};
 ghost use Rattle.clap_words.specs.Words.{IsApp};
-ghost use Rattle.fip_words.specs.Commands.{change_app, create_app, fip_app, info_app, manifest_app, package_app, unpack_app};
+ghost use Rattle.fip_words.specs.Commands.{capsule_app, change_app, contents_app, create_app, fip_app, info_app, manifest_app, package_app, repackage_app, unpack_app};
 
 use clap::Command;
 use clap_words::{top, with_leaf_command, with_option, with_some_words, with_word, with_words};
@@ -48,6 +48,21 @@ fn manifest_command<'a>(alloc: Global) -> Result<Command<'a>, AllocError>
     with_some_words(alloc, command, "rows")
 }
 
+fn capsule_command<'a>(alloc: Global) -> Result<Command<'a>, AllocError>
+    ensures { IfOk result (λ c. IsApp c capsule_app) }
+{
+    let command = with_word(alloc, Command::new(alloc, "capsule"), "in")?;
+    with_word(alloc, command, "out")
+}
+
+fn repackage_command<'a>(alloc: Global) -> Result<Command<'a>, AllocError>
+    ensures { IfOk result (λ c. IsApp c repackage_app) }
+{
+    let command = with_option(alloc, Command::new(alloc, "package"), "align")?;
+    let command = with_word(alloc, command, "in")?;
+    with_word(alloc, command, "out")
+}
+
 // `fip` with the commands that list, make and change packages.
 fn package_commands<'a>(alloc: Global) -> Result<Command<'a>, AllocError>
     ensures { IfOk result (λ c. IsApp c package_app) }
@@ -59,13 +74,22 @@ fn package_commands<'a>(alloc: Global) -> Result<Command<'a>, AllocError>
     with_leaf_command(command, change_command(alloc, "remove")?)
 }
 
-/// `fip` with its six commands.
-pub fn fip_command<'a>(alloc: Global) -> Result<Command<'a>, AllocError>
-    ensures { IfOk result (λ c. IsApp c fip_app) }
+// And with those that write payloads and manifests.
+fn contents_commands<'a>(alloc: Global) -> Result<Command<'a>, AllocError>
+    ensures { IfOk result (λ c. IsApp c contents_app) }
 {
     let command = package_commands(alloc)?;
     let command = with_leaf_command(command, unpack_command(alloc)?)?;
     with_leaf_command(command, manifest_command(alloc)?)
+}
+
+/// `fip` with its eight commands.
+pub fn fip_command<'a>(alloc: Global) -> Result<Command<'a>, AllocError>
+    ensures { IfOk result (λ c. IsApp c fip_app) }
+{
+    let command = contents_commands(alloc)?;
+    let command = with_leaf_command(command, capsule_command(alloc)?)?;
+    with_leaf_command(command, repackage_command(alloc)?)
 }
 
 /// The command set is one of those that `clap`'s exact clauses are about.

@@ -4,7 +4,7 @@ ghost use Rattle.base_core.specs.Guid.{guid_text};
 ghost use Rattle.clap.specs.Faults.{fault_of};
 ghost use Rattle.clap.specs.Words.{Text};
 ghost use Rattle.fip_words.specs.Commands.{fip_app};
-ghost use Rattle.fip_words.specs.Order.{asked, create_by, info_by, manifest_by, remove_by, unpack_by, update_by};
+ghost use Rattle.fip_words.specs.Order.{asked, capsule_by, create_by, info_by, manifest_by, repackage_by, remove_by, unpack_by, update_by};
 ghost use Rattle.clap_words.specs.Plain.{IsPlain};
 ghost use Rattle.fip_words.specs.Values.{bin, file_named, is_unpacked, names_of, number_read, parts_of, rows_of};
 ghost use Rattle.clap_words.specs.Words.{reads};
@@ -30,6 +30,12 @@ pub fn plain_words_are_taken()
         → asked (codes "unpack" ∷ from ∷ prefix ∷ name ∷ []) ≡ unpack_by (file_named from) (file_named prefix) (names_of (name ∷ [])) }
     ensures manifest { (out security row : Text) → IsPlain out → IsPlain security → IsPlain row
         → asked (codes "manifest" ∷ out ∷ security ∷ row ∷ []) ≡ manifest_by (file_named out) (number_read security) (rows_of (row ∷ [])) }
+    ensures capsule { (from out : Text) → IsPlain from → IsPlain out
+        → asked (codes "capsule" ∷ from ∷ out ∷ []) ≡ capsule_by (file_named from) (file_named out) }
+    ensures package { (from out : Text) → IsPlain from → IsPlain out
+        → asked (codes "package" ∷ from ∷ out ∷ []) ≡ repackage_by (Some 1) (file_named from) (file_named out) }
+    ensures aligned_package { (align from out : Text) → IsPlain align → IsPlain from → IsPlain out
+        → asked (codes "package" ∷ codes "--align" ∷ align ∷ from ∷ out ∷ []) ≡ repackage_by (number_read align) (file_named from) (file_named out) }
     ensures help { asked (codes "--help" ∷ []) ≡ None }
     ensures nothing { asked [] ≡ None }
 {}

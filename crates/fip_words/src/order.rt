@@ -2,7 +2,7 @@
 ghost use Rattle.std.specs.Prelude.{codes, map, option_and_then, option_map, string_bytes};
 ghost use Rattle.clap.specs.Words.{first_of, found_of, rows_of, subcommand_rows_of};
 ghost use Rattle.clap_words.specs.Answers.{Answers, file_in, values_of};
-ghost use Rattle.fip_words.specs.Order.{align_in, asked, create_of, info_of, manifest_of, order_of, image_view, part_view, remove_of, unpack_of, update_of, view};
+ghost use Rattle.fip_words.specs.Order.{align_in, asked, capsule_of, create_of, info_of, manifest_of, order_of, image_view, repackage_of, part_view, remove_of, unpack_of, update_of, view};
 ghost use Rattle.fip_words.specs.Values as value;
 
 use crate::commands::fip_command;
@@ -53,6 +53,17 @@ pub enum FipOrder<'a> {
         out: &'a str,
         security: u32,
         rows: Vec<ImageWord<'a>>,
+    },
+    /// Makes a capsule of a package.
+    Capsule {
+        from: &'a str,
+        out: &'a str,
+    },
+    /// Makes a package of a capsule, each payload at a multiple of `align` bytes.
+    Package {
+        align: u32,
+        from: &'a str,
+        out: &'a str,
     },
 }
 
@@ -183,6 +194,23 @@ fn manifest_order<'a>(alloc: Global, found: &ArgMatches<'a>) -> Result<FipOrder<
     })
 }
 
+fn capsule_order<'a>(found: &ArgMatches<'a>) -> Result<FipOrder<'a>, UsageStop>
+    ensures { Answers view result (capsule_of (rows_of (found_of found.now))) }
+{
+    let from = given_file(found, "in")?;
+    let out = given_file(found, "out")?;
+    Ok(FipOrder::Capsule { from, out })
+}
+
+fn package_order<'a>(found: &ArgMatches<'a>) -> Result<FipOrder<'a>, UsageStop>
+    ensures { Answers view result (repackage_of (rows_of (found_of found.now))) }
+{
+    let align = given_align(found)?;
+    let from = given_file(found, "in")?;
+    let out = given_file(found, "out")?;
+    Ok(FipOrder::Package { align, from, out })
+}
+
 fn named_order<'a>(
     alloc: Global,
     name: &str,
@@ -203,6 +231,10 @@ fn named_order<'a>(
         unpack_order(alloc, found)
     } else if is_word(name, b"manifest") {
         manifest_order(alloc, found)
+    } else if is_word(name, b"capsule") {
+        capsule_order(found)
+    } else if is_word(name, b"package") {
+        package_order(found)
     } else {
         Err(UsageStop::Usage)
     }

@@ -1,6 +1,6 @@
 use Rattle.std.proofs.Common.{refl}
 use Rattle.clap.proofs.OnLiterals.{clap_on_literals}
-use Rattle.fip_words.proofs.PlainWords.{plain_aligned, plain_create, plain_info, plain_manifest, plain_remove, plain_unpack, plain_update}
+use Rattle.fip_words.proofs.PlainWords.{plain_aligned, plain_aligned_package, plain_capsule, plain_create, plain_info, plain_manifest, plain_package, plain_remove, plain_unpack, plain_update}
 use Rattle.fip_words.proofs.laws.plain_words_are_taken.Goals as goal
 
 pub returns-clause-info : goal.returns-clause-info
@@ -27,6 +27,15 @@ returns-clause-unpack c = plain_unpack
 
 pub returns-clause-manifest : goal.returns-clause-manifest
 returns-clause-manifest c = plain_manifest
+
+pub returns-clause-capsule : goal.returns-clause-capsule
+returns-clause-capsule c = plain_capsule
+
+pub returns-clause-package : goal.returns-clause-package
+returns-clause-package c = plain_package
+
+pub returns-clause-aligned_package : goal.returns-clause-aligned_package
+returns-clause-aligned_package c = plain_aligned_package
 
 pub returns-clause-help : goal.returns-clause-help
 unfolding clap_on_literals
