@@ -1,5 +1,5 @@
 -- What was done, from what the parts of a command answer.
-use Rattle.std.proofs.Common.{◌≡◌, ◌⊎◌, inl, inr, ℕ, List, [], ◌∷◌, Option, Some, None, Result, Ok, Err, take, refl, sym, ap, subst, append-nil}
+use Rattle.std.proofs.Common.{◌≡◌, ◌⊎◌, inl, inr, ℕ, List, [], ◌∷◌, Option, Some, None, Result, Ok, Err, refl, sym, ap, subst, append-nil}
 use Rattle.std.specs.Io.KnownBytes.{Appends}
 use Rattle.std.proofs.KnownBytes.{Appends-nil}
 use Rattle.host_io.specs.Contents.{Directory}
@@ -36,6 +36,7 @@ refused steps view value files now was text files-rose sink-rose (stop.NoSuchEnt
 refused steps view value files now was text files-rose sink-rose (stop.NotPacked f) g e t = (ap (outcome_by steps) g, are-told files now e, appends-none was text t)
 refused steps view value files now was text files-rose sink-rose (stop.NoManifest f) g e t = (ap (outcome_by steps) g, are-told files now e, appends-none was text t)
 refused steps view value files now was text files-rose sink-rose stop.TooLong g e t = (ap (outcome_by steps) g, are-told files now e, appends-none was text t)
+refused steps view value files now was text files-rose sink-rose (stop.NotCapsule f) g e t = (ap (outcome_by steps) g, are-told files now e, appends-none was text t)
 refused steps view value files now was text files-rose sink-rose stop.NoMemory g e t = (0, are-told files now e, appends-none was text t)
 
 -- a text that was made, and printed
@@ -54,6 +55,7 @@ made piece files now was text files-rose sink-rose (Err (stop.NoSuchEntry guid))
 made piece files now was text files-rose sink-rose (Err (stop.NotPacked f)) e p = absurd p
 made piece files now was text files-rose sink-rose (Err (stop.NoManifest f)) e p = absurd p
 made piece files now was text files-rose sink-rose (Err stop.TooLong) e p = absurd p
+made piece files now was text files-rose sink-rose (Err (stop.NotCapsule f)) e p = absurd p
 
 pub printed-text : (value : Result (List ℕ) Stop) (piece : List ℕ) (files : Directory) (now : Option Directory) (was text : Option (List ℕ))
     (files-rose sink-rose : Type 0) (r : Result (Unit {0}) Stop) → value ≡ Ok piece → now ≡ Some files → Printed was text sink-rose piece r
@@ -78,6 +80,7 @@ did-later outcome files now was text rose late sink-rose (Err (stop.NoSuchEntry 
 did-later outcome files now was text rose late sink-rose (Err (stop.NotPacked f)) rises d = d
 did-later outcome files now was text rose late sink-rose (Err (stop.NoManifest f)) rises d = d
 did-later outcome files now was text rose late sink-rose (Err stop.TooLong) rises d = d
+did-later outcome files now was text rose late sink-rose (Err (stop.NotCapsule f)) rises d = d
 
 -- want of memory before anything was done
 pub no-memory-yet : (outcome : Outcome) (files : Directory) (now : Option Directory) (was text : Option (List ℕ)) (files-rose sink-rose : Type 0) → now ≡ Some files → text ≡ was

@@ -1,10 +1,10 @@
 -- How the tool ends, from what was done and what was told of it.
-use Rattle.std.proofs.Common.{◌≡◌, ◌≢◌, ◌⊎◌, inl, inr, ℕ, zero, suc, ◌+◌, List, [], ◌∷◌, ◌++◌, Option, Ok, Err, length, take, drop, refl, sym, ap, subst, ◌∙◌}
+use Rattle.std.proofs.Common.{◌≡◌, ◌≢◌, ◌⊎◌, inl, inr, ℕ, zero, suc, List, [], Option, Ok, Err, take, drop, refl, sym, subst}
 use Rattle.std.specs.Io.KnownBytes.{Appends}
 use Rattle.std.proofs.KnownBytes.{Appends-trans}
 use Rattle.host_io.specs.Contents.{Directory}
 use Rattle.fip_tool.specs.Ends.{EndedBy, HasCauseOf, Reported, SinkFailed, StandAfter, Told, stop_line}
-use Rattle.fip_tool.specs.Steps.{Outcome, Makes, Refuses, Step, Writes, Prints, Are, AreUpTo, Did, steps_of, printed, written}
+use Rattle.fip_tool.specs.Steps.{Outcome, Makes, Refuses, Are, AreUpTo, Did, steps_of, printed, written}
 use Rattle.fip_tool.specs.declared.stops.Stop.{Stop}
 use Rattle.fip_tool.specs.declared.stops.Stop.TheVariants as stop
 
@@ -90,6 +90,7 @@ module _ (outcome : Outcome) (files : Directory) (now : Option Directory) (was m
   ends (stop.NotPacked f) t d r = refused-ends (stop.NotPacked f) t d (told (stop.NotPacked f) d) r
   ends (stop.NoManifest f) t d r = refused-ends (stop.NoManifest f) t d (told (stop.NoManifest f) d) r
   ends stop.TooLong t d r = refused-ends stop.TooLong t d (told stop.TooLong d) r
+  ends (stop.NotCapsule f) t d r = refused-ends (stop.NotCapsule f) t d (told (stop.NotCapsule f) d) r
   ends stop.NoMemory t d r =
       at-stop r.0 (subst (λ (x : Option (List ℕ)). EndedBy outcome files now was x files-rose sink-rose (Err stop.NoMemory)) (sym r.1) (no-memory d))
 
@@ -104,6 +105,7 @@ reported was text sink-rose (stop.NoSuchEntry guid) t a b r = r
 reported was text sink-rose (stop.NotPacked f) t a b r = r
 reported was text sink-rose (stop.NoManifest f) t a b r = r
 reported was text sink-rose stop.TooLong t a b r = r
+reported was text sink-rose (stop.NotCapsule f) t a b r = r
 
 -- a sink that failed in a part failed in the whole
 pub reported-later : (was text : Option (List ℕ)) (rose late : Type 0) (s t : Stop) → (rose → late) → Reported was text rose s t → Reported was text late s t
@@ -124,3 +126,4 @@ reported-later was text rose late s t rises r = by-stop s r
     by-stop (stop.NotPacked f) r = told-later (stop.NotPacked f) r
     by-stop (stop.NoManifest f) r = told-later (stop.NoManifest f) r
     by-stop stop.TooLong r = told-later stop.TooLong r
+    by-stop (stop.NotCapsule f) r = told-later (stop.NotCapsule f) r

@@ -1,17 +1,17 @@
 -- Payloads that are read straight to their places in a package.
-use Rattle.std.proofs.Common.{◌≡◌, ◌<◌, ◌≤◌, ◌+◌, ℕ, zero, suc, List, [], ◌∷◌, ◌++◌, Bool, true, false, Option, Some, None, Result, Ok, Err, get_or, length, map, take, drop, replicate, cond, option_map, unwrap_or, arith, refl, sym, ap, subst, ◌∙◌}
+use Rattle.std.proofs.Common.{◌≡◌, ◌<◌, ◌≤◌, ◌+◌, ℕ, zero, suc, List, [], ◌∷◌, ◌++◌, Bool, true, false, Option, Some, None, Ok, Err, get_or, length, map, take, drop, replicate, cond, option_map, unwrap_or, arith, refl, sym, ap, subst, ◌∙◌}
 use Rattle.std.specs.Prelude.{find}
 use Rattle.std.specs.List.{All}
-use Rattle.std.proofs.lemmas.List.{get_or-map, length-drop, length-map, length-replicate, length-take-le, map-append, take_all, take_more}
+use Rattle.std.proofs.lemmas.List.{get_or-map, length-drop, length-map, length-replicate, length-take-le, map-append, take_all}
 use Rattle.std.proofs.lemmas.List.Elements.{All-append, All-get_or}
 use Rattle.base_core.specs.Bytes.{same_bytes}
-use Rattle.host_io.specs.Contents.{Directory, HasRange, TellsRange}
+use Rattle.host_io.specs.Contents.{Directory, HasRange}
 use Rattle.fwu_formats.specs.Package.{Entry, Part, packed, packed_entries, payload}
 use Rattle.fip_tables.specs.Files.{Lacks, Tells}
 use Rattle.fip_tables.specs.Frame.{Filling, FillsFrom, IsFrame, marker, next_entry, table_end}
 use Rattle.fip_tables.specs.Packing.{pack_fault, part_at, zeroed}
 use Rattle.fip_tables.specs.declared.faults.PackFault.{PackFault}
-use Rattle.fip_tables.proofs.Filled.{entries-count, entry-size}
+use Rattle.fip_tables.proofs.Filled.{entry-size}
 use Rattle.fip_tables.proofs.Told.{range_is}
 use Rattle.fip_tables.proofs.Zeros.{zeros-decide}
 use Rattle.fip_words.specs.Order.{part_view}

@@ -1,8 +1,7 @@
 -- The parts of packages, and what is packed.
-use Rattle.std.proofs.Common.{◌≡◌, ◌<◌, ◌≤◌, ◌+◌, ℕ, suc, List, [], ◌∷◌, ◌++◌, Option, Some, None, Result, Ok, Err, get_or, length, map, take, drop, drop-cons, option_map, refl, sym, ap, subst, ◌∙◌}
+use Rattle.std.proofs.Common.{◌≡◌, ◌<◌, ◌+◌, ℕ, suc, List, [], ◌∷◌, ◌++◌, Option, Some, None, Result, Ok, Err, get_or, length, map, take, drop, drop-cons, option_map, refl, sym, ap, ◌∙◌}
 use Rattle.std.specs.Prelude.{option_and_then}
 use Rattle.std.proofs.lemmas.List.{map-append, take-append-drop, take_more}
-use Rattle.base_core.specs.Counts.{Rose}
 use Rattle.host_io.specs.Contents.{Directory}
 use Rattle.fwu_formats.specs.Package.{Part, packed}
 use Rattle.fip_words.specs.Order.{part_view}
@@ -10,12 +9,11 @@ use Rattle.fip_words.specs.Values.{NamedFile, each}
 use Rattle.fip_words.specs.declared.values.Part.{Part as Word}
 use Rattle.fip_tables.specs.Packing.{pack_fault}
 use Rattle.fip_tables.specs.declared.faults.PackFault.{PackFault}
-use Rattle.fip_tool.specs.Steps.{Did, Gives, Makes, outcome_by}
-use Rattle.fip_tool.specs.Tool.{after, create_value, file_value, new_serial, pack_value, packs, part_in, parts_in, there}
+use Rattle.fip_tool.specs.Steps.{Gives}
+use Rattle.fip_tool.specs.Tool.{after, create_value, new_serial, pack_value, part_in, parts_in, there}
 use Rattle.fip_tool.specs.declared.stops.Stop.{Stop}
 use Rattle.fip_tool.specs.declared.stops.Stop.TheVariants as stop
-use Rattle.fip_tool.proofs.Did.{made-steps}
-use Rattle.fip_tool.proofs.Tables.{gives-err, rose-from}
+use Rattle.fip_tool.proofs.Tables.{gives-err}
 
 -- ---- what one part of a command gives to the next
 

@@ -115,7 +115,7 @@ stopped {Y} told name guids k s e = by-file (told name) e
     by-file (Some bytes) h = by-table bytes (toc_of bytes) h
 
 -- and where there is none
-going-on : {Y : Type 0} (told : Directory) (name : List ℕ) (guids : List (List ℕ)) (toc : Toc) (k : List ℕ × Toc → Result Y Stop) → (o : IsOpened told name guids toc)
+pub going-on : {Y : Type 0} (told : Directory) (name : List ℕ) (guids : List (List ℕ)) (toc : Toc) (k : List ℕ × Toc → Result Y Stop) → (o : IsOpened told name guids toc)
     → after (package_in told name) (λ p. unless_missing (first_missing p.1 guids) (k p)) ≡ k (o.bytes, toc)
 going-on told name guids toc k o =
     ap (λ (f : Option (List ℕ)). made_with guids k (package_of f)) o.is

@@ -24,6 +24,7 @@ source-refused view was left text rose sink-rose given (stop.NoSuchEntry guid) g
 source-refused view was left text rose sink-rose given (stop.NotPacked f) g = (g.0, (ap (outcome_by prints) g.1, none-changed, Appends-nil text))
 source-refused view was left text rose sink-rose given (stop.NoManifest f) g = (g.0, (ap (outcome_by prints) g.1, none-changed, Appends-nil text))
 source-refused view was left text rose sink-rose given stop.TooLong g = (g.0, (ap (outcome_by prints) g.1, none-changed, Appends-nil text))
+source-refused view was left text rose sink-rose given (stop.NotCapsule f) g = (g.0, (ap (outcome_by prints) g.1, none-changed, Appends-nil text))
 
 read-all : (was left taken text : Option (List ℕ)) (sink-rose : Type 0) (given piece : List ℕ) (r : Result (Unit {0}) Stop) → Consumes was left given → IsAtEnd left → Printed taken text sink-rose piece r → IsReadFor r was left given
 read-all was left taken text sink-rose given piece (Ok u) c e p = (c, e)
@@ -35,6 +36,7 @@ read-all was left taken text sink-rose given piece (Err (stop.NoSuchEntry guid))
 read-all was left taken text sink-rose given piece (Err (stop.NotPacked f)) c e p = c
 read-all was left taken text sink-rose given piece (Err (stop.NoManifest f)) c e p = c
 read-all was left taken text sink-rose given piece (Err stop.TooLong) c e p = c
+read-all was left taken text sink-rose given piece (Err (stop.NotCapsule f)) c e p = c
 read-all was left taken text sink-rose given piece (Err stop.NoMemory) c e p = c
 
 pub source-printed : (was left taken text : Option (List ℕ)) (rose sink-rose : Type 0) (given piece : List ℕ) (r : Result (Unit {0}) Stop) → Consumes was left given × IsAtEnd left × (given_value given ≡ Ok piece)
@@ -52,6 +54,7 @@ consumed was left given (stop.NoSuchEntry guid) r = r
 consumed was left given (stop.NotPacked f) r = r
 consumed was left given (stop.NoManifest f) r = r
 consumed was left given stop.TooLong r = r
+consumed was left given (stop.NotCapsule f) r = r
 consumed was left given stop.NoMemory r = r
 
 module _ (was left taken text : Option (List ℕ)) (rose : Type 0) (given : List ℕ) where
@@ -74,6 +77,7 @@ module _ (was left taken text : Option (List ℕ)) (rose : Type 0) (given : List
   reported-read (stop.NotPacked f) t r a = told-read (stop.NotPacked f) t r a
   reported-read (stop.NoManifest f) t r a = told-read (stop.NoManifest f) t r a
   reported-read stop.TooLong t r a = told-read stop.TooLong t r a
+  reported-read (stop.NotCapsule f) t r a = told-read (stop.NotCapsule f) t r a
 
   two : (s : Stop) → status_number s ≡ 2 → s ≡ stop.FileFault
   two stop.FileFault e = refl
@@ -84,6 +88,7 @@ module _ (was left taken text : Option (List ℕ)) (rose : Type 0) (given : List
   two (stop.NotPacked f) e = cc
   two (stop.NoManifest f) e = cc
   two stop.TooLong e = cc
+  two (stop.NotCapsule f) e = cc
   two stop.NoMemory e = cc
 
   told-two : (s t : Stop) → Told taken text rose s t → status_number t ≡ 2 → s ≡ stop.FileFault
@@ -102,3 +107,4 @@ module _ (was left taken text : Option (List ℕ)) (rose : Type 0) (given : List
   reported-two (stop.NotPacked f) t a e = told-two (stop.NotPacked f) t a e
   reported-two (stop.NoManifest f) t a e = told-two (stop.NoManifest f) t a e
   reported-two stop.TooLong t a e = told-two stop.TooLong t a e
+  reported-two (stop.NotCapsule f) t a e = told-two (stop.NotCapsule f) t a e

@@ -72,6 +72,7 @@ stopped was mid new stream next count before then now rose-late rose rises r (st
 stopped was mid new stream next count before then now rose-late rose rises r (stop.NotPacked f) p = absurd p.1
 stopped was mid new stream next count before then now rose-late rose rises r (stop.NoManifest f) p = absurd p.1
 stopped was mid new stream next count before then now rose-late rose rises r stop.TooLong p = absurd p.1
+stopped was mid new stream next count before then now rose-late rose rises r (stop.NotCapsule f) p = absurd p.1
 stopped was mid new stream next count before then now rose-late rose rises r stop.NoMemory p = absurd p.1
 
 -- the source is at its end
@@ -86,6 +87,7 @@ at-end was left rose given (Err (stop.NoSuchEntry guid)) c e h = absurd h
 at-end was left rose given (Err (stop.NotPacked f)) c e h = absurd h
 at-end was left rose given (Err (stop.NoManifest f)) c e h = absurd h
 at-end was left rose given (Err stop.TooLong) c e h = absurd h
+at-end was left rose given (Err (stop.NotCapsule f)) c e h = absurd h
 at-end was left rose given (Err stop.NoMemory) c e h = absurd h
 
 is-long : (given : List ℕ) → decided (toc_of given) ≡ Ok tt → 4294967296 < length given → given_table given ≡ Err stop.TooLong
@@ -140,6 +142,7 @@ text-stopped view was left rose given (stop.NoSuchEntry guid) g = (g.0, value-of
 text-stopped view was left rose given (stop.NotPacked f) g = (g.0, value-of given (Err (stop.NotPacked f)) g.1)
 text-stopped view was left rose given (stop.NoManifest f) g = (g.0, value-of given (Err (stop.NoManifest f)) g.1)
 text-stopped view was left rose given stop.TooLong g = (g.0, value-of given (Err stop.TooLong) g.1)
+text-stopped view was left rose given (stop.NotCapsule f) g = (g.0, value-of given (Err (stop.NotCapsule f)) g.1)
 
 pub text-made : (was left : Option (List ℕ)) (rose : Type 0) (given : List ℕ) (t : Toc × ℕ) (text : List ℕ) → GivenTo (λ (t : Toc × ℕ). t) given_table was left rose (Ok t) given
     → text ≡ info_text t.0 t.1 → Consumes was left given × IsAtEnd left × (given_value given ≡ Ok text)

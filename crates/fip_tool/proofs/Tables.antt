@@ -42,6 +42,7 @@ gives-err view other rose late v w (stop.NoSuchEntry guid) rises so g = so g
 gives-err view other rose late v w (stop.NotPacked f) rises so g = so g
 gives-err view other rose late v w (stop.NoManifest f) rises so g = so g
 gives-err view other rose late v w stop.TooLong rises so g = so g
+gives-err view other rose late v w (stop.NotCapsule f) rises so g = so g
 
 -- a fault of a first part, or of the next
 pub either-rose : {A : Type 0} (a b c : ℕ) → a ≤ b → b ≤ c → (A → Rose a b) → A ⊎ Rose b c → Rose a c

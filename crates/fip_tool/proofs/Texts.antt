@@ -1,14 +1,13 @@
 -- What was printed, text by text.
-use Rattle.std.proofs.Common.{◌≡◌, ◌≢◌, ◌⊎◌, inl, inr, ◌≤◌, ◌<◌, ◌+◌, ℕ, zero, suc, List, [], ◌∷◌, ◌++◌, Option, Some, None, Result, Ok, Err, length, map, take, drop, arith, refl, sym, ap, subst, ◌∙◌, append-nil, append_assoc, length-append}
+use Rattle.std.proofs.Common.{◌≡◌, ◌≢◌, inl, inr, ◌<◌, ℕ, List, [], ◌∷◌, ◌++◌, Option, Result, Ok, Err, length, take, drop, arith, refl, sym, ap, subst, ◌∙◌, append-nil, append_assoc, length-append}
 use Rattle.std.specs.Prelude.{IfOk, Vec}
 use Rattle.std.specs.Global.{Global}
-use Rattle.std.proofs.lemmas.List.{length-map, map-append}
 use Rattle.std.proofs.Math.Seq.{drop-append_seam, take-append_seam}
 use Rattle.std.specs.Io.KnownBytes.{Appends}
 use Rattle.std.proofs.KnownBytes.{Appends-nil, Appends-trans}
 use Rattle.fip_tool.specs.Ends.{Reported, Told, status_number, stop_line}
-use Rattle.fip_tool.specs.Lines.{packed_line}
-use Rattle.fip_tool.specs.Said.{IsBefore, IsBegun, IsCut, IsPackedLine, Says, SaysAll, half_of, joined}
+use Rattle.fip_tool.specs.Lines.{capsule_line, packed_line}
+use Rattle.fip_tool.specs.Said.{IsCapsuleLine, IsBefore, IsBegun, IsCut, IsPackedLine, Says, SaysAll, half_of, joined}
 use Rattle.fip_tool.specs.Steps.{IsLate, Printed}
 use Rattle.fip_tool.specs.declared.stops.Stop.{Stop}
 use Rattle.fip_tool.specs.declared.stops.Stop.TheVariants as stop
@@ -33,6 +32,7 @@ says-printed T line was text rose (Err (stop.NoSuchEntry guid)) t p = absurd p
 says-printed T line was text rose (Err (stop.NotPacked f)) t p = absurd p
 says-printed T line was text rose (Err (stop.NoManifest f)) t p = absurd p
 says-printed T line was text rose (Err stop.TooLong) t p = absurd p
+says-printed T line was text rose (Err (stop.NotCapsule f)) t p = absurd p
 
 -- a part that stopped before anything was printed
 pub says-nothing : (T : List (List ℕ) → Type 0) (was text : Option (List ℕ)) (rose : Type 0) (s : Stop) → s ≢ stop.SinkFault → text ≡ was → Says T was text rose (Err s)
@@ -45,6 +45,7 @@ says-nothing T was text rose (stop.NoSuchEntry guid) other e = e
 says-nothing T was text rose (stop.NotPacked f) other e = e
 says-nothing T was text rose (stop.NoManifest f) other e = e
 says-nothing T was text rose stop.TooLong other e = e
+says-nothing T was text rose (stop.NotCapsule f) other e = e
 
 pub err-same : {X : Type 0} {a b : Stop} → a ≡ b → ◌≡◌ {A = Result X Stop} (Err a) (Err b)
 err-same {X} e = ap (λ (s : Stop). Err s) e
@@ -66,12 +67,18 @@ says-as T U was text rose late (Err (stop.NoSuchEntry guid)) turns rises h = h
 says-as T U was text rose late (Err (stop.NotPacked f)) turns rises h = h
 says-as T U was text rose late (Err (stop.NoManifest f)) turns rises h = h
 says-as T U was text rose late (Err stop.TooLong) turns rises h = h
+says-as T U was text rose late (Err (stop.NotCapsule f)) turns rises h = h
 
 -- the line of a package that was made
 pub packed-texts : (made : Result (ℕ × Vec ℕ Global) Stop) (P : ℕ → Type 0) → IfOk made (λ m. P m.0) → (texts : List (List ℕ)) → IsPackedLine made texts
     → (n : ℕ) × P n × (size : ℕ) × (texts ≡ packed_line n size ∷ [])
 packed-texts (Ok m) P h texts t = (m.0, h, length m.1.items, t)
 packed-texts (Err s) P h texts t = absurd t
+
+pub capsule-texts : (made : Result (ℕ × Vec ℕ Global) Stop) (P : ℕ → Type 0) → IfOk made (λ m. P m.0) → (texts : List (List ℕ)) → IsCapsuleLine made texts
+    → (n : ℕ) × P n × (size : ℕ) × (texts ≡ capsule_line n size ∷ [])
+capsule-texts (Ok m) P h texts t = (m.0, h, length m.1.items, t)
+capsule-texts (Err s) P h texts t = absurd t
 
 -- ---- texts one after the other
 
@@ -135,6 +142,7 @@ module _ (before : List (List ℕ)) (line : List ℕ) (after all : List (List �
   says-behind (stop.NotPacked f) l h = absurd l
   says-behind (stop.NoManifest f) l h = absurd l
   says-behind stop.TooLong l h = absurd l
+  says-behind (stop.NotCapsule f) l h = absurd l
 
 -- one more text was printed
 pub said-more : (before all : List (List ℕ)) (line : List ℕ) (was at text : Option (List ℕ)) (rose : Type 0) (u : Unit {0}) → all ≡ before ++ (line ∷ []) → Appends was at (joined before)
@@ -174,6 +182,7 @@ module _ (T : List (List ℕ) → Type 0) (was mid text : Option (List ℕ)) (ea
   says-ends (stop.NotPacked f) t h r = ended (stop.NotPacked f) t ([], refl, appends-same was mid h) (λ w. w) none-yet r
   says-ends (stop.NoManifest f) t h r = ended (stop.NoManifest f) t ([], refl, appends-same was mid h) (λ w. w) none-yet r
   says-ends stop.TooLong t h r = ended stop.TooLong t ([], refl, appends-same was mid h) (λ w. w) none-yet r
+  says-ends (stop.NotCapsule f) t h r = ended (stop.NotCapsule f) t ([], refl, appends-same was mid h) (λ w. w) none-yet r
 
 pub says-ok : (T : List (List ℕ) → Type 0) (was text : Option (List ℕ)) (rose : Type 0) (u : Unit {0}) → Says T was text rose (Ok u) → SaysAll T was text rose (Ok u)
 says-ok T was text rose u h = h
@@ -188,6 +197,7 @@ three (stop.NoSuchEntry guid) e = cc
 three (stop.NotPacked f) e = cc
 three (stop.NoManifest f) e = cc
 three stop.TooLong e = cc
+three (stop.NotCapsule f) e = cc
 three stop.NoMemory e = cc
 
 pub sink-rose : (T : List (List ℕ) → Type 0) (was text : Option (List ℕ)) (rose : Type 0) (t : Stop) → status_number t ≡ 3 → SaysAll T was text rose (Err t) → rose

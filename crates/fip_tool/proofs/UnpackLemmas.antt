@@ -159,6 +159,7 @@ module _ (first second rest : List Step) (files mid : Directory) (now : Option D
   stops (stop.NotPacked f) d = let no : Makes second ≡ Refuses (stop.NotPacked f) = d.0 in cc
   stops (stop.NoManifest f) d = let no : Makes second ≡ Refuses (stop.NoManifest f) = d.0 in cc
   stops stop.TooLong d = let no : Makes second ≡ Refuses stop.TooLong = d.0 in cc
+  stops (stop.NotCapsule f) d = let no : Makes second ≡ Refuses (stop.NotCapsule f) = d.0 in cc
 
 -- all steps were done
 pub did-all : (steps : List Step) (files now : Directory) (was text : Option (List ℕ)) (rose sink-rose : Type 0) (u : Unit {0}) → IsDone steps files now was text

@@ -3,7 +3,7 @@ use Rattle.std.proofs.Common.{◌≡◌, ℕ, Bool, true, false, List, Option, S
 use Rattle.std.specs.Prelude.{if◌then◌else◌, option_and_then}
 use Rattle.base_core.specs.Bytes.{same_bytes}
 use Rattle.fip_words.specs.Commands.{fip_app}
-use Rattle.fip_words.specs.Order.{Asked, info, info_of_source, unpack, align_in, asked, create_by, file_in, info_by, manifest_by, manifest_of, order_of, remove_by, unpack_by, update_by, values_of}
+use Rattle.fip_words.specs.Order.{Asked, info, info_of_source, unpack, align_in, asked, create_by, file_in, capsule_by, info_by, manifest_by, order_of, repackage_by, repackage_of, remove_by, unpack_by, update_by, values_of}
 use Rattle.fip_words.specs.Values.{NamedFile, NamedImage, is_unpacked, names_of, parts_of, rows_of}
 use Rattle.fip_words.specs.Words.{reads}
 
@@ -45,6 +45,17 @@ module _ (from prefix : List ℕ) (names : List (List ℕ)) where
   manifest-is-none (Some o) (Some s) None e = cc
   manifest-is-none (Some o) (Some s) (Some rs) e = cc
 
+  capsule-is-none : (in_file out : Option (List ℕ)) → Is (capsule_by in_file out) → ⊥
+  capsule-is-none None out e = cc
+  capsule-is-none (Some i) None e = cc
+  capsule-is-none (Some i) (Some o) e = cc
+
+  package-is-none : (align : Option ℕ) (in_file out : Option (List ℕ)) → Is (repackage_by align in_file out) → ⊥
+  package-is-none None i out e = cc
+  package-is-none (Some a) None out e = cc
+  package-is-none (Some a) (Some i) None e = cc
+  package-is-none (Some a) (Some i) (Some o) e = cc
+
   unpack-is-other : (f p : Option (List ℕ)) (ns : Option (List (List ℕ))) → Is (unpack_by f p ns) → is_unpacked prefix from ≡ false
   unpack-is-other None p ns e = cc
   unpack-is-other (Some f) None ns e = cc
@@ -82,8 +93,14 @@ module _ (from prefix : List ℕ) (names : List (List ℕ)) where
       (λ then-four.
       one-of (same_bytes p.0 (codes "unpack")) _ _ _ (λ is. unpack-is-other (file_in (codes "in") p.1) (file_in (codes "prefix") p.1) (names_of (values_of (codes "names") p.1)) is)
       (λ then-five.
-      one-of (same_bytes p.0 (codes "manifest")) (manifest_of p.1) None _
-      (λ is. absurd (manifest-is-none (file_in (codes "out") p.1) _ (rows_of (values_of (codes "rows") p.1)) is)) (λ is. cc) then-five)
+      one-of (same_bytes p.0 (codes "manifest")) _ _ _ (λ is. absurd (manifest-is-none (file_in (codes "out") p.1) _ (rows_of (values_of (codes "rows") p.1)) is))
+      (λ then-six.
+      one-of (same_bytes p.0 (codes "capsule")) _ _ _ (λ is. absurd (capsule-is-none (file_in (codes "in") p.1) (file_in (codes "out") p.1) is))
+      (λ then-seven.
+      one-of (same_bytes p.0 (codes "package")) (repackage_of p.1) None _
+      (λ is. absurd (package-is-none (align_in p.1) (file_in (codes "in") p.1) (file_in (codes "out") p.1) is)) (λ is. cc) then-seven)
+      then-six)
+      then-five)
       then-four)
       then-three)
       then-two)

@@ -18,6 +18,7 @@ one (stop.NoSuchEntry guid) e = cc
 one (stop.NotPacked f) e = cc
 one (stop.NoManifest f) e = cc
 one stop.TooLong e = cc
+one (stop.NotCapsule f) e = cc
 one stop.NoMemory e = cc
 
 module _ (was text : Option (List ℕ)) (rose : Type 0) where
@@ -37,6 +38,7 @@ module _ (was text : Option (List ℕ)) (rose : Type 0) where
   reported-one (stop.NotPacked f) t a e = told-one (stop.NotPacked f) t a e
   reported-one (stop.NoManifest f) t a e = told-one (stop.NoManifest f) t a e
   reported-one stop.TooLong t a e = told-one stop.TooLong t a e
+  reported-one (stop.NotCapsule f) t a e = told-one (stop.NotCapsule f) t a e
 
   -- usage has status 1, unless its line failed or memory ran out
   pub usage-status : {X : Type 0} (s t : Stop) (n : ℕ) → (◌≡◌ {A = Result X Stop} (Err s) (Err stop.Usage)) ⊎ (◌≡◌ {A = Result X Stop} (Err s) (Err stop.NoMemory))

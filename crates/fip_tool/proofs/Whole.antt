@@ -51,6 +51,7 @@ range-gives o name bytes at size (Err (stop.NoSuchEntry guid)) tells rises long 
 range-gives o name bytes at size (Err (stop.NotPacked f)) tells rises long range late cause sink = absurd late
 range-gives o name bytes at size (Err (stop.NoManifest f)) tells rises long range late cause sink = absurd late
 range-gives o name bytes at size (Err stop.TooLong) tells rises long range late cause sink = absurd late
+range-gives o name bytes at size (Err (stop.NotCapsule f)) tells rises long range late cause sink = absurd late
 
 -- a file of so many bytes, read from its start on
 pub whole-is : (told : Directory) (name : List ℕ) (n : ℕ) → size_in told name ≡ Ok n → (bytes : List ℕ) × (told name ≡ Some bytes) × (file_value told name ≡ Ok (take n (drop 0 bytes)))

@@ -1,13 +1,13 @@
 -- What a writing and a line leave.
-use Rattle.std.proofs.Common.{◌≡◌, ◌≢◌, inr, ℕ, List, [], ◌∷◌, Bool, true, false, Option, Some, None, Result, Ok, Err, ◌≤◌, length, take, refl, sym, ap, subst, ◌∙◌, append-nil, true≢false}
+use Rattle.std.proofs.Common.{◌≡◌, ◌≢◌, inr, ℕ, List, [], ◌∷◌, Bool, true, false, Option, Some, None, Result, Ok, Err, ◌≤◌, length, refl, sym, ap, subst, ◌∙◌, append-nil, true≢false}
 use Rattle.std.specs.Str.{bytes_eq}
 use Rattle.std.proofs.lemmas.Slice.Eq.{bytes_eq-Decides}
 use Rattle.std.specs.Io.KnownBytes.{Appends}
 use Rattle.base_core.specs.Counts.{Rose}
 use Rattle.host_io.specs.Contents.{ChangesOnly, Directory, Holds}
-use Rattle.fip_tool.specs.Lines.{packed_line}
+use Rattle.fip_tool.specs.Lines.{capsule_line, packed_line}
 use Rattle.fip_tool.specs.Steps.{Makes, Step, Writes, Prints, Are, AreBut, Did, Printed, Written, outcome_by, with_file}
-use Rattle.fip_tool.specs.Tool.{packs}
+use Rattle.fip_tool.specs.Tool.{encloses, packs}
 use Rattle.fip_tool.specs.declared.stops.Stop.{Stop}
 use Rattle.fip_tool.specs.declared.stops.Stop.TheVariants as stop
 use Rattle.fip_tool.proofs.Did.{appends-none, made-steps}
@@ -52,6 +52,7 @@ write-stopped files now was text files-rose sink-rose name bytes line (stop.NoSu
 write-stopped files now was text files-rose sink-rose name bytes line (stop.NotPacked f) w t = absurd w
 write-stopped files now was text files-rose sink-rose name bytes line (stop.NoManifest f) w t = absurd w
 write-stopped files now was text files-rose sink-rose name bytes line stop.TooLong w t = absurd w
+write-stopped files now was text files-rose sink-rose name bytes line (stop.NotCapsule f) w t = absurd w
 
 -- the file and the line of a package
 pub package-put : (files : Directory) (out : List ℕ) (value : Result (ℕ × List ℕ) Stop) (n : ℕ) (bytes same line : List ℕ) (now : Option Directory) (was text : Option (List ℕ)) (a b c : ℕ) (sink-rose : Type 0)
@@ -61,6 +62,16 @@ package-put files out value n bytes same line now was text a b c sink-rose r v i
     let steps : Writes out same ∷ Prints line ∷ [] ≡ packs out (n, bytes) =
     ap (λ (l : List ℕ). Writes out l ∷ Prints line ∷ []) is ∙ ap (λ (l : List ℕ). Writes out bytes ∷ Prints l ∷ []) lined in
     made-steps (packs out) value (n, bytes) files now was text (Rose b c) (Rose a c) sink-rose r v (rose-from a b c le)
+    (subst (λ (s : List Step). Did (Makes s) files now was text (Rose b c) sink-rose r) steps did)
+
+-- the file and the line of a capsule
+pub capsule-put : (files : Directory) (out : List ℕ) (value : Result (ℕ × List ℕ) Stop) (n : ℕ) (bytes same line : List ℕ) (now : Option Directory) (was text : Option (List ℕ)) (a b c : ℕ) (sink-rose : Type 0)
+    (r : Result (Unit {0}) Stop) → value ≡ Ok (n, bytes) → same ≡ bytes → line ≡ capsule_line n (length bytes) → a ≤ b → Did (Makes (Writes out same ∷ Prints line ∷ [])) files now was text (Rose b c) sink-rose r
+    → Did (outcome_by (encloses out) value) files now was text (Rose a c) sink-rose r
+capsule-put files out value n bytes same line now was text a b c sink-rose r v is lined le did =
+    let steps : Writes out same ∷ Prints line ∷ [] ≡ encloses out (n, bytes) =
+    ap (λ (l : List ℕ). Writes out l ∷ Prints line ∷ []) is ∙ ap (λ (l : List ℕ). Writes out bytes ∷ Prints l ∷ []) lined in
+    made-steps (encloses out) value (n, bytes) files now was text (Rose b c) (Rose a c) sink-rose r v (rose-from a b c le)
     (subst (λ (s : List Step). Did (Makes s) files now was text (Rose b c) sink-rose r) steps did)
 
 pub then-printed : (files : Directory) (now : Option Directory) (was text : Option (List ℕ)) (files-rose sink-rose : Type 0) (name bytes line : List ℕ) (r : Result (Unit {0}) Stop)
@@ -76,3 +87,4 @@ then-printed files now was text files-rose sink-rose name bytes line (Err (stop.
 then-printed files now was text files-rose sink-rose name bytes line (Err (stop.NotPacked f)) w p = absurd p
 then-printed files now was text files-rose sink-rose name bytes line (Err (stop.NoManifest f)) w p = absurd p
 then-printed files now was text files-rose sink-rose name bytes line (Err stop.TooLong) w p = absurd p
+then-printed files now was text files-rose sink-rose name bytes line (Err (stop.NotCapsule f)) w p = absurd p

@@ -3,6 +3,7 @@ use Rattle.std.specs.Prelude.{◌≡◌, ◌⊎◌, ℕ, List, [], ◌++◌, Opt
 use Rattle.std.specs.Io.KnownBytes.{Appends}
 use Rattle.host_io.specs.Contents.{Directory}
 use Rattle.base_core.specs.Guid.{guid_text}
+use Rattle.capsule_tables.specs.Capsule.{fault_number}
 use Rattle.fwu_formats.specs.FaultText.{fip_fault_text}
 use Rattle.fwu_formats.specs.declared.kinds.ManifestFault.{ManifestFault}
 use Rattle.fwu_formats.specs.declared.kinds.ManifestFault.TheVariants as manifest
@@ -27,7 +28,7 @@ manifest_fault_text f = codes "too-large"
 
 -- the line of a stop. Nothing is printed where the sink takes no more, or for want of memory
 unfoldable pub stop_line : Stop → List ℕ
-stop_line stop.Usage = codes "usage: fip info|create|update|remove|unpack|manifest\n"
+stop_line stop.Usage = codes "usage: fip info|create|update|remove|unpack|manifest|capsule|package\n"
 stop_line stop.FileFault = codes "file-fault\n"
 stop_line stop.SinkFault = []
 stop_line (stop.NotFip f) = codes "not-fip " ++ fip_fault_text f ++ codes "\n"
@@ -35,6 +36,7 @@ stop_line (stop.NoSuchEntry guid) = codes "no-entry " ++ guid_text guid ++ codes
 stop_line (stop.NotPacked f) = codes "pack " ++ pack_fault_text f ++ codes "\n"
 stop_line (stop.NoManifest f) = codes "manifest " ++ manifest_fault_text f ++ codes "\n"
 stop_line stop.TooLong = codes "too-long\n"
+stop_line (stop.NotCapsule f) = codes "not-capsule " ++ decimal (fault_number f) ++ codes "\n"
 stop_line stop.NoMemory = []
 
 abbrev pub status_number : Stop → ℕ
@@ -46,6 +48,7 @@ status_number (stop.NoSuchEntry guid) = 5
 status_number (stop.NotPacked f) = 6
 status_number (stop.NoManifest f) = 6
 status_number stop.TooLong = 7
+status_number (stop.NotCapsule f) = 8
 status_number stop.NoMemory = 9
 
 abbrev pub exit_status : Result (Unit {0}) Stop → ℕ

@@ -5,3 +5,4 @@ pub mod Source
 pub mod Ends
 pub mod Payloads
 pub mod Said
+pub mod Converted

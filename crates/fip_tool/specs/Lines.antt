@@ -26,6 +26,9 @@ info_text toc size = head_line toc size ++ flat_map entry_line toc.entries
 unfoldable pub packed_line : ℕ → ℕ → List ℕ
 packed_line entries size = codes "packed entries=" ++ decimal entries ++ codes " size=" ++ decimal size ++ codes "\n"
 
+unfoldable pub capsule_line : ℕ → ℕ → List ℕ
+capsule_line items size = codes "capsule items=" ++ decimal items ++ codes " size=" ++ decimal size ++ codes "\n"
+
 unfoldable pub manifest_line : ℕ → ℕ → ℕ → List ℕ
 manifest_line rows size security =
     codes "manifest rows=" ++ decimal rows ++ codes " size=" ++ decimal size ++ codes " security=" ++ decimal security ++ codes "\n"

@@ -1,6 +1,7 @@
--- The payloads of a package to come, and what told files have of them.
-use Rattle.std.specs.Prelude.{ℕ, List, [], Option, length, take, drop, replicate, unwrap_or}
-use Rattle.host_io.specs.Contents.{Directory, HasRange}
+-- The payloads of a package or a capsule to come, and what told files have of them.
+use Rattle.std.specs.Prelude.{◌≡◌, ℕ, List, [], ◌++◌, Option, length, take, drop, replicate, unwrap_or}
+use Rattle.host_io.specs.Contents.{Directory, HasRange, TellsRange}
+use Rattle.capsule_tables.specs.Making.{item_head}
 use Rattle.fwu_formats.specs.Package.{Entry, Part}
 use Rattle.fip_tool.specs.declared.payloads.Payload.{Payload}
 
@@ -19,3 +20,11 @@ IsThere told p = HasRange told p.file.now p.at p.size
 -- told files have the entry's payload
 abbrev pub HasEntry : Option Directory → List ℕ → Entry → Type 0
 HasEntry told name e = HasRange told name e.offset e.size
+
+-- An item of a capsule was added: what stands before its payload, and this, by a file's bytes.
+pub record AddsItem (told : Option Directory) (p : Payload) (index : ℕ) (old new : List ℕ) : Type 0 where
+  pub piece : List ℕ
+  pub size : length piece ≡ p.size
+  pub read : TellsRange told p.file.now p.at piece
+  pub forty : length (item_head index (outline_of p)) ≡ 40
+  pub added : new ≡ (old ++ item_head index (outline_of p)) ++ piece

@@ -3,8 +3,8 @@ use Rattle.std.specs.Prelude.{◌≡◌, ◌⊎◌, ◌<◌, ℕ, List, [], ◌�
 use Rattle.std.specs.Global.{Global}
 use Rattle.std.specs.Io.KnownBytes.{Appends}
 use Rattle.fwu_formats.specs.Package.{Toc}
-use Rattle.fip_words.specs.Order.{Asked, info, info_of_source, create, update, remove, unpack, manifest}
-use Rattle.fip_tool.specs.Lines.{info_text, manifest_line, packed_line, unpacked_line}
+use Rattle.fip_words.specs.Order.{Asked, info, info_of_source, create, update, remove, unpack, manifest, capsule, repackage}
+use Rattle.fip_tool.specs.Lines.{capsule_line, info_text, manifest_line, packed_line, unpacked_line}
 use Rattle.fip_tool.specs.Ends.{exit_status, stop_line}
 use Rattle.fip_tool.specs.Tool.{chosen, first_missing, is_named}
 use Rattle.fip_tool.specs.declared.stops.Stop.{Stop}
@@ -27,6 +27,8 @@ IsTexts (remove align from out names) texts =
 IsTexts (unpack from prefix names) texts =
     (t : Toc) × (first_missing t names ≡ None) × (texts ≡ map (unpacked_line prefix) (chosen names t.entries))
 IsTexts (manifest out security rows) texts = (size : ℕ) × (texts ≡ manifest_line (length rows) size security ∷ [])
+IsTexts (capsule from out) texts = (t : Toc) × (size : ℕ) × (texts ≡ capsule_line (length t.entries) size ∷ [])
+IsTexts (repackage align from out) texts = (t : Toc) × (size : ℕ) × (texts ≡ packed_line (length t.entries) size ∷ [])
 
 -- words that ask for nothing have none
 abbrev pub IsTextsOf : Option Asked → List (List ℕ) → Type 0
@@ -83,3 +85,8 @@ SaidWith asked was text sink-rose status =
 abbrev pub IsPackedLine : Result (ℕ × Vec ℕ Global) Stop → List (List ℕ) → Type 0
 IsPackedLine (Ok made) texts = texts ≡ packed_line made.0 (length made.1.items) ∷ []
 IsPackedLine (Err s) texts = ⊥
+
+-- the line of a capsule that was made
+abbrev pub IsCapsuleLine : Result (ℕ × Vec ℕ Global) Stop → List (List ℕ) → Type 0
+IsCapsuleLine (Ok made) texts = texts ≡ capsule_line made.0 (length made.1.items) ∷ []
+IsCapsuleLine (Err s) texts = ⊥

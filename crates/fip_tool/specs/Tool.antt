@@ -9,14 +9,19 @@ use Rattle.fwu_formats.specs.Package.{Entry, Part, Toc, has_guid, packed, payloa
 use Rattle.fwu_formats.specs.Manifest.{Row, manifest_bytes}
 use Rattle.fwu_formats.specs.declared.kinds.FipFault.{FipFault}
 use Rattle.fwu_formats.specs.declared.kinds.ManifestFault.TheVariants as fault
+use Rattle.capsule_tables.specs.Capsule.{capsule_of}
+use Rattle.capsule_tables.specs.Making.{capsule_bytes, make_fault}
+use Rattle.capsule_tables.specs.declared.faults.CapsuleFault.{CapsuleFault}
+use Rattle.capsule_tables.specs.declared.faults.CapsuleStop.{CapsuleStop}
+use Rattle.capsule_tables.specs.declared.faults.CapsuleStop.TheVariants as capsule_stop
 use Rattle.fip_tables.specs.Answers.{decided}
 use Rattle.fip_tables.specs.Packing.{pack_fault, zeroed}
 use Rattle.fip_tables.specs.declared.faults.PackFault.{PackFault}
 use Rattle.fip_tables.specs.declared.toc.TocStop.{TocStop}
 use Rattle.fip_tables.specs.declared.toc.TocStop.TheVariants as toc
-use Rattle.fip_words.specs.Order.{Asked, info, info_of_source, create, update, remove, unpack, manifest}
+use Rattle.fip_words.specs.Order.{Asked, info, info_of_source, create, update, remove, unpack, manifest, capsule, repackage}
 use Rattle.fip_words.specs.Values.{NamedFile, NamedImage, each}
-use Rattle.fip_tool.specs.Lines.{info_text, manifest_line, packed_line, unpacked_line, unpacked_name}
+use Rattle.fip_tool.specs.Lines.{capsule_line, info_text, manifest_line, packed_line, unpacked_line, unpacked_name}
 use Rattle.fip_tool.specs.Ends.{EndedBy, exit_status}
 use Rattle.fip_tool.specs.Steps.{Did, Outcome, Refuses, Step, Writes, Prints, outcome_by}
 use Rattle.fip_tool.specs.declared.stops.Stop.{Stop}
@@ -36,16 +41,29 @@ abbrev pub table_of : Result Toc FipFault → Result Toc Stop
 table_of (Ok t) = Ok t
 table_of (Err f) = Err (stop.NotFip f)
 
+-- the table of a capsule
+abbrev pub capsule_table : Result Toc CapsuleFault → Result Toc Stop
+capsule_table (Ok t) = Ok t
+capsule_table (Err f) = Err (stop.NotCapsule f)
+
 -- the stop of a table that was not read
 abbrev pub stopped_by : TocStop → Stop
 stopped_by (toc.Fault f) = stop.NotFip f
 stopped_by toc.ReadFailed = stop.FileFault
+
+abbrev pub capsule_stopped_by : CapsuleStop → Stop
+capsule_stopped_by (capsule_stop.Fault f) = stop.NotCapsule f
+capsule_stopped_by capsule_stop.ReadFailed = stop.FileFault
 
 -- ---- what files give
 
 -- a package's bytes, and its table
 abbrev pub package_in : Directory → List ℕ → Result (List ℕ × Toc) Stop
 package_in files name = after (there (files name)) (λ bytes. after (table_of (toc_of bytes)) (λ t. Ok (bytes, t)))
+
+-- a capsule's bytes, and its table
+abbrev pub capsule_in : Directory → List ℕ → Result (List ℕ × Toc) Stop
+capsule_in files name = after (there (files name)) (λ bytes. after (capsule_table (capsule_of bytes)) (λ t. Ok (bytes, t)))
 
 abbrev pub part_in : Directory → NamedFile → Option Part
 part_in files p = option_map (λ bytes. record { guid = p.guid; flags = 0; bytes = bytes }) (files p.file)
@@ -168,6 +186,28 @@ remove_value files align from guids =
     after (package_in files from) (λ p. unless_missing (first_missing p.1 guids)
     (pack_value p.1.serial p.1.flags (map (kept_part p.0) (filter (λ e. not (is_named guids e)) p.1.entries)) align))
 
+-- ---- from packages to capsules, and back
+
+-- whether parts fit a capsule
+abbrev pub enclose_fit : List Part → Result (Unit {0}) Stop
+enclose_fit parts = unless_fault (make_fault parts) tt
+
+-- the capsule of parts: how many items, and the bytes; or the first fault
+unfoldable pub enclose_value : List Part → Result (ℕ × List ℕ) Stop
+enclose_value parts = unless_fault (make_fault parts) (length parts, capsule_bytes parts)
+
+-- of all entries, in their order
+unfoldable pub capsule_value : Directory → List ℕ → Result (ℕ × List ℕ) Stop
+capsule_value files from = after (package_in files from) (λ p. enclose_value (map (kept_part p.0) p.1.entries))
+
+-- of all items, in their order
+unfoldable pub repackage_value : Directory → ℕ → List ℕ → Result (ℕ × List ℕ) Stop
+repackage_value files align from =
+    after (capsule_in files from) (λ p. pack_value p.1.serial p.1.flags (map (kept_part p.0) p.1.entries) align)
+
+abbrev pub encloses : List ℕ → ℕ × List ℕ → List Step
+encloses out made = Writes out made.1 ∷ Prints (capsule_line made.0 (length made.1)) ∷ []
+
 abbrev pub packs : List ℕ → ℕ × List ℕ → List Step
 packs out made = Writes out made.1 ∷ Prints (packed_line made.0 (length made.1)) ∷ []
 
@@ -246,6 +286,8 @@ command_outcome (update align from out parts) files = outcome_by (packs out) (up
 command_outcome (remove align from out names) files = outcome_by (packs out) (remove_value files align from names)
 command_outcome (unpack from prefix names) files = outcome_by (λ v. unpack_steps prefix v.0 v.1) (unpack_value files from names)
 command_outcome (manifest out security rows) files = outcome_by (writes_manifest out security) (manifest_value files security rows)
+command_outcome (capsule from out) files = outcome_by (encloses out) (capsule_value files from)
+command_outcome (repackage align from out) files = outcome_by (packs out) (repackage_value files align from)
 
 abbrev pub outcome_of : Option Asked → Directory → Outcome
 outcome_of None files = Refuses stop.Usage

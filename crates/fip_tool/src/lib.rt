@@ -1,6 +1,8 @@
 //! The tool for firmware image packages: it lists, makes, changes and unpacks them, and makes manifests.
 #![tactic(auto)]
 
+mod capsules;
+mod enclosing;
 mod info;
 mod lines;
 mod making;

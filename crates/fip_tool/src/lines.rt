@@ -117,3 +117,16 @@ pub fn manifest_line(
     add(&mut line, b"\n")?;
     Ok(line)
 }
+
+/// The line of a capsule that was written.
+#[tactic(auto, unfolding(crate::specs::Lines::capsule_line))]
+pub fn capsule_line(alloc: Global, items: u64, size: u64) -> Result<Vec<u8>, NoMemory>
+    ensures { IfOk result (λ line. line.items ≡ said.capsule_line items size) }
+{
+    let mut line = Vec::from_slice(alloc, b"capsule items=")?;
+    add_number(&mut line, items)?;
+    add(&mut line, b" size=")?;
+    add_number(&mut line, size)?;
+    add(&mut line, b"\n")?;
+    Ok(line)
+}

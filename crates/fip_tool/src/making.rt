@@ -44,8 +44,9 @@ fn created<H: Files>(
     }
 }
 
-// A package of these entries of another, with the new payloads where there are some.
-fn repacked<H: Files>(
+/// A package of these entries of another file, under the serial number and the flags of its table, with
+/// the new payloads where there are some.
+pub fn repacked<H: Files>(
     alloc: Global,
     files: &mut H,
     align: u32,

@@ -16,7 +16,8 @@ use fip_tables::{Frame, Outline, PackStop};
 use host_io::Files;
 use std::alloc::{AllocError, Global};
 
-fn outlines(alloc: Global, payloads: &[Payload<'_>]) -> Result<Vec<Outline>, AllocError>
+/// The payloads by their sizes.
+pub fn outlines(alloc: Global, payloads: &[Payload<'_>]) -> Result<Vec<Outline>, AllocError>
     ensures { IfOk result (λ v. v.items ≡ map outline_of payloads.now) }
 {
     payloads

@@ -1,12 +1,14 @@
 //! The line that tells why a command ended before all was done.
 ghost use Rattle.std.specs.Prelude.{◌≡◌, ◌++◌, IfOk, codes, decimal};
 ghost use Rattle.base_core.specs.Guid.{guid_text};
+ghost use Rattle.capsule_tables.specs.Capsule.{fault_number};
 ghost use Rattle.fwu_formats.specs.FaultText as text;
 ghost use Rattle.fip_tool.specs.Ends as said;
 
 use crate::lines::{add, add_guid, add_number};
 use crate::stops::Stop;
 use base_core::{Guid, NoMemory};
+use capsule_tables::CapsuleFault;
 use fip_tables::PackFault;
 use fwu_formats::{FipFault, ManifestFault};
 use std::alloc::Global;
@@ -81,6 +83,16 @@ fn no_entry_line(alloc: Global, guid: &Guid) -> Result<Vec<u8>, NoMemory>
     Ok(line)
 }
 
+fn not_capsule_line(alloc: Global, fault: CapsuleFault) -> Result<Vec<u8>, NoMemory>
+    ensures { IfOk result (λ line. line.items ≡ codes "not-capsule " ++ decimal (fault_number fault)
+        ++ codes "\n") }
+{
+    let mut line = Vec::from_slice(alloc, b"not-capsule ")?;
+    add_number(&mut line, u64::from(fault.number()))?;
+    add(&mut line, b"\n")?;
+    Ok(line)
+}
+
 /// The line of a stop. It is empty where the sink takes no more, and for want of memory.
 #[tactic(auto, unfolding(crate::specs::Ends::stop_line))]
 pub fn stop_line(alloc: Global, stop: &Stop) -> Result<Vec<u8>, NoMemory>
@@ -89,7 +101,7 @@ pub fn stop_line(alloc: Global, stop: &Stop) -> Result<Vec<u8>, NoMemory>
     match stop {
         Stop::Usage => word(
             alloc,
-            b"usage: fip info|create|update|remove|unpack|manifest\n",
+            b"usage: fip info|create|update|remove|unpack|manifest|capsule|package\n",
         ),
         Stop::FileFault => word(alloc, b"file-fault\n"),
         Stop::SinkFault | Stop::NoMemory => Ok(Vec::new(alloc)),
@@ -110,5 +122,6 @@ pub fn stop_line(alloc: Global, stop: &Stop) -> Result<Vec<u8>, NoMemory>
             manifest_fault_text(alloc, *fault)?.as_slice(),
         ),
         Stop::TooLong => word(alloc, b"too-long\n"),
+        Stop::NotCapsule(fault) => not_capsule_line(alloc, *fault),
     }
 }

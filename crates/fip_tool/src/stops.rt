@@ -1,6 +1,7 @@
 //! Why a command ended before all was done.
 
 use base_core::{Guid, NoMemory as NoMemoryFound};
+use capsule_tables::CapsuleFault;
 use fip_tables::PackFault;
 use fwu_formats::{FipFault, ManifestFault};
 
@@ -17,12 +18,14 @@ pub enum Stop {
     NotFip(FipFault),
     /// The package has no entry of a type that the words name: the first such.
     NoSuchEntry(Guid),
-    /// The payloads fit no package: the first fault.
+    /// The payloads fit no package, or no capsule: the first fault.
     NotPacked(PackFault),
     /// The images fit no manifest.
     NoManifest(ManifestFault),
     /// The source gave more than 4,294,967,296 bytes.
     TooLong,
+    /// A file is no capsule: its first fault.
+    NotCapsule(CapsuleFault),
     NoMemory,
 }
 
@@ -53,6 +56,7 @@ impl Stop {
             Stop::NoSuchEntry(_) => 5,
             Stop::NotPacked(_) | Stop::NoManifest(_) => 6,
             Stop::TooLong => 7,
+            Stop::NotCapsule(_) => 8,
             Stop::NoMemory => 9,
         }
     }

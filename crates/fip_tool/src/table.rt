@@ -1,4 +1,4 @@
-//! A package's table of contents, from a file or from the source.
+//! The table of contents of a package, from a file or from the source, or of a capsule.
 ghost use Rattle.std.specs.Prelude.{◌≡◌, ◌≤◌, ◌<◌, ◌+◌, ◌^◌, All, IfOk, List, Some, Ok, Err, length, ℕ, ◌++◌};
 ghost use Rattle.std.specs.Io.KnownBytes.{Consumes, IsAtEnd};
 ghost use Rattle.base_core.specs.Counts.{Rose};
@@ -7,11 +7,12 @@ ghost use Rattle.fwu_formats.specs.Package.{toc_of};
 ghost use Rattle.fip_tables.specs.Answers.{decided};
 ghost use Rattle.fip_tables.specs.Stream.{Fed};
 ghost use Rattle.fip_tool.specs.Steps.{Gives, ReadsOnly};
-ghost use Rattle.fip_tool.specs.Tool.{GivenTo, given_table, size_in, sized_table, source_limit, stopped_by};
+ghost use Rattle.fip_tool.specs.Tool.{GivenTo, after, capsule_in, capsule_stopped_by, given_table, size_in, sized_table, source_limit, stopped_by};
 ghost use Rattle.fip_tool.specs.Source.{EndsAs, FedSome};
 ghost use Rattle.fip_tool.specs.declared.stops.Stop.TheVariants as stop;
 
 use crate::stops::Stop;
+use capsule_tables::{CapsuleStop, read_capsule};
 use fip_tables::{StreamToc, Toc, TocStop, read_toc};
 use host_io::{Files, Source};
 
@@ -58,6 +59,29 @@ pub fn read_package<H: Files>(files: &mut H, name: &str) -> Result<(Toc, u64), S
     match read_toc(files, name) {
         Ok(toc) => Ok((toc, size)),
         Err(stop) => Err(stop_of(stop)),
+    }
+}
+
+fn capsule_stop_of(stop: CapsuleStop) -> Stop
+    ensures { result ≡ capsule_stopped_by stop }
+{
+    match stop {
+        CapsuleStop::Fault(fault) => Stop::NotCapsule(fault),
+        CapsuleStop::ReadFailed => Stop::FileFault,
+    }
+}
+
+/// The table of a capsule in a file.
+pub fn read_enclosed<H: Files>(files: &mut H, name: &str) -> Result<Toc, Stop>
+    ensures told { (told : Directory) → H.contents files.old ≡ Some told
+        → Gives (λ t. t) (Rose (H.faults files.old) (H.faults files.new))
+        (after (capsule_in told name.now) (λ p. Ok p.1)) result }
+    ensures reads { ReadsOnly (H.contents files.old) (H.contents files.new) (H.faults files.old)
+        (H.faults files.new) result }
+{
+    match read_capsule(files, name) {
+        Ok(toc) => Ok(toc),
+        Err(stop) => Err(capsule_stop_of(stop)),
     }
 }
 

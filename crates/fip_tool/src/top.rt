@@ -4,12 +4,14 @@ ghost use Rattle.base_core.specs.Counts.{Rose};
 ghost use Rattle.host_io.specs.Contents.{Directory};
 ghost use Rattle.fip_words.specs.Order.{Asked, asked, info_of_source, view};
 ghost use Rattle.fip_words.specs.Values.{is_unpacked};
+ghost use Rattle.fip_tool.specs.Converted.{Converts};
 ghost use Rattle.fip_tool.specs.Ends.{Ended, Reported, Told};
 ghost use Rattle.fip_tool.specs.Said.{IsTexts, IsTextsOf, SaidWith, Says};
 ghost use Rattle.fip_tool.specs.Steps.{Did};
 ghost use Rattle.fip_tool.specs.Tool.{EndedSource, ReadSource, command_outcome, outcome_of};
 ghost use Rattle.fip_tool.specs.declared.stops.Stop.TheVariants as stop;
 
+use crate::capsules::{run_capsule, run_package};
 use crate::info::{file_info, source_info};
 use crate::making::{run_create, run_remove, run_update};
 use crate::manifest::run_manifest;
@@ -153,6 +155,10 @@ fn command<H: Files, I: Source, O: Sink>(
             security,
             rows,
         } => run_manifest(alloc, files, sink, out, *security, rows.as_slice()),
+        FipOrder::Capsule { from, out } => run_capsule(alloc, files, sink, from, out),
+        FipOrder::Package { align, from, out } => {
+            run_package(alloc, files, sink, *align, from, out)
+        }
     }
 }
 
@@ -197,8 +203,8 @@ fn run<H: Files, I: Source, O: Sink>(
 
 /// The tool with its words, which are without the program's name. It gives the exit status:
 /// 0 where all was done; 1 usage; 2 a file, or the source, failed; 3 the sink failed; 4 a file is no package; 5 the package has no
-/// entry of a named type; 6 what was to be made cannot be; 7 the source gave more than 4,294,967,296 bytes; 9 want of memory. A
-/// status other than 0 has a line of its own at the end, save 3 and 9.
+/// entry of a named type; 6 what was to be made cannot be; 7 the source gave more than 4,294,967,296 bytes; 8 a file is no capsule;
+/// 9 want of memory. A status other than 0 has a line of its own at the end, save 3 and 9.
 pub fn fip_top<H: Files, I: Source, O: Sink>(
     alloc: Global,
     words: &[String],
@@ -221,6 +227,9 @@ pub fn fip_top<H: Files, I: Source, O: Sink>(
     ensures said { SaidWith (asked (map string_bytes words.now)) (O.taken sink.old)
         (O.taken sink.new)
         (Rose (O.faults sink.old) (O.faults sink.new)) result }
+    // Both conversions keep the types and the payloads, in their order.
+    ensures converts { (told : Directory) → H.contents files.old ≡ Some told → result ≡ 0
+        → Converts (asked (map string_bytes words.now)) told (H.contents files.new) }
     ensures sink { result ≡ 3 → Rose (O.faults sink.old) (O.faults sink.new) }
     ensures cause { result ≡ 2 → H.contents files.old ≡ None
         → Rose (H.faults files.old) (H.faults files.new)

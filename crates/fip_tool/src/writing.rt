@@ -2,13 +2,13 @@
 ghost use Rattle.std.specs.Prelude.{◌≡◌, ◌⊎◌, ◌≤◌, ◌∷◌, [], List, Some, None, Ok, Result, Err, IfErr, ℕ, length};
 ghost use Rattle.base_core.specs.Counts.{Rose};
 ghost use Rattle.host_io.specs.Contents.{Directory};
-ghost use Rattle.fip_tool.specs.Said.{IsPackedLine, Says};
+ghost use Rattle.fip_tool.specs.Said.{IsCapsuleLine, IsPackedLine, Says};
 ghost use Rattle.fip_tool.specs.Steps.{Did, Gives, IsLate, Makes, Prints, Writes, Written, outcome_by};
-ghost use Rattle.fip_tool.specs.Tool.{packs};
+ghost use Rattle.fip_tool.specs.Tool.{encloses, packs};
 ghost use Rattle.fip_tool.specs.declared.stops.Stop.{Stop};
 ghost use Rattle.fip_tool.specs.declared.stops.Stop.TheVariants as stop;
 
-use crate::lines::packed_line;
+use crate::lines::{capsule_line, packed_line};
 use crate::printing::print;
 use crate::stops::Stop;
 use host_io::{Files, Sink, WriteStop};
@@ -90,6 +90,40 @@ pub fn put_made<H: Files, O: Sink>(
         Err(stop) => return Err(stop),
     };
     match packed_line(alloc, entries, bytes.len() as u64) {
+        Ok(line) => write_and_print(files, sink, out, bytes.as_slice(), line.as_slice()),
+        Err(_) => Err(Stop::NoMemory),
+    }
+}
+
+/// Ends a command that makes a capsule, of so many items and with these bytes: writes it to the file `out`, and prints its line.
+pub fn put_capsule<H: Files, O: Sink>(
+    alloc: Global,
+    files: &mut H,
+    sink: &mut O,
+    out: &str,
+    made: Result<(u64, Vec<u8>), Stop>,
+) -> Result<(), Stop>
+    ensures told { (told : Directory) (value : Result (ℕ × List ℕ) Stop) (before : ℕ)
+        → H.contents files.old ≡ Some told
+        → before ≤ H.faults files.old → Gives (λ m. (m.0, m.1.items))
+        (Rose before (H.faults files.old)) value made
+        → Did (outcome_by (encloses out.now) value) told (H.contents files.new) (O.taken sink.old)
+        (O.taken sink.new)
+        (Rose before (H.faults files.new)) (Rose (O.faults sink.old) (O.faults sink.new)) result }
+    ensures says { (made ≡ Err stop.SinkFault → ⊥) → Says (IsCapsuleLine made)
+        (O.taken sink.old) (O.taken sink.new)
+        (Rose (O.faults sink.old) (O.faults sink.new)) result }
+    ensures cause { result ≡ Err stop.FileFault → (made ≡ Err stop.FileFault)
+        ⊎ Rose (H.faults files.old) (H.faults files.new) }
+    ensures usage { result ≡ Err stop.Usage → made ≡ Err stop.Usage }
+    ensures later { H.faults files.old ≤ H.faults files.new }
+    ensures later_sink { O.faults sink.old ≤ O.faults sink.new }
+{
+    let (items, bytes) = match made {
+        Ok(made) => made,
+        Err(stop) => return Err(stop),
+    };
+    match capsule_line(alloc, items, bytes.len() as u64) {
         Ok(line) => write_and_print(files, sink, out, bytes.as_slice(), line.as_slice()),
         Err(_) => Err(Stop::NoMemory),
     }

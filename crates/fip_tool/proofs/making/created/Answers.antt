@@ -1,12 +1,9 @@
 use Rattle.std.proofs.Common.{◌≡◌, ◌∙◌, List, Vec, ℕ, ap, length, map, subst, sym}
 use Rattle.std.specs.Prelude.{IfOk}
-use Rattle.std.specs.List.{All}
 use Rattle.std.specs.Global.{Global}
-use Rattle.host_io.specs.Contents.{Directory}
-use Rattle.fwu_formats.specs.Package.{Part}
 use Rattle.fip_words.specs.Order.{part_view}
-use Rattle.fip_tool.specs.Payloads.{IsThere, part_told}
-use Rattle.fip_tool.specs.Tool.{create_value, new_serial, pack_value}
+use Rattle.fip_tool.specs.Payloads.{part_told}
+use Rattle.fip_tool.specs.Tool.{new_serial, pack_value}
 use Rattle.fip_tool.specs.declared.payloads.Payload.{Payload}
 use Rattle.fip_tool.proofs.PartLemmas.{create-err, create-of, gives-same}
 use Rattle.fip_tool.proofs.Packings.{there-of-files}

@@ -5,7 +5,6 @@ use Rattle.std.specs.Global.{Global}
 use Rattle.fwu_formats.specs.Package.{Part, Toc}
 use Rattle.fip_tool.specs.Payloads.{IsThere, part_told}
 use Rattle.fip_tool.specs.Tool.{pack_value}
-use Rattle.fip_tool.specs.declared.payloads.Payload.{Payload}
 use Rattle.fip_tool.proofs.Packings.{entries-there}
 use Rattle.fip_tool.proofs.PartLemmas.{gives-same}
 use Rattle.fip_tool.proofs.making.repacked.Goals as goal

@@ -7,7 +7,6 @@ use Rattle.fwu_formats.specs.Package.{Entry, Toc}
 use Rattle.fip_words.specs.Order.{part_view}
 use Rattle.fip_tool.specs.Payloads.{part_told}
 use Rattle.fip_tool.specs.Tool.{parts_in}
-use Rattle.fip_tool.specs.declared.payloads.Payload.{Payload}
 use Rattle.fip_tool.proofs.Packings.{there-of-files}
 use Rattle.fip_tool.proofs.PartLemmas.{gives-same}
 use Rattle.fip_tool.proofs.Repacking.{replaced-value}

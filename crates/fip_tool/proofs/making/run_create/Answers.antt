@@ -1,11 +1,9 @@
-use Rattle.std.proofs.Common.{◌≡◌, ◌∙◌, ◌∷◌, [], ℕ, None, ap, length, map, sym}
-use Rattle.std.specs.Prelude.{filter, not}
+use Rattle.std.proofs.Common.{◌≡◌, ◌∙◌, ◌∷◌, [], ℕ, ap, length, map, sym}
 use Rattle.std.proofs.lemmas.List.{length-map}
-use Rattle.fwu_formats.specs.Package.{Toc}
 use Rattle.fip_words.specs.Order.{part_view}
 use Rattle.fip_tool.specs.Lines.{packed_line}
 use Rattle.fip_tool.specs.Said.{IsPackedLine}
-use Rattle.fip_tool.specs.Tool.{create_value, first_missing, is_named}
+use Rattle.fip_tool.specs.Tool.{create_value}
 use Rattle.fip_tool.proofs.Tables.{either-rose}
 use Rattle.fip_tool.proofs.Texts.{packed-texts, says-as}
 use Rattle.fip_tool.proofs.making.run_create.Goals as goal

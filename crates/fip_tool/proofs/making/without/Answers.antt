@@ -1,7 +1,7 @@
-use Rattle.std.proofs.Common.{◌≡◌, ◌∙◌, ◌+◌, ◌≤◌, List, Vec, ℕ, [], ap, length, map, subst, sym}
+use Rattle.std.proofs.Common.{◌≡◌, ◌∙◌, ◌+◌, ◌≤◌, Vec, ℕ, ap, length, map, subst}
 use Rattle.std.specs.Prelude.{IfOk, filter, not}
 use Rattle.std.specs.Global.{Global}
-use Rattle.fwu_formats.specs.Package.{Entry, Part, Toc}
+use Rattle.fwu_formats.specs.Package.{Entry, Toc}
 use Rattle.fip_tool.specs.Payloads.{IsThere, part_told}
 use Rattle.fip_tool.specs.Tool.{is_named}
 use Rattle.fip_tool.proofs.Packings.{none-there}

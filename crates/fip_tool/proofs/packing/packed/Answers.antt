@@ -1,4 +1,4 @@
-use Rattle.std.proofs.Common.{◌≡◌, ◌∙◌, ◌+◌, ℕ, All, List, Vec, Ok, Option, Some, refl, ap, arith, length, map, subst, sym}
+use Rattle.std.proofs.Common.{◌∙◌, ◌+◌, ℕ, All, List, Vec, Option, refl, ap, arith, length, map, subst, sym}
 use Rattle.std.specs.Global.{Global}
 use Rattle.std.proofs.lemmas.List.{length-map}
 use Rattle.host_io.specs.Contents.{Directory}
@@ -6,8 +6,6 @@ use Rattle.fwu_formats.specs.Package.{Part, packed_entries}
 use Rattle.fip_tables.specs.Frame.{Filling, table_end}
 use Rattle.fip_tables.proofs.Filled.{entries-count}
 use Rattle.fip_tool.specs.Payloads.{IsThere, outline_of, part_told}
-use Rattle.fip_tool.specs.Tool.{fit_value}
-use Rattle.fip_tool.specs.Steps.{Gives}
 use Rattle.fip_tool.proofs.Packings.{next-there, packing-ends, packing-refused, parts-fit, payload-filled, zeroed-all}
 use Rattle.fip_tool.proofs.packing.packed.Goals as goal
 

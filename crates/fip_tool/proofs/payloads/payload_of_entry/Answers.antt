@@ -1,9 +1,9 @@
-use Rattle.std.proofs.Common.{Some, None, Option, refl, sym, ap, ◌∙◌, ◌≡◌, List}
+use Rattle.std.proofs.Common.{refl, sym, ap, ◌∙◌}
 use Rattle.std.specs.Prelude.{find}
 use Rattle.base_core.specs.Bytes.{same_bytes}
 use Rattle.fwu_formats.specs.Package.{Entry}
 use Rattle.fip_tool.specs.declared.payloads.Payload.{Payload}
-use Rattle.fip_tool.proofs.Packings.{entry-kept, entry-renewed, entry-there, found-has, renewed-there}
+use Rattle.fip_tool.proofs.Packings.{entry-kept, entry-renewed, entry-there, found-has}
 use Rattle.fip_tool.specs.Payloads.{IsThere}
 use Rattle.fip_tool.proofs.payloads.payload_of_entry.Goals as goal
 

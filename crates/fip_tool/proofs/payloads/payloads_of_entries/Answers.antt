@@ -1,10 +1,9 @@
-use Rattle.std.proofs.Common.{◌≡◌, ◌∙◌, ◌≤◌, ◌+◌, ℕ, All, List, [], ◌∷◌, ◌++◌, ap, arith, sym, subst, length, map, take}
+use Rattle.std.proofs.Common.{◌≡◌, ◌∙◌, ◌≤◌, ◌+◌, All, List, [], ◌∷◌, ◌++◌, ap, arith, sym, subst, length, map, take}
 use Rattle.std.proofs.lemmas.List.{length-append, map-append, take_all, take_more}
 use Rattle.std.proofs.lemmas.List.Elements.{All-get_or}
 use Rattle.fwu_formats.specs.Package.{Entry, Part}
 use Rattle.fip_tool.specs.Payloads.{HasEntry, IsThere, part_told}
 use Rattle.fip_tool.specs.Tool.{updated_part}
-use Rattle.fip_tool.specs.declared.payloads.Payload.{Payload}
 use Rattle.fip_tool.proofs.Packings.{one-more-there}
 use Rattle.fip_tool.proofs.payloads.payloads_of_entries.Goals as goal
 

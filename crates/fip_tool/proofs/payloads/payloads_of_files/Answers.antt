@@ -1,9 +1,8 @@
-use Rattle.std.proofs.Common.{◌≡◌, ◌∙◌, All, Ok, Option, List, Vec, [], ◌∷◌, ap, arith, sym, subst, length, map, take}
+use Rattle.std.proofs.Common.{◌∙◌, All, Ok, Option, List, Vec, [], ◌∷◌, ap, arith, sym, subst, length, map}
 use Rattle.std.proofs.lemmas.List.{length-append}
 use Rattle.std.specs.Global.{Global}
 use Rattle.host_io.specs.Contents.{Directory}
 use Rattle.fip_tool.specs.Payloads.{IsThere, part_told}
-use Rattle.fip_tool.specs.Tool.{parts_in}
 use Rattle.fip_tool.specs.declared.payloads.Payload.{Payload}
 use Rattle.fip_tool.proofs.Packings.{more-payloads, one-more-there}
 use Rattle.fip_tool.proofs.PartLemmas.{stopped-at}

@@ -1,4 +1,4 @@
-use Rattle.std.proofs.Common.{◌∙◌, Vec, ℕ, List, Ok, sym, ap, length, refl}
+use Rattle.std.proofs.Common.{◌∙◌, Vec, ℕ, sym, refl}
 use Rattle.std.specs.Global.{Global}
 use Rattle.fip_tool.proofs.Tables.{gives-err, rose-from, tells}
 use Rattle.fip_tool.proofs.PartLemmas.{gives-same}

@@ -1,7 +1,6 @@
-use Rattle.std.proofs.Common.{Vec, ℕ, List, Ok, sym, subst}
+use Rattle.std.proofs.Common.{Vec, ℕ, Ok, sym, subst}
 use Rattle.std.specs.Global.{Global}
 use Rattle.base_core.specs.Counts.{Rose}
-use Rattle.host_io.specs.Contents.{HasRange}
 use Rattle.fwu_formats.specs.Package.{Entry, payload}
 use Rattle.fip_tool.specs.Payloads.{HasEntry}
 use Rattle.fip_tool.specs.Steps.{Gives}

@@ -13,3 +13,6 @@ returns-in-Unpack-clause-says g c = rw (ap view c.in-Unpack.is, ← c.as_slice-i
 
 pub returns-in-Remove-clause-says : goal.returns-in-Remove-clause-says
 returns-in-Remove-clause-says g c = rw (ap view c.in-Remove.is, ← c.as_slice-in-Remove.ensures.value) c.run_remove.ensures.says
+
+pub returns-in-Update-clause-says : goal.returns-in-Update-clause-says
+returns-in-Update-clause-says g c = rw (ap view c.in-Update.is, ← c.as_slice-in-Update.ensures.value) c.run_update.ensures.says

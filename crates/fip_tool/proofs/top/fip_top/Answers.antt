@@ -1,5 +1,6 @@
 use Rattle.std.proofs.Common.{◌∙◌, [], Ok, Err, Some, map, refl, string_bytes, sym, ap}
 use Rattle.base_core.specs.Counts.{Rose}
+use Rattle.fip_tool.proofs.Converted.{converted, no-zero}
 use Rattle.fip_tool.proofs.Ending.{ends, reported-later}
 use Rattle.fip_tool.proofs.SourceEnds.{reported-read, reported-two}
 use Rattle.fip_tool.proofs.Tables.{rose-from, rose-until}
@@ -63,6 +64,14 @@ returns-in-Err-clause-said g c = (
   says-ends (IsTextsOf (asked (map string_bytes c.args.words.now))) _ _ _ _ (Rose (g.O.Sink.faults c.args.sink.now) (g.O.Sink.faults c.report.new.sink)) (λ r. rose-until _ _ _ r c.report.ensures.later) c.in-Err.stop c.report.result
       c.in-Err.ensures.says (reported-later _ _ _ _ _ _ (λ r. rose-from _ _ _ c.run.ensures.later r) c.report.ensures.reported),
 )
+
+pub returns-in-Ok-clause-converts : goal.returns-in-Ok-clause-converts
+returns-in-Ok-clause-converts g c = λ told e none.
+    converted (asked (map string_bytes c.args.words.now)) told _ _ _ (Rose (g.H.Files.faults c.args.files.now) (g.H.Files.faults c.run.new.files))
+    (Rose (g.O.Sink.faults c.args.sink.now) (g.O.Sink.faults c.run.new.sink)) (c.in-Ok.ensures.told told e)
+
+pub returns-in-Err-clause-converts : goal.returns-in-Err-clause-converts
+returns-in-Err-clause-converts g c = λ told e zero. absurd (no-zero c.report.result (sym c.status.ensures ∙ zero))
 
 pub returns-in-Err-clause-sink : goal.returns-in-Err-clause-sink
 returns-in-Err-clause-sink g c = λ three.

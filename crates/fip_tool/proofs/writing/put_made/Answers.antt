@@ -1,4 +1,4 @@
-use Rattle.std.proofs.Common.{◌≡◌, ◌∙◌, ◌∷◌, [], ℕ, List, Vec, Ok, Err, ap, inl, length, refl, rules, sym}
+use Rattle.std.proofs.Common.{◌≡◌, ◌∙◌, ◌∷◌, [], ℕ, List, Vec, Ok, ap, inl, length, refl, rules}
 use Rattle.std.specs.Global.{Global}
 use Rattle.std.proofs.KnownBytes.{Appends-nil}
 use Rattle.base_core.specs.Counts.{Rose}

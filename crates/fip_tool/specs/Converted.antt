@@ -1,0 +1,38 @@
+-- What the conversions between packages and capsules keep: the types and the payloads, in their order.
+use Rattle.std.specs.Prelude.{◌≡◌, ⊤, ℕ, List, Option, Some, Ok, map}
+use Rattle.host_io.specs.Contents.{Directory}
+use Rattle.fwu_formats.specs.Package.{Toc, payload, toc_of}
+use Rattle.capsule_tables.specs.Capsule.{capsule_of}
+use Rattle.fip_tables.specs.Files.{Tells}
+use Rattle.fip_words.specs.Order.{Asked, capsule, repackage}
+
+-- the entries of one table are those of the other, in their order, by their types and their payloads
+pub record KeepsAll (old : List ℕ) (was : Toc) (new : List ℕ) (is : Toc) : Type 0 where
+  pub types : map (λ e. e.guid) is.entries ≡ map (λ e. e.guid) was.entries
+  pub payloads : map (payload new) is.entries ≡ map (payload old) was.entries
+
+-- one file was a package, and the other is a capsule of it
+pub record IsEnclosed (files : Directory) (now : Option Directory) (from out : List ℕ) : Type 0 where
+  pub old : List ℕ
+  pub new : List ℕ
+  pub was : Toc
+  pub is : Toc
+  pub given : (files from ≡ Some old) × (toc_of old ≡ Ok was)
+  pub made : Tells now out new × (capsule_of new ≡ Ok is)
+  pub keeps : KeepsAll old was new is
+
+-- one file was a capsule, and the other is a package of it
+pub record IsPackaged (files : Directory) (now : Option Directory) (from out : List ℕ) : Type 0 where
+  pub old : List ℕ
+  pub new : List ℕ
+  pub was : Toc
+  pub is : Toc
+  pub given : (files from ≡ Some old) × (capsule_of old ≡ Ok was)
+  pub made : Tells now out new × (toc_of new ≡ Ok is)
+  pub keeps : KeepsAll old was new is
+
+-- what a command that is a conversion has done
+abbrev pub Converts : Option Asked → Directory → Option Directory → Type 0
+Converts (Some (capsule from out)) files now = IsEnclosed files now from out
+Converts (Some (repackage align from out)) files now = IsPackaged files now from out
+Converts other files now = ⊤
