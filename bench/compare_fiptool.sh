@@ -3,6 +3,7 @@
 # fiptool's order, none of them empty.
 set -eu
 cd "$(dirname "$0")/.."
+command -v fiptool >/dev/null || { echo "skipped: fiptool (Debian's arm-trusted-firmware-tools) is not installed"; exit 0; }
 . bench/build_fip.sh
 cd "$work"
 printf hello >h.bin

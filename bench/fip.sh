@@ -1,13 +1,15 @@
 #!/bin/sh
-# `fip` beside fiptool, in one run: processor time and peak memory of `create`, `update`, `remove` and `unpack` over three payloads
-# that make a package of nearly 64 MiB, the time of `info`, and the start-up. And what `fip` takes to refuse by sizes alone: an image
-# of 3 GiB, and a package of 60 MiB whose 64 entries overlap.
+# `fip` beside fiptool (Debian's arm-trusted-firmware-tools), where it is installed, in one run: processor time and peak memory of
+# `create`, `update`, `remove` and `unpack` over three payloads that make a package of nearly 64 MiB, the time of `info`, and the
+# start-up. `capsule` and `package` of that package beside a copy of it through one buffer of its size, by dd. And what `fip` takes
+# to refuse by sizes alone: an image of 3 GiB, and a package and a capsule of 60 MiB whose 64 entries or items overlap.
 set -eu
 cd "$(dirname "$0")/.."
 . bench/build_fip.sh
 for name in a b c; do head -c $((21 << 20)) /dev/urandom >"$work/$name.bin"; done
 python3 - "$work" "$fip" <<'PY'
 import os
+import shutil
 import struct
 import subprocess
 import sys
@@ -24,29 +26,43 @@ def cost(words):
     return usage.ru_utime + usage.ru_stime, usage.ru_maxrss * 1024
 
 
-def compare(title, ours, theirs, rounds=20):
+def compare(title, ours, theirs, name="fiptool", rounds=20):
     """The least of so many rounds of each, in turns, since other programs share the machine."""
     costs = [(cost(ours), cost(theirs)) for _ in range(rounds)]
     one, other = (min(costs, key=lambda round: round[i][0])[i] for i in (0, 1))
-    print(f"{title}: fip {one[0] * 1000:.1f} ms, {one[1] / 2**20:.0f} MiB; fiptool {other[0] * 1000:.1f} ms, {other[1] / 2**20:.0f} MiB;"
+    print(f"{title}: fip {one[0] * 1000:.1f} ms, {one[1] / 2**20:.0f} MiB; {name} {other[0] * 1000:.1f} ms, {other[1] / 2**20:.0f} MiB;"
           f" ratio of time {one[0] / max(other[0], 1e-4):.2f}")
 
 
-compare("create", [fip, "create", "our.fip", "tb-fw=a.bin", "soc-fw=b.bin", "nt-fw=c.bin"],
-        ["fiptool", "create", "--tb-fw", "a.bin", "--soc-fw", "b.bin", "--nt-fw", "c.bin", "their.fip"])
-subprocess.run(["cmp", "our.fip", "their.fip"], check=True)
-compare("update", [fip, "update", "our.fip", "our-new.fip", "nt-fw=a.bin"],
-        ["fiptool", "update", "--nt-fw", "a.bin", "--out", "their-new.fip", "their.fip"])
-subprocess.run(["cmp", "our-new.fip", "their-new.fip"], check=True)
-compare("remove", [fip, "remove", "our.fip", "our-less.fip", "soc-fw"],
-        ["fiptool", "remove", "--force", "--soc-fw", "--out", "their-less.fip", "their.fip"])
-subprocess.run(["cmp", "our-less.fip", "their-less.fip"], check=True)
-compare("unpack", [fip, "unpack", "our.fip", "out-"], ["fiptool", "unpack", "--force", "their.fip"])
-compare("info", [fip, "info", "our.fip"], ["fiptool", "info", "their.fip"])
-open("small.bin", "wb").write(b"hello")
-subprocess.run([fip, "create", "small.fip", "tb-fw=small.bin"], check=True, stdout=subprocess.DEVNULL)
-compare("start-up", [fip, "info", "small.fip"], ["fiptool", "info", "small.fip"])
-print(f"package of {os.path.getsize('our.fip') / 2**20:.1f} MiB")
+def beside_fiptool():
+    """The commands that fiptool has too."""
+    compare("create", [fip, "create", "our.fip", "tb-fw=a.bin", "soc-fw=b.bin", "nt-fw=c.bin"],
+            ["fiptool", "create", "--tb-fw", "a.bin", "--soc-fw", "b.bin", "--nt-fw", "c.bin", "their.fip"])
+    subprocess.run(["cmp", "our.fip", "their.fip"], check=True)
+    compare("update", [fip, "update", "our.fip", "our-new.fip", "nt-fw=a.bin"],
+            ["fiptool", "update", "--nt-fw", "a.bin", "--out", "their-new.fip", "their.fip"])
+    subprocess.run(["cmp", "our-new.fip", "their-new.fip"], check=True)
+    compare("remove", [fip, "remove", "our.fip", "our-less.fip", "soc-fw"],
+            ["fiptool", "remove", "--force", "--soc-fw", "--out", "their-less.fip", "their.fip"])
+    subprocess.run(["cmp", "our-less.fip", "their-less.fip"], check=True)
+    compare("unpack", [fip, "unpack", "our.fip", "out-"], ["fiptool", "unpack", "--force", "their.fip"])
+    compare("info", [fip, "info", "our.fip"], ["fiptool", "info", "their.fip"])
+    open("small.bin", "wb").write(b"hello")
+    subprocess.run([fip, "create", "small.fip", "tb-fw=small.bin"], check=True, stdout=subprocess.DEVNULL)
+    compare("start-up", [fip, "info", "small.fip"], ["fiptool", "info", "small.fip"])
+
+
+subprocess.run([fip, "create", "our.fip", "tb-fw=a.bin", "soc-fw=b.bin", "nt-fw=c.bin"], check=True, stdout=subprocess.DEVNULL)
+size = os.path.getsize("our.fip")
+print(f"package of {size / 2**20:.1f} MiB")
+if shutil.which("fiptool"):
+    beside_fiptool()
+else:
+    print("skipped beside fiptool, which is not installed")
+copy = ["dd", "if=our.fip", "of=copy.bin", f"bs={size}", "count=1", "status=none"]
+compare("capsule", [fip, "capsule", "our.fip", "our.cap"], copy, "copy")
+compare("package", [fip, "package", "our.cap", "again.fip"], copy, "copy")
+subprocess.run(["cmp", "our.fip", "again.fip"], check=True)
 
 
 def refused(title, words, line):
@@ -68,4 +84,11 @@ with open("overlaps.fip", "wb") as package:
         package.write(bytes([1 + i] * 16) + struct.pack("<QQQ", 0, size, 0))
     package.truncate(size)
 refused("remove of overlaps", [fip, "remove", "overlaps.fip", "less.fip", "01010101-0101-0101-0101-010101010101"], "pack too-large\n")
+with open("overlaps.cap", "wb") as capsule:
+    capsule.write(bytes.fromhex("edd5cb6d2de8444cbda17194199ad92a") + struct.pack("<III", 28, 0, size) + struct.pack("<IHH", 1, 0, 64))
+    capsule.write(b"".join(struct.pack("<Q", 8 + 64 * 8 + 40 * i) for i in range(64)))
+    for i in range(64):
+        capsule.write(struct.pack("<I16sB3xIIQ", 2, bytes([1 + i] * 16), i + 1, size - 548 - 40 * (i + 1), 0, 0))
+    capsule.truncate(size)
+refused("package of overlaps", [fip, "package", "overlaps.cap", "less.fip"], "pack too-large\n")
 PY
