@@ -1,0 +1,5 @@
+mod Starting
+mod Discovered
+mod Still
+pub mod StoredVerdict
+pub mod Listing

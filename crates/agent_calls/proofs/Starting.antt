@@ -1,0 +1,104 @@
+-- What an agent knows that starts from a bank that was booted.
+use Rattle.std.proofs.Common.{◌≡◌, ℕ, ◌+◌, ◌-◌, ◌*◌, ◌<◌, min, Bool, true, false, List, [], ◌∷◌, length, get_or, take, replicate, Option, Some, None, refl, sym, ap, ◌∙◌, subst, arith, IsTrue}
+use Rattle.std.proofs.lemmas.List.{length-take, take_all, get_or-take}
+use Rattle.flash_core.specs.Told.{Told}
+use Rattle.sha2.specs.declared.Sha256.{Sha256}
+use Rattle.fwu_formats.specs.Layout.{Layout, fits_layout}
+use Rattle.fwu_formats.specs.Metadata.{MetaRead, fits_meta}
+use Rattle.early_boot.specs.Knows.{KnowsStarted}
+use Rattle.early_boot.specs.Choosing.{FitSlots}
+use Rattle.early_boot.specs.Tells.{Started}
+use Rattle.agent_kept.specs.declared.parts.Part.{Part}
+use Rattle.agent_kept.specs.declared.parts.Part.TheVariants.{Nothing, Open, Committed}
+use Rattle.agent_kept.specs.declared.parts.Handle.{Handle}
+use Rattle.agent_kept.specs.declared.parts.Handle.TheVariants.{Free, Reads}
+use Rattle.agent_kept.specs.Kept.{Kept, IsKept, HasNothing, part_at, handle_kept, size_of}
+use Rattle.agent_kept.proofs.Sounds.{frees, restarts-idle}
+use Rattle.fwu_model.specs.State.{State}
+use Rattle.fwu_model.specs.Session.{Session, On, no_handles}
+use Rattle.agent_machine.specs.Moment.{Moment, Shows}
+use Rattle.agent_machine.specs.Fields.{Fields}
+use Rattle.agent_machine.specs.Machine.{staged_bytes}
+use Rattle.agent_machine.specs.Knows.{Fitting, Knows, SomeStaged}
+
+nil-of : (l : List ℕ) → length l ≡ 0 → l ≡ []
+nil-of [] e = refl
+nil-of (x ∷ l) e = absurd (omega (arith, e))
+
+not-open : (p : Part) (size : ℕ) (hasher : Sha256) → p ≡ Nothing → p ≡ Open size hasher → ⊥
+not-open p size hasher a b = absurd cc
+
+not-committed : (p : Part) (size : ℕ) (digest : List ℕ) (bit : Bool) → p ≡ Nothing → p ≡ Committed size digest bit → ⊥
+not-committed p size digest bit a b = absurd cc
+
+not-reading : (h : Handle) (image : Option ℕ) (at total : ℕ) → h ≡ Free → h ≡ Reads image at total → ⊥
+not-reading h image at total a b = absurd cc
+
+not-both : {b : Bool} → b ≡ false → b ≡ true → ⊥
+not-both a b = absurd cc
+
+-- bytes of which nothing is kept
+pub nothing-kept : (k : Kept) → HasNothing k → (staged : ℕ → List ℕ) → IsKept k staged
+nothing-kept k nothing staged = record {
+  opened = λ i size hasher lt is. absurd (not-open (part_at k i) size hasher (nothing i) is);
+  committed = λ i size digest bit lt is. absurd (not-committed (part_at k i) size digest bit (nothing i) is);
+  front = none (take (size_of (part_at k 0)) (staged 0)) (omega (arith, length-take (size_of (part_at k 0)) (staged 0), ap size_of (nothing 0)));
+}
+  where
+    none : (l : List ℕ) → length l ≡ 0 → take (min (48 + 56 * (length k.rows - 1)) (length l)) k.front ≡ take (48 + 56 * (length k.rows - 1)) l
+    none l empty =
+        ap (λ (n : ℕ). take n k.front) (let e : min (48 + 56 * (length k.rows - 1)) (length l) ≡ 0 = omega (arith, empty) in e) ∙ sym (nil-of l empty)
+        ∙ sym (take_all (48 + 56 * (length k.rows - 1)) l (omega (arith, empty)))
+
+pub starts-some : (k : Kept) → HasNothing k → ∥ SomeStaged k ∥₁
+starts-some k nothing = ∣ record { staged = λ i. []; kept = nothing-kept k nothing (λ i. []) } ∣₁
+
+module _ (f : Fields) (rows : f.session.rows ≡ f.layout.rows) (nothing : HasNothing f.session) (idle : f.session.staging ≡ false) (closed : f.session.handles ≡ replicate 32 Free) where
+  free : (place : ℕ) → handle_kept f.session place ≡ Free
+  free place = ap (λ (hs : List Handle). get_or hs place Free) closed ∙ frees 32 place
+
+  pub starts-fitting : IsTrue (fits_layout f.layout) → IsTrue (fits_meta f.layout f.meta.meta) → f.boot < f.layout.banks → length f.lengths ≡ 16 → (lengths : List ℕ) → take (length lengths) f.lengths ≡ lengths → length lengths ≡ length f.layout.rows
+      → FitSlots f.layout lengths → length f.rests ≡ 16 → Fitting f
+  starts-fitting fits meta below long lengths front count within rests = record {
+    layout = fits;
+    meta = meta;
+    boot = below;
+    rows = rows;
+    lengths = long;
+    within = λ image lt.
+        let same : get_or f.lengths image 0 ≡ get_or lengths image 0 = sym (get_or-take (length lengths) f.lengths image 0 (omega (arith, lt, count))) ∙ ap (λ (l : List ℕ). get_or l image 0) front in
+        omega (arith, same, within image lt);
+    rests = rests;
+    active = λ is. absurd (not-both idle is);
+    free = λ is. absurd (not-both idle is);
+    idle = λ off. nothing;
+    readers = λ place image at total is. absurd (not-reading (handle_kept f.session place) image at total (free place) is);
+    readable = λ place image at total is. absurd (not-reading (handle_kept f.session place) (Some image) at total (free place) is);
+  }
+
+  pub starts-known : (t : Told) (b : Started) → f.layout ≡ b.layout → f.meta ≡ b.meta → f.boot ≡ b.bank → f.trials ≡ b.trials → f.counter ≡ b.counter → take (length b.lengths) f.lengths ≡ b.lengths → length b.lengths ≡ length f.layout.rows
+      → KnowsStarted b t → Knows f t
+  starts-known t b layout meta bank trials counter front count started =
+      let one = subst (λ (L : Layout). KnowsStarted (record b { layout = L }) t) (sym layout) started in
+      let two = subst (λ (m : MetaRead). KnowsStarted (record b { layout = f.layout; meta = m }) t) (sym meta) one in
+      let known = subst (λ (n : ℕ). KnowsStarted (record b { layout = f.layout; meta = f.meta; bank = n }) t) (sym bank) two in
+      record {
+        layout_is = known.layout_is;
+        both = known.both;
+        version = known.form_two;
+        used = known.used;
+        accepted = λ is. absurd (not-both idle is);
+        counter_is = counter ∙ known.counter_is;
+        trials_are = trials ∙ known.trials_are;
+        held = known.held;
+        lengths_are = ap (λ (n : ℕ). take n f.lengths) (sym count) ∙ front ∙ known.lengths_are;
+        staged = record {
+          kept = nothing-kept f.session nothing (staged_bytes f t.now);
+          ahead = λ i size hasher lt is. absurd (not-open (part_at f.session i) size hasher (nothing i) is);
+          sure = λ i size digest bit lt is. absurd (not-committed (part_at f.session i) size digest bit (nothing i) is);
+        };
+      }
+
+-- each machine that is shown has nothing staged, and no handle open
+pub starts-session : (m : Moment) (bank : ℕ) → m.fields.boot ≡ bank → m.fields.session.staging ≡ false → m.fields.session.handles ≡ replicate 32 Free → (s : State) (x : Session) → Shows m s x → x ≡ On bank None no_handles
+starts-session m bank boot idle closed s x shows = shows.means ∙ restarts-idle m.fields.session m.fields.boot shows.staged idle closed ∙ ap (λ (b : ℕ). On b None no_handles) boot

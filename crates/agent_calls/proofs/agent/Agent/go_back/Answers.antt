@@ -1,0 +1,58 @@
+use Rattle.std.proofs.Common.{true, false, refl, arith}
+use Rattle.agent_kept.specs.Kept.{kept}
+use Rattle.agent_state.specs.Ruled.{ruled_as}
+use Rattle.agent_machine.specs.Stored.{is_to_do, may_try_kept}
+use Rattle.meta_layout.proofs.Fits.{meta-fits}
+use Rattle.agent_machine.proofs.StoredBack.{untried-meets, stopped-meets, bad-meets, back-meets}
+use Rattle.agent_calls.specs.Shown.{fields, moment}
+use Rattle.agent_calls.proofs.StoredVerdict.{good-permitted, promised}
+use Rattle.agent_calls.proofs.agent.Agent.go_back.Goals as goal
+
+pub may_try-requires-clause-active : goal.may_try-requires-clause-active
+may_try-requires-clause-active g c =
+    let a = c.args.self.now in
+    let whole = meta-fits a.layout a.meta.meta (a.fitting c.requires.here).meta in
+    omega (arith, whole.active, whole.states)
+
+pub may_try-requires-clause-previous : goal.may_try-requires-clause-previous
+may_try-requires-clause-previous g c =
+    let a = c.args.self.now in
+    let whole = meta-fits a.layout a.meta.meta (a.fitting c.requires.here).meta in
+    omega (arith, whole.previous, whole.states)
+
+pub returns-then-not-may_try-clause-meets : goal.returns-then-not-may_try-clause-meets
+returns-then-not-may_try-clause-meets g c =
+    let a = c.args.self.now in
+    let s = g.D.Flash.told a.flash in
+    untried-meets g.D.Flash.tells (fields a) (a.fitting c.requires.here) a.session.sound s s (λ is. refl) (g.V.Verifier.passes c.args.verifier.now) (promised c.may_try.result (may_try_kept a.meta.meta (kept a.session) a.boot) false c.may_try.ensures c.if-not-may_try.true)
+
+pub is_bank_good-requires-clause-bank : goal.is_bank_good-requires-clause-bank
+is_bank_good-requires-clause-bank g c =
+    let a = c.args.self.now in
+    let whole = meta-fits a.layout a.meta.meta (a.fitting c.requires.here).meta in
+    omega (arith, whole.previous, c.previous-bank.ensures)
+
+pub returns-then-not-goes_back-clause-meets : goal.returns-then-not-goes_back-clause-meets
+returns-then-not-goes_back-clause-meets g c =
+    let a = c.args.self.now in
+    let s = g.D.Flash.told a.flash in
+    let passes = g.V.Verifier.passes c.args.verifier.now in
+    bad-meets g.D.Flash.tells (fields a) (a.fitting c.requires.here) a.session.sound s (g.D.Flash.told c.is_bank_good.new.flash) c.in-Ok.ensures.content passes (a.knows c.requires.here)
+    (promised c.may_try.result (may_try_kept a.meta.meta (kept a.session) a.boot) true c.may_try.ensures c.if-not-may_try.false) c.args.decision.now c.requires.decided c.in-Ok.good
+    (λ is E setting. good-permitted E a.layout passes a.counter s.now c.previous-bank.result a.meta.meta.previous c.in-Ok.good (a.fitting c.requires.here).layout setting.layout setting.verifier c.previous-bank.ensures (c.in-Ok.ensures.good is))
+    (promised c.goes_back.result (is_to_do (ruled_as c.args.decision.now c.in-Ok.good)) false c.goes_back.ensures c.if-not-goes_back.true)
+
+pub returns-else-not-goes_back-clause-meets : goal.returns-else-not-goes_back-clause-meets
+returns-else-not-goes_back-clause-meets g c =
+    let a = c.args.self.now in
+    let s = g.D.Flash.told a.flash in
+    let passes = g.V.Verifier.passes c.args.verifier.now in
+    back-meets g.D.Flash.tells (fields a) (a.fitting c.requires.here) a.session.sound s (g.D.Flash.told c.is_bank_good.new.flash) c.in-Ok.ensures.content passes (a.knows c.requires.here)
+    (promised c.may_try.result (may_try_kept a.meta.meta (kept a.session) a.boot) true c.may_try.ensures c.if-not-may_try.false) c.args.decision.now c.requires.decided c.in-Ok.good
+    (λ is E setting. good-permitted E a.layout passes a.counter s.now c.previous-bank.result a.meta.meta.previous c.in-Ok.good (a.fitting c.requires.here).layout setting.layout setting.verifier c.previous-bank.ensures (c.in-Ok.ensures.good is))
+    c.carry_out.result (moment c.carry_out.new.self) (promised c.goes_back.result (is_to_do (ruled_as c.args.decision.now c.in-Ok.good)) true c.goes_back.ensures c.if-not-goes_back.false) c.carry_out.ensures.carries c.carry_out.ensures.answered
+
+pub returns-in-Err-clause-meets : goal.returns-in-Err-clause-meets
+returns-in-Err-clause-meets g c =
+    let a = c.args.self.now in
+    stopped-meets g.D.Flash.tells (fields a) (a.fitting c.requires.here) a.session.sound (g.D.Flash.told a.flash) (g.D.Flash.told c.is_bank_good.new.flash) c.in-Err.ensures.content (g.V.Verifier.passes c.args.verifier.now) c.stopped.result c.stopped.ensures.stopped

@@ -1,0 +1,95 @@
+use Rattle.std.proofs.Common.{◌≤◌, [], length, refl, sym, ap, ◌∙◌, arith}
+use Rattle.std.proofs.lemmas.List.{length-take, length-take-le}
+use Rattle.fwu_model.specs.declared.kinds.Status.TheVariants.{Denied}
+use Rattle.agent_kept.specs.declared.kinds.Plan.TheVariants as plan
+use Rattle.agent_machine.specs.Fields.{Fields}
+use Rattle.agent_machine.specs.Directory.{piece_of}
+use Rattle.agent_machine.specs.Meets.{IsGot}
+use Rattle.agent_machine.proofs.ReadAnswers.{read-refused, read-never, read-room, read-inside, read-lost, read-faulty, read-meets, carried-from, filled}
+use Rattle.agent_calls.specs.Shown.{fields, moment}
+use Rattle.agent_calls.proofs.agent.Agent.read_stream.Goals as goal
+
+pub slice_bounds-read_part-end : goal.slice_bounds-read_part-end
+slice_bounds-read_part-end g c =
+    let a = c.args.self.now in
+    let here = c.if-self.false in
+    read-room (moment a) (a.fitting here) a.session.sound (a.knows here) (a.some here) c.args.h
+    (length c.args.out.now) c.in-Ok.plan c.in-Ok.ensures.plans c.in-Read.handle c.in-Read.image c.in-Read.at c.in-Read.length c.in-Read.total c.in-Read.is
+    c.in-Ok.ensures.of
+
+pub slice_bounds-read_part-end-in-Read : goal.slice_bounds-read_part-end-in-Read
+slice_bounds-read_part-end-in-Read g c =
+    let a = c.args.self.now in
+    let here = c.if-self.false in
+    sym (length-take-le c.in-Read.length c.args.out.now
+    (read-room (moment a) (a.fitting here) a.session.sound (a.knows here) (a.some here) c.args.h
+    (length c.args.out.now) c.in-Ok.plan c.in-Ok.ensures.plans c.in-Read.handle c.in-Read.image c.in-Read.at c.in-Read.length c.in-Read.total c.in-Read.is
+    c.in-Ok.ensures.of))
+
+pub read_part-requires-clause-within : goal.read_part-requires-clause-within
+read_part-requires-clause-within g c =
+    let a = c.args.self.now in
+    let here = c.if-self.false in
+    let inside = read-inside (moment a) (a.fitting here) a.session.sound (a.knows here) (a.some here) c.args.h
+    (length c.args.out.now) c.in-Ok.plan c.in-Ok.ensures.plans c.in-Read.handle c.in-Read.image c.in-Read.at c.in-Read.length c.in-Read.total c.in-Read.is
+    c.in-Ok.ensures.of in
+    omega (arith, inside, length-take c.in-Read.length c.args.out.now)
+
+pub returns-in-Ok-read_part-clause-meets : goal.returns-in-Ok-read_part-clause-meets
+returns-in-Ok-read_part-clause-meets g c here passes =
+    let a = c.args.self.now in
+    let f : Fields = fields a in
+    let n = c.in-Read.length in
+    let fits : n ≤ length c.args.out.now = read-room (moment a) (a.fitting here) a.session.sound (a.knows here) (a.some here) c.args.h
+    (length c.args.out.now) c.in-Ok.plan c.in-Ok.ensures.plans c.in-Read.handle c.in-Read.image c.in-Read.at n c.in-Read.total c.in-Read.is
+    c.in-Ok.ensures.of in
+    read-meets (moment a) (a.fitting here) a.session.sound (a.knows here) (a.some here) c.args.h
+    (length c.args.out.now) c.in-Ok.plan c.in-Ok.ensures.plans c.in-Read.handle c.in-Read.image c.in-Read.at n c.in-Read.total c.in-Read.is
+    c.in-Ok.ensures.of
+    (moment c.keep.new.self) (λ tells. ap g.D.Flash.told c.keep.ensures.device ∙ c.read_part.ensures.content tells) passes _
+    (λ tells. filled c.args.out.now c.read_part.new.out _ n (piece_of f.layout f.meta.meta f.boot f.lengths
+    (g.D.Flash.told a.flash).now c.in-Read.image c.in-Read.at) fits c.read_part.auto.out refl (c.in-Ok-read_part.ensures.bytes tells))
+    (carried-from (plan.Read c.in-Read.handle c.in-Read.image c.in-Read.at n c.in-Read.total) [] g.D.Flash.tells (g.D.Flash.told a.flash)
+    (g.D.Flash.told c.read_part.new.self.flash) f (fields c.read_part.new.self) (moment c.keep.new.self)
+    c.read_part.ensures.fields c.read_part.ensures.content c.keep.ensures.carried)
+
+pub returns-in-Ok-read_part-clause-room : goal.returns-in-Ok-read_part-clause-room
+returns-in-Ok-read_part-clause-room g c =
+    let a = c.args.self.now in
+    let here = c.if-self.false in
+    read-room (moment a) (a.fitting here) a.session.sound (a.knows here) (a.some here) c.args.h
+    (length c.args.out.now) c.in-Ok.plan c.in-Ok.ensures.plans c.in-Read.handle c.in-Read.image c.in-Read.at c.in-Read.length c.in-Read.total c.in-Read.is
+    c.in-Ok.ensures.of
+
+pub returns-in-Err-Lost-clause-meets : goal.returns-in-Err-Lost-clause-meets
+returns-in-Err-Lost-clause-meets g c here passes =
+    let a = c.args.self.now in
+    let same = c.read_part.ensures.fields in
+    read-lost (moment a) (a.fitting here) a.session.sound (a.knows here) (a.some here) c.args.h
+    (length c.args.out.now) c.in-Ok.plan c.in-Ok.ensures.plans c.in-Read.handle c.in-Read.image c.in-Read.at c.in-Read.length c.in-Read.total c.in-Read.is
+    c.in-Ok.ensures.of
+    (moment c.read_part.new.self) c.read_part.ensures.content passes (IsGot g.D.Flash.tells _)
+    (record { tells = refl; layout = ap (λ (x : Fields). x.layout) same; boot = ap (λ (x : Fields). x.boot) same })
+
+pub returns-in-Err-Failed-clause-meets : goal.returns-in-Err-Failed-clause-meets
+returns-in-Err-Failed-clause-meets g c here passes =
+    let a = c.args.self.now in
+    let same = c.read_part.ensures.fields in
+    read-faulty (moment a) (a.fitting here) a.session.sound (a.knows here) (a.some here) c.args.h
+    (length c.args.out.now) c.in-Ok.plan c.in-Ok.ensures.plans c.in-Read.handle c.in-Read.image c.in-Read.at c.in-Read.length c.in-Read.total c.in-Read.is
+    c.in-Ok.ensures.of
+    (moment c.read_part.new.self) c.read_part.ensures.content passes (IsGot g.D.Flash.tells _)
+    (record { tells = refl; layout = ap (λ (x : Fields). x.layout) same; boot = ap (λ (x : Fields). x.boot) same })
+
+pub returns-in_default-clause-meets : goal.returns-in_default-clause-meets
+returns-in_default-clause-meets g c here passes =
+    let a = c.args.self.now in
+    read-never (moment a) (a.fitting here) a.session.sound (a.knows here) (a.some here) c.args.h (length c.args.out.now) c.in-Ok.plan c.in-Ok.ensures.plans
+    (IsGot g.D.Flash.tells _) Denied
+    (λ number image at n total. c.in_default.not-Read number image at n total) passes
+
+pub returns-in-Err-clause-meets : goal.returns-in-Err-clause-meets
+returns-in-Err-clause-meets g c here passes =
+    let a = c.args.self.now in
+    read-refused (moment a) (a.fitting here) a.session.sound (a.knows here) (a.some here) c.args.h (length c.args.out.now)
+    (IsGot g.D.Flash.tells _) c.in-Err.status c.in-Err.ensures.plans passes

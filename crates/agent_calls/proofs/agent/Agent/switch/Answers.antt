@@ -1,0 +1,68 @@
+use Rattle.std.proofs.Common.{◌≡◌, [], Err, subst, sym}
+use Rattle.fwu_model.specs.Reply.{Success}
+use Rattle.fwu_model.specs.Call as call
+use Rattle.agent_kept.specs.Kept.{Kept, kept}
+use Rattle.agent_kept.specs.declared.kinds.Plan.TheVariants as plan
+use Rattle.agent_machine.specs.Fields.{Fields}
+use Rattle.agent_machine.specs.Moment.{Moment}
+use Rattle.agent_machine.specs.Meets.{Leaves}
+use Rattle.moves.specs.Law.{Done}
+use Rattle.agent_machine.proofs.Answered.{stopped-meets}
+use Rattle.agent_machine.proofs.Room.{meta-of-session}
+use Rattle.agent_machine.proofs.Showing.{some-after}
+use Rattle.agent_machine.proofs.Ended.{ended-fitting}
+use Rattle.agent_machine.proofs.EndMeets.{stored-when-done, end-leaves, end-knows, end-meets}
+use Rattle.agent_calls.specs.Shown.{fields}
+use Rattle.agent_calls.proofs.agent.Agent.switch.Goals as goal
+
+pub settle-requires-clause-fits : goal.settle-requires-clause-fits
+settle-requires-clause-fits g c = meta-of-session (fields c.args.self.now) (c.args.self.now.fitting c.requires.here)
+
+pub clear_and_store-requires-clause-fits : goal.clear_and_store-requires-clause-fits
+clear_and_store-requires-clause-fits g c =
+    (ended-fitting (fields c.args.self.now) (kept c.settle.new.session) c.settle.new.meta
+    (c.args.self.now.fitting c.requires.here) c.settle.ensures.session c.settle.ensures.meta).meta
+
+pub invariant_of-self-clause-fitting : goal.invariant_of-self-clause-fitting
+invariant_of-self-clause-fitting g c here = ended-fitting (fields c.args.self.now) (kept c.settle.new.session) c.settle.new.meta
+    (c.args.self.now.fitting here) c.settle.ensures.session c.settle.ensures.meta
+
+pub invariant_of-self-clause-some : goal.invariant_of-self-clause-some
+invariant_of-self-clause-some g c here =
+    some-after (fields c.args.self.now) (c.args.self.now.fitting here) c.args.self.now.session.sound [] plan.End c.settle.new.meta
+    (kept c.settle.new.session) c.settle.ensures.settles (λ E s same speaks. tt) (c.args.self.now.some here)
+
+pub invariant_of-self-clause-knows : goal.invariant_of-self-clause-knows
+invariant_of-self-clause-knows g c here tells =
+    let f : Fields = fields c.args.self.now in
+    let k : Kept = kept c.settle.new.session in
+    let s = g.D.Flash.told c.args.self.now.flash in
+    let t = g.D.Flash.told c.clear_and_store.new.flash in
+    end-knows f k c.settle.new.meta c.requires.decided.0 g.D.Flash.tells s t (c.args.self.now.fitting here) c.args.self.now.session.sound
+    (c.args.self.now.knows here) c.requires.staging c.requires.decided.1 c.settle.ensures.meta c.settle.ensures.session c.settle.ensures.settles
+    (λ told. stored-when-done f.layout c.settle.new.meta.meta s t (c.in-Ok.ensures.ends told)) tells
+
+pub returns-in-Ok-clause-meets : goal.returns-in-Ok-clause-meets
+returns-in-Ok-clause-meets g c passes decides =
+    let here = c.requires.here in
+    let f : Fields = fields c.args.self.now in
+    let k : Kept = kept c.settle.new.session in
+    let s = g.D.Flash.told c.args.self.now.flash in
+    let t = g.D.Flash.told c.clear_and_store.new.flash in
+    end-meets f k c.settle.new.meta passes g.D.Flash.tells s t (c.args.self.now.fitting here) c.args.self.now.session.sound
+    (c.args.self.now.knows here) c.requires.staging decides c.settle.ensures.meta c.settle.ensures.session c.settle.ensures.settles
+    (λ told. stored-when-done f.layout c.settle.new.meta.meta s t (c.in-Ok.ensures.ends told))
+
+pub returns-in-Err-clause-meets : goal.returns-in-Err-clause-meets
+returns-in-Err-clause-meets g c passes decides =
+    let here = c.requires.here in
+    let f : Fields = fields c.args.self.now in
+    let k : Kept = kept c.settle.new.session in
+    let s = g.D.Flash.told c.args.self.now.flash in
+    let t = g.D.Flash.told c.clear_and_store.new.flash in
+    let old : Moment = record { tells = g.D.Flash.tells; told = s; fields = f } in
+    let new : Moment = record { tells = g.D.Flash.tells; told = t; fields = record f { meta = c.settle.new.meta; session = k; trials = 0 } } in
+    stopped-meets {T = Unit {0}} (λ value r. r ≡ Success) c.stopped.result passes call.End old new c.stopped.ensures.stopped
+    (subst (λ (r : Done). Leaves r passes call.End old new) (sym c.stopped.ensures.stop)
+    (end-leaves f k c.settle.new.meta passes g.D.Flash.tells s t (c.args.self.now.fitting here) c.args.self.now.session.sound
+    (c.args.self.now.knows here) c.requires.staging decides c.settle.ensures.meta (Err c.in-Err.stop) c.in-Err.ensures.ends))

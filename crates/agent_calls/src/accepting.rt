@@ -1,0 +1,50 @@
+//! An image of the active bank is accepted.
+ghost use Rattle.std.specs.Prelude.{◌≡◌, ℕ, Bool, List, is_ok, IsTrue, IsFalse, IsErrOf};
+ghost use Rattle.flash_core.specs.Counts.{Spends};
+ghost use Rattle.fwu_model.specs.Call as call;
+ghost use Rattle.fwu_model.specs.Reply.{Success};
+ghost use Rattle.agent_machine.specs.Meets.{Meets, GoesBy, IsRefused, flash_result};
+
+use crate::agent::Agent;
+use agent_machine::Stop;
+use agent_state::{Plan, Request};
+use base_core::Guid;
+use flash_core::Flash;
+
+impl<D: Flash> Agent<D> {
+    ghost use Rattle.agent_calls.specs.Shown.{fields, device, gone, moment};
+
+    /// Accepts the image of a type in the active bank (DEN0118, fwu_accept_image): its bit is set, and
+    /// with the last one the bank is accepted and its trials are over. Metadata is stored for that,
+    /// unless the bit is set already.
+    ///
+    /// DENIED: a package is staged, or the bank that was started isn't the active one. UNKNOWN: no image
+    /// has the type. Lost, Fault: the flash stopped the store. Gone: it stopped an earlier call of this
+    /// agent.
+    pub fn accept(&mut self, guid: Guid) -> Result<(), Stop>
+        // On any device: an answer or a refusal is that of each machine that the agent shows.
+        ensures meets { IsFalse (gone self.old) → (passes : List ℕ → Bool) →
+            Meets (λ value reply. reply ≡ Success) result passes (call.Accepts guid)
+            (moment self.old) (moment self.new) }
+        ensures goes { GoesBy result (gone self.old) (gone self.new) }
+        ensures untouched { IsErrOf result Stop.Gone → self.new ≡ self.old }
+        ensures refused { IsRefused result → self.new ≡ self.old }
+        ensures power { IsFalse (gone self.old) →
+            D.on (device self.new) ≡ is_ok (flash_result result) }
+        ensures size { D.blocks (device self.new) ≡ D.blocks (device self.old) }
+        ensures costs { Spends (flash_result result) (D.counts (device self.old))
+            (D.counts (device self.new)) }
+    {
+        if self.gone {
+            return Err(Stop::Gone);
+        }
+        match self.plan(&Request::Accept { guid }) {
+            Ok(plan) => match plan {
+                Plan::Accept { image, store } => self.carry_out(Plan::Accept { image, store }),
+                // no other plan of this request changes anything
+                _ => Ok(()),
+            },
+            Err(status) => Err(Stop::Status(status)),
+        }
+    }
+}

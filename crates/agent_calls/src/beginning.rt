@@ -1,0 +1,62 @@
+//! A staging begins.
+ghost use Rattle.std.specs.Prelude.{◌≡◌, ℕ, Bool, List, is_ok, IsTrue, IsFalse, IsErrOf};
+ghost use Rattle.flash_core.specs.Counts.{Spends};
+ghost use Rattle.fwu_model.specs.Call as call;
+ghost use Rattle.fwu_model.specs.Reply.{Success};
+ghost use Rattle.agent_machine.specs.Meets.{Meets, GoesBy, IsRefused, flash_result};
+ghost use Rattle.agent_machine.specs.Stored.{frees};
+
+use crate::agent::Agent;
+use agent_machine::Stop;
+use agent_state::{Plan, Request};
+use flash_core::Flash;
+
+/// Whether a plan makes the update bank invalid.
+fn frees(plan: &Plan) -> bool
+    ensures { result ≡ frees plan.now }
+{
+    match *plan {
+        Plan::Begin { store } => store,
+        _ => false,
+    }
+}
+
+impl<D: Flash> Agent<D> {
+    ghost use Rattle.agent_calls.specs.Shown.{fields, device, gone, moment};
+
+    /// Begins a staging, or begins it anew (DEN0118, fwu_begin_staging). The update bank is made invalid,
+    /// with the bit of each image clear, where it isn't invalid already: metadata is stored for that.
+    /// No image is staged then, and all handles are closed. The vendor flags have no meaning.
+    ///
+    /// DENIED: nothing is staged and the active bank is on trial, or the bank that was started isn't
+    /// the active one. NOT_AVAILABLE: `partial_count` isn't 0, since no update is of some images alone.
+    /// Lost, Fault: the flash stopped the store. Gone: it stopped an earlier call of this agent.
+    pub fn begin(&mut self, vendor_flags: u32, partial_count: u32) -> Result<(), Stop>
+        // On any device: an answer or a refusal is that of each machine that the agent shows.
+        ensures meets { IsFalse (gone self.old) → (passes : List ℕ → Bool) →
+            Meets (λ value reply. reply ≡ Success) result passes (call.Begin partial_count)
+            (moment self.old) (moment self.new) }
+        ensures goes { GoesBy result (gone self.old) (gone self.new) }
+        ensures untouched { IsErrOf result Stop.Gone → self.new ≡ self.old }
+        ensures refused { IsRefused result → self.new ≡ self.old }
+        ensures power { IsFalse (gone self.old) →
+            D.on (device self.new) ≡ is_ok (flash_result result) }
+        ensures size { D.blocks (device self.new) ≡ D.blocks (device self.old) }
+        ensures costs { Spends (flash_result result) (D.counts (device self.old))
+            (D.counts (device self.new)) }
+    {
+        if self.gone {
+            return Err(Stop::Gone);
+        }
+        let request = Request::Begin {
+            vendor_flags,
+            partial_count,
+        };
+        match self.plan(&request) {
+            Ok(plan) => self.carry_out(Plan::Begin {
+                store: frees(&plan),
+            }),
+            Err(status) => Err(Stop::Status(status)),
+        }
+    }
+}

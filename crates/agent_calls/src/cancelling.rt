@@ -1,0 +1,45 @@
+//! A staging is given up.
+ghost use Rattle.std.specs.Prelude.{◌≡◌, ℕ, Bool, List, is_ok, IsFalse, IsErrOf};
+ghost use Rattle.flash_core.specs.Counts.{Spends};
+ghost use Rattle.fwu_model.specs.Call as call;
+ghost use Rattle.fwu_model.specs.Reply.{Success};
+ghost use Rattle.agent_machine.specs.Meets.{Meets, GoesBy, IsRefused, IsStopped, flash_result};
+ghost use Rattle.agent_calls.specs.Shown.{device, gone, moment};
+
+use crate::agent::Agent;
+use agent_machine::Stop;
+use agent_state::Request;
+use flash_core::Flash;
+
+impl<D: Flash> Agent<D> {
+    /// Gives up what is staged, and closes all handles (DEN0118, fwu_cancel_staging). What was written
+    /// stays in the update bank, which is invalid. The device is not touched.
+    ///
+    /// DENIED: nothing is staged. Gone: the flash stopped an earlier call of this agent.
+    pub fn cancel(&mut self) -> Result<(), Stop>
+        // On any device: an answer or a refusal is that of each machine that the agent shows.
+        ensures meets { IsFalse (gone self.old) → (passes : List ℕ → Bool) →
+            Meets (λ value reply. reply ≡ Success) result passes call.Cancel
+            (moment self.old) (moment self.new) }
+        ensures goes { GoesBy result (gone self.old) (gone self.new) }
+        ensures untouched { IsErrOf result Stop.Gone → self.new ≡ self.old }
+        ensures refused { IsRefused result → self.new ≡ self.old }
+        ensures answers { IsStopped result → ⊥ }
+        ensures still { device self.new ≡ device self.old }
+        ensures power { IsFalse (gone self.old) → D.on (device self.new) ≡ is_ok (flash_result result) }
+        ensures size { D.blocks (device self.new) ≡ D.blocks (device self.old) }
+        ensures costs { Spends (flash_result result)
+            (D.counts (device self.old)) (D.counts (device self.new)) }
+    {
+        if self.gone {
+            return Err(Stop::Gone);
+        }
+        match self.plan(&Request::Cancel) {
+            Ok(plan) => {
+                self.keep(&plan);
+                Ok(())
+            }
+            Err(status) => Err(Stop::Status(status)),
+        }
+    }
+}

@@ -1,0 +1,126 @@
+//! The commit of a handle.
+ghost use Rattle.std.specs.Prelude.{◌≡◌, ℕ, Some, List, Bool, IsFalse, IsErrOf, is_ok};
+ghost use Rattle.flash_core.specs.Counts.{Spends};
+ghost use Rattle.fwu_model.specs.Call as call;
+ghost use Rattle.fwu_model.specs.Reply.{Success};
+ghost use Rattle.slot_writer.specs.Writes.{SpendsArming, writes_to_finish};
+ghost use Rattle.agent_kept.specs.Kept.{kept, part_at, size_of};
+ghost use Rattle.agent_state.specs.Decides.{Decides};
+ghost use Rattle.agent_state.specs.Settles.{IsPlanOf};
+ghost use Rattle.agent_machine.specs.Ends.{IsWriter};
+ghost use Rattle.agent_machine.specs.Meets.{Meets, GoesBy, IsRefused, flash_result};
+
+use crate::agent::{Agent, stopped};
+use agent_kept::Handle;
+use agent_machine::Stop;
+use agent_state::{Decision, Plan, settle};
+use flash_core::Flash;
+use fwu_model::Status;
+use slot_writer::finish;
+
+impl<D: Flash> Agent<D> {
+    ghost use Rattle.agent_calls.specs.Shown.{fields, device, gone, moment};
+    ghost use Rattle.agent_kept.specs.declared.kinds.Plan.TheVariants as plan;
+    ghost use Rattle.agent_kept.specs.declared.kinds.Request.TheVariants as request;
+    ghost use Rattle.agent_kept.specs.declared.kinds.Decision.TheVariants as decision;
+
+    /// Ends an image that a handle writes: its rest is padded with 0xFF and programmed, with a
+    /// barrier, and its digest is kept.
+    fn commit_image(&mut self, number: u32, image: u32, bit: bool) -> Result<(), Stop>
+        requires here { IsFalse self.old.gone }
+        requires plan { IsPlanOf (kept self.old.session) (plan.Commit number (Some image) bit) }
+
+        ensures meets { (passes : List ℕ → Bool) (h req most : ℕ) →
+            Decides passes self.old.meta self.old.counter (kept self.old.session) self.old.boot
+            (request.Commit h req most) (decision.Do (plan.Commit number (Some image) bit)) →
+            Meets (λ value reply. reply ≡ Success) result passes (call.Commit h req)
+            (moment self.old) (moment self.new) }
+        ensures goes { GoesBy result (gone self.old) (gone self.new) }
+        ensures unrefused { IsRefused result → ⊥ }
+        ensures known { IsErrOf result Stop.Gone → ⊥ }
+        ensures spent { SpendsArming (flash_result result)
+            (writes_to_finish (size_of (part_at (kept self.old.session) image)))
+            (D.arming (device self.old)) (D.arming (device self.new))
+            (D.counts (device self.old)) (D.counts (device self.new)) }
+        ensures power { D.on (device self.new) ≡ is_ok (flash_result result) }
+        ensures size { D.blocks (device self.new) ≡ D.blocks (device self.old) }
+        ensures costs { Spends (flash_result result)
+            (D.counts (device self.old)) (D.counts (device self.new)) }
+    {
+        let _images = self.layout.rows().len();
+        let bank = self.target();
+        let first = self.layout.start(bank, image);
+        let size = self.session.size(image as usize);
+        let rest = self.rests[image as usize];
+        match finish(&mut self.flash, first, size, &rest) {
+            Ok(()) => {
+                let plan = Plan::Commit {
+                    handle: number,
+                    written: Some(image),
+                    bit,
+                };
+                settle(&mut self.meta, &mut self.session, &Decision::Do(plan), &[]);
+                Ok(())
+            }
+            Err(stop) => {
+                self.gone = true;
+                Err(stopped(stop))
+            }
+        }
+    }
+
+    /// Closes a handle, whose number counts from 1 on (DEN0118, fwu_commit). Of an image that was
+    /// written through it, the last bytes that fill no granule of 16 are padded with 0xFF and
+    /// programmed, a barrier is made, and the image is committed: it counts as accepted where
+    /// `acceptance_req` is 0, else it needs an accept of its own once its bank is active. Its
+    /// length in bytes is that of what was written. `max_atomic_len` has no meaning.
+    ///
+    /// UNKNOWN: no handle of this number is open. Lost, Fault: the flash stopped it. Gone: it
+    /// stopped an earlier call of this agent.
+    pub fn commit(
+        &mut self,
+        handle: u32,
+        acceptance_req: u32,
+        max_atomic_len: u32,
+    ) -> Result<(), Stop>
+        // on any device: an answer or a refusal is that of each machine that the agent shows
+        ensures meets { IsFalse (gone self.old) → (passes : List ℕ → Bool) →
+            Meets (λ value reply. reply ≡ Success) result passes (call.Commit handle acceptance_req)
+            (moment self.old) (moment self.new) }
+        ensures goes { GoesBy result (gone self.old) (gone self.new) }
+        ensures untouched { IsErrOf result Stop.Gone → self.new ≡ self.old }
+        ensures refused { IsRefused result → self.new ≡ self.old }
+        // on every device: what it takes to end an image of the size that the handle wrote
+        ensures spent { IsFalse (gone self.old) → (image : ℕ) →
+            IsWriter (fields self.old) handle image →
+            SpendsArming (flash_result result)
+            (writes_to_finish (size_of (part_at (fields self.old).session image)))
+            (D.arming (device self.old)) (D.arming (device self.new))
+            (D.counts (device self.old)) (D.counts (device self.new)) }
+        // and nothing is done on the device where it writes none
+        ensures still { ((image : ℕ) → IsWriter (fields self.old) handle image → ⊥) →
+            device self.new ≡ device self.old }
+        ensures power { IsFalse (gone self.old) →
+            D.on (device self.new) ≡ is_ok (flash_result result) }
+        ensures size { D.blocks (device self.new) ≡ D.blocks (device self.old) }
+        ensures costs { Spends (flash_result result)
+            (D.counts (device self.old)) (D.counts (device self.new)) }
+    {
+        if self.gone {
+            return Err(Stop::Gone);
+        }
+        let bit = acceptance_req == 0;
+        match self.session.handle(handle) {
+            Handle::Free => Err(Stop::Status(Status::Unknown)),
+            Handle::Reads { .. } => {
+                self.keep(&Plan::Commit {
+                    handle,
+                    written: None,
+                    bit,
+                });
+                Ok(())
+            }
+            Handle::Writes { image } => self.commit_image(handle, image, bit),
+        }
+    }
+}

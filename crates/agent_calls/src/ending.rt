@@ -1,0 +1,164 @@
+//! The end of a staging.
+ghost use Rattle.std.specs.Prelude.{◌≡◌, ◌⊎◌, ℕ, Bool, true, List, IsTrue, IsFalse, IsErrOf, IfErr, OnOk, is_ok};
+ghost use Rattle.flash_core.specs.Counts.{Spends, StaysUnarmed};
+ghost use Rattle.fwu_formats.specs.Metadata.{fits_meta};
+ghost use Rattle.fwu_model.specs.Call as call;
+ghost use Rattle.fwu_model.specs.Reply.{Success};
+ghost use Rattle.agent_kept.specs.Kept.{kept};
+ghost use Rattle.agent_state.specs.Decides.{Decides};
+ghost use Rattle.agent_machine.specs.Ends.{ClearsAndStores, TakesSwitch};
+ghost use Rattle.agent_machine.specs.Meets.{Meets, GoesBy, IsRefused, flash_result};
+
+use crate::agent::{Agent, stopped};
+use agent_machine::Stop;
+use agent_state::{Decision, Plan, Request, decide, settle};
+use flash_core::{Flash, FlashStop};
+use fwu_formats::TRIAL_BLOCK;
+use fwu_model::Status;
+use marks_core::clear;
+use meta_layout::{Layout, Meta};
+use replicas::store;
+use verify_core::Verifier;
+
+/// Clears the trial marks, and then stores metadata in both replicas.
+fn clear_and_store<D: Flash>(flash: &mut D, layout: &Layout, meta: &Meta) -> Result<(), FlashStop>
+    requires on { IsTrue (D.on flash.old) }
+    requires fits { IsTrue (fits_meta layout.now meta.now.meta) }
+
+    ensures ends { IsTrue D.tells →
+        ClearsAndStores result layout.now meta.now.meta (D.told flash.old) (D.told flash.new) }
+    ensures power { D.on flash.new ≡ is_ok result }
+    ensures size { D.blocks flash.new ≡ D.blocks flash.old }
+    // on every device: an erase of the marks, or none, and two erases and two programs
+    ensures spent { OnOk result (TakesSwitch (D.arming flash.old) (D.arming flash.new)) }
+    ensures unarmed { StaysUnarmed result (D.arming flash.old) (D.arming flash.new)
+        (D.counts flash.old) (D.counts flash.new) }
+    ensures costs { Spends result (D.counts flash.old) (D.counts flash.new) }
+{
+    let mut buf = [0; 4096];
+    match clear(flash, TRIAL_BLOCK, &mut buf) {
+        Ok(()) => store(flash, layout, meta, &mut buf),
+        Err(stop) => Err(stop),
+    }
+}
+
+impl<D: Flash> Agent<D> {
+    ghost use Rattle.agent_calls.specs.Shown.{fields, device, gone, moment};
+    ghost use Rattle.agent_kept.specs.declared.kinds.Plan.TheVariants as plan;
+    ghost use Rattle.agent_kept.specs.declared.kinds.Request.TheVariants as request;
+    ghost use Rattle.agent_kept.specs.declared.kinds.Decision.TheVariants as decision;
+
+    /// Whether the staging may end, or why it is refused.
+    fn may_end<V: Verifier>(&self, verifier: &V) -> Result<(), Status>
+        requires here { IsFalse (gone self.now) }
+
+        ensures may { OnOk result
+            (Decides (V.passes verifier.now) self.now.meta self.now.counter (kept self.now.session)
+            self.now.boot request.End (decision.Do plan.End)) }
+        ensures staging { OnOk result ((kept self.now.session).staging ≡ true) }
+        ensures refused { IfErr result (λ status.
+            Decides (V.passes verifier.now) self.now.meta self.now.counter (kept self.now.session)
+            self.now.boot request.End (decision.Refused status)) }
+    {
+        match decide(
+            &self.meta,
+            &self.session,
+            self.boot,
+            &Request::End,
+            self.counter,
+            verifier,
+        ) {
+            Decision::Refused(status) => Err(status),
+            Decision::Do(plan) => match plan {
+                Plan::End => Ok(()),
+                // no other plan is one for an end
+                _ => Err(Status::Denied),
+            },
+            // nor does an end wait for a verdict
+            Decision::ByVerdict { .. } => Err(Status::Denied),
+        }
+    }
+
+    /// Switches to the staged package: the trial marks are cleared, and the metadata is stored in
+    /// which the update bank is active.
+    fn switch(&mut self) -> Result<(), Stop>
+        requires here { IsFalse self.old.gone }
+        requires staging { (kept self.old.session).staging ≡ true }
+        requires decided { (passes : List ℕ → Bool)
+            × Decides passes self.old.meta self.old.counter (kept self.old.session) self.old.boot
+            request.End (decision.Do plan.End) }
+
+        ensures meets { (passes : List ℕ → Bool) →
+            Decides passes self.old.meta self.old.counter (kept self.old.session) self.old.boot
+            request.End (decision.Do plan.End) →
+            Meets (λ value reply. reply ≡ Success) result passes call.End
+            (moment self.old) (moment self.new) }
+        ensures goes { GoesBy result (gone self.old) (gone self.new) }
+        ensures unrefused { IsRefused result → ⊥ }
+        ensures known { IsErrOf result Stop.Gone → ⊥ }
+        ensures spent { OnOk result
+            (TakesSwitch (D.arming (device self.old)) (D.arming (device self.new))) }
+        ensures unarmed { StaysUnarmed (flash_result result)
+            (D.arming (device self.old)) (D.arming (device self.new))
+            (D.counts (device self.old)) (D.counts (device self.new)) }
+        ensures power { D.on (device self.new) ≡ is_ok (flash_result result) }
+        ensures size { D.blocks (device self.new) ≡ D.blocks (device self.old) }
+        ensures costs { Spends (flash_result result)
+            (D.counts (device self.old)) (D.counts (device self.new)) }
+    {
+        settle(
+            &mut self.meta,
+            &mut self.session,
+            &Decision::Do(Plan::End),
+            &[],
+        );
+        self.trials = 0;
+        match clear_and_store(&mut self.flash, &self.layout, &self.meta) {
+            Ok(()) => Ok(()),
+            Err(stop) => {
+                self.gone = true;
+                Err(stopped(stop))
+            }
+        }
+    }
+
+    /// Ends the staging (DEN0118, fwu_end_staging) where each image is committed, and together
+    /// they are a complete package whose version is not below the anti-rollback counter and whose
+    /// manifest the verifier accepts: the trial marks are cleared, and the metadata is stored in
+    /// which the update bank is active, accepted where each image was committed as accepted and
+    /// else valid, and the bank that was active is the previous one. Then nothing is staged, and
+    /// no handle is open.
+    ///
+    /// DENIED: nothing is staged. BUSY: a handle writes. AUTH_FAIL: what is staged may not be
+    /// installed. A refusal reads nothing, and the staging goes on. Lost, Fault: the flash stopped
+    /// it. Gone: it stopped an earlier call of this agent.
+    pub fn end<V: Verifier>(&mut self, verifier: &V) -> Result<(), Stop>
+        // on any device: an answer or a refusal is that of each machine that the agent shows
+        ensures meets { IsFalse (gone self.old) → (passes : List ℕ → Bool) →
+            passes ≡ V.passes verifier.now →
+            Meets (λ value reply. reply ≡ Success) result passes call.End
+            (moment self.old) (moment self.new) }
+        ensures goes { GoesBy result (gone self.old) (gone self.new) }
+        ensures untouched { IsErrOf result Stop.Gone → self.new ≡ self.old }
+        ensures refused { IsRefused result → self.new ≡ self.old }
+        // on every device: an erase of the marks, or none, and two erases and two programs
+        ensures spent { OnOk result
+            (TakesSwitch (D.arming (device self.old)) (D.arming (device self.new))) }
+        ensures unarmed { StaysUnarmed (flash_result result)
+            (D.arming (device self.old)) (D.arming (device self.new))
+            (D.counts (device self.old)) (D.counts (device self.new)) }
+        ensures power { IsFalse (gone self.old) →
+            D.on (device self.new) ≡ is_ok (flash_result result) }
+        ensures size { D.blocks (device self.new) ≡ D.blocks (device self.old) }
+        ensures costs { Spends (flash_result result)
+            (D.counts (device self.old)) (D.counts (device self.new)) }
+    {
+        if self.gone {
+            return Err(Stop::Gone);
+        }
+        match self.may_end(verifier) {
+            Ok(()) => self.switch(),
+            Err(status) => Err(Stop::Status(status)),
+        }
+    }
+}

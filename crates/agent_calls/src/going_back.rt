@@ -1,0 +1,187 @@
+//! Going back to the previous bank.
+ghost use Rattle.std.specs.Prelude.{◌≡◌, ◌<◌, ◌≤◌, ◌&&◌, ℕ, Bool, List, length, is_ok, IfOk, IsTrue, IsFalse, IsErrOf};
+ghost use Rattle.flash_core.specs.Counts.{Spends, arming_kept};
+ghost use Rattle.fwu_formats.specs.Layout.{blocks_needed};
+ghost use Rattle.fwu_model.specs.State.{is_valid, is_accepted};
+ghost use Rattle.image_check.specs.Verdict.{verdict_on};
+ghost use Rattle.image_check.specs.Law.{may_start};
+ghost use Rattle.agent_kept.specs.declared.kinds.Request.TheVariants as request;
+ghost use Rattle.agent_kept.specs.Kept.{kept};
+ghost use Rattle.agent_state.specs.Decides.{Decides};
+ghost use Rattle.agent_state.specs.Ruled.{ruled_as};
+ghost use Rattle.agent_machine.specs.Meets.{MeetsPrevious, GoesBy, IsRefused, flash_result};
+ghost use Rattle.agent_machine.specs.Stored.{is_to_do, may_try_kept};
+
+use crate::agent::Agent;
+use crate::storing::stopped;
+use agent_machine::Stop;
+use agent_state::{Decision, Plan, Request, Session, decide, ruled};
+use flash_core::{Flash, FlashStop};
+use fwu_formats::BankState;
+use fwu_model::Status;
+use image_check::{Verdict, check};
+use meta_layout::{Layout, Meta};
+use verify_core::Verifier;
+
+fn is_valid(state: BankState) -> bool
+    ensures { result ≡ is_valid state }
+{
+    match state {
+        BankState::Valid => true,
+        BankState::Invalid | BankState::Accepted => false,
+    }
+}
+
+fn is_accepted(state: BankState) -> bool
+    ensures { result ≡ is_accepted state }
+{
+    match state {
+        BankState::Accepted => true,
+        BankState::Invalid | BankState::Valid => false,
+    }
+}
+
+/// Whether the session and the numbers of the banks allow to go back, whatever any bank holds.
+fn may_try(meta: &Meta, session: &Session, boot: u32) -> bool
+    requires active { meta.now.meta.active < length meta.now.meta.states }
+    requires previous { meta.now.meta.previous < length meta.now.meta.states }
+    ensures { result ≡ may_try_kept meta.now.meta (kept session.now) boot }
+{
+    let on_trial = is_valid(meta.state(meta.active()));
+    let accepted = is_accepted(meta.state(meta.previous()));
+    !session.is_staging()
+        && (on_trial || boot != meta.active())
+        && (meta.previous() != meta.active() && accepted)
+}
+
+fn is_good(verdict: Verdict) -> bool
+    ensures { result ≡ may_start verdict }
+{
+    match verdict {
+        Verdict::Good { .. } => true,
+        Verdict::BadManifest
+        | Verdict::NotAccepted
+        | Verdict::BadImage { .. }
+        | Verdict::BelowCounter { .. } => false,
+    }
+}
+
+/// Whether the verdict on a bank is good. The flash is read alone.
+fn is_bank_good<D: Flash, V: Verifier>(
+    flash: &mut D,
+    layout: &Layout,
+    bank: u32,
+    counter: u32,
+    verifier: &V,
+) -> Result<bool, FlashStop>
+    requires on { IsTrue (D.on flash.old) }
+    requires fits { blocks_needed layout.now ≤ D.blocks flash.old }
+    requires bank { bank < layout.now.banks }
+    ensures good { IfOk result (λ good. IsTrue D.tells → good ≡ may_start
+        (verdict_on (V.passes verifier.now) counter layout.now (D.told flash.old).now bank)) }
+    ensures content { IsTrue D.tells → D.told flash.new ≡ D.told flash.old }
+    ensures power { D.on flash.new ≡ is_ok result }
+    ensures size { D.blocks flash.new ≡ D.blocks flash.old }
+    ensures costs { Spends result (D.counts flash.old) (D.counts flash.new) }
+    ensures arming { D.arming flash.new ≡ arming_kept result (D.arming flash.old) }
+{
+    let mut buf = [0; 4096];
+    let verdict = check(flash, layout, bank, counter, &mut buf, verifier)?;
+    Ok(is_good(verdict))
+}
+
+/// Whether a decision on going back is to do it, by the verdict on the bank.
+fn goes_back(decision: &Decision, good: bool) -> bool
+    ensures { result ≡ is_to_do (ruled_as decision.now good) }
+{
+    match ruled(decision, good) {
+        Decision::Do(_) => true,
+        Decision::Refused(_) | Decision::ByVerdict { .. } => false,
+    }
+}
+
+impl<D: Flash> Agent<D> {
+    ghost use Rattle.agent_calls.specs.Shown.{fields, device, gone, moment};
+
+    /// Goes back by a decision, where the session and the numbers of the banks allow it and the verdict on
+    /// the previous bank is good.
+    fn go_back<V: Verifier>(&mut self, decision: &Decision, verifier: &V) -> Result<(), Stop>
+        requires here { IsFalse (gone self.old) }
+        requires decided { Decides (V.passes verifier.now) self.old.meta self.old.counter
+            (kept self.old.session) self.old.boot request.Previous decision.now }
+        ensures meets { MeetsPrevious result (V.passes verifier.now)
+            (moment self.old) (moment self.new) }
+        ensures goes { GoesBy result (gone self.old) (gone self.new) }
+        ensures refused { IsRefused result → fields self.new ≡ fields self.old }
+        ensures content { IsRefused result → IsTrue D.tells →
+            D.told (device self.new) ≡ D.told (device self.old) }
+        ensures arming { IsRefused result →
+            D.arming (device self.new) ≡ D.arming (device self.old) }
+        ensures power { D.on (device self.new) ≡ is_ok (flash_result result) }
+        ensures size { D.blocks (device self.new) ≡ D.blocks (device self.old) }
+        ensures costs { Spends (flash_result result) (D.counts (device self.old))
+            (D.counts (device self.new)) }
+    {
+        // the decision that waits for a verdict doesn't say so by itself
+        if !may_try(&self.meta, &self.session, self.boot) {
+            return Err(Stop::Status(Status::Denied));
+        }
+        let bank = self.meta.previous();
+        match is_bank_good(&mut self.flash, &self.layout, bank, self.counter, verifier) {
+            Ok(good) => {
+                if !goes_back(decision, good) {
+                    return Err(Stop::Status(Status::Denied));
+                }
+                self.carry_out(Plan::Back)
+            }
+            Err(stop) => {
+                self.gone = true;
+                Err(stopped(stop))
+            }
+        }
+    }
+
+    /// Goes back to the previous bank (DEN0118, fwu_select_previous): the active and the previous bank
+    /// change places, and the trials are over. Metadata is stored for that.
+    ///
+    /// DENIED: a package is staged; the active bank isn't on trial and was started; the previous bank is
+    /// the active one or isn't accepted; or it holds no complete package that the verifier accepts and
+    /// whose security version isn't below the counter. For the last of these the bank is read, so a
+    /// refusal may have read the flash. Lost, Fault: the flash stopped the reading or the store. Gone: it
+    /// stopped an earlier call of this agent.
+    pub fn previous<V: Verifier>(&mut self, verifier: &V) -> Result<(), Stop>
+        // Where the device tells its content, the answer is the machine's. On any device a refusal by the
+        // session and by the numbers of the banks is, and an answer goes back.
+        ensures meets { IsFalse (gone self.old) → (passes : List ℕ → Bool) →
+            passes ≡ V.passes verifier.now →
+            MeetsPrevious result passes (moment self.old) (moment self.new) }
+        ensures goes { GoesBy result (gone self.old) (gone self.new) }
+        ensures untouched { IsErrOf result Stop.Gone → self.new ≡ self.old }
+        ensures refused { IsRefused result → fields self.new ≡ fields self.old }
+        ensures content { IsRefused result → IsTrue D.tells →
+            D.told (device self.new) ≡ D.told (device self.old) }
+        ensures arming { IsRefused result →
+            D.arming (device self.new) ≡ D.arming (device self.old) }
+        ensures power { IsFalse (gone self.old) →
+            D.on (device self.new) ≡ is_ok (flash_result result) }
+        ensures size { D.blocks (device self.new) ≡ D.blocks (device self.old) }
+        ensures costs { Spends (flash_result result) (D.counts (device self.old))
+            (D.counts (device self.new)) }
+    {
+        if self.gone {
+            return Err(Stop::Gone);
+        }
+        let decision = decide(
+            &self.meta,
+            &self.session,
+            self.boot,
+            &Request::Previous,
+            self.counter,
+            verifier,
+        );
+        if let Decision::Refused(status) = decision {
+            return Err(Stop::Status(status));
+        }
+        self.go_back(&decision, verifier)
+    }
+}

@@ -1,0 +1,184 @@
+//! Reading through a handle.
+ghost use Rattle.std.specs.Prelude.{◌≡◌, ◌+◌, ◌*◌, ◌<◌, ◌≤◌, length, take, drop, is_ok, IsTrue, OnOk, None};
+ghost use Rattle.flash_core.specs.Counts.{Spends, ReachesNone, arming_kept};
+ghost use Rattle.fwu_formats.specs.Layout.{blocks_needed, slot_bytes, start};
+ghost use Rattle.fwu_formats.specs.Metadata.{fits_meta};
+ghost use Rattle.agent_machine.specs.Fields.{directory_size};
+ghost use Rattle.agent_machine.specs.Directory.{piece_of};
+
+use crate::agent::Agent;
+use crate::directory::directory_of;
+use agent_machine::Stop;
+use agent_state::{Plan, Request};
+use flash_core::{Flash, FlashStop};
+use fwu_model::Status;
+use manifest_core::manifest_size;
+use meta_layout::{Layout, Meta};
+
+/// Fills the buffer with the directory's bytes from a place on. The versions are those of the
+/// manifest that the bank has.
+fn read_directory<D: Flash>(
+    flash: &mut D,
+    layout: &Layout,
+    meta: &Meta,
+    bank: u32,
+    lengths: &[u32; 16],
+    at: u32,
+    out: &mut [u8],
+) -> Result<(), FlashStop>
+    requires on { IsTrue (D.on flash.old) }
+    requires inside { blocks_needed layout.now ≤ D.blocks flash.old }
+    requires fit { IsTrue (fits_meta layout.now meta.now.meta) }
+    requires bank { bank < layout.now.banks }
+    requires within { at + length out.old ≤ directory_size (length layout.now.rows) }
+    ensures bytes { OnOk result (IsTrue D.tells → out.new ≡ piece_of layout.now meta.now.meta bank
+        lengths.now (D.told flash.old).now None at (length out.old)) }
+    ensures content { IsTrue D.tells → D.told flash.new ≡ D.told flash.old }
+    ensures power { D.on flash.new ≡ is_ok result }
+    ensures size { D.blocks flash.new ≡ D.blocks flash.old }
+    ensures costs { Spends result (D.counts flash.old) (D.counts flash.new) }
+    ensures reached { ReachesNone result (D.counts flash.old) (D.counts flash.new) }
+    ensures arming { D.arming flash.new ≡ arming_kept result (D.arming flash.old) }
+{
+    let mut front = [0; 888];
+    let manifest = &mut front[..manifest_size(layout.rows())];
+    flash.read(4096 * layout.start(bank, 0), manifest)?;
+    let directory = directory_of(layout, meta, bank, lengths, manifest);
+    let from = at as usize;
+    out.copy_from_slice(&directory[from..from + out.len()]);
+    Ok(())
+}
+
+/// Fills the buffer with an image's bytes from a place on.
+fn read_image<D: Flash>(
+    flash: &mut D,
+    layout: &Layout,
+    bank: u32,
+    image: u32,
+    at: u32,
+    out: &mut [u8],
+) -> Result<(), FlashStop>
+    requires on { IsTrue (D.on flash.old) }
+    requires inside { blocks_needed layout.now ≤ D.blocks flash.old }
+    requires bank { bank < layout.now.banks }
+    requires image { image < length layout.now.rows }
+    requires within { at + length out.old ≤ slot_bytes layout.now image }
+    ensures bytes { OnOk result (IsTrue D.tells → out.new ≡ take (length out.old)
+        (drop (4096 * start layout.now bank image + at) (D.told flash.old).now)) }
+    ensures content { IsTrue D.tells → D.told flash.new ≡ D.told flash.old }
+    ensures power { D.on flash.new ≡ is_ok result }
+    ensures size { D.blocks flash.new ≡ D.blocks flash.old }
+    ensures costs { Spends result (D.counts flash.old) (D.counts flash.new) }
+    ensures reached { ReachesNone result (D.counts flash.old) (D.counts flash.new) }
+    ensures arming { D.arming flash.new ≡ arming_kept result (D.arming flash.old) }
+{
+    let _rows = layout.rows();
+    flash.read(4096 * layout.start(bank, image) + at, out)
+}
+
+impl<D: Flash> Agent<D> {
+    ghost use Rattle.std.specs.Prelude.{ℕ, Bool, List, is_err, IfOk, IsErrOf, IsFalse};
+    ghost use Rattle.fwu_model.specs.Call as call;
+    ghost use Rattle.agent_machine.specs.Fields.{total_of, IsThere};
+    ghost use Rattle.agent_machine.specs.Meets.{Meets, GoesBy, IsGot, IsRefused, flash_result};
+    ghost use Rattle.agent_calls.specs.Shown.{fields, device, gone, moment};
+
+    /// Fills the buffer with bytes of the directory, or of an image of the bank that was started,
+    /// from a place on. A stop of the flash makes the agent gone.
+    fn read_part(&mut self, image: Option<u32>, at: u32, out: &mut [u8]) -> Result<(), FlashStop>
+        requires here { IsFalse (gone self.old) }
+        requires there { IsThere (fields self.old) image }
+        requires within { at + length out.old ≤ total_of (fields self.old) image }
+        ensures bytes { OnOk result (IsTrue D.tells → let f = fields self.old in
+            out.new ≡ piece_of f.layout f.meta.meta f.boot f.lengths (D.told (device self.old)).now
+            image at (length out.old)) }
+        ensures fields { fields self.new ≡ fields self.old }
+        ensures gone { gone self.new ≡ is_err result }
+        ensures content { IsTrue D.tells → D.told (device self.new) ≡ D.told (device self.old) }
+        ensures power { D.on (device self.new) ≡ is_ok result }
+        ensures size { D.blocks (device self.new) ≡ D.blocks (device self.old) }
+        ensures costs { Spends result (D.counts (device self.old)) (D.counts (device self.new)) }
+        ensures reached { ReachesNone result
+            (D.counts (device self.old)) (D.counts (device self.new)) }
+        ensures arming { D.arming (device self.new)
+            ≡ arming_kept result (D.arming (device self.old)) }
+    {
+        let result = match image {
+            None => read_directory(
+                &mut self.flash,
+                &self.layout,
+                &self.meta,
+                self.boot,
+                &self.lengths,
+                at,
+                out,
+            ),
+            Some(image) => read_image(&mut self.flash, &self.layout, self.boot, image, at, out),
+        };
+        self.gone = result.is_err();
+        result
+    }
+
+    /// Fills the front of the buffer with what the handle reads, from the handle's place on
+    /// (DEN0118, fwu_read_stream): as many bytes as there are and fit. Gives their number, and how
+    /// many bytes there are in all. The handle's place moves behind them. An image is read of the
+    /// bank that was started, whichever bank is active by now, and the directory has its bits as
+    /// they are now.
+    ///
+    /// UNKNOWN: no handle of this number is open. DENIED: the handle writes. Lost, Fault: the flash
+    /// stopped the read, and any bytes may stand in the front of the buffer. Gone: it stopped an
+    /// earlier call of this agent.
+    pub fn read_stream(&mut self, h: u32, out: &mut [u8]) -> Result<(u32, u32), Stop>
+        // On any device: an answer or a refusal is that of each machine that the agent shows, and
+        // the bytes too where the device tells its content.
+        ensures meets { IsFalse (gone self.old) → (passes : List ℕ → Bool) →
+            Meets (IsGot D.tells out.new) result passes (call.Read h (length out.old))
+            (moment self.old) (moment self.new) }
+        ensures goes { GoesBy result (gone self.old) (gone self.new) }
+        ensures untouched { IsErrOf result Stop.Gone → self.new ≡ self.old }
+        ensures refused { IsRefused result → self.new ≡ self.old }
+        ensures long { length out.new ≡ length out.old }
+        ensures room { IfOk result (λ got. got.0 ≤ length out.old) }
+        ensures behind { IfOk result (λ got. drop got.0 out.new ≡ drop got.0 out.old) }
+        ensures unread { IsRefused result → out.new ≡ out.old }
+        ensures content { IsTrue D.tells → D.told (device self.new) ≡ D.told (device self.old) }
+        ensures arming { D.arming (device self.new)
+            ≡ arming_kept (flash_result result) (D.arming (device self.old)) }
+        ensures reached { ReachesNone (flash_result result)
+            (D.counts (device self.old)) (D.counts (device self.new)) }
+        ensures power { IsFalse (gone self.old) →
+            D.on (device self.new) ≡ is_ok (flash_result result) }
+        ensures size { D.blocks (device self.new) ≡ D.blocks (device self.old) }
+        ensures costs { Spends (flash_result result)
+            (D.counts (device self.old)) (D.counts (device self.new)) }
+    {
+        if self.gone {
+            return Err(Stop::Gone);
+        }
+        let request = Request::Read {
+            handle: h,
+            room: out.len() as u64,
+        };
+        match self.plan(&request) {
+            Ok(plan) => match plan {
+                Plan::Read {
+                    image,
+                    at,
+                    length,
+                    total,
+                    ..
+                } => match self.read_part(image, at, &mut out[..length as usize]) {
+                    Ok(()) => {
+                        self.keep(&plan);
+                        Ok((length, total))
+                    }
+                    Err(FlashStop::Lost) => Err(Stop::Lost),
+                    Err(FlashStop::Failed) => Err(Stop::Fault),
+                },
+                // a read has no other plan
+                _ => Err(Stop::Status(Status::Denied)),
+            },
+            Err(status) => Err(Stop::Status(status)),
+        }
+    }
+}

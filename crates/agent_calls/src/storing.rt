@@ -1,0 +1,107 @@
+//! Carrying out a plan that may store metadata.
+ghost use Rattle.std.specs.Prelude.{◌≡◌, ◌<◌, is_ok, length, Result, Err, IsTrue, IsFalse};
+ghost use Rattle.flash_core.specs.Counts.{Spends};
+ghost use Rattle.fwu_formats.specs.Metadata.{fits_meta};
+ghost use Rattle.agent_machine.specs.Meets.{IsStopped, flash_result};
+ghost use Rattle.agent_machine.specs.Stored.{StoresIf, is_stored, trials_planned};
+
+use crate::agent::Agent;
+use agent_machine::Stop;
+use agent_state::{Decision, Plan, settle};
+use flash_core::{Flash, FlashStop};
+use meta_layout::{Layout, Meta};
+use replicas::store;
+
+/// Stores metadata over both replicas, where it is to be stored.
+fn store_if<D: Flash>(
+    flash: &mut D,
+    layout: &Layout,
+    meta: &Meta,
+    stored: bool,
+) -> Result<(), FlashStop>
+    requires on { IsTrue (D.on flash.old) }
+    requires fits { IsTrue (fits_meta layout.now meta.now.meta) }
+    ensures stores { IsTrue D.tells → StoresIf stored result layout.now meta.now.meta
+        (D.told flash.old) (D.told flash.new) }
+    ensures power { D.on flash.new ≡ is_ok result }
+    ensures size { D.blocks flash.new ≡ D.blocks flash.old }
+    ensures costs { Spends result (D.counts flash.old) (D.counts flash.new) }
+{
+    if !stored {
+        return Ok(());
+    }
+    let mut buf = [0; 4096];
+    store(flash, layout, meta, &mut buf)
+}
+
+/// Whether a plan stores metadata.
+fn is_stored(plan: &Plan) -> bool
+    ensures { result ≡ is_stored plan.now }
+{
+    match *plan {
+        Plan::Begin { store } | Plan::Accept { store, .. } => store,
+        Plan::Back => true,
+        _ => false,
+    }
+}
+
+/// The trials after a plan, by the metadata that it left: none where the active bank is accepted with
+/// its last image, or where another bank is active.
+fn trials_after(plan: &Plan, meta: &Meta, trials: u32) -> u32
+    requires active { meta.now.meta.active < length meta.now.meta.bits }
+    ensures { result ≡ trials_planned plan.now meta.now.meta trials }
+{
+    match *plan {
+        Plan::Accept { store, .. } => {
+            if store && meta.bits().get(meta.active() as usize).are_all_set() {
+                0
+            } else {
+                trials
+            }
+        }
+        Plan::Back => 0,
+        _ => trials,
+    }
+}
+
+/// What a call answers that the flash stopped.
+pub(crate) fn stopped(stop: FlashStop) -> Stop
+    ensures stop { flash_result {T = Unit {0}} (Err result) ≡ Err stop }
+    ensures stopped { IsStopped {T = Unit {0}} (Err result) }
+{
+    match stop {
+        FlashStop::Lost => Stop::Lost,
+        FlashStop::Failed => Stop::Fault,
+    }
+}
+
+impl<D: Flash> Agent<D> {
+    ghost use Rattle.agent_calls.specs.Shown.{fields, device, gone, moment};
+    ghost use Rattle.agent_machine.specs.Meets.{GoesBy, IsRefused};
+    ghost use Rattle.agent_machine.specs.Stored.{MayCarryOut, CarriesOut};
+
+    /// Makes of the metadata and of the session what a plan says, and stores the metadata where the plan
+    /// does. A stop of the flash leaves the agent gone.
+    pub(crate) fn carry_out(&mut self, plan: Plan) -> Result<(), Stop>
+        requires here { IsFalse (gone self.old) }
+        requires plan { MayCarryOut (fields self.old) plan }
+        ensures carries { CarriesOut (flash_result result) plan (moment self.old) (moment self.new) }
+        ensures answered { IsRefused result → ⊥ }
+        ensures goes { GoesBy result (gone self.old) (gone self.new) }
+        ensures power { D.on (device self.new) ≡ is_ok (flash_result result) }
+        ensures size { D.blocks (device self.new) ≡ D.blocks (device self.old) }
+        ensures costs { Spends (flash_result result) (D.counts (device self.old))
+            (D.counts (device self.new)) }
+    {
+        settle(&mut self.meta, &mut self.session, &Decision::Do(plan), &[]);
+        self.trials = trials_after(&plan, &self.meta, self.trials);
+        let stored = is_stored(&plan);
+        match store_if(&mut self.flash, &self.layout, &self.meta, stored) {
+            Ok(()) => Ok(()),
+            Err(stop) => {
+                self.gone = true;
+                Err(stopped(stop))
+            }
+        }
+    }
+}

@@ -1,0 +1,115 @@
+-- An image is committed: what the agent knows afterwards.
+use Rattle.std.proofs.Common.{◌≡◌, ◌≢◌, inl, inr, ℕ, ◌+◌, ◌*◌, ◌<◌, ◌≤◌, Bool, List, length, Ok, sym, ap, ap₂, ◌∙◌, subst, arith, IsTrue}
+use Rattle.std.proofs.lemmas.Bool.{cases_eq}
+use Rattle.std.specs.Prelude.{Result}
+use Rattle.flash_core.specs.declared.flash.FlashStop.{FlashStop}
+use Rattle.flash_core.specs.Told.{Told}
+use Rattle.flash_core.proofs.Calls.{keeps_wider, quiet_fresh}
+use Rattle.sha2.specs.declared.Sha256.{Sha256}
+use Rattle.fwu_formats.specs.Layout.{ImageRow, start, slot_bytes, blocks_needed}
+use Rattle.fwu_formats.specs.Metadata.{state_at}
+use Rattle.fwu_model.specs.State.{is_invalid}
+use Rattle.slot_writer.specs.Slots.{Finishes, blocks_for, done_of}
+use Rattle.agent_kept.specs.declared.parts.Part.{Part}
+use Rattle.agent_kept.specs.declared.parts.Part.TheVariants.{Nothing, Open, Committed}
+use Rattle.agent_kept.specs.Kept.{Kept, IsKept, CommitsPart, CommitsTo, part_at, part_meant, size_of, slot_of}
+use Rattle.agent_kept.proofs.After.{kept-committed}
+use Rattle.agent_machine.specs.Fields.{Fields, target, rest_of, with_session}
+use Rattle.agent_machine.specs.Machine.{state_in, staged_bytes, part_bytes}
+use Rattle.agent_machine.specs.Knows.{Fitting, SessionSound, Knows}
+use Rattle.agent_machine.specs.Law.{StaysKnown}
+use Rattle.agent_machine.proofs.Answered.{MeansSame, kept-same}
+use Rattle.agent_machine.proofs.Staging.{stays-known}
+use Rattle.agent_machine.proofs.Writing.{known-again}
+
+-- a staged image is within its slot
+pub slot-room : (f : Fields) → Fitting f → SessionSound f → (image : ℕ) → image < length f.layout.rows
+    → size_of (part_at f.session image) ≤ slot_bytes f.layout image
+slot-room f fitting sound image lt =
+    let count : length f.session.rows ≡ length f.layout.rows = ap (λ (l : List ImageRow). length l) fitting.rows in
+    let slot : slot_of f.session.rows image ≡ slot_bytes f.layout image = ap (λ (l : List ImageRow). slot_of l image) fitting.rows in
+    omega (arith, sound.sizes image (omega (arith, count, lt)), slot)
+
+ended : (size : ℕ) (hasher : Sha256) (bit : Bool) (q : Part) → CommitsTo (Open size hasher) q bit → (digest : List ℕ) × (q ≡ Committed size digest bit)
+ended size hasher bit Nothing c = absurd c
+ended size hasher bit (Open n other) c = absurd c
+ended size hasher bit (Committed n digest b) c = (digest, ap₂ (λ (m : ℕ) (x : Bool). Committed m digest x) c.0 c.1)
+
+ended-not-open : (n m : ℕ) (x : Sha256) (digest : List ℕ) (bit : Bool) → ◌≡◌ {A = Part} (Open n x) (Committed m digest bit) → ⊥
+ended-not-open n m x digest bit e = absurd cc
+
+module _ (f : Fields) (k : Kept) (image place size : ℕ) (hasher : Sha256) (bit : Bool) (s t : Told) (fitting : Fitting f) (sound : SessionSound f)
+    (knows : Knows f s)
+    (invalid : IsTrue (is_invalid (state_at f.meta.meta (target f))))
+    (within : image < length f.layout.rows) (room : blocks_needed f.layout * 4096 ≤ length s.now) (was : part_at f.session image ≡ Open size hasher)
+    (commits : CommitsPart f.session image place bit k)
+    (finishes : Finishes {T = Unit {0}} (Ok tt) (start f.layout (target f) image) size (rest_of f image) s t) where
+  abbrev g : Fields
+  g = with_session f k f.rests
+
+  abbrev first : ℕ
+  first = start f.layout (target f) image
+
+  fits : size ≤ slot_bytes f.layout image
+  fits = omega (arith, ap size_of was, slot-room f fitting sound image within)
+
+  stays : StaysKnown f image s t
+  stays = stays-known f image s t fitting sound knows invalid within room
+      (keeps_wider (4096 * first + done_of size) (4096 * (first + blocks_for size)) (4096 * first) (4096 * first + slot_bytes f.layout image) s t
+      (omega arith) (omega (arith, fits)) finishes.keeps)
+
+  part : (digest : List ℕ) × (part_at k image ≡ Committed size digest bit)
+  part = ended size hasher bit (part_at k image) (subst (λ (p : Part). CommitsTo p (part_at k image) bit) was commits.part)
+
+  image-same : staged_bytes g t.now image ≡ staged_bytes f s.now image
+  image-same =
+      ap (λ (p : Part). part_bytes first p (rest_of f image) t.now) part.1 ∙ finishes.written
+      ∙ ap (λ (p : Part). part_bytes first p (rest_of f image) s.now) (sym was)
+
+  others-same : (other : ℕ) → other ≢ image → other < length f.layout.rows → staged_bytes g t.now other ≡ staged_bytes f s.now other
+  others-same other ne lt = ap (λ (p : Part). part_bytes (start f.layout (target f) other) p (rest_of f other) t.now) (commits.others other ne)
+      ∙ stays.others other ne lt
+
+  pub committed-bytes : (other : ℕ) → other < length f.layout.rows → staged_bytes g t.now other ≡ staged_bytes f s.now other
+  committed-bytes other lt = elim (cases_eq other image) [
+    | inl same ↦ subst (λ (j : ℕ). staged_bytes g t.now j ≡ staged_bytes f s.now j) (sym same) image-same
+    | inr ne ↦ others-same other ne lt
+  ]
+
+  pub committed-state : state_in g t.now ≡ state_in f s.now
+  committed-state = stays.state_is
+
+  rows-same : length k.rows ≡ length f.layout.rows
+  rows-same = ap (λ (l : List ImageRow). length l) (commits.rows ∙ fitting.rows)
+
+  within-kept : image < length f.session.rows
+  within-kept = omega (arith, within, ap (λ (l : List ImageRow). length l) fitting.rows)
+
+  pub committed-means : MeansSame k (staged_bytes f s.now) (staged_bytes g t.now)
+  committed-means i lt = ap (part_meant (part_at k i)) (committed-bytes i (omega (arith, lt, rows-same)))
+
+  kept-after : IsKept k (staged_bytes g t.now)
+  kept-after =
+      kept-same k (staged_bytes f s.now) (staged_bytes g t.now) (omega (arith, within, rows-same)) committed-means
+      (kept-committed f.session k image place bit (staged_bytes f s.now) knows.staged.kept within-kept commits)
+
+  pub committed-knows : Knows g t
+  committed-knows = known-again f k f.rests image s t knows stays commits.staging (record {
+    kept = kept-after;
+    ahead = λ other n h lt is. elim (cases_eq other image) [
+      | inl same ↦ absurd (ended-not-open n size h part.0 bit (sym is ∙ ap (λ (j : ℕ). part_at k j) same ∙ part.1))
+      | inr ne ↦ stays.ahead other n h ne lt (sym (commits.others other ne) ∙ is)
+    ];
+    sure = λ other n d b lt is. quiet_fresh _ _ t finishes.stable;
+  })
+
+-- what ending an image leaves of the others, at any exit
+pub finish-stays : {T : Type 0} (result : Result T FlashStop) (f : Fields) (image size : ℕ) (s t : Told) → Fitting f → SessionSound f → Knows f s
+    → IsTrue (is_invalid (state_at f.meta.meta (target f)))
+    → image < length f.layout.rows → blocks_needed f.layout * 4096 ≤ length s.now → size ≤ slot_bytes f.layout image
+    → Finishes result (start f.layout (target f) image) size (rest_of f image) s t → StaysKnown f image s t
+finish-stays result f image size s t fitting sound knows invalid within room fits finishes =
+    let first : ℕ = start f.layout (target f) image in
+    stays-known f image s t fitting sound knows invalid within room
+    (keeps_wider (4096 * first + done_of size) (4096 * (first + blocks_for size)) (4096 * first) (4096 * first + slot_bytes f.layout image) s t
+    (omega arith) (omega (arith, fits)) finishes.keeps)

@@ -1,0 +1,207 @@
+-- The staging has ended, and its package is active: what the agent knows afterwards.
+use Rattle.std.proofs.Common.{◌≡◌, ◌≢◌, inr, ℕ, ◌+◌, ◌<◌, Bool, true, false, List, [], ◌∷◌, length, get_or, map, Option, Some, Ok, refl, sym, ap, ap₂, ◌∙◌, subst, arith, IsTrue, get_or-set_other, set}
+use Rattle.std.proofs.Math.Nat.{mod-lt}
+use Rattle.std.specs.List.{range_with_len}
+use Rattle.std.specs.Prelude.{is_some}
+use Rattle.flash_core.specs.Told.{Told}
+use Rattle.sha2.specs.declared.Sha256.{Sha256}
+use Rattle.fwu_formats.specs.declared.kinds.BankState.TheVariants.{Invalid}
+use Rattle.fwu_formats.specs.Layout.{ImageRow, Layout}
+use Rattle.fwu_formats.specs.Metadata.{Meta, MetaRead, state_at, fits_meta}
+use Rattle.fwu_formats.specs.Image.{package_in}
+use Rattle.fwu_formats.proofs.SealLaws.{limits}
+use Rattle.fwu_model.specs.Replica.{BothHold, in_version}
+use Rattle.fwu_model.specs.State.{State, Bank, Switch, bank, no_bank, update_bank, after, is_invalid, state_by}
+use Rattle.fwu_model.specs.MoveMetas.{meta_after, meta_in}
+use Rattle.fwu_model.specs.Answer.{held_package, committed_bit, staged_bits}
+use Rattle.fwu_model.proofs.Banks.{next-other}
+use Rattle.meta_layout.proofs.Fits.{MetaFits, meta-fits}
+use Rattle.marks_core.specs.Marks.{Clears}
+use Rattle.replicas.specs.Stores.{Stores}
+use Rattle.moves.specs.Moved.{IsShown}
+use Rattle.moves.specs.StoreLaw.{EndsBy}
+use Rattle.moves.proofs.Fitting.{fits-switch}
+use Rattle.moves.proofs.SamePackages.{package-same}
+use Rattle.agent_kept.specs.declared.parts.Part.{Part}
+use Rattle.agent_kept.specs.declared.parts.Part.TheVariants.{Nothing, Open, Committed}
+use Rattle.agent_kept.specs.declared.parts.Handle.{Handle}
+use Rattle.agent_kept.specs.declared.parts.Handle.TheVariants.{Free, Reads}
+use Rattle.agent_kept.specs.Kept.{Kept, Restarts, handle_kept, part_at, part_meant, parts_meant}
+use Rattle.agent_kept.proofs.After.{kept-restarted}
+use Rattle.agent_kept.proofs.Installable.{map-twice}
+use Rattle.agent_kept.proofs.Sounds.{frees}
+use Rattle.agent_state.specs.Decides.{next_bank}
+use Rattle.agent_state.specs.Settles.{bit_kept, bits_kept}
+use Rattle.agent_state.proofs.Collected.{bits-count}
+use Rattle.agent_state.proofs.Machine.{next-is}
+use Rattle.agent_machine.specs.Fields.{Fields}
+use Rattle.agent_machine.specs.Machine.{state_in, staged_bytes}
+use Rattle.agent_machine.specs.Carries.{MeansSame}
+use Rattle.agent_machine.specs.Knows.{Fitting, Knows}
+use Rattle.agent_machine.proofs.Known.{state-held}
+
+-- ---- the bits
+
+bit-meant : (p : Part) (bytes : List ℕ) → bit_kept p ≡ committed_bit (part_meant p bytes)
+bit-meant Nothing bytes = refl
+bit-meant (Open size hasher) bytes = refl
+bit-meant (Committed size digest bit) bytes = refl
+
+map-same : (f g : ℕ → Bool) (xs : List ℕ) → ((i : ℕ) → f i ≡ g i) → map f xs ≡ map g xs
+map-same f g [] same = refl
+map-same f g (x ∷ xs) same = ap₂ (λ (a : Bool) (l : List Bool). a ∷ l) (same x) (map-same f g xs same)
+
+bits-meant : (k : Kept) (staged : ℕ → List ℕ) → bits_kept k ≡ staged_bits (parts_meant k staged)
+bits-meant k staged =
+    map-twice bit_kept (part_at k) (range_with_len 0 (length k.rows))
+    ∙ map-same (λ (i : ℕ). bit_kept (part_at k i)) (λ (i : ℕ). committed_bit (part_meant (part_at k i) (staged i))) (range_with_len 0 (length k.rows))
+    (λ i. bit-meant (part_at k i) (staged i))
+    ∙ sym (map-twice committed_bit (λ (i : ℕ). part_meant (part_at k i) (staged i)) (range_with_len 0 (length k.rows)))
+
+-- the metadata that is stored, in the words of a state that the fields speak of
+pub stored-is : (f : Fields) (st : State) (staged : ℕ → List ℕ) (p : List (List ℕ)) → f.meta.meta ≡ meta_in st
+    → meta_after f.meta.meta (Switch (next_bank f.meta.meta) [] (bits_kept f.session)) ≡ meta_after (meta_in st)
+    (Switch (update_bank st) p (staged_bits (parts_meant f.session staged)))
+stored-is f st staged p is =
+    ap₂ (λ (m : Meta) (b : ℕ). meta_after m (Switch b [] (bits_kept f.session))) is (next-is st f.meta is)
+    ∙ ap (λ (l : List Bool). meta_after (meta_in st) (Switch (update_bank st) [] l)) (bits-meant f.session staged)
+
+-- ---- nothing is staged any more
+
+module _ (f : Fields) (k : Kept) (meta : MetaRead) (fitting : Fitting f) (restarts : Restarts false f.session k)
+    (is : meta ≡ record f.meta { meta = meta_after f.meta.meta (Switch (next_bank f.meta.meta) [] (bits_kept f.session)) }) where
+  abbrev L : Layout
+  L = f.layout
+
+  abbrev m : Meta
+  m = f.meta.meta
+
+  abbrev g : Fields
+  g = record f { meta = meta; session = k; trials = 0 }
+
+  idle : k.staging ≡ true → ⊥
+  idle on = not-both (sym restarts.staging_is ∙ on)
+    where
+      not-both : false ≡ true → ⊥
+      not-both e = absurd cc
+
+  not-reading : (place : ℕ) (image : Option ℕ) (at total : ℕ) → handle_kept k place ≡ Reads image at total → ⊥
+  not-reading place image at total e = free-reads (sym (ap (λ (hs : List Handle). get_or hs place Free) restarts.closed ∙ frees 32 place) ∙ e)
+    where
+      free-reads : Free ≡ Reads image at total → ⊥
+      free-reads e = absurd cc
+
+  whole : MetaFits L m
+  whole = meta-fits L m fitting.meta
+
+  meta-is-new : meta.meta ≡ meta_after m (Switch (next_bank m) [] (bits_kept f.session))
+  meta-is-new = ap (λ (r : MetaRead). r.meta) is
+
+  next-below : next_bank m < L.banks
+  next-below = let lt = mod-lt (m.active + 1) {m = length m.states} (omega (arith, whole.active, whole.states)) in omega (arith, lt, whole.states)
+
+  pub ended-fitting : Fitting g
+  ended-fitting = record {
+    layout = fitting.layout;
+    meta = subst (λ (x : Meta). IsTrue (fits_meta L x)) (sym meta-is-new)
+        (fits-switch L m fitting.meta (next_bank m) [] (bits_kept f.session) next-below
+        (bits-count f.session ∙ ap (λ (l : List ImageRow). length l) fitting.rows));
+    boot = fitting.boot;
+    rows = restarts.rows ∙ fitting.rows;
+    lengths = fitting.lengths;
+    within = fitting.within;
+    rests = fitting.rests;
+    active = λ on. absurd (idle on);
+    free = λ on. absurd (idle on);
+    idle = λ off. restarts.nothing;
+    readers = λ place image at total e. absurd (not-reading place image at total e);
+    readable = λ place image at total e. absurd (not-reading place (Some image) at total e);
+  }
+
+  -- the bank that was started is another one than the one switched to
+  boot-other : (st : State) → m ≡ meta_in st → f.session.staging ≡ true → f.boot ≢ update_bank st
+  boot-other st at staging e =
+      let other = next-other (length m.states) m.active (omega (arith, whole.states, (limits L fitting.layout).fewest_banks))
+      (omega (arith, whole.active, whole.states)) in
+      other (next-is st f.meta at ∙ sym e ∙ fitting.active staging)
+
+  pub ended-held : (st : State) (new : Bank) → m ≡ meta_in st → f.session.staging ≡ true
+      → (get_or (set st.banks (update_bank st) new) f.boot no_bank).held ≡ (bank st f.boot).held
+  ended-held st new at staging = ap (λ (b : Bank). b.held) (get_or-set_other st.banks (update_bank st) f.boot new no_bank (boot-other st at staging))
+
+  -- ---- where content is told
+
+  module _ (s mid t : Told) (knows : Knows f s) (staging : f.session.staging ≡ true) (state-meta : meta_in (state_in f s.now) ≡ m) (p : List (List ℕ))
+      (ends : EndsBy L (state_in f s.now) p (staged_bits (parts_meant f.session (staged_bytes f s.now))) s)
+      (clears : Clears {T = Unit {0}} (Ok tt) 3 s mid) (stores : Stores {T = Unit {0}} (Ok tt) L meta.meta mid t) where
+    abbrev state : State
+    state = state_in f s.now
+
+    abbrev bits : List Bool
+    bits = staged_bits (parts_meant f.session (staged_bytes f s.now))
+
+    abbrev next : State
+    next = after state (Switch (update_bank state) p bits ∷ [])
+
+    new-is : meta.meta ≡ meta_after (meta_in state) (Switch (update_bank state) p bits)
+    new-is = meta-is-new ∙ stored-is f state (staged_bytes f s.now) p (sym state-meta)
+
+    seen : IsShown L t.now next
+    seen = ends.shows (Ok tt) mid t clears (subst (λ (x : Meta). Stores {T = Unit {0}} (Ok tt) L x mid t) new-is stores)
+
+    form-two : meta.form ≡ 2
+    form-two = ap (λ (r : MetaRead). r.form) is ∙ knows.version
+
+    both : BothHold L meta t.now
+    both = subst (λ (n : ℕ). BothHold L (in_version n meta.meta) t.now) (sym form-two) stores.both
+
+    pub ended-state : state_in g t.now ≡ next
+    ended-state = state-held L t.now meta next seen both
+
+    held-same : package_in L t.now f.boot ≡ package_in L s.now f.boot
+    held-same =
+        package-same L t.now mid.now f.boot stores.writes.keeps.size (λ place above below. stores.writes.keeps.now place (inr (omega (arith, above))))
+        ∙ package-same L mid.now s.now f.boot clears.keeps.size (λ place above below. clears.keeps.now place (inr (omega (arith, above))))
+
+    used-same : is_invalid (state_at meta.meta f.boot) ≡ is_invalid (state_at m f.boot)
+    used-same =
+        ap (λ (x : Meta). is_invalid (state_at x f.boot)) new-is
+        ∙ ap is_invalid (get_or-set_other (meta_in state).states (update_bank state) f.boot (state_by bits) Invalid (boot-other state (sym state-meta) staging))
+        ∙ ap (λ (x : Meta). is_invalid (state_at x f.boot)) state-meta
+
+    not-open : (i n : ℕ) (hasher : Sha256) → part_at k i ≡ Open n hasher → ⊥
+    not-open i n hasher e = nothing-open (sym (restarts.nothing i) ∙ e)
+      where
+        nothing-open : ◌≡◌ {A = Part} Nothing (Open n hasher) → ⊥
+        nothing-open e = absurd cc
+
+    not-committed : (i n : ℕ) (digest : List ℕ) (bit : Bool) → part_at k i ≡ Committed n digest bit → ⊥
+    not-committed i n digest bit e = nothing-committed (sym (restarts.nothing i) ∙ e)
+      where
+        nothing-committed : ◌≡◌ {A = Part} Nothing (Committed n digest bit) → ⊥
+        nothing-committed e = absurd cc
+
+    -- nothing is staged, whatever the bytes are
+    pub ended-means : MeansSame k (staged_bytes f s.now) (staged_bytes g t.now)
+    ended-means i lt = nothing (part_at k i) (restarts.nothing i)
+      where
+        nothing : (q : Part) → q ≡ Nothing → part_meant q (staged_bytes g t.now i) ≡ part_meant q (staged_bytes f s.now i)
+        nothing q e = ap (λ (x : Part). part_meant x (staged_bytes g t.now i)) e ∙ sym (ap (λ (x : Part). part_meant x (staged_bytes f s.now i)) e)
+
+    pub ended-knows : Knows g t
+    ended-knows = record {
+      layout_is = seen.layout;
+      both = both;
+      version = form-two;
+      used = used-same ∙ knows.used;
+      accepted = λ on. absurd (idle on);
+      counter_is = knows.counter_is ∙ sym (ap (λ (x : State). x.counter) ended-state);
+      trials_are = sym (ap (λ (x : State). x.trials) ended-state);
+      held = ap is_some held-same ∙ knows.held;
+      lengths_are = knows.lengths_are ∙ ap (λ (o : Option (List (List ℕ))). map (λ (bytes : List ℕ). length bytes) (held_package o)) (sym held-same);
+      staged = record {
+        kept = kept-restarted false f.session k (staged_bytes g t.now) restarts;
+        ahead = λ i n hasher lt e. absurd (not-open i n hasher e);
+        sure = λ i n digest bit lt e. absurd (not-committed i n digest bit e);
+      };
+    }

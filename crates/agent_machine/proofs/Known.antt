@@ -1,0 +1,41 @@
+-- What the agent knows is what its flash shows.
+use Rattle.std.proofs.Common.{◌≡◌, ℕ, List, Option, Some, refl, sym, ap, ◌∙◌}
+use Rattle.base_core.specs.Block.{block}
+use Rattle.flash_core.specs.Told.{Told}
+use Rattle.flash_core.specs.May.{Guards}
+use Rattle.fwu_formats.specs.Layout.{Layout}
+use Rattle.fwu_formats.specs.Metadata.{MetaRead, meta_read}
+use Rattle.fwu_formats.specs.Image.{deciding, first_some}
+use Rattle.fwu_model.specs.Replica.{BothHold}
+use Rattle.fwu_model.specs.State.{State}
+use Rattle.fwu_model.specs.Sound.{Setting}
+use Rattle.fwu_model.specs.Seen.{state_of}
+use Rattle.fwu_model.specs.Calm.{IsCalm}
+use Rattle.moves.specs.Moved.{IsReady, IsShown}
+use Rattle.moves.proofs.Agree.{shown-as, shown-by}
+use Rattle.agent_machine.specs.Fields.{Fields}
+use Rattle.agent_machine.specs.Machine.{state_in}
+use Rattle.agent_machine.specs.Knows.{Knows}
+
+pub both-decides : (L : Layout) (image : List ℕ) (r : MetaRead) → BothHold L r image → deciding L image ≡ Some r
+unfolding deciding
+both-decides L image r both = ap (λ (x : Option MetaRead). first_some x (meta_read L (block 2 image))) both.zero
+
+pub known-shown : (f : Fields) (t : Told) → Knows f t → IsShown f.layout t.now (state_in f t.now)
+known-shown f t knows = shown-as f.layout t.now f.meta (state_in f t.now) knows.layout_is (both-decides f.layout t.now f.meta knows.both) refl
+
+pub state-held : (L : Layout) (image : List ℕ) (r : MetaRead) (s : State) → IsShown L image s → BothHold L r image → state_of L image r ≡ s
+state-held L image r s shown both = shown-by L image s shown r (both-decides L image r both)
+
+pub known-ready : (E : Setting) (f : Fields) (t : Told) → E.layout ≡ f.layout → Knows f t → IsCalm E t (state_in f t.now) → Guards 1 7 t → IsReady E t (state_in f t.now)
+known-ready E f t same knows calm guards = record {
+  calm = calm;
+  guarded = guards;
+  one = λ r is.
+      let at : deciding f.layout t.now ≡ Some r = ap (λ (l : Layout). deciding l t.now) (sym same) ∙ is in
+      let e : r ≡ f.meta = some-is r f.meta (sym at ∙ both-decides f.layout t.now f.meta knows.both) in
+      ap (λ (l : Layout). meta_read l (block 2 t.now)) same ∙ knows.both.one ∙ ap Some (sym e);
+}
+  where
+    some-is : (x y : MetaRead) → ◌≡◌ {A = Option MetaRead} (Some x) (Some y) → x ≡ y
+    some-is x y e = cc

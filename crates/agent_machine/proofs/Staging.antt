@@ -1,0 +1,171 @@
+-- Writes in the slot of a staged image: the state, the other images and what is known of them stay.
+use Rattle.std.proofs.Common.{◌≡◌, ◌≢◌, ◌⊎◌, inl, inr, ℕ, zero, suc, ◌+◌, ◌*◌, ◌%◌, ◌<◌, ◌≤◌, Bool, List, [], ◌∷◌, ◌++◌, length, get_or, take, drop, Option, refl, sym, ap, ◌∙◌, subst, arith, IsTrue}
+use Rattle.std.proofs.lemmas.Bool.{cases_lt}
+use Rattle.std.proofs.lemmas.List.{length-take, length-drop, get_or-take, get_or-drop, get_or_default, same_lists}
+use Rattle.flash_core.specs.Told.{Told}
+use Rattle.flash_core.specs.May.{Guards, Keeps}
+use Rattle.flash_core.proofs.Calls.{keeps_wider}
+use Rattle.fwu_formats.specs.Layout.{ImageRow, Layout, start, slot_total, slot_bytes, blocks_needed}
+use Rattle.fwu_formats.specs.Metadata.{state_at}
+use Rattle.fwu_formats.specs.Image.{package_in}
+use Rattle.fwu_model.specs.Replica.{BothHold}
+use Rattle.fwu_model.specs.State.{State, bank, is_invalid}
+use Rattle.fwu_model.specs.Sound.{Setting}
+use Rattle.fwu_model.specs.Calm.{IsCalm}
+use Rattle.moves.specs.Moved.{IsReady, IsShown}
+use Rattle.moves.proofs.Agree.{state-is}
+use Rattle.std.proofs.Math.Nat.{mod-lt}
+use Rattle.moves.proofs.Read.{deciding-fits}
+use Rattle.moves.proofs.Beside.{both-beside}
+use Rattle.moves.proofs.SamePackages.{package-same, slots-fit}
+use Rattle.moves.proofs.Staged.{staged-shows, staged-ready, staged-rest, banks-order}
+use Rattle.std.proofs.lemmas.List.Sums.{sum_by-cons}
+use Rattle.slot_writer.specs.Slots.{done_of}
+use Rattle.agent_kept.specs.declared.parts.Part.{Part}
+use Rattle.agent_kept.specs.declared.parts.Part.TheVariants.{Nothing, Open, Committed}
+use Rattle.agent_kept.specs.Kept.{part_at, size_of, slot_of}
+use Rattle.agent_machine.specs.Fields.{Fields, target, rest_of}
+use Rattle.agent_machine.specs.Machine.{state_in, part_bytes}
+use Rattle.agent_machine.specs.Knows.{Fitting, SessionSound, Knows}
+use Rattle.agent_machine.specs.Law.{StaysKnown}
+use Rattle.agent_machine.proofs.Known.{both-decides, known-shown, known-ready, state-held}
+
+slots-order : (rows : List ImageRow) (i j : ℕ) → i < j → slot_total (take i rows) + (get_or rows i (record { guid = []; slots = 0 })).slots ≤ slot_total (take j rows)
+slots-order [] zero j lt = omega arith
+slots-order [] (suc i) j lt = omega arith
+slots-order (r ∷ rows) i zero lt = absurd (omega (arith, lt))
+slots-order (r ∷ rows) zero (suc j) lt = omega (arith, sum_by-cons (λ (x : ImageRow). x.slots) r (take j rows))
+slots-order (r ∷ rows) (suc i) (suc j) lt = omega (arith, sum_by-cons (λ (x : ImageRow). x.slots) r (take i rows), sum_by-cons (λ (x : ImageRow). x.slots) r (take j rows), slots-order rows i j (omega (arith, lt)))
+
+module _ (f : Fields) (image : ℕ) (s t : Told) (fitting : Fitting f) (sound : SessionSound f) (knows : Knows f s) (invalid : IsTrue (is_invalid (state_at f.meta.meta (target f)))) (within : image < length f.layout.rows) (room : blocks_needed f.layout * 4096 ≤ length s.now)
+    (keeps : Keeps (4096 * start f.layout (target f) image) (4096 * start f.layout (target f) image + slot_bytes f.layout image) s t) where
+  abbrev L : Layout
+  L = f.layout
+
+  abbrev u : ℕ
+  u = target f
+
+  abbrev state : State
+  state = state_in f s.now
+
+  abbrev low : ℕ
+  low = 4096 * start L u image
+
+  abbrev high : ℕ
+  high = 4096 * start L u image + slot_bytes L image
+
+  -- a staged image is within its slot
+  in-slot : (other : ℕ) → other < length L.rows → size_of (part_at f.session other) ≤ slot_bytes L other
+  in-slot other lt =
+      let count : length f.session.rows ≡ length L.rows = ap (λ (l : List ImageRow). length l) fitting.rows in
+      let slot : slot_of f.session.rows other ≡ slot_bytes L other = ap (λ (l : List ImageRow). slot_of l other) fitting.rows in
+      omega (arith, sound.sizes other (omega (arith, count, lt)), slot)
+
+  below : u < L.banks
+  below =
+      let active = (deciding-fits L s.now f.meta (both-decides L s.now f.meta knows.both)).active in
+      mod-lt (f.meta.meta.active + 1) (omega (arith, active))
+
+  -- within the bank
+  in-bank : Keeps (4096 * start L u 0) (4096 * start L (u + 1) 0) s t
+  in-bank =
+      let fits = slots-fit L.rows image in
+      let next : (u + 1) * slot_total L.rows ≡ u * slot_total L.rows + slot_total L.rows = grind arith in
+      keeps_wider low high (4096 * start L u 0) (4096 * start L (u + 1) 0) s t (omega arith) (omega (arith, fits, next)) keeps
+
+  shown : IsShown L s.now state
+  shown = known-shown f s knows
+
+  free : IsTrue (is_invalid (bank state u).state)
+  free = ap is_invalid (state-is L s.now f.meta state refl u below) ∙ invalid
+
+  shown-after : IsShown L t.now state
+  shown-after = staged-shows L s t state u free in-bank shown
+
+  both-after : BothHold L f.meta t.now
+  both-after = both-beside L f.meta (4096 * start L u 0) (4096 * start L (u + 1) 0) s t (omega arith) in-bank knows.both
+
+  apart-bank : f.boot ≢ u
+  apart-bank e = let is : IsTrue (is_invalid (state_at f.meta.meta f.boot)) = subst (λ (b : ℕ). IsTrue (is_invalid (state_at f.meta.meta b))) (sym e) invalid in let used = knows.used in cc
+
+  held-after : package_in L t.now f.boot ≡ package_in L s.now f.boot
+  held-after = package-same L t.now s.now f.boot in-bank.size (λ place above under. in-bank.now place (outside place above under))
+    where
+      outside : (place : ℕ) → 4096 * start L f.boot 0 ≤ place → place < 4096 * start L (f.boot + 1) 0 → (place < 4096 * start L u 0) ⊎ (4096 * start L (u + 1) 0 ≤ place)
+      outside place above under = elim (cases_lt f.boot u) [
+        | inl before ↦ let order = banks-order L f.boot u before in inl (omega (arith, order, under))
+        | inr other ↦ elim (cases_lt u f.boot) [
+          | inl behind ↦ let order = banks-order L u f.boot behind in inr (omega (arith, order, above))
+          | inr same ↦ let e : f.boot ≡ u = omega (arith, other, same) in absurd (apart-bank e)
+        ]
+      ]
+
+  -- slots of a bank follow one another
+  module _ (other : ℕ) (not : other ≢ image) (there : other < length L.rows) where
+    abbrev from : ℕ
+    from = 4096 * start L u other
+
+    abbrev to : ℕ
+    to = 4096 * start L u other + slot_bytes L other
+
+    beside : (to ≤ low) ⊎ (high ≤ from)
+    beside = elim (cases_lt other image) [
+      | inl before ↦ let order = slots-order L.rows other image before in inl (omega (arith, order))
+      | inr more ↦ let order = slots-order L.rows image other (omega (arith, more, not)) in inr (omega (arith, order))
+    ]
+
+    outside : (i : ℕ) → from ≤ i → i < to → (i < low) ⊎ (high ≤ i)
+    outside i above under = elim beside [
+      | inl before ↦ inl (omega (arith, before, under))
+      | inr behind ↦ inr (omega (arith, behind, above))
+    ]
+
+    within-flash : to ≤ length s.now
+    within-flash =
+        let fits = slots-fit L.rows other in
+        let lt = below in
+        let next : (u + 1) * slot_total L.rows ≡ u * slot_total L.rows + slot_total L.rows = grind arith in
+        let most : (u + 1) * slot_total L.rows ≤ L.banks * slot_total L.rows = grind arith in
+        omega (arith, fits, next, most, room)
+
+    front-kept : (n : ℕ) → n ≤ slot_bytes L other → take n (drop from t.now) ≡ take n (drop from s.now)
+    front-kept n le =
+        let size = keeps.size in
+        same_lists (take n (drop from t.now)) (take n (drop from s.now))
+        (omega (arith, length-take n (drop from t.now), length-take n (drop from s.now), length-drop from t.now, length-drop from s.now, size))
+        (λ k d h.
+        let lt : k < n = omega (arith, h, length-take n (drop from t.now)) in
+        get_or-take n (drop from t.now) k d lt ∙ get_or-drop from t.now k d ∙ get_or_default t.now (from + k) d 0 (omega (arith, lt, le, size, within-flash))
+        ∙ keeps.now (from + k) (outside (from + k) (omega arith) (omega (arith, lt, le)))
+        ∙ get_or_default s.now (from + k) 0 d (omega (arith, lt, le, within-flash)) ∙ sym (get_or-drop from s.now k d) ∙ sym (get_or-take n (drop from s.now) k d lt))
+
+    part-kept : (p : Part) (rest : List ℕ) → size_of p ≤ slot_bytes L other → part_bytes (start L u other) p rest t.now ≡ part_bytes (start L u other) p rest s.now
+    part-kept Nothing rest le = refl
+    part-kept (Open size hasher) rest le = ap (λ (l : List ℕ). l ++ take (size % 16) rest) (front-kept (done_of size) (omega (arith, le)))
+    part-kept (Committed size digest bit) rest le = front-kept size le
+
+  abbrev of-layout : (List ℕ → Option (List ℕ)) → (List ℕ → Bool) → Setting
+  of-layout files passes = record { layout = L; files = files; passes = passes }
+
+  ready-here : (files : List ℕ → Option (List ℕ)) (passes : List ℕ → Bool) → IsCalm (of-layout files passes) s state → Guards 1 7 s → IsReady (of-layout files passes) t state
+  ready-here files passes calm guards = let E = of-layout files passes in staged-ready E s t state u (known-ready E f s refl knows calm guards) free in-bank
+
+  ready-after : (E : Setting) → E.layout ≡ L → IsCalm E s state → Guards 1 7 s → IsReady E t state
+  ready-after E same calm guards =
+      let path : of-layout E.files E.passes ≡ E = ap (λ (l : Layout). record { layout = l; files = E.files; passes = E.passes }) (sym same) in
+      subst (λ (e : Setting). IsReady e t state) path (ready-here E.files E.passes (subst (λ (e : Setting). IsCalm e s state) (sym path) calm) guards)
+
+  pub stays-known : StaysKnown f image s t
+  stays-known = record {
+    state_is = state-held L t.now f.meta state shown-after both-after;
+    layout_is = shown-after.layout;
+    both = both-after;
+    held = held-after;
+    others = λ other not there. part-kept other not there (part_at f.session other) (rest_of f other) (in-slot other there);
+    ahead = λ other size hasher not there is i above under.
+        let le : size ≤ slot_bytes L other = omega (arith, ap size_of is, in-slot other there) in
+        keeps.now i (outside other not there i (omega (arith, above)) (omega (arith, under, le))) ∙ knows.staged.ahead other size hasher there is i above under;
+    sure = λ other size digest bit not there is i above under. keeps.sure i (outside other not there i above under) (knows.staged.sure other size digest bit there is i above under);
+    ready = ready-after;
+    rests = λ rest. staged-rest L s t state u shown rest free in-bank;
+  }

@@ -1,0 +1,162 @@
+-- What is decided of a begin, an accept or a previous: the plan may be carried out, and the machine's answer is its.
+use Rattle.std.proofs.Common.{◌≡◌, ℕ, Bool, true, false, not, cond, ◌<◌, List, [], ◌∷◌, length, Option, Some, None, refl, sym, ap, ◌∙◌, subst, arith, IsTrue}
+use Rattle.std.proofs.Math.Logic.{∥∥₁_elim}
+use Rattle.std.specs.Coded.{Coded-set, coded_ℕ, coded_bool}
+use Rattle.flash_core.specs.Told.{Told}
+use Rattle.fwu_formats.specs.Layout.{ImageRow}
+use Rattle.fwu_formats.specs.Metadata.{state_at}
+use Rattle.fwu_model.specs.declared.kinds.Status.{Status}
+use Rattle.fwu_model.specs.State.{State, Move, Free, bank, is_invalid, update_bank}
+use Rattle.fwu_model.specs.Sound.{Setting}
+use Rattle.fwu_model.specs.Session.{Session, Staged, Handle, On}
+use Rattle.fwu_model.specs.Call.{Call}
+use Rattle.fwu_model.specs.Call as call
+use Rattle.fwu_model.specs.Reply.{Success}
+use Rattle.fwu_model.specs.Answer.{answer, answered, refused}
+use Rattle.agent_kept.specs.declared.kinds.Request.{Request}
+use Rattle.agent_kept.specs.declared.kinds.Request.TheVariants as request
+use Rattle.agent_kept.specs.declared.kinds.Plan.{Plan}
+use Rattle.agent_kept.specs.declared.kinds.Plan.TheVariants as plan
+use Rattle.agent_kept.specs.declared.kinds.Decision.{Decision}
+use Rattle.agent_kept.specs.declared.kinds.Decision.TheVariants as decision
+use Rattle.agent_kept.specs.Kept.{Kept, session_meant, staging_meant, handles_meant, parts_meant}
+use Rattle.agent_kept.specs.Plans.{call_of, planned, planned_in, FitsRequest, DecidesAs}
+use Rattle.agent_state.specs.Decides.{Decides, cannot_begin_kept}
+use Rattle.agent_state.proofs.Machine.{state-is, active-is, cannot-is}
+use Rattle.agent_machine.specs.Fields.{Fields, target}
+use Rattle.agent_machine.specs.Knows.{Fitting, SessionSound, SomeStaged}
+use Rattle.agent_machine.specs.Meets.{IsSettingOf}
+use Rattle.agent_machine.specs.Moment.{Moment, Shows, Showing}
+use Rattle.agent_machine.specs.Stored.{MayBegin, MayAccept, frees}
+use Rattle.agent_machine.proofs.Answered.{shown-speaks}
+use Rattle.agent_machine.proofs.Showing.{shows-some}
+use Rattle.agent_machine.proofs.StoredAnswers.{Begins, begins, accepts, is_accept, accept-other}
+use Rattle.agent_machine.proofs.StoredMeets.{AnswersBy}
+use Rattle.agent_machine.proofs.StoredShows.{target-is}
+
+-- ---- what a decision says of each machine that is shown
+
+module _ (m : Moment) (fitting : Fitting m.fields) (sound : SessionSound m.fields) (passes : List ℕ → Bool) (r : Request) (fits : (E : Setting) (s : State) → FitsRequest E s m.fields.boot r []) where
+  abbrev f : Fields
+  f = m.fields
+
+  abbrev Decided : Decision → Type 0
+  Decided d = Decides passes f.meta f.counter f.session f.boot r d
+
+  pub decided-of : (d : Decision) → Decided d → (E : Setting) (s : State) (x : Session) → IsSettingOf f passes E → Shows m s x → DecidesAs E s x (call_of r []) [] d
+  decided-of d decides E s x setting shows =
+      subst (λ (y : Session). DecidesAs E s y (call_of r []) [] d) (sym shows.means)
+      (decides E s shows.staged [] (shown-speaks f fitting sound E s passes shows.staged setting shows.speaks shows.kept) (fits E s))
+
+  pub refused-of : (st : Status) → Decided (decision.Refused st) → (E : Setting) (s : State) (x : Session) → IsSettingOf f passes E → Shows m s x → answer E s x (call_of r []) ≡ refused st x
+  refused-of st decides E s x setting shows = decided-of (decision.Refused st) decides E s x setting shows
+
+  pub planned-of : (p : Plan) → Decided (decision.Do p) → (E : Setting) (s : State) (x : Session) → IsSettingOf f passes E → Shows m s x → answer E s x (call_of r []) ≡ planned_in E s x [] p
+  planned-of p decides E s x setting shows = decided-of (decision.Do p) decides E s x setting shows
+
+-- ---- what is shown is a session that is on
+
+abbrev On-of : Fields → (ℕ → List ℕ) → Session
+On-of f staged = On f.boot (staging_meant f.session staged) (handles_meant f.session)
+
+-- some machine is shown: a fact of numbers that holds of each holds
+module _ (f : Fields) (t : Told) (fitting : Fitting f) (some : ∥ SomeStaged f.session ∥₁) where
+  abbrev dark : Moment
+  dark = record { tells = false; told = t; fields = f }
+
+  shown-once : ∥ Showing dark ∥₁
+  shown-once = shows-some f fitting false t (λ is. absurd (let e : false ≡ true = is in cc)) some
+
+  pub bools-alike : (a b : Bool) → ((s : State) (x : Session) → Shows dark s x → a ≡ b) → a ≡ b
+  bools-alike a b each = ∥∥₁_elim shown-once (Coded-set coded_bool a b) (λ (w : Showing dark). each w.state w.session w.shows)
+
+  pub numbers-alike : (a b : ℕ) → ((s : State) (x : Session) → Shows dark s x → a ≡ b) → a ≡ b
+  numbers-alike a b each = ∥∥₁_elim shown-once (Coded-set coded_ℕ a b) (λ (w : Showing dark). each w.state w.session w.shows)
+
+abbrev pub plain-of : Fields → (List ℕ → Bool) → Setting
+plain-of f passes = record { layout = f.layout; files = λ _. None; passes = passes }
+
+abbrev moment-of : Bool → Told → Fields → Moment
+moment-of tells t f = record { tells = tells; told = t; fields = f }
+
+-- ---- both succeed
+
+begin-succeeds : (E : Setting) (s : State) (boot : ℕ) (stg : Option (List Staged)) (hs : List Handle) (store : Bool) → (planned E s boot stg hs [] (plan.Begin store)).reply ≡ Success
+unfolding planned
+begin-succeeds E s boot stg hs store = refl
+
+accept-succeeds : (E : Setting) (s : State) (boot : ℕ) (stg : Option (List Staged)) (hs : List Handle) (image : ℕ) (store : Bool) → (planned E s boot stg hs [] (plan.Accept image store)).reply ≡ Success
+unfolding planned
+accept-succeeds E s boot stg hs image store = refl
+
+-- ---- begin
+
+module _ (f : Fields) (fitting : Fitting f) (sound : SessionSound f) (passes : List ℕ → Bool) (flags n : ℕ) (p : Plan) (decides : Decides passes f.meta f.counter f.session f.boot (request.Begin flags n) (decision.Do p)) where
+  module _ (tells : Bool) (t : Told) where
+    begins-as : (E : Setting) (s : State) (x : Session) → IsSettingOf f passes E → (shows : Shows (moment-of tells t f) s x) → Begins E s f.boot (staging_meant f.session shows.staged) (handles_meant f.session) n p
+    begins-as E s x setting shows =
+        begins E s f.boot (staging_meant f.session shows.staged) (handles_meant f.session) n p
+        (subst (λ (y : Session). answer E s y (call.Begin n) ≡ planned_in E s y [] p) shows.means (planned-of (moment-of tells t f) fitting sound passes (request.Begin flags n) (λ e y. tt) p decides E s x setting shows))
+
+    -- the machine's answer is that of the plan to begin
+    pub begin-answers : (E : Setting) (s : State) (x : Session) → IsSettingOf f passes E → Shows (moment-of tells t f) s x → AnswersBy E s x (call.Begin n) (plan.Begin (frees p))
+    begin-answers E s x setting shows = subst (λ (y : Session). AnswersBy E s y (call.Begin n) (plan.Begin (frees p))) (sym shows.means) (record {
+      is = (begins-as E s x setting shows).is;
+      reply = begin-succeeds E s f.boot (staging_meant f.session shows.staged) (handles_meant f.session) (frees p);
+      may = tt;
+    })
+
+  -- the update bank is invalid where nothing is freed
+  free-by : (b c : Bool) (u : ℕ) → c ≡ false → cond b [] (Free u ∷ []) ≡ cond c (Free u ∷ []) [] → IsTrue b
+  free-by true c u off e = refl
+  free-by false true u off e = absurd cc
+  free-by false false u off e = absurd (let h : ◌≡◌ {A = List Move} (Free u ∷ []) [] = e in cc)
+
+  -- and the plan to begin may be carried out
+  pub begin-may : Told → ∥ SomeStaged f.session ∥₁ → MayBegin f (frees p)
+  begin-may t some = record {
+    begins = bools-alike f t fitting some (cannot_begin_kept f.meta.meta f.session f.boot) false (λ s x shows.
+        cannot-is s f.meta shows.speaks.meta f.session f.boot shows.staged ∙ (begins-as false t (plain-of f passes) s x (record { layout = refl; verifier = refl }) shows).can);
+    free = λ off. bools-alike f t fitting some (is_invalid (state_at f.meta.meta (target f))) true (λ s x shows.
+        ap is_invalid (ap (state_at f.meta.meta) (target-is f s shows.speaks fitting) ∙ state-is s f.meta shows.speaks.meta (update_bank s))
+        ∙ free-by (is_invalid (bank s (update_bank s)).state) (frees p) (update_bank s) off (begins-as false t (plain-of f passes) s x (record { layout = refl; verifier = refl }) shows).moves);
+  }
+
+-- ---- accept
+
+module _ (f : Fields) (fitting : Fitting f) (sound : SessionSound f) (passes : List ℕ → Bool) (guid : List ℕ) (p : Plan) (decides : Decides passes f.meta f.counter f.session f.boot (request.Accept guid) (decision.Do p)) where
+  module _ (tells : Bool) (t : Told) where
+    accept-planned : (E : Setting) (s : State) (x : Session) → IsSettingOf f passes E → (shows : Shows (moment-of tells t f) s x)
+        → answer E s (session_meant f.session f.boot shows.staged) (call.Accepts guid) ≡ planned E s f.boot (staging_meant f.session shows.staged) (handles_meant f.session) [] p
+    accept-planned E s x setting shows =
+        subst (λ (y : Session). answer E s y (call.Accepts guid) ≡ planned_in E s y [] p) shows.means (planned-of (moment-of tells t f) fitting sound passes (request.Accept guid) (λ e y. tt) p decides E s x setting shows)
+
+    -- a plan to accept is the machine's answer
+    pub accept-answers : (E : Setting) (s : State) (x : Session) → IsSettingOf f passes E → Shows (moment-of tells t f) s x → (image : ℕ) (store : Bool) → p ≡ plan.Accept image store → AnswersBy E s x (call.Accepts guid) (plan.Accept image store)
+    accept-answers E s x setting shows image store is = subst (λ (y : Session). AnswersBy E s y (call.Accepts guid) (plan.Accept image store)) (sym shows.means) (record {
+      is = accept-planned E s x setting shows ∙ ap (planned E s f.boot (staging_meant f.session shows.staged) (handles_meant f.session) []) is;
+      reply = accept-succeeds E s f.boot (staging_meant f.session shows.staged) (handles_meant f.session) image store;
+      may = tt;
+    })
+
+    -- and any other plan changes nothing
+    pub accept-idle : (E : Setting) (s : State) (x : Session) → IsSettingOf f passes E → Shows (moment-of tells t f) s x → is_accept p ≡ false → answer E s x (call.Accepts guid) ≡ answered Success [] x
+    accept-idle E s x setting shows not =
+        subst (λ (y : Session). answer E s y (call.Accepts guid) ≡ answered Success [] y) (sym shows.means)
+        (accept-other E s f.boot (staging_meant f.session shows.staged) (handles_meant f.session) guid p not (accept-planned E s x setting shows))
+
+  no-staging : (k : Kept) (staged : ℕ → List ℕ) → staging_meant k staged ≡ None → k.staging ≡ false
+  no-staging k staged none = by k.staging none
+    where
+      by : (b : Bool) → cond b (Some (parts_meant k staged)) None ≡ None → b ≡ false
+      by true e = absurd cc
+      by false e = refl
+
+  pub accept-may : Told → ∥ SomeStaged f.session ∥₁ → (image : ℕ) → image < length f.session.rows → MayAccept f image
+  accept-may t some image within = record {
+    idle = bools-alike f t fitting some f.session.staging false (λ s x shows.
+        no-staging f.session shows.staged (accepts (plain-of f passes) s f.boot (staging_meant f.session shows.staged) (handles_meant f.session) guid p (accept-planned false t (plain-of f passes) s x (record { layout = refl; verifier = refl }) shows)).idle);
+    booted = numbers-alike f t fitting some f.boot f.meta.meta.active (λ s x shows.
+        (accepts (plain-of f passes) s f.boot (staging_meant f.session shows.staged) (handles_meant f.session) guid p (accept-planned false t (plain-of f passes) s x (record { layout = refl; verifier = refl }) shows)).booted ∙ sym (active-is s f.meta shows.speaks.meta));
+    within = omega (arith, within, ap (λ (l : List ImageRow). length l) fitting.rows);
+  }

@@ -1,0 +1,254 @@
+-- The machine that is shown after the plan of a begin, an accept or a previous, and what its store is to the machine.
+use Rattle.std.proofs.Common.{◌≡◌, ◌≢◌, ℕ, ◌+◌, ◌%◌, Bool, true, false, cond, List, [], ◌∷◌, length, set, take, map, Option, Ok, Err, refl, sym, ap, ap₂, ◌∙◌, subst, IsTrue, get_or-set_other, length-set}
+use Rattle.std.specs.Prelude.{OnOk, is_ok}
+use Rattle.flash_core.specs.Told.{Told}
+use Rattle.fwu_formats.specs.Layout.{Layout}
+use Rattle.fwu_formats.specs.Metadata.{Meta}
+use Rattle.fwu_model.specs.State.{State, Bank, Move, Free, Accept, Back, bank, no_bank, update_bank, freed, with_bit, all_set, after}
+use Rattle.fwu_model.specs.Sound.{Setting, holds_permitted}
+use Rattle.fwu_model.specs.Session as machine
+use Rattle.fwu_model.specs.Session.{Session, Staged}
+use Rattle.fwu_model.specs.Answer.{held_package}
+use Rattle.fwu_model.specs.MoveMetas.{meta_in, meta_after, bits_in}
+use Rattle.fwu_model.specs.Calm.{IsAtRest}
+use Rattle.moves.specs.Moved.{IsReady, Does, GuardedBy}
+use Rattle.moves.specs.Law.{Done}
+use Rattle.moves.proofs.Agree.{bank-count}
+use Rattle.moves.proofs.Composed.{does-nothing}
+use Rattle.replicas.specs.Stores.{Stores}
+use Rattle.agent_kept.specs.declared.kinds.Plan.{Plan}
+use Rattle.agent_kept.specs.declared.kinds.Plan.TheVariants as plan
+use Rattle.agent_kept.specs.Kept.{Kept, Restarts, session_meant, handles_meant}
+use Rattle.agent_kept.specs.Plans.{Speaks, planned, planned_in}
+use Rattle.agent_kept.proofs.Sounds.{restarts-staging}
+use Rattle.agent_state.specs.Decides.{next_bank}
+use Rattle.agent_state.specs.Settles.{HasTotal, Settles, staged_after}
+use Rattle.agent_state.proofs.Machine.{next-is, active-is, bits-is, is-idle}
+use Rattle.agent_state.proofs.Moved.{held-accepted}
+use Rattle.agent_machine.specs.Fields.{Fields, target}
+use Rattle.agent_machine.specs.Machine.{state_in, staged_bytes}
+use Rattle.agent_machine.specs.Knows.{Fitting, Knows}
+use Rattle.agent_machine.specs.Law.{StoreMeets}
+use Rattle.agent_machine.specs.Moment.{Moment, Shows, SpeaksOf}
+use Rattle.agent_machine.specs.Stored.{MayBegin, MayAccept, MayGoBack, MayBeDone, CarriesOut}
+use Rattle.agent_machine.proofs.Moving.{stores-meet}
+use Rattle.agent_machine.proofs.Stored.{after_plan, next-target, target-other, begin-booted, bits-after}
+use Rattle.agent_machine.proofs.StoredKnown.{state-after, begin-accepted, begun-shows, accepting-used, accepted-shows, back-accepted, back-shows}
+
+-- ---- what is spoken of after each plan, in any state
+
+-- another state with the bank that was started as it was
+speaks-still : (f g : Fields) (s t : State) → SpeaksOf f s → g.layout ≡ f.layout → g.lengths ≡ f.lengths → g.boot ≡ f.boot → length t.banks ≡ length s.banks → g.meta.meta ≡ meta_in t → t.form ≡ g.meta.form → g.counter ≡ t.counter → g.trials ≡ t.trials
+    → (bank t f.boot).held ≡ (bank s f.boot).held → SpeaksOf g t
+speaks-still f g s t of layout lengths boot banks meta form counter trials held = record {
+  banks = banks ∙ of.banks ∙ ap (λ (l : Layout). l.banks) (sym layout);
+  meta = meta;
+  form = form;
+  counter_is = counter;
+  trials_are = trials;
+  lengths_are =
+      ap₂ (λ (n : ℕ) (ls : List ℕ). take n ls) (ap (λ (l : Layout). length l.rows) layout) lengths
+      ∙ of.lengths_are ∙ ap (λ (o : Option (List (List ℕ))). map (λ (bytes : List ℕ). length bytes) (held_package o)) (sym held)
+      ∙ ap (λ (b : ℕ). map (λ (bytes : List ℕ). length bytes) (held_package (bank t b).held)) (sym boot);
+}
+
+module _ (f : Fields) (s : State) (of : SpeaksOf f s) (fitting : Fitting f) where
+  -- the update bank of the state
+  pub target-is : target f ≡ update_bank s
+  target-is = sym (next-target f fitting) ∙ next-is s f.meta of.meta
+
+  begun-speaks : (k : Kept) → MayBegin f true → (after_plan f (plan.Begin true) k).meta.meta ≡ meta_in (after s (Free (update_bank s) ∷ [])) → SpeaksOf (after_plan f (plan.Begin true) k) (after s (Free (update_bank s) ∷ []))
+  begun-speaks k may meta =
+      let u = update_bank s in
+      let apart : f.boot ≢ u = λ e. target-other f fitting (target-is ∙ sym e ∙ begin-booted f fitting true may) in
+      speaks-still f (after_plan f (plan.Begin true) k) s (after s (Free u ∷ [])) of refl refl refl (length-set s.banks u (freed (bank s u))) meta of.form of.counter_is of.trials_are
+      (ap (λ (b : Bank). b.held) (get_or-set_other s.banks u f.boot (freed (bank s u)) no_bank apart))
+
+  restarted-speaks : (k : Kept) → SpeaksOf (after_plan f (plan.Begin false) k) s
+  restarted-speaks k = record { banks = of.banks; meta = of.meta; form = of.form; counter_is = of.counter_is; trials_are = of.trials_are; lengths_are = of.lengths_are }
+
+  accepted-speaks : (image : ℕ) → (after_plan f (plan.Accept image true) f.session).meta.meta ≡ meta_in (after s (Accept image ∷ [])) → SpeaksOf (after_plan f (plan.Accept image true) f.session) (after s (Accept image ∷ []))
+  accepted-speaks image meta =
+      let m = f.meta.meta in
+      let bits : bits_in (meta_after m (Accept image)) m.active ≡ (with_bit (bank s s.active) image).bits =
+      bits-after f fitting image ∙ ap (λ (l : List Bool). set l image true) (ap (bits_in m) (active-is s f.meta of.meta) ∙ bits-is s f.meta of.meta s.active) in
+      speaks-still f (after_plan f (plan.Accept image true) f.session) s (after s (Accept image ∷ [])) of refl refl refl (length-set s.banks s.active (with_bit (bank s s.active) image)) meta of.form of.counter_is
+      (ap₂ (λ (l : List Bool) (n : ℕ). cond (all_set l) 0 n) bits of.trials_are)
+      (held-accepted s image f.boot)
+
+  back-speaks : (after_plan f plan.Back f.session).meta.meta ≡ meta_in (after s (Back ∷ [])) → SpeaksOf (after_plan f plan.Back f.session) (after s (Back ∷ []))
+  back-speaks meta = speaks-still f (after_plan f plan.Back f.session) s (after s (Back ∷ [])) of refl refl refl refl meta of.form of.counter_is refl refl
+
+-- ---- a plan carried out, by its parts
+
+module _ (tells : Bool) (f : Fields) (s t : Told) (result : Done) (p : Plan) (k : Kept) where
+  abbrev pub old : Moment
+  old = record { tells = tells; told = s; fields = f }
+
+  abbrev pub new : Moment
+  new = record { tells = tells; told = t; fields = after_plan f p k }
+
+  abbrev pub SpeaksWell : Type 0
+  SpeaksWell = (E : Setting) (x : State) (y : Session) → E.layout ≡ f.layout → (shows : Shows old x y) → Speaks E x E.passes f.meta f.counter f.session f.boot shows.staged
+
+  -- what the moves of the plan are from a state
+  abbrev pub planned_from : Setting → State → (ℕ → List ℕ) → List Move
+  planned_from E x staged = (planned_in E x (session_meant f.session f.boot staged) [] p).moves
+
+  pub record Parts : Type 0 where
+    pub total : (E : Setting) (x : State) → HasTotal E x f.boot p
+    pub settles : Settles f.session f.meta [] p (after_plan f p k).meta k
+    pub speaks : (E : Setting) (x : State) (staged : ℕ → List ℕ) → SpeaksOf f x → (after_plan f p k).meta.meta ≡ meta_in (after x (planned_from E x staged)) → SpeaksOf (after_plan f p k) (after x (planned_from E x staged))
+    -- the session that is meant has no byte of the flash
+    pub session : (a b : ℕ → List ℕ) → session_meant k f.boot a ≡ session_meant k f.boot b
+    pub state : (E : Setting) (staged : ℕ → List ℕ) → IsTrue tells → IsTrue (is_ok result) → after (state_in f s.now) (planned_from E (state_in f s.now) staged) ≡ state_in (after_plan f p k) t.now
+    pub does : (E : Setting) (staged : ℕ → List ℕ) → E.layout ≡ f.layout → IsTrue tells → MayBeDone E (state_in f s.now) p → IsReady E s (state_in f s.now) → Does result E (state_in f s.now) (planned_from E (state_in f s.now) staged) t
+    pub guarded : IsTrue tells → IsAtRest s → GuardedBy result t
+
+  module _ (speaks : SpeaksWell) (parts : Parts) where
+    shows-next : (E : Setting) (x : State) (y : Session) → E.layout ≡ f.layout → Shows old x y → IsTrue (is_ok result) → Shows new (after x (planned_in E x y [] p).moves) (planned_in E x y [] p).next
+    shows-next E x y same shows ok =
+        let si = parts.settles E x E.passes f.counter f.boot shows.staged (speaks E x y same shows) (parts.total E x) in
+        subst (λ (z : Session). Shows new (after x (planned_in E x z [] p).moves) (planned_in E x z [] p).next) (sym shows.means) (record {
+          told = λ is.
+              let here = (shows.told is).0 in (
+                subst (λ (z : State). after z (planned_from E z shows.staged) ≡ state_in (after_plan f p k) t.now) (sym here) (parts.state E shows.staged is ok),
+                sym si.next ∙ parts.session (staged_after p [] shows.staged) (staged_bytes (after_plan f p k) t.now),
+              );
+          speaks = parts.speaks E x shows.staged shows.speaks si.spoken.meta;
+          staged = staged_after p [] shows.staged;
+          kept = si.spoken.kept;
+          means = sym si.next;
+        })
+
+    by-result : (r : Done) (P : Type 0) → (IsTrue (is_ok r) → P) → OnOk r P
+    by-result (Ok x) P h = h refl
+    by-result (Err stop) P h = tt
+
+    pub carried : CarriesOut result p old new
+    carried = record {
+      shows = λ E x y same shows. by-result result _ (shows-next E x y same shows);
+      does = λ E x y same shows may is ready.
+          let here = (shows.told is).0 in
+          subst (λ (z : Session). Does result E x (planned_in E x z [] p).moves t) (sym shows.means)
+          (subst (λ (z : State). Does result E z (planned_from E z shows.staged) t) (sym here)
+          (parts.does E shows.staged same is (subst (λ (z : State). MayBeDone E z p) here may) (subst (IsReady E s) here ready)));
+      guarded = parts.guarded;
+      stays = record { tells = refl; layout = refl; boot = refl };
+    }
+
+-- ---- each plan
+
+-- outside a staging no image is meant
+idle-session : (k : Kept) (boot : ℕ) (a b : ℕ → List ℕ) → k.staging ≡ false → session_meant k boot a ≡ session_meant k boot b
+idle-session k boot a b off = ap (λ (o : Option (List Staged)). machine.On boot o (handles_meant k)) (is-idle k a off ∙ sym (is-idle k b off))
+
+done-is : (result : Done) → IsTrue (is_ok result) → result ≡ Ok tt
+done-is (Ok x) h = refl
+done-is (Err stop) h = absurd cc
+
+module _ (tells : Bool) (f : Fields) (s t : Told) (result : Done) (fitting : Fitting f) (knows : IsTrue tells → Knows f s) where
+  abbrev m : Meta
+  m = f.meta.meta
+
+  -- the bank that the state frees
+  freed-bank : IsTrue tells → update_bank (state_in f s.now) ≡ target f
+  freed-bank is = ap (λ (n : ℕ). (m.active + 1) % n) (bank-count f.layout s.now f.meta (state_in f s.now) refl)
+
+  begun-stores : MayBegin f true → IsTrue tells → Stores result f.layout (meta_after m (Free (next_bank m))) s t → StoreMeets result f (λ E. Unit {0}) (Free (target f)) s t
+  begun-stores may is stores =
+      (stores-meet result f s t fitting (knows is)).free (begin-accepted f s t fitting (knows is) true may) (subst (λ (b : ℕ). Stores result f.layout (meta_after m (Free b)) s t) (next-target f fitting) stores)
+
+  pub begun-parts : (k : Kept) → MayBegin f true → Restarts true f.session k → Settles f.session f.meta [] (plan.Begin true) (after_plan f (plan.Begin true) k).meta k
+      → (IsTrue tells → Stores result f.layout (meta_after m (Free (next_bank m))) s t) → Parts tells f s t result (plan.Begin true) k
+  unfolding planned
+  begun-parts k may restarts settles stores = record {
+    total = λ E x. tt;
+    settles = settles;
+    speaks = λ E x staged of meta. begun-speaks f x of fitting k may meta;
+    session = λ a b. restarts-staging k f.boot a restarts.nothing restarts.staging_is restarts.closed ∙ sym (restarts-staging k f.boot b restarts.nothing restarts.staging_is restarts.closed);
+    state = λ E staged is ok.
+        let done = subst (λ (r : Done). Stores r f.layout (meta_after m (Free (next_bank m))) s t) (done-is result ok) (stores is) in
+        ap (λ (b : ℕ). after (state_in f s.now) (Free b ∷ [])) (freed-bank is)
+        ∙ sym (state-after f s t (knows is) (meta_after m (Free (next_bank m))) k f.trials (Free (target f)) done (begun-shows f s t fitting (knows is) may done));
+    does = λ E staged same is may_be ready.
+        subst (λ (b : ℕ). Does result E (state_in f s.now) (Free b ∷ []) t) (sym (freed-bank is)) ((begun-stores may is (stores is)).does E same tt ready.calm ready.guarded);
+    guarded = λ is rest. (begun-stores may is (stores is)).guarded rest;
+  }
+
+  -- where nothing is stored
+  same-ready : (E : Setting) (x : State) → IsTrue (is_ok result) × (t ≡ s) → IsReady E s x → Does result E x [] t
+  same-ready E x still ready = does-nothing result E x t (subst (λ (u : Told). IsReady E u x) (sym still.1) ready)
+
+  same-guarded : IsTrue (is_ok result) × (t ≡ s) → IsAtRest s → GuardedBy result t
+  same-guarded still rest = subst (λ (r : Done). GuardedBy r t) (sym (done-is result still.0)) (subst IsAtRest (sym still.1) rest)
+
+  same-state : IsTrue (is_ok result) × (t ≡ s) → state_in f s.now ≡ state_in f t.now
+  same-state still = ap (λ (u : Told). state_in f u.now) (sym still.1)
+
+  pub restarted-parts : (k : Kept) → Restarts true f.session k → Settles f.session f.meta [] (plan.Begin false) (after_plan f (plan.Begin false) k).meta k
+      → (IsTrue tells → IsTrue (is_ok result) × (t ≡ s)) → Parts tells f s t result (plan.Begin false) k
+  unfolding planned
+  restarted-parts k restarts settles still = record {
+    total = λ E x. tt;
+    settles = settles;
+    speaks = λ E x staged of meta. restarted-speaks f x of fitting k;
+    session = λ a b. restarts-staging k f.boot a restarts.nothing restarts.staging_is restarts.closed ∙ sym (restarts-staging k f.boot b restarts.nothing restarts.staging_is restarts.closed);
+    state = λ E staged is ok. same-state (still is);
+    does = λ E staged same is may ready. same-ready E (state_in f s.now) (still is) ready;
+    guarded = λ is rest. same-guarded (still is) rest;
+  }
+
+  -- ---- accept
+
+  accept-stores : (image : ℕ) → MayAccept f image → IsTrue tells → Stores result f.layout (meta_after m (Accept image)) s t → StoreMeets result f (λ E. Unit {0}) (Accept image) s t
+  accept-stores image may is stores = (stores-meet result f s t fitting (knows is)).accept image (accepting-used f s t fitting (knows is) image may) stores
+
+  pub accepted-parts : (image : ℕ) → MayAccept f image → Settles f.session f.meta [] (plan.Accept image true) (after_plan f (plan.Accept image true) f.session).meta f.session
+      → (IsTrue tells → Stores result f.layout (meta_after m (Accept image)) s t) → Parts tells f s t result (plan.Accept image true) f.session
+  unfolding planned
+  accepted-parts image may settles stores = record {
+    total = λ E x. tt;
+    settles = settles;
+    speaks = λ E x staged of meta. accepted-speaks f x of fitting image meta;
+    session = λ a b. idle-session f.session f.boot a b may.idle;
+    state = λ E staged is ok.
+        let done = subst (λ (r : Done). Stores r f.layout (meta_after m (Accept image)) s t) (done-is result ok) (stores is) in
+        sym (state-after f s t (knows is) (meta_after m (Accept image)) f.session (after_plan f (plan.Accept image true) f.session).trials (Accept image) done (accepted-shows f s t fitting (knows is) image may done));
+    does = λ E staged same is may_be ready. (accept-stores image may is (stores is)).does E same tt ready.calm ready.guarded;
+    guarded = λ is rest. (accept-stores image may is (stores is)).guarded rest;
+  }
+
+  pub unchanged-parts : (image : ℕ) → MayAccept f image → Settles f.session f.meta [] (plan.Accept image false) f.meta f.session
+      → (IsTrue tells → IsTrue (is_ok result) × (t ≡ s)) → Parts tells f s t result (plan.Accept image false) f.session
+  unfolding planned
+  unchanged-parts image may settles still = record {
+    total = λ E x. tt;
+    settles = settles;
+    speaks = λ E x staged of meta. of;
+    session = λ a b. idle-session f.session f.boot a b may.idle;
+    state = λ E staged is ok. same-state (still is);
+    does = λ E staged same is may_be ready. same-ready E (state_in f s.now) (still is) ready;
+    guarded = λ is rest. same-guarded (still is) rest;
+  }
+
+  -- ---- previous
+
+  back-stores : MayGoBack f → IsTrue tells → Stores result f.layout (meta_after m Back) s t
+      → StoreMeets result f (λ E. IsTrue (holds_permitted E (state_in f s.now).counter (bank (state_in f s.now) (state_in f s.now).previous).held)) Back s t
+  back-stores may is stores = (stores-meet result f s t fitting (knows is)).back (back-accepted f s t fitting (knows is) may) stores
+
+  pub back-parts : MayGoBack f → Settles f.session f.meta [] plan.Back (after_plan f plan.Back f.session).meta f.session
+      → (IsTrue tells → Stores result f.layout (meta_after m Back) s t) → Parts tells f s t result plan.Back f.session
+  unfolding planned
+  back-parts may settles stores = record {
+    total = λ E x. tt;
+    settles = settles;
+    speaks = λ E x staged of meta. back-speaks f x of fitting meta;
+    session = λ a b. idle-session f.session f.boot a b may.idle;
+    state = λ E staged is ok.
+        let done = subst (λ (r : Done). Stores r f.layout (meta_after m Back) s t) (done-is result ok) (stores is) in
+        sym (state-after f s t (knows is) (meta_after m Back) f.session 0 Back done (back-shows f s t fitting (knows is) may done));
+    does = λ E staged same is may_be ready. (back-stores may is (stores is)).does E same may_be ready.calm ready.guarded;
+    guarded = λ is rest. (back-stores may is (stores is)).guarded rest;
+  }

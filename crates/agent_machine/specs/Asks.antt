@@ -1,0 +1,64 @@
+-- Which requests ask a verifier, and which plans need the flash.
+use Rattle.std.specs.Prelude.{ℕ, List, Bool, true, false, Some, None, Result, Ok, Err}
+use Rattle.fwu_model.specs.declared.kinds.Status.{Status}
+use Rattle.agent_kept.specs.declared.kinds.Request.{Request}
+use Rattle.agent_kept.specs.declared.kinds.Request.TheVariants as request
+use Rattle.agent_kept.specs.declared.kinds.Plan.{Plan}
+use Rattle.agent_kept.specs.declared.kinds.Plan.TheVariants as plan
+use Rattle.agent_kept.specs.declared.kinds.Decision.TheVariants.{Do, Refused}
+use Rattle.agent_state.specs.Decides.{Decides}
+use Rattle.agent_state.specs.Settles.{IsPlanOf}
+use Rattle.agent_machine.specs.Fields.{Fields}
+
+-- no verifier is asked
+abbrev pub IsPlain : Request → Type 0
+IsPlain request.Discover = Unit {0}
+IsPlain (request.Begin flags n) = Unit {0}
+IsPlain (request.Open guid o total) = Unit {0}
+IsPlain (request.Write h n) = Unit {0}
+IsPlain (request.Read h room) = Unit {0}
+IsPlain (request.Commit h req most) = Unit {0}
+IsPlain request.End = ⊥
+IsPlain request.Cancel = Unit {0}
+IsPlain (request.Accept guid) = Unit {0}
+IsPlain request.Previous = ⊥
+
+-- Nothing of a plan is done on the flash: what is kept changes alone.
+abbrev pub IsQuiet : Plan → Type 0
+IsQuiet plan.Tell = Unit {0}
+IsQuiet (plan.Begin true) = ⊥
+IsQuiet (plan.Begin false) = Unit {0}
+IsQuiet (plan.Open h image o total) = Unit {0}
+IsQuiet (plan.Write h image at n) = ⊥
+IsQuiet (plan.Read h image at n total) = Unit {0}
+IsQuiet (plan.Commit h None bit) = Unit {0}
+IsQuiet (plan.Commit h (Some image) bit) = ⊥
+IsQuiet plan.End = ⊥
+IsQuiet plan.Cancel = Unit {0}
+IsQuiet (plan.Accept image true) = ⊥
+IsQuiet (plan.Accept image false) = Unit {0}
+IsQuiet plan.Back = ⊥
+
+-- the plan for a request, or its refusal, is what is decided of it
+abbrev pub PlansAs : (List ℕ → Bool) → Fields → Request → Result Plan Status → Type 0
+PlansAs passes f r (Ok p) = Decides passes f.meta f.counter f.session f.boot r (Do p)
+PlansAs passes f r (Err st) = Decides passes f.meta f.counter f.session f.boot r (Refused st)
+
+-- a plan is of what is kept
+abbrev pub IsPlannedIn : Fields → Result Plan Status → Type 0
+IsPlannedIn f (Ok p) = IsPlanOf f.session p
+IsPlannedIn f (Err st) = Unit {0}
+
+-- the plan is of the request's own kind
+abbrev pub IsOwnPlan : Request → Plan → Type 0
+IsOwnPlan request.Discover plan.Tell = Unit {0}
+IsOwnPlan (request.Begin flags count) (plan.Begin store) = Unit {0}
+IsOwnPlan (request.Open guid o size) (plan.Open h image p total) = Unit {0}
+IsOwnPlan (request.Write h m) (plan.Write number image at n) = Unit {0}
+IsOwnPlan (request.Read h room) (plan.Read number image at n total) = Unit {0}
+IsOwnPlan (request.Commit h req most) (plan.Commit number image bit) = Unit {0}
+IsOwnPlan request.End plan.End = Unit {0}
+IsOwnPlan request.Cancel plan.Cancel = Unit {0}
+IsOwnPlan (request.Accept guid) (plan.Accept image store) = Unit {0}
+IsOwnPlan request.Previous plan.Back = Unit {0}
+IsOwnPlan r p = ⊥

@@ -1,0 +1,12 @@
+pub mod Fields
+pub mod Machine
+pub mod Moment
+pub mod Meets
+pub mod Goes
+pub mod Knows
+pub mod Carries
+pub mod Asks
+pub mod Law
+pub mod Ends
+pub mod Stored
+pub mod Directory

@@ -1,0 +1,26 @@
+-- The machine of an agent: the state that its flash shows, and the session that its fields and the flash say together.
+use Rattle.std.specs.Prelude.{ℕ, ◌*◌, List, [], drop, take}
+use Rattle.fwu_formats.specs.Layout.{start}
+use Rattle.fwu_model.specs.State.{State}
+use Rattle.fwu_model.specs.Session.{Session}
+use Rattle.fwu_model.specs.Seen.{state_of}
+use Rattle.slot_writer.specs.Slots.{bytes_in}
+use Rattle.agent_kept.specs.declared.parts.Part.{Part}
+use Rattle.agent_kept.specs.declared.parts.Part.TheVariants.{Nothing, Open, Committed}
+use Rattle.agent_kept.specs.Kept.{part_at, session_meant}
+use Rattle.agent_machine.specs.Fields.{Fields, target, rest_of}
+
+-- the bytes of a staged image whose slot begins at a block
+abbrev pub part_bytes : ℕ → Part → List ℕ → List ℕ → List ℕ
+part_bytes first Nothing rest now = []
+part_bytes first (Open size hasher) rest now = bytes_in first size rest now
+part_bytes first (Committed size digest bit) rest now = take size (drop (4096 * first) now)
+
+abbrev pub staged_bytes : Fields → List ℕ → ℕ → List ℕ
+staged_bytes f now image = part_bytes (start f.layout (target f) image) (part_at f.session image) (rest_of f image) now
+
+abbrev pub session_in : Fields → List ℕ → Session
+session_in f now = session_meant f.session f.boot (staged_bytes f now)
+
+abbrev pub state_in : Fields → List ℕ → State
+state_in f now = state_of f.layout now f.meta
