@@ -18,11 +18,13 @@ use Rattle.agent_machine.proofs.Answered.{leaves-nothing}
 use Rattle.agent_calls.specs.declared.telling.Discovery.{Discovery}
 use Rattle.agent_calls.specs.Told.{state_kept}
 
-discovered : (E : Setting) (s : State) (boot : ℕ) (stg : Option (List Staged)) (hs : List Handle) → answer E s (On boot stg hs) call.Discover ≡ answered (reply.Discovered (agent_state s stg)) [] (On boot stg hs)
+discovered : (E : Setting) (s : State) (boot : ℕ) (stg : Option (List Staged)) (hs : List Handle)
+    → answer E s (On boot stg hs) call.Discover ≡ answered (reply.Discovered (agent_state s stg)) [] (On boot stg hs)
 unfolding answer
 discovered E s boot stg hs = refl
 
-state-by : (s : State) (v staging : Bool) (parts : List Staged) → v ≡ is_valid (bank s s.active).state → agent_state s (cond staging (Some parts) None) ≡ cond staging Staging (cond v Trial Regular)
+state-by : (s : State) (v staging : Bool) (parts : List Staged) → v ≡ is_valid (bank s s.active).state
+    → agent_state s (cond staging (Some parts) None) ≡ cond staging Staging (cond v Trial Regular)
 state-by s v true parts e = refl
 state-by s v false parts e = ap (λ (b : Bool). cond b Trial Regular) (sym e)
 
@@ -31,11 +33,14 @@ module _ (m : Moment) where
   answer-is E s x shows =
       let f : Fields = m.fields in
       let stg = staging_meant f.session shows.staged in
-      let state : agent_state s stg ≡ state_kept f = state-by s (is_valid (state_at f.meta.meta f.meta.meta.active)) f.session.staging (parts_meant f.session shows.staged) (valid-is s f.meta shows.speaks.meta) in
+      let state : agent_state s stg ≡ state_kept f = state-by s (is_valid (state_at f.meta.meta f.meta.meta.active)) f.session.staging
+      (parts_meant f.session shows.staged) (valid-is s f.meta shows.speaks.meta) in
       subst (λ (y : Session). answer E s y call.Discover ≡ answered (reply.Discovered (state_kept f)) [] y) (sym shows.means)
-      (discovered E s f.boot stg (handles_meant f.session) ∙ ap (λ (a : AgentState). answered (reply.Discovered a) [] (On f.boot stg (handles_meant f.session))) state)
+      (discovered E s f.boot stg (handles_meant f.session)
+      ∙ ap (λ (a : AgentState). answered (reply.Discovered a) [] (On f.boot stg (handles_meant f.session))) state)
 
-  pub tells-state : (passes : List ℕ → Bool) (d : Discovery) → d.state ≡ state_kept m.fields → Meets {T = Discovery} (λ told answer. answer ≡ reply.Discovered told.state) (Ok d) passes call.Discover m m
+  pub tells-state : (passes : List ℕ → Bool) (d : Discovery) → d.state ≡ state_kept m.fields
+      → Meets {T = Discovery} (λ told answer. answer ≡ reply.Discovered told.state) (Ok d) passes call.Discover m m
   tells-state passes d is = record {
     exact = λ E s x setting shows.
         let at = answer-is E s x shows in

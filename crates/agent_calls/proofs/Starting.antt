@@ -53,11 +53,13 @@ nothing-kept k nothing staged = record {
 pub starts-some : (k : Kept) → HasNothing k → ∥ SomeStaged k ∥₁
 starts-some k nothing = ∣ record { staged = λ i. []; kept = nothing-kept k nothing (λ i. []) } ∣₁
 
-module _ (f : Fields) (rows : f.session.rows ≡ f.layout.rows) (nothing : HasNothing f.session) (idle : f.session.staging ≡ false) (closed : f.session.handles ≡ replicate 32 Free) where
+module _ (f : Fields) (rows : f.session.rows ≡ f.layout.rows) (nothing : HasNothing f.session) (idle : f.session.staging ≡ false)
+    (closed : f.session.handles ≡ replicate 32 Free) where
   free : (place : ℕ) → handle_kept f.session place ≡ Free
   free place = ap (λ (hs : List Handle). get_or hs place Free) closed ∙ frees 32 place
 
-  pub starts-fitting : IsTrue (fits_layout f.layout) → IsTrue (fits_meta f.layout f.meta.meta) → f.boot < f.layout.banks → length f.lengths ≡ 16 → (lengths : List ℕ) → take (length lengths) f.lengths ≡ lengths → length lengths ≡ length f.layout.rows
+  pub starts-fitting : IsTrue (fits_layout f.layout) → IsTrue (fits_meta f.layout f.meta.meta) → f.boot < f.layout.banks → length f.lengths ≡ 16
+      → (lengths : List ℕ) → take (length lengths) f.lengths ≡ lengths → length lengths ≡ length f.layout.rows
       → FitSlots f.layout lengths → length f.rests ≡ 16 → Fitting f
   starts-fitting fits meta below long lengths front count within rests = record {
     layout = fits;
@@ -66,7 +68,8 @@ module _ (f : Fields) (rows : f.session.rows ≡ f.layout.rows) (nothing : HasNo
     rows = rows;
     lengths = long;
     within = λ image lt.
-        let same : get_or f.lengths image 0 ≡ get_or lengths image 0 = sym (get_or-take (length lengths) f.lengths image 0 (omega (arith, lt, count))) ∙ ap (λ (l : List ℕ). get_or l image 0) front in
+        let same : get_or f.lengths image 0 ≡ get_or lengths image 0 = sym (get_or-take (length lengths) f.lengths image 0 (omega (arith, lt, count)))
+        ∙ ap (λ (l : List ℕ). get_or l image 0) front in
         omega (arith, same, within image lt);
     rests = rests;
     active = λ is. absurd (not-both idle is);
@@ -76,7 +79,8 @@ module _ (f : Fields) (rows : f.session.rows ≡ f.layout.rows) (nothing : HasNo
     readable = λ place image at total is. absurd (not-reading (handle_kept f.session place) (Some image) at total (free place) is);
   }
 
-  pub starts-known : (t : Told) (b : Started) → f.layout ≡ b.layout → f.meta ≡ b.meta → f.boot ≡ b.bank → f.trials ≡ b.trials → f.counter ≡ b.counter → take (length b.lengths) f.lengths ≡ b.lengths → length b.lengths ≡ length f.layout.rows
+  pub starts-known : (t : Told) (b : Started) → f.layout ≡ b.layout → f.meta ≡ b.meta → f.boot ≡ b.bank → f.trials ≡ b.trials → f.counter ≡ b.counter
+      → take (length b.lengths) f.lengths ≡ b.lengths → length b.lengths ≡ length f.layout.rows
       → KnowsStarted b t → Knows f t
   starts-known t b layout meta bank trials counter front count started =
       let one = subst (λ (L : Layout). KnowsStarted (record b { layout = L }) t) (sym layout) started in
@@ -100,5 +104,7 @@ module _ (f : Fields) (rows : f.session.rows ≡ f.layout.rows) (nothing : HasNo
       }
 
 -- each machine that is shown has nothing staged, and no handle open
-pub starts-session : (m : Moment) (bank : ℕ) → m.fields.boot ≡ bank → m.fields.session.staging ≡ false → m.fields.session.handles ≡ replicate 32 Free → (s : State) (x : Session) → Shows m s x → x ≡ On bank None no_handles
-starts-session m bank boot idle closed s x shows = shows.means ∙ restarts-idle m.fields.session m.fields.boot shows.staged idle closed ∙ ap (λ (b : ℕ). On b None no_handles) boot
+pub starts-session : (m : Moment) (bank : ℕ) → m.fields.boot ≡ bank → m.fields.session.staging ≡ false → m.fields.session.handles ≡ replicate 32 Free
+    → (s : State) (x : Session) → Shows m s x → x ≡ On bank None no_handles
+starts-session m bank boot idle closed s x shows = shows.means ∙ restarts-idle m.fields.session m.fields.boot shows.staged idle closed
+    ∙ ap (λ (b : ℕ). On b None no_handles) boot

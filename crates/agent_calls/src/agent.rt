@@ -12,7 +12,8 @@ use fwu_model::Status;
 use meta_layout::{Layout, Meta};
 use verify_core::AnyManifest;
 
-/// The agent on a flash whose bank was started. Its calls are those of DEN0118, on one device; none of them takes memory.
+/// The agent on a flash whose bank was started. Its calls are those of DEN0118, on one device; none of
+/// them takes memory.
 #[derive(Drop)]
 pub struct Agent<D: Flash> {
     pub(crate) flash: D,
@@ -27,10 +28,28 @@ pub struct Agent<D: Flash> {
     pub(crate) gone: bool,
     ghost power: { IsFalse gone → IsTrue (D.on flash) },
     ghost inside: { IsFalse gone → blocks_needed layout ≤ D.blocks flash },
-    ghost fitting: { IsFalse gone → Fitting (record { layout = layout; meta = meta; session = kept session; boot = boot; trials = trials; counter = counter; lengths = lengths; rests = rests }) },
+    ghost fitting: { IsFalse gone → Fitting (record {
+      layout = layout;
+      meta = meta;
+      session = kept session;
+      boot = boot;
+      trials = trials;
+      counter = counter;
+      lengths = lengths;
+      rests = rests;
+    }) },
     // some bytes of the staged images fit what is kept
     ghost some: { IsFalse gone → ∥ SomeStaged (kept session) ∥₁ },
-    ghost knows: { IsFalse gone → IsTrue D.tells → Knows (record { layout = layout; meta = meta; session = kept session; boot = boot; trials = trials; counter = counter; lengths = lengths; rests = rests }) (D.told flash) },
+    ghost knows: { IsFalse gone → IsTrue D.tells → Knows (record {
+      layout = layout;
+      meta = meta;
+      session = kept session;
+      boot = boot;
+      trials = trials;
+      counter = counter;
+      lengths = lengths;
+      rests = rests;
+    }) (D.told flash) },
 }
 
 /// What a call answers that the flash stopped.

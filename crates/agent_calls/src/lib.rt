@@ -1,4 +1,5 @@
-//! The update agent on a flash: its calls, each of which is the machine's answer, also where the flash stops it. Nothing here takes memory.
+//! The update agent on a flash: its calls, each of which is the machine's answer, also where the flash
+//! stops it. Nothing here takes memory.
 #![tactic(auto)]
 
 mod accepting;

@@ -53,7 +53,8 @@ use Rattle.agent_machine.specs.Meets.{IsSettingOf, IsStopped, Stays, Leaves, Mee
 abbrev no_row : ImageRow
 no_row = record { guid = []; slots = 0 }
 
-rows-total : (f : ℕ → List ℕ) (from n : ℕ) → ((i : ℕ) → from ≤ i → i < from + n → length (f i) ≡ 32) → length (flat_map f (map (λ (i : ℕ). i) (range_with_len from n))) ≡ 32 * n
+rows-total : (f : ℕ → List ℕ) (from n : ℕ) → ((i : ℕ) → from ≤ i → i < from + n → length (f i) ≡ 32)
+    → length (flat_map f (map (λ (i : ℕ). i) (range_with_len from n))) ≡ 32 * n
 rows-total f from zero each = refl
 rows-total f from (suc n) each =
     let rest = rows-total f (from + 1) n (λ i low high. each i (omega arith) (omega arith)) in
@@ -63,10 +64,12 @@ rows-total f from (suc n) each =
 four-behind : (guid : List ℕ) (a b c d : ℕ) → length (guid ++ le 4 a ++ le 4 b ++ le 4 c ++ le 4 d) ≡ length guid + 16
 four-behind guid a b c d =
     length-append (guid ++ le 4 a ++ le 4 b ++ le 4 c) (le 4 d)
-    ∙ ap (λ (n : ℕ). n + 4) (length-append (guid ++ le 4 a ++ le 4 b) (le 4 c) ∙ ap (λ (n : ℕ). n + 4) (length-append (guid ++ le 4 a) (le 4 b) ∙ ap (λ (n : ℕ). n + 4) (length-append guid (le 4 a))))
+    ∙ ap (λ (n : ℕ). n + 4) (length-append (guid ++ le 4 a ++ le 4 b) (le 4 c)
+    ∙ ap (λ (n : ℕ). n + 4) (length-append (guid ++ le 4 a) (le 4 b) ∙ ap (λ (n : ℕ). n + 4) (length-append guid (le 4 a))))
     ∙ omega arith
 
-pub directory-total : (E : Setting) (s : State) (boot : ℕ) → IsTrue (fits_layout E.layout) → length (directory E s boot) ≡ directory_size (length E.layout.rows)
+pub directory-total : (E : Setting) (s : State) (boot : ℕ) → IsTrue (fits_layout E.layout)
+    → length (directory E s boot) ≡ directory_size (length E.layout.rows)
 unfolding directory
 directory-total E s boot fits =
     let n : ℕ = length E.layout.rows in
@@ -76,11 +79,13 @@ directory-total E s boot fits =
     rows-total (directory_row E s boot) 0 n (λ i low high.
     let guid = (get_or E.layout.rows i no_row).guid in
     let long : length guid ≡ 16 = (rows-limits no_row E.layout.rows (rows-fit E.layout fits) i (omega (arith, high))).guid in
-    four-behind guid (slot_bytes E.layout i) (length (get_or (booted_package s boot) i [])) (version_in (booted_package s boot) i) (bit_number (get_or (bank s boot).bits i false)) ∙ omega (arith, long)) in
+    four-behind guid (slot_bytes E.layout i) (length (get_or (booted_package s boot) i [])) (version_in (booted_package s boot) i)
+    (bit_number (get_or (bank s boot).bits i false)) ∙ omega (arith, long)) in
     length-append head (flat_map (directory_row E s boot) (listed n (λ (image : ℕ). image))) ∙ omega (arith, front, rows)
 
 -- what is read has the total that the fields say
-pub content-total : (f : Fields) (E : Setting) (s : State) → IsTrue (fits_layout f.layout) → E.layout ≡ f.layout → SpeaksOf f s → (image : Option ℕ) → IsThere f image → length (content E s f.boot image) ≡ total_of f image
+pub content-total : (f : Fields) (E : Setting) (s : State) → IsTrue (fits_layout f.layout) → E.layout ≡ f.layout → SpeaksOf f s → (image : Option ℕ)
+    → IsThere f image → length (content E s f.boot image) ≡ total_of f image
 content-total f E s fits same speaks None there =
     directory-total E s f.boot (subst (λ (L : Layout). IsTrue (fits_layout L)) (sym same) fits) ∙ ap (λ (L : Layout). directory_size (length L.rows)) same
 content-total f E s fits same speaks (Some image) there =
@@ -115,11 +120,13 @@ module _ (f : Fields) (fitting : Fitting f) (sound : SessionSound f) where
 
   pub shown-totals : (E : Setting) (s : State) → E.layout ≡ f.layout → SpeaksOf f s → HasTotals E s f.boot f.session
   shown-totals E s same speaks = record {
-    total = λ place image at total is. fitting.readers place image at total is ∙ sym (content-total f E s fitting.layout same speaks image (reader-there place image at total is));
+    total = λ place image at total is. fitting.readers place image at total is
+        ∙ sym (content-total f E s fitting.layout same speaks image (reader-there place image at total is));
     within = λ place image at total is. sound.readers place image at total is;
   }
 
-  pub shown-speaks : (E : Setting) (s : State) (passes : List ℕ → Bool) (staged : ℕ → List ℕ) → IsSettingOf f passes E → SpeaksOf f s → IsKept f.session staged → Speaks E s passes f.meta f.counter f.session f.boot staged
+  pub shown-speaks : (E : Setting) (s : State) (passes : List ℕ → Bool) (staged : ℕ → List ℕ) → IsSettingOf f passes E → SpeaksOf f s
+      → IsKept f.session staged → Speaks E s passes f.meta f.counter f.session f.boot staged
   shown-speaks E s passes staged setting speaks kept = record {
     rows = fitting.rows ∙ ap (λ (L : Layout). L.rows) (sym setting.layout);
     banks = speaks.banks ∙ ap (λ (L : Layout). L.banks) (sym setting.layout);
@@ -140,14 +147,17 @@ stays-same : (m : Moment) → Stays m m
 stays-same m = record { tells = refl; layout = refl; boot = refl }
 
 -- an answer without moves, on a flash that stays
-pub leaves-nothing : (m : Moment) (passes : List ℕ → Bool) (c : Call) → ((E : Setting) (s : State) (x : Session) → IsSettingOf m.fields passes E → Shows m s x → (answer E s x c).moves ≡ []) → Leaves (Ok tt) passes c m m
+pub leaves-nothing : (m : Moment) (passes : List ℕ → Bool) (c : Call)
+    → ((E : Setting) (s : State) (x : Session) → IsSettingOf m.fields passes E → Shows m s x → (answer E s x c).moves ≡ []) → Leaves (Ok tt) passes c m m
 leaves-nothing m passes c none = record {
-  does = λ E s x setting shows tells ready. subst (λ (ms : List Move). Does {T = Unit {0}} (Ok tt) E s ms m.told) (sym (none E s x setting shows)) (does-nothing {T = Unit {0}} (Ok tt) E s m.told ready);
+  does = λ E s x setting shows tells ready. subst (λ (ms : List Move). Does {T = Unit {0}} (Ok tt) E s ms m.told) (sym (none E s x setting shows))
+      (does-nothing {T = Unit {0}} (Ok tt) E s m.told ready);
   guarded = λ tells rest. rest;
   stays = stays-same m;
 }
 
-module _ (m : Moment) (fitting : Fitting m.fields) (sound : SessionSound m.fields) (passes : List ℕ → Bool) (r : Request) (bytes : List ℕ) (fits : FitsEach m.fields passes r bytes) where
+module _ (m : Moment) (fitting : Fitting m.fields) (sound : SessionSound m.fields) (passes : List ℕ → Bool) (r : Request) (bytes : List ℕ)
+    (fits : FitsEach m.fields passes r bytes) where
   abbrev f : Fields
   f = m.fields
 
@@ -158,7 +168,8 @@ module _ (m : Moment) (fitting : Fitting m.fields) (sound : SessionSound m.field
     pub refused-is : (E : Setting) (s : State) (x : Session) → IsSettingOf f passes E → Shows m s x → answer E s x c ≡ refused st x
     refused-is E s x setting shows =
         subst (λ (y : Session). answer E s y c ≡ refused st y) (sym shows.means)
-        (decides E s shows.staged bytes (shown-speaks f fitting sound E s passes shows.staged setting shows.speaks shows.kept) (fits E s setting shows.speaks))
+        (decides E s shows.staged bytes (shown-speaks f fitting sound E s passes shows.staged setting shows.speaks shows.kept)
+        (fits E s setting shows.speaks))
 
     -- what is refused changes nothing
     pub refused-meets : {T : Type 0} (Says : T → Reply → Type 0) → Meets {T = T} Says (Err (stop.Status st)) passes c m m
@@ -174,18 +185,22 @@ module _ (m : Moment) (fitting : Fitting m.fields) (sound : SessionSound m.field
 -- what is kept speaks of these alone
 pub kept-same : (k : Kept) (staged other : ℕ → List ℕ) → 1 ≤ length k.rows → MeansSame k staged other → IsKept k staged → IsKept k other
 kept-same k staged other some same is = record {
-  opened = λ i size hasher lt e. subst (λ (l : List ℕ). (size ≡ length l) × ∥ Holds256 hasher l ∥₁) (sym (opened-is i size hasher lt e)) (is.opened i size hasher lt e);
-  committed = λ i size digest bit lt e. subst (λ (l : List ℕ). (size ≡ length l) × (digest ≡ sha256 l)) (sym (committed-is i size digest bit lt e)) (is.committed i size digest bit lt e);
+  opened = λ i size hasher lt e. subst (λ (l : List ℕ). (size ≡ length l) × ∥ Holds256 hasher l ∥₁) (sym (opened-is i size hasher lt e))
+      (is.opened i size hasher lt e);
+  committed = λ i size digest bit lt e. subst (λ (l : List ℕ). (size ≡ length l) × (digest ≡ sha256 l)) (sym (committed-is i size digest bit lt e))
+      (is.committed i size digest bit lt e);
   front =
       subst (λ (l : List ℕ). take (min (manifest_size (length k.rows - 1)) (length l)) k.front ≡ take (manifest_size (length k.rows - 1)) l)
       (sym (front-is (part_at k 0) (other 0) (staged 0) (same 0 (omega (arith, some))))) is.front;
 }
   where
     opened-is : (i size : ℕ) (hasher : Sha256) → i < length k.rows → part_at k i ≡ Open size hasher → other i ≡ staged i
-    opened-is i size hasher lt e = ap bytes_of (ap (λ (p : Part). part_meant p (other i)) (sym e) ∙ same i lt ∙ ap (λ (p : Part). part_meant p (staged i)) e)
+    opened-is i size hasher lt e = ap bytes_of (ap (λ (p : Part). part_meant p (other i)) (sym e) ∙ same i lt
+        ∙ ap (λ (p : Part). part_meant p (staged i)) e)
 
     committed-is : (i size : ℕ) (digest : List ℕ) (bit : Bool) → i < length k.rows → part_at k i ≡ Committed size digest bit → other i ≡ staged i
-    committed-is i size digest bit lt e = ap bytes_of (ap (λ (p : Part). part_meant p (other i)) (sym e) ∙ same i lt ∙ ap (λ (p : Part). part_meant p (staged i)) e)
+    committed-is i size digest bit lt e = ap bytes_of (ap (λ (p : Part). part_meant p (other i)) (sym e) ∙ same i lt
+        ∙ ap (λ (p : Part). part_meant p (staged i)) e)
 
     front-is : (p : Part) (a b : List ℕ) → part_meant p a ≡ part_meant p b → take (size_of p) a ≡ take (size_of p) b
     front-is Nothing a b e = refl
@@ -199,7 +214,8 @@ session-same k boot staged other same =
 
 -- ---- the moves of a plan
 
-pub planned-moves : (E : Setting) (s : State) (boot : ℕ) (stg : Option (List Staged)) (hs : List machine.Handle) (bytes : List ℕ) (p : Plan) → (planned E s boot stg hs bytes p).moves ≡ planned_moves s stg p
+pub planned-moves : (E : Setting) (s : State) (boot : ℕ) (stg : Option (List Staged)) (hs : List machine.Handle) (bytes : List ℕ) (p : Plan)
+    → (planned E s boot stg hs bytes p).moves ≡ planned_moves s stg p
 unfolding planned
 planned-moves E s boot stg hs bytes plan.Tell = refl
 planned-moves E s boot stg hs bytes (plan.Begin store) = refl
@@ -229,7 +245,8 @@ planned-form s stg plan.Back = refl
 
 -- ---- a plan that was carried out
 
-module _ (old new : Moment) (fitting : Fitting old.fields) (sound : SessionSound old.fields) (knows : IsTrue old.tells → Knows old.fields old.told) (passes : List ℕ → Bool) (r : Request) (bytes : List ℕ) (fits : FitsEach old.fields passes r bytes)
+module _ (old new : Moment) (fitting : Fitting old.fields) (sound : SessionSound old.fields) (knows : IsTrue old.tells → Knows old.fields old.told)
+    (passes : List ℕ → Bool) (r : Request) (bytes : List ℕ) (fits : FitsEach old.fields passes r bytes)
     (p : Plan) (decides : Decides passes old.fields.meta old.fields.counter old.fields.session old.fields.boot r (decision.Do p)) where
   abbrev was : Fields
   was = old.fields
@@ -249,10 +266,12 @@ module _ (old new : Moment) (fitting : Fitting old.fields) (sound : SessionSound
   pub planned-is : (E : Setting) (s : State) (x : Session) → IsSettingOf was passes E → Shows old s x → answer E s x call ≡ planned_in E s x bytes p
   planned-is E s x setting shows =
       subst (λ (y : Session). answer E s y call ≡ planned_in E s y bytes p) (sym shows.means)
-      (decides E s shows.staged bytes (shown-speaks was fitting sound E s passes shows.staged setting shows.speaks shows.kept) (fits E s setting shows.speaks))
+      (decides E s shows.staged bytes (shown-speaks was fitting sound E s passes shows.staged setting shows.speaks shows.kept)
+      (fits E s setting shows.speaks))
 
   -- the moves of the answer, where the device tells its content
-  moves-told : (E : Setting) (s : State) (x : Session) → IsSettingOf was passes E → Shows old s x → IsTrue old.tells → (answer E s x call).moves ≡ planned_moves (state_before old) (staging_before old) p
+  moves-told : (E : Setting) (s : State) (x : Session) → IsSettingOf was passes E → Shows old s x → IsTrue old.tells
+      → (answer E s x call).moves ≡ planned_moves (state_before old) (staging_before old) p
   moves-told E s x setting shows tells =
       ap (λ (a : Answer). a.moves) (planned-is E s x setting shows)
       ∙ ap₂ (λ (y : State) (z : Session). (planned_in E y z bytes p).moves) (shows.told tells).0 (shows.told tells).1
@@ -260,27 +279,33 @@ module _ (old new : Moment) (fitting : Fitting old.fields) (sound : SessionSound
 
   -- what the flash has to meet, in the words of what it shows
   pub leaves-by : (result : Result (Unit {0}) FlashStop)
-      → (IsTrue old.tells → (E : Setting) → IsSettingOf was passes E → IsReady E old.told (state_before old) → Does result E (state_before old) (planned_moves (state_before old) (staging_before old) p) new.told)
+      → (IsTrue old.tells → (E : Setting) → IsSettingOf was passes E → IsReady E old.told (state_before old)
+      → Does result E (state_before old) (planned_moves (state_before old) (staging_before old) p) new.told)
       → (IsTrue old.tells → IsAtRest old.told → GuardedBy result new.told) → Stays old new → Leaves result passes call old new
   leaves-by result does guarded stays = record {
     does = λ E s x setting shows tells ready.
         let here = (shows.told tells).0 in
         subst (λ (ms : List Move). Does result E s ms new.told) (sym (moves-told E s x setting shows tells))
-        (subst (λ (y : State). Does result E y (planned_moves (state_before old) (staging_before old) p) new.told) (sym here) (does tells E setting (subst (λ (y : State). IsReady E old.told y) here ready)));
+        (subst (λ (y : State). Does result E y (planned_moves (state_before old) (staging_before old) p) new.told) (sym here)
+        (does tells E setting (subst (λ (y : State). IsReady E old.told y) here ready)));
     guarded = guarded;
     stays = stays;
   }
 
   -- a call that the flash stopped
-  pub lost-meets : {T : Type 0} (Says : T → Reply → Type 0) → Leaves (Err flash_stop.Lost) passes call old new → Meets {T = T} Says (Err stop.Lost) passes call old new
+  pub lost-meets : {T : Type 0} (Says : T → Reply → Type 0) → Leaves (Err flash_stop.Lost) passes call old new
+      → Meets {T = T} Says (Err stop.Lost) passes call old new
   lost-meets Says leaves = record { exact = λ E s x setting shows. tt; leaves = leaves }
 
-  pub fault-meets : {T : Type 0} (Says : T → Reply → Type 0) → Leaves (Err flash_stop.Failed) passes call old new → Meets {T = T} Says (Err stop.Fault) passes call old new
+  pub fault-meets : {T : Type 0} (Says : T → Reply → Type 0) → Leaves (Err flash_stop.Failed) passes call old new
+      → Meets {T = T} Says (Err stop.Fault) passes call old new
   fault-meets Says leaves = record { exact = λ E s x setting shows. tt; leaves = leaves }
 
   module _ (out : CarriedOut p bytes old new) where
-    settled : (E : Setting) (s : State) (staged : ℕ → List ℕ) → IsSettingOf was passes E → SpeaksOf was s → IsKept k staged → SettlesIn E s passes was.counter was.boot staged bytes p k was.meta is.meta is.session
-    settled E s staged setting speaks kept = out.settles E s passes was.counter was.boot staged (shown-speaks was fitting sound E s passes staged setting speaks kept) (out.total E s setting.layout speaks)
+    settled : (E : Setting) (s : State) (staged : ℕ → List ℕ) → IsSettingOf was passes E → SpeaksOf was s → IsKept k staged
+        → SettlesIn E s passes was.counter was.boot staged bytes p k was.meta is.meta is.session
+    settled E s staged setting speaks kept = out.settles E s passes was.counter was.boot staged
+        (shown-speaks was fitting sound E s passes staged setting speaks kept) (out.total E s setting.layout speaks)
 
     module _ (E : Setting) (s : State) (x : Session) (setting : IsSettingOf was passes E) (shows : Shows old s x) where
       abbrev then : Answer
@@ -307,7 +332,8 @@ module _ (old new : Moment) (fitting : Fitting old.fields) (sound : SessionSound
         trials_are = out.trials s shows.staged shows.speaks shows.kept ∙ along (λ (y : State). y.trials);
         lengths_are =
             ap₂ (λ (L : Layout) (l : List ℕ). take (length L.rows) l) out.beside.layout out.beside.lengths ∙ shows.speaks.lengths_are
-            ∙ ap (λ (o : Option (List (List ℕ))). map (λ (bytes : List ℕ). length bytes) (held_package o)) (sym (out.held s shows.staged shows.speaks shows.kept) ∙ along (λ (y : State). (bank y was.boot).held))
+            ∙ ap (λ (o : Option (List (List ℕ))). map (λ (bytes : List ℕ). length bytes) (held_package o))
+            (sym (out.held s shows.staged shows.speaks shows.kept) ∙ along (λ (y : State). (bank y was.boot).held))
             ∙ ap (λ (b : ℕ). map (λ (bytes : List ℕ). length bytes) (booted_package next b)) (sym out.beside.boot);
       }
 
@@ -317,12 +343,15 @@ module _ (old new : Moment) (fitting : Fitting old.fields) (sound : SessionSound
           let one : s ≡ state_before old = (shows.told tells).0 in
           let two : meant shows.staged ≡ meant (staged_bytes was old.told.now) = sym shows.means ∙ (shows.told tells).1 in
           let there = planned_in E (state_before old) (meant (staged_bytes was old.told.now)) bytes p in
-          let st0 = settled E (state_before old) (staged_bytes was old.told.now) setting (subst (SpeaksOf was) one shows.speaks) (knows tells).staged.kept in (
+          let st0 = settled E (state_before old) (staged_bytes was old.told.now) setting (subst (SpeaksOf was) one shows.speaks)
+          (knows tells).staged.kept in (
             ap₂ (λ (y : State) (z : Session). after y (planned_in E y z bytes p).moves) one two
-                ∙ ap (after (state_before old)) (planned-moves E (state_before old) was.boot (staging_before old) (handles_meant k) bytes p) ∙ sym (out.state_is tells),
+                ∙ ap (after (state_before old)) (planned-moves E (state_before old) was.boot (staging_before old) (handles_meant k) bytes p)
+                ∙ sym (out.state_is tells),
             ap₂ (λ (y : State) (z : Session). (planned_in E y z bytes p).next) one two ∙ sym st0.next
                 ∙ ap (λ (b : ℕ). session_meant is.session b (staged_after p bytes (staged_bytes was old.told.now))) (sym out.beside.boot)
-                ∙ sym (session-same is.session is.boot (staged_after p bytes (staged_bytes was old.told.now)) (staged_bytes is new.told.now) (out.staged_are tells)),
+                ∙ sym (session-same is.session is.boot (staged_after p bytes (staged_bytes was old.told.now)) (staged_bytes is new.told.now)
+                (out.staged_are tells)),
           )
 
       shows-then : Shows new next then.next
@@ -341,7 +370,8 @@ module _ (old new : Moment) (fitting : Fitting old.fields) (sound : SessionSound
           subst (λ (a : Answer). Shows new (after s a.moves) a.next) (sym path) shows-then
 
     -- a call that is done
-    pub done-meets : {T : Type 0} (Says : T → Reply → Type 0) (value : T) → ((E : Setting) (s : State) (x : Session) → IsSettingOf was passes E → Shows old s x → Says value (planned_in E s x bytes p).reply)
+    pub done-meets : {T : Type 0} (Says : T → Reply → Type 0) (value : T)
+        → ((E : Setting) (s : State) (x : Session) → IsSettingOf was passes E → Shows old s x → Says value (planned_in E s x bytes p).reply)
         → Leaves (Ok tt) passes call old new → Meets {T = T} Says (Ok value) passes call old new
     done-meets Says value says leaves = record {
       exact = λ E s x setting shows.
@@ -351,7 +381,8 @@ module _ (old new : Moment) (fitting : Fitting old.fields) (sound : SessionSound
 
 -- ---- a call that the flash stopped
 
-pub stopped-meets : {T : Type 0} (Says : T → Reply → Type 0) (r : Stop) (passes : List ℕ → Bool) (c : Call) (old new : Moment) → IsStopped {T = T} (Err r) → Leaves (flash_result {T = T} (Err r)) passes c old new → Meets {T = T} Says (Err r) passes c old new
+pub stopped-meets : {T : Type 0} (Says : T → Reply → Type 0) (r : Stop) (passes : List ℕ → Bool) (c : Call) (old new : Moment) → IsStopped {T = T} (Err r)
+    → Leaves (flash_result {T = T} (Err r)) passes c old new → Meets {T = T} Says (Err r) passes c old new
 stopped-meets Says (stop.Status st) passes c old new stopped leaves = absurd stopped
 stopped-meets Says stop.Lost passes c old new stopped leaves = record { exact = λ E s x setting shows. tt; leaves = leaves }
 stopped-meets Says stop.Fault passes c old new stopped leaves = record { exact = λ E s x setting shows. tt; leaves = leaves }

@@ -21,16 +21,19 @@ stays-then : (a b c : Moment) → Stays a b → Stays b c → Stays a c
 stays-then a b c ab bc = record { tells = bc.tells ∙ ab.tells; layout = bc.layout ∙ ab.layout; boot = bc.boot ∙ ab.boot }
 
 -- what is done, and what comes next
-pub goes-then : (E : Setting) (result : Result (Unit {0}) FlashStop) (a b c : Moment) (s : State) (ms ns : List Move) (y z : Session) → Goes E (Ok tt) a b s ms y → Goes E result b c (after s ms) ns z → Goes E result a c s (ms ++ ns) z
+pub goes-then : (E : Setting) (result : Result (Unit {0}) FlashStop) (a b c : Moment) (s : State) (ms ns : List Move) (y z : Session)
+    → Goes E (Ok tt) a b s ms y → Goes E result b c (after s ms) ns z → Goes E result a c s (ms ++ ns) z
 goes-then E result a b c s ms ns y z first second = record {
   shows = on_ok_weaker result (λ shown. subst (λ (w : State). Shows c w z) (sym (after-append s ms ns)) shown) second.shows;
-  does = λ tells ready. does-then tt result E s ms ns b.told c.told (first.does tells ready) (λ next. second.does (subst IsTrue (sym first.stays.tells) tells) next);
+  does = λ tells ready. does-then tt result E s ms ns b.told c.told (first.does tells ready)
+      (λ next. second.does (subst IsTrue (sym first.stays.tells) tells) next);
   guarded = λ tells rest. second.guarded (subst IsTrue (sym first.stays.tells) tells) (first.guarded tells rest);
   stays = stays-then a b c first.stays second.stays;
 }
 
 -- what was stopped did a prefix of whatever was to follow
-pub goes-stopped : (E : Setting) (result : Result (Unit {0}) FlashStop) (a b : Moment) (s : State) (ms ns : List Move) (y z : Session) → IsErr result → Goes E result a b s ms y → Goes E result a b s (ms ++ ns) z
+pub goes-stopped : (E : Setting) (result : Result (Unit {0}) FlashStop) (a b : Moment) (s : State) (ms ns : List Move) (y z : Session) → IsErr result
+    → Goes E result a b s ms y → Goes E result a b s (ms ++ ns) z
 goes-stopped E result a b s ms ns y z err goes = record {
   shows = IfOk-from_err result (λ _. Shows b (after s (ms ++ ns)) z) err;
   does = λ tells ready. does-stopped result result E s ms ns b.told err (goes.does tells ready);
@@ -50,7 +53,8 @@ goes-nothing E a s x shows = record {
 -- ---- one call
 
 module _ (E : Setting) (c : Call) (old new : Moment) (layout : E.layout ≡ old.fields.layout) where
-  leaves-goes : (s : State) (x : Session) → Shows old s x → Leaves (Ok tt) E.passes c old new → Shows new (after s (answer E s x c).moves) (answer E s x c).next → Goes E (Ok tt) old new s (answer E s x c).moves (answer E s x c).next
+  leaves-goes : (s : State) (x : Session) → Shows old s x → Leaves (Ok tt) E.passes c old new
+      → Shows new (after s (answer E s x c).moves) (answer E s x c).next → Goes E (Ok tt) old new s (answer E s x c).moves (answer E s x c).next
   leaves-goes s x shows leaves next = record {
     shows = next;
     does = λ tells ready. leaves.does E s x (record { layout = layout; verifier = refl }) shows tells ready;
@@ -59,15 +63,18 @@ module _ (E : Setting) (c : Call) (old new : Moment) (layout : E.layout ≡ old.
   }
 
   -- a call that was answered, by what its value says of the reply
-  pub answered-met : {T : Type 0} (Says : T → Reply → Type 0) (value : T) (r : Reply) → ((q : Reply) → Says value q → r ≡ q) → Meets {T = T} Says (Ok value) E.passes c old new → Met E c r old new
+  pub answered-met : {T : Type 0} (Says : T → Reply → Type 0) (value : T) (r : Reply) → ((q : Reply) → Says value q → r ≡ q)
+      → Meets {T = T} Says (Ok value) E.passes c old new → Met E c r old new
   answered-met Says value r says meets = record {
-    replies = λ s x shows. let it = meets.exact E s x (record { layout = layout; verifier = refl }) shows in record { reply_is = says (answer E s x c).reply it.0; shows = it.1 };
+    replies = λ s x shows. let it = meets.exact E s x (record { layout = layout; verifier = refl })
+        shows in record { reply_is = says (answer E s x c).reply it.0; shows = it.1 };
     goes = λ s x shows. leaves-goes s x shows meets.leaves (meets.exact E s x (record { layout = layout; verifier = refl }) shows).1;
     layout = meets.leaves.stays.layout;
   }
 
   -- and one that was refused
-  pub refused-met : {T : Type 0} (Says : T → Reply → Type 0) (st : Status) → Meets {T = T} Says (Err (stop.Status st)) E.passes c old new → Met E c (Refused st) old new
+  pub refused-met : {T : Type 0} (Says : T → Reply → Type 0) (st : Status) → Meets {T = T} Says (Err (stop.Status st)) E.passes c old new
+      → Met E c (Refused st) old new
   refused-met Says st meets = record {
     replies = λ s x shows. let it = meets.exact E s x (record { layout = layout; verifier = refl }) shows in record { reply_is = sym it.0; shows = it.1 };
     goes = λ s x shows. leaves-goes s x shows meets.leaves (meets.exact E s x (record { layout = layout; verifier = refl }) shows).1;
@@ -75,7 +82,8 @@ module _ (E : Setting) (c : Call) (old new : Moment) (layout : E.layout ≡ old.
   }
 
   -- one that the flash stopped, with whatever session
-  pub stopped-goes : {T : Type 0} (Says : T → Reply → Type 0) (result : Result T Stop) (s : State) (x y : Session) → Shows old s x → IsErr (flash_result result) → Meets {T = T} Says result E.passes c old new → Goes E (flash_result result) old new s (answer E s x c).moves y
+  pub stopped-goes : {T : Type 0} (Says : T → Reply → Type 0) (result : Result T Stop) (s : State) (x y : Session) → Shows old s x
+      → IsErr (flash_result result) → Meets {T = T} Says result E.passes c old new → Goes E (flash_result result) old new s (answer E s x c).moves y
   stopped-goes Says result s x y shows err meets = record {
     shows = IfOk-from_err (flash_result result) (λ _. Shows new (after s (answer E s x c).moves) y) err;
     does = λ tells ready. meets.leaves.does E s x (record { layout = layout; verifier = refl }) shows tells ready;
@@ -85,8 +93,16 @@ module _ (E : Setting) (c : Call) (old new : Moment) (layout : E.layout ≡ old.
 
 -- ---- a list of calls
 
-pub all-go : (E : Setting) (cs : List Call) (rs : List Reply) (old new : Moment) (s : State) (x : Session) → Shows old s x → CallsMet E cs rs old new → Ran E cs rs old new s x
-all-go E [] [] old new s x shows Done = record { replies_are = refl; shows = shows; does = λ tells ready. does-nothing {T = Unit {0}} (Ok tt) E s old.told ready; guarded = λ tells rest. rest; layout = refl }
+pub all-go : (E : Setting) (cs : List Call) (rs : List Reply) (old new : Moment) (s : State) (x : Session) → Shows old s x → CallsMet E cs rs old new
+    → Ran E cs rs old new s x
+all-go E [] [] old new s x shows Done = record {
+  replies_are = refl;
+  shows = shows;
+  does = λ tells ready. does-nothing {T = Unit {0}} (Ok tt) E s old.told
+      ready;
+  guarded = λ tells rest. rest;
+  layout = refl;
+}
 all-go E (c ∷ cs) (r ∷ rs) old new s x shows (Then {mid = mid} met calls) =
     let a = answer E s x c in
     let here = met.replies s x shows in
@@ -94,8 +110,10 @@ all-go E (c ∷ cs) (r ∷ rs) old new s x shows (Then {mid = mid} met calls) =
     let rest = all-go E cs rs mid new (after s a.moves) a.next here.shows calls in
     record {
       replies_are = ap (λ (q : Reply). q ∷ rs) here.reply_is ∙ ap (λ (qs : List Reply). a.reply ∷ qs) rest.replies_are;
-      shows = subst (λ (w : State). Shows new w (session_of E (after s a.moves) a.next cs)) (sym (after-append s a.moves (moves_of E (after s a.moves) a.next cs))) rest.shows;
-      does = λ tells ready. does-then {T = Unit {0}} tt (Ok tt) E s a.moves (moves_of E (after s a.moves) a.next cs) mid.told new.told (goes.does tells ready) (λ next. rest.does (subst IsTrue (sym goes.stays.tells) tells) next);
+      shows = subst (λ (w : State). Shows new w (session_of E (after s a.moves) a.next cs))
+          (sym (after-append s a.moves (moves_of E (after s a.moves) a.next cs))) rest.shows;
+      does = λ tells ready. does-then {T = Unit {0}} tt (Ok tt) E s a.moves (moves_of E (after s a.moves) a.next cs) mid.told new.told
+          (goes.does tells ready) (λ next. rest.does (subst IsTrue (sym goes.stays.tells) tells) next);
       guarded = λ tells rests. rest.guarded (subst IsTrue (sym goes.stays.tells) tells) (goes.guarded tells rests);
       layout = rest.layout ∙ met.layout;
     }

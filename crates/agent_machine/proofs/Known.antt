@@ -27,7 +27,8 @@ known-shown f t knows = shown-as f.layout t.now f.meta (state_in f t.now) knows.
 pub state-held : (L : Layout) (image : List ℕ) (r : MetaRead) (s : State) → IsShown L image s → BothHold L r image → state_of L image r ≡ s
 state-held L image r s shown both = shown-by L image s shown r (both-decides L image r both)
 
-pub known-ready : (E : Setting) (f : Fields) (t : Told) → E.layout ≡ f.layout → Knows f t → IsCalm E t (state_in f t.now) → Guards 1 7 t → IsReady E t (state_in f t.now)
+pub known-ready : (E : Setting) (f : Fields) (t : Told) → E.layout ≡ f.layout → Knows f t → IsCalm E t (state_in f t.now) → Guards 1 7 t
+    → IsReady E t (state_in f t.now)
 known-ready E f t same knows calm guards = record {
   calm = calm;
   guarded = guards;

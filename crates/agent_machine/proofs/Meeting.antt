@@ -44,7 +44,8 @@ use Rattle.agent_machine.proofs.Showing.{state_made, made-speaks}
 
 -- ---- the reply
 
-success-planned : (E : Setting) (s : State) (boot : ℕ) (stg : Option (List Staged)) (hs : List session.Handle) (bytes : List ℕ) (p : Plan) → told_kind p ≡ 0 → (planned E s boot stg hs bytes p).reply ≡ Success
+success-planned : (E : Setting) (s : State) (boot : ℕ) (stg : Option (List Staged)) (hs : List session.Handle) (bytes : List ℕ) (p : Plan) → told_kind p ≡ 0
+    → (planned E s boot stg hs bytes p).reply ≡ Success
 unfolding planned
 success-planned E s boot stg hs bytes plan.Tell e = absurd (omega (arith, e))
 success-planned E s boot stg hs bytes (plan.Begin store) e = refl
@@ -57,17 +58,21 @@ success-planned E s boot stg hs bytes plan.Cancel e = refl
 success-planned E s boot stg hs bytes (plan.Accept image store) e = refl
 success-planned E s boot stg hs bytes plan.Back e = refl
 
-module _ (old : Moment) (fitting : Fitting old.fields) (sound : SessionSound old.fields) (knows : IsTrue old.tells → Knows old.fields old.told) (passes : List ℕ → Bool) (r : Request) (bytes : List ℕ) (fits : FitsEach old.fields passes r bytes)
+module _ (old : Moment) (fitting : Fitting old.fields) (sound : SessionSound old.fields) (knows : IsTrue old.tells → Knows old.fields old.told)
+    (passes : List ℕ → Bool) (r : Request) (bytes : List ℕ) (fits : FitsEach old.fields passes r bytes)
     (p : Plan) (decides : Decides passes old.fields.meta old.fields.counter old.fields.session old.fields.boot r (decision.Do p)) where
   -- the reply is success, where the request's is
-  pub success-says : asked_kind r ≡ 0 → (E : Setting) (s : State) (x : Session) → IsSettingOf old.fields passes E → Shows old s x → (planned_in E s x bytes p).reply ≡ Success
+  pub success-says : asked_kind r ≡ 0 → (E : Setting) (s : State) (x : Session) → IsSettingOf old.fields passes E → Shows old s x
+      → (planned_in E s x bytes p).reply ≡ Success
   success-says asked E s x setting shows =
       let k = old.fields.session in
       let boot = old.fields.boot in
       let is : answer E s (session_meant k boot shows.staged) (call_of r bytes) ≡ planned_in E s (session_meant k boot shows.staged) bytes p =
-      subst (λ (y : Session). answer E s y (call_of r bytes) ≡ planned_in E s y bytes p) shows.means (planned-is old old fitting sound knows passes r bytes fits p decides E s x setting shows) in
+      subst (λ (y : Session). answer E s y (call_of r bytes) ≡ planned_in E s y bytes p) shows.means
+      (planned-is old old fitting sound knows passes r bytes fits p decides E s x setting shows) in
       subst (λ (y : Session). (planned_in E s y bytes p).reply ≡ Success) (sym shows.means)
-      (success-planned E s boot (staging_meant k shows.staged) (handles_meant k) bytes p (told-as-asked E s boot (staging_meant k shows.staged) (handles_meant k) bytes r p is ∙ asked))
+      (success-planned E s boot (staging_meant k shows.staged) (handles_meant k) bytes p
+      (told-as-asked E s boot (staging_meant k shows.staged) (handles_meant k) bytes r p is ∙ asked))
 
 -- ---- a plan of another kind
 
@@ -163,7 +168,8 @@ own-commit request.Cancel h image bit w = w
 own-commit (request.Accept guid) h image bit w = w
 own-commit request.Previous h image bit w = w
 
-module _ (f : Fields) (fitting : Fitting f) (sound : SessionSound f) (some : ∥ SomeStaged f.session ∥₁) (passes : List ℕ → Bool) (r : Request) (bytes : List ℕ) (fits : FitsEach f passes r bytes) (other : request_kind r ≡ 4 → ⊥)
+module _ (f : Fields) (fitting : Fitting f) (sound : SessionSound f) (some : ∥ SomeStaged f.session ∥₁) (passes : List ℕ → Bool) (r : Request)
+    (bytes : List ℕ) (fits : FitsEach f passes r bytes) (other : request_kind r ≡ 4 → ⊥)
     (p : Plan) (decides : Decides passes f.meta f.counter f.session f.boot r (decision.Do p)) where
   abbrev k : Kept
   k = f.session
@@ -175,18 +181,22 @@ module _ (f : Fields) (fitting : Fitting f) (sound : SessionSound f) (some : ∥
     abbrev parts : List Staged
     parts = parts_meant k one.staged
 
-    is : answer setting (state_made f) (session_meant k f.boot one.staged) (call_of r bytes) ≡ planned_in setting (state_made f) (session_meant k f.boot one.staged) bytes p
+    is : answer setting (state_made f) (session_meant k f.boot one.staged) (call_of r bytes) ≡ planned_in setting (state_made f)
+        (session_meant k f.boot one.staged) bytes p
     is =
         let own : IsSettingOf f passes setting = record { layout = refl; verifier = refl } in
-        decides setting (state_made f) one.staged bytes (shown-speaks f fitting sound setting (state_made f) passes one.staged own (made-speaks f fitting) one.kept) (fits setting (state_made f) own (made-speaks f fitting))
+        decides setting (state_made f) one.staged bytes (shown-speaks f fitting sound setting (state_made f) passes one.staged own (made-speaks f fitting)
+        one.kept) (fits setting (state_made f) own (made-speaks f fitting))
 
     moved : (plan_kind p ≡ 0) ⊎ (plan_kind p ≡ request_kind r)
     moved = moved-as-asked setting (state_made f) f.boot (staging_meant k one.staged) (handles_meant k) bytes r p is
 
     -- the same where a package is staged
-    staged-is : k.staging ≡ true → answer setting (state_made f) (On f.boot (Some parts) (handles_meant k)) (call_of r bytes) ≡ planned setting (state_made f) f.boot (Some parts) (handles_meant k) bytes p
+    staged-is : k.staging ≡ true → answer setting (state_made f) (On f.boot (Some parts) (handles_meant k)) (call_of r bytes) ≡ planned setting
+        (state_made f) f.boot (Some parts) (handles_meant k) bytes p
     staged-is on =
-        subst (λ (o : Option (List Staged)). answer setting (state_made f) (On f.boot o (handles_meant k)) (call_of r bytes) ≡ planned setting (state_made f) f.boot o (handles_meant k) bytes p) (staging-on k one.staged on) is
+        subst (λ (o : Option (List Staged)). answer setting (state_made f) (On f.boot o (handles_meant k)) (call_of r bytes) ≡ planned setting
+        (state_made f) f.boot o (handles_meant k) bytes p) (staging-on k one.staged on) is
 
     open-meant : (q : Part) (b : List ℕ) → is_part_open q ≡ true → is_open (part_meant q b) ≡ true
     open-meant Nothing b e = e
@@ -205,14 +215,16 @@ module _ (f : Fields) (fitting : Fitting f) (sound : SessionSound f) (some : ∥
       not (own-write r h image at n
       (write-own setting (state_made f) f.boot (parts one) (handles_meant k) bytes image (below one image of.0) h at n r other
       (ap is_open (part-meant k one.staged image of.0) ∙ open-meant one (part_at k image) (one.staged image) of.2)
-      (subst (λ (x : Plan). answer setting (state_made f) (On f.boot (Some (parts one)) (handles_meant k)) (call_of r bytes) ≡ planned setting (state_made f) f.boot (Some (parts one)) (handles_meant k) bytes x) (sym same) (staged-is one of.1))))
+      (subst (λ (x : Plan). answer setting (state_made f) (On f.boot (Some (parts one)) (handles_meant k)) (call_of r bytes) ≡ planned setting
+      (state_made f) f.boot (Some (parts one)) (handles_meant k) bytes x) (sym same) (staged-is one of.1))))
   own-or-quiet (plan.Read h image at n total) same of not one = tt
   own-or-quiet (plan.Commit h None bit) same of not one = tt
   own-or-quiet (plan.Commit h (Some image) bit) same of not one =
       not (own-commit r h image bit
       (commit-own setting (state_made f) f.boot (parts one) (handles_meant k) bytes image (below one image of.1) h bit r other
       (listn.get_or-map handle_meant k.handles (h - 1) Free ∙ ap handle_meant of.4)
-      (subst (λ (x : Plan). answer setting (state_made f) (On f.boot (Some (parts one)) (handles_meant k)) (call_of r bytes) ≡ planned setting (state_made f) f.boot (Some (parts one)) (handles_meant k) bytes x) (sym same) (staged-is one of.2))))
+      (subst (λ (x : Plan). answer setting (state_made f) (On f.boot (Some (parts one)) (handles_meant k)) (call_of r bytes) ≡ planned setting
+      (state_made f) f.boot (Some (parts one)) (handles_meant k) bytes x) (sym same) (staged-is one of.2))))
   own-or-quiet plan.End same of not one = not (own-end r (kind-own r p 1 (moved one) (ap plan_kind (sym same))))
   own-or-quiet plan.Cancel same of not one = tt
   own-or-quiet (plan.Accept image true) same of not one = not (own-accept r image (kind-own r p 2 (moved one) (ap plan_kind (sym same))))
@@ -230,8 +242,10 @@ module _ (f : Fields) (fitting : Fitting f) (sound : SessionSound f) (some : ∥
   begun-staging store same asked begins off =
       ∥∥₁_elim some (λ x y. absurd x) (λ (one : SomeStaged f.session).
       began-own setting (state_made f) f.boot (handles_meant k) bytes store r asked begins other
-      (subst (λ (o : Option (List Staged)). answer setting (state_made f) (On f.boot o (handles_meant k)) (call_of r bytes) ≡ planned setting (state_made f) f.boot o (handles_meant k) bytes (plan.Begin store)) (ap (λ (b : Bool). cond b (Some (parts one)) None) off)
-      (subst (λ (x : Plan). answer setting (state_made f) (session_meant k f.boot one.staged) (call_of r bytes) ≡ planned_in setting (state_made f) (session_meant k f.boot one.staged) bytes x) (sym same) (is one))))
+      (subst (λ (o : Option (List Staged)). answer setting (state_made f) (On f.boot o (handles_meant k)) (call_of r bytes) ≡ planned setting (state_made f)
+      f.boot o (handles_meant k) bytes (plan.Begin store)) (ap (λ (b : Bool). cond b (Some (parts one)) None) off)
+      (subst (λ (x : Plan). answer setting (state_made f) (session_meant k f.boot one.staged) (call_of r bytes) ≡ planned_in setting (state_made f)
+      (session_meant k f.boot one.staged) bytes x) (sym same) (is one))))
 
   staging-then : (b : Bool) → (b ≡ false → ⊥) → b ≡ true
   staging-then true h = refl
@@ -264,7 +278,8 @@ module _ (f : Fields) (fitting : Fitting f) (sound : SessionSound f) (some : ∥
 
 -- ---- whatever bytes there are
 
-bytes-planned : (E : Setting) (s : State) (boot : ℕ) (stg : Option (List Staged)) (hs : List session.Handle) (a b : List ℕ) (p : Plan) → IsQuiet p → planned E s boot stg hs a p ≡ planned E s boot stg hs b p
+bytes-planned : (E : Setting) (s : State) (boot : ℕ) (stg : Option (List Staged)) (hs : List session.Handle) (a b : List ℕ) (p : Plan) → IsQuiet p
+    → planned E s boot stg hs a p ≡ planned E s boot stg hs b p
 unfolding planned
 bytes-planned E s boot stg hs a b plan.Tell quiet = refl
 bytes-planned E s boot stg hs a b (plan.Begin store) quiet = refl
@@ -299,7 +314,8 @@ bytes-settles k m a b p n new quiet settles E s passes counter boot staged speak
     let bytes = bytes-staged p a b staged quiet in
     record {
       spoken =
-          subst (λ (x : ℕ → List ℕ). Speaks E (after s (planned E s boot (staging_meant k staged) (handles_meant k) b p).moves) passes n counter new boot x) bytes
+          subst (λ (x : ℕ → List ℕ). Speaks E (after s (planned E s boot (staging_meant k staged) (handles_meant k) b p).moves) passes n counter new boot x)
+          bytes
           (subst (λ (x : Answer). Speaks E (after s x.moves) passes n counter new boot (staged_after p a staged)) plans it.spoken);
       next = ap (session_meant new boot) (sym bytes) ∙ it.next ∙ ap (λ (x : Answer). x.next) plans;
     }
@@ -314,22 +330,27 @@ carried-any p a b old new quiet out = record {
   trials = out.trials;
   held = out.held;
   state_is = out.state_is;
-  staged_are = λ tells. subst (λ (x : ℕ → List ℕ). MeansSame new.fields.session x (staged_bytes new.fields new.told.now)) (bytes-staged p a b (staged_bytes old.fields old.told.now) quiet) (out.staged_are tells);
+  staged_are = λ tells. subst (λ (x : ℕ → List ℕ). MeansSame new.fields.session x (staged_bytes new.fields new.told.now))
+      (bytes-staged p a b (staged_bytes old.fields old.told.now) quiet) (out.staged_are tells);
 }
 
 -- ---- a call of a quiet plan
 
-module _ (old new : Moment) (fitting : Fitting old.fields) (sound : SessionSound old.fields) (knows : IsTrue old.tells → Knows old.fields old.told) (passes : List ℕ → Bool) (r : Request) (bytes : List ℕ) (fits : FitsEach old.fields passes r bytes)
-    (p : Plan) (decides : Decides passes old.fields.meta old.fields.counter old.fields.session old.fields.boot r (decision.Do p)) (quiet : IsQuiet p) (told : new.told ≡ old.told) (out : CarriedOut p bytes old new) where
+module _ (old new : Moment) (fitting : Fitting old.fields) (sound : SessionSound old.fields) (knows : IsTrue old.tells → Knows old.fields old.told)
+    (passes : List ℕ → Bool) (r : Request) (bytes : List ℕ) (fits : FitsEach old.fields passes r bytes)
+    (p : Plan) (decides : Decides passes old.fields.meta old.fields.counter old.fields.session old.fields.boot r (decision.Do p)) (quiet : IsQuiet p)
+    (told : new.told ≡ old.told) (out : CarriedOut p bytes old new) where
   pub quiet-leaves : Leaves (Ok tt) passes (call_of r bytes) old new
   quiet-leaves =
       leaves-by old new fitting sound knows passes r bytes fits p decides (Ok tt)
       (λ tells E setting ready.
       subst (λ (t : Told). Does {T = Unit {0}} (Ok tt) E (state_before old) (planned_moves (state_before old) (staging_before old) p) t) (sym told)
-      (subst (λ (ms : List Move). Does {T = Unit {0}} (Ok tt) E (state_before old) ms old.told) (sym (quiet-moves (state_before old) (staging_before old) p quiet)) (does-nothing {T = Unit {0}} (Ok tt) E (state_before old) old.told ready)))
+      (subst (λ (ms : List Move). Does {T = Unit {0}} (Ok tt) E (state_before old) ms old.told)
+      (sym (quiet-moves (state_before old) (staging_before old) p quiet)) (does-nothing {T = Unit {0}} (Ok tt) E (state_before old) old.told ready)))
       (λ tells rest. subst IsAtRest (sym told) rest) (record { tells = out.tells; layout = out.beside.layout; boot = out.beside.boot })
 
-  pub quiet-meets : {T : Type 0} (Says : T → Reply → Type 0) (value : T) → ((E : Setting) (s : State) (x : Session) → IsSettingOf old.fields passes E → Shows old s x → Says value (planned_in E s x bytes p).reply)
+  pub quiet-meets : {T : Type 0} (Says : T → Reply → Type 0) (value : T)
+      → ((E : Setting) (s : State) (x : Session) → IsSettingOf old.fields passes E → Shows old s x → Says value (planned_in E s x bytes p).reply)
       → Meets {T = T} Says (Ok value) passes (call_of r bytes) old new
   quiet-meets Says value says = done-meets old new fitting sound knows passes r bytes fits p decides out Says value says quiet-leaves
 

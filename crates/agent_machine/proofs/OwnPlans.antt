@@ -158,7 +158,8 @@ module _ (E : Setting) (s : State) (boot : ℕ) (stg : Option (List Staged)) (hs
   end-replied : (o : Option (List Staged)) → IsReplied 0 (answer_end E s boot o hs)
   unfolding answer_end
   end-replied None = inl refl
-  end-replied (Some parts) = by-cond (IsReplied 0) (list_any is_writer hs) _ _ (inl refl) (by-cond (IsReplied 0) (not (may_end E s parts)) _ _ (inl refl) (inr refl))
+  end-replied (Some parts) = by-cond (IsReplied 0) (list_any is_writer hs) _ _ (inl refl)
+      (by-cond (IsReplied 0) (not (may_end E s parts)) _ _ (inl refl) (inr refl))
 
   cancel-replied : (o : Option (List Staged)) → IsReplied 0 (answer_cancel boot o hs)
   unfolding answer_cancel
@@ -179,7 +180,8 @@ module _ (E : Setting) (s : State) (boot : ℕ) (stg : Option (List Staged)) (hs
   previous-replied (Some parts) = inl refl
   previous-replied None =
       by-cond (IsReplied 0) (not (may_leave s boot)) _ _ (inl refl)
-      (by-cond (IsReplied 0) (not (has_other s)) _ _ (inl refl) (by-cond (IsReplied 0) (not (may_go_back E s (bank s s.previous).held)) _ _ (inl refl) (inr refl)))
+      (by-cond (IsReplied 0) (not (has_other s)) _ _ (inl refl)
+      (by-cond (IsReplied 0) (not (may_go_back E s (bank s s.previous).held)) _ _ (inl refl) (inr refl)))
 
   answer-replied : (r : Request) → IsReplied (asked_kind r) (answer E s here (call_of r bytes))
   unfolding answer
@@ -267,7 +269,8 @@ module _ (E : Setting) (s : State) (boot : ℕ) (stg : Option (List Staged)) (hs
   unfolding answer_write
   write-leaves session.Free e = absurd (omega (arith, e))
   write-leaves (session.Reads target place) e = absurd (omega (arith, e))
-  write-leaves (session.Writes image) e = (by-cond (Leaves (λ x. handles_of x ≡ hs)) (exceeds_slot E stg image bytes) _ _ (λ r. absurd (omega (arith, r))) (λ r. refl)) e
+  write-leaves (session.Writes image) e = (by-cond (Leaves (λ x. handles_of x ≡ hs)) (exceeds_slot E stg image bytes) _ _ (λ r. absurd (omega (arith, r)))
+      (λ r. refl)) e
 
   -- a handle that isn't free was closed
   abbrev pub Closes : ℕ → Session → Type 0
@@ -300,7 +303,8 @@ module _ (E : Setting) (s : State) (boot : ℕ) (stg : Option (List Staged)) (hs
   accept-leaves : (o : Option (List Staged)) (target : Option ℕ) → Leaves (λ x. staging_of x ≡ None) (answer_accept s boot o hs target)
   unfolding answer_accept
   accept-leaves (Some parts) target e = absurd (omega (arith, e))
-  accept-leaves None target e = (by-cond (Leaves (λ x. staging_of x ≡ None)) (is_elsewhere s boot) _ _ (λ r. absurd (omega (arith, r))) (by-target target)) e
+  accept-leaves None target e = (by-cond (Leaves (λ x. staging_of x ≡ None)) (is_elsewhere s boot) _ _ (λ r. absurd (omega (arith, r))) (by-target target))
+      e
     where
       by-target : (t : Option ℕ) → Leaves (λ x. staging_of x ≡ None) (accept_image s boot hs t)
       by-target None r = absurd (omega (arith, r))
@@ -319,7 +323,8 @@ some-is : (x y : List Staged) → ◌≡◌ {A = Option (List Staged)} (Some x) 
 some-is x y e = cc
 
 -- no image changes from nothing
-begun-set : (E : Setting) (parts : List Staged) (image : ℕ) (part : Staged) → image < length parts → Some (set parts image part) ≡ nothing_staged E → part ≡ session.Nothing
+begun-set : (E : Setting) (parts : List Staged) (image : ℕ) (part : Staged) → image < length parts → Some (set parts image part) ≡ nothing_staged E
+    → part ≡ session.Nothing
 begun-set E parts image part lt e =
     sym (get_or-set_same parts image part session.Nothing lt)
     ∙ ap (λ (l : List Staged). get_or l image session.Nothing) (some-is (set parts image part) (replicate (length E.layout.rows) session.Nothing) e)
@@ -365,7 +370,8 @@ module _ (E : Setting) (s : State) (boot : ℕ) (parts : List Staged) (hs : List
     some : part ≢ session.Nothing
     moves : plan_kind p ≡ 0
 
-  idle-not : (p : Plan) (part : Staged) (handles : List Handle) → Plans p part handles → staging_of (planned E s boot (Some parts) hs bytes p).next ≡ None → ⊥
+  idle-not : (p : Plan) (part : Staged) (handles : List Handle) → Plans p part handles → staging_of (planned E s boot (Some parts) hs bytes p).next ≡ None
+      → ⊥
   idle-not p part handles plans none = some-none (set parts image part) (sym none ∙ plans.staging)
 
   begin-not : (p : Plan) (part : Staged) (handles : List Handle) (flags n : ℕ) → Plans p part handles → Is (request.Begin flags n) p → ⊥
@@ -376,44 +382,59 @@ module _ (E : Setting) (s : State) (boot : ℕ) (parts : List Staged) (hs : List
 
   end-not : (p : Plan) (part : Staged) (handles : List Handle) → Plans p part handles → Is request.End p → ⊥
   unfolding answer
-  end-not p part handles plans is = idle-not p part handles plans (ap (λ (a : Answer). staging_of a.next) (sym is) ∙ end-leaves E s boot (Some parts) hs bytes (Some parts) (success request.End p is plans.told))
+  end-not p part handles plans is = idle-not p part handles plans
+      (ap (λ (a : Answer). staging_of a.next) (sym is) ∙ end-leaves E s boot (Some parts) hs bytes (Some parts) (success request.End p is plans.told))
 
   cancel-not : (p : Plan) (part : Staged) (handles : List Handle) → Plans p part handles → Is request.Cancel p → ⊥
   unfolding answer
-  cancel-not p part handles plans is = idle-not p part handles plans (ap (λ (a : Answer). staging_of a.next) (sym is) ∙ cancel-leaves E s boot (Some parts) hs bytes (Some parts) (success request.Cancel p is plans.told))
+  cancel-not p part handles plans is = idle-not p part handles plans
+      (ap (λ (a : Answer). staging_of a.next) (sym is) ∙ cancel-leaves E s boot (Some parts) hs bytes (Some parts) (success request.Cancel p is plans.told))
 
   accept-not : (p : Plan) (part : Staged) (handles : List Handle) (guid : List ℕ) → Plans p part handles → Is (request.Accept guid) p → ⊥
   unfolding answer
   accept-not p part handles guid plans is =
       idle-not p part handles plans
-      (ap (λ (a : Answer). staging_of a.next) (sym is) ∙ accept-leaves E s boot (Some parts) hs bytes (Some parts) (find_image E.layout.rows guid) (success (request.Accept guid) p is plans.told))
+      (ap (λ (a : Answer). staging_of a.next) (sym is) ∙ accept-leaves E s boot (Some parts) hs bytes (Some parts) (find_image E.layout.rows guid)
+      (success (request.Accept guid) p is plans.told))
 
   write-planned : (number at n : ℕ) → is_open (get_or parts image session.Nothing) ≡ true
       → Plans (plan.Write number image at n) (appended (get_or parts image session.Nothing) bytes) hs
   unfolding planned
-  write-planned number at n opened = record { told = refl; staging = refl; handles_are = refl; some = some-part (get_or parts image session.Nothing) opened; moves = refl }
+  write-planned number at n opened = record {
+    told = refl;
+    staging = refl;
+    handles_are = refl;
+    some = some-part (get_or parts image session.Nothing) opened;
+    moves = refl;
+  }
     where
       some-part : (p : Staged) → is_open p ≡ true → appended p bytes ≢ session.Nothing
       some-part session.Nothing e = absurd cc
       some-part (session.Open before) e = λ q. absurd cc
       some-part (session.Committed before bit) e = absurd cc
 
-  commit-planned : (number : ℕ) (bit : Bool) → Plans (plan.Commit number (Some image) bit) (session.Committed (staged_bytes (get_or parts image session.Nothing)) bit) (set hs (number - 1) session.Free)
+  commit-planned : (number : ℕ) (bit : Bool) → Plans (plan.Commit number (Some image) bit)
+      (session.Committed (staged_bytes (get_or parts image session.Nothing)) bit) (set hs (number - 1) session.Free)
   unfolding planned
   commit-planned number bit = record { told = refl; staging = refl; handles_are = refl; some = λ q. absurd cc; moves = refl }
 
-  commit-not : (h req most number at n : ℕ) → is_open (get_or parts image session.Nothing) ≡ true → Is (request.Commit h req most) (plan.Write number image at n) → ⊥
+  commit-not : (h req most number at n : ℕ) → is_open (get_or parts image session.Nothing) ≡ true
+      → Is (request.Commit h req most) (plan.Write number image at n) → ⊥
   unfolding answer
   commit-not h req most number at n opened is =
-      let left = commit-leaves E s boot (Some parts) hs bytes h req (handle_at hs h) refl (success (request.Commit h req most) (plan.Write number image at n) is refl) in
-      let same : hs ≡ set hs (h - 1) session.Free = sym (write-planned number at n opened).handles_are ∙ ap (λ (a : Answer). handles_of a.next) (sym is) ∙ left.1 in
+      let left = commit-leaves E s boot (Some parts) hs bytes h req (handle_at hs h) refl
+      (success (request.Commit h req most) (plan.Write number image at n) is refl) in
+      let same : hs ≡ set hs (h - 1) session.Free = sym (write-planned number at n opened).handles_are ∙ ap (λ (a : Answer). handles_of a.next) (sym is)
+      ∙ left.1 in
       left.0 (handle-free hs h (ap (λ (l : List Handle). get_or l (h - 1) session.Free) same ∙ closed-free hs (h - 1)))
 
   -- a plan to write is that of a write
-  pub write-own : (number at n : ℕ) (r : Request) → (request_kind r ≡ 4 → ⊥) → is_open (get_or parts image session.Nothing) ≡ true → Is r (plan.Write number image at n) → WritesOwn r
+  pub write-own : (number at n : ℕ) (r : Request) → (request_kind r ≡ 4 → ⊥) → is_open (get_or parts image session.Nothing) ≡ true
+      → Is r (plan.Write number image at n) → WritesOwn r
   write-own number at n request.Discover other opened is = absurd (omega (arith, asks request.Discover (plan.Write number image at n) is refl))
   write-own number at n (request.Begin flags count) other opened is = absurd (begin-not _ _ hs flags count (write-planned number at n opened) is)
-  write-own number at n (request.Open guid o total) other opened is = absurd (omega (arith, asks (request.Open guid o total) (plan.Write number image at n) is refl))
+  write-own number at n (request.Open guid o total) other opened is = absurd
+      (omega (arith, asks (request.Open guid o total) (plan.Write number image at n) is refl))
   write-own number at n (request.Write h length) other opened is = tt
   write-own number at n (request.Read h room) other opened is = absurd (omega (arith, asks (request.Read h room) (plan.Write number image at n) is refl))
   write-own number at n (request.Commit h req most) other opened is = commit-not h req most number at n opened is
@@ -422,23 +443,28 @@ module _ (E : Setting) (s : State) (boot : ℕ) (parts : List Staged) (hs : List
   write-own number at n (request.Accept guid) other opened is = absurd (accept-not _ _ hs guid (write-planned number at n opened) is)
   write-own number at n request.Previous other opened is = absurd (other refl)
 
-  write-not : (h n number : ℕ) (bit : Bool) → get_or hs (number - 1) session.Free ≡ session.Writes image → Is (request.Write h n) (plan.Commit number (Some image) bit) → ⊥
+  write-not : (h n number : ℕ) (bit : Bool) → get_or hs (number - 1) session.Free ≡ session.Writes image
+      → Is (request.Write h n) (plan.Commit number (Some image) bit) → ⊥
   unfolding answer
   write-not h n number bit writes is =
       let left = write-leaves E s boot (Some parts) hs bytes (handle_at hs h) (success (request.Write h n) (plan.Commit number (Some image) bit) is refl) in
-      let same : set hs (number - 1) session.Free ≡ hs = sym (commit-planned number bit).handles_are ∙ ap (λ (a : Answer). handles_of a.next) (sym is) ∙ left in
+      let same : set hs (number - 1) session.Free ≡ hs = sym (commit-planned number bit).handles_are ∙ ap (λ (a : Answer). handles_of a.next) (sym is)
+      ∙ left in
       writes-free (sym (sym (closed-free hs (number - 1)) ∙ ap (λ (l : List Handle). get_or l (number - 1) session.Free) same ∙ writes))
     where
       writes-free : session.Writes image ≡ session.Free → ⊥
       writes-free q = absurd cc
 
   -- a plan to end an image is that of a commit
-  pub commit-own : (number : ℕ) (bit : Bool) (r : Request) → (request_kind r ≡ 4 → ⊥) → get_or hs (number - 1) session.Free ≡ session.Writes image → Is r (plan.Commit number (Some image) bit) → CommitsOwn r
+  pub commit-own : (number : ℕ) (bit : Bool) (r : Request) → (request_kind r ≡ 4 → ⊥) → get_or hs (number - 1) session.Free ≡ session.Writes image
+      → Is r (plan.Commit number (Some image) bit) → CommitsOwn r
   commit-own number bit request.Discover other writes is = absurd (omega (arith, asks request.Discover (plan.Commit number (Some image) bit) is refl))
   commit-own number bit (request.Begin flags count) other writes is = absurd (begin-not _ _ _ flags count (commit-planned number bit) is)
-  commit-own number bit (request.Open guid o total) other writes is = absurd (omega (arith, asks (request.Open guid o total) (plan.Commit number (Some image) bit) is refl))
+  commit-own number bit (request.Open guid o total) other writes is = absurd
+      (omega (arith, asks (request.Open guid o total) (plan.Commit number (Some image) bit) is refl))
   commit-own number bit (request.Write h length) other writes is = write-not h length number bit writes is
-  commit-own number bit (request.Read h room) other writes is = absurd (omega (arith, asks (request.Read h room) (plan.Commit number (Some image) bit) is refl))
+  commit-own number bit (request.Read h room) other writes is = absurd
+      (omega (arith, asks (request.Read h room) (plan.Commit number (Some image) bit) is refl))
   commit-own number bit (request.Commit h req most) other writes is = tt
   commit-own number bit request.End other writes is = absurd (end-not _ _ _ (commit-planned number bit) is)
   commit-own number bit request.Cancel other writes is = absurd (cancel-not _ _ _ (commit-planned number bit) is)
@@ -455,7 +481,8 @@ module _ (E : Setting) (s : State) (boot : ℕ) (hs : List Handle) (bytes : List
   unfolding answer_write
   idle-write session.Free e = absurd (omega (arith, e))
   idle-write (session.Reads target place) e = absurd (omega (arith, e))
-  idle-write (session.Writes image) e = (by-cond (Leaves (λ x. staging_of x ≡ None)) (exceeds_slot E None image bytes) _ _ (λ r. absurd (omega (arith, r))) (λ r. refl)) e
+  idle-write (session.Writes image) e = (by-cond (Leaves (λ x. staging_of x ≡ None)) (exceeds_slot E None image bytes) _ _ (λ r. absurd (omega (arith, r)))
+      (λ r. refl)) e
 
   idle-commit : (h req : ℕ) (k : Handle) → Leaves (λ x. staging_of x ≡ None) (answer_commit boot None hs h req k)
   unfolding answer_commit
@@ -477,7 +504,8 @@ module _ (E : Setting) (s : State) (boot : ℕ) (hs : List Handle) (bytes : List
   began-own (request.Open guid o total) asked one four is = omega (arith, asked)
   began-own (request.Write h n) asked one four is = begun (request.Write h n) is (idle-write (handle_at hs h) (succeeds (request.Write h n) is))
   began-own (request.Read h room) asked one four is = omega (arith, asked)
-  began-own (request.Commit h req most) asked one four is = begun (request.Commit h req most) is (idle-commit h req (handle_at hs h) (succeeds (request.Commit h req most) is))
+  began-own (request.Commit h req most) asked one four is = begun (request.Commit h req most) is
+      (idle-commit h req (handle_at hs h) (succeeds (request.Commit h req most) is))
   began-own request.End asked one four is = begun request.End is (end-leaves E s boot None hs bytes None (succeeds request.End is))
   began-own request.Cancel asked one four is = begun request.Cancel is (cancel-leaves E s boot None hs bytes None (succeeds request.Cancel is))
   began-own (request.Accept guid) asked one four is =

@@ -39,7 +39,8 @@ nothing-committed : (p : Part) (size : ℕ) (digest : List ℕ) (bit : Bool) →
 nothing-committed p size digest bit a b = absurd cc
 
 -- What an agent with another session knows of the same flash.
-pub known-still : (f : Fields) (k : Kept) (t : Told) → Knows f t → (k.staging ≡ true → IsTrue (is_accepted (state_at f.meta.meta f.meta.meta.active))) → HasStaged (with_session f k f.rests) t → Knows (with_session f k f.rests) t
+pub known-still : (f : Fields) (k : Kept) (t : Told) → Knows f t → (k.staging ≡ true → IsTrue (is_accepted (state_at f.meta.meta f.meta.meta.active)))
+    → HasStaged (with_session f k f.rests) t → Knows (with_session f k f.rests) t
 known-still f k t knows accepted has = record {
   layout_is = knows.layout_is;
   both = knows.both;
@@ -63,14 +64,16 @@ module _ (f : Fields) (k : Kept) (t : Told) (fitting : Fitting f) (knows : Knows
   -- what the flash has of the staged images after a plan
   pub record Still (p : Plan) : Type 0 where
     pub means : MeansSame k (staged_after p bytes was) (staged_bytes g t.now)
-    pub ahead : (image size : ℕ) (hasher : Sha256) → image < length f.layout.rows → part_at k image ≡ Open size hasher → IsBlankAhead (start f.layout (target f) image) (done_of size) t.now
+    pub ahead : (image size : ℕ) (hasher : Sha256) → image < length f.layout.rows → part_at k image ≡ Open size hasher
+        → IsBlankAhead (start f.layout (target f) image) (done_of size) t.now
     pub sure : (image size : ℕ) (digest : List ℕ) (bit : Bool) → image < length f.layout.rows → part_at k image ≡ Committed size digest bit
         → Quiet (4096 * start f.layout (target f) image) (4096 * start f.layout (target f) image + slot_bytes f.layout image) t
 
   -- nothing is kept of any image
   empty-still : (p : Plan) → HasNothing k → Still p
   empty-still p nothing = record {
-    means = λ i lt. ap (λ (q : Part). part_meant q (staged_bytes g t.now i)) (nothing i) ∙ sym (ap (λ (q : Part). part_meant q (staged_after p bytes was i)) (nothing i));
+    means = λ i lt. ap (λ (q : Part). part_meant q (staged_bytes g t.now i)) (nothing i)
+        ∙ sym (ap (λ (q : Part). part_meant q (staged_after p bytes was i)) (nothing i));
     ahead = λ i size hasher lt is. absurd (nothing-open (part_at k i) size hasher (nothing i) is);
     sure = λ i size digest bit lt is. absurd (nothing-committed (part_at k i) size digest bit (nothing i) is);
   }
@@ -137,7 +140,8 @@ module _ (f : Fields) (k : Kept) (t : Told) (fitting : Fitting f) (knows : Knows
   still (plan.Open number None op.Write total) quiet changes = absurd changes
   still (plan.Open number (Some image) op.Write total) quiet changes = open-still number image total (number - 1) changes
   still (plan.Write number image at n) quiet changes = absurd quiet
-  still (plan.Read number image at n total) quiet changes = same-still (plan.Read number image at n total) (λ i. ap (λ (x : Kept). part_at x i) changes) (λ i. refl)
+  still (plan.Read number image at n total) quiet changes = same-still (plan.Read number image at n total) (λ i. ap (λ (x : Kept). part_at x i) changes)
+      (λ i. refl)
   still (plan.Commit number None bit) quiet changes = same-still (plan.Commit number None bit) (λ i. ap (λ (x : Kept). part_at x i) changes) (λ i. refl)
   still (plan.Commit number (Some image) bit) quiet changes = absurd quiet
   still plan.End quiet changes = absurd quiet
@@ -149,10 +153,15 @@ module _ (f : Fields) (k : Kept) (t : Told) (fitting : Fitting f) (knows : Knows
   pub quiet-means : (p : Plan) → IsQuiet p → Changes f.session bytes p k → MeansSame k (staged_after p bytes was) (staged_bytes g t.now)
   quiet-means p quiet changes = (still p quiet changes).means
 
-  pub quiet-known : (p : Plan) → IsQuiet p → Changes f.session bytes p k → 1 ≤ length k.rows → IsKept k (staged_after p bytes was) → (k.staging ≡ true → IsTrue (is_accepted (state_at f.meta.meta f.meta.meta.active))) → Knows g t
+  pub quiet-known : (p : Plan) → IsQuiet p → Changes f.session bytes p k → 1 ≤ length k.rows → IsKept k (staged_after p bytes was)
+      → (k.staging ≡ true → IsTrue (is_accepted (state_at f.meta.meta f.meta.meta.active))) → Knows g t
   quiet-known p quiet changes some kept accepted =
       let it = still p quiet changes in
-      known-still f k t knows accepted (record { kept = kept-same k (staged_after p bytes was) (staged_bytes g t.now) some it.means kept; ahead = it.ahead; sure = it.sure })
+      known-still f k t knows accepted (record {
+        kept = kept-same k (staged_after p bytes was) (staged_bytes g t.now) some it.means kept;
+        ahead = it.ahead;
+        sure = it.sure;
+      })
 
 -- ---- the fields after such a plan
 
@@ -193,7 +202,8 @@ module _ (f : Fields) (k : Kept) (bytes : List ℕ) (fitting : Fitting f) where
   handle-fit number h e well = record {
     may = staged-before f k fitting (ap (λ (x : Kept). x.staging) e);
     idle = λ off i. ap (λ (x : Kept). part_at x i) e ∙ fitting.idle (sym (ap (λ (x : Kept). x.staging) e) ∙ off) i;
-    readers = λ place. subst (λ (x : Kept). ReadsWell f (handle_kept x place)) (sym e) (set-readers f f.session.handles (number - 1) h (old-readers f fitting) well place);
+    readers = λ place. subst (λ (x : Kept). ReadsWell f (handle_kept x place)) (sym e)
+        (set-readers f f.session.handles (number - 1) h (old-readers f fitting) well place);
   }
 
   closed-readers : k.handles ≡ replicate 32 Free → (place : ℕ) → ReadsWell f (handle_kept k place)
@@ -202,8 +212,14 @@ module _ (f : Fields) (k : Kept) (bytes : List ℕ) (fitting : Fitting f) where
   stays-fit : (tells : Bool) (p : Plan) → IsQuiet p → IsPlanOf f.session p → MayKeep tells f p → Changes f.session bytes p k → StaysFit
   stays-fit tells plan.Tell quiet of may changes = same-fit changes
   stays-fit tells (plan.Begin true) quiet of may changes = absurd quiet
-  stays-fit tells (plan.Begin false) quiet of may changes = record { may = λ is. (may.0, may.1); idle = λ off. changes.nothing; readers = closed-readers changes.closed }
-  stays-fit tells (plan.Open number image op.Read total) quiet of may changes = handle-fit number (Reads image 0 total) changes (opened-well image total may)
+  stays-fit tells (plan.Begin false) quiet of may changes = record {
+    may = λ is. (may.0, may.1);
+    idle = λ off. changes.nothing;
+    readers = closed-readers
+        changes.closed;
+  }
+  stays-fit tells (plan.Open number image op.Read total) quiet of may changes = handle-fit number (Reads image 0 total) changes
+      (opened-well image total may)
     where
       opened-well : (image : Option ℕ) (total : ℕ) → (total ≡ total_of f image) × IsThere f image → ReadsWell f (Reads image 0 total)
       opened-well image total well other at n e =
@@ -214,7 +230,8 @@ module _ (f : Fields) (k : Kept) (bytes : List ℕ) (fitting : Fitting f) where
   stays-fit tells (plan.Open number (Some image) op.Write total) quiet of may changes = record {
     may = staged-before f k fitting changes.staging;
     idle = λ off. absurd (false-true (sym changes.staging ∙ off) of.2);
-    readers = λ place. subst (λ (hs : List Handle). ReadsWell f (get_or hs place Free)) (sym changes.handles) (set-readers f f.session.handles (number - 1) (Writes image) (old-readers f fitting) (writer-well f image) place);
+    readers = λ place. subst (λ (hs : List Handle). ReadsWell f (get_or hs place Free)) (sym changes.handles)
+        (set-readers f f.session.handles (number - 1) (Writes image) (old-readers f fitting) (writer-well f image) place);
   }
   stays-fit tells (plan.Write number image at n) quiet of may changes = absurd quiet
   stays-fit tells (plan.Read number image at n total) quiet of may changes =
@@ -226,18 +243,24 @@ module _ (f : Fields) (k : Kept) (bytes : List ℕ) (fitting : Fitting f) where
   stays-fit tells (plan.Commit number None bit) quiet of may changes = handle-fit number Free changes (free-well f)
   stays-fit tells (plan.Commit number (Some image) bit) quiet of may changes = absurd quiet
   stays-fit tells plan.End quiet of may changes = absurd quiet
-  stays-fit tells plan.Cancel quiet of may changes = record { may = λ is. absurd (false-true changes.staging_is is); idle = λ off. changes.nothing; readers = closed-readers changes.closed }
+  stays-fit tells plan.Cancel quiet of may changes = record {
+    may = λ is. absurd (false-true changes.staging_is is);
+    idle = λ off. changes.nothing;
+    readers = closed-readers changes.closed;
+  }
   stays-fit tells (plan.Accept image true) quiet of may changes = absurd quiet
   stays-fit tells (plan.Accept image false) quiet of may changes = same-fit changes
   stays-fit tells plan.Back quiet of may changes = absurd quiet
 
-  pub quiet-fitting : (tells : Bool) (p : Plan) → IsQuiet p → IsPlanOf f.session p → MayKeep tells f p → Changes f.session bytes p k → Fitting (with_session f k f.rests)
+  pub quiet-fitting : (tells : Bool) (p : Plan) → IsQuiet p → IsPlanOf f.session p → MayKeep tells f p → Changes f.session bytes p k
+      → Fitting (with_session f k f.rests)
   quiet-fitting tells p quiet of may changes =
       let it = stays-fit tells p quiet of may changes in
       fitting-again f k f.rests fitting (rows-after f.session bytes p k changes) it.may it.idle fitting.rests it.readers
 
   -- where a package is staged afterwards, the active bank is accepted
-  pub quiet-accepted : (tells : Bool) (p : Plan) → IsQuiet p → IsPlanOf f.session p → MayKeep tells f p → Changes f.session bytes p k → IsTrue tells → (f.session.staging ≡ true → IsTrue (is_accepted (state_at f.meta.meta f.meta.meta.active)))
+  pub quiet-accepted : (tells : Bool) (p : Plan) → IsQuiet p → IsPlanOf f.session p → MayKeep tells f p → Changes f.session bytes p k → IsTrue tells
+      → (f.session.staging ≡ true → IsTrue (is_accepted (state_at f.meta.meta f.meta.meta.active)))
       → k.staging ≡ true → IsTrue (is_accepted (state_at f.meta.meta f.meta.meta.active))
   quiet-accepted tells plan.Tell quiet of may c told was is = was (sym (ap (λ (x : Kept). x.staging) c) ∙ is)
   quiet-accepted tells (plan.Begin store) quiet of may c told was is = may.2 told
@@ -284,10 +307,12 @@ quiet-moves s stg (plan.Accept image false) quiet = refl
 quiet-moves s stg plan.Back quiet = absurd quiet
 
 -- what is opened for reading has its total
-pub keeps-total : (tells : Bool) (f : Fields) → Fitting f → (p : Plan) → MayKeep tells f p → (E : Setting) (s : State) → E.layout ≡ f.layout → SpeaksOf f s → HasTotal E s f.boot p
+pub keeps-total : (tells : Bool) (f : Fields) → Fitting f → (p : Plan) → MayKeep tells f p → (E : Setting) (s : State) → E.layout ≡ f.layout → SpeaksOf f s
+    → HasTotal E s f.boot p
 keeps-total tells f fitting plan.Tell may E s same speaks = tt
 keeps-total tells f fitting (plan.Begin store) may E s same speaks = tt
-keeps-total tells f fitting (plan.Open number image op.Read total) may E s same speaks = may.0 ∙ sym (content-total f E s fitting.layout same speaks image may.1)
+keeps-total tells f fitting (plan.Open number image op.Read total) may E s same speaks = may.0
+    ∙ sym (content-total f E s fitting.layout same speaks image may.1)
 keeps-total tells f fitting (plan.Open number image op.Write total) may E s same speaks = tt
 keeps-total tells f fitting (plan.Write number image at n) may E s same speaks = tt
 keeps-total tells f fitting (plan.Read number image at n total) may E s same speaks = tt
@@ -297,8 +322,10 @@ keeps-total tells f fitting plan.Cancel may E s same speaks = tt
 keeps-total tells f fitting (plan.Accept image store) may E s same speaks = tt
 keeps-total tells f fitting plan.Back may E s same speaks = tt
 
-module _ (tells : Bool) (t : Told) (f : Fields) (k : Kept) (new_meta : MetaRead) (bytes : List ℕ) (p : Plan) (fitting : Fitting f) (sound : SessionSound f) (knows : IsTrue tells → Knows f t) (quiet : IsQuiet p) (of : IsPlanOf f.session p) (may : MayKeep tells f p)
-    (changes : Changes f.session bytes p k) (meta : new_meta ≡ record f.meta { meta = meta_planned f.session f.meta.meta p }) (settles : Settles f.session f.meta bytes p new_meta k) where
+module _ (tells : Bool) (t : Told) (f : Fields) (k : Kept) (new_meta : MetaRead) (bytes : List ℕ) (p : Plan) (fitting : Fitting f) (sound : SessionSound f)
+    (knows : IsTrue tells → Knows f t) (quiet : IsQuiet p) (of : IsPlanOf f.session p) (may : MayKeep tells f p)
+    (changes : Changes f.session bytes p k) (meta : new_meta ≡ record f.meta { meta = meta_planned f.session f.meta.meta p })
+    (settles : Settles f.session f.meta bytes p new_meta k) where
   abbrev after_it : Fields
   after_it = record (with_session f k f.rests) { meta = new_meta }
 
@@ -322,7 +349,8 @@ module _ (tells : Bool) (t : Told) (f : Fields) (k : Kept) (new_meta : MetaRead)
   keeps-known told =
       let it = knows told in
       with-meta (λ (g : Fields). Knows g t)
-      (quiet-known f k t fitting it bytes p quiet changes rows-some (kept-after f fitting sound t it bytes p new_meta k settles (keeps-total tells f fitting p may))
+      (quiet-known f k t fitting it bytes p quiet changes rows-some
+      (kept-after f fitting sound t it bytes p new_meta k settles (keeps-total tells f fitting p may))
       (quiet-accepted f k bytes fitting tells p quiet of may changes told it.accepted))
 
   pub keeps-some : ∥ SomeStaged f.session ∥₁ → ∥ SomeStaged k ∥₁
@@ -334,8 +362,11 @@ module _ (tells : Bool) (t : Told) (f : Fields) (k : Kept) (new_meta : MetaRead)
     beside = record { layout = refl; boot = refl; counter = refl; lengths = refl; form = ap (λ (r : MetaRead). r.form) same-meta };
     settles = settles;
     total = keeps-total tells f fitting p may;
-    trials = λ s staged speaks kept. speaks.trials_are ∙ sym (ap (λ (ms : List Move). (after s ms).trials) (quiet-moves s (staging_meant f.session staged) p quiet));
+    trials = λ s staged speaks kept. speaks.trials_are ∙ sym
+        (ap (λ (ms : List Move). (after s ms).trials) (quiet-moves s (staging_meant f.session staged) p quiet));
     held = λ s staged speaks kept. ap (λ (ms : List Move). (bank (after s ms) f.boot).held) (quiet-moves s (staging_meant f.session staged) p quiet);
-    state_is = λ told. ap (state_of f.layout t.now) same-meta ∙ sym (ap (after (state_in f t.now)) (quiet-moves (state_in f t.now) (staging_meant f.session (staged_bytes f t.now)) p quiet));
-    staged_are = λ told. with-meta (λ (g : Fields). MeansSame k (staged_after p bytes (staged_bytes f t.now)) (staged_bytes g t.now)) (quiet-means f k t fitting (knows told) bytes p quiet changes);
+    state_is = λ told. ap (state_of f.layout t.now) same-meta
+        ∙ sym (ap (after (state_in f t.now)) (quiet-moves (state_in f t.now) (staging_meant f.session (staged_bytes f t.now)) p quiet));
+    staged_are = λ told. with-meta (λ (g : Fields). MeansSame k (staged_after p bytes (staged_bytes f t.now)) (staged_bytes g t.now))
+        (quiet-means f k t fitting (knows told) bytes p quiet changes);
   }

@@ -30,7 +30,8 @@ slot-small L image h lt = let small = (rows-limits (record { guid = []; slots = 
 pub slots-small : (L : Layout) → IsTrue (fits_layout L) → (image : ℕ) → slot_of L.rows image ≤ 1048576
 slots-small L h image = elim (cases_lt image (length L.rows)) [
   | inl lt ↦ slot-small L image h lt
-  | inr past ↦ let none : (get_or L.rows image (record { guid = []; slots = 0 })).slots ≡ 0 = ap (λ (r : ImageRow). r.slots) (get_or_past L.rows image (record { guid = []; slots = 0 }) past) in omega (arith, none)
+  | inr past ↦ let none : (get_or L.rows image (record { guid = []; slots = 0 })).slots ≡ 0 = ap (λ (r : ImageRow). r.slots)
+      (get_or_past L.rows image (record { guid = []; slots = 0 }) past) in omega (arith, none)
 ]
 
 pub slot-inside : (L : Layout) (bank image : ℕ) → bank < L.banks → 4096 * start L bank image + slot_bytes L image ≤ 4096 * blocks_needed L
@@ -57,7 +58,8 @@ old-readers f fitting place None at total is = (fitting.readers place None at to
 old-readers f fitting place (Some image) at total is = (fitting.readers place (Some image) at total is, fitting.readable place image at total is)
 
 -- one handle changes
-pub set-readers : (f : Fields) (handles : List Handle) (place : ℕ) (h : Handle) → ((other : ℕ) → ReadsWell f (get_or handles other Free)) → ReadsWell f h → (other : ℕ) → ReadsWell f (get_or (set handles place h) other Free)
+pub set-readers : (f : Fields) (handles : List Handle) (place : ℕ) (h : Handle) → ((other : ℕ) → ReadsWell f (get_or handles other Free)) → ReadsWell f h
+    → (other : ℕ) → ReadsWell f (get_or (set handles place h) other Free)
 set-readers f handles place h each well other = elim (cases_eq other place) [
   | inl same ↦ subst (λ (i : ℕ). ReadsWell f (get_or (set handles place h) i Free)) (sym same) here
   | inr ne ↦ subst (ReadsWell f) (sym (get_or-set_other handles place other h Free ne)) (each other)
@@ -78,7 +80,8 @@ MayStage f k = k.staging ≡ true → (f.boot ≡ f.meta.meta.active) × IsTrue 
 pub staged-before : (f : Fields) (k : Kept) → Fitting f → k.staging ≡ f.session.staging → MayStage f k
 staged-before f k fitting same is = (fitting.active (sym same ∙ is), fitting.free (sym same ∙ is))
 
-pub fitting-again : (f : Fields) (k : Kept) (rests : List (List ℕ)) → Fitting f → k.rows ≡ f.session.rows → MayStage f k → (k.staging ≡ false → HasNothing k) → length rests ≡ 16 → ((place : ℕ) → ReadsWell f (handle_kept k place)) → Fitting (with_session f k rests)
+pub fitting-again : (f : Fields) (k : Kept) (rests : List (List ℕ)) → Fitting f → k.rows ≡ f.session.rows → MayStage f k
+    → (k.staging ≡ false → HasNothing k) → length rests ≡ 16 → ((place : ℕ) → ReadsWell f (handle_kept k place)) → Fitting (with_session f k rests)
 fitting-again f k rests fitting rows may idle count readers = record {
   layout = fitting.layout;
   meta = fitting.meta;
@@ -115,8 +118,11 @@ rows-some f fitting =
     omega (arith, limits.rows, count)
 
 -- ---- what was appended stays in the slot, at any exit
-pub appends-stay : {T : Type 0} (result : Result T FlashStop) (f : Fields) (image first size : ℕ) (rest bytes left : List ℕ) (s t : Told) → Fitting f → SessionSound f → Knows f s → IsTrue (is_invalid (state_at f.meta.meta (target f))) → image < length f.layout.rows
-    → blocks_needed f.layout * 4096 ≤ length s.now → first ≡ start f.layout (target f) image → size + length bytes ≤ slot_bytes f.layout image → Appends result first size rest bytes left s t → StaysKnown f image s t
+pub appends-stay : {T : Type 0} (result : Result T FlashStop) (f : Fields) (image first size : ℕ) (rest bytes left : List ℕ) (s t : Told) → Fitting f
+    → SessionSound f → Knows f s → IsTrue (is_invalid (state_at f.meta.meta (target f))) → image < length f.layout.rows
+    → blocks_needed f.layout * 4096 ≤ length s.now → first ≡ start f.layout (target f) image → size + length bytes ≤ slot_bytes f.layout image
+    → Appends result first size rest bytes left s t → StaysKnown f image s t
 appends-stay result f image first size rest bytes left s t fitting sound knows invalid within room at fits appends =
     stays-known f image s t fitting sound knows invalid within room
-    (keeps_wider (4096 * first + done_of size) (4096 * (first + blocks_for (done_of (size + length bytes)))) (4096 * start f.layout (target f) image) (4096 * start f.layout (target f) image + slot_bytes f.layout image) s t (omega (arith, at)) (omega (arith, at, fits)) appends.keeps)
+    (keeps_wider (4096 * first + done_of size) (4096 * (first + blocks_for (done_of (size + length bytes)))) (4096 * start f.layout (target f) image)
+    (4096 * start f.layout (target f) image + slot_bytes f.layout image) s t (omega (arith, at)) (omega (arith, at, fits)) appends.keeps)

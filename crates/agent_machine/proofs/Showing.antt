@@ -60,7 +60,8 @@ lengths-made (n ∷ lengths) = ap₂ (λ (m : ℕ) (l : List ℕ). m ∷ l) (sym
     long (suc k) = ap suc (long k)
 
 -- a part of each bank that is listed
-listed-parts : {X : Type 0} (n : ℕ) (g : ℕ → Bank) (part : Bank → X) (d : X) (xs : List X) → length xs ≡ n → ((b : ℕ) → part (g b) ≡ get_or xs b d) → map part (listed n g) ≡ xs
+listed-parts : {X : Type 0} (n : ℕ) (g : ℕ → Bank) (part : Bank → X) (d : X) (xs : List X) → length xs ≡ n → ((b : ℕ) → part (g b) ≡ get_or xs b d)
+    → map part (listed n g) ≡ xs
 listed-parts n g part d xs len is =
     let all = listed n g in
     let count = length-map-range_with_len g 0 n in
@@ -70,14 +71,17 @@ listed-parts n g part d xs len is =
     get_or-map part all i no_bank d (omega (arith, lt, count)) ∙ ap part (get_or-map-range_with_len g 0 n i i no_bank lt (omega arith)) ∙ is i)
 
 metas-are : (active previous : ℕ) (a b : List BankState) (c d : List (List Bool)) → a ≡ b → c ≡ d
-    → ◌≡◌ {A = Meta} (record { active = active; previous = previous; states = a; bits = c }) (record { active = active; previous = previous; states = b; bits = d })
-metas-are active previous a b c d p q = ap₂ (λ (x : List BankState) (y : List (List Bool)). record { active = active; previous = previous; states = x; bits = y }) p q
+    → ◌≡◌ {A = Meta} (record { active = active; previous = previous; states = a; bits = c })
+    (record { active = active; previous = previous; states = b; bits = d })
+metas-are active previous a b c d p q = ap₂ (λ (x : List BankState) (y : List (List Bool)).
+    record { active = active; previous = previous; states = x; bits = y }) p q
 
 module _ (f : Fields) (fitting : Fitting f) where
   made-meta : f.meta.meta ≡ meta_in (state_made f)
   made-meta =
       let whole = meta-fits f.layout f.meta.meta fitting.meta in
-      metas-are f.meta.meta.active f.meta.meta.previous f.meta.meta.states (map (λ (k : Bank). k.state) (state_made f).banks) f.meta.meta.bits (map (λ (k : Bank). k.bits) (state_made f).banks)
+      metas-are f.meta.meta.active f.meta.meta.previous f.meta.meta.states (map (λ (k : Bank). k.state) (state_made f).banks) f.meta.meta.bits
+      (map (λ (k : Bank). k.bits) (state_made f).banks)
       (sym (listed-parts f.layout.banks (bank_of f) (λ (k : Bank). k.state) Invalid f.meta.meta.states whole.states (λ b. refl)))
       (sym (listed-parts f.layout.banks (bank_of f) (λ (k : Bank). k.bits) [] f.meta.meta.bits whole.bits (λ b. refl)))
 
@@ -93,7 +97,8 @@ module _ (f : Fields) (fitting : Fitting f) where
     form = refl;
     counter_is = refl;
     trials_are = refl;
-    lengths_are = lengths-made (take (length f.layout.rows) f.lengths) ∙ ap (λ (o : Option (List (List ℕ))). map (λ (bytes : List ℕ). length bytes) (held_package o)) (sym made-held);
+    lengths_are = lengths-made (take (length f.layout.rows) f.lengths)
+        ∙ ap (λ (o : Option (List (List ℕ))). map (λ (bytes : List ℕ). length bytes) (held_package o)) (sym made-held);
   }
 
   -- the fields speak of the state that a known flash shows
@@ -102,7 +107,8 @@ module _ (f : Fields) (fitting : Fitting f) where
       let L : Layout = f.layout in
       let s : State = state_in f t.now in
       let fits = deciding-fits L t.now f.meta (both-decides L t.now f.meta knows.both) in
-      let bank-is : bank s f.boot ≡ bank_in L t.now f.meta.meta f.boot = get_or-map-range_with_len (bank_in L t.now f.meta.meta) 0 L.banks f.boot f.boot no_bank fitting.boot (omega arith) in
+      let bank-is : bank s f.boot ≡ bank_in L t.now f.meta.meta f.boot = get_or-map-range_with_len (bank_in L t.now f.meta.meta) 0 L.banks f.boot f.boot
+      no_bank fitting.boot (omega arith) in
       let held : (bank s f.boot).held ≡ package_in L t.now f.boot =
       ap (λ (k : Bank). k.held) bank-is ∙ ap (λ (b : Bool). cond b None (package_in L t.now f.boot)) knows.used in
       record {
@@ -116,18 +122,27 @@ module _ (f : Fields) (fitting : Fitting f) where
 
   -- so the machine of a known flash is shown
   pub known-shows : (tells : Bool) (t : Told) → Knows f t → Shows (record { tells = tells; told = t; fields = f }) (state_in f t.now) (session_in f t.now)
-  known-shows tells t knows = record { told = λ is. (refl, refl); speaks = known-speaks t knows; staged = staged_bytes f t.now; kept = knows.staged.kept; means = refl }
+  known-shows tells t knows = record {
+    told = λ is. (refl, refl);
+    speaks = known-speaks t knows;
+    staged = staged_bytes f t.now;
+    kept = knows.staged.kept;
+    means = refl;
+  }
 
   -- and on a device that tells nothing each that fits what is kept
-  pub made-shows : (t : Told) (some : SomeStaged f.session) → Shows (record { tells = false; told = t; fields = f }) (state_made f) (session_meant f.session f.boot some.staged)
+  pub made-shows : (t : Told) (some : SomeStaged f.session)
+      → Shows (record { tells = false; told = t; fields = f }) (state_made f) (session_meant f.session f.boot some.staged)
   made-shows t some = record { told = λ is. absurd (untrue is); speaks = made-speaks; staged = some.staged; kept = some.kept; means = refl }
     where
       untrue : IsTrue false → ⊥
       untrue e = absurd cc
 
-  pub shows-some : (tells : Bool) (t : Told) → (IsTrue tells → Knows f t) → ∥ SomeStaged f.session ∥₁ → ∥ Showing (record { tells = tells; told = t; fields = f }) ∥₁
+  pub shows-some : (tells : Bool) (t : Told) → (IsTrue tells → Knows f t) → ∥ SomeStaged f.session ∥₁
+      → ∥ Showing (record { tells = tells; told = t; fields = f }) ∥₁
   shows-some true t knows some = ∣ record { state = state_in f t.now; session = session_in f t.now; shows = known-shows true t (knows refl) } ∣₁
-  shows-some false t knows some = ∥∥₁_map some (λ (one : SomeStaged f.session). record { state = state_made f; session = session_meant f.session f.boot one.staged; shows = made-shows t one })
+  shows-some false t knows some = ∥∥₁_map some (λ (one : SomeStaged f.session).
+      record { state = state_made f; session = session_meant f.session f.boot one.staged; shows = made-shows t one })
 
 -- ---- after a plan
 
@@ -135,18 +150,24 @@ abbrev plain : Fields → Setting
 plain f = record { layout = f.layout; files = λ _. None; passes = λ _. true }
 
 -- what is kept afterwards fits some bytes of the staged images
-pub some-after : (f : Fields) → Fitting f → SessionSound f → (bytes : List ℕ) (p : Plan) (new_meta : MetaRead) (k : Kept) → Settles f.session f.meta bytes p new_meta k
+pub some-after : (f : Fields) → Fitting f → SessionSound f → (bytes : List ℕ) (p : Plan) (new_meta : MetaRead) (k : Kept)
+    → Settles f.session f.meta bytes p new_meta k
     → ((E : Setting) (s : State) → E.layout ≡ f.layout → SpeaksOf f s → HasTotal E s f.boot p) → ∥ SomeStaged f.session ∥₁ → ∥ SomeStaged k ∥₁
 some-after f fitting sound bytes p new_meta k settles total some =
     ∥∥₁_map some (λ (one : SomeStaged f.session).
-    let speaks = shown-speaks f fitting sound (plain f) (state_made f) (λ _. true) one.staged (record { layout = refl; verifier = refl }) (made-speaks f fitting) one.kept in
-    let settled = settles (plain f) (state_made f) (λ _. true) f.counter f.boot one.staged speaks (total (plain f) (state_made f) refl (made-speaks f fitting)) in
+    let speaks = shown-speaks f fitting sound (plain f) (state_made f) (λ _. true) one.staged (record { layout = refl; verifier = refl })
+    (made-speaks f fitting) one.kept in
+    let settled = settles (plain f) (state_made f) (λ _. true) f.counter f.boot one.staged speaks
+    (total (plain f) (state_made f) refl (made-speaks f fitting)) in
     record { staged = staged_after p bytes one.staged; kept = settled.spoken.kept })
 
 -- what is kept after a plan fits the bytes that the flash has, with those of the plan
-pub kept-after : (f : Fields) → Fitting f → SessionSound f → (t : Told) → Knows f t → (bytes : List ℕ) (p : Plan) (new_meta : MetaRead) (k : Kept) → Settles f.session f.meta bytes p new_meta k
+pub kept-after : (f : Fields) → Fitting f → SessionSound f → (t : Told) → Knows f t → (bytes : List ℕ) (p : Plan) (new_meta : MetaRead) (k : Kept)
+    → Settles f.session f.meta bytes p new_meta k
     → ((E : Setting) (s : State) → E.layout ≡ f.layout → SpeaksOf f s → HasTotal E s f.boot p) → IsKept k (staged_after p bytes (staged_bytes f t.now))
 kept-after f fitting sound t knows bytes p new_meta k settles total =
     let speaks-of = known-speaks f fitting t knows in
-    let speaks = shown-speaks f fitting sound (plain f) (state_in f t.now) (λ _. true) (staged_bytes f t.now) (record { layout = refl; verifier = refl }) speaks-of knows.staged.kept in
-    (settles (plain f) (state_in f t.now) (λ _. true) f.counter f.boot (staged_bytes f t.now) speaks (total (plain f) (state_in f t.now) refl speaks-of)).spoken.kept
+    let speaks = shown-speaks f fitting sound (plain f) (state_in f t.now) (λ _. true) (staged_bytes f t.now) (record { layout = refl; verifier = refl })
+    speaks-of knows.staged.kept in
+    (settles (plain f) (state_in f t.now) (λ _. true) f.counter f.boot (staged_bytes f t.now) speaks
+    (total (plain f) (state_in f t.now) refl speaks-of)).spoken.kept

@@ -30,14 +30,23 @@ use Rattle.agent_machine.specs.Knows.{Fitting, SessionSound, Knows}
 use Rattle.agent_machine.specs.Law.{StaysKnown}
 use Rattle.agent_machine.proofs.Known.{both-decides, known-shown, known-ready, state-held}
 
-slots-order : (rows : List ImageRow) (i j : ℕ) → i < j → slot_total (take i rows) + (get_or rows i (record { guid = []; slots = 0 })).slots ≤ slot_total (take j rows)
+slots-order : (rows : List ImageRow) (i j : ℕ) → i < j
+    → slot_total (take i rows) + (get_or rows i (record { guid = []; slots = 0 })).slots ≤ slot_total (take j rows)
 slots-order [] zero j lt = omega arith
 slots-order [] (suc i) j lt = omega arith
 slots-order (r ∷ rows) i zero lt = absurd (omega (arith, lt))
 slots-order (r ∷ rows) zero (suc j) lt = omega (arith, sum_by-cons (λ (x : ImageRow). x.slots) r (take j rows))
-slots-order (r ∷ rows) (suc i) (suc j) lt = omega (arith, sum_by-cons (λ (x : ImageRow). x.slots) r (take i rows), sum_by-cons (λ (x : ImageRow). x.slots) r (take j rows), slots-order rows i j (omega (arith, lt)))
+slots-order (r ∷ rows) (suc i) (suc j) lt = omega (
+  arith,
+  sum_by-cons (λ (x : ImageRow). x.slots) r (take i rows),
+  sum_by-cons (λ (x : ImageRow). x.slots) r
+      (take j rows),
+  slots-order rows i j (omega (arith, lt)),
+)
 
-module _ (f : Fields) (image : ℕ) (s t : Told) (fitting : Fitting f) (sound : SessionSound f) (knows : Knows f s) (invalid : IsTrue (is_invalid (state_at f.meta.meta (target f)))) (within : image < length f.layout.rows) (room : blocks_needed f.layout * 4096 ≤ length s.now)
+module _ (f : Fields) (image : ℕ) (s t : Told) (fitting : Fitting f) (sound : SessionSound f) (knows : Knows f s)
+    (invalid : IsTrue (is_invalid (state_at f.meta.meta (target f)))) (within : image < length f.layout.rows)
+    (room : blocks_needed f.layout * 4096 ≤ length s.now)
     (keeps : Keeps (4096 * start f.layout (target f) image) (4096 * start f.layout (target f) image + slot_bytes f.layout image) s t) where
   abbrev L : Layout
   L = f.layout
@@ -86,12 +95,14 @@ module _ (f : Fields) (image : ℕ) (s t : Told) (fitting : Fitting f) (sound : 
   both-after = both-beside L f.meta (4096 * start L u 0) (4096 * start L (u + 1) 0) s t (omega arith) in-bank knows.both
 
   apart-bank : f.boot ≢ u
-  apart-bank e = let is : IsTrue (is_invalid (state_at f.meta.meta f.boot)) = subst (λ (b : ℕ). IsTrue (is_invalid (state_at f.meta.meta b))) (sym e) invalid in let used = knows.used in cc
+  apart-bank e = let is : IsTrue (is_invalid (state_at f.meta.meta f.boot)) = subst (λ (b : ℕ). IsTrue (is_invalid (state_at f.meta.meta b)))
+      (sym e) invalid in let used = knows.used in cc
 
   held-after : package_in L t.now f.boot ≡ package_in L s.now f.boot
   held-after = package-same L t.now s.now f.boot in-bank.size (λ place above under. in-bank.now place (outside place above under))
     where
-      outside : (place : ℕ) → 4096 * start L f.boot 0 ≤ place → place < 4096 * start L (f.boot + 1) 0 → (place < 4096 * start L u 0) ⊎ (4096 * start L (u + 1) 0 ≤ place)
+      outside : (place : ℕ) → 4096 * start L f.boot 0 ≤ place → place < 4096 * start L (f.boot + 1) 0
+          → (place < 4096 * start L u 0) ⊎ (4096 * start L (u + 1) 0 ≤ place)
       outside place above under = elim (cases_lt f.boot u) [
         | inl before ↦ let order = banks-order L f.boot u before in inl (omega (arith, order, under))
         | inr other ↦ elim (cases_lt u f.boot) [
@@ -135,11 +146,14 @@ module _ (f : Fields) (image : ℕ) (s t : Told) (fitting : Fitting f) (sound : 
         (omega (arith, length-take n (drop from t.now), length-take n (drop from s.now), length-drop from t.now, length-drop from s.now, size))
         (λ k d h.
         let lt : k < n = omega (arith, h, length-take n (drop from t.now)) in
-        get_or-take n (drop from t.now) k d lt ∙ get_or-drop from t.now k d ∙ get_or_default t.now (from + k) d 0 (omega (arith, lt, le, size, within-flash))
+        get_or-take n (drop from t.now) k d lt ∙ get_or-drop from t.now k d
+        ∙ get_or_default t.now (from + k) d 0 (omega (arith, lt, le, size, within-flash))
         ∙ keeps.now (from + k) (outside (from + k) (omega arith) (omega (arith, lt, le)))
-        ∙ get_or_default s.now (from + k) 0 d (omega (arith, lt, le, within-flash)) ∙ sym (get_or-drop from s.now k d) ∙ sym (get_or-take n (drop from s.now) k d lt))
+        ∙ get_or_default s.now (from + k) 0 d (omega (arith, lt, le, within-flash)) ∙ sym (get_or-drop from s.now k d)
+        ∙ sym (get_or-take n (drop from s.now) k d lt))
 
-    part-kept : (p : Part) (rest : List ℕ) → size_of p ≤ slot_bytes L other → part_bytes (start L u other) p rest t.now ≡ part_bytes (start L u other) p rest s.now
+    part-kept : (p : Part) (rest : List ℕ) → size_of p ≤ slot_bytes L other
+        → part_bytes (start L u other) p rest t.now ≡ part_bytes (start L u other) p rest s.now
     part-kept Nothing rest le = refl
     part-kept (Open size hasher) rest le = ap (λ (l : List ℕ). l ++ take (size % 16) rest) (front-kept (done_of size) (omega (arith, le)))
     part-kept (Committed size digest bit) rest le = front-kept size le
@@ -147,7 +161,8 @@ module _ (f : Fields) (image : ℕ) (s t : Told) (fitting : Fitting f) (sound : 
   abbrev of-layout : (List ℕ → Option (List ℕ)) → (List ℕ → Bool) → Setting
   of-layout files passes = record { layout = L; files = files; passes = passes }
 
-  ready-here : (files : List ℕ → Option (List ℕ)) (passes : List ℕ → Bool) → IsCalm (of-layout files passes) s state → Guards 1 7 s → IsReady (of-layout files passes) t state
+  ready-here : (files : List ℕ → Option (List ℕ)) (passes : List ℕ → Bool) → IsCalm (of-layout files passes) s state → Guards 1 7 s
+      → IsReady (of-layout files passes) t state
   ready-here files passes calm guards = let E = of-layout files passes in staged-ready E s t state u (known-ready E f s refl knows calm guards) free in-bank
 
   ready-after : (E : Setting) → E.layout ≡ L → IsCalm E s state → Guards 1 7 s → IsReady E t state
@@ -164,8 +179,10 @@ module _ (f : Fields) (image : ℕ) (s t : Told) (fitting : Fitting f) (sound : 
     others = λ other not there. part-kept other not there (part_at f.session other) (rest_of f other) (in-slot other there);
     ahead = λ other size hasher not there is i above under.
         let le : size ≤ slot_bytes L other = omega (arith, ap size_of is, in-slot other there) in
-        keeps.now i (outside other not there i (omega (arith, above)) (omega (arith, under, le))) ∙ knows.staged.ahead other size hasher there is i above under;
-    sure = λ other size digest bit not there is i above under. keeps.sure i (outside other not there i above under) (knows.staged.sure other size digest bit there is i above under);
+        keeps.now i (outside other not there i (omega (arith, above)) (omega (arith, under, le)))
+        ∙ knows.staged.ahead other size hasher there is i above under;
+    sure = λ other size digest bit not there is i above under. keeps.sure i (outside other not there i above under)
+        (knows.staged.sure other size digest bit there is i above under);
     ready = ready-after;
     rests = λ rest. staged-rest L s t state u shown rest free in-bank;
   }

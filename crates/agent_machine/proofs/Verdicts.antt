@@ -26,12 +26,14 @@ use Rattle.agent_machine.specs.Asks.{IsPlain}
 abbrev pub with_verifier : Setting → (List ℕ → Bool) → Setting
 with_verifier E passes = record { layout = E.layout; files = E.files; passes = passes }
 
-content-any : (E : Setting) (passes : List ℕ → Bool) (s : State) (boot : ℕ) (image : Option ℕ) → content (with_verifier E passes) s boot image ≡ content E s boot image
+content-any : (E : Setting) (passes : List ℕ → Bool) (s : State) (boot : ℕ) (image : Option ℕ)
+    → content (with_verifier E passes) s boot image ≡ content E s boot image
 unfolding directory
 content-any E passes s boot None = refl
 content-any E passes s boot (Some image) = refl
 
-answer-any : (E : Setting) (passes : List ℕ → Bool) (s : State) (boot : ℕ) (stg : Option (List Staged)) (hs : List Handle) (r : Request) (bytes : List ℕ) → IsPlain r
+answer-any : (E : Setting) (passes : List ℕ → Bool) (s : State) (boot : ℕ) (stg : Option (List Staged)) (hs : List Handle) (r : Request) (bytes : List ℕ)
+    → IsPlain r
     → answer (with_verifier E passes) s (On boot stg hs) (call_of r bytes) ≡ answer E s (On boot stg hs) (call_of r bytes)
 unfolding answer answer_begin answer_open_read answer_open_write answer_write answer_read answer_commit answer_cancel answer_accept directory
 answer-any E passes s boot stg hs request.Discover bytes plain = refl
@@ -68,7 +70,8 @@ planned-any E passes s boot stg hs bytes (plan.Accept image store) = refl
 planned-any E passes s boot stg hs bytes plan.Back = refl
 
 module _ (p q : List ℕ → Bool) (m : MetaRead) (counter : ℕ) (k : Kept) (boot : ℕ) (r : Request) (plain : IsPlain r) where
-  speaks-any : (E : Setting) (s : State) (staged : ℕ → List ℕ) → Speaks E s q m counter k boot staged → Speaks (with_verifier E p) s p m counter k boot staged
+  speaks-any : (E : Setting) (s : State) (staged : ℕ → List ℕ) → Speaks E s q m counter k boot staged
+      → Speaks (with_verifier E p) s p m counter k boot staged
   speaks-any E s staged sp = record {
     rows = sp.rows;
     banks = sp.banks;
@@ -85,7 +88,8 @@ module _ (p q : List ℕ → Bool) (m : MetaRead) (counter : ℕ) (k : Kept) (bo
   fits-any : (E : Setting) (s : State) (bytes : List ℕ) (x : Request) → FitsRequest E s boot x bytes → FitsRequest (with_verifier E p) s boot x bytes
   fits-any E s bytes request.Discover fits = tt
   fits-any E s bytes (request.Begin flags n) fits = tt
-  fits-any E s bytes (request.Open guid op.Read total) fits = fits ∙ sym (ap (λ (l : List ℕ). length l) (content-any E p s boot (find_image E.layout.rows guid)))
+  fits-any E s bytes (request.Open guid op.Read total) fits = fits
+      ∙ sym (ap (λ (l : List ℕ). length l) (content-any E p s boot (find_image E.layout.rows guid)))
   fits-any E s bytes (request.Open guid op.Write total) fits = tt
   fits-any E s bytes (request.Write h n) fits = fits
   fits-any E s bytes (request.Read h room) fits = tt
@@ -233,7 +237,8 @@ module _ (E : Setting) (s : State) (boot : ℕ) (stg : Option (List Staged)) (hs
   answer-of request.Previous = previous-of stg
 
   -- but for going back, a verdict decides nothing but a refusal
-  pub verdict-refuses : (r : Request) (good : Bool) → (request_kind r ≡ 4 → ⊥) → answer E s here (call_of r bytes) ≡ by_verdict here good → answer E s here (call_of r bytes) ≡ refused status.Denied here
+  pub verdict-refuses : (r : Request) (good : Bool) → (request_kind r ≡ 4 → ⊥) → answer E s here (call_of r bytes) ≡ by_verdict here good
+      → answer E s here (call_of r bytes) ≡ refused status.Denied here
   verdict-refuses r false other is = is
   verdict-refuses r true other is =
       let four : move_kind (answer E s here (call_of r bytes)).moves ≡ 4 = ap (λ (a : Answer). move_kind a.moves) is in
@@ -258,9 +263,12 @@ plain-kind (request.Accept guid) plain e = omega (arith, e)
 plain-kind request.Previous plain e = plain
 
 -- what waits for a verdict is refused
-pub denies-by : (p : List ℕ → Bool) (m : MetaRead) (counter : ℕ) (k : Kept) (boot : ℕ) (r : Request) (b : ℕ) → (request_kind r ≡ 4 → ⊥) → Decides p m counter k boot r (decision.ByVerdict b) → Decides p m counter k boot r (decision.Refused status.Denied)
+pub denies-by : (p : List ℕ → Bool) (m : MetaRead) (counter : ℕ) (k : Kept) (boot : ℕ) (r : Request) (b : ℕ) → (request_kind r ≡ 4 → ⊥)
+    → Decides p m counter k boot r (decision.ByVerdict b) → Decides p m counter k boot r (decision.Refused status.Denied)
 denies-by p m counter k boot r b other decides E s staged bytes sp fits =
     verdict-refuses E s boot _ _ bytes r (may_go_back E s (bank s b).held) other (decides E s staged bytes sp fits).1
 
-pub denies-any : (p q : List ℕ → Bool) (m : MetaRead) (counter : ℕ) (k : Kept) (boot : ℕ) (r : Request) → IsPlain r → (b : ℕ) → Decides p m counter k boot r (decision.ByVerdict b) → Decides q m counter k boot r (decision.Refused status.Denied)
-denies-any p q m counter k boot r plain b decides = refuses-any p q m counter k boot r plain status.Denied (denies-by p m counter k boot r b (plain-kind r plain) decides)
+pub denies-any : (p q : List ℕ → Bool) (m : MetaRead) (counter : ℕ) (k : Kept) (boot : ℕ) (r : Request) → IsPlain r → (b : ℕ)
+    → Decides p m counter k boot r (decision.ByVerdict b) → Decides q m counter k boot r (decision.Refused status.Denied)
+denies-any p q m counter k boot r plain b decides = refuses-any p q m counter k boot r plain status.Denied
+    (denies-by p m counter k boot r b (plain-kind r plain) decides)

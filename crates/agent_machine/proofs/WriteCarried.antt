@@ -37,8 +37,10 @@ use Rattle.agent_machine.proofs.Writing.{means-written, write-meets}
 
 -- ---- at any exit
 
-module _ (old new : Moment) (image first size number at n : ℕ) (left bytes : List ℕ) (fitting : Fitting old.fields) (sound : SessionSound old.fields) (knows : IsTrue old.tells → Knows old.fields old.told) (of : IsPlanOf old.fields.session (plan.Write number image at n))
-    (room : IsTrue old.tells → blocks_needed old.fields.layout * 4096 ≤ length old.told.now) (fits : size_of (part_at old.fields.session image) + length bytes ≤ slot_bytes old.fields.layout image)
+module _ (old new : Moment) (image first size number at n : ℕ) (left bytes : List ℕ) (fitting : Fitting old.fields) (sound : SessionSound old.fields)
+    (knows : IsTrue old.tells → Knows old.fields old.told) (of : IsPlanOf old.fields.session (plan.Write number image at n))
+    (room : IsTrue old.tells → blocks_needed old.fields.layout * 4096 ≤ length old.told.now)
+    (fits : size_of (part_at old.fields.session image) + length bytes ≤ slot_bytes old.fields.layout image)
     (first-is : first ≡ start old.fields.layout (target old.fields) image) (size-is : size ≡ size_of (part_at old.fields.session image)) where
   abbrev f : Fields
   f = old.fields
@@ -46,30 +48,39 @@ module _ (old new : Moment) (image first size number at n : ℕ) (left bytes : L
   within : image < length f.layout.rows
   within = omega (arith, of.0, ap (λ (l : List ImageRow). length l) fitting.rows)
 
-  module _ (result : Result (Unit {0}) FlashStop) (appends : IsTrue old.tells → Appends result first size (rest_of f image) bytes left old.told new.told) where
-    pub write-stays : IsTrue old.tells → StaysKnown f image old.told new.told
-    write-stays tells =
-        appends-stay result f image first size (rest_of f image) bytes left old.told new.told fitting sound (knows tells) (fitting.free of.1) within (room tells) first-is (omega (arith, size-is, fits)) (appends tells)
+  module _ (result : Result (Unit {0}) FlashStop) (appends : IsTrue old.tells → Appends result first size (rest_of f image) bytes left old.told new.told)
+    where
+      pub write-stays : IsTrue old.tells → StaysKnown f image old.told new.told
+      write-stays tells =
+          appends-stay result f image first size (rest_of f image) bytes left old.told new.told fitting sound (knows tells) (fitting.free of.1) within
+          (room tells) first-is (omega (arith, size-is, fits)) (appends tells)
 
-    module _ (passes : List ℕ → Bool) (r : Request) (fits_request : FitsEach f passes r bytes) (decides : Decides passes f.meta f.counter f.session f.boot r (decision.Do (plan.Write number image at n))) (tells-same : new.tells ≡ old.tells) (beside : SameBeside f new.fields) where
-      guards : (result : Result (Unit {0}) FlashStop) (t : Told) → IsAtRest t → GuardedBy result t
-      guards (Ok x) t rest = rest
-      guards (Err stop) t rest = rest.guarded
+      module _ (passes : List ℕ → Bool) (r : Request) (fits_request : FitsEach f passes r bytes)
+          (decides : Decides passes f.meta f.counter f.session f.boot r (decision.Do (plan.Write number image at n))) (tells-same : new.tells ≡ old.tells)
+          (beside : SameBeside f new.fields) where
+        guards : (result : Result (Unit {0}) FlashStop) (t : Told) → IsAtRest t → GuardedBy result t
+        guards (Ok x) t rest = rest
+        guards (Err stop) t rest = rest.guarded
 
-      -- a prefix of no moves
-      pub write-leaves : Leaves result passes (call_of r bytes) old new
-      write-leaves =
-          leaves-by old new fitting sound knows passes r bytes fits_request (plan.Write number image at n) decides result
-          (λ tells E setting ready. does-nothing result E (state_in f old.told.now) new.told ((write-stays tells).ready E setting.layout ready.calm ready.guarded))
-          (λ tells rest. guards result new.told ((write-stays tells).rests rest))
-          (record { tells = tells-same; layout = beside.layout; boot = beside.boot })
+        -- a prefix of no moves
+        pub write-leaves : Leaves result passes (call_of r bytes) old new
+        write-leaves =
+            leaves-by old new fitting sound knows passes r bytes fits_request (plan.Write number image at n) decides result
+            (λ tells E setting ready. does-nothing result E (state_in f old.told.now) new.told
+            ((write-stays tells).ready E setting.layout ready.calm ready.guarded))
+            (λ tells rest. guards result new.told ((write-stays tells).rests rest))
+            (record { tells = tells-same; layout = beside.layout; boot = beside.boot })
 
 -- ---- when done
 
-module _ (tells : Bool) (s t : Told) (f : Fields) (k : Kept) (new_meta : MetaRead) (image first size number at : ℕ) (left bytes : List ℕ) (fitting : Fitting f) (sound : SessionSound f) (knows : IsTrue tells → Knows f s)
-    (of : IsPlanOf f.session (plan.Write number image at (length bytes))) (room : IsTrue tells → blocks_needed f.layout * 4096 ≤ length s.now) (fits : size_of (part_at f.session image) + length bytes ≤ slot_bytes f.layout image)
-    (first-is : first ≡ start f.layout (target f) image) (size-is : size ≡ size_of (part_at f.session image)) (appends : IsTrue tells → Appends {T = Unit {0}} (Ok tt) first size (rest_of f image) bytes left s t)
-    (wrote : AppendsPart f.session image bytes k) (meta : new_meta ≡ f.meta) (settles : Settles f.session f.meta bytes (plan.Write number image at (length bytes)) new_meta k) where
+module _ (tells : Bool) (s t : Told) (f : Fields) (k : Kept) (new_meta : MetaRead) (image first size number at : ℕ) (left bytes : List ℕ)
+    (fitting : Fitting f) (sound : SessionSound f) (knows : IsTrue tells → Knows f s)
+    (of : IsPlanOf f.session (plan.Write number image at (length bytes))) (room : IsTrue tells → blocks_needed f.layout * 4096 ≤ length s.now)
+    (fits : size_of (part_at f.session image) + length bytes ≤ slot_bytes f.layout image)
+    (first-is : first ≡ start f.layout (target f) image) (size-is : size ≡ size_of (part_at f.session image))
+    (appends : IsTrue tells → Appends {T = Unit {0}} (Ok tt) first size (rest_of f image) bytes left s t)
+    (wrote : AppendsPart f.session image bytes k) (meta : new_meta ≡ f.meta)
+    (settles : Settles f.session f.meta bytes (plan.Write number image at (length bytes)) new_meta k) where
   abbrev rests : List (List ℕ)
   rests = set f.rests image left
 
@@ -82,7 +93,8 @@ module _ (tells : Bool) (s t : Told) (f : Fields) (k : Kept) (new_meta : MetaRea
   there : image < length f.layout.rows
   there = omega (arith, of.0, ap (λ (l : List ImageRow). length l) fitting.rows)
 
-  appends-at : IsTrue tells → Appends {T = Unit {0}} (Ok tt) (start f.layout (target f) image) (size_of (part_at f.session image)) (rest_of f image) bytes left s t
+  appends-at : IsTrue tells → Appends {T = Unit {0}} (Ok tt) (start f.layout (target f) image) (size_of (part_at f.session image)) (rest_of f image) bytes
+      left s t
   appends-at told =
       subst (λ (a : ℕ). Appends {T = Unit {0}} (Ok tt) a (size_of (part_at f.session image)) (rest_of f image) bytes left s t) first-is
       (subst (λ (n : ℕ). Appends {T = Unit {0}} (Ok tt) first n (rest_of f image) bytes left s t) size-is (appends told))
@@ -93,7 +105,8 @@ module _ (tells : Bool) (s t : Told) (f : Fields) (k : Kept) (new_meta : MetaRea
   pub write-fitting : Fitting after_it
   write-fitting =
       with-meta Fitting
-      (fitting-again f k rests fitting wrote.rest.rows (staged-before f k fitting wrote.rest.staging) (λ off. absurd (not-both (sym (wrote.rest.staging ∙ of.1) ∙ off)))
+      (fitting-again f k rests fitting wrote.rest.rows (staged-before f k fitting wrote.rest.staging)
+      (λ off. absurd (not-both (sym (wrote.rest.staging ∙ of.1) ∙ off)))
       (length-set f.rests image left ∙ fitting.rests)
       (λ place. subst (λ (hs : List Handle). ReadsWell f (get_or hs place Free)) (sym wrote.rest.handles) (old-readers f fitting place)))
     where
@@ -111,7 +124,8 @@ module _ (tells : Bool) (s t : Told) (f : Fields) (k : Kept) (new_meta : MetaRea
   pub write-some : ∥ SomeStaged f.session ∥₁ → ∥ SomeStaged k ∥₁
   write-some some = some-after f fitting sound bytes (plan.Write number image at (length bytes)) new_meta k settles (λ E state same speaks. tt) some
 
-  pub write-carried : CarriedOut (plan.Write number image at (length bytes)) bytes (record { tells = tells; told = s; fields = f }) (record { tells = tells; told = t; fields = after_it })
+  pub write-carried : CarriedOut (plan.Write number image at (length bytes)) bytes (record { tells = tells; told = s; fields = f })
+      (record { tells = tells; told = t; fields = after_it })
   write-carried = record {
     tells = refl;
     beside = record { layout = refl; boot = refl; counter = refl; lengths = refl; form = ap (λ (r : MetaRead). r.form) meta };
@@ -123,12 +137,14 @@ module _ (tells : Bool) (s t : Told) (f : Fields) (k : Kept) (new_meta : MetaRea
         ap (state_of f.layout t.now) meta
         ∙ (write-it told).state_is;
     staged_are = λ told.
-        with-meta (λ (g : Fields). MeansSame k (staged_after (plan.Write number image at (length bytes)) bytes (staged_bytes f s.now)) (staged_bytes g t.now))
+        with-meta (λ (g : Fields). MeansSame k (staged_after (plan.Write number image at (length bytes)) bytes (staged_bytes f s.now))
+        (staged_bytes g t.now))
         (means-written f k image number at bytes left s t fitting sound (knows told) of.1 there (room told) fits wrote (kept told) (appends-at told));
   }
 
   -- the machine's answer
-  module _ (passes : List ℕ → Bool) (h : ℕ) (decides : Decides passes f.meta f.counter f.session f.boot (request.Write h (length bytes)) (decision.Do (plan.Write number image at (length bytes)))) where
+  module _ (passes : List ℕ → Bool) (h : ℕ) (decides : Decides passes f.meta f.counter f.session f.boot (request.Write h (length bytes))
+      (decision.Do (plan.Write number image at (length bytes)))) where
     abbrev before : Moment
     before = record { tells = tells; told = s; fields = f }
 
@@ -140,18 +156,28 @@ module _ (tells : Bool) (s t : Told) (f : Fields) (k : Kept) (new_meta : MetaRea
 
     pub write-done : Meets {T = Unit {0}} (λ value reply. reply ≡ Success) (Ok tt) passes (call_of (request.Write h (length bytes)) bytes) before behind
     write-done =
-        done-meets before behind fitting sound knows passes (request.Write h (length bytes)) bytes fits_each (plan.Write number image at (length bytes)) decides write-carried (λ value reply. reply ≡ Success) tt
-        (success-says before fitting sound knows passes (request.Write h (length bytes)) bytes fits_each (plan.Write number image at (length bytes)) decides refl)
-        (write-leaves before behind image first size number at (length bytes) left bytes fitting sound knows of room fits first-is size-is (Ok tt) appends passes (request.Write h (length bytes)) fits_each decides refl write-carried.beside)
+        done-meets before behind fitting sound knows passes (request.Write h (length bytes)) bytes fits_each (plan.Write number image at (length bytes))
+        decides write-carried (λ value reply. reply ≡ Success) tt
+        (success-says before fitting sound knows passes (request.Write h (length bytes)) bytes fits_each (plan.Write number image at (length bytes)) decides
+        refl)
+        (write-leaves before behind image first size number at (length bytes) left bytes fitting sound knows of room fits first-is size-is (Ok tt) appends
+        passes (request.Write h (length bytes)) fits_each decides refl write-carried.beside)
 
 -- ---- when stopped
 
-module _ (old new : Moment) (image first size number at : ℕ) (left bytes : List ℕ) (fitting : Fitting old.fields) (sound : SessionSound old.fields) (knows : IsTrue old.tells → Knows old.fields old.told) (of : IsPlanOf old.fields.session (plan.Write number image at (length bytes)))
-    (room : IsTrue old.tells → blocks_needed old.fields.layout * 4096 ≤ length old.told.now) (fits : size_of (part_at old.fields.session image) + length bytes ≤ slot_bytes old.fields.layout image)
-    (first-is : first ≡ start old.fields.layout (target old.fields) image) (size-is : size ≡ size_of (part_at old.fields.session image)) (cause : FlashStop) (appends : IsTrue old.tells → Appends {T = Unit {0}} (Err cause) first size (rest_of old.fields image) bytes left old.told new.told)
-    (passes : List ℕ → Bool) (h : ℕ) (decides : Decides passes old.fields.meta old.fields.counter old.fields.session old.fields.boot (request.Write h (length bytes)) (decision.Do (plan.Write number image at (length bytes)))) (tells-same : new.tells ≡ old.tells) (beside : SameBeside old.fields new.fields) where
-  pub write-stopped : (r : Stop) → flash_result {T = Unit {0}} (Err r) ≡ Err cause → IsStopped {T = Unit {0}} (Err r) → Meets {T = Unit {0}} (λ value reply. reply ≡ Success) (Err r) passes (call_of (request.Write h (length bytes)) bytes) old new
+module _ (old new : Moment) (image first size number at : ℕ) (left bytes : List ℕ) (fitting : Fitting old.fields) (sound : SessionSound old.fields)
+    (knows : IsTrue old.tells → Knows old.fields old.told) (of : IsPlanOf old.fields.session (plan.Write number image at (length bytes)))
+    (room : IsTrue old.tells → blocks_needed old.fields.layout * 4096 ≤ length old.told.now)
+    (fits : size_of (part_at old.fields.session image) + length bytes ≤ slot_bytes old.fields.layout image)
+    (first-is : first ≡ start old.fields.layout (target old.fields) image) (size-is : size ≡ size_of (part_at old.fields.session image)) (cause : FlashStop)
+    (appends : IsTrue old.tells → Appends {T = Unit {0}} (Err cause) first size (rest_of old.fields image) bytes left old.told new.told)
+    (passes : List ℕ → Bool) (h : ℕ) (decides : Decides passes old.fields.meta old.fields.counter old.fields.session old.fields.boot
+    (request.Write h (length bytes)) (decision.Do (plan.Write number image at (length bytes)))) (tells-same : new.tells ≡ old.tells)
+    (beside : SameBeside old.fields new.fields) where
+  pub write-stopped : (r : Stop) → flash_result {T = Unit {0}} (Err r) ≡ Err cause → IsStopped {T = Unit {0}} (Err r)
+      → Meets {T = Unit {0}} (λ value reply. reply ≡ Success) (Err r) passes (call_of (request.Write h (length bytes)) bytes) old new
   write-stopped r is stopped =
       stopped-meets (λ value reply. reply ≡ Success) r passes (call_of (request.Write h (length bytes)) bytes) old new stopped
       (subst (λ (result : Result (Unit {0}) FlashStop). Leaves result passes (call_of (request.Write h (length bytes)) bytes) old new) (sym is)
-      (write-leaves old new image first size number at (length bytes) left bytes fitting sound knows of room fits first-is size-is (Err cause) appends passes (request.Write h (length bytes)) (λ E s setting speaks. refl) decides tells-same beside))
+      (write-leaves old new image first size number at (length bytes) left bytes fitting sound knows of room fits first-is size-is (Err cause) appends
+      passes (request.Write h (length bytes)) (λ E s setting speaks. refl) decides tells-same beside))

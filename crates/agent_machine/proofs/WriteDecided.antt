@@ -44,8 +44,10 @@ use Rattle.agent_machine.proofs.WritesTo.{goes, write-to, write-nothing}
 pub none-written : (size : ℕ) → writes_to_append size 0 ≡ 0
 none-written size =
     let same : size + 0 ≡ size = omega arith in
-    let kept : programs_of_kept size 0 ≡ 0 = ap (λ (b : Bool). cond b 1 0) (and_right (ltb 0 (size % 16)) (leb 16 (size % 16 + 0)) (lt-leb 16 (size % 16 + 0) (omega arith))) in
-    let whole : programs_of_whole size 0 ≡ 0 = ap (λ (b : Bool). cond b 1 0) (le-ltb (16 * ((size + 15) / 16)) (done_of (size + 0)) (omega (arith, same))) in
+    let kept : programs_of_kept size 0 ≡ 0 = ap (λ (b : Bool). cond b 1 0)
+    (and_right (ltb 0 (size % 16)) (leb 16 (size % 16 + 0)) (lt-leb 16 (size % 16 + 0) (omega arith))) in
+    let whole : programs_of_whole size 0 ≡ 0 = ap (λ (b : Bool). cond b 1 0)
+    (le-ltb (16 * ((size + 15) / 16)) (done_of (size + 0)) (omega (arith, same))) in
     let blocks : blocks_for (done_of (size + 0)) ≡ blocks_for (done_of size) = ap (λ (j : ℕ). blocks_for (done_of j)) same in
     omega (arith, kept, whole, blocks)
 
@@ -66,7 +68,8 @@ spends-none armed counts = record {
 
 -- ---- a write
 
-module _ (f : Fields) (fitting : Fitting f) (sound : SessionSound f) (some : ∥ SomeStaged f.session ∥₁) (passes : List ℕ → Bool) (h n : ℕ) (bytes : List ℕ) (long : n ≡ length bytes) where
+module _ (f : Fields) (fitting : Fitting f) (sound : SessionSound f) (some : ∥ SomeStaged f.session ∥₁) (passes : List ℕ → Bool) (h n : ℕ) (bytes : List ℕ)
+    (long : n ≡ length bytes) where
   abbrev k : Kept
   k = f.session
 
@@ -105,14 +108,18 @@ module _ (f : Fields) (fitting : Fitting f) (sound : SessionSound f) (some : ∥
     parts = parts_meant k one.staged
 
     module _ (p : Plan) (decides : Decides passes f.meta f.counter k f.boot (request.Write h n) (decision.Do p)) where
-      is : answer setting (state_made f) (session_meant k f.boot one.staged) (call_of (request.Write h n) bytes) ≡ planned_in setting (state_made f) (session_meant k f.boot one.staged) bytes p
+      is : answer setting (state_made f) (session_meant k f.boot one.staged) (call_of (request.Write h n) bytes) ≡ planned_in setting (state_made f)
+          (session_meant k f.boot one.staged) bytes p
       is =
           let own : IsSettingOf f passes setting = record { layout = refl; verifier = refl } in
-          decides setting (state_made f) one.staged bytes (shown-speaks f fitting sound setting (state_made f) passes one.staged own (made-speaks f fitting) one.kept) long
+          decides setting (state_made f) one.staged bytes (shown-speaks f fitting sound setting (state_made f) passes one.staged own (made-speaks f fitting)
+          one.kept) long
 
-      staged-is : k.staging ≡ true → answer setting (state_made f) (On f.boot (Some parts) hs) (call_of (request.Write h n) bytes) ≡ planned setting (state_made f) f.boot (Some parts) hs bytes p
+      staged-is : k.staging ≡ true → answer setting (state_made f) (On f.boot (Some parts) hs) (call_of (request.Write h n) bytes) ≡ planned setting
+          (state_made f) f.boot (Some parts) hs bytes p
       staged-is on =
-          subst (λ (o : Option (List Staged)). answer setting (state_made f) (On f.boot o hs) (call_of (request.Write h n) bytes) ≡ planned setting (state_made f) f.boot o hs bytes p) (staging-on k one.staged on) is
+          subst (λ (o : Option (List Staged)). answer setting (state_made f) (On f.boot o hs) (call_of (request.Write h n) bytes) ≡ planned setting
+          (state_made f) f.boot o hs bytes p) (staging-on k one.staged on) is
 
     below : (image : ℕ) → image < length k.rows → image < length parts
     below image lt = omega (arith, lt, length-map-range_with_len (λ (i : ℕ). part_meant (part_at k i) (one.staged i)) 0 (length k.rows))
@@ -120,15 +127,18 @@ module _ (f : Fields) (fitting : Fitting f) (sound : SessionSound f) (some : ∥
     open-at : (image : ℕ) → image < length k.rows → is_part_open (part_at k image) ≡ true → is_open (get_or parts image session.Nothing) ≡ true
     open-at image lt e = ap is_open (part-meant k one.staged image lt) ∙ open-meant (part_at k image) (one.staged image) e
 
-    module _ (number image at m : ℕ) (of : IsPlanOf k (plan.Write number image at m)) (decides : Decides passes f.meta f.counter k f.boot (request.Write h n) (decision.Do (plan.Write number image at m))) where
+    module _ (number image at m : ℕ) (of : IsPlanOf k (plan.Write number image at m))
+        (decides : Decides passes f.meta f.counter k f.boot (request.Write h n) (decision.Do (plan.Write number image at m))) where
       found : (to : ℕ) × (handle_at hs h ≡ session.Writes to) × (exceeds_slot setting (Some parts) to bytes ≡ false) × ((to ≡ image) ⊎ (length bytes ≡ 0))
-      found = write-to setting (state_made f) f.boot parts hs bytes h n number image at m (below image of.0) (open-at image of.0 of.2) (staged-is (plan.Write number image at m) decides of.1)
+      found = write-to setting (state_made f) f.boot parts hs bytes h n number image at m (below image of.0) (open-at image of.0 of.2)
+          (staged-is (plan.Write number image at m) decides of.1)
 
       room-here : exceeds_slot setting (Some parts) image bytes ≡ false → size_of (part_at k image) + length bytes ≤ slot_bytes f.layout image
       room-here e =
           let le = ltb-false _ _ e in
           let size : length (staged_bytes (staged_at (Some parts) image)) ≡ size_of (part_at k image) =
-          ap (λ (o : Option (List Staged)). length (staged_bytes (staged_at o image))) (sym (staging-on k one.staged of.1)) ∙ staged-long k one.staged image one.kept of.0 of.1 in
+          ap (λ (o : Option (List Staged)). length (staged_bytes (staged_at o image))) (sym (staging-on k one.staged of.1))
+          ∙ staged-long k one.staged image one.kept of.0 of.1 in
           omega (arith, le, size)
 
       room-none : length bytes ≡ 0 → size_of (part_at k image) + length bytes ≤ slot_bytes f.layout image
@@ -142,7 +152,8 @@ module _ (f : Fields) (fitting : Fitting f) (sound : SessionSound f) (some : ∥
         | inr none ↦ room-none none
       ]
 
-      same-writes : (other : ℕ) → handle_kept k (h - 1) ≡ Writes other → writes_to_append (size_of (part_at k image)) (length bytes) ≡ writes_to_append (size_of (part_at k other)) (length bytes)
+      same-writes : (other : ℕ) → handle_kept k (h - 1) ≡ Writes other
+          → writes_to_append (size_of (part_at k image)) (length bytes) ≡ writes_to_append (size_of (part_at k other)) (length bytes)
       same-writes other writes = elim found.3 [
         | inl same ↦ ap (λ (i : ℕ). writes_to_append (size_of (part_at k i)) (length bytes)) (sym same ∙ handle-at found.0 found.1 other writes)
         | inr none ↦
@@ -150,7 +161,8 @@ module _ (f : Fields) (fitting : Fitting f) (sound : SessionSound f) (some : ∥
             ∙ sym (ap (writes_to_append (size_of (part_at k other))) none ∙ none-written (size_of (part_at k other)))
       ]
 
-    nothing-here : (p : Plan) → IsQuiet p → Decides passes f.meta f.counter k f.boot (request.Write h n) (decision.Do p) → (to : ℕ) → handle_kept k (h - 1) ≡ Writes to → length bytes ≡ 0
+    nothing-here : (p : Plan) → IsQuiet p → Decides passes f.meta f.counter k f.boot (request.Write h n) (decision.Do p) → (to : ℕ)
+        → handle_kept k (h - 1) ≡ Writes to → length bytes ≡ 0
     nothing-here p quiet decides to writes =
         let on = sound.staged (h - 1) to writes in
         let lt = sound.within (h - 1) to writes in
@@ -158,28 +170,38 @@ module _ (f : Fields) (fitting : Fitting f) (sound : SessionSound f) (some : ∥
         let it = staged-is p decides on in
         let g = goes setting (state_made f) f.boot (Some parts) hs bytes h n p it in
         let same : g.image ≡ to = handle-at g.image g.writes to writes in
-        write-nothing setting (state_made f) f.boot parts hs bytes h n to (below to lt) (open-at to lt opened) p quiet (g.writes ∙ ap session.Writes same) it
+        write-nothing setting (state_made f) f.boot parts hs bytes h n to (below to lt) (open-at to lt opened) p quiet (g.writes ∙ ap session.Writes same)
+        it
 
   -- there is room for the bytes
-  pub write-room : (number image at m : ℕ) → IsPlanOf k (plan.Write number image at m) → Decides passes f.meta f.counter k f.boot (request.Write h n) (decision.Do (plan.Write number image at m)) → size_of (part_at k image) + length bytes ≤ slot_bytes f.layout image
+  pub write-room : (number image at m : ℕ) → IsPlanOf k (plan.Write number image at m)
+      → Decides passes f.meta f.counter k f.boot (request.Write h n) (decision.Do (plan.Write number image at m))
+      → size_of (part_at k image) + length bytes ≤ slot_bytes f.layout image
   write-room number image at m of decides = elim (cases_lt (slot_bytes f.layout image) (size_of (part_at k image) + length bytes)) [
-    | inl over ↦ absurd (∥∥₁_elim some (λ x y. absurd x) (λ (one : SomeStaged k). let room = has-room one number image at m of decides in absurd (omega (arith, over, room))))
+    | inl over ↦ absurd (∥∥₁_elim some (λ x y. absurd x)
+        (λ (one : SomeStaged k). let room = has-room one number image at m of decides in absurd (omega (arith, over, room))))
     | inr within ↦ within
   ]
 
   -- as many erases and programs as the handle's image takes
-  pub write-spends : (number image at m : ℕ) → IsPlanOf k (plan.Write number image at m) → Decides passes f.meta f.counter k f.boot (request.Write h n) (decision.Do (plan.Write number image at m)) → (other : ℕ) → handle_kept k (h - 1) ≡ Writes other
+  pub write-spends : (number image at m : ℕ) → IsPlanOf k (plan.Write number image at m)
+      → Decides passes f.meta f.counter k f.boot (request.Write h n) (decision.Do (plan.Write number image at m)) → (other : ℕ)
+      → handle_kept k (h - 1) ≡ Writes other
       → writes_to_append (size_of (part_at k image)) (length bytes) ≡ writes_to_append (size_of (part_at k other)) (length bytes)
   write-spends number image at m of decides other writes =
-      ∥∥₁_elim some (Coded-set coded_ℕ (writes_to_append (size_of (part_at k image)) (length bytes)) (writes_to_append (size_of (part_at k other)) (length bytes))) (λ (one : SomeStaged k). same-writes one number image at m of decides other writes)
+      ∥∥₁_elim some (Coded-set coded_ℕ (writes_to_append (size_of (part_at k image)) (length bytes))
+      (writes_to_append (size_of (part_at k other)) (length bytes))) (λ (one : SomeStaged k). same-writes one number image at m of decides other writes)
 
   -- none where the plan is quiet
-  pub quiet-spends : (p : Plan) → IsQuiet p → Decides passes f.meta f.counter k f.boot (request.Write h n) (decision.Do p) → (to : ℕ) → handle_kept k (h - 1) ≡ Writes to → writes_to_append (size_of (part_at k to)) (length bytes) ≡ 0
+  pub quiet-spends : (p : Plan) → IsQuiet p → Decides passes f.meta f.counter k f.boot (request.Write h n) (decision.Do p) → (to : ℕ)
+      → handle_kept k (h - 1) ≡ Writes to → writes_to_append (size_of (part_at k to)) (length bytes) ≡ 0
   quiet-spends p quiet decides to writes =
       ∥∥₁_elim some (Coded-set coded_ℕ (writes_to_append (size_of (part_at k to)) (length bytes)) 0) (λ (one : SomeStaged k).
       ap (writes_to_append (size_of (part_at k to))) (nothing-here one p quiet decides to writes) ∙ none-written (size_of (part_at k to)))
 
 -- the length in a plan to write has no meaning to the machine
-pub decides-length : (passes : List ℕ → Bool) (f : Fields) (r : Request) (number image at m n : ℕ) → Decides passes f.meta f.counter f.session f.boot r (decision.Do (plan.Write number image at m)) → Decides passes f.meta f.counter f.session f.boot r (decision.Do (plan.Write number image at n))
+pub decides-length : (passes : List ℕ → Bool) (f : Fields) (r : Request) (number image at m n : ℕ)
+    → Decides passes f.meta f.counter f.session f.boot r (decision.Do (plan.Write number image at m))
+    → Decides passes f.meta f.counter f.session f.boot r (decision.Do (plan.Write number image at n))
 unfolding planned
 decides-length passes f r number image at m n decides E s staged bytes speaks fits = decides E s staged bytes speaks fits

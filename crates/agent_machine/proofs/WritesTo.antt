@@ -49,23 +49,27 @@ pub record GoesTo (E : Setting) (stg : Option (List Staged)) (hs : List Handle) 
   pub staging : staging_of x ≡ with_appended stg image bytes
 
 module _ (E : Setting) (s : State) (boot : ℕ) (stg : Option (List Staged)) (hs : List Handle) (bytes : List ℕ) (h : ℕ) where
-  by-room : (image : ℕ) (b : Bool) (x y : Answer) → exceeds_slot E stg image bytes ≡ b → (b ≡ false → GoesTo E stg hs bytes h y.next) → (reply_kind x.reply ≡ 0 → ⊥) → reply_kind (cond b x y).reply ≡ 0 → GoesTo E stg hs bytes h (cond b x y).next
+  by-room : (image : ℕ) (b : Bool) (x y : Answer) → exceeds_slot E stg image bytes ≡ b → (b ≡ false → GoesTo E stg hs bytes h y.next)
+      → (reply_kind x.reply ≡ 0 → ⊥) → reply_kind (cond b x y).reply ≡ 0 → GoesTo E stg hs bytes h (cond b x y).next
   by-room image true x y is goes not e = absurd (not e)
   by-room image false x y is goes not e = goes refl
 
-  write-goes : (k : Handle) → handle_at hs h ≡ k → reply_kind (answer_write E boot stg hs bytes k).reply ≡ 0 → GoesTo E stg hs bytes h (answer_write E boot stg hs bytes k).next
+  write-goes : (k : Handle) → handle_at hs h ≡ k → reply_kind (answer_write E boot stg hs bytes k).reply ≡ 0
+      → GoesTo E stg hs bytes h (answer_write E boot stg hs bytes k).next
   unfolding answer_write
   write-goes session.Free is e = absurd (omega (arith, e))
   write-goes (session.Reads target place) is e = absurd (omega (arith, e))
   write-goes (session.Writes image) is e =
-      by-room image (exceeds_slot E stg image bytes) _ _ refl (λ room. record { image = image; writes = is; room = room; staging = refl }) (λ z. omega (arith, z)) e
+      by-room image (exceeds_slot E stg image bytes) _ _ refl (λ room. record { image = image; writes = is; room = room; staging = refl })
+      (λ z. omega (arith, z)) e
 
   module _ (n : ℕ) (p : Plan) (is : answer E s (On boot stg hs) (call_of (request.Write h n) bytes) ≡ planned E s boot stg hs bytes p) where
     pub goes : GoesTo E stg hs bytes h (planned E s boot stg hs bytes p).next
     unfolding answer
     goes =
         let told = told-as-asked E s boot stg hs bytes (request.Write h n) p is in
-        let success : reply_kind (answer_write E boot stg hs bytes (handle_at hs h)).reply ≡ 0 = ap (λ (a : Answer). reply_kind a.reply) is ∙ planned-replied E s boot stg hs bytes p ∙ told in
+        let success : reply_kind (answer_write E boot stg hs bytes (handle_at hs h)).reply ≡ 0 = ap (λ (a : Answer). reply_kind a.reply) is
+        ∙ planned-replied E s boot stg hs bytes p ∙ told in
         subst (λ (a : Answer). GoesTo E stg hs bytes h a.next) is (write-goes (handle_at hs h) refl success)
 
 module _ (E : Setting) (s : State) (boot : ℕ) (parts : List Staged) (hs : List Handle) (bytes : List ℕ) (h n : ℕ) where
@@ -85,9 +89,11 @@ module _ (E : Setting) (s : State) (boot : ℕ) (parts : List Staged) (hs : List
         ],
       )
     where
-      other : (to : ℕ) → image ≢ to → Some (set parts image (appended (get_or parts image session.Nothing) bytes)) ≡ with_appended (Some parts) to bytes → length bytes ≡ 0
+      other : (to : ℕ) → image ≢ to → Some (set parts image (appended (get_or parts image session.Nothing) bytes)) ≡ with_appended (Some parts) to bytes
+          → length bytes ≡ 0
       other to ne e =
-          let lists = some-is (set parts image (appended (get_or parts image session.Nothing) bytes)) (set parts to (appended (get_or parts to session.Nothing) bytes)) e in
+          let lists = some-is (set parts image (appended (get_or parts image session.Nothing) bytes))
+          (set parts to (appended (get_or parts to session.Nothing) bytes)) e in
           let here : appended (get_or parts image session.Nothing) bytes ≡ get_or parts image session.Nothing =
           sym (get_or-set_same parts image (appended (get_or parts image session.Nothing) bytes) session.Nothing there)
           ∙ ap (λ (l : List Staged). get_or l image session.Nothing) lists
@@ -105,10 +111,12 @@ module _ (E : Setting) (s : State) (boot : ℕ) (parts : List Staged) (hs : List
     still : Some parts ≡ with_appended (Some parts) to bytes → length bytes ≡ 0
     still e = open-longer (get_or parts to session.Nothing) bytes opened (sym (here parts e))
 
-    by-plan : (q : Plan) → IsQuiet q → told_kind q ≡ 0 → staging_of (planned E s boot (Some parts) hs bytes q).next ≡ with_appended (Some parts) to bytes → length bytes ≡ 0
+    by-plan : (q : Plan) → IsQuiet q → told_kind q ≡ 0 → staging_of (planned E s boot (Some parts) hs bytes q).next ≡ with_appended (Some parts) to bytes
+        → length bytes ≡ 0
     unfolding planned
     by-plan plan.Tell quiet told e = absurd (omega (arith, told))
-    by-plan (plan.Begin store) quiet told e = absurd (not-open (get_or parts to session.Nothing) bytes opened (sym (here (replicate (length E.layout.rows) session.Nothing) e) ∙ begun-nothing (length E.layout.rows) to))
+    by-plan (plan.Begin store) quiet told e = absurd (not-open (get_or parts to session.Nothing) bytes opened
+        (sym (here (replicate (length E.layout.rows) session.Nothing) e) ∙ begun-nothing (length E.layout.rows) to))
     by-plan (plan.Open number image o total) quiet told e = absurd (omega (arith, told))
     by-plan (plan.Write number image at m) quiet told e = absurd quiet
     by-plan (plan.Read number image at m total) quiet told e = absurd (omega (arith, told))
@@ -120,7 +128,8 @@ module _ (E : Setting) (s : State) (boot : ℕ) (parts : List Staged) (hs : List
     by-plan plan.Back quiet told e = absurd quiet
 
     -- where the handle's image is open, a quiet plan has nothing to write
-    pub write-nothing : (p : Plan) → IsQuiet p → handle_at hs h ≡ session.Writes to → answer E s (On boot (Some parts) hs) (call_of (request.Write h n) bytes) ≡ planned E s boot (Some parts) hs bytes p → length bytes ≡ 0
+    pub write-nothing : (p : Plan) → IsQuiet p → handle_at hs h ≡ session.Writes to
+        → answer E s (On boot (Some parts) hs) (call_of (request.Write h n) bytes) ≡ planned E s boot (Some parts) hs bytes p → length bytes ≡ 0
     write-nothing p quiet writes is =
         let g = goes E s boot (Some parts) hs bytes h n p is in
         let told = told-as-asked E s boot (Some parts) hs bytes (request.Write h n) p is in

@@ -31,7 +31,8 @@ bytes-there staged image bytes i ne = ap (λ (b : Bool). cond b bytes (staged i)
 -- ---- an open image
 
 -- an open image that grew is open
-pub grown : (p q : Part) (bytes : List ℕ) → GrowsPart p q bytes → (size : ℕ) × (hasher : Sha256) × (next : Sha256) × (p ≡ Open size hasher) × (q ≡ Open (size + length bytes) next)
+pub grown : (p q : Part) (bytes : List ℕ) → GrowsPart p q bytes
+    → (size : ℕ) × (hasher : Sha256) × (next : Sha256) × (p ≡ Open size hasher) × (q ≡ Open (size + length bytes) next)
 grown Nothing q bytes g = absurd g
 grown (Committed size digest bit) q bytes g = absurd g
 grown (Open size hasher) Nothing bytes g = absurd g
@@ -43,7 +44,8 @@ open-not-committed n m x digest bit e = absurd cc
 
 -- ---- the agent with another session, after writes in the slot of a staged image
 
-pub known-again : (f : Fields) (k : Kept) (rests : List (List ℕ)) (image : ℕ) (s t : Told) → Knows f s → StaysKnown f image s t → k.staging ≡ f.session.staging → HasStaged (with_session f k rests) t → Knows (with_session f k rests) t
+pub known-again : (f : Fields) (k : Kept) (rests : List (List ℕ)) (image : ℕ) (s t : Told) → Knows f s → StaysKnown f image s t
+    → k.staging ≡ f.session.staging → HasStaged (with_session f k rests) t → Knows (with_session f k rests) t
 known-again f k rests image s t knows stays staging has = record {
   layout_is = stays.layout_is;
   both = stays.both;
@@ -59,8 +61,10 @@ known-again f k rests image s t knows stays staging has = record {
 
 -- ---- a write
 
-module _ (f : Fields) (k : Kept) (image number at : ℕ) (bytes left : List ℕ) (s t : Told) (fitting : Fitting f) (sound : SessionSound f) (knows : Knows f s) (staging : f.session.staging ≡ true) (within : image < length f.layout.rows)
-    (room : blocks_needed f.layout * 4096 ≤ length s.now) (fits : size_of (part_at f.session image) + length bytes ≤ slot_bytes f.layout image) (wrote : AppendsPart f.session image bytes k)
+module _ (f : Fields) (k : Kept) (image number at : ℕ) (bytes left : List ℕ) (s t : Told) (fitting : Fitting f) (sound : SessionSound f) (knows : Knows f s)
+    (staging : f.session.staging ≡ true) (within : image < length f.layout.rows)
+    (room : blocks_needed f.layout * 4096 ≤ length s.now) (fits : size_of (part_at f.session image) + length bytes ≤ slot_bytes f.layout image)
+    (wrote : AppendsPart f.session image bytes k)
     (kept : IsKept k (staged_after (plan.Write number image at (length bytes)) bytes (staged_bytes f s.now)))
     (appends : Appends {T = Unit {0}} (Ok tt) (start f.layout (target f) image) (size_of (part_at f.session image)) (rest_of f image) bytes left s t) where
   abbrev rests : List (List ℕ)
@@ -76,7 +80,8 @@ module _ (f : Fields) (k : Kept) (image number at : ℕ) (bytes left : List ℕ)
   size = size_of (part_at f.session image)
 
   stays : StaysKnown f image s t
-  stays = appends-stay {T = Unit {0}} (Ok tt) f image first size (rest_of f image) bytes left s t fitting sound knows (fitting.free staging) within room refl fits appends
+  stays = appends-stay {T = Unit {0}} (Ok tt) f image first size (rest_of f image) bytes left s t fitting sound knows (fitting.free staging) within room
+      refl fits appends
 
   part : (n : ℕ) × (hasher : Sha256) × (next : Sha256) × (part_at f.session image ≡ Open n hasher) × (part_at k image ≡ Open (n + length bytes) next)
   part = grown (part_at f.session image) (part_at k image) bytes wrote.part
@@ -92,17 +97,20 @@ module _ (f : Fields) (k : Kept) (image number at : ℕ) (bytes left : List ℕ)
 
   others-same : (other : ℕ) → other ≢ image → other < length f.layout.rows → staged_bytes g t.now other ≡ staged_bytes f s.now other
   others-same other ne lt =
-      ap₂ (λ (p : Part) (rest : List ℕ). part_bytes (start f.layout (target f) other) p rest t.now) (wrote.others other ne) (get_or-set_other f.rests image other left [] ne) ∙ stays.others other ne lt
+      ap₂ (λ (p : Part) (rest : List ℕ). part_bytes (start f.layout (target f) other) p rest t.now) (wrote.others other ne)
+      (get_or-set_other f.rests image other left [] ne) ∙ stays.others other ne lt
 
   image-grows : staged_bytes g t.now image ≡ staged_bytes f s.now image ++ bytes
   image-grows =
       let n : size ≡ part.0 = ap size_of part.3 in
       ap₂ (λ (p : Part) (rest : List ℕ). part_bytes first p rest t.now) part.4 left-is
-      ∙ subst (λ (k : ℕ). part_bytes first (Open (k + length bytes) part.2) left t.now ≡ part_bytes first (Open k part.1) (rest_of f image) s.now ++ bytes) n appends.written
+      ∙ subst (λ (k : ℕ). part_bytes first (Open (k + length bytes) part.2) left t.now ≡ part_bytes first (Open k part.1) (rest_of f image) s.now ++ bytes)
+      n appends.written
       ∙ ap (λ (p : Part). part_bytes first p (rest_of f image) s.now ++ bytes) (sym part.3)
 
   -- the bytes of the images of the layout are those after the write
-  pub staged-written : (i : ℕ) → i < length k.rows → staged_bytes g t.now i ≡ staged_after (plan.Write number image at (length bytes)) bytes (staged_bytes f s.now) i
+  pub staged-written : (i : ℕ) → i < length k.rows → staged_bytes g t.now i ≡ staged_after (plan.Write number image at (length bytes)) bytes
+      (staged_bytes f s.now) i
   staged-written i lt =
       let below : i < length f.layout.rows = omega (arith, lt, ap (λ (l : List ImageRow). length l) (wrote.rest.rows ∙ fitting.rows)) in
       elim (cases_eq i image) [
@@ -117,11 +125,14 @@ module _ (f : Fields) (k : Kept) (image number at : ℕ) (bytes left : List ℕ)
 
   has-staged : HasStaged g t
   has-staged = record {
-    kept = kept-same k (staged_after (plan.Write number image at (length bytes)) bytes (staged_bytes f s.now)) (staged_bytes g t.now) (omega (arith, within, ap (λ (l : List ImageRow). length l) (wrote.rest.rows ∙ fitting.rows))) means-written kept;
+    kept = kept-same k (staged_after (plan.Write number image at (length bytes)) bytes (staged_bytes f s.now)) (staged_bytes g t.now)
+        (omega (arith, within, ap (λ (l : List ImageRow). length l) (wrote.rest.rows ∙ fitting.rows))) means-written kept;
     ahead = λ other n hasher lt is. elim (cases_eq other image) [
       | inl same ↦
-          let e : size + length bytes ≡ n = ap (λ (j : ℕ). j + length bytes) (ap size_of part.3) ∙ sym (ap size_of part.4) ∙ ap (λ (j : ℕ). size_of (part_at k j)) (sym same) ∙ ap size_of is in
-          subst (λ (j : ℕ). IsBlankAhead (start f.layout (target f) j) (done_of n) t.now) (sym same) (subst (λ (j : ℕ). IsBlankAhead first (done_of j) t.now) e appends.ahead)
+          let e : size + length bytes ≡ n = ap (λ (j : ℕ). j + length bytes) (ap size_of part.3) ∙ sym (ap size_of part.4)
+          ∙ ap (λ (j : ℕ). size_of (part_at k j)) (sym same) ∙ ap size_of is in
+          subst (λ (j : ℕ). IsBlankAhead (start f.layout (target f) j) (done_of n) t.now) (sym same)
+          (subst (λ (j : ℕ). IsBlankAhead first (done_of j) t.now) e appends.ahead)
       | inr ne ↦ stays.ahead other n hasher ne lt (sym (wrote.others other ne) ∙ is)
     ];
     sure = λ other n digest bit lt is. elim (cases_eq other image) [

@@ -59,12 +59,15 @@ pub record CarriedOut (p : Plan) (bytes : List ℕ) (old new : Moment) : Type 0 
   pub held : (s : State) (staged : ℕ → List ℕ) → SpeaksOf old.fields s → IsKept old.fields.session staged
       → (bank (after s (planned_moves s (staging_meant old.fields.session staged) p)) old.fields.boot).held ≡ (bank s old.fields.boot).held
   -- where the device tells its content
-  pub state_is : IsTrue old.tells → state_in new.fields new.told.now ≡ after (state_before old) (planned_moves (state_before old) (staging_before old) p)
-  pub staged_are : IsTrue old.tells → MeansSame new.fields.session (staged_after p bytes (staged_bytes old.fields old.told.now)) (staged_bytes new.fields new.told.now)
+  pub state_is : IsTrue old.tells
+      → state_in new.fields new.told.now ≡ after (state_before old) (planned_moves (state_before old) (staging_before old) p)
+  pub staged_are : IsTrue old.tells
+      → MeansSame new.fields.session (staged_after p bytes (staged_bytes old.fields old.told.now)) (staged_bytes new.fields new.told.now)
 
 -- What is opened for reading is there, and has its total. A staging begins only where it may: from the active bank, which is accepted, into an invalid one.
 abbrev pub MayKeep : Bool → Fields → Plan → Type 0
 MayKeep tells f (plan.Begin store) =
-    (f.boot ≡ f.meta.meta.active) × IsTrue (is_invalid (state_at f.meta.meta (target f))) × (IsTrue tells → IsTrue (is_accepted (state_at f.meta.meta f.meta.meta.active)))
+    (f.boot ≡ f.meta.meta.active) × IsTrue (is_invalid (state_at f.meta.meta (target f)))
+    × (IsTrue tells → IsTrue (is_accepted (state_at f.meta.meta f.meta.meta.active)))
 MayKeep tells f (plan.Open number image op.Read total) = (total ≡ total_of f image) × IsThere f image
 MayKeep tells f other = Unit {0}

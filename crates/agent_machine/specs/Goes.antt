@@ -43,7 +43,8 @@ pub record Met (E : Setting) (c : Call) (r : Reply) (old new : Moment) : Type 0 
 -- calls in a row, each from the moment that the one before it left
 pub data CallsMet : Setting → List Call → List Reply → Moment → Moment → Type 0 where
   Done : {E : Setting} {m : Moment} → CallsMet E [] [] m m
-  Then : {E : Setting} {c : Call} {cs : List Call} {r : Reply} {rs : List Reply} {old mid new : Moment} → Met E c r old mid → CallsMet E cs rs mid new → CallsMet E (c ∷ cs) (r ∷ rs) old new
+  Then : {E : Setting} {c : Call} {cs : List Call} {r : Reply} {rs : List Reply} {old mid new : Moment} → Met E c r old mid
+      → CallsMet E cs rs mid new → CallsMet E (c ∷ cs) (r ∷ rs) old new
 
 -- what a list of calls did: its replies are the machine's, and so are its moves and its session
 pub record Ran (E : Setting) (cs : List Call) (rs : List Reply) (old new : Moment) (s : State) (x : Session) : Type 0 where
@@ -57,8 +58,11 @@ pub record Ran (E : Setting) (cs : List Call) (rs : List Reply) (old new : Momen
 
 pub record CallsGo : Type 0 where
   -- what is done, and what comes next
-  pub next : (E : Setting) (result : Result (Unit {0}) FlashStop) (a b c : Moment) (s : State) (ms ns : List Move) (y z : Session) → Goes E (Ok tt) a b s ms y → Goes E result b c (after s ms) ns z → Goes E result a c s (ms ++ ns) z
+  pub next : (E : Setting) (result : Result (Unit {0}) FlashStop) (a b c : Moment) (s : State) (ms ns : List Move) (y z : Session)
+      → Goes E (Ok tt) a b s ms y → Goes E result b c (after s ms) ns z → Goes E result a c s (ms ++ ns) z
   -- what was stopped did a prefix of whatever was to follow
-  pub stopped : (E : Setting) (result : Result (Unit {0}) FlashStop) (a b : Moment) (s : State) (ms ns : List Move) (y z : Session) → IsErr result → Goes E result a b s ms y → Goes E result a b s (ms ++ ns) z
+  pub stopped : (E : Setting) (result : Result (Unit {0}) FlashStop) (a b : Moment) (s : State) (ms ns : List Move) (y z : Session)
+      → IsErr result → Goes E result a b s ms y → Goes E result a b s (ms ++ ns) z
   -- a list of calls
-  pub all : (E : Setting) (cs : List Call) (rs : List Reply) (old new : Moment) (s : State) (x : Session) → Shows old s x → CallsMet E cs rs old new → Ran E cs rs old new s x
+  pub all : (E : Setting) (cs : List Call) (rs : List Reply) (old new : Moment) (s : State) (x : Session) → Shows old s x
+      → CallsMet E cs rs old new → Ran E cs rs old new s x

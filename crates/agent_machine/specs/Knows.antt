@@ -31,8 +31,10 @@ pub record Fitting (f : Fields) : Type 0 where
   -- only where something is staged is something kept of an image
   pub idle : f.session.staging ≡ false → HasNothing f.session
   -- each reader is of an image that is there, or of the directory, and has the total of what it reads
-  pub readers : (place : ℕ) (image : Option ℕ) (at total : ℕ) → handle_kept f.session place ≡ Reads image at total → total ≡ total_of f image
-  pub readable : (place image at total : ℕ) → handle_kept f.session place ≡ Reads (Some image) at total → image < length f.layout.rows
+  pub readers : (place : ℕ) (image : Option ℕ) (at total : ℕ) → handle_kept f.session place ≡ Reads image at total
+      → total ≡ total_of f image
+  pub readable : (place image at total : ℕ) → handle_kept f.session place ≡ Reads (Some image) at total
+      → image < length f.layout.rows
 
 -- what the session keeps to, whatever was called
 abbrev pub SessionSound : Fields → Type 0
@@ -41,8 +43,10 @@ SessionSound f = IsSound f.session.staging f.session.rows f.session.parts f.sess
 -- What the flash has of the staged image: behind an open one the block that it ends in is blank, and a committed one is sure.
 pub record HasStaged (f : Fields) (t : Told) : Type 0 where
   pub kept : IsKept f.session (staged_bytes f t.now)
-  pub ahead : (image size : ℕ) (hasher : Sha256) → image < length f.layout.rows → part_at f.session image ≡ Open size hasher → IsBlankAhead (start f.layout (target f) image) (done_of size) t.now
-  pub sure : (image size : ℕ) (digest : List ℕ) (bit : Bool) → image < length f.layout.rows → part_at f.session image ≡ Committed size digest bit
+  pub ahead : (image size : ℕ) (hasher : Sha256) → image < length f.layout.rows → part_at f.session image ≡ Open size hasher
+      → IsBlankAhead (start f.layout (target f) image) (done_of size) t.now
+  pub sure : (image size : ℕ) (digest : List ℕ) (bit : Bool) → image < length f.layout.rows
+      → part_at f.session image ≡ Committed size digest bit
       → Quiet (4096 * start f.layout (target f) image) (4096 * start f.layout (target f) image + slot_bytes f.layout image) t
 
 pub record Knows (f : Fields) (t : Told) : Type 0 where

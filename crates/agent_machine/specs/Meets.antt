@@ -77,7 +77,8 @@ Answers Says (Err stop.Gone) E s x c new = ⊤
 -- What a call says of the flash, of an agent that isn't gone.
 pub record Leaves (result : Result (Unit {0}) FlashStop) (passes : List ℕ → Bool) (c : Call) (old new : Moment) : Type 0 where
   -- on a flash that is ready: each loss leaves a prefix of the moves, and an answer leaves it ready after all of them
-  pub does : (E : Setting) (s : State) (x : Session) → IsSettingOf old.fields passes E → Shows old s x → IsTrue old.tells → IsReady E old.told s
+  pub does : (E : Setting) (s : State) (x : Session) → IsSettingOf old.fields passes E → Shows old s x → IsTrue old.tells
+      → IsReady E old.told s
       → Does result E s (answer E s x c).moves new.told
   -- on any flash at rest: no loss harms what is in use, and an answer leaves it at rest
   pub guarded : IsTrue old.tells → IsAtRest old.told → GuardedBy result new.told
@@ -86,13 +87,15 @@ pub record Leaves (result : Result (Unit {0}) FlashStop) (passes : List ℕ → 
 
 -- What a call says of an agent that isn't gone: on any device, an answer or a refusal is that of each machine that the agent shows.
 pub record Meets {T : Type 0} (Says : T → Reply → Type 0) (result : Result T Stop) (passes : List ℕ → Bool) (c : Call) (old new : Moment) : Type 0 where
-  pub exact : (E : Setting) (s : State) (x : Session) → IsSettingOf old.fields passes E → Shows old s x → Answers Says result E s x c new
+  pub exact : (E : Setting) (s : State) (x : Session) → IsSettingOf old.fields passes E → Shows old s x
+      → Answers Says result E s x c new
   pub leaves : Leaves (flash_result result) passes c old new
 
 -- bytes and total are what was read; where the content isn't told, their number and the total
 abbrev pub IsGot : Bool → List ℕ → ℕ × ℕ → Reply → Type 0
 IsGot tells out value reply =
-    (IsTrue tells → reply ≡ Got value.1 (take value.0 out)) × ((bytes : List ℕ) × (reply ≡ Got value.1 bytes) × (length bytes ≡ value.0))
+    (IsTrue tells → reply ≡ Got value.1 (take value.0 out))
+    × ((bytes : List ℕ) × (reply ≡ Got value.1 bytes) × (length bytes ≡ value.0))
 
 -- the session and the numbers of the banks allow to go back, whatever any bank holds
 abbrev pub may_try : State → Session → Bool

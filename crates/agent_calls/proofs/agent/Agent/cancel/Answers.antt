@@ -25,8 +25,10 @@ own-quiet plan.Cancel own = tt
 own-quiet (plan.Accept image store) own = absurd own
 own-quiet plan.Back own = absurd own
 
-quiet : (f : Fields) → Fitting f → SessionSound f → ∥ SomeStaged f.session ∥₁ → (p : Plan) → ((passes : List ℕ → Bool) → PlansAs passes f request.Cancel (Ok p)) → IsPlanOf f.session p → IsQuiet p
-quiet f fitting sound some p plans of = quiet-unless-own f fitting sound some (λ m. true) request.Cancel [] (λ E s setting speaks. tt) (λ e. omega (arith, e)) p (plans (λ m. true)) of (own-quiet p)
+quiet : (f : Fields) → Fitting f → SessionSound f → ∥ SomeStaged f.session ∥₁ → (p : Plan)
+    → ((passes : List ℕ → Bool) → PlansAs passes f request.Cancel (Ok p)) → IsPlanOf f.session p → IsQuiet p
+quiet f fitting sound some p plans of = quiet-unless-own f fitting sound some (λ m. true) request.Cancel [] (λ E s setting speaks. tt)
+    (λ e. omega (arith, e)) p (plans (λ m. true)) of (own-quiet p)
 
 pub keep-requires-clause-quiet : goal.keep-requires-clause-quiet
 keep-requires-clause-quiet g c =
@@ -38,16 +40,20 @@ pub keep-requires-clause-may : goal.keep-requires-clause-may
 keep-requires-clause-may g c =
     let a = c.args.self.now in
     let here = c.if-self.false in
-    may-keep (fields a) (a.fitting here) a.session.sound (a.some here) (λ m. true) request.Cancel [] (λ E s setting speaks. tt) (λ e. omega (arith, e)) c.in-Ok.plan
+    may-keep (fields a) (a.fitting here) a.session.sound (a.some here) (λ m. true) request.Cancel [] (λ E s setting speaks. tt) (λ e. omega (arith, e))
+    c.in-Ok.plan
     (c.in-Ok.ensures.plans (λ m. true)) g.D.Flash.tells (g.D.Flash.told a.flash) (a.knows here) refl (λ e. omega (arith, e))
 
 pub returns-in-Ok-clause-meets : goal.returns-in-Ok-clause-meets
 returns-in-Ok-clause-meets g c here passes =
     let a = c.args.self.now in
-    quiet-success (moment a) (moment c.keep.new.self) (a.fitting here) a.session.sound (a.knows here) passes request.Cancel [] (λ E s setting speaks. tt) c.in-Ok.plan (c.in-Ok.ensures.plans passes) (quiet (fields a) (a.fitting here) a.session.sound (a.some here) c.in-Ok.plan c.in-Ok.ensures.plans c.in-Ok.ensures.of)
+    quiet-success (moment a) (moment c.keep.new.self) (a.fitting here) a.session.sound (a.knows here) passes request.Cancel [] (λ E s setting speaks. tt)
+    c.in-Ok.plan (c.in-Ok.ensures.plans passes) (quiet (fields a) (a.fitting here) a.session.sound (a.some here) c.in-Ok.plan c.in-Ok.ensures.plans
+    c.in-Ok.ensures.of)
     (ap g.D.Flash.told c.keep.ensures.device) c.keep.ensures.carried refl
 
 pub returns-in-Err-clause-meets : goal.returns-in-Err-clause-meets
 returns-in-Err-clause-meets g c here passes =
     let a = c.args.self.now in
-    refused-meets (moment a) (a.fitting here) a.session.sound passes request.Cancel [] (λ E s setting speaks. tt) c.in-Err.status (c.in-Err.ensures.plans passes) (λ value reply. reply ≡ Success)
+    refused-meets (moment a) (a.fitting here) a.session.sound passes request.Cancel [] (λ E s setting speaks. tt) c.in-Err.status
+    (c.in-Err.ensures.plans passes) (λ value reply. reply ≡ Success)

@@ -20,15 +20,21 @@ invariant_of-self g c =
       power = λ still. c.args.self.now.power here;
       inside = λ still. c.args.self.now.inside here;
       fitting = λ still.
-          keeps-fitting g.D.Flash.tells t f k c.settle.new.meta [] p (c.args.self.now.fitting here) c.args.self.now.session.sound (c.args.self.now.knows here) c.requires.quiet c.requires.plan c.requires.may c.settle.ensures.session c.settle.ensures.meta c.settle.ensures.settles;
+          keeps-fitting g.D.Flash.tells t f k c.settle.new.meta [] p (c.args.self.now.fitting here) c.args.self.now.session.sound
+          (c.args.self.now.knows here) c.requires.quiet c.requires.plan c.requires.may c.settle.ensures.session c.settle.ensures.meta
+          c.settle.ensures.settles;
       some = λ still.
-          keeps-some g.D.Flash.tells t f k c.settle.new.meta [] p (c.args.self.now.fitting here) c.args.self.now.session.sound (c.args.self.now.knows here) c.requires.quiet c.requires.plan c.requires.may c.settle.ensures.session c.settle.ensures.meta c.settle.ensures.settles (c.args.self.now.some here);
+          keeps-some g.D.Flash.tells t f k c.settle.new.meta [] p (c.args.self.now.fitting here) c.args.self.now.session.sound (c.args.self.now.knows here)
+          c.requires.quiet c.requires.plan c.requires.may c.settle.ensures.session c.settle.ensures.meta c.settle.ensures.settles
+          (c.args.self.now.some here);
       knows = λ still.
-          keeps-known g.D.Flash.tells t f k c.settle.new.meta [] p (c.args.self.now.fitting here) c.args.self.now.session.sound (c.args.self.now.knows here) c.requires.quiet c.requires.plan c.requires.may c.settle.ensures.session c.settle.ensures.meta c.settle.ensures.settles;
+          keeps-known g.D.Flash.tells t f k c.settle.new.meta [] p (c.args.self.now.fitting here) c.args.self.now.session.sound (c.args.self.now.knows here)
+          c.requires.quiet c.requires.plan c.requires.may c.settle.ensures.session c.settle.ensures.meta c.settle.ensures.settles;
     }
 
 pub returns-clause-carried : goal.returns-clause-carried
 returns-clause-carried g c =
     let here = c.requires.here in
-    quiet-carried g.D.Flash.tells (g.D.Flash.told c.args.self.now.flash) (fields c.args.self.now) (kept c.settle.new.session) c.settle.new.meta [] c.args.plan.now (c.args.self.now.fitting here) c.args.self.now.session.sound (c.args.self.now.knows here)
+    quiet-carried g.D.Flash.tells (g.D.Flash.told c.args.self.now.flash) (fields c.args.self.now) (kept c.settle.new.session) c.settle.new.meta []
+    c.args.plan.now (c.args.self.now.fitting here) c.args.self.now.session.sound (c.args.self.now.knows here)
     c.requires.quiet c.requires.plan c.requires.may c.settle.ensures.session c.settle.ensures.meta c.settle.ensures.settles

@@ -23,4 +23,5 @@ returns-clause-ready g c here tells E s x layout shows calm guards =
     let a = c.args.self.now in
     let t = g.D.Flash.told a.flash in
     let same = (shows.told tells).0 in
-    subst (λ (y : State). IsReady E t y) (sym same) (known-ready E (fields a) t layout (a.knows here tells) (subst (λ (y : State). IsCalm E t y) same calm) guards)
+    subst (λ (y : State). IsReady E t y) (sym same) (known-ready E (fields a) t layout (a.knows here tells) (subst (λ (y : State). IsCalm E t y) same calm)
+    guards)

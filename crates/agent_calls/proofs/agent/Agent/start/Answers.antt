@@ -9,7 +9,8 @@ use Rattle.agent_calls.proofs.agent.Agent.start.Goals as goal
 
 pub new-session-requires-clause-slots : goal.new-session-requires-clause-slots
 new-session-requires-clause-slots g c image =
-    subst (λ (rows : List ImageRow). slot_of rows image ≤ 1048576) (sym c.rows.ensures.value) (slots-small c.into_parts-flash.result.1 c.rows.ensures.fit image)
+    subst (λ (rows : List ImageRow). slot_of rows image ≤ 1048576) (sym c.rows.ensures.value)
+    (slots-small c.into_parts-flash.result.1 c.rows.ensures.fit image)
 
 pub invariant_of-result : goal.invariant_of-result
 invariant_of-result g c =
@@ -23,13 +24,17 @@ invariant_of-result g c =
       power = λ here. c.into_parts-flash.ensures.power;
       inside = λ here. c.into_parts-flash.ensures.inside;
       fitting = λ here.
-          starts-fitting _ rows c.new-session.ensures.nothing c.new-session.ensures.idle c.new-session.ensures.closed c.rows.ensures.fit c.into_parts-flash.ensures.fits below c.lengths-lengths.ensures.all b.lengths c.lengths-lengths.ensures.front count
+          starts-fitting _ rows c.new-session.ensures.nothing c.new-session.ensures.idle c.new-session.ensures.closed c.rows.ensures.fit
+          c.into_parts-flash.ensures.fits below c.lengths-lengths.ensures.all b.lengths c.lengths-lengths.ensures.front count
           (subst (λ (l : Layout). FitSlots l b.lengths) (sym same) c.lengths-lengths.ensures.within) refl;
       some = λ here. starts-some (kept c.new-session.result) c.new-session.ensures.nothing;
       knows = λ here tells.
-          starts-known _ rows c.new-session.ensures.nothing c.new-session.ensures.idle c.new-session.ensures.closed (g.D.Flash.told c.into_parts-flash.result.0) b same c.into_parts-flash.ensures.metadata c.bank-boot.ensures.value c.trials-trials.ensures.value c.counter-counter.ensures
+          starts-known _ rows c.new-session.ensures.nothing c.new-session.ensures.idle c.new-session.ensures.closed
+          (g.D.Flash.told c.into_parts-flash.result.0) b same c.into_parts-flash.ensures.metadata c.bank-boot.ensures.value
+          c.trials-trials.ensures.value c.counter-counter.ensures
           c.lengths-lengths.ensures.front count (c.into_parts-flash.ensures.knows tells);
     }
 
 pub returns-clause-session : goal.returns-clause-session
-returns-clause-session g c s x shows = starts-session _ c.args.booted.chosen.bank c.bank-boot.ensures.value c.new-session.ensures.idle c.new-session.ensures.closed s x shows
+returns-clause-session g c s x shows = starts-session _ c.args.booted.chosen.bank c.bank-boot.ensures.value c.new-session.ensures.idle
+    c.new-session.ensures.closed s x shows

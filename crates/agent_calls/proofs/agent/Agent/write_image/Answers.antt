@@ -27,9 +27,12 @@ invariant_of-self g c =
     let here = c.requires.here in
     let f : Fields = fields a in
     let fitting = a.fitting here in
-    let slot : slot_of (kept a.session).rows c.args.image ≡ slot_bytes f.layout c.args.image = ap (λ (l : List ImageRow). slot_of l c.args.image) fitting.rows in
-    let fits : size_of (part_at f.session c.args.image) + length c.args.bytes.now ≤ slot_bytes f.layout c.args.image = omega (arith, c.requires.plan.3, slot) in
-    let first : c.start-first.result ≡ start f.layout (target f) c.args.image = c.start-first.ensures ∙ ap (λ (b : ℕ). start f.layout b c.args.image) c.target-bank.ensures.value in
+    let slot : slot_of (kept a.session).rows c.args.image ≡ slot_bytes f.layout c.args.image = ap (λ (l : List ImageRow). slot_of l c.args.image)
+    fitting.rows in
+    let fits : size_of (part_at f.session c.args.image) + length c.args.bytes.now ≤ slot_bytes f.layout c.args.image = omega
+    (arith, c.requires.plan.3, slot) in
+    let first : c.start-first.result ≡ start f.layout (target f) c.args.image = c.start-first.ensures
+    ∙ ap (λ (b : ℕ). start f.layout b c.args.image) c.target-bank.ensures.value in
     let s = g.D.Flash.told a.flash in
     let t = g.D.Flash.told c.append.new.flash in
     let k = kept c.settle.new.session in
@@ -37,13 +40,19 @@ invariant_of-self g c =
       power = λ still. c.in-Ok.ensures.power;
       inside = λ still. omega (arith, a.inside here, c.in-Ok.ensures.size);
       fitting = λ still.
-          write-fitting g.D.Flash.tells s t f k c.settle.new.meta c.args.image c.start-first.result c.size-size.result c.args.number c.args.at c.append.new.rest c.args.bytes.now fitting a.session.sound (a.knows here) c.requires.plan (λ tells. omega (arith, a.inside here, (g.met.D.Flash.sound a.flash tells).size)) fits first c.size-size.ensures
+          write-fitting g.D.Flash.tells s t f k c.settle.new.meta c.args.image c.start-first.result c.size-size.result c.args.number c.args.at
+          c.append.new.rest c.args.bytes.now fitting a.session.sound (a.knows here) c.requires.plan
+          (λ tells. omega (arith, a.inside here, (g.met.D.Flash.sound a.flash tells).size)) fits first c.size-size.ensures
           c.in-Ok.ensures.appends c.settle.ensures.session c.settle.ensures.meta c.settle.ensures.settles;
       some = λ still.
-          write-some g.D.Flash.tells s t f k c.settle.new.meta c.args.image c.start-first.result c.size-size.result c.args.number c.args.at c.append.new.rest c.args.bytes.now fitting a.session.sound (a.knows here) c.requires.plan (λ tells. omega (arith, a.inside here, (g.met.D.Flash.sound a.flash tells).size)) fits first c.size-size.ensures
+          write-some g.D.Flash.tells s t f k c.settle.new.meta c.args.image c.start-first.result c.size-size.result c.args.number c.args.at
+          c.append.new.rest c.args.bytes.now fitting a.session.sound (a.knows here) c.requires.plan
+          (λ tells. omega (arith, a.inside here, (g.met.D.Flash.sound a.flash tells).size)) fits first c.size-size.ensures
           c.in-Ok.ensures.appends c.settle.ensures.session c.settle.ensures.meta c.settle.ensures.settles (a.some here);
       knows = λ still.
-          write-known g.D.Flash.tells s t f k c.settle.new.meta c.args.image c.start-first.result c.size-size.result c.args.number c.args.at c.append.new.rest c.args.bytes.now fitting a.session.sound (a.knows here) c.requires.plan (λ tells. omega (arith, a.inside here, (g.met.D.Flash.sound a.flash tells).size)) fits first c.size-size.ensures
+          write-known g.D.Flash.tells s t f k c.settle.new.meta c.args.image c.start-first.result c.size-size.result c.args.number c.args.at
+          c.append.new.rest c.args.bytes.now fitting a.session.sound (a.knows here) c.requires.plan
+          (λ tells. omega (arith, a.inside here, (g.met.D.Flash.sound a.flash tells).size)) fits first c.size-size.ensures
           c.in-Ok.ensures.appends c.settle.ensures.session c.settle.ensures.meta c.settle.ensures.settles;
     }
 
@@ -53,16 +62,22 @@ returns-in-Ok-clause-meets g c passes h decides =
     let here = c.requires.here in
     let f : Fields = fields a in
     let fitting = a.fitting here in
-    let slot : slot_of (kept a.session).rows c.args.image ≡ slot_bytes f.layout c.args.image = ap (λ (l : List ImageRow). slot_of l c.args.image) fitting.rows in
-    let fits : size_of (part_at f.session c.args.image) + length c.args.bytes.now ≤ slot_bytes f.layout c.args.image = omega (arith, c.requires.plan.3, slot) in
-    let first : c.start-first.result ≡ start f.layout (target f) c.args.image = c.start-first.ensures ∙ ap (λ (b : ℕ). start f.layout b c.args.image) c.target-bank.ensures.value in
-    write-done g.D.Flash.tells (g.D.Flash.told a.flash) (g.D.Flash.told c.append.new.flash) f (kept c.settle.new.session) c.settle.new.meta c.args.image c.start-first.result c.size-size.result c.args.number c.args.at c.append.new.rest c.args.bytes.now fitting a.session.sound (a.knows here)
-    c.requires.plan (λ tells. omega (arith, a.inside here, (g.met.D.Flash.sound a.flash tells).size)) fits first c.size-size.ensures c.in-Ok.ensures.appends c.settle.ensures.session c.settle.ensures.meta c.settle.ensures.settles passes h decides
+    let slot : slot_of (kept a.session).rows c.args.image ≡ slot_bytes f.layout c.args.image = ap (λ (l : List ImageRow). slot_of l c.args.image)
+    fitting.rows in
+    let fits : size_of (part_at f.session c.args.image) + length c.args.bytes.now ≤ slot_bytes f.layout c.args.image = omega
+    (arith, c.requires.plan.3, slot) in
+    let first : c.start-first.result ≡ start f.layout (target f) c.args.image = c.start-first.ensures
+    ∙ ap (λ (b : ℕ). start f.layout b c.args.image) c.target-bank.ensures.value in
+    write-done g.D.Flash.tells (g.D.Flash.told a.flash) (g.D.Flash.told c.append.new.flash) f (kept c.settle.new.session) c.settle.new.meta c.args.image
+    c.start-first.result c.size-size.result c.args.number c.args.at c.append.new.rest c.args.bytes.now fitting a.session.sound (a.knows here)
+    c.requires.plan (λ tells. omega (arith, a.inside here, (g.met.D.Flash.sound a.flash tells).size)) fits first c.size-size.ensures c.in-Ok.ensures.appends
+    c.settle.ensures.session c.settle.ensures.meta c.settle.ensures.settles passes h decides
 
 pub returns-in-Ok-clause-spent : goal.returns-in-Ok-clause-spent
 returns-in-Ok-clause-spent g c =
     let a = c.args.self.now in
-    subst (λ (n : ℕ). SpendsArming {T = Unit {0}} (Ok tt) (writes_to_append n (length c.args.bytes.now)) (g.D.Flash.arming a.flash) (g.D.Flash.arming c.append.new.flash) (g.D.Flash.counts a.flash) (g.D.Flash.counts c.append.new.flash)) c.size-size.ensures
+    subst (λ (n : ℕ). SpendsArming {T = Unit {0}} (Ok tt) (writes_to_append n (length c.args.bytes.now)) (g.D.Flash.arming a.flash)
+    (g.D.Flash.arming c.append.new.flash) (g.D.Flash.counts a.flash) (g.D.Flash.counts c.append.new.flash)) c.size-size.ensures
     c.in-Ok.ensures.arming
 
 pub returns-in-Err-clause-meets : goal.returns-in-Err-clause-meets
@@ -71,9 +86,19 @@ returns-in-Err-clause-meets g c passes h decides =
     let here = c.requires.here in
     let f : Fields = fields a in
     let fitting = a.fitting here in
-    let slot : slot_of (kept a.session).rows c.args.image ≡ slot_bytes f.layout c.args.image = ap (λ (l : List ImageRow). slot_of l c.args.image) fitting.rows in
-    let fits : size_of (part_at f.session c.args.image) + length c.args.bytes.now ≤ slot_bytes f.layout c.args.image = omega (arith, c.requires.plan.3, slot) in
-    let first : c.start-first.result ≡ start f.layout (target f) c.args.image = c.start-first.ensures ∙ ap (λ (b : ℕ). start f.layout b c.args.image) c.target-bank.ensures.value in
-    write-stopped (moment a) (record { tells = g.D.Flash.tells; told = g.D.Flash.told c.append.new.flash; fields = record f { rests = set f.rests c.args.image c.append.new.rest } }) c.args.image c.start-first.result c.size-size.result c.args.number c.args.at c.append.new.rest c.args.bytes.now
-    fitting a.session.sound (a.knows here) c.requires.plan (λ tells. omega (arith, a.inside here, (g.met.D.Flash.sound a.flash tells).size)) fits first c.size-size.ensures c.in-Err.stop c.in-Err.ensures.appends passes h decides refl
+    let slot : slot_of (kept a.session).rows c.args.image ≡ slot_bytes f.layout c.args.image = ap (λ (l : List ImageRow). slot_of l c.args.image)
+    fitting.rows in
+    let fits : size_of (part_at f.session c.args.image) + length c.args.bytes.now ≤ slot_bytes f.layout c.args.image = omega
+    (arith, c.requires.plan.3, slot) in
+    let first : c.start-first.result ≡ start f.layout (target f) c.args.image = c.start-first.ensures
+    ∙ ap (λ (b : ℕ). start f.layout b c.args.image) c.target-bank.ensures.value in
+    write-stopped (moment a) (record {
+      tells = g.D.Flash.tells;
+      told = g.D.Flash.told c.append.new.flash;
+      fields = record f
+          { rests = set f.rests c.args.image c.append.new.rest };
+    }) c.args.image c.start-first.result c.size-size.result c.args.number c.args.at
+    c.append.new.rest c.args.bytes.now
+    fitting a.session.sound (a.knows here) c.requires.plan (λ tells. omega (arith, a.inside here, (g.met.D.Flash.sound a.flash tells).size)) fits first
+    c.size-size.ensures c.in-Err.stop c.in-Err.ensures.appends passes h decides refl
     (record { layout = refl; boot = refl; counter = refl; lengths = refl; form = refl }) c.stopped.result c.stopped.ensures.stop c.stopped.ensures.stopped

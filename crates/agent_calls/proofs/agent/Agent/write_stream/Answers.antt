@@ -35,10 +35,12 @@ own-quiet h n plan.Cancel not own = absurd own
 own-quiet h n (plan.Accept image store) not own = absurd own
 own-quiet h n plan.Back not own = absurd own
 
-quiet : (f : Fields) → Fitting f → SessionSound f → ∥ SomeStaged f.session ∥₁ → (h : ℕ) (bytes : List ℕ) (p : Plan) → ((passes : List ℕ → Bool) → PlansAs passes f (request.Write h (length bytes)) (Ok p)) → IsPlanOf f.session p
+quiet : (f : Fields) → Fitting f → SessionSound f → ∥ SomeStaged f.session ∥₁ → (h : ℕ) (bytes : List ℕ) (p : Plan)
+    → ((passes : List ℕ → Bool) → PlansAs passes f (request.Write h (length bytes)) (Ok p)) → IsPlanOf f.session p
     → ((number image at m : ℕ) → p ≡ plan.Write number image at m → ⊥) → IsQuiet p
 quiet f fitting sound some h bytes p plans of not =
-    quiet-unless-own f fitting sound some (λ m. true) (request.Write h (length bytes)) bytes (λ E s setting speaks. refl) (λ e. omega (arith, e)) p (plans (λ m. true)) of (own-quiet h (length bytes) p not)
+    quiet-unless-own f fitting sound some (λ m. true) (request.Write h (length bytes)) bytes (λ E s setting speaks. refl) (λ e. omega (arith, e)) p
+    (plans (λ m. true)) of (own-quiet h (length bytes) p not)
 
 pub write_image-requires-clause-plan : goal.write_image-requires-clause-plan
 write_image-requires-clause-plan g c =
@@ -47,9 +49,12 @@ write_image-requires-clause-plan g c =
     let fitting = a.fitting c.if-self.false in
     let bytes = c.args.bytes.now in
     let of = subst (IsPlanOf f.session) c.in-Write.is c.in-Ok.ensures.of in
-    let decides = subst (λ (p : Plan). Decides (λ m. true) f.meta f.counter f.session f.boot (request.Write c.args.handle (length bytes)) (decision.Do p)) c.in-Write.is (c.in-Ok.ensures.plans (λ m. true)) in
-    let slot : slot_of f.session.rows c.in-Write.image ≡ slot_bytes f.layout c.in-Write.image = ap (λ (l : List ImageRow). slot_of l c.in-Write.image) fitting.rows in
-    let room = write-room f fitting a.session.sound (a.some c.if-self.false) (λ m. true) c.args.handle (length bytes) bytes refl c.in-Write.number c.in-Write.image c.in-Write.at c.in-Write.length of decides in
+    let decides = subst (λ (p : Plan). Decides (λ m. true) f.meta f.counter f.session f.boot (request.Write c.args.handle (length bytes)) (decision.Do p))
+    c.in-Write.is (c.in-Ok.ensures.plans (λ m. true)) in
+    let slot : slot_of f.session.rows c.in-Write.image ≡ slot_bytes f.layout c.in-Write.image = ap (λ (l : List ImageRow). slot_of l c.in-Write.image)
+    fitting.rows in
+    let room = write-room f fitting a.session.sound (a.some c.if-self.false) (λ m. true) c.args.handle (length bytes) bytes refl c.in-Write.number
+    c.in-Write.image c.in-Write.at c.in-Write.length of decides in
     (of.0, of.1, of.2, omega (arith, room, slot))
 
 pub keep-requires : goal.keep-requires
@@ -61,9 +66,11 @@ keep-requires g c =
     record {
       here = here;
       plan = c.in-Ok.ensures.of;
-      quiet = quiet f (a.fitting here) a.session.sound (a.some here) c.args.handle bytes c.in-Ok.plan c.in-Ok.ensures.plans c.in-Ok.ensures.of c.in_default.not-Write;
+      quiet = quiet f (a.fitting here) a.session.sound (a.some here) c.args.handle bytes c.in-Ok.plan c.in-Ok.ensures.plans c.in-Ok.ensures.of
+          c.in_default.not-Write;
       may =
-          may-keep f (a.fitting here) a.session.sound (a.some here) (λ m. true) (request.Write c.args.handle (length bytes)) bytes (λ E s setting speaks. refl) (λ e. omega (arith, e)) c.in-Ok.plan
+          may-keep f (a.fitting here) a.session.sound (a.some here) (λ m. true) (request.Write c.args.handle (length bytes)) bytes
+          (λ E s setting speaks. refl) (λ e. omega (arith, e)) c.in-Ok.plan
           (c.in-Ok.ensures.plans (λ m. true)) g.D.Flash.tells (g.D.Flash.told a.flash) (a.knows here) refl (λ e. omega (arith, e));
     }
 
@@ -82,9 +89,12 @@ returns-in-Write-clause-spent g c done image writes =
     let here = c.if-self.false in
     let bytes = c.args.bytes.now in
     let of = subst (IsPlanOf f.session) c.in-Write.is c.in-Ok.ensures.of in
-    let decides = subst (λ (p : Plan). Decides (λ m. true) f.meta f.counter f.session f.boot (request.Write c.args.handle (length bytes)) (decision.Do p)) c.in-Write.is (c.in-Ok.ensures.plans (λ m. true)) in
-    let same = write-spends f (a.fitting here) a.session.sound (a.some here) (λ m. true) c.args.handle (length bytes) bytes refl c.in-Write.number c.in-Write.image c.in-Write.at c.in-Write.length of decides image writes in
-    subst (λ (n : ℕ). SpendsArming (flash_result c.write_image.result) n (g.D.Flash.arming a.flash) (g.D.Flash.arming c.write_image.new.self.flash) (g.D.Flash.counts a.flash) (g.D.Flash.counts c.write_image.new.self.flash)) same
+    let decides = subst (λ (p : Plan). Decides (λ m. true) f.meta f.counter f.session f.boot (request.Write c.args.handle (length bytes)) (decision.Do p))
+    c.in-Write.is (c.in-Ok.ensures.plans (λ m. true)) in
+    let same = write-spends f (a.fitting here) a.session.sound (a.some here) (λ m. true) c.args.handle (length bytes) bytes refl c.in-Write.number
+    c.in-Write.image c.in-Write.at c.in-Write.length of decides image writes in
+    subst (λ (n : ℕ). SpendsArming (flash_result c.write_image.result) n (g.D.Flash.arming a.flash) (g.D.Flash.arming c.write_image.new.self.flash)
+    (g.D.Flash.counts a.flash) (g.D.Flash.counts c.write_image.new.self.flash)) same
     c.write_image.ensures.spent
 
 pub returns-in_default : goal.returns-in_default
@@ -94,25 +104,32 @@ returns-in_default g c =
     let here = c.if-self.false in
     let bytes = c.args.bytes.now in
     let p = c.in-Ok.plan in
-    let still = quiet f (a.fitting here) a.session.sound (a.some here) c.args.handle bytes p c.in-Ok.ensures.plans c.in-Ok.ensures.of c.in_default.not-Write in
+    let still = quiet f (a.fitting here) a.session.sound (a.some here) c.args.handle bytes p c.in-Ok.ensures.plans c.in-Ok.ensures.of
+    c.in_default.not-Write in
     let device = c.keep.ensures.device in
     record {
       meets = λ was passes.
-          quiet-success (moment a) (moment c.keep.new.self) (a.fitting here) a.session.sound (a.knows here) passes (request.Write c.args.handle (length bytes)) bytes (λ E s setting speaks. refl) p (c.in-Ok.ensures.plans passes) still
+          quiet-success (moment a) (moment c.keep.new.self) (a.fitting here) a.session.sound (a.knows here) passes
+          (request.Write c.args.handle (length bytes)) bytes (λ E s setting speaks. refl) p (c.in-Ok.ensures.plans passes) still
           (ap g.D.Flash.told device) (carried-any p [] bytes (moment a) (moment c.keep.new.self) still c.keep.ensures.carried) refl;
       goes = still-goes tt a.gone c.keep.new.self.gone here c.keep.ensures.here;
       untouched = λ e. absurd (done-gone tt e);
       refused = λ e. absurd e;
       spent = λ done image writes.
-          let none = quiet-spends f (a.fitting here) a.session.sound (a.some here) (λ m. true) c.args.handle (length bytes) bytes refl p still (c.in-Ok.ensures.plans (λ m. true)) image writes in
-          subst (λ (n : ℕ). SpendsArming {T = Unit {0}} (Ok tt) n (g.D.Flash.arming a.flash) (g.D.Flash.arming c.keep.new.self.flash) (g.D.Flash.counts a.flash) (g.D.Flash.counts c.keep.new.self.flash)) (sym none)
-          (subst (λ d. SpendsArming {T = Unit {0}} (Ok tt) 0 (g.D.Flash.arming a.flash) (g.D.Flash.arming d) (g.D.Flash.counts a.flash) (g.D.Flash.counts d)) (sym device) (spends-none (g.D.Flash.arming a.flash) (g.D.Flash.counts a.flash)));
+          let none = quiet-spends f (a.fitting here) a.session.sound (a.some here) (λ m. true) c.args.handle (length bytes) bytes refl p still
+          (c.in-Ok.ensures.plans (λ m. true)) image writes in
+          subst (λ (n : ℕ). SpendsArming {T = Unit {0}} (Ok tt) n (g.D.Flash.arming a.flash) (g.D.Flash.arming c.keep.new.self.flash)
+          (g.D.Flash.counts a.flash) (g.D.Flash.counts c.keep.new.self.flash)) (sym none)
+          (subst (λ d. SpendsArming {T = Unit {0}} (Ok tt) 0 (g.D.Flash.arming a.flash) (g.D.Flash.arming d) (g.D.Flash.counts a.flash)
+          (g.D.Flash.counts d)) (sym device) (spends-none (g.D.Flash.arming a.flash) (g.D.Flash.counts a.flash)));
       power = λ was. ap g.D.Flash.on device ∙ a.power here;
       size = ap g.D.Flash.blocks device;
-      costs = subst (λ (n : Counts). Spends {T = Unit {0}} (Ok tt) (g.D.Flash.counts a.flash) n) (sym (ap g.D.Flash.counts device)) (still-spends (g.D.Flash.counts a.flash));
+      costs = subst (λ (n : Counts). Spends {T = Unit {0}} (Ok tt) (g.D.Flash.counts a.flash) n) (sym (ap g.D.Flash.counts device))
+          (still-spends (g.D.Flash.counts a.flash));
     }
 
 pub returns-in-Err-clause-meets : goal.returns-in-Err-clause-meets
 returns-in-Err-clause-meets g c here passes =
     let a = c.args.self.now in
-    refused-meets (moment a) (a.fitting here) a.session.sound passes (request.Write c.args.handle (length c.args.bytes.now)) c.args.bytes.now (λ E s setting speaks. refl) c.in-Err.status (c.in-Err.ensures.plans passes) (λ value reply. reply ≡ Success)
+    refused-meets (moment a) (a.fitting here) a.session.sound passes (request.Write c.args.handle (length c.args.bytes.now)) c.args.bytes.now
+    (λ E s setting speaks. refl) c.in-Err.status (c.in-Err.ensures.plans passes) (λ value reply. reply ≡ Success)
