@@ -7,7 +7,8 @@ use Rattle.image_check.specs.Verdict.{verdict_on}
 use Rattle.image_check.specs.Law.{may_start}
 use Rattle.image_check.proofs.Permitted.{held}
 
-pub good-permitted : (E : Setting) (L : Layout) (passes : List ℕ → Bool) (counter : ℕ) (image : List ℕ) (bank previous : ℕ) (good : Bool) → IsTrue (fits_layout L) → E.layout ≡ L → E.passes ≡ passes → bank ≡ previous
+pub good-permitted : (E : Setting) (L : Layout) (passes : List ℕ → Bool) (counter : ℕ) (image : List ℕ) (bank previous : ℕ) (good : Bool)
+    → IsTrue (fits_layout L) → E.layout ≡ L → E.passes ≡ passes → bank ≡ previous
     → good ≡ may_start (verdict_on passes counter L image bank) → good ≡ holds_permitted E counter (package_in L image previous)
 good-permitted E L passes counter image bank previous good fits layout verifier bank-is good-is =
     good-is ∙ ap₂ (λ (ps : List ℕ → Bool) (l : Layout). may_start (verdict_on ps counter l image bank)) (sym verifier) (sym layout)

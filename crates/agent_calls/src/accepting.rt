@@ -1,9 +1,10 @@
 //! An image of the active bank is accepted.
-ghost use Rattle.std.specs.Prelude.{◌≡◌, ℕ, Bool, List, is_ok, IsTrue, IsFalse, IsErrOf};
+ghost use Rattle.std.specs.Prelude.{◌≡◌, ℕ, Bool, List, is_ok, IsTrue, IsFalse, IsErrOf, OnOk};
 ghost use Rattle.flash_core.specs.Counts.{Spends};
 ghost use Rattle.fwu_model.specs.Call as call;
 ghost use Rattle.fwu_model.specs.Reply.{Success};
 ghost use Rattle.agent_machine.specs.Meets.{Meets, GoesBy, IsRefused, flash_result};
+ghost use Rattle.agent_machine.specs.Stored.{TakesStore};
 
 use crate::agent::Agent;
 use agent_machine::Stop;
@@ -34,6 +35,9 @@ impl<D: Flash> Agent<D> {
         ensures size { D.blocks (device self.new) ≡ D.blocks (device self.old) }
         ensures costs { Spends (flash_result result) (D.counts (device self.old))
             (D.counts (device self.new)) }
+        // On any device: an answer stored the metadata, or has it as it was and wrote nothing.
+        ensures spent { OnOk result (TakesStore (fields self.old).meta (fields self.new).meta
+            (D.arming (device self.old)) (D.arming (device self.new))) }
     {
         if self.gone {
             return Err(Stop::Gone);

@@ -1,5 +1,5 @@
 //! Going back to the previous bank.
-ghost use Rattle.std.specs.Prelude.{◌≡◌, ◌<◌, ◌≤◌, ◌&&◌, ℕ, Bool, List, length, is_ok, IfOk, IsTrue, IsFalse, IsErrOf};
+ghost use Rattle.std.specs.Prelude.{◌≡◌, ◌<◌, ◌≤◌, ◌&&◌, ℕ, Bool, List, length, is_ok, IfOk, IsTrue, IsFalse, IsErrOf, OnOk};
 ghost use Rattle.flash_core.specs.Counts.{Spends, arming_kept};
 ghost use Rattle.fwu_formats.specs.Layout.{blocks_needed};
 ghost use Rattle.fwu_model.specs.State.{is_valid, is_accepted};
@@ -10,10 +10,9 @@ ghost use Rattle.agent_kept.specs.Kept.{kept};
 ghost use Rattle.agent_state.specs.Decides.{Decides};
 ghost use Rattle.agent_state.specs.Ruled.{ruled_as};
 ghost use Rattle.agent_machine.specs.Meets.{MeetsPrevious, GoesBy, IsRefused, flash_result};
-ghost use Rattle.agent_machine.specs.Stored.{is_to_do, may_try_kept};
+ghost use Rattle.agent_machine.specs.Stored.{TakesStore, is_to_do, may_try_kept};
 
-use crate::agent::Agent;
-use crate::storing::stopped;
+use crate::agent::{Agent, stopped};
 use agent_machine::Stop;
 use agent_state::{Decision, Plan, Request, Session, decide, ruled};
 use flash_core::{Flash, FlashStop};
@@ -121,6 +120,9 @@ impl<D: Flash> Agent<D> {
         ensures size { D.blocks (device self.new) ≡ D.blocks (device self.old) }
         ensures costs { Spends (flash_result result) (D.counts (device self.old))
             (D.counts (device self.new)) }
+        // On any device: an answer stored the metadata, or has it as it was and wrote nothing.
+        ensures spent { OnOk result (TakesStore (fields self.old).meta (fields self.new).meta
+            (D.arming (device self.old)) (D.arming (device self.new))) }
     {
         // the decision that waits for a verdict doesn't say so by itself
         if !may_try(&self.meta, &self.session, self.boot) {
@@ -167,6 +169,9 @@ impl<D: Flash> Agent<D> {
         ensures size { D.blocks (device self.new) ≡ D.blocks (device self.old) }
         ensures costs { Spends (flash_result result) (D.counts (device self.old))
             (D.counts (device self.new)) }
+        // On any device: an answer stored the metadata, or has it as it was and wrote nothing.
+        ensures spent { OnOk result (TakesStore (fields self.old).meta (fields self.new).meta
+            (D.arming (device self.old)) (D.arming (device self.new))) }
     {
         if self.gone {
             return Err(Stop::Gone);

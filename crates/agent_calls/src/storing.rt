@@ -1,11 +1,11 @@
 //! Carrying out a plan that may store metadata.
-ghost use Rattle.std.specs.Prelude.{◌≡◌, ◌<◌, is_ok, length, Result, Err, IsTrue, IsFalse};
+ghost use Rattle.std.specs.Prelude.{◌≡◌, ◌<◌, is_ok, length, IsTrue, IsFalse, OnOk};
 ghost use Rattle.flash_core.specs.Counts.{Spends};
 ghost use Rattle.fwu_formats.specs.Metadata.{fits_meta};
-ghost use Rattle.agent_machine.specs.Meets.{IsStopped, flash_result};
-ghost use Rattle.agent_machine.specs.Stored.{StoresIf, is_stored, trials_planned};
+ghost use Rattle.agent_machine.specs.Meets.{flash_result};
+ghost use Rattle.agent_machine.specs.Stored.{StoresIf, TakesIf, is_stored, trials_planned};
 
-use crate::agent::Agent;
+use crate::agent::{Agent, stopped};
 use agent_machine::Stop;
 use agent_state::{Decision, Plan, settle};
 use flash_core::{Flash, FlashStop};
@@ -26,6 +26,7 @@ fn store_if<D: Flash>(
     ensures power { D.on flash.new ≡ is_ok result }
     ensures size { D.blocks flash.new ≡ D.blocks flash.old }
     ensures costs { Spends result (D.counts flash.old) (D.counts flash.new) }
+    ensures spent { OnOk result (TakesIf stored (D.arming flash.old) (D.arming flash.new)) }
 {
     if !stored {
         return Ok(());
@@ -64,21 +65,10 @@ fn trials_after(plan: &Plan, meta: &Meta, trials: u32) -> u32
     }
 }
 
-/// What a call answers that the flash stopped.
-pub(crate) fn stopped(stop: FlashStop) -> Stop
-    ensures stop { flash_result {T = Unit {0}} (Err result) ≡ Err stop }
-    ensures stopped { IsStopped {T = Unit {0}} (Err result) }
-{
-    match stop {
-        FlashStop::Lost => Stop::Lost,
-        FlashStop::Failed => Stop::Fault,
-    }
-}
-
 impl<D: Flash> Agent<D> {
     ghost use Rattle.agent_calls.specs.Shown.{fields, device, gone, moment};
     ghost use Rattle.agent_machine.specs.Meets.{GoesBy, IsRefused};
-    ghost use Rattle.agent_machine.specs.Stored.{MayCarryOut, CarriesOut};
+    ghost use Rattle.agent_machine.specs.Stored.{MayCarryOut, CarriesOut, TakesStore};
 
     /// Makes of the metadata and of the session what a plan says, and stores the metadata where the plan
     /// does. A stop of the flash leaves the agent gone.
@@ -92,7 +82,11 @@ impl<D: Flash> Agent<D> {
         ensures size { D.blocks (device self.new) ≡ D.blocks (device self.old) }
         ensures costs { Spends (flash_result result) (D.counts (device self.old))
             (D.counts (device self.new)) }
+        // On any device: an answer stored the metadata, or has it as it was and wrote nothing.
+        ensures spent { OnOk result (TakesStore (fields self.old).meta (fields self.new).meta
+            (D.arming (device self.old)) (D.arming (device self.new))) }
     {
+        // where the store is stopped, what is kept counts no more: the agent is gone
         settle(&mut self.meta, &mut self.session, &Decision::Do(plan), &[]);
         self.trials = trials_after(&plan, &self.meta, self.trials);
         let stored = is_stored(&plan);

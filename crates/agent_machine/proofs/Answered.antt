@@ -383,14 +383,14 @@ module _ (old new : Moment) (fitting : Fitting old.fields) (sound : SessionSound
 
 pub stopped-meets : {T : Type 0} (Says : T → Reply → Type 0) (r : Stop) (passes : List ℕ → Bool) (c : Call) (old new : Moment) → IsStopped {T = T} (Err r)
     → Leaves (flash_result {T = T} (Err r)) passes c old new → Meets {T = T} Says (Err r) passes c old new
-stopped-meets Says (stop.Status st) passes c old new stopped leaves = absurd stopped
+stopped-meets Says (stop.Status refusal) passes c old new stopped leaves = absurd stopped
 stopped-meets Says stop.Lost passes c old new stopped leaves = record { exact = λ E s x setting shows. tt; leaves = leaves }
 stopped-meets Says stop.Fault passes c old new stopped leaves = record { exact = λ E s x setting shows. tt; leaves = leaves }
 stopped-meets Says stop.Gone passes c old new stopped leaves = absurd stopped
 
 -- it makes the agent gone
 pub stopped-goes : {T : Type 0} (r : Stop) → IsStopped {T = T} (Err r) → GoesBy {T = T} (Err r) false true
-stopped-goes (stop.Status st) stopped = absurd stopped
+stopped-goes (stop.Status refusal) stopped = absurd stopped
 stopped-goes stop.Lost stopped = record { gone = (λ e. absurd cc, λ e. absurd cc); later = (λ e. inr tt, λ e. refl) }
 stopped-goes stop.Fault stopped = record { gone = (λ e. absurd cc, λ e. absurd cc); later = (λ e. inr tt, λ e. refl) }
 stopped-goes stop.Gone stopped = absurd stopped

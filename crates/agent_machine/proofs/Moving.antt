@@ -1,13 +1,13 @@
 -- A store of the metadata of a move, by what the agent knows.
-use Rattle.std.proofs.Common.{◌≡◌, ℕ, ◌+◌, ◌%◌, ◌<◌, List, [], ◌∷◌, Bool, Option, Some, refl, sym, ap, ◌∙◌, subst, arith, IsTrue}
+use Rattle.std.proofs.Common.{◌≡◌, ℕ, ◌+◌, ◌%◌, ◌<◌, List, [], ◌∷◌, Bool, Option, Some, refl, sym, ap, ◌∙◌, subst, arith, IsTrue, IsFalse}
 use Rattle.std.proofs.Math.Nat.{mod-lt}
 use Rattle.flash_core.specs.Told.{Told}
 use Rattle.flash_core.specs.May.{Guards}
 use Rattle.fwu_formats.specs.Layout.{Layout}
-use Rattle.fwu_formats.specs.Metadata.{Meta}
+use Rattle.fwu_formats.specs.Metadata.{Meta, state_at}
 use Rattle.fwu_formats.specs.Image.{deciding}
 use Rattle.fwu_model.specs.Replica.{in_version}
-use Rattle.fwu_model.specs.State.{State, Move, Free, Accept, Back, bank, update_bank, is_accepted}
+use Rattle.fwu_model.specs.State.{State, Move, Free, Accept, Back, bank, update_bank, is_accepted, is_invalid}
 use Rattle.fwu_model.specs.Sound.{Setting, holds_permitted}
 use Rattle.fwu_model.specs.Calm.{IsCalm, IsAtRest}
 use Rattle.replicas.specs.Stores.{Stores}
@@ -23,8 +23,21 @@ use Rattle.moves.proofs.Read.{deciding-fits}
 use Rattle.agent_machine.specs.Fields.{Fields, target}
 use Rattle.agent_machine.specs.Machine.{state_in}
 use Rattle.agent_machine.specs.Knows.{Fitting, Knows}
-use Rattle.agent_machine.specs.Law.{StoresMeet}
 use Rattle.agent_machine.proofs.Known.{both-decides, known-shown, known-ready}
+
+-- What a store of the metadata of a move is: on a calm flash under this premise, on any flash, and on any flash at rest.
+pub record StoreMeets (result : Done) (f : Fields) (Premise : Setting → Type 0) (move : Move) (s t : Told) : Type 0 where
+  pub does : (E : Setting) → E.layout ≡ f.layout → Premise E → IsCalm E s (state_in f s.now) → Guards 1 7 s → Does result E (state_in f s.now) (move ∷ []) t
+  pub shows : ShowsAfter result f.layout (state_in f s.now) (move ∷ []) t
+  pub guarded : IsAtRest s → GuardedBy result t
+
+pub record StoresMeet (result : Done) (f : Fields) (s t : Told) : Type 0 where
+  pub free : IsTrue (is_accepted (state_at f.meta.meta f.meta.meta.active)) → Stores result f.layout (meta_after f.meta.meta (Free (target f))) s t
+      → StoreMeets result f (λ E. Unit {0}) (Free (target f)) s t
+  pub accept : (image : ℕ) → IsFalse (is_invalid (state_at f.meta.meta f.meta.meta.active))
+      → Stores result f.layout (meta_after f.meta.meta (Accept image)) s t → StoreMeets result f (λ E. Unit {0}) (Accept image) s t
+  pub back : IsTrue (is_accepted (state_at f.meta.meta f.meta.meta.previous)) → Stores result f.layout (meta_after f.meta.meta Back) s t
+      → StoreMeets result f (λ E. IsTrue (holds_permitted E (state_in f s.now).counter (bank (state_in f s.now) (state_in f s.now).previous).held)) Back s t
 
 module _ (result : Done) (f : Fields) (s t : Told) (fitting : Fitting f) (knows : Knows f s) where
   abbrev L : Layout
@@ -55,7 +68,8 @@ module _ (result : Done) (f : Fields) (s t : Told) (fitting : Fitting f) (knows 
   of-layout files passes = record { layout = L; files = files; passes = passes }
 
   -- in every setting of the layout, where it holds in those that have it by their form
-  anywhere : (Premise : Setting → Type 0) (move : Move) → ((files : List ℕ → Option (List ℕ)) (passes : List ℕ → Bool) → Premise (of-layout files passes) → IsCalm (of-layout files passes) s state → Guards 1 7 s → Does result (of-layout files passes) state (move ∷ []) t)
+  anywhere : (Premise : Setting → Type 0) (move : Move) → ((files : List ℕ → Option (List ℕ)) (passes : List ℕ → Bool) → Premise
+      (of-layout files passes) → IsCalm (of-layout files passes) s state → Guards 1 7 s → Does result (of-layout files passes) state (move ∷ []) t)
       → (E : Setting) → E.layout ≡ L → Premise E → IsCalm E s state → Guards 1 7 s → Does result E state (move ∷ []) t
   anywhere Premise move here E same premise calm guards =
       let path : of-layout E.files E.passes ≡ E = ap (λ (l : Layout). record { layout = l; files = E.files; passes = E.passes }) (sym same) in
@@ -64,7 +78,8 @@ module _ (result : Done) (f : Fields) (s t : Told) (fitting : Fitting f) (knows 
 
   kept : (new : Meta) → Stores result L new s t → (IsAtRest s → QuietBy L new s) → IsAtRest s → GuardedBy result t
   kept new stores quiet rest =
-      store-guarded result L s t knows.layout_is rest (in_version 2 m) new decided (knows.both.one ∙ ap (λ (n : ℕ). Some (in_version n m)) knows.version) stores (quiet rest)
+      store-guarded result L s t knows.layout_is rest (in_version 2 m) new decided
+      (knows.both.one ∙ ap (λ (n : ℕ). Some (in_version n m)) knows.version) stores (quiet rest)
 
   used-now : IsAtRest s → QuietBy L m s
   used-now rest = rest-used L s knows.layout_is rest (in_version 2 m) decided
@@ -72,15 +87,19 @@ module _ (result : Done) (f : Fields) (s t : Told) (fitting : Fitting f) (knows 
   pub stores-meet : StoresMeet result f s t
   stores-meet = record {
     free = λ accepted stores.
-        let at : Stores result L (meta_after m (Free (update_bank state))) s t = subst (λ (b : ℕ). Stores result L (meta_after m (Free b)) s t) (sym u-is) stores in
-        let active : IsTrue (is_accepted (bank state state.active).state) = ap is_accepted (state-is L s.now f.meta state refl m.active active-below) ∙ accepted in
+        let at : Stores result L (meta_after m (Free (update_bank state))) s t = subst (λ (b : ℕ). Stores result L (meta_after m (Free b)) s t)
+        (sym u-is) stores in
+        let active : IsTrue (is_accepted (bank state state.active).state) = ap is_accepted (state-is L s.now f.meta state refl m.active active-below)
+        ∙ accepted in
         record {
           does = anywhere (λ E. Unit {0}) (Free (target f)) (λ files passes premise calm guards.
               let E = of-layout files passes in
-              subst (λ (b : ℕ). Does result E state (Free b ∷ []) t) u-is (free-does result E s t state m (known-ready E f s refl knows calm guards) decided active at));
+              subst (λ (b : ℕ). Does result E state (Free b ∷ []) t) u-is
+              (free-does result E s t state m (known-ready E f s refl knows calm guards) decided active at));
           shows = subst (λ (b : ℕ). ShowsAfter result L state (Free b ∷ []) t) u-is (free-shows result L s t state m shown decided at);
           guarded = kept (meta_after m (Free (target f))) stores (λ rest.
-              quiet-free L m (target f) s (deciding-fits L s.now (in_version 2 m) decided) (mod-lt (m.active + 1) (omega (arith, active-below))) (used-now rest));
+              quiet-free L m (target f) s (deciding-fits L s.now (in_version 2 m) decided) (mod-lt (m.active + 1) (omega (arith, active-below)))
+              (used-now rest));
         };
     accept = λ image used stores. record {
       does = anywhere (λ E. Unit {0}) (Accept image) (λ files passes premise calm guards.
@@ -90,7 +109,8 @@ module _ (result : Done) (f : Fields) (s t : Told) (fitting : Fitting f) (knows 
       guarded = kept (meta_after m (Accept image)) stores (λ rest. quiet-accept L m image s active-below used (used-now rest));
     };
     back = λ accepted stores.
-        let previous : IsTrue (is_accepted (bank state state.previous).state) = ap is_accepted (state-is L s.now f.meta state refl m.previous previous-below) ∙ accepted in
+        let previous : IsTrue (is_accepted (bank state state.previous).state) = ap is_accepted
+        (state-is L s.now f.meta state refl m.previous previous-below) ∙ accepted in
         record {
           does = anywhere (λ E. IsTrue (holds_permitted E state.counter (bank state state.previous).held)) Back (λ files passes premise calm guards.
               let E = of-layout files passes in

@@ -67,8 +67,10 @@ nothing-staged g t none = record {
   sure = λ i size digest bit lt is. absurd (nothing-committed size digest bit (sym (none i) ∙ is));
 }
 
-pub no-reader : (k : Kept) (place : ℕ) (image : Option ℕ) (at total : ℕ) → k.handles ≡ replicate 32 handle.Free → handle_kept k place ≡ handle.Reads image at total → ⊥
-no-reader k place image at total closed is = not-free-reads image at total (sym (ap (λ (hs : List Handle). get_or hs place handle.Free) closed ∙ frees 32 place) ∙ is)
+pub no-reader : (k : Kept) (place : ℕ) (image : Option ℕ) (at total : ℕ) → k.handles ≡ replicate 32 handle.Free
+    → handle_kept k place ≡ handle.Reads image at total → ⊥
+no-reader k place image at total closed is = not-free-reads image at total
+    (sym (ap (λ (hs : List Handle). get_or hs place handle.Free) closed ∙ frees 32 place) ∙ is)
 
 -- ---- the banks
 
@@ -101,7 +103,8 @@ module _ (f : Fields) (fitting : Fitting f) where
 
   module _ (store : Bool) (may : MayBegin f store) where
     pub begin-booted : f.boot ≡ m.active
-    begin-booted = eqb-true _ _ (by (f.boot == m.active) (by-or (not f.session.staging && is_valid (state_at m m.active)) (not (f.boot == m.active)) may.begins).1)
+    begin-booted = eqb-true _ _ (by (f.boot == m.active) (by-or (not f.session.staging && is_valid (state_at m m.active))
+        (not (f.boot == m.active)) may.begins).1)
       where
         by-or : (a b : Bool) → (a || b) ≡ false → (a ≡ false) × (b ≡ false)
         by-or true b e = absurd cc
@@ -163,7 +166,8 @@ module _ (f : Fields) (fitting : Fitting f) where
   }
 
   -- where the session stays, and nothing is staged
-  still-fitting : (new : Meta) (trials : ℕ) → f.session.staging ≡ false → IsTrue (fits_meta L new) → Fitting (record f { meta = record f.meta { meta = new }; trials = trials })
+  still-fitting : (new : Meta) (trials : ℕ) → f.session.staging ≡ false → IsTrue (fits_meta L new)
+      → Fitting (record f { meta = record f.meta { meta = new }; trials = trials })
   still-fitting new trials off fits = record {
     layout = fitting.layout;
     meta = fits;

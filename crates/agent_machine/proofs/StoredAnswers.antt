@@ -26,7 +26,8 @@ if-false true a b e = absurd cc
 if-false false a b e = refl
 
 -- a plan is no refusal
-not-refused : (E : Setting) (s : State) (boot : ℕ) (stg : Option (List Staged)) (hs : List Handle) (p : Plan) (st : Status) (y : Session) → planned E s boot stg hs [] p ≡ refused st y → ⊥
+not-refused : (E : Setting) (s : State) (boot : ℕ) (stg : Option (List Staged)) (hs : List Handle) (p : Plan) (st : Status) (y : Session)
+    → planned E s boot stg hs [] p ≡ refused st y → ⊥
 unfolding planned
 not-refused E s boot stg hs plan.Tell st y e = absurd (let r = ap (λ (a : Answer). a.reply) e in cc)
 not-refused E s boot stg hs (plan.Begin store) st y e = absurd (let r = ap (λ (a : Answer). a.reply) e in cc)
@@ -68,7 +69,8 @@ module _ (E : Setting) (s : State) (boot : ℕ) (stg : Option (List Staged)) (hs
     | inr no_ ↦ absurd (let f = sym (ap (λ (b : Bool). cond b [] (Free (update_bank s) ∷ [])) no_) ∙ e in cc)
   ]
 
-  begin-done : (n : ℕ) → cannot_begin s boot stg ≡ false → (n == 0) ≡ true → answer E s here (call.Begin n) ≡ answered Success (begin_moves s) (On boot (nothing_staged E) no_handles)
+  begin-done : (n : ℕ) → cannot_begin s boot stg ≡ false → (n == 0) ≡ true
+      → answer E s here (call.Begin n) ≡ answered Success (begin_moves s) (On boot (nothing_staged E) no_handles)
   unfolding answer answer_begin
   begin-done n can zero = if-false (cannot_begin s boot stg) _ _ can ∙ if-false (not (n == 0)) _ _ (ap not zero)
 
@@ -82,7 +84,8 @@ module _ (E : Setting) (s : State) (boot : ℕ) (stg : Option (List Staged)) (hs
     pub moves : begin_moves s ≡ cond (frees p) (Free (update_bank s) ∷ []) []
     pub is : answer E s here (call.Begin n) ≡ planned E s boot stg hs [] (plan.Begin (frees p))
 
-  begin-is : (p : Plan) → begin_moves s ≡ cond (frees p) (Free (update_bank s) ∷ []) [] → answered Success (begin_moves s) (On boot (nothing_staged E) no_handles) ≡ planned E s boot stg hs [] (plan.Begin (frees p))
+  begin-is : (p : Plan) → begin_moves s ≡ cond (frees p) (Free (update_bank s) ∷ []) []
+      → answered Success (begin_moves s) (On boot (nothing_staged E) no_handles) ≡ planned E s boot stg hs [] (plan.Begin (frees p))
   unfolding planned
   begin-is p e = ap (λ (ms : List Move). answered Success ms (On boot (nothing_staged E) no_handles)) e
 
@@ -104,7 +107,8 @@ module _ (E : Setting) (s : State) (boot : ℕ) (stg : Option (List Staged)) (hs
   begin-waits n true e = elim (cases_Bool (cannot_begin s boot stg)) [
     | inl cannot ↦ begin-denied E s boot stg hs [] n cannot
     | inr can ↦ elim (cases_Bool (n == 0)) [
-      | inl zero ↦ absurd (no-back (is_invalid (bank s (update_bank s)).state) (sym (ap (λ (a : Answer). a.moves) (begin-done n can zero)) ∙ ap (λ (a : Answer). a.moves) e))
+      | inl zero ↦ absurd (no-back (is_invalid (bank s (update_bank s)).state)
+          (sym (ap (λ (a : Answer). a.moves) (begin-done n can zero)) ∙ ap (λ (a : Answer). a.moves) e))
       | inr later ↦ absurd (let r = ap (λ (a : Answer). a.reply) (sym (begin-refused n can later) ∙ e) in cc)
     ]
   ]
@@ -130,7 +134,9 @@ module _ (E : Setting) (s : State) (boot : ℕ) (hs : List Handle) where
   unfolding answer answer_accept
   accept-here guid at = if-false (is_elsewhere s boot) _ _ at
 
-  accepts-by : (guid : List ℕ) (p : Plan) (found : Option ℕ) → is_elsewhere s boot ≡ false → answer E s idle (call.Accepts guid) ≡ accept_image s boot hs found → answer E s idle (call.Accepts guid) ≡ planned E s boot None hs [] p → Accepts E s boot None hs guid
+  accepts-by : (guid : List ℕ) (p : Plan) (found : Option ℕ) → is_elsewhere s boot ≡ false
+      → answer E s idle (call.Accepts guid) ≡ accept_image s boot hs found → answer E s idle (call.Accepts guid) ≡ planned E s boot None hs [] p
+      → Accepts E s boot None hs guid
   accepts-by guid p None at found e = absurd (not-refused E s boot None hs p status.Unknown idle (sym e ∙ found))
   accepts-by guid p (Some image) at found e = record { idle = refl; booted = eqb-true _ _ (same (boot == s.active) at); image = image; is = found }
     where
@@ -144,11 +150,14 @@ module _ (E : Setting) (s : State) (boot : ℕ) (hs : List Handle) where
     | inr at ↦ accepts-by guid p (find_image E.layout.rows guid) at (accept-here guid at) e
   ]
 
-pub accepts : (E : Setting) (s : State) (boot : ℕ) (stg : Option (List Staged)) (hs : List Handle) (guid : List ℕ) (p : Plan) → answer E s (On boot stg hs) (call.Accepts guid) ≡ planned E s boot stg hs [] p → Accepts E s boot stg hs guid
+pub accepts : (E : Setting) (s : State) (boot : ℕ) (stg : Option (List Staged)) (hs : List Handle) (guid : List ℕ) (p : Plan)
+    → answer E s (On boot stg hs) (call.Accepts guid) ≡ planned E s boot stg hs [] p → Accepts E s boot stg hs guid
 accepts E s boot None hs guid p e = accepts-idle E s boot hs guid p e
-accepts E s boot (Some parts) hs guid p e = absurd (not-refused E s boot (Some parts) hs p status.Denied (On boot (Some parts) hs) (sym e ∙ accept-staging E s boot parts hs [] guid))
+accepts E s boot (Some parts) hs guid p e = absurd (not-refused E s boot (Some parts) hs p status.Denied (On boot (Some parts) hs)
+    (sym e ∙ accept-staging E s boot parts hs [] guid))
 
-pub back-is : (E : Setting) (s : State) (boot : ℕ) (stg : Option (List Staged)) (hs : List Handle) → planned E s boot stg hs [] plan.Back ≡ answered Success (Back ∷ []) (On boot stg hs)
+pub back-is : (E : Setting) (s : State) (boot : ℕ) (stg : Option (List Staged)) (hs : List Handle)
+    → planned E s boot stg hs [] plan.Back ≡ answered Success (Back ∷ []) (On boot stg hs)
 unfolding planned
 back-is E s boot stg hs = refl
 
@@ -177,17 +186,20 @@ module _ (E : Setting) (s : State) (boot : ℕ) (stg : Option (List Staged)) (hs
   other-moves image (plan.Accept target store) not e = absurd cc
   other-moves image plan.Back not e = absurd (no-accept _ image Back [] (λ i h. absurd cc) e)
 
-  pub accept-other : (guid : List ℕ) (p : Plan) → is_accept p ≡ false → answer E s (On boot stg hs) (call.Accepts guid) ≡ planned E s boot stg hs [] p → answer E s (On boot stg hs) (call.Accepts guid) ≡ answered Success [] (On boot stg hs)
+  pub accept-other : (guid : List ℕ) (p : Plan) → is_accept p ≡ false → answer E s (On boot stg hs) (call.Accepts guid) ≡ planned E s boot stg hs [] p
+      → answer E s (On boot stg hs) (call.Accepts guid) ≡ answered Success [] (On boot stg hs)
   accept-other guid p not e =
       let by = accepts E s boot stg hs guid p e in
-      by.is ∙ ap (λ (ms : List Move). answered Success ms (On boot stg hs)) (other-moves by.image p not (sym (ap (λ (a : Answer). a.moves) by.is) ∙ ap (λ (a : Answer). a.moves) e))
+      by.is ∙ ap (λ (ms : List Move). answered Success ms (On boot stg hs))
+      (other-moves by.image p not (sym (ap (λ (a : Answer). a.moves) by.is) ∙ ap (λ (a : Answer). a.moves) e))
 
   -- an accept waits for no verdict
   accept-moves-back : (b : Bool) (image : ℕ) → cond b [] (Accept image ∷ []) ≡ Back ∷ [] → ⊥
   accept-moves-back true image h = absurd cc
   accept-moves-back false image h = absurd cc
 
-pub accept-waits : (E : Setting) (s : State) (boot : ℕ) (stg : Option (List Staged)) (hs : List Handle) (guid : List ℕ) (good : Bool) → answer E s (On boot stg hs) (call.Accepts guid) ≡ by_verdict (On boot stg hs) good
+pub accept-waits : (E : Setting) (s : State) (boot : ℕ) (stg : Option (List Staged)) (hs : List Handle) (guid : List ℕ) (good : Bool)
+    → answer E s (On boot stg hs) (call.Accepts guid) ≡ by_verdict (On boot stg hs) good
     → answer E s (On boot stg hs) (call.Accepts guid) ≡ refused status.Denied (On boot stg hs)
 accept-waits E s boot stg hs guid false e = e
 accept-waits E s boot stg hs guid true e =
@@ -224,12 +236,15 @@ module _ (E : Setting) (s : State) (boot : ℕ) (hs : List Handle) where
     ]
   ]
 
-pub goes : (E : Setting) (s : State) (boot : ℕ) (stg : Option (List Staged)) (hs : List Handle) (p : Plan) → answer E s (On boot stg hs) call.Previous ≡ planned E s boot stg hs [] p → GoesThere E s boot stg hs
+pub goes : (E : Setting) (s : State) (boot : ℕ) (stg : Option (List Staged)) (hs : List Handle) (p : Plan)
+    → answer E s (On boot stg hs) call.Previous ≡ planned E s boot stg hs [] p → GoesThere E s boot stg hs
 goes E s boot None hs p e = goes-idle E s boot hs p e
-goes E s boot (Some parts) hs p e = absurd (not-refused E s boot (Some parts) hs p status.Denied (On boot (Some parts) hs) (sym e ∙ previous-staging E s boot parts hs []))
+goes E s boot (Some parts) hs p e = absurd (not-refused E s boot (Some parts) hs p status.Denied (On boot (Some parts) hs)
+    (sym e ∙ previous-staging E s boot parts hs []))
 
 -- only DENIED refuses it
-pub denied-alone : (E : Setting) (s : State) (boot : ℕ) (stg : Option (List Staged)) (hs : List Handle) (st : Status) → answer E s (On boot stg hs) call.Previous ≡ refused st (On boot stg hs) → st ≡ status.Denied
+pub denied-alone : (E : Setting) (s : State) (boot : ℕ) (stg : Option (List Staged)) (hs : List Handle) (st : Status)
+    → answer E s (On boot stg hs) call.Previous ≡ refused st (On boot stg hs) → st ≡ status.Denied
 denied-alone E s boot (Some parts) hs st e = let r = ap (λ (a : Answer). a.reply) (sym e ∙ previous-staging E s boot parts hs []) in cc
 denied-alone E s boot None hs st e = elim (cases_Bool (may_try s (On boot None hs))) [
   | inr not ↦ let r = ap (λ (a : Answer). a.reply) (sym e ∙ stays E s boot hs not) in cc
@@ -240,5 +255,7 @@ denied-alone E s boot None hs st e = elim (cases_Bool (may_try s (On boot None h
 ]
 
 -- a verdict that may go back, or not
-pub verdict-goes : (E : Setting) (s : State) (boot : ℕ) (stg : Option (List Staged)) (hs : List Handle) (good : Bool) → answer E s (On boot stg hs) call.Previous ≡ by_verdict (On boot stg hs) good → good ≡ true → answer E s (On boot stg hs) call.Previous ≡ planned E s boot stg hs [] plan.Back
+pub verdict-goes : (E : Setting) (s : State) (boot : ℕ) (stg : Option (List Staged)) (hs : List Handle) (good : Bool)
+    → answer E s (On boot stg hs) call.Previous ≡ by_verdict (On boot stg hs) good → good ≡ true
+    → answer E s (On boot stg hs) call.Previous ≡ planned E s boot stg hs [] plan.Back
 verdict-goes E s boot stg hs good e is = e ∙ ap (by_verdict (On boot stg hs)) is ∙ sym (back-is E s boot stg hs)

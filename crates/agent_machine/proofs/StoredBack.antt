@@ -49,7 +49,8 @@ use Rattle.agent_machine.proofs.StoredMeets.{shows-still, same-leaves, refused-a
 -- ---- what the bank holds
 
 -- a package that a bank holds may be gone back to where it is permitted
-pub may-back-is : (E : Setting) (s : State) (counter : ℕ) (image : List ℕ) (b : ℕ) (held : Option (List (List ℕ))) → s.counter ≡ counter → package_in E.layout image b ≡ held → may_go_back E s held ≡ holds_permitted E counter held
+pub may-back-is : (E : Setting) (s : State) (counter : ℕ) (image : List ℕ) (b : ℕ) (held : Option (List (List ℕ))) → s.counter ≡ counter
+    → package_in E.layout image b ≡ held → may_go_back E s held ≡ holds_permitted E counter held
 may-back-is E s counter image b None same is = refl
 may-back-is E s counter image b (Some p) same is =
     ap (λ (c : Bool). c && is_permitted E s.counter p) (package-complete E.layout image b p is) ∙ ap (λ (n : ℕ). is_permitted E n p) same
@@ -74,19 +75,25 @@ module _ (f : Fields) (s : State) (of : SpeaksOf f s) (staged : ℕ → List ℕ
   pub tried : may_try_kept f.meta.meta f.session f.boot ≡ true → IsTrue (may_try s (On f.boot stg hs))
   tried may = subst (λ (o : Option (List Staged)). IsTrue (may_try s (On f.boot o hs))) (sym (is-idle f.session staged (idle-is may))) (tried-idle may)
 
-  pub asked : (E : Setting) → may_try_kept f.meta.meta f.session f.boot ≡ true → answer E s (On f.boot stg hs) call.Previous ≡ by_verdict (On f.boot stg hs) (may_go_back E s (bank s s.previous).held)
+  pub asked : (E : Setting) → may_try_kept f.meta.meta f.session f.boot ≡ true
+      → answer E s (On f.boot stg hs) call.Previous ≡ by_verdict (On f.boot stg hs) (may_go_back E s (bank s s.previous).held)
   asked E may =
-      subst (λ (o : Option (List Staged)). answer E s (On f.boot o hs) call.Previous ≡ by_verdict (On f.boot o hs) (may_go_back E s (bank s s.previous).held)) (sym (is-idle f.session staged (idle-is may)))
+      subst (λ (o : Option (List Staged)). answer E s (On f.boot o hs) call.Previous ≡ by_verdict (On f.boot o hs)
+      (may_go_back E s (bank s s.previous).held)) (sym (is-idle f.session staged (idle-is may)))
       (asks E s f.boot hs (tried-idle may))
 
-  stays-by : (b : Bool) → f.session.staging ≡ b → (E : Setting) → may_try_kept f.meta.meta f.session f.boot ≡ false → answer E s (On f.boot (cond b (Some (parts_meant f.session staged)) None) hs) call.Previous ≡ refused status.Denied (On f.boot (cond b (Some (parts_meant f.session staged)) None) hs)
+  stays-by : (b : Bool) → f.session.staging ≡ b → (E : Setting) → may_try_kept f.meta.meta f.session f.boot ≡ false
+      → answer E s (On f.boot (cond b (Some (parts_meant f.session staged)) None) hs) call.Previous ≡ refused status.Denied (On f.boot
+      (cond b (Some (parts_meant f.session staged)) None) hs)
   stays-by true is E untried = previous-staging E s f.boot (parts_meant f.session staged) hs []
   stays-by false is E untried =
       stays E s f.boot hs
       (ap₂ (λ (a b : Bool). a && b) (sym (leave-is s f.meta of.meta f.boot)) (sym (other-is s f.meta of.meta))
-      ∙ ap (λ (b : Bool). (not b && (is_valid (state_at f.meta.meta f.meta.meta.active) || not (f.boot == f.meta.meta.active))) && has_other_kept f.meta.meta) (sym is) ∙ untried)
+      ∙ ap (λ (b : Bool). (not b && (is_valid (state_at f.meta.meta f.meta.meta.active) || not
+      (f.boot == f.meta.meta.active))) && has_other_kept f.meta.meta) (sym is) ∙ untried)
 
-  pub not-tried : (E : Setting) → may_try_kept f.meta.meta f.session f.boot ≡ false → answer E s (On f.boot stg hs) call.Previous ≡ refused status.Denied (On f.boot stg hs)
+  pub not-tried : (E : Setting) → may_try_kept f.meta.meta f.session f.boot ≡ false
+      → answer E s (On f.boot stg hs) call.Previous ≡ refused status.Denied (On f.boot stg hs)
   not-tried E untried = stays-by f.session.staging refl E untried
 
 -- ---- by the verdict
@@ -115,7 +122,8 @@ module _ (f : Fields) (fitting : Fitting f) (t : Told) (passes : List ℕ → Bo
   pub verdict-is : (E : Setting) → IsSettingOf f passes E → now.counter ≡ f.counter → may_go_back E now (bank now now.previous).held ≡ good
   verdict-is E setting counter =
       ap (may_go_back E now) held-is
-      ∙ may-back-is E now f.counter t.now m.previous (package_in f.layout t.now m.previous) counter (ap (λ (l : Layout). package_in l t.now m.previous) setting.layout)
+      ∙ may-back-is E now f.counter t.now m.previous (package_in f.layout t.now m.previous) counter
+      (ap (λ (l : Layout). package_in l t.now m.previous) setting.layout)
       ∙ sym (good-is E setting)
 
   pub permitted-is : (E : Setting) → IsSettingOf f passes E → now.counter ≡ f.counter → good ≡ true → MayBeDone E now plan.Back
@@ -157,12 +165,14 @@ module _ (tells : Bool) (f : Fields) (fitting : Fitting f) (sound : SessionSound
       subst (λ (z : Session). answer E x z call.Previous ≡ refused status.Denied z) (sym shows.means) (not-tried f x shows.speaks shows.staged E untried))
 
   -- it is refused as it is decided
-  pub refused-meets-previous : (st : Status) → Decides passes f.meta f.counter f.session f.boot request.Previous (decision.Refused st) → MeetsPrevious (Err (stop.Status st)) passes old mid
+  pub refused-meets-previous : (st : Status) → Decides passes f.meta f.counter f.session f.boot request.Previous (decision.Refused st)
+      → MeetsPrevious (Err (stop.Status st)) passes old mid
   refused-meets-previous st decides = record {
     exact = λ E x y setting shows is. refused-answers tells f s t same passes call.Previous st E x y shows (here E x y setting shows);
     shows = λ x y shows. (
       denied-alone (plain-of f passes) x f.boot (staging_meant f.session shows.staged) (handles_meant f.session) st
-          (subst (λ (z : Session). answer (plain-of f passes) x z call.Previous ≡ refused st z) shows.means (here (plain-of f passes) x y (record { layout = refl; verifier = refl }) shows)),
+          (subst (λ (z : Session). answer (plain-of f passes) x z call.Previous ≡ refused st z) shows.means
+          (here (plain-of f passes) x y (record { layout = refl; verifier = refl }) shows)),
       shows-still tells f s t same x y shows,
     );
     leaves = same-leaves tells f s t same passes call.Previous (λ E x y setting shows is. ap (λ (a : Answer). a.moves) (here E x y setting shows));
@@ -174,7 +184,8 @@ module _ (tells : Bool) (f : Fields) (fitting : Fitting f) (sound : SessionSound
   -- the flash stopped the reading
   stopped-leaves : (result : Result (Unit {0}) FlashStop) → IsErr result → Leaves result passes call.Previous old mid
   stopped-leaves result err = record {
-    does = λ E x y setting shows is ready. does-idle result E x (answer E x y call.Previous).moves t err (subst (λ (u : Told). IsCalm E u x) (sym (same is)) ready.calm);
+    does = λ E x y setting shows is ready. does-idle result E x (answer E x y call.Previous).moves t err
+        (subst (λ (u : Told). IsCalm E u x) (sym (same is)) ready.calm);
     guarded = λ is rest. by result err (subst IsAtRest (sym (same is)) rest);
     stays = record { tells = refl; layout = refl; boot = refl };
   }
@@ -185,12 +196,24 @@ module _ (tells : Bool) (f : Fields) (fitting : Fitting f) (sound : SessionSound
 
   pub stopped-meets : (r : Stop) → IsStopped {T = Unit {0}} (Err r) → MeetsPrevious (Err r) passes old mid
   stopped-meets (stop.Status st) is = absurd is
-  stopped-meets stop.Lost is = record { exact = λ E x y setting shows tells_it. tt; shows = λ x y shows. tt; leaves = stopped-leaves (Err flash_stop.Lost) refl }
-  stopped-meets stop.Fault is = record { exact = λ E x y setting shows tells_it. tt; shows = λ x y shows. tt; leaves = stopped-leaves (Err flash_stop.Failed) refl }
+  stopped-meets stop.Lost is = record {
+    exact = λ E x y setting shows tells_it. tt;
+    shows = λ x y shows. tt;
+    leaves = stopped-leaves
+        (Err flash_stop.Lost) refl;
+  }
+  stopped-meets stop.Fault is = record {
+    exact = λ E x y setting shows tells_it. tt;
+    shows = λ x y shows. tt;
+    leaves = stopped-leaves
+        (Err flash_stop.Failed) refl;
+  }
   stopped-meets stop.Gone is = absurd is
 
-  module _ (knows : IsTrue tells → Knows f s) (may : may_try_kept f.meta.meta f.session f.boot ≡ true) (d : Decision) (decides : Decides passes f.meta f.counter f.session f.boot request.Previous d) (good : Bool)
-      (good-is : IsTrue tells → (E : Setting) → IsSettingOf f passes E → good ≡ holds_permitted E f.counter (package_in f.layout s.now f.meta.meta.previous)) where
+  module _ (knows : IsTrue tells → Knows f s) (may : may_try_kept f.meta.meta f.session f.boot ≡ true) (d : Decision)
+      (decides : Decides passes f.meta f.counter f.session f.boot request.Previous d) (good : Bool)
+      (good-is : IsTrue tells → (E : Setting) → IsSettingOf f passes E → good ≡ holds_permitted E f.counter
+      (package_in f.layout s.now f.meta.meta.previous)) where
     module _ (E : Setting) (x : State) (y : Session) (setting : IsSettingOf f passes E) (shows : Shows old x y) (is : IsTrue tells) where
       abbrev now_is : State
       now_is = state_in f s.now
@@ -203,17 +226,23 @@ module _ (tells : Bool) (f : Fields) (fitting : Fitting f) (sound : SessionSound
       ruled-is =
           subst (λ (z : Session). answer E x z call.Previous ≡ by_verdict z good) (sym shows.means)
           (asked f x shows.speaks shows.staged E may
-          ∙ ap (by_verdict (session_meant f.session f.boot shows.staged)) (ap (λ (z : State). may_go_back E z (bank z z.previous).held) here-is ∙ verdict-is f fitting s passes may good (good-is is) E setting (sym (knows is).counter_is)))
+          ∙ ap (by_verdict (session_meant f.session f.boot shows.staged))
+          (ap (λ (z : State). may_go_back E z (bank z z.previous).held) here-is ∙ verdict-is f fitting s passes may good (good-is is) E setting
+          (sym (knows is).counter_is)))
 
       no-plan : (p : Plan) → d ≡ decision.Do p → good ≡ false → ⊥
       no-plan p d-is bad =
-          let planned-it = planned-of old fitting sound passes request.Previous (λ e z. tt) p (subst (Decides passes f.meta f.counter f.session f.boot request.Previous) d-is decides) E x y setting shows in
-          let there = goes E x f.boot (staging_meant f.session shows.staged) (handles_meant f.session) p (subst (λ (z : Session). answer E x z call.Previous ≡ planned_in E x z [] p) shows.means planned-it) in
-          true-false good (sym (verdict-is f fitting s passes may good (good-is is) E setting (sym (knows is).counter_is)) ∙ sym (ap (λ (z : State). may_go_back E z (bank z z.previous).held) here-is) ∙ there.good) bad
+          let planned-it = planned-of old fitting sound passes request.Previous (λ e z. tt) p
+          (subst (Decides passes f.meta f.counter f.session f.boot request.Previous) d-is decides) E x y setting shows in
+          let there = goes E x f.boot (staging_meant f.session shows.staged) (handles_meant f.session) p
+          (subst (λ (z : Session). answer E x z call.Previous ≡ planned_in E x z [] p) shows.means planned-it) in
+          true-false good (sym (verdict-is f fitting s passes may good (good-is is) E setting (sym (knows is).counter_is)) ∙ sym
+          (ap (λ (z : State). may_go_back E z (bank z z.previous).held) here-is) ∙ there.good) bad
 
       no-refusal : (st : Status) → d ≡ decision.Refused st → good ≡ true → ⊥
       no-refusal st d-is fine =
-          let refused-it = refused-of old fitting sound passes request.Previous (λ e z. tt) st (subst (Decides passes f.meta f.counter f.session f.boot request.Previous) d-is decides) E x y setting shows in
+          let refused-it = refused-of old fitting sound passes request.Previous (λ e z. tt) st
+          (subst (Decides passes f.meta f.counter f.session f.boot request.Previous) d-is decides) E x y setting shows in
           success-refused y st (sym (ruled-is ∙ ap (by_verdict y) fine) ∙ refused-it)
 
       is-good : is_to_do (ruled_as d good) ≡ true → good ≡ true
@@ -230,19 +259,22 @@ module _ (tells : Bool) (f : Fields) (fitting : Fitting f) (sound : SessionSound
 
     -- the verdict is bad
     pub bad-meets : is_to_do (ruled_as d good) ≡ false → MeetsPrevious (Err (stop.Status status.Denied)) passes old mid
-    bad-meets does = refused-previous tells f s t same passes (λ E x y setting shows is. ruled-is E x y setting shows is ∙ ap (by_verdict y) (is-bad E x y setting shows is does))
+    bad-meets does = refused-previous tells f s t same passes
+        (λ E x y setting shows is. ruled-is E x y setting shows is ∙ ap (by_verdict y) (is-bad E x y setting shows is does))
 
     -- from the moment before the reading
     carried-from : (result : Result (Unit {0}) FlashStop) (new : Moment) → CarriesOut result plan.Back mid new → CarriesOut result plan.Back old new
     carried-from result new carries = record {
       shows = λ E x y layout shows. carries.shows E x y layout (shows-still tells f s t same x y shows);
-      does = λ E x y layout shows may_be is ready. carries.does E x y layout (shows-still tells f s t same x y shows) may_be is (subst (λ (u : Told). IsReady E u x) (sym (same is)) ready);
+      does = λ E x y layout shows may_be is ready. carries.does E x y layout (shows-still tells f s t same x y shows) may_be is
+          (subst (λ (u : Told). IsReady E u x) (sym (same is)) ready);
       guarded = λ is rest. carries.guarded is (subst IsAtRest (sym (same is)) rest);
       stays = record { tells = carries.stays.tells; layout = carries.stays.layout; boot = carries.stays.boot };
     }
 
     -- the verdict is good, and it was gone back
-    pub back-meets : (result : Result (Unit {0}) Stop) (new : Moment) → is_to_do (ruled_as d good) ≡ true → CarriesOut (flash_result result) plan.Back mid new → (IsRefused result → ⊥) → MeetsPrevious result passes old new
+    pub back-meets : (result : Result (Unit {0}) Stop) (new : Moment) → is_to_do (ruled_as d good) ≡ true
+        → CarriesOut (flash_result result) plan.Back mid new → (IsRefused result → ⊥) → MeetsPrevious result passes old new
     back-meets result new does carries answered_it =
         carried-previous result passes old new (carried-from (flash_result result) new carries) answered_it
         (λ x y shows. subst (λ (z : Session). IsTrue (may_try x z)) (sym shows.means) (tried f x shows.speaks shows.staged may))
@@ -251,7 +283,8 @@ module _ (tells : Bool) (f : Fields) (fitting : Fitting f) (sound : SessionSound
         record {
           is = ruled-is E x y setting shows is ∙ ap (by_verdict y) fine ∙ sym (back-planned E old x y shows);
           reply = ap (λ (a : Answer). a.reply) (back-planned E old x y shows);
-          may = subst (λ (z : State). MayBeDone E z plan.Back) (sym (here-is E x y setting shows is)) (permitted-is f fitting s passes may good (good-is is) E setting (sym (knows is).counter_is) fine);
+          may = subst (λ (z : State). MayBeDone E z plan.Back) (sym (here-is E x y setting shows is))
+              (permitted-is f fitting s passes may good (good-is is) E setting (sym (knows is).counter_is) fine);
         })
 
     pub may-back : MayGoBack f

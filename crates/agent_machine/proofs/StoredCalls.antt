@@ -36,22 +36,26 @@ use Rattle.agent_machine.proofs.StoredShows.{target-is}
 
 -- ---- what a decision says of each machine that is shown
 
-module _ (m : Moment) (fitting : Fitting m.fields) (sound : SessionSound m.fields) (passes : List ℕ → Bool) (r : Request) (fits : (E : Setting) (s : State) → FitsRequest E s m.fields.boot r []) where
+module _ (m : Moment) (fitting : Fitting m.fields) (sound : SessionSound m.fields) (passes : List ℕ → Bool) (r : Request)
+    (fits : (E : Setting) (s : State) → FitsRequest E s m.fields.boot r []) where
   abbrev f : Fields
   f = m.fields
 
   abbrev Decided : Decision → Type 0
   Decided d = Decides passes f.meta f.counter f.session f.boot r d
 
-  pub decided-of : (d : Decision) → Decided d → (E : Setting) (s : State) (x : Session) → IsSettingOf f passes E → Shows m s x → DecidesAs E s x (call_of r []) [] d
+  pub decided-of : (d : Decision) → Decided d → (E : Setting) (s : State) (x : Session) → IsSettingOf f passes E → Shows m s x
+      → DecidesAs E s x (call_of r []) [] d
   decided-of d decides E s x setting shows =
       subst (λ (y : Session). DecidesAs E s y (call_of r []) [] d) (sym shows.means)
       (decides E s shows.staged [] (shown-speaks f fitting sound E s passes shows.staged setting shows.speaks shows.kept) (fits E s))
 
-  pub refused-of : (st : Status) → Decided (decision.Refused st) → (E : Setting) (s : State) (x : Session) → IsSettingOf f passes E → Shows m s x → answer E s x (call_of r []) ≡ refused st x
+  pub refused-of : (st : Status) → Decided (decision.Refused st) → (E : Setting) (s : State) (x : Session) → IsSettingOf f passes E → Shows m s x
+      → answer E s x (call_of r []) ≡ refused st x
   refused-of st decides E s x setting shows = decided-of (decision.Refused st) decides E s x setting shows
 
-  pub planned-of : (p : Plan) → Decided (decision.Do p) → (E : Setting) (s : State) (x : Session) → IsSettingOf f passes E → Shows m s x → answer E s x (call_of r []) ≡ planned_in E s x [] p
+  pub planned-of : (p : Plan) → Decided (decision.Do p) → (E : Setting) (s : State) (x : Session) → IsSettingOf f passes E → Shows m s x
+      → answer E s x (call_of r []) ≡ planned_in E s x [] p
   planned-of p decides E s x setting shows = decided-of (decision.Do p) decides E s x setting shows
 
 -- ---- what is shown is a session that is on
@@ -81,25 +85,31 @@ moment-of tells t f = record { tells = tells; told = t; fields = f }
 
 -- ---- both succeed
 
-begin-succeeds : (E : Setting) (s : State) (boot : ℕ) (stg : Option (List Staged)) (hs : List Handle) (store : Bool) → (planned E s boot stg hs [] (plan.Begin store)).reply ≡ Success
+begin-succeeds : (E : Setting) (s : State) (boot : ℕ) (stg : Option (List Staged)) (hs : List Handle) (store : Bool)
+    → (planned E s boot stg hs [] (plan.Begin store)).reply ≡ Success
 unfolding planned
 begin-succeeds E s boot stg hs store = refl
 
-accept-succeeds : (E : Setting) (s : State) (boot : ℕ) (stg : Option (List Staged)) (hs : List Handle) (image : ℕ) (store : Bool) → (planned E s boot stg hs [] (plan.Accept image store)).reply ≡ Success
+accept-succeeds : (E : Setting) (s : State) (boot : ℕ) (stg : Option (List Staged)) (hs : List Handle) (image : ℕ) (store : Bool)
+    → (planned E s boot stg hs [] (plan.Accept image store)).reply ≡ Success
 unfolding planned
 accept-succeeds E s boot stg hs image store = refl
 
 -- ---- begin
 
-module _ (f : Fields) (fitting : Fitting f) (sound : SessionSound f) (passes : List ℕ → Bool) (flags n : ℕ) (p : Plan) (decides : Decides passes f.meta f.counter f.session f.boot (request.Begin flags n) (decision.Do p)) where
+module _ (f : Fields) (fitting : Fitting f) (sound : SessionSound f) (passes : List ℕ → Bool) (flags n : ℕ) (p : Plan)
+    (decides : Decides passes f.meta f.counter f.session f.boot (request.Begin flags n) (decision.Do p)) where
   module _ (tells : Bool) (t : Told) where
-    begins-as : (E : Setting) (s : State) (x : Session) → IsSettingOf f passes E → (shows : Shows (moment-of tells t f) s x) → Begins E s f.boot (staging_meant f.session shows.staged) (handles_meant f.session) n p
+    begins-as : (E : Setting) (s : State) (x : Session) → IsSettingOf f passes E → (shows : Shows (moment-of tells t f) s x)
+        → Begins E s f.boot (staging_meant f.session shows.staged) (handles_meant f.session) n p
     begins-as E s x setting shows =
         begins E s f.boot (staging_meant f.session shows.staged) (handles_meant f.session) n p
-        (subst (λ (y : Session). answer E s y (call.Begin n) ≡ planned_in E s y [] p) shows.means (planned-of (moment-of tells t f) fitting sound passes (request.Begin flags n) (λ e y. tt) p decides E s x setting shows))
+        (subst (λ (y : Session). answer E s y (call.Begin n) ≡ planned_in E s y [] p) shows.means
+        (planned-of (moment-of tells t f) fitting sound passes (request.Begin flags n) (λ e y. tt) p decides E s x setting shows))
 
     -- the machine's answer is that of the plan to begin
-    pub begin-answers : (E : Setting) (s : State) (x : Session) → IsSettingOf f passes E → Shows (moment-of tells t f) s x → AnswersBy E s x (call.Begin n) (plan.Begin (frees p))
+    pub begin-answers : (E : Setting) (s : State) (x : Session) → IsSettingOf f passes E → Shows (moment-of tells t f) s x
+        → AnswersBy E s x (call.Begin n) (plan.Begin (frees p))
     begin-answers E s x setting shows = subst (λ (y : Session). AnswersBy E s y (call.Begin n) (plan.Begin (frees p))) (sym shows.means) (record {
       is = (begins-as E s x setting shows).is;
       reply = begin-succeeds E s f.boot (staging_meant f.session shows.staged) (handles_meant f.session) (frees p);
@@ -116,31 +126,39 @@ module _ (f : Fields) (fitting : Fitting f) (sound : SessionSound f) (passes : L
   pub begin-may : Told → ∥ SomeStaged f.session ∥₁ → MayBegin f (frees p)
   begin-may t some = record {
     begins = bools-alike f t fitting some (cannot_begin_kept f.meta.meta f.session f.boot) false (λ s x shows.
-        cannot-is s f.meta shows.speaks.meta f.session f.boot shows.staged ∙ (begins-as false t (plain-of f passes) s x (record { layout = refl; verifier = refl }) shows).can);
+        cannot-is s f.meta shows.speaks.meta f.session f.boot shows.staged ∙
+        (begins-as false t (plain-of f passes) s x (record { layout = refl; verifier = refl }) shows).can);
     free = λ off. bools-alike f t fitting some (is_invalid (state_at f.meta.meta (target f))) true (λ s x shows.
         ap is_invalid (ap (state_at f.meta.meta) (target-is f s shows.speaks fitting) ∙ state-is s f.meta shows.speaks.meta (update_bank s))
-        ∙ free-by (is_invalid (bank s (update_bank s)).state) (frees p) (update_bank s) off (begins-as false t (plain-of f passes) s x (record { layout = refl; verifier = refl }) shows).moves);
+        ∙ free-by (is_invalid (bank s (update_bank s)).state) (frees p) (update_bank s) off
+        (begins-as false t (plain-of f passes) s x (record { layout = refl; verifier = refl }) shows).moves);
   }
 
 -- ---- accept
 
-module _ (f : Fields) (fitting : Fitting f) (sound : SessionSound f) (passes : List ℕ → Bool) (guid : List ℕ) (p : Plan) (decides : Decides passes f.meta f.counter f.session f.boot (request.Accept guid) (decision.Do p)) where
+module _ (f : Fields) (fitting : Fitting f) (sound : SessionSound f) (passes : List ℕ → Bool) (guid : List ℕ) (p : Plan)
+    (decides : Decides passes f.meta f.counter f.session f.boot (request.Accept guid) (decision.Do p)) where
   module _ (tells : Bool) (t : Told) where
     accept-planned : (E : Setting) (s : State) (x : Session) → IsSettingOf f passes E → (shows : Shows (moment-of tells t f) s x)
-        → answer E s (session_meant f.session f.boot shows.staged) (call.Accepts guid) ≡ planned E s f.boot (staging_meant f.session shows.staged) (handles_meant f.session) [] p
+        → answer E s (session_meant f.session f.boot shows.staged) (call.Accepts guid) ≡ planned E s f.boot (staging_meant f.session shows.staged)
+        (handles_meant f.session) [] p
     accept-planned E s x setting shows =
-        subst (λ (y : Session). answer E s y (call.Accepts guid) ≡ planned_in E s y [] p) shows.means (planned-of (moment-of tells t f) fitting sound passes (request.Accept guid) (λ e y. tt) p decides E s x setting shows)
+        subst (λ (y : Session). answer E s y (call.Accepts guid) ≡ planned_in E s y [] p) shows.means
+        (planned-of (moment-of tells t f) fitting sound passes (request.Accept guid) (λ e y. tt) p decides E s x setting shows)
 
     -- a plan to accept is the machine's answer
-    pub accept-answers : (E : Setting) (s : State) (x : Session) → IsSettingOf f passes E → Shows (moment-of tells t f) s x → (image : ℕ) (store : Bool) → p ≡ plan.Accept image store → AnswersBy E s x (call.Accepts guid) (plan.Accept image store)
-    accept-answers E s x setting shows image store is = subst (λ (y : Session). AnswersBy E s y (call.Accepts guid) (plan.Accept image store)) (sym shows.means) (record {
-      is = accept-planned E s x setting shows ∙ ap (planned E s f.boot (staging_meant f.session shows.staged) (handles_meant f.session) []) is;
-      reply = accept-succeeds E s f.boot (staging_meant f.session shows.staged) (handles_meant f.session) image store;
-      may = tt;
-    })
+    pub accept-answers : (E : Setting) (s : State) (x : Session) → IsSettingOf f passes E → Shows (moment-of tells t f) s x
+        → (image : ℕ) (store : Bool) → p ≡ plan.Accept image store → AnswersBy E s x (call.Accepts guid) (plan.Accept image store)
+    accept-answers E s x setting shows image store is = subst (λ (y : Session). AnswersBy E s y (call.Accepts guid) (plan.Accept image store))
+        (sym shows.means) (record {
+          is = accept-planned E s x setting shows ∙ ap (planned E s f.boot (staging_meant f.session shows.staged) (handles_meant f.session) []) is;
+          reply = accept-succeeds E s f.boot (staging_meant f.session shows.staged) (handles_meant f.session) image store;
+          may = tt;
+        })
 
     -- and any other plan changes nothing
-    pub accept-idle : (E : Setting) (s : State) (x : Session) → IsSettingOf f passes E → Shows (moment-of tells t f) s x → is_accept p ≡ false → answer E s x (call.Accepts guid) ≡ answered Success [] x
+    pub accept-idle : (E : Setting) (s : State) (x : Session) → IsSettingOf f passes E → Shows (moment-of tells t f) s x → is_accept p ≡ false
+        → answer E s x (call.Accepts guid) ≡ answered Success [] x
     accept-idle E s x setting shows not =
         subst (λ (y : Session). answer E s y (call.Accepts guid) ≡ answered Success [] y) (sym shows.means)
         (accept-other E s f.boot (staging_meant f.session shows.staged) (handles_meant f.session) guid p not (accept-planned E s x setting shows))
@@ -155,8 +173,11 @@ module _ (f : Fields) (fitting : Fitting f) (sound : SessionSound f) (passes : L
   pub accept-may : Told → ∥ SomeStaged f.session ∥₁ → (image : ℕ) → image < length f.session.rows → MayAccept f image
   accept-may t some image within = record {
     idle = bools-alike f t fitting some f.session.staging false (λ s x shows.
-        no-staging f.session shows.staged (accepts (plain-of f passes) s f.boot (staging_meant f.session shows.staged) (handles_meant f.session) guid p (accept-planned false t (plain-of f passes) s x (record { layout = refl; verifier = refl }) shows)).idle);
+        no-staging f.session shows.staged (accepts (plain-of f passes) s f.boot (staging_meant f.session shows.staged)
+        (handles_meant f.session) guid p (accept-planned false t (plain-of f passes) s x (record { layout = refl; verifier = refl }) shows)).idle);
     booted = numbers-alike f t fitting some f.boot f.meta.meta.active (λ s x shows.
-        (accepts (plain-of f passes) s f.boot (staging_meant f.session shows.staged) (handles_meant f.session) guid p (accept-planned false t (plain-of f passes) s x (record { layout = refl; verifier = refl }) shows)).booted ∙ sym (active-is s f.meta shows.speaks.meta));
+        (accepts (plain-of f passes) s f.boot (staging_meant f.session shows.staged) (handles_meant f.session) guid p
+        (accept-planned false t (plain-of f passes) s x (record { layout = refl; verifier = refl }) shows)).booted ∙ sym (active-is s f.meta
+        shows.speaks.meta));
     within = omega (arith, within, ap (λ (l : List ImageRow). length l) fitting.rows);
   }

@@ -29,7 +29,8 @@ use Rattle.agent_machine.proofs.Stored.{after_plan, whole, target-other, next-ta
 
 -- ---- one store
 
-module _ (f : Fields) (s t : Told) (knows : Knows f s) (new : Meta) (k : Kept) (trials : ℕ) (move : Move) (stores : Stores {T = Unit {0}} (Ok tt) f.layout new s t)
+module _ (f : Fields) (s t : Told) (knows : Knows f s) (new : Meta) (k : Kept) (trials : ℕ) (move : Move)
+    (stores : Stores {T = Unit {0}} (Ok tt) f.layout new s t)
     (shows : ShowsAfter {T = Unit {0}} (Ok tt) f.layout (state_in f s.now) (move ∷ []) t) where
   abbrev g : Fields
   g = record f { meta = record f.meta { meta = new }; session = k; trials = trials }
@@ -41,9 +42,11 @@ module _ (f : Fields) (s t : Told) (knows : Knows f s) (new : Meta) (k : Kept) (
   state-after = state-held f.layout t.now g.meta (after (state_in f s.now) (move ∷ [])) shows both-after
 
   held-after : package_in f.layout t.now f.boot ≡ package_in f.layout s.now f.boot
-  held-after = package-same f.layout t.now s.now f.boot stores.writes.keeps.size (λ place above under. stores.writes.keeps.now place (inr (omega (arith, above))))
+  held-after = package-same f.layout t.now s.now f.boot stores.writes.keeps.size
+      (λ place above under. stores.writes.keeps.now place (inr (omega (arith, above))))
 
-  pub stored-known : HasNothing k → IsFalse (is_invalid (state_at new f.boot)) → (k.staging ≡ true → IsTrue (is_accepted (state_at new new.active))) → (after (state_in f s.now) (move ∷ [])).counter ≡ (state_in f s.now).counter
+  pub stored-known : HasNothing k → IsFalse (is_invalid (state_at new f.boot)) → (k.staging ≡ true → IsTrue (is_accepted (state_at new new.active)))
+      → (after (state_in f s.now) (move ∷ [])).counter ≡ (state_in f s.now).counter
       → trials ≡ (after (state_in f s.now) (move ∷ [])).trials → Knows g t
   stored-known nothing used accepted counter trials-is = record {
     layout_is = shows.layout;
@@ -68,14 +71,18 @@ module _ (f : Fields) (s t : Told) (fitting : Fitting f) (knows : Knows f s) whe
   pub begin-accepted : (store : Bool) → MayBegin f store → IsTrue (is_accepted (state_at m m.active))
   begin-accepted store may = elim (cases_Bool f.session.staging) [
     | inl on ↦ knows.accepted on
-    | inr off ↦ not_valid-accepted (state_at m m.active) (subst (λ (b : ℕ). IsFalse (is_invalid (state_at m b))) (begin-booted f fitting store may) knows.used) (begin-settled f fitting store may off)
+    | inr off ↦ not_valid-accepted (state_at m m.active) (subst (λ (b : ℕ). IsFalse (is_invalid (state_at m b)))
+        (begin-booted f fitting store may) knows.used) (begin-settled f fitting store may off)
   ]
 
-  pub begun-shows : MayBegin f true → Stores {T = Unit {0}} (Ok tt) f.layout (meta_after m (Free (next_bank m))) s t → ShowsAfter {T = Unit {0}} (Ok tt) f.layout (state_in f s.now) (Free (target f) ∷ []) t
+  pub begun-shows : MayBegin f true → Stores {T = Unit {0}} (Ok tt) f.layout (meta_after m (Free (next_bank m))) s t
+      → ShowsAfter {T = Unit {0}} (Ok tt) f.layout (state_in f s.now) (Free (target f) ∷ []) t
   begun-shows may stores =
-      ((stores-meet (Ok tt) f s t fitting knows).free (begin-accepted true may) (subst (λ (b : ℕ). Stores {T = Unit {0}} (Ok tt) f.layout (meta_after m (Free b)) s t) (next-target f fitting) stores)).shows
+      ((stores-meet (Ok tt) f s t fitting knows).free (begin-accepted true may)
+      (subst (λ (b : ℕ). Stores {T = Unit {0}} (Ok tt) f.layout (meta_after m (Free b)) s t) (next-target f fitting) stores)).shows
 
-  pub begun-known : (k : Kept) → MayBegin f true → Restarts true f.session k → Stores {T = Unit {0}} (Ok tt) f.layout (meta_after m (Free (next_bank m))) s t → Knows (after_plan f (plan.Begin true) k) t
+  pub begun-known : (k : Kept) → MayBegin f true → Restarts true f.session k
+      → Stores {T = Unit {0}} (Ok tt) f.layout (meta_after m (Free (next_bank m))) s t → Knows (after_plan f (plan.Begin true) k) t
   begun-known k may restarts stores =
       let apart : f.boot ≢ target f = λ e. target-other f fitting (sym e ∙ begin-booted f fitting true may) in
       stored-known f s t knows (meta_after m (Free (next_bank m))) k f.trials (Free (target f)) stores (begun-shows may stores) restarts.nothing
@@ -110,7 +117,8 @@ module _ (f : Fields) (s t : Told) (fitting : Fitting f) (knows : Knows f s) whe
   accepted-state : (image : ℕ) → MayAccept f image → IsFalse (is_invalid (state_at (meta_after m (Accept image)) f.boot))
   accepted-state image may =
       let state : BankState = cond (all_set (accepted_bits m image)) Accepted (state_at m m.active) in
-      ap (λ (b : ℕ). is_invalid (state_at (meta_after m (Accept image)) b)) may.booted ∙ ap is_invalid (get_or-set_same m.states m.active state Invalid active-below)
+      ap (λ (b : ℕ). is_invalid (state_at (meta_after m (Accept image)) b)) may.booted ∙ ap is_invalid
+      (get_or-set_same m.states m.active state Invalid active-below)
       ∙ by (all_set (accepted_bits m image)) (state_at m m.active) (accepting-used image may)
     where
       by : (v : Bool) (old : BankState) → IsFalse (is_invalid old) → IsFalse (is_invalid (cond v Accepted old))
@@ -121,16 +129,21 @@ module _ (f : Fields) (s t : Told) (fitting : Fitting f) (knows : Knows f s) whe
   bits-shown : (bank (state_in f s.now) m.active).bits ≡ bits_in m m.active
   bits-shown = ap (λ (b : Bank). b.bits) (bank-at f.layout s.now m (whole f fitting) m.active (whole f fitting).active)
 
-  accepted-trials : (image : ℕ) → cond (all_set (bits_in (meta_after m (Accept image)) m.active)) 0 f.trials ≡ (after (state_in f s.now) (Accept image ∷ [])).trials
+  accepted-trials : (image : ℕ) → cond (all_set (bits_in (meta_after m (Accept image)) m.active)) 0 f.trials ≡ (after (state_in f s.now)
+      (Accept image ∷ [])).trials
   accepted-trials image =
-      ap₂ (λ (l : List Bool) (n : ℕ). cond (all_set l) 0 n) (bits-after f fitting image ∙ ap (λ (l : List Bool). set l image true) (sym bits-shown)) knows.trials_are
+      ap₂ (λ (l : List Bool) (n : ℕ). cond (all_set l) 0 n) (bits-after f fitting image ∙ ap (λ (l : List Bool). set l image true)
+      (sym bits-shown)) knows.trials_are
 
-  pub accepted-shows : (image : ℕ) → MayAccept f image → Stores {T = Unit {0}} (Ok tt) f.layout (meta_after m (Accept image)) s t → ShowsAfter {T = Unit {0}} (Ok tt) f.layout (state_in f s.now) (Accept image ∷ []) t
+  pub accepted-shows : (image : ℕ) → MayAccept f image → Stores {T = Unit {0}} (Ok tt) f.layout (meta_after m (Accept image)) s t
+      → ShowsAfter {T = Unit {0}} (Ok tt) f.layout (state_in f s.now) (Accept image ∷ []) t
   accepted-shows image may stores = ((stores-meet (Ok tt) f s t fitting knows).accept image (accepting-used image may) stores).shows
 
-  pub accepted-known : (image : ℕ) → MayAccept f image → Stores {T = Unit {0}} (Ok tt) f.layout (meta_after m (Accept image)) s t → Knows (after_plan f (plan.Accept image true) f.session) t
+  pub accepted-known : (image : ℕ) → MayAccept f image → Stores {T = Unit {0}} (Ok tt) f.layout (meta_after m (Accept image)) s t
+      → Knows (after_plan f (plan.Accept image true) f.session) t
   accepted-known image may stores =
-      stored-known f s t knows (meta_after m (Accept image)) f.session (after_plan f (plan.Accept image true) f.session).trials (Accept image) stores (accepted-shows image may stores) (fitting.idle may.idle)
+      stored-known f s t knows (meta_after m (Accept image)) f.session (after_plan f (plan.Accept image true) f.session).trials (Accept image) stores
+      (accepted-shows image may stores) (fitting.idle may.idle)
       (accepted-state image may) (λ on. absurd (not-both f.session.staging may.idle on)) refl (accepted-trials image)
 
   -- ---- previous
@@ -138,7 +151,8 @@ module _ (f : Fields) (s t : Told) (fitting : Fitting f) (knows : Knows f s) whe
   pub back-accepted : MayGoBack f → IsTrue (is_accepted (state_at m m.previous))
   back-accepted may = (and_parts _ _ may.other).1
 
-  pub back-shows : MayGoBack f → Stores {T = Unit {0}} (Ok tt) f.layout (meta_after m Back) s t → ShowsAfter {T = Unit {0}} (Ok tt) f.layout (state_in f s.now) (Back ∷ []) t
+  pub back-shows : MayGoBack f → Stores {T = Unit {0}} (Ok tt) f.layout (meta_after m Back) s t
+      → ShowsAfter {T = Unit {0}} (Ok tt) f.layout (state_in f s.now) (Back ∷ []) t
   back-shows may stores = ((stores-meet (Ok tt) f s t fitting knows).back (back-accepted may) stores).shows
 
   pub back-known : MayGoBack f → Stores {T = Unit {0}} (Ok tt) f.layout (meta_after m Back) s t → Knows (after_plan f plan.Back f.session) t

@@ -33,20 +33,27 @@ pub record AnswersBy (E : Setting) (s : State) (x : Session) (c : Call) (p : Pla
   pub reply : (planned_in E s x [] p).reply ≡ Success
   pub may : MayBeDone E s p
 
-module _ (result : Result (Unit {0}) Stop) (passes : List ℕ → Bool) (c : Call) (p : Plan) (old new : Moment) (carried : CarriesOut (flash_result result) p old new) (answered_it : IsRefused result → ⊥) where
-  by-carried : (r : Result (Unit {0}) Stop) (E : Setting) (s : State) (x : Session) → (IsRefused r → ⊥) → CarriesOut (flash_result r) p old new → IsSettingOf old.fields passes E → Shows old s x → AnswersBy E s x c p → Answers Succeeds r E s x c new
-  by-carried (Ok value) E s x not carries setting shows by =
-      (ap (λ (a : Answer). a.reply) by.is ∙ by.reply, subst (λ (a : Answer). Shows new (after s a.moves) a.next) (sym by.is) (carries.shows E s x setting.layout shows))
+module _ (result : Result (Unit {0}) Stop) (passes : List ℕ → Bool) (c : Call) (p : Plan) (old new : Moment)
+    (carried : CarriesOut (flash_result result) p old new) (answered_it : IsRefused result → ⊥) where
+  by-carried : (r : Result (Unit {0}) Stop) (E : Setting) (s : State) (x : Session) → (IsRefused r → ⊥) → CarriesOut (flash_result r) p old new
+      → IsSettingOf old.fields passes E → Shows old s x → AnswersBy E s x c p → Answers Succeeds r E s x c new
+  by-carried (Ok value) E s x not carries setting shows by = (
+    ap (λ (a : Answer). a.reply) by.is ∙ by.reply,
+    subst (λ (a : Answer). Shows new (after s a.moves) a.next) (sym by.is)
+        (carries.shows E s x setting.layout shows),
+  )
   by-carried (Err (stop.Status st)) E s x not carries setting shows by = absurd (not tt)
   by-carried (Err stop.Lost) E s x not carries setting shows by = tt
   by-carried (Err stop.Fault) E s x not carries setting shows by = tt
   by-carried (Err stop.Gone) E s x not carries setting shows by = tt
 
-  does-carried : (E : Setting) (s : State) (x : Session) → IsSettingOf old.fields passes E → Shows old s x → AnswersBy E s x c p → IsTrue old.tells → IsReady E old.told s → Does (flash_result result) E s (answer E s x c).moves new.told
+  does-carried : (E : Setting) (s : State) (x : Session) → IsSettingOf old.fields passes E → Shows old s x → AnswersBy E s x c p → IsTrue old.tells
+      → IsReady E old.told s → Does (flash_result result) E s (answer E s x c).moves new.told
   does-carried E s x setting shows by tells ready =
       subst (λ (a : Answer). Does (flash_result result) E s a.moves new.told) (sym by.is) (carried.does E s x setting.layout shows by.may tells ready)
 
-  pub carried-meets : ((E : Setting) (s : State) (x : Session) → IsSettingOf old.fields passes E → Shows old s x → AnswersBy E s x c p) → Meets Succeeds result passes c old new
+  pub carried-meets : ((E : Setting) (s : State) (x : Session) → IsSettingOf old.fields passes E → Shows old s x → AnswersBy E s x c p)
+      → Meets Succeeds result passes c old new
   carried-meets by = record {
     exact = λ E s x setting shows. by-carried result E s x answered_it carried setting shows (by E s x setting shows);
     leaves = record {
@@ -76,7 +83,8 @@ module _ (tells : Bool) (f : Fields) (s t : Told) (same : IsTrue tells → t ≡
   }
 
   -- a refusal, or an answer that changes nothing
-  pub same-leaves : (passes : List ℕ → Bool) (c : Call) → ((E : Setting) (x : State) (y : Session) → IsSettingOf f passes E → Shows old x y → IsTrue tells → (answer E x y c).moves ≡ []) → Leaves (Ok tt) passes c old new
+  pub same-leaves : (passes : List ℕ → Bool) (c : Call) → ((E : Setting) (x : State) (y : Session) → IsSettingOf f passes E → Shows old x y
+      → IsTrue tells → (answer E x y c).moves ≡ []) → Leaves (Ok tt) passes c old new
   same-leaves passes c none = record {
     does = λ E x y setting shows is ready.
         subst (λ (ms : List Move). Does {T = Unit {0}} (Ok tt) E x ms t) (sym (none E x y setting shows is))
@@ -85,11 +93,13 @@ module _ (tells : Bool) (f : Fields) (s t : Told) (same : IsTrue tells → t ≡
     stays = record { tells = refl; layout = refl; boot = refl };
   }
 
-  pub refused-answers : (passes : List ℕ → Bool) (c : Call) (st : Status) (E : Setting) (x : State) (y : Session) → Shows old x y → answer E x y c ≡ refused st y → Answers Succeeds (Err (stop.Status st)) E x y c new
+  pub refused-answers : (passes : List ℕ → Bool) (c : Call) (st : Status) (E : Setting) (x : State) (y : Session) → Shows old x y
+      → answer E x y c ≡ refused st y → Answers Succeeds (Err (stop.Status st)) E x y c new
   refused-answers passes c st E x y shows is =
       (ap (λ (a : Answer). a.reply) is, subst (λ (a : Answer). Shows new (after x a.moves) a.next) (sym is) (shows-still x y shows))
 
-  pub refused-meets : (passes : List ℕ → Bool) (c : Call) (st : Status) → ((E : Setting) (x : State) (y : Session) → IsSettingOf f passes E → Shows old x y → answer E x y c ≡ refused st y)
+  pub refused-meets : (passes : List ℕ → Bool) (c : Call) (st : Status)
+      → ((E : Setting) (x : State) (y : Session) → IsSettingOf f passes E → Shows old x y → answer E x y c ≡ refused st y)
       → Meets {T = Unit {0}} Succeeds (Err (stop.Status st)) passes c old new
   refused-meets passes c st is = record {
     exact = λ E x y setting shows. refused-answers passes c st E x y shows (is E x y setting shows);
@@ -97,16 +107,21 @@ module _ (tells : Bool) (f : Fields) (s t : Told) (same : IsTrue tells → t ≡
   }
 
   -- an answer without a move, after which the session is the same
-  pub idle-meets : (passes : List ℕ → Bool) (c : Call) → ((E : Setting) (x : State) (y : Session) → IsSettingOf f passes E → Shows old x y → answer E x y c ≡ answered Success [] y)
+  pub idle-meets : (passes : List ℕ → Bool) (c : Call) → ((E : Setting) (x : State) (y : Session) → IsSettingOf f passes E → Shows old x y
+      → answer E x y c ≡ answered Success [] y)
       → Meets {T = Unit {0}} Succeeds (Ok tt) passes c old new
   idle-meets passes c is = record {
-    exact = λ E x y setting shows.
-        (ap (λ (a : Answer). a.reply) (is E x y setting shows), subst (λ (a : Answer). Shows new (after x a.moves) a.next) (sym (is E x y setting shows)) (shows-still x y shows));
+    exact = λ E x y setting shows. (
+      ap (λ (a : Answer). a.reply) (is E x y setting shows),
+      subst (λ (a : Answer). Shows new (after x a.moves) a.next)
+          (sym (is E x y setting shows)) (shows-still x y shows),
+    );
     leaves = same-leaves passes c (λ E x y setting shows tells_it. ap (λ (a : Answer). a.moves) (is E x y setting shows));
   }
 
   -- a refused previous
-  pub refused-previous : (passes : List ℕ → Bool) → ((E : Setting) (x : State) (y : Session) → IsSettingOf f passes E → Shows old x y → IsTrue tells → answer E x y Previous ≡ refused status.Denied y)
+  pub refused-previous : (passes : List ℕ → Bool) → ((E : Setting) (x : State) (y : Session) → IsSettingOf f passes E → Shows old x y → IsTrue tells
+      → answer E x y Previous ≡ refused status.Denied y)
       → MeetsPrevious (Err (stop.Status status.Denied)) passes old new
   refused-previous passes is = record {
     exact = λ E x y setting shows tells_it. refused-answers passes Previous status.Denied E x y shows (is E x y setting shows tells_it);
@@ -117,32 +132,43 @@ module _ (tells : Bool) (f : Fields) (s t : Told) (same : IsTrue tells → t ≡
 -- ---- previous
 
 -- what is shown of an agent is a session that is on
-back-next : (E : Setting) (s : State) (k : Kept) (boot : ℕ) (staged : ℕ → List ℕ) → planned_in E s (session_meant k boot staged) [] plan.Back ≡ answered Success (Back ∷ []) (session_meant k boot staged)
+back-next : (E : Setting) (s : State) (k : Kept) (boot : ℕ) (staged : ℕ → List ℕ)
+    → planned_in E s (session_meant k boot staged) [] plan.Back ≡ answered Success (Back ∷ []) (session_meant k boot staged)
 unfolding planned
 back-next E s k boot staged = refl
 
 pub back-planned : (E : Setting) (m : Moment) (s : State) (x : Session) → Shows m s x → planned_in E s x [] plan.Back ≡ answered Success (Back ∷ []) x
 back-planned E m s x shows =
-    subst (λ (y : Session). planned_in E s y [] plan.Back ≡ answered Success (Back ∷ []) y) (sym shows.means) (back-next E s m.fields.session m.fields.boot shows.staged)
+    subst (λ (y : Session). planned_in E s y [] plan.Back ≡ answered Success (Back ∷ []) y) (sym shows.means)
+    (back-next E s m.fields.session m.fields.boot shows.staged)
 
-module _ (result : Result (Unit {0}) Stop) (passes : List ℕ → Bool) (old new : Moment) (carried : CarriesOut (flash_result result) plan.Back old new) (answered_it : IsRefused result → ⊥)
+module _ (result : Result (Unit {0}) Stop) (passes : List ℕ → Bool) (old new : Moment) (carried : CarriesOut (flash_result result) plan.Back old new)
+    (answered_it : IsRefused result → ⊥)
     (may : (s : State) (x : Session) → Shows old s x → IsTrue (may_try s x)) where
   abbrev plain : Setting
   plain = record { layout = old.fields.layout; files = λ _. None; passes = passes }
 
-  back-by : (r : Result (Unit {0}) Stop) → (IsRefused r → ⊥) → CarriesOut (flash_result r) plan.Back old new → (s : State) (x : Session) → Shows old s x → GoesBack r s x new
-  back-by (Ok value) not carries s x shows = (may s x shows, subst (λ (a : Answer). Shows new (after s a.moves) a.next) (back-planned plain old s x shows) (carries.shows plain s x refl shows))
+  back-by : (r : Result (Unit {0}) Stop) → (IsRefused r → ⊥) → CarriesOut (flash_result r) plan.Back old new → (s : State) (x : Session)
+      → Shows old s x → GoesBack r s x new
+  back-by (Ok value) not carries s x shows = (
+    may s x shows,
+    subst (λ (a : Answer). Shows new (after s a.moves) a.next)
+        (back-planned plain old s x shows) (carries.shows plain s x refl shows),
+  )
   back-by (Err (stop.Status st)) not carries s x shows = absurd (not tt)
   back-by (Err stop.Lost) not carries s x shows = tt
   back-by (Err stop.Fault) not carries s x shows = tt
   back-by (Err stop.Gone) not carries s x shows = tt
 
-  pub carried-previous : ((E : Setting) (s : State) (x : Session) → IsSettingOf old.fields passes E → Shows old s x → IsTrue old.tells → AnswersBy E s x Previous plan.Back) → MeetsPrevious result passes old new
+  pub carried-previous : ((E : Setting) (s : State) (x : Session) → IsSettingOf old.fields passes E → Shows old s x → IsTrue old.tells
+      → AnswersBy E s x Previous plan.Back) → MeetsPrevious result passes old new
   carried-previous by = record {
-    exact = λ E s x setting shows tells. by-carried result passes Previous plan.Back old new carried answered_it result E s x answered_it carried setting shows (by E s x setting shows tells);
+    exact = λ E s x setting shows tells. by-carried result passes Previous plan.Back old new carried answered_it result E s x answered_it carried
+        setting shows (by E s x setting shows tells);
     shows = λ s x shows. back-by result answered_it carried s x shows;
     leaves = record {
-      does = λ E s x setting shows tells ready. does-carried result passes Previous plan.Back old new carried answered_it E s x setting shows (by E s x setting shows tells) tells ready;
+      does = λ E s x setting shows tells ready. does-carried result passes Previous plan.Back old new carried answered_it E s x setting shows
+          (by E s x setting shows tells) tells ready;
       guarded = carried.guarded;
       stays = carried.stays;
     };

@@ -28,7 +28,8 @@ module _ (f : Fields) (fitting : Fitting f) where
   planned-fitting (plan.Commit h image bit) k may changes = absurd may
   planned-fitting plan.End k may changes = absurd may
   planned-fitting plan.Cancel k may changes = absurd may
-  planned-fitting (plan.Accept image store) k may changes = subst (λ (x : Kept). Fitting (after_plan f (plan.Accept image store) x)) (sym changes) (accepted-fitting f fitting image store may)
+  planned-fitting (plan.Accept image store) k may changes = subst (λ (x : Kept). Fitting (after_plan f (plan.Accept image store) x)) (sym changes)
+      (accepted-fitting f fitting image store may)
   planned-fitting plan.Back k may changes = subst (λ (x : Kept). Fitting (after_plan f plan.Back x)) (sym changes) (back-fitting f fitting may)
 
   pub planned-some : (p : Plan) (k : Kept) → MayCarryOut f p → Changes f.session [] p k → ∥ SomeStaged f.session ∥₁ → ∥ SomeStaged k ∥₁
@@ -44,7 +45,8 @@ module _ (f : Fields) (fitting : Fitting f) where
   planned-some plan.Back k may changes some = subst (λ (x : Kept). ∥ SomeStaged x ∥₁) (sym changes) some
 
   module _ (s t : Told) where
-    pub planned-known : (p : Plan) (k : Kept) → Knows f s → MayCarryOut f p → Changes f.session [] p k → StoresIf {T = Unit {0}} (is_stored p) (Ok tt) f.layout (meta_planned f.session f.meta.meta p) s t → Knows (after_plan f p k) t
+    pub planned-known : (p : Plan) (k : Kept) → Knows f s → MayCarryOut f p → Changes f.session [] p k
+        → StoresIf {T = Unit {0}} (is_stored p) (Ok tt) f.layout (meta_planned f.session f.meta.meta p) s t → Knows (after_plan f p k) t
     planned-known plan.Tell k knows may changes stores = absurd may
     planned-known (plan.Begin true) k knows may changes stores = begun-known f s t fitting knows k may changes stores
     planned-known (plan.Begin false) k knows may changes stores = restarted-known f s t fitting knows k may changes stores.1
@@ -54,9 +56,12 @@ module _ (f : Fields) (fitting : Fitting f) where
     planned-known (plan.Commit h image bit) k knows may changes stores = absurd may
     planned-known plan.End k knows may changes stores = absurd may
     planned-known plan.Cancel k knows may changes stores = absurd may
-    planned-known (plan.Accept image true) k knows may changes stores = subst (λ (x : Kept). Knows (after_plan f (plan.Accept image true) x) t) (sym changes) (accepted-known f s t fitting knows image may stores)
-    planned-known (plan.Accept image false) k knows may changes stores = subst (λ (x : Kept). Knows (after_plan f (plan.Accept image false) x) t) (sym changes) (subst (λ (u : Told). Knows f u) (sym stores.1) knows)
-    planned-known plan.Back k knows may changes stores = subst (λ (x : Kept). Knows (after_plan f plan.Back x) t) (sym changes) (back-known f s t fitting knows may stores)
+    planned-known (plan.Accept image true) k knows may changes stores = subst (λ (x : Kept). Knows (after_plan f (plan.Accept image true) x) t)
+        (sym changes) (accepted-known f s t fitting knows image may stores)
+    planned-known (plan.Accept image false) k knows may changes stores = subst (λ (x : Kept). Knows (after_plan f (plan.Accept image false) x) t)
+        (sym changes) (subst (λ (u : Told). Knows f u) (sym stores.1) knows)
+    planned-known plan.Back k knows may changes stores = subst (λ (x : Kept). Knows (after_plan f plan.Back x) t) (sym changes)
+        (back-known f s t fitting knows may stores)
 
     module _ (tells : Bool) (result : Done) (knows : IsTrue tells → Knows f s) where
       abbrev Settled : Plan → Kept → Type 0
@@ -82,7 +87,8 @@ module _ (f : Fields) (fitting : Fitting f) where
           subst (λ (x : Kept). Parts tells f s t result (plan.Accept image false) x) (sym changes)
           (unchanged-parts tells f s t result fitting knows image may (subst (Settled (plan.Accept image false)) changes settles) stores)
       planned-parts plan.Back k may changes settles stores =
-          subst (λ (x : Kept). Parts tells f s t result plan.Back x) (sym changes) (back-parts tells f s t result fitting knows may (subst (Settled plan.Back) changes settles) stores)
+          subst (λ (x : Kept). Parts tells f s t result plan.Back x) (sym changes)
+          (back-parts tells f s t result fitting knows may (subst (Settled plan.Back) changes settles) stores)
 
       pub planned-carried : (p : Plan) (k : Kept) → SpeaksWell tells f s t result p k → MayCarryOut f p → Changes f.session [] p k → Settled p k → Stored p
           → CarriesOut result p (record { tells = tells; told = s; fields = f }) (record { tells = tells; told = t; fields = after_plan f p k })
@@ -103,7 +109,8 @@ module _ (f : Fields) (fitting : Fitting f) (p : Plan) (k : Kept) (m : MetaRead)
   g = record f { meta = m; session = k; trials = trials }
 
   fields-are : after_plan f p k ≡ g
-  fields-are = sym (ap₂ (λ (x : MetaRead) (n : ℕ). record f { meta = x; session = k; trials = n }) m-is (trials-are ∙ ap (λ (x : MetaRead). trials_planned p x.meta f.trials) m-is))
+  fields-are = sym (ap₂ (λ (x : MetaRead) (n : ℕ). record f { meta = x; session = k; trials = n }) m-is
+      (trials-are ∙ ap (λ (x : MetaRead). trials_planned p x.meta f.trials) m-is))
 
   pub after-fitting : Fitting g
   after-fitting = subst Fitting fields-are (planned-fitting f fitting p k may changes)
@@ -112,7 +119,8 @@ module _ (f : Fields) (fitting : Fitting f) (p : Plan) (k : Kept) (m : MetaRead)
   after-some some = planned-some f fitting p k may changes some
 
   module _ (s t : Told) (stored : Bool) (stored-is : stored ≡ is_stored p) where
-    stores-planned : (result : Done) → StoresIf stored result f.layout m.meta s t → StoresIf (is_stored p) result f.layout (meta_planned f.session f.meta.meta p) s t
+    stores-planned : (result : Done) → StoresIf stored result f.layout m.meta s t
+        → StoresIf (is_stored p) result f.layout (meta_planned f.session f.meta.meta p) s t
     stores-planned result stores =
         subst (λ (b : Bool). StoresIf b result f.layout (meta_planned f.session f.meta.meta p) s t) stored-is
         (subst (λ (x : MetaRead). StoresIf stored result f.layout x.meta s t) m-is stores)
@@ -120,10 +128,12 @@ module _ (f : Fields) (fitting : Fitting f) (p : Plan) (k : Kept) (m : MetaRead)
     pub after-known : Knows f s → StoresIf {T = Unit {0}} stored (Ok tt) f.layout m.meta s t → Knows g t
     after-known knows stores = subst (λ (x : Fields). Knows x t) fields-are (planned-known f fitting s t p k knows may changes (stores-planned (Ok tt) stores))
 
-    pub after-carried : (tells : Bool) (result : Done) → SessionSound f → (IsTrue tells → Knows f s) → Settles f.session f.meta [] p m k → (IsTrue tells → StoresIf stored result f.layout m.meta s t)
+    pub after-carried : (tells : Bool) (result : Done) → SessionSound f → (IsTrue tells → Knows f s) → Settles f.session f.meta [] p m k
+        → (IsTrue tells → StoresIf stored result f.layout m.meta s t)
         → CarriesOut result p (record { tells = tells; told = s; fields = f }) (record { tells = tells; told = t; fields = g })
     after-carried tells result sound knows settles stores =
         subst (λ (x : Fields). CarriesOut result p (record { tells = tells; told = s; fields = f }) (record { tells = tells; told = t; fields = x })) fields-are
         (planned-carried f fitting s t tells result knows p k
-        (λ E x y same shows. shown-speaks f fitting sound E x E.passes shows.staged (record { layout = same; verifier = refl }) shows.speaks shows.kept) may changes
+        (λ E x y same shows. shown-speaks f fitting sound E x E.passes shows.staged
+        (record { layout = same; verifier = refl }) shows.speaks shows.kept) may changes
         (subst (λ (x : MetaRead). Settles f.session f.meta [] p x k) m-is settles) (λ is. stores-planned result (stores is)))

@@ -28,17 +28,17 @@ use Rattle.agent_state.proofs.Moved.{held-accepted}
 use Rattle.agent_machine.specs.Fields.{Fields, target}
 use Rattle.agent_machine.specs.Machine.{state_in, staged_bytes}
 use Rattle.agent_machine.specs.Knows.{Fitting, Knows}
-use Rattle.agent_machine.specs.Law.{StoreMeets}
 use Rattle.agent_machine.specs.Moment.{Moment, Shows, SpeaksOf}
 use Rattle.agent_machine.specs.Stored.{MayBegin, MayAccept, MayGoBack, MayBeDone, CarriesOut}
-use Rattle.agent_machine.proofs.Moving.{stores-meet}
+use Rattle.agent_machine.proofs.Moving.{StoreMeets, stores-meet}
 use Rattle.agent_machine.proofs.Stored.{after_plan, next-target, target-other, begin-booted, bits-after}
 use Rattle.agent_machine.proofs.StoredKnown.{state-after, begin-accepted, begun-shows, accepting-used, accepted-shows, back-accepted, back-shows}
 
 -- ---- what is spoken of after each plan, in any state
 
 -- another state with the bank that was started as it was
-speaks-still : (f g : Fields) (s t : State) → SpeaksOf f s → g.layout ≡ f.layout → g.lengths ≡ f.lengths → g.boot ≡ f.boot → length t.banks ≡ length s.banks → g.meta.meta ≡ meta_in t → t.form ≡ g.meta.form → g.counter ≡ t.counter → g.trials ≡ t.trials
+speaks-still : (f g : Fields) (s t : State) → SpeaksOf f s → g.layout ≡ f.layout → g.lengths ≡ f.lengths → g.boot ≡ f.boot
+    → length t.banks ≡ length s.banks → g.meta.meta ≡ meta_in t → t.form ≡ g.meta.form → g.counter ≡ t.counter → g.trials ≡ t.trials
     → (bank t f.boot).held ≡ (bank s f.boot).held → SpeaksOf g t
 speaks-still f g s t of layout lengths boot banks meta form counter trials held = record {
   banks = banks ∙ of.banks ∙ ap (λ (l : Layout). l.banks) (sym layout);
@@ -57,22 +57,33 @@ module _ (f : Fields) (s : State) (of : SpeaksOf f s) (fitting : Fitting f) wher
   pub target-is : target f ≡ update_bank s
   target-is = sym (next-target f fitting) ∙ next-is s f.meta of.meta
 
-  begun-speaks : (k : Kept) → MayBegin f true → (after_plan f (plan.Begin true) k).meta.meta ≡ meta_in (after s (Free (update_bank s) ∷ [])) → SpeaksOf (after_plan f (plan.Begin true) k) (after s (Free (update_bank s) ∷ []))
+  begun-speaks : (k : Kept) → MayBegin f true → (after_plan f (plan.Begin true) k).meta.meta ≡ meta_in (after s (Free (update_bank s) ∷ []))
+      → SpeaksOf (after_plan f (plan.Begin true) k) (after s (Free (update_bank s) ∷ []))
   begun-speaks k may meta =
       let u = update_bank s in
       let apart : f.boot ≢ u = λ e. target-other f fitting (target-is ∙ sym e ∙ begin-booted f fitting true may) in
-      speaks-still f (after_plan f (plan.Begin true) k) s (after s (Free u ∷ [])) of refl refl refl (length-set s.banks u (freed (bank s u))) meta of.form of.counter_is of.trials_are
+      speaks-still f (after_plan f (plan.Begin true) k) s (after s (Free u ∷ [])) of refl refl refl
+      (length-set s.banks u (freed (bank s u))) meta of.form of.counter_is of.trials_are
       (ap (λ (b : Bank). b.held) (get_or-set_other s.banks u f.boot (freed (bank s u)) no_bank apart))
 
   restarted-speaks : (k : Kept) → SpeaksOf (after_plan f (plan.Begin false) k) s
-  restarted-speaks k = record { banks = of.banks; meta = of.meta; form = of.form; counter_is = of.counter_is; trials_are = of.trials_are; lengths_are = of.lengths_are }
+  restarted-speaks k = record {
+    banks = of.banks;
+    meta = of.meta;
+    form = of.form;
+    counter_is = of.counter_is;
+    trials_are = of.trials_are;
+    lengths_are = of.lengths_are;
+  }
 
-  accepted-speaks : (image : ℕ) → (after_plan f (plan.Accept image true) f.session).meta.meta ≡ meta_in (after s (Accept image ∷ [])) → SpeaksOf (after_plan f (plan.Accept image true) f.session) (after s (Accept image ∷ []))
+  accepted-speaks : (image : ℕ) → (after_plan f (plan.Accept image true) f.session).meta.meta ≡ meta_in (after s (Accept image ∷ []))
+      → SpeaksOf (after_plan f (plan.Accept image true) f.session) (after s (Accept image ∷ []))
   accepted-speaks image meta =
       let m = f.meta.meta in
       let bits : bits_in (meta_after m (Accept image)) m.active ≡ (with_bit (bank s s.active) image).bits =
       bits-after f fitting image ∙ ap (λ (l : List Bool). set l image true) (ap (bits_in m) (active-is s f.meta of.meta) ∙ bits-is s f.meta of.meta s.active) in
-      speaks-still f (after_plan f (plan.Accept image true) f.session) s (after s (Accept image ∷ [])) of refl refl refl (length-set s.banks s.active (with_bit (bank s s.active) image)) meta of.form of.counter_is
+      speaks-still f (after_plan f (plan.Accept image true) f.session) s (after s (Accept image ∷ [])) of refl refl refl
+      (length-set s.banks s.active (with_bit (bank s s.active) image)) meta of.form of.counter_is
       (ap₂ (λ (l : List Bool) (n : ℕ). cond (all_set l) 0 n) bits of.trials_are)
       (held-accepted s image f.boot)
 
@@ -89,7 +100,8 @@ module _ (tells : Bool) (f : Fields) (s t : Told) (result : Done) (p : Plan) (k 
   new = record { tells = tells; told = t; fields = after_plan f p k }
 
   abbrev pub SpeaksWell : Type 0
-  SpeaksWell = (E : Setting) (x : State) (y : Session) → E.layout ≡ f.layout → (shows : Shows old x y) → Speaks E x E.passes f.meta f.counter f.session f.boot shows.staged
+  SpeaksWell = (E : Setting) (x : State) (y : Session) → E.layout ≡ f.layout →
+      (shows : Shows old x y) → Speaks E x E.passes f.meta f.counter f.session f.boot shows.staged
 
   -- what the moves of the plan are from a state
   abbrev pub planned_from : Setting → State → (ℕ → List ℕ) → List Move
@@ -98,21 +110,26 @@ module _ (tells : Bool) (f : Fields) (s t : Told) (result : Done) (p : Plan) (k 
   pub record Parts : Type 0 where
     pub total : (E : Setting) (x : State) → HasTotal E x f.boot p
     pub settles : Settles f.session f.meta [] p (after_plan f p k).meta k
-    pub speaks : (E : Setting) (x : State) (staged : ℕ → List ℕ) → SpeaksOf f x → (after_plan f p k).meta.meta ≡ meta_in (after x (planned_from E x staged)) → SpeaksOf (after_plan f p k) (after x (planned_from E x staged))
+    pub speaks : (E : Setting) (x : State) (staged : ℕ → List ℕ) → SpeaksOf f x
+        → (after_plan f p k).meta.meta ≡ meta_in (after x (planned_from E x staged)) → SpeaksOf (after_plan f p k) (after x (planned_from E x staged))
     -- the session that is meant has no byte of the flash
     pub session : (a b : ℕ → List ℕ) → session_meant k f.boot a ≡ session_meant k f.boot b
-    pub state : (E : Setting) (staged : ℕ → List ℕ) → IsTrue tells → IsTrue (is_ok result) → after (state_in f s.now) (planned_from E (state_in f s.now) staged) ≡ state_in (after_plan f p k) t.now
-    pub does : (E : Setting) (staged : ℕ → List ℕ) → E.layout ≡ f.layout → IsTrue tells → MayBeDone E (state_in f s.now) p → IsReady E s (state_in f s.now) → Does result E (state_in f s.now) (planned_from E (state_in f s.now) staged) t
+    pub state : (E : Setting) (staged : ℕ → List ℕ) → IsTrue tells → IsTrue (is_ok result)
+        → after (state_in f s.now) (planned_from E (state_in f s.now) staged) ≡ state_in (after_plan f p k) t.now
+    pub does : (E : Setting) (staged : ℕ → List ℕ) → E.layout ≡ f.layout → IsTrue tells → MayBeDone E (state_in f s.now) p
+        → IsReady E s (state_in f s.now) → Does result E (state_in f s.now) (planned_from E (state_in f s.now) staged) t
     pub guarded : IsTrue tells → IsAtRest s → GuardedBy result t
 
   module _ (speaks : SpeaksWell) (parts : Parts) where
-    shows-next : (E : Setting) (x : State) (y : Session) → E.layout ≡ f.layout → Shows old x y → IsTrue (is_ok result) → Shows new (after x (planned_in E x y [] p).moves) (planned_in E x y [] p).next
+    shows-next : (E : Setting) (x : State) (y : Session) → E.layout ≡ f.layout → Shows old x y → IsTrue (is_ok result)
+        → Shows new (after x (planned_in E x y [] p).moves) (planned_in E x y [] p).next
     shows-next E x y same shows ok =
         let si = parts.settles E x E.passes f.counter f.boot shows.staged (speaks E x y same shows) (parts.total E x) in
         subst (λ (z : Session). Shows new (after x (planned_in E x z [] p).moves) (planned_in E x z [] p).next) (sym shows.means) (record {
           told = λ is.
               let here = (shows.told is).0 in (
-                subst (λ (z : State). after z (planned_from E z shows.staged) ≡ state_in (after_plan f p k) t.now) (sym here) (parts.state E shows.staged is ok),
+                subst (λ (z : State). after z (planned_from E z shows.staged) ≡ state_in (after_plan f p k) t.now) (sym here)
+                    (parts.state E shows.staged is ok),
                 sym si.next ∙ parts.session (staged_after p [] shows.staged) (staged_bytes (after_plan f p k) t.now),
               );
           speaks = parts.speaks E x shows.staged shows.speaks si.spoken.meta;
@@ -155,24 +172,30 @@ module _ (tells : Bool) (f : Fields) (s t : Told) (result : Done) (fitting : Fit
   freed-bank : IsTrue tells → update_bank (state_in f s.now) ≡ target f
   freed-bank is = ap (λ (n : ℕ). (m.active + 1) % n) (bank-count f.layout s.now f.meta (state_in f s.now) refl)
 
-  begun-stores : MayBegin f true → IsTrue tells → Stores result f.layout (meta_after m (Free (next_bank m))) s t → StoreMeets result f (λ E. Unit {0}) (Free (target f)) s t
+  begun-stores : MayBegin f true → IsTrue tells → Stores result f.layout (meta_after m (Free (next_bank m))) s t
+      → StoreMeets result f (λ E. Unit {0}) (Free (target f)) s t
   begun-stores may is stores =
-      (stores-meet result f s t fitting (knows is)).free (begin-accepted f s t fitting (knows is) true may) (subst (λ (b : ℕ). Stores result f.layout (meta_after m (Free b)) s t) (next-target f fitting) stores)
+      (stores-meet result f s t fitting (knows is)).free (begin-accepted f s t fitting (knows is) true may)
+      (subst (λ (b : ℕ). Stores result f.layout (meta_after m (Free b)) s t) (next-target f fitting) stores)
 
-  pub begun-parts : (k : Kept) → MayBegin f true → Restarts true f.session k → Settles f.session f.meta [] (plan.Begin true) (after_plan f (plan.Begin true) k).meta k
+  pub begun-parts : (k : Kept) → MayBegin f true → Restarts true f.session k
+      → Settles f.session f.meta [] (plan.Begin true) (after_plan f (plan.Begin true) k).meta k
       → (IsTrue tells → Stores result f.layout (meta_after m (Free (next_bank m))) s t) → Parts tells f s t result (plan.Begin true) k
   unfolding planned
   begun-parts k may restarts settles stores = record {
     total = λ E x. tt;
     settles = settles;
     speaks = λ E x staged of meta. begun-speaks f x of fitting k may meta;
-    session = λ a b. restarts-staging k f.boot a restarts.nothing restarts.staging_is restarts.closed ∙ sym (restarts-staging k f.boot b restarts.nothing restarts.staging_is restarts.closed);
+    session = λ a b. restarts-staging k f.boot a restarts.nothing restarts.staging_is restarts.closed ∙ sym
+        (restarts-staging k f.boot b restarts.nothing restarts.staging_is restarts.closed);
     state = λ E staged is ok.
         let done = subst (λ (r : Done). Stores r f.layout (meta_after m (Free (next_bank m))) s t) (done-is result ok) (stores is) in
         ap (λ (b : ℕ). after (state_in f s.now) (Free b ∷ [])) (freed-bank is)
-        ∙ sym (state-after f s t (knows is) (meta_after m (Free (next_bank m))) k f.trials (Free (target f)) done (begun-shows f s t fitting (knows is) may done));
+        ∙ sym (state-after f s t (knows is) (meta_after m (Free (next_bank m))) k f.trials (Free (target f)) done
+        (begun-shows f s t fitting (knows is) may done));
     does = λ E staged same is may_be ready.
-        subst (λ (b : ℕ). Does result E (state_in f s.now) (Free b ∷ []) t) (sym (freed-bank is)) ((begun-stores may is (stores is)).does E same tt ready.calm ready.guarded);
+        subst (λ (b : ℕ). Does result E (state_in f s.now) (Free b ∷ []) t) (sym (freed-bank is))
+        ((begun-stores may is (stores is)).does E same tt ready.calm ready.guarded);
     guarded = λ is rest. (begun-stores may is (stores is)).guarded rest;
   }
 
@@ -193,7 +216,8 @@ module _ (tells : Bool) (f : Fields) (s t : Told) (result : Done) (fitting : Fit
     total = λ E x. tt;
     settles = settles;
     speaks = λ E x staged of meta. restarted-speaks f x of fitting k;
-    session = λ a b. restarts-staging k f.boot a restarts.nothing restarts.staging_is restarts.closed ∙ sym (restarts-staging k f.boot b restarts.nothing restarts.staging_is restarts.closed);
+    session = λ a b. restarts-staging k f.boot a restarts.nothing restarts.staging_is restarts.closed ∙ sym
+        (restarts-staging k f.boot b restarts.nothing restarts.staging_is restarts.closed);
     state = λ E staged is ok. same-state (still is);
     does = λ E staged same is may ready. same-ready E (state_in f s.now) (still is) ready;
     guarded = λ is rest. same-guarded (still is) rest;
@@ -201,10 +225,12 @@ module _ (tells : Bool) (f : Fields) (s t : Told) (result : Done) (fitting : Fit
 
   -- ---- accept
 
-  accept-stores : (image : ℕ) → MayAccept f image → IsTrue tells → Stores result f.layout (meta_after m (Accept image)) s t → StoreMeets result f (λ E. Unit {0}) (Accept image) s t
+  accept-stores : (image : ℕ) → MayAccept f image → IsTrue tells → Stores result f.layout (meta_after m (Accept image)) s t
+      → StoreMeets result f (λ E. Unit {0}) (Accept image) s t
   accept-stores image may is stores = (stores-meet result f s t fitting (knows is)).accept image (accepting-used f s t fitting (knows is) image may) stores
 
-  pub accepted-parts : (image : ℕ) → MayAccept f image → Settles f.session f.meta [] (plan.Accept image true) (after_plan f (plan.Accept image true) f.session).meta f.session
+  pub accepted-parts : (image : ℕ) → MayAccept f image → Settles f.session f.meta [] (plan.Accept image true) (after_plan f
+      (plan.Accept image true) f.session).meta f.session
       → (IsTrue tells → Stores result f.layout (meta_after m (Accept image)) s t) → Parts tells f s t result (plan.Accept image true) f.session
   unfolding planned
   accepted-parts image may settles stores = record {
@@ -214,7 +240,8 @@ module _ (tells : Bool) (f : Fields) (s t : Told) (result : Done) (fitting : Fit
     session = λ a b. idle-session f.session f.boot a b may.idle;
     state = λ E staged is ok.
         let done = subst (λ (r : Done). Stores r f.layout (meta_after m (Accept image)) s t) (done-is result ok) (stores is) in
-        sym (state-after f s t (knows is) (meta_after m (Accept image)) f.session (after_plan f (plan.Accept image true) f.session).trials (Accept image) done (accepted-shows f s t fitting (knows is) image may done));
+        sym (state-after f s t (knows is) (meta_after m (Accept image)) f.session (after_plan f (plan.Accept image true) f.session).trials
+        (Accept image) done (accepted-shows f s t fitting (knows is) image may done));
     does = λ E staged same is may_be ready. (accept-stores image may is (stores is)).does E same tt ready.calm ready.guarded;
     guarded = λ is rest. (accept-stores image may is (stores is)).guarded rest;
   }

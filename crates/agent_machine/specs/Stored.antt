@@ -1,9 +1,11 @@
 -- The plans of begin, accept and previous, which may store metadata: which of them may be carried out, and what that leaves.
-use Rattle.std.specs.Prelude.{◌≡◌, ℕ, ◌<◌, Bool, true, false, ◌&&◌, if◌then◌else◌, [], length, Result, OnOk, is_ok, IsTrue}
+use Rattle.std.specs.Prelude.{◌≡◌, ◌⊎◌, ℕ, ◌<◌, Bool, true, false, ◌&&◌, if◌then◌else◌, [], length, Option, Result, OnOk, is_ok, IsTrue}
+use Rattle.flash_core.specs.declared.flash.Arming.{Arming}
 use Rattle.flash_core.specs.declared.flash.FlashStop.{FlashStop}
+use Rattle.flash_core.specs.Counts.{lowered}
 use Rattle.flash_core.specs.Told.{Told}
 use Rattle.fwu_formats.specs.Layout.{Layout}
-use Rattle.fwu_formats.specs.Metadata.{Meta, state_at}
+use Rattle.fwu_formats.specs.Metadata.{Meta, MetaRead, state_at}
 use Rattle.fwu_model.specs.State.{State, bank, is_invalid, all_set, after}
 use Rattle.fwu_model.specs.Session.{Session}
 use Rattle.fwu_model.specs.Sound.{Setting, holds_permitted}
@@ -55,6 +57,20 @@ abbrev pub is_to_do : Decision → Bool
 is_to_do (decision.Refused st) = false
 is_to_do (decision.Do p) = true
 is_to_do (decision.ByVerdict b) = false
+
+-- ---- what is spent of an armed loss
+
+-- an arming after the two erases and two programs of a store
+abbrev pub stored_arming : Option Arming → Option Arming
+stored_arming armed = lowered (lowered (lowered (lowered armed)))
+
+abbrev pub TakesIf : Bool → Option Arming → Option Arming → Type 0
+TakesIf true armed arming = arming ≡ stored_arming armed
+TakesIf false armed arming = arming ≡ armed
+
+-- metadata was stored; or it is as it was, and nothing was written
+abbrev pub TakesStore : MetaRead → MetaRead → Option Arming → Option Arming → Type 0
+TakesStore old new armed arming = (arming ≡ stored_arming armed) ⊎ ((new ≡ old) × (arming ≡ armed))
 
 -- ---- what is stored, and what is kept then
 

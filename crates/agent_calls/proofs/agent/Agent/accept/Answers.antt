@@ -23,14 +23,17 @@ carry_out-requires-clause-plan g c =
     let a = c.args.self.now in
     let passes : List ℕ → Bool = λ _. true in
     let within : c.in-Accept.image < length (kept a.session).rows = subst (IsPlanOf (kept a.session)) c.in-Accept.is c.in-Ok.ensures.of in
-    accept-may (fields a) (a.fitting c.if-self.false) a.session.sound passes c.args.guid c.in-Ok.plan (c.in-Ok.ensures.plans passes) (g.D.Flash.told a.flash) (a.some c.if-self.false) c.in-Accept.image within
+    accept-may (fields a) (a.fitting c.if-self.false) a.session.sound passes c.args.guid c.in-Ok.plan (c.in-Ok.ensures.plans passes)
+    (g.D.Flash.told a.flash) (a.some c.if-self.false) c.in-Accept.image within
 
 pub returns-in-Accept-clause-meets : goal.returns-in-Accept-clause-meets
 returns-in-Accept-clause-meets g c = λ here passes.
     let a = c.args.self.now in
-    carried-meets c.carry_out.result passes (call.Accepts c.args.guid) (plan.Accept c.in-Accept.image c.in-Accept.store) (moment a) (moment c.carry_out.new.self) c.carry_out.ensures.carries c.carry_out.ensures.answered
+    carried-meets c.carry_out.result passes (call.Accepts c.args.guid) (plan.Accept c.in-Accept.image c.in-Accept.store) (moment a)
+    (moment c.carry_out.new.self) c.carry_out.ensures.carries c.carry_out.ensures.answered
     (λ E s x setting shows.
-    accept-answers (fields a) (a.fitting here) a.session.sound passes c.args.guid c.in-Ok.plan (c.in-Ok.ensures.plans passes) g.D.Flash.tells (g.D.Flash.told a.flash) E s x setting shows c.in-Accept.image c.in-Accept.store c.in-Accept.is)
+    accept-answers (fields a) (a.fitting here) a.session.sound passes c.args.guid c.in-Ok.plan (c.in-Ok.ensures.plans passes) g.D.Flash.tells
+    (g.D.Flash.told a.flash) E s x setting shows c.in-Accept.image c.in-Accept.store c.in-Accept.is)
 
 other-plan : (p : Plan) → ((image : ℕ) (store : Bool) → p ≡ plan.Accept image store → ⊥) → is_accept p ≡ false
 other-plan plan.Tell other = refl
@@ -51,4 +54,5 @@ returns-in_default-clause-meets g c = λ here passes.
     let other : is_accept c.in-Ok.plan ≡ false = other-plan c.in-Ok.plan c.in_default.not-Accept in
     idle-meets g.D.Flash.tells (fields a) t t (λ is. refl) passes (call.Accepts c.args.guid)
     (λ E s x setting shows.
-    accept-idle (fields a) (a.fitting here) a.session.sound passes c.args.guid c.in-Ok.plan (c.in-Ok.ensures.plans passes) g.D.Flash.tells t E s x setting shows other)
+    accept-idle (fields a) (a.fitting here) a.session.sound passes c.args.guid c.in-Ok.plan
+    (c.in-Ok.ensures.plans passes) g.D.Flash.tells t E s x setting shows other)

@@ -13,19 +13,23 @@ carry_out-requires-clause-plan g c =
     let a = c.args.self.now in
     let passes : List ℕ → Bool = λ _. true in
     subst (MayBegin (fields a)) (sym c.frees.ensures)
-    (begin-may (fields a) (a.fitting c.if-self.false) a.session.sound passes c.args.vendor_flags c.args.partial_count c.in-Ok.plan (c.in-Ok.ensures.plans passes) (g.D.Flash.told a.flash) (a.some c.if-self.false))
+    (begin-may (fields a) (a.fitting c.if-self.false) a.session.sound passes c.args.vendor_flags c.args.partial_count c.in-Ok.plan
+    (c.in-Ok.ensures.plans passes) (g.D.Flash.told a.flash) (a.some c.if-self.false))
 
 pub returns-in-Ok-clause-meets : goal.returns-in-Ok-clause-meets
 returns-in-Ok-clause-meets g c = λ here passes.
     let a = c.args.self.now in
-    carried-meets c.carry_out.result passes (call.Begin c.args.partial_count) (plan.Begin c.frees.result) (moment a) (moment c.carry_out.new.self) c.carry_out.ensures.carries c.carry_out.ensures.answered
+    carried-meets c.carry_out.result passes (call.Begin c.args.partial_count) (plan.Begin c.frees.result) (moment a)
+    (moment c.carry_out.new.self) c.carry_out.ensures.carries c.carry_out.ensures.answered
     (λ E s x setting shows.
     subst (λ (b : Bool). AnswersBy E s x (call.Begin c.args.partial_count) (plan.Begin b)) (sym c.frees.ensures)
-    (begin-answers (fields a) (a.fitting here) a.session.sound passes c.args.vendor_flags c.args.partial_count c.in-Ok.plan (c.in-Ok.ensures.plans passes) g.D.Flash.tells (g.D.Flash.told a.flash) E s x setting shows))
+    (begin-answers (fields a) (a.fitting here) a.session.sound passes c.args.vendor_flags c.args.partial_count c.in-Ok.plan
+    (c.in-Ok.ensures.plans passes) g.D.Flash.tells (g.D.Flash.told a.flash) E s x setting shows))
 
 pub returns-in-Err-clause-meets : goal.returns-in-Err-clause-meets
 returns-in-Err-clause-meets g c = λ here passes.
     let a = c.args.self.now in
     let t = g.D.Flash.told a.flash in
     refused-meets g.D.Flash.tells (fields a) t t (λ is. refl) passes (call.Begin c.args.partial_count) c.in-Err.status
-    (refused-of (moment a) (a.fitting here) a.session.sound passes (request.Begin c.args.vendor_flags c.args.partial_count) (λ E s. tt) c.in-Err.status (c.in-Err.ensures.plans passes))
+    (refused-of (moment a) (a.fitting here) a.session.sound passes (request.Begin c.args.vendor_flags c.args.partial_count)
+    (λ E s. tt) c.in-Err.status (c.in-Err.ensures.plans passes))

@@ -24,7 +24,8 @@ pub returns-then-not-may_try-clause-meets : goal.returns-then-not-may_try-clause
 returns-then-not-may_try-clause-meets g c =
     let a = c.args.self.now in
     let s = g.D.Flash.told a.flash in
-    untried-meets g.D.Flash.tells (fields a) (a.fitting c.requires.here) a.session.sound s s (λ is. refl) (g.V.Verifier.passes c.args.verifier.now) (promised c.may_try.result (may_try_kept a.meta.meta (kept a.session) a.boot) false c.may_try.ensures c.if-not-may_try.true)
+    untried-meets g.D.Flash.tells (fields a) (a.fitting c.requires.here) a.session.sound s s (λ is. refl) (g.V.Verifier.passes c.args.verifier.now)
+    (promised c.may_try.result (may_try_kept a.meta.meta (kept a.session) a.boot) false c.may_try.ensures c.if-not-may_try.true)
 
 pub is_bank_good-requires-clause-bank : goal.is_bank_good-requires-clause-bank
 is_bank_good-requires-clause-bank g c =
@@ -37,9 +38,12 @@ returns-then-not-goes_back-clause-meets g c =
     let a = c.args.self.now in
     let s = g.D.Flash.told a.flash in
     let passes = g.V.Verifier.passes c.args.verifier.now in
-    bad-meets g.D.Flash.tells (fields a) (a.fitting c.requires.here) a.session.sound s (g.D.Flash.told c.is_bank_good.new.flash) c.in-Ok.ensures.content passes (a.knows c.requires.here)
-    (promised c.may_try.result (may_try_kept a.meta.meta (kept a.session) a.boot) true c.may_try.ensures c.if-not-may_try.false) c.args.decision.now c.requires.decided c.in-Ok.good
-    (λ is E setting. good-permitted E a.layout passes a.counter s.now c.previous-bank.result a.meta.meta.previous c.in-Ok.good (a.fitting c.requires.here).layout setting.layout setting.verifier c.previous-bank.ensures (c.in-Ok.ensures.good is))
+    bad-meets g.D.Flash.tells (fields a) (a.fitting c.requires.here) a.session.sound s
+    (g.D.Flash.told c.is_bank_good.new.flash) c.in-Ok.ensures.content passes (a.knows c.requires.here)
+    (promised c.may_try.result (may_try_kept a.meta.meta (kept a.session) a.boot) true c.may_try.ensures c.if-not-may_try.false) c.args.decision.now
+    c.requires.decided c.in-Ok.good
+    (λ is E setting. good-permitted E a.layout passes a.counter s.now c.previous-bank.result a.meta.meta.previous c.in-Ok.good
+    (a.fitting c.requires.here).layout setting.layout setting.verifier c.previous-bank.ensures (c.in-Ok.ensures.good is))
     (promised c.goes_back.result (is_to_do (ruled_as c.args.decision.now c.in-Ok.good)) false c.goes_back.ensures c.if-not-goes_back.true)
 
 pub returns-else-not-goes_back-clause-meets : goal.returns-else-not-goes_back-clause-meets
@@ -47,12 +51,18 @@ returns-else-not-goes_back-clause-meets g c =
     let a = c.args.self.now in
     let s = g.D.Flash.told a.flash in
     let passes = g.V.Verifier.passes c.args.verifier.now in
-    back-meets g.D.Flash.tells (fields a) (a.fitting c.requires.here) a.session.sound s (g.D.Flash.told c.is_bank_good.new.flash) c.in-Ok.ensures.content passes (a.knows c.requires.here)
-    (promised c.may_try.result (may_try_kept a.meta.meta (kept a.session) a.boot) true c.may_try.ensures c.if-not-may_try.false) c.args.decision.now c.requires.decided c.in-Ok.good
-    (λ is E setting. good-permitted E a.layout passes a.counter s.now c.previous-bank.result a.meta.meta.previous c.in-Ok.good (a.fitting c.requires.here).layout setting.layout setting.verifier c.previous-bank.ensures (c.in-Ok.ensures.good is))
-    c.carry_out.result (moment c.carry_out.new.self) (promised c.goes_back.result (is_to_do (ruled_as c.args.decision.now c.in-Ok.good)) true c.goes_back.ensures c.if-not-goes_back.false) c.carry_out.ensures.carries c.carry_out.ensures.answered
+    back-meets g.D.Flash.tells (fields a) (a.fitting c.requires.here) a.session.sound s
+    (g.D.Flash.told c.is_bank_good.new.flash) c.in-Ok.ensures.content passes (a.knows c.requires.here)
+    (promised c.may_try.result (may_try_kept a.meta.meta (kept a.session) a.boot) true c.may_try.ensures c.if-not-may_try.false) c.args.decision.now
+    c.requires.decided c.in-Ok.good
+    (λ is E setting. good-permitted E a.layout passes a.counter s.now c.previous-bank.result a.meta.meta.previous c.in-Ok.good
+    (a.fitting c.requires.here).layout setting.layout setting.verifier c.previous-bank.ensures (c.in-Ok.ensures.good is))
+    c.carry_out.result (moment c.carry_out.new.self) (promised c.goes_back.result
+    (is_to_do (ruled_as c.args.decision.now c.in-Ok.good)) true c.goes_back.ensures c.if-not-goes_back.false) c.carry_out.ensures.carries
+    c.carry_out.ensures.answered
 
 pub returns-in-Err-clause-meets : goal.returns-in-Err-clause-meets
 returns-in-Err-clause-meets g c =
     let a = c.args.self.now in
-    stopped-meets g.D.Flash.tells (fields a) (a.fitting c.requires.here) a.session.sound (g.D.Flash.told a.flash) (g.D.Flash.told c.is_bank_good.new.flash) c.in-Err.ensures.content (g.V.Verifier.passes c.args.verifier.now) c.stopped.result c.stopped.ensures.stopped
+    stopped-meets g.D.Flash.tells (fields a) (a.fitting c.requires.here) a.session.sound (g.D.Flash.told a.flash)
+    (g.D.Flash.told c.is_bank_good.new.flash) c.in-Err.ensures.content (g.V.Verifier.passes c.args.verifier.now) c.stopped.result c.stopped.ensures.stopped

@@ -24,4 +24,5 @@ returns-in-Refused-clause-meets g c = λ here passes same.
     let a = c.args.self.now in
     let s = g.D.Flash.told a.flash in
     refused-meets-previous g.D.Flash.tells (fields a) (a.fitting here) a.session.sound s s (λ is. refl) passes c.in-Refused.status
-    (subst (λ (ps : List ℕ → Bool). Decides ps a.meta a.counter (kept a.session) a.boot request.Previous (decision.Refused c.in-Refused.status)) (sym same) c.in-Refused.ensures.decides)
+    (subst (λ (ps : List ℕ → Bool). Decides ps a.meta a.counter (kept a.session) a.boot request.Previous (decision.Refused c.in-Refused.status))
+    (sym same) c.in-Refused.ensures.decides)

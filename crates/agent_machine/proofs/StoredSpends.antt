@@ -1,0 +1,39 @@
+-- What a plan that may be carried out takes of an armed loss.
+use Rattle.std.proofs.Common.{◌≡◌, ◌⊎◌, inl, inr, Bool, true, false, Option, refl, subst, sym, ◌∙◌}
+use Rattle.flash_core.specs.declared.flash.Arming.{Arming}
+use Rattle.fwu_formats.specs.Metadata.{MetaRead}
+use Rattle.agent_kept.specs.declared.kinds.Plan.{Plan}
+use Rattle.agent_kept.specs.declared.kinds.Plan.TheVariants as plan
+use Rattle.agent_state.specs.Settles.{meta_planned}
+use Rattle.agent_machine.specs.Fields.{Fields}
+use Rattle.agent_machine.specs.Stored.{MayCarryOut, TakesIf, TakesStore, is_stored}
+
+module _ (f : Fields) (armed arming : Option Arming) where
+  planned-takes : (p : Plan) → MayCarryOut f p → TakesIf (is_stored p) armed arming
+      → TakesStore f.meta (record f.meta { meta = meta_planned f.session f.meta.meta p }) armed arming
+  planned-takes plan.Tell may takes = absurd may
+  planned-takes (plan.Begin true) may takes = inl takes
+  planned-takes (plan.Begin false) may takes = inr (refl, takes)
+  planned-takes (plan.Open h image o total) may takes = absurd may
+  planned-takes (plan.Write h image at n) may takes = absurd may
+  planned-takes (plan.Read h image at n total) may takes = absurd may
+  planned-takes (plan.Commit h image bit) may takes = absurd may
+  planned-takes plan.End may takes = absurd may
+  planned-takes plan.Cancel may takes = absurd may
+  planned-takes (plan.Accept image true) may takes = inl takes
+  planned-takes (plan.Accept image false) may takes = inr (refl, takes)
+  planned-takes plan.Back may takes = inl takes
+
+  pub takes-store : (p : Plan) (stored : Bool) (m : MetaRead) → MayCarryOut f p → stored ≡ is_stored p
+      → m ≡ record f.meta { meta = meta_planned f.session f.meta.meta p } → TakesIf stored armed arming → TakesStore f.meta m armed arming
+  takes-store p stored m may is settled takes =
+      subst (λ (n : MetaRead). TakesStore f.meta n armed arming) (sym settled)
+      (planned-takes p may (subst (λ (b : Bool). TakesIf b armed arming) is takes))
+
+-- the metadata and the arming are as they were
+pub takes-nothing : (m : MetaRead) (armed : Option Arming) → TakesStore m m armed armed
+takes-nothing m armed = inr (refl, refl)
+
+-- a read before it kept the arming
+pub takes-behind : (old new : MetaRead) (armed mid arming : Option Arming) → mid ≡ armed → TakesStore old new mid arming → TakesStore old new armed arming
+takes-behind old new armed mid arming is takes = subst (λ (a : Option Arming). TakesStore old new a arming) is takes
