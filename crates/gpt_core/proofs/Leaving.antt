@@ -11,7 +11,7 @@ use Rattle.gpt_core.specs.PlacesOf.{places_of}
 use Rattle.gpt_core.specs.Repair.{StaysBeside}
 use Rattle.gpt_core.specs.Table.{Table, blocks_of, number_of}
 use Rattle.gpt_core.specs.View.{view_of}
-use Rattle.gpt_core.proofs.Guarded.{still_sure}
+use Rattle.flash_core.proofs.OneCall.{sure_settled}
 use Rattle.gpt_core.proofs.Stepping.{image_is_now}
 use Rattle.gpt_core.proofs.Placing.{Within, places_within}
 use Rattle.gpt_core.proofs.Seen.{byte_store, byte_zero, byte_one, through-same}
@@ -76,7 +76,7 @@ module _ (p : Places) (s u : Told) (low high : ℕ) (keeps : Keeps low high s u)
   image-kept : through p image ≡ through p s.now
   image-kept =
       through-same p image s.now
-      (λ i below. may.leaves.sure (byte_behind p i) (keeps.sure (byte_behind p i) (out i below) (still_sure s was (byte_behind p i))) ∙ keeps.now (byte_behind p i) (out i below))
+      (λ i below. may.leaves.sure (byte_behind p i) (keeps.sure (byte_behind p i) (out i below) (sure_settled s was (byte_behind p i))) ∙ keeps.now (byte_behind p i) (out i below))
 
 pub repair-keeps : (blocks : ℕ) (t : Table) (which : WhichTable) (p : Places) (s u : Told) (image : List ℕ) → places_of blocks t ≡ Ok p → NothingDirty s → StaysBeside blocks t which s u → May u image → through p image ≡ through p s.now
 repair-keeps blocks t Same p s u image gives was beside may = ap (through p) (image_is_now s image was (subst (λ (v : Told). May v image) beside may))

@@ -1,6 +1,6 @@
 -- The heart of a repair: each of its steps, at any loss, leaves images in which the same table decides.
 use Rattle.std.proofs.Common.{◌≡◌, ◌⊎◌, inl, inr, ℕ, ◌+◌, ◌*◌, ◌<◌, ◌≤◌, List, length, get_or, Some, None, sym, ◌∙◌, ap, arith, refl, subst}
-use Rattle.std.specs.Prelude.{IsTrue}
+use Rattle.std.specs.Prelude.{IsTrue, Result, Ok, Err}
 use Rattle.base_core.specs.Block.{block, blank}
 use Rattle.base_core.specs.Seal.{Sealed}
 use Rattle.base_core.proofs.Blocks.{same_block}
@@ -11,7 +11,7 @@ use Rattle.flash_core.proofs.Images.{length-overwritten}
 use Rattle.gpt_core.specs.declared.table.TableCopy.{TableCopy}
 use Rattle.gpt_core.specs.declared.table.TableCopy.TheVariants.{Primary, Backup}
 use Rattle.gpt_core.specs.Table.{Table, blocks_of, header_at, other, entries_at, copy_in, DecidesTable, BothSay, number_of}
-use Rattle.gpt_core.proofs.Guarded.{Left, left_halt, left_put, left_outside, still_sure}
+use Rattle.flash_core.proofs.OneCall.{IsLeft, one_call_left, one_call_outside, sure_settled}
 use Rattle.gpt_core.proofs.Copies.{none_unsealed, copy_from, copy_to, header_within, entries_within, within_image, copies_apart, copy_stays, table_roomy, primary_decides, backup_decides}
 
 -- ---- with one copy, or with both
@@ -29,6 +29,13 @@ both_say Primary blocks image t one two Primary = one
 both_say Primary blocks image t one two Backup = two
 both_say Backup blocks image t one two Primary = two
 both_say Backup blocks image t one two Backup = one
+
+-- a call that was stopped, and one that was done
+abbrev call_stopped : Result (Unit {0}) (Unit {0})
+call_stopped = Err tt
+
+abbrev call_done : Result (Unit {0}) (Unit {0})
+call_done = Ok tt
 
 -- the copy w is written; the other one says the table
 module _ (w : TableCopy) (blocks : ℕ) (t : Table) where
@@ -74,11 +81,23 @@ module _ (w : TableCopy) (blocks : ℕ) (t : Table) where
     inside : 4096 * head_at + 4096 ≤ length s.now
     inside = head_inside s.now size says
 
+    below : 4096 * head_at + length bytes ≤ 4096 * head_at + 4096
+    below = omega (arith, short)
+
+    above : 4096 * head_at ≤ 4096 * head_at
+    above = omega arith
+
+    -- outside the block it is as it was
+    outside : (u : Told) (image : List ℕ) → (u ≡ halt (4096 * head_at) bytes s) ⊎ (u ≡ put (4096 * head_at) bytes s) → May u image
+        → (i : ℕ) → (i < 4096 * head_at) ⊎ (4096 * head_at + 4096 ≤ i) → get_or image i 0 ≡ get_or s.now i 0
+    outside u image (inl is) may = one_call_outside head_at (4096 * head_at) bytes s above below inside nothing call_stopped image (subst (λ (v : Told). May v image) is may)
+    outside u image (inr is) may = one_call_outside head_at (4096 * head_at) bytes s above below inside nothing call_done image (subst (λ (v : Told). May v image) is may)
+
     -- the other copy stays
     stays : (u : Told) (image : List ℕ) → (u ≡ halt (4096 * head_at) bytes s) ⊎ (u ≡ put (4096 * head_at) bytes s) → May u image → length image ≡ length s.now → copy_in (other w) blocks image ≡ Some t
     stays u image step may same_size =
         other_stays s.now size says image same_size
-        (λ i out. left_outside head_at s bytes nothing inside short guarded image u step may i (head_out s.now size says i out))
+        (λ i out. outside u image step may i (head_out s.now size says i out))
 
     done_size : length (overwritten (4096 * head_at) bytes s.now) ≡ length s.now
     done_size = length-overwritten (4096 * head_at) bytes s.now (omega (arith, inside, short))
@@ -89,7 +108,7 @@ module _ (w : TableCopy) (blocks : ℕ) (t : Table) where
     decides_done image is kept (inr written) = decides_with w blocks image t (ap (copy_in w blocks) is ∙ written) kept
 
     decides : (u : Told) (image : List ℕ) → (u ≡ halt (4096 * head_at) bytes s) ⊎ (u ≡ put (4096 * head_at) bytes s) → May u image → length image ≡ length s.now
-        → Left head_at s bytes nothing inside short guarded image → DecidesTable blocks t image
+        → IsLeft head_at s.now (overwritten (4096 * head_at) bytes s.now) image → DecidesTable blocks t image
     decides u image step may same_size (inl is) = subst (DecidesTable blocks t) (sym is) before
     decides u image step may same_size (inr (inl is)) = decides_done image is (stays u image step may same_size) after
     decides u image step may same_size (inr (inr none)) = decides_without w blocks image t (none_unsealed w blocks image none) (stays u image step may same_size)
@@ -98,12 +117,12 @@ module _ (w : TableCopy) (blocks : ℕ) (t : Table) where
     pub header_stopped : (image : List ℕ) → May (halt (4096 * head_at) bytes s) image → DecidesTable blocks t image
     unfolding halt
     header_stopped image may =
-        decides (halt (4096 * head_at) bytes s) image (inl refl) may may.leaves.size (left_halt head_at s bytes nothing inside short guarded image may)
+        decides (halt (4096 * head_at) bytes s) image (inl refl) may may.leaves.size (one_call_left head_at (4096 * head_at) bytes s above below inside nothing call_stopped image guarded may)
 
     pub header_done : (image : List ℕ) → May (put (4096 * head_at) bytes s) image → DecidesTable blocks t image
     unfolding put
     header_done image may =
-        decides (put (4096 * head_at) bytes s) image (inr refl) may (may.leaves.size ∙ done_size) (left_put head_at s bytes nothing inside short guarded image may)
+        decides (put (4096 * head_at) bytes s) image (inr refl) may (may.leaves.size ∙ done_size) (one_call_left head_at (4096 * head_at) bytes s above below inside nothing call_done image guarded may)
 
   -- THE LAW of the entries: while the header's block is blank, whatever is done to the entries, the table of the other copy decides.
   pub entries_step : (s u : Told) (image : List ℕ) → NothingDirty s → length s.now ≡ 4096 * blocks → copy_in (other w) blocks s.now ≡ Some t → block head_at s.now ≡ blank 4096
@@ -123,7 +142,7 @@ module _ (w : TableCopy) (blocks : ℕ) (t : Table) where
       same_size = may.leaves.size ∙ keeps.size
 
       there : (i : ℕ) → (i < 4096 * entries_at w blocks e) ⊎ (4096 * entries_at w blocks e + 4096 * e ≤ i) → get_or image i 0 ≡ get_or s.now i 0
-      there i out = may.leaves.sure i (keeps.sure i out (still_sure s nothing i)) ∙ keeps.now i out
+      there i out = may.leaves.sure i (keeps.sure i out (sure_settled s nothing i)) ∙ keeps.now i out
 
       wide : (i : ℕ) → (i < low) ⊎ (high ≤ i) → (i < 4096 * entries_at w blocks e) ⊎ (4096 * entries_at w blocks e + 4096 * e ≤ i)
       wide i (inl l) = inl (omega (arith, l, (entries_within w blocks e apart).0))

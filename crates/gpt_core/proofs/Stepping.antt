@@ -16,12 +16,12 @@ use Rattle.gpt_core.specs.declared.table.TableCopy.TheVariants.{Primary, Backup}
 use Rattle.gpt_core.proofs.Copies.{table_roomy, entries_whole, entries_within}
 use Rattle.gpt_core.specs.Table.{Table, blocks_of, number_of, header_at, entries_at, other, copy_in, DecidesTable, BothSay}
 use Rattle.gpt_core.specs.Repair.{Ready, Cleared, Filled, Steps}
-use Rattle.gpt_core.proofs.Guarded.{still_sure}
+use Rattle.flash_core.proofs.OneCall.{sure_settled}
 use Rattle.gpt_core.proofs.Mending.{decides_with, decides_without, both_say, low, high, head_at, other_stays, head_inside, none_blank, header_stopped, header_done, entries_step}
 
 -- an image of a device with nothing dirty is what it holds
 pub image_is_now : (u : Told) (image : List ℕ) → NothingDirty u → May u image → image ≡ u.now
-image_is_now u image nothing may = ext_get_or 0 image u.now may.leaves.size (λ i below. may.leaves.sure i (still_sure u nothing i))
+image_is_now u image nothing may = ext_get_or 0 image u.now may.leaves.size (λ i below. may.leaves.sure i (sure_settled u nothing i))
 
 same_guard : (s u : Told) (b : ℕ) → u.guard ≡ s.guard → IsTrue (is_guarded s b) → IsTrue (is_guarded u b)
 same_guard s u b e h = subst (λ (l : List ℕ). IsTrue (Rattle.std.specs.List.list_any (λ k. Rattle.std.specs.Prelude.nat_eq k b) l)) (sym e) h
