@@ -8,10 +8,14 @@ mod formats;
 #[cfg(test)]
 mod hostile;
 #[cfg(test)]
+mod partitioned;
+#[cfg(test)]
 mod runs;
 #[cfg(test)]
 mod scripts;
 #[cfg(test)]
 mod statuses;
+#[cfg(test)]
+mod tables;
 #[cfg(test)]
 mod values;
