@@ -46,7 +46,7 @@ const STEPS: [(&str, u8, &str); 12] = [
     (
         "create z.fip tb-fw=h.bin tb-fw=s3.bin",
         1,
-        "usage: fip info|create|update|remove|unpack|manifest\n",
+        "usage: fip info|create|update|remove|unpack|manifest|capsule|package\n",
     ),
 ];
 

@@ -11,6 +11,11 @@ use std::test::Fail;
 pub const HELLO: &str =
     "010064aa7856341200000000000000005ff9ec0b4d223e4da544c39d81c73f0a6000000000000000050000000000000000000000000000000000000000000000000000000000000065000000000000000000000000000000000000000000000068656c6c6f";
 
+/// The capsule of 89 bytes of that package: both headers, the place of its item, the item's 40 bytes, and `hello`. It is written
+/// out by hand after the UEFI specification.
+pub const HELLO_CAPSULE: &str =
+    "edd5cb6d2de8444cbda17194199ad92a1c000000000000005900000001000000000001001000000000000000020000000becf95f224d4d3ea544c39d81c73f0a010000000500000000000000000000000000000068656c6c6f";
+
 /// A package of 56 bytes that has no entry: the header, and the end marker, whose offset is the length.
 pub const EMPTY: &str =
     "010064aa78563412000000000000000000000000000000000000000000000000380000000000000000000000000000000000000000000000";
@@ -24,7 +29,7 @@ pub fn words(alloc: Global, line: &str) -> Result<Vec<String>, AllocError> {
     Ok(list)
 }
 
-/// The first bytes of a package.
+/// The first bytes of a package or a capsule.
 pub fn front(alloc: Global, digits: &str, count: usize) -> Result<Vec<u8>, Fail> {
     let mut bytes = hex::decode(alloc, digits)?;
     bytes.truncate(count);

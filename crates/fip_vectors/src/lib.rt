@@ -1,9 +1,13 @@
-//! Worked packages, tables, manifests and words of the tool, as tests. The expected values come from the layouts and from other
+//! Worked packages, capsules, tables, manifests and words of the tool, as tests. The expected values come from the layouts and from other
 //! programs.
 #![tactic(auto)]
 
 #[cfg(test)]
+mod capsules;
+#[cfg(test)]
 mod commands;
+#[cfg(test)]
+mod conversions;
 #[cfg(test)]
 mod fixtures;
 #[cfg(test)]

@@ -83,7 +83,7 @@ fn packages_are_listed(rt: HostRuntime) -> Result<(), Fail> {
             [101, 0],
             [0, 0, 0],
             1,
-            "usage: fip info|create|update|remove|unpack|manifest\n",
+            "usage: fip info|create|update|remove|unpack|manifest|capsule|package\n",
         ),
     ];
     same(&rt, other(rt.alloc(), &listings)?, None);

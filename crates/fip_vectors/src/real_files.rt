@@ -1,8 +1,8 @@
 //! The commands over files of the system, in a folder that has no file but those that the words name: a file that nobody named
-//! is never asked for, since that would be a file fault. The packages and the manifest are written out by hand.
+//! is never asked for, since that would be a file fault. The packages, the capsule and the manifest are written out by hand.
 
 use crate::commands::other_end;
-use crate::fixtures::{EMPTY, HELLO, front, ran_with, same};
+use crate::fixtures::{EMPTY, HELLO, HELLO_CAPSULE, front, ran_with, same};
 use crate::manifests::wanted;
 use host_io::{HostFiles, MemorySink, MemorySource};
 use std::fs;
@@ -11,20 +11,21 @@ use std::test::Fail;
 const FOLDER: &str = "fip_test";
 
 // A file that is there at the start, and the first bytes of what it has.
-const GIVEN: [(&str, &str, usize); 6] = [
+const GIVEN: [(&str, &str, usize); 7] = [
     ("fip_test/h.bin", "68656c6c6f", 5),
     ("fip_test/s3.bin", "78797a", 3),
     ("fip_test/abc.bin", "616263", 3),
     ("fip_test/cut95.fip", HELLO, 95),
     ("fip_test/cut100.fip", HELLO, 100),
     ("fip_test/cut15.fip", HELLO, 15),
+    ("fip_test/cut88.cap", HELLO_CAPSULE, 88),
 ];
 
 const LISTED: &str =
     "serial=12345678 flags=0 entries=1 size=101\n5ff9ec0b-4d22-3e4d-a544-c39d81c73f0a offset=96 size=5 flags=0\n";
 
 // The command, its status and what it prints.
-const STEPS: [(&str, u8, &str); 13] = [
+const STEPS: [(&str, u8, &str); 17] = [
     ("create fip_test/e.fip", 0, "packed entries=0 size=56\n"),
     (
         "create fip_test/a.fip tb-fw=fip_test/h.bin",
@@ -65,11 +66,31 @@ const STEPS: [(&str, u8, &str); 13] = [
         0,
         "manifest rows=2 size=160 security=1\n",
     ),
+    (
+        "capsule fip_test/a.fip fip_test/a.cap",
+        0,
+        "capsule items=1 size=89\n",
+    ),
+    (
+        "package fip_test/a.cap fip_test/back.fip",
+        0,
+        "packed entries=1 size=101\n",
+    ),
+    (
+        "package fip_test/cut88.cap fip_test/z.fip",
+        8,
+        "not-capsule 3\n",
+    ),
+    (
+        "package fip_test/a.fip fip_test/z.fip",
+        8,
+        "not-capsule 2\n",
+    ),
     ("info -", 4, "not-fip short-header\n"),
 ];
 
 // Commands that name a file that is not there, or one that cannot be written.
-const MISSING: [(&str, u8, &str); 8] = [
+const MISSING: [(&str, u8, &str); 11] = [
     ("info fip_test/none.fip", 2, "file-fault\n"),
     (
         "create fip_test/z.fip tb-fw=fip_test/none.bin",
@@ -94,6 +115,21 @@ const MISSING: [(&str, u8, &str); 8] = [
     ),
     ("unpack fip_test/none.fip fip_test/y", 2, "file-fault\n"),
     (
+        "capsule fip_test/none.fip fip_test/z.fip",
+        2,
+        "file-fault\n",
+    ),
+    (
+        "capsule fip_test/a.fip fip_test/none/z.cap",
+        2,
+        "file-fault\n",
+    ),
+    (
+        "package fip_test/none.cap fip_test/z.fip",
+        2,
+        "file-fault\n",
+    ),
+    (
         "manifest fip_test/z.fip 1 tb-fw,7,fip_test/none.bin",
         2,
         "file-fault\n",
@@ -101,9 +137,11 @@ const MISSING: [(&str, u8, &str); 8] = [
 ];
 
 // A file that the steps leave, and its bytes. The update of `c.fip` leaves `hello` as the payload of nt-fw.
-const WRITTEN: [(&str, &str); 4] = [
+const WRITTEN: [(&str, &str); 6] = [
     ("fip_test/e.fip", EMPTY),
     ("fip_test/a.fip", HELLO),
+    ("fip_test/a.cap", HELLO_CAPSULE),
+    ("fip_test/back.fip", HELLO),
     (
         "fip_test/u.fip",
         "010064aa785634120000000000000000d6d0eea7fcead54b97829934f234b6e46000000000000000050000000000000000000000000000000000000000000000000000000000000065000000000000000000000000000000000000000000000068656c6c6f",

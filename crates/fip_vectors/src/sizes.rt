@@ -45,7 +45,7 @@ fn files(alloc: Global, fails: u64) -> Result<MemoryFiles, AllocError> {
 
 // A command, the number of its first call that would read a payload, and what it prints before that, with status 6. The table
 // of the package takes a size, a header, 64 entries and the marker, and a size once more.
-const CASES: [(&str, u64, &str); 5] = [
+const CASES: [(&str, u64, &str); 6] = [
     (
         "manifest m.bin 1 tb-fw,7,h.bin nt-fw,9,long.bin",
         3,
@@ -62,6 +62,7 @@ const CASES: [(&str, u64, &str); 5] = [
         70,
         "pack too-large\n",
     ),
+    ("capsule p.fip z.cap", 69, "pack too-large\n"),
     (
         "update --align 5 p.fip z.fip 01010101-0101-0101-0101-010101010101=h.bin",
         70,

@@ -27,6 +27,10 @@ fn words_that_ask_for_something(rt: HostRuntime) -> Result<(), Fail> {
         "unpack i p tb-fw nt-fw",
         "unpack p5FF9EC0B-4D22-3E4D-A544-C39D81C73F0A.bin p",
         "manifest o 4294967295 tb-fw,7,a,b nt-fw,9,h",
+        "capsule i o",
+        "package i o",
+        "package --align 4096 i o",
+        "package i o --align=16",
     ] {
         assert_eq!(rt; refusal(alloc, line)?, None, "{line:?}");
     }
@@ -57,6 +61,12 @@ fn words_that_ask_for_nothing(rt: HostRuntime) -> Result<(), Fail> {
         "manifest o 1",
         "manifest o 1 tb-fw,a",
         "manifest o 4294967296 tb-fw,7,a",
+        "capsule i",
+        "capsule i o p",
+        "capsule --align 4 i o",
+        "package --align i o",
+        "package o",
+        "package i o p",
     ] {
         assert_eq!(rt; refusal(alloc, line)?, Some(UsageStop::Usage), "{line:?}");
     }
