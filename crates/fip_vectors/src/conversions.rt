@@ -8,9 +8,10 @@ use std::alloc::Global;
 use std::test::Fail;
 
 // The command, its status and what it prints.
-const STEPS: [(&str, u8, &str); 16] = [
+const STEPS: [(&str, u8, &str); 17] = [
     ("capsule a.fip a.cap", 0, "capsule items=1 size=89\n"),
     ("package a.cap back.fip", 0, "packed entries=1 size=101\n"),
+    ("package u.cap v.fip", 0, "packed entries=1 size=101\n"),
     (
         "create --align 16 b.fip tb-fw=h.bin nt-fw=s3.bin",
         0,
@@ -54,15 +55,21 @@ const HOSTILE: [(usize, Change, &str); 7] = [
 const TWICE: &str =
     "edd5cb6d2de8444cbda17194199ad92a1c0000000000000084000000010000000000020018000000000000004000000000000000020000000becf95f224d4d3ea544c39d81c73f0a0100000000000000000000000000000000000000020000000becf95f224d4d3ea544c39d81c73f0a0200000000000000000000000000000000000000";
 
+// The capsule of `hello` that U-Boot's mkeficapsule (2023.01) makes with `--index 1` and the type of tb-fw: its item has version 3.
+const BY_MKEFICAPSULE: &str =
+    "edd5cb6d2de8444cbda17194199ad92a1c000000000001006100000001000000000001001000000000000000030000000becf95f224d4d3ea544c39d81c73f0a0100000005000000000000000000000000000000000000000000000068656c6c6f";
+
 fn first_files(alloc: Global) -> Result<MemoryFiles, Fail> {
     let hello = front(alloc, HELLO, 101)?;
     let twice = front(alloc, TWICE, 132)?;
-    let named: [(&str, &[u8]); 5] = [
+    let other = front(alloc, BY_MKEFICAPSULE, 97)?;
+    let named: [(&str, &[u8]); 6] = [
         ("a.fip", hello.as_slice()),
         ("h.bin", b"hello"),
         ("s3.bin", b"xyz"),
         ("e.bin", b""),
         ("twice.cap", twice.as_slice()),
+        ("u.cap", other.as_slice()),
     ];
     Ok(files_of(alloc, &named, Vec::new(alloc))?)
 }
@@ -75,6 +82,7 @@ fn packages_become_capsules_and_come_back(rt: HostRuntime) -> Result<(), Fail> {
     let capsule = front(alloc, HELLO_CAPSULE, 89)?;
     same(&rt, files.get("a.cap"), Some(capsule.as_slice()));
     same(&rt, files.get("back.fip"), files.get("a.fip"));
+    same(&rt, files.get("v.fip"), files.get("a.fip"));
     same(&rt, files.get("again.fip"), files.get("b.fip"));
     same(&rt, files.get("f.fip"), files.get("e.fip"));
     same(&rt, files.get("z.fip"), None);
