@@ -1,10 +1,14 @@
 -- What holds of packages that are made from a number, and of the rounds that draw them.
-use Rattle.std.specs.Prelude.{◌≡◌, ℕ, ◌<◌, ◌≤◌, List, None, Ok, IsTrue}
+use Rattle.std.specs.Prelude.{◌≡◌, ℕ, ◌+◌, ◌<◌, ◌≤◌, List, Some, None, Ok, IsTrue, slice_index_or}
 use Rattle.fwu_formats.specs.Layout.{Layout, ImageRow, fits_layout}
 use Rattle.fwu_formats.specs.Manifest.{is_complete, version}
 use Rattle.fwu_formats.specs.Package.{Toc, toc_of}
 use Rattle.fwu_model.specs.Answer.{images_of, first_image_fault, skipped}
+use Rattle.gen_core.specs.Calls.{file_name, first_package, packages_of, round_package}
 use Rattle.gen_core.specs.Generated.{are_images, fit_sizes, generated, generated_images}
+use Rattle.gen_core.specs.Rounds.{round_of, sizes_of, soak_rounds}
+use Rattle.gen_core.specs.Setup.{soak_layout}
+use Rattle.gen_core.specs.declared.rounds.Round.{Round}
 
 -- The file is a package that installs these images on a flash of these image rows: no image of the layout is missing or larger than its
 -- slot, no entry is skipped, and the images are complete, of this security version.
@@ -27,3 +31,12 @@ GeneratedAreComplete =
 -- the images of a layout that fits are such
 abbrev pub LayoutsHaveImages : Type 0
 LayoutsHaveImages = (L : Layout) → IsTrue (fits_layout L) → IsTrue (are_images L.rows)
+
+-- The package of each round of a soak stands under the round's name. The first package installs its images, of security version 1, and that
+-- of a round its own.
+pub record RoundsHavePackages : Type 0 where
+  pub named : (seed n k : ℕ) (d : Round) → n < 4294967296 → k < n
+      → packages_of (soak_rounds seed n) (file_name (k + 1)) ≡ Some (round_package (slice_index_or (soak_rounds seed n) k d))
+  pub first : (seed : ℕ) → Installs soak_layout.rows (first_package seed) (generated_images soak_layout.rows (sizes_of seed) 0 1) 1
+  pub each : (x number : ℕ) → number < 4294967296 → let r = round_of x number in
+      Installs soak_layout.rows (round_package r) (generated_images soak_layout.rows r.sizes r.number r.security) r.security

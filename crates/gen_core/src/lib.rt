@@ -12,7 +12,7 @@ mod setup;
 mod tests;
 
 pub use calls::{SoakCall, file_name, round_calls};
-pub use laws::{generated_are_complete, layouts_have_images};
+pub use laws::{generated_are_complete, layouts_have_images, rounds_have_packages};
 pub use packages::package;
 pub use register::Lcg;
 pub use rounds::{Cut, Ending, Round, draw_sizes};
