@@ -1,5 +1,6 @@
 //! Update packages, rounds and calls that are made from a number, for long runs of updates and power
-//! cuts.
+//! cuts. What is drawn and in which order is this project's own choice. Rounds are drawn one by one, as
+//! they are run: nothing here keeps a list of them.
 #![tactic(auto)]
 
 mod calls;
