@@ -8,7 +8,7 @@ use Rattle.fwu_model.specs.Reply as reply
 use Rattle.gen_core.specs.Calls.{soak_calls, round_calls}
 use Rattle.gen_core.specs.Draws.{register_after, step, drawn}
 use Rattle.gen_core.specs.Generated.{image_bytes}
-use Rattle.gen_core.specs.Line.{soak_line}
+use Rattle.gen_core.specs.Line.{soak_line, totals_of}
 use Rattle.gen_core.specs.Rounds.{round_of, security_of, sizes_of}
 use Rattle.gen_core.specs.Setup.{soak_layout, is_too_small}
 use Rattle.gen_core.specs.declared.rounds.Ending.TheVariants.{Nothing}
@@ -76,7 +76,7 @@ image = refl
 
 line-of_none : soak_line 0 (record { call = call.Boot; reply = reply.Booted 0 1 0 1 false; numbers = None } ∷ [])
     ≡ codes "soak rounds=0 turns=1 boots=1 losses=0 fallbacks=0 sends=0 bank=0 version=1 counter=1\n"
-unfolding soak_line digits
+unfolding totals_of digits
 line-of_none = refl
 
 line-of_one : soak_line 1 (record { call = call.Boot; reply = reply.Booted 0 1 0 1 false; numbers = None }
@@ -84,7 +84,7 @@ line-of_one : soak_line 1 (record { call = call.Boot; reply = reply.Booted 0 1 0
     ∷ record { call = call.Send (codes "g1") 1; reply = reply.Lost; numbers = None }
     ∷ record { call = call.Boot; reply = reply.Booted 0 1 0 1 false; numbers = None } ∷ [])
     ≡ codes "soak rounds=1 turns=4 boots=2 losses=1 fallbacks=0 sends=0 bank=0 version=1 counter=1\n"
-unfolding soak_line digits
+unfolding totals_of digits
 line-of_one = refl
 
 -- a package that was installed, then a boot of it, and a fallback from it
@@ -92,9 +92,9 @@ line-of_fallback : soak_line 2 (record { call = call.Send (codes "g1") 1; reply 
     ∷ record { call = call.Boot; reply = reply.Booted 1 2 1 1 false; numbers = None }
     ∷ record { call = call.Boot; reply = reply.Booted 0 1 3 1 true; numbers = None } ∷ [])
     ≡ codes "soak rounds=2 turns=3 boots=2 losses=0 fallbacks=1 sends=1 bank=0 version=1 counter=1\n"
-unfolding soak_line digits
+unfolding totals_of digits
 line-of_fallback = refl
 
 line-without_boot : soak_line 1 [] ≡ codes "soak rounds=1 turns=0 boots=0 losses=0 fallbacks=0 sends=0 bank=0 version=0 counter=0\n"
-unfolding soak_line digits
+unfolding totals_of digits
 line-without_boot = refl

@@ -1,7 +1,8 @@
 -- What a soak prints: one line at its end.
-use Rattle.std.specs.Prelude.{ℕ, Bool, true, false, List, [], ◌∷◌, ◌++◌, length, codes, decimal, count_by, fold}
+use Rattle.std.specs.Prelude.{ℕ, Bool, true, false, List, ◌++◌, length, codes, decimal, count_by, fold}
 use Rattle.fwu_model.specs.Reply.{Reply, Turn}
 use Rattle.fwu_model.specs.Reply as reply
+use Rattle.gen_core.specs.declared.line.Totals.{Totals}
 
 abbrev pub is_booted : Reply → Bool
 is_booted (reply.Booted bank version trials counter fallback) = true
@@ -20,7 +21,10 @@ abbrev pub is_sent : Reply → Bool
 is_sent (reply.Sent images skipped) = true
 is_sent other = false
 
--- the numbers of the last boot that was answered
+abbrev pub count_of : (Reply → Bool) → List Turn → ℕ
+count_of test journal = count_by (λ turn. test turn.reply) journal
+
+-- the numbers of the last boot that was answered with a bank
 pub record Started : Type 0 where
   pub bank : ℕ
   pub version : ℕ
@@ -31,21 +35,39 @@ abbrev pub started : Started → Reply → Started
 started last (reply.Booted bank version trials counter fallback) = record { bank = bank; version = version; counter = counter }
 started last other = last
 
--- each is 0 where no boot was answered
+-- each is 0 where no boot was answered with a bank
 abbrev pub last_started : List Turn → Started
 last_started journal = fold (λ last turn. started last turn.reply) (record { bank = 0; version = 0; counter = 0 }) journal
 
-abbrev pub count_of : (Reply → Bool) → List Turn → ℕ
-count_of test journal = count_by (λ turn. test turn.reply) journal
+-- what the line tells of the turns that were done
+unfoldable pub totals_of : List Turn → Totals
+totals_of journal = record {
+  turns = length journal;
+  boots = count_of is_booted journal;
+  losses = count_of is_lost journal;
+  fallbacks = count_of is_fallback journal;
+  sends = count_of is_sent journal;
+  bank = (last_started journal).bank;
+  version = (last_started journal).version;
+  counter = (last_started journal).counter;
+}
 
--- so many rounds were asked for; the rest is told of the turns that were done
-unfoldable pub soak_line : ℕ → List Turn → List ℕ
-soak_line rounds journal =
-    codes "soak rounds=" ++ decimal rounds ++ codes " turns=" ++ decimal (length journal)
-    ++ codes " boots=" ++ decimal (count_of is_booted journal) ++ codes " losses=" ++ decimal (count_of is_lost journal)
-    ++ codes " fallbacks=" ++ decimal (count_of is_fallback journal) ++ codes " sends=" ++ decimal (count_of is_sent journal)
-    ++ codes " bank=" ++ decimal (last_started journal).bank ++ codes " version=" ++ decimal (last_started journal).version
-    ++ codes " counter=" ++ decimal (last_started journal).counter ++ 10 ∷ []
+abbrev pub field : List ℕ → ℕ → List ℕ
+field name n = name ++ decimal n
+
+abbrev pub counts_text : Totals → List ℕ
+counts_text t = field (codes " turns=") t.turns ++ field (codes " boots=") t.boots ++ field (codes " losses=") t.losses
+    ++ field (codes " fallbacks=") t.fallbacks ++ field (codes " sends=") t.sends
+
+abbrev pub last_text : Totals → List ℕ
+last_text t = field (codes " bank=") t.bank ++ field (codes " version=") t.version ++ field (codes " counter=") t.counter
+
+-- the line for so many rounds that were asked for
+abbrev pub totals_line : ℕ → Totals → List ℕ
+totals_line rounds t = field (codes "soak rounds=") rounds ++ counts_text t ++ last_text t ++ codes "\n"
+
+abbrev pub soak_line : ℕ → List Turn → List ℕ
+soak_line rounds journal = totals_line rounds (totals_of journal)
 
 -- the line of a flash that is too small
 abbrev pub too_small_line : List ℕ

@@ -5,6 +5,7 @@
 
 mod calls;
 mod laws;
+mod line;
 mod packages;
 mod register;
 mod rounds;
@@ -14,7 +15,8 @@ mod tests;
 
 pub use calls::{SoakCall, file_name, round_calls};
 pub use laws::{generated_are_complete, layouts_have_images, rounds_have_packages};
+pub use line::Totals;
 pub use packages::package;
 pub use register::Lcg;
 pub use rounds::{Cut, Ending, Round, draw_sizes};
-pub use setup::soak_rows;
+pub use setup::{is_too_small, soak_rows};

@@ -1,7 +1,7 @@
 //! The images of a soak.
 ghost use Rattle.std.specs.Prelude.{◌≡◌, IsTrue};
 ghost use Rattle.gen_core.specs.Generated.{are_images};
-ghost use Rattle.gen_core.specs.Setup.{soak_layout};
+ghost use Rattle.gen_core.specs.Setup.{is_too_small, soak_layout};
 
 use base_core::{Guid, ImageRow};
 
@@ -37,4 +37,11 @@ pub fn soak_rows() -> [ImageRow; 3]
             slots: 4,
         },
     ]
+}
+
+/// Whether a flash of so many blocks has no room for two banks of `soak_rows`: whether it has fewer than 22.
+pub fn is_too_small(blocks: u32) -> bool
+    ensures { result ≡ is_too_small blocks }
+{
+    blocks < 22
 }

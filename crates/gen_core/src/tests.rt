@@ -3,7 +3,8 @@
 //! make them.
 
 use crate::{
-    Cut, Ending, Lcg, Round, SoakCall, draw_sizes, file_name, package, round_calls, soak_rows,
+    Cut, Ending, Lcg, Round, SoakCall, Totals, draw_sizes, file_name, is_too_small, package,
+    round_calls, soak_rows,
 };
 use base_core::Guid;
 use sha2::{Digest, Sha256};
@@ -162,5 +163,25 @@ fn package_of_the_greatest_number(rt: HostRuntime) -> Result<(), Fail> {
         .ok()
         .ok_or("memory")?;
     assert_eq!(rt; file.as_slice(), GREATEST.as_slice());
+    Ok(())
+}
+
+#[test]
+fn line_of_one_round(rt: HostRuntime) -> Result<(), Fail> {
+    let totals = Totals {
+        turns: 4,
+        boots: 2,
+        losses: 1,
+        fallbacks: 0,
+        sends: 0,
+        bank: 0,
+        version: 1,
+        counter: 1,
+    };
+    let line = totals.line(rt.alloc(), 1).ok().ok_or("memory")?;
+    let want =
+        b"soak rounds=1 turns=4 boots=2 losses=1 fallbacks=0 sends=0 bank=0 version=1 counter=1\n";
+    assert_eq!(rt; line.as_slice(), &want[..]);
+    assert_eq!(rt; (is_too_small(21), is_too_small(22)), (true, false));
     Ok(())
 }
