@@ -23,12 +23,17 @@ unfolding round_of
 number-is x number = refl
 
 name-apart : (a b : ℕ) → a < 2 ^ 64 → b < 2 ^ 64 → (a ≡ b → ⊥) → same_bytes (file_name a) (file_name b) ≡ false
-name-apart a b low least ne = elim (cases_Bool (same_bytes (file_name a) (file_name b))) [ inl e ↦ absurd (ne (decimal_injective a b low least (behind (decimal a) (decimal b) (same-is (file_name a) (file_name b) e)))) | inr e ↦ e ]
+name-apart a b low least ne = elim (cases_Bool (same_bytes (file_name a) (file_name b))) [
+  | inl e ↦ absurd
+      (ne (decimal_injective a b low least (behind (decimal a) (decimal b) (same-is (file_name a) (file_name b) e))))
+  | inr e ↦ e
+]
   where
     behind : (xs ys : List ℕ) → codes "g" ++ xs ≡ codes "g" ++ ys → xs ≡ ys
     behind xs ys e = cc
 
-named : (x first n k : ℕ) (d : Round) → first + n < 2 ^ 64 → k < n → packages_of (rounds_from x first n) (file_name (first + k)) ≡ Some (round_package (get_or (rounds_from x first n) k d))
+named : (x first n k : ℕ) (d : Round) → first + n < 2 ^ 64 → k < n → packages_of (rounds_from x first n) (file_name (first + k)) ≡ Some
+    (round_package (get_or (rounds_from x first n) k d))
 named x first zero k d low lt = absurd (omega (arith, lt))
 named x first (suc n) zero d low lt =
     let r = round_of x first in
@@ -63,7 +68,8 @@ each-installs : (x number : ℕ) → number < 4294967296
     → let r = round_of x number in Installs soak_layout.rows (round_package r) (generated_images soak_layout.rows r.sizes r.number r.security) r.security
 unfolding round_of
 each-installs x number low =
-    generated-are-complete soak_layout.rows (sizes_of x) number (security_of number (draw x 3 2)) soak-images (sizes-fit-soak x) low (security-low number (draw x 3 2))
+    generated-are-complete soak_layout.rows (sizes_of x) number (security_of number (draw x 3 2)) soak-images (sizes-fit-soak x) low
+    (security-low number (draw x 3 2))
 
 pub rounds-have-packages : RoundsHavePackages
 rounds-have-packages = record {

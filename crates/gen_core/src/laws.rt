@@ -11,7 +11,8 @@ pub fn layouts_have_images()
     ensures { LayoutsHaveImages }
 {}
 
-/// The package of each round stands under the round's name, and all packages of a soak install their images.
+/// The package of each round stands under the round's name, and all packages of a soak install their
+/// images.
 pub fn rounds_have_packages()
     ensures { RoundsHavePackages }
 {}

@@ -39,7 +39,8 @@ pub fn soak_rows() -> [ImageRow; 3]
     ]
 }
 
-/// Whether a flash of so many blocks has no room for two banks of `soak_rows`: whether it has fewer than 22.
+/// Whether a flash of so many blocks has no room for two banks of `soak_rows`: whether it has fewer
+/// than 22.
 pub fn is_too_small(blocks: u32) -> bool
     ensures { result ≡ is_too_small blocks }
 {

@@ -1,6 +1,5 @@
 //! Draws, rounds, calls and packages, against values from elsewhere: the numbers of the C standard's
-//! example of `rand`, rounds that were worked out by hand, and packages as Python's struct and hashlib
-//! make them.
+//! example of `rand`, and rounds and packages as Python draws and makes them.
 
 use crate::{
     Cut, Ending, Lcg, Round, SoakCall, Totals, draw_sizes, file_name, is_too_small, package,
@@ -22,7 +21,8 @@ const ROUND_DIGEST: [u8; 32] = [
     0x17, 0xB6, 0xA8, 0xEC, 0x8D, 0xA8, 0xFD, 0xD2, 0x31, 0x48, 0xC2, 0x4C, 0xC9, 0xCA, 0x33, 0x10,
 ];
 
-// The package of the greatest number, with an image of no bytes and one of three, and security version 223.
+// The package of the greatest number, with an image of no bytes and one of three, and security
+// version 223.
 const GREATEST: [u8; 339] = [
     0x01, 0x00, 0x64, 0xAA, 0x78, 0x56, 0x34, 0x12, 0x00, 0x00, 0x00, 0x00, 0x00, 0x00, 0x00, 0x00,
     0x46, 0x57, 0x55, 0x4D, 0x41, 0x4E, 0x49, 0x46, 0x45, 0x53, 0x54, 0x00, 0x00, 0x00, 0x00, 0x01,
