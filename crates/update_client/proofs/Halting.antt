@@ -1,0 +1,42 @@
+-- Calls within a staging, one after another.
+use Rattle.std.proofs.Common.{ℕ, [], Some, Result, Ok, Err}
+use Rattle.flash_core.specs.declared.flash.FlashStop.TheVariants as flash_stop
+use Rattle.fwu_model.specs.State.{State}
+use Rattle.fwu_model.specs.Sound.{Setting}
+use Rattle.fwu_model.specs.Session.{Session, On}
+use Rattle.agent_machine.specs.Moment.{Moment}
+use Rattle.agent_machine.specs.Goes.{Goes}
+use Rattle.agent_machine.proofs.Going.{goes-then}
+use Rattle.update_client.specs.declared.stops.SendStop.{SendStop}
+use Rattle.update_client.specs.declared.stops.SendStop.TheVariants.{MissingImage, ImageTooLarge, Begin, End, ReadFailed, Lost, Fault, Gone}
+use Rattle.update_client.specs.Halts.{Halts}
+
+-- what was done before a call that halts
+pub halts-after : {T : Type 0} (result : Result T SendStop) (E : Setting) (old mid new : Moment) (s : State) (boot : ℕ) (x y : Session) → Goes E
+    (Ok tt) old mid s [] x → Halts result E mid new s boot y → Halts result E old new s boot y
+halts-after (Ok v) E old mid new s boot x y first next = goes-then E (Ok tt) old mid new s [] [] x y first next
+halts-after (Err ReadFailed) E old mid new s boot x y first next = record {
+  parts = next.parts;
+  handles = next.handles;
+  goes = goes-then E
+      (Ok tt) old mid new s [] [] x (On boot (Some next.parts) next.handles) first next.goes;
+}
+halts-after (Err Lost) E old mid new s boot x y first next = goes-then E (Err flash_stop.Lost) old mid new s [] [] x y first next
+halts-after (Err Fault) E old mid new s boot x y first next = goes-then E (Err flash_stop.Failed) old mid new s [] [] x y first next
+halts-after (Err (MissingImage g)) E old mid new s boot x y first next = absurd next
+halts-after (Err (ImageTooLarge g)) E old mid new s boot x y first next = absurd next
+halts-after (Err (Begin st)) E old mid new s boot x y first next = absurd next
+halts-after (Err (End st)) E old mid new s boot x y first next = absurd next
+halts-after (Err Gone) E old mid new s boot x y first next = absurd next
+
+-- at a stop nothing is said of the session
+pub other-end : (T U : Type 0) (stop : SendStop) (E : Setting) (old new : Moment) (s : State) (boot : ℕ) (y z : Session)
+    → Halts {T = T} (Err stop) E old new s boot y → Halts {T = U} (Err stop) E old new s boot z
+other-end T U ReadFailed E old new s boot y z h = h
+other-end T U Lost E old new s boot y z h = record { shows = tt; does = h.does; guarded = h.guarded; stays = h.stays }
+other-end T U Fault E old new s boot y z h = record { shows = tt; does = h.does; guarded = h.guarded; stays = h.stays }
+other-end T U (MissingImage g) E old new s boot y z h = h
+other-end T U (ImageTooLarge g) E old new s boot y z h = h
+other-end T U (Begin st) E old new s boot y z h = h
+other-end T U (End st) E old new s boot y z h = h
+other-end T U Gone E old new s boot y z h = h

@@ -1,0 +1,175 @@
+-- The images sent into a staging, and its end.
+use Rattle.std.proofs.Common.{◌≡◌, ℕ, Bool, true, false, List, [], ◌++◌, length, map, replicate, Option, Some, None, Result, Ok, Err, refl, sym, ap, subst, ◌∙◌}
+use Rattle.std.specs.Prelude.{IsFalse, IsTrue, ◌==◌}
+use Rattle.flash_core.specs.declared.flash.FlashStop.{FlashStop}
+use Rattle.flash_core.specs.declared.flash.FlashStop.TheVariants as flash_stop
+use Rattle.host_io.specs.Contents.{Directory}
+use Rattle.fwu_formats.specs.Package.{Entry, payload}
+use Rattle.fwu_model.specs.State.{State, Move}
+use Rattle.fwu_model.specs.Sound.{Setting}
+use Rattle.fwu_model.specs.Session.{Session, On, Staged, Handle, no_handles}
+use Rattle.fwu_model.specs.Call as call
+use Rattle.fwu_model.specs.Reply.{Reply}
+use Rattle.fwu_model.specs.Reply as reply
+use Rattle.fwu_model.specs.Answer.{Answer}
+use Rattle.fip_tables.specs.Files.{Tells}
+use Rattle.agent_machine.specs.declared.stop.Stop.{Stop}
+use Rattle.agent_machine.specs.declared.stop.Stop.TheVariants as stop
+use Rattle.agent_machine.specs.Moment.{Moment, Shows}
+use Rattle.agent_machine.specs.Meets.{GoesBy, IsStopped}
+use Rattle.agent_machine.specs.Goes.{Goes}
+use Rattle.update_client.specs.declared.stops.SendStop.{SendStop}
+use Rattle.update_client.specs.declared.stops.SendStop.TheVariants.{MissingImage, ImageTooLarge, Begin, End, ReadFailed, Lost, Fault, Gone}
+use Rattle.update_client.specs.Staged.{between}
+use Rattle.update_client.specs.Halts.{Halts, is_unread, stopped_as}
+use Rattle.update_client.specs.Images.{SendsImages}
+use Rattle.update_client.specs.Finishes.{Finishes, FinishesBy, InstallsImages, end_moves}
+use Rattle.agent_machine.proofs.Going.{goes-then, goes-stopped}
+use Rattle.update_client.proofs.Going.{MeetsAs, call-goes, call-replies}
+use Rattle.update_client.proofs.Staging.{cancel-answers}
+use Rattle.update_client.proofs.WrittenPiece.{no-success}
+
+-- ---- what told files have
+
+abbrev of_file : Option (List ℕ) → (List ℕ → List (List ℕ)) → List (List ℕ)
+of_file None of = []
+of_file (Some file) of = of file
+
+-- a value of the file's bytes, where they are told
+abbrev pub told_value : Option Directory → List ℕ → (List ℕ → List (List ℕ)) → List (List ℕ)
+told_value None name of = []
+told_value (Some files) name of = of_file (files name) of
+
+pub told-is : (told : Option Directory) (name : List ℕ) (of : List ℕ → List (List ℕ)) (file : List ℕ) → Tells told name file
+    → told_value told name of ≡ of file
+told-is None name of file tells = absurd tells
+told-is (Some files) name of file tells = ap (λ (o : Option (List ℕ)). of_file o of) tells
+
+abbrev success : Unit {0} → Reply
+success u = reply.Success
+
+-- ---- after what was done before
+
+finishes-after : (result : Result (Unit {0}) SendStop) (E : Setting) (old mid new : Moment) (s : State) (boot : ℕ) (x : Session) (p : List (List ℕ))
+    (bits : List Bool)
+    → Goes E (Ok tt) old mid s [] x → Finishes result E mid new s boot p bits → Finishes result E old new s boot p bits
+finishes-after (Ok v) E old mid new s boot x p bits first next = (
+  next.0,
+  goes-then E (Ok tt) old mid new s [] (end_moves E s p bits) x
+      (On boot None no_handles) first next.1,
+)
+finishes-after (Err (End st)) E old mid new s boot x p bits first next =
+    (next.0, next.1, goes-then E (Ok tt) old mid new s [] (end_moves E s p bits) x (On boot None no_handles) first next.2)
+finishes-after (Err ReadFailed) E old mid new s boot x p bits first next = goes-then E (Ok tt) old mid new s [] [] x (On boot None no_handles) first next
+finishes-after (Err Lost) E old mid new s boot x p bits first next = goes-then E (Err flash_stop.Lost) old mid new s [] (end_moves E s p bits) x
+    (On boot None no_handles) first next
+finishes-after (Err Fault) E old mid new s boot x p bits first next = goes-then E (Err flash_stop.Failed) old mid new s [] (end_moves E s p bits) x
+    (On boot None no_handles) first next
+finishes-after (Err (MissingImage g)) E old mid new s boot x p bits first next = absurd next
+finishes-after (Err (ImageTooLarge g)) E old mid new s boot x p bits first next = absurd next
+finishes-after (Err (Begin st)) E old mid new s boot x p bits first next = absurd next
+finishes-after (Err Gone) E old mid new s boot x p bits first next = absurd next
+
+-- at a stop of the flash nothing is said of the session, and what was to follow may be named
+pub stopped-at : (e : FlashStop) (E : Setting) (old new : Moment) (s : State) (ms ns : List Move) (y z : Session)
+    → Goes E (Err e) old new s ms y → Goes E (Err e) old new s (ms ++ ns) z
+stopped-at e E old new s ms ns y z goes =
+    let all = goes-stopped E (Err e) old new s ms ns y y refl goes in
+    record { shows = tt; does = all.does; guarded = all.guarded; stays = all.stays }
+
+-- a cancel within a staging is neither refused nor stopped
+pub no-cancel : (halt : Stop) (E : Setting) (old new : Moment) (s : State) (boot : ℕ) (parts : List Staged) (handles : List Handle) (was now : Bool)
+    → E.layout ≡ old.fields.layout → Shows old s (On boot (Some parts) handles)
+    → IsFalse was → GoesBy {T = Unit {0}} (Err halt) was now → (IsStopped {T = Unit {0}} (Err halt) → ⊥)
+    → ((v : List ℕ → Bool) → MeetsAs success (Err halt) v call.Cancel old new) → ⊥
+no-cancel (stop.Status st) E old new s boot parts handles was now layout shows here goes still meets =
+    no-success st (call-replies E success (Err (stop.Status st)) call.Cancel old new s (On boot (Some parts) handles) layout shows (meets E.passes)
+    (reply.Refused st) refl ∙ ap (λ (a : Answer). a.reply) (cancel-answers E s boot parts handles))
+no-cancel stop.Lost E old new s boot parts handles was now layout shows here goes still meets = still tt
+no-cancel stop.Fault E old new s boot parts handles was now layout shows here goes still meets = still tt
+no-cancel stop.Gone E old new s boot parts handles was now layout shows here goes still meets = absurd (gone-here (goes.gone.0 refl))
+  where
+    gone-here : IsTrue was → ⊥
+    gone-here is = cc
+
+-- ---- the ends
+
+module _ (told : Option Directory) (name : List ℕ) (entries : List Entry) (request : ℕ) (passes : List ℕ → Bool) (old mid new : Moment) where
+  -- all were sent, and the end was answered, refused or stopped
+  pub installed : (result : Result (Unit {0}) SendStop) → SendsImages told name entries request (Ok tt) old mid
+      → FinishesBy passes result mid new → InstallsImages told name entries request passes result old new
+  installed result sent finishes = record {
+    images = sent.images;
+    read = sent.read;
+    goes = λ E s boot layout verifier are shows.
+        let n = length entries in
+        let two = sent.goes E s boot n layout are shows in
+        finishes-after result E old mid new s boot (between boot n (request == 0) sent.images) sent.images (replicate n (request == 0)) two
+        (finishes E s boot n (request == 0) sent.images (layout ∙ sym two.stays.layout) verifier sent.count two.shows);
+  }
+
+  -- a read failed, and the staging was cancelled
+  pub uninstalled : SendsImages told name entries request (Err ReadFailed) old mid
+      → ((v : List ℕ → Bool) → MeetsAs success (Ok tt) v call.Cancel mid new)
+      → InstallsImages told name entries request passes (Err ReadFailed) old new
+  uninstalled sent cancels = record {
+    images = told_value told name (λ file. map (payload file) entries);
+    read = λ file tells. told-is told name (λ file. map (payload file) entries) file tells;
+    goes = λ E s boot layout verifier are shows.
+        let still = sent.goes E s boot (length entries) layout are shows in
+        let there = On boot (Some still.parts) still.handles in
+        let last = subst (λ (a : Answer). Goes E (Ok tt) mid new s a.moves a.next) (cancel-answers E s boot still.parts still.handles)
+        (call-goes E success (Ok tt) call.Cancel mid new s there (layout ∙ sym still.goes.stays.layout) still.goes.shows
+        (cancels E.passes) reply.Success refl) in
+        goes-then E (Ok tt) old mid new s [] [] there (On boot None no_handles) still.goes last;
+  }
+
+  -- a read failed, and the cancel would be refused or stopped: that can't be
+  pub uncancelled : (halt : Stop) (was now : Bool) → IsFalse was → GoesBy {T = Unit {0}} (Err halt) was now
+      → (IsStopped {T = Unit {0}} (Err halt) → ⊥) → SendsImages told name entries request (Err ReadFailed) old mid
+      → ((v : List ℕ → Bool) → MeetsAs success (Err halt) v call.Cancel mid new)
+      → InstallsImages told name entries request passes (Err (stopped_as halt)) old new
+  uncancelled halt was now here goes still sent meets = record {
+    images = told_value told name (λ file. map (payload file) entries);
+    read = λ file tells. told-is told name (λ file. map (payload file) entries) file tells;
+    goes = λ E s boot layout verifier are shows.
+        let there = sent.goes E s boot (length entries) layout are shows in
+        absurd (no-cancel halt E mid new s boot there.parts there.handles was now
+        (layout ∙ sym there.goes.stays.layout) there.goes.shows here goes still meets);
+  }
+
+-- the flash stopped it on the way
+pub interrupted : (told : Option Directory) (name : List ℕ) (entries : List Entry) (request : ℕ) (passes : List ℕ → Bool) (old new : Moment)
+    (halt : SendStop) → is_unread halt ≡ false → SendsImages told name entries request (Err halt) old new
+    → InstallsImages told name entries request passes (Err halt) old new
+interrupted told name entries request passes old new halt other sent = record {
+  images = told_value told name (λ file. map (payload file) entries);
+  read = λ file tells. told-is told name (λ file. map (payload file) entries) file tells;
+  goes = λ E s boot layout verifier are shows.
+      by-stop halt E s boot other (told_value told name (λ file. map (payload file) entries))
+      (between boot (length entries) (request == 0) sent.images) (sent.goes E s boot (length entries) layout are shows);
+}
+  where
+    by-stop : (halt : SendStop) (E : Setting) (s : State) (boot : ℕ) → is_unread halt ≡ false → (p : List (List ℕ)) (y : Session)
+        → Halts {T = Unit {0}} (Err halt) E old new s boot y
+        → Finishes (Err halt) E old new s boot p (replicate (length entries) (request == 0))
+    by-stop Lost E s boot other p y h = stopped-at flash_stop.Lost E old new s [] (end_moves E s p (replicate (length entries) (request == 0))) y
+        (On boot None no_handles) h
+    by-stop Fault E s boot other p y h = stopped-at flash_stop.Failed E old new s [] (end_moves E s p (replicate (length entries) (request == 0))) y
+        (On boot None no_handles) h
+    by-stop ReadFailed E s boot other p y h = absurd cc
+    by-stop (MissingImage g) E s boot other p y h = absurd h
+    by-stop (ImageTooLarge g) E s boot other p y h = absurd h
+    by-stop (Begin st) E s boot other p y h = absurd h
+    by-stop (End st) E s boot other p y h = absurd h
+    by-stop Gone E s boot other p y h = absurd h
+
+pub unread-is : (halt : SendStop) → is_unread halt ≡ true → halt ≡ ReadFailed
+unread-is ReadFailed is = refl
+unread-is (MissingImage g) is = absurd cc
+unread-is (ImageTooLarge g) is = absurd cc
+unread-is (Begin st) is = absurd cc
+unread-is (End st) is = absurd cc
+unread-is Lost is = absurd cc
+unread-is Fault is = absurd cc
+unread-is Gone is = absurd cc

@@ -1,0 +1,65 @@
+-- The entry of each image opens that image, since the types differ.
+use Rattle.std.proofs.Common.{◌≡◌, ◌≢◌, cond, ℕ, ◌*◌, ◌<◌, ◌≤◌, Bool, true, false, List, [], ◌∷◌, length, map, get_or, inl, inr, Option, Some, None, refl, sym, ap, subst, ◌∙◌, arith}
+use Rattle.std.specs.Prelude.{IsTrue, ltb}
+use Rattle.std.specs.List.{position_or_len, find}
+use Rattle.std.proofs.lemmas.Bool.{cases_Bool, lt-ltb}
+use Rattle.std.proofs.lemmas.List.{length-map, get_or-map}
+use Rattle.std.proofs.lemmas.List.Sums.{position_or_len_is}
+use Rattle.base_core.specs.Bytes.{same_bytes}
+use Rattle.fwu_formats.specs.Layout.{ImageRow, find_image, are_distinct, slot_bytes}
+use Rattle.fwu_formats.specs.Package.{Entry, Toc, has_guid}
+use Rattle.fwu_model.specs.Sound.{Setting}
+use Rattle.fwu_model.proofs.Staging.{same-self, same-is, distinct-at}
+use Rattle.update_client.specs.Choosing.{AreChosen, no_row}
+use Rattle.update_client.specs.Images.{AreImages, no_entry}
+
+abbrev guid_in : List ImageRow → ℕ → List ℕ
+guid_in rows k = (get_or rows k no_row).guid
+
+differs : (xs ys : List ℕ) → xs ≢ ys → same_bytes xs ys ≡ false
+differs xs ys ne = elim (cases_Bool (same_bytes xs ys)) [ inl e ↦ absurd (ne (same-is xs ys e)) | inr e ↦ e ]
+
+own-place : (rows : List ImageRow) (k : ℕ) → IsTrue (are_distinct (map (λ r. r.guid) rows)) → k < length rows
+    → position_or_len (λ (r : ImageRow). same_bytes r.guid (guid_in rows k)) rows ≡ k
+own-place rows k distinct lt =
+    position_or_len_is (λ (r : ImageRow). same_bytes r.guid (guid_in rows k)) rows k no_row (omega (arith, lt))
+    (λ j below. differs (guid_in rows j) (guid_in rows k) (other j below)) (λ there. same-self (guid_in rows k))
+  where
+    other : (j : ℕ) → j < k → guid_in rows j ≢ guid_in rows k
+    other j below e =
+        let len = length-map rows (λ (q : ImageRow). q.guid) in
+        let far : j < length rows = omega (arith, below, lt) in
+        distinct-at (map (λ (q : ImageRow). q.guid) rows) j k distinct (omega (arith, len, far)) (omega (arith, len, lt))
+        (λ z. absurd (omega (arith, z, below)))
+        (get_or-map (λ (q : ImageRow). q.guid) rows j no_row [] far ∙ e ∙ sym (get_or-map (λ (q : ImageRow). q.guid) rows k no_row [] lt))
+
+pub own-image : (rows : List ImageRow) (k : ℕ) → IsTrue (are_distinct (map (λ r. r.guid) rows)) → k < length rows
+    → find_image rows (guid_in rows k) ≡ Some k
+own-image rows k distinct lt =
+    ap (λ (i : ℕ). cond (ltb i (length rows)) (Some i) None) (own-place rows k distinct lt) ∙ ap (λ (b : Bool). cond b (Some k) None)
+    (lt-ltb k (length rows) lt)
+
+found-has : (guid : List ℕ) (es : List Entry) (e : Entry) → find (has_guid guid) es ≡ Some e → e.guid ≡ guid
+found-has guid [] e is = absurd cc
+found-has guid (x ∷ xs) e is = by-test (has_guid guid x) (find (has_guid guid) xs) (λ t. same-is x.guid guid t) (found-has guid xs e) is
+  where
+    some-is : (x y : Entry) → ◌≡◌ {A = Option Entry} (Some x) (Some y) → x ≡ y
+    some-is x y e = cc
+
+    by-test : (b : Bool) (rest : Option Entry) → (b ≡ true → x.guid ≡ guid) → (rest ≡ Some e → e.guid ≡ guid)
+        → cond b (Some x) rest ≡ Some e → e.guid ≡ guid
+    by-test true rest one others h = ap (λ (y : Entry). y.guid) (sym (some-is x e h)) ∙ one refl
+    by-test false rest one others h = others h
+
+pub are-images : (E : Setting) (toc : Toc) (entries : List Entry) → IsTrue (are_distinct (map (λ r. r.guid) E.layout.rows))
+    → ((k : ℕ) → slot_bytes E.layout k ≡ 4096 * (get_or E.layout.rows k no_row).slots)
+    → AreChosen E.layout.rows toc entries → AreImages E entries (length E.layout.rows)
+are-images E toc entries distinct slots chosen = record {
+  few = omega (arith, chosen.count);
+  found = λ k lt.
+      let below : k < length E.layout.rows = omega (arith, chosen.count, lt) in
+      ap (find_image E.layout.rows) (found-has (guid_in E.layout.rows k) toc.entries (get_or entries k no_entry) (chosen.each k below))
+      ∙ own-image E.layout.rows k distinct below;
+  fit = λ k lt. let below : k < length E.layout.rows = omega (arith, chosen.count, lt) in subst (λ (n : ℕ). (get_or entries k no_entry).size ≤ n)
+      (sym (slots k)) (chosen.fit k below);
+}

@@ -1,0 +1,90 @@
+-- An image that is written piece by piece.
+use Rattle.std.proofs.Common.{◌≡◌, ℕ, zero, suc, ◌+◌, ◌≤◌, List, [], ◌∷◌, ◌++◌, take, drop, Option, Ok, Err, refl, sym, ap, ◌∙◌, arith, length-append}
+use Rattle.host_io.specs.Contents.{Directory}
+use Rattle.fwu_formats.specs.Package.{Entry, payload}
+use Rattle.fwu_model.specs.State.{State}
+use Rattle.fwu_model.specs.Sound.{Setting}
+use Rattle.fwu_model.specs.Session.{Session}
+use Rattle.agent_machine.specs.Moment.{Moment}
+use Rattle.agent_machine.proofs.Going.{goes-then, goes-nothing}
+use Rattle.update_client.proofs.Halting.{halts-after}
+use Rattle.update_client.specs.declared.stops.SendStop.{SendStop}
+use Rattle.update_client.specs.declared.stops.SendStop.TheVariants.{MissingImage, ImageTooLarge, Begin, End, ReadFailed, Lost, Fault, Gone}
+use Rattle.update_client.specs.Staged.{within}
+use Rattle.update_client.specs.Halts.{Halts}
+use Rattle.update_client.specs.Pieces.{WritesPiece, WritesFirst, WritesImage}
+
+take-none : (n m : ℕ) → ◌≡◌ {A = List ℕ} (take n []) (take m [])
+take-none zero zero = refl
+take-none zero (suc m) = refl
+take-none (suc n) zero = refl
+take-none (suc n) (suc m) = refl
+
+take-more : (at n : ℕ) (l : List ℕ) → take at l ++ take n (drop at l) ≡ take (at + n) l
+take-more zero n l = let z : 0 + n ≡ n = omega arith in ap (λ (k : ℕ). take k l) (sym z)
+take-more (suc at) n [] = take-none n (suc at + n)
+take-more (suc at) n (x ∷ l) = let z : suc at + n ≡ suc (at + n) = omega arith in ap (λ (ys : List ℕ). x ∷ ys) (take-more at n l) ∙ ap
+    (λ (k : ℕ). take k (x ∷ l)) (sym z)
+
+pub first-none : (told : Option Directory) (name : List ℕ) (e : Entry) (m : Moment) → WritesFirst told name e 0 m m
+first-none told name e m = record {
+  bytes = [];
+  count = refl;
+  read = λ file tells. refl;
+  goes = λ E s boot images bit done layout below room shows. goes-nothing E m s (within boot images bit done []) shows;
+}
+
+-- one more piece
+module _ (told : Option Directory) (name : List ℕ) (e : Entry) (at : ℕ) (old mid new : Moment) (first : WritesFirst told name e at old mid) where
+  pub first-more : (n : ℕ) → WritesPiece told name e at (Ok n) mid new → WritesFirst told name e (at + n) old new
+  first-more n piece = record {
+    bytes = first.bytes ++ piece.bytes;
+    count = omega (arith, length-append first.bytes piece.bytes, first.count, piece.count.0);
+    read = λ file tells. ap (λ (b : List ℕ). b ++ piece.bytes) (first.read file tells) ∙ ap (λ (b : List ℕ). take at (payload file e) ++ b)
+        (piece.read file tells) ∙ take-more at n (payload file e);
+    goes = λ E s boot images bit done layout below room shows.
+        let one = first.goes E s boot images bit done layout below room shows in
+        goes-then E (Ok tt) old mid new s [] [] (within boot images bit done first.bytes) (within boot images bit done (first.bytes ++ piece.bytes)) one
+        (piece.goes E s boot images bit done first.bytes (layout ∙ sym one.stays.layout) below first.count room one.shows);
+  }
+
+  -- the piece was stopped
+  pub image-stopped : (stop : SendStop) → WritesPiece told name e at (Err stop) mid new → WritesImage told name e (Err stop) old new
+  image-stopped stop piece = record {
+    bytes = first.bytes ++ piece.bytes;
+    count = tt;
+    read = tt;
+    goes = λ E s boot images bit done layout below room shows.
+        let one = first.goes E s boot images bit done layout below room shows in
+        halts-after {T = Unit {0}} (Err stop) E old mid new s boot (within boot images bit done first.bytes)
+        (within boot images bit done (first.bytes ++ piece.bytes)) one
+        (as-unit stop E mid new s boot (within boot images bit done (first.bytes ++ piece.bytes))
+        (piece.goes E s boot images bit done first.bytes (layout ∙ sym one.stays.layout) below first.count room one.shows));
+  }
+    where
+      as-unit : (stop : SendStop) (E : Setting) (mid new : Moment) (s : State) (boot : ℕ) (y : Session)
+          → Halts {T = ℕ} (Err stop) E mid new s boot y → Halts {T = Unit {0}} (Err stop) E mid new s boot y
+      as-unit ReadFailed E mid new s boot y h = h
+      as-unit Lost E mid new s boot y h = h
+      as-unit Fault E mid new s boot y h = h
+      as-unit (MissingImage g) E mid new s boot y h = h
+      as-unit (ImageTooLarge g) E mid new s boot y h = h
+      as-unit (Begin st) E mid new s boot y h = h
+      as-unit (End st) E mid new s boot y h = h
+      as-unit Gone E mid new s boot y h = h
+
+  -- that was all
+  pub image-done : e.size ≤ at → at ≤ e.size → WritesImage told name e (Ok tt) old mid
+  image-done low high = record {
+    bytes = first.bytes;
+    count = omega (arith, first.count, low, high);
+    read = λ file tells. first.read file tells ∙ take-of-take at e.size (drop e.offset file) low;
+    goes = first.goes;
+  }
+    where
+      take-of-take : (n m : ℕ) (l : List ℕ) → m ≤ n → take n (take m l) ≡ take m l
+      take-of-take zero zero l le = refl
+      take-of-take zero (suc m) l le = absurd (omega (arith, le))
+      take-of-take (suc n) zero l le = refl
+      take-of-take (suc n) (suc m) [] le = refl
+      take-of-take (suc n) (suc m) (x ∷ l) le = ap (λ (ys : List ℕ). x ∷ ys) (take-of-take n m l (omega (arith, le)))

@@ -1,0 +1,192 @@
+-- A piece that is written, or not.
+use Rattle.std.proofs.Common.{◌≡◌, ◌≢◌, ℕ, ◌+◌, ◌<◌, ◌≤◌, Bool, List, [], ◌∷◌, ◌++◌, length, take, drop, set, Option, Some, Ok, Err, refl, sym, ap, subst, ◌∙◌, arith}
+use Rattle.std.specs.Prelude.{IsTrue, IsFalse, ◌==◌}
+use Rattle.host_io.specs.Contents.{Directory}
+use Rattle.flash_core.specs.declared.flash.FlashStop.TheVariants as flash_stop
+use Rattle.fwu_formats.specs.Layout.{slot_bytes, find_image}
+use Rattle.fwu_formats.specs.Package.{Entry, payload}
+use Rattle.fwu_model.specs.State.{State}
+use Rattle.fwu_model.specs.Sound.{Setting}
+use Rattle.fwu_model.specs.Session.{Session, Writes, no_handles}
+use Rattle.fwu_model.specs.Call as call
+use Rattle.fwu_model.specs.Call.{Call}
+use Rattle.fwu_model.specs.Reply.{Reply}
+use Rattle.fwu_model.specs.Reply as reply
+use Rattle.fwu_model.specs.declared.kinds.Status.{Status}
+use Rattle.fwu_model.specs.Answer.{Answer, answer, answered}
+use Rattle.fip_tables.specs.Files.{Tells}
+use Rattle.agent_machine.specs.declared.stop.Stop.{Stop}
+use Rattle.agent_machine.specs.declared.stop.Stop.TheVariants as stop
+use Rattle.agent_machine.specs.Moment.{Moment, Shows}
+use Rattle.agent_machine.specs.Meets.{GoesBy}
+use Rattle.agent_machine.specs.Goes.{Goes}
+use Rattle.agent_machine.proofs.Going.{goes-nothing, goes-then}
+use Rattle.update_client.proofs.Going.{MeetsAs, call-goes, call-replies, call-stopped}
+use Rattle.update_client.specs.declared.stops.SendStop.{SendStop}
+use Rattle.update_client.specs.declared.stops.SendStop.TheVariants.{ReadFailed}
+use Rattle.update_client.specs.Staged.{between, within, open_parts}
+use Rattle.update_client.specs.Halts.{Halts, stopped_as}
+use Rattle.update_client.specs.Pieces.{WritesPiece, WritesImage, SendsImage}
+use Rattle.update_client.proofs.Staging.{open-answers, write-answers, commit-answers}
+use Rattle.update_client.proofs.Halting.{halts-after, other-end}
+
+pub piece-unread : (told : Option Directory) (name : List ℕ) (e : Entry) (at : ℕ) (m : Moment)
+    → WritesPiece told name e at (Err ReadFailed) m m
+piece-unread told name e at m = record {
+  bytes = [];
+  count = tt;
+  read = tt;
+  goes = λ E s boot images bit done before layout below count room shows.
+      record {
+        parts = open_parts images bit done before;
+        handles = set no_handles 0 (Writes (length done));
+        goes = goes-nothing E m s
+            (within boot images bit done before) shows;
+      };
+}
+
+pub piece-written : (told : Option Directory) (name : List ℕ) (e : Entry) (at n : ℕ) (m new : Moment) (bytes : List ℕ)
+    → length bytes ≡ n → 0 < n → at + n ≤ e.size
+    → ((file : List ℕ) → Tells told name file → bytes ≡ take n (drop at (payload file e)))
+    → ((passes : List ℕ → Bool) → MeetsAs {T = Unit {0}} (λ _. reply.Success) (Ok tt) passes (call.Write 1 bytes) m new)
+    → WritesPiece told name e at (Ok n) m new
+piece-written told name e at n m new bytes count some inside read meets = record {
+  bytes = bytes;
+  count = (count, some, inside);
+  read = read;
+  goes = λ E s boot images bit done before layout below size room shows.
+      let x = within boot images bit done before in
+      let fits : length before + length bytes ≤ slot_bytes E.layout (length done) = omega (arith, size, count, inside, room) in
+      subst (λ (w : Answer). Goes E (Ok tt) m new s w.moves w.next) (write-answers E s boot images bit done below before bytes fits)
+      (call-goes E (λ _. reply.Success) (Ok tt) (call.Write 1 bytes) m new s x layout shows (meets E.passes) reply.Success refl);
+}
+
+-- a call whose answer within a staging is known, and no refusal: at a stop the flash stopped it
+pub call-halts : {T : Type 0} (U : Type 0) (of : T → Reply) (st : Stop) (E : Setting) (c : Call) (old new : Moment) (s : State) (x y z : Session)
+    (r : Reply) (boot : ℕ) (was now : Bool) → E.layout ≡ old.fields.layout → Shows old s x
+    → answer E s x c ≡ answered r [] y → ((q : Status) → reply.Refused q ≢ r) → IsFalse was → GoesBy {T = T} (Err st) was now
+    → MeetsAs of (Err st) E.passes c old new → Halts {T = U} (Err (stopped_as st)) E old new s boot z
+call-halts U of (stop.Status st) E c old new s x y z r boot was now layout shows is other here goes meets =
+    absurd (other st (call-replies E of (Err (stop.Status st)) c old new s x layout shows meets (reply.Refused st) refl ∙ ap (λ (w : Answer). w.reply) is))
+call-halts U of stop.Gone E c old new s x y z r boot was now layout shows is other here goes meets = absurd (gone-here (goes.gone.0 refl))
+  where
+    gone-here : IsTrue was → ⊥
+    gone-here is = cc
+call-halts U of stop.Lost E c old new s x y z r boot was now layout shows is other here goes meets =
+    subst (λ (w : Answer). Goes E (Err flash_stop.Lost) old new s w.moves z) is (call-stopped E of (Err stop.Lost) c old new s x layout shows meets refl z)
+call-halts U of stop.Fault E c old new s x y z r boot was now layout shows is other here goes meets =
+    subst (λ (w : Answer). Goes E (Err flash_stop.Failed) old new s w.moves z) is (call-stopped E of (Err stop.Fault) c old new s x layout shows meets refl z)
+
+-- and where it is done
+pub call-done : {T : Type 0} (of : T → Reply) (v : T) (E : Setting) (c : Call) (old new : Moment) (s : State) (x y : Session) (r : Reply)
+    → E.layout ≡ old.fields.layout → Shows old s x
+    → answer E s x c ≡ answered r [] y → MeetsAs of (Ok v) E.passes c old new → Goes E (Ok tt) old new s [] y
+call-done of v E c old new s x y r layout shows is meets = subst (λ (w : Answer). Goes E (Ok tt) old new s w.moves w.next) is
+    (call-goes E of (Ok v) c old new s x layout shows meets (of v) refl)
+
+pub no-success : (q : Status) → reply.Refused q ≢ reply.Success
+no-success q is = cc
+
+no-opened : (q : Status) → reply.Refused q ≢ reply.Opened 1
+no-opened q is = cc
+
+pub piece-stopped : (told : Option Directory) (name : List ℕ) (e : Entry) (at n : ℕ) (m new : Moment) (bytes : List ℕ) (st : Stop) (was now : Bool)
+    → length bytes ≡ n → at + n ≤ e.size
+    → IsFalse was → GoesBy {T = Unit {0}} (Err st) was now
+    → ((passes : List ℕ → Bool) → MeetsAs {T = Unit {0}} (λ _. reply.Success) (Err st) passes (call.Write 1 bytes) m new)
+    → WritesPiece told name e at (Err (stopped_as st)) m new
+piece-stopped told name e at n m new bytes st was now count inside here goes meets = record {
+  bytes = bytes;
+  count = tt;
+  read = tt;
+  goes = λ E s boot images bit done before layout below size room shows.
+      let fits : length before + length bytes ≤ slot_bytes E.layout (length done) = omega (arith, size, count, inside, room) in
+      call-halts ℕ (λ (_ : Unit {0}). reply.Success) st E (call.Write 1 bytes) m new s (within boot images bit done before)
+      (within boot images bit done (before ++ bytes)) (within boot images bit done (before ++ bytes)) reply.Success boot was now layout shows
+      (write-answers E s boot images bit done below before bytes fits) no-success here goes (meets E.passes);
+}
+
+-- ---- an image
+
+-- opened
+pub image-opened : (guid : List ℕ) (h : ℕ) (old new : Moment)
+    → ((passes : List ℕ → Bool) → MeetsAs {T = ℕ} (λ k. reply.Opened k) (Ok h) passes (call.OpenWrite guid) old new)
+    → (E : Setting) (s : State) (boot images : ℕ) (bit : Bool) (done : List (List ℕ)) → E.layout ≡ old.fields.layout
+    → length done < images → find_image E.layout.rows guid ≡ Some (length done)
+    → Shows old s (between boot images bit done) → Goes E (Ok tt) old new s [] (within boot images bit done [])
+image-opened guid h old new meets E s boot images bit done layout below found shows =
+    call-done (λ (k : ℕ). reply.Opened k) h E (call.OpenWrite guid) old new s (between boot images bit done) (within boot images bit done [])
+    (reply.Opened 1) layout shows (open-answers E s boot images bit done below guid found) (meets E.passes)
+
+pub image-unopened : (told : Option Directory) (name guid : List ℕ) (e : Entry) (request : ℕ) (old new : Moment) (st : Stop) (was now : Bool)
+    → IsFalse was → GoesBy {T = ℕ} (Err st) was now
+    → ((passes : List ℕ → Bool) → MeetsAs {T = ℕ} (λ k. reply.Opened k) (Err st) passes (call.OpenWrite guid) old new)
+    → SendsImage told name guid e request (Err (stopped_as st)) old new
+image-unopened told name guid e request old new st was now here goes meets = record {
+  bytes = [];
+  read = tt;
+  goes = λ E s boot images done layout below found room shows.
+      call-halts (Unit {0}) (λ (k : ℕ). reply.Opened k) st E (call.OpenWrite guid) old new s (between boot images (request == 0) done)
+      (within boot images (request == 0) done []) (between boot images (request == 0) (done ++ [] ∷ []))
+      (reply.Opened 1) boot was now layout shows
+      (open-answers E s boot images (request == 0) done below guid found) no-opened here goes (meets E.passes);
+}
+
+-- opened, and not written
+pub image-unwritten : (told : Option Directory) (name guid : List ℕ) (e : Entry) (request : ℕ) (h : ℕ) (old mid new : Moment) (stopped : SendStop) →
+    ((passes : List ℕ → Bool) → MeetsAs {T = ℕ} (λ k. reply.Opened k) (Ok h) passes (call.OpenWrite guid) old mid)
+    → WritesImage told name e (Err stopped) mid new → SendsImage told name guid e request (Err stopped) old new
+image-unwritten told name guid e request h old mid new stopped meets wrote = record {
+  bytes = [];
+  read = tt;
+  goes = λ E s boot images done layout below found room shows.
+      let one = image-opened guid h old mid meets E s boot images (request == 0) done layout below found shows in
+      other-end (Unit {0}) (Unit {0}) stopped E old new s boot (within boot images (request == 0) done wrote.bytes)
+      (between boot images (request == 0) (done ++ [] ∷ []))
+      (halts-after {T = Unit {0}} (Err stopped) E old mid new s boot (within boot images (request == 0) done [])
+      (within boot images (request == 0) done wrote.bytes) one
+      (wrote.goes E s boot images (request == 0) done (layout ∙ sym one.stays.layout) below room one.shows));
+}
+
+-- opened and written, and committed or not
+module _ (told : Option Directory) (name guid : List ℕ) (e : Entry) (request h : ℕ) (old opened mid new : Moment)
+    (opens : (passes : List ℕ → Bool) → MeetsAs {T = ℕ} (λ k. reply.Opened k) (Ok h) passes (call.OpenWrite guid) old opened)
+    (wrote : WritesImage told name e (Ok tt) opened mid) where
+  written : (E : Setting) (s : State) (boot images : ℕ) (done : List (List ℕ)) → E.layout ≡ old.fields.layout
+      → length done < images → find_image E.layout.rows guid ≡ Some (length done)
+      → e.size ≤ slot_bytes E.layout (length done) → Shows old s (between boot images (request == 0) done)
+      → Goes E (Ok tt) old mid s [] (within boot images (request == 0) done wrote.bytes)
+  written E s boot images done layout below found room shows =
+      let one = image-opened guid h old opened opens E s boot images (request == 0) done layout below found shows in
+      goes-then E (Ok tt) old opened mid s [] [] (within boot images (request == 0) done []) (within boot images (request == 0) done wrote.bytes) one
+      (wrote.goes E s boot images (request == 0) done (layout ∙ sym one.stays.layout) below room one.shows)
+
+  pub image-sent : ((passes : List ℕ → Bool) → MeetsAs {T = Unit {0}} (λ _. reply.Success) (Ok tt) passes (call.Commit 1 request) mid new)
+      → SendsImage told name guid e request (Ok tt) old new
+  image-sent commits = record {
+    bytes = wrote.bytes;
+    read = wrote.read;
+    goes = λ E s boot images done layout below found room shows.
+        let two = written E s boot images done layout below found room shows in
+        goes-then E (Ok tt) old mid new s [] [] (within boot images (request == 0) done wrote.bytes)
+        (between boot images (request == 0) (done ++ wrote.bytes ∷ [])) two
+        (call-done (λ (_ : Unit {0}). reply.Success) tt E (call.Commit 1 request) mid new s (within boot images (request == 0) done wrote.bytes)
+        (between boot images (request == 0) (done ++ wrote.bytes ∷ [])) reply.Success (layout ∙ sym two.stays.layout) two.shows
+        (commit-answers E s boot images (request == 0) done below wrote.bytes request refl) (commits E.passes));
+  }
+
+  pub image-uncommitted : (st : Stop) (was now : Bool) → IsFalse was → GoesBy {T = Unit {0}} (Err st) was now
+      → ((passes : List ℕ → Bool) → MeetsAs {T = Unit {0}} (λ _. reply.Success) (Err st) passes (call.Commit 1 request) mid new)
+      → SendsImage told name guid e request (Err (stopped_as st)) old new
+  image-uncommitted st was now here goes commits = record {
+    bytes = wrote.bytes;
+    read = tt;
+    goes = λ E s boot images done layout below found room shows.
+        let two = written E s boot images done layout below found room shows in
+        halts-after {T = Unit {0}} (Err (stopped_as st)) E old mid new s boot (within boot images (request == 0) done wrote.bytes)
+        (between boot images (request == 0) (done ++ wrote.bytes ∷ [])) two
+        (call-halts (Unit {0}) (λ (_ : Unit {0}). reply.Success) st E (call.Commit 1 request) mid new s
+        (within boot images (request == 0) done wrote.bytes) (between boot images (request == 0) (done ++ wrote.bytes ∷ []))
+        (between boot images (request == 0) (done ++ wrote.bytes ∷ [])) reply.Success boot was now (layout ∙ sym two.stays.layout) two.shows
+        (commit-answers E s boot images (request == 0) done below wrote.bytes request refl) no-success here goes (commits E.passes));
+  }

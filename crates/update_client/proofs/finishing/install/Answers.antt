@@ -1,0 +1,35 @@
+use Rattle.std.proofs.Common.{◌≡◌, false, Err, sym, subst, ◌∙◌}
+use Rattle.agent_calls.specs.Shown.{moment}
+use Rattle.update_client.specs.declared.stops.SendStop.{SendStop}
+use Rattle.update_client.specs.declared.stops.SendStop.TheVariants.{ReadFailed}
+use Rattle.update_client.specs.Halts.{SpentBy, flash_of, is_unread}
+use Rattle.update_client.specs.Finishes.{InstallsImages}
+use Rattle.update_client.specs.Images.{SendsImages}
+use Rattle.update_client.proofs.Installed.{installed, uninstalled, uncancelled, interrupted, unread-is}
+use Rattle.update_client.proofs.finishing.install.Goals as goal
+
+pub returns-then-not-is_unread-clause-installs : goal.returns-then-not-is_unread-clause-installs
+returns-then-not-is_unread-clause-installs g c =
+    let other : is_unread c.in-Err.stop ≡ false = sym c.is_unread.ensures ∙ c.if-not-is_unread.true in
+    interrupted _ _ _ _ _ _ _ c.in-Err.stop other c.in-Err.ensures.sent
+
+pub returns-in-Ok-clause-installs : goal.returns-in-Ok-clause-installs
+returns-in-Ok-clause-installs g c = installed _ _ _ _ _ _ (moment c.send_images.new.agent) _ c.finish.result c.in-Ok.ensures.sent c.finish.ensures.finishes
+
+pub returns-in-Ok-cancel-clause-installs : goal.returns-in-Ok-cancel-clause-installs
+returns-in-Ok-cancel-clause-installs g c =
+    let is : c.in-Err.stop ≡ ReadFailed = unread-is c.in-Err.stop (sym c.is_unread.ensures ∙ c.if-not-is_unread.false) in
+    let sent = subst (λ (st : SendStop). SendsImages (g.H.Files.contents c.args.files.now) c.args.name.now c.args.entries.now c.args.acceptance
+    (Err st) (moment c.args.agent.now) (moment c.send_images.new.agent)) is c.in-Err.ensures.sent in
+    let spent = subst (λ (st : SendStop). SpentBy (flash_of {T = Unit {0}} (Err st)) c.args.agent.now c.send_images.new.agent) is c.in-Err.ensures.spent in
+    uninstalled _ _ _ _ _ _ (moment c.send_images.new.agent) _ sent (c.in-Ok-cancel.ensures.meets spent.gone_is)
+
+pub returns-in-Err-cancel-clause-installs : goal.returns-in-Err-cancel-clause-installs
+returns-in-Err-cancel-clause-installs g c =
+    let is : c.in-Err.stop ≡ ReadFailed = unread-is c.in-Err.stop (sym c.is_unread.ensures ∙ c.if-not-is_unread.false) in
+    let sent = subst (λ (st : SendStop). SendsImages (g.H.Files.contents c.args.files.now) c.args.name.now c.args.entries.now c.args.acceptance
+    (Err st) (moment c.args.agent.now) (moment c.send_images.new.agent)) is c.in-Err.ensures.sent in
+    let spent = subst (λ (st : SendStop). SpentBy (flash_of {T = Unit {0}} (Err st)) c.args.agent.now c.send_images.new.agent) is c.in-Err.ensures.spent in
+    subst (λ (st : SendStop). InstallsImages (g.H.Files.contents c.args.files.now) c.args.name.now c.args.entries.now c.args.acceptance
+    (g.V.Verifier.passes c.args.verifier.now) (Err st) (moment c.args.agent.now) (moment c.cancel.new.self)) (sym c.stopped.ensures)
+    (uncancelled _ _ _ _ _ _ (moment c.send_images.new.agent) _ c.in-Err-cancel.stop _ _ spent.gone_is c.in-Err-cancel.ensures.goes c.in-Err-cancel.ensures.answers sent (c.in-Err-cancel.ensures.meets spent.gone_is))

@@ -1,0 +1,29 @@
+use Rattle.std.proofs.Common.{Err, sym, subst}
+use Rattle.agent_calls.specs.Shown.{moment}
+use Rattle.update_client.specs.declared.stops.SendStop.{SendStop}
+use Rattle.update_client.specs.Pieces.{SendsImage}
+use Rattle.update_client.proofs.WrittenPiece.{image-unopened, image-unwritten, image-sent, image-uncommitted}
+use Rattle.update_client.proofs.images.send_image.Goals as goal
+
+pub returns-in-Err-clause-sent : goal.returns-in-Err-clause-sent
+returns-in-Err-clause-sent g c =
+    subst (λ (st : SendStop). SendsImage (g.H.Files.contents c.args.files.now) c.args.name.now c.args.guid c.args.entry.now c.args.acceptance (Err st)
+    (moment c.args.agent.now) (moment c.open.new.self)) (sym c.stopped.ensures)
+    (image-unopened _ _ _ _ _ _ _ c.in-Err.stop _ _ c.requires.here c.in-Err.ensures.goes (c.in-Err.ensures.meets c.requires.here))
+
+pub returns-in-Err-write_image-clause-sent : goal.returns-in-Err-write_image-clause-sent
+returns-in-Err-write_image-clause-sent g c = image-unwritten _ _ _ _ _ c.in-Ok.field-0 _ (moment c.open.new.self) _ c.in-Err-write_image.stop
+    (c.in-Ok.ensures.meets c.requires.here) c.in-Err-write_image.ensures.wrote
+
+pub returns-in-Ok-commit-clause-sent : goal.returns-in-Ok-commit-clause-sent
+returns-in-Ok-commit-clause-sent g c = image-sent _ _ _ _ _ c.in-Ok.field-0 _ (moment c.open.new.self) (moment c.write_image.new.agent) _
+    (c.in-Ok.ensures.meets c.requires.here) c.in-Ok-write_image.ensures.wrote (c.in-Ok-commit.ensures.meets c.in-Ok-write_image.ensures.spent.gone_is)
+
+pub returns-in-Err-commit-clause-sent : goal.returns-in-Err-commit-clause-sent
+returns-in-Err-commit-clause-sent g c =
+    subst (λ (st : SendStop). SendsImage (g.H.Files.contents c.args.files.now) c.args.name.now c.args.guid c.args.entry.now c.args.acceptance (Err st)
+    (moment c.args.agent.now) (moment c.commit.new.self)) (sym c.stopped-in-Err-commit.ensures)
+    (image-uncommitted _ _ _ _ _ c.in-Ok.field-0 _ (moment c.open.new.self) (moment c.write_image.new.agent) _
+    (c.in-Ok.ensures.meets c.requires.here) c.in-Ok-write_image.ensures.wrote
+    c.in-Err-commit.stop _ _ c.in-Ok-write_image.ensures.spent.gone_is c.in-Err-commit.ensures.goes
+    (c.in-Err-commit.ensures.meets c.in-Ok-write_image.ensures.spent.gone_is))

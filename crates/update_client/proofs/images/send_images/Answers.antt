@@ -1,0 +1,81 @@
+use Rattle.std.proofs.Common.{◌≡◌, ◌<◌, ℕ, List, length, get_or, Ok, Err, Option, refl, ap, subst, ◌∙◌, arith}
+use Rattle.std.proofs.lemmas.List.{get_or_default}
+use Rattle.flash_core.proofs.Costs.{spends_then}
+use Rattle.host_io.specs.Contents.{Directory}
+use Rattle.fwu_formats.specs.Package.{Entry}
+use Rattle.agent_calls.specs.Shown.{moment}
+use Rattle.update_client.specs.Pieces.{SendsImage}
+use Rattle.update_client.specs.Images.{no_entry}
+use Rattle.update_client.proofs.SentImages.{images-none, images-more, images-stopped, images-done}
+use Rattle.update_client.proofs.images.send_images.Goals as goal
+
+pub loop-k-init : goal.loop-k-init
+loop-k-init g c = record {
+  first = images-none _ _ _ _ _;
+  spent = record {
+    gone_is = c.requires.here;
+    power = c.args.agent.now.power c.requires.here;
+    size = refl;
+    costs =
+        record {
+          faults = omega arith;
+          cuts = omega arith;
+          reached = omega arith;
+          chances = omega arith;
+          made = refl;
+          lost = λ no. absurd cc;
+          failed =
+              λ no. absurd cc;
+        };
+  };
+  buffer = refl;
+  same = refl;
+  later = omega arith;
+}
+
+pub loop-k-preserved : goal.loop-k-preserved
+loop-k-preserved g c =
+    let before = c.loop-k.invariant in
+    let k = c.loop-k.k in
+    let below : k < length c.args.entries.now = omega (arith, c.loop-k-test.true) in
+    let at : c.index-entries-k.result ≡ get_or c.args.entries.now k no_entry = c.index-entries-k.is
+    ∙ get_or_default c.args.entries.now k c.index-entries-k.result no_entry below in
+    let image = subst (λ (d : Option Directory). SendsImage d c.args.name.now (get_or c.args.entries.now k no_entry).guid
+    (get_or c.args.entries.now k no_entry) c.args.acceptance (Ok tt) (moment c.loop-k.agent) (moment c.send_image.new.agent)) before.same
+    (subst (λ (e : Entry). SendsImage (g.H.Files.contents c.loop-k.files) c.args.name.now e.guid e c.args.acceptance (Ok tt) (moment c.loop-k.agent)
+    (moment c.send_image.new.agent)) at
+    (subst (λ (guid : List ℕ). SendsImage (g.H.Files.contents c.loop-k.files) c.args.name.now guid c.index-entries-k.result c.args.acceptance (Ok tt)
+    (moment c.loop-k.agent) (moment c.send_image.new.agent)) (ap (λ (e : Entry). e.guid) c.entry.view_is) c.in-Ok.ensures.sent)) in
+    record {
+      first = images-more _ _ _ _ k below _ (moment c.loop-k.agent) _ before.first image;
+      spent = record {
+        gone_is = c.in-Ok.ensures.spent.gone_is;
+        power = c.in-Ok.ensures.spent.power;
+        size = c.in-Ok.ensures.spent.size
+            ∙ before.spent.size;
+        costs = spends_then (Ok tt) (Ok tt) _ _ _ before.spent.costs c.in-Ok.ensures.spent.costs;
+      };
+      buffer = c.in-Ok.ensures.buffer ∙ before.buffer;
+      same = c.in-Ok.ensures.same ∙ before.same;
+      later = omega (arith, before.later, c.in-Ok.ensures.reads.later);
+    }
+
+pub returns-in-Err-clause-sent : goal.returns-in-Err-clause-sent
+returns-in-Err-clause-sent g c =
+    let before = c.loop-k.invariant in
+    let k = c.loop-k.k in
+    let below : k < length c.args.entries.now = omega (arith, c.loop-k-test.true) in
+    let at : c.index-entries-k.result ≡ get_or c.args.entries.now k no_entry = c.index-entries-k.is
+    ∙ get_or_default c.args.entries.now k c.index-entries-k.result no_entry below in
+    let image = subst (λ (d : Option Directory). SendsImage d c.args.name.now (get_or c.args.entries.now k no_entry).guid
+    (get_or c.args.entries.now k no_entry) c.args.acceptance (Err c.in-Err.stop) (moment c.loop-k.agent)
+    (moment c.send_image.new.agent)) before.same
+    (subst (λ (e : Entry). SendsImage (g.H.Files.contents c.loop-k.files) c.args.name.now e.guid e c.args.acceptance (Err c.in-Err.stop)
+    (moment c.loop-k.agent) (moment c.send_image.new.agent)) at
+    (subst (λ (guid : List ℕ). SendsImage (g.H.Files.contents c.loop-k.files) c.args.name.now guid c.index-entries-k.result c.args.acceptance
+    (Err c.in-Err.stop) (moment c.loop-k.agent) (moment c.send_image.new.agent))
+    (ap (λ (e : Entry). e.guid) c.entry.view_is) c.in-Err.ensures.sent)) in
+    images-stopped _ _ _ _ k below _ (moment c.loop-k.agent) _ before.first c.in-Err.stop image
+
+pub returns-clause-sent : goal.returns-clause-sent
+returns-clause-sent g c = images-done _ _ _ _ c.loop-k.k _ _ (omega (arith, c.loop-k-test.false, c.loop-k.auto.k-end)) c.loop-k.invariant.first

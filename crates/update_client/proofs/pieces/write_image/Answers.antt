@@ -1,0 +1,65 @@
+use Rattle.std.proofs.Common.{Ok, Err, Option, refl, ap, subst, ◌∙◌, arith}
+use Rattle.host_io.specs.Contents.{Directory}
+use Rattle.flash_core.proofs.Costs.{spends_then}
+use Rattle.fwu_formats.specs.Package.{Entry}
+use Rattle.agent_calls.specs.Shown.{moment}
+use Rattle.update_client.specs.Pieces.{WritesPiece}
+use Rattle.update_client.proofs.WrittenImage.{first-none, first-more, image-stopped, image-done}
+use Rattle.update_client.proofs.pieces.write_image.Goals as goal
+
+pub returns-clause-wrote : goal.returns-clause-wrote
+returns-clause-wrote g c = image-done _ _ _ _ _ _ (moment c.loop-at.agent) c.loop-at.invariant.first
+    (omega (arith, c.loop-at-test.false, ap (λ (e : Entry). e.size) c.entry.view_is))
+    (omega (arith, c.loop-at.invariant.inside, ap (λ (e : Entry). e.size) c.entry.view_is))
+
+pub loop-at-init : goal.loop-at-init
+loop-at-init g c = record {
+  inside = omega arith;
+  first = first-none _ _ _ _;
+  spent = record {
+    gone_is = c.requires.here;
+    power = c.args.agent.now.power c.requires.here;
+    size = refl;
+    costs =
+        record {
+          faults = omega arith;
+          cuts = omega arith;
+          reached = omega arith;
+          chances = omega arith;
+          made = refl;
+          lost = λ no. absurd cc;
+          failed =
+              λ no. absurd cc;
+        };
+  };
+  buffer = refl;
+  same = refl;
+  later = omega arith;
+}
+
+pub loop-at-preserved : goal.loop-at-preserved
+loop-at-preserved g c =
+    let before = c.loop-at.invariant in
+    let wrote = subst (λ (d : Option Directory). WritesPiece d c.args.name.now c.args.entry.now c.loop-at.at (Ok c.in-Ok.count)
+    (moment c.loop-at.agent) (moment c.write_piece.new.agent)) before.same c.in-Ok.ensures.wrote in
+    record {
+      inside = omega (arith, wrote.count.2, ap (λ (e : Entry). e.size) c.entry.view_is);
+      first = first-more _ _ _ _ _ _ _ before.first c.in-Ok.count wrote;
+      spent = record {
+        gone_is = c.in-Ok.ensures.spent.gone_is;
+        power = c.in-Ok.ensures.spent.power;
+        size = c.in-Ok.ensures.spent.size
+            ∙ before.spent.size;
+        costs = spends_then (Ok tt) (Ok tt) _ _ _ before.spent.costs c.in-Ok.ensures.spent.costs;
+      };
+      buffer = c.in-Ok.ensures.buffer ∙ before.buffer;
+      same = c.in-Ok.ensures.same ∙ before.same;
+      later = omega (arith, before.later, c.in-Ok.ensures.reads.later);
+    }
+
+pub returns-in-Err-clause-wrote : goal.returns-in-Err-clause-wrote
+returns-in-Err-clause-wrote g c =
+    let before = c.loop-at.invariant in
+    let wrote = subst (λ (d : Option Directory). WritesPiece d c.args.name.now c.args.entry.now c.loop-at.at (Err c.in-Err.stop)
+    (moment c.loop-at.agent) (moment c.write_piece.new.agent)) before.same c.in-Err.ensures.wrote in
+    image-stopped _ _ _ _ _ _ _ before.first c.in-Err.stop wrote

@@ -1,0 +1,20 @@
+use Rattle.std.proofs.Common.{◌-◌, ◌≡◌, ◌≤◌, length}
+use Rattle.std.specs.Prelude.{Ok}
+use Rattle.agent_calls.specs.Shown.{device, gone, moment}
+use Rattle.update_client.specs.Halts.{Spent}
+use Rattle.update_client.specs.Pieces.{WritesFirst}
+use Rattle.update_client.proofs.pieces.write_image.Given as goal
+
+abbrev pub invariant-loop-at : goal.invariant-loop-at
+invariant-loop-at g l = record {
+  inside : l.at ≤ l.entry-inside.size;
+  first : WritesFirst (g.H.Files.contents l.fn.files) l.name l.entry l.at (moment l.fn.agent) (moment l.agent);
+  spent : Spent (Ok tt) (gone l.agent) (g.D.Flash.on (device l.agent)) (g.D.Flash.blocks (device l.fn.agent)) (g.D.Flash.blocks (device l.agent))
+      (g.D.Flash.counts (device l.fn.agent)) (g.D.Flash.counts (device l.agent));
+  buffer : length l.buf ≡ length l.fn.buf;
+  same : g.H.Files.contents l.files ≡ g.H.Files.contents l.fn.files;
+  later : g.H.Files.faults l.fn.files ≤ g.H.Files.faults l.files;
+}
+
+abbrev pub decreases-loop-at : goal.decreases-loop-at
+decreases-loop-at g l = l.entry-inside.size - l.at

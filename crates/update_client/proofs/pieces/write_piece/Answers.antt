@@ -1,0 +1,40 @@
+use Rattle.std.proofs.Common.{◌≡◌, ◌++◌, ◌≤◌, ℕ, length, take, drop, Err, sym, ap, subst, ◌∙◌, arith}
+use Rattle.std.proofs.lemmas.List.{length-take-le, take-append-le, take_all}
+use Rattle.fwu_formats.specs.Package.{Entry, payload}
+use Rattle.agent_calls.specs.Shown.{moment}
+use Rattle.update_client.specs.declared.stops.SendStop.{SendStop}
+use Rattle.update_client.specs.Pieces.{WritesPiece}
+use Rattle.update_client.proofs.WrittenPiece.{piece-unread, piece-written, piece-stopped}
+use Rattle.update_client.proofs.pieces.write_piece.Goals as goal
+
+pub returns-in-Err-clause-wrote : goal.returns-in-Err-clause-wrote
+returns-in-Err-clause-wrote g c = piece-unread _ _ _ _ _
+
+pub returns-in-Ok-write_stream-clause-wrote : goal.returns-in-Ok-write_stream-clause-wrote
+returns-in-Ok-write_stream-clause-wrote g c =
+    let n = c.min-size.result in
+    let buf = c.args.buf.now in
+    let out = c.payload_at.new.out in
+    let small : n ≤ length buf = omega (arith, c.min-size.ensures) in
+    let size : length out ≡ n = c.payload_at.auto.out ∙ length-take-le n buf small in
+    let whole : take n (out ++ drop n buf) ≡ out = take-append-le n out (drop n buf) (omega (arith, size)) ∙ take_all n out (omega (arith, size)) in
+    piece-written _ _ _ _ n _ _ _ (ap length whole ∙ size) (omega
+    (arith, c.requires.room, c.requires.some, c.min-size.ensures, ap (λ (e : Entry). e.size) c.entry.view_is))
+    (omega (arith, c.requires.some, c.min-size.ensures, ap (λ (e : Entry). e.size) c.entry.view_is))
+    (λ file told. whole ∙ c.in-Ok.ensures.bytes file told ∙ ap (λ (k : ℕ). take k (drop c.args.at (payload file c.args.entry.now)))
+    (length-take-le n buf small))
+    (c.in-Ok-write_stream.ensures.meets c.requires.here)
+
+pub returns-in-Err-write_stream-clause-wrote : goal.returns-in-Err-write_stream-clause-wrote
+returns-in-Err-write_stream-clause-wrote g c =
+    let n = c.min-size.result in
+    let buf = c.args.buf.now in
+    let out = c.payload_at.new.out in
+    let small : n ≤ length buf = omega (arith, c.min-size.ensures) in
+    let size : length out ≡ n = c.payload_at.auto.out ∙ length-take-le n buf small in
+    let whole : take n (out ++ drop n buf) ≡ out = take-append-le n out (drop n buf) (omega (arith, size)) ∙ take_all n out (omega (arith, size)) in
+    subst (λ (st : SendStop). WritesPiece (g.H.Files.contents c.args.files.now) c.args.name.now c.args.entry.now c.args.at (Err st)
+    (moment c.args.agent.now) (moment c.write_stream.new.self)) (sym c.stopped.ensures)
+    (piece-stopped _ _ _ _ n _ _ _ c.in-Err-write_stream.stop _ _ (ap length whole ∙ size)
+    (omega (arith, c.requires.some, c.min-size.ensures, ap (λ (e : Entry). e.size) c.entry.view_is))
+    c.requires.here c.in-Err-write_stream.ensures.goes (c.in-Err-write_stream.ensures.meets c.requires.here))

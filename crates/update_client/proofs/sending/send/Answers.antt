@@ -1,0 +1,71 @@
+use Rattle.std.proofs.Common.{◌≡◌, ◌+◌, ◌^◌, ◌<◌, ◌≤◌, List, length, Some, Ok, Err, sym, ap, subst, ◌∙◌}
+use Rattle.std.specs.List.{All}
+use Rattle.fwu_formats.specs.Layout.{ImageRow}
+use Rattle.fwu_formats.specs.Package.{Entry}
+use Rattle.fwu_model.specs.Answer.{first_image_fault, skipped}
+use Rattle.agent_calls.specs.Shown.{fields, moment}
+use Rattle.update_client.specs.declared.stops.SendStop.{SendStop}
+use Rattle.update_client.specs.Choosing.{AreChosen, refused_image}
+use Rattle.update_client.specs.Finishes.{InstallsImages}
+use Rattle.update_client.specs.Sends.{Sends}
+use Rattle.agent_machine.proofs.Showing.{shows-some}
+use Rattle.update_client.proofs.Chosen.{chosen_have}
+use Rattle.update_client.proofs.WholeSending.{installs-done, sends-early, sends-unbegun, sends-done, sends-halted, switches}
+use Rattle.update_client.proofs.sending.send.Goals as goal
+
+pub install-requires-clause-ends : goal.install-requires-clause-ends
+install-requires-clause-ends g c = subst (λ (l : List Entry). All (λ e. e.offset + e.size < 2 ^ 64) l) (sym c.as_slice.ensures)
+    (chosen_have (λ e. e.offset + e.size < 2 ^ 64) _ c.args.toc.now c.in-Ok.entries c.in-Ok.ensures c.requires.ends)
+
+pub install-requires-clause-stored : goal.install-requires-clause-stored
+install-requires-clause-stored g c = λ file told. subst (λ (l : List Entry). All (λ e. e.offset + e.size ≤ length file) l) (sym c.as_slice.ensures)
+    (chosen_have (λ e. e.offset + e.size ≤ length file) _ c.args.toc.now c.in-Ok.entries c.in-Ok.ensures (c.requires.stored file told))
+
+pub returns-in-Err-clause-sends : goal.returns-in-Err-clause-sends
+returns-in-Err-clause-sends g c = λ here.
+    sends-early _ _ _ _ _ _ c.in-Err.stop (subst (λ (rows : List ImageRow). refused_image
+    (first_image_fault rows c.args.toc.now) ≡ Some c.in-Err.stop) c.rows.ensures.value c.in-Err.ensures)
+
+pub returns-in-Err-begin-clause-sends : goal.returns-in-Err-begin-clause-sends
+returns-in-Err-begin-clause-sends g c = λ here.
+    let chosen = subst (λ (rows : List ImageRow). AreChosen rows c.args.toc.now c.in-Ok.entries) c.rows.ensures.value c.in-Ok.ensures in
+    subst (λ (st : SendStop). Sends (g.H.Files.contents c.args.files.now) c.args.name.now c.args.toc.now c.args.acceptance
+    (g.V.Verifier.passes c.args.verifier.now) (Err st) (moment c.args.agent.now) (moment c.begin.new.self)) (sym c.unbegun.ensures)
+    (sends-unbegun _ _ _ _ _ _ c.in-Err-begin.stop _ _ _ chosen.none here c.in-Err-begin.ensures.goes (c.in-Err-begin.ensures.meets here))
+
+pub returns-in-Ok-install-clause-sends : goal.returns-in-Ok-install-clause-sends
+returns-in-Ok-install-clause-sends g c = λ here.
+    let chosen = subst (λ (rows : List ImageRow). AreChosen rows c.args.toc.now c.in-Ok.entries) c.rows.ensures.value c.in-Ok.ensures in
+    let installs = subst (λ (l : List Entry). InstallsImages (g.H.Files.contents c.args.files.now) c.args.name.now l c.args.acceptance
+    (g.V.Verifier.passes c.args.verifier.now) (Ok tt) (moment c.begin.new.self)
+    (moment c.install.new.agent)) c.as_slice.ensures c.in-Ok-install.ensures.installs in
+    sends-done _ _ _ _ _ _ c.in-Ok.entries (moment c.begin.new.self) _ (c.args.agent.now.fitting here).layout chosen (c.in-Ok-begin.ensures.meets here) _
+    (ap length c.rows-2.ensures.value) (c.skipped-skipped.ensures ∙ ap (λ (rows : List ImageRow). skipped rows c.args.toc.now) c.rows-3.ensures.value) installs
+
+pub returns-in-Err-install-clause-sends : goal.returns-in-Err-install-clause-sends
+returns-in-Err-install-clause-sends g c = λ here.
+    let chosen = subst (λ (rows : List ImageRow). AreChosen rows c.args.toc.now c.in-Ok.entries) c.rows.ensures.value c.in-Ok.ensures in
+    let installs = subst (λ (l : List Entry). InstallsImages (g.H.Files.contents c.args.files.now) c.args.name.now l c.args.acceptance
+    (g.V.Verifier.passes c.args.verifier.now) (Err c.in-Err-install.stop) (moment c.begin.new.self)
+    (moment c.install.new.agent)) c.as_slice.ensures c.in-Err-install.ensures.installs in
+    sends-halted _ _ _ _ _ _ c.in-Ok.entries (moment c.begin.new.self) _ (c.args.agent.now.fitting here).layout chosen
+    (c.in-Ok-begin.ensures.meets here) c.in-Err-install.stop installs
+
+pub returns-in-Ok-install-clause-installs : goal.returns-in-Ok-install-clause-installs
+returns-in-Ok-install-clause-installs g c = λ here s x shows.
+    let chosen = subst (λ (rows : List ImageRow). AreChosen rows c.args.toc.now c.in-Ok.entries) c.rows.ensures.value c.in-Ok.ensures in
+    installs-done _ _ _ _ _ _ _ _ (returns-in-Ok-install-clause-sends g c here) (c.args.agent.now.fitting here).layout chosen.none s x shows
+
+pub returns-in-Ok-install-clause-counted : goal.returns-in-Ok-install-clause-counted
+returns-in-Ok-install-clause-counted g c =
+    record {
+      images = ap length c.rows-2.ensures.value;
+      skipped = c.skipped-skipped.ensures ∙ ap
+          (λ (rows : List ImageRow). skipped rows c.args.toc.now) c.rows-3.ensures.value;
+    }
+
+pub returns-in-Ok-install-clause-switched : goal.returns-in-Ok-install-clause-switched
+returns-in-Ok-install-clause-switched g c = λ here.
+    let agent = c.args.agent.now in
+    switches _ _ _ _ _ _ (returns-in-Ok-install-clause-installs g c here)
+    (shows-some (fields agent) (agent.fitting here) g.D.Flash.tells (g.D.Flash.told agent.flash) (agent.knows here) (agent.some here))

@@ -1,0 +1,87 @@
+-- How the calls of a sending end, within its staging.
+use Rattle.std.specs.Prelude.{◌≡◌, ℕ, Bool, true, false, not, List, [], Some, Result, Ok, Err, is_ok, ⊤}
+use Rattle.flash_core.specs.Counts.{Spends}
+use Rattle.flash_core.specs.declared.flash.Counts.{Counts}
+use Rattle.flash_core.specs.declared.flash.FlashStop.{FlashStop}
+use Rattle.flash_core.specs.declared.flash.FlashStop.TheVariants as flash_stop
+use Rattle.fwu_model.specs.State.{State}
+use Rattle.fwu_model.specs.Sound.{Setting}
+use Rattle.fwu_model.specs.Session.{Session, On, Staged, Handle}
+use Rattle.flash_core.specs.declared.flash.Flash.{Ghosts}
+use Rattle.agent_calls.specs.declared.agent.Agent.{Agent}
+use Rattle.agent_calls.specs.Shown.{device, gone}
+use Rattle.agent_machine.specs.declared.stop.Stop.{Stop}
+use Rattle.agent_machine.specs.declared.stop.Stop.TheVariants as stop
+use Rattle.agent_machine.specs.Moment.{Moment}
+use Rattle.agent_machine.specs.Goes.{Goes}
+use Rattle.update_client.specs.declared.stops.SendStop.{SendStop}
+use Rattle.update_client.specs.declared.stops.SendStop.TheVariants.{MissingImage, ImageTooLarge, Begin, End, ReadFailed, Lost, Fault, Gone}
+
+-- an agent's stop, as that of a sending; within a staging none is refused
+abbrev pub stopped_as : Stop → SendStop
+stopped_as (stop.Status st) = End st
+stopped_as stop.Lost = Lost
+stopped_as stop.Fault = Fault
+stopped_as stop.Gone = Gone
+
+-- the stop of a begin
+abbrev pub unbegun_as : Stop → SendStop
+unbegun_as (stop.Status st) = Begin st
+unbegun_as stop.Lost = Lost
+unbegun_as stop.Fault = Fault
+unbegun_as stop.Gone = Gone
+
+abbrev pub is_unread : SendStop → Bool
+is_unread ReadFailed = true
+is_unread other = false
+
+-- whether the flash stopped it
+abbrev pub flash_of : {T : Type 0} → Result T SendStop → Result (Unit {0}) FlashStop
+flash_of (Ok x) = Ok tt
+flash_of (Err (MissingImage guid)) = Ok tt
+flash_of (Err (ImageTooLarge guid)) = Ok tt
+flash_of (Err (Begin st)) = Ok tt
+flash_of (Err (End st)) = Ok tt
+flash_of (Err ReadFailed) = Ok tt
+flash_of (Err Lost) = Err flash_stop.Lost
+flash_of (Err Fault) = Err flash_stop.Failed
+flash_of (Err Gone) = Ok tt
+
+-- the staging stands, with whatever was staged
+pub record StillStaging (E : Setting) (old new : Moment) (s : State) (boot : ℕ) : Type 0 where
+  pub parts : List Staged
+  pub handles : List Handle
+  pub goes : Goes E (Ok tt) old new s [] (On boot (Some parts) handles)
+
+-- Calls within a staging: done, and then the session is this one; or a read failed; or the flash stopped it. None is refused.
+abbrev pub Halts : {T : Type 0} → Result T SendStop → Setting → Moment → Moment → State → ℕ → Session → Type 0
+Halts (Ok x) E old new s boot y = Goes E (Ok tt) old new s [] y
+Halts (Err ReadFailed) E old new s boot y = StillStaging E old new s boot
+Halts (Err Lost) E old new s boot y = Goes E (Err flash_stop.Lost) old new s [] y
+Halts (Err Fault) E old new s boot y = Goes E (Err flash_stop.Failed) old new s [] y
+Halts (Err other) E old new s boot y = ⊥
+
+-- what holds on every device: the agent is gone, and the device off, exactly where that stopped it, which has a cause
+pub record Spent (result : Result (Unit {0}) FlashStop) (gone on : Bool) (was is : ℕ) (old new : Counts) : Type 0 where
+  pub gone_is : gone ≡ not (is_ok result)
+  pub power : on ≡ is_ok result
+  pub size : is ≡ was
+  pub costs : Spends result old new
+
+abbrev pub SpentBy : {D : Type 0} {F : Ghosts D} → Result (Unit {0}) FlashStop → Agent D F → Agent D F → Type 0
+SpentBy {F = F} result old new =
+    Spent result (gone new) (F.on (device new)) (F.blocks (device old)) (F.blocks (device new)) (F.counts (device old)) (F.counts (device new))
+
+-- the stops of calls within a staging, on any device: no image is at fault, and no begin was refused
+abbrev pub StopsWithin : {T : Type 0} → Result T SendStop → Type 0
+StopsWithin (Ok x) = ⊤
+StopsWithin (Err (MissingImage guid)) = ⊥
+StopsWithin (Err (ImageTooLarge guid)) = ⊥
+StopsWithin (Err (Begin st)) = ⊥
+StopsWithin (Err Gone) = ⊥
+StopsWithin (Err other) = ⊤
+
+-- and of the end
+abbrev pub StopsEnd : {T : Type 0} → Result T SendStop → Type 0
+StopsEnd (Err ReadFailed) = ⊥
+StopsEnd result = StopsWithin result

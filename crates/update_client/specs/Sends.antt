@@ -1,0 +1,114 @@
+-- What a sending is to the machine.
+use Rattle.std.specs.Prelude.{◌≡◌, ◌↔◌, ◌⊎◌, ◌==◌, ℕ, Bool, List, [], length, replicate, Option, Some, None, Result, Ok, Err, IsTrue, ⊤}
+use Rattle.flash_core.specs.declared.flash.FlashStop.TheVariants as flash_stop
+use Rattle.host_io.specs.Contents.{Directory}
+use Rattle.fwu_formats.specs.Layout.{ImageRow}
+use Rattle.fwu_model.specs.State.{State, bank, update_bank}
+use Rattle.fwu_model.specs.Sound.{Setting}
+use Rattle.fwu_model.specs.Session.{Session, Off, On, no_handles}
+use Rattle.fwu_formats.specs.Package.{Toc}
+use Rattle.fwu_model.specs.Call as call
+use Rattle.fwu_model.specs.Reply.{Reply}
+use Rattle.fwu_model.specs.Reply as reply
+use Rattle.fwu_model.specs.Answer.{Answer, answer, answered, first_image_fault, images_of, send_unless, skipped}
+use Rattle.fip_tables.specs.Files.{Tells}
+use Rattle.agent_machine.specs.Fields.{Fields, target}
+use Rattle.agent_machine.specs.Moment.{Moment, Shows}
+use Rattle.agent_machine.specs.Goes.{Goes}
+use Rattle.update_client.specs.declared.stops.Sent.{Sent}
+use Rattle.update_client.specs.declared.stops.SendStop.{SendStop}
+use Rattle.update_client.specs.declared.stops.SendStop.TheVariants.{MissingImage, ImageTooLarge, Begin, End, ReadFailed, Lost, Fault, Gone}
+
+-- the machine's answer to a sending by the table that is given, of the images that were read
+abbrev pub send_answer : Setting → Toc → List (List ℕ) → ℕ → State → Session → Answer
+send_answer E toc p request s Off = answered reply.IsOff [] Off
+send_answer E toc p request s (On boot staging handles) = send_unless (first_image_fault E.layout.rows toc) E s boot staging handles p request
+    (skipped E.layout.rows toc)
+
+-- the session without a staging and a handle
+abbrev pub ended : Session → Session
+ended Off = Off
+ended (On boot staging handles) = On boot None no_handles
+
+-- the reply is the machine's, and so are the moves and the session after them
+abbrev pub AnswersBy : Reply → Answer → Setting → Moment → Moment → State → Type 0
+AnswersBy r a E old new s = (r ≡ a.reply) × Goes E (Ok tt) old new s a.moves a.next
+
+-- An answer or a refusal is the machine's, with all its moves; a failed read leaves those of a begin, and no staging; at a stop of the
+-- flash each loss leaves a prefix of the moves. An agent that is there is never answered to be gone.
+abbrev pub SendsBy : Result Sent SendStop → Setting → Toc → List (List ℕ) → ℕ → Moment → Moment → State → Session → Type 0
+SendsBy (Ok sent) E toc p request old new s x = AnswersBy (reply.Sent sent.images sent.skipped) (send_answer E toc p request s x) E old new s
+SendsBy (Err (MissingImage guid)) E toc p request old new s x = AnswersBy (reply.Missing guid) (send_answer E toc p request s x) E old new s
+SendsBy (Err (ImageTooLarge guid)) E toc p request old new s x = AnswersBy (reply.TooLarge guid) (send_answer E toc p request s x) E old new s
+SendsBy (Err (Begin st)) E toc p request old new s x = AnswersBy (reply.BeginRefused st) (send_answer E toc p request s x) E old new s
+SendsBy (Err (End st)) E toc p request old new s x = AnswersBy (reply.EndRefused st) (send_answer E toc p request s x) E old new s
+SendsBy (Err ReadFailed) E toc p request old new s x = Goes E (Ok tt) old new s (answer E s x (call.Begin 0)).moves (ended x)
+SendsBy (Err Lost) E toc p request old new s x =
+    Goes E (Err flash_stop.Lost) old new s (send_answer E toc p request s x).moves (ended x)
+SendsBy (Err Fault) E toc p request old new s x =
+    Goes E (Err flash_stop.Failed) old new s (send_answer E toc p request s x).moves (ended x)
+SendsBy (Err Gone) E toc p request old new s x = ⊥
+
+-- What a sending says of an agent that isn't gone, on any device: there are images, those of the file where it is told, and each machine
+-- that the agent shows goes by the sending of them.
+pub record Sends (told : Option Directory) (name : List ℕ) (toc : Toc) (request : ℕ) (passes : List ℕ → Bool)
+    (result : Result Sent SendStop) (old new : Moment) : Type 0 where
+  pub images : List (List ℕ)
+  pub read : (file : List ℕ) → Tells told name file → images ≡ images_of old.fields.layout.rows file toc
+  pub goes : (E : Setting) (s : State) (x : Session) → E.layout ≡ old.fields.layout → E.passes ≡ passes → Shows old s x
+      → SendsBy result E toc images request old new s x
+
+-- ---- when done
+
+-- how many images the layout has, and how many entries are none of them
+pub record IsCounted (rows : List ImageRow) (toc : Toc) (sent : Sent) : Type 0 where
+  pub images : sent.images ≡ length rows
+  pub skipped : sent.skipped ≡ skipped rows toc
+
+-- The bank that took the update is active and holds the images, all of them accepted or none, and the bank that was active is the previous one.
+pub record IsInstalled (images : List (List ℕ)) (accepted : Bool) (rows : List ImageRow) (before now : State) : Type 0 where
+  pub active : now.active ≡ update_bank before
+  pub previous : now.previous ≡ before.active
+  pub held : (bank now now.active).held ≡ Some images
+  pub bits : (bank now now.active).bits ≡ replicate (length rows) accepted
+  pub trials : now.trials ≡ 0
+  pub counter : now.counter ≡ before.counter
+
+-- The machine that the agent shows then has installed the file's images.
+pub record Installs (told : Option Directory) (name : List ℕ) (toc : Toc) (request : ℕ) (new : Moment) (before : State) : Type 0 where
+  pub now : State
+  pub session : Session
+  pub shows : Shows new now session
+  pub images : List (List ℕ)
+  pub read : (file : List ℕ) → Tells told name file → images ≡ images_of new.fields.layout.rows file toc
+  pub installed : IsInstalled images (request == 0) new.fields.layout.rows before now
+
+-- On any device: what the agent keeps then has the bank active that took the update, and the one that was active is the previous one.
+pub record IsSwitched (old new : Fields) : Type 0 where
+  pub active : new.meta.meta.active ≡ target old
+  pub previous : new.meta.meta.previous ≡ old.meta.meta.active
+
+-- ---- on any agent and device
+
+-- a missing or too large image is answered exactly where that is the fault of the lowest image that has one
+abbrev pub FaultsBy : Option Reply → Result Sent SendStop → Type 0
+FaultsBy fault (Err (MissingImage guid)) = fault ≡ Some (reply.Missing guid)
+FaultsBy fault (Err (ImageTooLarge guid)) = fault ≡ Some (reply.TooLarge guid)
+FaultsBy fault other = fault ≡ None
+
+abbrev pub IsStopped : Result Sent SendStop → Type 0
+IsStopped (Err Lost) = ⊤
+IsStopped (Err Fault) = ⊤
+IsStopped other = ⊥
+
+abbrev pub IsEarly : Result Sent SendStop → Type 0
+IsEarly (Err (MissingImage guid)) = ⊤
+IsEarly (Err (ImageTooLarge guid)) = ⊤
+IsEarly (Err (Begin st)) = ⊤
+IsEarly (Err Gone) = ⊤
+IsEarly other = ⊥
+
+-- Gone comes exactly where the agent is gone and no image has a fault; and a stop makes it gone
+pub record GoneBy (fault : Option Reply) (result : Result Sent SendStop) (was now : Bool) : Type 0 where
+  pub gone : (result ≡ Err Gone) ↔ (IsTrue was × (fault ≡ None))
+  pub later : IsTrue now ↔ (IsTrue was ⊎ IsStopped result)

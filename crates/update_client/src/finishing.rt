@@ -1,0 +1,76 @@
+//! Ending a staging.
+ghost use Rattle.std.specs.Prelude.{◌≡◌, All, ◌+◌, ◌^◌, ◌<◌, ◌≤◌, ℕ, List, length, IsFalse};
+ghost use Rattle.fip_tables.specs.Files.{Lacks, Tells};
+ghost use Rattle.agent_calls.specs.Shown.{gone, moment};
+ghost use Rattle.update_client.specs.Finishes.{FinishesBy, InstallsImages};
+ghost use Rattle.update_client.specs.Pieces.{ReadsBy};
+ghost use Rattle.update_client.specs.Halts.{SpentBy, StopsEnd, StopsWithin, flash_of};
+
+use crate::images::send_images;
+use crate::pieces::{is_unread, stopped};
+use crate::stops::SendStop;
+use agent_calls::{Agent, Stop};
+use fip_tables::Entry;
+use flash_core::Flash;
+use host_io::Files;
+use verify_core::Verifier;
+
+/// Installs what was staged; where that is refused, cancels it.
+pub fn finish<D: Flash, V: Verifier>(agent: &mut Agent<D>, verifier: &V) -> Result<(), SendStop>
+    requires here { IsFalse (gone agent.old) }
+
+    ensures finishes { FinishesBy (V.passes verifier.now) result
+        (moment agent.old) (moment agent.new) }
+    ensures stops { StopsEnd result }
+    ensures spent { SpentBy (flash_of result) agent.old agent.new }
+{
+    match agent.end(verifier) {
+        Ok(()) => Ok(()),
+        Err(Stop::Status(status)) => match agent.cancel() {
+            Ok(()) => Err(SendStop::End(status)),
+            Err(stop) => Err(stopped(stop)),
+        },
+        Err(Stop::Lost) => Err(SendStop::Lost),
+        Err(Stop::Fault) => Err(SendStop::Fault),
+        Err(Stop::Gone) => Err(SendStop::Gone),
+    }
+}
+
+/// Sends the images of a layout into a staging and installs them; after a failed read cancels it.
+pub fn install<D: Flash, H: Files, V: Verifier>(
+    agent: &mut Agent<D>,
+    files: &mut H,
+    name: &str,
+    entries: &[Entry],
+    acceptance: u32,
+    buf: &mut [u8],
+    verifier: &V,
+) -> Result<(), SendStop>
+    requires room { 0 < length buf.old }
+    requires ends { All (λ e. e.offset + e.size < 2 ^ 64) entries.now }
+    requires stored { (file : List ℕ) → Tells (H.contents files.old) name.now file
+        → All (λ e. e.offset + e.size ≤ length file) entries.now }
+    requires there { Lacks (H.contents files.old) name.now → ⊥ }
+    requires here { IsFalse (gone agent.old) }
+
+    ensures installs { InstallsImages (H.contents files.old) name.now entries.now acceptance
+        (V.passes verifier.now) result (moment agent.old) (moment agent.new) }
+    ensures stops { StopsWithin result }
+    ensures spent { SpentBy (flash_of result) agent.old agent.new }
+    ensures buffer { length buf.new ≡ length buf.old }
+    ensures same { H.contents files.new ≡ H.contents files.old }
+    ensures reads { ReadsBy (H.faults files.old) (H.faults files.new) result }
+{
+    match send_images(agent, files, name, entries, acceptance, buf) {
+        Ok(()) => finish(agent, verifier),
+        Err(stop) => {
+            if !is_unread(&stop) {
+                return Err(stop);
+            }
+            match agent.cancel() {
+                Ok(()) => Err(SendStop::ReadFailed),
+                Err(stop) => Err(stopped(stop)),
+            }
+        }
+    }
+}

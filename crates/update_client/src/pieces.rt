@@ -1,0 +1,112 @@
+//! Writing the payload of an image.
+ghost use Rattle.std.specs.Prelude.{◌≡◌, ◌+◌, ◌^◌, ◌<◌, ◌≤◌, ℕ, List, length, IsFalse};
+ghost use Rattle.fip_tables.specs.Files.{Lacks, Tells};
+ghost use Rattle.agent_calls.specs.Shown.{gone, moment};
+ghost use Rattle.update_client.specs.Halts.{SpentBy, StopsWithin, flash_of, stopped_as, unbegun_as, is_unread as was_unread};
+ghost use Rattle.update_client.specs.Pieces.{ReadsBy, WritesImage, WritesPiece};
+
+use crate::stops::SendStop;
+use agent_calls::{Agent, Stop};
+use fip_tables::{Entry, payload_at};
+use flash_core::Flash;
+use host_io::Files;
+
+/// A stop of the agent, as one of a sending.
+pub fn stopped(stop: Stop) -> SendStop
+    ensures { result ≡ stopped_as stop }
+{
+    match stop {
+        Stop::Status(status) => SendStop::End(status),
+        Stop::Lost => SendStop::Lost,
+        Stop::Fault => SendStop::Fault,
+        Stop::Gone => SendStop::Gone,
+    }
+}
+
+/// A stop of a begin, as one of a sending.
+pub fn unbegun(stop: Stop) -> SendStop
+    ensures { result ≡ unbegun_as stop }
+{
+    match stop {
+        Stop::Status(status) => SendStop::Begin(status),
+        Stop::Lost => SendStop::Lost,
+        Stop::Fault => SendStop::Fault,
+        Stop::Gone => SendStop::Gone,
+    }
+}
+
+/// Whether the file could not be read.
+pub fn is_unread(stop: &SendStop) -> bool
+    ensures { result ≡ was_unread stop.now }
+{
+    matches!(stop, SendStop::ReadFailed)
+}
+
+/// Reads a piece of a payload, from a place of it on, and writes it through handle 1. How many bytes it has.
+fn write_piece<D: Flash, H: Files>(
+    agent: &mut Agent<D>,
+    files: &mut H,
+    name: &str,
+    entry: &Entry,
+    at: u64,
+    buf: &mut [u8],
+) -> Result<u64, SendStop>
+    requires room { 0 < length buf.old }
+    requires some { at < entry.now.size }
+    requires ends { entry.now.offset + entry.now.size < 2 ^ 64 }
+    requires stored { (file : List ℕ) → Tells (H.contents files.old) name.now file
+        → entry.now.offset + entry.now.size ≤ length file }
+    requires there { Lacks (H.contents files.old) name.now → ⊥ }
+    requires here { IsFalse (gone agent.old) }
+
+    ensures wrote { WritesPiece (H.contents files.old) name.now entry.now at result
+        (moment agent.old) (moment agent.new) }
+    ensures stops { StopsWithin result }
+    ensures spent { SpentBy (flash_of result) agent.old agent.new }
+    ensures buffer { length buf.new ≡ length buf.old }
+    ensures same { H.contents files.new ≡ H.contents files.old }
+    ensures reads { ReadsBy (H.faults files.old) (H.faults files.new) result }
+{
+    let size = (entry.size - at).min(buf.len() as u64) as usize;
+    match payload_at(files, name, entry, at, &mut buf[..size]) {
+        Ok(()) => {}
+        Err(_) => return Err(SendStop::ReadFailed),
+    }
+    match agent.write_stream(1, &buf[..size]) {
+        Ok(()) => Ok(size as u64),
+        Err(stop) => Err(stopped(stop)),
+    }
+}
+
+/// Writes a payload through handle 1, in pieces that fill the buffer, but for the last one.
+pub fn write_image<D: Flash, H: Files>(
+    agent: &mut Agent<D>,
+    files: &mut H,
+    name: &str,
+    entry: &Entry,
+    buf: &mut [u8],
+) -> Result<(), SendStop>
+    requires room { 0 < length buf.old }
+    requires ends { entry.now.offset + entry.now.size < 2 ^ 64 }
+    requires stored { (file : List ℕ) → Tells (H.contents files.old) name.now file
+        → entry.now.offset + entry.now.size ≤ length file }
+    requires there { Lacks (H.contents files.old) name.now → ⊥ }
+    requires here { IsFalse (gone agent.old) }
+
+    ensures wrote { WritesImage (H.contents files.old) name.now entry.now result
+        (moment agent.old) (moment agent.new) }
+    ensures stops { StopsWithin result }
+    ensures spent { SpentBy (flash_of result) agent.old agent.new }
+    ensures buffer { length buf.new ≡ length buf.old }
+    ensures same { H.contents files.new ≡ H.contents files.old }
+    ensures reads { ReadsBy (H.faults files.old) (H.faults files.new) result }
+{
+    let mut at = 0;
+    while at < entry.size {
+        match write_piece(agent, files, name, entry, at, buf) {
+            Ok(count) => at += count,
+            Err(stop) => return Err(stop),
+        }
+    }
+    Ok(())
+}

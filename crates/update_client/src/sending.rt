@@ -1,0 +1,105 @@
+//! Sending a package to the agent.
+ghost use Rattle.std.specs.Prelude.{◌≡◌, ◌+◌, ◌^◌, ◌<◌, ◌≤◌, All, ℕ, List, length, is_ok, IsFalse, IfOk, OnOk};
+ghost use Rattle.flash_core.specs.Counts.{Spends};
+ghost use Rattle.fwu_model.specs.State.{State};
+ghost use Rattle.fwu_model.specs.Session.{Session};
+ghost use Rattle.agent_machine.specs.Moment.{Shows};
+ghost use Rattle.fwu_model.specs.Answer.{first_image_fault};
+ghost use Rattle.fip_tables.specs.Files.{Lacks, Tells};
+ghost use Rattle.agent_calls.specs.Shown.{device, fields, gone, moment};
+ghost use Rattle.update_client.specs.Halts.{flash_of};
+ghost use Rattle.update_client.specs.Pieces.{ReadsBy};
+ghost use Rattle.update_client.specs.Sends.{FaultsBy, GoneBy, Installs, IsCounted, IsEarly, IsSwitched, Sends};
+
+use crate::choosing::{choose, skipped};
+use crate::finishing::install;
+use crate::pieces::unbegun;
+use crate::stops::{SendStop, Sent};
+use agent_calls::Agent;
+use fip_tables::Toc;
+use flash_core::Flash;
+use host_io::Files;
+use verify_core::Verifier;
+
+/// Sends the images of a package to the agent, and installs them: a begin, for each image of the
+/// layout in its order an open, the writes of its payload and a commit, and an end (DEN0118).
+///
+/// The package is the file `name`, and its table is the one that is given: an image is the payload of
+/// the entry of its type, wherever that stands in the table, and the other entries are skipped.
+/// With `acceptance` 0 each image is accepted at once; with another number the package is on trial. The
+/// buffer's length is that of each write, in bytes, but for the last one of an image; an image of no
+/// bytes has no write. Nothing here takes memory.
+///
+/// `MissingImage`: no entry has the type of this image of the layout. `ImageTooLarge`: its payload has
+/// more bytes than its slot. Of several such images the lowest one is named, before any call.
+/// `Begin`: the agent refused to begin, always by DENIED. `End`: it refused to install what was
+/// staged, always by AUTH_FAIL, and the staging was cancelled. `ReadFailed`: the file could not be
+/// read, and the staging was cancelled. `Lost`, `Fault`: the flash stopped a call. `Gone`: it had
+/// stopped an earlier call of this agent.
+pub fn send<D: Flash, H: Files, V: Verifier>(
+    agent: &mut Agent<D>,
+    files: &mut H,
+    name: &str,
+    toc: &Toc,
+    acceptance: u32,
+    buf: &mut [u8],
+    verifier: &V,
+) -> Result<Sent, SendStop>
+    requires room { 0 < length buf.old }
+    requires ends { All (λ e. e.offset + e.size < 2 ^ 64) toc.now.entries }
+    requires stored { (file : List ℕ) → Tells (H.contents files.old) name.now file
+        → All (λ e. e.offset + e.size ≤ length file) toc.now.entries }
+    requires there { Lacks (H.contents files.old) name.now → ⊥ }
+
+    // Of an agent that isn't gone, on any device: the reply is the machine's, and so is what the agent
+    // shows afterwards; on a flash that is ready each loss leaves a prefix of the machine's moves.
+    ensures sends { IsFalse (gone agent.old) →
+        Sends (H.contents files.old) name.now toc.now acceptance
+        (V.passes verifier.now) result (moment agent.old) (moment agent.new) }
+    // When done, the update bank holds the images and is active.
+    ensures installs { IsFalse (gone agent.old) → (s : State) (x : Session) →
+        Shows (moment agent.old) s x → OnOk result (Installs (H.contents files.old) name.now toc.now
+        acceptance (moment agent.new) s) }
+    // So on any device, a file too, the agent then has the other bank active.
+    ensures switched { IsFalse (gone agent.old) → OnOk result
+        (IsSwitched (fields agent.old) (fields agent.new)) }
+    ensures counted { IfOk result (IsCounted (fields agent.old).layout.rows toc.now) }
+    // A missing or too large image comes exactly by the table and the layout, on any agent.
+    ensures faults { FaultsBy (first_image_fault (fields agent.old).layout.rows toc.now) result }
+    // It, a refused begin and Gone leave everything as it was.
+    ensures untouched { IsEarly result → agent.new ≡ agent.old }
+    ensures unread { IsEarly result → files.new ≡ files.old }
+    // Gone comes exactly on an agent that is gone, where no image is missing or too large.
+    ensures gone { GoneBy (first_image_fault (fields agent.old).layout.rows toc.now) result
+        (gone agent.old) (gone agent.new) }
+    ensures power { IsFalse (gone agent.old) → D.on (device agent.new) ≡ is_ok (flash_of result) }
+    ensures size { D.blocks (device agent.new) ≡ D.blocks (device agent.old) }
+    ensures costs { Spends (flash_of result)
+        (D.counts (device agent.old)) (D.counts (device agent.new)) }
+    ensures buffer { length buf.new ≡ length buf.old }
+    ensures same { H.contents files.new ≡ H.contents files.old }
+    ensures reads { ReadsBy (H.faults files.old) (H.faults files.new) result }
+{
+    let entries = match choose(agent.rows(), toc) {
+        Ok(entries) => entries,
+        Err(stop) => return Err(stop),
+    };
+    let images = agent.rows().len() as u32;
+    let skipped = skipped(agent.rows(), toc);
+    match agent.begin(0, 0) {
+        Ok(()) => {}
+        Err(stop) => return Err(unbegun(stop)),
+    }
+    match install(
+        agent,
+        files,
+        name,
+        entries.as_slice(),
+        acceptance,
+        buf,
+        verifier,
+    ) {
+        Ok(()) => Ok(Sent { images, skipped }),
+        Err(stop) => Err(stop),
+    }
+}
