@@ -15,7 +15,8 @@ use flash_core::Flash;
 use fwu_model::Op;
 use host_io::Files;
 
-/// Opens the image of a type for writing, writes its payload, and commits it. No handle is open before, so it is handle 1.
+/// Opens the image of a type for writing, writes its payload, and commits it. No handle is open
+/// before, so it is handle 1.
 pub fn send_image<D: Flash, H: Files>(
     agent: &mut Agent<D>,
     files: &mut H,

@@ -42,7 +42,8 @@ pub fn is_unread(stop: &SendStop) -> bool
     matches!(stop, SendStop::ReadFailed)
 }
 
-/// Reads a piece of a payload, from a place of it on, and writes it through handle 1. How many bytes it has.
+/// Reads a piece of a payload, from a place of it on, and writes it through handle 1. How many
+/// bytes it has.
 fn write_piece<D: Flash, H: Files>(
     agent: &mut Agent<D>,
     files: &mut H,

@@ -24,14 +24,14 @@ use verify_core::Verifier;
 /// Sends the images of a package to the agent, and installs them: a begin, for each image of the
 /// layout in its order an open, the writes of its payload and a commit, and an end (DEN0118).
 ///
-/// The package is the file `name`, and its table is the one that is given: an image is the payload of
-/// the entry of its type, wherever that stands in the table, and the other entries are skipped.
-/// With `acceptance` 0 each image is accepted at once; with another number the package is on trial. The
-/// buffer's length is that of each write, in bytes, but for the last one of an image; an image of no
-/// bytes has no write. Nothing here takes memory.
+/// The package is the file `name`, and its table is the one that is given: an image is the payload
+/// of the entry of its type, wherever that stands in the table, and the other entries are skipped.
+/// With `acceptance` 0 each image is accepted at once; with another number the package is on trial.
+/// The buffer's length is that of each write, in bytes, but for the last one of an image; an image
+/// of no bytes has no write. Nothing here takes memory.
 ///
-/// `MissingImage`: no entry has the type of this image of the layout. `ImageTooLarge`: its payload has
-/// more bytes than its slot. Of several such images the lowest one is named, before any call.
+/// `MissingImage`: no entry has the type of this image of the layout. `ImageTooLarge`: its payload
+/// has more bytes than its slot. Of several such images the lowest one is named, before any call.
 /// `Begin`: the agent refused to begin, always by DENIED. `End`: it refused to install what was
 /// staged, always by AUTH_FAIL, and the staging was cancelled. `ReadFailed`: the file could not be
 /// read, and the staging was cancelled. `Lost`, `Fault`: the flash stopped a call. `Gone`: it had
@@ -51,8 +51,8 @@ pub fn send<D: Flash, H: Files, V: Verifier>(
         → All (λ e. e.offset + e.size ≤ length file) toc.now.entries }
     requires there { Lacks (H.contents files.old) name.now → ⊥ }
 
-    // Of an agent that isn't gone, on any device: the reply is the machine's, and so is what the agent
-    // shows afterwards; on a flash that is ready each loss leaves a prefix of the machine's moves.
+    // Of an agent that isn't gone, on any device: the reply is the machine's, and so is what the
+    // agent shows afterwards; on a ready flash each loss leaves a prefix of the machine's moves.
     ensures sends { IsFalse (gone agent.old) →
         Sends (H.contents files.old) name.now toc.now acceptance
         (V.passes verifier.now) result (moment agent.old) (moment agent.new) }
