@@ -14,7 +14,7 @@ use Rattle.fwu_formats.specs.Package.{Part}
 use Rattle.fip_tables.specs.Again.{has_fields}
 use Rattle.fip_tables.specs.Frame.{AreSixteen, last_end, table_end}
 use Rattle.fip_tables.specs.Packing.{is_alignment, is_nil, is_repeat, pack_fault, part_at}
-use Rattle.fip_tables.proofs.Firsts.{no-fault, none-repeats, position-none}
+use Rattle.fip_tables.proofs.Firsts.{no-fault, none-repeats, none-shared, position-none}
 use Rattle.fip_tables.proofs.Plans.{packed-length}
 use Rattle.gen_core.specs.Generated.{image_parts, row_of, manifest_for, generated_parts}
 use Rattle.gen_core.proofs.Making.{AreImages, FitSizes, guids_of, is_within, row-limits, image-length, image_parts-length}
@@ -197,8 +197,8 @@ parts-pass rows parts images fit =
     let few = images.few in
     let distinct = subst (λ (gs : List (List ℕ)). IsTrue (are_distinct gs)) (sym (fit-guids rows parts fit)) images.distinct in
     let nils = none-nil rows parts images.each fit in
-    no-fault parts 1 (omega (arith, len, few))
-    (none-repeats parts (no-repeat parts distinct))
-    (position-none is_nil parts (record { guid = []; flags = 0; bytes = [] }) nils)
+    no-fault parts 1
+    (none-shared parts (omega (arith, len, few)) (none-repeats parts (no-repeat parts distinct))
+    (position-none is_nil parts (record { guid = []; flags = 0; bytes = [] }) nils))
     one-aligns
     (omega (arith, packed-length 0 0 parts 1 (are-sixteen rows parts images.each fit), short-end (table_end parts) rows parts images.each fit, len, few))
