@@ -3,6 +3,7 @@ pub mod Layout
 pub mod Metadata
 pub mod Manifest
 pub mod Package
+pub mod Capsule
 pub mod Image
 pub mod Counter
 pub mod Words

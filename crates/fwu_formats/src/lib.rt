@@ -5,7 +5,7 @@ mod kinds;
 mod laws;
 mod places;
 
-pub use kinds::{BankState, FipFault, LayoutFault, ManifestFault, MetaFault};
+pub use kinds::{BankState, CapsuleFault, FipFault, LayoutFault, ManifestFault, MetaFault};
 pub use places::{
     COUNTER_BLOCK, COUNTER_LIMIT, FIRST_BANK_BLOCK, FIRST_RECORD, FIRST_REPLICA, LAYOUT_BLOCK,
     SECOND_RECORD, SECOND_REPLICA, TRIAL_BLOCK, TRIAL_LIMIT,
