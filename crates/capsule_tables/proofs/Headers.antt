@@ -3,10 +3,10 @@ use Rattle.std.proofs.Common.{◌≡◌, ◌∙◌, ◌≤◌, ◌<◌, ◌+◌,
 use Rattle.std.specs.Prelude.{nat_lt}
 use Rattle.base_core.specs.Bytes.{num_at, same_bytes}
 use Rattle.fip_tables.proofs.Steps.{is-less, skips, takes}
-use Rattle.capsule_tables.specs.Capsule.{fmp_guid, has_sizes, shape_in, shape_of, swapped}
+use Rattle.fwu_formats.specs.Capsule.{fmp_guid, has_sizes, shape_in, shape_of, swapped}
 use Rattle.capsule_tables.specs.Ranges.{header_read, shape_read}
-use Rattle.capsule_tables.specs.declared.faults.CapsuleFault.{CapsuleFault}
-use Rattle.capsule_tables.specs.declared.faults.CapsuleFault.TheVariants as fault
+use Rattle.fwu_formats.specs.declared.kinds.CapsuleFault.{CapsuleFault}
+use Rattle.fwu_formats.specs.declared.kinds.CapsuleFault.TheVariants as fault
 use Rattle.capsule_tables.proofs.Windows.{num_in}
 use Rattle.fip_tables.proofs.Told.{part_of}
 

@@ -12,7 +12,7 @@ use Rattle.fip_tables.specs.declared.faults.PackFault.TheVariants as fault
 use Rattle.fip_tables.proofs.Again.{count-passes}
 use Rattle.fip_tables.proofs.Plans.{outlines-sixteen, sixteen-zeroed}
 use Rattle.fip_tables.proofs.Zeros.{length-zeroed, zeros-share}
-use Rattle.capsule_tables.specs.Capsule.{swapped}
+use Rattle.fwu_formats.specs.Capsule.{swapped}
 use Rattle.capsule_tables.specs.Making.{capsule_size, front_bytes, headers_bytes, item_head, made_head, make_fault, places_bytes}
 use Rattle.capsule_tables.proofs.MadeFaults.{parts-pass, size-passes}
 

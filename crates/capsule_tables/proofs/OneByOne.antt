@@ -11,10 +11,10 @@ use Rattle.fwu_formats.specs.Package.{Entry, has_guid}
 use Rattle.fip_tables.specs.Files.{Tells}
 use Rattle.fip_tables.proofs.Told.{part_of}
 use Rattle.capsule_tables.specs.Answers.{AreEntries}
-use Rattle.capsule_tables.specs.Capsule.{Shape, after_headers, capsule_of, shape_of, table_with, usual_serial, entries_in, entry_in, first_some, is_item, item_at, item_fault, item_place, items_of}
+use Rattle.fwu_formats.specs.Capsule.{Shape, after_headers, capsule_of, shape_of, table_with, usual_serial, entries_in, entry_in, first_some, is_item, item_at, item_fault, item_place, items_of}
 use Rattle.capsule_tables.specs.Ranges.{good_entry, item_read}
-use Rattle.capsule_tables.specs.declared.faults.CapsuleFault.{CapsuleFault}
-use Rattle.capsule_tables.specs.declared.faults.CapsuleFault.TheVariants as fault
+use Rattle.fwu_formats.specs.declared.kinds.CapsuleFault.{CapsuleFault}
+use Rattle.fwu_formats.specs.declared.kinds.CapsuleFault.TheVariants as fault
 use Rattle.capsule_tables.proofs.Windows.{num_in}
 
 -- ---- one item

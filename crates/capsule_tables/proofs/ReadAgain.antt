@@ -15,9 +15,9 @@ use Rattle.fip_tables.proofs.Again.{no-repeat, none-at, nil-passes, repeat-passe
 use Rattle.fip_tables.proofs.Steps.{skips}
 use Rattle.fip_tables.specs.Frame.{AreSixteen}
 use Rattle.fip_tables.specs.Packing.{is_nil, part_at}
-use Rattle.capsule_tables.specs.Capsule.{Item, Shape, capsule_of, checked, entries_in, entry_in, fmp_guid, has_sizes, is_item, item_at, item_fault, item_place, places_end, shape_in, shape_of, swapped, usual_serial}
+use Rattle.fwu_formats.specs.Capsule.{Item, Shape, capsule_of, checked, entries_in, entry_in, fmp_guid, has_sizes, is_item, item_at, item_fault, item_place, places_end, shape_in, shape_of, swapped, usual_serial}
 use Rattle.capsule_tables.specs.Making.{IsMadeOf, MadeIsRead, capsule_bytes, capsule_size, front_bytes, headers_bytes, item_bytes, item_head, items_bytes, made_head, make_fault, places_bytes}
-use Rattle.capsule_tables.specs.declared.faults.CapsuleFault.TheVariants as fault
+use Rattle.fwu_formats.specs.declared.kinds.CapsuleFault.TheVariants as fault
 use Rattle.capsule_tables.proofs.MadeFaults.{parts-pass, size-passes}
 use Rattle.capsule_tables.proofs.MadeZeros.{few-parts, sizes, sizes-cons}
 use Rattle.capsule_tables.proofs.OneByOne.{capsule-is, passes-all}

@@ -3,7 +3,7 @@ use Rattle.std.proofs.Common.{◌≡◌, ◌∙◌, ap, sym, subst, Result, Err}
 use Rattle.std.specs.Prelude.{IsErrAnd}
 use Rattle.std.proofs.lemmas.Result.{err_from_is_err_and}
 use Rattle.capsule_tables.specs.Answers.{IsAnswer}
-use Rattle.capsule_tables.specs.declared.faults.CapsuleFault.{CapsuleFault}
+use Rattle.fwu_formats.specs.declared.kinds.CapsuleFault.{CapsuleFault}
 use Rattle.capsule_tables.specs.declared.faults.CapsuleStop.{CapsuleStop}
 use Rattle.capsule_tables.specs.declared.faults.CapsuleStop.TheVariants as stop
 

@@ -8,9 +8,9 @@ use Rattle.std.specs.List.{All, list_any, range_with_len}
 use Rattle.base_core.specs.Bytes.{num_at, same_bytes}
 use Rattle.base_core.specs.Guid.{nil_guid}
 use Rattle.fwu_formats.specs.Package.{Entry, Toc, entry_limit, has_guid}
-use Rattle.capsule_tables.specs.Capsule.{Item, Shape, after_headers, capsule_of, entries_in, entry_in, first_some, fmp_guid, has_sizes, is_item, item_at, item_fault, item_place, places_end, shape_in, shape_of, swapped, table_with, unless, usual_serial}
-use Rattle.capsule_tables.specs.declared.faults.CapsuleFault.{CapsuleFault}
-use Rattle.capsule_tables.specs.declared.faults.CapsuleFault.TheVariants as fault
+use Rattle.fwu_formats.specs.Capsule.{Item, Shape, after_headers, capsule_of, entries_in, entry_in, first_some, fmp_guid, has_sizes, is_item, item_at, item_fault, item_place, places_end, shape_in, shape_of, swapped, table_with, unless, usual_serial}
+use Rattle.fwu_formats.specs.declared.kinds.CapsuleFault.{CapsuleFault}
+use Rattle.fwu_formats.specs.declared.kinds.CapsuleFault.TheVariants as fault
 use Rattle.capsule_tables.proofs.ReadAgain.{swapped-length}
 
 unrefused : {X : Type 0} (b : Bool) (f : CapsuleFault) (rest : Result X CapsuleFault) (x : X) → cond b (Err f) rest ≡ Ok x → (b ≡ false) × (rest ≡ Ok x)

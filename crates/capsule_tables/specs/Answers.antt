@@ -5,8 +5,8 @@ use Rattle.host_io.specs.Contents.{Directory}
 use Rattle.fwu_formats.specs.Layout.{are_distinct}
 use Rattle.fwu_formats.specs.Package.{Entry, Toc}
 use Rattle.fip_tables.specs.Files.{Lacks}
-use Rattle.capsule_tables.specs.Capsule.{usual_serial}
-use Rattle.capsule_tables.specs.declared.faults.CapsuleFault.{CapsuleFault}
+use Rattle.fwu_formats.specs.Capsule.{usual_serial}
+use Rattle.fwu_formats.specs.declared.kinds.CapsuleFault.{CapsuleFault}
 use Rattle.capsule_tables.specs.declared.faults.CapsuleStop.{CapsuleStop}
 use Rattle.capsule_tables.specs.declared.faults.CapsuleStop.TheVariants.{Fault, ReadFailed}
 

@@ -6,7 +6,7 @@ use Rattle.fip_tables.specs.Frame.{AreSixteen}
 use Rattle.fip_tables.specs.Packing.{first_of, package_limit, parts_fault}
 use Rattle.fip_tables.specs.declared.faults.PackFault.{PackFault}
 use Rattle.fip_tables.specs.declared.faults.PackFault.TheVariants.{TooLarge}
-use Rattle.capsule_tables.specs.Capsule.{capsule_of, fmp_guid, swapped}
+use Rattle.fwu_formats.specs.Capsule.{capsule_of, fmp_guid, swapped}
 
 -- the bytes of an item before its image
 abbrev pub made_head : ℕ

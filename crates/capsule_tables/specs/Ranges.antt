@@ -3,9 +3,9 @@
 use Rattle.std.specs.Prelude.{ℕ, ◌+◌, not, ◌==◌, nat_lt, nat_le, ◌&&◌, if◌then◌else◌, List, take, drop, Option, Some, None, Result, Ok, Err}
 use Rattle.base_core.specs.Bytes.{num_at, same_bytes}
 use Rattle.fwu_formats.specs.Package.{Entry, entry_limit}
-use Rattle.capsule_tables.specs.Capsule.{Item, Shape, entry_in, entry_of_item, fmp_guid, head_size, is_item, item_at, item_place, places_end, swapped}
-use Rattle.capsule_tables.specs.declared.faults.CapsuleFault.{CapsuleFault}
-use Rattle.capsule_tables.specs.declared.faults.CapsuleFault.TheVariants as fault
+use Rattle.fwu_formats.specs.Capsule.{Item, Shape, entry_in, entry_of_item, fmp_guid, head_size, is_item, item_at, item_place, places_end, swapped}
+use Rattle.fwu_formats.specs.declared.kinds.CapsuleFault.{CapsuleFault}
+use Rattle.fwu_formats.specs.declared.kinds.CapsuleFault.TheVariants as fault
 
 -- where the payloads' header stands and where the capsule ends, in a file of so many bytes
 abbrev pub header_read : List ℕ → ℕ → Result (ℕ × ℕ) CapsuleFault

@@ -1,7 +1,7 @@
 //! UUIDs as they stand in capsules.
 
 ghost use Rattle.std.specs.Prelude.{◌≡◌};
-ghost use Rattle.capsule_tables.specs.Capsule.{swapped};
+ghost use Rattle.fwu_formats.specs.Capsule.{swapped};
 
 use base_core::Guid;
 

@@ -6,15 +6,16 @@ ghost use Rattle.host_io.specs.Contents.{TellsSize};
 ghost use Rattle.fwu_formats.specs.Package.{Entry};
 ghost use Rattle.fip_tables.specs.Files.{Tells};
 ghost use Rattle.capsule_tables.specs.Answers.{AreEntries, HasReadCause, IsAnswer};
-ghost use Rattle.capsule_tables.specs.Capsule.{items_of, places_end};
+ghost use Rattle.fwu_formats.specs.Capsule.{items_of, places_end};
 ghost use Rattle.capsule_tables.specs.Ranges.{good_entry, item_read};
 
-use crate::faults::{CapsuleFault, CapsuleStop};
+use crate::faults::CapsuleStop;
 use crate::guids::swapped;
 use crate::shape::Shape;
 use crate::window::read_range;
 use base_core::{Guid, le32_at, le64_at};
 use fip_tables::{Entries, Entry};
+use fwu_formats::CapsuleFault;
 use host_io::{Failed, Files};
 
 // The bytes of an item before those that a version adds.

@@ -11,7 +11,9 @@ mod read;
 mod shape;
 mod window;
 
-pub use faults::{CapsuleFault, CapsuleStop};
+pub use faults::CapsuleStop;
+pub use fwu_formats::CapsuleFault;
+pub use guids::FMP_GUID;
 pub use laws::made_is_read;
 pub use making::{add_head, capsule_front, make_capsule};
 pub use read::read_capsule;

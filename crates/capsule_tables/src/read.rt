@@ -3,7 +3,7 @@
 ghost use Rattle.std.specs.Prelude.{◌≡◌, ◌≤◌, ℕ, List, Err, IfOk};
 ghost use Rattle.fip_tables.specs.Files.{Lacks, Tells};
 ghost use Rattle.capsule_tables.specs.Answers.{HasReadCause, IsAnswer, IsSomeTable};
-ghost use Rattle.capsule_tables.specs.Capsule.{capsule_of};
+ghost use Rattle.fwu_formats.specs.Capsule.{capsule_of};
 ghost use Rattle.capsule_tables.specs.declared.faults.CapsuleStop.TheVariants as stop;
 
 use crate::faults::CapsuleStop;

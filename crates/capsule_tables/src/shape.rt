@@ -4,13 +4,14 @@ ghost use Rattle.std.specs.Prelude.{◌≡◌, ◌<◌, ◌≤◌, ◌+◌, ◌*
 ghost use Rattle.host_io.specs.Contents.{TellsSize};
 ghost use Rattle.fip_tables.specs.Files.{Tells};
 ghost use Rattle.capsule_tables.specs.Answers.{HasReadCause, IsAnswer};
-ghost use Rattle.capsule_tables.specs.Capsule.{places_end, shape_of};
+ghost use Rattle.fwu_formats.specs.Capsule.{places_end, shape_of};
 ghost use Rattle.capsule_tables.specs.Ranges.{header_read, shape_read};
 
-use crate::faults::{CapsuleFault, CapsuleStop};
+use crate::faults::CapsuleStop;
 use crate::guids::FMP_GUID;
 use crate::window::{le16_at, read_range};
 use base_core::{Guid, le32_at};
+use fwu_formats::CapsuleFault;
 use host_io::Files;
 use std::marker::Model;
 
@@ -27,7 +28,7 @@ pub struct Shape {
 }
 
 impl Model for Shape {
-    ghost use Rattle.capsule_tables.specs.Capsule.{Shape as Headers};
+    ghost use Rattle.fwu_formats.specs.Capsule.{Shape as Headers};
 
     ghost Value = { Headers };
 

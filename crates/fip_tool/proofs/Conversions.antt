@@ -5,8 +5,8 @@ use Rattle.host_io.specs.Contents.{Directory}
 use Rattle.fwu_formats.specs.Package.{Toc}
 use Rattle.fip_tables.specs.Files.{Lacks, Tells}
 use Rattle.capsule_tables.specs.Answers.{IsAnswer}
-use Rattle.capsule_tables.specs.Capsule.{capsule_of}
-use Rattle.capsule_tables.specs.declared.faults.CapsuleFault.{CapsuleFault}
+use Rattle.fwu_formats.specs.Capsule.{capsule_of}
+use Rattle.fwu_formats.specs.declared.kinds.CapsuleFault.{CapsuleFault}
 use Rattle.capsule_tables.specs.declared.faults.CapsuleStop.{CapsuleStop}
 use Rattle.capsule_tables.specs.declared.faults.CapsuleStop.TheVariants as read_stop
 use Rattle.capsule_tables.proofs.Within.{ends-within}

@@ -16,9 +16,9 @@ use Rattle.fip_tables.specs.Frame.{AreSixteen}
 use Rattle.fip_tables.specs.Packing.{pack_fault}
 use Rattle.fip_tables.specs.declared.faults.PackFault.{PackFault}
 use Rattle.fip_tables.proofs.Again.{passed-is-read}
-use Rattle.capsule_tables.specs.Capsule.{capsule_of}
+use Rattle.fwu_formats.specs.Capsule.{capsule_of}
 use Rattle.capsule_tables.specs.Making.{IsMadeOf, capsule_bytes, make_fault}
-use Rattle.capsule_tables.specs.declared.faults.CapsuleFault.{CapsuleFault}
+use Rattle.fwu_formats.specs.declared.kinds.CapsuleFault.{CapsuleFault}
 use Rattle.capsule_tables.proofs.ReadAgain.{made-is-read}
 use Rattle.capsule_tables.proofs.Within.{is-read, no-flags, types-sixteen}
 use Rattle.fip_words.specs.Order.{Asked, info, info_of_source, create, update, remove, unpack, manifest, capsule, repackage}

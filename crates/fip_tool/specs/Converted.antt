@@ -2,7 +2,7 @@
 use Rattle.std.specs.Prelude.{◌≡◌, ⊤, ℕ, List, Option, Some, Ok, map}
 use Rattle.host_io.specs.Contents.{Directory}
 use Rattle.fwu_formats.specs.Package.{Toc, payload, toc_of}
-use Rattle.capsule_tables.specs.Capsule.{capsule_of}
+use Rattle.fwu_formats.specs.Capsule.{capsule_of}
 use Rattle.fip_tables.specs.Files.{Tells}
 use Rattle.fip_words.specs.Order.{Asked, capsule, repackage}
 

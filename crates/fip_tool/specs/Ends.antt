@@ -3,7 +3,7 @@ use Rattle.std.specs.Prelude.{◌≡◌, ◌⊎◌, ℕ, List, [], ◌++◌, Opt
 use Rattle.std.specs.Io.KnownBytes.{Appends}
 use Rattle.host_io.specs.Contents.{Directory}
 use Rattle.base_core.specs.Guid.{guid_text}
-use Rattle.capsule_tables.specs.Capsule.{fault_number}
+use Rattle.fwu_formats.specs.FaultText.{capsule_fault_number}
 use Rattle.fwu_formats.specs.FaultText.{fip_fault_text}
 use Rattle.fwu_formats.specs.declared.kinds.ManifestFault.{ManifestFault}
 use Rattle.fwu_formats.specs.declared.kinds.ManifestFault.TheVariants as manifest
@@ -36,7 +36,7 @@ stop_line (stop.NoSuchEntry guid) = codes "no-entry " ++ guid_text guid ++ codes
 stop_line (stop.NotPacked f) = codes "pack " ++ pack_fault_text f ++ codes "\n"
 stop_line (stop.NoManifest f) = codes "manifest " ++ manifest_fault_text f ++ codes "\n"
 stop_line stop.TooLong = codes "too-long\n"
-stop_line (stop.NotCapsule f) = codes "not-capsule " ++ decimal (fault_number f) ++ codes "\n"
+stop_line (stop.NotCapsule f) = codes "not-capsule " ++ decimal (capsule_fault_number f) ++ codes "\n"
 stop_line stop.NoMemory = []
 
 abbrev pub status_number : Stop → ℕ

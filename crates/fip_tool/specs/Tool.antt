@@ -9,9 +9,9 @@ use Rattle.fwu_formats.specs.Package.{Entry, Part, Toc, has_guid, packed, payloa
 use Rattle.fwu_formats.specs.Manifest.{Row, manifest_bytes}
 use Rattle.fwu_formats.specs.declared.kinds.FipFault.{FipFault}
 use Rattle.fwu_formats.specs.declared.kinds.ManifestFault.TheVariants as fault
-use Rattle.capsule_tables.specs.Capsule.{capsule_of}
+use Rattle.fwu_formats.specs.Capsule.{capsule_of}
 use Rattle.capsule_tables.specs.Making.{capsule_bytes, make_fault}
-use Rattle.capsule_tables.specs.declared.faults.CapsuleFault.{CapsuleFault}
+use Rattle.fwu_formats.specs.declared.kinds.CapsuleFault.{CapsuleFault}
 use Rattle.capsule_tables.specs.declared.faults.CapsuleStop.{CapsuleStop}
 use Rattle.capsule_tables.specs.declared.faults.CapsuleStop.TheVariants as capsule_stop
 use Rattle.fip_tables.specs.Answers.{decided}

@@ -1,7 +1,7 @@
 //! The line that tells why a command ended before all was done.
 ghost use Rattle.std.specs.Prelude.{◌≡◌, ◌++◌, IfOk, codes, decimal};
 ghost use Rattle.base_core.specs.Guid.{guid_text};
-ghost use Rattle.capsule_tables.specs.Capsule.{fault_number};
+ghost use Rattle.fwu_formats.specs.FaultText.{capsule_fault_number};
 ghost use Rattle.fwu_formats.specs.FaultText as text;
 ghost use Rattle.fip_tool.specs.Ends as said;
 
@@ -84,7 +84,7 @@ fn no_entry_line(alloc: Global, guid: &Guid) -> Result<Vec<u8>, NoMemory>
 }
 
 fn not_capsule_line(alloc: Global, fault: CapsuleFault) -> Result<Vec<u8>, NoMemory>
-    ensures { IfOk result (λ line. line.items ≡ codes "not-capsule " ++ decimal (fault_number fault)
+    ensures { IfOk result (λ line. line.items ≡ codes "not-capsule " ++ decimal (capsule_fault_number fault)
         ++ codes "\n") }
 {
     let mut line = Vec::from_slice(alloc, b"not-capsule ")?;

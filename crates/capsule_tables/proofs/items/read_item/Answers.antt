@@ -2,7 +2,7 @@ use Rattle.std.proofs.Common.{◌≡◌, ◌∙◌, ◌+◌, ◌*◌, ℕ, List,
 use Rattle.base_core.specs.Bytes.{num_at}
 use Rattle.host_io.specs.Contents.{Directory}
 use Rattle.fip_tables.specs.Files.{Tells}
-use Rattle.capsule_tables.specs.Capsule.{Shape, item_place}
+use Rattle.fwu_formats.specs.Capsule.{Shape, item_place}
 use Rattle.capsule_tables.specs.Ranges.{item_read}
 use Rattle.capsule_tables.proofs.OneByOne.{item-by-range, place-by-range}
 use Rattle.capsule_tables.proofs.items.read_item.Goals as goal

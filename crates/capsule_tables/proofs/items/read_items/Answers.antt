@@ -5,7 +5,7 @@ use Rattle.host_io.specs.Contents.{Directory}
 use Rattle.fwu_formats.specs.Package.{Entry, has_guid}
 use Rattle.fip_tables.specs.Files.{Tells}
 use Rattle.capsule_tables.specs.Answers.{AreEntries}
-use Rattle.capsule_tables.specs.Capsule.{Shape, entries_in, item_fault}
+use Rattle.fwu_formats.specs.Capsule.{Shape, entries_in, item_fault}
 use Rattle.capsule_tables.proofs.OneByOne.{bad, entries-more, entry-is, fine, further, one-more, passes-all, repeated, stops-at}
 use Rattle.capsule_tables.proofs.items.read_items.Goals as goal
 
