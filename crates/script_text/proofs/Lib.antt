@@ -1,5 +1,6 @@
 pub mod Parts
-pub mod Words
+pub mod Lines
+pub mod Names
 pub mod Reading
 pub mod Whole
 pub mod Extents

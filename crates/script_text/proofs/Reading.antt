@@ -2,8 +2,7 @@
 use Rattle.std.proofs.Common.{◌≡◌, ℕ, ◌+◌, ◌<◌, Bool, true, false, ◌==◌, List, [], ◌∷◌, ◌++◌, length, Option, Some, None, Result, Ok, Err, refl, sym, ap, ◌∙◌, arith, append_assoc, append-nil, eqb-true}
 use Rattle.std.specs.List.{cons_option}
 use Rattle.fwu_model.specs.Call.{Call}
-use Rattle.fwu_model.specs.Script.{script_lines, onto_calls, after_line}
-use Rattle.script_text.specs.Built.{line_built_of, built_calls_from}
+use Rattle.fwu_model.specs.Script.{line_of, script_lines, onto_calls, after_line, calls_from}
 
 -- the calls that were read before these
 abbrev pub behind : List Call → Result (List Call) ℕ → Result (List Call) ℕ
@@ -12,11 +11,11 @@ behind front (Err line) = Err line
 
 -- the calls from line n on
 abbrev pub from_line : ℕ → List ℕ → Result (List Call) ℕ
-from_line n rest = built_calls_from n (script_lines rest)
+from_line n rest = calls_from line_of n (script_lines rest)
 
-pub bad_line : (front : List Call) (n : ℕ) (rest line others : List ℕ) → script_lines rest ≡ line ∷ script_lines others → line_built_of line ≡ None → behind front (from_line n rest) ≡ Err n
+pub bad_line : (front : List Call) (n : ℕ) (rest line others : List ℕ) → script_lines rest ≡ line ∷ script_lines others → line_of line ≡ None → behind front (from_line n rest) ≡ Err n
 bad_line front n rest line others parts bad =
-    ap (λ (l : List (List ℕ)). behind front (built_calls_from n l)) parts ∙ ap (λ (o : Option (Option Call)). behind front (after_line n o (from_line (n + 1) others))) bad
+    ap (λ (l : List (List ℕ)). behind front (calls_from line_of n l)) parts ∙ ap (λ (o : Option (Option Call)). behind front (after_line n o (from_line (n + 1) others))) bad
 
 onto_front : (front : List Call) (content : Option Call) (later : Result (List Call) ℕ) → behind front (onto_calls content later) ≡ behind (front ++ cons_option content []) later
 onto_front front None (Ok later) = ap (λ (l : List Call). Ok (l ++ later)) (sym (append-nil front))
@@ -24,10 +23,10 @@ onto_front front (Some call) (Ok later) = ap Ok (sym (append_assoc front (call �
 onto_front front content (Err line) = refl
 
 pub next_line : (front : List Call) (n : ℕ) (rest line others : List ℕ) (content : Option Call) (more : List Call)
-    → script_lines rest ≡ line ∷ script_lines others → line_built_of line ≡ Some content → more ≡ front ++ cons_option content []
+    → script_lines rest ≡ line ∷ script_lines others → line_of line ≡ Some content → more ≡ front ++ cons_option content []
     → behind front (from_line n rest) ≡ behind more (from_line (n + 1) others)
 next_line front n rest line others content more parts good is =
-    ap (λ (l : List (List ℕ)). behind front (built_calls_from n l)) parts
+    ap (λ (l : List (List ℕ)). behind front (calls_from line_of n l)) parts
     ∙ ap (λ (o : Option (Option Call)). behind front (after_line n o (from_line (n + 1) others))) good
     ∙ onto_front front content (from_line (n + 1) others)
     ∙ ap (λ (l : List Call). behind l (from_line (n + 1) others)) (sym is)

@@ -1,70 +1,20 @@
 -- The laws of scripts, line by line.
-use Rattle.std.proofs.Common.{◌≡◌, ℕ, ◌+◌, ◌≤◌, Bool, true, false, cond, ◌==◌, nat_le, List, [], ◌∷◌, length, Option, Some, None, Result, Ok, Err, refl, ap, subst, ◌∙◌, arith, leb-true}
-use Rattle.std.specs.Prelude.{codes, decimal, option_map, option_and_then, IsTrue, ◌&&◌}
+use Rattle.std.proofs.Common.{◌≡◌, ℕ, ◌+◌, ◌≤◌, Bool, cond, ◌==◌, nat_le, List, [], ◌∷◌, length, Option, Some, None, Result, Ok, Err, refl, ap, subst, arith, leb-true}
+use Rattle.std.specs.Prelude.{codes, decimal, option_map, option_and_then, ◌&&◌}
 use Rattle.std.specs.List.{slice_split, AllByRecursion}
 use Rattle.std.proofs.lemmas.Bool.{cond_both, and_parts, eqb-false}
-use Rattle.std.proofs.lemmas.List.Elements.{All-from_recursion, recursion_from_All}
+use Rattle.std.proofs.lemmas.List.Elements.{All-from_recursion}
 use Rattle.std.proofs.lemmas.Option.{cond_some}
 use Rattle.base_core.specs.Bytes.{same_bytes}
 use Rattle.fwu_model.specs.Call.{Call}
 use Rattle.fwu_model.specs.Call as call
 use Rattle.fwu_formats.specs.Words.{is_word, digits_value, named, number_of, number_up_to, bytes_of, file_of, request_of, at_least_one}
-use Rattle.fwu_model.specs.Script.{both, open_call, simple_call, call_of_three, call_of_words, line_of, onto_calls, after_line, calls_from, script_lines, whole_script_of}
-use Rattle.script_text.specs.Built.{is_built, kept_line, built_calls_from, script_of, IsArmable}
-use Rattle.script_text.specs.Law.{BuiltAreScripts, ScriptsAreBuilt, CutsAreArmable, CallsHaveLines}
+use Rattle.fwu_model.specs.Script.{both, open_call, simple_call, call_of_three, call_of_words, line_of, after_line, calls_from, script_lines, script_of}
+use Rattle.script_text.specs.Armable.{IsArmable}
+use Rattle.script_text.specs.Law.{CutsAreArmable, CallsHaveLines}
 
 abbrev Outcome : Type 0
 Outcome = Result (List Call) ℕ
-
--- ---- built calls
-
-onto : (c : Option Call) (one other : Outcome) → ((calls : List Call) → one ≡ Ok calls → other ≡ Ok calls) → (calls : List Call) → onto_calls c one ≡ Ok calls → onto_calls c other ≡ Ok calls
-onto c (Ok later) other follows calls e = ap (onto_calls c) (follows later refl) ∙ e
-onto c (Err line) other follows calls e = absurd cc
-
-built_line : (n : ℕ) (o : Option (Option Call)) (one other : Outcome) → ((calls : List Call) → one ≡ Ok calls → other ≡ Ok calls)
-    → (calls : List Call) → after_line n (option_and_then kept_line o) one ≡ Ok calls → after_line n o other ≡ Ok calls
-built_line n None one other follows calls e = e
-built_line n (Some None) one other follows calls e = onto None one other follows calls e
-built_line n (Some (Some c)) one other follows calls e = go (is_built c) e
-  where
-    go : (b : Bool) → after_line n (cond b (Some (Some c)) None) one ≡ Ok calls → onto_calls (Some c) other ≡ Ok calls
-    go true h = onto (Some c) one other follows calls h
-    go false h = absurd cc
-
-built_from : (lines : List (List ℕ)) (n : ℕ) (calls : List Call) → built_calls_from n lines ≡ Ok calls → calls_from line_of n lines ≡ Ok calls
-built_from [] n calls e = e
-built_from (x ∷ xs) n calls e = built_line n (line_of x) (built_calls_from (n + 1) xs) (calls_from line_of (n + 1) xs) (built_from xs (n + 1)) calls e
-
-pub built-are-scripts : BuiltAreScripts
-unfolding whole_script_of script_of
-built-are-scripts bytes calls e = built_from (script_lines bytes) 1 calls e
-
--- ---- whole scripts of built calls
-
-abbrev AllBuilt : List Call → Type 0
-AllBuilt = AllByRecursion (λ c. IsTrue (is_built c))
-
-whole_line : (n : ℕ) (o : Option (Option Call)) (one other : Outcome) → ((calls : List Call) → one ≡ Ok calls → AllBuilt calls → other ≡ Ok calls)
-    → (calls : List Call) → after_line n o one ≡ Ok calls → AllBuilt calls → after_line n (option_and_then kept_line o) other ≡ Ok calls
-whole_line n None one other follows calls e all = e
-whole_line n (Some None) (Ok later) other follows calls e all =
-    let same : calls ≡ later = cc in
-    ap (onto_calls None) (follows later refl (subst AllBuilt same all)) ∙ e
-whole_line n (Some (Some c)) (Ok later) other follows calls e all =
-    let same : calls ≡ c ∷ later = cc in
-    let parts = subst AllBuilt same all in
-    ap (λ (b : Bool). after_line n (cond b (Some (Some c)) None) other) parts.0 ∙ ap (onto_calls (Some c)) (follows later refl parts.1) ∙ e
-whole_line n (Some None) (Err line) other follows calls e all = absurd cc
-whole_line n (Some (Some c)) (Err line) other follows calls e all = absurd cc
-
-whole_from : (lines : List (List ℕ)) (n : ℕ) (calls : List Call) → calls_from line_of n lines ≡ Ok calls → AllBuilt calls → built_calls_from n lines ≡ Ok calls
-whole_from [] n calls e all = e
-whole_from (x ∷ xs) n calls e all = whole_line n (line_of x) (calls_from line_of (n + 1) xs) (built_calls_from (n + 1) xs) (whole_from xs (n + 1)) calls e all
-
-pub scripts-are-built : ScriptsAreBuilt
-unfolding whole_script_of script_of
-scripts-are-built bytes calls e all = whole_from (script_lines bytes) 1 calls e (recursion_from_All (λ c. IsTrue (is_built c)) calls all)
 
 -- ---- lines and calls
 
@@ -85,7 +35,7 @@ few_from [] n (c ∷ calls) e = absurd cc
 few_from (x ∷ xs) n calls e = omega (arith, few_line n (length xs) (line_of x) (calls_from line_of (n + 1) xs) (few_from xs (n + 1)) calls e)
 
 pub calls-have-lines : CallsHaveLines
-unfolding whole_script_of
+unfolding script_of
 calls-have-lines bytes calls e = few_from (script_lines bytes) 1 calls e
 
 -- ---- cuts
@@ -196,5 +146,5 @@ armable_from [] n (c ∷ calls) e = absurd cc
 armable_from (x ∷ xs) n calls e = armable_line n (line_of x) (sound_line x) (calls_from line_of (n + 1) xs) (armable_from xs (n + 1)) calls e
 
 pub cuts-are-armable : CutsAreArmable
-unfolding whole_script_of
+unfolding script_of
 cuts-are-armable bytes calls e = All-from_recursion IsArmable calls (armable_from (script_lines bytes) 1 calls e)

@@ -1,4 +1,4 @@
-pub mod Built
+pub mod Armable
 pub mod Shown
 pub mod Limit
 pub mod Law

@@ -1,15 +1,34 @@
 -- The values of the code as those of the model.
-use Rattle.std.specs.Prelude.{◌≡◌, ℕ, ◌==◌, Bool, true, List, [], ◌∷◌, Result, Err}
+use Rattle.std.specs.Prelude.{◌≡◌, ◌≤◌, ℕ, ◌==◌, Bool, true, List, [], ◌∷◌, Result, Err, length, string_bytes}
 use Rattle.fwu_model.specs.Call as model
+use Rattle.fwu_model.specs.Script.{room_limit}
+use Rattle.fwu_model.specs.declared.kinds.Op.TheVariants as op
 use Rattle.script_text.specs.declared.call.Call.{Call}
-use Rattle.script_text.specs.declared.call.Call.TheVariants.{Boot, Show, Cut}
+use Rattle.script_text.specs.declared.call.Call.TheVariants as variant
 use Rattle.script_text.specs.declared.script.ScriptFault.{ScriptFault}
 use Rattle.script_text.specs.declared.script.ScriptFault.TheVariants.{BadLine, NoMemory}
 
 abbrev pub shown : Call → model.Call
-shown Boot = model.Boot
-shown Show = model.Show
-shown (Cut n k) = model.Cut n k
+shown variant.Discover = model.Discover
+shown variant.Begin = model.Begin 0
+shown (variant.Open guid op.Read) = model.OpenRead guid
+shown (variant.Open guid op.Write) = model.OpenWrite guid
+shown (variant.Write handle bytes) = model.Write handle bytes.items
+shown (variant.Read handle room out) = model.Read handle room
+shown (variant.Commit handle request) = model.Commit handle request
+shown variant.End = model.End
+shown variant.Cancel = model.Cancel
+shown (variant.Accept guid) = model.Accepts guid
+shown variant.Previous = model.Previous
+shown (variant.Send name request) = model.Send (string_bytes name) request
+shown variant.Boot = model.Boot
+shown (variant.Cut n k) = model.Cut n k
+shown variant.Show = model.Show
+
+-- a read has a buffer of as many bytes as it asks for
+abbrev pub HasBuffer : Call → Type 0
+HasBuffer (variant.Read handle room out) = (length out.items ≡ room) × (room ≤ room_limit)
+HasBuffer _ = Unit {0}
 
 -- this line is the first bad one, or memory was wanting
 abbrev pub IsFaultOf : Result (List model.Call) ℕ → ScriptFault → Type 0

@@ -7,13 +7,12 @@
 mod call;
 mod laws;
 mod limit;
+mod line;
 mod script;
 mod split;
+mod words;
 
 pub use call::Call;
-pub use laws::{
-    built_scripts_are_scripts, calls_have_lines, cuts_are_armable, long_texts_stay_too_long,
-    scripts_of_built_calls_are_built,
-};
+pub use laws::{calls_have_lines, cuts_are_armable, long_texts_stay_too_long};
 pub use limit::{TextLimit, is_too_long};
 pub use script::{Script, ScriptFault, read_script};

@@ -1,14 +1,17 @@
 //! Scripts.
-ghost use Rattle.std.specs.Prelude.{◌≡◌, ◌+◌, ◌<◌, ◌≤◌, ◌==◌, ◌++◌, ◌∷◌, [], Ok, Some, IfOk, IfErr, OnOk, All, IsTrue, length, map, option_map, position, slice_get};
+ghost use Rattle.std.specs.Prelude.{◌≡◌, ◌<◌, ◌≤◌, ◌==◌, ◌++◌, ◌∷◌, [], Ok, Some, IfOk, IfErr, IfSome, OnOk, All, length, map, option_map, slice_get, slice_set};
 ghost use Rattle.std.specs.List.{cons_option};
-ghost use Rattle.fwu_model.specs.Script.{script_lines};
-ghost use Rattle.script_text.specs.Built.{script_of, IsArmable};
-ghost use Rattle.script_text.specs.Shown.{shown, IsFaultOf};
+ghost use Rattle.fwu_model.specs.Call as call;
+ghost use Rattle.fwu_model.specs.Script.{script_lines, script_of};
+ghost use Rattle.script_text.specs.Armable.{IsArmable};
+ghost use Rattle.script_text.specs.Shown.{HasBuffer, IsFaultOf, shown};
 
-use crate::call::{Call, read_line};
+use crate::call::Call;
+use crate::line::read_line;
 use crate::split::split;
 use std::alloc::{AllocError, Global};
 use std::marker::Model;
+use std::mem;
 
 /// Why a text is no script: the first line, from 1, that is none of a script.
 #[derive(Clone, Copy, Debug, PartialEq, Eq)]
@@ -26,14 +29,15 @@ pub struct Script {
 impl Model for Script {
     ghost use Rattle.std.specs.Prelude.{List, All, map};
     ghost use Rattle.fwu_model.specs.Call.{Call as ModelCall};
-    ghost use Rattle.script_text.specs.Built.{IsArmable};
-    ghost use Rattle.script_text.specs.Shown.{shown};
+    ghost use Rattle.script_text.specs.Armable.{IsArmable};
+    ghost use Rattle.script_text.specs.Shown.{HasBuffer, shown};
 
     ghost Value = { List ModelCall };
 
     ghost view = { λ s. map shown s.calls.items };
 
-    ghost invariant = { λ s. All IsArmable (map shown s.calls.items) };
+    ghost invariant = { λ s. All IsArmable (map shown s.calls.items)
+        × All HasBuffer s.calls.items };
 }
 
 impl Script {
@@ -50,21 +54,15 @@ impl Script {
         self.calls.is_empty()
     }
 
-    /// The calls.
-    pub fn calls(&self) -> &[Call]
-        ensures calls { map shown result.now ≡ self.now }
-        ensures armable { All IsArmable self.now }
-    {
-        self.calls.as_slice()
-    }
-
-    /// The call at an index.
-    pub fn at(&self, index: usize) -> Call
-        requires { index < length self.now }
-        ensures call { slice_get self.now index ≡ Some (shown result) }
+    /// Takes the call at an index, with its memory, and leaves `show` in its place.
+    pub fn take(&mut self, index: usize) -> Call
+        requires { index < length self.old }
+        ensures call { slice_get self.old index ≡ Some (shown result) }
+        ensures left { self.new ≡ slice_set self.old index call.Show }
         ensures armable { IsArmable (shown result) }
+        ensures buffer { HasBuffer result }
     {
-        self.calls[index]
+        mem::replace(&mut self.calls[index], Call::Show)
     }
 }
 
@@ -82,8 +80,11 @@ fn split_line(text: &[u8]) -> (&[u8], &[u8])
 
 /// One call more, where a line has one.
 fn push_call(calls: &mut Vec<Call>, call: Option<Call>) -> Result<(), AllocError>
-    ensures { OnOk result (map shown calls.new.items ≡
-        map shown calls.old.items ++ cons_option (option_map shown call) []) }
+    requires buffers { All HasBuffer calls.old.items }
+    requires buffer { IfSome call HasBuffer }
+    ensures calls { OnOk result (map shown calls.new.items
+        ≡ map shown calls.old.items ++ cons_option (option_map shown call) []) }
+    ensures buffers { All HasBuffer calls.new.items }
 {
     if let Some(call) = call {
         calls.push(call)?;
@@ -105,7 +106,10 @@ pub fn read_script(alloc: Global, bytes: &[u8]) -> Result<Script, ScriptFault>
     let mut number = 1u32;
     while !rest.is_empty() {
         let (line, behind) = split_line(rest);
-        let Some(call) = read_line(line) else {
+        let Ok(read) = read_line(alloc, line) else {
+            return Err(ScriptFault::NoMemory);
+        };
+        let Some(call) = read else {
             return Err(ScriptFault::BadLine(number));
         };
         if push_call(&mut calls, call).is_err() {
