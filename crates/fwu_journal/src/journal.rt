@@ -2,13 +2,15 @@
 ghost use Rattle.std.specs.Prelude.{◌≡◌, ◌∷◌, [], ◌++◌, IfOk, length, map};
 ghost use Rattle.fwu_journal.specs.Shown.{turns, turn, HasRoomFor, OneMore};
 
+use base_core::Guid;
 use early_boot::Numbers;
-use fwu_model::NoBoot;
+use fwu_formats::{CapsuleFault, FipFault};
+use fwu_model::{AgentState, NoBoot, Status};
 use script_text::Call;
 use std::alloc::{AllocError, Global};
 
 /// What a call was answered.
-#[derive(Clone, Copy, Debug, PartialEq, Eq)]
+#[derive(Debug, PartialEq, Eq, Drop)]
 pub enum Reply {
     /// The flash is without power.
     Off,
@@ -16,6 +18,36 @@ pub enum Reply {
     Lost,
     /// The flash failed.
     Fault,
+    /// The file of a `send` could not be read.
+    ReadFault,
+    /// The agent refused the call.
+    Refused(Status),
+    Success,
+    Discovered(AgentState),
+    /// The number of the handle that was opened.
+    Opened(u32),
+    Got {
+        /// How many bytes there are in all.
+        total: u32,
+        /// Those that were read.
+        bytes: Vec<u8>,
+    },
+    Sent {
+        /// How many images were installed.
+        images: u32,
+        /// How many entries of the package are no image of the layout.
+        skipped: u32,
+    },
+    /// The package lacks the image of this type.
+    Missing(Guid),
+    /// The package's image of this type passes its slot.
+    TooLarge(Guid),
+    BadPackage(FipFault),
+    BadCapsule(CapsuleFault),
+    /// The agent refused the `begin` of a `send`.
+    BeginRefused(Status),
+    /// The agent refused the `end` of a `send`.
+    EndRefused(Status),
     Booted {
         bank: u32,
         /// The security version of the bank's manifest.
@@ -34,7 +66,7 @@ pub enum Reply {
 }
 
 /// A call, its reply, and of a boot the numbers that the flash held as the turn began, where the boot told them.
-#[derive(Clone, Copy, Debug, PartialEq, Eq)]
+#[derive(Debug, Drop)]
 pub struct Turn {
     pub call: Call,
     pub reply: Reply,
