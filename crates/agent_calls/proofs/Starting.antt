@@ -18,8 +18,11 @@ use Rattle.fwu_model.specs.State.{State}
 use Rattle.fwu_model.specs.Session.{Session, On, no_handles}
 use Rattle.agent_machine.specs.Moment.{Moment, Shows}
 use Rattle.agent_machine.specs.Fields.{Fields}
-use Rattle.agent_machine.specs.Machine.{staged_bytes}
+use Rattle.agent_machine.specs.Machine.{staged_bytes, state_in, session_in}
 use Rattle.agent_machine.specs.Knows.{Fitting, Knows, SomeStaged}
+use Rattle.agent_machine.proofs.Known.{state-held}
+use Rattle.agent_machine.proofs.Showing.{known-shows}
+use Rattle.moves.specs.Moved.{IsShown}
 
 nil-of : (l : List ℕ) → length l ≡ 0 → l ≡ []
 nil-of [] e = refl
@@ -108,3 +111,12 @@ pub starts-session : (m : Moment) (bank : ℕ) → m.fields.boot ≡ bank → m.
     → (s : State) (x : Session) → Shows m s x → x ≡ On bank None no_handles
 starts-session m bank boot idle closed s x shows = shows.means ∙ restarts-idle m.fields.session m.fields.boot shows.staged idle closed
     ∙ ap (λ (b : ℕ). On b None no_handles) boot
+
+-- what is known shows the state of the flash, with the one session that any is shown with
+pub starts-shows : (m : Moment) (x : Session) → Fitting m.fields → Knows m.fields m.told → ((s : State) (y : Session) → Shows m s y → y ≡ x)
+    → (s : State) → IsShown m.fields.layout m.told.now s → Shows m s x
+starts-shows m x fitting knows only s shown =
+    let f : Fields = m.fields in
+    let one : Shows m (state_in f m.told.now) (session_in f m.told.now) = known-shows f fitting m.tells m.told knows in
+    let same : Shows m (state_in f m.told.now) x = subst (λ (y : Session). Shows m (state_in f m.told.now) y) (only _ _ one) one in
+    subst (λ (y : State). Shows m y x) (state-held f.layout m.told.now f.meta s shown knows.both) same

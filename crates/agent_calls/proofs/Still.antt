@@ -1,6 +1,7 @@
 -- A call that was answered and did nothing on the device.
-use Rattle.std.proofs.Common.{◌≡◌, inl, inr, Bool, Result, Ok, Err, refl, arith, IsTrue, IsFalse}
-use Rattle.flash_core.specs.Counts.{Spends}
+use Rattle.std.proofs.Common.{◌≡◌, inl, inr, Bool, Option, Result, Ok, Err, refl, arith, IsTrue, IsFalse}
+use Rattle.flash_core.specs.Counts.{Spends, StaysUnarmed}
+use Rattle.flash_core.specs.declared.flash.Arming.{Arming}
 use Rattle.flash_core.specs.declared.flash.Counts.{Counts}
 use Rattle.flash_core.specs.declared.flash.FlashStop.{FlashStop}
 use Rattle.flash_core.specs.declared.flash.FlashStop.TheVariants as flash_stop
@@ -33,3 +34,6 @@ still-spends c = record {
   lost = λ e. absurd (done-stopped flash_stop.Lost e);
   failed = λ e. absurd (done-stopped flash_stop.Failed e);
 }
+
+pub still-unarmed : (armed : Option Arming) (c : Counts) → StaysUnarmed {T = Unit {0}} (Ok tt) armed armed c c
+still-unarmed armed c none = (none, record { same = refl; lost = λ e. absurd (done-stopped flash_stop.Lost e) })

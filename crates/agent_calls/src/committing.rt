@@ -1,6 +1,6 @@
 //! The commit of a handle.
 ghost use Rattle.std.specs.Prelude.{◌≡◌, ℕ, Some, List, Bool, IsFalse, IsErrOf, is_ok};
-ghost use Rattle.flash_core.specs.Counts.{Spends};
+ghost use Rattle.flash_core.specs.Counts.{Spends, StaysUnarmed};
 ghost use Rattle.fwu_model.specs.Call as call;
 ghost use Rattle.fwu_model.specs.Reply.{Success};
 ghost use Rattle.slot_writer.specs.Writes.{SpendsArming, writes_to_finish};
@@ -100,6 +100,9 @@ impl<D: Flash> Agent<D> {
         // and nothing is done on the device where it writes none
         ensures still { ((image : ℕ) → IsWriter (fields self.old) handle image → ⊥) →
             device self.new ≡ device self.old }
+        ensures unarmed { StaysUnarmed (flash_result result)
+            (D.arming (device self.old)) (D.arming (device self.new))
+            (D.counts (device self.old)) (D.counts (device self.new)) }
         ensures power { IsFalse (gone self.old) →
             D.on (device self.new) ≡ is_ok (flash_result result) }
         ensures size { D.blocks (device self.new) ≡ D.blocks (device self.old) }

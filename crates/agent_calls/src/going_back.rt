@@ -1,6 +1,6 @@
 //! Going back to the previous bank.
 ghost use Rattle.std.specs.Prelude.{◌≡◌, ◌<◌, ◌≤◌, ◌&&◌, ℕ, Bool, List, length, is_ok, IfOk, IsTrue, IsFalse, IsErrOf, OnOk};
-ghost use Rattle.flash_core.specs.Counts.{Spends, arming_kept};
+ghost use Rattle.flash_core.specs.Counts.{Spends, ReachesNone, StaysUnarmed, arming_kept};
 ghost use Rattle.fwu_formats.specs.Layout.{blocks_needed};
 ghost use Rattle.fwu_model.specs.State.{is_valid, is_accepted};
 ghost use Rattle.image_check.specs.Verdict.{verdict_on};
@@ -83,6 +83,7 @@ fn is_bank_good<D: Flash, V: Verifier>(
     ensures size { D.blocks flash.new ≡ D.blocks flash.old }
     ensures costs { Spends result (D.counts flash.old) (D.counts flash.new) }
     ensures arming { D.arming flash.new ≡ arming_kept result (D.arming flash.old) }
+    ensures reached { ReachesNone result (D.counts flash.old) (D.counts flash.new) }
 {
     let mut buf = [0; 4096];
     let verdict = check(flash, layout, bank, counter, &mut buf, verifier)?;
@@ -123,6 +124,9 @@ impl<D: Flash> Agent<D> {
         // On any device: an answer stored the metadata, or has it as it was and wrote nothing.
         ensures spent { OnOk result (TakesStore (fields self.old).meta (fields self.new).meta
             (D.arming (device self.old)) (D.arming (device self.new))) }
+        ensures unarmed { StaysUnarmed (flash_result result)
+            (D.arming (device self.old)) (D.arming (device self.new))
+            (D.counts (device self.old)) (D.counts (device self.new)) }
     {
         // the decision that waits for a verdict doesn't say so by itself
         if !may_try(&self.meta, &self.session, self.boot) {
@@ -172,6 +176,9 @@ impl<D: Flash> Agent<D> {
         // On any device: an answer stored the metadata, or has it as it was and wrote nothing.
         ensures spent { OnOk result (TakesStore (fields self.old).meta (fields self.new).meta
             (D.arming (device self.old)) (D.arming (device self.new))) }
+        ensures unarmed { StaysUnarmed (flash_result result)
+            (D.arming (device self.old)) (D.arming (device self.new))
+            (D.counts (device self.old)) (D.counts (device self.new)) }
     {
         if self.gone {
             return Err(Stop::Gone);

@@ -1,8 +1,9 @@
 //! An agent starts from a bank that was booted.
-ghost use Rattle.std.specs.Prelude.{◌≡◌, IsFalse};
+ghost use Rattle.std.specs.Prelude.{◌≡◌, IsTrue, IsFalse};
 ghost use Rattle.early_boot.specs.Started as boot;
 ghost use Rattle.fwu_model.specs.State.{State};
 ghost use Rattle.fwu_model.specs.Session as machine;
+ghost use Rattle.moves.specs.Moved.{IsShown};
 ghost use Rattle.agent_machine.specs.Moment.{Shows};
 ghost use Rattle.agent_calls.specs.Shown.{fields, device, gone, moment};
 ghost use Rattle.agent_calls.specs.Started.{StartsFrom};
@@ -21,6 +22,10 @@ impl<D: Flash> Agent<D> {
         // each machine that it shows has nothing staged, and no handle open
         ensures session { (s : State) (x : machine.Session) → Shows (moment result) s x →
             x ≡ boot.started_session (boot.started booted) }
+        // where the content is told, the state that the flash shows is shown with that session
+        ensures shows { IsTrue D.tells → (s : State)
+            → IsShown (fields result).layout (D.told (device result)).now s
+            → Shows (moment result) s (boot.started_session (boot.started booted)) }
     {
         let boot = booted.bank();
         let trials = booted.trials();

@@ -1,6 +1,6 @@
 //! Carrying out a plan that may store metadata.
 ghost use Rattle.std.specs.Prelude.{◌≡◌, ◌<◌, is_ok, length, IsTrue, IsFalse, OnOk};
-ghost use Rattle.flash_core.specs.Counts.{Spends};
+ghost use Rattle.flash_core.specs.Counts.{Spends, StaysUnarmed};
 ghost use Rattle.fwu_formats.specs.Metadata.{fits_meta};
 ghost use Rattle.agent_machine.specs.Meets.{flash_result};
 ghost use Rattle.agent_machine.specs.Stored.{StoresIf, TakesIf, is_stored, trials_planned};
@@ -27,6 +27,8 @@ fn store_if<D: Flash>(
     ensures size { D.blocks flash.new ≡ D.blocks flash.old }
     ensures costs { Spends result (D.counts flash.old) (D.counts flash.new) }
     ensures spent { OnOk result (TakesIf stored (D.arming flash.old) (D.arming flash.new)) }
+    ensures unarmed { StaysUnarmed result (D.arming flash.old) (D.arming flash.new)
+        (D.counts flash.old) (D.counts flash.new) }
 {
     if !stored {
         return Ok(());
@@ -85,6 +87,9 @@ impl<D: Flash> Agent<D> {
         // On any device: an answer stored the metadata, or has it as it was and wrote nothing.
         ensures spent { OnOk result (TakesStore (fields self.old).meta (fields self.new).meta
             (D.arming (device self.old)) (D.arming (device self.new))) }
+        ensures unarmed { StaysUnarmed (flash_result result)
+            (D.arming (device self.old)) (D.arming (device self.new))
+            (D.counts (device self.old)) (D.counts (device self.new)) }
     {
         // where the store is stopped, what is kept counts no more: the agent is gone
         settle(&mut self.meta, &mut self.session, &Decision::Do(plan), &[]);

@@ -1,6 +1,6 @@
 //! Bytes go behind those of a staged image.
 ghost use Rattle.std.specs.Prelude.{◌≡◌, ℕ, ◌-◌, Bool, List, length, is_ok, IsFalse, IsErrOf};
-ghost use Rattle.flash_core.specs.Counts.{Spends};
+ghost use Rattle.flash_core.specs.Counts.{Spends, StaysUnarmed};
 ghost use Rattle.fwu_model.specs.Call as call;
 ghost use Rattle.fwu_model.specs.Reply.{Success};
 ghost use Rattle.slot_writer.specs.Writes.{SpendsArming, writes_to_append};
@@ -99,6 +99,9 @@ impl<D: Flash> Agent<D> {
             handle_kept (fields self.old).session (handle - 1) ≡ handle_kinds.Writes image →
             SpendsArming (flash_result result)
             (writes_to_append (size_of (part_at (fields self.old).session image)) (length bytes.now))
+            (D.arming (device self.old)) (D.arming (device self.new))
+            (D.counts (device self.old)) (D.counts (device self.new)) }
+        ensures unarmed { StaysUnarmed (flash_result result)
             (D.arming (device self.old)) (D.arming (device self.new))
             (D.counts (device self.old)) (D.counts (device self.new)) }
         ensures power { IsFalse (gone self.old) → D.on (device self.new) ≡ is_ok (flash_result result) }

@@ -83,7 +83,7 @@ module _ (f : Fields) (tells : Bool) (s t : Told) (number image : ℕ) (bit : Bo
         (λ E st setting speaks. tt) (plan.Commit number (Some image) bit) decides result
         (λ told E setting ready. does-nothing result E (state_in f s.now) t ((stays told).ready E setting.layout ready.calm ready.guarded))
         (λ told rest. guarded-by result ((stays told).rests rest))
-        (record { tells = refl; layout = layout; boot = boot })
+        (record { tells = refl; layout = layout; boot = boot; guard = λ told. (finishes told).keeps.guard })
 
   -- ---- when done
 

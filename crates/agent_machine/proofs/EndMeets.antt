@@ -36,7 +36,7 @@ use Rattle.agent_machine.proofs.Answered.{shown-speaks, leaves-by, done-meets}
 use Rattle.agent_machine.proofs.Committing.{slot-room}
 use Rattle.agent_machine.proofs.Showing.{known-speaks}
 use Rattle.agent_machine.proofs.EndingMeets.{ended-may, ends-meet, permitted-in, state-meta}
-use Rattle.agent_machine.proofs.Ended.{stored-is, ended-fitting, ended-held, ended-means, ended-state, ended-knows}
+use Rattle.agent_machine.proofs.Ended.{stored-is, ended-held, ended-means, ended-state, ended-knows}
 use Rattle.agent_machine.specs.Ends.{ClearsAndStores}
 
 -- a store that was done came after a clear that was done
@@ -44,6 +44,11 @@ pub stored-when-done : (L : Layout) (m : Meta) (s t : Told) → ClearsAndStores 
     → (mid : Told) × Clears {T = Unit {0}} (Ok tt) 3 s mid × Stores {T = Unit {0}} (Ok tt) L m mid t
 stored-when-done L m s t (inl done) = done
 stored-when-done L m s t (inr (err, clears)) = absurd cc
+
+-- the same blocks are guarded afterwards
+ended-guard : (result : Done) (L : Layout) (m : Meta) (s t : Told) → ClearsAndStores result L m s t → t.guard ≡ s.guard
+ended-guard result L m s t (inl (mid, clears, stores)) = stores.writes.keeps.guard ∙ clears.keeps.guard
+ended-guard result L m s t (inr (err, clears)) = clears.keeps.guard
 
 module _ (f : Fields) (k : Kept) (meta : MetaRead) (passes : List ℕ → Bool) (tells : Bool) (s t : Told) (fitting : Fitting f) (sound : SessionSound f)
     (knows : IsTrue tells → Knows f s) (staging : f.session.staging ≡ true)
@@ -130,15 +135,12 @@ module _ (f : Fields) (k : Kept) (meta : MetaRead) (passes : List ℕ → Bool) 
     end-leaves =
         leaves-by old new fitting sound knows passes request.End [] (λ E st setting speaks. tt) plan.End decides result
         (λ told E setting ready. subst (λ (ms : List Move). Does result E state ms t) (sym moves-are) (does-told E setting told ready)) guarded-told
-        (record { tells = refl; layout = refl; boot = refl })
+        (record { tells = refl; layout = refl; boot = refl; guard = λ told. ended-guard result f.layout meta.meta s t (ended told) })
 
   -- ---- when done
 
   module _ (restarts : Restarts false f.session k) (settles : Settles f.session f.meta [] plan.End meta k)
       (ended : IsTrue tells → (mid : Told) × Clears {T = Unit {0}} (Ok tt) 3 s mid × Stores {T = Unit {0}} (Ok tt) f.layout meta.meta mid t) where
-    pub end-fitting : Fitting g
-    end-fitting = ended-fitting f k meta fitting restarts is
-
     pub end-knows : IsTrue tells → Knows g t
     end-knows told =
         let known = knows told in

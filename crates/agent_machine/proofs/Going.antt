@@ -11,14 +11,18 @@ use Rattle.fwu_model.specs.Call.{Call}
 use Rattle.fwu_model.specs.Reply.{Reply, Refused}
 use Rattle.fwu_model.specs.Answer.{answer}
 use Rattle.moves.proofs.Composed.{after-append, does-then, does-stopped, does-nothing}
-use Rattle.agent_machine.specs.declared.stop.Stop.{Stop}
 use Rattle.agent_machine.specs.declared.stop.Stop.TheVariants as stop
 use Rattle.agent_machine.specs.Moment.{Moment, Shows}
-use Rattle.agent_machine.specs.Meets.{Leaves, Meets, Stays, flash_result}
+use Rattle.agent_machine.specs.Meets.{Leaves, Meets, Stays}
 use Rattle.agent_machine.specs.Goes.{Goes, Met, CallsMet, Done, Then, Ran, moves_of, session_of}
 
 stays-then : (a b c : Moment) → Stays a b → Stays b c → Stays a c
-stays-then a b c ab bc = record { tells = bc.tells ∙ ab.tells; layout = bc.layout ∙ ab.layout; boot = bc.boot ∙ ab.boot }
+stays-then a b c ab bc = record {
+  tells = bc.tells ∙ ab.tells;
+  layout = bc.layout ∙ ab.layout;
+  boot = bc.boot ∙ ab.boot;
+  guard = λ told. bc.guard (subst IsTrue (sym ab.tells) told) ∙ ab.guard told;
+}
 
 -- what is done, and what comes next
 pub goes-then : (E : Setting) (result : Result (Unit {0}) FlashStop) (a b c : Moment) (s : State) (ms ns : List Move) (y z : Session)
@@ -47,7 +51,7 @@ goes-nothing E a s x shows = record {
   shows = shows;
   does = λ tells ready. does-nothing {T = Unit {0}} (Ok tt) E s a.told ready;
   guarded = λ tells rest. rest;
-  stays = record { tells = refl; layout = refl; boot = refl };
+  stays = record { tells = refl; layout = refl; boot = refl; guard = λ told. refl };
 }
 
 -- ---- one call
@@ -79,16 +83,6 @@ module _ (E : Setting) (c : Call) (old new : Moment) (layout : E.layout ≡ old.
     replies = λ s x shows. let it = meets.exact E s x (record { layout = layout; verifier = refl }) shows in record { reply_is = sym it.0; shows = it.1 };
     goes = λ s x shows. leaves-goes s x shows meets.leaves (meets.exact E s x (record { layout = layout; verifier = refl }) shows).1;
     layout = meets.leaves.stays.layout;
-  }
-
-  -- one that the flash stopped, with whatever session
-  pub stopped-goes : {T : Type 0} (Says : T → Reply → Type 0) (result : Result T Stop) (s : State) (x y : Session) → Shows old s x
-      → IsErr (flash_result result) → Meets {T = T} Says result E.passes c old new → Goes E (flash_result result) old new s (answer E s x c).moves y
-  stopped-goes Says result s x y shows err meets = record {
-    shows = IfOk-from_err (flash_result result) (λ _. Shows new (after s (answer E s x c).moves) y) err;
-    does = λ tells ready. meets.leaves.does E s x (record { layout = layout; verifier = refl }) shows tells ready;
-    guarded = meets.leaves.guarded;
-    stays = meets.leaves.stays;
   }
 
 -- ---- a list of calls

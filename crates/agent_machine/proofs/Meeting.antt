@@ -347,7 +347,12 @@ module _ (old new : Moment) (fitting : Fitting old.fields) (sound : SessionSound
       subst (λ (t : Told). Does {T = Unit {0}} (Ok tt) E (state_before old) (planned_moves (state_before old) (staging_before old) p) t) (sym told)
       (subst (λ (ms : List Move). Does {T = Unit {0}} (Ok tt) E (state_before old) ms old.told)
       (sym (quiet-moves (state_before old) (staging_before old) p quiet)) (does-nothing {T = Unit {0}} (Ok tt) E (state_before old) old.told ready)))
-      (λ tells rest. subst IsAtRest (sym told) rest) (record { tells = out.tells; layout = out.beside.layout; boot = out.beside.boot })
+      (λ tells rest. subst IsAtRest (sym told) rest) (record {
+        tells = out.tells;
+        layout = out.beside.layout;
+        boot = out.beside.boot;
+        guard = λ tells. ap (λ (t : Told). t.guard) told;
+      })
 
   pub quiet-meets : {T : Type 0} (Says : T → Reply → Type 0) (value : T)
       → ((E : Setting) (s : State) (x : Session) → IsSettingOf old.fields passes E → Shows old s x → Says value (planned_in E s x bytes p).reply)

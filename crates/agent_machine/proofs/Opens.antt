@@ -53,7 +53,7 @@ nothing-shown Says st passes c m none = record {
   leaves = record {
     does = λ E s x setting shows tells ready. absurd (none (record { state = s; session = x; shows = shows }));
     guarded = λ tells rest. rest;
-    stays = record { tells = refl; layout = refl; boot = refl };
+    stays = record { tells = refl; layout = refl; boot = refl; guard = λ told. refl };
   };
 }
 

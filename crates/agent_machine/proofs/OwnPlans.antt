@@ -39,6 +39,7 @@ reply_kind (reply.Sent images skipped) = 14
 reply_kind (reply.Missing guid) = 15
 reply_kind (reply.TooLarge guid) = 16
 reply_kind (reply.BadPackage f) = 17
+reply_kind (reply.BadCapsule f) = 24
 reply_kind (reply.BeginRefused st) = 18
 reply_kind (reply.EndRefused st) = 19
 reply_kind (reply.Booted b v t c fallback) = 20

@@ -7,7 +7,7 @@ use Rattle.flash_core.specs.declared.flash.FlashStop.{FlashStop}
 use Rattle.flash_core.specs.Told.{Told}
 use Rattle.flash_core.proofs.Calls.{keeps_wider}
 use Rattle.fwu_formats.specs.Layout.{ImageRow, Layout, start, slot_total, slot_bytes, blocks_needed, fits_layout}
-use Rattle.fwu_formats.specs.Metadata.{Meta, state_at, fits_meta}
+use Rattle.fwu_formats.specs.Metadata.{state_at, fits_meta}
 use Rattle.fwu_formats.proofs.Written.{rows-limits, rows-fit}
 use Rattle.fwu_model.specs.State.{is_invalid}
 use Rattle.meta_layout.proofs.Fits.{meta-fits}
@@ -104,12 +104,6 @@ meta-of-session f fitting =
     let whole = meta-fits f.layout f.meta.meta fitting.meta in
     subst (λ (rs : List ImageRow). IsTrue (fits_meta (record { banks = length f.meta.meta.states; rows = rs }) f.meta.meta)) (sym fitting.rows)
     (subst (λ (b : ℕ). IsTrue (fits_meta (record { banks = b; rows = f.layout.rows }) f.meta.meta)) (sym whole.states) fitting.meta)
-
--- the other way, where the images and the number of banks are those of the layout
-pub meta-of-layout : (L : Layout) (k : Kept) (m : Meta) → k.rows ≡ L.rows → length m.states ≡ L.banks → IsMetaOf k m → IsTrue (fits_meta L m)
-meta-of-layout L k m rows banks fits =
-    subst (λ (rs : List ImageRow). IsTrue (fits_meta (record { banks = L.banks; rows = rs }) m)) rows
-    (subst (λ (b : ℕ). IsTrue (fits_meta (record { banks = b; rows = k.rows }) m)) banks fits)
 
 pub rows-some : (f : Fields) → Fitting f → 1 ≤ length f.session.rows
 rows-some f fitting =

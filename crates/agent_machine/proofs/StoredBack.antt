@@ -187,7 +187,7 @@ module _ (tells : Bool) (f : Fields) (fitting : Fitting f) (sound : SessionSound
     does = λ E x y setting shows is ready. does-idle result E x (answer E x y call.Previous).moves t err
         (subst (λ (u : Told). IsCalm E u x) (sym (same is)) ready.calm);
     guarded = λ is rest. by result err (subst IsAtRest (sym (same is)) rest);
-    stays = record { tells = refl; layout = refl; boot = refl };
+    stays = record { tells = refl; layout = refl; boot = refl; guard = λ is. ap (λ (u : Told). u.guard) (same is) };
   }
     where
       by : (r : Result (Unit {0}) FlashStop) → IsErr r → IsAtRest t → GuardedBy r t
@@ -269,7 +269,12 @@ module _ (tells : Bool) (f : Fields) (fitting : Fitting f) (sound : SessionSound
       does = λ E x y layout shows may_be is ready. carries.does E x y layout (shows-still tells f s t same x y shows) may_be is
           (subst (λ (u : Told). IsReady E u x) (sym (same is)) ready);
       guarded = λ is rest. carries.guarded is (subst IsAtRest (sym (same is)) rest);
-      stays = record { tells = carries.stays.tells; layout = carries.stays.layout; boot = carries.stays.boot };
+      stays = record {
+        tells = carries.stays.tells;
+        layout = carries.stays.layout;
+        boot = carries.stays.boot;
+        guard = λ is. carries.stays.guard is ∙ ap (λ (u : Told). u.guard) (same is);
+      };
     }
 
     -- the verdict is good, and it was gone back

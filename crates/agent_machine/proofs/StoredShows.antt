@@ -119,6 +119,7 @@ module _ (tells : Bool) (f : Fields) (s t : Told) (result : Done) (p : Plan) (k 
     pub does : (E : Setting) (staged : ℕ → List ℕ) → E.layout ≡ f.layout → IsTrue tells → MayBeDone E (state_in f s.now) p
         → IsReady E s (state_in f s.now) → Does result E (state_in f s.now) (planned_from E (state_in f s.now) staged) t
     pub guarded : IsTrue tells → IsAtRest s → GuardedBy result t
+    pub guard : IsTrue tells → t.guard ≡ s.guard
 
   module _ (speaks : SpeaksWell) (parts : Parts) where
     shows-next : (E : Setting) (x : State) (y : Session) → E.layout ≡ f.layout → Shows old x y → IsTrue (is_ok result)
@@ -151,7 +152,7 @@ module _ (tells : Bool) (f : Fields) (s t : Told) (result : Done) (p : Plan) (k 
           (subst (λ (z : State). Does result E z (planned_from E z shows.staged) t) (sym here)
           (parts.does E shows.staged same is (subst (λ (z : State). MayBeDone E z p) here may) (subst (IsReady E s) here ready)));
       guarded = parts.guarded;
-      stays = record { tells = refl; layout = refl; boot = refl };
+      stays = record { tells = refl; layout = refl; boot = refl; guard = parts.guard };
     }
 
 -- ---- each plan
@@ -197,6 +198,7 @@ module _ (tells : Bool) (f : Fields) (s t : Told) (result : Done) (fitting : Fit
         subst (λ (b : ℕ). Does result E (state_in f s.now) (Free b ∷ []) t) (sym (freed-bank is))
         ((begun-stores may is (stores is)).does E same tt ready.calm ready.guarded);
     guarded = λ is rest. (begun-stores may is (stores is)).guarded rest;
+    guard = λ is. (stores is).writes.keeps.guard;
   }
 
   -- where nothing is stored
@@ -221,6 +223,7 @@ module _ (tells : Bool) (f : Fields) (s t : Told) (result : Done) (fitting : Fit
     state = λ E staged is ok. same-state (still is);
     does = λ E staged same is may ready. same-ready E (state_in f s.now) (still is) ready;
     guarded = λ is rest. same-guarded (still is) rest;
+    guard = λ is. ap (λ (u : Told). u.guard) (still is).1;
   }
 
   -- ---- accept
@@ -244,6 +247,7 @@ module _ (tells : Bool) (f : Fields) (s t : Told) (result : Done) (fitting : Fit
         (Accept image) done (accepted-shows f s t fitting (knows is) image may done));
     does = λ E staged same is may_be ready. (accept-stores image may is (stores is)).does E same tt ready.calm ready.guarded;
     guarded = λ is rest. (accept-stores image may is (stores is)).guarded rest;
+    guard = λ is. (stores is).writes.keeps.guard;
   }
 
   pub unchanged-parts : (image : ℕ) → MayAccept f image → Settles f.session f.meta [] (plan.Accept image false) f.meta f.session
@@ -257,6 +261,7 @@ module _ (tells : Bool) (f : Fields) (s t : Told) (result : Done) (fitting : Fit
     state = λ E staged is ok. same-state (still is);
     does = λ E staged same is may_be ready. same-ready E (state_in f s.now) (still is) ready;
     guarded = λ is rest. same-guarded (still is) rest;
+    guard = λ is. ap (λ (u : Told). u.guard) (still is).1;
   }
 
   -- ---- previous
@@ -278,4 +283,5 @@ module _ (tells : Bool) (f : Fields) (s t : Told) (result : Done) (fitting : Fit
         sym (state-after f s t (knows is) (meta_after m Back) f.session 0 Back done (back-shows f s t fitting (knows is) may done));
     does = λ E staged same is may_be ready. (back-stores may is (stores is)).does E same may_be ready.calm ready.guarded;
     guarded = λ is rest. (back-stores may is (stores is)).guarded rest;
+    guard = λ is. (stores is).writes.keeps.guard;
   }

@@ -1,5 +1,5 @@
 -- What a plan that may be carried out takes of an armed loss.
-use Rattle.std.proofs.Common.{◌≡◌, ◌⊎◌, inl, inr, Bool, true, false, Option, refl, subst, sym, ◌∙◌}
+use Rattle.std.proofs.Common.{◌≡◌, inl, inr, Bool, true, false, Option, refl, subst, sym}
 use Rattle.flash_core.specs.declared.flash.Arming.{Arming}
 use Rattle.fwu_formats.specs.Metadata.{MetaRead}
 use Rattle.agent_kept.specs.declared.kinds.Plan.{Plan}

@@ -56,6 +56,8 @@ pub record Stays (old new : Moment) : Type 0 where
   pub tells : new.tells ≡ old.tells
   pub layout : new.fields.layout ≡ old.fields.layout
   pub boot : new.fields.boot ≡ old.fields.boot
+  -- where the content is told, the same blocks are guarded
+  pub guard : IsTrue old.tells → new.told.guard ≡ old.told.guard
 
 -- the agent shows the machine after this one's answer to the call
 abbrev pub ShowsNext : Setting → State → Session → Call → Moment → Type 0

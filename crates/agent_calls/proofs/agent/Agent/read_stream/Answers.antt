@@ -1,5 +1,6 @@
 use Rattle.std.proofs.Common.{◌≤◌, [], length, refl, sym, ap, ◌∙◌, arith}
 use Rattle.std.proofs.lemmas.List.{length-take, length-take-le}
+use Rattle.flash_core.specs.Told.{Told}
 use Rattle.fwu_model.specs.declared.kinds.Status.TheVariants.{Denied}
 use Rattle.agent_kept.specs.declared.kinds.Plan.TheVariants as plan
 use Rattle.agent_machine.specs.Fields.{Fields}
@@ -69,7 +70,12 @@ returns-in-Err-Lost-clause-meets g c here passes =
     (length c.args.out.now) c.in-Ok.plan c.in-Ok.ensures.plans c.in-Read.handle c.in-Read.image c.in-Read.at c.in-Read.length c.in-Read.total c.in-Read.is
     c.in-Ok.ensures.of
     (moment c.read_part.new.self) c.read_part.ensures.content passes (IsGot g.D.Flash.tells _)
-    (record { tells = refl; layout = ap (λ (x : Fields). x.layout) same; boot = ap (λ (x : Fields). x.boot) same })
+    (record {
+      tells = refl;
+      layout = ap (λ (x : Fields). x.layout) same;
+      boot = ap (λ (x : Fields). x.boot) same;
+      guard = λ told. ap (λ (t : Told). t.guard) (c.read_part.ensures.content told);
+    })
 
 pub returns-in-Err-Failed-clause-meets : goal.returns-in-Err-Failed-clause-meets
 returns-in-Err-Failed-clause-meets g c here passes =
@@ -79,7 +85,12 @@ returns-in-Err-Failed-clause-meets g c here passes =
     (length c.args.out.now) c.in-Ok.plan c.in-Ok.ensures.plans c.in-Read.handle c.in-Read.image c.in-Read.at c.in-Read.length c.in-Read.total c.in-Read.is
     c.in-Ok.ensures.of
     (moment c.read_part.new.self) c.read_part.ensures.content passes (IsGot g.D.Flash.tells _)
-    (record { tells = refl; layout = ap (λ (x : Fields). x.layout) same; boot = ap (λ (x : Fields). x.boot) same })
+    (record {
+      tells = refl;
+      layout = ap (λ (x : Fields). x.layout) same;
+      boot = ap (λ (x : Fields). x.boot) same;
+      guard = λ told. ap (λ (t : Told). t.guard) (c.read_part.ensures.content told);
+    })
 
 pub returns-in_default-clause-meets : goal.returns-in_default-clause-meets
 returns-in_default-clause-meets g c here passes =

@@ -3,8 +3,8 @@ use Rattle.fwu_formats.specs.Layout.{Layout, ImageRow}
 use Rattle.agent_kept.specs.Kept.{kept, slot_of}
 use Rattle.agent_machine.proofs.Room.{slots-small}
 use Rattle.early_boot.specs.Choosing.{FitSlots}
-use Rattle.early_boot.specs.Started.{started}
-use Rattle.agent_calls.proofs.Starting.{starts-fitting, starts-some, starts-known, starts-session}
+use Rattle.early_boot.specs.Started.{started, started_session}
+use Rattle.agent_calls.proofs.Starting.{starts-fitting, starts-some, starts-known, starts-session, starts-shows}
 use Rattle.agent_calls.proofs.agent.Agent.start.Goals as goal
 
 pub new-session-requires-clause-slots : goal.new-session-requires-clause-slots
@@ -38,3 +38,21 @@ invariant_of-result g c =
 pub returns-clause-session : goal.returns-clause-session
 returns-clause-session g c s x shows = starts-session _ c.args.booted.chosen.bank c.bank-boot.ensures.value c.new-session.ensures.idle
     c.new-session.ensures.closed s x shows
+
+pub returns-clause-shows : goal.returns-clause-shows
+returns-clause-shows g c tells =
+    let layout = c.into_parts-flash.result.1 in
+    let b = started c.args.booted in
+    let rows = c.new-session.ensures.rows ∙ c.rows.ensures.value in
+    let same = c.into_parts-flash.ensures.layout in
+    let below : c.bank-boot.result < layout.banks = omega (arith, c.bank-boot.ensures.below, ap (λ (l : Layout). l.banks) same) in
+    let count : length b.lengths ≡ length layout.rows = c.lengths-lengths.ensures.count ∙ ap (λ (l : Layout). length l.rows) (sym same) in
+    starts-shows _ (started_session b)
+    (starts-fitting _ rows c.new-session.ensures.nothing c.new-session.ensures.idle c.new-session.ensures.closed c.rows.ensures.fit
+    c.into_parts-flash.ensures.fits below c.lengths-lengths.ensures.all b.lengths c.lengths-lengths.ensures.front count
+    (subst (λ (l : Layout). FitSlots l b.lengths) (sym same) c.lengths-lengths.ensures.within) refl)
+    (starts-known _ rows c.new-session.ensures.nothing c.new-session.ensures.idle c.new-session.ensures.closed
+    (g.D.Flash.told c.into_parts-flash.result.0) b same c.into_parts-flash.ensures.metadata c.bank-boot.ensures.value
+    c.trials-trials.ensures.value c.counter-counter.ensures
+    c.lengths-lengths.ensures.front count (c.into_parts-flash.ensures.knows tells))
+    (λ s x shows. starts-session _ c.args.booted.chosen.bank c.bank-boot.ensures.value c.new-session.ensures.idle c.new-session.ensures.closed s x shows)

@@ -1,5 +1,5 @@
 use Rattle.std.proofs.Common.{◌≡◌, ℕ, Bool, true, List, [], length, Ok, refl, sym, ap, ◌∙◌, subst, arith}
-use Rattle.flash_core.specs.Counts.{Spends}
+use Rattle.flash_core.specs.Counts.{Spends, StaysUnarmed}
 use Rattle.flash_core.specs.declared.flash.Counts.{Counts}
 use Rattle.fwu_formats.specs.Layout.{ImageRow, slot_bytes}
 use Rattle.fwu_model.specs.Reply.{Success}
@@ -19,7 +19,7 @@ use Rattle.agent_machine.proofs.Answered.{refused-meets}
 use Rattle.agent_machine.proofs.Meeting.{quiet-unless-own, may-keep, carried-any, quiet-success}
 use Rattle.agent_machine.proofs.WriteDecided.{write-room, write-spends, quiet-spends, spends-none, decides-length}
 use Rattle.agent_calls.specs.Shown.{fields, moment}
-use Rattle.agent_calls.proofs.Still.{still-goes, still-spends, done-gone}
+use Rattle.agent_calls.proofs.Still.{still-goes, still-spends, still-unarmed, done-gone}
 use Rattle.agent_calls.proofs.agent.Agent.write_stream.Goals as goal
 
 -- a plan of its own is to write
@@ -122,6 +122,9 @@ returns-in_default g c =
           (g.D.Flash.counts a.flash) (g.D.Flash.counts c.keep.new.self.flash)) (sym none)
           (subst (λ d. SpendsArming {T = Unit {0}} (Ok tt) 0 (g.D.Flash.arming a.flash) (g.D.Flash.arming d) (g.D.Flash.counts a.flash)
           (g.D.Flash.counts d)) (sym device) (spends-none (g.D.Flash.arming a.flash) (g.D.Flash.counts a.flash)));
+      unarmed =
+          subst (λ d. StaysUnarmed {T = Unit {0}} (Ok tt) (g.D.Flash.arming a.flash) (g.D.Flash.arming d) (g.D.Flash.counts a.flash) (g.D.Flash.counts d))
+          (sym device) (still-unarmed (g.D.Flash.arming a.flash) (g.D.Flash.counts a.flash));
       power = λ was. ap g.D.Flash.on device ∙ a.power here;
       size = ap g.D.Flash.blocks device;
       costs = subst (λ (n : Counts). Spends {T = Unit {0}} (Ok tt) (g.D.Flash.counts a.flash) n) (sym (ap g.D.Flash.counts device))
