@@ -9,3 +9,6 @@ pub mod Chosen
 pub mod OwnImages
 pub mod Installed
 pub mod WholeSending
+pub mod Taking
+pub mod Writer
+pub mod ImagesTaking

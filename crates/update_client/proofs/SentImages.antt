@@ -16,7 +16,7 @@ use Rattle.update_client.specs.Pieces.{SendsImage}
 use Rattle.update_client.specs.Images.{AreImages, SendsFirst, SendsImages, no_entry}
 use Rattle.update_client.proofs.Halting.{halts-after}
 
-take-next : (l : List Entry) (k : ℕ) → k < length l → take (k + 1) l ≡ take k l ++ get_or l k no_entry ∷ []
+pub take-next : (l : List Entry) (k : ℕ) → k < length l → take (k + 1) l ≡ take k l ++ get_or l k no_entry ∷ []
 take-next [] k lt = absurd (omega (arith, lt))
 take-next (x ∷ l) zero lt = refl
 take-next (x ∷ l) (suc k) lt = let z : suc k + 1 ≡ suc (k + 1) = omega arith in ap (λ (n : ℕ). take n (x ∷ l)) z ∙ ap (λ (ys : List Entry). x ∷ ys)

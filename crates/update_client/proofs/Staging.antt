@@ -29,7 +29,7 @@ set-end [] zero y lt = absurd (omega (arith, lt))
 set-end [] (suc k) y lt = let e : suc k - 1 ≡ k = omega arith in ap (λ (n : ℕ). y ∷ replicate n Nothing) (sym e)
 set-end (x ∷ xs) k y lt = ap (λ (l : List Staged). x ∷ l) (set-end xs k y lt)
 
-at-place : (xs ys : List Staged) (y : Staged) → get_or (xs ++ y ∷ ys) (length xs) Nothing ≡ y
+pub at-place : (xs ys : List Staged) (y : Staged) → get_or (xs ++ y ∷ ys) (length xs) Nothing ≡ y
 at-place [] ys y = refl
 at-place (x ∷ xs) ys y = at-place xs ys y
 

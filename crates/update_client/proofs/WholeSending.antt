@@ -5,6 +5,7 @@ use Rattle.std.proofs.Math.Nat.{mod-lt, ℕ_set}
 use Rattle.std.proofs.Math.Logic.{∥∥₁_elim}
 use Rattle.fwu_formats.proofs.SealLaws.{limits}
 use Rattle.std.specs.Prelude.{◌%◌, ◌==◌, IsTrue, IsFalse, not}
+use Rattle.flash_core.specs.declared.flash.Arming.{Arming}
 use Rattle.flash_core.specs.declared.flash.FlashStop.{FlashStop}
 use Rattle.flash_core.specs.declared.flash.FlashStop.TheVariants as flash_stop
 use Rattle.host_io.specs.Contents.{Directory}
@@ -33,6 +34,7 @@ use Rattle.update_client.specs.declared.stops.SendStop.TheVariants.{MissingImage
 use Rattle.update_client.specs.Staged.{between}
 use Rattle.update_client.specs.Halts.{unbegun_as}
 use Rattle.update_client.specs.Choosing.{AreChosen, refused_image, no_row, no_entry}
+use Rattle.update_client.specs.Takes.{InstallTakes, Takes, blocks_sent}
 use Rattle.update_client.specs.Images.{AreImages}
 use Rattle.update_client.specs.Finishes.{Finishes, InstallsImages, end_moves}
 use Rattle.update_client.specs.Sends.{Installs, IsInstalled, IsSwitched, Sends, SendsBy, send_answer}
@@ -41,6 +43,7 @@ use Rattle.update_client.proofs.Going.{MeetsAs, call-goes, call-replies, call-st
 use Rattle.update_client.proofs.Staging.{begin-answers, begun-keeps, begun-may}
 use Rattle.update_client.proofs.Installed.{told_value, told-is, stopped-at}
 use Rattle.update_client.proofs.OwnImages.{are-images}
+use Rattle.update_client.proofs.ImagesTaking.{blocks-chosen}
 
 abbrev of : Unit {0} → Reply
 of u = reply.Success
@@ -348,6 +351,22 @@ module _ (told : Option Directory) (name : List ℕ) (toc : Toc) (request : ℕ)
           subst (λ (n : ℕ). Finishes result E m1 new (after s (begin_moves s)) boot inst.images (replicate n (request == 0))) chosen-in.count
           (inst.goes E (after s (begin_moves s)) boot (layout ∙ sym begun.stays.layout) verifier are
           (subst (λ (n : ℕ). Shows m1 (after s (begin_moves s)) (between boot n (request == 0) [])) (sym chosen-in.count) begun.shows))
+
+    -- what the installing takes of an armed loss, wherever a machine is shown
+    pub sends-take : (armed arming : Option Arming) → InstallTakes entries request m1 armed arming → Showing old
+        → Takes (blocks_sent old.fields.layout.rows toc + 4) armed arming
+    sends-take armed arming installs one = by-session one.state one.session one.shows
+      where
+        E : Setting
+        E = record { layout = old.fields.layout; files = λ _. None; passes = passes }
+
+        by-session : (s : State) (x : Session) → Shows old s x → Takes (blocks_sent old.fields.layout.rows toc + 4) armed arming
+        by-session s Off shows = absurd (never-off old s shows)
+        by-session s (On boot staging handles) shows =
+            let begun = (begin-done E old m1 s boot staging handles (request == 0) refl shows (begins passes)).1 in
+            subst (λ (n : ℕ). Takes (n + 4) armed arming) (blocks-chosen old.fields.layout.rows toc entries chosen.count chosen.each)
+            (installs E (after s (begin_moves s)) boot (sym begun.stays.layout) (are E refl)
+            (subst (λ (n : ℕ). Shows m1 (after s (begin_moves s)) (between boot n (request == 0) [])) (sym chosen.count) begun.shows))
 
     pub sends-done : (sent : Sent) → sent.images ≡ length old.fields.layout.rows
         → sent.skipped ≡ skipped old.fields.layout.rows toc → InstallsImages told name entries request passes (Ok tt) m1 new

@@ -1,10 +1,11 @@
 //! Sending the images of a package.
-ghost use Rattle.std.specs.Prelude.{◌≡◌, All, ◌+◌, ◌^◌, ◌<◌, ◌≤◌, ℕ, List, length, IsFalse};
+ghost use Rattle.std.specs.Prelude.{◌≡◌, All, ◌+◌, ◌^◌, ◌<◌, ◌≤◌, ℕ, List, length, IsFalse, OnOk};
 ghost use Rattle.fip_tables.specs.Files.{Lacks, Tells};
-ghost use Rattle.agent_calls.specs.Shown.{gone, moment};
+ghost use Rattle.agent_calls.specs.Shown.{device, gone, moment};
 ghost use Rattle.update_client.specs.Halts.{SpentBy, StopsWithin, flash_of};
 ghost use Rattle.update_client.specs.Images.{SendsImages};
 ghost use Rattle.update_client.specs.Pieces.{ReadsBy, SendsImage};
+ghost use Rattle.update_client.specs.Takes.{ImageTakes, ImagesTake};
 
 use crate::pieces::{stopped, write_image};
 use crate::stops::SendStop;
@@ -35,6 +36,8 @@ pub fn send_image<D: Flash, H: Files>(
 
     ensures sent { SendsImage (H.contents files.old) name.now guid entry.now acceptance result
         (moment agent.old) (moment agent.new) }
+    ensures takes { OnOk result (ImageTakes guid entry.now acceptance (moment agent.old)
+        (D.arming (device agent.old)) (D.arming (device agent.new))) }
     ensures stops { StopsWithin result }
     ensures spent { SpentBy (flash_of result) agent.old agent.new }
     ensures buffer { length buf.new ≡ length buf.old }
@@ -73,6 +76,8 @@ pub fn send_images<D: Flash, H: Files>(
 
     ensures sent { SendsImages (H.contents files.old) name.now entries.now acceptance result
         (moment agent.old) (moment agent.new) }
+    ensures takes { OnOk result (ImagesTake entries.now acceptance (length entries.now)
+        (moment agent.old) (D.arming (device agent.old)) (D.arming (device agent.new))) }
     ensures stops { StopsWithin result }
     ensures spent { SpentBy (flash_of result) agent.old agent.new }
     ensures buffer { length buf.new ≡ length buf.old }

@@ -1,9 +1,10 @@
 //! Writing the payload of an image.
-ghost use Rattle.std.specs.Prelude.{◌≡◌, ◌+◌, ◌^◌, ◌<◌, ◌≤◌, ℕ, List, length, IsFalse};
+ghost use Rattle.std.specs.Prelude.{◌≡◌, ◌+◌, ◌^◌, ◌<◌, ◌≤◌, ℕ, List, length, IsFalse, IfOk, OnOk};
 ghost use Rattle.fip_tables.specs.Files.{Lacks, Tells};
-ghost use Rattle.agent_calls.specs.Shown.{gone, moment};
+ghost use Rattle.agent_calls.specs.Shown.{device, gone, moment};
 ghost use Rattle.update_client.specs.Halts.{SpentBy, StopsWithin, flash_of, stopped_as, unbegun_as, is_unread as was_unread};
 ghost use Rattle.update_client.specs.Pieces.{ReadsBy, WritesImage, WritesPiece};
+ghost use Rattle.update_client.specs.Takes.{FirstTake, PieceTakes};
 
 use crate::stops::SendStop;
 use agent_calls::{Agent, Stop};
@@ -62,6 +63,8 @@ fn write_piece<D: Flash, H: Files>(
 
     ensures wrote { WritesPiece (H.contents files.old) name.now entry.now at result
         (moment agent.old) (moment agent.new) }
+    ensures takes { IfOk result (λ n. PieceTakes at n (moment agent.old)
+        (D.arming (device agent.old)) (D.arming (device agent.new))) }
     ensures stops { StopsWithin result }
     ensures spent { SpentBy (flash_of result) agent.old agent.new }
     ensures buffer { length buf.new ≡ length buf.old }
@@ -96,6 +99,8 @@ pub fn write_image<D: Flash, H: Files>(
 
     ensures wrote { WritesImage (H.contents files.old) name.now entry.now result
         (moment agent.old) (moment agent.new) }
+    ensures takes { OnOk result (FirstTake entry.now entry.now.size (moment agent.old)
+        (D.arming (device agent.old)) (D.arming (device agent.new))) }
     ensures stops { StopsWithin result }
     ensures spent { SpentBy (flash_of result) agent.old agent.new }
     ensures buffer { length buf.new ≡ length buf.old }

@@ -1,6 +1,6 @@
 //! Sending a package to the agent.
 ghost use Rattle.std.specs.Prelude.{◌≡◌, ◌+◌, ◌^◌, ◌<◌, ◌≤◌, All, ℕ, List, length, is_ok, IsFalse, IfOk, OnOk};
-ghost use Rattle.flash_core.specs.Counts.{Spends};
+ghost use Rattle.flash_core.specs.Counts.{Spends, StaysUnarmed};
 ghost use Rattle.fwu_model.specs.State.{State};
 ghost use Rattle.fwu_model.specs.Session.{Session};
 ghost use Rattle.agent_machine.specs.Moment.{Shows};
@@ -10,6 +10,7 @@ ghost use Rattle.agent_calls.specs.Shown.{device, fields, gone, moment};
 ghost use Rattle.update_client.specs.Halts.{flash_of};
 ghost use Rattle.update_client.specs.Pieces.{ReadsBy};
 ghost use Rattle.update_client.specs.Sends.{FaultsBy, GoneBy, Installs, IsCounted, IsEarly, IsSwitched, Sends};
+ghost use Rattle.update_client.specs.Takes.{Takes, blocks_sent};
 
 use crate::choosing::{choose, skipped};
 use crate::finishing::install;
@@ -75,6 +76,14 @@ pub fn send<D: Flash, H: Files, V: Verifier>(
     ensures power { IsFalse (gone agent.old) → D.on (device agent.new) ≡ is_ok (flash_of result) }
     ensures size { D.blocks (device agent.new) ≡ D.blocks (device agent.old) }
     ensures costs { Spends (flash_of result)
+        (D.counts (device agent.old)) (D.counts (device agent.new)) }
+    // When done, on every device: at least an erase of each block that an image reaches, and the
+    // two erases and two programs of the store that makes the bank active.
+    ensures spent { OnOk result (Takes (blocks_sent (fields agent.old).layout.rows toc.now + 4)
+        (D.arming (device agent.old)) (D.arming (device agent.new))) }
+    // where nothing was armed, nothing is, and none was reached
+    ensures unarmed { StaysUnarmed (flash_of result)
+        (D.arming (device agent.old)) (D.arming (device agent.new))
         (D.counts (device agent.old)) (D.counts (device agent.new)) }
     ensures buffer { length buf.new ≡ length buf.old }
     ensures same { H.contents files.new ≡ H.contents files.old }

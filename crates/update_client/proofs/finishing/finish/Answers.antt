@@ -7,6 +7,7 @@ use Rattle.agent_calls.specs.Shown.{gone, moment}
 use Rattle.update_client.specs.declared.stops.SendStop.{SendStop}
 use Rattle.update_client.specs.Finishes.{FinishesBy}
 use Rattle.update_client.proofs.Finished.{finish-done, finish-lost, finish-failed, finish-refused, finish-halted, still-here}
+use Rattle.update_client.proofs.Taking.{takes-switch}
 use Rattle.update_client.proofs.finishing.finish.Goals as goal
 use Rattle.update_client.proofs.Going.{MeetsAs}
 
@@ -43,3 +44,6 @@ pub returns-in-Err-Fault-clause-finishes : goal.returns-in-Err-Fault-clause-fini
 returns-in-Err-Fault-clause-finishes g c = finish-failed _ _ _ (subst
     (λ (q : Stop). MeetsAs {T = Unit {0}} (λ _. reply.Success) (Err q) (g.V.Verifier.passes c.args.verifier.now) call.End (moment c.args.agent.now)
     (moment c.end.new.self)) c.in-Err-Fault.field-0-is (c.in-Err-Fault.ensures.meets c.requires.here _ refl))
+
+pub returns-in-Ok-clause-takes : goal.returns-in-Ok-clause-takes
+returns-in-Ok-clause-takes g c = takes-switch _ _ c.in-Ok.ensures.spent

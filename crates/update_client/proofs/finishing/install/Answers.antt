@@ -1,11 +1,13 @@
 use Rattle.std.proofs.Common.{◌≡◌, false, Err, sym, subst, ◌∙◌}
-use Rattle.agent_calls.specs.Shown.{moment}
+use Rattle.std.proofs.lemmas.Result.{on_ok_weaker}
+use Rattle.agent_calls.specs.Shown.{device, moment}
 use Rattle.update_client.specs.declared.stops.SendStop.{SendStop}
 use Rattle.update_client.specs.declared.stops.SendStop.TheVariants.{ReadFailed}
 use Rattle.update_client.specs.Halts.{SpentBy, flash_of, is_unread}
 use Rattle.update_client.specs.Finishes.{InstallsImages}
 use Rattle.update_client.specs.Images.{SendsImages}
 use Rattle.update_client.proofs.Installed.{installed, uninstalled, uncancelled, interrupted, unread-is}
+use Rattle.update_client.proofs.ImagesTaking.{install-takes}
 use Rattle.update_client.proofs.finishing.install.Goals as goal
 
 pub returns-then-not-is_unread-clause-installs : goal.returns-then-not-is_unread-clause-installs
@@ -33,3 +35,7 @@ returns-in-Err-cancel-clause-installs g c =
     subst (λ (st : SendStop). InstallsImages (g.H.Files.contents c.args.files.now) c.args.name.now c.args.entries.now c.args.acceptance
     (g.V.Verifier.passes c.args.verifier.now) (Err st) (moment c.args.agent.now) (moment c.cancel.new.self)) (sym c.stopped.ensures)
     (uncancelled _ _ _ _ _ _ (moment c.send_images.new.agent) _ c.in-Err-cancel.stop _ _ spent.gone_is c.in-Err-cancel.ensures.goes c.in-Err-cancel.ensures.answers sent (c.in-Err-cancel.ensures.meets spent.gone_is))
+
+pub returns-in-Ok-clause-takes : goal.returns-in-Ok-clause-takes
+returns-in-Ok-clause-takes g c = on_ok_weaker c.finish.result (λ ends. install-takes c.args.entries.now c.args.acceptance (moment c.args.agent.now) _
+    (g.D.Flash.arming (device c.send_images.new.agent)) _ c.in-Ok.ensures.takes ends) c.finish.ensures.takes

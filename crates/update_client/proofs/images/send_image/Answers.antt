@@ -1,8 +1,10 @@
 use Rattle.std.proofs.Common.{Err, sym, subst}
-use Rattle.agent_calls.specs.Shown.{moment}
+use Rattle.agent_calls.specs.Shown.{device, moment}
 use Rattle.update_client.specs.declared.stops.SendStop.{SendStop}
 use Rattle.update_client.specs.Pieces.{SendsImage}
 use Rattle.update_client.proofs.WrittenPiece.{image-unopened, image-unwritten, image-sent, image-uncommitted}
+use Rattle.update_client.specs.Takes.{FirstTake}
+use Rattle.update_client.proofs.ImagesTaking.{image-takes}
 use Rattle.update_client.proofs.images.send_image.Goals as goal
 
 pub returns-in-Err-clause-sent : goal.returns-in-Err-clause-sent
@@ -27,3 +29,11 @@ returns-in-Err-commit-clause-sent g c =
     (c.in-Ok.ensures.meets c.requires.here) c.in-Ok-write_image.ensures.wrote
     c.in-Err-commit.stop _ _ c.in-Ok-write_image.ensures.spent.gone_is c.in-Err-commit.ensures.goes
     (c.in-Err-commit.ensures.meets c.in-Ok-write_image.ensures.spent.gone_is))
+
+pub returns-in-Ok-commit-clause-takes : goal.returns-in-Ok-commit-clause-takes
+returns-in-Ok-commit-clause-takes g c =
+    image-takes _ _ _ _ _ c.in-Ok.field-0 _ (moment c.open.new.self) (moment c.write_image.new.agent) _ (g.D.Flash.arming (device c.write_image.new.agent)) _
+    (c.in-Ok.ensures.meets c.requires.here) c.in-Ok-write_image.ensures.wrote
+    (subst (λ d. FirstTake c.args.entry.now c.args.entry.now.size (moment c.open.new.self) (g.D.Flash.arming d)
+    (g.D.Flash.arming (device c.write_image.new.agent))) c.in-Ok.ensures.still c.in-Ok-write_image.ensures.takes)
+    (λ image writes. (c.in-Ok-commit.ensures.spent c.in-Ok-write_image.ensures.spent.gone_is image writes).lowered)

@@ -1,17 +1,21 @@
 use Rattle.std.proofs.Common.{◌≡◌, ◌<◌, ℕ, List, length, get_or, Ok, Err, Option, refl, ap, subst, ◌∙◌, arith}
 use Rattle.std.proofs.lemmas.List.{get_or_default}
 use Rattle.flash_core.proofs.Costs.{spends_then}
+use Rattle.update_client.proofs.Taking.{still-unarmed, unarmed-then}
+use Rattle.update_client.proofs.ImagesTaking.{images-take-none, images-take-more, images-take-all}
 use Rattle.host_io.specs.Contents.{Directory}
 use Rattle.fwu_formats.specs.Package.{Entry}
-use Rattle.agent_calls.specs.Shown.{moment}
+use Rattle.agent_calls.specs.Shown.{device, moment}
 use Rattle.update_client.specs.Pieces.{SendsImage}
 use Rattle.update_client.specs.Images.{no_entry}
+use Rattle.update_client.specs.Takes.{ImageTakes}
 use Rattle.update_client.proofs.SentImages.{images-none, images-more, images-stopped, images-done}
 use Rattle.update_client.proofs.images.send_images.Goals as goal
 
 pub loop-k-init : goal.loop-k-init
 loop-k-init g c = record {
   first = images-none _ _ _ _ _;
+  takes = images-take-none c.args.entries.now c.args.acceptance _ _;
   spent = record {
     gone_is = c.requires.here;
     power = c.args.agent.now.power c.requires.here;
@@ -27,6 +31,7 @@ loop-k-init g c = record {
           failed =
               λ no. absurd cc;
         };
+    unarmed = still-unarmed _ _;
   };
   buffer = refl;
   same = refl;
@@ -46,14 +51,20 @@ loop-k-preserved g c =
     (moment c.send_image.new.agent)) at
     (subst (λ (guid : List ℕ). SendsImage (g.H.Files.contents c.loop-k.files) c.args.name.now guid c.index-entries-k.result c.args.acceptance (Ok tt)
     (moment c.loop-k.agent) (moment c.send_image.new.agent)) (ap (λ (e : Entry). e.guid) c.entry.view_is) c.in-Ok.ensures.sent)) in
+    let takes = subst (λ (e : Entry). ImageTakes e.guid e c.args.acceptance (moment c.loop-k.agent) (g.D.Flash.arming (device c.loop-k.agent))
+    (g.D.Flash.arming (device c.send_image.new.agent))) at
+    (subst (λ (guid : List ℕ). ImageTakes guid c.index-entries-k.result c.args.acceptance (moment c.loop-k.agent) (g.D.Flash.arming (device c.loop-k.agent))
+    (g.D.Flash.arming (device c.send_image.new.agent))) (ap (λ (e : Entry). e.guid) c.entry.view_is) c.in-Ok.ensures.takes) in
     record {
       first = images-more _ _ _ _ k below _ (moment c.loop-k.agent) _ before.first image;
+      takes = images-take-more _ _ _ _ k _ (moment c.loop-k.agent) _ _ _ below before.first before.takes takes;
       spent = record {
         gone_is = c.in-Ok.ensures.spent.gone_is;
         power = c.in-Ok.ensures.spent.power;
         size = c.in-Ok.ensures.spent.size
             ∙ before.spent.size;
         costs = spends_then (Ok tt) (Ok tt) _ _ _ before.spent.costs c.in-Ok.ensures.spent.costs;
+        unarmed = unarmed-then (Ok tt) _ _ _ _ _ _ before.spent.costs.cuts before.spent.unarmed c.in-Ok.ensures.spent.unarmed;
       };
       buffer = c.in-Ok.ensures.buffer ∙ before.buffer;
       same = c.in-Ok.ensures.same ∙ before.same;
@@ -79,3 +90,6 @@ returns-in-Err-clause-sent g c =
 
 pub returns-clause-sent : goal.returns-clause-sent
 returns-clause-sent g c = images-done _ _ _ _ c.loop-k.k _ _ (omega (arith, c.loop-k-test.false, c.loop-k.auto.k-end)) c.loop-k.invariant.first
+
+pub returns-clause-takes : goal.returns-clause-takes
+returns-clause-takes g c = images-take-all c.args.entries.now c.args.acceptance c.loop-k.k _ _ _ (omega (arith, c.loop-k-test.false)) c.loop-k.invariant.takes

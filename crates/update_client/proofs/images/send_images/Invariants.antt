@@ -3,13 +3,16 @@ use Rattle.std.specs.Prelude.{Ok}
 use Rattle.agent_calls.specs.Shown.{device, gone, moment}
 use Rattle.update_client.specs.Halts.{Spent}
 use Rattle.update_client.specs.Images.{SendsFirst}
+use Rattle.update_client.specs.Takes.{ImagesTake}
 use Rattle.update_client.proofs.images.send_images.Given as goal
 
 abbrev pub invariant-loop-k : goal.invariant-loop-k
 invariant-loop-k g l = record {
   first : SendsFirst (g.H.Files.contents l.fn.files) l.name l.entries l.acceptance l.k (moment l.fn.agent) (moment l.agent);
+  takes : ImagesTake l.entries l.acceptance l.k (moment l.fn.agent) (g.D.Flash.arming (device l.fn.agent)) (g.D.Flash.arming (device l.agent));
   spent : Spent (Ok tt) (gone l.agent) (g.D.Flash.on (device l.agent)) (g.D.Flash.blocks (device l.fn.agent)) (g.D.Flash.blocks (device l.agent))
-      (g.D.Flash.counts (device l.fn.agent)) (g.D.Flash.counts (device l.agent));
+      (g.D.Flash.arming (device l.fn.agent)) (g.D.Flash.arming (device l.agent)) (g.D.Flash.counts (device l.fn.agent))
+      (g.D.Flash.counts (device l.agent));
   buffer : length l.buf ≡ length l.fn.buf;
   same : g.H.Files.contents l.files ≡ g.H.Files.contents l.fn.files;
   later : g.H.Files.faults l.fn.files ≤ g.H.Files.faults l.files;

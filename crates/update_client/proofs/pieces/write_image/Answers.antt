@@ -1,6 +1,8 @@
 use Rattle.std.proofs.Common.{Ok, Err, Option, refl, ap, subst, ◌∙◌, arith}
 use Rattle.host_io.specs.Contents.{Directory}
 use Rattle.flash_core.proofs.Costs.{spends_then}
+use Rattle.update_client.proofs.Taking.{still-unarmed, unarmed-then}
+use Rattle.update_client.proofs.ImagesTaking.{first-takes-none, first-takes-more, first-takes-all}
 use Rattle.fwu_formats.specs.Package.{Entry}
 use Rattle.agent_calls.specs.Shown.{moment}
 use Rattle.update_client.specs.Pieces.{WritesPiece}
@@ -16,6 +18,7 @@ pub loop-at-init : goal.loop-at-init
 loop-at-init g c = record {
   inside = omega arith;
   first = first-none _ _ _ _;
+  takes = first-takes-none c.args.entry.now _ _;
   spent = record {
     gone_is = c.requires.here;
     power = c.args.agent.now.power c.requires.here;
@@ -31,6 +34,7 @@ loop-at-init g c = record {
           failed =
               λ no. absurd cc;
         };
+    unarmed = still-unarmed _ _;
   };
   buffer = refl;
   same = refl;
@@ -45,12 +49,14 @@ loop-at-preserved g c =
     record {
       inside = omega (arith, wrote.count.2, ap (λ (e : Entry). e.size) c.entry.view_is);
       first = first-more _ _ _ _ _ _ _ before.first c.in-Ok.count wrote;
+      takes = first-takes-more _ _ c.args.entry.now _ c.in-Ok.count _ (moment c.loop-at.agent) _ _ _ before.first before.takes c.in-Ok.ensures.takes;
       spent = record {
         gone_is = c.in-Ok.ensures.spent.gone_is;
         power = c.in-Ok.ensures.spent.power;
         size = c.in-Ok.ensures.spent.size
             ∙ before.spent.size;
         costs = spends_then (Ok tt) (Ok tt) _ _ _ before.spent.costs c.in-Ok.ensures.spent.costs;
+        unarmed = unarmed-then (Ok tt) _ _ _ _ _ _ before.spent.costs.cuts before.spent.unarmed c.in-Ok.ensures.spent.unarmed;
       };
       buffer = c.in-Ok.ensures.buffer ∙ before.buffer;
       same = c.in-Ok.ensures.same ∙ before.same;
@@ -63,3 +69,8 @@ returns-in-Err-clause-wrote g c =
     let wrote = subst (λ (d : Option Directory). WritesPiece d c.args.name.now c.args.entry.now c.loop-at.at (Err c.in-Err.stop)
     (moment c.loop-at.agent) (moment c.write_piece.new.agent)) before.same c.in-Err.ensures.wrote in
     image-stopped _ _ _ _ _ _ _ before.first c.in-Err.stop wrote
+
+pub returns-clause-takes : goal.returns-clause-takes
+returns-clause-takes g c =
+    let size = ap (λ (e : Entry). e.size) c.entry.view_is in
+    first-takes-all c.args.entry.now _ _ _ _ (omega (arith, c.loop-at-test.false, c.loop-at.invariant.inside, size)) c.loop-at.invariant.takes

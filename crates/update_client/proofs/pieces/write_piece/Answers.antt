@@ -1,10 +1,13 @@
 use Rattle.std.proofs.Common.{◌≡◌, ◌++◌, ◌≤◌, ℕ, length, take, drop, Err, sym, ap, subst, ◌∙◌, arith}
 use Rattle.std.proofs.lemmas.List.{length-take-le, take-append-le, take_all}
 use Rattle.fwu_formats.specs.Package.{Entry, payload}
-use Rattle.agent_calls.specs.Shown.{moment}
+use Rattle.slot_writer.specs.Writes.{lowered_by, writes_to_append}
+use Rattle.agent_kept.specs.Kept.{part_at, size_of}
+use Rattle.agent_calls.specs.Shown.{device, fields, moment}
 use Rattle.update_client.specs.declared.stops.SendStop.{SendStop}
 use Rattle.update_client.specs.Pieces.{WritesPiece}
 use Rattle.update_client.proofs.WrittenPiece.{piece-unread, piece-written, piece-stopped}
+use Rattle.update_client.proofs.ImagesTaking.{piece-takes}
 use Rattle.update_client.proofs.pieces.write_piece.Goals as goal
 
 pub returns-in-Err-clause-wrote : goal.returns-in-Err-clause-wrote
@@ -38,3 +41,16 @@ returns-in-Err-write_stream-clause-wrote g c =
     (piece-stopped _ _ _ _ n _ _ _ c.in-Err-write_stream.stop _ _ (ap length whole ∙ size)
     (omega (arith, c.requires.some, c.min-size.ensures, ap (λ (e : Entry). e.size) c.entry.view_is))
     c.requires.here c.in-Err-write_stream.ensures.goes (c.in-Err-write_stream.ensures.meets c.requires.here))
+
+pub returns-in-Ok-write_stream-clause-takes : goal.returns-in-Ok-write_stream-clause-takes
+returns-in-Ok-write_stream-clause-takes g c =
+    let n = c.min-size.result in
+    let buf = c.args.buf.now in
+    let out = c.payload_at.new.out in
+    let small : n ≤ length buf = omega (arith, c.min-size.ensures) in
+    let size : length out ≡ n = c.payload_at.auto.out ∙ length-take-le n buf small in
+    let whole : length (take n (out ++ drop n buf)) ≡ n = ap length (take-append-le n out (drop n buf) (omega (arith, size)) ∙ take_all n out (omega (arith, size)))
+    ∙ size in
+    piece-takes _ _ _ _ _ (λ image writes.
+    (c.in-Ok-write_stream.ensures.spent tt image writes).lowered
+    ∙ ap (λ (m : ℕ). lowered_by (writes_to_append (size_of (part_at (fields c.args.agent.now).session image)) m) (g.D.Flash.arming (device c.args.agent.now))) whole)

@@ -1,16 +1,21 @@
-use Rattle.std.proofs.Common.{◌≡◌, ◌+◌, ◌^◌, ◌<◌, ◌≤◌, List, length, Some, Ok, Err, sym, ap, subst, ◌∙◌}
+use Rattle.std.proofs.Common.{◌≡◌, ◌+◌, ◌^◌, ◌<◌, ◌≤◌, Bool, true, false, List, length, Some, Result, Ok, Err, refl, sym, ap, subst, ◌∙◌, arith, IsFalse}
 use Rattle.std.specs.List.{All}
 use Rattle.fwu_formats.specs.Layout.{ImageRow}
 use Rattle.fwu_formats.specs.Package.{Entry}
 use Rattle.fwu_model.specs.Answer.{first_image_fault, skipped}
-use Rattle.agent_calls.specs.Shown.{fields, moment}
+use Rattle.agent_machine.specs.declared.stop.Stop.{Stop}
+use Rattle.agent_machine.specs.declared.stop.Stop.TheVariants as stop
+use Rattle.agent_machine.specs.Meets.{GoesBy}
+use Rattle.agent_calls.specs.Shown.{device, fields, moment}
 use Rattle.update_client.specs.declared.stops.SendStop.{SendStop}
 use Rattle.update_client.specs.Choosing.{AreChosen, refused_image}
 use Rattle.update_client.specs.Finishes.{InstallsImages}
 use Rattle.update_client.specs.Sends.{Sends}
+use Rattle.update_client.specs.Takes.{InstallTakes, blocks_sent}
 use Rattle.agent_machine.proofs.Showing.{shows-some}
 use Rattle.update_client.proofs.Chosen.{chosen_have}
-use Rattle.update_client.proofs.WholeSending.{installs-done, sends-early, sends-unbegun, sends-done, sends-halted, switches}
+use Rattle.update_client.proofs.Taking.{takes-some, takes-store, takes-then}
+use Rattle.update_client.proofs.WholeSending.{installs-done, sends-early, sends-unbegun, sends-done, sends-halted, sends-take, switches}
 use Rattle.update_client.proofs.sending.send.Goals as goal
 
 pub install-requires-clause-ends : goal.install-requires-clause-ends
@@ -69,3 +74,29 @@ returns-in-Ok-install-clause-switched g c = λ here.
     let agent = c.args.agent.now in
     switches _ _ _ _ _ _ (returns-in-Ok-install-clause-installs g c here)
     (shows-some (fields agent) (agent.fitting here) g.D.Flash.tells (g.D.Flash.told agent.flash) (agent.knows here) (agent.some here))
+
+-- what was begun is done by an agent that isn't gone
+here-before : (was now : Bool) → GoesBy {T = Unit {0}} (Ok tt) was now → IsFalse was
+here-before false now goes = refl
+here-before true now goes = absurd (no-gone (goes.gone.1 refl))
+  where
+    no-gone : ◌≡◌ {A = Result (Unit {0}) Stop} (Ok tt) (Err stop.Gone) → ⊥
+    no-gone e = absurd cc
+
+pub returns-in-Ok-install-clause-spent : goal.returns-in-Ok-install-clause-spent
+returns-in-Ok-install-clause-spent g c =
+    let agent = c.args.agent.now in
+    let here = here-before _ _ c.in-Ok-begin.ensures.goes in
+    let least = blocks_sent (fields agent).layout.rows c.args.toc.now + 4 in
+    let armed = g.D.Flash.arming (device agent) in
+    let begun = g.D.Flash.arming (device c.begin.new.self) in
+    let arming = g.D.Flash.arming (device c.install.new.agent) in
+    let chosen = subst (λ (rows : List ImageRow). AreChosen rows c.args.toc.now c.in-Ok.entries) c.rows.ensures.value c.in-Ok.ensures in
+    let installs = subst (λ (l : List Entry). InstallTakes l c.args.acceptance (moment c.begin.new.self) begun arming) c.as_slice.ensures
+    c.in-Ok-install.ensures.takes in
+    takes-then 0 least least armed begun arming (omega arith) (takes-store _ _ _ _ c.in-Ok-begin.ensures.spent)
+    (takes-some least begun arming
+    (shows-some (fields agent) (agent.fitting here) g.D.Flash.tells (g.D.Flash.told agent.flash) (agent.knows here) (agent.some here))
+    (sends-take (g.H.Files.contents c.args.files.now) c.args.name.now c.args.toc.now c.args.acceptance (g.V.Verifier.passes c.args.verifier.now) (moment agent)
+    c.in-Ok.entries (moment c.begin.new.self) (moment c.install.new.agent) (agent.fitting here).layout chosen (c.in-Ok-begin.ensures.meets here)
+    begun arming installs))
