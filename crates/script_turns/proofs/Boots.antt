@@ -1,0 +1,372 @@
+-- A boot of a flash, from how it ends: a step of a run, what no loss harms, and what the reply says of the bytes.
+use Rattle.std.proofs.Common.{◌≡◌, ◌≢◌, Contains, ℕ, ◌≤◌, ◌==◌, Bool, true, false, List, [], ◌∷◌, ext_get_or, Option, Some, None, refl, sym, ap, subst, ◌∙◌, inl, inr, arith, IsTrue, IsFalse}
+use Rattle.std.specs.Prelude.{◌⊎◌, Result, Ok, is_some, is_ok}
+use Rattle.std.specs.List.{list_any}
+use Rattle.flash_core.specs.declared.flash.Counts.{Counts}
+use Rattle.flash_core.specs.Counts.{Rose, Spends}
+use Rattle.flash_core.specs.Told.{Told, NothingDirty, fresh, is_unsure}
+use Rattle.flash_core.specs.May.{Guards, Leaves, May, NoChance, as_now}
+use Rattle.host_io.specs.Contents.{Directory}
+use Rattle.fwu_formats.specs.declared.kinds.LayoutFault.{LayoutFault}
+use Rattle.fwu_formats.specs.Layout.{Layout}
+use Rattle.fwu_model.specs.State.{State, Numbers, after}
+use Rattle.fwu_model.specs.Sound.{Setting}
+use Rattle.fwu_model.specs.Session.{Session, Off, On}
+use Rattle.fwu_model.specs.Call as call
+use Rattle.fwu_model.specs.Reply.{Reply, Turn}
+use Rattle.fwu_model.specs.Reply as reply
+use Rattle.fwu_model.specs.Answer.{Answer, answer}
+use Rattle.fwu_model.specs.Run.{Condition, Step, Answered, Stopped, StoppedEarly, ends_run, is_stop, moved_on, prefixes, stopped_moves}
+use Rattle.fwu_model.specs.Headline.{LeavesOneOf}
+use Rattle.fwu_model.specs.Calm.{IsCalm, IsAtRest}
+use Rattle.fwu_model.proofs.Frame.{calm-again, calm-stays}
+use Rattle.fwu_model.proofs.Runs.{only}
+use Rattle.moves.specs.Moved.{GuardedBy}
+use Rattle.agent_machine.specs.Fields.{Fields}
+use Rattle.agent_machine.specs.Moment as agent
+use Rattle.early_boot.specs.Started.{Started, started_reply, started_session}
+use Rattle.early_boot.specs.Ends.{Ended, booted, bad_layout, no_metadata, no_bank, lost, failed, stop_of}
+use Rattle.early_boot.specs.EndsBy.{BootEnds, EndsByBytes, EndsByMachine, StartsReady, StopsWith}
+use Rattle.script_turns.specs.Powered.{Moment, SameDevice, IsAt, IsOn, IsSafe, kept_at}
+use Rattle.script_turns.specs.Booted.{BootsFrom}
+use Rattle.script_turns.specs.Replies.{LeavesOn, power_after}
+use Rattle.script_turns.specs.Takes.{TakesBy}
+use Rattle.script_turns.specs.Turning.{NoneFalls, Turns, PowersOn, GetsPower, IsOnAfter, ShowsStarted, boot_turn, reply_of_end}
+
+-- ---- the guard
+
+same-guards : (old new : Told) → new.guard ≡ old.guard → Guards 1 7 old → Guards 1 7 new
+same-guards old new same guards b low high = subst (λ (g : List ℕ). IsTrue (list_any (λ k. k == b) g)) (sym same) (guards b low high)
+
+same-told : (old new : Told) → new ≡ old → new.guard ≡ old.guard
+same-told old new same = ap (λ (t : Told). t.guard) same
+
+-- a boot changes no guard
+guard-kept : (passes : List ℕ → Bool) (e : Ended) (old new : Told) → EndsByBytes passes old e new → new.guard ≡ old.guard
+guard-kept passes (booted b n) old new h = h.others.guard
+guard-kept passes (bad_layout f) old new h = same-told old new h.1
+guard-kept passes no_metadata old new h = same-told old new h.3
+guard-kept passes (no_bank active previous) old new h = h.others.guard
+guard-kept passes (lost None) old new h = same-told old new h
+guard-kept passes (lost (Some n)) old new h = h.others.guard
+guard-kept passes (failed None) old new h = same-told old new h
+guard-kept passes (failed (Some n)) old new h = h.others.guard
+
+-- ---- a step
+
+abbrev Leads : Setting → Condition → Turn → Option Fields → Told → Type 0
+Leads E c t on new = (next : Condition) × Step E c t next × IsAt E next on new
+
+-- what shows one state shows it among others
+among : (E : Setting) (states : List State) (s : State) (t : Told) → Contains states s → LeavesOneOf E (s ∷ []) t → LeavesOneOf E states t
+among E states s t found leaves image may =
+    let shows = leaves image may in
+    record { state = shows.state; one = only (Contains states) s shows.state found shows.one; shows = shows.shows; sound = shows.sound }
+
+same-layout : (E : Setting) (b : Started) (seen : Result Layout LayoutFault) → seen ≡ Ok E.layout → seen ≡ Ok b.layout → E.layout ≡ b.layout
+same-layout E b seen one other = cc
+
+as-told : (tells : Bool) (f : Fields) (t : Told) (s : State) (x : Session) → IsTrue tells → agent.Shows (kept_at tells f t) s x → agent.Shows (kept_at true f t) s x
+as-told tells f t s x told shows = subst (λ (b : Bool). agent.Shows (kept_at b f t) s x) told shows
+
+-- The flash shows the state s, one of the candidates, and the session boots as if it were off.
+module _ (tells : Bool) (told : IsTrue tells) (E : Setting) (c : Condition) (s : State) (mid new : Told) (calm : IsCalm E mid s) (found : Contains c.candidates s)
+    (same : answer E s c.session call.Boot ≡ answer E s Off call.Boot) (guards : Guards 1 7 new) where
+  step-booted : (passes : List ℕ → Bool) (b : Started) (n : Numbers) (f : Fields) → StartsReady E s b n new → EndsByBytes passes mid (booted b n) new
+      → IsOnAfter (booted b n) (Some f) → ShowsStarted tells (booted b n) (Some f) new → Leads E c (boot_turn (booted b n)) (Some f) new
+  step-booted passes b n f ready by starts shows =
+      let layout : E.layout ≡ f.layout = same-layout E b _ calm.sound.layout by.chose.has_layout ∙ sym starts.layout in
+      let then : State = after s (answer E s Off call.Boot).moves in
+      let shown : agent.Shows (kept_at true f new) then (started_session b) =
+      as-told tells f new then (started_session b) told (shows then (record { layout = ready.ready.calm.sound.layout ∙ ap Ok layout; shows = ready.ready.calm.shows })) in (
+        moved_on c call.Boot (after s (answer E s c.session call.Boot).moves ∷ []) (answer E s c.session call.Boot).next,
+        Answered refl refl (record {
+          state = s;
+          found = record { candidate = found; numbers = sym ready.numbers };
+          numbers = refl;
+          reply_is = ready.reply_is ∙ sym (ap (λ (a : Answer). a.reply) same);
+          next_is = refl;
+        }),
+        record {
+          guard = guards;
+          shows = record {
+            state = then;
+            one = ap (λ (a : Answer). after s a.moves ∷ []) same;
+            layout = layout;
+            shows = subst (λ (x : Session). agent.Shows (kept_at true f new) then x) (ready.next_is ∙ sym (ap (λ (a : Answer). a.next) same)) shown;
+            ready = ready.ready;
+          };
+        },
+      )
+
+  step-stopped : (r : Reply) (n : Option Numbers) → IsTrue (is_stop r) → r ≢ reply.ReadFault → stopped_moves E s c.session call.Boot r ≡ (answer E s Off call.Boot).moves → StopsWith n E s new
+      → Leads E c (record { call = call.Boot; reply = r; numbers = n }) None new
+  step-stopped r None stop reads moves calm = (
+    moved_on c call.Boot c.candidates Off,
+    StoppedEarly stop (record { boot = refl; numbers = refl; reads = reads; next_is = refl }),
+    record { guard = guards; shows = (refl, among E c.candidates s new found (calm-stays E new s calm)) },
+  )
+  step-stopped r (Some n) stop reads moves stops = (
+    moved_on c call.Boot (prefixes s (stopped_moves E s c.session call.Boot r)) Off,
+    Stopped stop refl (record {
+      state = s;
+      found = record { candidate = found; numbers = sym stops.0 };
+      numbers = refl;
+      reads = λ e. absurd (reads e);
+      next_is = refl;
+    }),
+    record { guard = guards; shows = (refl, subst (λ ms. LeavesOneOf E (prefixes s ms) new) (sym moves) stops.1) },
+  )
+
+  step-off : (r : Reply) (n : Option Numbers) (on : Option Fields) → on ≡ None → IsTrue (is_stop r) → r ≢ reply.ReadFault
+      → stopped_moves E s c.session call.Boot r ≡ (answer E s Off call.Boot).moves → StopsWith n E s new
+      → Leads E c (record { call = call.Boot; reply = r; numbers = n }) on new
+  step-off r n on off stop reads moves h = subst (λ (o : Option Fields). Leads E c (record { call = call.Boot; reply = r; numbers = n }) o new) (sym off) (step-stopped r n stop reads moves h)
+
+  step-boot : (passes : List ℕ → Bool) (e : Ended) (on : Option Fields) → EndsByMachine E s e new → EndsByBytes passes mid e new → IsOnAfter e on → ShowsStarted tells e on new
+      → Leads E c (boot_turn e) on new
+  step-boot passes (booted b n) (Some f) ready by starts shows = step-booted passes b n f ready by starts shows
+  step-boot passes (booted b n) None ready by starts shows = absurd starts
+  step-boot passes (bad_layout f) on h by off shows = absurd h
+  step-boot passes no_metadata on h by off shows = absurd h
+  step-boot passes (no_bank active previous) on h by off shows = absurd h
+  step-boot passes (lost n) on h by off shows = step-off reply.Lost n on off refl (λ e. absurd cc) (ap (λ (a : Answer). a.moves) same) h
+  step-boot passes (failed n) on h by off shows = step-off reply.Fault n on off refl (λ e. absurd cc) (ap (λ (a : Answer). a.moves) same) h
+
+-- whatever the session is, it boots as one that is off
+boots-again : (E : Setting) (s : State) (session : Session) → answer E s session call.Boot ≡ answer E s Off call.Boot
+unfolding answer
+boots-again E s Off = refl
+boots-again E s (On boot staging handles) = refl
+
+-- ---- what the reply and the flash say, by the end
+
+pub powered-after : (e : Ended) (on : Option Fields) → IsOnAfter e on → IsFalse (ends_run (reply_of_end e)) → is_ok (stop_of e) ≡ is_some on
+powered-after (booted b n) (Some f) starts h = refl
+powered-after (booted b n) None starts h = absurd starts
+powered-after (bad_layout f) on off h = absurd cc
+powered-after no_metadata on off h = absurd cc
+powered-after (no_bank active previous) on off h = absurd cc
+powered-after (lost n) on off h = sym (ap is_some off)
+powered-after (failed n) on off h = absurd cc
+
+safe-after : (e : Ended) (new : Told) → Guards 1 7 new → GuardedBy (stop_of e) new → IsSafe (is_ok (stop_of e)) new
+safe-after (booted b n) new guards h = h
+safe-after (bad_layout f) new guards h = h
+safe-after no_metadata new guards h = h
+safe-after (no_bank active previous) new guards h = h
+safe-after (lost n) new guards h = (guards, h)
+safe-after (failed n) new guards h = (guards, h)
+
+-- the device has power by the reply
+power-after-end : (e : Ended) (power : Bool) → is_ok (stop_of e) ≡ power_after power (reply_of_end e)
+power-after-end (booted b n) power = refl
+power-after-end (bad_layout f) power = refl
+power-after-end no_metadata power = refl
+power-after-end (no_bank active previous) power = refl
+power-after-end (lost n) power = refl
+power-after-end (failed n) power = refl
+
+boots-from : (passes : List ℕ → Bool) (e : Ended) (old new : Told) → EndsByBytes passes old e new → BootsFrom passes old.now (reply_of_end e)
+boots-from passes (booted b n) old new h = record { layout = b.layout; state = h.state; chose = h.chose; version_is = h.version_is }
+boots-from passes (bad_layout f) old new h = h.0
+boots-from passes no_metadata old new h = (h.0, h.1, h.2)
+boots-from passes (no_bank active previous) old new h =
+    record { layout = h.layout; state = h.state; chose = h.chose; active_is = h.active_is; previous_is = h.previous_is }
+boots-from passes (lost n) old new h = tt
+boots-from passes (failed n) old new h = tt
+
+reads-none : (e : Ended) → reply_of_end e ≢ reply.ReadFault
+reads-none (booted b n) h = cc
+reads-none (bad_layout f) h = cc
+reads-none no_metadata h = cc
+reads-none (no_bank active previous) h = cc
+reads-none (lost n) h = cc
+reads-none (failed n) h = cc
+
+-- ---- the counts
+
+rose-later : (a b c : ℕ) → a ≤ b → Rose b c → Rose a c
+rose-later a b c le (inl lt) = inl (omega arith)
+rose-later a b c le (inr most) = inr most
+
+rose-on : (a b c : ℕ) → Rose a b → b ≤ c → Rose a c
+rose-on a b c (inl lt) le = inl (omega arith)
+rose-on a b c (inr most) le = inr (omega arith)
+
+-- Until the boot begins no count falls, and no arming is made.
+record Waits (old was : Counts) : Type 0 where
+  falls : NoneFalls old was
+  made : was.made ≡ old.made
+
+waits-none : (was : Counts) → Waits was was
+waits-none was = record { falls = record { faults = omega arith; cuts = omega arith; reached = omega arith; chances = omega arith }; made = refl }
+
+waits : (tells : Bool) (on : Option Fields) (old mid : Moment) → GetsPower tells on old mid → Waits old.counts mid.counts
+waits tells None old mid has = record {
+  falls = record { faults = has.idles.faults; cuts = has.idles.cuts; reached = omega (arith, has.idles.reached); chances = has.idles.chances };
+  made = has.made;
+}
+waits tells (Some f) old mid has = subst (Waits old.counts) (sym has.counts) (waits-none old.counts)
+
+module _ (old was are : Counts) (waiting : Waits old was) where
+  falls-then : (e : Ended) → Spends (stop_of e) was are → NoneFalls old are
+  falls-then e costs = record {
+    faults = omega (arith, costs.faults, waiting.falls.faults);
+    cuts = omega (arith, costs.cuts, waiting.falls.cuts);
+    reached = omega (arith, costs.reached, waiting.falls.reached);
+    chances = omega (arith, costs.chances, waiting.falls.chances);
+  }
+
+  lost-then : (e : Ended) → Spends (stop_of e) was are → reply_of_end e ≡ reply.Lost → Rose old.cuts are.cuts ⊎ Rose old.reached are.reached
+  lost-then (booted b n) costs h = absurd cc
+  lost-then (bad_layout f) costs h = absurd cc
+  lost-then no_metadata costs h = absurd cc
+  lost-then (no_bank active previous) costs h = absurd cc
+  lost-then (lost n) costs h = by-cause (costs.lost refl)
+    where
+      by-cause : Rose was.cuts are.cuts ⊎ Rose was.reached are.reached → Rose old.cuts are.cuts ⊎ Rose old.reached are.reached
+      by-cause (inl rose) = inl (rose-later old.cuts was.cuts are.cuts waiting.falls.cuts rose)
+      by-cause (inr rose) = inr (rose-later old.reached was.reached are.reached waiting.falls.reached rose)
+  lost-then (failed n) costs h = absurd cc
+
+  failed-then : (e : Ended) → Spends (stop_of e) was are → reply_of_end e ≡ reply.Fault → Rose old.faults are.faults
+  failed-then (booted b n) costs h = absurd cc
+  failed-then (bad_layout f) costs h = absurd cc
+  failed-then no_metadata costs h = absurd cc
+  failed-then (no_bank active previous) costs h = absurd cc
+  failed-then (lost n) costs h = absurd cc
+  failed-then (failed n) costs h = rose-later old.faults was.faults are.faults waiting.falls.faults (costs.failed refl)
+
+-- ---- the flash that boots
+
+-- power that was there, with nothing dirty
+pub powers-none : (tells : Bool) (m : Moment) → (IsTrue tells → NothingDirty m.told) → PowersOn tells m m
+powers-none tells m clean = record {
+  idles = record { faults = omega arith; cuts = omega arith; chances = omega arith; reached = refl };
+  made = refl;
+  clean = clean;
+  leaves = λ test. record { size = refl; sure = λ i sure. refl };
+  chance = λ test. inr (λ b guarded. as_now refl);
+}
+
+fresh-guard : (old mid : Told) → mid ≡ fresh old.guard mid.now → mid.guard ≡ old.guard
+unfolding fresh
+fresh-guard old mid is = ap (λ (t : Told). t.guard) is
+
+rests : (guard image : List ℕ) → Guards 1 7 (fresh guard image) → IsAtRest (fresh guard image)
+unfolding fresh is_unsure
+rests guard image guards = record {
+  guard = guards;
+  front = λ place low high. refl;
+  guarded = record { layout = λ place low high. refl; banks = λ image L s may has shows b used place low high. refl };
+}
+
+-- it is at rest, whatever it shows
+fresh-rests : (old mid : Told) → mid ≡ fresh old.guard mid.now → Guards 1 7 old → IsAtRest mid
+fresh-rests old mid is guards =
+    let now : Guards 1 7 mid = same-guards old mid (fresh-guard old mid is) guards in
+    subst IsAtRest (sym is) (rests old.guard mid.now (subst (Guards 1 7) is now))
+
+-- nothing is unsure where nothing is dirty
+sure : (t : Told) (i : ℕ) → NothingDirty t → IsFalse (is_unsure t i)
+unfolding fresh is_unsure
+sure t i clean = ap (λ (x : Told). is_unsure x i) clean
+
+same-bytes : (old mid : Told) → NothingDirty old → Leaves old mid.now → mid.now ≡ old.now
+same-bytes old mid clean leaves = ext_get_or 0 mid.now old.now leaves.size (λ i below. leaves.sure i (sure old i clean))
+
+safe-guards : (power : Bool) (t : Told) → IsSafe power t → Guards 1 7 t
+safe-guards true t safe = safe.guard
+safe-guards false t safe = safe.0
+
+guard-had : (tells : Bool) (on : Option Fields) (old mid : Moment) → IsTrue tells → GetsPower tells on old mid → mid.told.guard ≡ old.told.guard
+guard-had tells None old mid told has = fresh-guard old.told mid.told (has.clean told)
+guard-had tells (Some f) old mid told has = same-told old.told mid.told has.told
+
+rests-had : (tells : Bool) (on : Option Fields) (old mid : Moment) → IsTrue tells → GetsPower tells on old mid → mid.power ≡ true → IsSafe old.power old.told → IsAtRest mid.told
+rests-had tells None old mid told has power safe = fresh-rests old.told mid.told (has.clean told) (safe-guards old.power old.told safe)
+rests-had tells (Some f) old mid told has power safe =
+    subst IsAtRest (sym has.told) (subst (λ (b : Bool). IsSafe b old.told) (sym has.power ∙ power) safe)
+
+bytes-had : (tells : Bool) (on : Option Fields) (old mid : Moment) → IsTrue tells → GetsPower tells on old mid → NothingDirty old.told → mid.told.now ≡ old.told.now
+bytes-had tells None old mid told has clean = same-bytes old.told mid.told clean (has.leaves told)
+bytes-had tells (Some f) old mid told has clean = ap (λ (t : Told). t.now) has.told
+
+-- The flash calmly shows one of the candidates as the boot begins.
+record Begins (E : Setting) (c : Condition) (t : Told) : Type 0 where
+  state : State
+  found : Contains c.candidates state
+  calm : IsCalm E t state
+
+begins : (tells : Bool) (on : Option Fields) (old mid : Moment) (last : ℕ) → IsTrue tells → GetsPower tells on old mid → (E : Setting) (c : Condition) → IsAt E c on old.told
+    → mid.counts.chances ≤ last → (Rose old.counts.chances last → ⊥) → Begins E c mid.told
+begins tells None old mid last told has E c is le none =
+    let may : May old.told mid.told.now = record { leaves = has.leaves told; no_chance = no-chance (has.chance told) } in
+    let again = calm-again E c.candidates old.told mid.told is.shows.1 (has.clean told) may in
+    record { state = again.0; found = again.1; calm = again.2 }
+  where
+    no-chance : Rose old.counts.chances mid.counts.chances ⊎ NoChance old.told mid.told.now → NoChance old.told mid.told.now
+    no-chance (inl rose) = absurd (none (rose-on old.counts.chances mid.counts.chances last rose le))
+    no-chance (inr h) = h
+begins tells (Some f) old mid last told has E c is le none =
+    let s = is.shows.state in
+    record {
+      state = s;
+      found = subst (λ (states : List State). Contains states s) (sym is.shows.one) (0, omega arith, refl);
+      calm = subst (λ (t : Told). IsCalm E t s) (sym has.told) is.shows.ready.calm;
+    }
+
+-- ---- the turn
+
+-- The boot of a flash with power ended so.
+pub record EndsTurn (passes : List ℕ → Bool) (tells : Bool) (e : Ended) (mid new : Moment) : Type 0 where
+  pub on_is : IsOnAfter e new.on
+  pub leaves : LeavesOn (reply_of_end e) new.on
+  pub shows : IsTrue tells → ShowsStarted tells e new.on new.told
+  pub power_is : new.power ≡ is_ok (stop_of e)
+  pub costs : Spends (stop_of e) mid.counts new.counts
+  pub ends : IsTrue tells → BootEnds passes mid.told e new.told
+
+module _ (passes : List ℕ → Bool) (tells : Bool) (files : Option Directory) (faults : ℕ) (e : Ended) (old mid new : Moment) (power : mid.power ≡ true)
+    (ended : EndsTurn passes tells e mid new) where
+  boots-by : (on : Option Fields) → old.on ≡ on → GetsPower tells on old mid → Turns passes tells files call.Boot (boot_turn e) old new faults faults
+  boots-by on on_is has =
+      let waiting : Waits old.counts mid.counts = waits tells on old mid has in record {
+        call_is = refl;
+        counts = falls-then old.counts mid.counts new.counts waiting e ended.costs;
+        made = ended.costs.made ∙ waiting.made;
+        armed = tt;
+        lost = lost-then old.counts mid.counts new.counts waiting e ended.costs;
+        failed = failed-then old.counts mid.counts new.counts waiting e ended.costs;
+        unread = λ is. absurd (reads-none e is);
+        later = omega arith;
+        reads_none = λ none. refl;
+        replies = ended.leaves;
+        takes = takes old.on;
+        power = ended.power_is ∙ power-after-end e old.power;
+        guard = λ told. guard told ∙ guard-had tells on old mid told has;
+        step = λ told E c passes_are files_are is none. step told E c passes_are (subst (λ (o : Option Fields). IsAt E c o old.told) on_is is) none;
+        safe = λ told safe.
+            let rest = rests-had tells on old mid told has power safe in
+            subst (λ (b : Bool). IsSafe b new.told) (sym ended.power_is) (safe-after e new.told (same-guards mid.told new.told (guard told) rest.guard) ((ended.ends told).guarded rest));
+        boots = λ told off clean is.
+            subst (λ (image : List ℕ). BootsFrom passes image (reply_of_end e)) (bytes-had tells on old mid told has clean) (boots-from passes e mid.told new.told (ended.ends told).by_bytes);
+      }
+    where
+      takes : (o : Option Fields) → TakesBy call.Boot o old (reply_of_end e) new
+      takes None = tt
+      takes (Some f) = tt
+
+      guard : IsTrue tells → new.told.guard ≡ mid.told.guard
+      guard told = guard-kept passes e mid.told new.told (ended.ends told).by_bytes
+
+      step : IsTrue tells → (E : Setting) (c : Condition) → E.passes ≡ passes → IsAt E c on old.told → (Rose old.counts.chances new.counts.chances → ⊥) → Leads E c (boot_turn e) new.on new.told
+      step told E c passes_are is none =
+          let begin = begins tells on old mid new.counts.chances told has E c is ended.costs.chances none in
+          let guards : Guards 1 7 mid.told = same-guards old.told mid.told (guard-had tells on old mid told has) is.guard in
+          step-boot tells told E c begin.state mid.told new.told begin.calm begin.found (boots-again E begin.state c.session) (same-guards mid.told new.told (guard told) guards)
+          passes e new.on ((ended.ends told).by_machine E begin.state passes_are begin.calm guards) (ended.ends told).by_bytes ended.on_is (ended.shows told)
+
+  pub boots-turn : GetsPower tells old.on old mid → Turns passes tells files call.Boot (boot_turn e) old new faults faults
+  boots-turn has = boots-by old.on refl has

@@ -1,0 +1,117 @@
+-- What an armed loss counts of a call of the agent, from what the call says.
+use Rattle.std.proofs.Common.{◌≡◌, ℕ, ◌-◌, List, length, Option, Some, Result, Ok, Err, refl, ap}
+use Rattle.std.specs.Prelude.{OnOk, take}
+use Rattle.flash_core.specs.declared.flash.Flash.{Ghosts}
+use Rattle.flash_core.specs.Counts.{ReachesNone, StaysUnarmed, arming_kept}
+use Rattle.fwu_model.specs.Reply.{Reply}
+use Rattle.fwu_model.specs.Reply as reply
+use Rattle.slot_writer.specs.Writes.{SpendsArming, writes_to_append, writes_to_finish}
+use Rattle.agent_kept.specs.Kept.{handle_kept, part_at, size_of}
+use Rattle.agent_kept.specs.declared.parts.Handle.TheVariants as handle
+use Rattle.agent_machine.specs.declared.stop.Stop.{Stop}
+use Rattle.agent_machine.specs.declared.stop.Stop.TheVariants as stop
+use Rattle.agent_machine.specs.Fields.{Fields}
+use Rattle.agent_machine.specs.Ends.{IsWriter, TakesSwitch}
+use Rattle.agent_machine.specs.Meets.{IsDone, IsRefused, flash_result}
+use Rattle.agent_machine.specs.Stored.{TakesStore}
+use Rattle.agent_calls.specs.declared.agent.Agent.{Agent}
+use Rattle.agent_calls.specs.Shown.{device, fields}
+use Rattle.script_turns.specs.Powered.{Moment, SameDevice, at}
+use Rattle.script_turns.specs.Takes.{CommitsBy, ReadsBy, StoresBy, SwitchesBy, WritesBy}
+use Rattle.script_turns.specs.Calls.{on_by, reply_by}
+
+-- the device of an agent, with what is kept
+abbrev pub with : {D : Type 0} {F : Ghosts D} → Option Fields → Agent D F → Moment
+with {F = F} on a = at on (F.told (device a)) (F.counts (device a)) (F.arming (device a)) (F.on (device a))
+
+-- the reply of a call whose answer tells nothing but that it was done
+abbrev pub done_reply : Result (Unit {0}) Stop → Reply
+done_reply result = reply_by (λ value. reply.Success) result
+
+-- where no loss was armed
+abbrev Frees : Result (Unit {0}) Stop → Moment → Moment → Type 0
+Frees result old new = StaysUnarmed (flash_result result) old.armed new.armed old.counts new.counts
+
+pub stores-by : (result : Result (Unit {0}) Stop) (f g : Fields) (old new : Moment) → OnOk result (TakesStore f.meta g.meta old.armed new.armed) → (IsRefused result → new.armed ≡ old.armed)
+    → Frees result old new → StoresBy (done_reply result) f (on_by result g) old new
+stores-by (Ok value) f g old new spent refused free = record { spent = spent; unarmed = free }
+stores-by (Err (stop.Status st)) f g old new spent refused free = record { spent = refused tt; unarmed = free }
+stores-by (Err stop.Lost) f g old new spent refused free = record { spent = tt; unarmed = free }
+stores-by (Err stop.Fault) f g old new spent refused free = record { spent = tt; unarmed = free }
+stores-by (Err stop.Gone) f g old new spent refused free = record { spent = tt; unarmed = free }
+
+-- what was written by the image of a handle
+abbrev Appends : Result (Unit {0}) Stop → Fields → ℕ → List ℕ → Moment → Moment → Type 0
+Appends result f number bytes old new = (image : ℕ) → handle_kept f.session (number - 1) ≡ handle.Writes image
+    → SpendsArming (flash_result result) (writes_to_append (size_of (part_at f.session image)) (length bytes)) old.armed new.armed old.counts new.counts
+
+pub writes-by : (result : Result (Unit {0}) Stop) (f : Fields) (number : ℕ) (bytes : List ℕ) (old new : Moment) → (result ≡ Err stop.Gone → ⊥)
+    → (IsDone result → Appends result f number bytes old new) → (IsRefused result → SameDevice old new) → WritesBy (done_reply result) f number bytes old new
+writes-by (Ok value) f number bytes old new here spent refused = spent tt
+writes-by (Err (stop.Status st)) f number bytes old new here spent refused = refused tt
+writes-by (Err stop.Lost) f number bytes old new here spent refused = spent tt
+writes-by (Err stop.Fault) f number bytes old new here spent refused = spent tt
+writes-by (Err stop.Gone) f number bytes old new here spent refused = absurd (here refl)
+
+abbrev Finishes : Result (Unit {0}) Stop → Fields → ℕ → Moment → Moment → Type 0
+Finishes result f number old new = (image : ℕ) → IsWriter f number image
+    → SpendsArming (flash_result result) (writes_to_finish (size_of (part_at f.session image))) old.armed new.armed old.counts new.counts
+
+pub commits-by : (result : Result (Unit {0}) Stop) (f : Fields) (number : ℕ) (old new : Moment) → Finishes result f number old new → (((image : ℕ) → IsWriter f number image → ⊥) → SameDevice old new)
+    → CommitsBy (done_reply result) f number old new
+commits-by (Ok value) f number old new spent still = record { spent = spent; still = still }
+commits-by (Err (stop.Status st)) f number old new spent still = record { spent = spent; still = still }
+commits-by (Err stop.Lost) f number old new spent still = record { spent = spent; still = still }
+commits-by (Err stop.Fault) f number old new spent still = record { spent = spent; still = still }
+commits-by (Err stop.Gone) f number old new spent still = record { spent = spent; still = still }
+
+pub switches-by : (result : Result (Unit {0}) Stop) (old new : Moment) → OnOk result (TakesSwitch old.armed new.armed) → (IsRefused result → SameDevice old new) → Frees result old new
+    → SwitchesBy (done_reply result) old new
+switches-by (Ok value) old new spent refused free = record { spent = spent; unarmed = free }
+switches-by (Err (stop.Status st)) old new spent refused free = record { spent = refused tt; unarmed = free }
+switches-by (Err stop.Lost) old new spent refused free = record { spent = tt; unarmed = free }
+switches-by (Err stop.Fault) old new spent refused free = record { spent = tt; unarmed = free }
+switches-by (Err stop.Gone) old new spent refused free = record { spent = tt; unarmed = free }
+
+-- what a read tells: the total, and the bytes at the front of its buffer
+abbrev pub got : List ℕ → ℕ × ℕ → Reply
+got out value = reply.Got value.1 (take value.0 out)
+
+pub reads-by : (result : Result (ℕ × ℕ) Stop) (out : List ℕ) (old new : Moment) → new.armed ≡ arming_kept (flash_result result) old.armed
+    → ReachesNone (flash_result result) old.counts new.counts → ReadsBy (reply_by (got out) result) old new
+reads-by (Ok value) out old new armed reached = record { armed = armed; reached = reached }
+reads-by (Err (stop.Status st)) out old new armed reached = record { armed = armed; reached = reached }
+reads-by (Err stop.Lost) out old new armed reached = record { armed = armed; reached = reached }
+reads-by (Err stop.Fault) out old new armed reached = record { armed = armed; reached = reached }
+reads-by (Err stop.Gone) out old new armed reached = record { armed = armed; reached = reached }
+
+-- ---- an agent and its call
+
+module _ {D : Type 0} {F : Ghosts D} (a b : Agent D F) where
+  pub same-device : (on now : Option Fields) → device b ≡ device a → SameDevice (with on a) (with now b)
+  same-device on now same = record { told = ap F.told same; counts = ap F.counts same; armed = ap F.arming same; power = ap F.on same }
+
+  module _ (result : Result (Unit {0}) Stop) where
+    pub takes-store : OnOk result (TakesStore (fields a).meta (fields b).meta (F.arming (device a)) (F.arming (device b))) → (IsRefused result → b ≡ a)
+        → StaysUnarmed (flash_result result) (F.arming (device a)) (F.arming (device b)) (F.counts (device a)) (F.counts (device b))
+        → StoresBy (done_reply result) (fields a) (on_by result (fields b)) (with (Some (fields a)) a) (with (on_by result (fields b)) b)
+    takes-store spent refused free = stores-by result (fields a) (fields b) _ _ spent (λ h. ap (λ (x : Agent D F). F.arming (device x)) (refused h)) free
+
+    pub takes-write : (number : ℕ) (bytes : List ℕ) → (result ≡ Err stop.Gone → ⊥)
+        → (IsDone result → (image : ℕ) → handle_kept (fields a).session (number - 1) ≡ handle.Writes image
+        → SpendsArming (flash_result result) (writes_to_append (size_of (part_at (fields a).session image)) (length bytes)) (F.arming (device a)) (F.arming (device b)) (F.counts (device a)) (F.counts (device b)))
+        → (IsRefused result → b ≡ a)
+        → WritesBy (done_reply result) (fields a) number bytes (with (Some (fields a)) a) (with (on_by result (fields b)) b)
+    takes-write number bytes here spent refused = writes-by result (fields a) number bytes _ _ here spent (λ h. same-device _ _ (ap device (refused h)))
+
+    pub takes-commit : (number : ℕ)
+        → ((image : ℕ) → IsWriter (fields a) number image
+        → SpendsArming (flash_result result) (writes_to_finish (size_of (part_at (fields a).session image))) (F.arming (device a)) (F.arming (device b)) (F.counts (device a)) (F.counts (device b)))
+        → (((image : ℕ) → IsWriter (fields a) number image → ⊥) → device b ≡ device a)
+        → CommitsBy (done_reply result) (fields a) number (with (Some (fields a)) a) (with (on_by result (fields b)) b)
+    takes-commit number spent still = commits-by result (fields a) number _ _ spent (λ none. same-device _ _ (still none))
+
+    pub takes-switch : OnOk result (TakesSwitch (F.arming (device a)) (F.arming (device b))) → (IsRefused result → b ≡ a)
+        → StaysUnarmed (flash_result result) (F.arming (device a)) (F.arming (device b)) (F.counts (device a)) (F.counts (device b))
+        → SwitchesBy (done_reply result) (with (Some (fields a)) a) (with (on_by result (fields b)) b)
+    takes-switch spent refused free = switches-by result _ _ spent (λ h. same-device _ _ (ap device (refused h))) free

@@ -1,0 +1,7 @@
+mod Boots
+mod Quiets
+pub mod OffTurns
+pub mod SendTurns
+pub mod CallTurns
+pub mod CallTakes
+pub mod Called

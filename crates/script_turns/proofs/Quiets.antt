@@ -1,0 +1,211 @@
+-- A turn that leaves the flash as it is.
+use Rattle.std.proofs.Common.{◌≡◌, ◌≢◌, Contains, ℕ, Bool, true, not, ◌||◌, List, [], ◌∷◌, Option, Some, None, refl, sym, ap, subst, ◌∙◌, arith, IsTrue, IsFalse}
+use Rattle.std.specs.Prelude.{MatchBool, IsSome, IsNone}
+use Rattle.host_io.specs.Contents.{Directory}
+use Rattle.fwu_formats.specs.Metadata.{Meta}
+use Rattle.flash_core.specs.Told.{Told}
+use Rattle.fwu_model.specs.State.{State, Numbers, numbers_of, after}
+use Rattle.fwu_model.specs.Sound.{Setting}
+use Rattle.fwu_model.specs.Session.{Session, Off, On}
+use Rattle.fwu_model.specs.Call.{Call}
+use Rattle.fwu_model.specs.Call as call
+use Rattle.fwu_model.specs.Reply.{Reply, Turn}
+use Rattle.fwu_model.specs.Reply as reply
+use Rattle.fwu_model.specs.Answer.{Answer, answer, answered}
+use Rattle.fwu_model.specs.Run.{Condition, Step, Answered, Idle, is_boot, is_off, is_stop, moved_on}
+use Rattle.fwu_model.specs.MoveMetas.{meta_in}
+use Rattle.fwu_model.specs.Headline.{IsCut}
+use Rattle.agent_machine.specs.Fields.{Fields}
+use Rattle.agent_machine.specs.Moment as agent
+use Rattle.script_turns.specs.Powered.{Moment, SameDevice, IsAt, IsSafe, kept_at, numbers_kept}
+use Rattle.script_turns.specs.Replies.{Replies, power_after, show_reply}
+use Rattle.script_turns.specs.Takes.{Takes, TakesBy}
+use Rattle.script_turns.specs.Turning.{Arms, Makes, NoneFalls, Turns, quiet_turn}
+
+-- What the machine answers to the call, by what the agent keeps: with this reply it does nothing.
+abbrev pub AnswersBy : Call → Reply → Option Fields → Told → Type 0
+AnswersBy what r None t = (E : Setting) (s : State) → r ≡ (answer E s Off what).reply
+AnswersBy what r (Some f) t = (E : Setting) (s : State) (x : Session) → agent.Shows (kept_at true f t) s x → answer E s x what ≡ answered r [] x
+
+-- The call is no boot, the reply no stop, and what is kept and told stays.
+pub record IsQuiet (tells : Bool) (what : Call) (r : Reply) (old new : Moment) : Type 0 where
+  pub no_boot : IsFalse (is_boot what)
+  pub no_stop : IsFalse (is_stop r)
+  pub on_is : new.on ≡ old.on
+  pub same : IsTrue tells → new.told ≡ old.told
+  pub counts : NoneFalls old.counts new.counts
+  pub made : Makes what old.counts.made new.counts.made
+  pub armed : IsCut (Some (quiet_turn what r)) new.armed
+  pub power : new.power ≡ old.power
+  pub keeps_power : power_after old.power r ≡ old.power
+  pub takes : Takes what old r new
+  pub answers : AnswersBy what r old.on old.told
+
+stays : (r other : Reply) → IsFalse (is_stop r) → IsTrue (is_stop other) → r ≢ other
+stays r other no_stop stop is = let e = ap is_stop is in cc
+
+no-numbers : (what : Call) → IsFalse (is_boot what) → MatchBool (is_boot what) (IsSome {T = Numbers} None) (IsNone {T = Numbers} None)
+no-numbers what no_boot = subst (λ (b : Bool). MatchBool b (IsSome {T = Numbers} None) (IsNone {T = Numbers} None)) (sym no_boot) refl
+
+abbrev Leads : Setting → Condition → Call → Reply → Option Fields → Told → Type 0
+Leads E c what r on t = (next : Condition) × Step E c (quiet_turn what r) next × IsAt E next on t
+
+module _ (what : Call) (r : Reply) (no_boot : IsFalse (is_boot what)) (no_stop : IsFalse (is_stop r)) where
+  step : (E : Setting) (c : Condition) (on : Option Fields) (t : Told) → AnswersBy what r on t → IsAt E c on t → Leads E c what r on t
+  step E c None t answers is = (
+    moved_on c what c.candidates Off,
+    Idle asks-nothing (record { numbers = no-numbers what no_boot; reply_is = answers E; next_is = refl }),
+    record { guard = is.guard; shows = (refl, is.shows.1) },
+  )
+    where
+      asks-nothing : IsFalse (is_boot what || not (is_off c.session))
+      asks-nothing =
+          subst (λ (b : Bool). IsFalse (b || not (is_off c.session))) (sym no_boot)
+          (subst (λ (session : Session). IsFalse (not (is_off session))) (sym is.shows.0) refl)
+  step E c (Some f) t answers is =
+      let s = is.shows.state in
+      let a : answer E s c.session what ≡ answered r [] c.session = answers E s c.session is.shows.shows in (
+        moved_on c what (after s (answer E s c.session what).moves ∷ []) (answer E s c.session what).next,
+        Answered no_stop asks (record {
+          state = s;
+          found = record { candidate = subst (λ (states : List State). Contains states s) (sym is.shows.one) (0, omega arith, refl); numbers = tt };
+          numbers = no-numbers what no_boot;
+          reply_is = sym (ap (λ (x : Answer). x.reply) a);
+          next_is = refl;
+        }),
+        record {
+          guard = is.guard;
+          shows = record {
+            state = s;
+            one = ap (λ (x : Answer). after s x.moves ∷ []) a;
+            layout = is.shows.layout;
+            shows = subst (λ (x : Session). agent.Shows (kept_at true f t) s x) (sym (ap (λ (x : Answer). x.next) a)) is.shows.shows;
+            ready = is.shows.ready;
+          };
+        },
+      )
+    where
+      asks : IsTrue (is_boot what || not (is_off c.session))
+      asks =
+          subst (λ (k : Bool). IsTrue (k || not (is_off c.session))) (sym no_boot)
+          (subst (λ (session : Session). IsTrue (not (is_off session))) (sym is.shows.shows.means) refl)
+
+pub quiet-turns : (passes : List ℕ → Bool) (tells : Bool) (files : Option Directory) (what : Call) (r : Reply) (old new : Moment) (faults : ℕ)
+    → IsQuiet tells what r old new → Replies passes tells files what old r new → Turns passes tells files what (quiet_turn what r) old new faults faults
+quiet-turns passes tells files what r old new faults quiet replied = record {
+  call_is = refl;
+  counts = quiet.counts;
+  made = quiet.made;
+  armed = quiet.armed;
+  lost = λ e. absurd (stays r reply.Lost quiet.no_stop refl e);
+  failed = λ e. absurd (stays r reply.Fault quiet.no_stop refl e);
+  unread = λ e. absurd (stays r reply.ReadFault quiet.no_stop refl e);
+  later = omega arith;
+  reads_none = λ none. refl;
+  replies = replied;
+  takes = quiet.takes;
+  power = quiet.power ∙ sym quiet.keeps_power;
+  guard = λ test. ap (λ (t : Told). t.guard) (quiet.same test);
+  step = λ test E c passes_are files_are is none.
+      subst (λ (on : Option Fields). Leads E c what r on new.told) (sym quiet.on_is)
+      (subst (λ (t : Told). Leads E c what r old.on t) (sym (quiet.same test)) (step what r quiet.no_boot quiet.no_stop E c old.on old.told quiet.answers is));
+  safe = λ test safe. subst (λ (b : Bool). IsSafe b new.told) (sym quiet.power) (subst (IsSafe old.power) (sym (quiet.same test)) safe);
+  boots = λ test off clean is. let e = ap is_boot is in let f = quiet.no_boot in absurd cc;
+}
+
+-- ---- `show`
+
+numbers-made : ℕ → Meta → ℕ → ℕ → Numbers
+numbers-made form m trials counter = record {
+  form = form;
+  active = m.active;
+  previous = m.previous;
+  states = m.states;
+  bits = m.bits;
+  trials = trials;
+  counter = counter;
+}
+
+-- the numbers that are kept are those of each state that the agent shows
+numbers-spoken : (f : Fields) (s : State) → agent.SpeaksOf f s → numbers_kept f ≡ numbers_of s
+unfolding numbers-made
+numbers-spoken f s speaks =
+    ap (λ (n : ℕ). numbers-made n f.meta.meta f.trials f.counter) (sym speaks.form)
+    ∙ ap (λ (m : Meta). numbers-made s.form m f.trials f.counter) speaks.meta
+    ∙ ap (λ (n : ℕ). numbers-made s.form (meta_in s) n f.counter) speaks.trials_are
+    ∙ ap (λ (n : ℕ). numbers-made s.form (meta_in s) s.trials n) speaks.counter_is
+
+show-on : (E : Setting) (s : State) (x : Session) (n : Numbers) → IsFalse (is_off x) → n ≡ numbers_of s → answer E s x call.Show ≡ answered (reply.Shown n) [] x
+unfolding answer
+show-on E s Off n on is = absurd cc
+show-on E s (On boot staging handles) n on is = ap (λ (m : Numbers). answered (reply.Shown m) [] (On boot staging handles)) (sym is)
+
+show-off : (E : Setting) (s : State) → reply.IsOff ≡ (answer E s Off call.Show).reply
+unfolding answer
+show-off E s = refl
+
+show-answers : (on : Option Fields) (t : Told) → AnswersBy call.Show (show_reply on) on t
+show-answers None t = show-off
+show-answers (Some f) t = λ E s x shows. show-on E s x (numbers_kept f) (subst (λ (y : Session). IsFalse (is_off y)) (sym shows.means) refl) (numbers-spoken f s shows.speaks)
+
+show-goes-on : (on : Option Fields) → IsFalse (is_stop (show_reply on))
+show-goes-on None = refl
+show-goes-on (Some f) = refl
+
+show-power : (on : Option Fields) (power : Bool) → power_after power (show_reply on) ≡ power
+show-power None power = refl
+show-power (Some f) power = refl
+
+pub same-device : (m : Moment) → SameDevice m m
+same-device m = record { told = refl; counts = refl; armed = refl; power = refl }
+
+show-takes : (on : Option Fields) (m : Moment) → TakesBy call.Show on m (show_reply on) m
+show-takes None m = same-device m
+show-takes (Some f) m = same-device m
+
+pub show-turns : (passes : List ℕ → Bool) (tells : Bool) (files : Option Directory) (m : Moment) (faults : ℕ)
+    → Turns passes tells files call.Show (quiet_turn call.Show (show_reply m.on)) m m faults faults
+show-turns passes tells files m faults = quiet-turns passes tells files call.Show (show_reply m.on) m m faults (record {
+  no_boot = refl;
+  no_stop = show-goes-on m.on;
+  on_is = refl;
+  same = λ test. refl;
+  counts = record { faults = omega arith; cuts = omega arith; reached = omega arith; chances = omega arith };
+  made = refl;
+  armed = tt;
+  power = refl;
+  keeps_power = show-power m.on m.power;
+  takes = show-takes m.on m;
+  answers = show-answers m.on m.told;
+}) (refl, refl)
+
+-- ---- `cut`
+
+cut-on : (n k : ℕ) (E : Setting) (s : State) (x : Session) → answer E s x (call.Cut n k) ≡ answered reply.CutOk [] x
+unfolding answer
+cut-on n k E s Off = refl
+cut-on n k E s (On boot staging handles) = refl
+
+cut-answers : (n k : ℕ) (on : Option Fields) (t : Told) → AnswersBy (call.Cut n k) reply.CutOk on t
+cut-answers n k None t = λ E s. sym (ap (λ (a : Answer). a.reply) (cut-on n k E s Off))
+cut-answers n k (Some f) t = λ E s x shows. cut-on n k E s x
+
+cut-takes : (n k : ℕ) (on : Option Fields) (old new : Moment) → TakesBy (call.Cut n k) on old reply.CutOk new
+cut-takes n k None old new = tt
+cut-takes n k (Some f) old new = tt
+
+pub cut-turns : (passes : List ℕ → Bool) (tells : Bool) (files : Option Directory) (n k : ℕ) (old new : Moment) (faults : ℕ) → Arms tells n k old new
+    → Turns passes tells files (call.Cut n k) (quiet_turn (call.Cut n k) reply.CutOk) old new faults faults
+cut-turns passes tells files n k old new faults arms = quiet-turns passes tells files (call.Cut n k) reply.CutOk old new faults (record {
+  no_boot = refl;
+  no_stop = refl;
+  on_is = arms.on_is;
+  same = arms.same;
+  counts = arms.counts;
+  made = arms.made;
+  armed = arms.armed_is;
+  power = arms.power_is;
+  keeps_power = refl;
+  takes = cut-takes n k old.on old new;
+  answers = cut-answers n k old.on old.told;
+}) (refl, arms.on_is)

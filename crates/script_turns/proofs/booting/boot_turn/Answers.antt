@@ -1,0 +1,30 @@
+use Rattle.std.proofs.Common.{sym, ap, subst, ◌∙◌}
+use Rattle.early_boot.specs.Ends.{ended, stop_of}
+use Rattle.early_boot.specs.EndsBy.{BootEnds}
+use Rattle.flash_core.specs.Counts.{Spends}
+use Rattle.fwu_journal.specs.Shown.{turn}
+use Rattle.fwu_model.specs.Call as call
+use Rattle.fwu_model.specs.Reply.{Turn}
+use Rattle.script_turns.specs.Powered.{moment, moment_of}
+use Rattle.script_turns.specs.Turning.{Turns}
+use Rattle.script_turns.proofs.Boots.{boots-turn}
+use Rattle.script_turns.proofs.booting.boot_turn.Goals as goal
+
+pub returns-clause-turns : goal.returns-clause-turns
+returns-clause-turns g c files faults =
+    let F = g.D.Flash in
+    let passes = g.V.Verifier.passes c.args.verifier.now in
+    let e = ended c.boot.result in
+    let flash = c.with_power.result in
+    let old = moment_of c.args.powered in
+    let mid = moment F.told F.counts F.arming F.on flash in
+    let new = moment_of c.turned_by.result.powered in
+    subst (λ (t : Turn). Turns passes F.tells files call.Boot t old new faults faults) (sym c.turned_by.ensures.turn)
+    (boots-turn passes F.tells files faults e old mid new c.with_power.ensures.power (record {
+      on_is = c.turned_by.ensures.on;
+      leaves = c.turned_by.ensures.leaves;
+      shows = c.turned_by.ensures.shows;
+      power_is = ap F.on c.turned_by.ensures.device ∙ c.boot.ensures.power;
+      costs = subst (λ d. Spends (stop_of e) (F.counts flash) (F.counts d)) (sym c.turned_by.ensures.device) c.boot.ensures.costs;
+      ends = λ told. subst (λ d. BootEnds passes (F.told flash) e (F.told d)) (sym c.turned_by.ensures.device) (c.boot.ensures.ends told);
+    }) c.with_power.ensures.has)

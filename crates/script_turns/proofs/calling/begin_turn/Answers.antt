@@ -1,0 +1,18 @@
+use Rattle.std.proofs.Common.{refl}
+use Rattle.fwu_model.specs.Call as call
+use Rattle.fwu_model.specs.Reply as reply
+use Rattle.script_turns.proofs.CallTakes.{takes-store}
+use Rattle.script_turns.proofs.Called.{called-done, never-gone, turns-by}
+use Rattle.script_turns.proofs.calling.begin_turn.Goals as goal
+
+pub returns-clause-turns : goal.returns-clause-turns
+returns-clause-turns g c passes files faults =
+    let a = c.args.live.agent in
+    let b = c.begin-result.new.self in
+    let live = c.args.live.here in
+    let result = c.begin-result.result in
+    let h = c.begin-result.ensures in
+    let here = never-gone result _ _ h.goes live in
+    turns-by a b c.done.result.powered live c.done.ensures.device (λ value. reply.Success) result passes files faults (call.Begin 0) _ c.done.ensures.turn c.done.ensures.on (h.power live) h.costs
+    (called-done result passes (call.Begin 0) _ _ refl (λ previous. previous) (λ q same. same) here (h.meets live passes))
+    (takes-store a b result h.spent h.refused h.unarmed)

@@ -1,0 +1,18 @@
+use Rattle.std.proofs.Common.{refl}
+use Rattle.fwu_model.specs.Call as call
+use Rattle.fwu_model.specs.Reply as reply
+use Rattle.script_turns.proofs.CallTakes.{takes-commit}
+use Rattle.script_turns.proofs.Called.{called-done, never-gone, turns-by}
+use Rattle.script_turns.proofs.calling.commit_turn.Goals as goal
+
+pub returns-clause-turns : goal.returns-clause-turns
+returns-clause-turns g c passes files faults =
+    let a = c.args.live.agent in
+    let b = c.commit-result.new.self in
+    let live = c.args.live.here in
+    let result = c.commit-result.result in
+    let h = c.commit-result.ensures in
+    let here = never-gone result _ _ h.goes live in
+    turns-by a b c.done.result.powered live c.done.ensures.device (λ value. reply.Success) result passes files faults (call.Commit c.args.handle c.args.request) _ c.done.ensures.turn c.done.ensures.on (h.power live) h.costs
+    (called-done result passes (call.Commit c.args.handle c.args.request) _ _ refl (λ previous. previous) (λ q same. same) here (h.meets live passes))
+    (takes-commit a b result c.args.handle (h.spent live) h.still)

@@ -1,0 +1,18 @@
+use Rattle.std.proofs.Common.{refl}
+use Rattle.fwu_model.specs.Call as call
+use Rattle.fwu_model.specs.Reply as reply
+use Rattle.script_turns.proofs.CallTakes.{takes-switch}
+use Rattle.script_turns.proofs.Called.{called-done, never-gone, turns-by}
+use Rattle.script_turns.proofs.calling.end_turn.Goals as goal
+
+pub returns-clause-turns : goal.returns-clause-turns
+returns-clause-turns g c files faults =
+    let a = c.args.live.agent in
+    let b = c.end-result.new.self in
+    let live = c.args.live.here in
+    let result = c.end-result.result in
+    let h = c.end-result.ensures in
+    let here = never-gone result _ _ h.goes live in
+    turns-by a b c.done.result.powered live c.done.ensures.device (λ value. reply.Success) result (g.V.Verifier.passes c.args.verifier.now) files faults (call.End) _ c.done.ensures.turn c.done.ensures.on (h.power live) h.costs
+    (called-done result (g.V.Verifier.passes c.args.verifier.now) (call.End) _ _ refl (λ previous. previous) (λ q same. same) here (h.meets live (g.V.Verifier.passes c.args.verifier.now) refl))
+    (takes-switch a b result h.spent h.refused h.unarmed)

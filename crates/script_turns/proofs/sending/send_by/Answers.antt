@@ -1,0 +1,30 @@
+use Rattle.std.proofs.Common.{ℕ, List, ap, subst}
+use Rattle.agent_machine.proofs.Showing.{shows-some}
+use Rattle.agent_calls.specs.declared.agent.Agent.{Agent}
+use Rattle.agent_calls.specs.Shown.{device as agent_device, fields, moment}
+use Rattle.update_client.specs.Sends.{Sends}
+use Rattle.script_turns.specs.Calls.{moment_live}
+use Rattle.script_turns.specs.Sending.{on_sent}
+use Rattle.script_turns.proofs.SendTurns.{moment-as, sent-takes, sent-turn, shows-known, turns-as, with-power}
+use Rattle.script_turns.proofs.sending.send_by.Goals as goal
+
+pub returns-clause-turns : goal.returns-clause-turns
+returns-clause-turns g c =
+    let agent = c.args.live.agent in
+    let here = c.args.live.here in
+    let sent = c.send-sent in
+    let new = sent.new.agent in
+    let name = subst (λ (n : List ℕ). Sends (g.H.Files.contents c.args.files.now) n c.args.toc.now c.args.request (g.V.Verifier.passes c.args.verifier.now) sent.result (moment agent) (moment new))
+    c.as_str.ensures.value (sent.ensures.sends here) in
+    turns-as _ _ _ _ _ _ c.sent_turn.ensures.turn
+    (with-power (moment_live c.args.live) (agent.power here))
+    (moment-as c.sent_turn.result.powered (on_sent sent.result (fields new)) (agent_device new) c.sent_turn.ensures.on c.sent_turn.ensures.device)
+    (sent-turn _ _ _ _ _ (fields agent) (fields new) _ _ _ _ _ _ _ _ c.args.toc.now sent.result _ (sent.ensures.power here)
+    (λ e. let gone = sent.ensures.gone.gone.0 e in let was = gone.0 in absurd (cc (was, here))) c.requires.table c.requires.there name
+    (shows-some (fields agent) (agent.fitting here) g.D.Flash.tells (g.D.Flash.told agent.flash) (agent.knows here) (agent.some here))
+    (λ test. shows-known (fields agent) (agent.fitting here) (g.D.Flash.told agent.flash) g.D.Flash.tells (agent.knows here test))
+    sent.ensures.costs sent.ensures.reads
+    (sent-takes (g.V.Verifier.passes c.args.verifier.now) g.D.Flash.tells (g.H.Files.contents c.args.files.now) c.as_str.result.now c.args.request (fields agent) (fields new) _ _ _ _ _ _ 0 0 c.args.toc.now sent.result _ _ (sent.ensures.power here)
+    (λ early. let same = sent.ensures.untouched early in
+    (ap (λ (a : Agent _ g.D.Flash). g.D.Flash.told (agent_device a)) same, ap (λ (a : Agent _ g.D.Flash). g.D.Flash.counts (agent_device a)) same, ap (λ (a : Agent _ g.D.Flash). g.D.Flash.arming (agent_device a)) same))
+    sent.ensures.spent))

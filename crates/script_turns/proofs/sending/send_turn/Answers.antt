@@ -1,0 +1,82 @@
+use Rattle.std.proofs.Common.{◌≡◌, ◌⊎◌, inl, inr, ℕ, List, Some, Result, Err, Option, refl, sym, subst, ◌∙◌}
+use Rattle.std.specs.Prelude.{string_bytes}
+use Rattle.base_core.specs.Counts.{Rose}
+use Rattle.host_io.specs.Contents.{Directory}
+use Rattle.fip_tables.specs.Files.{Lacks, Tells}
+use Rattle.fwu_formats.specs.Package.{Toc}
+use Rattle.fwu_model.specs.Answer.{table_in}
+use Rattle.fwu_model.specs.Causes.{LacksFile}
+use Rattle.fwu_model.specs.Reply as reply
+use Rattle.agent_calls.specs.Shown.{device as agent_device, fields}
+use Rattle.fwu_journal.specs.Shown.{turn}
+use Rattle.script_turns.specs.Calls.{moment_live}
+use Rattle.script_turns.specs.Powered.{moment_of}
+use Rattle.script_turns.specs.Tables.{IsAnswer}
+use Rattle.script_turns.specs.Turning.{Turns, quiet_turn}
+use Rattle.script_turns.specs.declared.tables.TableStop.{TableStop}
+use Rattle.script_turns.specs.declared.tables.TableStop.TheVariants as stop
+use Rattle.script_turns.proofs.SendTurns.{bad-table, lacks-file, moment-as, send_call, sends-later, turns-as, unread-table}
+use Rattle.script_turns.proofs.sending.send_turn.Goals as goal
+
+-- what a reading of the table says of the file
+table-of : (files : Option Directory) (name other : List ℕ) (result given : Result Toc TableStop) → name ≡ other → result ≡ given
+    → ((file : List ℕ) → Tells files name file → IsAnswer (table_in file) result) → (file : List ℕ) → Tells files other file → IsAnswer (table_in file) given
+table-of files name other result given same is told =
+    subst (λ (n : List ℕ). (file : List ℕ) → Tells files n file → IsAnswer (table_in file) given) same
+    (subst (λ (r : Result Toc TableStop). (file : List ℕ) → Tells files name file → IsAnswer (table_in file) r) is told)
+
+-- a file whose table is bad is there
+is-there : (files : Option Directory) (name other : List ℕ) (result : Result Toc TableStop) (why : TableStop) → name ≡ other → result ≡ Err why → (why ≡ stop.ReadFailed → ⊥)
+    → (Lacks files name → result ≡ Err stop.ReadFailed) → Lacks files other → ⊥
+is-there files name other result why same is differs missing lacks =
+    let read = missing (subst (λ (n : List ℕ). Lacks files n) (sym same) lacks) in
+    differs (let e : ◌≡◌ {A = Result Toc TableStop} (Err why) (Err stop.ReadFailed) = sym is ∙ read in cc)
+
+unread-by : (files : Option Directory) (name other : List ℕ) (was are : ℕ) → name ≡ other → Rose was are ⊎ Lacks files name → Rose was are ⊎ LacksFile files other
+unread-by files name other was are same (inl rose) = inl rose
+unread-by files name other was are same (inr lacks) = inr (lacks-file files other (subst (λ (n : List ℕ). Lacks files n) same lacks))
+
+pub returns-in-Ok-clause-turns : goal.returns-in-Ok-clause-turns
+returns-in-Ok-clause-turns g c =
+    sends-later (g.H.Files.faults c.args.files.now) (g.H.Files.faults c.read_table.new.files) (g.H.Files.faults c.send_by.new.files) c.read_table.ensures.cause.later
+    (subst (λ (files : Option Directory). Turns (g.V.Verifier.passes c.args.verifier.now) g.D.Flash.tells files (send_call (string_bytes c.args.name) c.args.request) (turn c.send_by.result.turn) (moment_live c.args.live)
+    (moment_of c.send_by.result.powered) (g.H.Files.faults c.read_table.new.files) (g.H.Files.faults c.send_by.new.files)) c.read_table.ensures.same c.send_by.ensures.turns)
+
+pub returns-in-Err-Package-clause-turns : goal.returns-in-Err-Package-clause-turns
+returns-in-Err-Package-clause-turns g c =
+    let agent = c.args.live.agent in
+    let fault = c.in-Err-Package.fault in
+    let files = g.H.Files.contents c.args.files.now in
+    let is : c.read_table.result ≡ Err (stop.Package fault) = cc in
+    let table = table-of files c.as_str.result.now (string_bytes c.args.name) c.read_table.result (Err (stop.Package fault)) c.as_str.ensures.value is c.read_table.ensures.told in
+    turns-as _ (quiet_turn (send_call (string_bytes c.args.name) c.args.request) (reply.BadPackage fault)) (moment_live c.args.live) (moment_live c.args.live) _ _
+    c.answered.ensures.turn refl
+    (moment-as c.answered.result.powered (Some (fields agent)) (agent_device agent) c.answered.ensures.on c.answered.ensures.device)
+    (bad-table _ _ _ _ _ _ _ _ _ _ _ _ c.read_table.ensures.cause.later (reply.BadPackage fault) refl refl table (table, refl)
+    (is-there files c.as_str.result.now (string_bytes c.args.name) c.read_table.result (stop.Package fault) c.as_str.ensures.value is (λ e. cc) c.read_table.ensures.missing)
+    (record { told = refl; counts = refl; armed = refl; power = refl }))
+
+pub returns-in-Err-Capsule-clause-turns : goal.returns-in-Err-Capsule-clause-turns
+returns-in-Err-Capsule-clause-turns g c =
+    let agent = c.args.live.agent in
+    let fault = c.in-Err-Capsule.fault in
+    let files = g.H.Files.contents c.args.files.now in
+    let is : c.read_table.result ≡ Err (stop.Capsule fault) = cc in
+    let table = table-of files c.as_str.result.now (string_bytes c.args.name) c.read_table.result (Err (stop.Capsule fault)) c.as_str.ensures.value is c.read_table.ensures.told in
+    let turned = c.answered-in-Err-Capsule in
+    turns-as _ (quiet_turn (send_call (string_bytes c.args.name) c.args.request) (reply.BadCapsule fault)) (moment_live c.args.live) (moment_live c.args.live) _ _
+    turned.ensures.turn refl
+    (moment-as turned.result.powered (Some (fields agent)) (agent_device agent) turned.ensures.on turned.ensures.device)
+    (bad-table _ _ _ _ _ _ _ _ _ _ _ _ c.read_table.ensures.cause.later (reply.BadCapsule fault) refl refl table (table, refl)
+    (is-there files c.as_str.result.now (string_bytes c.args.name) c.read_table.result (stop.Capsule fault) c.as_str.ensures.value is (λ e. cc) c.read_table.ensures.missing)
+    (record { told = refl; counts = refl; armed = refl; power = refl }))
+
+pub returns-in-Err-ReadFailed-clause-turns : goal.returns-in-Err-ReadFailed-clause-turns
+returns-in-Err-ReadFailed-clause-turns g c =
+    let agent = c.args.live.agent in
+    let is : c.read_table.result ≡ Err stop.ReadFailed = cc in
+    turns-as _ (quiet_turn (send_call (string_bytes c.args.name) c.args.request) reply.ReadFault) (moment_live c.args.live) (moment_live c.args.live) _ _
+    c.stopped.ensures.turn refl
+    (moment-as c.stopped.result.powered _ (agent_device agent) c.stopped.ensures.on c.stopped.ensures.device)
+    (unread-table _ _ _ _ _ _ _ _ _ _ _ _ c.read_table.ensures.cause.later
+    (unread-by (g.H.Files.contents c.args.files.now) c.as_str.result.now (string_bytes c.args.name) _ _ c.as_str.ensures.value (c.read_table.ensures.cause.failed is)))

@@ -1,0 +1,71 @@
+-- The turn of a call of the agent, by what the call gave.
+use Rattle.std.specs.Prelude.{ℕ, Bool, true, false, List, Option, Some, None, Result, Ok, Err}
+use Rattle.flash_core.specs.declared.flash.Flash.{Ghosts}
+use Rattle.fwu_model.specs.declared.kinds.Op.{Op}
+use Rattle.fwu_model.specs.declared.kinds.Op.TheVariants as op
+use Rattle.fwu_model.specs.Call.{Call}
+use Rattle.fwu_model.specs.Call as call
+use Rattle.fwu_model.specs.Reply.{Reply}
+use Rattle.fwu_model.specs.Reply as reply
+use Rattle.agent_machine.specs.declared.stop.Stop.{Stop}
+use Rattle.agent_machine.specs.declared.stop.Stop.TheVariants as stop
+use Rattle.agent_machine.specs.Fields.{Fields}
+use Rattle.agent_calls.specs.Shown.{device, fields}
+use Rattle.script_turns.specs.declared.powered.Live.{Live}
+use Rattle.script_turns.specs.Powered.{Moment, at}
+
+-- the call of an open
+abbrev pub open_call : List ℕ → Op → Call
+open_call guid op.Read = call.OpenRead guid
+open_call guid op.Write = call.OpenWrite guid
+
+-- the calls of the agent
+abbrev pub is_agents : Call → Bool
+is_agents call.Discover = true
+is_agents (call.Begin n) = true
+is_agents (call.OpenRead guid) = true
+is_agents (call.OpenWrite guid) = true
+is_agents (call.Write handle bytes) = true
+is_agents (call.Read handle room) = true
+is_agents (call.Commit handle request) = true
+is_agents call.End = true
+is_agents call.Cancel = true
+is_agents (call.Accepts guid) = true
+is_agents call.Previous = true
+is_agents (call.Send name request) = false
+is_agents call.Boot = false
+is_agents (call.Cut n k) = false
+is_agents call.Show = false
+
+-- the reply of a call that was not answered; an agent that is there is never gone
+abbrev pub stop_reply : Stop → Reply
+stop_reply (stop.Status st) = reply.Refused st
+stop_reply stop.Lost = reply.Lost
+stop_reply stop.Fault = reply.Fault
+stop_reply stop.Gone = reply.IsOff
+
+abbrev pub reply_by : {T : Type 0} → (T → Reply) → Result T Stop → Reply
+reply_by says (Ok value) = says value
+reply_by says (Err why) = stop_reply why
+
+-- whether the agent is there afterwards
+abbrev pub is_there : {T : Type 0} → Result T Stop → Bool
+is_there (Ok value) = true
+is_there (Err (stop.Status st)) = true
+is_there (Err stop.Lost) = false
+is_there (Err stop.Fault) = false
+is_there (Err stop.Gone) = false
+
+-- what the agent keeps, where it is there afterwards
+abbrev pub on_by : {T : Type 0} → Result T Stop → Fields → Option Fields
+on_by (Ok value) f = Some f
+on_by (Err (stop.Status st)) f = Some f
+on_by (Err stop.Lost) f = None
+on_by (Err stop.Fault) f = None
+on_by (Err stop.Gone) f = None
+
+-- a flash with its agent
+abbrev pub moment_live : {D : Type 0} {F : Ghosts D} → Live D F → Moment
+moment_live {F = F} live =
+    let d = device live.agent in
+    at (Some (fields live.agent)) (F.told d) (F.counts d) (F.arming d) (F.on d)

@@ -1,0 +1,9 @@
+pub mod Powered
+pub mod Booted
+pub mod Replies
+pub mod Tables
+pub mod Sending
+pub mod Takes
+pub mod Turning
+pub mod Calls
+pub mod Needs

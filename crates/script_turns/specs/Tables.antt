@@ -1,0 +1,23 @@
+-- The table that a file is sent by.
+use Rattle.std.specs.Prelude.{◌≡◌, ◌⊎◌, ◌≤◌, ℕ, List, Option, Result, Ok, Err}
+use Rattle.base_core.specs.Counts.{Rose}
+use Rattle.host_io.specs.Contents.{Directory}
+use Rattle.fwu_formats.specs.Package.{Toc}
+use Rattle.fwu_model.specs.Reply.{Reply}
+use Rattle.fwu_model.specs.Reply as reply
+use Rattle.fip_tables.specs.Files.{Lacks}
+use Rattle.script_turns.specs.declared.tables.TableStop.{TableStop}
+use Rattle.script_turns.specs.declared.tables.TableStop.TheVariants.{Package, Capsule, ReadFailed}
+
+-- it is the table, or what `send` answers to the file, unless the file could not be read
+abbrev pub IsAnswer : Result Toc Reply → Result Toc TableStop → Type 0
+IsAnswer found (Ok toc) = found ≡ Ok toc
+IsAnswer found (Err (Package f)) = found ≡ Err (reply.BadPackage f)
+IsAnswer found (Err (Capsule f)) = found ≡ Err (reply.BadCapsule f)
+IsAnswer found (Err ReadFailed) = Unit {0}
+
+-- a reading fails only where the files' faults rose, or told files lack the name
+pub record HasTableCause {T : Type 0} (files : Option Directory) (name : List ℕ) (before now : ℕ)
+    (result : Result T TableStop) : Type 0 where
+  pub later : before ≤ now
+  pub failed : result ≡ Err ReadFailed → Rose before now ⊎ Lacks files name

@@ -1,0 +1,107 @@
+-- What an armed loss counts of a turn, on any device.
+use Rattle.std.specs.Prelude.{◌≡◌, ℕ, ◌-◌, ◌≤◌, List, length, Option, Some, None, Result, Ok, Err, ⊤}
+use Rattle.flash_core.specs.declared.flash.FlashStop.{FlashStop}
+use Rattle.flash_core.specs.declared.flash.FlashStop.TheVariants as flash_stop
+use Rattle.flash_core.specs.Counts.{ReachesNone, StaysUnarmed, arming_kept}
+use Rattle.slot_writer.specs.Writes.{SpendsArming, writes_to_append, writes_to_finish}
+use Rattle.agent_kept.specs.Kept.{handle_kept, part_at, size_of}
+use Rattle.agent_kept.specs.declared.parts.Handle.TheVariants as handle
+use Rattle.agent_machine.specs.Fields.{Fields}
+use Rattle.agent_machine.specs.Ends.{IsWriter, TakesSwitch}
+use Rattle.agent_machine.specs.Stored.{TakesStore}
+use Rattle.update_client.specs.Takes.{Takes as TakesLeast}
+use Rattle.fwu_model.specs.Call.{Call}
+use Rattle.fwu_model.specs.Call as call
+use Rattle.fwu_model.specs.Reply.{Reply}
+use Rattle.fwu_model.specs.Reply as reply
+use Rattle.script_turns.specs.Powered.{Moment, SameDevice}
+
+-- how the flash's own calls tell of a turn with this reply
+abbrev pub stop_told : Reply → Result (Unit {0}) FlashStop
+stop_told reply.Lost = Err flash_stop.Lost
+stop_told reply.Fault = Err flash_stop.Failed
+stop_told other = Ok tt
+
+-- where no loss was armed, none is, and none was reached
+abbrev pub StaysFree : Reply → Moment → Moment → Type 0
+StaysFree r old new = StaysUnarmed (stop_told r) old.armed new.armed old.counts new.counts
+
+-- a call that stores metadata stored it, or has it as it was and wrote nothing; a refused one did not touch the arming
+abbrev pub IsStoredBy : Reply → Fields → Option Fields → Moment → Moment → Type 0
+IsStoredBy reply.Success f (Some g) old new = TakesStore f.meta g.meta old.armed new.armed
+IsStoredBy (reply.Refused st) f on old new = new.armed ≡ old.armed
+IsStoredBy other f on old new = ⊤
+
+pub record StoresBy (r : Reply) (f : Fields) (on : Option Fields) (old new : Moment) : Type 0 where
+  pub spent : IsStoredBy r f on old new
+  pub unarmed : StaysFree r old new
+
+-- what a write through a handle wrote, by the image of the handle; a refused one did nothing
+abbrev pub WritesBy : Reply → Fields → ℕ → List ℕ → Moment → Moment → Type 0
+WritesBy (reply.Refused st) f number bytes old new = SameDevice old new
+WritesBy r f number bytes old new = (image : ℕ) → handle_kept f.session (number - 1) ≡ handle.Writes image
+    → SpendsArming (stop_told r) (writes_to_append (size_of (part_at f.session image)) (length bytes))
+    old.armed new.armed old.counts new.counts
+
+-- what ending an image wrote, by the image of the handle; where it writes none, nothing was done
+pub record CommitsBy (r : Reply) (f : Fields) (number : ℕ) (old new : Moment) : Type 0 where
+  pub spent : (image : ℕ) → IsWriter f number image
+      → SpendsArming (stop_told r) (writes_to_finish (size_of (part_at f.session image))) old.armed new.armed old.counts new.counts
+  pub still : ((image : ℕ) → IsWriter f number image → ⊥) → SameDevice old new
+
+-- a switch is an erase of the marks, or none, and a store; a refused end did nothing
+abbrev pub IsSwitchedBy : Reply → Moment → Moment → Type 0
+IsSwitchedBy reply.Success old new = TakesSwitch old.armed new.armed
+IsSwitchedBy (reply.Refused st) old new = SameDevice old new
+IsSwitchedBy other old new = ⊤
+
+pub record SwitchesBy (r : Reply) (old new : Moment) : Type 0 where
+  pub spent : IsSwitchedBy r old new
+  pub unarmed : StaysFree r old new
+
+-- A read writes nothing, and reaches no armed loss. A loss that no arming made clears the arming.
+pub record ReadsBy (r : Reply) (old new : Moment) : Type 0 where
+  pub armed : new.armed ≡ arming_kept (stop_told r) old.armed
+  pub reached : ReachesNone (stop_told r) old.counts new.counts
+
+-- A sending that is done takes at least a store's erases and programs, with an erase of each block that its images reach. What was refused
+-- before anything was sent did nothing.
+abbrev pub SendTakes : Reply → Moment → Moment → Type 0
+SendTakes (reply.Sent images skipped) old new = (least : ℕ) × (4 ≤ least) × TakesLeast least old.armed new.armed
+SendTakes (reply.BadPackage f) old new = SameDevice old new
+SendTakes (reply.BadCapsule f) old new = SameDevice old new
+SendTakes (reply.Missing guid) old new = SameDevice old new
+SendTakes (reply.TooLarge guid) old new = SameDevice old new
+SendTakes (reply.BeginRefused st) old new = SameDevice old new
+SendTakes other old new = ⊤
+
+-- by what the agent kept
+abbrev pub TakesOn : Call → Fields → Moment → Reply → Moment → Type 0
+TakesOn call.Discover f old r new = SameDevice old new
+TakesOn (call.Begin n) f old r new = StoresBy r f new.on old new
+TakesOn (call.OpenRead guid) f old r new = SameDevice old new
+TakesOn (call.OpenWrite guid) f old r new = SameDevice old new
+TakesOn (call.Write number bytes) f old r new = WritesBy r f number bytes old new
+TakesOn (call.Read number room) f old r new = ReadsBy r old new
+TakesOn (call.Commit number request) f old r new = CommitsBy r f number old new
+TakesOn call.End f old r new = SwitchesBy r old new
+TakesOn call.Cancel f old r new = SameDevice old new
+TakesOn (call.Accepts guid) f old r new = StoresBy r f new.on old new
+TakesOn call.Previous f old r new = StoresBy r f new.on old new
+TakesOn (call.Send name request) f old r new = SendTakes r old new
+TakesOn call.Boot f old r new = ⊤
+TakesOn (call.Cut n k) f old r new = ⊤
+TakesOn call.Show f old r new = SameDevice old new
+
+-- no flash that is off is touched but by a boot and a `cut`
+abbrev pub TakesOff : Call → Moment → Moment → Type 0
+TakesOff call.Boot old new = ⊤
+TakesOff (call.Cut n k) old new = ⊤
+TakesOff other old new = SameDevice old new
+
+abbrev pub TakesBy : Call → Option Fields → Moment → Reply → Moment → Type 0
+TakesBy c None old r new = TakesOff c old new
+TakesBy c (Some f) old r new = TakesOn c f old r new
+
+abbrev pub Takes : Call → Moment → Reply → Moment → Type 0
+Takes c old r new = TakesBy c old.on old r new

@@ -1,0 +1,16 @@
+//! One turn of a script on a flash: a boot, a call of the agent of the bank that was started, a sending, an armed loss of power, or
+//! what the flash shows. A turn takes no memory.
+#![tactic(auto)]
+
+mod booting;
+mod calling;
+mod powered;
+mod quiet;
+mod sending;
+mod tables;
+mod turned;
+mod turning;
+
+pub use powered::{Fresh, Live, Powered};
+pub use turned::Turned;
+pub use turning::turn;

@@ -1,0 +1,113 @@
+//! The table of a file that is to be sent.
+ghost use Rattle.std.specs.Prelude.{◌≡◌, ◌+◌, ◌^◌, ◌<◌, ◌≤◌, All, ℕ, List, Err, IfErr, IfOk, length};
+ghost use Rattle.fwu_formats.specs.Capsule.{capsule_of, is_capsule};
+ghost use Rattle.fwu_formats.specs.Package.{toc_of};
+ghost use Rattle.fwu_model.specs.Answer.{table_in, table_or};
+ghost use Rattle.fwu_model.specs.Reply as reply;
+ghost use Rattle.fip_tables.specs.Files.{Lacks, Tells};
+ghost use Rattle.script_turns.specs.Tables.{HasTableCause, IsAnswer};
+ghost use Rattle.script_turns.specs.declared.tables.TableStop.TheVariants as stop;
+
+use capsule_tables::{CapsuleFault, CapsuleStop, FMP_GUID, read_capsule};
+use fip_tables::{Toc, TocStop, read_toc};
+use fwu_formats::FipFault;
+use host_io::{Failed, Files};
+
+/// Why a file gives no table to send by.
+#[derive(Clone, Copy, Debug, PartialEq, Eq)]
+pub enum TableStop {
+    /// It is no package: its first fault.
+    Package(FipFault),
+    /// It begins as a capsule, and is none: its first fault.
+    Capsule(CapsuleFault),
+    /// It could not be read, or there is none of this name.
+    ReadFailed,
+}
+
+/// Whether the file begins with the UUID of capsules.
+fn is_capsule<H: Files>(files: &mut H, name: &str) -> Result<bool, TableStop>
+    ensures told { IfOk result (λ found. (file : List ℕ) → Tells (H.contents files.old) name.now file
+        → found ≡ is_capsule file) }
+    ensures there { IfOk result (λ found. Lacks (H.contents files.old) name.now → ⊥) }
+    ensures stops { IfErr result (λ why. why ≡ stop.ReadFailed) }
+    ensures same { H.contents files.new ≡ H.contents files.old }
+    ensures cause { HasTableCause (H.contents files.old) name.now (H.faults files.old)
+        (H.faults files.new) result }
+{
+    let size = match files.size(name) {
+        Ok(Some(size)) => size,
+        Ok(None) | Err(Failed) => return Err(TableStop::ReadFailed),
+    };
+    if size < 16 {
+        return Ok(false);
+    }
+    let mut front = [0u8; 16];
+    match files.read_at(name, 0, &mut front) {
+        Ok(()) => Ok(front == FMP_GUID),
+        Err(Failed) => Err(TableStop::ReadFailed),
+    }
+}
+
+/// The table of a package.
+fn package_table<H: Files>(files: &mut H, name: &str) -> Result<Toc, TableStop>
+    ensures told { (file : List ℕ) → Tells (H.contents files.old) name.now file
+        → IsAnswer (table_or reply.BadPackage (toc_of file)) result }
+    ensures stored { IfOk result (λ toc. (file : List ℕ) → Tells (H.contents files.old) name.now file
+        → All (λ e. e.offset + e.size ≤ length file) toc.entries) }
+    ensures ends { IfOk result (λ toc. All (λ e. e.offset + e.size < 2 ^ 64) toc.entries) }
+    ensures there { IfOk result (λ toc. Lacks (H.contents files.old) name.now → ⊥) }
+    ensures missing { Lacks (H.contents files.old) name.now → result ≡ Err stop.ReadFailed }
+    ensures same { H.contents files.new ≡ H.contents files.old }
+    ensures cause { HasTableCause (H.contents files.old) name.now (H.faults files.old)
+        (H.faults files.new) result }
+{
+    match read_toc(files, name) {
+        Ok(toc) => Ok(toc),
+        Err(TocStop::Fault(fault)) => Err(TableStop::Package(fault)),
+        Err(TocStop::ReadFailed) => Err(TableStop::ReadFailed),
+    }
+}
+
+/// The table of a capsule.
+fn capsule_table<H: Files>(files: &mut H, name: &str) -> Result<Toc, TableStop>
+    ensures told { (file : List ℕ) → Tells (H.contents files.old) name.now file
+        → IsAnswer (table_or reply.BadCapsule (capsule_of file)) result }
+    ensures stored { IfOk result (λ toc. (file : List ℕ) → Tells (H.contents files.old) name.now file
+        → All (λ e. e.offset + e.size ≤ length file) toc.entries) }
+    ensures ends { IfOk result (λ toc. All (λ e. e.offset + e.size < 2 ^ 64) toc.entries) }
+    ensures there { IfOk result (λ toc. Lacks (H.contents files.old) name.now → ⊥) }
+    ensures missing { Lacks (H.contents files.old) name.now → result ≡ Err stop.ReadFailed }
+    ensures same { H.contents files.new ≡ H.contents files.old }
+    ensures cause { HasTableCause (H.contents files.old) name.now (H.faults files.old)
+        (H.faults files.new) result }
+{
+    match read_capsule(files, name) {
+        Ok(toc) => Ok(toc),
+        Err(CapsuleStop::Fault(fault)) => Err(TableStop::Capsule(fault)),
+        Err(CapsuleStop::ReadFailed) => Err(TableStop::ReadFailed),
+    }
+}
+
+/// The table that a file is sent by: what begins with the UUID of capsules is read as one, and any other file as a package. The error is
+/// the file's first fault. Nothing here takes memory.
+pub fn read_table<H: Files>(files: &mut H, name: &str) -> Result<Toc, TableStop>
+    // Where the file's bytes are told, it is their table, or what `send` answers to them.
+    ensures told { (file : List ℕ) → Tells (H.contents files.old) name.now file
+        → IsAnswer (table_in file) result }
+    // Each payload then ends within the file.
+    ensures stored { IfOk result (λ toc. (file : List ℕ) → Tells (H.contents files.old) name.now file
+        → All (λ e. e.offset + e.size ≤ length file) toc.entries) }
+    // Whatever file it is, each payload ends below 2 ^ 64.
+    ensures ends { IfOk result (λ toc. All (λ e. e.offset + e.size < 2 ^ 64) toc.entries) }
+    ensures there { IfOk result (λ toc. Lacks (H.contents files.old) name.now → ⊥) }
+    ensures missing { Lacks (H.contents files.old) name.now → result ≡ Err stop.ReadFailed }
+    ensures same { H.contents files.new ≡ H.contents files.old }
+    ensures cause { HasTableCause (H.contents files.old) name.now (H.faults files.old)
+        (H.faults files.new) result }
+{
+    match is_capsule(files, name) {
+        Ok(true) => capsule_table(files, name),
+        Ok(false) => package_table(files, name),
+        Err(stop) => Err(stop),
+    }
+}
