@@ -1,6 +1,4 @@
 pub mod ShowFlash
-mod TurnQuiet
-mod TurnBoots
 pub mod PromiseWords
 pub mod PromiseTurns
 pub mod PromiseWritten
@@ -12,7 +10,8 @@ pub mod PromiseComplete
 pub mod PromiseReplies
 pub mod PromiseAll
 pub mod OutcomeLemmas
-mod RunTurns
+pub mod RunTurns
+mod RunCalls
 mod RunEnds
 pub mod TopReads
 pub mod TopPrints

@@ -4,7 +4,7 @@ use Rattle.fwu_model.specs.Reply.{Turn}
 use Rattle.fwu_model.specs.Causes.{Faults}
 use Rattle.fwu_model.specs.declared.kinds.Note.{Note}
 use Rattle.fwu_words.specs.Order.{Asked}
-use Rattle.script_cmd.specs.Powered.{Moment}
+use Rattle.script_turns.specs.Powered.{Moment}
 use Rattle.script_cmd.specs.Ways.{Way}
 use Rattle.script_cmd.specs.Promises.{given_to, Promised}
 use Rattle.script_cmd.proofs.PromiseHeadline.{ways-keep-the-headline}

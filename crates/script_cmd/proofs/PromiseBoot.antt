@@ -26,12 +26,13 @@ use Rattle.fwu_model.specs.declared.kinds.Note.{Note}
 use Rattle.fwu_model.specs.declared.kinds.Note.TheVariants as note
 use Rattle.fwu_model.proofs.Shown.{shown-by}
 use Rattle.early_boot.specs.EndsBy.{Chose}
+use Rattle.host_io.specs.Contents.{Directory}
 use Rattle.fwu_words.specs.Order.{Asked}
 use Rattle.fwu_words.specs.Order as ask
 use Rattle.script_cmd.specs.Asking.{plainly}
-use Rattle.script_cmd.specs.Booted.{BootsFrom, ChoseBank, ChoseNone}
+use Rattle.script_turns.specs.Booted.{BootsFrom, ChoseBank, ChoseNone}
 use Rattle.script_cmd.specs.BootWord.{BootsBy}
-use Rattle.script_cmd.specs.Powered.{Moment, at}
+use Rattle.script_turns.specs.Powered.{Moment, at}
 use Rattle.script_cmd.specs.Running.{Ran, Ended, status_of_last, note_of_last, last_turn, calls_of}
 use Rattle.script_cmd.specs.Ways.{Given, Refuses, usage, not_read, list_not_read, too_long, bad_script, bad_list, starved, refused, ran}
 use Rattle.script_cmd.specs.Promises.{given_to, WaysBoot}
@@ -164,8 +165,8 @@ not-lost t before after (inl counted) cuts reached is =
 not-lost t before after (inr (inl top)) cuts reached is = cuts (inr top)
 not-lost t before after (inr (inr top)) cuts reached is = reached (inr top)
 
-module _ (passes : List ℕ → Bool) (tells : Bool) (status : ℕ) (noted : Note) (old : Moment) where
-  by-turn : (t : Turn) (turns : List Turn) (new : Moment) → Ran passes tells (t ∷ turns) old new → Ended (call.Boot ∷ []) (t ∷ turns) status noted
+module _ (passes : List ℕ → Bool) (tells : Bool) (files : Option Directory) (status : ℕ) (noted : Note) (old : Moment) (from to : ℕ) where
+  by-turn : (t : Turn) (turns : List Turn) (new : Moment) → Ran passes tells files (t ∷ turns) old new from to → Ended (call.Boot ∷ []) (t ∷ turns) status noted
       → IsTrue tells → NothingDirty old.told → IsFalse (may_lack status) → (Rose old.counts.faults new.counts.faults → ⊥) → (Rose old.counts.cuts new.counts.cuts → ⊥) → (Rose old.counts.reached new.counts.reached → ⊥)
       → BootsBy passes old.told.now status noted (t ∷ turns)
   by-turn t turns new did ended told clean lacks faults cuts reached =
@@ -175,7 +176,7 @@ module _ (passes : List ℕ → Bool) (tells : Bool) (status : ℕ) (noted : Not
       by-reply passes old.told.now status noted (t ∷ turns) t refl (ended.status_is lacks ∙ ap status_of_last last) (ended.noted_is ∙ ap note_of_last last)
       t.reply refl (did.first told clean t refl one.0) lost (λ is. faults (did.fault_turns t (0, omega arith, refl) is))
 
-  by-journal : (journal : List Turn) (new : Moment) → Ran passes tells journal old new → Ended (call.Boot ∷ []) journal status noted
+  by-journal : (journal : List Turn) (new : Moment) → Ran passes tells files journal old new from to → Ended (call.Boot ∷ []) journal status noted
       → IsTrue tells → NothingDirty old.told → IsFalse (may_lack status) → (Rose old.counts.faults new.counts.faults → ⊥) → (Rose old.counts.cuts new.counts.cuts → ⊥) → (Rose old.counts.reached new.counts.reached → ⊥)
       → BootsBy passes old.told.now status noted journal
   by-journal [] new did ended told clean lacks faults cuts reached = let none = ended.all_calls (ended.status_is lacks) in absurd (cc)
@@ -201,7 +202,7 @@ ways-boot passes tells asked list files source journal status noted old new take
     let g = given_to asked list files source in
     absurd (false≢true (sym fails ∙ by-plan line planned status taken takes was.sink are.sink prints (λ k. may_fail_before k || (k == 13)) refl refl
     (no-refusal asked g was are planned noted line boot (boot-script asked source boot) why)))
-ways-boot passes tells asked list files source journal status noted old new taken takes was are (ran calls on good asks has turns ended printed) told clean boot fails faults cuts reached =
+ways-boot passes tells asked list files source journal status noted old new taken takes was are (ran calls on from good asks has before turns ended printed) told clean boot fails faults cuts reached =
     let is = (some-at (script_asked (plainly asked) source) (λ b. (is_too_long b ≡ false) × (script_of b ≡ Ok calls)) (codes "boot\n") has (boot-script asked source boot)).1 in
     let same : calls ≡ call.Boot ∷ [] = same-calls calls (call.Boot ∷ []) (sym is ∙ boot-is-script) in
-    by-journal passes tells status noted old journal (at on new.told new.counts new.armed new.power) turns (subst (λ (c : List Call). Ended c journal status noted) same ended) told clean (whole status fails) faults cuts reached
+    by-journal passes tells files status noted old from are.files journal (at on new.told new.counts new.armed new.power) turns (subst (λ (c : List Call). Ended c journal status noted) same ended) told clean (whole status fails) faults cuts reached

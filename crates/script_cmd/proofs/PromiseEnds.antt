@@ -1,5 +1,5 @@
 -- Why a run ended as it did, whichever way that was.
-use Rattle.std.proofs.Common.{◌≡◌, ◌≢◌, ℕ, suc, ◌-◌, Bool, true, false, not, ◌||◌, ◌==◌, List, [], ◌∷◌, length, Option, Some, None, Ok, Err, slice_get, Contains, refl, sym, ap, subst, ◌∙◌, arith, inl, inr, ◌⊎◌, IsTrue, IsFalse, IfSome, IsSome, eqb-true}
+use Rattle.std.proofs.Common.{◌≡◌, ◌≢◌, ◌≤◌, ℕ, suc, ◌-◌, Bool, true, false, not, ◌||◌, ◌==◌, List, [], ◌∷◌, length, Option, Some, None, Ok, Err, slice_get, Contains, refl, sym, ap, subst, ◌∙◌, arith, inl, inr, ◌⊎◌, IsTrue, IsFalse, IfSome, IsSome, eqb-true}
 use Rattle.std.specs.List.{list_all}
 use Rattle.std.proofs.lemmas.Bool.{cases_Bool, or_cases, false≢true, and_from, not_from_false}
 use Rattle.base_core.specs.Counts.{Rose}
@@ -19,13 +19,14 @@ use Rattle.fwu_model.specs.Causes as noted_alone
 use Rattle.host_io.specs.Contents.{Directory}
 use Rattle.fwu_words.specs.Order.{Asked}
 use Rattle.script_cmd.specs.Asking.{plainly}
-use Rattle.script_cmd.specs.Powered.{Moment, at}
+use Rattle.script_turns.specs.Powered.{Moment, at}
 use Rattle.script_cmd.specs.Printed.{Prints, all, front, nothing}
 use Rattle.script_cmd.specs.Running.{Ran, Ended, Printed, status_of_last, note_of_last, last_turn}
 use Rattle.script_cmd.specs.Ways.{Given, HasGoodList, AsksTurns, HasCalls, Refuses, usage, not_read, list_not_read, too_long, bad_script, bad_list, starved, refused, ran}
 use Rattle.script_cmd.specs.Promises.{EndsHold, WaysEnd}
 use Rattle.script_cmd.proofs.PromiseWords.{asks-none, asks-turns, asks-run, same-calls}
-use Rattle.script_cmd.proofs.PromiseTurns.{last-get, is_ran, ran-at, ran-status, lack-cases, printed-plan, by-plan, printed-rose, some-from, some-at}
+use Rattle.script_cmd.proofs.RunTurns.{not-read-around}
+use Rattle.script_cmd.proofs.PromiseTurns.{last-get, is_ran, none-ended, ran-at, ran-status, lack-cases, printed-plan, by-plan, printed-rose, some-from, some-at}
 
 -- ---- no turn
 
@@ -247,10 +248,10 @@ all-from : {X : Type 0} (f : X → Bool) (xs : List X) → ((n : ℕ) (x : X) �
 all-from f [] h = refl
 all-from f (x ∷ xs) h = and_from (f x) (list_all f xs) (h 0 x refl) (all-from f xs (λ n y is. h (suc n) y is))
 
-module _ (passes : List ℕ → Bool) (tells : Bool) (asked : Option Asked) (g : Given) (journal : List Turn) (status : ℕ) (noted : Note) (old new : Moment) (taken takes : Option (List ℕ)) (was are : Faults) (calls : List Call)
-    (turns : Ran passes tells journal old new) (ended : Ended calls journal status noted) where
+module _ (passes : List ℕ → Bool) (tells : Bool) (asked : Option Asked) (g : Given) (journal : List Turn) (status : ℕ) (noted : Note) (old new : Moment) (taken takes : Option (List ℕ)) (was are : Faults) (calls : List Call) (from : ℕ)
+    (before : was.files ≤ from) (turns : Ran passes tells g.files journal old new from are.files) (ended : Ended calls journal status noted) where
   is : IsTrue (is_ran status)
-  is = ran-status calls journal status noted turns.reads_no_file ended
+  is = ran-status calls journal status noted ended
 
   last-is : (t : Turn) → slice_get journal (length journal - 1) ≡ Some t → (IsFalse (may_lack status) → status ≡ status_by t.reply) × (noted ≡ note_by t.reply)
   last-is t at_last =
@@ -297,14 +298,14 @@ module _ (passes : List ℕ → Bool) (tells : Bool) (asked : Option Asked) (g :
     made = turns.made;
     lost_turns = turns.lost_turns;
     fault_turns = turns.fault_turns;
-    read_faults = λ t within reads. absurd (turns.reads_no_file t within reads);
+    read_faults = λ t within reads. not-read-around g.files was.files from are.files are.files t.call before (omega arith) (turns.unread_turns t within reads);
     ends = turns.ends;
     by_last = last-is;
     by_none = before-first;
     noted_alone = λ empty.
         subst (λ (n : Note). NotedAlone g.script g.list g.files status n) (sym (ended.noted_is ∙ ap (λ (j : List Turn). note_of_last (last_turn j)) empty)) (noted_alone.Nothing no-note);
     all_done = λ zero_is. all-from (λ (t : Turn). not (ends_run t.reply)) journal (goes-on zero_is);
-    not_read = λ e empty. absurd (false≢true (ran-at status 2 is e));
+    not_read = λ e empty. absurd (none-ended calls journal status noted empty (λ zero_is. absurd (omega arith)) ended);
     not_script = λ e. absurd (false≢true (ran-at status 4 is e));
     not_list = λ e. absurd (false≢true (ran-at status 13 is e));
     usage = λ e. absurd (false≢true (ran-at status 1 is e));
@@ -333,5 +334,5 @@ ways-end passes tells asked g journal status noted old new taken takes was are (
     none-ends asked g journal status noted old new was are empty same (starved-ends asked g was are status noted old.counts nine quiet)
 ways-end passes tells asked g journal status noted old new taken takes was are (refused planned line empty same why prints) =
     none-ends asked g journal status noted old new was are empty same (refused-ends asked g was are status noted old.counts planned line taken takes why prints)
-ways-end passes tells asked g journal status noted old new taken takes was are (ran calls on good asks has turns ended printed) =
-    ran-ends passes tells asked g journal status noted old (at on new.told new.counts new.armed new.power) taken takes was are calls turns ended good asks has printed
+ways-end passes tells asked g journal status noted old new taken takes was are (ran calls on from good asks has before turns ended printed) =
+    ran-ends passes tells asked g journal status noted old (at on new.told new.counts new.armed new.power) taken takes was are calls from before turns ended good asks has printed

@@ -4,7 +4,7 @@ use Rattle.std.proofs.lemmas.Bool.{false≢true}
 use Rattle.flash_core.specs.Told.{Told, NothingDirty}
 use Rattle.fwu_model.specs.Calm.{IsAtRest, IsGuarded}
 use Rattle.flash_core.specs.May.{Guards}
-use Rattle.script_cmd.specs.Powered.{Moment, IsSafe}
+use Rattle.script_turns.specs.Powered.{Moment, IsSafe}
 use Rattle.script_cmd.specs.Ways.{starved, refused, ran}
 use Rattle.script_cmd.specs.Promises.{WaysGuard}
 use Rattle.script_cmd.proofs.ShowFlash.{clean-sure}
@@ -27,5 +27,5 @@ safe-guarded true t safe = (safe.guarded, (λ power. safe))
 pub ways-guard : WaysGuard
 ways-guard passes tells asked g journal status noted old new taken takes was are (starved empty same nine quiet stuck) told clean guards = none-guarded old new same clean guards
 ways-guard passes tells asked g journal status noted old new taken takes was are (refused planned line empty same why prints) told clean guards = none-guarded old new same clean guards
-ways-guard passes tells asked g journal status noted old new taken takes was are (ran calls on good asks has turns ended printed) told clean guards =
+ways-guard passes tells asked g journal status noted old new taken takes was are (ran calls on from good asks has before turns ended printed) told clean guards =
     safe-guarded new.power new.told (turns.safe told clean guards)

@@ -6,7 +6,8 @@ use Rattle.base_core.specs.Block.{block}
 use Rattle.flash_core.specs.Told.{Told}
 use Rattle.flash_core.specs.declared.flash.Counts.{Counts}
 use Rattle.fwu_formats.specs.Layout.{fits_layout}
-use Rattle.fwu_model.specs.State.{State, Numbers}
+use Rattle.fwu_model.specs.State.{State}
+use Rattle.agent_machine.specs.Fields.{Fields}
 use Rattle.fwu_model.specs.Sound.{Setting, Sound}
 use Rattle.fwu_model.specs.Seen.{SoundFlash}
 use Rattle.fwu_model.specs.Call.{Call}
@@ -22,7 +23,7 @@ use Rattle.fwu_model.proofs.Selects.{runs-select}
 use Rattle.fwu_formats.proofs.Read.{layout-fits}
 use Rattle.fwu_words.specs.Order.{Asked}
 use Rattle.script_cmd.specs.Asking.{plainly}
-use Rattle.script_cmd.specs.Powered.{Moment, Shows, at}
+use Rattle.script_turns.specs.Powered.{Moment, Shows, at}
 use Rattle.script_cmd.specs.Running.{Ran, Ended, StartsSound}
 use Rattle.script_cmd.specs.Ways.{HasCalls, starved, refused, ran}
 use Rattle.script_cmd.specs.Promises.{given_to, HeadlineHolds, WaysKeepTheHeadline}
@@ -45,9 +46,9 @@ fits : (E : Setting) (t : Told) → SoundFlash E t.now → IsTrue (fits_layout E
 fits E t sound = layout-fits (block 0 t.now) (length t.now / 4096) E.layout sound.layout
 
 -- what the flash of a run may show after a loss
-left-by : (E : Setting) (c : Condition) (on : Option Numbers) (t : Told) → Shows E c on t → LeavesOneOf E c.candidates t
+left-by : (E : Setting) (c : Condition) (on : Option Fields) (t : Told) → Shows E c on t → LeavesOneOf E c.candidates t
 left-by E c None t shows = shows.1
-left-by E c (Some n) t (s, b, one, session, ready, numbers) = subst (λ (states : List State). LeavesOneOf E states t) (sym one) (calm-stays E t s ready.calm)
+left-by E c (Some f) t shows = subst (λ (states : List State). LeavesOneOf E states t) (sym shows.one) (calm-stays E t shows.state shows.ready.calm)
 
 module _ (passes : List ℕ → Bool) (tells : Bool) (asked : Option Asked) (files : Option (List ℕ → Option (List ℕ))) (source : Option (List ℕ)) (status : ℕ) (old : Moment) where
   -- ---- nothing ran
@@ -70,12 +71,12 @@ module _ (passes : List ℕ → Bool) (tells : Bool) (asked : Option Asked) (fil
 
   -- ---- turns ran
 
-  ran-keeps : (journal : List Turn) (noted : Note) (new : Moment) (mine : List Call) (on : Option Numbers) → HasCalls (script_asked (plainly asked) source) mine
-      → Ran passes tells journal old (at on new.told new.counts new.armed new.power) → Ended mine journal status noted → HeadlineHolds passes tells asked files source journal status old new
-  ran-keeps journal noted new mine on has turns ended told E start calls given asks =
+  ran-keeps : (journal : List Turn) (noted : Note) (new : Moment) (mine : List Call) (on : Option Fields) (from to : ℕ) → HasCalls (script_asked (plainly asked) source) mine
+      → Ran passes tells files journal old (at on new.told new.counts new.armed new.power) from to → Ended mine journal status noted → HeadlineHolds passes tells asked files source journal status old new
+  ran-keeps journal noted new mine on from to has turns ended told E start calls given asks =
       let same : mine ≡ calls = asked-calls (plainly asked) source calls mine asks has in
       let starts : StartsSound E start passes old = record { clean = given.clean; sound = given.sound; shows = given.shows; guarded = given.guarded; passes_are = sym given.verifier_is } in
-      let to = turns.run told E start starts given.no_chance in
+      let to = turns.run told E start starts given.files_told given.no_chance in
       let sound = sound-start E start old.told files passes old.counts new.counts given in
       record {
         calls = (ended.calls.0, ended.calls.1 ∙ same);
@@ -95,5 +96,5 @@ ways-keep-the-headline passes tells asked list files source journal status noted
     (λ e.
     let whole : IsFalse (may_lack status) = subst (λ (k : ℕ). IsFalse (may_lack k)) (sym e) refl in
     (why-planned asked (given_to asked list files source) was are planned noted line why).1 (sym (printed-plan line planned status taken takes was.sink are.sink prints whole) ∙ e))
-ways-keep-the-headline passes tells asked list files source journal status noted old new taken takes was are (ran calls on good asks has turns ended printed) =
-    ran-keeps passes tells asked files source status old journal noted new calls on has turns ended
+ways-keep-the-headline passes tells asked list files source journal status noted old new taken takes was are (ran calls on from good asks has before turns ended printed) =
+    ran-keeps passes tells asked files source status old journal noted new calls on from are.files has turns ended

@@ -1,7 +1,6 @@
 -- What a run behind a partition table promises, whichever way it ends.
 use Rattle.std.proofs.Common.{◌≡◌, ◌≢◌, ◌⊎◌, inl, inr, ℕ, ◌≤◌, Bool, List, [], Option, Some, None, Ok, sym, ap, subst, ◌∙◌, arith}
-use Rattle.std.specs.Prelude.{IsTrue, IsFalse}
-use Rattle.std.proofs.lemmas.Bool.{cases_Bool}
+use Rattle.std.specs.Prelude.{IsTrue}
 use Rattle.flash_core.specs.Counts.{Rose}
 use Rattle.flash_core.specs.Told.{Told, NothingDirty}
 use Rattle.gpt_core.specs.declared.layout.Places.{Places}
@@ -20,21 +19,20 @@ use Rattle.fwu_model.specs.Reply.{Turn}
 use Rattle.fwu_model.specs.Causes.{Faults, IsServed}
 use Rattle.fwu_model.specs.Contract.{Premises}
 use Rattle.fwu_model.specs.Headline.{Headline, made_after}
-use Rattle.fwu_model.specs.Wrote.{may_lack}
 use Rattle.host_io.specs.Contents.{Directory}
 use Rattle.fwu_words.specs.Order.{Asked}
 use Rattle.script_cmd.specs.declared.done.Note.{Note}
 use Rattle.script_cmd.specs.Asking.{plainly}
 use Rattle.script_cmd.specs.ByTable.{Starts, StopsMending, Wakes, lacked_by, lacked_in, lacked_of, seen_at}
 use Rattle.script_cmd.specs.Noted.{noted}
-use Rattle.script_cmd.specs.Powered.{Moment}
+use Rattle.script_turns.specs.Powered.{Moment}
 use Rattle.script_cmd.specs.Promises.{given_to, outcome}
 use Rattle.script_cmd.specs.PromisesByTable.{CompleteByTable, HeadlineByTable, KeepsFlash, KeptByTable, PromisedByTable, RunsByTable, TableGives}
-use Rattle.script_cmd.specs.Running.{Ended, last_turn, status_of_last}
 use Rattle.script_cmd.specs.Ways.{Way}
 use Rattle.script_cmd.specs.Ways as way
 use Rattle.script_cmd.specs.WaysByTable.{WayByTable, untouched, starved, lacked, stopped, ran}
 use Rattle.script_cmd.proofs.PromiseAll.{promised}
+use Rattle.script_cmd.proofs.PromiseTurns.{none-ended}
 use Rattle.script_cmd.proofs.PromiseComplete.{ways-are-complete}
 use Rattle.script_cmd.proofs.TableOpens.{woken-clean, woken-now, woken-same}
 use Rattle.script_cmd.proofs.RunTurns.{rose-before}
@@ -72,14 +70,14 @@ module _ (passes : List ℕ → Bool) (tells : Bool) (blocks : ℕ) (asked : Opt
   runs-by-table (starved calls reads none looks nine is quiet) began = absurd (not-begun began none (λ zero_is. absurd (omega arith)))
   runs-by-table (lacked calls why reads none looks lacks is prints) began = absurd (not-begun began none (not-nothing _ 10 status taken takes was.sink are.sink (λ ten. absurd (omega arith)) prints))
   runs-by-table (stopped calls reads none stops is prints) began = absurd (not-begun began none (not-nothing _ 5 status taken takes was.sink are.sink (λ five. absurd (omega arith)) prints))
-  runs-by-table (ran calls p start on reads starts does beside ended beyond printed) began = record {
+  runs-by-table (ran calls p start on from reads starts before does beside ended beyond printed) began = record {
     places = p;
     start = start;
     starts = starts;
     beside = beside;
     seen = start-seen p start starts;
     promises = promised passes tells asked list files source journal status (noted said) (seen_at p start) (seen_at p new) taken takes was are
-        (way.ran calls on reads.good reads.asks reads.has does ended printed);
+        (way.ran calls on from reads.good reads.asks reads.has before does ended printed);
   }
 
   -- the places of the run are those of the table that was handed in
@@ -141,19 +139,12 @@ module _ (passes : List ℕ → Bool) (tells : Bool) (blocks : ℕ) (asked : Opt
     no_sink_fault = served.no_sink_fault;
   }
 
-  -- without a turn the turns of a script end with 0
-  none-ended : (calls : List Call) → journal ≡ [] → status ≢ 0 → Ended calls journal status (noted said) → ⊥
-  none-ended calls none other ended = elim (cases_Bool (may_lack status)) [
-    | inl lacks ↦ ended.some lacks none
-    | inr whole ↦ other (ended.status_is whole ∙ ap (λ (j : List Turn). status_of_last (last_turn j)) none)
-  ]
-
   -- a way on which nothing was touched, seen through places
   untouched-seen : (p : Places) → status ≢ 0 → journal ≡ [] → Way passes tells asked (given_to asked list files source) journal status (noted said) old new taken takes was are
       → Way passes tells asked (given_to asked list files source) journal status (noted said) (seen_at p old) (seen_at p new) taken takes was are
   untouched-seen p other none (way.starved empty same nine quiet same_bytes) = way.starved empty (ap (seen_at p) same) nine quiet same_bytes
   untouched-seen p other none (way.refused planned line empty same why prints) = way.refused planned line empty (ap (seen_at p) same) why prints
-  untouched-seen p other none (way.ran calls on good asks has does ended printed) = absurd (none-ended calls none other ended)
+  untouched-seen p other none (way.ran calls on from good asks has before does ended printed) = absurd (none-ended calls journal status (noted said) none other ended)
 
   gives-all : (image : List ℕ) (p : Places) → TableGives blocks image p → lacked_in blocks image ≡ None
   gives-all image p gives = ap (lacked_of blocks) gives.decides ∙ ap lacked_by gives.gives
@@ -171,9 +162,9 @@ module _ (passes : List ℕ → Bool) (tells : Bool) (blocks : ℕ) (asked : Opt
       caused : Rose old.counts.faults new.counts.faults ⊎ Rose old.counts.cuts new.counts.cuts → ⊥
       caused (inl fault) = served.no_fault fault
       caused (inr cut) = no_cut none cut
-  complete-by-table (ran calls q start on reads starts does beside ended beyond printed) told p E s asked_calls script clean gives premises asks is served no_cut =
+  complete-by-table (ran calls q start on from reads starts before does beside ended beyond printed) told p E s asked_calls script clean gives premises asks is served no_cut =
       (promised passes tells asked list files source journal status (noted said) (seen_at q start) (seen_at q new) taken takes was are
-      (way.ran calls on reads.good reads.asks reads.has does ended printed)).complete told E s asked_calls script
+      (way.ran calls on from reads.good reads.asks reads.has before does ended printed)).complete told E s asked_calls script
       (start-premises told clean p q start starts gives E s premises) asks is (served-from asked_calls p q start script starts.waits.falls.faults served)
 
   -- ---- where no turn ran
@@ -211,7 +202,7 @@ module _ (passes : List ℕ → Bool) (tells : Bool) (blocks : ℕ) (asked : Opt
   kept-by-table (starved calls reads none looks nine quiet same) told p clean gives empty some = kept-woken p clean gives new.told (looks.wakes told)
   kept-by-table (lacked calls why reads none looks lacks noted_is prints) told p clean gives empty some = kept-woken p clean gives new.told (looks.wakes told)
   kept-by-table (stopped calls reads none stops noted_is prints) told p clean gives empty some = kept-stopped p clean gives stops.woken (stops.wakes told) (stops.left told)
-  kept-by-table (ran calls q start on reads starts does beside ended beyond printed) told p clean gives empty some = absurd (none-ended calls empty some ended)
+  kept-by-table (ran calls q start on from reads starts before does beside ended beyond printed) told p clean gives empty some = absurd (none-ended calls journal status (noted said) empty some ended)
 
   pub promised-by-table : Ends → PromisedByTable passes tells blocks asked list files source journal status said old new taken takes was are
   promised-by-table w = record {

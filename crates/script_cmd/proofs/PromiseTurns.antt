@@ -1,5 +1,5 @@
 -- The last turn of a run, and the statuses that a run of turns and a run that did nothing end with.
-use Rattle.std.proofs.Common.{◌≡◌, ◌≢◌, ℕ, suc, ◌-◌, Bool, ◌||◌, ◌==◌, List, [], ◌∷◌, length, Option, Some, None, slice_get, Contains, refl, sym, ap, subst, ◌∙◌, arith, inl, inr, ◌⊎◌, IsTrue, IsFalse, IfSome, eqb-true}
+use Rattle.std.proofs.Common.{◌≡◌, ◌≢◌, ℕ, suc, ◌-◌, Bool, ◌||◌, ◌==◌, List, [], ◌∷◌, length, Option, Some, None, slice_get, refl, sym, ap, subst, ◌∙◌, arith, inl, inr, ◌⊎◌, IsTrue, IsFalse, IfSome, eqb-true}
 use Rattle.std.proofs.lemmas.Bool.{cases_Bool, or_cases, false≢true}
 use Rattle.base_core.specs.Counts.{Rose}
 use Rattle.fwu_model.specs.Reply.{Reply, Turn}
@@ -20,25 +20,20 @@ last-get (t ∷ u ∷ turns) =
     let e : length (t ∷ u ∷ turns) - 1 ≡ suc (length (u ∷ turns) - 1) = omega arith in
     ap (slice_get (t ∷ u ∷ turns)) e ∙ last-get (u ∷ turns)
 
-pub last-contained : (journal : List Turn) (t : Turn) → last_turn journal ≡ Some t → Contains journal t
-last-contained [] t is = absurd (cc)
-last-contained (t ∷ []) u is = (0, omega arith, cc)
-last-contained (t ∷ v ∷ turns) u is = let h = last-contained (v ∷ turns) u is in (suc h.0, omega (arith, h.1), h.2)
-
 -- ---- the statuses of turns
 
 abbrev pub is_ran : ℕ → Bool
-is_ran status = (status == 0) || (status == 3) || (status == 5) || (status == 6) || (status == 9)
+is_ran status = (status == 0) || (status == 2) || (status == 3) || (status == 5) || (status == 6) || (status == 9)
 
 -- a status of another number is none of them
 pub ran-at : (status k : ℕ) → IsTrue (is_ran status) → status ≡ k → IsTrue (is_ran k)
 ran-at status k is same = subst (λ (n : ℕ). IsTrue (is_ran n)) same is
 
-reply-status : (r : Reply) → r ≢ reply.ReadFault → IsTrue (is_ran (status_by r))
-reply-status reply.ReadFault reads = absurd (reads refl)
-reply-status reply.Fault reads = refl
-reply-status (reply.NotBooted why) reads = refl
-reply-status other reads = refl
+reply-status : (r : Reply) → IsTrue (is_ran (status_by r))
+reply-status reply.ReadFault = refl
+reply-status reply.Fault = refl
+reply-status (reply.NotBooted why) = refl
+reply-status other = refl
 
 pub lack-cases : (status : ℕ) → IsTrue (may_lack status) → (status ≡ 3) ⊎ (status ≡ 9)
 lack-cases status lacks = elim (or_cases (status == 3) (status == 9) lacks) [
@@ -46,8 +41,8 @@ lack-cases status lacks = elim (or_cases (status == 3) (status == 9) lacks) [
   | inr e ↦ inr (eqb-true status 9 e)
 ]
 
-pub ran-status : (script : List Call) (journal : List Turn) (status : ℕ) (noted : Note) → ((t : Turn) → Contains journal t → t.reply ≢ reply.ReadFault) → Ended script journal status noted → IsTrue (is_ran status)
-ran-status script journal status noted reads ended =
+pub ran-status : (script : List Call) (journal : List Turn) (status : ℕ) (noted : Note) → Ended script journal status noted → IsTrue (is_ran status)
+ran-status script journal status noted ended =
     elim (cases_Bool (may_lack status)) [
       | inl lacks ↦ elim (lack-cases status lacks) [
         | inl three ↦ subst (λ (k : ℕ). IsTrue (is_ran k)) (sym three) refl
@@ -58,7 +53,14 @@ ran-status script journal status noted reads ended =
   where
     by-last : (last : Option Turn) → last_turn journal ≡ last → status ≡ status_of_last last → IsTrue (is_ran status)
     by-last None is status_is = subst (λ (k : ℕ). IsTrue (is_ran k)) (sym status_is) refl
-    by-last (Some t) is status_is = subst (λ (k : ℕ). IsTrue (is_ran k)) (sym status_is) (reply-status t.reply (reads t (last-contained journal t is)))
+    by-last (Some t) is status_is = subst (λ (k : ℕ). IsTrue (is_ran k)) (sym status_is) (reply-status t.reply)
+
+-- without a turn the turns of a script end with 0
+pub none-ended : (script : List Call) (journal : List Turn) (status : ℕ) (noted : Note) → journal ≡ [] → status ≢ 0 → Ended script journal status noted → ⊥
+none-ended script journal status noted none other ended = elim (cases_Bool (may_lack status)) [
+  | inl lacks ↦ ended.some lacks none
+  | inr whole ↦ other (ended.status_is whole ∙ ap (λ (j : List Turn). status_of_last (last_turn j)) none)
+]
 
 -- they are none of those that end a run early
 pub early-not-ran : (status : ℕ) → IsTrue (ends_early status) → IsTrue (is_ran status) → ⊥

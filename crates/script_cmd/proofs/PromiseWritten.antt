@@ -16,7 +16,7 @@ use Rattle.script_cmd.specs.Printed.{Prints, all, front, nothing}
 use Rattle.script_cmd.specs.Running.{Writes}
 use Rattle.script_cmd.specs.Ways.{Given, Refuses, usage, not_read, list_not_read, too_long, bad_script, bad_list, starved, refused, ran}
 use Rattle.script_cmd.specs.Promises.{WroteHolds, WaysWrite}
-use Rattle.script_cmd.proofs.PromiseTurns.{is_ran, ran-at, ran-status, early-not-ran}
+use Rattle.script_cmd.proofs.PromiseTurns.{is_ran, none-ended, ran-at, ran-status, early-not-ran}
 
 appended : (old new : Option (List ℕ)) (piece before : List ℕ) → old ≡ Some before → Appends old new piece → new ≡ Some (before ++ piece)
 appended None new piece before is appends = absurd (cc)
@@ -26,12 +26,12 @@ appended (Some xs) (Some ys) piece before is appends = ap Some (appends ∙ ap (
 module _ (Alone : ℕ → Note → List ℕ → Type 0) (script list : Option (List ℕ)) (status : ℕ) (noted : Note) where
   -- ---- turns ran
 
-  wrote-turns : (journal : List Turn) (w : List ℕ) → IsTrue (is_ran status) → Writes journal status w → Wrote Alone script list status noted journal w
+  wrote-turns : (journal : List Turn) (w : List ℕ) → IsTrue (is_ran status) → (journal ≡ [] → status ≡ 2 → ⊥) → Writes journal status w → Wrote Alone script list status noted journal w
   unfolding text
-  wrote-turns journal w is writes = record {
+  wrote-turns journal w is begun writes = record {
     nothing_ran = λ early. absurd (early-not-ran status early is);
     usage = λ e. absurd (false≢true (ran-at status 1 is e));
-    not_read = λ e empty. absurd (false≢true (ran-at status 2 is e));
+    not_read = λ e empty. absurd (begun empty e);
     bad_script = λ e. absurd (false≢true (ran-at status 4 is e));
     too_long = λ e. absurd (false≢true (ran-at status 8 is e));
     bad_list = λ e. absurd (false≢true (ran-at status 13 is e));
@@ -115,6 +115,10 @@ ways-write passes tells asked g journal status noted old new taken takes was are
 )
 ways-write passes tells asked g journal status noted old new taken takes was are (refused planned line empty same why prints) before told =
     subst (λ (j : List Turn). WroteHolds asked g j status noted taken takes was are) (sym empty) (refused-writes asked g was are status planned noted line taken takes was.sink are.sink why prints) before told
-ways-write passes tells asked g journal status noted old new taken takes was are (ran calls on good asks has turns ended printed) before told =
-    let h = printed.bytes before told in
-    (h.0, h.1, wrote-turns (Refuses asked g was are) g.script (list_bytes g.list g.files) status noted journal h.0 (ran-status calls journal status noted turns.reads_no_file ended) h.2)
+ways-write passes tells asked g journal status noted old new taken takes was are (ran calls on from good asks has later turns ended printed) before told =
+    let h = printed.bytes before told in (
+      h.0,
+      h.1,
+      wrote-turns (Refuses asked g was are) g.script (list_bytes g.list g.files) status noted journal h.0 (ran-status calls journal status noted ended)
+          (λ empty two. none-ended calls journal status noted empty (λ zero_is. absurd (omega arith)) ended) h.2,
+    )

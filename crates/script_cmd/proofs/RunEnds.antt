@@ -10,6 +10,7 @@ use Rattle.std.proofs.lemmas.List.Folds.{list_any-append}
 use Rattle.std.proofs.lemmas.Grind.{flat_map-append}
 use Rattle.std.proofs.lemmas.Option.{same_Some, slice_get_within, get_or_from_slice_get}
 use Rattle.flash_core.specs.Counts.{Rose}
+use Rattle.host_io.specs.Contents.{Directory}
 use Rattle.fwu_model.specs.declared.kinds.Note.{Note}
 use Rattle.fwu_model.specs.declared.kinds.Note.TheVariants as note
 use Rattle.fwu_model.specs.Call.{Call}
@@ -19,7 +20,7 @@ use Rattle.fwu_model.specs.Run.{ends_run}
 use Rattle.fwu_model.specs.Text.{line, text, call_word, reply_text}
 use Rattle.fwu_model.specs.Wrote.{may_lack}
 use Rattle.fwu_model.specs.Causes.{status_by, note_by}
-use Rattle.script_cmd.specs.Powered.{Moment}
+use Rattle.script_turns.specs.Powered.{Moment}
 use Rattle.script_cmd.specs.Printed.{Prints, all, front, nothing}
 use Rattle.script_cmd.specs.Running.{Ran, Steps, Ended, Writes, Printed, calls_of, last_turn, status_of_last, note_of_last}
 use Rattle.script_cmd.proofs.RunTurns.{ran-none, ran-on, rose-before}
@@ -184,33 +185,39 @@ module _ (script : List Call) (n : ℕ) (c : Call) (journal : List Turn) (t : Tu
 
 -- ---- going on
 
+-- what a turn leaves with these files, with files that are told the same
+pub steps-told : (passes : List ℕ → Bool) (tells : Bool) (told files : Option Directory) (c : Call) (before after : List Turn) (old new : Moment) (from to : ℕ) (status : ℕ) (noted : Note) (taken takes : Option (List ℕ)) (was are : ℕ)
+    → told ≡ files → Steps passes tells told c before after old new from to status noted taken takes was are → Steps passes tells files c before after old new from to status noted taken takes was are
+steps-told passes tells told files c before after old new from to status noted taken takes was are same steps =
+    subst (λ (f : Option Directory). Steps passes tells f c before after old new from to status noted taken takes was are) same steps
+
 -- A run that goes on: the first n calls of its script were done, none of their turns ended it, and the sink took all lines.
-pub record GoesOn (passes : List ℕ → Bool) (tells : Bool) (script : List Call) (n : ℕ) (journal : List Turn) (old new : Moment) (taken takes : Option (List ℕ)) (was are : ℕ) : Type 0 where
-  pub ran : Ran passes tells journal old new
+pub record GoesOn (passes : List ℕ → Bool) (tells : Bool) (files : Option Directory) (script : List Call) (n : ℕ) (journal : List Turn) (old new : Moment) (from to : ℕ) (taken takes : Option (List ℕ)) (was are : ℕ) : Type 0 where
+  pub ran : Ran passes tells files journal old new from to
   pub calls : calls_of journal ≡ take n script
   pub on : IsFalse (list_any (λ (t : Turn). ends_run t.reply) journal)
   pub bytes : (before : List ℕ) → taken ≡ Some before → takes ≡ Some (before ++ text journal)
   pub later : was ≤ are
 
-module _ (passes : List ℕ → Bool) (tells : Bool) (script : List Call) (old : Moment) (taken : Option (List ℕ)) (was : ℕ) where
-  pub goes-none : old.on ≡ None → GoesOn passes tells script 0 [] old old taken taken was was
+module _ (passes : List ℕ → Bool) (tells : Bool) (files : Option Directory) (script : List Call) (old : Moment) (from : ℕ) (taken : Option (List ℕ)) (was : ℕ) where
+  pub goes-none : old.on ≡ None → GoesOn passes tells files script 0 [] old old from from taken taken was was
   unfolding text
   goes-none off = record {
-    ran = ran-none passes tells old off;
+    ran = ran-none passes tells files old from off;
     calls = refl;
     on = refl;
     bytes = λ before is. is ∙ ap Some (sym (append-nil before));
     later = omega arith;
   }
 
-  module _ (n : ℕ) (c : Call) (journal after : List Turn) (mid new : Moment) (status : ℕ) (noted : Note) (mids takes : Option (List ℕ)) (am are : ℕ) where
-    goes-push : old.on ≡ None → GoesOn passes tells script n journal old mid taken mids was am → slice_get script n ≡ Some c → (step : Steps passes tells c journal after mid new status noted mids takes am are) → status ≡ 0
-        → GoesOn passes tells script (n + 1) (journal ++ step.turn ∷ []) old new taken takes was are
+  module _ (n : ℕ) (c : Call) (journal after : List Turn) (mid new : Moment) (through to : ℕ) (status : ℕ) (noted : Note) (mids takes : Option (List ℕ)) (am are : ℕ) where
+    goes-push : old.on ≡ None → GoesOn passes tells files script n journal old mid from through taken mids was am → slice_get script n ≡ Some c → (step : Steps passes tells files c journal after mid new through to status noted mids takes am are) → status ≡ 0
+        → GoesOn passes tells files script (n + 1) (journal ++ step.turn ∷ []) old new from to taken takes was are
     goes-push off goes at step zero_is =
         let t = step.turn in
         let printed = printed-all (line t.call t.reply) (status_by t.reply) status mids takes am are step.prints (ap may_lack zero_is) in
         record {
-          ran = ran-on passes tells c t journal old mid new off goes.ran goes.on step.turns;
+          ran = ran-on passes tells files c t journal old mid new from through to off goes.ran goes.on step.turns;
           calls = calls-more script n c t journal goes.calls at step.turns.call_is;
           on = on-more journal t goes.on (on-at-zero t.reply (sym printed.0 ∙ zero_is));
           bytes = λ before is. more-bytes script n c journal t status noted taken mids takes was am are (line t.call t.reply) before (goes.bytes before is) printed.1
@@ -218,25 +225,25 @@ module _ (passes : List ℕ → Bool) (tells : Bool) (script : List Call) (old :
           later = let first = goes.later in let more = printed-later (line t.call t.reply) (status_by t.reply) status mids takes am are step.prints in omega arith;
         }
 
-    pub goes-on : old.on ≡ None → GoesOn passes tells script n journal old mid taken mids was am → slice_get script n ≡ Some c → Steps passes tells c journal after mid new status noted mids takes am are → status ≡ 0
-        → GoesOn passes tells script (n + 1) after old new taken takes was are
-    goes-on off goes at step zero_is = subst (λ (j : List Turn). GoesOn passes tells script (n + 1) j old new taken takes was are) (sym step.kept) (goes-push off goes at step zero_is)
+    pub goes-on : old.on ≡ None → GoesOn passes tells files script n journal old mid from through taken mids was am → slice_get script n ≡ Some c → Steps passes tells files c journal after mid new through to status noted mids takes am are → status ≡ 0
+        → GoesOn passes tells files script (n + 1) after old new from to taken takes was are
+    goes-on off goes at step zero_is = subst (λ (j : List Turn). GoesOn passes tells files script (n + 1) j old new from to taken takes was are) (sym step.kept) (goes-push off goes at step zero_is)
 
-    pub ends-ran : old.on ≡ None → GoesOn passes tells script n journal old mid taken mids was am → Steps passes tells c journal after mid new status noted mids takes am are → Ran passes tells after old new
-    ends-ran off goes step = subst (λ (j : List Turn). Ran passes tells j old new) (sym step.kept) (ran-on passes tells c step.turn journal old mid new off goes.ran goes.on step.turns)
+    pub ends-ran : old.on ≡ None → GoesOn passes tells files script n journal old mid from through taken mids was am → Steps passes tells files c journal after mid new through to status noted mids takes am are → Ran passes tells files after old new from to
+    ends-ran off goes step = subst (λ (j : List Turn). Ran passes tells files j old new from to) (sym step.kept) (ran-on passes tells files c step.turn journal old mid new from through to off goes.ran goes.on step.turns)
 
-    pub ends-by : GoesOn passes tells script n journal old mid taken mids was am → slice_get script n ≡ Some c → Steps passes tells c journal after mid new status noted mids takes am are → status ≢ 0 → Ended script after status noted
+    pub ends-by : GoesOn passes tells files script n journal old mid from through taken mids was am → slice_get script n ≡ Some c → Steps passes tells files c journal after mid new through to status noted mids takes am are → status ≢ 0 → Ended script after status noted
     ends-by goes at step other =
         subst (λ (j : List Turn). Ended script j status noted) (sym step.kept)
         (ended-by script n c journal step.turn status noted taken mids takes was am are goes.calls at step.turns.call_is step.prints step.noted_is other)
 
-    pub ends-printed : GoesOn passes tells script n journal old mid taken mids was am → Steps passes tells c journal after mid new status noted mids takes am are → Printed after status taken takes was are
+    pub ends-printed : GoesOn passes tells files script n journal old mid from through taken mids was am → Steps passes tells files c journal after mid new through to status noted mids takes am are → Printed after status taken takes was are
     ends-printed goes step =
         subst (λ (j : List Turn). Printed j status taken takes was are) (sym step.kept)
         (printed-by script n c journal step.turn status noted taken mids takes was am are goes.bytes goes.later step.prints)
 
-  module _ (journal : List Turn) (new : Moment) (takes : Option (List ℕ)) (are : ℕ) where
-    pub all-ended : GoesOn passes tells script (length script) journal old new taken takes was are → Ended script journal 0 note.Nothing
+  module _ (journal : List Turn) (new : Moment) (to : ℕ) (takes : Option (List ℕ)) (are : ℕ) where
+    pub all-ended : GoesOn passes tells files script (length script) journal old new from to taken takes was are → Ended script journal 0 note.Nothing
     all-ended goes =
         let last = last-on journal goes.on in
         let calls : calls_of journal ≡ script = goes.calls ∙ take-length script in
@@ -248,7 +255,7 @@ module _ (passes : List ℕ → Bool) (tells : Bool) (script : List Call) (old :
           some = λ lacks. absurd (false≢true lacks);
         }
 
-    pub all-printed : GoesOn passes tells script (length script) journal old new taken takes was are → Printed journal 0 taken takes was are
+    pub all-printed : GoesOn passes tells files script (length script) journal old new from to taken takes was are → Printed journal 0 taken takes was are
     all-printed goes = record {
       bytes = λ before is. (
         text journal,

@@ -11,7 +11,8 @@ use Rattle.flash_core.specs.declared.flash.Arming.{Arming}
 use Rattle.flash_core.specs.declared.flash.Counts.{Counts}
 use Rattle.flash_core.specs.Told.{Told, NothingDirty, fresh, is_unsure}
 use Rattle.flash_core.specs.May.{Guards, Quiet}
-use Rattle.fwu_model.specs.State.{State, Numbers}
+use Rattle.host_io.specs.Contents.{Directory}
+use Rattle.fwu_model.specs.State.{State}
 use Rattle.fwu_model.specs.Sound.{Setting}
 use Rattle.fwu_model.specs.Call.{Call}
 use Rattle.fwu_model.specs.Call as call
@@ -20,14 +21,15 @@ use Rattle.fwu_model.specs.Reply as reply
 use Rattle.fwu_model.specs.Calm.{IsGuarded}
 use Rattle.fwu_model.specs.Run.{Condition, start_of, arming_after, ends_run, Step, Answered, Idle, Stopped, StoppedEarly}
 use Rattle.fwu_model.specs.Headline.{ArmedBy, IsCut, made_after}
-use Rattle.fwu_model.specs.Causes.{LossesAreCounted, cuts_in, greatest, is_cut, is_lost}
+use Rattle.fwu_model.specs.Causes.{FileNotRead, LossesAreCounted, cuts_in, greatest, is_cut, is_lost}
 use Rattle.fwu_model.proofs.Runs.{runs-grow}
 use Rattle.fwu_model.proofs.Frame.{calm-stays, start-is-calm}
-use Rattle.script_cmd.specs.Booted.{BootsFrom}
-use Rattle.script_cmd.specs.Powered.{Moment, IsSafe, Shows}
-use Rattle.script_cmd.specs.Replies.{Follows, Replies, power_after, power_left}
-use Rattle.script_cmd.specs.Turning.{Makes, NoneFalls, Turns}
-use Rattle.script_cmd.specs.Running.{Ran, RunsTo}
+use Rattle.script_turns.specs.Booted.{BootsFrom}
+use Rattle.agent_machine.specs.Fields.{Fields}
+use Rattle.script_turns.specs.Powered.{Moment, IsSafe, Shows}
+use Rattle.script_turns.specs.Replies.{power_after}
+use Rattle.script_turns.specs.Turning.{Makes, NoneFalls, Turns}
+use Rattle.script_cmd.specs.Running.{Follows, Ran, RunsTo, power_left}
 
 -- ---- the places of a list with one element more
 
@@ -159,32 +161,46 @@ power-more : (power : Bool) (journal : List Turn) (t : Turn) → power_left powe
 power-more power [] t = refl
 power-more power (u ∷ turns) t = power-more (power_after power u.reply) turns t
 
--- ---- the replies
+-- ---- the files
 
-follows-on : (journal : List Turn) (t : Turn) (was mid on : Option Numbers) → Follows was journal mid → Replies t.call mid t.reply on → Follows was (journal ++ t ∷ []) on
-follows-on [] t was mid on same replied = (on, subst (λ (o : Option Numbers). Replies t.call o t.reply on) same replied, refl)
-follows-on (u ∷ turns) t was mid on (next, first, rest) replied = (next, first, follows-on turns t next mid on rest replied)
+-- a file that was not read between two counts was not read between counts around them
+pub not-read-around : (files : Option Directory) (low was are high : ℕ) (c : Call) → low ≤ was → are ≤ high → FileNotRead files was are c → FileNotRead files low high c
+not-read-around files low was are high (call.Send name request) before after (inl rose) = inl (rose-before low was high before (rose-after was are high after rose))
+not-read-around files low was are high (call.Send name request) before after (inr lacks) = inr lacks
+not-read-around files low was are high other before after not_read = absurd not_read
 
 -- ---- the whole
 
-module _ (passes : List ℕ → Bool) (tells : Bool) where
-  pub ran-none : (old : Moment) → old.on ≡ None → Ran passes tells [] old old
-  ran-none old off = record {
+module _ (passes : List ℕ → Bool) (tells : Bool) (files : Option Directory) where
+  -- what a turn does, behind what those before it did
+  follows-on : (journal : List Turn) (t : Turn) (old mid new : Moment) (from through to : ℕ) → Follows passes tells files journal old mid from through → Turns passes tells files t.call t mid new through to
+      → Follows passes tells files (journal ++ t ∷ []) old new from to
+  follows-on [] t old mid new from through to (same, none) turned = (
+    new,
+    to,
+    subst (λ (m : Moment). Turns passes tells files t.call t m new from to) same (subst (λ (k : ℕ). Turns passes tells files t.call t mid new k to) none turned),
+    (refl, refl),
+  )
+  follows-on (u ∷ turns) t old mid new from through to (next, k, first, rest) turned = (next, k, first, follows-on turns t next mid new k through to rest turned)
+
+  pub ran-none : (old : Moment) (from : ℕ) → old.on ≡ None → Ran passes tells files [] old old from from
+  ran-none old from off = record {
     counts = falls-same old.counts;
     lost_turns = inl (omega arith);
     fault_turns = λ t in_it is. absurd (no-turn t in_it);
-    reads_no_file = λ t in_it is. no-turn t in_it;
-    replies = refl;
+    unread_turns = λ t in_it is. absurd (no-turn t in_it);
+    later = omega arith;
+    follows = (refl, refl);
     made = refl;
     power = refl;
     guard = λ told. refl;
     ends = λ n t is ends. absurd (cc);
-    run = λ told E start sound no_chance. record {
+    run = λ told E start sound files_are no_chance. record {
       last = start_of start;
       runs = refl;
       is_at = record {
         guard = sound.guarded;
-        shows = subst (λ (on : Option Numbers). Shows E (start_of start) on old.told) (sym off)
+        shows = subst (λ (on : Option Fields). Shows E (start_of start) on old.told) (sym off)
             (refl, calm-stays E old.told start (start-is-calm E old.told start sound.clean sound.sound sound.shows));
       };
       armed = record { made = refl; last = tt };
@@ -197,10 +213,10 @@ module _ (passes : List ℕ → Bool) (tells : Bool) where
       no-turn : (t : Turn) → Contains [] t → ⊥
       no-turn t (k, below, is) = omega arith
 
-  run-on : (E : Setting) (start : State) (c : Call) (t : Turn) (journal : List Turn) (old mid new : Moment) → IsTrue tells → E.passes ≡ passes → NoneFalls old.counts mid.counts
-      → IsFalse (list_any (λ (x : Turn). ends_run x.reply) journal) → Turns passes tells c t mid new → (Rose mid.counts.chances new.counts.chances → ⊥) → RunsTo E start journal old mid → RunsTo E start (journal ++ t ∷ []) old new
-  run-on E start c t journal old mid new told passes_are falls none turned no_chance was =
-      let step = turned.step told E was.last passes_are was.is_at no_chance in
+  run-on : (E : Setting) (start : State) (c : Call) (t : Turn) (journal : List Turn) (old mid new : Moment) (through to : ℕ) → IsTrue tells → E.passes ≡ passes → files ≡ Some E.files → NoneFalls old.counts mid.counts
+      → IsFalse (list_any (λ (x : Turn). ends_run x.reply) journal) → Turns passes tells files c t mid new through to → (Rose mid.counts.chances new.counts.chances → ⊥) → RunsTo E start journal old mid → RunsTo E start (journal ++ t ∷ []) old new
+  run-on E start c t journal old mid new through to told passes_are files_are falls none turned no_chance was =
+      let step = turned.step told E was.last passes_are files_are was.is_at no_chance in
       record {
         last = step.0;
         runs = runs-grow E start journal was.last step.0 t was.runs none step.1;
@@ -209,14 +225,15 @@ module _ (passes : List ℕ → Bool) (tells : Bool) where
             (subst (λ (x : Call). Makes x mid.counts.made new.counts.made) (sym turned.call_is) turned.made) turned.armed;
       }
 
-  first-on : (c : Call) (t : Turn) (journal : List Turn) (old mid new : Moment) → old.on ≡ None → Ran passes tells journal old mid → Turns passes tells c t mid new
+  first-on : (c : Call) (t : Turn) (journal : List Turn) (old mid new : Moment) (from through to : ℕ) → old.on ≡ None → Ran passes tells files journal old mid from through
+      → Turns passes tells files c t mid new through to
       → IsTrue tells → NothingDirty old.told → (u : Turn) → slice_get (journal ++ t ∷ []) 0 ≡ Some u → u.call ≡ call.Boot → BootsFrom passes old.told.now u.reply
-  first-on c t [] old mid new off ran turned told clean u is boots =
+  first-on c t [] old mid new from through to off ran turned told clean u is boots =
       let same = ran.untouched refl in
       let turn_is = same_Some t u is in
       let first = turned.boots told (ap (λ (x : Moment). x.on) same ∙ off) (subst (λ (x : Moment). NothingDirty x.told) (sym same) clean) (sym turned.call_is ∙ ap (λ (x : Turn). x.call) turn_is ∙ boots) in
       subst (λ (x : Turn). BootsFrom passes old.told.now x.reply) turn_is (subst (λ (x : Moment). BootsFrom passes x.told.now t.reply) same first)
-  first-on c t (x ∷ xs) old mid new off ran turned told clean u is boots = ran.first told clean u is boots
+  first-on c t (x ∷ xs) old mid new from through to off ran turned told clean u is boots = ran.first told clean u is boots
 
   ends-on : (t : Turn) (journal : List Turn) → IsFalse (list_any (λ (x : Turn). ends_run x.reply) journal) → (n : ℕ) (u : Turn) → slice_get (journal ++ t ∷ []) n ≡ Some u → IsTrue (ends_run u.reply)
       → n + 1 ≡ length (journal ++ t ∷ [])
@@ -228,31 +245,33 @@ module _ (passes : List ℕ → Bool) (tells : Bool) where
         | inr behind ↦ omega (arith, len, below)
       ]
 
-  pub ran-on : (c : Call) (t : Turn) (journal : List Turn) (old mid new : Moment) → old.on ≡ None → Ran passes tells journal old mid → IsFalse (list_any (λ (x : Turn). ends_run x.reply) journal)
-      → Turns passes tells c t mid new → Ran passes tells (journal ++ t ∷ []) old new
-  ran-on c t journal old mid new off ran none turned = record {
+  pub ran-on : (c : Call) (t : Turn) (journal : List Turn) (old mid new : Moment) (from through to : ℕ) → old.on ≡ None → Ran passes tells files journal old mid from through
+      → IsFalse (list_any (λ (x : Turn). ends_run x.reply) journal) → Turns passes tells files c t mid new through to → Ran passes tells files (journal ++ t ∷ []) old new from to
+  ran-on c t journal old mid new from through to off ran none turned = record {
     counts = falls-on old.counts mid.counts new.counts ran.counts turned.counts;
     lost_turns = losses-on t journal old.counts mid.counts new.counts turned.counts turned.lost ran.lost_turns;
     fault_turns = λ u in_it is. elim (Contains-push_cases journal t u in_it) [
       | inl before ↦ rose-after old.counts.faults mid.counts.faults new.counts.faults turned.counts.faults (ran.fault_turns u before is)
       | inr last ↦ rose-before old.counts.faults mid.counts.faults new.counts.faults ran.counts.faults (turned.failed (ap (λ (x : Turn). x.reply) last ∙ is))
     ];
-    reads_no_file = λ u in_it is. elim (Contains-push_cases journal t u in_it) [
-      | inl before ↦ ran.reads_no_file u before is
-      | inr last ↦ turned.reads_no_file (ap (λ (x : Turn). x.reply) last ∙ is)
+    unread_turns = λ u in_it is. elim (Contains-push_cases journal t u in_it) [
+      | inl before ↦ not-read-around files from from through to u.call (omega arith) turned.later (ran.unread_turns u before is)
+      | inr last ↦ subst (λ (x : Call). FileNotRead files from to x) (sym turned.call_is ∙ ap (λ (x : Turn). x.call) last)
+          (not-read-around files from through to to c ran.later (omega arith) (turned.unread (ap (λ (x : Turn). x.reply) last ∙ is)))
     ];
+    later = let first = ran.later in let more = turned.later in omega arith;
     made = subst (λ (n : ℕ). new.counts.made ≡ made_after old.counts.made n) (sym (cuts-more journal t))
         (made-by (cuts_in journal) old.counts.made mid.counts.made new.counts.made t.call (subst (λ (x : Call). Makes x mid.counts.made new.counts.made) (sym turned.call_is) turned.made) ran.made);
     power = turned.power ∙ ap (λ (b : Bool). power_after b t.reply) ran.power ∙ sym (power-more old.power journal t);
     guard = λ told. turned.guard told ∙ ran.guard told;
-    replies = follows-on journal t old.on mid.on new.on ran.replies (subst (λ (x : Call). Replies x mid.on t.reply new.on) (sym turned.call_is) turned.replies);
+    follows = follows-on journal t old mid new from through to ran.follows (subst (λ (x : Call). Turns passes tells files x t mid new through to) (sym turned.call_is) turned);
     ends = ends-on t journal none;
-    run = λ told E start sound no_chance.
-        run-on E start c t journal old mid new told sound.passes_are ran.counts none turned (λ rose. no_chance (rose-before old.counts.chances mid.counts.chances new.counts.chances ran.counts.chances rose))
-        (ran.run told E start sound (λ rose. no_chance (rose-after old.counts.chances mid.counts.chances new.counts.chances turned.counts.chances rose)));
+    run = λ told E start sound files_are no_chance.
+        run-on E start c t journal old mid new through to told sound.passes_are files_are ran.counts none turned (λ rose. no_chance (rose-before old.counts.chances mid.counts.chances new.counts.chances ran.counts.chances rose))
+        (ran.run told E start sound files_are (λ rose. no_chance (rose-after old.counts.chances mid.counts.chances new.counts.chances turned.counts.chances rose)));
     safe = λ told clean guard. turned.safe told (ran.safe told clean guard);
     untouched = λ empty. absurd (some journal empty);
-    first = first-on c t journal old mid new off ran turned;
+    first = first-on c t journal old mid new from through to off ran turned;
   }
     where
       some : (xs : List Turn) → xs ++ t ∷ [] ≡ [] → ⊥

@@ -8,7 +8,7 @@ use Rattle.flash_core.specs.declared.flash.Counts.{Counts}
 use Rattle.flash_core.specs.declared.flash.FlashStop.{FlashStop}
 use Rattle.flash_core.specs.declared.flash.FlashStop.TheVariants as flash_stop
 use Rattle.fwu_model.specs.declared.kinds.Note.TheVariants as note
-use Rattle.script_cmd.specs.Turning.{NoneFalls}
+use Rattle.script_turns.specs.Turning.{NoneFalls}
 use Rattle.fwu_model.specs.declared.kinds.Note.{Note}
 use Rattle.fwu_model.specs.declared.kinds.NoBoot.{NoBoot}
 use Rattle.script_cmd.specs.Showing as show

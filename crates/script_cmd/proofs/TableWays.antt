@@ -13,15 +13,15 @@ use Rattle.script_cmd.specs.declared.done.Note.{Note}
 use Rattle.script_cmd.specs.declared.done.Note.TheVariants as note
 use Rattle.script_cmd.specs.declared.done.NoTable.{NoTable}
 use Rattle.script_cmd.specs.Asking.{plainly}
-use Rattle.script_cmd.specs.ByTable.{Looks, StopsBefore, flash_fault_line, lacked_in, no_table_line}
+use Rattle.script_cmd.specs.ByTable.{Looks, StopsBefore, flash_fault_line, lacked_in, no_table_line, seen_at}
 use Rattle.script_cmd.specs.Noted.{is_beyond, noted}
-use Rattle.script_cmd.specs.Powered.{Moment}
+use Rattle.script_turns.specs.Powered.{Moment, at}
 use Rattle.script_cmd.specs.Printed.{Prints, all, front, nothing}
 use Rattle.script_cmd.specs.Running.{Printed}
-use Rattle.script_cmd.specs.Ways.{AsksTurns, Given, HasGoodList, Refuses, Way}
+use Rattle.script_cmd.specs.Ways.{Given, HasGoodList, Refuses}
 use Rattle.script_cmd.specs.Ways as way
 use Rattle.script_cmd.specs.WaysByTable.{ReadsScript, WayByTable, over_table, untouched, starved, lacked, stopped, ran}
-use Rattle.script_cmd.proofs.TopWays.{refused-by, with-list}
+use Rattle.script_cmd.proofs.TopWays.{ran-told, refused-by, with-list}
 
 pub not-nothing : (line : List ℕ) (planned status : ℕ) (taken takes : Option (List ℕ)) (was are : ℕ) → planned ≢ 0 → Prints line planned status taken takes was are → status ≢ 0
 not-nothing line planned status taken takes was are some (all is appends later) zero_is = some (sym is ∙ zero_is)
@@ -57,20 +57,22 @@ module _ (passes : List ℕ → Bool) (tells : Bool) (blocks : ℕ) (journal : L
   starved-way asked g was are mid calls reads none looks same nine is quiet = starved calls reads none (subst (Looks tells old) (sym same) looks) nine is quiet
 
   -- a way without a list is one behind a list that was read and is one
-  pub table-with-list : (asked : Option Asked) (told files : Option Directory) (name : List ℕ) (script : Option (List ℕ)) (first was are : Faults) → HasGoodList (Some name) files
+  pub table-with-list : (asked : Option Asked) (told files : Option Directory) (name : List ℕ) (script : Option (List ℕ)) (first was are : Faults) → told ≡ files → HasGoodList (Some name) files
       → first.files ≤ was.files → first.source ≡ was.source → first.sink ≡ was.sink
       → WayByTable passes tells blocks asked (record { list = None; files = told; script = script }) journal status said old new taken takes was are
       → WayByTable passes tells blocks asked (record { list = Some name; files = files; script = script }) journal status said old new taken takes first are
-  table-with-list asked told files name script first was are good later source sink (untouched none same other beyond w) =
-      untouched none same other beyond (with-list passes tells journal status (noted said) old new taken takes asked told files name script first was are good later source sink w)
-  table-with-list asked told files name script first was are good later source sink (starved calls reads none looks nine is quiet) =
+  table-with-list asked told files name script first was are same_files good later source sink (untouched none same other beyond w) =
+      untouched none same other beyond (with-list passes tells journal status (noted said) old new taken takes asked told files name script first was are same_files good later source sink w)
+  table-with-list asked told files name script first was are same_files good later source sink (starved calls reads none looks nine is quiet) =
       starved calls (record { good = good; asks = reads.asks; has = reads.has }) none looks nine is quiet
-  table-with-list asked told files name script first was are good later source sink (lacked calls why reads none looks lacks is prints) =
+  table-with-list asked told files name script first was are same_files good later source sink (lacked calls why reads none looks lacks is prints) =
       lacked calls why (record { good = good; asks = reads.asks; has = reads.has }) none looks lacks is (subst (λ (n : ℕ). Prints (no_table_line why) 10 status taken takes n are.sink) (sym sink) prints)
-  table-with-list asked told files name script first was are good later source sink (stopped calls reads none stops is prints) =
+  table-with-list asked told files name script first was are same_files good later source sink (stopped calls reads none stops is prints) =
       stopped calls (record { good = good; asks = reads.asks; has = reads.has }) none stops is (subst (λ (n : ℕ). Prints flash_fault_line 5 status taken takes n are.sink) (sym sink) prints)
-  table-with-list asked told files name script first was are good later source sink (ran calls p start on reads starts does beside ended beyond printed) =
-      ran calls p start on (record { good = good; asks = reads.asks; has = reads.has }) starts does beside ended beyond (subst (λ (n : ℕ). Printed journal status taken takes n are.sink) (sym sink) printed)
+  table-with-list asked told files name script first was are same_files good later source sink (ran calls p start on from reads starts from_later does beside ended beyond printed) =
+      ran calls p start on from (record { good = good; asks = reads.asks; has = reads.has }) starts (omega arith)
+      (ran-told passes tells files told journal (seen_at p start) (seen_at p (at on new.told new.counts new.armed new.power)) from are.files (sym same_files) does)
+      beside ended beyond (subst (λ (n : ℕ). Printed journal status taken takes n are.sink) (sym sink) printed)
 
   -- a way at an equal list
   pub table-at : (asked : Option Asked) (list named : Option (List ℕ)) (files : Option Directory) (script : Option (List ℕ)) (was are : Faults) → list ≡ named

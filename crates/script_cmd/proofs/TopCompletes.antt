@@ -19,7 +19,7 @@ use Rattle.flash_format.specs.declared.stops.InputFault.TheVariants as fault
 use Rattle.host_io.specs.Contents.{Directory}
 use Rattle.fwu_words.specs.Order.{Asked}
 use Rattle.fwu_words.specs.Order as ask
-use Rattle.script_cmd.specs.Powered.{Moment}
+use Rattle.script_turns.specs.Powered.{Moment}
 use Rattle.script_cmd.specs.Noted.{noted}
 use Rattle.script_cmd.specs.Printed.{Prints, all, front, nothing}
 use Rattle.script_cmd.specs.Ways.{Given, Refuses, bad_list, bad_script, list_not_read, not_read, too_long, usage}

@@ -18,7 +18,7 @@ use Rattle.host_io.specs.Contents.{Directory}
 use Rattle.fwu_words.specs.Order.{Asked}
 use Rattle.fwu_words.specs.Order as ask
 use Rattle.script_cmd.specs.Formatting.{Formats, FormattedBy, Tries, format_status, format_text, list_refused, starved, tried}
-use Rattle.script_cmd.specs.Powered.{Moment}
+use Rattle.script_turns.specs.Powered.{Moment}
 use Rattle.script_cmd.specs.Noted.{is_beyond, noted}
 use Rattle.script_cmd.specs.Showing.{RefusesBadList}
 use Rattle.script_cmd.specs.Printed.{Prints}

@@ -11,9 +11,9 @@ use Rattle.fwu_model.specs.declared.kinds.Note.TheVariants as note
 use Rattle.host_io.specs.Contents.{Directory}
 use Rattle.fwu_words.specs.Order.{Asked}
 use Rattle.fwu_words.specs.Order as ask
-use Rattle.script_cmd.specs.Powered.{Moment}
+use Rattle.script_turns.specs.Powered.{Moment}
 use Rattle.script_cmd.specs.Printed.{Prints}
-use Rattle.script_cmd.specs.Turning.{NoneFalls}
+use Rattle.script_turns.specs.Turning.{NoneFalls}
 use Rattle.script_cmd.specs.Ways.{Given, HasGoodList, Refuses}
 use Rattle.script_cmd.specs.Showing.{ShowedBy, Showed, RefusedList, RefusesBadList, starved, list_refused, found}
 use Rattle.script_cmd.proofs.PromiseEnds.{bad-status, lacks-list}

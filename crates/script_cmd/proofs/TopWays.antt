@@ -6,7 +6,7 @@ use Rattle.flash_core.specs.declared.flash.Counts.{Counts}
 use Rattle.flash_core.specs.Counts.{Rose}
 use Rattle.flash_core.specs.Told.{Told}
 use Rattle.fwu_model.specs.Call.{Call}
-use Rattle.fwu_model.specs.State.{Numbers}
+use Rattle.agent_machine.specs.Fields.{Fields}
 use Rattle.fwu_model.specs.Reply.{Turn}
 use Rattle.fwu_formats.specs.Words.{is_file}
 use Rattle.fwu_model.specs.Script.{is_too_long, script_of}
@@ -22,7 +22,7 @@ use Rattle.fwu_words.specs.Allow.{NamesList, NamesNone}
 use Rattle.fwu_words.specs.Order as ask
 use Rattle.script_cmd.specs.Asking.{asked_after, asked_with_list, plainly}
 use Rattle.script_cmd.proofs.PromiseTurns.{by-plan}
-use Rattle.script_cmd.specs.Powered.{Moment, at}
+use Rattle.script_turns.specs.Powered.{Moment, at}
 use Rattle.script_cmd.specs.Printed.{Prints}
 use Rattle.script_cmd.specs.Running.{Ended, Printed, Ran}
 use Rattle.script_cmd.specs.Ways.{AsksTurns, ByList, Given, HasGoodList, HasPasses, IsIdle, IsScriptOf, ReadsList, Refuses, StandsIn, Way, may_lack_list, bad_list, bad_script, list_not_read, not_read, ran, refused, starved, too_long, usage}
@@ -85,6 +85,11 @@ refuses asked told files name script first was are planned noted line good later
 refuses asked told files name script first was are planned noted line good later source (bad_script n listed asks short bad) = bad_script n good asks short bad
 refuses asked told files name script first was are planned noted line good later source (bad_list n some there bad) = let no : false ≡ true = some in absurd (false_true no)
 
+-- turns with these files are turns with files that are told the same
+pub ran-told : (passes : List ℕ → Bool) (tells : Bool) (files told : Option Directory) (journal : List Turn) (old new : Moment) (from to : ℕ) → files ≡ told → Ran passes tells told journal old new from to
+    → Ran passes tells files journal old new from to
+ran-told passes tells files told journal old new from to same did = subst (λ (f : Option Directory). Ran passes tells f journal old new from to) (sym same) did
+
 module _ (passes : List ℕ → Bool) (tells : Bool) (journal : List Turn) (status : ℕ) (noted : Note) (old new : Moment) (taken takes : Option (List ℕ)) where
   -- nothing ran, and the line of the cause was put
   pub refused-by : (asked : Option Asked) (g : Given) (was are : Faults) (planned : ℕ) (line : List ℕ) (told : Note) → journal ≡ [] → new ≡ old → noted ≡ told → Refuses asked g was are planned told line
@@ -98,11 +103,11 @@ module _ (passes : List ℕ → Bool) (tells : Bool) (journal : List Turn) (stat
       (bad_script n listed asks (of-script g.script text (λ b. is_too_long b ≡ false) is short) (of-script g.script text (λ b. script_of b ≡ Err n) is bad))
       prints
 
-  pub text-ran : (asked : Option Asked) (g : Given) (was are : Faults) (text : List ℕ) (calls : List Call) (on : Option Numbers) → HasGoodList g.list g.files → AsksTurns asked → IsScriptOf g.script text → is_too_long text ≡ false
-      → script_of text ≡ Ok calls → Ran passes tells journal old (at on new.told new.counts new.armed new.power) → Ended calls journal status noted → Printed journal status taken takes was.sink are.sink
+  pub text-ran : (asked : Option Asked) (g : Given) (was are : Faults) (text : List ℕ) (calls : List Call) (on : Option Fields) (from : ℕ) → HasGoodList g.list g.files → AsksTurns asked → IsScriptOf g.script text → is_too_long text ≡ false
+      → script_of text ≡ Ok calls → was.files ≤ from → Ran passes tells g.files journal old (at on new.told new.counts new.armed new.power) from are.files → Ended calls journal status noted → Printed journal status taken takes was.sink are.sink
       → Way passes tells asked g journal status noted old new taken takes was are
-  text-ran asked g was are text calls on listed asks is short read does ended printed =
-      ran calls on listed asks (of-script g.script text (λ b. (is_too_long b ≡ false) × (script_of b ≡ Ok calls)) is (short, read)) does ended printed
+  text-ran asked g was are text calls on from listed asks is short read later does ended printed =
+      ran calls on from listed asks (of-script g.script text (λ b. (is_too_long b ≡ false) × (script_of b ≡ Ok calls)) is (short, read)) later does ended printed
 
   -- a way at equal words
   pub way-at : (asked other : Option Asked) (list named : Option (List ℕ)) (files : Option Directory) (left : Option (List ℕ)) (was are : Faults) → asked ≡ other → list ≡ named
@@ -125,17 +130,19 @@ module _ (passes : List ℕ → Bool) (tells : Bool) (journal : List Turn) (stat
   way-of-boot asked files left was are is way = way-at asked (Some ask.boot) None None files left was are is refl way
 
   -- a way without a list is one behind a list that was read and is one
-  pub with-list : (asked : Option Asked) (told files : Option Directory) (name : List ℕ) (script : Option (List ℕ)) (first was are : Faults) → HasGoodList (Some name) files
+  pub with-list : (asked : Option Asked) (told files : Option Directory) (name : List ℕ) (script : Option (List ℕ)) (first was are : Faults) → told ≡ files → HasGoodList (Some name) files
       → first.files ≤ was.files → first.source ≡ was.source → first.sink ≡ was.sink
       → Way passes tells asked (record { list = None; files = told; script = script }) journal status noted old new taken takes was are
       → Way passes tells asked (record { list = Some name; files = files; script = script }) journal status noted old new taken takes first are
-  with-list asked told files name script first was are good later source sink (starved none same nine quiet takes) = starved none same nine quiet takes
-  with-list asked told files name script first was are good later source sink (refused planned line none same why prints) =
+  with-list asked told files name script first was are same_files good later source sink (starved none same nine quiet takes) = starved none same nine quiet takes
+  with-list asked told files name script first was are same_files good later source sink (refused planned line none same why prints) =
       refused planned line none same
       (refuses asked told files name script first was are planned noted line good later source why)
       (subst (λ (n : ℕ). Prints line planned status taken takes n are.sink) (sym sink) prints)
-  with-list asked told files name script first was are good later source sink (ran calls on listed asks has does ended printed) =
-      ran calls on good asks has does ended (subst (λ (n : ℕ). Printed journal status taken takes n are.sink) (sym sink) printed)
+  with-list asked told files name script first was are same_files good later source sink (ran calls on from listed asks has from_later does ended printed) =
+      ran calls on from good asks has (omega arith)
+      (ran-told passes tells files told journal old (at on new.told new.counts new.armed new.power) from are.files (sym same_files) does)
+      ended (subst (λ (n : ℕ). Printed journal status taken takes n are.sink) (sym sink) printed)
 
 -- ---- whose manifests pass
 

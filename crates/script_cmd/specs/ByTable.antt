@@ -15,8 +15,8 @@ use Rattle.script_cmd.specs.declared.done.NoTable.{NoTable}
 use Rattle.script_cmd.specs.declared.done.NoTable.TheVariants as no
 use Rattle.script_cmd.specs.declared.opening.Unopened.{Unopened}
 use Rattle.script_cmd.specs.declared.opening.Unopened.TheVariants as unopened
-use Rattle.script_cmd.specs.Powered.{Moment, at}
-use Rattle.script_cmd.specs.Turning.{NoneFalls}
+use Rattle.script_turns.specs.Powered.{Moment, at}
+use Rattle.script_turns.specs.Turning.{NoneFalls}
 
 -- what is known of the flash that a device has at these places
 abbrev pub seen_at : Places → Moment → Moment

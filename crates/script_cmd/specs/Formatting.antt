@@ -28,11 +28,11 @@ use Rattle.flash_format.specs.declared.stops.FormatStop.TheVariants.{Input, Read
 use Rattle.flash_format.specs.declared.stops.InputFault.{InputFault}
 use Rattle.flash_format.specs.declared.stops.InputFault.TheVariants as fault
 use Rattle.fwu_words.specs.Order as ask
-use Rattle.script_cmd.specs.Powered.{Moment}
+use Rattle.script_turns.specs.Powered.{Moment}
 use Rattle.script_cmd.specs.Noted.{is_beyond, noted}
 use Rattle.script_cmd.specs.Printed.{Prints}
 use Rattle.script_cmd.specs.Showing.{HasCause, IsGranted, RefusedList, RefusesBadList, flash_fault_line}
-use Rattle.script_cmd.specs.Turning.{NoneFalls}
+use Rattle.script_turns.specs.Turning.{NoneFalls}
 use Rattle.script_cmd.specs.Ways.{Given, HasGoodList}
 use Rattle.script_cmd.specs.declared.done.Note.{Note}
 use Rattle.script_cmd.specs.declared.done.Note.TheVariants as note

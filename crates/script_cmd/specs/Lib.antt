@@ -1,7 +1,3 @@
-pub mod Powered
-pub mod Booted
-pub mod Replies
-pub mod Turning
 pub mod Printed
 pub mod Running
 pub mod Noted

@@ -18,7 +18,7 @@ use Rattle.fwu_model.specs.Wrote.{StopsInLast, usage_line}
 use Rattle.fwu_words.specs.Order.{Asked}
 use Rattle.fwu_words.specs.Order as ask
 use Rattle.host_io.specs.Contents.{Directory}
-use Rattle.script_cmd.specs.Powered.{Moment, SameDevice}
+use Rattle.script_turns.specs.Powered.{Moment, SameDevice}
 use Rattle.script_cmd.specs.Ways.{HasPasses}
 use Rattle.script_cmd.specs.Promises.{Promised}
 

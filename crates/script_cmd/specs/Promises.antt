@@ -1,10 +1,12 @@
 -- What `run` or `boot` promises, whichever way it ends.
-use Rattle.std.specs.Prelude.{◌≡◌, ◌⊎◌, ℕ, Bool, List, ◌++◌, Option, Some, IsTrue, IsFalse, ◌||◌, ◌==◌, [], slice_get}
+use Rattle.std.specs.Prelude.{◌≡◌, ◌≢◌, ◌≤◌, ◌⊎◌, ℕ, Bool, List, ◌++◌, Option, Some, IsTrue, IsFalse, ◌||◌, ◌==◌, [], slice_get}
 use Rattle.flash_core.specs.Counts.{Rose}
 use Rattle.flash_core.specs.Told.{NothingDirty}
 use Rattle.flash_core.specs.May.{Guards}
-use Rattle.fwu_model.specs.State.{State, Numbers}
+use Rattle.fwu_model.specs.State.{State}
+use Rattle.agent_machine.specs.Fields.{Fields}
 use Rattle.fwu_model.specs.Sound.{Setting}
+use Rattle.host_io.specs.Contents.{Directory}
 use Rattle.fwu_model.specs.Call.{Call}
 use Rattle.fwu_model.specs.Call as call
 use Rattle.fwu_model.specs.Reply.{Turn}
@@ -19,9 +21,9 @@ use Rattle.fwu_words.specs.Order.{Asked}
 use Rattle.fwu_words.specs.Order as ask
 use Rattle.script_cmd.specs.Asking.{plainly}
 use Rattle.script_cmd.specs.BootWord.{BootsBy}
-use Rattle.script_cmd.specs.Booted.{BootsFrom}
-use Rattle.script_cmd.specs.Powered.{Moment, SameDevice}
-use Rattle.script_cmd.specs.Replies.{Follows, power_left}
+use Rattle.script_turns.specs.Booted.{BootsFrom}
+use Rattle.script_turns.specs.Powered.{Moment, SameDevice, at}
+use Rattle.script_cmd.specs.Running.{Follows, power_left}
 use Rattle.script_cmd.specs.Ways.{Given, Refuses, Way}
 
 -- what the program was given to read, with what the source tells
@@ -57,9 +59,17 @@ abbrev pub EndsHold : Option Asked → Given → List Turn → ℕ → Note → 
     → Faults → Type 0
 EndsHold asked g journal status noted old new faults_before faults_after = EndsAs (plainly asked) g.list g.files g.script status noted journal old.counts new.counts faults_before faults_after
 
--- which replies the turns have, from a flash that was off, or on with its numbers
-abbrev pub RepliesHold : List Turn → Moment → Type 0
-RepliesHold journal old = (on : Option Numbers) × Follows old.on journal on
+-- What each turn did, on any device, one after the other from the device as it was handed in to what is left of it: its reply, what the
+-- agent keeps, what an armed loss counts, and its causes. The files' faults as the turns began and ended are among those of the run.
+pub record RepliesHold (passes : List ℕ → Bool) (tells : Bool) (files : Option Directory)
+    (journal : List Turn) (old new : Moment) (faults_before faults_after : Faults) : Type 0 where
+  -- what the agent keeps at last, where a bank was started
+  pub on : Option Fields
+  pub from : ℕ
+  pub to : ℕ
+  pub follows : Follows passes tells files journal old (at on new.told new.counts new.armed new.power) from to
+  pub begins : faults_before.files ≤ from
+  pub ends : journal ≢ [] → to ≡ faults_after.files
 
 -- The one command `boot`, on any flash with nothing dirty, where no failure and no loss stopped it, and the list had no bad line, goes by the bytes.
 abbrev pub BootWordHolds : (List ℕ → Bool) → Bool → Option Asked → List Turn → ℕ → Note → Moment
@@ -126,7 +136,7 @@ WaysReply =
     (status : ℕ) (noted : Note) (old new : Moment) (taken_before taken_after : Option (List ℕ))
     (faults_before faults_after : Faults)
     → Way passes tells asked g journal status noted old new taken_before taken_after faults_before faults_after
-    → RepliesHold journal old
+    → RepliesHold passes tells g.files journal old new faults_before faults_after
 
 abbrev pub WaysLeaveTheDevice : Type 0
 WaysLeaveTheDevice =
@@ -196,9 +206,9 @@ pub record Promised (passes : List ℕ → Bool) (tells : Bool) (asked : Option 
   pub wrote : WroteHolds asked (given_to asked list files source) journal status noted taken_before taken_after faults_before faults_after
   -- For every device, files, source and sink: which turns and causes ended the run.
   pub ends : EndsHold asked (given_to asked list files source) journal status noted old new faults_before faults_after
-  -- For every device: a boot's reply tells whether the flash is on; `show` tells `off` while off, and else the same numbers until the next boot,
-  -- with the trials and the counter that the last boot told, and its fallback; and each `cut` is taken.
-  pub replies : RepliesHold journal old
+  -- For every device: each turn's reply is that of each machine that the agent shows; a boot's reply tells whether the flash is on, and with
+  -- which numbers; while off all else is answered `off`; and what an armed loss counts of the turn.
+  pub replies : RepliesHold passes tells files journal old new faults_before faults_after
   -- For every device: where no turn ran it is as it was, and its power is by the replies.
   pub device : LeavesDevice tells journal old new
   -- On any flash with nothing dirty, sound or not: a first turn that is a boot goes by the bytes.

@@ -24,7 +24,7 @@ use Rattle.script_cmd.specs.declared.done.Note.{Note}
 use Rattle.script_cmd.specs.Asking.{plainly}
 use Rattle.script_cmd.specs.ByTable.{Starts, seen_at}
 use Rattle.script_cmd.specs.Noted.{noted}
-use Rattle.script_cmd.specs.Powered.{Moment}
+use Rattle.script_turns.specs.Powered.{Moment}
 use Rattle.script_cmd.specs.Promises.{Promised, given_to, outcome}
 use Rattle.script_cmd.specs.WaysByTable.{WayByTable}
 

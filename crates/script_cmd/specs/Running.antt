@@ -1,8 +1,10 @@
 -- What a run of a script did so far.
-use Rattle.std.specs.Prelude.{◌≡◌, ◌≢◌, ℕ, ◌+◌, ◌≤◌, Bool, List, [], ◌∷◌, ◌++◌, length, map, Option, Some, None, IsTrue, IsFalse, Contains, slice_get}
+use Rattle.std.specs.List.{list_all}
+use Rattle.std.specs.Prelude.{not, ◌≡◌, ◌≢◌, ℕ, ◌+◌, ◌≤◌, Bool, List, [], ◌∷◌, ◌++◌, length, map, Option, Some, None, IsTrue, IsFalse, Contains, slice_get}
 use Rattle.flash_core.specs.Counts.{Rose}
 use Rattle.flash_core.specs.Told.{NothingDirty}
 use Rattle.flash_core.specs.May.{Guards}
+use Rattle.host_io.specs.Contents.{Directory}
 use Rattle.fwu_model.specs.State.{State}
 use Rattle.fwu_model.specs.Sound.{Setting}
 use Rattle.fwu_model.specs.Seen.{seen, SoundFlash}
@@ -11,20 +13,35 @@ use Rattle.fwu_model.specs.Call as call
 use Rattle.fwu_model.specs.Reply.{Turn}
 use Rattle.fwu_model.specs.Reply as reply
 use Rattle.fwu_model.specs.Text.{line, text}
-use Rattle.fwu_model.specs.Run.{Condition, Runs, ends_run}
+use Rattle.fwu_model.specs.Run.{Condition, Runs, ends_run, is_send}
 use Rattle.fwu_model.specs.Headline.{ArmedBy, IsPrefixOf, made_after}
-use Rattle.fwu_model.specs.Causes.{LossesAreCounted, cuts_in, status_by, note_by}
+use Rattle.fwu_model.specs.Causes.{FileNotRead, LossesAreCounted, cuts_in, status_by, note_by}
 use Rattle.fwu_model.specs.Wrote.{LacksLast, StopsInLast, may_lack}
 use Rattle.fwu_model.specs.declared.kinds.Note.{Note}
 use Rattle.fwu_model.specs.declared.kinds.Note.TheVariants as note
-use Rattle.script_cmd.specs.Powered.{Moment, IsAt, IsSafe}
-use Rattle.script_cmd.specs.Booted.{BootsFrom}
-use Rattle.script_cmd.specs.Replies.{Follows, power_left}
-use Rattle.script_cmd.specs.Turning.{NoneFalls, Turns}
+use Rattle.script_turns.specs.Powered.{Moment, IsAt, IsSafe}
+use Rattle.script_turns.specs.Booted.{BootsFrom}
+use Rattle.script_turns.specs.Replies.{power_after}
+use Rattle.script_turns.specs.Turning.{NoneFalls, Turns}
 use Rattle.script_cmd.specs.Printed.{Prints}
 
 abbrev pub calls_of : List Turn → List Call
 calls_of journal = map (λ (t : Turn). t.call) journal
+
+-- no call reads a file
+abbrev pub sends_none : List Call → Bool
+sends_none script = list_all (λ c. not (is_send c)) script
+
+-- whether the device has power after the turns of a journal
+abbrev pub power_left : Bool → List Turn → Bool
+power_left power [] = power
+power_left power (t ∷ turns) = power_left (power_after power t.reply) turns
+
+-- The turns of a journal, one after the other, from a device and the files' faults to those that they leave.
+abbrev pub Follows : (List ℕ → Bool) → Bool → Option Directory → List Turn → Moment → Moment → ℕ → ℕ → Type 0
+Follows passes tells files [] old new was are = (new ≡ old) × (are ≡ was)
+Follows passes tells files (t ∷ turns) old new was are =
+    (mid : Moment) × (n : ℕ) × Turns passes tells files t.call t old mid was n × Follows passes tells files turns mid new n are
 
 -- a flash from which the headline holds: sound, with nothing dirty, and guarded at the front
 pub record StartsSound (E : Setting) (start : State) (passes : List ℕ → Bool)
@@ -43,24 +60,27 @@ pub record RunsTo (E : Setting) (start : State) (journal : List Turn)
   pub is_at : IsAt E last new.on new.told
   pub armed : ArmedBy last journal old.counts new.counts new.armed
 
--- The turns of the journal were done, from a device that was off and unarmed.
-pub record Ran (passes : List ℕ → Bool) (tells : Bool) (journal : List Turn)
-    (old new : Moment) : Type 0 where
+-- The turns of the journal were done, from a device that was off and unarmed. The files' faults were some, and are some.
+pub record Ran (passes : List ℕ → Bool) (tells : Bool) (files : Option Directory)
+    (journal : List Turn) (old new : Moment) (was are : ℕ) : Type 0 where
   pub counts : NoneFalls old.counts new.counts
   -- each `cut` is an arming, and there are no others
   pub made : new.counts.made ≡ made_after old.counts.made (cuts_in journal)
   pub lost_turns : LossesAreCounted journal old.counts new.counts
   pub fault_turns : (t : Turn) → Contains journal t → t.reply ≡ reply.Fault
       → Rose old.counts.faults new.counts.faults
-  pub reads_no_file : (t : Turn) → Contains journal t → t.reply ≢ reply.ReadFault
-  -- which replies they have, on any device
-  pub replies : Follows old.on journal new.on
+  pub unread_turns : (t : Turn) → Contains journal t → t.reply ≡ reply.ReadFault
+      → FileNotRead files was are t.call
+  pub later : was ≤ are
+  -- what each of them did, on any device
+  pub follows : Follows passes tells files journal old new was are
   pub power : new.power ≡ power_left old.power journal
   pub guard : IsTrue tells → new.told.guard ≡ old.told.guard
   -- a turn that ends the run is the last
   pub ends : (n : ℕ) (t : Turn) → slice_get journal n ≡ Some t → IsTrue (ends_run t.reply)
       → n + 1 ≡ length journal
   pub run : IsTrue tells → (E : Setting) (start : State) → StartsSound E start passes old
+      → files ≡ Some E.files
       → (Rose old.counts.chances new.counts.chances → ⊥) → RunsTo E start journal old new
   pub safe : IsTrue tells → NothingDirty old.told → Guards 1 7 old.told → IsSafe new.power new.told
   -- until the first turn nothing is done, and where it is a boot it goes by the bytes
@@ -71,11 +91,11 @@ pub record Ran (passes : List ℕ → Bool) (tells : Bool) (journal : List Turn)
 -- ---- one turn
 
 -- What one turn leaves: it does the call c, it is kept, and its line was printed with this status.
-pub record Steps (passes : List ℕ → Bool) (tells : Bool) (c : Call) (before after : List Turn)
-    (old new : Moment) (status : ℕ) (noted : Note) (taken_before taken_after : Option (List ℕ))
-    (faults_before faults_after : ℕ) : Type 0 where
+pub record Steps (passes : List ℕ → Bool) (tells : Bool) (files : Option Directory) (c : Call)
+    (before after : List Turn) (old new : Moment) (was are : ℕ) (status : ℕ) (noted : Note)
+    (taken_before taken_after : Option (List ℕ)) (faults_before faults_after : ℕ) : Type 0 where
   pub turn : Turn
-  pub turns : Turns passes tells c turn old new
+  pub turns : Turns passes tells files c turn old new was are
   pub kept : after ≡ before ++ turn ∷ []
   pub prints : Prints (line turn.call turn.reply) (status_by turn.reply) status taken_before taken_after faults_before faults_after
   pub noted_is : noted ≡ note_by turn.reply

@@ -14,8 +14,8 @@ use Rattle.fwu_model.specs.declared.kinds.Note.TheVariants as note
 use Rattle.early_boot.specs.Numbers.{ShowsNumbers}
 use Rattle.fwu_model.specs.Reply.{Turn}
 use Rattle.script_cmd.specs.Printed.{Prints}
-use Rattle.script_cmd.specs.Turning.{NoneFalls}
-use Rattle.script_cmd.specs.Powered.{Moment}
+use Rattle.script_turns.specs.Turning.{NoneFalls}
+use Rattle.script_turns.specs.Powered.{Moment}
 use Rattle.script_cmd.specs.Ways.{Given, HasGoodList, Refuses}
 use Rattle.fwu_formats.specs.Digests.{digests_of}
 use Rattle.fwu_model.specs.Allow.{list_bytes}

@@ -2,7 +2,7 @@
 use Rattle.std.specs.Prelude.{◌≡◌, ◌⊎◌, ℕ, ◌≤◌, ⊤, Bool, true, false, ◌||◌, ◌==◌, List, [], Option, Some, None, Ok, Err, IfSome, IsTrue, IsSome}
 use Rattle.flash_core.specs.Counts.{Rose}
 use Rattle.fwu_model.specs.Call.{Call}
-use Rattle.fwu_model.specs.State.{Numbers}
+use Rattle.agent_machine.specs.Fields.{Fields}
 use Rattle.fwu_model.specs.Reply.{Turn}
 use Rattle.fwu_model.specs.Script.{script_of, is_too_long}
 use Rattle.fwu_model.specs.Wrote.{usage_line, not_read_line, too_long_line, bad_script_line, bad_list_line, IsBadScript, IsBadList}
@@ -13,7 +13,7 @@ use Rattle.fwu_model.specs.declared.kinds.Note.{Note}
 use Rattle.fwu_model.specs.declared.kinds.Note.TheVariants as note
 use Rattle.fwu_words.specs.Order.{Asked}
 use Rattle.fwu_words.specs.Order as ask
-use Rattle.script_cmd.specs.Powered.{Moment, at}
+use Rattle.script_turns.specs.Powered.{Moment, at}
 use Rattle.script_cmd.specs.Printed.{Prints}
 use Rattle.script_cmd.specs.Running.{Ran, Ended, Printed}
 
@@ -84,9 +84,11 @@ pub data Way (passes : List ℕ → Bool) (tells : Bool) (asked : Option Asked) 
       → Refuses asked g faults_before faults_after planned noted line
       → Prints line planned status taken_before taken_after faults_before.sink faults_after.sink
       → Way passes tells asked g journal status noted old new taken_before taken_after faults_before faults_after
-  ran : (calls : List Call) (on : Option Numbers) → HasGoodList g.list g.files → AsksTurns asked
+  ran : (calls : List Call) (on : Option Fields) (from : ℕ) → HasGoodList g.list g.files → AsksTurns asked
       → HasCalls g.script calls
-      → Ran passes tells journal old (at on new.told new.counts new.armed new.power)
+      → faults_before.files ≤ from
+      → Ran passes tells g.files journal old (at on new.told new.counts new.armed new.power)
+      from faults_after.files
       → Ended calls journal status noted
       → Printed journal status taken_before taken_after faults_before.sink faults_after.sink
       → Way passes tells asked g journal status noted old new taken_before taken_after faults_before faults_after

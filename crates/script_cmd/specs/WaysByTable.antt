@@ -1,9 +1,9 @@
 -- The ways that `run --gpt` or `boot --gpt` may end, and what they promise.
-use Rattle.std.specs.Prelude.{◌≡◌, ◌≢◌, ℕ, Bool, List, [], Option, Some, None, IsTrue, IsFalse}
+use Rattle.std.specs.Prelude.{◌≡◌, ◌≢◌, ◌≤◌, ℕ, Bool, List, [], Option, Some, None, IsTrue, IsFalse}
 use Rattle.gpt_core.specs.declared.layout.Places.{Places}
 use Rattle.gpt_core.specs.Beside.{Beside}
 use Rattle.fwu_model.specs.Call.{Call}
-use Rattle.fwu_model.specs.State.{Numbers}
+use Rattle.agent_machine.specs.Fields.{Fields}
 use Rattle.fwu_model.specs.Reply.{Turn}
 use Rattle.fwu_model.specs.Causes.{Faults}
 use Rattle.fwu_words.specs.Order.{Asked}
@@ -13,7 +13,7 @@ use Rattle.script_cmd.specs.declared.done.Note.TheVariants as note
 use Rattle.script_cmd.specs.declared.done.NoTable.{NoTable}
 use Rattle.script_cmd.specs.ByTable.{Looks, Starts, StopsBefore, flash_fault_line, lacked_in, no_table_line, seen_at}
 use Rattle.script_cmd.specs.Noted.{is_beyond, noted}
-use Rattle.script_cmd.specs.Powered.{Moment, at}
+use Rattle.script_turns.specs.Powered.{Moment, at}
 use Rattle.script_cmd.specs.Printed.{Prints}
 use Rattle.script_cmd.specs.Running.{Ended, Printed, Ran}
 use Rattle.script_cmd.specs.Ways.{AsksTurns, Given, HasCalls, HasGoodList, Way}
@@ -55,10 +55,11 @@ pub data WayByTable (passes : List ℕ → Bool) (tells : Bool) (blocks : ℕ) (
       → StopsBefore tells blocks old new → said ≡ note.Nothing
       → Prints flash_fault_line 5 status taken_before taken_after faults_before.sink faults_after.sink
       → WayByTable passes tells blocks asked g journal status said old new taken_before taken_after faults_before faults_after
-  ran : (calls : List Call) (p : Places) (start : Moment) (on : Option Numbers)
+  ran : (calls : List Call) (p : Places) (start : Moment) (on : Option Fields) (from : ℕ)
       → ReadsScript asked g calls → Starts tells blocks old p start
-      → Ran passes tells journal (seen_at p start)
-      (seen_at p (at on new.told new.counts new.armed new.power))
+      → faults_before.files ≤ from
+      → Ran passes tells g.files journal (seen_at p start)
+      (seen_at p (at on new.told new.counts new.armed new.power)) from faults_after.files
       → (IsTrue tells → Beside p start.told new.told)
       → Ended calls journal status (noted said) → IsFalse (is_beyond said)
       → Printed journal status taken_before taken_after faults_before.sink faults_after.sink

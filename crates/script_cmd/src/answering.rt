@@ -1,17 +1,19 @@
 //! What the words ask for is done, in one of the ways that it may end.
-ghost use Rattle.std.specs.Prelude.{◌≡◌, ◌≤◌, ℕ, Bool, List, [], Option, Some, None, IfSome, map, string_bytes, IsFalse, length, false, true};
+ghost use Rattle.std.specs.Prelude.{◌≡◌, ◌≤◌, ℕ, Bool, List, [], Option, Some, None, Ok, IfSome, map, string_bytes, IsTrue, IsFalse, length, false, true};
 ghost use Rattle.fwu_model.specs.Allow.{asks_list, list_name};
 ghost use Rattle.fwu_model.specs.Causes.{Faults};
 ghost use Rattle.fwu_formats.specs.Layout.{ImageRow};
-ghost use Rattle.fwu_model.specs.Script.{is_too_long};
+ghost use Rattle.fwu_model.specs.Call.{Call};
+ghost use Rattle.fwu_model.specs.Script.{is_too_long, script_of};
 ghost use Rattle.fwu_model.specs.Wrote.{script_asked};
 ghost use Rattle.fwu_journal.specs.Shown.{turns};
 ghost use Rattle.fwu_words.specs.Order.{Asked, asked};
 ghost use Rattle.fwu_words.specs.Order as ask;
-ghost use Rattle.script_cmd.specs.Asking.{asked_with_list, asks_beyond, asks_format, asks_run, plainly};
+ghost use Rattle.script_cmd.specs.Asking.{asked_with_list, asks_beyond, asks_files, asks_run, plainly};
 ghost use Rattle.script_cmd.specs.Formatting.{FormattedBy};
-ghost use Rattle.script_cmd.specs.Powered.{moment};
+ghost use Rattle.script_turns.specs.Powered.{moment};
 ghost use Rattle.script_cmd.specs.Noted.{is_beyond, noted};
+ghost use Rattle.script_cmd.specs.Running.{sends_none};
 ghost use Rattle.script_cmd.specs.Showing.{ShowedBy};
 ghost use Rattle.script_cmd.specs.WaysByTable.{WayByTable, over_table};
 ghost use Rattle.script_cmd.specs.Ways.{AsksTurns, ByList, Given, HasGoodList, HasPasses, IsIdle, IsScriptOf, Later, ReadsList, RunsOrNone, Way, faults_of};
@@ -19,7 +21,6 @@ ghost use Rattle.script_cmd.specs.Ways.{AsksTurns, ByList, Given, HasGoodList, H
 use crate::done::{Done, Note};
 use crate::formatting::format_flash;
 use crate::partitioned::run_by_table;
-use crate::powered::Powered;
 use crate::reading::{FileStop, SourceStop, read_file, read_source};
 use crate::refusing::{
     idle, print_usage, refuse_length, refuse_list, refuse_reading, refuse_script,
@@ -31,13 +32,15 @@ use flash_core::Flash;
 use fwu_words::{Allow, Order, UsageStop, allow_of, fwu_order};
 use host_io::{Files, Sink, Source};
 use script_text::{ScriptFault, read_script};
+use script_turns::Powered;
 use std::alloc::Global;
 use verify_core::{AnyManifest, DigestList, ListFault, Verifier};
 
 /// Runs a script's text.
-fn run_text<D: Flash, O: Sink, V: Verifier>(
+fn run_text<D: Flash, H: Files, O: Sink, V: Verifier>(
     alloc: Global,
     text: &[u8],
+    files: &mut H,
     sink: &mut O,
     flash: D,
     verifier: &V,
@@ -47,12 +50,17 @@ fn run_text<D: Flash, O: Sink, V: Verifier>(
     requires within { is_too_long text.now ≡ false }
     requires few { length text.now ≤ 4194304 }
     ensures way { (asked : Option Asked) (g : Given) (was are : Faults) → HasGoodList g.list g.files
-        → AsksTurns asked → IsScriptOf g.script text.now
+        → AsksTurns asked → IsScriptOf g.script text.now → g.files ≡ H.contents files.old
+        → was.files ≤ H.faults files.old
         → Way (V.passes verifier.now) D.tells asked g (turns result.journal) result.status
         (noted result.note) (moment D.told D.counts D.arming D.on flash)
         (moment D.told D.counts D.arming D.on result.flash) (O.taken sink.old)
         (O.taken sink.new) (record was { sink = O.faults sink.old })
-        (record are { sink = O.faults sink.new }) }
+        (record are { files = H.faults files.new; sink = O.faults sink.new }) }
+    ensures files { (calls : List Call) → script_of text.now ≡ Ok calls → IsTrue (sends_none calls)
+        → files.new ≡ files.old }
+    ensures later_files { H.faults files.old ≤ H.faults files.new }
+    ensures same_files { H.contents files.new ≡ H.contents files.old }
     ensures note { IsFalse (is_beyond result.note) }
     ensures later { O.faults sink.old ≤ O.faults sink.new }
     ensures size { D.blocks result.flash ≡ D.blocks flash }
@@ -63,14 +71,23 @@ fn run_text<D: Flash, O: Sink, V: Verifier>(
         Err(ScriptFault::NoMemory) => return idle(alloc, 9, Note::Nothing, flash),
     };
     match Room::make(alloc, script.len()) {
-        Ok(room) => run_script(room, &script, sink, Powered::Off(flash), verifier),
+        Ok(room) => run_script(
+            alloc,
+            room,
+            script,
+            files,
+            sink,
+            Powered::Off(flash),
+            verifier,
+        ),
         Err(_) => idle(alloc, 9, Note::Nothing, flash),
     }
 }
 
 /// Reads a script from the source, and runs it.
-fn run_source<D: Flash, I: Source, O: Sink, V: Verifier>(
+fn run_source<D: Flash, H: Files, I: Source, O: Sink, V: Verifier>(
     alloc: Global,
+    files: &mut H,
     source: &mut I,
     sink: &mut O,
     flash: D,
@@ -79,21 +96,28 @@ fn run_source<D: Flash, I: Source, O: Sink, V: Verifier>(
     requires off { IsFalse (D.on flash) }
     requires unarmed { D.arming flash ≡ None }
     ensures way { (g : Given) (was are : Faults) → HasGoodList g.list g.files
+        → g.files ≡ H.contents files.old → was.files ≤ H.faults files.old
         → Way (V.passes verifier.now) D.tells (Some ask.run)
         (record g { script = I.left source.old }) (turns result.journal) result.status
         (noted result.note) (moment D.told D.counts D.arming D.on flash)
         (moment D.told D.counts D.arming D.on result.flash) (O.taken sink.old)
         (O.taken sink.new)
         (record was { source = I.faults source.old; sink = O.faults sink.old })
-        (record are { source = I.faults source.new; sink = O.faults sink.new }) }
+        (record are {
+          files = H.faults files.new;
+          source = I.faults source.new;
+          sink = O.faults sink.new;
+        }) }
     ensures note { IsFalse (is_beyond result.note) }
+    ensures later_files { H.faults files.old ≤ H.faults files.new }
+    ensures same_files { H.contents files.new ≡ H.contents files.old }
     ensures later_source { I.faults source.old ≤ I.faults source.new }
     ensures later_sink { O.faults sink.old ≤ O.faults sink.new }
     ensures read_to_end { result.status ≡ 0 → IfSome (I.left source.new) (λ rest. rest ≡ []) }
     ensures size { D.blocks result.flash ≡ D.blocks flash }
 {
     match read_source(alloc, source) {
-        Ok(text) => run_text(alloc, text.as_slice(), sink, flash, verifier),
+        Ok(text) => run_text(alloc, text.as_slice(), files, sink, flash, verifier),
         Err(SourceStop::Failed) => refuse_reading(alloc, sink, flash),
         Err(SourceStop::TooLong) => refuse_length(alloc, sink, flash),
         Err(SourceStop::NoMemory) => idle(alloc, 9, Note::Nothing, flash),
@@ -101,9 +125,10 @@ fn run_source<D: Flash, I: Source, O: Sink, V: Verifier>(
 }
 
 /// Runs a script's text on the flash that the device has behind a partition table.
-fn run_text_by_table<D: Flash, O: Sink, V: Verifier>(
+fn run_text_by_table<D: Flash, H: Files, O: Sink, V: Verifier>(
     alloc: Global,
     text: &[u8],
+    files: &mut H,
     sink: &mut O,
     flash: D,
     verifier: &V,
@@ -113,13 +138,18 @@ fn run_text_by_table<D: Flash, O: Sink, V: Verifier>(
     requires within { is_too_long text.now ≡ false }
     requires few { length text.now ≤ 4194304 }
     ensures way { (asked : Option Asked) (g : Given) (was are : Faults) → HasGoodList g.list g.files
-        → AsksTurns asked → IsScriptOf g.script text.now
+        → AsksTurns asked → IsScriptOf g.script text.now → g.files ≡ H.contents files.old
+        → was.files ≤ H.faults files.old
         → WayByTable (V.passes verifier.now) D.tells (D.blocks flash) asked g
         (turns result.journal) result.status result.note
         (moment D.told D.counts D.arming D.on flash)
         (moment D.told D.counts D.arming D.on result.flash) (O.taken sink.old)
         (O.taken sink.new) (record was { sink = O.faults sink.old })
-        (record are { sink = O.faults sink.new }) }
+        (record are { files = H.faults files.new; sink = O.faults sink.new }) }
+    ensures files { (calls : List Call) → script_of text.now ≡ Ok calls → IsTrue (sends_none calls)
+        → files.new ≡ files.old }
+    ensures later_files { H.faults files.old ≤ H.faults files.new }
+    ensures same_files { H.contents files.new ≡ H.contents files.old }
     ensures later { O.faults sink.old ≤ O.faults sink.new }
     ensures size { D.blocks result.flash ≡ D.blocks flash }
 {
@@ -129,14 +159,15 @@ fn run_text_by_table<D: Flash, O: Sink, V: Verifier>(
         Err(ScriptFault::NoMemory) => return idle(alloc, 9, Note::Nothing, flash),
     };
     match Room::make(alloc, script.len()) {
-        Ok(room) => run_by_table(alloc, room, &script, sink, flash, verifier),
+        Ok(room) => run_by_table(alloc, room, script, files, sink, flash, verifier),
         Err(_) => idle(alloc, 9, Note::Nothing, flash),
     }
 }
 
 /// Reads a script from the source, and runs it on the flash that the device has behind a partition table.
-fn run_source_by_table<D: Flash, I: Source, O: Sink, V: Verifier>(
+fn run_source_by_table<D: Flash, H: Files, I: Source, O: Sink, V: Verifier>(
     alloc: Global,
+    files: &mut H,
     source: &mut I,
     sink: &mut O,
     flash: D,
@@ -145,20 +176,27 @@ fn run_source_by_table<D: Flash, I: Source, O: Sink, V: Verifier>(
     requires off { IsFalse (D.on flash) }
     requires unarmed { D.arming flash ≡ None }
     ensures way { (g : Given) (was are : Faults) → HasGoodList g.list g.files
+        → g.files ≡ H.contents files.old → was.files ≤ H.faults files.old
         → WayByTable (V.passes verifier.now) D.tells (D.blocks flash) (Some ask.run)
         (record g { script = I.left source.old }) (turns result.journal) result.status
         result.note (moment D.told D.counts D.arming D.on flash)
         (moment D.told D.counts D.arming D.on result.flash) (O.taken sink.old)
         (O.taken sink.new)
         (record was { source = I.faults source.old; sink = O.faults sink.old })
-        (record are { source = I.faults source.new; sink = O.faults sink.new }) }
+        (record are {
+          files = H.faults files.new;
+          source = I.faults source.new;
+          sink = O.faults sink.new;
+        }) }
+    ensures later_files { H.faults files.old ≤ H.faults files.new }
+    ensures same_files { H.contents files.new ≡ H.contents files.old }
     ensures later_source { I.faults source.old ≤ I.faults source.new }
     ensures later_sink { O.faults sink.old ≤ O.faults sink.new }
     ensures read_to_end { result.status ≡ 0 → IfSome (I.left source.new) (λ rest. rest ≡ []) }
     ensures size { D.blocks result.flash ≡ D.blocks flash }
 {
     match read_source(alloc, source) {
-        Ok(text) => run_text_by_table(alloc, text.as_slice(), sink, flash, verifier),
+        Ok(text) => run_text_by_table(alloc, text.as_slice(), files, sink, flash, verifier),
         Err(SourceStop::Failed) => refuse_reading(alloc, sink, flash),
         Err(SourceStop::TooLong) => refuse_length(alloc, sink, flash),
         Err(SourceStop::NoMemory) => idle(alloc, 9, Note::Nothing, flash),
@@ -230,8 +268,8 @@ pub fn answer_with<D: Flash, H: Files, I: Source, O: Sink, V: Verifier>(
     // Only `run` reads the source.
     ensures source { IsFalse (asks_run (asked (map string_bytes words.now)))
         → source.new ≡ source.old }
-    // Only `format` and a list name files.
-    ensures files { IsFalse (asks_format (asked (map string_bytes words.now)))
+    // Only `run`, `format` and a list read files.
+    ensures files { IsFalse (asks_files (asked (map string_bytes words.now)))
         → files.new ≡ files.old }
     ensures note { IsFalse (asks_beyond (asked (map string_bytes words.now)))
         → IsFalse (is_beyond result.note) }
@@ -239,10 +277,14 @@ pub fn answer_with<D: Flash, H: Files, I: Source, O: Sink, V: Verifier>(
     ensures size { D.blocks result.flash ≡ D.blocks flash }
 {
     match fwu_order(alloc, words) {
-        Ok(Order::Run) => run_source(alloc, source, sink, flash, verifier),
-        Ok(Order::RunPartitioned) => run_source_by_table(alloc, source, sink, flash, verifier),
-        Ok(Order::Boot) => run_text(alloc, b"boot\n", sink, flash, verifier),
-        Ok(Order::BootPartitioned) => run_text_by_table(alloc, b"boot\n", sink, flash, verifier),
+        Ok(Order::Run) => run_source(alloc, files, source, sink, flash, verifier),
+        Ok(Order::RunPartitioned) => run_source_by_table(
+            alloc, files, source, sink, flash, verifier,
+        ),
+        Ok(Order::Boot) => run_text(alloc, b"boot\n", files, sink, flash, verifier),
+        Ok(Order::BootPartitioned) => run_text_by_table(
+            alloc, b"boot\n", files, sink, flash, verifier,
+        ),
         Ok(Order::Show) => show(alloc, sink, flash),
         Ok(
             Order::Format {
@@ -458,9 +500,9 @@ pub fn answer<D: Flash, H: Files, I: Source, O: Sink>(
     // Only `run` reads the source.
     ensures source { IsFalse (asks_run (asked_with_list (map string_bytes words.now)))
         → source.new ≡ source.old }
-    // Only `format` and a list name files.
+    // Only `run`, `format` and a list read files.
     ensures files { list_name (map string_bytes words.now) ≡ None
-        → IsFalse (asks_format (asked_with_list (map string_bytes words.now)))
+        → IsFalse (asks_files (asked_with_list (map string_bytes words.now)))
         → files.new ≡ files.old }
     ensures note { IsFalse (asks_beyond (asked_with_list (map string_bytes words.now)))
         → IsFalse (is_beyond result.note) }

@@ -1,7 +1,7 @@
 //! The command `format`.
 ghost use Rattle.std.specs.Prelude.{◌≡◌, ◌≤◌, ℕ, List, [], Option, None, IsFalse};
 ghost use Rattle.fwu_journal.specs.Shown.{turns};
-ghost use Rattle.script_cmd.specs.Powered.{moment};
+ghost use Rattle.script_turns.specs.Powered.{moment};
 ghost use Rattle.script_cmd.specs.Formatting.{Formats, Tries, format_note, format_status};
 
 use crate::done::{Done, Note};

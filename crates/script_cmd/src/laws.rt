@@ -12,8 +12,8 @@ pub fn ways_end()
     ensures { WaysEnd }
 {}
 
-/// Whichever way a run ends, on any device, `show` tells `off` while off, and else the same numbers until the next boot, with
-/// the trials and the counter that the last boot told, and its fallback.
+/// Whichever way a run ends, on any device, its turns follow one another from the device as it was to what is left of it, each with
+/// the reply of its call, and what the agent keeps between two of them is what the last one left.
 pub fn ways_reply()
     ensures { WaysReply }
 {}

@@ -8,7 +8,6 @@ mod formatting;
 mod laws;
 mod opening;
 mod partitioned;
-mod powered;
 mod printing;
 mod reading;
 mod refusing;
@@ -16,7 +15,6 @@ mod room;
 mod running;
 mod showing;
 mod top;
-mod turning;
 
 pub use done::{Done, NoTable, Note};
 pub use laws::{

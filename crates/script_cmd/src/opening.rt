@@ -7,7 +7,7 @@ ghost use Rattle.gpt_core.specs.PlacesOf.{places_of};
 ghost use Rattle.gpt_core.specs.Repair.{HeadersGuarded, Mends, StaysBeside};
 ghost use Rattle.gpt_core.specs.Table.{FitsTable, table_in_image};
 ghost use Rattle.script_cmd.specs.ByTable.{Opens, Waits, goes_on, lacked_by, lacked_in};
-ghost use Rattle.script_cmd.specs.Powered.{moment};
+ghost use Rattle.script_turns.specs.Powered.{moment};
 
 use crate::done::NoTable;
 use flash_core::{Flash, FlashStop};

@@ -2,7 +2,7 @@
 ghost use Rattle.std.specs.Prelude.{◌≡◌, ◌≤◌, Option, Some, None, [], IsTrue, IsFalse, length};
 ghost use Rattle.flash_core.specs.Told.{NothingDirty};
 ghost use Rattle.fwu_model.specs.Causes.{Faults};
-ghost use Rattle.fwu_model.specs.State.{Numbers};
+ghost use Rattle.agent_machine.specs.Fields.{Fields};
 ghost use Rattle.fwu_journal.specs.Room.{HasRoom};
 ghost use Rattle.fwu_journal.specs.Shown.{HasRoomFor, turns};
 ghost use Rattle.fwu_journal.specs.declared.line.TheConstants.{LINE_ROOM};
@@ -12,21 +12,21 @@ ghost use Rattle.gpt_core.specs.Mapped.{device, places_of};
 ghost use Rattle.gpt_core.specs.Places.{Fit};
 ghost use Rattle.script_cmd.specs.ByTable.{seen_at};
 ghost use Rattle.script_cmd.specs.Noted.{is_beyond, noted};
-ghost use Rattle.script_cmd.specs.Powered.{at, moment};
-ghost use Rattle.script_cmd.specs.Running.{Ended, Printed, Ran};
+ghost use Rattle.script_turns.specs.Powered.{at, moment};
+ghost use Rattle.script_cmd.specs.Running.{Ended, Printed, Ran, sends_none};
 ghost use Rattle.script_cmd.specs.Ways.{Given};
 ghost use Rattle.script_cmd.specs.WaysByTable.{ReadsScript, WayByTable};
 
 use crate::done::{Done, Note};
 use crate::opening::{Unopened, open};
-use crate::powered::{Fresh, Powered};
 use crate::refusing::{idle, refuse_stop, refuse_table};
 use crate::room::Room;
 use crate::running::run_script;
 use flash_core::Flash;
 use gpt_core::{Mapped, Places, Start};
-use host_io::Sink;
+use host_io::{Files, Sink};
 use script_text::Script;
+use script_turns::{Fresh, Powered};
 use std::alloc::Global;
 use std::marker::Brand;
 use verify_core::Verifier;
@@ -57,9 +57,11 @@ fn unmapped<D: Flash, K: Start>(done: Done<Mapped<D, K>>) -> Done<D>
 }
 
 /// Does the calls of a script on the flash that a device has at these places. The device is on, with nothing dirty.
-fn run_mapped<D: Flash, K: Start, O: Sink, V: Verifier>(
+fn run_mapped<D: Flash, K: Start, H: Files, O: Sink, V: Verifier>(
+    alloc: Global,
     room: Room,
-    script: &Script,
+    script: Script,
+    files: &mut H,
     sink: &mut O,
     flash: D,
     places: Places,
@@ -73,14 +75,16 @@ fn run_mapped<D: Flash, K: Start, O: Sink, V: Verifier>(
     requires size { D.blocks flash ≡ K.blocks }
     requires start { IsTrue D.tells → D.told flash ≡ K.was }
     requires no_turns { turns room.journal ≡ [] }
-    requires turns_fit { HasRoomFor room.journal (length script.now) }
+    requires turns_fit { HasRoomFor room.journal (length script) }
     requires line_fits { HasRoom room.text LINE_ROOM }
-    ensures ran { (on : Option Numbers) × Ran (V.passes verifier.now) D.tells (turns result.journal)
-        (seen_at places (moment D.told D.counts D.arming D.on flash))
+    ensures ran { (on : Option Fields) × Ran (V.passes verifier.now) D.tells (H.contents files.old)
+        (turns result.journal) (seen_at places (moment D.told D.counts D.arming D.on flash))
         (seen_at places (at on (D.told result.flash) (D.counts result.flash)
-        (D.arming result.flash) (D.on result.flash))) }
+        (D.arming result.flash) (D.on result.flash))) (H.faults files.old) (H.faults files.new) }
+    ensures same_files { H.contents files.new ≡ H.contents files.old }
+    ensures files { IsTrue (sends_none script) → files.new ≡ files.old }
     ensures beside { IsTrue D.tells → Beside places (D.told flash) (D.told result.flash) }
-    ensures ended { Ended script.now (turns result.journal) result.status (noted result.note) }
+    ensures ended { Ended script (turns result.journal) result.status (noted result.note) }
     ensures note { IsFalse (is_beyond result.note) }
     ensures printed { Printed (turns result.journal) result.status (O.taken sink.old)
         (O.taken sink.new) (O.faults sink.old) (O.faults sink.new) }
@@ -88,13 +92,15 @@ fn run_mapped<D: Flash, K: Start, O: Sink, V: Verifier>(
 {
     let mapped = Mapped::<D, K>::new(flash, places);
     let start = Powered::Fresh(Fresh { flash: mapped });
-    unmapped(run_script(room, script, sink, start, verifier))
+    unmapped(run_script(alloc, room, script, files, sink, start, verifier))
 }
 
 /// The same, with what the device told as the places' key.
-fn run_at<D: Flash, O: Sink, V: Verifier>(
+fn run_at<D: Flash, H: Files, O: Sink, V: Verifier>(
+    alloc: Global,
     room: Room,
-    script: &Script,
+    script: Script,
+    files: &mut H,
     sink: &mut O,
     flash: D,
     places: Places,
@@ -105,28 +111,31 @@ fn run_at<D: Flash, O: Sink, V: Verifier>(
     requires unarmed { D.arming flash ≡ None }
     requires fit { Fit (D.blocks flash) places }
     requires no_turns { turns room.journal ≡ [] }
-    requires turns_fit { HasRoomFor room.journal (length script.now) }
+    requires turns_fit { HasRoomFor room.journal (length script) }
     requires line_fits { HasRoom room.text LINE_ROOM }
-    ensures ran { (on : Option Numbers) × Ran (V.passes verifier.now) D.tells (turns result.journal)
-        (seen_at places (moment D.told D.counts D.arming D.on flash))
+    ensures ran { (on : Option Fields) × Ran (V.passes verifier.now) D.tells (H.contents files.old)
+        (turns result.journal) (seen_at places (moment D.told D.counts D.arming D.on flash))
         (seen_at places (at on (D.told result.flash) (D.counts result.flash)
-        (D.arming result.flash) (D.on result.flash))) }
+        (D.arming result.flash) (D.on result.flash))) (H.faults files.old) (H.faults files.new) }
+    ensures same_files { H.contents files.new ≡ H.contents files.old }
+    ensures files { IsTrue (sends_none script) → files.new ≡ files.old }
     ensures beside { IsTrue D.tells → Beside places (D.told flash) (D.told result.flash) }
-    ensures ended { Ended script.now (turns result.journal) result.status (noted result.note) }
+    ensures ended { Ended script (turns result.journal) result.status (noted result.note) }
     ensures note { IsFalse (is_beyond result.note) }
     ensures printed { Printed (turns result.journal) result.status (O.taken sink.old)
         (O.taken sink.new) (O.faults sink.old) (O.faults sink.new) }
     ensures size { D.blocks result.flash ≡ D.blocks flash }
 {
-    run_mapped::<D, Brand, O, V>(room, script, sink, flash, places, verifier)
+    run_mapped::<D, Brand, H, O, V>(alloc, room, script, files, sink, flash, places, verifier)
 }
 
 /// Powers a device on, reads and repairs its partition table, and does the calls of a script on the flash behind it. Where the table
 /// gives no flash the status is 10, and where power is lost or the flash fails before the first turn it is 5.
-pub fn run_by_table<D: Flash, O: Sink, V: Verifier>(
+pub fn run_by_table<D: Flash, H: Files, O: Sink, V: Verifier>(
     alloc: Global,
     room: Room,
-    script: &Script,
+    script: Script,
+    files: &mut H,
     sink: &mut O,
     flash: D,
     verifier: &V,
@@ -134,21 +143,25 @@ pub fn run_by_table<D: Flash, O: Sink, V: Verifier>(
     requires off { IsFalse (D.on flash) }
     requires unarmed { D.arming flash ≡ None }
     requires no_turns { turns room.journal ≡ [] }
-    requires turns_fit { HasRoomFor room.journal (length script.now) }
+    requires turns_fit { HasRoomFor room.journal (length script) }
     requires line_fits { HasRoom room.text LINE_ROOM }
     ensures way { (asked : Option Asked) (g : Given) (was are : Faults)
-        → ReadsScript asked g script.now
+        → ReadsScript asked g script → g.files ≡ H.contents files.old
+        → was.files ≤ H.faults files.old
         → WayByTable (V.passes verifier.now) D.tells (D.blocks flash) asked g (turns result.journal)
         result.status result.note (moment D.told D.counts D.arming D.on flash)
         (moment D.told D.counts D.arming D.on result.flash) (O.taken sink.old)
         (O.taken sink.new) (record was { sink = O.faults sink.old })
-        (record are { sink = O.faults sink.new }) }
+        (record are { files = H.faults files.new; sink = O.faults sink.new }) }
     ensures later { O.faults sink.old ≤ O.faults sink.new }
+    ensures later_files { H.faults files.old ≤ H.faults files.new }
+    ensures same_files { H.contents files.new ≡ H.contents files.old }
+    ensures files { IsTrue (sends_none script) → files.new ≡ files.old }
     ensures size { D.blocks result.flash ≡ D.blocks flash }
 {
     let mut flash = flash;
     match open(alloc, &mut flash) {
-        Ok(places) => run_at(room, script, sink, flash, places, verifier),
+        Ok(places) => run_at(alloc, room, script, files, sink, flash, places, verifier),
         Err(Unopened::Lacks(why)) => refuse_table(alloc, sink, why, flash),
         Err(Unopened::Stopped) => refuse_stop(alloc, sink, flash),
         Err(Unopened::NoMemory) => idle(alloc, 9, Note::Nothing, flash),

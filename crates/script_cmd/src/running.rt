@@ -1,27 +1,28 @@
 //! The turns of a script, one after the other.
 ghost use Rattle.std.specs.Prelude.{◌≡◌, ◌≤◌, ◌+◌, ℕ, Option, Some, None, [], IsTrue, IsFalse, length, vec_capacity};
-ghost use Rattle.fwu_model.specs.State.{Numbers};
+ghost use Rattle.agent_machine.specs.Fields.{Fields};
 ghost use Rattle.fwu_model.specs.Causes.{status_by, note_by};
 ghost use Rattle.fwu_model.specs.Text.{line};
-ghost use Rattle.script_text.specs.Built.{IsArmable};
-ghost use Rattle.script_text.specs.Shown.{shown};
+ghost use Rattle.script_text.specs.Armable.{IsArmable};
+ghost use Rattle.script_text.specs.Shown.{HasBuffer, shown};
 ghost use Rattle.fwu_journal.specs.Room.{HasRoom};
-ghost use Rattle.fwu_journal.specs.Shown.{HasRoomFor, reply, turn as shown_turn, turns};
+ghost use Rattle.fwu_journal.specs.Shown.{HasRoomFor, IsShort, reply, turn as shown_turn, turns};
 ghost use Rattle.fwu_journal.specs.declared.line.TheConstants.{LINE_ROOM};
-ghost use Rattle.script_cmd.specs.Powered.{at, device, has_power, moment, shown_on};
+ghost use Rattle.script_turns.specs.Powered.{at, device, has_power, moment, moment_of, shown_on};
 ghost use Rattle.script_cmd.specs.Noted.{is_beyond, noted};
 ghost use Rattle.script_cmd.specs.Printed.{Prints};
-ghost use Rattle.script_cmd.specs.Running.{Ended, Printed, Ran, Steps};
+ghost use Rattle.script_cmd.specs.Running.{Ended, Printed, Ran, Steps, sends_none};
+ghost use Rattle.fwu_model.specs.Run.{is_send};
 
 use crate::done::{Done, Note};
-use crate::powered::Powered;
 use crate::printing::put_line;
 use crate::room::Room;
-use crate::turning::{Turned, turn};
 use flash_core::Flash;
 use fwu_journal::{Journal, Reply, Turn, add_line};
-use host_io::Sink;
+use host_io::{Files, Sink};
 use script_text::{Call, Script};
+use script_turns::{Powered, Turned, turn};
+use std::alloc::Global;
 use verify_core::Verifier;
 
 /// A run between two turns.
@@ -51,9 +52,10 @@ fn status_of(last: &Reply) -> u8
     ensures { result ≡ status_by (reply last.now) }
 {
     match last {
+        Reply::ReadFault => 2,
         Reply::Fault => 5,
         Reply::NotBooted(_) => 6,
-        Reply::Off | Reply::Lost | Reply::Booted { .. } | Reply::CutOk | Reply::Shown(_) => 0,
+        _ => 0,
     }
 }
 
@@ -64,18 +66,14 @@ fn note_of(last: &Reply) -> Note
 {
     match last {
         Reply::NotBooted(why) => Note::Boot(*why),
-        Reply::Fault
-        | Reply::Off
-        | Reply::Lost
-        | Reply::Booted { .. }
-        | Reply::CutOk
-        | Reply::Shown(_) => Note::Nothing,
+        _ => Note::Nothing,
     }
 }
 
 /// Prints the line of a turn, and tells how the run ends where it ends by it: at the status 0 it goes on.
 fn print_turn<O: Sink>(text: &mut Vec<u8>, next: &Turn, sink: &mut O) -> End
-    requires { LINE_ROOM ≤ vec_capacity text.old }
+    requires line_fits { LINE_ROOM ≤ vec_capacity text.old }
+    requires short { IsShort (shown_turn next.now).reply }
     ensures prints { Prints (line (shown_turn next.now).call (shown_turn next.now).reply)
         (status_by (shown_turn next.now).reply) result.status (O.taken sink.old) (O.taken sink.new)
         (O.faults sink.old) (O.faults sink.new) }
@@ -91,25 +89,24 @@ fn print_turn<O: Sink>(text: &mut Vec<u8>, next: &Turn, sink: &mut O) -> End
     }
 }
 
-/// Does a call, keeps its turn, and prints its line.
-fn step<D: Flash, O: Sink, V: Verifier>(
+/// Does a call, prints its line, and keeps its turn.
+fn step<D: Flash, H: Files, O: Sink, V: Verifier>(
+    alloc: Global,
     running: Running<D>,
     call: Call,
+    files: &mut H,
     sink: &mut O,
     verifier: &V,
 ) -> Stepped<D>
     requires powered { D.on (device running.powered) ≡ has_power running.powered }
     requires armable { IsArmable (shown call) }
+    requires buffer { HasBuffer call }
     requires turn_fits { HasRoomFor running.journal 1 }
     requires line_fits { LINE_ROOM ≤ vec_capacity running.text }
-    ensures steps { Steps (V.passes verifier.now) D.tells (shown call) (turns running.journal)
-        (turns result.running.journal)
-        (at (shown_on running.powered) (D.told (device running.powered))
-        (D.counts (device running.powered)) (D.arming (device running.powered))
-        (D.on (device running.powered)))
-        (at (shown_on result.running.powered) (D.told (device result.running.powered))
-        (D.counts (device result.running.powered)) (D.arming (device result.running.powered))
-        (D.on (device result.running.powered))) result.end.status (noted result.end.note)
+    ensures steps { Steps (V.passes verifier.now) D.tells (H.contents files.old) (shown call)
+        (turns running.journal) (turns result.running.journal)
+        (moment_of running.powered) (moment_of result.running.powered)
+        (H.faults files.old) (H.faults files.new) result.end.status (noted result.end.note)
         (O.taken sink.old) (O.taken sink.new) (O.faults sink.old) (O.faults sink.new) }
     ensures note { IsFalse (is_beyond result.end.note) }
     // Where the run goes on.
@@ -119,6 +116,8 @@ fn step<D: Flash, O: Sink, V: Verifier>(
         → HasRoomFor result.running.journal n }
     ensures line_fits { LINE_ROOM ≤ vec_capacity result.running.text }
     ensures size { D.blocks (device result.running.powered) ≡ D.blocks (device running.powered) }
+    ensures same_files { H.contents files.new ≡ H.contents files.old }
+    ensures files { IsFalse (is_send (shown call)) → files.new ≡ files.old }
 {
     let Running {
         powered,
@@ -128,9 +127,9 @@ fn step<D: Flash, O: Sink, V: Verifier>(
     let Turned {
         turn: next,
         powered,
-    } = turn(powered, call, verifier);
-    journal.add(next);
+    } = turn(alloc, powered, call, files, verifier);
     let end = print_turn(&mut text, &next, sink);
+    journal.add(next);
     Stepped {
         running: Running {
             powered,
@@ -161,12 +160,14 @@ fn done<D: Flash>(running: Running<D>, end: End) -> Done<D>
     }
 }
 
-/// Does the calls of a script in their order, and puts the line of each into the sink. A turn that the flash failed, or that found
-/// nothing to boot, ends the run after its line, and so does a line that the sink did not take. The room is for all turns. No bank was
-/// booted on the flash.
-pub fn run_script<D: Flash, O: Sink, V: Verifier>(
+/// Does the calls of a script in their order, and puts the line of each into the sink. A turn that the flash failed, that found nothing
+/// to boot, or whose file could not be read ends the run after its line, and so does a line that the sink did not take. The room is for
+/// all turns. No bank was started on the flash.
+pub fn run_script<D: Flash, H: Files, O: Sink, V: Verifier>(
+    alloc: Global,
     room: Room,
-    script: &Script,
+    script: Script,
+    files: &mut H,
     sink: &mut O,
     start: Powered<D>,
     verifier: &V,
@@ -175,18 +176,20 @@ pub fn run_script<D: Flash, O: Sink, V: Verifier>(
     requires not_booted { shown_on start ≡ None }
     requires unarmed { D.arming (device start) ≡ None }
     requires no_turns { turns room.journal ≡ [] }
-    requires turns_fit { HasRoomFor room.journal (length script.now) }
+    requires turns_fit { HasRoomFor room.journal (length script) }
     requires line_fits { HasRoom room.text LINE_ROOM }
 
-    ensures ran { (on : Option Numbers) × Ran (V.passes verifier.now) D.tells (turns result.journal)
-        (moment D.told D.counts D.arming D.on (device start))
+    ensures ran { (on : Option Fields) × Ran (V.passes verifier.now) D.tells (H.contents files.old)
+        (turns result.journal) (moment D.told D.counts D.arming D.on (device start))
         (at on (D.told result.flash) (D.counts result.flash) (D.arming result.flash)
-        (D.on result.flash)) }
-    ensures ended { Ended script.now (turns result.journal) result.status (noted result.note) }
+        (D.on result.flash)) (H.faults files.old) (H.faults files.new) }
+    ensures ended { Ended script (turns result.journal) result.status (noted result.note) }
     ensures note { IsFalse (is_beyond result.note) }
     ensures printed { Printed (turns result.journal) result.status (O.taken sink.old)
         (O.taken sink.new) (O.faults sink.old) (O.faults sink.new) }
     ensures size { D.blocks result.flash ≡ D.blocks (device start) }
+    ensures same_files { H.contents files.new ≡ H.contents files.old }
+    ensures files { IsTrue (sends_none script) → files.new ≡ files.old }
 {
     let Room { journal, text } = room;
     let mut running = Running {
@@ -194,11 +197,13 @@ pub fn run_script<D: Flash, O: Sink, V: Verifier>(
         journal,
         text,
     };
+    let mut script = script;
     for index in 0..script.len() {
+        let call = script.take(index);
         let Stepped {
             running: after,
             end,
-        } = step(running, script.at(index), sink, verifier);
+        } = step(alloc, running, call, files, sink, verifier);
         running = after;
         if end.status != 0 {
             return done(running, end);

@@ -6,10 +6,10 @@ ghost use Rattle.fwu_journal.specs.Room.{Grows, HasRoom};
 ghost use Rattle.fwu_journal.specs.Shown.{turns};
 ghost use Rattle.fwu_journal.specs.declared.line.TheConstants.{LINE_ROOM};
 ghost use Rattle.fwu_model.specs.Causes.{Faults};
-ghost use Rattle.script_cmd.specs.Powered.{moment};
+ghost use Rattle.script_turns.specs.Powered.{moment};
 ghost use Rattle.script_cmd.specs.Ways.{Given, HasGoodList};
 ghost use Rattle.script_cmd.specs.Noted.{is_beyond, noted};
-ghost use Rattle.script_cmd.specs.Turning.{NoneFalls};
+ghost use Rattle.script_turns.specs.Turning.{NoneFalls};
 ghost use Rattle.script_cmd.specs.Showing.{Finds, Showed, shown_line, not_shown_line};
 
 use crate::done::{Done, Note};

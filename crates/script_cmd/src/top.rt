@@ -5,9 +5,9 @@ ghost use Rattle.fwu_formats.specs.Layout.{ImageRow};
 ghost use Rattle.fwu_journal.specs.Shown.{turns};
 ghost use Rattle.fwu_words.specs.Order.{Asked, asked};
 ghost use Rattle.fwu_words.specs.Order as ask;
-ghost use Rattle.script_cmd.specs.Asking.{asked_with_list, asks_beyond, asks_format, asks_run};
+ghost use Rattle.script_cmd.specs.Asking.{asked_with_list, asks_beyond, asks_files, asks_run};
 ghost use Rattle.script_cmd.specs.Formatting.{FormattedBy};
-ghost use Rattle.script_cmd.specs.Powered.{moment};
+ghost use Rattle.script_turns.specs.Powered.{moment};
 ghost use Rattle.script_cmd.specs.Noted.{is_beyond, noted};
 ghost use Rattle.script_cmd.specs.Promises.{Promised};
 ghost use Rattle.script_cmd.specs.PromisesByTable.{PromisedByTable};
@@ -25,9 +25,11 @@ use verify_core::Verifier;
 /// Does what the words behind the name of the flash ask for, by a verifier that says whose manifests pass.
 ///
 /// `run` reads the source to its end, reads the script, and only then does its lines in order; `boot` is the script of the one line
-/// `boot`. Each line that is a call is one turn, which is kept in the journal and printed in one piece. `show` prints what the flash
-/// shows. `format` makes a layout and stores a package. The room for all turns and for the longest line is made before the first turn,
-/// and status 9 with an empty journal means that there was none.
+/// `boot`. Each line that is a call is one turn, which is kept in the journal and printed in one piece. A line of `send` reads the file
+/// that it names, and no other line reads one. Where that file can't be read, the flash failed or nothing could be booted, the run ends
+/// after the line of that turn, by the status 2, 5 or 6. `show` prints what the flash shows. `format` makes a layout and stores a
+/// package. The room for all turns and for the longest line is made before the first turn, and status 9 with an empty journal means
+/// that there was none.
 pub fn fwu_top_with<D: Flash, H: Files, I: Source, O: Sink, V: Verifier>(
     alloc: Global,
     words: &[String],
@@ -87,8 +89,8 @@ pub fn fwu_top_with<D: Flash, H: Files, I: Source, O: Sink, V: Verifier>(
     // Only `run` reads the source.
     ensures source { IsFalse (asks_run (asked (map string_bytes words.now)))
         → source.new ≡ source.old }
-    // Only `format` and a list name files.
-    ensures files { IsFalse (asks_format (asked (map string_bytes words.now)))
+    // Only `run`, `format` and a list read files.
+    ensures files { IsFalse (asks_files (asked (map string_bytes words.now)))
         → files.new ≡ files.old }
     // What was given is noted by `format` alone, and what a table lacks with `--gpt` alone.
     ensures note { IsFalse (asks_beyond (asked (map string_bytes words.now)))
@@ -191,9 +193,9 @@ pub fn fwu_top<D: Flash, H: Files, I: Source, O: Sink>(
     // Only `run` reads the source.
     ensures source { IsFalse (asks_run (asked_with_list (map string_bytes words.now)))
         → source.new ≡ source.old }
-    // Only `format` and a list name files.
+    // Only `run`, `format` and a list read files.
     ensures files { list_name (map string_bytes words.now) ≡ None
-        → IsFalse (asks_format (asked_with_list (map string_bytes words.now)))
+        → IsFalse (asks_files (asked_with_list (map string_bytes words.now)))
         → files.new ≡ files.old }
     // What was given is noted by `format` alone, and what a table lacks with `--gpt` alone.
     ensures note { IsFalse (asks_beyond (asked_with_list (map string_bytes words.now)))

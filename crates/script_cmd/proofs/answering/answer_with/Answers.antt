@@ -1,5 +1,5 @@
 use Rattle.script_cmd.proofs.TopFormats.{formatted-as}
-use Rattle.std.proofs.Common.{Some, None, ap, inr, map, refl}
+use Rattle.std.proofs.Common.{Some, None, ap, inr, map, refl, arith}
 use Rattle.std.specs.Prelude.{string_bytes}
 use Rattle.fwu_words.specs.Order.{asked}
 use Rattle.fwu_model.specs.Wrote.{usage_line}
@@ -7,7 +7,7 @@ use Rattle.fwu_model.specs.declared.kinds.Note.TheVariants as note
 use Rattle.fwu_words.specs.Order as ask
 use Rattle.script_cmd.specs.Noted.{noted}
 use Rattle.script_cmd.specs.Ways.{usage}
-use Rattle.script_cmd.proofs.PromiseWords.{boot-is-short}
+use Rattle.script_cmd.proofs.PromiseWords.{boot-is-script, boot-is-short}
 use Rattle.script_cmd.proofs.TableWays.{not-over, table-of-boot, table-of-run, table-starved}
 use Rattle.script_cmd.proofs.TopShows.{showed-by}
 use Rattle.script_cmd.proofs.TopWays.{no-list-named, refused-by, same-moment, way-of-boot, way-of-run}
@@ -17,7 +17,7 @@ pub returns-in-Ok-Run-clause-way : goal.returns-in-Ok-Run-clause-way
 returns-in-Ok-Run-clause-way g c = λ plain.
     let files = g.H.Files.faults c.args.files.now in
     way-of-run _ _ _ _ _ _ _ _ _ _ (g.H.Files.contents c.args.files.now) (g.I.Source.left c.args.source.now) _ _ (rw c.in-Ok-Run.field-0-is at c.in-Ok-Run.ensures)
-    (c.run_source.ensures.way (record { list = None; files = g.H.Files.contents c.args.files.now; script = None }) (record { files = files; source = 0; sink = 0 }) (record { files = files; source = 0; sink = 0 }) no-list-named)
+    (c.run_source.ensures.way (record { list = None; files = g.H.Files.contents c.args.files.now; script = None }) (record { files = files; source = 0; sink = 0 }) (record { files = files; source = 0; sink = 0 }) no-list-named refl (omega arith))
 
 pub run_text-requires-clause-within : goal.run_text-requires-clause-within
 run_text-requires-clause-within g c = boot-is-short
@@ -27,7 +27,10 @@ returns-in-Ok-Boot-clause-way g c = λ plain.
     let files = g.H.Files.faults c.args.files.now in
     let source = g.I.Source.faults c.args.source.now in
     way-of-boot _ _ _ _ _ _ _ _ _ _ (g.H.Files.contents c.args.files.now) (g.I.Source.left c.args.source.now) _ _ (rw c.in-Ok-Boot.field-0-is at c.in-Ok-Boot.ensures)
-    (c.run_text.ensures.way (Some ask.boot) _ (record { files = files; source = source; sink = 0 }) (record { files = files; source = source; sink = 0 }) no-list-named (inr refl) refl)
+    (c.run_text.ensures.way (Some ask.boot) _ (record { files = files; source = source; sink = 0 }) (record { files = files; source = source; sink = 0 }) no-list-named (inr refl) refl refl (omega arith))
+
+pub returns-in-Ok-Boot-clause-files : goal.returns-in-Ok-Boot-clause-files
+returns-in-Ok-Boot-clause-files g c = λ unread. c.run_text.ensures.files _ boot-is-script refl
 
 pub returns-in-Err-Usage-clause-way : goal.returns-in-Err-Usage-clause-way
 returns-in-Err-Usage-clause-way g c = λ plain.
@@ -61,7 +64,7 @@ pub returns-in-Ok-RunPartitioned-clause-by_table : goal.returns-in-Ok-RunPartiti
 returns-in-Ok-RunPartitioned-clause-by_table g c = λ plain over.
     let files = g.H.Files.faults c.args.files.now in
     table-of-run _ _ _ _ _ _ _ _ _ _ _ plain (g.H.Files.contents c.args.files.now) (g.I.Source.left c.args.source.now) _ _ (rw c.in-Ok-RunPartitioned.field-0-is at c.in-Ok-RunPartitioned.ensures) over
-    (c.run_source_by_table.ensures.way (record { list = None; files = g.H.Files.contents c.args.files.now; script = None }) (record { files = files; source = 0; sink = 0 }) (record { files = files; source = 0; sink = 0 }) no-list-named)
+    (c.run_source_by_table.ensures.way (record { list = None; files = g.H.Files.contents c.args.files.now; script = None }) (record { files = files; source = 0; sink = 0 }) (record { files = files; source = 0; sink = 0 }) no-list-named refl (omega arith))
 
 pub returns-in-Ok-Boot-clause-by_table : goal.returns-in-Ok-Boot-clause-by_table
 returns-in-Ok-Boot-clause-by_table g c = λ plain over. absurd (not-over _ _ plain (rw c.in-Ok-Boot.field-0-is at c.in-Ok-Boot.ensures) refl over)
@@ -74,7 +77,10 @@ returns-in-Ok-BootPartitioned-clause-by_table g c = λ plain over.
     let files = g.H.Files.faults c.args.files.now in
     let source = g.I.Source.faults c.args.source.now in
     table-of-boot _ _ _ _ _ _ _ _ _ _ _ plain (g.H.Files.contents c.args.files.now) (g.I.Source.left c.args.source.now) _ _ (rw c.in-Ok-BootPartitioned.field-0-is at c.in-Ok-BootPartitioned.ensures) over
-    (c.run_text_by_table.ensures.way (Some ask.boot) _ (record { files = files; source = source; sink = 0 }) (record { files = files; source = source; sink = 0 }) no-list-named (inr refl) refl)
+    (c.run_text_by_table.ensures.way (Some ask.boot) _ (record { files = files; source = source; sink = 0 }) (record { files = files; source = source; sink = 0 }) no-list-named (inr refl) refl refl (omega arith))
+
+pub returns-in-Ok-BootPartitioned-clause-files : goal.returns-in-Ok-BootPartitioned-clause-files
+returns-in-Ok-BootPartitioned-clause-files g c = λ unread. c.run_text_by_table.ensures.files _ boot-is-script refl
 
 pub returns-in-Ok-Show-clause-by_table : goal.returns-in-Ok-Show-clause-by_table
 returns-in-Ok-Show-clause-by_table g c = λ plain over. absurd (not-over _ _ plain (rw c.in-Ok-Show.field-0-is at c.in-Ok-Show.ensures) refl over)

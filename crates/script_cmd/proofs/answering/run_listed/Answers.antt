@@ -40,7 +40,7 @@ returns-in-Ok-read-clause-way g c = λ plain.
     inl (
       passes_listed digests,
       reads-list name bytes digests files whole read,
-      with-list _ _ _ _ _ _ _ _ _ _ _ files name _ _ _ _ (good-list files name bytes digests whole read) c.read_file.ensures.later refl refl (c.answer_with.ensures.way plain),
+      with-list _ _ _ _ _ _ _ _ _ _ _ files name _ _ _ _ c.read_file.ensures.same (good-list files name bytes digests whole read) c.read_file.ensures.later refl refl (c.answer_with.ensures.way plain),
     )
 
 pub returns-in-Err-BadLine-clause-way : goal.returns-in-Err-BadLine-clause-way
@@ -96,7 +96,7 @@ returns-in-Ok-read-clause-by_table g c = λ plain over.
     inl (
       passes_listed digests,
       reads-list name bytes digests files whole read,
-      table-with-list _ _ _ _ _ _ _ _ _ _ _ _ files name _ _ _ _ (good-list files name bytes digests whole read) c.read_file.ensures.later refl refl (c.answer_with.ensures.by_table plain over),
+      table-with-list _ _ _ _ _ _ _ _ _ _ _ _ files name _ _ _ _ c.read_file.ensures.same (good-list files name bytes digests whole read) c.read_file.ensures.later refl refl (c.answer_with.ensures.by_table plain over),
     )
 
 pub returns-in-Err-BadLine-clause-by_table : goal.returns-in-Err-BadLine-clause-by_table

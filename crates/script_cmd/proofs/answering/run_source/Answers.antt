@@ -8,19 +8,19 @@ use Rattle.script_cmd.proofs.TopWays.{of-told, refused-by, same-moment}
 use Rattle.script_cmd.proofs.answering.run_source.Goals as goal
 
 pub returns-in-Ok-clause-way : goal.returns-in-Ok-clause-way
-returns-in-Ok-clause-way g c = λ given was are listed.
+returns-in-Ok-clause-way g c = λ given was are listed told later.
     c.run_text.ensures.way (Some ask.run) (record given { script = g.I.Source.left c.args.source.now }) (record was { source = g.I.Source.faults c.args.source.now })
     (record are { source = g.I.Source.faults c.read_source.new.source }) listed (inl refl)
-    (of-told _ _ (λ rest is. sym (c.in-Ok.ensures.whole rest is).0 ∙ sym c.as_slice.ensures.value))
+    (of-told _ _ (λ rest is. sym (c.in-Ok.ensures.whole rest is).0 ∙ sym c.as_slice.ensures.value)) told later
 
 pub returns-in-Err-Failed-clause-way : goal.returns-in-Err-Failed-clause-way
-returns-in-Err-Failed-clause-way g c = λ given was are listed.
+returns-in-Err-Failed-clause-way g c = λ given was are listed told later.
     let e = c.refuse_reading.ensures in
     refused-by _ _ _ _ _ _ _ _ _ (Some ask.run) _ _ _ 2 not_read_line note.Nothing e.no_turns (same-moment g.D.Flash.told g.D.Flash.counts g.D.Flash.arming g.D.Flash.on _ _ e.flash) (ap noted e.note)
     (not_read listed refl (c.in-Err-Failed.ensures.failed (ap Err c.in-Err-Failed.field-0-is))) e.prints
 
 pub returns-in-Err-TooLong-clause-way : goal.returns-in-Err-TooLong-clause-way
-returns-in-Err-TooLong-clause-way g c = λ given was are listed.
+returns-in-Err-TooLong-clause-way g c = λ given was are listed told later.
     let e = c.refuse_length.ensures in
     refused-by _ _ _ _ _ _ _ _ _ (Some ask.run) _ _ _ 8 too_long_line note.Nothing e.no_turns (same-moment g.D.Flash.told g.D.Flash.counts g.D.Flash.arming g.D.Flash.on _ _ e.flash) (ap noted e.note)
     (too_long listed refl (of-told _ _ (λ rest is. c.in-Err-TooLong.ensures.long (ap Err c.in-Err-TooLong.field-0-is) rest is))) e.prints

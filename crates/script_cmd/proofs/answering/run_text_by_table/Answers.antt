@@ -8,7 +8,7 @@ use Rattle.script_cmd.proofs.TopWays.{of-script, same-moment}
 use Rattle.script_cmd.proofs.answering.run_text_by_table.Goals as goal
 
 pub returns-in-Err-BadLine-clause-way : goal.returns-in-Err-BadLine-clause-way
-returns-in-Err-BadLine-clause-way g c = λ asked given was are listed asks is.
+returns-in-Err-BadLine-clause-way g c = λ asked given was are listed asks is told later.
     let e = c.refuse_script.ensures in
     let line = c.in-Err-BadLine.line in
     let text = c.args.text.now in
@@ -19,19 +19,19 @@ returns-in-Err-BadLine-clause-way g c = λ asked given was are listed asks is.
     e.prints
 
 pub returns-in-Err-NoMemory-clause-way : goal.returns-in-Err-NoMemory-clause-way
-returns-in-Err-NoMemory-clause-way g c = λ asked given was are listed asks is.
+returns-in-Err-NoMemory-clause-way g c = λ asked given was are listed asks is told later.
     let e = c.idle.ensures in
     table-starved _ _ _ _ _ _ _ _ _ _ asked given _ _ e.no_turns (same-moment g.D.Flash.told g.D.Flash.counts g.D.Flash.arming g.D.Flash.on _ _ e.flash) e.status e.note refl
 
 pub returns-in-Ok-make-clause-way : goal.returns-in-Ok-make-clause-way
-returns-in-Ok-make-clause-way g c = λ asked given was are listed asks is.
+returns-in-Ok-make-clause-way g c = λ asked given was are listed asks is told later.
     c.run_by_table.ensures.way asked given was are (record {
       good = listed;
       asks = asks;
       has = of-script given.script c.args.text.now (λ (b : List ℕ). (is_too_long b ≡ false) × (script_of b ≡ Ok _)) is (c.requires.within, c.in-Ok.ensures.ok);
-    })
+    }) told later
 
-pub returns-clause-way : goal.returns-clause-way
-returns-clause-way g c = λ asked given was are listed asks is.
+pub returns-in-Err-clause-way : goal.returns-in-Err-clause-way
+returns-in-Err-clause-way g c = λ asked given was are listed asks is told later.
     let e = c.idle-in-Err.ensures in
     table-starved _ _ _ _ _ _ _ _ _ _ asked given _ _ e.no_turns (same-moment g.D.Flash.told g.D.Flash.counts g.D.Flash.arming g.D.Flash.on _ _ e.flash) e.status e.note refl

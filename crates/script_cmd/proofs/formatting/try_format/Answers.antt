@@ -1,6 +1,6 @@
 use Rattle.std.proofs.Common.{ℕ, None, ap, subst, ◌∙◌}
 use Rattle.script_cmd.specs.Formatting.{Tries}
-use Rattle.script_cmd.specs.Powered.{at}
+use Rattle.script_turns.specs.Powered.{at}
 use Rattle.script_cmd.proofs.ShowFlash.{power-on-guards, power-on-keeps, none-falls}
 use Rattle.script_cmd.proofs.FormatFlash.{stop-cause}
 use Rattle.script_cmd.proofs.formatting.try_format.Goals as goal

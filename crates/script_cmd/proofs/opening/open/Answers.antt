@@ -1,5 +1,5 @@
 use Rattle.std.proofs.Common.{refl}
-use Rattle.script_cmd.specs.Powered.{moment}
+use Rattle.script_turns.specs.Powered.{moment}
 use Rattle.script_cmd.proofs.TableOpens.{starts-from, stops-from, waits-idle}
 use Rattle.script_cmd.proofs.opening.open.Goals as goal
 

@@ -1,12 +1,17 @@
-use Rattle.std.proofs.Common.{◌≡◌, ◌+◌, ◌-◌, List, [], length, Option, None, refl, sym, subst, ◌∙◌, arith}
+use Rattle.std.proofs.Common.{◌≡◌, ◌+◌, ◌-◌, List, [], length, Option, None, Some, refl, sym, ap, subst, ◌∙◌, arith}
+use Rattle.std.specs.List.{slice_get}
+use Rattle.std.proofs.lemmas.List.{length-set}
+use Rattle.fwu_model.specs.Call.{Call}
+use Rattle.fwu_model.specs.Call as call
 use Rattle.fwu_model.specs.Reply.{Turn}
-use Rattle.fwu_model.specs.State.{Numbers}
+use Rattle.agent_machine.specs.Fields.{Fields}
 use Rattle.fwu_journal.specs.declared.journal.Journal.{Journal}
 use Rattle.fwu_journal.specs.Shown.{turns}
 use Rattle.script_text.specs.Shown.{shown}
-use Rattle.script_cmd.specs.Powered.{at, device, shown_on}
+use Rattle.script_turns.specs.Powered.{at, device, shown_on}
 use Rattle.script_cmd.specs.Running.{Ran}
-use Rattle.script_cmd.proofs.RunEnds.{GoesOn, goes-none, goes-on, ends-ran, ends-by, ends-printed, all-ended, all-printed}
+use Rattle.script_cmd.proofs.RunCalls.{left-behind, reads-none}
+use Rattle.script_cmd.proofs.RunEnds.{GoesOn, goes-none, goes-on, ends-ran, ends-by, ends-printed, all-ended, all-printed, steps-told}
 use Rattle.script_cmd.proofs.running.run_script.Goals as goal
 
 pub loop-index-init : goal.loop-index-init
@@ -14,55 +19,78 @@ loop-index-init g c =
     let d = device c.args.start in
     let old = at None (g.D.Flash.told d) (g.D.Flash.counts d) (g.D.Flash.arming d) (g.D.Flash.on d) in
     let passes = g.V.Verifier.passes c.args.verifier.now in
+    let files = g.H.Files.contents c.args.files.now in
+    let from = g.H.Files.faults c.args.files.now in
     let taken = g.O.Sink.taken c.args.sink.now in
     let was = g.O.Sink.faults c.args.sink.now in
     record {
-      goes = subst (λ (j : List Turn). GoesOn passes g.D.Flash.tells c.args.script.now 0 j old (at (shown_on c.args.start) old.told old.counts old.armed old.power) taken taken was was) (sym c.requires.no_turns)
-          (subst (λ (on : Option Numbers). GoesOn passes g.D.Flash.tells c.args.script.now 0 [] old (at on old.told old.counts old.armed old.power) taken taken was was) (sym c.requires.not_booted)
-          (goes-none passes g.D.Flash.tells c.args.script.now old taken was refl));
+      goes = subst (λ (j : List Turn). GoesOn passes g.D.Flash.tells files c.args.script 0 j old (at (shown_on c.args.start) old.told old.counts old.armed old.power) from from taken taken was was) (sym c.requires.no_turns)
+          (subst (λ (on : Option Fields). GoesOn passes g.D.Flash.tells files c.args.script 0 [] old (at on old.told old.counts old.armed old.power) from from taken taken was was) (sym c.requires.not_booted)
+          (goes-none passes g.D.Flash.tells files c.args.script old from taken was refl));
+      length_is = refl;
+      calls_left = λ k behind. refl;
       powered = c.requires.powered;
       turns_fit = omega (arith, c.requires.turns_fit);
       line_fits = omega (arith, c.requires.line_fits);
       size = refl;
+      same_files = refl;
+      files = λ none. refl;
     }
 
 pub loop-index-preserved : goal.loop-index-preserved
-loop-index-preserved g c = record {
-  goes = goes-on _ _ _ _ _ _ c.loop-index.index (shown c.at.result) _ _ _ _ _ _ _ _ _ _ refl c.loop-index.invariant.goes c.at.ensures.call c.step-after.ensures.steps c.if-end-ne0.false;
-  powered = c.step-after.ensures.powered c.if-end-ne0.false;
-  turns_fit = c.step-after.ensures.turns_fit (length c.args.script.now - (c.loop-index.index + 1)) (omega (arith, c.loop-index.invariant.turns_fit));
-  line_fits = c.step-after.ensures.line_fits;
-  size = c.step-after.ensures.size ∙ c.loop-index.invariant.size;
-}
+loop-index-preserved g c =
+    let was = c.loop-index.invariant in
+    let taken_call = shown c.take-call.result in
+    let at_call : slice_get c.args.script c.loop-index.index ≡ Some taken_call = sym (was.calls_left c.loop-index.index (omega arith)) ∙ c.take-call.ensures.call in
+    record {
+      goes = goes-on _ _ _ _ _ _ _ _ c.loop-index.index taken_call _ _ _ _ _ _ _ _ _ _ _ _ refl was.goes at_call (steps-told _ _ _ _ _ _ _ _ _ _ _ _ _ _ _ _ _ c.loop-index.invariant.same_files c.step-after.ensures.steps) c.if-end-ne0.false;
+      length_is = ap length c.take-call.ensures.left ∙ length-set c.loop-index.script c.loop-index.index call.Show ∙ was.length_is;
+      calls_left = λ k behind. ap (λ (l : List Call). slice_get l k) c.take-call.ensures.left ∙ left-behind c.loop-index.script c.loop-index.index call.Show k behind ∙ was.calls_left k (omega arith);
+      powered = c.step-after.ensures.powered c.if-end-ne0.false;
+      turns_fit = c.step-after.ensures.turns_fit (length c.args.script - (c.loop-index.index + 1)) (omega (arith, was.turns_fit));
+      line_fits = c.step-after.ensures.line_fits;
+      size = c.step-after.ensures.size ∙ was.size;
+      same_files = c.step-after.ensures.same_files ∙ was.same_files;
+      files = λ none. c.step-after.ensures.files (reads-none c.args.script c.loop-index.index taken_call none at_call) ∙ was.files none;
+    }
 
 pub returns-then-end-ne0-clause-ran : goal.returns-then-end-ne0-clause-ran
 returns-then-end-ne0-clause-ran g c =
     let d = device c.args.start in
     let old = at None (g.D.Flash.told d) (g.D.Flash.counts d) (g.D.Flash.arming d) (g.D.Flash.on d) in
     let passes = g.V.Verifier.passes c.args.verifier.now in
+    let files = g.H.Files.contents c.args.files.now in
+    let from = g.H.Files.faults c.args.files.now in
+    let to = g.H.Files.faults c.step-after.new.files in
     let m = c.step-after.result.running.powered in (
       shown_on m,
-      subst (λ (x : g.row.D.Denot). Ran passes g.D.Flash.tells (turns c.done.result.journal) old (at (shown_on m) (g.D.Flash.told x) (g.D.Flash.counts x) (g.D.Flash.arming x) (g.D.Flash.on x))) (sym c.done.ensures.flash)
-          (subst (λ (j : Journal). Ran passes g.D.Flash.tells (turns j) old (at (shown_on m) (g.D.Flash.told (device m)) (g.D.Flash.counts (device m)) (g.D.Flash.arming (device m)) (g.D.Flash.on (device m)))) (sym c.done.ensures.journal)
-          (ends-ran _ _ _ _ _ _ c.loop-index.index (shown c.at.result) _ _ _ _ _ _ _ _ _ _ refl c.loop-index.invariant.goes c.step-after.ensures.steps)),
+      subst (λ (x : g.row.D.Denot). Ran passes g.D.Flash.tells files (turns c.done.result.journal) old (at (shown_on m) (g.D.Flash.told x) (g.D.Flash.counts x) (g.D.Flash.arming x) (g.D.Flash.on x)) from to) (sym c.done.ensures.flash)
+          (subst (λ (j : Journal). Ran passes g.D.Flash.tells files (turns j) old (at (shown_on m) (g.D.Flash.told (device m)) (g.D.Flash.counts (device m)) (g.D.Flash.arming (device m)) (g.D.Flash.on (device m))) from to) (sym c.done.ensures.journal)
+          (ends-ran _ _ _ _ _ _ _ _ c.loop-index.index (shown c.take-call.result) _ _ _ _ _ _ _ _ _ _ _ _ refl c.loop-index.invariant.goes (steps-told _ _ _ _ _ _ _ _ _ _ _ _ _ _ _ _ _ c.loop-index.invariant.same_files c.step-after.ensures.steps))),
     )
 
 pub returns-then-end-ne0-clause-ended : goal.returns-then-end-ne0-clause-ended
 returns-then-end-ne0-clause-ended g c =
+    let at_call : slice_get c.args.script c.loop-index.index ≡ Some (shown c.take-call.result) = sym (c.loop-index.invariant.calls_left c.loop-index.index (omega arith)) ∙ c.take-call.ensures.call in
     rw c.done.ensures.journal (rw c.done.ensures.status (rw c.done.ensures.note
-    (ends-by _ _ _ _ _ _ c.loop-index.index (shown c.at.result) _ _ _ _ _ _ _ _ _ _ c.loop-index.invariant.goes c.at.ensures.call c.step-after.ensures.steps c.if-end-ne0.true)))
+    (ends-by _ _ _ _ _ _ _ _ c.loop-index.index (shown c.take-call.result) _ _ _ _ _ _ _ _ _ _ _ _ c.loop-index.invariant.goes at_call (steps-told _ _ _ _ _ _ _ _ _ _ _ _ _ _ _ _ _ c.loop-index.invariant.same_files c.step-after.ensures.steps) c.if-end-ne0.true)))
 
 pub returns-then-end-ne0-clause-printed : goal.returns-then-end-ne0-clause-printed
 returns-then-end-ne0-clause-printed g c =
     rw c.done.ensures.journal (rw c.done.ensures.status
-    (ends-printed _ _ _ _ _ _ c.loop-index.index (shown c.at.result) _ _ _ _ _ _ _ _ _ _ c.loop-index.invariant.goes c.step-after.ensures.steps))
+    (ends-printed _ _ _ _ _ _ _ _ c.loop-index.index (shown c.take-call.result) _ _ _ _ _ _ _ _ _ _ _ _ c.loop-index.invariant.goes (steps-told _ _ _ _ _ _ _ _ _ _ _ _ _ _ _ _ _ c.loop-index.invariant.same_files c.step-after.ensures.steps)))
+
+pub returns-then-end-ne0-clause-files : goal.returns-then-end-ne0-clause-files
+returns-then-end-ne0-clause-files g c = λ none.
+    let at_call : slice_get c.args.script c.loop-index.index ≡ Some (shown c.take-call.result) = sym (c.loop-index.invariant.calls_left c.loop-index.index (omega arith)) ∙ c.take-call.ensures.call in
+    c.step-after.ensures.files (reads-none c.args.script c.loop-index.index (shown c.take-call.result) none at_call) ∙ c.loop-index.invariant.files none
 
 pub returns-clause-ended : goal.returns-clause-ended
 returns-clause-ended g c =
-    let end : c.loop-index.index ≡ length c.args.script.now = omega (arith, c.loop-index-test.false, c.loop-index.auto.index-end, c.len-index-end.ensures) in
-    rw c.done-2.ensures.journal (rw c.done-2.ensures.status (rw c.done-2.ensures.note (all-ended _ _ _ _ _ _ _ _ _ _ (rw end at c.loop-index.invariant.goes))))
+    let end : c.loop-index.index ≡ length c.args.script = omega (arith, c.loop-index-test.false, c.loop-index.auto.index-end, c.len-index-end.ensures) in
+    rw c.done-2.ensures.journal (rw c.done-2.ensures.status (rw c.done-2.ensures.note (all-ended _ _ _ _ _ _ _ _ _ _ _ _ _ (rw end at c.loop-index.invariant.goes))))
 
 pub returns-clause-printed : goal.returns-clause-printed
 returns-clause-printed g c =
-    let end : c.loop-index.index ≡ length c.args.script.now = omega (arith, c.loop-index-test.false, c.loop-index.auto.index-end, c.len-index-end.ensures) in
-    rw c.done-2.ensures.journal (rw c.done-2.ensures.status (all-printed _ _ _ _ _ _ _ _ _ _ (rw end at c.loop-index.invariant.goes)))
+    let end : c.loop-index.index ≡ length c.args.script = omega (arith, c.loop-index-test.false, c.loop-index.auto.index-end, c.len-index-end.ensures) in
+    rw c.done-2.ensures.journal (rw c.done-2.ensures.status (all-printed _ _ _ _ _ _ _ _ _ _ _ _ _ (rw end at c.loop-index.invariant.goes)))

@@ -5,8 +5,8 @@ use Rattle.script_cmd.proofs.running.step.Goals as goal
 
 pub returns-clause-steps : goal.returns-clause-steps
 returns-clause-steps g c = record {
-  turn = turn c.turn-powered.result.turn;
-  turns = c.turn-powered.ensures.turns;
+  turn = turn c.turn-next.result.turn;
+  turns = c.turn-next.ensures.turns;
   kept = c.add.ensures.adds;
   prints = c.print_turn-end.ensures.prints;
   noted_is = c.print_turn-end.ensures.noted;
@@ -14,7 +14,7 @@ returns-clause-steps g c = record {
 
 pub returns-clause-powered : goal.returns-clause-powered
 returns-clause-powered g c zero_is =
-    let t = turn c.turn-powered.result.turn in
-    c.turn-powered.ensures.powered
+    let t = turn c.turn-next.result.turn in
+    c.turn-next.ensures.powered
     (printed-on t.reply (line t.call t.reply) c.print_turn-end.result.status (g.O.Sink.taken c.args.sink.now) (g.O.Sink.taken c.print_turn-end.new.sink) (g.O.Sink.faults c.args.sink.now)
     (g.O.Sink.faults c.print_turn-end.new.sink) c.print_turn-end.ensures.prints zero_is)
