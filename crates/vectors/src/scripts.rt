@@ -102,7 +102,7 @@ fn nothing_is_on(rt: HostRuntime) -> Result<(), Fail> {
 fn a_bad_script_changes_nothing(rt: HostRuntime) -> Result<(), Fail> {
     let alloc = rt.alloc();
     let ran = run(alloc, "run", "boot\nbegin\nbigin\n", two_banks(alloc)?)?;
-    assert_eq!(rt; ran.printed.as_slice(), b"bad-script 2\n".as_slice());
+    assert_eq!(rt; ran.printed.as_slice(), b"bad-script 3\n".as_slice());
     assert_eq!(rt; ran.status, 4);
     assert!(rt; ran.image == two_banks(alloc)?);
     Ok(())

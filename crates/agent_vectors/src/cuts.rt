@@ -1,0 +1,351 @@
+//! Power is lost at each erase and program of an update.
+use crate::runs::{Bench, Ran, Trouble, run_with};
+use crate::texts::expand;
+use flash_devices::Cut;
+use std::alloc::Global;
+use std::process::Abort;
+use std::test::Fail;
+
+// A script with a loss of power, once at each erase or program up to a number, after each of these numbers of bytes.
+#[derive(Clone, Copy)]
+struct Sweep {
+    /// The line `CUT` stands for a cut of the script's own; else the device has one.
+    script: &'static str,
+    /// What was dirty before the loss goes back to what was stable.
+    back: bool,
+    operations: u64,
+    /// The lines that come first.
+    front: &'static str,
+    /// And those behind them, from an operation and a number of bytes on.
+    ends: &'static [(u64, u32, &'static str)],
+}
+
+const LANDED: [u32; 4] = [0, 8, 100, 4096];
+
+const STAGE: &str = "boot\nSTAGE p2\nend\nboot\nboot\n";
+
+const OLD: &str = "BOOT1\nBOOT1\n";
+
+const NEW: &str =
+    "boot bank=1 version=2 trials=1 counter=1\nboot bank=1 version=2 trials=2 counter=1\n";
+
+// The images take six operations, and the end erases and programs one replica and then the other: the loss that leaves the first one
+// whole is the first that leaves the new package. Then come two marks; a torn one counts, where some of it landed.
+const STAGING: [Sweep; 2] = [
+    Sweep {
+        script: STAGE,
+        back: false,
+        operations: 13,
+        front: "BOOT1\n",
+        ends: &[
+            (1, 0, OLD),
+            (8, 4096, NEW),
+            (
+                11,
+                0,
+                "boot lost\nboot bank=1 version=2 trials=1 counter=1\n",
+            ),
+            (
+                11,
+                8,
+                "boot lost\nboot bank=1 version=2 trials=2 counter=1\n",
+            ),
+            (
+                12,
+                0,
+                "boot bank=1 version=2 trials=1 counter=1\nboot lost\n",
+            ),
+            (13, 0, NEW),
+        ],
+    },
+    // Where the erase goes back, the new metadata's first 100 bytes stand before the old one's rest, which a package on trial shares.
+    Sweep {
+        script: STAGE,
+        back: true,
+        operations: 13,
+        front: "BOOT1\n",
+        ends: &[
+            (1, 0, OLD),
+            (8, 100, NEW),
+            (
+                11,
+                0,
+                "boot lost\nboot bank=1 version=2 trials=1 counter=1\n",
+            ),
+            (
+                11,
+                8,
+                "boot lost\nboot bank=1 version=2 trials=2 counter=1\n",
+            ),
+            (
+                12,
+                0,
+                "boot bank=1 version=2 trials=1 counter=1\nboot lost\n",
+            ),
+            (13, 0, NEW),
+        ],
+    },
+];
+
+const SEND_NOW: &str = "boot\nCUT\nsend p2.fip now\nboot\nshow\nsend p5.fip now\nboot\n";
+
+const SEND_TRIAL: &str =
+    "boot\nCUT\nsend p2.fip trial\nboot\nshow\naccept manifest\naccept tb-fw\naccept nt-fw\nsend p5.fip now\nboot\n";
+
+// The same operations in one call. The next sending is done.
+const SENDING: [Sweep; 2] = [
+    Sweep {
+        script: SEND_NOW,
+        back: false,
+        operations: 10,
+        front: "BOOT1\ncut ok\nsend lost\n",
+        ends: &[
+            (
+                1,
+                0,
+                "BOOT1\nshow active=0 previous=0 banks=accepted,invalid bits=111,000 trials=0 counter=1\nsend SUCCESS images=3 skipped=0\nboot bank=1 version=5 trials=0 counter=5\n",
+            ),
+            (
+                8,
+                4096,
+                "boot bank=1 version=2 trials=0 counter=2\nshow active=1 previous=0 banks=accepted,accepted bits=111,111 trials=0 counter=2\nsend SUCCESS images=3 skipped=0\nboot bank=0 version=5 trials=0 counter=5\n",
+            ),
+        ],
+    },
+    Sweep {
+        script: SEND_TRIAL,
+        back: false,
+        operations: 10,
+        front: "BOOT1\ncut ok\nsend lost\n",
+        ends: &[
+            (
+                1,
+                0,
+                "BOOT1\nshow active=0 previous=0 banks=accepted,invalid bits=111,000 trials=0 counter=1\naccept SUCCESS\naccept SUCCESS\naccept SUCCESS\nsend SUCCESS images=3 skipped=0\nboot bank=1 version=5 trials=0 counter=5\n",
+            ),
+            (
+                8,
+                4096,
+                "boot bank=1 version=2 trials=1 counter=1\nshow active=1 previous=0 banks=accepted,valid bits=111,000 trials=1 counter=1\naccept SUCCESS\naccept SUCCESS\naccept SUCCESS\nsend SUCCESS images=3 skipped=0\nboot bank=0 version=5 trials=0 counter=5\n",
+            ),
+        ],
+    },
+];
+
+const SEND_AGAIN: &str = "boot\nsend p5.fip now\nboot\nshow\nsend p5.fip now\nboot\n";
+
+// Over a bank that holds a package, behind a trial: first both replicas make it invalid, in operations 1 to 4, and the end clears the
+// marks, in operation 11.
+const SENDING_AGAIN: [(u64, u32, &str); 3] = [
+    (
+        1,
+        0,
+        "boot bank=1 version=2 trials=0 counter=2\nshow active=1 previous=0 banks=accepted,accepted bits=111,111 trials=0 counter=2\nsend SUCCESS images=3 skipped=0\nboot bank=0 version=5 trials=0 counter=5\n",
+    ),
+    (
+        2,
+        4096,
+        "boot bank=1 version=2 trials=0 counter=2\nshow active=1 previous=0 banks=invalid,accepted bits=000,111 trials=0 counter=2\nsend SUCCESS images=3 skipped=0\nboot bank=0 version=5 trials=0 counter=5\n",
+    ),
+    (
+        13,
+        4096,
+        "boot bank=0 version=5 trials=0 counter=5\nshow active=0 previous=1 banks=accepted,accepted bits=111,111 trials=0 counter=5\nsend SUCCESS images=3 skipped=0\nboot bank=1 version=5 trials=0 counter=5\n",
+    ),
+];
+
+// The lines behind the first ones, after a loss at an operation.
+fn end_at(ends: &[(u64, u32, &'static str)], op: u64, landed: u32) -> &'static str {
+    let mut last = "";
+    for (from, least, lines) in ends {
+        if op > *from || (op == *from && landed >= *least) {
+            last = *lines;
+        }
+    }
+    last
+}
+
+// The script with the loss.
+fn run_cut(alloc: Global, bench: &Bench, sweep: &Sweep, op: u64, landed: u32) -> Result<Ran, Fail> {
+    match sweep.script.split_once("CUT") {
+        Some((before, behind)) => {
+            let script = format!(in alloc; "{before}cut {op} {landed}{behind}")?;
+            bench.run(alloc, script.as_str(), Trouble::Nothing)
+        }
+        None => {
+            let back = sweep.back;
+            bench.run(alloc, sweep.script, Trouble::Cut(Cut { op, landed, back }))
+        }
+    }
+}
+
+// Whether the run with the loss ends well, with these lines.
+fn ends_so(
+    alloc: Global,
+    bench: &Bench,
+    sweep: &Sweep,
+    op: u64,
+    landed: u32,
+) -> Result<bool, Fail> {
+    let ran = run_cut(alloc, bench, sweep, op, landed)?;
+    let front = expand(alloc, sweep.front)?;
+    let end = expand(alloc, end_at(sweep.ends, op, landed))?;
+    let printed = ran.printed.as_slice();
+    Ok(
+        ran.status == 0
+            && printed.starts_with(front.as_bytes())
+            && printed.ends_with(end.as_bytes()),
+    )
+}
+
+fn each_loss(rt: &impl Abort, alloc: Global, bench: &Bench, sweep: &Sweep) -> Result<(), Fail> {
+    for op in 1..sweep.operations.saturating_add(1) {
+        for landed in LANDED {
+            assert!(rt;
+                ends_so(alloc, bench, sweep, op, landed)?,
+                "{}: operation {op} after {landed}, {}",
+                sweep.script,
+                sweep.back
+            );
+        }
+    }
+    Ok(())
+}
+
+#[test]
+fn a_staging_survives_each_loss(rt: HostRuntime) -> Result<(), Fail> {
+    let alloc = rt.alloc();
+    let bench = Bench::counted(alloc)?;
+    for sweep in STAGING {
+        each_loss(&rt, alloc, &bench, &sweep)?;
+    }
+    Ok(())
+}
+
+#[test]
+fn a_sending_survives_each_loss(rt: HostRuntime) -> Result<(), Fail> {
+    let alloc = rt.alloc();
+    let bench = Bench::new(alloc, 2)?;
+    for sweep in SENDING {
+        each_loss(&rt, alloc, &bench, &sweep)?;
+    }
+    Ok(())
+}
+
+#[test]
+fn a_sending_over_a_package_survives_each_loss(rt: HostRuntime) -> Result<(), Fail> {
+    let alloc = rt.alloc();
+    let mut bench = Bench::new(alloc, 2)?;
+    let updated = bench.run(
+        alloc,
+        "boot\nsend p2.fip trial\nboot\naccept manifest\naccept tb-fw\naccept nt-fw\nboot\n",
+        Trouble::Nothing,
+    )?;
+    bench.flash = updated.image;
+    for back in [false, true] {
+        let sweep = Sweep {
+            script: SEND_AGAIN,
+            back,
+            operations: 15,
+            front: "boot bank=1 version=2 trials=0 counter=2\nsend lost\n",
+            ends: &SENDING_AGAIN,
+        };
+        each_loss(&rt, alloc, &bench, &sweep)?;
+    }
+    Ok(())
+}
+
+// What an end prints where it is lost, at an operation after so many bytes, and the replica that the next boot repairs then.
+const ENDS: [(&str, &str); 3] = [
+    ("cut 2 100", "BOOT1\n"),
+    ("cut 2 4096", "boot bank=1 version=2 trials=1 counter=1\n"),
+    ("cut 3 2000", "boot bank=1 version=2 trials=1 counter=1\n"),
+];
+
+#[test]
+fn a_boot_after_a_lost_end_repairs_the_other_replica(rt: HostRuntime) -> Result<(), Fail> {
+    let alloc = rt.alloc();
+    let bench = Bench::new(alloc, 2)?;
+    for (cut, line) in ENDS {
+        let script = format!(in alloc; "boot\nSTAGE p2\n{cut}\nend\nboot\n")?;
+        let lines = format!(in alloc; "BOOT1\nSTAGED\ncut ok\nend lost\n{line}")?;
+        let ran = bench.prints(&rt, alloc, script.as_str(), 0, lines.as_str())?;
+        let image = ran.image.as_slice();
+        assert!(rt; image.get(4096..8192) == image.get(8192..12288), "{cut}");
+    }
+    Ok(())
+}
+
+// Scripts of whole updates, each with its erases and programs, and the last lines that may come after a loss at any of them.
+const UPDATES: [(&str, u64, &[&str]); 4] = [
+    (
+        "boot\nsend p2.fip trial\nboot\nshow\nboot\n",
+        14,
+        &[
+            "BOOT1\n",
+            "boot bank=1 version=2 trials=1 counter=1\n",
+            "boot bank=1 version=2 trials=2 counter=1\n",
+            "boot lost\n",
+        ],
+    ),
+    (
+        "boot\nsend p2.fip trial\nboot\naccept manifest\naccept tb-fw\naccept tb-fw\naccept nt-fw\nboot\nprevious\nboot\n",
+        27,
+        &["BOOT1\n", "boot bank=1 version=2 trials=0 counter=2\n"],
+    ),
+    (
+        "boot\nsend p2.fip trial\nTIMES 4 boot\nbegin\nprevious\nboot\nboot\n",
+        19,
+        &[
+            "BOOT1\n",
+            "boot bank=0 version=1 trials=3 counter=1 fallback\n",
+        ],
+    ),
+    (
+        "boot\nsend p5.fip now\nboot\nboot\n",
+        14,
+        &["BOOT1\n", "boot bank=1 version=5 trials=0 counter=5\n"],
+    ),
+];
+
+// Whether a text ends with one of these lines.
+fn ends_with_one(alloc: Global, text: &[u8], lines: &[&str]) -> Result<bool, Fail> {
+    for line in lines {
+        if text.ends_with(expand(alloc, line)?.as_bytes()) {
+            return Ok(true);
+        }
+    }
+    Ok(false)
+}
+
+// The script with the loss ends well, with one of these lines, and then the flash boots.
+fn comes_back(
+    alloc: Global,
+    bench: &Bench,
+    script: &str,
+    cut: Cut,
+    lines: &[&str],
+) -> Result<bool, Fail> {
+    let ran = bench.run(alloc, script, Trouble::Cut(cut))?;
+    let booted = run_with(alloc, "boot", "", &[], &ran.image, Trouble::Nothing)?;
+    let is_allowed = ends_with_one(alloc, ran.printed.as_slice(), lines)?;
+    Ok(ran.status == 0 && is_allowed && booted.status == 0)
+}
+
+#[test]
+fn a_whole_update_survives_each_loss(rt: HostRuntime) -> Result<(), Fail> {
+    let alloc = rt.alloc();
+    let bench = Bench::new(alloc, 2)?;
+    for (script, operations, lines) in UPDATES {
+        for op in 1..operations.saturating_add(1) {
+            for (landed, back) in [(0, true), (8, false), (100, true), (4096, false)] {
+                let cut = Cut { op, landed, back };
+                assert!(rt;
+                    comes_back(alloc, &bench, script, cut, lines)?,
+                    "{script}: operation {op} after {landed}"
+                );
+            }
+        }
+    }
+    Ok(())
+}

@@ -1,0 +1,151 @@
+#!/usr/bin/env python3
+"""Writes the packages and capsules of crates/agent_vectors, from the formats in docs/FORMATS.md alone.
+
+    make_packages.py              prints the constants of crates/agent_vectors/src/packages.rt
+    make_packages.py FOLDER       writes each file into a folder
+"""
+import os
+import struct
+import sys
+import uuid
+
+from make_flash import guid, manifest
+
+SOC_FW = "47d4086d-4cfe-9846-9b95-2950cbbd5a00"
+NAMES = ("manifest", "tb-fw", "nt-fw")
+
+
+def pattern(count):
+    """The bytes of a longer image."""
+    return bytes((7 * j + 2) % 256 for j in range(count))
+
+
+def manifest_of(security, tb_fw=b"abc", nt_fw=b"hello"):
+    return manifest(security, [("tb-fw", 7, tb_fw), ("nt-fw", 9, nt_fw)])
+
+
+def table(places):
+    """The header and the table of a package: each entry a name, an offset and a size; and the end's offset."""
+    text = struct.pack("<IIQ", 0xAA640001, 0x12345678, 0)
+    for name, offset, size in places[:-1]:
+        text += guid(name) + struct.pack("<QQQ", offset, size, 0)
+    return text + bytes(16) + struct.pack("<QQQ", places[-1], 0, 0)
+
+
+def package(parts):
+    """A package of these names and payloads, one behind the other."""
+    at = 16 + 40 * (len(parts) + 1)
+    places = []
+    for name, data in parts:
+        places.append((name, at, len(data)))
+        at += len(data)
+    return table(places + [at]) + b"".join(data for _, data in parts)
+
+
+def of_three(security, tb_fw=b"abc", nt_fw=b"hello", text=None):
+    text = text or manifest_of(security, tb_fw, nt_fw)
+    return package([("manifest", text), ("tb-fw", tb_fw), ("nt-fw", nt_fw)])
+
+
+def in_capsules(name):
+    """The UUID as capsules have it."""
+    return uuid.UUID(bytes=guid(name)).bytes_le
+
+
+def capsule_header(header, size):
+    return uuid.UUID("6dcbd5ed-e82d-4c44-bda1-7194199ad92a").bytes_le + struct.pack("<III", header, 0, size)
+
+
+def item(name, data, version=2, index=1, vendor=b""):
+    text = struct.pack("<I", version) + in_capsules(name) + struct.pack("<BBBB", index, 0, 0, 0)
+    text += struct.pack("<II", len(data), len(vendor))
+    text += bytes(8) if version >= 2 else b""
+    text += bytes(8) if version >= 3 else b""
+    return text + data + vendor
+
+
+def capsule(items, drivers=(), header=28, gap=0):
+    """A capsule of these items, with gaps before each of them."""
+    at = 8 + 8 * (len(drivers) + len(items))
+    places, body = [], b""
+    for text in [*drivers, *items]:
+        body += bytes(gap) + text
+        places.append(at + len(body) - len(text))
+    text = struct.pack("<IHH", 1, len(drivers), len(items))
+    text += b"".join(struct.pack("<Q", place) for place in places) + body
+    return capsule_header(header, header + len(text)) + bytes(header - 28) + text
+
+
+PARTS_2 = [("manifest", manifest_of(2)), ("tb-fw", b"abc"), ("nt-fw", b"hello")]
+
+# As this program writes them.
+CAPSULE_2 = capsule([item(name, data, index=n + 1) for n, (name, data) in enumerate(PARTS_2)])
+
+# A driver, items of each version in another order with gaps and vendor's code, one of a type that the layout lacks, and bytes behind.
+OTHER_CAPSULE_2 = (
+    capsule(
+        [
+            item("nt-fw", b"hello", version=3, vendor=b"code"),
+            item(SOC_FW, b"xyz", version=1),
+            item("manifest", manifest_of(2), version=1, index=9),
+            item("tb-fw", b"abc", version=2, vendor=b"c"),
+        ],
+        drivers=[b"driver"],
+        header=32,
+        gap=3,
+    )
+    + b"behind"
+)
+
+
+EXTRA = package(
+    [("nt-fw", b"hello"), (SOC_FW, b"xyz"), ("tb-fw", b"abc"), (str(uuid.UUID(int=7)), b""), ("manifest", manifest_of(2))]
+)
+
+LONG = 4145
+
+FILES = {
+    "a.fip": package([("tb-fw", b"hello")]),
+    "p0.fip": of_three(0),
+    "p1.fip": of_three(1),
+    "p2.fip": of_three(2),
+    "p5.fip": of_three(5),
+    "p2x.fip": of_three(2, tb_fw=b"abd", text=manifest_of(2)),
+    "long.fip": of_three(2, nt_fw=pattern(LONG)),
+    "empty.fip": of_three(2, tb_fw=b""),
+    "extra.fip": EXTRA,
+    "p2.cap": CAPSULE_2,
+    "other.cap": OTHER_CAPSULE_2,
+}
+
+
+def constant(comment, name, data):
+    print(f"/// {comment}\npub const {name}: &str =\n    \"{data.hex()}\";\n")
+
+
+def main(words):
+    if words:
+        for name, data in FILES.items():
+            with open(os.path.join(words[0], name), "wb") as file:
+                file.write(data)
+        return
+    constant("The header and the table of a package of a manifest, `abc` and `hello`, which follow.", "TABLE", FILES["p2.fip"][:176])
+    for security in (0, 1, 2, 5):
+        text = f"The manifest of the images `abc` and `hello`, of security version {security}."
+        constant(text, f"MANIFEST_{security}", manifest_of(security))
+    constant("The same of `abc` and the long image, of version 2.", "LONG_TABLE", FILES["long.fip"][:176])
+    constant("Their manifest.", "LONG_MANIFEST", manifest_of(2, nt_fw=pattern(LONG)))
+    constant("The same of an image of no bytes and `hello`, of version 2.", "EMPTY_TABLE", FILES["empty.fip"][:176])
+    constant("Their manifest.", "EMPTY_MANIFEST", manifest_of(2, tb_fw=b""))
+    constant("A package of `hello` as tb-fw alone.", "ALONE", FILES["a.fip"])
+    constant("A package of version 2, its images in another order and among others.", "EXTRA", EXTRA)
+    constant("A capsule of version 2.", "CAPSULE", CAPSULE_2)
+    constant(
+        "Another one: a driver, items of each version in another order, with gaps and vendor's code, one of a type that the layout lacks, and bytes behind.",
+        "OTHER_CAPSULE",
+        OTHER_CAPSULE_2,
+    )
+
+
+if __name__ == "__main__":
+    main(sys.argv[1:])
