@@ -1,6 +1,6 @@
 #!/bin/sh
-# Builds fip and fwu (demo/build.sh, which shows what it proves as it goes), makes a package, formats a flash file with it,
-# and boots the flash with a cut of power within the boot.
+# Builds fip and fwu (demo/build.sh, which shows what it proves as it goes), makes packages, formats a flash file, and runs updates on it:
+# power is cut within a boot, within a sending, and within the end of a staging; an update is accepted, and an older one refused.
 set -eu
 here=$(cd "$(dirname "$0")/.." && pwd)
 "$here/demo/build.sh"
@@ -33,7 +33,64 @@ printf 'cut 2 8\nboot\nshow\nboot\nshow\n' | $fwu flash.img run
 say fwu flash.img show
 $fwu flash.img show
 
-# One byte of the bank's image changed: the boot is refused.
-printf x | dd of=flash.img bs=1 seek=$((9 * 4096)) conv=notrunc 2>/dev/null
-say "fwu flash.img boot, with one byte of the image abc changed"
+# A newer package, sent on trial. Power is lost as the metadata is written that would make it the active one, in the middle of the first
+# replica: the old bank boots. Sent again it is installed, and starts on trial.
+printf abd >abd.bin
+say fip manifest m.bin 6 tb-fw,8,abd.bin nt-fw,9,hello.bin
+$fip manifest m.bin 6 tb-fw,8,abd.bin nt-fw,9,hello.bin
+say fip create p6.fip manifest=m.bin tb-fw=abd.bin nt-fw=hello.bin
+$fip create p6.fip manifest=m.bin tb-fw=abd.bin nt-fw=hello.bin
+cat >update.script <<'END'
+boot
+cut 8 100
+send p6.fip trial
+boot
+send p6.fip trial
+boot
+show
+END
+say "fwu flash.img run <update.script"
+cat update.script
+$fwu flash.img run <update.script
+
+# Image by image it is accepted; the next boot raises the counter, and the older package is refused from then on.
+cat >accept.script <<'END'
+boot
+accept manifest
+accept tb-fw
+accept nt-fw
+boot
+show
+send p5.fip now
+END
+say "fwu flash.img run <accept.script"
+cat accept.script
+$fwu flash.img run <accept.script
+
+# The same by the agent's own calls: a package is staged image by image, and power is lost within `end`.
+hex() {
+    od -An -v -tx1 "$1" | tr -d ' \n'
+}
+say fip manifest m.bin 7 tb-fw,9,abc.bin nt-fw,9,hello.bin
+$fip manifest m.bin 7 tb-fw,9,abc.bin nt-fw,9,hello.bin
+{
+    echo boot
+    echo begin
+    for image in manifest:m.bin tb-fw:abc.bin nt-fw:hello.bin; do
+        echo "open ${image%%:*} w"
+        echo "write 1 $(hex "${image#*:}")"
+        echo "commit 1 now"
+    done
+    echo "cut 3 8"
+    echo end
+    echo boot
+    echo show
+} >stage.script
+say "fwu flash.img run <stage.script"
+cat stage.script
+$fwu flash.img run <stage.script
+
+# One byte of the image abd changed, in the active bank: the other bank was made invalid by the last begin, so no bank is started.
+printf x | dd of=flash.img bs=1 seek=$((16 * 4096)) conv=notrunc 2>/dev/null
+say "fwu flash.img boot, with one byte of the image abd changed"
 $fwu flash.img boot || echo "status $?"
