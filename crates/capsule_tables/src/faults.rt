@@ -11,7 +11,7 @@ use thiserror::Error;
 #[derive(Clone, Copy, Debug, PartialEq, Eq, Error)]
 pub enum CapsuleStop {
     /// It is no capsule: its first fault.
-    #[error("the file is no capsule: {0:?}")]
+    #[error("the file is no capsule: {0}")]
     Fault(CapsuleFault),
     /// It could not be read.
     #[error("the file could not be read")]

@@ -7,11 +7,14 @@ mod values;
 
 pub use commands::{top, with_leaf_command, with_option, with_some_words, with_word, with_words};
 pub use found::{given, given_all, given_file, matches};
+use thiserror::Error;
 pub use values::{file_value, read_name, read_number};
 
 /// Why words ask for nothing.
-#[derive(Clone, Copy, Debug, PartialEq, Eq)]
+#[derive(Clone, Copy, Debug, PartialEq, Eq, Error)]
 pub enum UsageStop {
+    #[error("the words are not those of a command")]
     Usage,
+    #[error("no memory")]
     NoMemory,
 }

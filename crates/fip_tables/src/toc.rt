@@ -6,6 +6,7 @@ ghost use Rattle.fip_tables.specs.declared.toc.TocStop.TheVariants as stop;
 use crate::entries::Entries;
 use fwu_formats::FipFault;
 use std::marker::Model;
+use thiserror::Error;
 
 /// The table of contents of a package: its serial number, its flags, and its entries in order.
 #[derive(Drop)]
@@ -24,11 +25,13 @@ impl Model for Toc {
 }
 
 /// Why a file gives no table.
-#[derive(Clone, Copy, Debug, PartialEq, Eq)]
+#[derive(Clone, Copy, Debug, PartialEq, Eq, Error)]
 pub enum TocStop {
     /// It is no package: its first fault.
+    #[error("the file is no package: {0}")]
     Fault(FipFault),
     /// It could not be read.
+    #[error("the file could not be read")]
     ReadFailed,
 }
 

@@ -6,29 +6,38 @@ use base_core::Guid;
 use flash_core::FlashStop;
 use fwu_formats::{FipFault, LayoutFault};
 use image_check::Verdict;
+use thiserror::Error;
 
 /// What is wrong with what was given, the first of these that is so.
-#[derive(Clone, Copy, Debug, PartialEq, Eq)]
+#[derive(Clone, Copy, Debug, PartialEq, Eq, Error)]
 pub enum InputFault {
     /// The rows and banks are no layout of the flash.
+    #[error("no layout of the flash: {0}")]
     Layout(LayoutFault),
     /// The file is no package.
+    #[error("the file is no package: {0}")]
     Package(FipFault),
     /// The package lacks the image of this type, the lowest image that has a fault.
+    #[error("the package lacks the image {0:?}")]
     Missing(Guid),
     /// The image of this type, the lowest image that has a fault, is larger than its slot.
+    #[error("the image {0:?} is larger than its slot")]
     TooLarge(Guid),
     /// The images, once they were in bank 0, were not good. The flash was erased and has no layout.
+    #[error("the bank was not good: {0:?}")]
     Incomplete(Verdict),
 }
 
 /// Why a flash was not formatted.
-#[derive(Clone, Copy, Debug, PartialEq, Eq)]
+#[derive(Clone, Copy, Debug, PartialEq, Eq, Error)]
 pub enum FormatStop {
+    #[error("{0}")]
     Input(InputFault),
     /// The file could not be read.
+    #[error("the file could not be read")]
     ReadFailed,
     /// The flash stopped, and is off.
+    #[error("{0}")]
     Flash(FlashStop),
 }
 

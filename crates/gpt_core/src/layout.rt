@@ -4,6 +4,7 @@ ghost use Rattle.std.specs.Prelude.{◌≡◌, ◌+◌, ◌*◌, ◌<◌, ◌≤
 ghost use Rattle.gpt_core.specs.Places.{Fit, behind, byte_behind};
 
 use base_core::BLOCK_BYTES;
+use thiserror::Error;
 
 /// Where the blocks of a flash stand in a device: the store's first block and how many it has, and the first blocks of both metadata
 /// partitions.
@@ -40,10 +41,14 @@ impl Places {
 
 /// A table gives no places. NoStore: not exactly one partition is a store. Replicas: so many partitions are for metadata, and not two.
 /// TooSmall: the store has fewer than 8 or more than 65,536 blocks, or one of the three isn't in the usable blocks, or two share a block.
-#[derive(Clone, Copy, Debug, PartialEq, Eq)]
+#[derive(Clone, Copy, Debug, PartialEq, Eq, Error)]
 pub enum PlaceFault {
+    #[error("not exactly one partition is a store")]
     NoStore,
+    #[error("{0} partitions are for metadata, and not two")]
     Replicas(u32),
+    #[error("the store has too few or too many blocks, or partitions lie outside the usable blocks or share one")]
     TooSmall,
+    #[error("no memory")]
     NoMemory,
 }

@@ -14,6 +14,7 @@ use base_core::{BLOCK_BYTES, NoMemory, crc32, le32_at, le64_at};
 use flash_core::{Flash, FlashStop, read_block};
 use std::alloc::Global;
 use std::marker::Model;
+use thiserror::Error;
 
 /// A table: the disk's GUID, its first and last usable block, and its entries of 128 bytes, one after the other.
 #[derive(Debug, Drop)]
@@ -33,10 +34,13 @@ impl Model for Table {
 }
 
 /// Why no table was read: neither copy is valid, or the flash stopped, or there was no memory for the entries.
-#[derive(Clone, Copy, Debug, PartialEq, Eq)]
+#[derive(Clone, Copy, Debug, PartialEq, Eq, Error)]
 pub enum GptStop {
+    #[error("neither copy of the table is valid")]
     NoTable,
+    #[error("{0}")]
     Flash(FlashStop),
+    #[error("no memory")]
     NoMemory,
 }
 

@@ -16,7 +16,7 @@ use std::{fs, io};
 
 // How many bytes are read at a time to be added to others: few enough that they are still in the
 // processor's cache when they are copied. That costs less than a first fill of the place with zeros.
-const PIECE: usize = 32768;
+const PIECE: usize = 65536;
 
 // Fills the piece with the next bytes of the file, and adds them to those that were read.
 fn read_piece<F: Read>(file: &mut F, piece: &mut [u8], out: &mut Vec<u8>) -> io::Result<()>

@@ -13,11 +13,14 @@ use fwu_formats::ManifestFault;
 use sha2::{Digest, Sha256};
 use std::alloc::{AllocError, Global};
 use std::marker::Model;
+use thiserror::Error;
 
 /// Why there is no manifest.
-#[derive(Clone, Copy, Debug, PartialEq, Eq)]
+#[derive(Clone, Copy, Debug, PartialEq, Eq, Error)]
 pub enum ManifestStop {
+    #[error("{0}")]
     Fault(ManifestFault),
+    #[error("no memory")]
     NoMemory,
 }
 

@@ -12,11 +12,14 @@ use crate::split::split;
 use std::alloc::{AllocError, Global};
 use std::marker::Model;
 use std::mem;
+use thiserror::Error;
 
 /// Why a text is no script: the first line, from 1, that is none of a script.
-#[derive(Clone, Copy, Debug, PartialEq, Eq)]
+#[derive(Clone, Copy, Debug, PartialEq, Eq, Error)]
 pub enum ScriptFault {
+    #[error("line {0} is none of a script")]
     BadLine(u32),
+    #[error("no memory")]
     NoMemory,
 }
 

@@ -10,11 +10,14 @@ use hex::FromHex;
 use sha2::{Digest, Sha256};
 use std::alloc::Global;
 use std::marker::Model;
+use thiserror::Error;
 
 /// Why bytes are no list: the first line, from 1, that is not 64 hexadecimal digits and a line end.
-#[derive(Clone, Copy, Debug, PartialEq, Eq)]
+#[derive(Clone, Copy, Debug, PartialEq, Eq, Error)]
 pub enum ListFault {
+    #[error("line {0} is not 64 hexadecimal digits and a line end")]
     BadLine(u64),
+    #[error("no memory")]
     NoMemory,
 }
 
