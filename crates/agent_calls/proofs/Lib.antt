@@ -3,3 +3,5 @@ mod Discovered
 mod Still
 pub mod StoredVerdict
 pub mod Listing
+mod Unstored
+mod Beyond

@@ -1,3 +1,4 @@
 pub mod Shown
 pub mod Started
 pub mod Told
+pub mod Asked

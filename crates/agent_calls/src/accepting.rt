@@ -1,6 +1,8 @@
 //! An image of the active bank is accepted.
-ghost use Rattle.std.specs.Prelude.{◌≡◌, ℕ, Bool, List, is_ok, IsTrue, IsFalse, IsErrOf, OnOk};
+ghost use Rattle.std.specs.Prelude.{◌≡◌, ℕ, Bool, List, Some, is_ok, IsTrue, IsFalse, IsErrOf, OnOk};
 ghost use Rattle.flash_core.specs.Counts.{Spends, StaysUnarmed};
+ghost use Rattle.fwu_formats.specs.Layout.{find_image};
+ghost use Rattle.fwu_formats.specs.Metadata.{bit_at};
 ghost use Rattle.fwu_model.specs.Call as call;
 ghost use Rattle.fwu_model.specs.Reply.{Success};
 ghost use Rattle.agent_machine.specs.Meets.{Meets, GoesBy, IsRefused, flash_result};
@@ -30,6 +32,10 @@ impl<D: Flash> Agent<D> {
         ensures goes { GoesBy result (gone self.old) (gone self.new) }
         ensures untouched { IsErrOf result Stop.Gone → self.new ≡ self.old }
         ensures refused { IsRefused result → self.new ≡ self.old }
+        // On any device: where the bit is set already, the device is not touched.
+        ensures still { (image : ℕ) → find_image (fields self.old).layout.rows guid ≡ Some image →
+            IsTrue (bit_at (fields self.old).meta.meta (fields self.old).meta.meta.active image) →
+            device self.new ≡ device self.old }
         ensures power { IsFalse (gone self.old) →
             D.on (device self.new) ≡ is_ok (flash_result result) }
         ensures size { D.blocks (device self.new) ≡ D.blocks (device self.old) }

@@ -68,6 +68,7 @@ impl<D: Flash> Agent<D> {
     ghost use Rattle.agent_state.specs.Settles.{IsPlanOf};
     ghost use Rattle.agent_machine.specs.Asks.{IsPlain, IsQuiet, PlansAs, IsPlannedIn};
     ghost use Rattle.agent_machine.specs.Fields.{target};
+    ghost use Rattle.agent_calls.specs.Asked.{IsPlannedFor};
     ghost use Rattle.agent_machine.specs.Carries.{MayKeep, CarriedOut};
     ghost use Rattle.agent_calls.specs.Shown.{fields, device, gone, moment};
 
@@ -77,6 +78,7 @@ impl<D: Flash> Agent<D> {
         requires plain { IsPlain request.now }
         ensures plans { (passes : List ℕ → Bool) → PlansAs passes (fields self.now) request.now result }
         ensures of { IsPlannedIn (fields self.now) result }
+        ensures asked { IsPlannedFor (fields self.now) request.now result }
     {
         match decide(
             &self.meta,

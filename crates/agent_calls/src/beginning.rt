@@ -1,8 +1,11 @@
 //! A staging begins.
 ghost use Rattle.std.specs.Prelude.{◌≡◌, ℕ, Bool, List, is_ok, IsTrue, IsFalse, IsErrOf, OnOk};
 ghost use Rattle.flash_core.specs.Counts.{Spends, StaysUnarmed};
+ghost use Rattle.fwu_formats.specs.Metadata.{state_at};
+ghost use Rattle.fwu_model.specs.State.{is_invalid};
 ghost use Rattle.fwu_model.specs.Call as call;
 ghost use Rattle.fwu_model.specs.Reply.{Success};
+ghost use Rattle.agent_machine.specs.Fields.{target};
 ghost use Rattle.agent_machine.specs.Meets.{Meets, GoesBy, IsRefused, flash_result};
 ghost use Rattle.agent_machine.specs.Stored.{TakesStore, frees};
 
@@ -39,6 +42,10 @@ impl<D: Flash> Agent<D> {
         ensures goes { GoesBy result (gone self.old) (gone self.new) }
         ensures untouched { IsErrOf result Stop.Gone → self.new ≡ self.old }
         ensures refused { IsRefused result → self.new ≡ self.old }
+        // On any device: where the update bank is invalid already, the device is not touched.
+        ensures still { IsTrue (is_invalid
+            (state_at (fields self.old).meta.meta (target (fields self.old)))) →
+            device self.new ≡ device self.old }
         ensures power { IsFalse (gone self.old) →
             D.on (device self.new) ≡ is_ok (flash_result result) }
         ensures size { D.blocks (device self.new) ≡ D.blocks (device self.old) }

@@ -1,5 +1,5 @@
 //! Going back to the previous bank.
-ghost use Rattle.std.specs.Prelude.{◌≡◌, ◌<◌, ◌≤◌, ◌&&◌, ℕ, Bool, List, length, is_ok, IfOk, IsTrue, IsFalse, IsErrOf, OnOk};
+ghost use Rattle.std.specs.Prelude.{◌≡◌, ◌<◌, ◌≤◌, ◌&&◌, ℕ, Bool, false, List, length, is_ok, IfOk, IsTrue, IsFalse, IsErrOf, OnOk};
 ghost use Rattle.flash_core.specs.Counts.{Spends, ReachesNone, StaysUnarmed, arming_kept};
 ghost use Rattle.fwu_formats.specs.Layout.{blocks_needed};
 ghost use Rattle.fwu_model.specs.State.{is_valid, is_accepted};
@@ -113,6 +113,8 @@ impl<D: Flash> Agent<D> {
             (moment self.old) (moment self.new) }
         ensures goes { GoesBy result (gone self.old) (gone self.new) }
         ensures refused { IsRefused result → fields self.new ≡ fields self.old }
+        ensures still { let f = fields self.old in
+            may_try_kept f.meta.meta f.session f.boot ≡ false → device self.new ≡ device self.old }
         ensures content { IsRefused result → IsTrue D.tells →
             D.told (device self.new) ≡ D.told (device self.old) }
         ensures arming { IsRefused result →
@@ -164,6 +166,10 @@ impl<D: Flash> Agent<D> {
         ensures goes { GoesBy result (gone self.old) (gone self.new) }
         ensures untouched { IsErrOf result Stop.Gone → self.new ≡ self.old }
         ensures refused { IsRefused result → fields self.new ≡ fields self.old }
+        // On any device: what the session and the numbers of the banks refuse is refused without a
+        // look at the device.
+        ensures still { let f = fields self.old in
+            may_try_kept f.meta.meta f.session f.boot ≡ false → device self.new ≡ device self.old }
         ensures content { IsRefused result → IsTrue D.tells →
             D.told (device self.new) ≡ D.told (device self.old) }
         ensures arming { IsRefused result →

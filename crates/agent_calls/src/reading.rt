@@ -77,8 +77,10 @@ fn read_image<D: Flash>(
 }
 
 impl<D: Flash> Agent<D> {
-    ghost use Rattle.std.specs.Prelude.{ℕ, Bool, List, is_err, IfOk, IsErrOf, IsFalse};
+    ghost use Rattle.std.specs.Prelude.{ℕ, ◌-◌, Bool, List, Option, is_err, IfOk, IsErrOf, IsFalse};
     ghost use Rattle.fwu_model.specs.Call as call;
+    ghost use Rattle.agent_kept.specs.declared.parts.Handle.TheVariants as handle;
+    ghost use Rattle.agent_kept.specs.Kept.{handle_kept};
     ghost use Rattle.agent_machine.specs.Fields.{total_of, IsThere};
     ghost use Rattle.agent_machine.specs.Meets.{Meets, GoesBy, IsGot, IsRefused, flash_result};
     ghost use Rattle.agent_calls.specs.Shown.{fields, device, gone, moment};
@@ -141,6 +143,11 @@ impl<D: Flash> Agent<D> {
         ensures room { IfOk result (λ got. got.0 ≤ length out.old) }
         ensures behind { IfOk result (λ got. drop got.0 out.new ≡ drop got.0 out.old) }
         ensures unread { IsRefused result → out.new ≡ out.old }
+        ensures unfilled { IsErrOf result Stop.Gone → out.new ≡ out.old }
+        // also where the flash stops it: nothing changes behind as many bytes as there are
+        ensures beyond { (image : Option ℕ) (at total : ℕ) →
+            handle_kept (fields self.old).session (h - 1) ≡ handle.Reads image at total →
+            drop (total - at) out.new ≡ drop (total - at) out.old }
         ensures content { IsTrue D.tells → D.told (device self.new) ≡ D.told (device self.old) }
         ensures arming { D.arming (device self.new)
             ≡ arming_kept (flash_result result) (D.arming (device self.old)) }

@@ -1,5 +1,5 @@
 //! Carrying out a plan that may store metadata.
-ghost use Rattle.std.specs.Prelude.{◌≡◌, ◌<◌, is_ok, length, IsTrue, IsFalse, OnOk};
+ghost use Rattle.std.specs.Prelude.{◌≡◌, ◌<◌, false, is_ok, length, IsTrue, IsFalse, OnOk};
 ghost use Rattle.flash_core.specs.Counts.{Spends, StaysUnarmed};
 ghost use Rattle.fwu_formats.specs.Metadata.{fits_meta};
 ghost use Rattle.agent_machine.specs.Meets.{flash_result};
@@ -27,6 +27,7 @@ fn store_if<D: Flash>(
     ensures size { D.blocks flash.new ≡ D.blocks flash.old }
     ensures costs { Spends result (D.counts flash.old) (D.counts flash.new) }
     ensures spent { OnOk result (TakesIf stored (D.arming flash.old) (D.arming flash.new)) }
+    ensures still { stored ≡ false → flash.new ≡ flash.old }
     ensures unarmed { StaysUnarmed result (D.arming flash.old) (D.arming flash.new)
         (D.counts flash.old) (D.counts flash.new) }
 {
@@ -79,6 +80,7 @@ impl<D: Flash> Agent<D> {
         requires plan { MayCarryOut (fields self.old) plan }
         ensures carries { CarriesOut (flash_result result) plan (moment self.old) (moment self.new) }
         ensures answered { IsRefused result → ⊥ }
+        ensures still { is_stored plan ≡ false → device self.new ≡ device self.old }
         ensures goes { GoesBy result (gone self.old) (gone self.new) }
         ensures power { D.on (device self.new) ≡ is_ok (flash_result result) }
         ensures size { D.blocks (device self.new) ≡ D.blocks (device self.old) }

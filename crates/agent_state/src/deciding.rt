@@ -1,6 +1,6 @@
 //! What is decided of each request.
 ghost use Rattle.std.specs.Prelude.{◌≡◌, ◌+◌, ◌-◌, ◌*◌, ◌%◌, ◌<◌, ◌≤◌, ◌&&◌, ◌||◌, not, ◌==◌, ℕ, Bool, List, Some, None, length, slice_index_or, IsTrue};
-ghost use Rattle.fwu_formats.specs.Metadata.{MetaRead, fits_meta};
+ghost use Rattle.fwu_formats.specs.Metadata.{Meta as MetaValue, MetaRead, fits_meta};
 ghost use Rattle.fwu_model.specs.State.{is_invalid, is_valid, is_accepted};
 ghost use Rattle.fwu_formats.specs.Layout.{find_image, dir_guid};
 ghost use Rattle.base_core.specs.Bytes.{same_bytes};
@@ -10,6 +10,7 @@ ghost use Rattle.agent_kept.specs.Kept.{kept};
 ghost use Rattle.agent_state.specs.Ruled.{ruled_as};
 ghost use Rattle.agent_state.specs.Decides.{Decides, DecidesByMeta, IsMetaOf, DecidesBySession, next_bank, is_trial_kept, cannot_begin_kept, may_leave_kept, has_other_kept, lowest_free_kept, opened_as};
 ghost use Rattle.agent_state.specs.Settles.{IsDecisionOf};
+ghost use Rattle.agent_state.specs.Asked.{IsFor};
 
 use crate::judging::may_install;
 use agent_kept::{Decision, HANDLES, Handle, Part, Plan, Request, Session};
@@ -83,6 +84,8 @@ fn begin(
     ensures decides { DecidesByMeta meta.now (kept session.now) boot_index
         (Request.Begin vendor_flags partial_count) result }
     ensures plan { IsDecisionOf (kept session.now) result }
+    ensures asked { IsFor (kept session.now) meta.now.meta
+        (Request.Begin vendor_flags partial_count) result }
 {
     if cannot_begin(meta, session, boot_index) {
         return Decision::Refused(Status::Denied);
@@ -133,6 +136,8 @@ fn open_to_write(session: &Session, image: u32, total: u32) -> Decision
     ensures decides { (guid : List ℕ) → find_image (kept session.now).rows guid ≡ Some image →
         DecidesBySession (kept session.now) (Request.Open guid Op.Write total) result }
     ensures plan { IsDecisionOf (kept session.now) result }
+    ensures asked { (m : MetaValue) (guid : List ℕ) → find_image (kept session.now).rows guid ≡ Some image →
+        IsFor (kept session.now) m (Request.Open guid Op.Write total) result }
 {
     if !session.is_staging() {
         return Decision::Refused(Status::Denied);
@@ -149,6 +154,8 @@ fn open_image(session: &Session, image: u32, op: Op, total: u32) -> Decision
     ensures decides { (guid : List ℕ) → find_image (kept session.now).rows guid ≡ Some image →
         DecidesBySession (kept session.now) (Request.Open guid op total) result }
     ensures plan { IsDecisionOf (kept session.now) result }
+    ensures asked { (m : MetaValue) (guid : List ℕ) → find_image (kept session.now).rows guid ≡ Some image →
+        IsFor (kept session.now) m (Request.Open guid op total) result }
 {
     match op {
         Op::Read => opened(session, Some(image), Op::Read, total),
@@ -161,6 +168,8 @@ fn open_directory(session: &Session, op: Op, total: u32) -> Decision
         IsTrue (same_bytes guid dir_guid) →
         DecidesBySession (kept session.now) (Request.Open guid op total) result }
     ensures plan { IsDecisionOf (kept session.now) result }
+    ensures asked { (m : MetaValue) (guid : List ℕ) → find_image (kept session.now).rows guid ≡ None →
+        IsFor (kept session.now) m (Request.Open guid op total) result }
 {
     match op {
         Op::Read => opened(session, None, Op::Read, total),
@@ -171,6 +180,7 @@ fn open_directory(session: &Session, op: Op, total: u32) -> Decision
 fn open(session: &Session, guid: &Guid, op: Op, total: u32) -> Decision
     ensures decides { DecidesBySession (kept session.now) (Request.Open guid.now op total) result }
     ensures plan { IsDecisionOf (kept session.now) result }
+    ensures asked { (m : MetaValue) → IsFor (kept session.now) m (Request.Open guid.now op total) result }
 {
     match session.find(guid) {
         Some(image) => open_image(session, image as u32, op, total),
@@ -186,6 +196,7 @@ fn open(session: &Session, guid: &Guid, op: Op, total: u32) -> Decision
 fn write(session: &Session, handle: u32, length: u64) -> Decision
     ensures decides { DecidesBySession (kept session.now) (Request.Write handle length) result }
     ensures plan { IsDecisionOf (kept session.now) result }
+    ensures asked { (m : MetaValue) → IsFor (kept session.now) m (Request.Write handle length) result }
 {
     match session.handle(handle) {
         Handle::Free => Decision::Refused(Status::Unknown),
@@ -209,6 +220,7 @@ fn write(session: &Session, handle: u32, length: u64) -> Decision
 fn read(session: &Session, handle: u32, room: u64) -> Decision
     ensures decides { DecidesBySession (kept session.now) (Request.Read handle room) result }
     ensures plan { IsDecisionOf (kept session.now) result }
+    ensures asked { (m : MetaValue) → IsFor (kept session.now) m (Request.Read handle room) result }
 {
     match session.handle(handle) {
         Handle::Free => Decision::Refused(Status::Unknown),
@@ -227,6 +239,8 @@ fn commit(session: &Session, handle: u32, acceptance_req: u32, max_atomic_len: u
     ensures decides { DecidesBySession (kept session.now)
         (Request.Commit handle acceptance_req max_atomic_len) result }
     ensures plan { IsDecisionOf (kept session.now) result }
+    ensures asked { (m : MetaValue) → IsFor (kept session.now) m
+        (Request.Commit handle acceptance_req max_atomic_len) result }
 {
     let bit = acceptance_req == 0;
     match session.handle(handle) {
@@ -256,6 +270,7 @@ fn end<V: Verifier>(session: &Session, counter: u32, verifier: &V) -> Decision
     ensures decides { (m : MetaRead) (boot : ℕ) →
         Decides (V.passes verifier.now) m counter (kept session.now) boot Request.End result }
     ensures plan { IsDecisionOf (kept session.now) result }
+    ensures asked { (m : MetaValue) → IsFor (kept session.now) m Request.End result }
 {
     if !session.is_staging() {
         return Decision::Refused(Status::Denied);
@@ -272,6 +287,7 @@ fn end<V: Verifier>(session: &Session, counter: u32, verifier: &V) -> Decision
 fn cancel(session: &Session) -> Decision
     ensures decides { DecidesBySession (kept session.now) Request.Cancel result }
     ensures plan { IsDecisionOf (kept session.now) result }
+    ensures asked { (m : MetaValue) → IsFor (kept session.now) m Request.Cancel result }
 {
     if !session.is_staging() {
         return Decision::Refused(Status::Denied);
@@ -290,6 +306,7 @@ fn accept(meta: &Meta, session: &Session, boot_index: u32, guid: &Guid) -> Decis
     requires fits { IsMetaOf (kept session.now) meta.now.meta }
     ensures decides { DecidesByMeta meta.now (kept session.now) boot_index (Request.Accept guid.now) result }
     ensures plan { IsDecisionOf (kept session.now) result }
+    ensures asked { IsFor (kept session.now) meta.now.meta (Request.Accept guid.now) result }
 {
     if !may_accept(meta, session, boot_index) {
         return Decision::Refused(Status::Denied);
@@ -324,6 +341,7 @@ fn previous(meta: &Meta, session: &Session, boot_index: u32) -> Decision
     requires previous { meta.now.meta.previous < length meta.now.meta.states }
     ensures decides { DecidesByMeta meta.now (kept session.now) boot_index Request.Previous result }
     ensures plan { IsDecisionOf (kept session.now) result }
+    ensures asked { IsFor (kept session.now) meta.now.meta Request.Previous result }
 {
     if !may_leave(meta, session, boot_index) {
         return Decision::Refused(Status::Denied);
@@ -353,6 +371,8 @@ pub fn decide<V: Verifier>(
     ensures decides { Decides (V.passes verifier.now) meta.now counter (kept session.now) boot_index
         request.now result }
     ensures plan { IsDecisionOf (kept session.now) result }
+    // a plan of the request's own kind, with the numbers that the request and what is kept give
+    ensures asked { IsFor (kept session.now) meta.now.meta request.now result }
 {
     match request {
         Request::Discover => Decision::Do(Plan::Tell),

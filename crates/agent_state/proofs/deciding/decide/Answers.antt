@@ -23,6 +23,7 @@ use Rattle.agent_kept.specs.declared.kinds.Request.{Request}
 use Rattle.agent_state.specs.Decides.{Decides}
 use Rattle.agent_state.proofs.Machine as machine
 use Rattle.agent_state.proofs.Replies as replies
+use Rattle.agent_state.specs.Asked.{IsFor}
 use Rattle.agent_state.proofs.deciding.decide.Goals as goal
 
 pub returns-in-Discover-clause-decides : goal.returns-in-Discover-clause-decides
@@ -63,3 +64,33 @@ previous-requires-clause-active g c = (meta-fits _ c.args.meta.now.meta c.requir
 
 pub previous-requires-clause-previous : goal.previous-requires-clause-previous
 previous-requires-clause-previous g c = (meta-fits _ c.args.meta.now.meta c.requires.fits).previous
+
+pub returns-in-Begin-clause-asked : goal.returns-in-Begin-clause-asked
+returns-in-Begin-clause-asked g c = subst (λ (r : Request). IsFor (kept c.args.session.now) c.args.meta.now.meta r c.begin.result) (sym c.in-Begin.is) c.begin.ensures.asked
+
+pub returns-in-Accept-clause-asked : goal.returns-in-Accept-clause-asked
+returns-in-Accept-clause-asked g c = subst (λ (r : Request). IsFor (kept c.args.session.now) c.args.meta.now.meta r c.accept.result) (sym c.in-Accept.is) c.accept.ensures.asked
+
+pub returns-in-Previous-clause-asked : goal.returns-in-Previous-clause-asked
+returns-in-Previous-clause-asked g c = subst (λ (r : Request). IsFor (kept c.args.session.now) c.args.meta.now.meta r c.previous.result) (sym c.in-Previous.is) c.previous.ensures.asked
+
+pub returns-in-Open-clause-asked : goal.returns-in-Open-clause-asked
+returns-in-Open-clause-asked g c = subst (λ (r : Request). IsFor (kept c.args.session.now) c.args.meta.now.meta r c.open.result) (sym c.in-Open.is) (c.open.ensures.asked c.args.meta.now.meta)
+
+pub returns-in-Write-clause-asked : goal.returns-in-Write-clause-asked
+returns-in-Write-clause-asked g c = subst (λ (r : Request). IsFor (kept c.args.session.now) c.args.meta.now.meta r c.write.result) (sym c.in-Write.is) (c.write.ensures.asked c.args.meta.now.meta)
+
+pub returns-in-Read-clause-asked : goal.returns-in-Read-clause-asked
+returns-in-Read-clause-asked g c = subst (λ (r : Request). IsFor (kept c.args.session.now) c.args.meta.now.meta r c.read.result) (sym c.in-Read.is) (c.read.ensures.asked c.args.meta.now.meta)
+
+pub returns-in-Commit-clause-asked : goal.returns-in-Commit-clause-asked
+returns-in-Commit-clause-asked g c = subst (λ (r : Request). IsFor (kept c.args.session.now) c.args.meta.now.meta r c.commit.result) (sym c.in-Commit.is) (c.commit.ensures.asked c.args.meta.now.meta)
+
+pub returns-in-End-clause-asked : goal.returns-in-End-clause-asked
+returns-in-End-clause-asked g c = subst (λ (r : Request). IsFor (kept c.args.session.now) c.args.meta.now.meta r c.end.result) (sym c.in-End.is) (c.end.ensures.asked c.args.meta.now.meta)
+
+pub returns-in-Cancel-clause-asked : goal.returns-in-Cancel-clause-asked
+returns-in-Cancel-clause-asked g c = subst (λ (r : Request). IsFor (kept c.args.session.now) c.args.meta.now.meta r c.cancel.result) (sym c.in-Cancel.is) (c.cancel.ensures.asked c.args.meta.now.meta)
+
+pub returns-in-Discover-clause-asked : goal.returns-in-Discover-clause-asked
+returns-in-Discover-clause-asked g c = subst (λ (r : Request). IsFor (kept c.args.session.now) c.args.meta.now.meta r (Do plan.Tell)) (sym c.in-Discover.is) tt

@@ -35,3 +35,9 @@ returns-in-Some-clause-decides c = c.open_image.ensures.decides c.args.guid.now 
 
 pub returns-else-not-is-clause-decides : goal.returns-else-not-is-clause-decides
 returns-else-not-is-clause-decides c = c.open_directory.ensures.decides c.args.guid.now (sym c.find.ensures.value ∙ c.in-None.is) (sym (c.is.ensures ∙ ap (same_bytes c.args.guid.now) c.directory_guid.ensures) ∙ c.if-not-is.false)
+
+pub returns-in-Some-clause-asked : goal.returns-in-Some-clause-asked
+returns-in-Some-clause-asked c = λ m. c.open_image.ensures.asked m c.args.guid.now (sym c.find.ensures.value ∙ c.in-Some.is)
+
+pub returns-else-not-is-clause-asked : goal.returns-else-not-is-clause-asked
+returns-else-not-is-clause-asked c = λ m. c.open_directory.ensures.asked m c.args.guid.now (sym c.find.ensures.value ∙ c.in-None.is)

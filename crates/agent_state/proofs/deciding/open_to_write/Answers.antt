@@ -20,6 +20,7 @@ use Rattle.agent_kept.specs.Plans.{DecidesAs, call_of, by_verdict}
 use Rattle.fwu_model.specs.Answer.{answer, may_go_back}
 use Rattle.agent_state.proofs.Machine as machine
 use Rattle.agent_state.proofs.Replies as replies
+use Rattle.agent_state.proofs.Asking.{opened-for}
 use Rattle.agent_state.proofs.deciding.open_to_write.Goals as goal
 
 pub returns-then-not-is_staging-clause-decides : goal.returns-then-not-is_staging-clause-decides
@@ -53,3 +54,7 @@ returns-in-Nothing-clause-decides c = λ guid found m boot passes counter E s st
     let hs = handles_meant k in
     let at = ap (λ (l : List ImageRow). find_image l guid) (sym speaks.rows) ∙ found in
     subst (λ (x : Option (List Staged)). DecidesAs E s (On boot x hs) (call.OpenWrite guid) bytes c.opened.result) (sym (machine.is-staging k staged (sym c.is_staging.ensures ∙ c.if-not-is_staging.false))) (replies.opened-decides E s (On boot (Some (parts_meant k staged)) hs) (call.OpenWrite guid) bytes k (Some c.args.image) op.Write c.args.total c.opened.result c.opened.ensures (replies.open-write-nothing E s boot (parts_meant k staged) hs bytes guid c.args.image c.args.total at (ap is_committed (machine.part-is k staged c.args.image c.requires.within ∙ ap (λ (p : Part). part_meant p (staged c.args.image)) (sym c.part.ensures ∙ c.in-Nothing.is))) (ap is_open (machine.part-is k staged c.args.image c.requires.within ∙ ap (λ (p : Part). part_meant p (staged c.args.image)) (sym c.part.ensures ∙ c.in-Nothing.is)))))
+
+pub returns-in-Nothing-clause-asked : goal.returns-in-Nothing-clause-asked
+returns-in-Nothing-clause-asked c = λ m guid found.
+    opened-for (kept c.args.session.now) m guid (Some c.args.image) op.Write c.args.total c.opened.result c.opened.ensures found

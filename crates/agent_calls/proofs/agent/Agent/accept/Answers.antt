@@ -9,6 +9,9 @@ use Rattle.agent_machine.proofs.StoredAnswers.{is_accept}
 use Rattle.agent_machine.proofs.StoredCalls.{accept-may, accept-answers, accept-idle, refused-of}
 use Rattle.agent_machine.proofs.StoredMeets.{carried-meets, idle-meets, refused-meets}
 use Rattle.agent_calls.specs.Shown.{fields, moment}
+use Rattle.agent_state.specs.Asked.{IsPlanFor}
+use Rattle.agent_machine.specs.Fields.{Fields}
+use Rattle.agent_calls.proofs.Unstored.{accept-stores-none}
 use Rattle.agent_calls.proofs.agent.Agent.accept.Goals as goal
 
 pub returns-in-Err-clause-meets : goal.returns-in-Err-clause-meets
@@ -56,3 +59,10 @@ returns-in_default-clause-meets g c = λ here passes.
     (λ E s x setting shows.
     accept-idle (fields a) (a.fitting here) a.session.sound passes c.args.guid c.in-Ok.plan
     (c.in-Ok.ensures.plans passes) g.D.Flash.tells t E s x setting shows other)
+
+pub returns-in-Accept-clause-still : goal.returns-in-Accept-clause-still
+returns-in-Accept-clause-still g c = λ image found set.
+    let a = c.args.self.now in
+    let f : Fields = fields a in
+    let asked = subst (IsPlanFor f.session f.meta.meta (request.Accept c.args.guid)) c.in-Accept.is c.in-Ok.ensures.asked in
+    c.carry_out.ensures.still (accept-stores-none f (a.fitting c.if-self.false) c.args.guid c.in-Accept.image c.in-Accept.store asked image found set)

@@ -1,4 +1,4 @@
-use Rattle.std.proofs.Common.{ℕ, List, Bool, true, refl, sym, subst}
+use Rattle.std.proofs.Common.{ℕ, List, Bool, true, refl, sym, ◌∙◌, subst}
 use Rattle.fwu_model.specs.Call as call
 use Rattle.agent_kept.specs.declared.kinds.Request.TheVariants as request
 use Rattle.agent_kept.specs.declared.kinds.Plan.TheVariants as plan
@@ -6,6 +6,7 @@ use Rattle.agent_machine.specs.Stored.{MayBegin}
 use Rattle.agent_machine.proofs.StoredCalls.{begin-may, begin-answers, refused-of}
 use Rattle.agent_machine.proofs.StoredMeets.{AnswersBy, carried-meets, refused-meets}
 use Rattle.agent_calls.specs.Shown.{fields, moment}
+use Rattle.agent_calls.proofs.Unstored.{begin-stores-none}
 use Rattle.agent_calls.proofs.agent.Agent.begin.Goals as goal
 
 pub carry_out-requires-clause-plan : goal.carry_out-requires-clause-plan
@@ -33,3 +34,9 @@ returns-in-Err-clause-meets g c = λ here passes.
     refused-meets g.D.Flash.tells (fields a) t t (λ is. refl) passes (call.Begin c.args.partial_count) c.in-Err.status
     (refused-of (moment a) (a.fitting here) a.session.sound passes (request.Begin c.args.vendor_flags c.args.partial_count)
     (λ E s. tt) c.in-Err.status (c.in-Err.ensures.plans passes))
+
+pub returns-in-Ok-clause-still : goal.returns-in-Ok-clause-still
+returns-in-Ok-clause-still g c = λ free.
+    let a = c.args.self.now in
+    c.carry_out.ensures.still (c.frees.ensures
+    ∙ begin-stores-none (fields a) (a.fitting c.if-self.false) c.args.vendor_flags c.args.partial_count c.in-Ok.plan c.in-Ok.ensures.asked free)

@@ -1,4 +1,4 @@
-use Rattle.std.proofs.Common.{◌≤◌, [], length, refl, sym, ap, ◌∙◌, arith}
+use Rattle.std.proofs.Common.{◌-◌, ◌≤◌, [], length, refl, sym, ap, ◌∙◌, arith}
 use Rattle.std.proofs.lemmas.List.{length-take, length-take-le}
 use Rattle.flash_core.specs.Told.{Told}
 use Rattle.fwu_model.specs.declared.kinds.Status.TheVariants.{Denied}
@@ -8,6 +8,7 @@ use Rattle.agent_machine.specs.Directory.{piece_of}
 use Rattle.agent_machine.specs.Meets.{IsGot}
 use Rattle.agent_machine.proofs.ReadAnswers.{read-refused, read-never, read-room, read-inside, read-lost, read-faulty, read-meets, carried-from, filled}
 use Rattle.agent_calls.specs.Shown.{fields, moment}
+use Rattle.agent_calls.proofs.Beyond.{read-no-more, kept-beyond}
 use Rattle.agent_calls.proofs.agent.Agent.read_stream.Goals as goal
 
 pub slice_bounds-read_part-end : goal.slice_bounds-read_part-end
@@ -104,3 +105,36 @@ returns-in-Err-clause-meets g c here passes =
     let a = c.args.self.now in
     read-refused (moment a) (a.fitting here) a.session.sound (a.knows here) (a.some here) c.args.h (length c.args.out.now)
     (IsGot g.D.Flash.tells _) c.in-Err.status c.in-Err.ensures.plans passes
+
+pub returns-in-Ok-read_part-clause-beyond : goal.returns-in-Ok-read_part-clause-beyond
+returns-in-Ok-read_part-clause-beyond g c image at total reads =
+    let a = c.args.self.now in
+    let here = c.if-self.false in
+    kept-beyond c.args.out.now c.read_part.new.out c.in-Read.length (total - at) c.read_part.auto.out
+    (read-room (moment a) (a.fitting here) a.session.sound (a.knows here) (a.some here) c.args.h
+    (length c.args.out.now) c.in-Ok.plan c.in-Ok.ensures.plans c.in-Read.handle c.in-Read.image c.in-Read.at c.in-Read.length c.in-Read.total c.in-Read.is
+    c.in-Ok.ensures.of)
+    (read-no-more (fields a) c.args.h (length c.args.out.now) c.in-Ok.plan c.in-Ok.ensures.asked c.in-Read.handle c.in-Read.image c.in-Read.at
+    c.in-Read.length c.in-Read.total c.in-Read.is image at total reads)
+
+pub returns-in-Err-Lost-clause-beyond : goal.returns-in-Err-Lost-clause-beyond
+returns-in-Err-Lost-clause-beyond g c image at total reads =
+    let a = c.args.self.now in
+    let here = c.if-self.false in
+    kept-beyond c.args.out.now c.read_part.new.out c.in-Read.length (total - at) c.read_part.auto.out
+    (read-room (moment a) (a.fitting here) a.session.sound (a.knows here) (a.some here) c.args.h
+    (length c.args.out.now) c.in-Ok.plan c.in-Ok.ensures.plans c.in-Read.handle c.in-Read.image c.in-Read.at c.in-Read.length c.in-Read.total c.in-Read.is
+    c.in-Ok.ensures.of)
+    (read-no-more (fields a) c.args.h (length c.args.out.now) c.in-Ok.plan c.in-Ok.ensures.asked c.in-Read.handle c.in-Read.image c.in-Read.at
+    c.in-Read.length c.in-Read.total c.in-Read.is image at total reads)
+
+pub returns-in-Err-Failed-clause-beyond : goal.returns-in-Err-Failed-clause-beyond
+returns-in-Err-Failed-clause-beyond g c image at total reads =
+    let a = c.args.self.now in
+    let here = c.if-self.false in
+    kept-beyond c.args.out.now c.read_part.new.out c.in-Read.length (total - at) c.read_part.auto.out
+    (read-room (moment a) (a.fitting here) a.session.sound (a.knows here) (a.some here) c.args.h
+    (length c.args.out.now) c.in-Ok.plan c.in-Ok.ensures.plans c.in-Read.handle c.in-Read.image c.in-Read.at c.in-Read.length c.in-Read.total c.in-Read.is
+    c.in-Ok.ensures.of)
+    (read-no-more (fields a) c.args.h (length c.args.out.now) c.in-Ok.plan c.in-Ok.ensures.asked c.in-Read.handle c.in-Read.image c.in-Read.at
+    c.in-Read.length c.in-Read.total c.in-Read.is image at total reads)

@@ -1,4 +1,4 @@
-use Rattle.std.proofs.Common.{◌≡◌, ℕ, ◌+◌, ◌≤◌, List, length, set, Ok, refl, ap, ◌∙◌, subst, arith}
+use Rattle.std.proofs.Common.{◌≡◌, ℕ, ◌+◌, ◌≤◌, List, length, set, Ok, refl, sym, ap, ◌∙◌, subst, arith}
 use Rattle.fwu_formats.specs.Layout.{ImageRow, start, slot_bytes}
 use Rattle.slot_writer.specs.Writes.{SpendsArming, writes_to_append}
 use Rattle.agent_kept.specs.Kept.{kept, part_at, size_of, slot_of}
@@ -6,6 +6,7 @@ use Rattle.agent_machine.specs.Fields.{Fields, target}
 use Rattle.agent_machine.proofs.Room.{slot-inside, meta-of-session}
 use Rattle.agent_machine.proofs.WriteCarried.{write-fitting, write-known, write-some, write-done, write-stopped}
 use Rattle.agent_calls.specs.Shown.{fields, moment}
+use Rattle.slot_writer.specs.Slots.{done_of}
 use Rattle.agent_calls.proofs.agent.Agent.write_image.Goals as goal
 
 pub append-requires-clause-inside : goal.append-requires-clause-inside
@@ -102,3 +103,11 @@ returns-in-Err-clause-meets g c passes h decides =
     fitting a.session.sound (a.knows here) c.requires.plan (λ tells. omega (arith, a.inside here, (g.met.D.Flash.sound a.flash tells).size)) fits first
     c.size-size.ensures c.in-Err.stop c.in-Err.ensures.appends passes h decides refl
     (record { layout = refl; boot = refl; counter = refl; lengths = refl; form = refl }) c.stopped.result c.stopped.ensures.stop c.stopped.ensures.stopped
+
+pub returns-in-Ok-clause-idle : goal.returns-in-Ok-clause-idle
+returns-in-Ok-clause-idle g c tells same =
+    (c.in-Ok.ensures.appends tells).idle (subst (λ (n : ℕ). done_of (n + length c.args.bytes.now) ≡ done_of n) (sym c.size-size.ensures) same)
+
+pub returns-in-Err-clause-idle : goal.returns-in-Err-clause-idle
+returns-in-Err-clause-idle g c tells same =
+    (c.in-Err.ensures.appends tells).idle (subst (λ (n : ℕ). done_of (n + length c.args.bytes.now) ≡ done_of n) (sym c.size-size.ensures) same)

@@ -1,4 +1,4 @@
-use Rattle.std.proofs.Common.{◌≡◌, ℕ, Bool, true, List, [], length, Ok, refl, sym, ap, ◌∙◌, subst, arith}
+use Rattle.std.proofs.Common.{◌≡◌, ℕ, ◌+◌, Bool, true, List, [], length, Ok, refl, sym, ap, ◌∙◌, subst, arith}
 use Rattle.flash_core.specs.Counts.{Spends, StaysUnarmed}
 use Rattle.flash_core.specs.declared.flash.Counts.{Counts}
 use Rattle.fwu_formats.specs.Layout.{ImageRow, slot_bytes}
@@ -20,6 +20,10 @@ use Rattle.agent_machine.proofs.Meeting.{quiet-unless-own, may-keep, carried-any
 use Rattle.agent_machine.proofs.WriteDecided.{write-room, write-spends, quiet-spends, spends-none, decides-length}
 use Rattle.agent_calls.specs.Shown.{fields, moment}
 use Rattle.agent_calls.proofs.Still.{still-goes, still-spends, still-unarmed, done-gone}
+use Rattle.slot_writer.specs.Slots.{done_of}
+use Rattle.agent_kept.specs.Kept.{part_at, size_of}
+use Rattle.agent_state.specs.Asked.{IsPlanFor}
+use Rattle.agent_calls.proofs.Beyond.{writes-same}
 use Rattle.agent_calls.proofs.agent.Agent.write_stream.Goals as goal
 
 -- a plan of its own is to write
@@ -115,6 +119,7 @@ returns-in_default g c =
       goes = still-goes tt a.gone c.keep.new.self.gone here c.keep.ensures.here;
       untouched = λ e. absurd (done-gone tt e);
       refused = λ e. absurd e;
+      idle = λ tells image writes same. ap g.D.Flash.told device;
       spent = λ done image writes.
           let none = quiet-spends f (a.fitting here) a.session.sound (a.some here) (λ m. true) c.args.handle (length bytes) bytes refl p still
           (c.in-Ok.ensures.plans (λ m. true)) image writes in
@@ -136,3 +141,12 @@ returns-in-Err-clause-meets g c here passes =
     let a = c.args.self.now in
     refused-meets (moment a) (a.fitting here) a.session.sound passes (request.Write c.args.handle (length c.args.bytes.now)) c.args.bytes.now
     (λ E s setting speaks. refl) c.in-Err.status (c.in-Err.ensures.plans passes) (λ value reply. reply ≡ Success)
+
+pub returns-in-Write-clause-idle : goal.returns-in-Write-clause-idle
+returns-in-Write-clause-idle g c tells image writes same =
+    let f : Fields = fields c.args.self.now in
+    let n : ℕ = length c.args.bytes.now in
+    let own = subst (IsPlanFor f.session f.meta.meta (request.Write c.args.handle n)) c.in-Write.is c.in-Ok.ensures.asked in
+    let is : image ≡ c.in-Write.image = writes-same image c.in-Write.image (sym writes ∙ own.1) in
+    c.write_image.ensures.idle tells
+    (subst (λ (i : ℕ). done_of (size_of (part_at f.session i) + n) ≡ done_of (size_of (part_at f.session i))) is same)
