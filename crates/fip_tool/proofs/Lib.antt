@@ -7,6 +7,7 @@ pub mod ManifestLemmas
 pub mod Packings
 pub mod PartLemmas
 pub mod Repacking
+pub mod SinkFaults
 pub mod SourceEnds
 pub mod SourceLemmas
 pub mod Tables

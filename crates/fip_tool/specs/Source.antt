@@ -1,5 +1,5 @@
 -- One read of the source.
-use Rattle.std.specs.Prelude.{◌≡◌, ℕ, List, ◌++◌, Option, Result, Ok, Err, length}
+use Rattle.std.specs.Prelude.{◌≡◌, ◌≤◌, ℕ, List, ◌++◌, Option, Result, Ok, Err, length}
 use Rattle.std.specs.Io.KnownBytes.{Consumes, IsAtEnd}
 use Rattle.fwu_formats.specs.Package.{Toc, toc_of}
 use Rattle.fip_tables.specs.Answers.{decided}
@@ -12,8 +12,9 @@ use Rattle.fip_tool.specs.declared.stops.Stop.TheVariants as stop
 abbrev pub FedSome : Stream → List ℕ → List ℕ → Option (List ℕ) → Option (List ℕ) → Type 0 → Result ℕ Stop → Type 0
 FedSome stream given piece was left source-rose (Ok n) =
     Consumes was left piece × (length piece ≡ n) × (n ≡ 0 → IsAtEnd left) × Fed stream (given ++ piece) × (decided (toc_of (given ++ piece)) ≡ Ok tt)
-FedSome stream given piece was left source-rose (Err (stop.NotFip f)) = Consumes was left piece × (decided (toc_of (given ++ piece)) ≡ Err f)
-FedSome stream given piece was left source-rose (Err stop.FileFault) = Consumes was left piece × source-rose
+FedSome stream given piece was left source-rose (Err (stop.NotFip f)) =
+    Consumes was left piece × (length piece ≤ 4096) × (decided (toc_of (given ++ piece)) ≡ Err f)
+FedSome stream given piece was left source-rose (Err stop.FileFault) = Consumes was left piece × (length piece ≤ 4096) × source-rose
 FedSome stream given piece was left source-rose (Err s) = ⊥
 
 -- what is answered where the source is at its end

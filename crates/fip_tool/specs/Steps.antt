@@ -3,6 +3,7 @@ use Rattle.std.specs.Prelude.{◌≡◌, ◌≢◌, ◌⊎◌, ◌≤◌, ⊤, �
 use Rattle.std.specs.Str.{bytes_eq}
 use Rattle.std.specs.Io.KnownBytes.{Appends}
 use Rattle.base_core.specs.Counts.{Rose}
+use Rattle.host_io.specs.Calls.{raised}
 use Rattle.host_io.specs.Contents.{Directory}
 use Rattle.fip_tool.specs.declared.stops.Stop.{Stop}
 use Rattle.fip_tool.specs.declared.stops.Stop.TheVariants.{FileFault, SinkFault, NoMemory, Usage}
@@ -108,6 +109,20 @@ Printed was text sink-rose piece (Ok done) = Appends was text piece
 Printed was text sink-rose piece (Err SinkFault) = sink-rose × (k : ℕ) × Appends was text (take k piece)
 Printed was text sink-rose piece (Err NoMemory) = text ≡ was
 Printed was text sink-rose piece (Err stop) = ⊥
+
+-- how many calls of the sink have failed after a command that ended so: one more where the sink took no more, and else as many as before
+abbrev pub sink_failed : Stop → ℕ → ℕ
+sink_failed SinkFault before = raised before
+sink_failed s before = before
+
+abbrev pub sink_failures : {X : Type 0} → Result X Stop → ℕ → ℕ
+sink_failures (Ok x) before = before
+sink_failures (Err s) before = sink_failed s before
+
+-- and after the line of a stop: where the sink took no more, it isn't asked again
+abbrev pub line_failures : Stop → Stop → ℕ → ℕ
+line_failures SinkFault now before = before
+line_failures s now before = sink_failed now before
 
 -- what the writing of a file leaves
 abbrev pub Written : Directory → Option Directory → Type 0 → List ℕ → List ℕ → Result (Unit {0}) Stop → Type 0

@@ -1,5 +1,5 @@
 -- What each command of `fip` does, by the bytes of its files: the written files and the printed text.
-use Rattle.std.specs.Prelude.{◌≡◌, ◌⊎◌, ℕ, Bool, not, ◌||◌, ◌==◌, List, [], ◌∷◌, Option, Some, None, Result, Ok, Err, if◌then◌else◌, length, map, filter, find, nat_lt, option_map}
+use Rattle.std.specs.Prelude.{◌≡◌, ◌≤◌, ◌⊎◌, ℕ, Bool, not, ◌||◌, ◌==◌, List, [], ◌∷◌, ◌++◌, Option, Some, None, Result, Ok, Err, if◌then◌else◌, length, map, filter, find, nat_lt, option_map}
 use Rattle.std.specs.List.{list_any}
 use Rattle.std.specs.Io.KnownBytes.{Consumes, IsAtEnd}
 use Rattle.base_core.specs.Bytes.{same_bytes}
@@ -113,6 +113,15 @@ given_table given =
     unless_decided (decided (toc_of given))
     (if nat_lt source_limit (length given) then Err stop.TooLong
     else after (table_of (toc_of given)) (λ t. Ok (t, length given)))
+
+-- But for the last read, of at most 4096 bytes, the bytes that were read were not too many, and had no fault that no further bytes mend.
+pub record StopsInTime (given : List ℕ) : Type 0 where
+  pub before : List ℕ
+  pub last : List ℕ
+  pub all : given ≡ before ++ last
+  pub short : length last ≤ 4096
+  pub few : length before ≤ source_limit
+  pub undecided : decided (toc_of before) ≡ Ok tt
 
 unfoldable pub given_value : List ℕ → Result (List ℕ) Stop
 given_value given = after (given_table given) (λ t. Ok (info_text t.0 t.1))
@@ -307,12 +316,13 @@ IsReadFor (Err s) was left given = Consumes was left given
 abbrev pub ReadSource : Result (Unit {0}) Stop → Option Directory → Option Directory → Option (List ℕ) → Option (List ℕ)
     → Option (List ℕ) → Option (List ℕ) → Type 0 → Type 0 → Type 0
 ReadSource result told now left-was left was text source-rose sink-rose =
-    (given : List ℕ) × (now ≡ told) × IsReadFor result left-was left given
+    (given : List ℕ) × StopsInTime given × (now ≡ told) × IsReadFor result left-was left given
     × Did (outcome_by prints (given_value given)) no_files (Some no_files) was text source-rose sink-rose result
 
 -- and how the tool ended then
 abbrev pub EndedSource : ℕ → Option Directory → Option Directory → Option (List ℕ) → Option (List ℕ)
     → Option (List ℕ) → Option (List ℕ) → Type 0 → Type 0 → Type 0
 EndedSource status told now left-was left was text source-rose sink-rose =
-    (given : List ℕ) × (now ≡ told) × (result : Result (Unit {0}) Stop) × (status ≡ exit_status result) × IsReadFor result left-was left given
+    (given : List ℕ) × StopsInTime given × (now ≡ told) × (result : Result (Unit {0}) Stop) × (status ≡ exit_status result)
+    × IsReadFor result left-was left given
     × EndedBy (outcome_by prints (given_value given)) no_files (Some no_files) was text source-rose sink-rose result

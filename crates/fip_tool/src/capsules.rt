@@ -6,7 +6,7 @@ ghost use Rattle.fwu_formats.specs.Package.{Toc};
 ghost use Rattle.host_io.specs.Contents.{Directory};
 ghost use Rattle.fip_words.specs.Order.{Asked};
 ghost use Rattle.fip_tool.specs.Said.{IsTexts, Says};
-ghost use Rattle.fip_tool.specs.Steps.{Did, Gives, ReadsOnly, outcome_by};
+ghost use Rattle.fip_tool.specs.Steps.{Did, Gives, ReadsOnly, outcome_by, sink_failures};
 ghost use Rattle.fip_tool.specs.Tool.{capsule_value, enclose_value, encloses, kept_part, pack_value, repackage_value, packs};
 ghost use Rattle.fip_tool.specs.declared.stops.Stop.TheVariants as stop;
 
@@ -130,6 +130,7 @@ pub fn run_capsule<H: Files, O: Sink>(
         → Rose (H.faults files.old) (H.faults files.new) }
     ensures usage { result ≡ Err stop.Usage → ⊥ }
     ensures later { O.faults sink.old ≤ O.faults sink.new }
+    ensures sink_count { O.faults sink.new ≡ sink_failures result (O.faults sink.old) }
 {
     let made = capsule_of_package(alloc, files, from);
     put_capsule(alloc, files, sink, out, made)
@@ -157,6 +158,7 @@ pub fn run_package<H: Files, O: Sink>(
         → Rose (H.faults files.old) (H.faults files.new) }
     ensures usage { result ≡ Err stop.Usage → ⊥ }
     ensures later { O.faults sink.old ≤ O.faults sink.new }
+    ensures sink_count { O.faults sink.new ≡ sink_failures result (O.faults sink.old) }
 {
     let made = package_of_capsule(alloc, files, align, from);
     put_made(alloc, files, sink, out, made)

@@ -4,7 +4,7 @@ ghost use Rattle.base_core.specs.Counts.{Rose};
 ghost use Rattle.host_io.specs.Contents.{Directory};
 ghost use Rattle.fip_tool.specs.Said.{IsListing};
 ghost use Rattle.fip_tool.specs.Steps.{Gives, ReadsOnly};
-ghost use Rattle.fip_tool.specs.Tool.{GivenTo, given_value, info_value};
+ghost use Rattle.fip_tool.specs.Tool.{GivenTo, StopsInTime, given_value, info_value};
 ghost use Rattle.fip_tool.specs.declared.stops.Stop.TheVariants as stop;
 
 use crate::lines::info_text;
@@ -33,8 +33,9 @@ pub fn file_info<H: Files>(alloc: Global, files: &mut H, name: &str) -> Result<V
 
 /// What is printed of the package that the source gives.
 pub fn source_info<I: Source>(alloc: Global, source: &mut I) -> Result<Vec<u8>, Stop>
-    ensures given { (given : List ℕ) × GivenTo (λ text. text.items) given_value (I.left source.old)
-        (I.left source.new) (Rose (I.faults source.old) (I.faults source.new)) result given }
+    ensures given { (given : List ℕ) × StopsInTime given × GivenTo (λ text. text.items) given_value
+        (I.left source.old) (I.left source.new)
+        (Rose (I.faults source.old) (I.faults source.new)) result given }
     ensures listed { IfOk result (λ text. IsListing text.items) }
     ensures usage { result ≡ Err stop.Usage → ⊥ }
     ensures sink { result ≡ Err stop.SinkFault → ⊥ }

@@ -7,7 +7,7 @@ ghost use Rattle.host_io.specs.Contents.{Directory};
 ghost use Rattle.fip_words.specs.Order.{Asked, part_view};
 ghost use Rattle.fip_tool.specs.Payloads.{IsThere, part_told};
 ghost use Rattle.fip_tool.specs.Said.{IsTexts, Says};
-ghost use Rattle.fip_tool.specs.Steps.{Did, Gives, ReadsOnly, outcome_by};
+ghost use Rattle.fip_tool.specs.Steps.{Did, Gives, ReadsOnly, outcome_by, sink_failures};
 ghost use Rattle.fip_tool.specs.Tool.{after, create_value, first_missing, is_named, kept_part, pack_value, packs, parts_in, remove_value, update_value, updated_part};
 ghost use Rattle.fip_tool.specs.declared.stops.Stop.TheVariants as stop;
 
@@ -237,6 +237,7 @@ pub fn run_create<H: Files, O: Sink>(
         → Rose (H.faults files.old) (H.faults files.new) }
     ensures usage { result ≡ Err stop.Usage → ⊥ }
     ensures later { O.faults sink.old ≤ O.faults sink.new }
+    ensures sink_count { O.faults sink.new ≡ sink_failures result (O.faults sink.old) }
 {
     let made = created(alloc, files, align, named);
     put_made(alloc, files, sink, out, made)
@@ -264,6 +265,7 @@ pub fn run_remove<H: Files, O: Sink>(
         → Rose (H.faults files.old) (H.faults files.new) }
     ensures usage { result ≡ Err stop.Usage → ⊥ }
     ensures later { O.faults sink.old ≤ O.faults sink.new }
+    ensures sink_count { O.faults sink.new ≡ sink_failures result (O.faults sink.old) }
 {
     let made = removed(alloc, files, align, from, guids);
     put_made(alloc, files, sink, out, made)
@@ -293,6 +295,7 @@ pub fn run_update<H: Files, O: Sink>(
         → Rose (H.faults files.old) (H.faults files.new) }
     ensures usage { result ≡ Err stop.Usage → ⊥ }
     ensures later { O.faults sink.old ≤ O.faults sink.new }
+    ensures sink_count { O.faults sink.new ≡ sink_failures result (O.faults sink.old) }
 {
     let made = updated(alloc, files, align, from, named);
     put_made(alloc, files, sink, out, made)

@@ -7,7 +7,7 @@ ghost use Rattle.fip_words.specs.Values.{each};
 ghost use Rattle.host_io.specs.Contents.{Directory};
 ghost use Rattle.manifest_core.specs.Shown.{row};
 ghost use Rattle.fip_tool.specs.Said.{IsTexts, Says};
-ghost use Rattle.fip_tool.specs.Steps.{Did, Gives, ReadsOnly, outcome_by};
+ghost use Rattle.fip_tool.specs.Steps.{Did, Gives, ReadsOnly, outcome_by, sink_failures};
 ghost use Rattle.fip_tool.specs.Tool.{after, image_in, image_row, is_long, manifest_value, nothing, of_rows, sizes_value, there, unless_long, writes_manifest};
 ghost use Rattle.fip_tool.specs.declared.stops.Stop.TheVariants as stop;
 
@@ -228,6 +228,7 @@ pub fn run_manifest<H: Files, O: Sink>(
         → Rose (H.faults files.old) (H.faults files.new) }
     ensures usage { result ≡ Err stop.Usage → ⊥ }
     ensures later { O.faults sink.old ≤ O.faults sink.new }
+    ensures sink_count { O.faults sink.new ≡ sink_failures result (O.faults sink.old) }
 {
     let (rows, bytes) = match manifest(alloc, files, security, named) {
         Ok(made) => made,

@@ -1,7 +1,7 @@
 //! Texts for the sink.
 ghost use Rattle.std.specs.Prelude.{◌≡◌, ◌≤◌, Err, IfErr};
 ghost use Rattle.base_core.specs.Counts.{Rose};
-ghost use Rattle.fip_tool.specs.Steps.{IsLate, Printed};
+ghost use Rattle.fip_tool.specs.Steps.{IsLate, Printed, sink_failures};
 ghost use Rattle.fip_tool.specs.declared.stops.Stop.TheVariants as stop;
 
 use crate::stops::Stop;
@@ -14,6 +14,7 @@ pub fn print<O: Sink>(sink: &mut O, text: &[u8]) -> Result<(), Stop>
     ensures late { IfErr result IsLate }
     ensures usage { result ≡ Err stop.Usage → ⊥ }
     ensures later { O.faults sink.old ≤ O.faults sink.new }
+    ensures count { O.faults sink.new ≡ sink_failures result (O.faults sink.old) }
 {
     match sink.put(text) {
         Ok(()) => Ok(()),

@@ -7,7 +7,7 @@ ghost use Rattle.fwu_formats.specs.Package.{toc_of};
 ghost use Rattle.fip_tables.specs.Answers.{decided};
 ghost use Rattle.fip_tables.specs.Stream.{Fed};
 ghost use Rattle.fip_tool.specs.Steps.{Gives, ReadsOnly};
-ghost use Rattle.fip_tool.specs.Tool.{GivenTo, after, capsule_in, capsule_stopped_by, given_table, size_in, sized_table, source_limit, stopped_by};
+ghost use Rattle.fip_tool.specs.Tool.{GivenTo, StopsInTime, after, capsule_in, capsule_stopped_by, given_table, size_in, sized_table, source_limit, stopped_by};
 ghost use Rattle.fip_tool.specs.Source.{EndsAs, FedSome};
 ghost use Rattle.fip_tool.specs.declared.stops.Stop.TheVariants as stop;
 
@@ -125,8 +125,9 @@ fn ended(stream: StreamToc, count: u64) -> Result<(Toc, u64), Stop>
 /// The table of a package that the source gives, and how many bytes it gave. It is read to its end, to a fault that no further
 /// bytes mend, or past the most bytes.
 pub fn read_given<I: Source>(source: &mut I) -> Result<(Toc, u64), Stop>
-    ensures given { (given : List ℕ) × GivenTo (λ t. t) given_table (I.left source.old)
-        (I.left source.new) (Rose (I.faults source.old) (I.faults source.new)) result given }
+    ensures given { (given : List ℕ) × StopsInTime given × GivenTo (λ t. t) given_table
+        (I.left source.old) (I.left source.new)
+        (Rose (I.faults source.old) (I.faults source.new)) result given }
     ensures usage { result ≡ Err stop.Usage → ⊥ }
     ensures sink { result ≡ Err stop.SinkFault → ⊥ }
     ensures later { I.faults source.old ≤ I.faults source.new }

@@ -1,15 +1,17 @@
 //! The tool: it reads its words, does the command, and tells how it ended.
-ghost use Rattle.std.specs.Prelude.{◌≡◌, ◌≢◌, ◌≤◌, ◌⊎◌, List, Option, Some, None, Ok, Err, ℕ, false, map, string_bytes};
+ghost use Rattle.std.specs.Prelude.{◌==◌, if◌then◌else◌, ◌≡◌, ◌≢◌, ◌≤◌, ◌⊎◌, List, Option, Some, None, Ok, Err, ℕ, false, map, string_bytes};
 ghost use Rattle.base_core.specs.Counts.{Rose};
+ghost use Rattle.host_io.specs.Calls.{raised};
 ghost use Rattle.host_io.specs.Contents.{Directory};
 ghost use Rattle.fip_words.specs.Order.{Asked, asked, info_of_source, view};
 ghost use Rattle.fip_words.specs.Values.{is_unpacked};
 ghost use Rattle.fip_tool.specs.Converted.{Converts};
 ghost use Rattle.fip_tool.specs.Ends.{Ended, Reported, Told};
 ghost use Rattle.fip_tool.specs.Said.{IsTexts, IsTextsOf, SaidWith, Says};
-ghost use Rattle.fip_tool.specs.Steps.{Did};
+ghost use Rattle.fip_tool.specs.Steps.{Did, line_failures, sink_failed, sink_failures};
 ghost use Rattle.fip_tool.specs.Tool.{EndedSource, ReadSource, command_outcome, outcome_of};
 ghost use Rattle.fip_tool.specs.declared.stops.Stop.TheVariants as stop;
+ghost use Rattle.fip_tool.specs.declared.stops.Stop.TheVariants.{SinkFault};
 
 use crate::capsules::{run_capsule, run_package};
 use crate::info::{file_info, source_info};
@@ -40,6 +42,7 @@ fn info<H: Files, O: Sink>(
         → Rose (H.faults files.old) (H.faults files.new) }
     ensures usage { result ≡ Err stop.Usage → ⊥ }
     ensures later { O.faults sink.old ≤ O.faults sink.new }
+    ensures sink_count { O.faults sink.new ≡ sink_failures result (O.faults sink.old) }
 {
     match file_info(alloc, files, name) {
         Ok(text) => print(sink, text.as_slice()),
@@ -62,6 +65,7 @@ fn info_of_source<I: Source, O: Sink>(
     ensures cause { result ≡ Err stop.FileFault → Rose (I.faults source.old) (I.faults source.new) }
     ensures usage { result ≡ Err stop.Usage → ⊥ }
     ensures later { O.faults sink.old ≤ O.faults sink.new }
+    ensures sink_count { O.faults sink.new ≡ sink_failures result (O.faults sink.old) }
 {
     match source_info(alloc, source) {
         Ok(text) => print(sink, text.as_slice()),
@@ -74,6 +78,8 @@ fn tell<O: Sink>(alloc: Global, sink: &mut O, stop: Stop) -> Stop
     ensures told { Told (O.taken sink.old) (O.taken sink.new)
         (Rose (O.faults sink.old) (O.faults sink.new)) stop result }
     ensures later { O.faults sink.old ≤ O.faults sink.new }
+    ensures sink_count { (stop ≡ SinkFault → ⊥) → O.faults sink.new ≡ sink_failed result
+        (O.faults sink.old) }
 {
     match stop_line(alloc, &stop) {
         Ok(line) => match print(sink, line.as_slice()) {
@@ -89,6 +95,7 @@ fn report<O: Sink>(alloc: Global, sink: &mut O, stop: Stop) -> Stop
     ensures reported { Reported (O.taken sink.old) (O.taken sink.new)
         (Rose (O.faults sink.old) (O.faults sink.new)) stop result }
     ensures later { O.faults sink.old ≤ O.faults sink.new }
+    ensures sink_count { O.faults sink.new ≡ line_failures stop result (O.faults sink.old) }
 {
     match stop {
         Stop::SinkFault | Stop::NoMemory => stop,
@@ -126,6 +133,7 @@ fn command<H: Files, I: Source, O: Sink>(
         → (I.left source.new ≡ I.left source.old) × (I.faults source.new ≡ I.faults source.old) }
     ensures usage { result ≡ Err stop.Usage → ⊥ }
     ensures later { O.faults sink.old ≤ O.faults sink.new }
+    ensures sink_count { O.faults sink.new ≡ sink_failures result (O.faults sink.old) }
 {
     match order {
         FipOrder::Info { file } => info(alloc, files, sink, file),
@@ -193,6 +201,7 @@ fn run<H: Files, I: Source, O: Sink>(
         ⊎ Rose (I.faults source.old) (I.faults source.new) }
     ensures usage { result ≡ Err stop.Usage → asked (map string_bytes words.now) ≡ None }
     ensures later { O.faults sink.old ≤ O.faults sink.new }
+    ensures sink_count { O.faults sink.new ≡ sink_failures result (O.faults sink.old) }
 {
     match fip_order(alloc, words) {
         Ok(order) => command(alloc, &order, files, source, sink),
@@ -231,6 +240,9 @@ pub fn fip_top<H: Files, I: Source, O: Sink>(
     ensures converts { (told : Directory) → H.contents files.old ≡ Some told → result ≡ 0
         → Converts (asked (map string_bytes words.now)) told (H.contents files.new) }
     ensures sink { result ≡ 3 → Rose (O.faults sink.old) (O.faults sink.new) }
+    // Whatever files and sink there are: the sink fails once at status 3 and is not asked again, and never at another status.
+    ensures sink_count { O.faults sink.new ≡
+        (if result == 3 then raised (O.faults sink.old) else O.faults sink.old) }
     ensures cause { result ≡ 2 → H.contents files.old ≡ None
         → Rose (H.faults files.old) (H.faults files.new)
         ⊎ Rose (I.faults source.old) (I.faults source.new) }

@@ -8,7 +8,7 @@ ghost use Rattle.fip_words.specs.Values.{is_unpacked};
 ghost use Rattle.host_io.specs.Contents.{Directory};
 ghost use Rattle.fip_tool.specs.Lines.{unpacked_line, unpacked_name};
 ghost use Rattle.fip_tool.specs.Said.{IsTexts, Says};
-ghost use Rattle.fip_tool.specs.Steps.{Did, IsLate, Makes, outcome_by};
+ghost use Rattle.fip_tool.specs.Steps.{Did, IsLate, Makes, outcome_by, sink_failures};
 ghost use Rattle.fip_tool.specs.Tool.{is_named, unpack_steps, unpack_value};
 ghost use Rattle.fip_tool.specs.declared.stops.Stop.TheVariants as stop;
 
@@ -83,6 +83,7 @@ fn unpack_entry<H: Files, O: Sink>(
     ensures usage { result ≡ Err stop.Usage → ⊥ }
     ensures later { H.faults files.old ≤ H.faults files.new }
     ensures later_sink { O.faults sink.old ≤ O.faults sink.new }
+    ensures sink_count { O.faults sink.new ≡ sink_failures result (O.faults sink.old) }
 {
     let bytes = match read_payload(alloc, files, from, entry) {
         Ok(bytes) => bytes,
@@ -139,6 +140,7 @@ fn unpack_entries<H: Files, O: Sink>(
     ensures usage { result ≡ Err stop.Usage → ⊥ }
     ensures later { H.faults files.old ≤ H.faults files.new }
     ensures later_sink { O.faults sink.old ≤ O.faults sink.new }
+    ensures sink_count { O.faults sink.new ≡ sink_failures result (O.faults sink.old) }
 {
     for entry in entries {
         if is_chosen(names, entry) {
@@ -175,6 +177,7 @@ pub fn run_unpack<H: Files, O: Sink>(
         → Rose (H.faults files.old) (H.faults files.new) }
     ensures usage { result ≡ Err stop.Usage → ⊥ }
     ensures later { O.faults sink.old ≤ O.faults sink.new }
+    ensures sink_count { O.faults sink.new ≡ sink_failures result (O.faults sink.old) }
 {
     match table_with(files, from, names) {
         Ok(toc) => {

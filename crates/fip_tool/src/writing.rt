@@ -3,7 +3,7 @@ ghost use Rattle.std.specs.Prelude.{◌≡◌, ◌⊎◌, ◌≤◌, ◌∷◌, 
 ghost use Rattle.base_core.specs.Counts.{Rose};
 ghost use Rattle.host_io.specs.Contents.{Directory};
 ghost use Rattle.fip_tool.specs.Said.{IsCapsuleLine, IsPackedLine, Says};
-ghost use Rattle.fip_tool.specs.Steps.{Did, Gives, IsLate, Makes, Prints, Writes, Written, outcome_by};
+ghost use Rattle.fip_tool.specs.Steps.{Did, Gives, IsLate, Makes, Prints, Writes, Written, outcome_by, sink_failures};
 ghost use Rattle.fip_tool.specs.Tool.{encloses, packs};
 ghost use Rattle.fip_tool.specs.declared.stops.Stop.{Stop};
 ghost use Rattle.fip_tool.specs.declared.stops.Stop.TheVariants as stop;
@@ -54,6 +54,7 @@ pub fn write_and_print<H: Files, O: Sink>(
     ensures usage { result ≡ Err stop.Usage → ⊥ }
     ensures later { H.faults files.old ≤ H.faults files.new }
     ensures later_sink { O.faults sink.old ≤ O.faults sink.new }
+    ensures sink_count { O.faults sink.new ≡ sink_failures result (O.faults sink.old) }
 {
     match write(files, name, bytes) {
         Ok(()) => print(sink, line),
@@ -84,6 +85,8 @@ pub fn put_made<H: Files, O: Sink>(
     ensures usage { result ≡ Err stop.Usage → made ≡ Err stop.Usage }
     ensures later { H.faults files.old ≤ H.faults files.new }
     ensures later_sink { O.faults sink.old ≤ O.faults sink.new }
+    ensures sink_count { (made ≡ Err stop.SinkFault → ⊥) → O.faults sink.new ≡ sink_failures result
+        (O.faults sink.old) }
 {
     let (entries, bytes) = match made {
         Ok(made) => made,
@@ -118,6 +121,8 @@ pub fn put_capsule<H: Files, O: Sink>(
     ensures usage { result ≡ Err stop.Usage → made ≡ Err stop.Usage }
     ensures later { H.faults files.old ≤ H.faults files.new }
     ensures later_sink { O.faults sink.old ≤ O.faults sink.new }
+    ensures sink_count { (made ≡ Err stop.SinkFault → ⊥) → O.faults sink.new ≡ sink_failures result
+        (O.faults sink.old) }
 {
     let (items, bytes) = match made {
         Ok(made) => made,

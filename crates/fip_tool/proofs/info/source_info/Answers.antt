@@ -6,7 +6,7 @@ use Rattle.fip_tool.proofs.info.source_info.Goals as goal
 pub returns-in-Ok-info_text-clause-given : goal.returns-in-Ok-info_text-clause-given
 returns-in-Ok-info_text-clause-given g c =
     let given = c.in-Ok.ensures.given in
-    (given.0, text-made _ _ (Unit {0}) given.0 (c.in-Ok.toc, c.in-Ok.size) c.in-Ok-info_text.text.items given.1 c.in-Ok-info_text.ensures)
+    (given.0, given.1, text-made _ _ (Unit {0}) given.0 (c.in-Ok.toc, c.in-Ok.size) c.in-Ok-info_text.text.items given.2 c.in-Ok-info_text.ensures)
 
 pub returns-in-Ok-info_text-clause-listed : goal.returns-in-Ok-info_text-clause-listed
 returns-in-Ok-info_text-clause-listed g c = (c.in-Ok.toc, c.in-Ok.size, c.in-Ok-info_text.ensures)
@@ -14,4 +14,4 @@ returns-in-Ok-info_text-clause-listed g c = (c.in-Ok.toc, c.in-Ok.size, c.in-Ok-
 pub returns-in-Err-clause-given : goal.returns-in-Err-clause-given
 returns-in-Err-clause-given g c =
     let given = c.in-Err.ensures.given in
-    (given.0, text-stopped (λ (text : Vec ℕ Global). text.items) _ _ _ given.0 c.in-Err.stop given.1)
+    (given.0, given.1, text-stopped (λ (text : Vec ℕ Global). text.items) _ _ _ given.0 c.in-Err.stop given.2)

@@ -24,3 +24,6 @@ returns-clause-cause g c = λ failed none.
 
 pub returns-clause-later : goal.returns-clause-later
 returns-clause-later g c = c.put_made.ensures.later_sink
+
+pub returns-clause-sink_count : goal.returns-clause-sink_count
+returns-clause-sink_count g c = c.put_made.ensures.sink_count c.updated-made.ensures.reads.sink

@@ -13,6 +13,7 @@ use Rattle.fip_tool.specs.Tool.{manifest_value, writes_manifest}
 use Rattle.fip_tool.proofs.Did.{no-memory-yet, refused}
 use Rattle.fip_tool.proofs.ManifestLemmas.{manifest-written}
 use Rattle.fip_tool.proofs.Tables.{rose-from}
+use Rattle.fip_tool.proofs.SinkFaults.{still}
 use Rattle.fip_tool.proofs.manifest.run_manifest.Goals as goal
 
 pub returns-clause-told : goal.returns-clause-told
@@ -66,3 +67,6 @@ returns-in-Err-clause-says g c = says-nothing (IsTexts (asks.manifest c.args.out
 
 pub returns-in_default-clause-says : goal.returns-in_default-clause-says
 returns-in_default-clause-says g c = ([], inl refl, Appends-nil _)
+
+pub returns-in-Err-clause-sink_count : goal.returns-in-Err-clause-sink_count
+returns-in-Err-clause-sink_count g c = still _ c.in-Err.stop (λ e. c.in-Err.ensures.reads.sink (err-same e))

@@ -10,13 +10,13 @@ loop-count-init g c = nothing-yet _ _ _ c.new-stream.ensures
 
 pub returns-in-Err-clause-given : goal.returns-in-Err-clause-given
 returns-in-Err-clause-given g c =
-    stopped _ _ _ c.loop-count.stream c.feed_some.new.stream c.loop-count.count _ _ 0 _ _ (λ r. rose-from _ _ _ c.loop-count.invariant.later r) c.loop-count.invariant c.in-Err.stop
+    stopped _ _ _ c.loop-count.stream c.feed_some.new.stream c.loop-count.count _ _ 0 _ _ (λ r. rose-from _ _ _ c.loop-count.invariant.later r) (omega (arith, c.loop-count-test.true)) c.loop-count.invariant c.in-Err.stop
     (c.in-Err.ensures.fed c.loop-count.invariant.so-far.given c.loop-count.invariant.so-far.fed)
 
 pub returns-then-some-eq0-clause-given : goal.returns-then-some-eq0-clause-given
 returns-then-some-eq0-clause-given g c =
     let given = c.loop-count.invariant.so-far.given in
-    last _ _ _ _ _ 0 c.loop-count.stream c.feed_some.new.stream c.loop-count.count (Unit {0}) _ c.ended.result c.loop-count.invariant
+    last _ _ _ _ _ 0 c.loop-count.stream c.feed_some.new.stream c.loop-count.count (Unit {0}) _ c.ended.result (omega (arith, c.loop-count-test.true)) c.loop-count.invariant
     (subst (λ (n : ℕ). (piece : List ℕ) × FedSome c.feed_some.new.stream given piece (g.I.Source.left c.loop-count.source) (g.I.Source.left c.feed_some.new.source) (Rose (g.I.Source.faults c.loop-count.source) (g.I.Source.faults c.feed_some.new.source)) (Ok n))
     c.if-some-eq0.true (c.in-Ok.ensures.fed given c.loop-count.invariant.so-far.fed))
     c.ended.ensures.table

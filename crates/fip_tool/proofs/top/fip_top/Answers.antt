@@ -10,6 +10,7 @@ use Rattle.fip_tool.specs.Said.{IsTextsOf}
 use Rattle.fip_tool.proofs.Texts.{says-ends, sink-rose}
 use Rattle.fip_tool.specs.Tool.{no_files}
 use Rattle.fip_tool.specs.declared.stops.Stop.{Stop}
+use Rattle.fip_tool.proofs.SinkFaults.{counted, reported-sink}
 use Rattle.fip_tool.proofs.top.fip_top.Goals as goal
 
 pub returns-in-Ok-clause-told : goal.returns-in-Ok-clause-told
@@ -26,7 +27,7 @@ returns-in-Err-clause-told g c = λ told e other. (
 pub returns-in-Ok-clause-source : goal.returns-in-Ok-clause-source
 returns-in-Ok-clause-source g c = λ e.
     let s = c.in-Ok.ensures.source e in
-    (s.0, s.1, Ok tt, refl, s.2, s.3)
+    (s.0, s.1, s.2, Ok tt, refl, s.3, s.4)
 
 pub returns-in-Err-clause-source : goal.returns-in-Err-clause-source
 returns-in-Err-clause-source g c = λ e.
@@ -34,10 +35,11 @@ returns-in-Err-clause-source g c = λ e.
     let r = reported-later _ _ _ (Rose (g.O.Sink.faults c.args.sink.now) (g.O.Sink.faults c.report.new.sink)) c.in-Err.stop c.report.result (λ r. rose-from _ _ _ c.run.ensures.later r) c.report.ensures.reported in (
       s.0,
       s.1,
+      s.2,
       Err c.report.result,
       c.status.ensures,
-      reported-read _ _ _ _ _ s.0 c.in-Err.stop c.report.result s.2 r,
-      ends _ no_files (Some no_files) (g.O.Sink.taken c.args.sink.now) _ _ (Rose (g.I.Source.faults c.args.source.now) (g.I.Source.faults c.run.new.source)) _ _ (λ r. rose-until _ _ _ r c.report.ensures.later) c.in-Err.stop c.report.result s.3 r,
+      reported-read _ _ _ _ _ s.0 c.in-Err.stop c.report.result s.3 r,
+      ends _ no_files (Some no_files) (g.O.Sink.taken c.args.sink.now) _ _ (Rose (g.I.Source.faults c.args.source.now) (g.I.Source.faults c.run.new.source)) _ _ (λ r. rose-until _ _ _ r c.report.ensures.later) c.in-Err.stop c.report.result s.4 r,
     )
 
 pub returns-in-Err-clause-cause : goal.returns-in-Err-clause-cause
@@ -78,3 +80,6 @@ returns-in-Err-clause-sink g c = λ three.
     sink-rose (IsTextsOf (asked (map string_bytes c.args.words.now))) _ _ (Rose (g.O.Sink.faults c.args.sink.now) (g.O.Sink.faults c.report.new.sink)) c.report.result (sym c.status.ensures ∙ three)
     (says-ends (IsTextsOf (asked (map string_bytes c.args.words.now))) _ _ _ _ (Rose (g.O.Sink.faults c.args.sink.now) (g.O.Sink.faults c.report.new.sink)) (λ r. rose-until _ _ _ r c.report.ensures.later) c.in-Err.stop c.report.result
     c.in-Err.ensures.says (reported-later _ _ _ _ _ _ (λ r. rose-from _ _ _ c.run.ensures.later r) c.report.ensures.reported))
+
+pub returns-in-Err-clause-sink_count : goal.returns-in-Err-clause-sink_count
+returns-in-Err-clause-sink_count g c = counted c.in-Err.stop c.report.result _ _ _ _ c.status.ensures (λ e. reported-sink _ _ _ c.in-Err.stop c.report.result e c.report.ensures.reported) c.in-Err.ensures.sink_count c.report.ensures.sink_count

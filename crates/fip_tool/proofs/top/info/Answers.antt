@@ -7,6 +7,7 @@ use Rattle.fip_tool.specs.Said.{IsListing, IsTexts}
 use Rattle.fip_tool.proofs.Texts.{err-same, says-nothing, says-printed}
 use Rattle.fip_tool.specs.Steps.{Printed}
 use Rattle.fip_tool.specs.Tool.{info_value, prints}
+use Rattle.fip_tool.proofs.SinkFaults.{still}
 use Rattle.fip_tool.proofs.top.info.Goals as goal
 
 pub returns-in-Ok-clause-told : goal.returns-in-Ok-clause-told
@@ -26,3 +27,6 @@ returns-in-Ok-clause-says g c =
 
 pub returns-in-Err-clause-says : goal.returns-in-Err-clause-says
 returns-in-Err-clause-says g c = says-nothing (IsTexts (asks.info c.args.name.now)) _ _ _ c.in-Err.stop (λ e. c.in-Err.ensures.reads.sink (err-same e)) refl
+
+pub returns-in-Err-clause-sink_count : goal.returns-in-Err-clause-sink_count
+returns-in-Err-clause-sink_count g c = still _ c.in-Err.stop (λ e. c.in-Err.ensures.reads.sink (err-same e))

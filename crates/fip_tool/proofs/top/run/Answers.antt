@@ -3,11 +3,12 @@ use Rattle.std.proofs.KnownBytes.{Appends-nil, Consumes-nil}
 use Rattle.base_core.specs.Counts.{Rose}
 use Rattle.fip_words.specs.Order.{Asked}
 use Rattle.fip_tool.specs.Said.{IsTextsOf, Says}
+use Rattle.fip_tool.proofs.SourceLemmas.{nothing-read}
 use Rattle.fip_tool.proofs.UnpackWords.{asked-is-other}
 use Rattle.fip_tool.proofs.top.run.Goals as goal
 
 pub returns-in-Err-NoMemory-clause-source : goal.returns-in-Err-NoMemory-clause-source
-returns-in-Err-NoMemory-clause-source g c = λ e. ([], refl, Consumes-nil _, (0, λ name. refl, Appends-nil _))
+returns-in-Err-NoMemory-clause-source g c = λ e. ([], nothing-read, refl, Consumes-nil _, (0, λ name. refl, Appends-nil _))
 
 pub command-requires : goal.command-requires
 command-requires g c = record { other = λ from prefix names e. asked-is-other from prefix names (map string_bytes c.args.words.now) (c.in-Ok.ensures ∙ ap Some e) }

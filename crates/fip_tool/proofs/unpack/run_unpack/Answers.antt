@@ -12,6 +12,7 @@ use Rattle.fip_tool.proofs.Did.{made-steps, refused}
 use Rattle.fip_tool.proofs.Repacking.{opened, stored-of, there-of, unpack-err, unpack-of}
 use Rattle.fip_tool.proofs.Tables.{gives-err, rose-from}
 use Rattle.fip_tool.proofs.UnpackLemmas.{chosen-filter}
+use Rattle.fip_tool.proofs.SinkFaults.{still}
 use Rattle.fip_tool.proofs.unpack.run_unpack.Goals as goal
 
 pub unpack_entries-requires-clause-stored : goal.unpack_entries-requires-clause-stored
@@ -48,3 +49,6 @@ returns-in-Ok-clause-says g c =
 
 pub returns-in-Err-clause-says : goal.returns-in-Err-clause-says
 returns-in-Err-clause-says g c = says-nothing (IsTexts (unpack c.args.from.now c.args.prefix.now c.args.names.now)) _ _ _ c.in-Err.stop (λ e. c.in-Err.ensures.reads.sink (err-same e)) refl
+
+pub returns-in-Err-clause-sink_count : goal.returns-in-Err-clause-sink_count
+returns-in-Err-clause-sink_count g c = still _ c.in-Err.stop (λ e. c.in-Err.ensures.reads.sink (err-same e))

@@ -11,6 +11,7 @@ use Rattle.fip_tool.specs.Tool.{is_named}
 use Rattle.fip_tool.proofs.Texts.{said-more, says-behind}
 use Rattle.fip_tool.proofs.Tables.{rose-from}
 use Rattle.fip_tool.proofs.UnpackLemmas.{all-done, begins, next-chosen, next-passed, split-chosen, step-done, step-passed, step-stops, tells-still, there-still}
+use Rattle.fip_tool.specs.Steps.{sink_failed}
 use Rattle.fip_tool.proofs.unpack.unpack_entries.Goals as goal
 use Rattle.fip_tool.proofs.unpack.unpack_entries.Goals.{then-is_chosen+in-Ok, else-is_chosen}
 
@@ -19,6 +20,7 @@ loop-entry-init g c = record {
   silent = λ e. e;
   later = omega arith;
   later_sink = omega arith;
+  sink_count = refl;
   said = Appends-nil _;
   so-far = λ told bytes is stored. begins c.args.prefix.now c.args.from.now bytes told _ _ is stored;
 }
@@ -47,6 +49,7 @@ loop-entry-preserved g c =
             silent = λ e. w.in-Ok.ensures.silent (c.loop-entry.invariant.silent e);
             later = omega (arith, c.loop-entry.invariant.later, w.unpack_entry.ensures.later);
             later_sink = omega (arith, c.loop-entry.invariant.later_sink, w.unpack_entry.ensures.later_sink);
+            sink_count = w.in-Ok.ensures.sink_count ∙ c.loop-entry.invariant.sink_count;
             said =
                 let p = λ (e : Entry). (length c.args.names.now == 0) || is_named c.args.names.now e in
                 let e = c.entry-item.result in
@@ -66,6 +69,7 @@ loop-entry-preserved g c =
             silent = c.loop-entry.invariant.silent;
             later = c.loop-entry.invariant.later;
             later_sink = c.loop-entry.invariant.later_sink;
+            sink_count = c.loop-entry.invariant.sink_count;
             said =
                 let p = λ (e : Entry). (length c.args.names.now == 0) || is_named c.args.names.now e in
                 let same = next-passed p c.args.entries.now c.loop-entry.entry-index c.entry-item.result c.loop-entry-test.true (sym c.entry-item.is) (sym c.is_chosen.ensures ∙ w.if-is_chosen.false) in
@@ -104,3 +108,6 @@ returns-clause-told g c = λ told bytes is stored.
     let far : length c.args.entries.now ≤ c.loop-entry.entry-index = omega (arith, c.loop-entry-test.false) in
     all-done c.args.prefix.now c.args.from.now bytes (λ e. (length c.args.names.now == 0) || is_named c.args.names.now e) c.args.entries.now c.loop-entry.entry-index told _ _ _ (Unit {0}) (Unit {0}) tt far
     (c.loop-entry.invariant.so-far told bytes is stored)
+
+pub returns-in-Err-clause-sink_count : goal.returns-in-Err-clause-sink_count
+returns-in-Err-clause-sink_count g c = c.in-Err.ensures.sink_count ∙ ap (sink_failed c.in-Err.stop) c.loop-entry.invariant.sink_count

@@ -14,6 +14,7 @@ invariant-loop-entry g l = record {
   silent : g.H.Files.contents l.fn.files ≡ None → g.H.Files.contents l.files ≡ None;
   later : g.H.Files.faults l.fn.files ≤ g.H.Files.faults l.files;
   later_sink : g.O.Sink.faults l.fn.sink ≤ g.O.Sink.faults l.sink;
+  sink_count : g.O.Sink.faults l.sink ≡ g.O.Sink.faults l.fn.sink;
   said : Appends (g.O.Sink.taken l.fn.sink) (g.O.Sink.taken l.sink) (joined (map (unpacked_line l.prefix) (filter (λ e. (length l.names == 0) || is_named l.names e) (take l.entry-index l.entries))));
   so-far : (told : Directory) (bytes : List ℕ) → g.H.Files.contents l.fn.files ≡ Some told → told l.from ≡ Some bytes
       → IsUnpacking l.prefix l.from bytes (filter (λ e. (length l.names == 0) || is_named l.names e) (take l.entry-index l.entries)) told (g.H.Files.contents l.files) (g.O.Sink.taken l.fn.sink) (g.O.Sink.taken l.sink);

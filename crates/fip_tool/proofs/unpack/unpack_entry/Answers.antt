@@ -7,6 +7,7 @@ use Rattle.fip_tool.proofs.Did.{refused}
 use Rattle.fip_tool.proofs.Tables.{rose-from, tells}
 use Rattle.fip_tool.proofs.Texts.{err-same, says-as, says-nothing}
 use Rattle.fip_tool.proofs.UnpackLemmas.{entry-did, line-is, same-ok}
+use Rattle.fip_tool.proofs.SinkFaults.{still}
 use Rattle.fip_tool.proofs.unpack.unpack_entry.Goals as goal
 
 pub returns-clause-told : goal.returns-clause-told
@@ -32,3 +33,6 @@ returns-clause-says g c =
 
 pub returns-in-Err-clause-says : goal.returns-in-Err-clause-says
 returns-in-Err-clause-says g c = says-nothing (λ texts. texts ≡ unpacked_line c.args.prefix.now c.args.entry.now ∷ []) _ _ _ c.in-Err.stop (λ e. c.in-Err.ensures.reads.sink (err-same e)) refl
+
+pub returns-in-Err-clause-sink_count : goal.returns-in-Err-clause-sink_count
+returns-in-Err-clause-sink_count g c = still _ c.in-Err.stop (λ e. c.in-Err.ensures.reads.sink (err-same e))

@@ -9,6 +9,7 @@ use Rattle.fip_tool.specs.Tool.{encloses}
 use Rattle.fip_tool.proofs.Did.{no-memory-yet, refused}
 use Rattle.fip_tool.proofs.Texts.{err-same, says-as, says-nothing}
 use Rattle.fip_tool.proofs.WritingLemmas.{capsule-put}
+use Rattle.fip_tool.proofs.SinkFaults.{still}
 use Rattle.fip_tool.proofs.writing.put_capsule.Goals as goal
 
 pub returns-in-Ok-capsule_line-clause-told : goal.returns-in-Ok-capsule_line-clause-told
@@ -40,3 +41,6 @@ returns-clause-told g c = λ told value before e le gives.
 
 pub returns-clause-says : goal.returns-clause-says
 returns-clause-says g c = λ other. ([], inl refl, Appends-nil _)
+
+pub returns-in-Err-clause-sink_count : goal.returns-in-Err-clause-sink_count
+returns-in-Err-clause-sink_count g c = λ other. still _ c.in-Err.stop (λ e. other (c.in-Err.is ∙ err-same e))

@@ -1,6 +1,7 @@
 use Rattle.std.proofs.Common.{◌≡◌, ◌∷◌, [], refl}
-use Rattle.fip_tool.proofs.Texts.{says-printed}
+use Rattle.fip_tool.proofs.Texts.{err-same, says-printed}
 use Rattle.fip_tool.proofs.WritingLemmas.{then-printed, write-stopped}
+use Rattle.fip_tool.proofs.SinkFaults.{still}
 use Rattle.fip_tool.proofs.writing.write_and_print.Goals as goal
 
 pub returns-in-Ok-clause-told : goal.returns-in-Ok-clause-told
@@ -11,3 +12,6 @@ returns-in-Ok-clause-says g c = says-printed (λ texts. texts ≡ c.args.line.no
 
 pub returns-in-Err-clause-told : goal.returns-in-Err-clause-told
 returns-in-Err-clause-told g c = λ told e. write-stopped told _ _ _ _ _ c.args.name.now c.args.bytes.now c.args.line.now c.in-Err.stop (c.in-Err.ensures.told told e) refl
+
+pub returns-in-Err-clause-sink_count : goal.returns-in-Err-clause-sink_count
+returns-in-Err-clause-sink_count g c = still _ c.in-Err.stop (λ e. c.in-Err.ensures.sink (err-same e))
