@@ -24,10 +24,10 @@ use Rattle.fwu_model.proofs.Runs.{only}
 use Rattle.moves.specs.Moved.{GuardedBy}
 use Rattle.agent_machine.specs.Fields.{Fields}
 use Rattle.agent_machine.specs.Moment as agent
-use Rattle.early_boot.specs.Started.{Started, started_reply, started_session}
+use Rattle.early_boot.specs.Started.{Started, started_session}
 use Rattle.early_boot.specs.Ends.{Ended, booted, bad_layout, no_metadata, no_bank, lost, failed, stop_of}
-use Rattle.early_boot.specs.EndsBy.{BootEnds, EndsByBytes, EndsByMachine, StartsReady, StopsWith}
-use Rattle.script_turns.specs.Powered.{Moment, SameDevice, IsAt, IsOn, IsSafe, kept_at}
+use Rattle.early_boot.specs.EndsBy.{BootEnds, EndsByBytes, EndsByMachine, IdleEnd, StartsReady, StopsWith}
+use Rattle.script_turns.specs.Powered.{Moment, IsAt, IsSafe, kept_at}
 use Rattle.script_turns.specs.Booted.{BootsFrom}
 use Rattle.script_turns.specs.Replies.{LeavesOn, power_after}
 use Rattle.script_turns.specs.Takes.{TakesBy}
@@ -245,6 +245,7 @@ pub powers-none : (tells : Bool) (m : Moment) → (IsTrue tells → NothingDirty
 powers-none tells m clean = record {
   idles = record { faults = omega arith; cuts = omega arith; chances = omega arith; reached = refl };
   made = refl;
+  armed = refl;
   clean = clean;
   leaves = λ test. record { size = refl; sure = λ i sure. refl };
   chance = λ test. inr (λ b guarded. as_now refl);
@@ -326,6 +327,7 @@ pub record EndsTurn (passes : List ℕ → Bool) (tells : Bool) (e : Ended) (mid
   pub shows : IsTrue tells → ShowsStarted tells e new.on new.told
   pub power_is : new.power ≡ is_ok (stop_of e)
   pub costs : Spends (stop_of e) mid.counts new.counts
+  pub idle : IdleEnd e mid.armed new.armed mid.counts new.counts
   pub ends : IsTrue tells → BootEnds passes mid.told e new.told
 
 module _ (passes : List ℕ → Bool) (tells : Bool) (files : Option Directory) (faults : ℕ) (e : Ended) (old mid new : Moment) (power : mid.power ≡ true)
@@ -342,8 +344,19 @@ module _ (passes : List ℕ → Bool) (tells : Bool) (files : Option Directory) 
         unread = λ is. absurd (reads-none e is);
         later = omega arith;
         reads_none = λ none. refl;
-        replies = ended.leaves;
-        takes = takes old.on;
+        replies = (
+          ended.leaves,
+          record {
+            mid = mid;
+            has = subst (λ (o : Option Fields). GetsPower tells o old mid) (sym on_is) has;
+            end = e;
+            reply_is = refl;
+            on_is = ended.on_is;
+            idle = ended.idle;
+            ends = ended.ends;
+          },
+        );
+        takes = record { by_call = takes old.on; unread = λ is. absurd (reads-none e is) };
         power = ended.power_is ∙ power-after-end e old.power;
         guard = λ told. guard told ∙ guard-had tells on old mid told has;
         step = λ told E c passes_are files_are is none. step told E c passes_are (subst (λ (o : Option Fields). IsAt E c o old.told) on_is is) none;

@@ -151,7 +151,7 @@ module _ (passes : List ℕ → Bool) (tells : Bool) (files : Option Directory) 
     later = omega arith;
     reads_none = λ sends. refl;
     replies = replies-of passes tells files c f _ _ r agents refl answers;
-    takes = takes;
+    takes = record { by_call = takes; unread = λ e. absurd (no-stop r reply.ReadFault none refl e) };
     power = power_is ∙ sym (stays-on power r power_was none);
     guard = λ test. answers.stays.guard test;
     step = λ test E from passes_are files_are is chance. answered-step test E from passes_are is;
@@ -234,7 +234,7 @@ module _ (passes : List ℕ → Bool) (tells : Bool) (files : Option Directory) 
     later = omega arith;
     reads_none = λ sends. refl;
     replies = replies-of passes tells files c f _ _ (stopped_reply why) agents refl (flash-stops why);
-    takes = takes;
+    takes = record { by_call = takes; unread = λ e. absurd (reads-none why e) };
     power = power_is ∙ sym (takes-power why power);
     guard = λ test. leaves.stays.guard test;
     step = λ test E from passes_are files_are is chance. stopped-step test E from passes_are is;

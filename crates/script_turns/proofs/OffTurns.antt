@@ -59,7 +59,7 @@ module _ (passes : List ℕ → Bool) (tells : Bool) (files : Option Directory) 
     later = omega arith;
     reads_none = λ e. refl;
     replies = leaves.replies;
-    takes = leaves.takes;
+    takes = record { by_call = leaves.takes; unread = λ e. absurd cc };
     power = refl;
     guard = λ e. refl;
     step = λ e E from passes_are told is no_chance. idles c leaves E from is;

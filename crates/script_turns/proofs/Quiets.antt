@@ -103,7 +103,7 @@ quiet-turns passes tells files what r old new faults quiet replied = record {
   later = omega arith;
   reads_none = λ none. refl;
   replies = replied;
-  takes = quiet.takes;
+  takes = record { by_call = quiet.takes; unread = λ e. absurd (stays r reply.ReadFault quiet.no_stop refl e) };
   power = quiet.power ∙ sym quiet.keeps_power;
   guard = λ test. ap (λ (t : Told). t.guard) (quiet.same test);
   step = λ test E c passes_are files_are is none.
@@ -208,4 +208,4 @@ cut-turns passes tells files n k old new faults arms = quiet-turns passes tells 
   keeps_power = refl;
   takes = cut-takes n k old.on old new;
   answers = cut-answers n k old.on old.told;
-}) (refl, arms.on_is)
+}) (refl, arms)

@@ -211,7 +211,7 @@ module _ (passes : List ℕ → Bool) (tells : Bool) (files : Option Directory) 
     later = later;
     reads_none = λ e. absurd cc;
     replies = says;
-    takes = early;
+    takes = record { by_call = early; unread = λ e. absurd (let stop = ap is_stop e in cc) };
     power = sym keeps;
     guard = λ e. refl;
     step = λ e E from passes_are told is no_chance.
@@ -238,7 +238,7 @@ module _ (passes : List ℕ → Bool) (tells : Bool) (files : Option Directory) 
     later = later;
     reads_none = λ e. absurd cc;
     replies = tt;
-    takes = tt;
+    takes = record { by_call = tt; unread = λ e none. record { told = refl; counts = refl; armed = refl; power = refl } };
     power = refl;
     guard = λ e. refl;
     step = λ e E from passes_are told is no_chance.
@@ -406,7 +406,7 @@ module _ (passes : List ℕ → Bool) (tells : Bool) (files : Option Directory) 
     later = reads.later;
     reads_none = λ e. absurd cc;
     replies = says table result there sends stays;
-    takes = takes;
+    takes = record { by_call = takes; unread = λ e none. absurd (none (reads.failed (unread-sent result e))) };
     power = powered ∙ powers result;
     guard = stays.guard;
     step = λ yes E from passes_are told is no_chance. leads table lacks_none yes E from passes_are told is result there sends stays;
@@ -463,7 +463,7 @@ sends-later {files = files} {name = name} was mid are le turns = record {
   later = omega (arith, turns.later);
   reads_none = λ e. absurd cc;
   replies = turns.replies;
-  takes = turns.takes;
+  takes = record { by_call = turns.takes.by_call; unread = λ e none. turns.takes.unread e (λ rose. none (rose-from was mid are le rose)) };
   power = turns.power;
   guard = turns.guard;
   step = turns.step;

@@ -1,5 +1,7 @@
 pub mod Powered
 pub mod Booted
+pub mod Arms
+pub mod Boots
 pub mod Replies
 pub mod Tables
 pub mod Sending

@@ -16,6 +16,8 @@ use Rattle.agent_machine.specs.Fields.{Fields}
 use Rattle.agent_machine.specs.Moment as agent
 use Rattle.agent_machine.specs.Meets.{IsSettingOf, ShowsNext, Stays, may_try}
 use Rattle.script_turns.specs.Powered.{Moment, kept_at, numbers_kept}
+use Rattle.script_turns.specs.Arms.{Arms}
+use Rattle.script_turns.specs.Boots.{BootsAs}
 use Rattle.script_turns.specs.Sending.{SendSays}
 
 -- what `show` answers, by what the agent keeps where the flash is on
@@ -102,9 +104,9 @@ CallSays passes tells c (Some f) before r (Some g) now = AnswersCall passes c r 
 
 -- A turn of this call has this reply, and leaves the agent so.
 abbrev pub Replies : (List ℕ → Bool) → Bool → Option Directory → Call → Moment → Reply → Moment → Type 0
-Replies passes tells files call.Boot old r new = LeavesOn r new.on
+Replies passes tells files call.Boot old r new = LeavesOn r new.on × BootsAs passes tells old r new
 Replies passes tells files call.Show old r new = (r ≡ show_reply old.on) × (new.on ≡ old.on)
-Replies passes tells files (call.Cut n k) old r new = (r ≡ reply.CutOk) × (new.on ≡ old.on)
+Replies passes tells files (call.Cut n k) old r new = (r ≡ reply.CutOk) × Arms tells n k old new
 Replies passes tells files (call.Send name request) old r new =
     SendSays passes tells files name request old.on old.told r new.on new.told
 Replies passes tells files other old r new = CallSays passes tells other old.on old.told r new.on new.told

@@ -6,10 +6,12 @@ use Rattle.fwu_formats.specs.Package.{Toc}
 use Rattle.fwu_model.specs.State.{State, after}
 use Rattle.fwu_model.specs.Sound.{Setting}
 use Rattle.fwu_model.specs.Session.{Session}
+use Rattle.fwu_model.specs.Call.{Call}
+use Rattle.fwu_model.specs.Call as call
 use Rattle.fwu_model.specs.Reply.{Reply}
 use Rattle.fwu_model.specs.Reply as reply
 use Rattle.fwu_model.specs.Answer.{images_of, table_in}
-use Rattle.fip_tables.specs.Files.{Tells}
+use Rattle.fip_tables.specs.Files.{Lacks, Tells}
 use Rattle.agent_machine.specs.Fields.{Fields}
 use Rattle.agent_machine.specs.Moment as agent
 use Rattle.agent_machine.specs.Meets.{Stays}
@@ -22,6 +24,11 @@ use Rattle.script_turns.specs.Powered.{kept_at}
 -- the table of the file, where its bytes are told, or what is answered to it
 abbrev pub IsTableOf : Option Directory → List ℕ → Result Toc Reply → Type 0
 IsTableOf files name found = (file : List ℕ) → Tells files name file → table_in file ≡ found
+
+-- told files lack what is to be sent
+abbrev pub LacksSent : Option Directory → Call → Type 0
+LacksSent files (call.Send name request) = Lacks files name
+LacksSent files other = ⊥
 
 -- Some table and images were sent, those of the file where it is told; the answer is that of each machine that the agent shows, and
 -- it shows the machine after it.

@@ -2,7 +2,7 @@
 use Rattle.std.specs.Prelude.{◌≡◌, ℕ, ◌-◌, ◌≤◌, List, length, Option, Some, None, Result, Ok, Err, ⊤}
 use Rattle.flash_core.specs.declared.flash.FlashStop.{FlashStop}
 use Rattle.flash_core.specs.declared.flash.FlashStop.TheVariants as flash_stop
-use Rattle.flash_core.specs.Counts.{ReachesNone, StaysUnarmed, arming_kept}
+use Rattle.flash_core.specs.Counts.{ReachesNone, Rose, StaysUnarmed, arming_kept}
 use Rattle.slot_writer.specs.Writes.{SpendsArming, writes_to_append, writes_to_finish}
 use Rattle.agent_kept.specs.Kept.{handle_kept, part_at, size_of}
 use Rattle.agent_kept.specs.declared.parts.Handle.TheVariants as handle
@@ -105,3 +105,8 @@ TakesBy c (Some f) old r new = TakesOn c f old r new
 
 abbrev pub Takes : Call → Moment → Reply → Moment → Type 0
 Takes c old r new = TakesBy c old.on old r new
+
+-- and a file that is not there, or could not be read before anything was sent, leaves the device as it is
+pub record TakesTurn (c : Call) (old : Moment) (r : Reply) (new : Moment) (was are : ℕ) : Type 0 where
+  pub by_call : Takes c old r new
+  pub unread : r ≡ reply.ReadFault → (Rose was are → ⊥) → SameDevice old new

@@ -1,10 +1,7 @@
 -- What one turn of a run does.
 use Rattle.std.specs.Prelude.{◌≡◌, ◌⊎◌, ℕ, ◌+◌, ◌≤◌, min, Bool, List, Option, Some, None, IsTrue, IsFalse, ⊤}
-use Rattle.flash_core.specs.Counts.{Rose, Idles}
-use Rattle.flash_core.specs.declared.flash.Arming.{Arming}
-use Rattle.flash_core.specs.declared.flash.Counts.{Counts}
-use Rattle.flash_core.specs.Told.{Told, NothingDirty, fresh}
-use Rattle.flash_core.specs.May.{Leaves, NoChance}
+use Rattle.flash_core.specs.Counts.{Rose}
+use Rattle.flash_core.specs.Told.{Told, NothingDirty}
 use Rattle.host_io.specs.Contents.{Directory}
 use Rattle.fwu_model.specs.State.{State, Numbers}
 use Rattle.fwu_model.specs.Sound.{Setting}
@@ -15,24 +12,17 @@ use Rattle.fwu_model.specs.Reply as reply
 use Rattle.fwu_model.specs.Run.{Condition, Step, is_send}
 use Rattle.fwu_model.specs.Headline.{IsCut}
 use Rattle.fwu_model.specs.Causes.{FileNotRead, greatest}
-use Rattle.fwu_model.specs.declared.kinds.NoBoot.TheVariants as no_boot
 use Rattle.moves.specs.Moved.{IsShown}
 use Rattle.agent_machine.specs.Fields.{Fields}
 use Rattle.agent_machine.specs.Moment as agent
-use Rattle.early_boot.specs.Started.{started_reply, started_session}
+use Rattle.early_boot.specs.Started.{started_session}
 use Rattle.early_boot.specs.Ends.{Ended, booted, bad_layout, no_metadata, no_bank, lost, failed}
-use Rattle.agent_calls.specs.Started.{StartsFrom}
-use Rattle.script_turns.specs.Powered.{Moment, SameDevice, IsAt, IsSafe, kept_at}
+use Rattle.script_turns.specs.Powered.{Moment, IsAt, IsSafe, kept_at}
 use Rattle.script_turns.specs.Booted.{BootsFrom}
-use Rattle.script_turns.specs.Replies.{LeavesOn, Replies, power_after}
-use Rattle.script_turns.specs.Takes.{Takes}
-
--- no count of failures, losses or chances falls
-pub record NoneFalls (old new : Counts) : Type 0 where
-  pub faults : old.faults ≤ new.faults
-  pub cuts : old.cuts ≤ new.cuts
-  pub reached : old.reached ≤ new.reached
-  pub chances : old.chances ≤ new.chances
+pub use Rattle.script_turns.specs.Arms.{Arms, NoneFalls}
+pub use Rattle.script_turns.specs.Boots.{IsOnAfter, PowersOn, GetsPower, reply_of_end}
+use Rattle.script_turns.specs.Replies.{Replies, power_after}
+use Rattle.script_turns.specs.Takes.{TakesTurn}
 
 -- a `cut` makes one arming, and no other call makes any; the count stands still at the greatest number
 abbrev pub Makes : Call → ℕ → ℕ → Type 0
@@ -57,7 +47,7 @@ pub record Turns (passes : List ℕ → Bool) (tells : Bool) (files : Option Dir
   pub reads_none : IsFalse (is_send c) → are ≡ was
   -- on any device: the reply, what the agent keeps, and what an armed loss counts
   pub replies : Replies passes tells files c old t.reply new
-  pub takes : Takes c old t.reply new
+  pub takes : TakesTurn c old t.reply new was are
   pub power : new.power ≡ power_after old.power t.reply
   -- no call changes which blocks are guarded
   pub guard : IsTrue tells → new.told.guard ≡ old.told.guard
@@ -73,14 +63,6 @@ pub record Turns (passes : List ℕ → Bool) (tells : Bool) (files : Option Dir
 
 -- ---- a boot of a flash that is on
 
-abbrev pub reply_of_end : Ended → Reply
-reply_of_end (booted b n) = started_reply b
-reply_of_end (bad_layout f) = reply.NotBooted (no_boot.Layout f)
-reply_of_end no_metadata = reply.NotBooted no_boot.Metadata
-reply_of_end (no_bank active previous) = reply.NotBooted (no_boot.Bank active previous)
-reply_of_end (lost n) = reply.Lost
-reply_of_end (failed n) = reply.Fault
-
 -- the numbers that the flash held as the boot began, where the boot tells them
 abbrev pub numbers_of_end : Ended → Option Numbers
 numbers_of_end (booted b n) = Some n
@@ -89,16 +71,6 @@ numbers_of_end no_metadata = None
 numbers_of_end (no_bank active previous) = None
 numbers_of_end (lost n) = n
 numbers_of_end (failed n) = n
-
--- what the agent keeps afterwards: what it started from, where a bank was booted
-abbrev pub IsOnAfter : Ended → Option Fields → Type 0
-IsOnAfter (booted b n) (Some f) = StartsFrom b f
-IsOnAfter (booted b n) None = ⊥
-IsOnAfter (bad_layout f) on = on ≡ None
-IsOnAfter no_metadata on = on ≡ None
-IsOnAfter (no_bank active previous) on = on ≡ None
-IsOnAfter (lost n) on = on ≡ None
-IsOnAfter (failed n) on = on ≡ None
 
 -- on a device that tells its content the agent of the bank that was booted shows what the flash shows, with nothing staged and no handle open
 abbrev pub ShowsStarted : Bool → Ended → Option Fields → Told → Type 0
@@ -113,34 +85,7 @@ ShowsStarted tells (failed n) on t = ⊤
 abbrev pub boot_turn : Ended → Turn
 boot_turn e = record { call = call.Boot; reply = reply_of_end e; numbers = numbers_of_end e }
 
--- ---- a flash that is to boot has power
-
--- No bank was started on it: power came back, or was there with nothing dirty.
-pub record PowersOn (tells : Bool) (old new : Moment) : Type 0 where
-  pub idles : Idles old.counts new.counts
-  pub made : new.counts.made ≡ old.counts.made
-  pub clean : IsTrue tells → new.told ≡ fresh old.told.guard new.told.now
-  pub leaves : IsTrue tells → Leaves old.told new.told.now
-  pub chance : IsTrue tells → Rose old.counts.chances new.counts.chances ⊎ NoChance old.told new.told.now
-
--- by what its agent kept: a flash on which a bank was started is as it was
-abbrev pub GetsPower : Bool → Option Fields → Moment → Moment → Type 0
-GetsPower tells None old new = PowersOn tells old new
-GetsPower tells (Some f) old new = SameDevice old new
-
 -- ---- a turn without numbers
 
 abbrev pub quiet_turn : Call → Reply → Turn
 quiet_turn what r = record { call = what; reply = r; numbers = None }
-
--- ---- an armed loss
-
--- A loss was armed: what the agent keeps, what is told and the power stay, one arming more was made, and no armed loss was reached.
-pub record Arms (tells : Bool) (n k : ℕ) (old new : Moment) : Type 0 where
-  pub on_is : new.on ≡ old.on
-  pub same : IsTrue tells → new.told ≡ old.told
-  pub counts : NoneFalls old.counts new.counts
-  pub reached : new.counts.reached ≡ old.counts.reached
-  pub made : new.counts.made ≡ min (old.counts.made + 1) greatest
-  pub armed_is : new.armed ≡ Some (record { n = n; k = k })
-  pub power_is : new.power ≡ old.power

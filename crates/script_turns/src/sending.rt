@@ -1,6 +1,7 @@
 //! The turn of `send`.
 ghost use Rattle.std.specs.Prelude.{◌≡◌, ◌+◌, ◌^◌, ◌<◌, ◌≤◌, All, ℕ, List, Ok, string_bytes, length, IsTrue, IsFalse};
 ghost use Rattle.fwu_model.specs.Call as call;
+ghost use Rattle.fwu_model.specs.Reply as model;
 ghost use Rattle.fwu_model.specs.Run.{ends_run};
 ghost use Rattle.fip_tables.specs.Files.{Lacks, Tells};
 ghost use Rattle.agent_calls.specs.Shown.{device as agent_device, fields, gone};
@@ -126,6 +127,8 @@ pub fn send_turn<D: Flash, H: Files, V: Verifier>(
         → D.on (device result.powered) ≡ has_power result.powered }
     ensures size { D.blocks (device result.powered) ≡ D.blocks (agent_device live.agent) }
     ensures same { H.contents files.new ≡ H.contents files.old }
+    ensures missing { Lacks (H.contents files.old) (string_bytes name)
+        → (turn result.turn).reply ≡ model.ReadFault }
     ensures short { IsShort (turn result.turn).reply }
 {
     match read_table(files, name.as_str()) {

@@ -12,15 +12,19 @@ use capsule_tables::{CapsuleFault, CapsuleStop, FMP_GUID, read_capsule};
 use fip_tables::{Toc, TocStop, read_toc};
 use fwu_formats::FipFault;
 use host_io::{Failed, Files};
+use thiserror::Error;
 
 /// Why a file gives no table to send by.
-#[derive(Clone, Copy, Debug, PartialEq, Eq)]
+#[derive(Clone, Copy, Debug, PartialEq, Eq, Error)]
 pub enum TableStop {
     /// It is no package: its first fault.
+    #[error("the file is no package: {0}")]
     Package(FipFault),
     /// It begins as a capsule, and is none: its first fault.
+    #[error("the file is no capsule: {0}")]
     Capsule(CapsuleFault),
     /// It could not be read, or there is none of this name.
+    #[error("the file could not be read, or there is none of this name")]
     ReadFailed,
 }
 

@@ -1,11 +1,13 @@
 //! One turn of a run.
-ghost use Rattle.std.specs.Prelude.{◌≡◌, IsTrue, IsFalse};
+ghost use Rattle.std.specs.Prelude.{◌≡◌, IsSome, IsTrue, IsFalse, None};
+ghost use Rattle.fwu_model.specs.Reply as reply;
 ghost use Rattle.fwu_model.specs.Run.{ends_run, is_send};
 ghost use Rattle.fwu_journal.specs.Shown.{IsShort, turn};
 ghost use Rattle.script_text.specs.Armable.{IsArmable};
 ghost use Rattle.script_text.specs.Shown.{HasBuffer, shown};
 ghost use Rattle.script_turns.specs.Needs.{needs_bank};
-ghost use Rattle.script_turns.specs.Powered.{device, has_power, moment_of};
+ghost use Rattle.script_turns.specs.Powered.{device, has_power, moment_of, shown_on};
+ghost use Rattle.script_turns.specs.Sending.{LacksSent};
 ghost use Rattle.script_turns.specs.Turning.{Turns};
 
 use crate::booting::boot_turn;
@@ -41,6 +43,10 @@ fn live_turn<D: Flash, H: Files, V: Verifier>(
     ensures size { D.blocks (device result.powered) ≡ D.blocks (device powered) }
     ensures same { H.contents files.new ≡ H.contents files.old }
     ensures files { IsFalse (is_send (shown call)) → files.new ≡ files.old }
+    ensures idle { shown_on powered ≡ None → files.new ≡ files.old }
+    // A file that is not there.
+    ensures missing { LacksSent (H.contents files.old) (shown call) → IsSome (shown_on powered)
+        → (turn result.turn).reply ≡ reply.ReadFault }
     ensures short { IsShort (turn result.turn).reply }
 {
     match powered {
@@ -82,6 +88,10 @@ pub fn turn<D: Flash, H: Files, V: Verifier>(
     ensures size { D.blocks (device result.powered) ≡ D.blocks (device powered) }
     ensures same { H.contents files.new ≡ H.contents files.old }
     ensures files { IsFalse (is_send (shown call)) → files.new ≡ files.old }
+    ensures idle { shown_on powered ≡ None → files.new ≡ files.old }
+    // A file that is not there.
+    ensures missing { LacksSent (H.contents files.old) (shown call) → IsSome (shown_on powered)
+        → (turn result.turn).reply ≡ reply.ReadFault }
     ensures short { IsShort (turn result.turn).reply }
 {
     match call {

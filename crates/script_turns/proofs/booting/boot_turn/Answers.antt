@@ -1,8 +1,7 @@
 use Rattle.std.proofs.Common.{sym, ap, subst, ◌∙◌}
 use Rattle.early_boot.specs.Ends.{ended, stop_of}
-use Rattle.early_boot.specs.EndsBy.{BootEnds}
+use Rattle.early_boot.specs.EndsBy.{BootEnds, IdleEnd}
 use Rattle.flash_core.specs.Counts.{Spends}
-use Rattle.fwu_journal.specs.Shown.{turn}
 use Rattle.fwu_model.specs.Call as call
 use Rattle.fwu_model.specs.Reply.{Turn}
 use Rattle.script_turns.specs.Powered.{moment, moment_of}
@@ -26,5 +25,6 @@ returns-clause-turns g c files faults =
       shows = c.turned_by.ensures.shows;
       power_is = ap F.on c.turned_by.ensures.device ∙ c.boot.ensures.power;
       costs = subst (λ d. Spends (stop_of e) (F.counts flash) (F.counts d)) (sym c.turned_by.ensures.device) c.boot.ensures.costs;
+      idle = subst (λ d. IdleEnd e (F.arming flash) (F.arming d) (F.counts flash) (F.counts d)) (sym c.turned_by.ensures.device) c.boot.ensures.idle;
       ends = λ told. subst (λ d. BootEnds passes (F.told flash) e (F.told d)) (sym c.turned_by.ensures.device) (c.boot.ensures.ends told);
     }) c.with_power.ensures.has)

@@ -18,15 +18,13 @@ returns-in-Fresh-clause-turns g c =
     turns-as _ _ _ _ _ _ c.turn_of-in-Fresh.ensures (ap (λ (p : Powered _ g.D.Flash). moment_of p) c.in-Fresh.is) refl
     (off-turn _ _ _ _ _ _ _ _ (shown c.args.call) c.requires.asks)
 
-pub returns-in_default : goal.returns-in_default
-returns-in_default g c = record {
-  turns = subst (λ (m : Moment). Turns (g.V.Verifier.passes c.args.verifier.now) g.D.Flash.tells (g.H.Files.contents c.args.files.now) (shown c.args.call)
-      (turn c.call_turn.result.turn) m (moment_of c.call_turn.result.powered) (g.H.Files.faults c.args.files.now) (g.H.Files.faults c.args.files.now))
-      (sym (ap (λ (p : Powered _ g.D.Flash). moment_of p) c.in-On.is))
-      (c.call_turn.ensures.turns (g.H.Files.contents c.args.files.now) (g.H.Files.faults c.args.files.now));
-  powered = c.call_turn.ensures.powered;
-  size = c.call_turn.ensures.size ∙ sym (ap (λ (p : Powered _ g.D.Flash). g.D.Flash.blocks (device p)) c.in-On.is);
-  same = refl;
-  files = λ none. refl;
-  short = c.call_turn.ensures.short;
-}
+pub returns-in_default-clause-turns : goal.returns-in_default-clause-turns
+returns-in_default-clause-turns g c =
+    subst (λ (m : Moment). Turns (g.V.Verifier.passes c.args.verifier.now) g.D.Flash.tells (g.H.Files.contents c.args.files.now) (shown c.args.call)
+    (turn c.call_turn.result.turn) m (moment_of c.call_turn.result.powered) (g.H.Files.faults c.args.files.now) (g.H.Files.faults c.args.files.now))
+    (sym (ap (λ (p : Powered _ g.D.Flash). moment_of p) c.in-On.is))
+    (c.call_turn.ensures.turns (g.H.Files.contents c.args.files.now) (g.H.Files.faults c.args.files.now))
+
+pub returns-in_default-clause-size : goal.returns-in_default-clause-size
+returns-in_default-clause-size g c =
+    c.call_turn.ensures.size ∙ sym (ap (λ (p : Powered _ g.D.Flash). g.D.Flash.blocks (device p)) c.in-On.is)

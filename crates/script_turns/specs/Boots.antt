@@ -1,0 +1,61 @@
+-- What a boot does, by how it ended.
+use Rattle.std.specs.Prelude.{◌≡◌, ◌⊎◌, Bool, List, ℕ, Option, Some, None, IsTrue}
+use Rattle.flash_core.specs.Counts.{Rose, Idles}
+use Rattle.flash_core.specs.Told.{fresh}
+use Rattle.flash_core.specs.May.{Leaves, NoChance}
+use Rattle.fwu_model.specs.Reply.{Reply}
+use Rattle.fwu_model.specs.Reply as reply
+use Rattle.fwu_model.specs.declared.kinds.NoBoot.TheVariants as no_boot
+use Rattle.agent_machine.specs.Fields.{Fields}
+use Rattle.agent_calls.specs.Started.{StartsFrom}
+use Rattle.early_boot.specs.Started.{started_reply}
+use Rattle.early_boot.specs.Ends.{Ended, booted, bad_layout, no_metadata, no_bank, lost, failed}
+use Rattle.early_boot.specs.EndsBy.{BootEnds, IdleEnd}
+use Rattle.script_turns.specs.Powered.{Moment, SameDevice}
+
+abbrev pub reply_of_end : Ended → Reply
+reply_of_end (booted b n) = started_reply b
+reply_of_end (bad_layout f) = reply.NotBooted (no_boot.Layout f)
+reply_of_end no_metadata = reply.NotBooted no_boot.Metadata
+reply_of_end (no_bank active previous) = reply.NotBooted (no_boot.Bank active previous)
+reply_of_end (lost n) = reply.Lost
+reply_of_end (failed n) = reply.Fault
+
+-- what the agent keeps afterwards: what it started from, where a bank was booted
+abbrev pub IsOnAfter : Ended → Option Fields → Type 0
+IsOnAfter (booted b n) (Some f) = StartsFrom b f
+IsOnAfter (booted b n) None = ⊥
+IsOnAfter (bad_layout f) on = on ≡ None
+IsOnAfter no_metadata on = on ≡ None
+IsOnAfter (no_bank active previous) on = on ≡ None
+IsOnAfter (lost n) on = on ≡ None
+IsOnAfter (failed n) on = on ≡ None
+
+-- ---- a flash that is to boot has power
+
+-- No bank was started on it: power came back, or was there with nothing dirty.
+pub record PowersOn (tells : Bool) (old new : Moment) : Type 0 where
+  pub idles : Idles old.counts new.counts
+  pub made : new.counts.made ≡ old.counts.made
+  pub armed : new.armed ≡ old.armed
+  pub clean : IsTrue tells → new.told ≡ fresh old.told.guard new.told.now
+  pub leaves : IsTrue tells → Leaves old.told new.told.now
+  pub chance : IsTrue tells → Rose old.counts.chances new.counts.chances ⊎ NoChance old.told new.told.now
+
+-- by what its agent kept: a flash on which a bank was started is as it was
+abbrev pub GetsPower : Bool → Option Fields → Moment → Moment → Type 0
+GetsPower tells None old new = PowersOn tells old new
+GetsPower tells (Some f) old new = SameDevice old new
+
+-- ---- all of it
+
+-- The flash had power, and its boot ended so. On any device a boot that found no layout or no metadata wrote nothing. Where the content is
+-- told, the end is that of the bytes, sound or not, and so is what was written.
+pub record BootsAs (passes : List ℕ → Bool) (tells : Bool) (old : Moment) (r : Reply) (new : Moment) : Type 0 where
+  pub mid : Moment
+  pub has : GetsPower tells old.on old mid
+  pub end : Ended
+  pub reply_is : r ≡ reply_of_end end
+  pub on_is : IsOnAfter end new.on
+  pub idle : IdleEnd end mid.armed new.armed mid.counts new.counts
+  pub ends : IsTrue tells → BootEnds passes mid.told end new.told
