@@ -1,5 +1,5 @@
 //! What a run did: its turns.
-ghost use Rattle.std.specs.Prelude.{◌≡◌, ◌∷◌, [], ◌++◌, IfOk, length, map};
+ghost use Rattle.std.specs.Prelude.{◌≡◌, ◌∷◌, [], ◌++◌, IfOk, OnOk, length, map};
 ghost use Rattle.fwu_journal.specs.Shown.{turns, turn, HasRoomFor, OneMore};
 
 use base_core::Guid;
@@ -97,6 +97,14 @@ impl Journal {
         Ok(Journal {
             turns: Vec::with_capacity(alloc, count)?,
         })
+    }
+
+    /// Makes room for so many turns more. The error comes where memory is wanting.
+    pub fn make_room(&mut self, count: usize) -> Result<(), AllocError>
+        ensures stays { turns self.new ≡ turns self.old }
+        ensures room { OnOk result (HasRoomFor self.new count) }
+    {
+        self.turns.reserve(count)
     }
 
     /// Adds a turn, in room that was made before.

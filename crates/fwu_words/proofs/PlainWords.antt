@@ -1,11 +1,11 @@
 -- Plain words are taken as they stand.
-use Rattle.std.proofs.Common.{◌≡◌, [], ◌∷◌, Some, refl, codes}
+use Rattle.std.proofs.Common.{◌≡◌, [], ◌∷◌, Some, None, refl, codes}
 use Rattle.clap.specs.Words.{Text}
 use Rattle.clap.proofs.OnLiterals.{clap_on_literals}
-use Rattle.fwu_words.specs.Order.{asked, format_by}
+use Rattle.fwu_words.specs.Order.{asked, format_by, soak_by}
 use Rattle.clap_words.specs.Plain.{IsPlain}
 use Rattle.clap_words.proofs.NoFlags.{IsNoFlag, plain_is_no_flag}
-use Rattle.fwu_words.specs.Values.{banks_of, file_named, rows_of}
+use Rattle.fwu_words.specs.Values.{banks_of, file_named, number_read, rows_of}
 
 format_taken : (a b : Text) → IsNoFlag a → IsNoFlag b → asked (codes "format" ∷ a ∷ b ∷ []) ≡ format_by (Some 2) (rows_of a) (file_named b)
 unfolding clap_on_literals
@@ -22,3 +22,24 @@ plain_format a b p q = format_taken a b (plain_is_no_flag a p) (plain_is_no_flag
 pub plain_banks : (n a b : Text) → IsPlain n → IsPlain a → IsPlain b
     → asked (codes "format" ∷ codes "--banks" ∷ n ∷ a ∷ b ∷ []) ≡ format_by (banks_of (Some n)) (rows_of a) (file_named b)
 plain_banks n a b o p q = banks_taken n a b (plain_is_no_flag n o) (plain_is_no_flag a p) (plain_is_no_flag b q)
+
+soak_taken : (s n : Text) → IsNoFlag s → IsNoFlag n → asked (codes "soak" ∷ s ∷ n ∷ []) ≡ soak_by (number_read s) (number_read n)
+unfolding clap_on_literals
+soak_taken s n p q = simp (p.long, p.short, p.dashes) (simp (q.long, q.short, q.dashes))
+
+seed_refused : (s : Text) → IsNoFlag s → asked (codes "soak" ∷ s ∷ []) ≡ None
+unfolding clap_on_literals
+seed_refused s p = simp (p.long, p.short, p.dashes)
+
+third_refused : (s n t : Text) → IsNoFlag s → IsNoFlag n → IsNoFlag t → asked (codes "soak" ∷ s ∷ n ∷ t ∷ []) ≡ None
+unfolding clap_on_literals
+third_refused s n t p q r = simp (p.long, p.short, p.dashes) (simp (q.long, q.short, q.dashes) (rw (r.long, r.short, r.dashes) refl))
+
+pub plain_soak : (s n : Text) → IsPlain s → IsPlain n → asked (codes "soak" ∷ s ∷ n ∷ []) ≡ soak_by (number_read s) (number_read n)
+plain_soak s n p q = soak_taken s n (plain_is_no_flag s p) (plain_is_no_flag n q)
+
+pub plain_seed : (s : Text) → IsPlain s → asked (codes "soak" ∷ s ∷ []) ≡ None
+plain_seed s p = seed_refused s (plain_is_no_flag s p)
+
+pub plain_third : (s n t : Text) → IsPlain s → IsPlain n → IsPlain t → asked (codes "soak" ∷ s ∷ n ∷ t ∷ []) ≡ None
+plain_third s n t p q r = third_refused s n t (plain_is_no_flag s p) (plain_is_no_flag n q) (plain_is_no_flag t r)

@@ -17,7 +17,10 @@ abbrev pub format_app : App
 format_app = with_rule (with_rule (with_rule (new_app (codes "format")) (option (codes "banks")))
     (word (codes "layout"))) (word (codes "package"))
 
--- Interim: `soak` is not in the set, since it is not built yet. Its words are refused.
+-- soak SEED N
+abbrev pub soak_app : App
+soak_app = with_rule (with_rule (new_app (codes "soak")) (word (codes "seed"))) (word (codes "rounds"))
+
 abbrev pub fwu_app : App
-fwu_app = with_leaf (with_leaf (with_leaf (with_leaf (top_app (codes "fwu"))
-    (turns_app (codes "run"))) (turns_app (codes "boot"))) (new_app (codes "show"))) format_app
+fwu_app = with_leaf (with_leaf (with_leaf (with_leaf (with_leaf (top_app (codes "fwu"))
+    (turns_app (codes "run"))) (turns_app (codes "boot"))) (new_app (codes "show"))) format_app) soak_app

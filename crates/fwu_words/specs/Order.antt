@@ -6,9 +6,9 @@ use Rattle.fwu_formats.specs.Layout.{ImageRow}
 use Rattle.clap_words.specs.Words.{reads}
 use Rattle.clap_words.specs.Answers.{file_in}
 use Rattle.fwu_words.specs.Commands.{fwu_app}
-use Rattle.fwu_words.specs.Values.{banks_of, rows_of}
+use Rattle.fwu_words.specs.Values.{banks_of, number_read, rows_of}
 use Rattle.fwu_words.specs.declared.orders.Order.{Order}
-use Rattle.fwu_words.specs.declared.orders.Order.TheVariants.{Run, RunPartitioned, Boot, BootPartitioned, Show, Format}
+use Rattle.fwu_words.specs.declared.orders.Order.TheVariants.{Run, RunPartitioned, Boot, BootPartitioned, Show, Format, Soak}
 
 -- a command with its values
 pub data Asked : Type 0 where
@@ -19,6 +19,7 @@ pub data Asked : Type 0 where
   boot_partitioned : Asked
   show : Asked
   format : ℕ → List ImageRow → List ℕ → Asked
+  soak : (seed : ℕ) → (rounds : ℕ) → Asked
 
 -- an order, without where its words lie in memory
 abbrev pub view : Order → Asked
@@ -28,6 +29,7 @@ view Boot = boot
 view BootPartitioned = boot_partitioned
 view Show = show
 view (Format banks rows file) = format banks rows.items file.now
+view (Soak seed rounds) = soak seed rounds
 
 abbrev pub format_by : Option ℕ → Option (List ImageRow) → Option Text → Option Asked
 format_by banks rows file = option_and_then (λ n. option_and_then (λ rs. option_and_then (λ f. Some (format n rs f)) file) rows) banks
@@ -41,6 +43,16 @@ layout_in rows = option_and_then rows_of (first_of (codes "layout") rows)
 
 abbrev pub format_of : List Row → Option Asked
 format_of rows = format_by (banks_in rows) (layout_in rows) (file_in (codes "package") rows)
+
+abbrev pub soak_by : Option ℕ → Option ℕ → Option Asked
+soak_by seed rounds = option_and_then (λ s. option_and_then (λ n. Some (soak s n)) rounds) seed
+
+-- the values of `soak`
+abbrev pub number_in : Text → List Row → Option ℕ
+number_in id rows = option_and_then number_read (first_of id rows)
+
+abbrev pub soak_of : List Row → Option Asked
+soak_of rows = soak_by (number_in (codes "seed") rows) (number_in (codes "rounds") rows)
 
 -- whether `--gpt` is given
 abbrev pub is_true : Option Text → Bool
@@ -57,6 +69,7 @@ order_of name rows =
     else if same_bytes name (codes "boot") then Some (if is_partitioned rows then boot_partitioned else boot)
     else if same_bytes name (codes "show") then Some show
     else if same_bytes name (codes "format") then format_of rows
+    else if same_bytes name (codes "soak") then soak_of rows
     else None
 
 -- What the words ask for. None where they are refused.

@@ -2,7 +2,7 @@
 ghost use Rattle.std.specs.Prelude.{◌≡◌, IfOk, true};
 ghost use Rattle.clap.specs.Faults.{is_simple_and_free};
 ghost use Rattle.clap_words.specs.Words.{AddsRule, IsApp};
-ghost use Rattle.fwu_words.specs.Commands.{flag, format_app, fwu_app, turns_app};
+ghost use Rattle.fwu_words.specs.Commands.{flag, format_app, fwu_app, soak_app, turns_app};
 
 use clap::{Arg, ArgAction, Command};
 use clap_words::{top, with_leaf_command, with_option, with_word};
@@ -34,8 +34,14 @@ fn format_command<'a>(alloc: Global) -> Result<Command<'a>, AllocError>
     with_word(alloc, command, "package")
 }
 
-/// `fwu` with its four commands.
-// Interim: `soak` is left out until it is built, so that its words are refused.
+fn soak_command<'a>(alloc: Global) -> Result<Command<'a>, AllocError>
+    ensures { IfOk result (λ c. IsApp c soak_app) }
+{
+    let command = with_word(alloc, Command::new(alloc, "soak"), "seed")?;
+    with_word(alloc, command, "rounds")
+}
+
+/// `fwu` with its five commands.
 pub fn fwu_command<'a>(alloc: Global) -> Result<Command<'a>, AllocError>
     ensures { IfOk result (λ c. IsApp c fwu_app) }
 {
@@ -43,7 +49,8 @@ pub fn fwu_command<'a>(alloc: Global) -> Result<Command<'a>, AllocError>
     let command = with_leaf_command(command, turns_command(alloc, "run")?)?;
     let command = with_leaf_command(command, turns_command(alloc, "boot")?)?;
     let command = with_leaf_command(command, Command::new(alloc, "show"))?;
-    with_leaf_command(command, format_command(alloc)?)
+    let command = with_leaf_command(command, format_command(alloc)?)?;
+    with_leaf_command(command, soak_command(alloc)?)
 }
 
 /// The command set is one of those that `clap`'s exact clauses are about.

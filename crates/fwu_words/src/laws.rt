@@ -5,9 +5,9 @@ ghost use Rattle.clap.specs.Words.{Text};
 ghost use Rattle.fwu_model.specs.Allow.{Admits, after_list, asks_list, list_name};
 ghost use Rattle.fwu_words.specs.Allow.{NamesList, NamesNone};
 ghost use Rattle.fwu_words.specs.Commands.{fwu_app};
-ghost use Rattle.fwu_words.specs.Order.{asked, boot, boot_partitioned, format_by, run, run_partitioned, show};
+ghost use Rattle.fwu_words.specs.Order.{asked, boot, boot_partitioned, format_by, run, run_partitioned, show, soak_by};
 ghost use Rattle.clap_words.specs.Plain.{IsPlain};
-ghost use Rattle.fwu_words.specs.Values.{banks_of, file_named, rows_of};
+ghost use Rattle.fwu_words.specs.Values.{banks_of, file_named, number_read, rows_of};
 ghost use Rattle.clap_words.specs.Words.{reads};
 
 /// The words name no command exactly where `clap` refuses them.
@@ -26,6 +26,12 @@ pub fn plain_words_are_taken()
         → asked (codes "format" ∷ layout ∷ file ∷ []) ≡ format_by (Some 2) (rows_of layout) (file_named file) }
     ensures banks { (banks layout file : Text) → IsPlain banks → IsPlain layout → IsPlain file
         → asked (codes "format" ∷ codes "--banks" ∷ banks ∷ layout ∷ file ∷ []) ≡ format_by (banks_of (Some banks)) (rows_of layout) (file_named file) }
+    ensures soak { (seed rounds : Text) → IsPlain seed → IsPlain rounds
+        → asked (codes "soak" ∷ seed ∷ rounds ∷ []) ≡ soak_by (number_read seed) (number_read rounds) }
+    ensures soak_alone { asked (codes "soak" ∷ []) ≡ None }
+    ensures seed_alone { (seed : Text) → IsPlain seed → asked (codes "soak" ∷ seed ∷ []) ≡ None }
+    ensures third { (seed rounds other : Text) → IsPlain seed → IsPlain rounds → IsPlain other
+        → asked (codes "soak" ∷ seed ∷ rounds ∷ other ∷ []) ≡ None }
     ensures help { asked (codes "--help" ∷ []) ≡ None }
     ensures nothing { asked [] ≡ None }
 {}

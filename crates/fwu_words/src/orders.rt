@@ -2,13 +2,13 @@
 ghost use Rattle.std.specs.Prelude.{◌≡◌, if◌then◌else◌, map, option_and_then, string_bytes};
 ghost use Rattle.clap.specs.Words.{found_of, rows_of, subcommand_rows_of};
 ghost use Rattle.clap_words.specs.Answers.{Answers};
-ghost use Rattle.fwu_words.specs.Order.{asked, banks_in, boot, boot_partitioned, format_of, is_partitioned, layout_in, order_of, run, run_partitioned, view};
+ghost use Rattle.fwu_words.specs.Order.{asked, banks_in, boot, boot_partitioned, format_of, is_partitioned, layout_in, number_in, order_of, run, run_partitioned, soak_of, view};
 
 use crate::commands::fwu_command;
 use crate::values::{banks_value, layout_rows};
 use base_core::ImageRow;
 use clap::ArgMatches;
-use clap_words::{UsageStop, given, given_file, matches};
+use clap_words::{UsageStop, given, given_file, matches, read_number};
 use std::alloc::Global;
 use words_core::is_word;
 
@@ -30,6 +30,11 @@ pub enum Order<'a> {
         banks: u32,
         rows: Vec<ImageRow>,
         package: &'a str,
+    },
+    /// Carries out this many rounds of updates, 0 or more, drawn from the seed.
+    Soak {
+        seed: u32,
+        rounds: u32,
     },
 }
 
@@ -62,6 +67,26 @@ fn format_order<'a>(alloc: Global, found: &ArgMatches<'a>) -> Result<Order<'a>, 
         rows,
         package,
     })
+}
+
+fn given_number<'a>(found: &ArgMatches<'a>, id: &str) -> Result<u32, UsageStop>
+    ensures { Answers (λ n. n) result (number_in id.now (rows_of (found_of found.now))) }
+{
+    let Some(text) = given(found, id) else {
+        return Err(UsageStop::Usage);
+    };
+    match read_number(text) {
+        Some(number) => Ok(number),
+        None => Err(UsageStop::Usage),
+    }
+}
+
+fn soak_order<'a>(found: &ArgMatches<'a>) -> Result<Order<'a>, UsageStop>
+    ensures { Answers view result (soak_of (rows_of (found_of found.now))) }
+{
+    let seed = given_number(found, "seed")?;
+    let rounds = given_number(found, "rounds")?;
+    Ok(Order::Soak { seed, rounds })
 }
 
 /// Whether `--gpt` is given.
@@ -112,6 +137,8 @@ fn named_order<'a>(
         Ok(Order::Show)
     } else if is_word(name, b"format") {
         format_order(alloc, found)
+    } else if is_word(name, b"soak") {
+        soak_order(found)
     } else {
         Err(UsageStop::Usage)
     }

@@ -24,3 +24,10 @@ pub mod TopFormats
 mod TableOpens
 pub mod TableWays
 pub mod PromiseTable
+pub mod SoakSetting
+pub mod SoakTurns
+pub mod SoakRounds
+pub mod SoakTotals
+pub mod SoakEnding
+pub mod SoakTop
+pub mod SoakPromise

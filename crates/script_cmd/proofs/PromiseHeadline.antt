@@ -42,11 +42,11 @@ asked-calls words source calls mine ByBoot has = same-calls mine (call.Boot ∷ 
 pub sound-start : (E : Setting) (start : State) (old : Told) (files : Option (List ℕ → Option (List ℕ))) (passes : List ℕ → Bool) (before after : Counts) → Premises E start old files passes before after → Sound E start
 sound-start E start old files passes before after given = subst (Sound E) (same_Some given.sound.state start (sym given.sound.shows ∙ given.shows)) given.sound.sound
 
-fits : (E : Setting) (t : Told) → SoundFlash E t.now → IsTrue (fits_layout E.layout)
+pub fits : (E : Setting) (t : Told) → SoundFlash E t.now → IsTrue (fits_layout E.layout)
 fits E t sound = layout-fits (block 0 t.now) (length t.now / 4096) E.layout sound.layout
 
 -- what the flash of a run may show after a loss
-left-by : (E : Setting) (c : Condition) (on : Option Fields) (t : Told) → Shows E c on t → LeavesOneOf E c.candidates t
+pub left-by : (E : Setting) (c : Condition) (on : Option Fields) (t : Told) → Shows E c on t → LeavesOneOf E c.candidates t
 left-by E c None t shows = shows.1
 left-by E c (Some f) t shows = subst (λ (states : List State). LeavesOneOf E states t) (sym shows.one) (calm-stays E t shows.state shows.ready.calm)
 

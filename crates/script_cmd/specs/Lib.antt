@@ -11,3 +11,6 @@ pub mod Outcomes
 pub mod ByTable
 pub mod WaysByTable
 pub mod PromisesByTable
+pub mod Soaking
+pub mod SoakWays
+pub mod Soaked

@@ -14,7 +14,7 @@ noted (note.Boot why) = model_note.Boot why
 noted (note.Input fault) = model_note.Nothing
 noted (note.NoTable why) = model_note.Nothing
 
--- what the definitions don't note: only `format` notes what was given, and only `--gpt` what a partition table lacks
+-- what the definitions don't note: only `format` and `soak` note what was given, and only `--gpt` what a partition table lacks
 abbrev pub is_beyond : Note → Bool
 is_beyond note.Nothing = false
 is_beyond (note.BadLine n) = false

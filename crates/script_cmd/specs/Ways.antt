@@ -108,6 +108,7 @@ RunsOrNone (Some ask.boot) = ⊤
 RunsOrNone (Some ask.boot_partitioned) = ⊥
 RunsOrNone (Some ask.show) = ⊥
 RunsOrNone (Some (ask.format banks rows file)) = ⊥
+RunsOrNone (Some (ask.soak seed rounds)) = ⊥
 
 -- ---- whose manifests pass
 

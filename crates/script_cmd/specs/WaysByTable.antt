@@ -27,6 +27,7 @@ over_table (Some ask.boot) = None
 over_table (Some ask.boot_partitioned) = Some ask.boot
 over_table (Some ask.show) = None
 over_table (Some (ask.format banks rows file)) = None
+over_table (Some (ask.soak seed rounds)) = None
 
 -- the script was read whole, and has these calls
 pub record ReadsScript (asked : Option Asked) (g : Given) (calls : List Call) : Type 0 where

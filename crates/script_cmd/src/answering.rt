@@ -1,7 +1,8 @@
 //! What the words ask for is done, in one of the ways that it may end.
-ghost use Rattle.std.specs.Prelude.{◌≡◌, ◌≤◌, ℕ, Bool, List, [], Option, Some, None, Ok, IfSome, map, string_bytes, IsTrue, IsFalse, length, false, true};
+ghost use Rattle.std.specs.Prelude.{◌≡◌, ◌≤◌, ℕ, Bool, List, [], Option, Some, None};
+ghost use Rattle.std.specs.Prelude.{Ok, IfSome, map, string_bytes, IsTrue, IsFalse, length, false, true};
 ghost use Rattle.fwu_model.specs.Allow.{asks_list, list_name};
-ghost use Rattle.fwu_model.specs.Causes.{Faults};
+ghost use Rattle.fwu_model.specs.Causes.{Faults, may_fail_before};
 ghost use Rattle.fwu_formats.specs.Layout.{ImageRow};
 ghost use Rattle.fwu_model.specs.Call.{Call};
 ghost use Rattle.fwu_model.specs.Script.{is_too_long, script_of};
@@ -9,14 +10,16 @@ ghost use Rattle.fwu_model.specs.Wrote.{script_asked};
 ghost use Rattle.fwu_journal.specs.Shown.{turns};
 ghost use Rattle.fwu_words.specs.Order.{Asked, asked};
 ghost use Rattle.fwu_words.specs.Order as ask;
-ghost use Rattle.script_cmd.specs.Asking.{asked_with_list, asks_beyond, asks_files, asks_run, plainly};
+ghost use Rattle.script_cmd.specs.Asking.{asked_with_list, asks_beyond, asks_files, asks_package, asks_run, plainly};
 ghost use Rattle.script_cmd.specs.Formatting.{FormattedBy};
 ghost use Rattle.script_turns.specs.Powered.{moment};
 ghost use Rattle.script_cmd.specs.Noted.{is_beyond, noted};
-ghost use Rattle.script_cmd.specs.Running.{sends_none};
+ghost use Rattle.script_cmd.specs.Running.{calls_of, sends_none};
 ghost use Rattle.script_cmd.specs.Showing.{ShowedBy};
+ghost use Rattle.script_cmd.specs.SoakWays.{SoakWay};
 ghost use Rattle.script_cmd.specs.WaysByTable.{WayByTable, over_table};
-ghost use Rattle.script_cmd.specs.Ways.{AsksTurns, ByList, Given, HasGoodList, HasPasses, IsIdle, IsScriptOf, Later, ReadsList, RunsOrNone, Way, faults_of};
+ghost use Rattle.script_cmd.specs.Ways.{AsksTurns, ByList, Given, HasGoodList, HasPasses, IsIdle};
+ghost use Rattle.script_cmd.specs.Ways.{IsScriptOf, Later, ReadsList, RunsOrNone, Way, faults_of};
 
 use crate::done::{Done, Note};
 use crate::formatting::format_flash;
@@ -28,6 +31,7 @@ use crate::refusing::{
 use crate::room::Room;
 use crate::running::run_script;
 use crate::showing::show;
+use crate::soak_command::soak;
 use flash_core::Flash;
 use fwu_words::{Allow, Order, UsageStop, allow_of, fwu_order};
 use host_io::{Files, Sink, Source};
@@ -58,6 +62,8 @@ fn run_text<D: Flash, H: Files, O: Sink, V: Verifier>(
         (O.taken sink.new) (record was { sink = O.faults sink.old })
         (record are { files = H.faults files.new; sink = O.faults sink.new }) }
     ensures files { (calls : List Call) → script_of text.now ≡ Ok calls → IsTrue (sends_none calls)
+        → files.new ≡ files.old }
+    ensures unsent { IsTrue (sends_none (calls_of (turns result.journal)))
         → files.new ≡ files.old }
     ensures later_files { H.faults files.old ≤ H.faults files.new }
     ensures same_files { H.contents files.new ≡ H.contents files.old }
@@ -111,6 +117,8 @@ fn run_source<D: Flash, H: Files, I: Source, O: Sink, V: Verifier>(
     ensures note { IsFalse (is_beyond result.note) }
     ensures later_files { H.faults files.old ≤ H.faults files.new }
     ensures same_files { H.contents files.new ≡ H.contents files.old }
+    ensures unsent { IsTrue (sends_none (calls_of (turns result.journal)))
+        → files.new ≡ files.old }
     ensures later_source { I.faults source.old ≤ I.faults source.new }
     ensures later_sink { O.faults sink.old ≤ O.faults sink.new }
     ensures read_to_end { result.status ≡ 0 → IfSome (I.left source.new) (λ rest. rest ≡ []) }
@@ -147,6 +155,8 @@ fn run_text_by_table<D: Flash, H: Files, O: Sink, V: Verifier>(
         (O.taken sink.new) (record was { sink = O.faults sink.old })
         (record are { files = H.faults files.new; sink = O.faults sink.new }) }
     ensures files { (calls : List Call) → script_of text.now ≡ Ok calls → IsTrue (sends_none calls)
+        → files.new ≡ files.old }
+    ensures unsent { IsTrue (sends_none (calls_of (turns result.journal)))
         → files.new ≡ files.old }
     ensures later_files { H.faults files.old ≤ H.faults files.new }
     ensures same_files { H.contents files.new ≡ H.contents files.old }
@@ -190,6 +200,8 @@ fn run_source_by_table<D: Flash, H: Files, I: Source, O: Sink, V: Verifier>(
         }) }
     ensures later_files { H.faults files.old ≤ H.faults files.new }
     ensures same_files { H.contents files.new ≡ H.contents files.old }
+    ensures unsent { IsTrue (sends_none (calls_of (turns result.journal)))
+        → files.new ≡ files.old }
     ensures later_source { I.faults source.old ≤ I.faults source.new }
     ensures later_sink { O.faults sink.old ≤ O.faults sink.new }
     ensures read_to_end { result.status ≡ 0 → IfSome (I.left source.new) (λ rest. rest ≡ []) }
@@ -260,6 +272,19 @@ pub fn answer_with<D: Flash, H: Files, I: Source, O: Sink, V: Verifier>(
         (turns result.journal) (O.taken sink.old) (O.taken sink.new)
         (faults_of H.faults I.faults O.faults files.old source.old sink.old)
         (faults_of H.faults I.faults O.faults files.new source.new sink.new) }
+    ensures soaks { (seed rounds : ℕ)
+        → asked (map string_bytes words.now) ≡ Some (ask.soak seed rounds)
+        → SoakWay D.tells
+        (record {
+          list = None;
+          files = H.contents files.old;
+          script = I.left source.old;
+        }) seed rounds (D.blocks flash) (turns result.journal) result.status result.note
+        (moment D.told D.counts D.arming D.on flash)
+        (moment D.told D.counts D.arming D.on result.flash) (O.taken sink.old)
+        (O.taken sink.new)
+        (faults_of H.faults I.faults O.faults files.old source.old sink.old)
+        (faults_of H.faults I.faults O.faults files.new source.new sink.new) }
     ensures read_to_end { result.status ≡ 0 → asked (map string_bytes words.now) ≡ Some ask.run
         → IfSome (I.left source.new) (λ rest. rest ≡ []) }
     ensures read_to_end_by_table { result.status ≡ 0
@@ -271,6 +296,9 @@ pub fn answer_with<D: Flash, H: Files, I: Source, O: Sink, V: Verifier>(
     // Only `run`, `format` and a list read files.
     ensures files { IsFalse (asks_files (asked (map string_bytes words.now)))
         → files.new ≡ files.old }
+    // And where no turn is a `send`, only `format` and a list do.
+    ensures unsent { IsFalse (asks_package (asked (map string_bytes words.now)))
+        → IsTrue (sends_none (calls_of (turns result.journal))) → files.new ≡ files.old }
     ensures note { IsFalse (asks_beyond (asked (map string_bytes words.now)))
         → IsFalse (is_beyond result.note) }
     ensures same_files { H.contents files.new ≡ H.contents files.old }
@@ -302,6 +330,7 @@ pub fn answer_with<D: Flash, H: Files, I: Source, O: Sink, V: Verifier>(
             flash,
             verifier,
         ),
+        Ok(Order::Soak { seed, rounds }) => soak(alloc, seed, rounds, sink, flash),
         Err(UsageStop::Usage) => print_usage(alloc, sink, flash),
         Err(UsageStop::NoMemory) => idle(alloc, 9, Note::Nothing, flash),
     }
@@ -381,6 +410,19 @@ fn run_listed<D: Flash, H: Files, I: Source, O: Sink>(
         (turns result.journal) (O.taken sink.old) (O.taken sink.new)
         (faults_of H.faults I.faults O.faults files.old source.old sink.old)
         (faults_of H.faults I.faults O.faults files.new source.new sink.new)) }
+    ensures soaks { (seed rounds : ℕ)
+        → asked (map string_bytes rest.now) ≡ Some (ask.soak seed rounds)
+        → SoakWay D.tells
+        (record {
+          list = Some name.now;
+          files = H.contents files.old;
+          script = I.left source.old;
+        }) seed rounds (D.blocks flash) (turns result.journal) result.status result.note
+        (moment D.told D.counts D.arming D.on flash)
+        (moment D.told D.counts D.arming D.on result.flash) (O.taken sink.old)
+        (O.taken sink.new)
+        (faults_of H.faults I.faults O.faults files.old source.old sink.old)
+        (faults_of H.faults I.faults O.faults files.new source.new sink.new) }
     ensures read_to_end { result.status ≡ 0 → asked (map string_bytes rest.now) ≡ Some ask.run
         → IfSome (I.left source.new) (λ left. left ≡ []) }
     ensures read_to_end_by_table { result.status ≡ 0
@@ -389,6 +431,14 @@ fn run_listed<D: Flash, H: Files, I: Source, O: Sink>(
     // Only `run` reads the source.
     ensures source { IsFalse (asks_run (asked (map string_bytes rest.now)))
         → source.new ≡ source.old }
+    // Behind a list that told files lack, or that is none, neither does `run`.
+    ensures list_first { (HasGoodList (Some name.now) (H.contents files.old) → ⊥)
+        → source.new ≡ source.old }
+    // Where no turn is a `send`, no other file than the list was asked for.
+    ensures list_alone { IsFalse (asks_package (asked (map string_bytes rest.now)))
+        → IsTrue (sends_none (calls_of (turns result.journal)))
+        → IsFalse (may_fail_before result.status)
+        → H.faults files.new ≡ H.faults files.old }
     ensures note { IsFalse (asks_beyond (asked (map string_bytes rest.now)))
         → IsFalse (is_beyond result.note) }
     ensures same_files { H.contents files.new ≡ H.contents files.old }
@@ -491,6 +541,19 @@ pub fn answer<D: Flash, H: Files, I: Source, O: Sink>(
         (turns result.journal) (O.taken sink.old) (O.taken sink.new)
         (faults_of H.faults I.faults O.faults files.old source.old sink.old)
         (faults_of H.faults I.faults O.faults files.new source.new sink.new)) }
+    ensures soaks { (seed rounds : ℕ)
+        → asked_with_list (map string_bytes words.now) ≡ Some (ask.soak seed rounds)
+        → SoakWay D.tells
+        (record {
+          list = list_name (map string_bytes words.now);
+          files = H.contents files.old;
+          script = I.left source.old;
+        }) seed rounds (D.blocks flash) (turns result.journal) result.status result.note
+        (moment D.told D.counts D.arming D.on flash)
+        (moment D.told D.counts D.arming D.on result.flash) (O.taken sink.old)
+        (O.taken sink.new)
+        (faults_of H.faults I.faults O.faults files.old source.old sink.old)
+        (faults_of H.faults I.faults O.faults files.new source.new sink.new) }
     ensures read_to_end { result.status ≡ 0
         → asked_with_list (map string_bytes words.now) ≡ Some ask.run
         → IfSome (I.left source.new) (λ rest. rest ≡ []) }
@@ -500,10 +563,21 @@ pub fn answer<D: Flash, H: Files, I: Source, O: Sink>(
     // Only `run` reads the source.
     ensures source { IsFalse (asks_run (asked_with_list (map string_bytes words.now)))
         → source.new ≡ source.old }
+    // Behind a list that told files lack, or that is none, neither does `run`.
+    ensures list_first { (HasGoodList (list_name (map string_bytes words.now)) (H.contents files.old) → ⊥)
+        → source.new ≡ source.old }
     // Only `run`, `format` and a list read files.
     ensures files { list_name (map string_bytes words.now) ≡ None
         → IsFalse (asks_files (asked_with_list (map string_bytes words.now)))
         → files.new ≡ files.old }
+    // And where no turn is a `send`, only `format` and a list do.
+    ensures unsent { list_name (map string_bytes words.now) ≡ None
+        → IsFalse (asks_package (asked_with_list (map string_bytes words.now)))
+        → IsTrue (sends_none (calls_of (turns result.journal))) → files.new ≡ files.old }
+    ensures list_alone { IsFalse (asks_package (asked_with_list (map string_bytes words.now)))
+        → IsTrue (sends_none (calls_of (turns result.journal)))
+        → IsFalse (may_fail_before result.status)
+        → H.faults files.new ≡ H.faults files.old }
     ensures note { IsFalse (asks_beyond (asked_with_list (map string_bytes words.now)))
         → IsFalse (is_beyond result.note) }
     ensures same_files { H.contents files.new ≡ H.contents files.old }

@@ -1,5 +1,6 @@
 //! The command `format`.
-ghost use Rattle.std.specs.Prelude.{◌≡◌, ◌≤◌, ℕ, List, [], Option, None, IsFalse};
+ghost use Rattle.std.specs.Prelude.{◌≡◌, ◌≤◌, ℕ, List, [], Option, None, IsFalse, is_ok};
+ghost use Rattle.flash_format.specs.Stops.{flash_result};
 ghost use Rattle.fwu_journal.specs.Shown.{turns};
 ghost use Rattle.script_turns.specs.Powered.{moment};
 ghost use Rattle.script_cmd.specs.Formatting.{Formats, Tries, format_note, format_status};
@@ -17,7 +18,7 @@ use std::alloc::Global;
 use verify_core::Verifier;
 
 /// The exit status of what became of a format.
-fn status_of(ended: &Result<Formatted, FormatStop>) -> u8
+pub fn status_of(ended: &Result<Formatted, FormatStop>) -> u8
     ensures { result ≡ format_status ended.now }
 {
     match ended {
@@ -29,7 +30,7 @@ fn status_of(ended: &Result<Formatted, FormatStop>) -> u8
 }
 
 /// The note of what became of a format.
-fn note_of(ended: &Result<Formatted, FormatStop>) -> Note
+pub fn note_of(ended: &Result<Formatted, FormatStop>) -> Note
     ensures { result ≡ format_note ended.now }
 {
     match ended {
@@ -41,7 +42,7 @@ fn note_of(ended: &Result<Formatted, FormatStop>) -> Note
 }
 
 /// Powers a flash on, and formats it.
-fn try_format<D: Flash, H: Files, V: Verifier>(
+pub fn try_format<D: Flash, H: Files, V: Verifier>(
     flash: &mut D,
     rows: &[ImageRow],
     banks: u32,
@@ -56,6 +57,7 @@ fn try_format<D: Flash, H: Files, V: Verifier>(
         (moment D.told D.counts D.arming D.on flash.old)
         (moment D.told D.counts D.arming D.on flash.new) (H.faults files.old) (H.faults files.new)
         result }
+    ensures power { D.on flash.new ≡ is_ok (flash_result result) }
     ensures same { H.contents files.new ≡ H.contents files.old }
     ensures later { H.faults files.old ≤ H.faults files.new }
     ensures size { D.blocks flash.new ≡ D.blocks flash.old }

@@ -6,6 +6,7 @@ mod done;
 mod format_line;
 mod formatting;
 mod laws;
+mod one_file;
 mod opening;
 mod partitioned;
 mod printing;
@@ -14,7 +15,10 @@ mod refusing;
 mod room;
 mod running;
 mod showing;
+mod soak_command;
+mod soaking;
 mod top;
+mod totals;
 
 pub use done::{Done, NoTable, Note};
 pub use laws::{

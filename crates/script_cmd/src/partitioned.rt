@@ -13,7 +13,7 @@ ghost use Rattle.gpt_core.specs.Places.{Fit};
 ghost use Rattle.script_cmd.specs.ByTable.{seen_at};
 ghost use Rattle.script_cmd.specs.Noted.{is_beyond, noted};
 ghost use Rattle.script_turns.specs.Powered.{at, moment};
-ghost use Rattle.script_cmd.specs.Running.{Ended, Printed, Ran, sends_none};
+ghost use Rattle.script_cmd.specs.Running.{Ended, Printed, Ran, calls_of, sends_none};
 ghost use Rattle.script_cmd.specs.Ways.{Given};
 ghost use Rattle.script_cmd.specs.WaysByTable.{ReadsScript, WayByTable};
 
@@ -83,6 +83,8 @@ fn run_mapped<D: Flash, K: Start, H: Files, O: Sink, V: Verifier>(
         (D.arming result.flash) (D.on result.flash))) (H.faults files.old) (H.faults files.new) }
     ensures same_files { H.contents files.new ≡ H.contents files.old }
     ensures files { IsTrue (sends_none script) → files.new ≡ files.old }
+    ensures unsent { IsTrue (sends_none (calls_of (turns result.journal)))
+        → files.new ≡ files.old }
     ensures beside { IsTrue D.tells → Beside places (D.told flash) (D.told result.flash) }
     ensures ended { Ended script (turns result.journal) result.status (noted result.note) }
     ensures note { IsFalse (is_beyond result.note) }
@@ -119,6 +121,8 @@ fn run_at<D: Flash, H: Files, O: Sink, V: Verifier>(
         (D.arming result.flash) (D.on result.flash))) (H.faults files.old) (H.faults files.new) }
     ensures same_files { H.contents files.new ≡ H.contents files.old }
     ensures files { IsTrue (sends_none script) → files.new ≡ files.old }
+    ensures unsent { IsTrue (sends_none (calls_of (turns result.journal)))
+        → files.new ≡ files.old }
     ensures beside { IsTrue D.tells → Beside places (D.told flash) (D.told result.flash) }
     ensures ended { Ended script (turns result.journal) result.status (noted result.note) }
     ensures note { IsFalse (is_beyond result.note) }
@@ -157,6 +161,8 @@ pub fn run_by_table<D: Flash, H: Files, O: Sink, V: Verifier>(
     ensures later_files { H.faults files.old ≤ H.faults files.new }
     ensures same_files { H.contents files.new ≡ H.contents files.old }
     ensures files { IsTrue (sends_none script) → files.new ≡ files.old }
+    ensures unsent { IsTrue (sends_none (calls_of (turns result.journal)))
+        → files.new ≡ files.old }
     ensures size { D.blocks result.flash ≡ D.blocks flash }
 {
     let mut flash = flash;

@@ -80,6 +80,7 @@ pub fn read_file<H: Files>(alloc: Global, files: &mut H, name: &str) -> Result<V
         → directory name.now ≡ Some bytes.items) }
     ensures same { H.contents files.new ≡ H.contents files.old }
     ensures later { H.faults files.old ≤ H.faults files.new }
+    ensures quiet { IfOk result (λ bytes. H.faults files.new ≡ H.faults files.old) }
     ensures failed { result ≡ Err FileStop.Failed
         → Rose (H.faults files.old) (H.faults files.new) ⊎ LacksFile (H.contents files.old)
         name.now }

@@ -11,7 +11,7 @@ ghost use Rattle.fwu_journal.specs.declared.line.TheConstants.{LINE_ROOM};
 ghost use Rattle.script_turns.specs.Powered.{at, device, has_power, moment, moment_of, shown_on};
 ghost use Rattle.script_cmd.specs.Noted.{is_beyond, noted};
 ghost use Rattle.script_cmd.specs.Printed.{Prints};
-ghost use Rattle.script_cmd.specs.Running.{Ended, Printed, Ran, Steps, sends_none};
+ghost use Rattle.script_cmd.specs.Running.{Ended, Printed, Ran, Steps, calls_of, sends_none};
 ghost use Rattle.fwu_model.specs.Run.{is_send};
 
 use crate::done::{Done, Note};
@@ -48,7 +48,7 @@ struct Stepped<D: Flash> {
 }
 
 /// The status after a last turn with this reply.
-fn status_of(last: &Reply) -> u8
+pub fn status_of(last: &Reply) -> u8
     ensures { result ≡ status_by (reply last.now) }
 {
     match last {
@@ -60,7 +60,7 @@ fn status_of(last: &Reply) -> u8
 }
 
 /// The note after a last turn with this reply.
-fn note_of(last: &Reply) -> Note
+pub fn note_of(last: &Reply) -> Note
     ensures noted { noted result ≡ note_by (reply last.now) }
     ensures note { IsFalse (is_beyond result) }
 {
@@ -190,6 +190,9 @@ pub fn run_script<D: Flash, H: Files, O: Sink, V: Verifier>(
     ensures size { D.blocks result.flash ≡ D.blocks (device start) }
     ensures same_files { H.contents files.new ≡ H.contents files.old }
     ensures files { IsTrue (sends_none script) → files.new ≡ files.old }
+    // Where no turn is a `send`, no file was read.
+    ensures unsent { IsTrue (sends_none (calls_of (turns result.journal)))
+        → files.new ≡ files.old }
 {
     let Room { journal, text } = room;
     let mut running = Running {

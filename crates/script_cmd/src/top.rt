@@ -1,19 +1,22 @@
 //! The program as one call.
-ghost use Rattle.std.specs.Prelude.{◌≡◌, ℕ, Bool, List, [], Some, None, IfSome, map, string_bytes, IsFalse};
+ghost use Rattle.std.specs.Prelude.{◌≡◌, ℕ, Bool, List, [], Some, None, IfSome, map, string_bytes, IsTrue, IsFalse};
 ghost use Rattle.fwu_model.specs.Allow.{asks_list, list_name};
 ghost use Rattle.fwu_formats.specs.Layout.{ImageRow};
 ghost use Rattle.fwu_journal.specs.Shown.{turns};
+ghost use Rattle.fwu_model.specs.Causes.{may_fail_before};
+ghost use Rattle.script_cmd.specs.Running.{calls_of, sends_none};
 ghost use Rattle.fwu_words.specs.Order.{Asked, asked};
 ghost use Rattle.fwu_words.specs.Order as ask;
-ghost use Rattle.script_cmd.specs.Asking.{asked_with_list, asks_beyond, asks_files, asks_run};
+ghost use Rattle.script_cmd.specs.Asking.{asked_with_list, asks_beyond, asks_files, asks_package, asks_run};
 ghost use Rattle.script_cmd.specs.Formatting.{FormattedBy};
 ghost use Rattle.script_turns.specs.Powered.{moment};
 ghost use Rattle.script_cmd.specs.Noted.{is_beyond, noted};
 ghost use Rattle.script_cmd.specs.Promises.{Promised};
 ghost use Rattle.script_cmd.specs.PromisesByTable.{PromisedByTable};
 ghost use Rattle.script_cmd.specs.Showing.{ShowedBy};
+ghost use Rattle.script_cmd.specs.Soaked.{SoakedBy};
 ghost use Rattle.script_cmd.specs.WaysByTable.{over_table};
-ghost use Rattle.script_cmd.specs.Ways.{ByList, HasPasses, IsIdle, Later, RunsOrNone, faults_of};
+ghost use Rattle.script_cmd.specs.Ways.{ByList, HasGoodList, HasPasses, IsIdle, Later, RunsOrNone, faults_of};
 
 use crate::answering::{answer, answer_with};
 use crate::done::Done;
@@ -24,12 +27,13 @@ use verify_core::Verifier;
 
 /// Does what the words behind the name of the flash ask for, by a verifier that says whose manifests pass.
 ///
-/// `run` reads the source to its end, reads the script, and only then does its lines in order; `boot` is the script of the one line
-/// `boot`. Each line that is a call is one turn, which is kept in the journal and printed in one piece. A line of `send` reads the file
-/// that it names, and no other line reads one. Where that file can't be read, the flash failed or nothing could be booted, the run ends
-/// after the line of that turn, by the status 2, 5 or 6. `show` prints what the flash shows. `format` makes a layout and stores a
-/// package. The room for all turns and for the longest line is made before the first turn, and status 9 with an empty journal means
-/// that there was none.
+/// `run` reads the source to its end, reads the script, and only then does its lines in order; `boot` is the script of the one
+/// line `boot`. Each line that is a call is one turn, which is kept in the journal and printed in one piece. A line of `send`
+/// reads the file that it names, and no other line reads one. Where that file can't be read, the flash failed or nothing could be
+/// booted, the run ends after the line of that turn, by the status 2, 5 or 6. `show` prints what the flash shows. `format` makes
+/// a layout and stores a package. The room for all turns and for the longest line is made before the first turn, and status 9
+/// with an empty journal means that there was none. `soak` formats the flash and does rounds of updates and power cuts that are
+/// drawn from a number, by any manifest, and prints one line; it makes room for its turns round by round.
 pub fn fwu_top_with<D: Flash, H: Files, I: Source, O: Sink, V: Verifier>(
     alloc: Global,
     words: &[String],
@@ -83,6 +87,21 @@ pub fn fwu_top_with<D: Flash, H: Files, I: Source, O: Sink, V: Verifier>(
         (turns result.journal) (O.taken sink.old) (O.taken sink.new)
         (faults_of H.faults I.faults O.faults files.old source.old sink.old)
         (faults_of H.faults I.faults O.faults files.new source.new sink.new) }
+    // For the command `soak`: its calls are a run of the machine from the flash as it was formatted, and the line is that of
+    // their totals.
+    ensures soaks { (seed rounds : ℕ)
+        → asked (map string_bytes words.now) ≡ Some (ask.soak seed rounds)
+        → SoakedBy D.tells
+        (record {
+          list = None;
+          files = H.contents files.old;
+          script = I.left source.old;
+        }) seed rounds (D.blocks flash) (turns result.journal) result.status result.note
+        (moment D.told D.counts D.arming D.on flash)
+        (moment D.told D.counts D.arming D.on result.flash) (O.taken sink.old)
+        (O.taken sink.new)
+        (faults_of H.faults I.faults O.faults files.old source.old sink.old)
+        (faults_of H.faults I.faults O.faults files.new source.new sink.new) }
     // No fault count falls.
     ensures later { Later (faults_of H.faults I.faults O.faults files.old source.old sink.old)
         (faults_of H.faults I.faults O.faults files.new source.new sink.new) }
@@ -92,7 +111,10 @@ pub fn fwu_top_with<D: Flash, H: Files, I: Source, O: Sink, V: Verifier>(
     // Only `run`, `format` and a list read files.
     ensures files { IsFalse (asks_files (asked (map string_bytes words.now)))
         → files.new ≡ files.old }
-    // What was given is noted by `format` alone, and what a table lacks with `--gpt` alone.
+    // And where no turn is a `send`, only `format` and a list do.
+    ensures unsent { IsFalse (asks_package (asked (map string_bytes words.now)))
+        → IsTrue (sends_none (calls_of (turns result.journal))) → files.new ≡ files.old }
+    // What was given is noted by `format` and `soak` alone, and what a table lacks with `--gpt` alone.
     ensures note { IsFalse (asks_beyond (asked (map string_bytes words.now)))
         → IsFalse (is_beyond result.note) }
     ensures same_files { H.contents files.new ≡ H.contents files.old }
@@ -101,8 +123,9 @@ pub fn fwu_top_with<D: Flash, H: Files, I: Source, O: Sink, V: Verifier>(
     answer_with(alloc, words, files, source, sink, flash, verifier)
 }
 
-/// `fwu_top_with` for any manifest, or where the words begin with `--allow FILE`, for those whose digests that file lists. A list that
-/// isn't there or can't be read is answered by status 2, and one with a bad line by 13, before the other words are looked at.
+/// `fwu_top_with` for any manifest, or where the words begin with `--allow FILE`, for those whose digests that file lists. A list
+/// that isn't there or can't be read is answered by status 2, and one with a bad line by 13, before the other words are looked
+/// at.
 pub fn fwu_top<D: Flash, H: Files, I: Source, O: Sink>(
     alloc: Global,
     words: &[String],
@@ -187,17 +210,44 @@ pub fn fwu_top<D: Flash, H: Files, I: Source, O: Sink>(
         (turns result.journal) (O.taken sink.old) (O.taken sink.new)
         (faults_of H.faults I.faults O.faults files.old source.old sink.old)
         (faults_of H.faults I.faults O.faults files.new source.new sink.new)) }
+    // For the command `soak`: its calls are a run of the machine from the flash as it was formatted, and the line is that of
+    // their totals.
+    ensures soaks { (seed rounds : ℕ)
+        → asked_with_list (map string_bytes words.now) ≡ Some (ask.soak seed rounds)
+        → SoakedBy D.tells
+        (record {
+          list = list_name (map string_bytes words.now);
+          files = H.contents files.old;
+          script = I.left source.old;
+        }) seed rounds (D.blocks flash) (turns result.journal) result.status result.note
+        (moment D.told D.counts D.arming D.on flash)
+        (moment D.told D.counts D.arming D.on result.flash) (O.taken sink.old)
+        (O.taken sink.new)
+        (faults_of H.faults I.faults O.faults files.old source.old sink.old)
+        (faults_of H.faults I.faults O.faults files.new source.new sink.new) }
     // No fault count falls.
     ensures later { Later (faults_of H.faults I.faults O.faults files.old source.old sink.old)
         (faults_of H.faults I.faults O.faults files.new source.new sink.new) }
     // Only `run` reads the source.
     ensures source { IsFalse (asks_run (asked_with_list (map string_bytes words.now)))
         → source.new ≡ source.old }
+    // Behind a list that told files lack, or that is none, neither does `run`.
+    ensures list_first { (HasGoodList (list_name (map string_bytes words.now)) (H.contents files.old) → ⊥)
+        → source.new ≡ source.old }
     // Only `run`, `format` and a list read files.
     ensures files { list_name (map string_bytes words.now) ≡ None
         → IsFalse (asks_files (asked_with_list (map string_bytes words.now)))
         → files.new ≡ files.old }
-    // What was given is noted by `format` alone, and what a table lacks with `--gpt` alone.
+    // And where no turn is a `send`, only `format` and a list do.
+    ensures unsent { list_name (map string_bytes words.now) ≡ None
+        → IsFalse (asks_package (asked_with_list (map string_bytes words.now)))
+        → IsTrue (sends_none (calls_of (turns result.journal))) → files.new ≡ files.old }
+    // Behind a list that could be read, no other file is asked for then: each call for one may fail, and is counted where it does.
+    ensures list_alone { IsFalse (asks_package (asked_with_list (map string_bytes words.now)))
+        → IsTrue (sends_none (calls_of (turns result.journal)))
+        → IsFalse (may_fail_before result.status)
+        → H.faults files.new ≡ H.faults files.old }
+    // What was given is noted by `format` and `soak` alone, and what a table lacks with `--gpt` alone.
     ensures note { IsFalse (asks_beyond (asked_with_list (map string_bytes words.now)))
         → IsFalse (is_beyond result.note) }
     ensures same_files { H.contents files.new ≡ H.contents files.old }

@@ -1,6 +1,6 @@
 use Rattle.std.proofs.Common.{refl}
 use Rattle.clap.proofs.OnLiterals.{clap_on_literals}
-use Rattle.fwu_words.proofs.PlainWords.{plain_banks, plain_format}
+use Rattle.fwu_words.proofs.PlainWords.{plain_banks, plain_format, plain_seed, plain_soak, plain_third}
 use Rattle.fwu_words.proofs.laws.plain_words_are_taken.Goals as goal
 
 pub returns-clause-run : goal.returns-clause-run
@@ -20,6 +20,19 @@ returns-clause-format c = plain_format
 
 pub returns-clause-banks : goal.returns-clause-banks
 returns-clause-banks c = plain_banks
+
+pub returns-clause-soak : goal.returns-clause-soak
+returns-clause-soak c = plain_soak
+
+pub returns-clause-soak_alone : goal.returns-clause-soak_alone
+unfolding clap_on_literals
+returns-clause-soak_alone c = refl
+
+pub returns-clause-seed_alone : goal.returns-clause-seed_alone
+returns-clause-seed_alone c = plain_seed
+
+pub returns-clause-third : goal.returns-clause-third
+returns-clause-third c = plain_third
 
 pub returns-clause-help : goal.returns-clause-help
 unfolding clap_on_literals

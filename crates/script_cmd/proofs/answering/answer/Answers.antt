@@ -1,13 +1,15 @@
-use Rattle.std.proofs.Common.{List, Some, ℕ, ap, map, refl, subst, sym, ◌∙◌, inl, inr}
+use Rattle.std.proofs.Common.{List, Option, Some, ℕ, ap, map, refl, subst, sym, ◌∙◌, inl, inr}
 use Rattle.std.specs.Prelude.{string_bytes}
 use Rattle.fwu_formats.specs.Digests.{passes_any}
 use Rattle.fwu_model.specs.Allow.{list_name}
 use Rattle.fwu_model.specs.Wrote.{usage_line}
 use Rattle.fwu_model.specs.declared.kinds.Note.TheVariants as note
+use Rattle.script_cmd.specs.Asking.{asks_package}
 use Rattle.script_cmd.specs.Noted.{noted}
-use Rattle.script_cmd.specs.Ways.{RunsOrNone, usage}
+use Rattle.script_cmd.specs.Ways.{HasGoodList, RunsOrNone, usage}
 use Rattle.script_cmd.specs.WaysByTable.{over_table}
 use Rattle.script_cmd.proofs.TableWays.{not-over, table-at}
+use Rattle.script_cmd.proofs.SoakTop.{soaks-at}
 use Rattle.script_cmd.proofs.TopFormats.{formatted-at, none-some}
 use Rattle.script_cmd.proofs.TopWays.{by-words, has-any, idles-at, no-list, no-words, none-bad, refused-by, same-moment, some-list, way-at}
 use Rattle.script_cmd.proofs.answering.answer.Goals as goal
@@ -74,3 +76,43 @@ pub returns-in-File-clause-formats : goal.returns-in-File-clause-formats
 returns-in-File-clause-formats g c banks rows file is =
     let n = some-list _ _ c.in-File.name.now c.in-File.ensures in
     by-words _ _ c.in-File.name.now _ _ _ _ n.1 n.2 (λ passes. formatted-at passes _ _ _ _ _ _ _ _ _ _ _ _ _ _ _ _ _ n.2) (c.run_listed.ensures.formats banks rows file (sym n.0 ∙ is))
+
+pub returns-in-No-clause-soaks : goal.returns-in-No-clause-soaks
+returns-in-No-clause-soaks g c seed rounds is =
+    let n = no-list _ c.in-No.ensures in
+    soaks-at _ _ _ _ _ seed rounds _ _ _ _ _ _ _ _ _ _ n.1 (c.answer_with.ensures.soaks seed rounds (sym n.0 ∙ is))
+
+pub returns-in-Usage-clause-soaks : goal.returns-in-Usage-clause-soaks
+returns-in-Usage-clause-soaks g c seed rounds is = absurd (none-some _ _ (no-words (map string_bytes c.args.words.now) c.in-Usage.ensures) is)
+
+pub returns-in-File-clause-soaks : goal.returns-in-File-clause-soaks
+returns-in-File-clause-soaks g c seed rounds is =
+    let n = some-list _ _ c.in-File.name.now c.in-File.ensures in
+    soaks-at _ _ _ _ _ seed rounds _ _ _ _ _ _ _ _ _ _ n.2 (c.run_listed.ensures.soaks seed rounds (sym n.0 ∙ is))
+
+pub returns-in-No-clause-unsent : goal.returns-in-No-clause-unsent
+returns-in-No-clause-unsent g c unnamed other none =
+    let n = no-list _ c.in-No.ensures in
+    c.answer_with.ensures.unsent (sym (ap asks_package n.0) ∙ other) none
+
+pub returns-in-No-clause-list_alone : goal.returns-in-No-clause-list_alone
+returns-in-No-clause-list_alone g c other none whole =
+    let n = no-list _ c.in-No.ensures in
+    ap g.H.Files.faults (c.answer_with.ensures.unsent (sym (ap asks_package n.0) ∙ other) none)
+
+pub returns-in-File-clause-list_alone : goal.returns-in-File-clause-list_alone
+returns-in-File-clause-list_alone g c other none whole =
+    let n = some-list _ _ c.in-File.name.now c.in-File.ensures in
+    c.run_listed.ensures.list_alone (sym (ap asks_package n.0) ∙ other) none whole
+
+-- ---- what is not read
+
+pub returns-in-No-clause-list_first : goal.returns-in-No-clause-list_first
+returns-in-No-clause-list_first g c none =
+    let words : List (List ℕ) = map string_bytes c.args.words.now in
+    absurd (none (none-bad (list_name words) (g.H.Files.contents c.args.files.now) (no-list words c.in-No.ensures).1))
+
+pub returns-in-File-clause-list_first : goal.returns-in-File-clause-list_first
+returns-in-File-clause-list_first g c none =
+    let n = some-list _ _ c.in-File.name.now c.in-File.ensures in
+    c.run_listed.ensures.list_first (λ good. none (subst (λ (l : Option (List ℕ)). HasGoodList l (g.H.Files.contents c.args.files.now)) (sym n.2) good))

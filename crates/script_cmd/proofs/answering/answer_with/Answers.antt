@@ -1,4 +1,5 @@
 use Rattle.script_cmd.proofs.TopFormats.{formatted-as}
+use Rattle.script_cmd.proofs.SoakTop.{soak-as}
 use Rattle.std.proofs.Common.{Some, None, ap, inr, map, refl, arith}
 use Rattle.std.specs.Prelude.{string_bytes}
 use Rattle.fwu_words.specs.Order.{asked}
@@ -95,3 +96,16 @@ pub returns-in-Err-NoMemory-clause-by_table : goal.returns-in-Err-NoMemory-claus
 returns-in-Err-NoMemory-clause-by_table g c = λ plain over.
     let e = c.idle.ensures in
     table-starved _ _ _ _ _ _ _ _ _ _ (Some plain) _ _ _ e.no_turns (same-moment g.D.Flash.told g.D.Flash.counts g.D.Flash.arming g.D.Flash.on _ _ e.flash) e.status e.note refl
+
+-- ---- a soak
+
+pub returns-in-Ok-Soak-clause-soaks : goal.returns-in-Ok-Soak-clause-soaks
+returns-in-Ok-Soak-clause-soaks g c seed rounds is =
+    let files = g.H.Files.faults c.args.files.now in
+    let source = g.I.Source.faults c.args.source.now in
+    soak-as _ _ _ _ _ _ _ _ _ _ _ _ (asked (map string_bytes c.args.words.now)) c.in-Ok-Soak.seed seed c.in-Ok-Soak.rounds rounds (rw c.in-Ok-Soak.field-0-is at c.in-Ok-Soak.ensures) is
+    (c.soak.ensures.way (record { list = None; files = g.H.Files.contents c.args.files.now; script = g.I.Source.left c.args.source.now }) (record { files = files; source = source; sink = 0 })
+    (record { files = files; source = source; sink = 0 }) no-list-named)
+
+pub returns-in-Ok-Soak-clause-by_table : goal.returns-in-Ok-Soak-clause-by_table
+returns-in-Ok-Soak-clause-by_table g c = λ plain over. absurd (not-over _ _ plain (rw c.in-Ok-Soak.field-0-is at c.in-Ok-Soak.ensures) refl over)

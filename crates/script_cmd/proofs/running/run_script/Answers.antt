@@ -1,16 +1,17 @@
-use Rattle.std.proofs.Common.{◌≡◌, ◌+◌, ◌-◌, List, [], length, Option, None, Some, refl, sym, ap, subst, ◌∙◌, arith}
+use Rattle.std.proofs.Common.{◌≡◌, ◌+◌, ◌-◌, List, [], length, IsTrue, IsFalse, Option, None, Some, refl, sym, ap, subst, ◌∙◌, arith}
 use Rattle.std.specs.List.{slice_get}
 use Rattle.std.proofs.lemmas.List.{length-set}
 use Rattle.fwu_model.specs.Call.{Call}
 use Rattle.fwu_model.specs.Call as call
 use Rattle.fwu_model.specs.Reply.{Turn}
+use Rattle.fwu_model.specs.Run.{is_send}
 use Rattle.agent_machine.specs.Fields.{Fields}
 use Rattle.fwu_journal.specs.declared.journal.Journal.{Journal}
 use Rattle.fwu_journal.specs.Shown.{turns}
 use Rattle.script_text.specs.Shown.{shown}
 use Rattle.script_turns.specs.Powered.{at, device, shown_on}
-use Rattle.script_cmd.specs.Running.{Ran}
-use Rattle.script_cmd.proofs.RunCalls.{left-behind, reads-none}
+use Rattle.script_cmd.specs.Running.{Ran, calls_of, sends_none}
+use Rattle.script_cmd.proofs.RunCalls.{left-behind, reads-none, sends-more}
 use Rattle.script_cmd.proofs.RunEnds.{GoesOn, goes-none, goes-on, ends-ran, ends-by, ends-printed, all-ended, all-printed, steps-told}
 use Rattle.script_cmd.proofs.running.run_script.Goals as goal
 
@@ -35,6 +36,7 @@ loop-index-init g c =
       size = refl;
       same_files = refl;
       files = λ none. refl;
+      unsent = λ none. refl;
     }
 
 pub loop-index-preserved : goal.loop-index-preserved
@@ -52,6 +54,10 @@ loop-index-preserved g c =
       size = c.step-after.ensures.size ∙ was.size;
       same_files = c.step-after.ensures.same_files ∙ was.same_files;
       files = λ none. c.step-after.ensures.files (reads-none c.args.script c.loop-index.index taken_call none at_call) ∙ was.files none;
+      unsent = λ none.
+          let step = c.step-after.ensures.steps in
+          let parts = sends-more (turns c.loop-index.running.journal) _ step.turn step.kept none in
+          c.step-after.ensures.files (subst (λ (x : Call). IsFalse (is_send x)) step.turns.call_is parts.1) ∙ was.unsent parts.0;
     }
 
 pub returns-then-end-ne0-clause-ran : goal.returns-then-end-ne0-clause-ran
@@ -94,3 +100,13 @@ pub returns-clause-printed : goal.returns-clause-printed
 returns-clause-printed g c =
     let end : c.loop-index.index ≡ length c.args.script = omega (arith, c.loop-index-test.false, c.loop-index.auto.index-end, c.len-index-end.ensures) in
     rw c.done-2.ensures.journal (rw c.done-2.ensures.status (all-printed _ _ _ _ _ _ _ _ _ _ _ _ _ (rw end at c.loop-index.invariant.goes)))
+
+pub returns-then-end-ne0-clause-unsent : goal.returns-then-end-ne0-clause-unsent
+returns-then-end-ne0-clause-unsent g c = λ none.
+    let step = c.step-after.ensures.steps in
+    let still = subst (λ (j : Journal). IsTrue (sends_none (calls_of (turns j)))) c.done.ensures.journal none in
+    let parts = sends-more (turns c.loop-index.running.journal) _ step.turn step.kept still in
+    c.step-after.ensures.files (subst (λ (x : Call). IsFalse (is_send x)) step.turns.call_is parts.1) ∙ c.loop-index.invariant.unsent parts.0
+
+pub returns-clause-unsent : goal.returns-clause-unsent
+returns-clause-unsent g c = λ none. c.loop-index.invariant.unsent (subst (λ (j : Journal). IsTrue (sends_none (calls_of (turns j)))) c.done-2.ensures.journal none)

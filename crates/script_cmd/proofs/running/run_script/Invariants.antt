@@ -3,7 +3,7 @@ use Rattle.std.specs.List.{slice_get}
 use Rattle.fwu_journal.specs.Shown.{HasRoomFor, turns}
 use Rattle.fwu_journal.specs.declared.line.TheConstants.{LINE_ROOM}
 use Rattle.script_turns.specs.Powered.{at, device, has_power, moment_of}
-use Rattle.script_cmd.specs.Running.{sends_none}
+use Rattle.script_cmd.specs.Running.{calls_of, sends_none}
 use Rattle.script_cmd.proofs.RunEnds.{GoesOn}
 use Rattle.script_cmd.proofs.running.run_script.Given as goal
 
@@ -23,4 +23,5 @@ invariant-loop-index g l = record {
   size : g.D.Flash.blocks (device l.running.powered) ≡ g.D.Flash.blocks (device l.fn.start);
   same_files : g.H.Files.contents l.files ≡ g.H.Files.contents l.fn.files;
   files : IsTrue (sends_none l.fn.script) → l.files ≡ l.fn.files;
+  unsent : IsTrue (sends_none (calls_of (turns l.running.journal))) → l.files ≡ l.fn.files;
 }

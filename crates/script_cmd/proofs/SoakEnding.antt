@@ -1,0 +1,80 @@
+-- How a soak ends.
+use Rattle.std.proofs.Common.{◌≡◌, ◌≢◌, ◌≤◌, ◌<◌, ◌+◌, ℕ, List, ◌∷◌, ◌++◌, Bool, get_or, Option, Some, Result, sym, ap, subst, ◌∙◌, arith, IsTrue}
+use Rattle.std.specs.Prelude.{flat_map}
+use Rattle.host_io.specs.Contents.{Directory}
+use Rattle.fwu_formats.specs.Digests.{passes_any}
+use Rattle.fwu_formats.specs.Layout.{ImageRow}
+use Rattle.flash_format.specs.declared.formatting.Formatted.{Formatted}
+use Rattle.flash_format.specs.declared.stops.FormatStop.{FormatStop}
+use Rattle.script_cmd.specs.Formatting.{Tries}
+use Rattle.fwu_model.specs.Call.{Call}
+use Rattle.fwu_model.specs.Call as call
+use Rattle.fwu_model.specs.Reply.{Reply, Turn}
+use Rattle.fwu_model.specs.Reply as reply
+use Rattle.fwu_model.specs.Run.{ends_run}
+use Rattle.fwu_model.specs.Causes.{status_by}
+use Rattle.fwu_model.specs.declared.kinds.Note.{Note}
+use Rattle.gen_core.specs.Calls.{file_name, round_calls, round_package, soak_calls}
+use Rattle.gen_core.specs.Draws.{register_after}
+use Rattle.gen_core.specs.Line.{soak_line}
+use Rattle.gen_core.specs.Rounds.{rounds_from}
+use Rattle.gen_core.specs.Setup.{soak_layout}
+use Rattle.gen_core.specs.declared.rounds.Round.{Round}
+use Rattle.gen_core.proofs.Naming.{rounds-have-packages}
+use Rattle.script_turns.specs.Powered.{Moment}
+use Rattle.script_cmd.specs.Printed.{Prints}
+use Rattle.script_cmd.specs.Running.{Ran}
+use Rattle.script_cmd.specs.Soaking.{Stands, goes, starved, ended, first_files, soak_files, stop_line}
+use Rattle.script_cmd.specs.SoakWays.{SoakEnds, all_done, lacking, stopped}
+
+-- ---- the calls and the files
+
+pub soak-calls-are : (seed register n : ℕ) → register ≡ register_after 2 seed → call.Boot ∷ flat_map (round_calls soak_layout.rows) (rounds_from register 1 n) ≡ soak_calls seed n
+unfolding soak_calls
+soak-calls-are seed register n is = ap (λ (x : ℕ). call.Boot ∷ flat_map (round_calls soak_layout.rows) (rounds_from x 1 n)) is
+
+pub soak-named : (seed register n : ℕ) → n < 4294967296 → register ≡ register_after 2 seed → (k : ℕ) (d : Round) → k < n
+    → soak_files seed n (file_name (k + 1)) ≡ Some (round_package (get_or (rounds_from register 1 n) k d))
+soak-named seed register n few is k d below =
+    rounds-have-packages.named seed n k d few below ∙ ap (λ (x : ℕ). Some (round_package (get_or (rounds_from x 1 n) k d))) (sym is)
+
+pub tries-as : (tells : Bool) (seed : ℕ) (files : Directory) (name : List ℕ) (rows : List ImageRow) (blocks : ℕ) (old new : Moment) (r : Result Formatted FormatStop) → files ≡ first_files seed → name ≡ file_name 0
+    → rows ≡ soak_layout.rows → Tries passes_any tells (Some files) name (record { banks = 2; rows = rows }) blocks old new 0 0 r
+    → Tries passes_any tells (Some (first_files seed)) (file_name 0) soak_layout blocks old new 0 0 r
+tries-as tells seed files name rows blocks old new r files_are name_is rows_are t =
+    subst (λ (f : Directory). Tries passes_any tells (Some f) (file_name 0) soak_layout blocks old new 0 0 r) files_are
+    (subst (λ (w : List ℕ). Tries passes_any tells (Some files) w soak_layout blocks old new 0 0 r) name_is
+    (subst (λ (rs : List ImageRow). Tries passes_any tells (Some files) name (record { banks = 2; rows = rs }) blocks old new 0 0 r) rows_are t))
+
+-- ---- by how it stands
+
+no-nine : (r : Reply) → status_by r ≡ 9 → ⊥
+no-nine reply.Fault nine = omega arith
+no-nine reply.ReadFault nine = omega arith
+no-nine (reply.NotBooted why) nine = omega arith
+no-nine r nine = omega arith
+
+no-zero : (r : Reply) → IsTrue (ends_run r) → status_by r ≡ 0 → ⊥
+no-zero reply.Fault ends zero_is = omega arith
+no-zero reply.ReadFault ends zero_is = omega arith
+no-zero (reply.NotBooted why) ends zero_is = omega arith
+no-zero r ends zero_is = cc
+
+module _ (tells : Bool) (all : Directory) (calls : List Call) (journal : List Turn) (old new : Moment) (stand : ℕ) (noted : Note) (text : List ℕ) where
+  pub stands-ran : Stands tells all calls journal old new stand noted text → Ran passes_any tells (Some all) journal old new 0 0
+  stands-ran (goes zero_is quiet empty going) = going.ran
+  stands-ran (starved nine quiet front less going) = going.ran
+  stands-ran (ended front t is less ran none ends read status_is noted_is text_is) = ran
+
+module _ (tells : Bool) (all : Directory) (rounds : ℕ) (calls : List Call) (journal : List Turn) (old new : Moment) (stand : ℕ) (noted : Note) (text : List ℕ) (status : ℕ) (taken takes : Option (List ℕ)) (was are : ℕ) where
+  pub ends-by : (stand ≡ 0 → Prints (soak_line rounds journal) 0 status taken takes was are) → (stand ≡ 9 → status ≡ 9) → (stand ≡ 9 → takes ≡ taken) → (stand ≡ 9 → was ≤ are)
+      → (stand ≢ 0 → stand ≢ 9 → Prints text stand status taken takes was are)
+      → Stands tells all calls journal old new stand noted text → SoakEnds rounds calls journal status noted taken takes was are
+  ends-by whole nines same later stops (goes zero_is quiet empty going) = all_done going.calls_are going.none quiet (whole zero_is)
+  ends-by whole nines same later stops (starved nine quiet front less going) =
+      lacking (less.0, ap (λ (cs : List Call). cs ++ less.0) going.calls_are ∙ less.1) going.none quiet (nines nine) (same nine) (later nine)
+  ends-by whole nines same later stops (ended front t is less ran none ends read status_is noted_is text_is) =
+      stopped less front t is none ends read noted_is
+      (subst (λ (k : ℕ). Prints (stop_line t) k status taken takes was are) status_is
+      (subst (λ (l : List ℕ). Prints l stand status taken takes was are) text_is
+      (stops (λ zero_is. no-zero t.reply ends (sym status_is ∙ zero_is)) (λ nine. no-nine t.reply (sym status_is ∙ nine)))))

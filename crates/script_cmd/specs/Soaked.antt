@@ -1,0 +1,72 @@
+-- What the command `soak` promises, whichever way it ends.
+use Rattle.std.specs.Prelude.{◌≡◌, ◌≢◌, ◌⊎◌, ℕ, ◌||◌, ◌==◌, Bool, List, [], Option, IsSome, IsTrue, IsFalse}
+use Rattle.std.specs.Io.KnownBytes.{Appends}
+use Rattle.flash_core.specs.Counts.{Rose}
+use Rattle.flash_core.specs.May.{Guards}
+use Rattle.fwu_formats.specs.Digests.{passes_any}
+use Rattle.flash_format.specs.Formatted.{IsFormatted, first_state}
+use Rattle.fwu_model.specs.Reply.{Turn}
+use Rattle.fwu_model.specs.Sound.{Setting}
+use Rattle.fwu_model.specs.Headline.{Headline, made_after}
+use Rattle.fwu_model.specs.Causes.{Faults, LacksList, cuts_in, may_fail_before}
+use Rattle.fwu_model.specs.Allow.{list_bytes}
+use Rattle.fwu_model.specs.Wrote.{IsBadList}
+use Rattle.gen_core.specs.Calls.{soak_calls}
+use Rattle.gen_core.specs.Generated.{generated_images}
+use Rattle.gen_core.specs.Line.{soak_line}
+use Rattle.gen_core.specs.Rounds.{sizes_of}
+use Rattle.gen_core.specs.Setup.{is_too_small, soak_layout}
+use Rattle.script_turns.specs.Powered.{Moment}
+use Rattle.script_turns.specs.Turning.{NoneFalls}
+use Rattle.script_cmd.specs.Promises.{outcome}
+use Rattle.script_cmd.specs.Running.{calls_of}
+use Rattle.script_cmd.specs.Showing.{RefusesBadList}
+use Rattle.script_cmd.specs.SoakWays.{SoakWay}
+use Rattle.script_cmd.specs.Soaking.{soak_files}
+use Rattle.script_cmd.specs.Ways.{Given}
+use Rattle.script_cmd.specs.declared.done.Note.{Note}
+
+-- the packages of all rounds are the files, and any manifest passes
+abbrev pub soak_setting : ℕ → ℕ → Setting
+soak_setting seed n = record { layout = soak_layout; files = soak_files seed n; passes = passes_any }
+
+-- the images that the flash is formatted with
+abbrev pub first_images : ℕ → List (List ℕ)
+first_images seed = generated_images soak_layout.rows (sizes_of seed) 0 1
+
+-- The flash was formatted with the first package, and from there on the turns are a run of the machine, of the first calls of the soak, all of
+-- them at the status 0.
+pub record RunsSoak (seed n : ℕ) (journal : List Turn) (status : ℕ) (new : Moment) : Type 0 where
+  pub start : Moment
+  pub formatted : IsFormatted passes_any soak_layout 1 start.told
+  pub run : Headline (soak_setting seed n) (first_state soak_layout (first_images seed)) (outcome (soak_calls seed n) journal status start new)
+
+-- where a list of digests is named, it is there, was read and has no bad line
+pub record HasSoakList (g : Given) (faults_before faults_after : Faults) : Type 0 where
+  pub there : LacksList g.files g.list → ⊥
+  pub good : (k : ℕ) → IsSome g.list → IsBadList (list_bytes g.list g.files) k → ⊥
+  pub read : Rose faults_before.files faults_after.files → ⊥
+
+-- All that `soak` promises.
+pub record SoakedBy (tells : Bool) (g : Given) (seed n blocks : ℕ) (journal : List Turn) (status : ℕ) (said : Note) (old new : Moment)
+    (taken_before taken_after : Option (List ℕ)) (faults_before faults_after : Faults) : Type 0 where
+  -- for every device and sink, told or not: which way it ended
+  pub way : SoakWay tells g seed n blocks journal status said old new taken_before taken_after faults_before faults_after
+  pub refuses_list : RefusesBadList g old new status faults_before faults_after
+  -- on a told device that guards the blocks at the front, where no torn block was sealed by chance: a run of the machine, unless nothing ran
+  pub machine : IsTrue tells → Guards 1 7 old.told → (Rose old.counts.chances new.counts.chances → ⊥) → journal ≢ [] → RunsSoak seed n journal status new
+  -- a flash that is too small is as it was, and this is its status, unless the list, the sink or memory failed
+  pub small : IsTrue (is_too_small blocks) → (journal ≡ []) × (new ≡ old) × IsTrue ((status == 7) || (may_fail_before status || (status == 13)))
+  pub seven : status ≡ 7 → IsTrue tells → IsTrue (is_too_small blocks)
+  -- a failure of the flash, or a loss of power while it was formatted
+  pub five : status ≡ 5 → Rose old.counts.faults new.counts.faults ⊎ ((journal ≡ []) × Rose old.counts.cuts new.counts.cuts)
+  -- all was done, and the line is that of its totals
+  pub done : status ≡ 0 → (calls_of journal ≡ soak_calls seed n) × Appends taken_before taken_after (soak_line n journal)
+  -- the program arms no loss but by its calls, and no count falls
+  pub made : new.counts.made ≡ made_after old.counts.made (cuts_in journal)
+  pub counts : NoneFalls old.counts new.counts
+  pub guard : IsTrue tells → new.told.guard ≡ old.told.guard
+  -- a flash with room for it does it all, where nothing failed and no loss came while it was formatted, unless memory was wanting
+  pub complete : IsTrue tells → Guards 1 7 old.told → IsFalse (is_too_small blocks) → (Rose old.counts.chances new.counts.chances → ⊥)
+      → (Rose old.counts.faults new.counts.faults → ⊥) → (journal ≡ [] → Rose old.counts.cuts new.counts.cuts → ⊥)
+      → HasSoakList g faults_before faults_after → (Rose faults_before.sink faults_after.sink → ⊥) → (status ≡ 0) ⊎ (status ≡ 9)
