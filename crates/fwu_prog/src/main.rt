@@ -3,7 +3,8 @@
 //! The first word names an existing file of 8 to 65,536 blocks of 4096 bytes, or is `-`, a blank flash in memory of 64 blocks. Where
 //! it is neither, or the file can't be opened for reading and writing, the program prints `flash cannot be used` and ends with 5. The
 //! other words are those of `fwu_top`, whose status is the program's. Without any word the program runs the script that it reads from
-//! the standard input on a blank flash, as `- run` does.
+//! the standard input on a blank flash, as `- run` does. A standard stream that is
+//! closed fails at its first use.
 #![tactic(auto)]
 
 ghost use Rattle.std.specs.Prelude.{◌≡◌, IfSome, codes};
@@ -16,12 +17,22 @@ use host_io::{HostFiles, Sink, Source, StdSink, StdSource};
 use script_cmd::{fwu_top, put_line, put_usage};
 use std::alloc::{AllocError, AllocGlobal, Global};
 use std::env::Env;
-use std::fs::{Files, OpenOptions};
+use std::fs::{self, Files, OpenOptions};
 use std::process::ExitCode;
 use std::{env, io};
 
 /// How many blocks the flash in memory has.
 const BLANK_BLOCKS: u32 = 64;
+
+/// The root folder, opened once for each standard stream. Where a stream is closed, the system gives its place to the next file that is
+/// opened: to this one, which can be neither read nor written, and not to the flash, into which lines would be written.
+fn hold_standard_streams<R: Files>(rt: &R) -> [Option<R::File>; 3] {
+    [
+        fs::open(rt, "/").ok(),
+        fs::open(rt, "/").ok(),
+        fs::open(rt, "/").ok(),
+    ]
+}
 
 /// The file of this name as a flash, or none where it can't be one.
 fn open_flash<R: Files>(rt: &R, name: &str) -> Option<FileFlash<R::File>>
@@ -97,6 +108,7 @@ fn run<R: Files + AllocGlobal, I: Source, O: Sink>(
 }
 
 fn main(rt: HostRuntime) -> ExitCode {
+    let _streams = hold_standard_streams(&rt);
     let mut sink = StdSink::new(io::writer(&rt));
     let mut source = StdSource::new(rt.stdin());
     let words = match words_of(&rt) {
