@@ -15,6 +15,8 @@ mod listings;
 #[cfg(test)]
 mod manifests;
 #[cfg(test)]
+mod memory;
+#[cfg(test)]
 mod real_files;
 #[cfg(test)]
 mod sizes;

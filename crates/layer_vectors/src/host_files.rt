@@ -281,9 +281,11 @@ fn folders(rt: HostRuntime) -> Result<(), Fail> {
     Ok(())
 }
 
-// A file of 40,000 bytes, of which the last is 2 and the others are 1.
+// A file of 70,000 bytes, of which the last is 2 and the others are 1.
 fn long_file(alloc: Global) -> Result<Vec<u8>, AllocError> {
-    let mut bytes = image(alloc, 1, 39_999)?;
+    let mut bytes = image(alloc, 1, 40_000)?;
+    let more = image(alloc, 1, 29_999)?;
+    bytes.extend_from_slice(more.as_slice())?;
     bytes.push(2)?;
     Ok(bytes)
 }
@@ -295,16 +297,16 @@ fn ranges_of_the_system(rt: HostRuntime) -> Result<(), Fail> {
     let bytes = long_file(rt.alloc())?;
     let mut files = HostFiles::new(&rt);
     same(&rt, files.write_whole(name, bytes.as_slice()), Ok(()));
-    let mut list = with_room(rt.alloc(), b"old ", 39_998)?;
+    let mut list = with_room(rt.alloc(), b"old ", 69_998)?;
     same(
         &rt,
-        files.read_onto(name, 3, 39_998, &mut list),
+        files.read_onto(name, 3, 69_998, &mut list),
         Err(Failed),
     );
     same(&rt, list.as_slice(), b"old ".as_slice());
-    let mut list = with_room(rt.alloc(), b"old ", 39_998)?;
-    same(&rt, files.read_onto(name, 2, 39_998, &mut list), Ok(()));
-    same(&rt, list.len(), 40_002);
+    let mut list = with_room(rt.alloc(), b"old ", 69_998)?;
+    same(&rt, files.read_onto(name, 2, 69_998, &mut list), Ok(()));
+    same(&rt, list.len(), 70_002);
     same(&rt, list.as_slice().get(4).copied(), Some(1));
     same(&rt, list.as_slice().last().copied(), Some(2));
     fs::remove_file(&rt, name)?;

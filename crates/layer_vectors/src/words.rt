@@ -31,6 +31,8 @@ fn words_that_ask_for_something(rt: HostRuntime) -> Result<(), Fail> {
         "format --banks=4 5FF9EC0B-4D22-3E4D-A544-C39D81C73F0A:4294967295 p",
         "format tb-fw:0,tb-fw:0 --banks 2 p",
         "format -- dir:1 -p",
+        "soak 1 0",
+        "soak 4294967295 4294967295",
     ] {
         assert_eq!(rt; refusal(alloc, line)?, None, "{line:?}");
     }
@@ -45,7 +47,6 @@ fn words_that_ask_for_nothing(rt: HostRuntime) -> Result<(), Fail> {
         "help",
         "--help",
         "boot x",
-        "soak 1 1",
         "format tb-fw:1",
         "format a b",
         "format --banks 5 tb-fw:1 p",
@@ -56,6 +57,13 @@ fn words_that_ask_for_nothing(rt: HostRuntime) -> Result<(), Fail> {
         "format tb-fw:2, p",
         "format tb-fw:02 p",
         "format tb-fw:2:2 p",
+        "soak",
+        "soak 1",
+        "soak 1 2 3",
+        "soak 01 1",
+        "soak 4294967296 1",
+        "soak -1 1",
+        "soak x 1",
     ] {
         assert_eq!(rt; refusal(alloc, line)?, Some(UsageStop::Usage), "{line:?}");
     }
@@ -86,6 +94,18 @@ fn a_layout_has_its_rows(rt: HostRuntime) -> Result<(), Fail> {
     assert!(rt; Some(second.guid) == guid_named(b"5ff9ec0b-4d22-3e4d-a544-c39d81c73f0a"));
     assert!(rt; Some(third.guid) == guid_named(b"d6d0eea7-fcea-d54b-9782-9934f234b6e4"));
     same(&rt, [first.slots, second.slots, third.slots], [1, 2, 4]);
+    Ok(())
+}
+
+#[test]
+fn a_soak_has_its_numbers(rt: HostRuntime) -> Result<(), Fail> {
+    let alloc = rt.alloc();
+    let list = words(alloc, "soak 4294967295 7")?;
+    let Ok(Order::Soak { seed, rounds }) = fwu_order(alloc, list.as_slice()) else {
+        return Err(Fail::from("no order"));
+    };
+    same(&rt, seed, 4_294_967_295);
+    same(&rt, rounds, 7);
     Ok(())
 }
 

@@ -8,6 +8,13 @@ use std::test::Fail;
 const PACKAGE: &str =
     "010064aa7856341200000000000000004657554d414e49464553540000000001b000000000000000a00000000000000000000000000000005ff9ec0b4d223e4da544c39d81c73f0a500100000000000003000000000000000000000000000000d6d0eea7fcead54b97829934f234b6e45301000000000000050000000000000000000000000000000000000000000000000000000000000058010000000000000000000000000000000000000000000046574d460100000001000000020000005ff9ec0b4d223e4da544c39d81c73f0a0300000007000000ba7816bf8f01cfea414140de5dae2223b00361a396177a9cb410ff61f20015add6d0eea7fcead54b97829934f234b6e405000000090000002cf24dba5fb0a30e26e83b2ac5b9e29e1b161e5c1fa7425e73043362938b9824dfb762568ec809e6a8e136de9bae264bf9ebe5fecc8f297f2f37b0393cbb827361626368656c6c6f";
 
+/// The same package with this manifest of the two images.
+pub fn package_of(alloc: Global, manifest: &str) -> Result<Vec<u8>, Fail> {
+    let mut bytes = hex::decode(alloc, PACKAGE)?;
+    put(alloc, &mut bytes, 176, manifest)?;
+    Ok(bytes)
+}
+
 // A blank flash of so many blocks, formatted with the package, of which one byte may be another.
 fn format(alloc: Global, words: &str, blocks: u32, changed: &str) -> Result<Ran, Fail> {
     let mut package = hex::decode(alloc, PACKAGE)?;

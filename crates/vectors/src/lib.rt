@@ -14,6 +14,10 @@ mod runs;
 #[cfg(test)]
 mod scripts;
 #[cfg(test)]
+mod sendings;
+#[cfg(test)]
+mod soaks;
+#[cfg(test)]
 mod statuses;
 #[cfg(test)]
 mod tables;

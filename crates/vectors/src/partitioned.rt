@@ -15,11 +15,11 @@ use std::test::Fail;
 
 const BOOT1: &str = "boot bank=0 version=1 trials=0 counter=1\n";
 
-// The blocks of both headers, and those behind blocks 1 to 7 of the flash.
-const GUARDED: [u32; 9] = [1, 6, 7, 8, 9, 10, 25, 26, 39];
+/// The blocks of both headers, and those behind blocks 1 to 7 of the flash.
+pub const GUARDED: [u32; 9] = [1, 6, 7, 8, 9, 10, 25, 26, 39];
 
-// A device with these bytes, off, with nothing armed. Of it no more is told, so that goals stay small.
-fn device(
+/// A device with these bytes, off, with nothing armed. Of it no more is told, so that goals stay small.
+pub fn device(
     alloc: Global,
     image: Vec<u8>,
     guarded: &[u32],
@@ -58,7 +58,8 @@ struct Ran {
     image: Vec<u8>,
 }
 
-fn image_of(alloc: Global, flash: MemoryFlash) -> Result<Vec<u8>, Fail> {
+/// The bytes of a device once it has power.
+pub fn image_of(alloc: Global, flash: MemoryFlash) -> Result<Vec<u8>, Fail> {
     let mut flash = flash;
     if !flash.is_on() {
         flash.power_on();

@@ -1,0 +1,181 @@
+//! Want of memory at each text for the sink, and at each file that is written: the tool ends with 9, and no file changes but those
+//! that its words name.
+ghost use Rattle.std.specs.Prelude.{◌≡◌, false, true, refl, None, Some};
+ghost use Rattle.host_io.specs.Contents.{bytes_in};
+
+use crate::fixtures::{files_of, same, words};
+use fip_tool::fip_top;
+use host_io::{Failed, Files, MemoryFiles, MemorySource, Sink, WriteStop};
+use std::alloc::{AllocError, Global};
+use std::test::Fail;
+
+// A sink that has memory for so many texts.
+#[derive(Drop)]
+struct ShortSink {
+    texts: u32,
+}
+
+impl Sink for ShortSink {
+    ghost tells = { false };
+
+    ghost steady = { λ _. refl };
+
+    ghost taken = { λ _. None };
+
+    ghost faults = { λ _. 0 };
+
+    fn put(&mut self, _bytes: &[u8]) -> Result<(), WriteStop> {
+        if self.texts == 0 {
+            return Err(WriteStop::NoMemory);
+        }
+        self.texts -= 1;
+        Ok(())
+    }
+}
+
+// Files that have memory for so many writes.
+#[derive(Drop)]
+struct ShortFiles {
+    inner: MemoryFiles,
+    writes: u32,
+}
+
+impl Files for ShortFiles {
+    ghost tells = { true };
+
+    ghost steady = { λ _. refl };
+
+    ghost contents = { λ f. Some (bytes_in f.inner.files) };
+
+    ghost faults = { λ f. f.inner.calls.faults };
+
+    fn size(&mut self, name: &str) -> Result<Option<u64>, Failed> {
+        self.inner.size(name)
+    }
+
+    fn read_at(&mut self, name: &str, at: u64, out: &mut [u8]) -> Result<(), Failed> {
+        self.inner.read_at(name, at, out)
+    }
+
+    fn read_onto(
+        &mut self,
+        name: &str,
+        at: u64,
+        count: usize,
+        out: &mut Vec<u8>,
+    ) -> Result<(), Failed> {
+        self.inner.read_onto(name, at, count, out)
+    }
+
+    fn write_whole(&mut self, name: &str, bytes: &[u8]) -> Result<(), WriteStop> {
+        if self.writes == 0 {
+            return Err(WriteStop::NoMemory);
+        }
+        self.writes -= 1;
+        self.inner.write_whole(name, bytes)
+    }
+}
+
+// A line of words, for how many texts and for how many writes there is memory, its status, and whether `a.fip`, `b.fip`, and the two
+// files of the payloads of `b.fip` are there then.
+type Case = (&'static str, u32, u32, u8, [bool; 4]);
+
+const CASES: [Case; 10] = [
+    (
+        "create a.fip tb-fw=h.bin nt-fw=s3.bin",
+        9,
+        0,
+        9,
+        [false, true, false, false],
+    ),
+    (
+        "create a.fip tb-fw=h.bin nt-fw=s3.bin",
+        0,
+        9,
+        9,
+        [true, true, false, false],
+    ),
+    (
+        "create a.fip tb-fw=h.bin nt-fw=s3.bin",
+        1,
+        1,
+        0,
+        [true, true, false, false],
+    ),
+    ("info b.fip", 0, 0, 9, [false, true, false, false]),
+    ("info b.fip", 1, 0, 0, [false, true, false, false]),
+    ("unpack b.fip x", 9, 0, 9, [false, true, false, false]),
+    ("unpack b.fip x", 9, 1, 9, [false, true, true, false]),
+    ("unpack b.fip x", 0, 9, 9, [false, true, true, false]),
+    ("unpack b.fip x", 1, 9, 9, [false, true, true, true]),
+    ("unpack b.fip x", 2, 2, 0, [false, true, true, true]),
+];
+
+const NAMES: [&str; 4] = [
+    "a.fip",
+    "b.fip",
+    "x5ff9ec0b-4d22-3e4d-a544-c39d81c73f0a.bin",
+    "xd6d0eea7-fcea-d54b-9782-9934f234b6e4.bin",
+];
+
+// The status of a line of words.
+fn status_of(
+    alloc: Global,
+    line: &str,
+    files: &mut ShortFiles,
+    texts: u32,
+) -> Result<u8, AllocError> {
+    let list = words(alloc, line)?;
+    let mut source = MemorySource::new(Vec::new(alloc), Vec::new(alloc));
+    let mut sink = ShortSink { texts };
+    Ok(fip_top(alloc, list.as_slice(), files, &mut source, &mut sink))
+}
+
+// The payloads, and `b.fip` of both.
+fn with_package(alloc: Global, writes: u32) -> Result<ShortFiles, AllocError> {
+    let named: [(&str, &[u8]); 2] = [("h.bin", b"hello"), ("s3.bin", b"xyz")];
+    let mut files = ShortFiles {
+        inner: files_of(alloc, &named, Vec::new(alloc))?,
+        writes: 1,
+    };
+    status_of(
+        alloc,
+        "create b.fip tb-fw=h.bin nt-fw=s3.bin",
+        &mut files,
+        1,
+    )?;
+    files.writes = writes;
+    Ok(files)
+}
+
+// Whether the files of the payloads have these, and each of the others is there exactly where that is said. Both packages are the same.
+fn are_so(files: &MemoryFiles, there: [bool; 4]) -> bool {
+    let hello = Some(b"hello".as_slice());
+    let package = files.get("b.fip");
+    for i in 0..4 {
+        if files.get(NAMES[i]).is_some() != there[i] {
+            return false;
+        }
+    }
+    files.get("h.bin") == hello
+        && files.get("s3.bin") == Some(b"xyz".as_slice())
+        && (!there[0] || files.get("a.fip") == package)
+        && (!there[2] || files.get(NAMES[2]) == hello)
+}
+
+// Whether the tool ends so, over files as they are said to be.
+fn is_so(alloc: Global, case: &Case) -> Result<bool, Fail> {
+    let (line, texts, writes, status, there) = *case;
+    let mut files = with_package(alloc, writes)?;
+    let ended = status_of(alloc, line, &mut files, texts)?;
+    Ok(ended == status && are_so(&files.inner, there))
+}
+
+#[test]
+fn want_of_memory_ends_with_nine(rt: HostRuntime) -> Result<(), Fail> {
+    let alloc = rt.alloc();
+    for (i, case) in CASES.iter().enumerate() {
+        same(&rt, (i, is_so(alloc, case)?), (i, true));
+    }
+    Ok(())
+}
