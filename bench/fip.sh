@@ -1,7 +1,8 @@
 #!/bin/sh
 # `fip` beside fiptool (Debian's arm-trusted-firmware-tools), where it is installed, in one run: processor time and peak memory of
 # `create`, `update`, `remove` and `unpack` over three payloads that make a package of nearly 64 MiB, the time of `info`, and the
-# start-up. `capsule` and `package` of that package beside a copy of it through one buffer of its size, by dd. And what `fip` takes
+# start-up. `capsule` and `package` of that package beside two copies of it through one buffer of its size, by one read and one
+# write: by Python, and by dd, whose buffer begins at a page. And what `fip` takes
 # to refuse by sizes alone: an image of 3 GiB, and a package and a capsule of 60 MiB whose 64 entries or items overlap.
 set -eu
 cd "$(dirname "$0")/.."
@@ -59,9 +60,34 @@ if shutil.which("fiptool"):
     beside_fiptool()
 else:
     print("skipped beside fiptool, which is not installed")
-copy = ["dd", "if=our.fip", "of=copy.bin", f"bs={size}", "count=1", "status=none"]
-compare("capsule", [fip, "capsule", "our.fip", "our.cap"], copy, "copy")
-compare("package", [fip, "package", "our.cap", "again.fip"], copy, "copy")
+COPY = """
+import os, sys, time
+start = time.process_time()
+source = os.open(sys.argv[1], os.O_RDONLY)
+data = os.read(source, os.fstat(source).st_size)
+target = os.open(sys.argv[2], os.O_WRONLY | os.O_CREAT | os.O_TRUNC, 0o644)
+assert os.write(target, data) == len(data)
+print(time.process_time() - start)
+"""
+
+
+def plain_copy():
+    """Processor seconds of one read and one write of the package, without the start of the interpreter."""
+    return float(subprocess.run([sys.executable, "-c", COPY, "our.fip", "copy.bin"], check=True, capture_output=True).stdout)
+
+
+def beside_copies(title, ours, rounds=20):
+    """The least of so many rounds of a command and of both copies, in turns."""
+    dd = ["dd", "if=our.fip", "of=copy.bin", f"bs={size}", "count=1", "status=none"]
+    costs = [(cost(ours), plain_copy(), cost(dd)) for _ in range(rounds)]
+    one, other = min(round[0] for round in costs), min(round[2] for round in costs)
+    plain = min(round[1] for round in costs)
+    print(f"{title}: fip {one[0] * 1000:.1f} ms, {one[1] / 2**20:.0f} MiB; copy {plain * 1000:.1f} ms, ratio {one[0] / plain:.2f};"
+          f" dd {other[0] * 1000:.1f} ms, ratio {one[0] / other[0]:.2f}")
+
+
+beside_copies("capsule", [fip, "capsule", "our.fip", "our.cap"])
+beside_copies("package", [fip, "package", "our.cap", "again.fip"])
 subprocess.run(["cmp", "our.fip", "again.fip"], check=True)
 
 

@@ -1,14 +1,17 @@
 #!/bin/sh
 # Proves the crates that both programs stand on, on all processors, builds the programs, and puts them into bin/ as fwu and fip.
 # It prints a line for each crate as soon as that is done. README tells how long it takes.
+# One rt works in a checkout at a time, so each processor gets a copy of the crates, and takes what was proved in the others. What
+# was proved is kept in the folders out/ of this checkout.
 set -eu
 cd "$(dirname "$0")/.."
 command -v rt >/dev/null || { echo "rt isn't installed: the toolchain that README names" >&2; exit 1; }
+mkdir -p bin
+copies=$(mktemp -d "$PWD/bin/copies.XXXXXX")
 logs=$(mktemp -d)
-trap 'rm -rf "$logs"' EXIT
+trap 'rm -rf "$logs" "$copies"' EXIT
 workers=$(nproc)
 began=$(date +%s)
-mkdir -p bin
 
 # The crates that the programs stand on, each with those of this repository that it names, as "crate: names": first the one
 # with the longest way up to a program.
@@ -25,6 +28,7 @@ order() {
             visit("fwu_prog", 0)
             visit("fip_prog", 0)
             for (crate in tall) {
+                if (crate ~ /_prog$/) continue
                 count = split(names[crate], list, " ")
                 own = ""
                 for (i = 1; i <= count; i++) if (list[i] in names) own = own " " list[i]
@@ -40,46 +44,52 @@ are_done() {
     done
 }
 
-# Builds a program over what was proved: rt runs it once, on nothing, and that tells nothing here.
-build() {
-    rm -f "crates/$1/out/$1"
-    (cd "crates/$1" && rt run </dev/null) || true
-    cp "crates/$1/out/$1" "bin/$2"
+# Makes a copy of the crates for each processor.
+copy_crates() {
+    for number in $(seq "$workers"); do
+        mkdir "$copies/$number"
+        tar -cf - --exclude=crates/*/out crates.txt crates | tar -xf - -C "$copies/$number"
+        : >"$logs/$number.free"
+    done
 }
 
-# Proves a crate, or builds a program, whose libraries are done.
-carry_out() {
-    case $1 in
-        fwu_prog) build fwu_prog fwu ;;
-        fip_prog) build fip_prog fip ;;
-        *) cd "crates/$1" && rt check --jobs 1 ;;
-    esac
-}
-
-# The same, with a mark for how it ended.
+# Proves a crate in a copy, with so many jobs, and builds its library, with a mark for how it ended. Then the copy is free.
 attempt() {
-    if (carry_out "$1") >"$logs/$1.log" 2>&1; then
+    echo "$2" >"$logs/$1.copy"
+    if (cd "$copies/$2/crates/$1" && rt lib --jobs "$3") >"$logs/$1.log" 2>&1; then
         mv "$logs/$1.running" "$logs/$1.done"
     else
         mv "$logs/$1.running" "$logs/$1.failed"
     fi
-}
-
-# Starts the first crate of the order whose turn has come. False where there is none.
-start_one() {
-    while IFS=: read -r crate names; do
-        [ -e "$logs/$crate.begun" ] && continue
-        are_done "$names" || continue
-        : >"$logs/$crate.begun"
-        : >"$logs/$crate.running"
-        attempt "$crate" &
-        return 0
-    done <"$logs/order"
-    return 1
+    : >"$logs/$2.free"
 }
 
 count() {
     find "$logs" -name "*.$1" | wc -l
+}
+
+# The crates of the order whose turn has come.
+ready() {
+    while IFS=: read -r crate names; do
+        [ -e "$logs/$crate.begun" ] && continue
+        if are_done "$names"; then echo "$crate"; fi
+    done <"$logs/order"
+}
+
+# Starts the first crate whose turn has come, in a copy that is free, with all processors that the others whose turn has come leave.
+# False where there is none.
+start_one() {
+    crates=$(ready)
+    first=$(echo "$crates" | head -1)
+    free=$(count free)
+    [ -n "$first" ] && [ "$free" -gt 0 ] || return 1
+    jobs=$((free - $(echo "$crates" | wc -l) + 1))
+    [ "$jobs" -ge 1 ] || jobs=1
+    for mark in "$logs"/*.free; do break; done
+    rm "$mark"
+    : >"$logs/$first.begun"
+    : >"$logs/$first.running"
+    attempt "$first" "$(basename "$mark" .free)" "$jobs" &
 }
 
 # Prints each crate that was done since the last time.
@@ -104,13 +114,34 @@ end_at_failure() {
     done
 }
 
+# Moves what was proved in a copy here, where nothing was proved before.
+keep_work() {
+    while IFS=: read -r crate _; do
+        [ -e "crates/$crate/out" ] || mv "$copies/$(cat "$logs/$crate.copy")/crates/$crate/out" "crates/$crate/out"
+    done <"$logs/order"
+}
+
+# Builds a program over what was proved: rt runs it once, on nothing, and that tells nothing here.
+build() {
+    rm -f "crates/$1/out/$1"
+    (cd "crates/$1" && rt run </dev/null) >"$logs/$1.log" 2>&1 || true
+    if ! cp "crates/$1/out/$1" "bin/$2"; then
+        tail -40 "$logs/$1.log"
+        exit 1
+    fi
+}
+
+copy_crates
 order >"$logs/order"
 all=$(wc -l <"$logs/order")
 echo "proving $all crates on $workers processors"
 while [ "$(count told)" -lt "$all" ]; do
-    while [ "$(count running)" -lt "$workers" ] && start_one; do :; done
+    while start_one; do :; done
     sleep 1
     tell
     end_at_failure
 done
+keep_work
+build fwu_prog fwu
+build fip_prog fip
 echo "built bin/fwu and bin/fip"

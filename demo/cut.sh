@@ -94,3 +94,7 @@ $fwu flash.img run <stage.script
 printf x | dd of=flash.img bs=1 seek=$((16 * 4096)) conv=notrunc 2>/dev/null
 say "fwu flash.img boot, with one byte of the image abd changed"
 $fwu flash.img boot || echo "status $?"
+
+# A hundred rounds of updates and power cuts that are drawn from a number, on a flash in memory.
+say fwu - soak 1 100
+$fwu - soak 1 100
