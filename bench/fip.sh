@@ -2,7 +2,7 @@
 # `fip` beside fiptool (Debian's arm-trusted-firmware-tools), where it is installed, in one run: processor time and peak memory of
 # `create`, `update`, `remove` and `unpack` over three payloads that make a package of nearly 64 MiB, the time of `info`, and the
 # start-up. `capsule` and `package` of that package beside two copies of it through one buffer of its size, by one read and one
-# write: by Python, and by dd, whose buffer begins at a page. And what `fip` takes
+# write: through a buffer of malloc, as fip's are, and by dd, whose buffer begins at a page. And what `fip` takes
 # to refuse by sizes alone: an image of 3 GiB, and a package and a capsule of 60 MiB whose 64 entries or items overlap.
 set -eu
 cd "$(dirname "$0")/.."
@@ -61,33 +61,40 @@ if shutil.which("fiptool"):
 else:
     print("skipped beside fiptool, which is not installed")
 COPY = """
-import os, sys, time
-start = time.process_time()
-source = os.open(sys.argv[1], os.O_RDONLY)
-data = os.read(source, os.fstat(source).st_size)
-target = os.open(sys.argv[2], os.O_WRONLY | os.O_CREAT | os.O_TRUNC, 0o644)
-assert os.write(target, data) == len(data)
-print(time.process_time() - start)
+#include <fcntl.h>
+#include <stdlib.h>
+#include <sys/stat.h>
+#include <unistd.h>
+
+int main(int count, char **names) {
+    struct stat found;
+    int source = open(names[1], O_RDONLY), target = open(names[2], O_WRONLY | O_CREAT | O_TRUNC, 0644);
+    if (count != 3 || fstat(source, &found)) return 1;
+    char *bytes = malloc(found.st_size);
+    return !bytes || read(source, bytes, found.st_size) != found.st_size || write(target, bytes, found.st_size) != found.st_size;
+}
 """
 
 
 def plain_copy():
-    """Processor seconds of one read and one write of the package, without the start of the interpreter."""
-    return float(subprocess.run([sys.executable, "-c", COPY, "our.fip", "copy.bin"], check=True, capture_output=True).stdout)
+    """The words that copy the package by one read and one write through one buffer of malloc."""
+    open("copy.c", "w").write(COPY)
+    subprocess.run([os.environ.get("CC", "cc"), "-O2", "-o", "copy", "copy.c"], check=True)
+    return ["./copy", "our.fip", "copy.bin"]
 
 
-def beside_copies(title, ours, rounds=20):
+def beside_copies(title, ours, plain, rounds=40):
     """The least of so many rounds of a command and of both copies, in turns."""
     dd = ["dd", "if=our.fip", "of=copy.bin", f"bs={size}", "count=1", "status=none"]
-    costs = [(cost(ours), plain_copy(), cost(dd)) for _ in range(rounds)]
-    one, other = min(round[0] for round in costs), min(round[2] for round in costs)
-    plain = min(round[1] for round in costs)
-    print(f"{title}: fip {one[0] * 1000:.1f} ms, {one[1] / 2**20:.0f} MiB; copy {plain * 1000:.1f} ms, ratio {one[0] / plain:.2f};"
-          f" dd {other[0] * 1000:.1f} ms, ratio {one[0] / other[0]:.2f}")
+    costs = [(cost(ours), cost(plain), cost(dd)) for _ in range(rounds)]
+    least = [min(round[i][0] for round in costs) for i in range(3)]
+    print(f"{title}: fip {least[0] * 1000:.1f} ms, {costs[0][0][1] / 2**20:.0f} MiB; copy {least[1] * 1000:.1f} ms, ratio"
+          f" {least[0] / least[1]:.2f}; dd {least[2] * 1000:.1f} ms, ratio {least[0] / least[2]:.2f}")
 
 
-beside_copies("capsule", [fip, "capsule", "our.fip", "our.cap"])
-beside_copies("package", [fip, "package", "our.cap", "again.fip"])
+copy = plain_copy()
+beside_copies("capsule", [fip, "capsule", "our.fip", "our.cap"], copy)
+beside_copies("package", [fip, "package", "our.cap", "again.fip"], copy)
 subprocess.run(["cmp", "our.fip", "again.fip"], check=True)
 
 
