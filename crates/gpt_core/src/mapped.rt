@@ -162,6 +162,8 @@ impl<D: Flash, K: Start> Flash for Mapped<D, K> {
 
     ghost sound = { λ m tells. view_sound m.places (D.blocks m.flash) (D.on m.flash) (D.told m.flash) m.fits (D.sound m.flash tells) };
 
+    ghost ahead = { λ m. D.ahead m.flash };
+
     fn blocks(&self) -> u32 {
         self.places.store_blocks
     }

@@ -1,6 +1,7 @@
 //! Verdicts on the banks of a device that is only read.
 
-ghost use Rattle.std.specs.Prelude.{◌<◌, Bool, false, List, [], IsTrue};
+ghost use Rattle.std.specs.Prelude.{◌<◌, ◌≤◌, Bool, false, List, [], IsTrue};
+ghost use Rattle.std.specs.Option.{ForSome};
 ghost use Rattle.std.proofs.Common.{lit≤};
 ghost use Rattle.std.proofs.lemmas.Bool.{false≢true};
 ghost use Rattle.flash_core.specs.Told.{fresh};
@@ -17,6 +18,7 @@ struct Rom {
     on: bool,
     arming: Option<Arming>,
     counts: Counts,
+    ghost ahead: { ForSome arming (λ armed. 1 ≤ armed.n) },
 }
 
 fn byte_at(at: u32) -> u8 {
@@ -112,6 +114,8 @@ impl Flash for Rom {
     ghost sizes = { λ rom. (lit≤ tt, lit≤ tt) };
 
     ghost sound = { λ rom tells. absurd (false≢true tells) };
+
+    ghost ahead = { λ rom. rom.ahead };
 }
 
 // It refuses each manifest.
