@@ -64,7 +64,8 @@ pub record CarriedOut (p : Plan) (bytes : List ℕ) (old new : Moment) : Type 0 
   pub staged_are : IsTrue old.tells
       → MeansSame new.fields.session (staged_after p bytes (staged_bytes old.fields old.told.now)) (staged_bytes new.fields new.told.now)
 
--- What is opened for reading is there, and has its total. A staging begins only where it may: from the active bank, which is accepted, into an invalid one.
+-- What is opened for reading is there, and has its total. A staging begins only where it may: from the active bank, which is
+-- accepted, into an invalid one.
 abbrev pub MayKeep : Bool → Fields → Plan → Type 0
 MayKeep tells f (plan.Begin store) =
     (f.boot ≡ f.meta.meta.active) × IsTrue (is_invalid (state_at f.meta.meta (target f)))

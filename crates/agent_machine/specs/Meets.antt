@@ -105,8 +105,8 @@ may_try s Off = false
 may_try s (On boot (Some parts) handles) = false
 may_try s (On boot None handles) = may_leave s boot && has_other s
 
--- Going back is decided by the verdict on a bank. Where the content isn't told that isn't known: but what the session and the numbers refuse is refused,
--- and an answer goes back.
+-- Going back is decided by the verdict on a bank. Where the content isn't told that isn't known: but what the session and the
+-- numbers refuse is refused, and an answer goes back.
 abbrev pub GoesBack : Result (Unit {0}) Stop → State → Session → Moment → Type 0
 GoesBack (Ok value) s x new = IsTrue (may_try s x) × Shows new (after s (Back ∷ [])) x
 GoesBack (Err (stop.Status st)) s x new = (st ≡ status.Denied) × Shows new s x

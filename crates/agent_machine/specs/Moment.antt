@@ -15,7 +15,8 @@ pub record Moment : Type 0 where
   pub told : Told
   pub fields : Fields
 
--- The numbers of the state are those that the fields have, and the bank that was started holds images of the lengths that they have.
+-- The numbers of the state are those that the fields have,
+-- and the bank that was started holds images of the lengths that they have.
 pub record SpeaksOf (f : Fields) (s : State) : Type 0 where
   pub banks : length s.banks ≡ f.layout.banks
   pub meta : f.meta.meta ≡ meta_in s

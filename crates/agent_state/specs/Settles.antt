@@ -115,7 +115,8 @@ meta_settled k m (decision.ByVerdict b) = m
 abbrev pub with_bytes : (ℕ → List ℕ) → ℕ → List ℕ → ℕ → List ℕ
 with_bytes staged image bytes i = if i == image then bytes else staged i
 
--- the bytes of the staged images after a plan: a write puts bytes behind those of its image, and an image that is opened for writing has none
+-- the bytes of the staged images after a plan: a write puts bytes behind those of its image,
+-- and an image that is opened for writing has none
 abbrev pub staged_after : Plan → List ℕ → (ℕ → List ℕ) → ℕ → List ℕ
 staged_after (plan.Write number image at n) bytes staged = with_bytes staged image (staged image ++ bytes)
 staged_after (plan.Open number (Some image) op.Write total) bytes staged = with_bytes staged image []
@@ -126,7 +127,8 @@ abbrev pub HasTotal : Setting → State → ℕ → Plan → Type 0
 HasTotal E s boot (plan.Open number image op.Read total) = total ≡ length (content E s boot image)
 HasTotal E s boot other = Unit {0}
 
--- The machine that was spoken of is spoken of after the plan: its state is that after the moves, and the session that is meant is the next one.
+-- The machine that was spoken of is spoken of after the plan:
+-- its state is that after the moves, and the session that is meant is the next one.
 pub record SettlesIn (E : Setting) (s : State) (passes : List ℕ → Bool) (counter boot : ℕ) (staged : ℕ → List ℕ) (bytes : List ℕ) (p : Plan) (k : Kept) (m new_meta : MetaRead) (new : Kept) : Type 0 where
   pub spoken : Speaks E (after s (planned_in E s (session_meant k boot staged) bytes p).moves) passes new_meta counter new boot (staged_after p bytes staged)
   pub next : session_meant new boot (staged_after p bytes staged) ≡ (planned_in E s (session_meant k boot staged) bytes p).next

@@ -150,7 +150,8 @@ impl<D: Flash> Booted<D> {
         self.chosen.lengths.get(image as usize)
     }
 
-    /// The lengths in bytes of the images of the bank that was started, one for each image of the layout, at the front of 16 numbers.
+    /// The lengths in bytes of the images of the bank that was started, one for each image of the layout,
+    /// at the front of 16 numbers.
     pub fn lengths(&self) -> [u32; 16]
         ensures front { let b = started self.now in
             take (length b.lengths) result ≡ b.lengths }

@@ -110,7 +110,8 @@ Printed was text sink-rose piece (Err SinkFault) = sink-rose × (k : ℕ) × App
 Printed was text sink-rose piece (Err NoMemory) = text ≡ was
 Printed was text sink-rose piece (Err stop) = ⊥
 
--- how many calls of the sink have failed after a command that ended so: one more where the sink took no more, and else as many as before
+-- how many calls of the sink have failed after a command that ended so:
+-- one more where the sink took no more, and else as many as before
 abbrev pub sink_failed : Stop → ℕ → ℕ
 sink_failed SinkFault before = raised before
 sink_failed s before = before

@@ -114,7 +114,8 @@ given_table given =
     (if nat_lt source_limit (length given) then Err stop.TooLong
     else after (table_of (toc_of given)) (λ t. Ok (t, length given)))
 
--- But for the last read, of at most 4096 bytes, the bytes that were read were not too many, and had no fault that no further bytes mend.
+-- But for the last read, of at most 4096 bytes, the bytes that were read were not too many,
+-- and had no fault that no further bytes mend.
 pub record StopsInTime (given : List ℕ) : Type 0 where
   pub before : List ℕ
   pub last : List ℕ

@@ -2,7 +2,8 @@
 use Rattle.std.specs.Prelude.{ℕ, Bool, false, ◌&&◌, if◌then◌else◌, Option, None, Some, slice_index}
 use Rattle.flash_core.specs.Told.{Told, Operation, is_within, finished}
 
--- So many of the first bytes of the operation under way take effect, and the other dirty ranges go back to what was stable, or keep what is now.
+-- So many of the first bytes of the operation under way take effect,
+-- and the other dirty ranges go back to what was stable, or keep what is now.
 pub record Loss : Type 0 where
   pub landed : ℕ
   pub back : Bool

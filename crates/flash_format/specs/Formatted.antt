@@ -28,7 +28,8 @@ empty_bank L = record { state = Invalid; bits = replicate (length L.rows) false;
 abbrev pub first_state : Layout → List (List ℕ) → State
 first_state L p = record { form = 2; active = 0; previous = 0; banks = full_bank L p ∷ replicate (L.banks - 1) (empty_bank L); trials = 0; counter = 0 }
 
--- the flash has the layout and its first metadata, with nothing dirty, and bank 0 holds a complete package of this version that passes
+-- the flash has the layout and its first metadata, with nothing dirty,
+-- and bank 0 holds a complete package of this version that passes
 pub record IsFormatted (passes : List ℕ → Bool) (L : Layout) (v : ℕ) (t : Told) : Type 0 where
   pub layout : layout_seen t.now ≡ Ok L
   pub replicas : BothHold L (in_version 2 (first_meta L)) t.now
@@ -41,8 +42,9 @@ pub record IsFormatted (passes : List ℕ → Bool) (L : Layout) (v : ℕ) (t : 
   pub shows : seen t.now ≡ Some (first_state L installed)
   pub sound : (E : Setting) → E.layout ≡ L → E.passes ≡ passes → SoundFlash E t.now
 
--- The images stand in the slots of bank 0, with erased bytes behind them. Where they are a complete package, it is the one that bank 0 holds.
--- (Where an image has more bytes than its row says, the package in bank 0 has the first of them, and the images themselves are none.)
+-- The images stand in the slots of bank 0, with erased bytes behind them. Where they are a complete package, it is the one that
+-- bank 0 holds. (Where an image has more bytes than its row says, the package in bank 0 has the first of them,
+-- and the images themselves are none.)
 pub record HoldsImages (L : Layout) (images : List (List ℕ)) (image : List ℕ) : Type 0 where
   pub slots : (i : ℕ) → i < length L.rows
       → slot L image 0 i ≡ slice_index_or images i [] ++ blank (slot_bytes L i - length (slice_index_or images i []))

@@ -116,12 +116,14 @@ fn carry_out<D: Flash, H: Files, V: Verifier>(
     finish(flash, &plan.layout, verifier)
 }
 
-/// Formats a flash with the layout of these rows and banks, and a firmware image package in bank 0, which is accepted with all bits set.
+/// Formats a flash with the layout of these rows and banks, and a firmware image package in bank 0,
+/// which is accepted with all bits set.
 ///
 /// Before the flash is touched the rows, banks and blocks are tested, then the file's table, then its images in the order of the
 /// layout. Then blocks 0 to the last bank's end are erased, the images are written to the starts of their slots in bank 0, and
-/// bank 0 is tested as a boot does, with a counter of 0. Only then the two replicas are written, and after them the layout in block 0.
-/// So a flash that was touched has no layout until it is formatted whole. Of a loss of power while blocks are erased nothing is said.
+/// bank 0 is tested as a boot does, with a counter of 0. Only then the two replicas are written, and after them the layout in
+/// block 0. So a flash that was touched has no layout until it is formatted whole.
+/// Of a loss of power while blocks are erased nothing is said.
 pub fn format<D: Flash, H: Files, V: Verifier>(
     flash: &mut D,
     rows: &[ImageRow],

@@ -68,7 +68,8 @@ pub record HaveOneSpelling : Type 0 where
 
 -- ---- marks
 
--- The number of marks by the granules: each one before it is a mark, the one at it is blank, and that fixes it. A block is tidy where those after it are blank.
+-- The number of marks by the granules: each one before it is a mark, the one at it is blank, and that fixes it. A block is tidy
+-- where those after it are blank.
 pub record MarksAreCounted : Type 0 where
   pub limit : (image : List ℕ) (b most : ℕ) → marks image b most ≤ most
   pub before : (image : List ℕ) (b most j : ℕ) → j < marks image b most → IsFalse (is_blank (granule b j image))

@@ -1,10 +1,9 @@
 //! The program `fwu`: what its words ask for is done on the flash in a file, and each line goes to the standard output.
 //!
-//! The first word names an existing file of 8 to 65,536 blocks of 4096 bytes, or is `-`, a blank flash in memory of 64 blocks. Where
-//! it is neither, or the file can't be opened for reading and writing, the program prints `flash cannot be used` and ends with 5. The
-//! other words are those of `fwu_top`, whose status is the program's. Without any word the program runs the script that it reads from
-//! the standard input on a blank flash, as `- run` does. A standard stream that is
-//! closed fails at its first use.
+//! The first word names an existing file of 8 to 65,536 blocks of 4096 bytes, or is `-`, a blank flash in memory of 64 blocks.
+//! Where it is neither, or the file can't be opened for reading and writing, the program prints `flash cannot be used` and ends
+//! with 5. The other words are those of `fwu_top`, whose status is the program's. Without any word the program runs the script that
+//! it reads from the standard input on a blank flash, as `- run` does. A standard stream that is closed fails at its first use.
 #![tactic(auto)]
 
 ghost use Rattle.std.specs.Prelude.{◌≡◌, IfSome, codes};
@@ -24,8 +23,8 @@ use std::{env, io};
 /// How many blocks the flash in memory has.
 const BLANK_BLOCKS: u32 = 64;
 
-/// The root folder, opened once for each standard stream. Where a stream is closed, the system gives its place to the next file that is
-/// opened: to this one, which can be neither read nor written, and not to the flash, into which lines would be written.
+/// The root folder, opened once for each standard stream. Where a stream is closed, the system gives its place to the next file
+/// that is opened: to this one, which can be neither read nor written, and not to the flash, into which lines would be written.
 fn hold_standard_streams<R: Files>(rt: &R) -> [Option<R::File>; 3] {
     [
         fs::open(rt, "/").ok(),

@@ -10,8 +10,8 @@ use Rattle.gen_core.specs.Rounds.{round_of, sizes_of, soak_rounds}
 use Rattle.gen_core.specs.Setup.{soak_layout}
 use Rattle.gen_core.specs.declared.rounds.Round.{Round}
 
--- The file is a package that installs these images on a flash of these image rows: no image of the layout is missing or larger than its
--- slot, no entry is skipped, and the images are complete, of this security version.
+-- The file is a package that installs these images on a flash of these image rows: no image of the layout is missing or larger than
+-- its slot, no entry is skipped, and the images are complete, of this security version.
 pub record Installs (rows : List ImageRow) (file : List ℕ) (images : List (List ℕ)) (security : ℕ) : Type 0 where
   pub toc : Toc
   pub table : toc_of file ≡ Ok toc
@@ -32,8 +32,8 @@ GeneratedAreComplete =
 abbrev pub LayoutsHaveImages : Type 0
 LayoutsHaveImages = (L : Layout) → IsTrue (fits_layout L) → IsTrue (are_images L.rows)
 
--- The package of each round of a soak stands under the round's name. The first package installs its images, of security version 1, and that
--- of a round its own.
+-- The package of each round of a soak stands under the round's name. The first package installs its images, of security version 1,
+-- and that of a round its own.
 pub record RoundsHavePackages : Type 0 where
   pub named : (seed n k : ℕ) (d : Round) → n < 4294967296 → k < n
       → packages_of (soak_rounds seed n) (file_name (k + 1)) ≡ Some (round_package (slice_index_or (soak_rounds seed n) k d))

@@ -28,8 +28,8 @@ ending_of (suc (suc (suc more))) = Previous
 abbrev pub draws_of : ℕ → ℕ
 draws_of x = if draw x 5 32 == 0 then 6 else 7
 
--- The round of a number, from the register as it is before its draws: two sizes, the security version, `now` or `trial`, a cut, and how
--- the round ends.
+-- The round of a number, from the register as it is before its draws: two sizes, the security version, `now` or `trial`, a cut, and
+-- how the round ends.
 unfoldable pub round_of : ℕ → ℕ → Round
 round_of x number = record {
   number = number;

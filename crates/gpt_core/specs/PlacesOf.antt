@@ -31,7 +31,8 @@ partition_at entries i = record {
 abbrev pub of_type : List ℕ → Table → List Partition
 of_type kind t = filter (λ q. same_bytes q.kind kind) (listed (number_of t) (partition_at t.entries))
 
--- its first block isn't after its last one, and both are usable in a device of so many blocks, whose copies have so many blocks of entries
+-- its first block isn't after its last one, and both are usable in a device of so many blocks,
+-- whose copies have so many blocks of entries
 abbrev pub is_usable : ℕ → ℕ → Partition → Bool
 is_usable blocks entry_blocks q =
     nat_le q.first q.last && nat_le (2 + entry_blocks) q.first && nat_le (q.last + 2 + entry_blocks) blocks

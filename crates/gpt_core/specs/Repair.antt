@@ -28,7 +28,8 @@ abbrev pub lowered_by : ℕ → Option Arming → Option Arming
 lowered_by writes None = None
 lowered_by writes (Some arming) = Some (record { n = arming.n - writes; k = arming.k })
 
--- how many erases and programs a repair of a table with so many blocks of entries takes: each block of the copy is erased and programmed
+-- how many erases and programs a repair of a table with so many blocks of entries takes:
+-- each block of the copy is erased and programmed
 abbrev pub writes_of : WhichTable → ℕ → ℕ
 writes_of Same entry_blocks = 0
 writes_of RepairPrimary entry_blocks = 2 + 2 * entry_blocks

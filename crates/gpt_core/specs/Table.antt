@@ -1,6 +1,6 @@
 -- GUID partition tables (UEFI) in the profile of this project: a sector is one block of 4096 bytes, each entry has 128 bytes.
--- A device has two copies of its table: the primary has its header in block 1 and its entries from block 2 on; the backup has its header
--- in the last block and its entries in the blocks before that.
+-- A device has two copies of its table: the primary has its header in block 1 and its entries from block 2 on; the backup has its
+-- header in the last block and its entries in the blocks before that.
 use Rattle.std.specs.Prelude.{if◌then◌else◌, ◌≡◌, ◌≢◌, ℕ, ◌+◌, ◌-◌, ◌*◌, ◌/◌, ◌≤◌, ◌&&◌, ◌==◌, Bool, nat_le, List, ◌++◌, length, Option, Some, None, IsTrue, codes, replicate}
 use Rattle.base_core.specs.Bytes.{num_at, part, le, same_bytes}
 use Rattle.base_core.specs.Block.{block}
@@ -94,7 +94,8 @@ copy_in copy blocks image =
 abbrev pub same_table : Table → Table → Bool
 same_table t u = same_bytes t.disk u.disk && (t.first == u.first) && (t.last == u.last) && same_bytes t.entries u.entries
 
--- the table that decides, of what the copies say, and what is to be repaired: the primary decides where it is valid, else the backup
+-- the table that decides, of what the copies say, and what is to be repaired:
+-- the primary decides where it is valid, else the backup
 abbrev pub deciding : Option Table → Option Table → Option (Table × WhichTable)
 deciding (Some t) (Some u) = Some (t, if same_table t u then Same else RepairBackup)
 deciding (Some t) None = Some (t, RepairBackup)

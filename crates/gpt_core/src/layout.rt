@@ -6,8 +6,8 @@ ghost use Rattle.gpt_core.specs.Places.{Fit, behind, byte_behind};
 use base_core::BLOCK_BYTES;
 use thiserror::Error;
 
-/// Where the blocks of a flash stand in a device: the store's first block and how many it has, and the first blocks of both metadata
-/// partitions.
+/// Where the blocks of a flash stand in a device: the store's first block and how many it has, and the first blocks of both
+/// metadata partitions.
 #[derive(Clone, Copy, Debug, PartialEq, Eq)]
 pub struct Places {
     pub store_first: u32,
@@ -39,8 +39,9 @@ impl Places {
     }
 }
 
-/// A table gives no places. NoStore: not exactly one partition is a store. Replicas: so many partitions are for metadata, and not two.
-/// TooSmall: the store has fewer than 8 or more than 65,536 blocks, or one of the three isn't in the usable blocks, or two share a block.
+/// A table gives no places. NoStore: not exactly one partition is a store. Replicas: so many partitions are for metadata, and not
+/// two. TooSmall: the store has fewer than 8 or more than 65,536 blocks, or one of the three isn't in the usable blocks, or two
+/// share a block.
 #[derive(Clone, Copy, Debug, PartialEq, Eq, Error)]
 pub enum PlaceFault {
     #[error("not exactly one partition is a store")]

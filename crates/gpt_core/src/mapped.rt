@@ -37,7 +37,8 @@ impl Start for Brand {
     ghost was = { fresh [] [] };
 }
 
-/// The flash that a device has at these places. Where nothing was dirty at the start, what else the device has stays as it was then.
+/// The flash that a device has at these places. Where nothing was dirty at the start,
+/// what else the device has stays as it was then.
 #[derive(Drop)]
 pub struct Mapped<D: Flash, K: Start> {
     flash: D,

@@ -116,8 +116,8 @@ pub fn write_entries<D: Flash>(flash: &mut D, first: u32, bytes: &[u8]) -> Resul
     flash.barrier()
 }
 
-/// Repairs a copy of a table, from its header and entries: the header's block is erased and settled, then the entries are written and
-/// settled, then the header.
+/// Repairs a copy of a table, from its header and entries: the header's block is erased and settled, then the entries are written
+/// and settled, then the header.
 pub fn repair_copy<D: Flash>(
     flash: &mut D,
     header: u32,

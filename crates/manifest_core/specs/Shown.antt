@@ -25,8 +25,8 @@ is_named i r = same_bytes i.guid r.guid
 abbrev pub is_within : ImageRow → model.Row → Bool
 is_within i r = nat_le r.size (4096 * i.slots)
 
--- The manifest has a row for each image but the first, of its type and within its slot: it is neither of a wrong count, nor of a wrong
--- order, nor too large.
+-- The manifest has a row for each image but the first, of its type and within its slot: it is neither of a wrong count, nor of a
+-- wrong order, nor too large.
 pub record Suits (images : List ImageRow) (m : model.Manifest) : Type 0 where
   pub count : length m.rows + 1 ≡ length images
   pub order : IsTrue (model.all_paired is_named (drop 1 images) m.rows)

@@ -88,8 +88,9 @@ fn record_place<D: Flash>(flash: &mut D, buf: &mut [u8]) -> Result<u32, FlashSto
     Ok(place_for(first, second))
 }
 
-/// Raises the counter to a value above it: one record, by erase, program and barrier, into block 5 where neither or only block 6 is a record,
-/// into block 6 where only block 5 is, else over the lower value (5 at a tie). The first 4096 bytes of the buffer are used.
+/// Raises the counter to a value above it: one record, by erase, program and barrier, into block 5 where neither or only block 6 is
+/// a record, into block 6 where only block 5 is, else over the lower value (5 at a tie).
+/// The first 4096 bytes of the buffer are used.
 pub fn raise<D: Flash>(flash: &mut D, v: u32, buf: &mut [u8]) -> Result<(), FlashStop>
     requires on { IsTrue (D.on flash.old) }
     requires room { 4096 ≤ length buf.old }

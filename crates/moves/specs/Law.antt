@@ -41,7 +41,8 @@ pub record CallsCompose : Type 0 where
   pub idle : (result : Done) (E : Setting) (s : State) (ms : List Move) (t : Told) → IsErr result → IsCalm E t s
       → Does result E s ms t
 
--- Power that comes back after a call, with no chance met, gives a flash that is calm at a state after some of its moves. A repair makes it ready again.
+-- Power that comes back after a call, with no chance met, gives a flash that is calm at a state after some of its moves.
+-- A repair makes it ready again.
 abbrev pub LossesLeaveCalm : Type 0
 LossesLeaveCalm =
     (result : Done) (E : Setting) (s : State) (ms : List Move) (old new : Told) → Does result E s ms old
@@ -57,8 +58,8 @@ StartsAreReady =
 
 -- ---- on a calm flash, with each loss
 
--- From a flash that is calm at least: the repair is no move, and a migration the one of that name. Each image of a power-on shows the state before or
--- after it, and when done the flash is ready.
+-- From a flash that is calm at least: the repair is no move, and a migration the one of that name. Each image of a power-on shows
+-- the state before or after it, and when done the flash is ready.
 abbrev pub RepairsDo : Type 0
 RepairsDo =
     (result : Done) (which : Which) (r : MetaRead) (s t : Told) (E : Setting) (state : State) (L : Layout) → IsCalm E s state

@@ -18,13 +18,15 @@ use Rattle.replicas.specs.declared.which.Which.TheVariants.{Same, RepairZero, Re
 
 -- ---- on a calm flash
 
--- Between two calls: the flash calmly shows the state, guards the blocks at the front, and replica 1 holds what decides, so that replica 0 may be written.
+-- Between two calls: the flash calmly shows the state, guards the blocks at the front, and replica 1 holds what decides,
+-- so that replica 0 may be written.
 pub record IsReady (E : Setting) (t : Told) (s : State) : Type 0 where
   pub calm : IsCalm E t s
   pub guarded : Guards 1 7 t
   pub one : (r : MetaRead) → deciding E.layout t.now ≡ Some r → meta_read E.layout (block 2 t.now) ≡ Some r
 
--- What a call with these moves leaves, from a state: each image of a power-on shows a prefix of them, and when done, the flash is ready after all.
+-- What a call with these moves leaves, from a state:
+-- each image of a power-on shows a prefix of them, and when done, the flash is ready after all.
 pub record Does {T : Type 0} (result : Result T FlashStop) (E : Setting) (s : State) (ms : List Move) (t : Told) : Type 0 where
   pub each : LeavesOneOf E (prefixes s ms) t
   pub all : OnOk result (IsReady E t (after s ms))

@@ -51,7 +51,8 @@ pub record StoresDo (result : Done) (E : Setting) (s t : Told) (state : State) :
   pub back : IsTrue (is_accepted (bank state state.previous).state)
       → IsTrue (holds_permitted E state.counter (bank state state.previous).held)
       → Stores result E.layout (meta_after (meta_in state) Back) s t → Does result E state (Back ∷ []) t
-  -- The update bank holds the package and is quiet, as after a barrier. Where the new state is valid, so that trials count, the marks are clear.
+  -- The update bank holds the package and is quiet, as after a barrier.
+  -- Where the new state is valid, so that trials count, the marks are clear.
   pub switch : (p : List (List ℕ)) (bits : List Bool) → IsTrue (is_accepted (bank state state.active).state)
       → Quiet (4096 * start E.layout (update_bank state) 0) (4096 * start E.layout (update_bank state + 1) 0) s
       → package_in E.layout s.now (update_bank state) ≡ Some p
@@ -65,7 +66,8 @@ abbrev pub StoresDoMoves : Type 0
 StoresDoMoves = (result : Done) (E : Setting) (s t : Told) (state : State) → IsReady E s state → state.form ≡ 2
     → StoresDo result E s t state
 
--- The whole way to a switch, from a flash that shows a state: the marks are cleared, or that is stopped, and then the metadata is stored.
+-- The whole way to a switch, from a flash that shows a state:
+-- the marks are cleared, or that is stopped, and then the metadata is stored.
 pub record EndsBy (L : Layout) (state : State) (p : List (List ℕ)) (bits : List Bool) (s : Told) : Type 0 where
   -- stopped as the marks are cleared
   pub unclear : (given result : Done) (E : Setting) (t : Told) → IsErr result → E.layout ≡ L → IsCalm E s state → Guards 1 7 s
@@ -85,7 +87,8 @@ pub record EndsBy (L : Layout) (state : State) (p : List (List ℕ)) (bits : Lis
       → Stores result L (meta_after (meta_in state) (Switch (update_bank state) p bits)) m t
       → GuardedBy result t
 
--- so where both replicas hold the metadata, the active bank is accepted, and the slots of the update bank begin with the images of a complete package and are quiet
+-- so where both replicas hold the metadata, the active bank is accepted, and the slots of the update bank begin with the images of
+-- a complete package and are quiet
 abbrev pub EndsSwitch : Type 0
 EndsSwitch =
     (L : Layout) (state : State) (p : List (List ℕ)) (bits : List Bool) (s : Told) → IsShown L s.now state → state.form ≡ 2

@@ -36,7 +36,8 @@ fn holds<D: Flash>(flash: &mut D, layout: &Layout, meta: &Meta) -> Result<bool, 
     }
 }
 
-/// Writes over replica 1 and then over replica 0, which decides and is version 1. A replica 1 that holds the metadata in version 2 stays.
+/// Writes over replica 1 and then over replica 0, which decides and is version 1.
+/// A replica 1 that holds the metadata in version 2 stays.
 fn migrate_zero<D: Flash>(
     flash: &mut D,
     layout: &Layout,
@@ -66,8 +67,9 @@ fn migrate_zero<D: Flash>(
     replace(flash, FIRST_REPLICA, bytes)
 }
 
-/// Writes the metadata that `load` gave over the replica that lacks it, or, where version 1 decides, over the other replica, unless it
-/// holds the metadata in version 2, and then over the deciding one; each by erase, program and barrier. The first 4096 bytes of the buffer are used.
+/// Writes the metadata that `load` gave over the replica that lacks it, or, where version 1 decides, over the other replica, unless
+/// it holds the metadata in version 2, and then over the deciding one; each by erase, program and barrier.
+/// The first 4096 bytes of the buffer are used.
 pub fn repair<D: Flash>(
     flash: &mut D,
     layout: &Layout,

@@ -50,8 +50,8 @@ pub fn spell(layout: &Layout, meta: &Meta, buf: &mut [u8]) -> usize
     size
 }
 
-/// Writes metadata of the layout in version 2 over replica 0, then over replica 1, each by erase, program and barrier. Where both replicas
-/// held the same metadata, a loss of power leaves that or the new one. The first 4096 bytes of the buffer are used.
+/// Writes metadata of the layout in version 2 over replica 0, then over replica 1, each by erase, program and barrier. Where both
+/// replicas held the same metadata, a loss of power leaves that or the new one. The first 4096 bytes of the buffer are used.
 pub fn store<D: Flash>(
     flash: &mut D,
     layout: &Layout,

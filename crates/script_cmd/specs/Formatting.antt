@@ -90,8 +90,8 @@ format_note (Err (Flash stop)) = note.Nothing
 
 -- ---- what became of the flash
 
--- The result r of formatting a flash of so many blocks, by the rows and banks L and the package of this name, and by a verifier of these
--- manifests, from the moment old to new.
+-- The result r of formatting a flash of so many blocks, by the rows and banks L and the package of this name, and by a verifier of
+-- these manifests, from the moment old to new.
 pub record Tries (passes : List ℕ → Bool) (tells : Bool) (told : Option Directory) (name : List ℕ)
     (L : Layout) (blocks : ℕ) (old new : Moment) (faults_before faults_after : ℕ)
     (r : Result Formatted FormatStop) : Type 0 where
@@ -132,8 +132,8 @@ pub record Tries (passes : List ℕ → Bool) (tells : Bool) (told : Option Dire
 
 -- ---- what the command did
 
--- Nothing was done for want of memory, or since a list of digests was not read or is none; or the flash was formatted or was not, and the line
--- of that was put into the sink.
+-- Nothing was done for want of memory, or since a list of digests was not read or is none; or the flash was formatted or was not,
+-- and the line of that was put into the sink.
 pub data Formats (passes : List ℕ → Bool) (tells : Bool) (g : Given) (name : List ℕ) (L : Layout)
     (blocks : ℕ) (old new : Moment) (status : ℕ) (told : Note)
     (taken_before taken_after : Option (List ℕ))
@@ -149,7 +149,8 @@ pub data Formats (passes : List ℕ → Bool) (tells : Bool) (g : Given) (name :
       → RefusedList (ask.format L.banks L.rows name) g status (noted told) taken_before taken_after faults_before faults_after
       → Formats passes tells g name L blocks old new status told taken_before taken_after faults_before faults_after
 
--- The rows and banks are a layout of the flash, the file is told and is a package, and its images are a complete package of the layout that passes.
+-- The rows and banks are a layout of the flash, the file is told and is a package,
+-- and its images are a complete package of the layout that passes.
 pub record IsFormattable (passes : List ℕ → Bool) (told : Option Directory) (name : List ℕ)
     (L : Layout) (blocks : ℕ) : Type 0 where
   pub file : List ℕ
@@ -167,7 +168,8 @@ pub record FormattedBy (passes : List ℕ → Bool) (tells : Bool) (g : Given) (
     (faults_before faults_after : Faults) : Type 0 where
   pub formats : Formats passes tells g name L blocks old new status told taken_before taken_after faults_before faults_after
   pub refuses_list : RefusesBadList g old new status faults_before faults_after
-  -- a package that told files lack is answered by 2, where there is a layout for it, or by a failure at the line, or on the way there
+  -- a package that told files lack is answered by 2, where there is a layout for it,
+  -- or by a failure at the line, or on the way there
   pub lacking : Lacks g.files name → (M : Layout) → fitted L blocks ≡ Ok M
       → IsTrue (may_fail_before status || (status == 13))
   -- done: no old mark, record of the counter or package is left

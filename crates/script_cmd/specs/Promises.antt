@@ -59,8 +59,9 @@ abbrev pub EndsHold : Option Asked → Given → List Turn → ℕ → Note → 
     → Faults → Type 0
 EndsHold asked g journal status noted old new faults_before faults_after = EndsAs (plainly asked) g.list g.files g.script status noted journal old.counts new.counts faults_before faults_after
 
--- What each turn did, on any device, one after the other from the device as it was handed in to what is left of it: its reply, what the
--- agent keeps, what an armed loss counts, and its causes. The files' faults as the turns began and ended are among those of the run.
+-- What each turn did, on any device, one after the other from the device as it was handed in to what is left of it: its reply, what
+-- the agent keeps, what an armed loss counts, and its causes.
+-- The files' faults as the turns began and ended are among those of the run.
 pub record RepliesHold (passes : List ℕ → Bool) (tells : Bool) (files : Option Directory)
     (journal : List Turn) (old new : Moment) (faults_before faults_after : Faults) : Type 0 where
   -- what the agent keeps at last, where a bank was started
@@ -71,7 +72,8 @@ pub record RepliesHold (passes : List ℕ → Bool) (tells : Bool) (files : Opti
   pub begins : faults_before.files ≤ from
   pub ends : journal ≢ [] → to ≡ faults_after.files
 
--- The one command `boot`, on any flash with nothing dirty, where no failure and no loss stopped it, and the list had no bad line, goes by the bytes.
+-- The one command `boot`, on any flash with nothing dirty, where no failure and no loss stopped it,
+-- and the list had no bad line, goes by the bytes.
 abbrev pub BootWordHolds : (List ℕ → Bool) → Bool → Option Asked → List Turn → ℕ → Note → Moment
     → Moment → Type 0
 BootWordHolds passes tells asked journal status noted old new =
@@ -93,8 +95,8 @@ FirstHolds passes tells journal old =
     IsTrue tells → NothingDirty old.told → (t : Turn) → slice_get journal 0 ≡ Some t
     → t.call ≡ call.Boot → BootsFrom passes old.told.now t.reply
 
--- on any flash with nothing dirty, no loss then harms what is in use, even where a seal came about by chance; and with power nothing dirty
--- or under way meets blocks 0 to 7
+-- on any flash with nothing dirty, no loss then harms what is in use, even where a seal came about by chance; and with power
+-- nothing dirty or under way meets blocks 0 to 7
 abbrev pub GuardedHolds : Bool → Moment → Moment → Type 0
 GuardedHolds tells old new =
     IsTrue tells → NothingDirty old.told → Guards 1 7 old.told → IsGuarded new.told
@@ -199,15 +201,15 @@ pub record Promised (passes : List ℕ → Bool) (tells : Bool) (asked : Option 
     (faults_before faults_after : Faults) : Type 0 where
   -- For every device, files, source and sink, told or not: which way it ended.
   pub way : Way passes tells asked (given_to asked list files source) journal status noted old new taken_before taken_after faults_before faults_after
-  -- From a sound flash: the turns are those of the machine, every image that a loss may leave shows a state that they lead to, and each boot
-  -- selects a complete and permitted package.
+  -- From a sound flash: the turns are those of the machine, every image that a loss may leave shows a state that they lead to, and
+  -- each boot selects a complete and permitted package.
   pub headline : HeadlineHolds passes tells asked files source journal status old new
   -- For every device, files and source: the lines of what was done, at every status.
   pub wrote : WroteHolds asked (given_to asked list files source) journal status noted taken_before taken_after faults_before faults_after
   -- For every device, files, source and sink: which turns and causes ended the run.
   pub ends : EndsHold asked (given_to asked list files source) journal status noted old new faults_before faults_after
-  -- For every device: each turn's reply is that of each machine that the agent shows; a boot's reply tells whether the flash is on, and with
-  -- which numbers; while off all else is answered `off`; and what an armed loss counts of the turn.
+  -- For every device: each turn's reply is that of each machine that the agent shows; a boot's reply tells whether the flash is on,
+  -- and with which numbers; while off all else is answered `off`; and what an armed loss counts of the turn.
   pub replies : RepliesHold passes tells files journal old new faults_before faults_after
   -- For every device: where no turn ran it is as it was, and its power is by the replies.
   pub device : LeavesDevice tells journal old new

@@ -62,8 +62,8 @@ RefusedList asked g status noted taken_before taken_after faults_before faults_a
     (Some asked) g faults_before faults_after planned noted line
     × Prints line planned status taken_before taken_after faults_before.sink faults_after.sink
 
--- How it ended: nothing was done for want of memory, or since a list of digests was not read or is none; or by what it found, whose line was
--- put into the sink.
+-- How it ended: nothing was done for want of memory, or since a list of digests was not read or is none; or by what it found, whose
+-- line was put into the sink.
 pub data Showed (tells : Bool) (g : Given) (old new : Moment) (status : ℕ) (noted : Note)
     (taken_before taken_after : Option (List ℕ))
     (faults_before faults_after : Faults) : Type 0 where
@@ -77,15 +77,15 @@ pub data Showed (tells : Bool) (g : Given) (old new : Moment) (status : ℕ) (no
       → Prints line planned status taken_before taken_after faults_before.sink faults_after.sink
       → Showed tells g old new status noted taken_before taken_after faults_before faults_after
 
--- A list that told files lack is answered by 2, and one with a bad line by 13, or 2 where it could not be read; the sink may fail at that
--- line, or memory be wanting. And nothing was done.
+-- A list that told files lack is answered by 2, and one with a bad line by 13, or 2 where it could not be read; the sink may fail
+-- at that line, or memory be wanting. And nothing was done.
 pub record RefusesBadList (g : Given) (old new : Moment) (status : ℕ)
     (faults_before faults_after : Faults) : Type 0 where
   pub lacking : LacksList g.files g.list → (new ≡ old) × IsTrue (may_fail_before status)
   pub bad : IfSome (list_bytes g.list g.files) (λ bytes. (n : ℕ) → digests_of bytes ≡ Err n → (new ≡ old) × RefusesList status faults_before faults_after)
 
--- A command that runs no script is given what it asks for: a list of digests, where one is named, that is there and has no bad line; and
--- nothing failed, and no power was lost.
+-- A command that runs no script is given what it asks for: a list of digests, where one is named, that is there and has no bad
+-- line; and nothing failed, and no power was lost.
 pub record IsGranted (g : Given) (before after : Counts)
     (faults_before faults_after : Faults) : Type 0 where
   pub list_there : LacksList g.files g.list → ⊥

@@ -34,8 +34,9 @@ use Rattle.script_cmd.specs.declared.done.Note.TheVariants as note
 abbrev pub EndsNone : List Turn → Type 0
 EndsNone journal = IsFalse (list_any (λ (t : Turn). ends_run t.reply) journal)
 
--- How the turns of a soak of these calls ended, and which line was put into the sink: all calls were done, and the line is that of the
--- totals; or memory was wanting, for more calls or for the line, and there is none; or the last turn ended it, and the line is that turn's.
+-- How the turns of a soak of these calls ended, and which line was put into the sink: all calls were done, and the line is that of
+-- the totals; or memory was wanting, for more calls or for the line, and there is none;
+-- or the last turn ended it, and the line is that turn's.
 pub data SoakEnds (rounds : ℕ) (calls : List Call) (journal : List Turn) (status : ℕ) (told : model.Note)
     (taken_before taken_after : Option (List ℕ)) (faults_before faults_after : ℕ) : Type 0 where
   all_done : calls_of journal ≡ calls → EndsNone journal → told ≡ model_note.Nothing
@@ -49,8 +50,8 @@ pub data SoakEnds (rounds : ℕ) (calls : List Call) (journal : List Turn) (stat
       → Prints (stop_line t) (status_by t.reply) status taken_before taken_after faults_before faults_after
       → SoakEnds rounds calls journal status told taken_before taken_after faults_before faults_after
 
--- Nothing was done, since a list of digests was not read or is none, or for want of memory, or on a flash that is too small; or the flash was
--- not formatted; or it was, and the turns ran from there on, with the packages of all rounds as files, by any manifest.
+-- Nothing was done, since a list of digests was not read or is none, or for want of memory, or on a flash that is too small; or the
+-- flash was not formatted; or it was, and the turns ran from there on, with the packages of all rounds as files, by any manifest.
 pub data SoakWay (tells : Bool) (g : Given) (seed n blocks : ℕ) (journal : List Turn) (status : ℕ) (said : Note) (old new : Moment)
     (taken_before taken_after : Option (List ℕ)) (faults_before faults_after : Faults) : Type 0 where
   list_refused : journal ≡ [] → new ≡ old → IsFalse (is_beyond said)

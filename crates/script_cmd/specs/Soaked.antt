@@ -34,8 +34,8 @@ soak_setting seed n = record { layout = soak_layout; files = soak_files seed n; 
 abbrev pub first_images : ℕ → List (List ℕ)
 first_images seed = generated_images soak_layout.rows (sizes_of seed) 0 1
 
--- The flash was formatted with the first package, and from there on the turns are a run of the machine, of the first calls of the soak, all of
--- them at the status 0.
+-- The flash was formatted with the first package, and from there on the turns are a run of the machine, of the first calls of the
+-- soak, all of them at the status 0.
 pub record RunsSoak (seed n : ℕ) (journal : List Turn) (status : ℕ) (new : Moment) : Type 0 where
   pub start : Moment
   pub formatted : IsFormatted passes_any soak_layout 1 start.told
@@ -53,7 +53,8 @@ pub record SoakedBy (tells : Bool) (g : Given) (seed n blocks : ℕ) (journal : 
   -- for every device and sink, told or not: which way it ended
   pub way : SoakWay tells g seed n blocks journal status said old new taken_before taken_after faults_before faults_after
   pub refuses_list : RefusesBadList g old new status faults_before faults_after
-  -- on a told device that guards the blocks at the front, where no torn block was sealed by chance: a run of the machine, unless nothing ran
+  -- on a told device that guards the blocks at the front, where no torn block was sealed by chance:
+  -- a run of the machine, unless nothing ran
   pub machine : IsTrue tells → Guards 1 7 old.told → (Rose old.counts.chances new.counts.chances → ⊥) → journal ≢ [] → RunsSoak seed n journal status new
   -- a flash that is too small is as it was, and this is its status, unless the list, the sink or memory failed
   pub small : IsTrue (is_too_small blocks) → (journal ≡ []) × (new ≡ old) × IsTrue ((status == 7) || (may_fail_before status || (status == 13)))

@@ -110,7 +110,8 @@ pub record GoesSoaking (tells : Bool) (all : Directory) (calls : List Call) (jou
   pub calls_are : calls_of journal ≡ calls
   pub none : IsFalse (list_any (λ (t : Turn). ends_run t.reply) journal)
 
--- How a soak that does these calls stands: all were done; or memory was wanting for more than the first of them; or a turn ended it.
+-- How a soak that does these calls stands:
+-- all were done; or memory was wanting for more than the first of them; or a turn ended it.
 pub data Stands (tells : Bool) (all : Directory) (calls : List Call) (journal : List Turn) (old new : Moment) (status : ℕ) (noted : Note) (text : List ℕ) : Type 0 where
   goes : status ≡ 0 → noted ≡ note.Nothing → text ≡ [] → GoesSoaking tells all calls journal old new
       → Stands tells all calls journal old new status noted text

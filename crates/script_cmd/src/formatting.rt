@@ -66,8 +66,8 @@ pub fn try_format<D: Flash, H: Files, V: Verifier>(
     format(flash, rows, banks, files, name, verifier)
 }
 
-/// Powers the flash on, formats it with the layout of these rows and banks and with the package of this name, and puts the line of what
-/// became of that into the sink in one piece. The room for the line is made before the flash is touched.
+/// Powers the flash on, formats it with the layout of these rows and banks and with the package of this name, and puts the line of
+/// what became of that into the sink in one piece. The room for the line is made before the flash is touched.
 ///
 /// Status 2 says that the file could not be read, 5 that power was lost or the flash failed, and 7 that the rows, the banks or the
 /// package were refused, and the note says why.

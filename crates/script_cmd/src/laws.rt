@@ -1,4 +1,5 @@
-//! Laws of the ways that a run may end, and of wrong outcomes that none is promised: functions that do nothing, whose contract is the law.
+//! Laws of the ways that a run may end, and of wrong outcomes that none is promised:
+//! functions that do nothing, whose contract is the law.
 ghost use Rattle.script_cmd.specs.Outcomes.{BadListIsNone, ListIsSome, MissingListIsNone, NoMetadataIsNone, NothingFollowsTheSink, NothingIsArmed, NothingIsPassedOver, NothingIsTouched, UsageLineIsOfUsage, UsageReadsNoSource};
 ghost use Rattle.script_cmd.specs.Promises.{WaysAreComplete, WaysBoot, WaysBootFirst, WaysEnd, WaysGuard, WaysKeepTheHeadline, WaysLeaveTheDevice, WaysReply, WaysWrite};
 

@@ -136,8 +136,8 @@ fn mend<D: Flash>(flash: &mut D, found: &Found) -> Result<(), FlashStop>
     repair_table(flash, &found.table, found.which, &mut buffer)
 }
 
-/// Powers a device on, reads its partition table, looks up the places of the flash behind it, and repairs the table. Where the table
-/// gives no flash nothing is written.
+/// Powers a device on, reads its partition table, looks up the places of the flash behind it, and repairs the table. Where the
+/// table gives no flash nothing is written.
 pub fn open<D: Flash>(alloc: Global, flash: &mut D) -> Result<Places, Unopened>
     requires off { IsFalse (D.on flash.old) }
     requires unarmed { D.arming flash.old ≡ None }

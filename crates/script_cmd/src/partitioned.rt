@@ -133,8 +133,8 @@ fn run_at<D: Flash, H: Files, O: Sink, V: Verifier>(
     run_mapped::<D, Brand, H, O, V>(alloc, room, script, files, sink, flash, places, verifier)
 }
 
-/// Powers a device on, reads and repairs its partition table, and does the calls of a script on the flash behind it. Where the table
-/// gives no flash the status is 10, and where power is lost or the flash fails before the first turn it is 5.
+/// Powers a device on, reads and repairs its partition table, and does the calls of a script on the flash behind it. Where the
+/// table gives no flash the status is 10, and where power is lost or the flash fails before the first turn it is 5.
 pub fn run_by_table<D: Flash, H: Files, O: Sink, V: Verifier>(
     alloc: Global,
     room: Room,

@@ -100,8 +100,8 @@ fn not_found(text: &mut Vec<u8>, why: NoBoot) -> Found
     }
 }
 
-/// Powers the flash on, reads what it shows, and puts the line of that into the sink. Nothing is written, and no replica is repaired.
-/// Status 6 says that there is no layout or no metadata, and 5 that power was lost or the flash failed.
+/// Powers the flash on, reads what it shows, and puts the line of that into the sink. Nothing is written, and no replica is
+/// repaired. Status 6 says that there is no layout or no metadata, and 5 that power was lost or the flash failed.
 pub fn show<D: Flash, O: Sink>(alloc: Global, sink: &mut O, flash: D) -> Done<D>
     requires off { IsFalse (D.on flash) }
     requires unarmed { D.arming flash ≡ None }

@@ -52,8 +52,8 @@ fn first_file(alloc: Global, register: &mut Lcg) -> Result<OneFile, NoMemory>
     })
 }
 
-/// Puts the line of the totals of a journal into the sink, and gives the exit status that comes of it. Where memory is wanting for the
-/// line, nothing is written.
+/// Puts the line of the totals of a journal into the sink, and gives the exit status that comes of it. Where memory is wanting for
+/// the line, nothing is written.
 fn print_totals<O: Sink>(alloc: Global, journal: &Journal, rounds: u32, sink: &mut O) -> u8
     ensures { Prints (soak_line rounds (turns journal.now)) 0 result (O.taken sink.old)
         (O.taken sink.new) (O.faults sink.old) (O.faults sink.new) }
@@ -178,12 +178,12 @@ fn format_and_soak<D: Flash, O: Sink>(
     }
 }
 
-/// Formats the flash with a package that is made from the seed, and does so many rounds of updates with power cuts, all drawn from the
-/// seed, by any manifest. No turn's line is printed. At the end one line tells the totals.
+/// Formats the flash with a package that is made from the seed, and does so many rounds of updates with power cuts, all drawn from
+/// the seed, by any manifest. No turn's line is printed. At the end one line tells the totals.
 ///
-/// Status 5 says that power was lost or the flash failed while it was formatted, or that it failed within a turn, 6 that a boot started
-/// no bank, whose line is then printed, and 7 that the flash is too small. Status 9 says that memory was wanting, for a package, a round
-/// or the line; the turns that were done are in the journal.
+/// Status 5 says that power was lost or the flash failed while it was formatted, or that it failed within a turn, 6 that a boot
+/// started no bank, whose line is then printed, and 7 that the flash is too small. Status 9 says that memory was wanting, for a
+/// package, a round or the line; the turns that were done are in the journal.
 pub fn soak<D: Flash, O: Sink>(
     alloc: Global,
     seed: u32,

@@ -35,8 +35,8 @@ pub record AreTold (bank trials counter : ℕ) (fallback : Bool) (f : Fields) : 
   pub nothing : HasNothing f.session
   pub handles : handles_meant f.session ≡ no_handles
 
--- After a boot with this reply the flash is on exactly where a bank was started, and its numbers are those that were told. A boot has
--- no other reply.
+-- After a boot with this reply the flash is on exactly where a bank was started, and its numbers are those that were told. A boot
+-- has no other reply.
 abbrev pub LeavesOn : Reply → Option Fields → Type 0
 LeavesOn (reply.Booted bank version trials counter fallback) (Some f) = AreTold bank trials counter fallback f
 LeavesOn (reply.Booted bank version trials counter fallback) None = ⊥

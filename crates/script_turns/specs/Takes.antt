@@ -64,8 +64,8 @@ pub record ReadsBy (r : Reply) (old new : Moment) : Type 0 where
   pub armed : new.armed ≡ arming_kept (stop_told r) old.armed
   pub reached : ReachesNone (stop_told r) old.counts new.counts
 
--- A sending that is done takes at least a store's erases and programs, with an erase of each block that its images reach. What was refused
--- before anything was sent did nothing.
+-- A sending that is done takes at least a store's erases and programs, with an erase of each block that its images reach. What was
+-- refused before anything was sent did nothing.
 abbrev pub SendTakes : Reply → Moment → Moment → Type 0
 SendTakes (reply.Sent images skipped) old new = (least : ℕ) × (4 ≤ least) × TakesLeast least old.armed new.armed
 SendTakes (reply.BadPackage f) old new = SameDevice old new

@@ -29,8 +29,8 @@ abbrev pub Makes : Call → ℕ → ℕ → Type 0
 Makes (call.Cut n k) before after = after ≡ min (before + 1) greatest
 Makes other before after = after ≡ before
 
--- The turn t does the call c, by a verifier of these manifests, on a device that tells its content or not, with files that are told or not. The
--- files' faults were some, and are some.
+-- The turn t does the call c, by a verifier of these manifests, on a device that tells its content or not, with files that are told
+-- or not. The files' faults were some, and are some.
 pub record Turns (passes : List ℕ → Bool) (tells : Bool) (files : Option Directory) (c : Call) (t : Turn)
     (old new : Moment) (was are : ℕ) : Type 0 where
   pub call_is : t.call ≡ c
@@ -72,7 +72,8 @@ numbers_of_end (no_bank active previous) = None
 numbers_of_end (lost n) = n
 numbers_of_end (failed n) = n
 
--- on a device that tells its content the agent of the bank that was booted shows what the flash shows, with nothing staged and no handle open
+-- on a device that tells its content the agent of the bank that was booted shows what the flash shows,
+-- with nothing staged and no handle open
 abbrev pub ShowsStarted : Bool → Ended → Option Fields → Told → Type 0
 ShowsStarted tells (booted b n) (Some f) t = (s : State) → IsShown f.layout t.now s → agent.Shows (kept_at tells f t) s (started_session b)
 ShowsStarted tells (booted b n) None t = ⊥

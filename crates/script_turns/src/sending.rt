@@ -112,7 +112,8 @@ fn send_by<D: Flash, H: Files, V: Verifier>(
     sent_turn(agent, Call::Send { name, request }, &sent)
 }
 
-/// The turn of `send` on a flash whose bank was started: the package or the capsule of this name is sent. Each write has 4096 bytes.
+/// The turn of `send` on a flash whose bank was started: the package or the capsule of this name is sent.
+/// Each write has 4096 bytes.
 pub fn send_turn<D: Flash, H: Files, V: Verifier>(
     live: Live<D>,
     name: String,

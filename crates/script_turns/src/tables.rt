@@ -92,8 +92,8 @@ fn capsule_table<H: Files>(files: &mut H, name: &str) -> Result<Toc, TableStop>
     }
 }
 
-/// The table that a file is sent by: what begins with the UUID of capsules is read as one, and any other file as a package. The error is
-/// the file's first fault. Nothing here takes memory.
+/// The table that a file is sent by: what begins with the UUID of capsules is read as one, and any other file as a package. The
+/// error is the file's first fault. Nothing here takes memory.
 pub fn read_table<H: Files>(files: &mut H, name: &str) -> Result<Toc, TableStop>
     // Where the file's bytes are told, it is their table, or what `send` answers to them.
     ensures told { (file : List ℕ) → Tells (H.contents files.old) name.now file

@@ -65,9 +65,9 @@ fn live_turn<D: Flash, H: Files, V: Verifier>(
     }
 }
 
-/// Does a call. `boot` brings power back where it is off; where it is on, the flash boots again as it reads now. `cut` arms the flash,
-/// on or off, and `show` tells its numbers. The others are calls of the agent of the bank that was started, and `send` makes many of
-/// them; where no bank was started all these are answered `off`.
+/// Does a call. `boot` brings power back where it is off; where it is on, the flash boots again as it reads now. `cut` arms the
+/// flash, on or off, and `show` tells its numbers. The others are calls of the agent of the bank that was started, and `send` makes
+/// many of them; where no bank was started all these are answered `off`.
 pub fn turn<D: Flash, H: Files, V: Verifier>(
     alloc: Global,
     powered: Powered<D>,

@@ -34,8 +34,8 @@ ended (On boot staging handles) = On boot None no_handles
 abbrev pub AnswersBy : Reply → Answer → Setting → Moment → Moment → State → Type 0
 AnswersBy r a E old new s = (r ≡ a.reply) × Goes E (Ok tt) old new s a.moves a.next
 
--- An answer or a refusal is the machine's, with all its moves; a failed read leaves those of a begin, and no staging; at a stop of the
--- flash each loss leaves a prefix of the moves. An agent that is there is never answered to be gone.
+-- An answer or a refusal is the machine's, with all its moves; a failed read leaves those of a begin, and no staging; at a stop of
+-- the flash each loss leaves a prefix of the moves. An agent that is there is never answered to be gone.
 abbrev pub SendsBy : Result Sent SendStop → Setting → Toc → List (List ℕ) → ℕ → Moment → Moment → State → Session → Type 0
 SendsBy (Ok sent) E toc p request old new s x = AnswersBy (reply.Sent sent.images sent.skipped) (send_answer E toc p request s x) E old new s
 SendsBy (Err (MissingImage guid)) E toc p request old new s x = AnswersBy (reply.Missing guid) (send_answer E toc p request s x) E old new s
@@ -49,8 +49,8 @@ SendsBy (Err Fault) E toc p request old new s x =
     Goes E (Err flash_stop.Failed) old new s (send_answer E toc p request s x).moves (ended x)
 SendsBy (Err Gone) E toc p request old new s x = ⊥
 
--- What a sending says of an agent that isn't gone, on any device: there are images, those of the file where it is told, and each machine
--- that the agent shows goes by the sending of them.
+-- What a sending says of an agent that isn't gone, on any device: there are images, those of the file where it is told, and each
+-- machine that the agent shows goes by the sending of them.
 pub record Sends (told : Option Directory) (name : List ℕ) (toc : Toc) (request : ℕ) (passes : List ℕ → Bool)
     (result : Result Sent SendStop) (old new : Moment) : Type 0 where
   pub images : List (List ℕ)
@@ -65,7 +65,8 @@ pub record IsCounted (rows : List ImageRow) (toc : Toc) (sent : Sent) : Type 0 w
   pub images : sent.images ≡ length rows
   pub skipped : sent.skipped ≡ skipped rows toc
 
--- The bank that took the update is active and holds the images, all of them accepted or none, and the bank that was active is the previous one.
+-- The bank that took the update is active and holds the images, all of them accepted or none,
+-- and the bank that was active is the previous one.
 pub record IsInstalled (images : List (List ℕ)) (accepted : Bool) (rows : List ImageRow) (before now : State) : Type 0 where
   pub active : now.active ≡ update_bank before
   pub previous : now.previous ≡ before.active
@@ -83,7 +84,8 @@ pub record Installs (told : Option Directory) (name : List ℕ) (toc : Toc) (req
   pub read : (file : List ℕ) → Tells told name file → images ≡ images_of new.fields.layout.rows file toc
   pub installed : IsInstalled images (request == 0) new.fields.layout.rows before now
 
--- On any device: what the agent keeps then has the bank active that took the update, and the one that was active is the previous one.
+-- On any device: what the agent keeps then has the bank active that took the update,
+-- and the one that was active is the previous one.
 pub record IsSwitched (old new : Fields) : Type 0 where
   pub active : new.meta.meta.active ≡ target old
   pub previous : new.meta.meta.previous ≡ old.meta.meta.active
