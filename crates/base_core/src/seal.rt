@@ -43,7 +43,8 @@ fn is_v1_of(block: &[u8], banks: usize) -> bool
 }
 
 fn is_v1_of_some(block: &[u8]) -> bool
-    ensures { result ≡ list_any (λ banks. list_any (λ images. has_checksum block.now (v1_size banks images)) (range_with_len 2 15)) (range_with_len 2 3) }
+    ensures { result ≡ list_any (λ banks.
+        list_any (λ images. has_checksum block.now (v1_size banks images)) (range_with_len 2 15)) (range_with_len 2 3) }
 {
     let two = is_v1_of(block, 2);
     let three = is_v1_of(block, 3);

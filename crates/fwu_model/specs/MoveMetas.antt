@@ -20,8 +20,10 @@ accepted_bits m image = slice_set (bits_in m m.active) image true
 -- what a move writes, or what stays
 abbrev pub meta_after : Meta → Move → Meta
 meta_after m (Free b) = with_bank m b Invalid (map (λ bit. false) (bits_in m b))
-meta_after m (Switch b p bits) = record { active = b; previous = m.active; states = slice_set m.states b (state_by bits); bits = slice_set m.bits b bits }
-meta_after m (Accept image) = with_bank m m.active (if all_set (accepted_bits m image) then Accepted else state_at m m.active) (accepted_bits m image)
+meta_after m (Switch b p bits) =
+    record { active = b; previous = m.active; states = slice_set m.states b (state_by bits); bits = slice_set m.bits b bits }
+meta_after m (Accept image) =
+    with_bank m m.active (if all_set (accepted_bits m image) then Accepted else state_at m m.active) (accepted_bits m image)
 meta_after m Back = record m { active = m.previous; previous = m.active }
 meta_after m Trial = m
 meta_after m (RaiseTo v) = m
@@ -29,4 +31,5 @@ meta_after m Migrate = m
 
 -- the metadata that a state shows
 abbrev pub meta_in : State → Meta
-meta_in s = record { active = s.active; previous = s.previous; states = map (λ k. k.state) s.banks; bits = map (λ k. k.bits) s.banks }
+meta_in s =
+    record { active = s.active; previous = s.previous; states = map (λ k. k.state) s.banks; bits = map (λ k. k.bits) s.banks }

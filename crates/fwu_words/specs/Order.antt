@@ -32,7 +32,8 @@ view (Format banks rows file) = format banks rows.items file.now
 view (Soak seed rounds) = soak seed rounds
 
 abbrev pub format_by : Option ℕ → Option (List ImageRow) → Option Text → Option Asked
-format_by banks rows file = option_and_then (λ n. option_and_then (λ rs. option_and_then (λ f. Some (format n rs f)) file) rows) banks
+format_by banks rows file =
+    option_and_then (λ n. option_and_then (λ rs. option_and_then (λ f. Some (format n rs f)) file) rows) banks
 
 -- the values of `format`
 abbrev pub banks_in : List Row → Option ℕ

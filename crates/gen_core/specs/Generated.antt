@@ -16,7 +16,8 @@ are_images rows = nat_le 2 (length rows) && nat_le (length rows) 16 && list_all 
 
 -- a size in bytes for each image but the first, within its slot
 unfoldable pub fit_sizes : List ImageRow → List ℕ → Bool
-fit_sizes rows sizes = (length sizes + 1 == length rows) && all_paired (λ r size. nat_le size (block_bytes * r.slots)) (drop 1 rows) sizes
+fit_sizes rows sizes =
+    (length sizes + 1 == length rows) && all_paired (λ r size. nat_le size (block_bytes * r.slots)) (drop 1 rows) sizes
 
 -- ---- the package
 

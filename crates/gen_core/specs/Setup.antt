@@ -18,7 +18,8 @@ normal_guid = 0xd6 ∷ 0xd0 ∷ 0xee ∷ 0xa7 ∷ 0xfc ∷ 0xea ∷ 0xd5 ∷ 0x4
 abbrev pub soak_layout : Layout
 soak_layout = record {
   banks = 2;
-  rows = record { guid = manifest_guid; slots = 1 } ∷ record { guid = boot_guid; slots = 2 } ∷ record { guid = normal_guid; slots = 4 } ∷
+  rows = record { guid = manifest_guid; slots = 1 } ∷ record { guid = boot_guid; slots = 2 } ∷
+      record { guid = normal_guid; slots = 4 } ∷
       [];
 }
 

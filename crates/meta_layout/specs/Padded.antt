@@ -15,14 +15,16 @@ module _ {X : Type 0} (room : ℕ) (filler : X) (count : ℕ) (array : List X) (
 
   pub array-padded : take count array ++ replicate (room - length (take count array)) filler ≡ array
   array-padded =
-      ap (λ n. take count array ++ replicate (room - n) filler) length-padded ∙ ap (λ l. take count array ++ l) (sym is.padding) ∙ take-append-drop count array
+      ap (λ n. take count array ++ replicate (room - n) filler) length-padded ∙ ap (λ l. take count array ++ l) (sym is.padding)
+      ∙ take-append-drop count array
 
   -- an element is added, or one is changed
   pub padded-push : (x : X) → count < room → IsPadded room filler (count + 1) (set array count x)
   padded-push x lt = record {
     few = omega (arith, lt);
     whole = length-set array count x ∙ is.whole;
-    padding = drop-set-lt (count + 1) array count x (omega arith) ∙ sym (drop-drop 1 count array) ∙ ap (drop 1) is.padding ∙ drop-replicate 1 (room - count) filler
+    padding = drop-set-lt (count + 1) array count x (omega arith) ∙ sym (drop-drop 1 count array) ∙ ap (drop 1) is.padding
+        ∙ drop-replicate 1 (room - count) filler
         ∙ ap (λ n. replicate n filler) (omega arith);
   }
 

@@ -26,7 +26,8 @@ pub fn entries_size(layout: &Layout) -> usize
 
 fn is_header_start(block: &[u8], banks: u32) -> bool
     requires { 40 ≤ length block.now }
-    ensures { result ≡ ((num_at 2 block.now 0x14 == 0x20) && (num_at 2 block.now 0x16 == 0) && (num_at 4 block.now 0x1C == 0) && (num_at 1 block.now 0x20 == banks)) }
+    ensures { result ≡ ((num_at 2 block.now 0x14 == 0x20) && (num_at 2 block.now 0x16 == 0)
+        && (num_at 4 block.now 0x1C == 0) && (num_at 1 block.now 0x20 == banks)) }
 {
     let descriptor = le16_at(block, 0x14);
     let gap = le16_at(block, 0x16);
@@ -37,7 +38,8 @@ fn is_header_start(block: &[u8], banks: u32) -> bool
 
 fn is_header_end(block: &[u8], images: usize, entry: usize) -> bool
     requires { 40 ≤ length block.now }
-    ensures { result ≡ ((num_at 1 block.now 0x21 == 0) && (num_at 2 block.now 0x22 == images) && (num_at 2 block.now 0x24 == entry) && (num_at 2 block.now 0x26 == 24)) }
+    ensures { result ≡ ((num_at 1 block.now 0x21 == 0) && (num_at 2 block.now 0x22 == images)
+        && (num_at 2 block.now 0x24 == entry) && (num_at 2 block.now 0x26 == 24)) }
 {
     let gap = byte_at(block, 0x21);
     let count = le16_at(block, 0x22) as usize;

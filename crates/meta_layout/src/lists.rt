@@ -27,7 +27,9 @@ impl Model for Bits {
 
     ghost inverse = { λ bits. record { count = length bits; bits = bits ++ replicate (16 - length bits) false } };
 
-    ghost inverse_ok = { λ b is. ap (λ n. record { count = n; bits = take b.count b.bits ++ replicate (16 - length (take b.count b.bits)) false }) (length-padded 16 false b.count b.bits is)
+    ghost inverse_ok = { λ b is.
+        ap (λ n. record { count = n; bits = take b.count b.bits ++ replicate (16 - length (take b.count b.bits)) false })
+            (length-padded 16 false b.count b.bits is)
         ∙ ap (λ l. record { count = b.count; bits = l }) (array-padded 16 false b.count b.bits is) };
 }
 
@@ -118,7 +120,9 @@ impl Model for States {
 
     ghost inverse = { λ states. record { count = length states; states = states ++ replicate (4 - length states) Invalid } };
 
-    ghost inverse_ok = { λ s is. ap (λ n. record { count = n; states = take s.count s.states ++ replicate (4 - length (take s.count s.states)) Invalid }) (length-padded 4 Invalid s.count s.states is)
+    ghost inverse_ok = { λ s is.
+        ap (λ n. record { count = n; states = take s.count s.states ++ replicate (4 - length (take s.count s.states)) Invalid })
+            (length-padded 4 Invalid s.count s.states is)
         ∙ ap (λ l. record { count = s.count; states = l }) (array-padded 4 Invalid s.count s.states is) };
 }
 
@@ -190,7 +194,9 @@ impl Model for BankBits {
 
     ghost inverse = { λ banks. record { count = length banks; banks = banks ++ replicate (4 - length banks) [] } };
 
-    ghost inverse_ok = { λ b is. ap (λ n. record { count = n; banks = take b.count b.banks ++ replicate (4 - length (take b.count b.banks)) [] }) (length-padded 4 [] b.count b.banks is)
+    ghost inverse_ok = { λ b is.
+        ap (λ n. record { count = n; banks = take b.count b.banks ++ replicate (4 - length (take b.count b.banks)) [] })
+            (length-padded 4 [] b.count b.banks is)
         ∙ ap (λ l. record { count = b.count; banks = l }) (array-padded 4 [] b.count b.banks is) };
 }
 
@@ -279,7 +285,9 @@ impl Model for Rows {
 
     ghost inverse = { λ rows. record { count = length rows; rows = rows ++ replicate (16 - length rows) no_row } };
 
-    ghost inverse_ok = { λ r is. ap (λ n. record { count = n; rows = take r.count r.rows ++ replicate (16 - length (take r.count r.rows)) no_row }) (length-padded 16 no_row r.count r.rows is)
+    ghost inverse_ok = { λ r is.
+        ap (λ n. record { count = n; rows = take r.count r.rows ++ replicate (16 - length (take r.count r.rows)) no_row })
+            (length-padded 16 no_row r.count r.rows is)
         ∙ ap (λ l. record { count = r.count; rows = l }) (array-padded 16 no_row r.count r.rows is) };
 }
 

@@ -24,9 +24,11 @@ impl Model for Meta {
 
     ghost Value = { MetaRead };
 
-    ghost view = { λ m. record { form = m.form; meta = record { active = m.active; previous = m.previous; states = m.states; bits = m.bits } } };
+    ghost view = { λ m.
+        record { form = m.form; meta = record { active = m.active; previous = m.previous; states = m.states; bits = m.bits } } };
 
-    ghost inverse = { λ m. record { form = m.form; active = m.meta.active; previous = m.meta.previous; states = m.meta.states; bits = m.meta.bits } };
+    ghost inverse = { λ m.
+        record { form = m.form; active = m.meta.active; previous = m.meta.previous; states = m.meta.states; bits = m.meta.bits } };
 }
 
 fn are_equal(one: u32, other: u32) -> bool
@@ -38,7 +40,8 @@ fn are_equal(one: u32, other: u32) -> bool
 impl Meta {
     /// The metadata of these parts.
     pub fn of(form: u32, active: u32, previous: u32, states: States, bits: BankBits) -> Meta
-        ensures { result ≡ record { form = form; meta = record { active = active; previous = previous; states = states; bits = bits } } }
+        ensures { result ≡
+            record { form = form; meta = record { active = active; previous = previous; states = states; bits = bits } } }
     {
         Meta {
             form,
@@ -148,7 +151,8 @@ impl Meta {
     /// Sets the state of a bank, and changes nothing else.
     pub fn set_state(&mut self, bank: u32, state: BankState)
         requires { bank < length self.old.meta.states }
-        ensures set { self.new ≡ record self.old { meta = record self.old.meta { states = slice_set self.old.meta.states bank state } } }
+        ensures set { self.new ≡
+            record self.old { meta = record self.old.meta { states = slice_set self.old.meta.states bank state } } }
         ensures fits { (L : LayoutValue) → IsTrue (fits_meta L self.old.meta) →
             IsTrue (fits_meta L self.new.meta) }
     {
@@ -159,7 +163,8 @@ impl Meta {
     pub fn set_bit(&mut self, bank: u32, image: u32, on: bool)
         requires below { bank < length self.old.meta.bits }
         requires within { image < length (slice_index_or self.old.meta.bits bank []) }
-        ensures set { self.new ≡ record self.old { meta = record self.old.meta { bits = slice_set self.old.meta.bits bank (slice_set (slice_index_or self.old.meta.bits bank []) image on) } } }
+        ensures set { self.new ≡ record self.old { meta = record self.old.meta {
+            bits = slice_set self.old.meta.bits bank (slice_set (slice_index_or self.old.meta.bits bank []) image on) } } }
         ensures fits { (L : LayoutValue) → IsTrue (fits_meta L self.old.meta) →
             IsTrue (fits_meta L self.new.meta) }
     {

@@ -150,7 +150,8 @@ fn put_rest(out: &mut [u8], at: usize, layout: &Layout) -> usize
     requires { at + 12 ≤ length out.old }
     ensures next { result ≡ at + 12 }
     ensures front { take result out.new ≡
-        take at out.old ++ le 4 0 ++ le 1 layout.now.banks ++ le 1 0 ++ le 2 (length layout.now.rows) ++ le 2 (entry_size layout.now) ++ le 2 24 }
+        take at out.old ++ le 4 0 ++ le 1 layout.now.banks ++ le 1 0 ++ le 2 (length layout.now.rows)
+        ++ le 2 (entry_size layout.now) ++ le 2 24 }
 {
     let banks = layout.banks();
     let images = layout.rows().len();
@@ -226,7 +227,8 @@ impl Meta {
     pub fn write_one(&self, layout: &Layout, out: &mut [u8])
         requires room { meta_size_v1 layout.now ≤ length out.old }
         requires fits { IsTrue (fits_meta layout.now self.now.meta) }
-        ensures spelled { out.new ≡ meta_bytes_v1 layout.now self.now.meta ++ replicate (length out.old - meta_size_v1 layout.now) 0xFF }
+        ensures spelled { out.new ≡ meta_bytes_v1 layout.now self.now.meta
+            ++ replicate (length out.old - meta_size_v1 layout.now) 0xFF }
         ensures read_again { IsSayableInV1 layout.now self.now.meta →
             meta_size layout.now ≤ length out.old →
             meta_of layout.now out.new ≡ Ok (record { form = 1; meta = self.now.meta }) }
