@@ -57,7 +57,8 @@ WritesMoves result [] at s t = t ≡ s
 WritesMoves result (m ∷ ms) at s t = WritesMove result m at s t
 
 -- What a call with these moves leaves of a flash that shows a state: it writes marks and records alone.
-pub record Leads {T : Type 0} (result : Result T FlashStop) (L : Layout) (state : State) (ms : List Move) (s t : Told) : Type 0 where
+pub record Leads {T : Type 0} (result : Result T FlashStop) (L : Layout) (state : State) (ms : List Move)
+    (s t : Told) : Type 0 where
   pub keeps : Keeps 12288 28672 s t
   pub writes : WritesMoves result ms state.trials s t
   -- on any flash: when done, the counter is that of the state after the moves

@@ -8,7 +8,8 @@ pub record IsSought {F : Type 0} (position : F → Option ℕ) (bytes : F → Op
   pub kept : Keeps (bytes old) (bytes new)
 
 -- From a state that was sought on, a reader lost exactly these bytes, or a writer took exactly them.
-pub record TakesAt {F : Type 0} (position : F → Option ℕ) (bytes passed : F → Option (List ℕ)) (Moves : Option (List ℕ) → Option (List ℕ) → List ℕ → Type 0) (at : ℕ) (moved : List ℕ) (old new : F) : Type 0 where
+pub record TakesAt {F : Type 0} (position : F → Option ℕ) (bytes passed : F → Option (List ℕ))
+    (Moves : Option (List ℕ) → Option (List ℕ) → List ℕ → Type 0) (at : ℕ) (moved : List ℕ) (old new : F) : Type 0 where
   pub between : F
   pub sought : IsSought position bytes at old between
   pub moves : Moves (passed between) (passed new) moved

@@ -19,7 +19,8 @@ flash_result (Err ReadFailed) = Ok tt
 flash_result (Err (Flash stop)) = Err stop
 
 -- No fault of the files falls, and the file could not be read only where they rose, or told files lack the name.
-pub record ReadsBy {T : Type 0} (told : Option Directory) (name : List ℕ) (before now : ℕ) (result : Result T FormatStop) : Type 0 where
+pub record ReadsBy {T : Type 0} (told : Option Directory) (name : List ℕ) (before now : ℕ)
+    (result : Result T FormatStop) : Type 0 where
   pub later : before ≤ now
   pub failed : result ≡ Err ReadFailed → Rose before now ⊎ Lacks told name
 

@@ -165,7 +165,8 @@ pub fn format<D: Flash, H: Files, V: Verifier>(
     ensures deserved { (found : Verdict) → result ≡ Err (InputRefused (BankRefused found)) →
         IsTrue D.tells → (file : List ℕ) (toc : Toc) → Tells (H.contents files.old) name.now file →
         toc_of file ≡ Ok toc
-        → IsTrue (is_complete rows.now (images_of rows.now file toc)) → IsTrue (V.passes verifier.now (manifest_part (images_of rows.now file toc))) → ⊥ }
+        → IsTrue (is_complete rows.now (images_of rows.now file toc))
+        → IsTrue (V.passes verifier.now (manifest_part (images_of rows.now file toc))) → ⊥ }
     // Beyond the last bank nothing changes, at any exit.
     ensures keeps { IsTrue D.tells →
         Keeps 0 (4096 * blocks_needed (record { banks = banks; rows = rows.now }))

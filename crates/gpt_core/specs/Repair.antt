@@ -61,7 +61,9 @@ pub record Cleared (w : TableCopy) (blocks : ℕ) (t : Table) (s : Told) : Type 
 -- and its entries are those of the table
 pub record Filled (w : TableCopy) (blocks : ℕ) (t : Table) (s : Told) : Type 0 where
   pub cleared : Cleared w blocks t s
-  pub entries : part s.now (4096 * entries_at w blocks (blocks_of (number_of t))) (4096 * entries_at w blocks (blocks_of (number_of t)) + length t.entries) ≡ t.entries
+  pub entries : part s.now (4096 * entries_at w blocks (blocks_of (number_of t)))
+          (4096 * entries_at w blocks (blocks_of (number_of t)) + length t.entries)
+      ≡ t.entries
 
 -- What a step leaves, at any exit: in each image the table decides; when done, P.
 pub record Steps {T : Type 0} (P : Told → Type 0) (result : Result T FlashStop) (blocks : ℕ) (t : Table) (u : Told) : Type 0 where
@@ -71,7 +73,9 @@ pub record Steps {T : Type 0} (P : Told → Type 0) (result : Result T FlashStop
 -- These bytes are the header of copy w: over an erased block, in front of the table's entries, they make the copy say the table.
 abbrev pub Spells : TableCopy → ℕ → Table → List ℕ → Type 0
 Spells w blocks t bytes = (image : List ℕ) → length image ≡ 4096 * blocks → block (header_at w blocks) image ≡ blank 4096
-    → part image (4096 * entries_at w blocks (blocks_of (number_of t))) (4096 * entries_at w blocks (blocks_of (number_of t)) + length t.entries) ≡ t.entries
+    → part image (4096 * entries_at w blocks (blocks_of (number_of t)))
+            (4096 * entries_at w blocks (blocks_of (number_of t)) + length t.entries)
+        ≡ t.entries
     → copy_in w blocks (overwritten (4096 * header_at w blocks) bytes image) ≡ Some t
 
 -- the copy that these bytes are written for, and the table

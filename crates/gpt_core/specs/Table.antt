@@ -79,7 +79,8 @@ entries_in copy blocks header image =
     part image at (at + number_in header * 128)
 
 abbrev pub table_of : List ℕ → List ℕ → Table
-table_of header entries = record { disk = part header 56 72; first = num_at 8 header 40; last = num_at 8 header 48; entries = entries }
+table_of header entries =
+    record { disk = part header 56 72; first = num_at 8 header 40; last = num_at 8 header 48; entries = entries }
 
 -- the table by a header and the entries that it speaks of, which have the header's checksum
 abbrev pub checked : List ℕ → List ℕ → Option Table
@@ -157,11 +158,13 @@ header_lead = codes "EFI PART" ++ le 4 65536 ++ le 4 92
 
 -- those from the checksum to the disk's GUID
 unfoldable pub header_places : TableCopy → ℕ → Table → List ℕ
-header_places copy blocks t = le 4 0 ++ le 8 (header_at copy blocks) ++ le 8 (header_at (other copy) blocks) ++ le 8 t.first ++ le 8 t.last
+header_places copy blocks t =
+    le 4 0 ++ le 8 (header_at copy blocks) ++ le 8 (header_at (other copy) blocks) ++ le 8 t.first ++ le 8 t.last
 
 -- and those behind the GUID
 unfoldable pub header_back : TableCopy → ℕ → Table → List ℕ
-header_back copy blocks t = le 8 (entries_at copy blocks (blocks_of (number_of t))) ++ le 4 (number_of t) ++ le 4 128 ++ le 4 (crc t.entries)
+header_back copy blocks t =
+    le 8 (entries_at copy blocks (blocks_of (number_of t))) ++ le 4 (number_of t) ++ le 4 128 ++ le 4 (crc t.entries)
 
 -- the 92 bytes of a header with this checksum
 abbrev pub header_with : TableCopy → ℕ → Table → ℕ → List ℕ

@@ -88,7 +88,8 @@ impl<D: Flash, K: Start> Mapped<D, K> {
         requires inside { at + length out.old ≤ 4096 * (places_of self.old).store_blocks }
         requires some { 0 < length out.old }
         requires one_block { at < 12288 → at % 4096 + length out.old ≤ 4096 }
-        ensures bytes { OnOk result (IsTrue D.tells → out.new ≡ slice_range (through (places_of self.old) (D.told (device self.old)).now) at (at + length out.old)) }
+        ensures bytes { OnOk result (IsTrue D.tells
+            → out.new ≡ slice_range (through (places_of self.old) (D.told (device self.old)).now) at (at + length out.old)) }
         ensures content { IsTrue D.tells → D.told (device self.new) ≡ D.told (device self.old) }
         ensures power { D.on (device self.new) ≡ is_ok result }
         ensures places { places_of self.new ≡ places_of self.old }
@@ -105,7 +106,8 @@ impl<D: Flash, K: Start> Mapped<D, K> {
     fn read_pieces(&mut self, at: u32, out: &mut [u8]) -> Result<(), FlashStop>
         requires on { IsTrue (D.on (device self.old)) }
         requires inside { at + length out.old ≤ 4096 * (places_of self.old).store_blocks }
-        ensures bytes { OnOk result (IsTrue D.tells → out.new ≡ slice_range (through (places_of self.old) (D.told (device self.old)).now) at (at + length out.old)) }
+        ensures bytes { OnOk result (IsTrue D.tells
+            → out.new ≡ slice_range (through (places_of self.old) (D.told (device self.old)).now) at (at + length out.old)) }
         ensures content { IsTrue D.tells → D.told (device self.new) ≡ D.told (device self.old) }
         ensures power { D.on (device self.new) ≡ is_ok result }
         ensures places { places_of self.new ≡ places_of self.old }
@@ -161,7 +163,8 @@ impl<D: Flash, K: Start> Flash for Mapped<D, K> {
 
     ghost sizes = { λ m. m.fits.sizes };
 
-    ghost sound = { λ m tells. view_sound m.places (D.blocks m.flash) (D.on m.flash) (D.told m.flash) m.fits (D.sound m.flash tells) };
+    ghost sound = { λ m tells.
+        view_sound m.places (D.blocks m.flash) (D.on m.flash) (D.told m.flash) m.fits (D.sound m.flash tells) };
 
     ghost ahead = { λ m. D.ahead m.flash };
 

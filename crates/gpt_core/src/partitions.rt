@@ -163,7 +163,8 @@ fn are_large_in(
 fn places_at(store: &Partition, zero: &Partition, one: &Partition) -> Places
     requires forward { store.now.first ≤ store.now.last }
     requires small { (store.now.last < 65536) × (zero.now.first < 65536) × (one.now.first < 65536) }
-    ensures { result ≡ record { store_first = store.now.first; store_blocks = size_of store.now; replicas = zero.now.first ∷ one.now.first ∷ [] } }
+    ensures { result ≡
+        record { store_first = store.now.first; store_blocks = size_of store.now; replicas = zero.now.first ∷ one.now.first ∷ [] } }
 {
     Places {
         store_first: store.first as u32,

@@ -113,7 +113,8 @@ fn read_entries<D: Flash>(
     requires long { 92 ≤ length header.now }
     requires header { IsTrue (is_header copy (D.blocks flash.old) header.now) }
 
-    ensures bytes { IfOk result (λ v. IsTrue D.tells → v.items ≡ entries_in copy (D.blocks flash.old) header.now (D.told flash.old).now) }
+    ensures bytes { IfOk result (λ v. IsTrue D.tells
+        → v.items ≡ entries_in copy (D.blocks flash.old) header.now (D.told flash.old).now) }
     ensures count { IfOk result (λ v. length v.items ≡ number_in header.now * 128) }
     ensures some { IsErrOf result GptStop.NoTable → ⊥ }
     ensures content { IsTrue D.tells → D.told flash.new ≡ D.told flash.old }
@@ -233,7 +234,8 @@ pub fn read_table<D: Flash>(alloc: Global, flash: &mut D) -> Result<(Table, Whic
     requires on { IsTrue (D.on flash.old) }
 
     ensures table { IfOk result (λ r. IsTrue D.tells → table_in_image (D.blocks flash.old) (D.told flash.old).now ≡ Some r) }
-    ensures none { IsErrOf result GptStop.NoTable → IsTrue D.tells → table_in_image (D.blocks flash.old) (D.told flash.old).now ≡ None }
+    ensures none { IsErrOf result GptStop.NoTable → IsTrue D.tells
+        → table_in_image (D.blocks flash.old) (D.told flash.old).now ≡ None }
     ensures fits { IfOk result (λ r. FitsTable (D.blocks flash.old) r.0) }
     ensures content { IsTrue D.tells → D.told flash.new ≡ D.told flash.old }
     ensures power { D.on flash.new ≡ is_ok (flash_result result) }
@@ -252,6 +254,8 @@ pub fn read_table<D: Flash>(alloc: Global, flash: &mut D) -> Result<(Table, Whic
 
 /// A copy says a table exactly where its header and its entries are those of the format.
 pub fn a_copy_is_its_bytes()
-    ensures says { (copy : TableCopy) (blocks : ℕ) (image : List ℕ) (t : Said) → copy_in copy blocks image ≡ Some t → IsCopy copy blocks image t }
-    ensures said { (copy : TableCopy) (blocks : ℕ) (image : List ℕ) (t : Said) → IsCopy copy blocks image t → copy_in copy blocks image ≡ Some t }
+    ensures says { (copy : TableCopy) (blocks : ℕ) (image : List ℕ) (t : Said)
+        → copy_in copy blocks image ≡ Some t → IsCopy copy blocks image t }
+    ensures said { (copy : TableCopy) (blocks : ℕ) (image : List ℕ) (t : Said)
+        → IsCopy copy blocks image t → copy_in copy blocks image ≡ Some t }
 {}

@@ -180,8 +180,12 @@ fn mend<D: Flash>(
     requires room { 4096 ≤ length buf.old }
 
     ensures steps { IsTrue D.tells → Ready copy (D.blocks flash.old) table.now (D.told flash.old)
-        → Steps (λ u. BothSay (D.blocks flash.old) table.now u.now × NothingDirty u) result (D.blocks flash.old) table.now (D.told flash.new) }
-    ensures keeps { IsTrue D.tells → Keeps (copy_from copy (D.blocks flash.old) (blocks_of (number_of table.now))) (copy_to copy (D.blocks flash.old) (blocks_of (number_of table.now))) (D.told flash.old) (D.told flash.new) }
+        → Steps (λ u. BothSay (D.blocks flash.old) table.now u.now × NothingDirty u) result
+            (D.blocks flash.old) table.now (D.told flash.new) }
+    ensures keeps { IsTrue D.tells → Keeps
+        (copy_from copy (D.blocks flash.old) (blocks_of (number_of table.now)))
+        (copy_to copy (D.blocks flash.old) (blocks_of (number_of table.now)))
+        (D.told flash.old) (D.told flash.new) }
     ensures settled { OnOk result (IsTrue D.tells → NothingDirty (D.told flash.new)) }
     ensures power { D.on flash.new ≡ is_ok result }
     ensures size { D.blocks flash.new ≡ D.blocks flash.old }
@@ -213,7 +217,8 @@ pub fn repair_table<D: Flash>(
     requires room { 4096 ≤ length buf.old }
     requires read { IsTrue D.tells → table_in_image (D.blocks flash.old) (D.told flash.old).now ≡ Some (table.now, which) }
 
-    ensures mends { IsTrue D.tells → HeadersGuarded (D.blocks flash.old) (D.told flash.old) → Mends result (D.blocks flash.old) table.now (D.told flash.new) }
+    ensures mends { IsTrue D.tells → HeadersGuarded (D.blocks flash.old) (D.told flash.old)
+        → Mends result (D.blocks flash.old) table.now (D.told flash.new) }
     ensures none { which ≡ WhichTable.Same → flash.new ≡ flash.old }
     ensures alone { IsTrue D.tells → StaysBeside (D.blocks flash.old) table.now which (D.told flash.old) (D.told flash.new) }
     // When done nothing is dirty, whatever is guarded.

@@ -17,7 +17,8 @@ use flash_core::{Flash, FlashStop};
 pub fn clear_header<D: Flash>(flash: &mut D, header: u32) -> Result<(), FlashStop>
     requires on { IsTrue (D.on flash.old) }
     requires inside { header < D.blocks flash.old }
-    ensures steps { (w : TableCopy) (t : Table) → IsTrue D.tells → header ≡ header_at w (D.blocks flash.old) → Ready w (D.blocks flash.old) t (D.told flash.old)
+    ensures steps { (w : TableCopy) (t : Table) → IsTrue D.tells → header ≡ header_at w (D.blocks flash.old)
+        → Ready w (D.blocks flash.old) t (D.told flash.old)
         → Steps (Cleared w (D.blocks flash.old) t) result (D.blocks flash.old) t (D.told flash.new) }
     ensures keeps { IsTrue D.tells → Keeps (4096 * header) (4096 * header + 4096) (D.told flash.old) (D.told flash.new) }
     ensures empty { OnOk result (IsTrue D.tells → block header (D.told flash.new).now ≡ blank 4096) }
@@ -39,7 +40,8 @@ pub fn write_header<D: Flash>(flash: &mut D, b: u32, bytes: &[u8]) -> Result<(),
     requires some { 0 < length bytes.now }
     requires fits { length bytes.now ≤ 4096 }
     requires empty { IsTrue D.tells → block b (D.told flash.old).now ≡ blank 4096 }
-    ensures steps { (w : TableCopy) (t : Table) → IsTrue D.tells → b ≡ header_at w (D.blocks flash.old) → Filled w (D.blocks flash.old) t (D.told flash.old)
+    ensures steps { (w : TableCopy) (t : Table) → IsTrue D.tells → b ≡ header_at w (D.blocks flash.old)
+        → Filled w (D.blocks flash.old) t (D.told flash.old)
         → copy_in w (D.blocks flash.old) (overwritten (4096 * b) bytes.now (D.told flash.old).now) ≡ Some t
         → Steps (λ u. BothSay (D.blocks flash.old) t u.now × NothingDirty u) result (D.blocks flash.old) t (D.told flash.new) }
     ensures keeps { IsTrue D.tells → Keeps (4096 * b) (4096 * b + 4096) (D.told flash.old) (D.told flash.new) }
@@ -62,7 +64,8 @@ fn write_block<D: Flash>(flash: &mut D, b: u32, bytes: &[u8]) -> Result<(), Flas
     requires some { 0 < length bytes.now }
     requires fits { length bytes.now ≤ 4096 }
     ensures keeps { IsTrue D.tells → Keeps (4096 * b) (4096 * b + 4096) (D.told flash.old) (D.told flash.new) }
-    ensures written { OnOk result (IsTrue D.tells → part (D.told flash.new).now (4096 * b) (4096 * b + length bytes.now) ≡ bytes.now) }
+    ensures written { OnOk result (IsTrue D.tells
+        → part (D.told flash.new).now (4096 * b) (4096 * b + length bytes.now) ≡ bytes.now) }
     ensures power { D.on flash.new ≡ is_ok result }
     ensures size { D.blocks flash.new ≡ D.blocks flash.old }
     ensures costs { Spends result (D.counts flash.old) (D.counts flash.new) }
@@ -79,8 +82,10 @@ fn write_blocks<D: Flash>(flash: &mut D, first: u32, bytes: &[u8]) -> Result<(),
     requires inside { 4096 * first + length bytes.now ≤ 4096 * D.blocks flash.old }
     requires granules { length bytes.now % 16 ≡ 0 }
     requires some { 0 < length bytes.now }
-    ensures keeps { IsTrue D.tells → Keeps (4096 * first) (4096 * first + 4096 * ((length bytes.now + 4095) / 4096)) (D.told flash.old) (D.told flash.new) }
-    ensures written { OnOk result (IsTrue D.tells → part (D.told flash.new).now (4096 * first) (4096 * first + length bytes.now) ≡ bytes.now) }
+    ensures keeps { IsTrue D.tells
+        → Keeps (4096 * first) (4096 * first + 4096 * ((length bytes.now + 4095) / 4096)) (D.told flash.old) (D.told flash.new) }
+    ensures written { OnOk result (IsTrue D.tells
+        → part (D.told flash.new).now (4096 * first) (4096 * first + length bytes.now) ≡ bytes.now) }
     ensures power { D.on flash.new ≡ is_ok result }
     ensures size { D.blocks flash.new ≡ D.blocks flash.old }
     ensures costs { Spends result (D.counts flash.old) (D.counts flash.new) }
@@ -102,9 +107,12 @@ pub fn write_entries<D: Flash>(flash: &mut D, first: u32, bytes: &[u8]) -> Resul
     requires inside { 4096 * first + length bytes.now ≤ 4096 * D.blocks flash.old }
     requires granules { length bytes.now % 16 ≡ 0 }
     requires some { 0 < length bytes.now }
-    ensures steps { (w : TableCopy) (t : Table) → IsTrue D.tells → first ≡ entries_at w (D.blocks flash.old) (blocks_of (number_of t)) → bytes.now ≡ t.entries
-        → Cleared w (D.blocks flash.old) t (D.told flash.old) → Steps (Filled w (D.blocks flash.old) t) result (D.blocks flash.old) t (D.told flash.new) }
-    ensures keeps { IsTrue D.tells → Keeps (4096 * first) (4096 * first + 4096 * ((length bytes.now + 4095) / 4096)) (D.told flash.old) (D.told flash.new) }
+    ensures steps { (w : TableCopy) (t : Table) → IsTrue D.tells
+        → first ≡ entries_at w (D.blocks flash.old) (blocks_of (number_of t)) → bytes.now ≡ t.entries
+        → Cleared w (D.blocks flash.old) t (D.told flash.old)
+        → Steps (Filled w (D.blocks flash.old) t) result (D.blocks flash.old) t (D.told flash.new) }
+    ensures keeps { IsTrue D.tells
+        → Keeps (4096 * first) (4096 * first + 4096 * ((length bytes.now + 4095) / 4096)) (D.told flash.old) (D.told flash.new) }
     ensures power { D.on flash.new ≡ is_ok result }
     ensures size { D.blocks flash.new ≡ D.blocks flash.old }
     ensures costs { Spends result (D.counts flash.old) (D.counts flash.new) }
@@ -136,7 +144,8 @@ pub fn repair_copy<D: Flash>(
     requires apart { (header < first) ⊎ (first + (length entries.now + 4095) / 4096 ≤ header) }
     ensures steps { IsTrue D.tells → (x : Writing (D.blocks flash.old) header first head.now entries.now (D.told flash.old))
         → Steps (λ u. BothSay (D.blocks flash.old) x.t u.now × NothingDirty u) result (D.blocks flash.old) x.t (D.told flash.new) }
-    ensures keeps { (low high : ℕ) → low ≤ 4096 * header → 4096 * header + 4096 ≤ high → low ≤ 4096 * first → 4096 * first + 4096 * ((length entries.now + 4095) / 4096) ≤ high
+    ensures keeps { (low high : ℕ) → low ≤ 4096 * header → 4096 * header + 4096 ≤ high → low ≤ 4096 * first
+        → 4096 * first + 4096 * ((length entries.now + 4095) / 4096) ≤ high
         → IsTrue D.tells → Keeps low high (D.told flash.old) (D.told flash.new) }
     ensures settled { OnOk result (IsTrue D.tells → NothingDirty (D.told flash.new)) }
     ensures power { D.on flash.new ≡ is_ok result }

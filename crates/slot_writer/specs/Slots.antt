@@ -38,7 +38,8 @@ abbrev pub kept_of : ℕ → List ℕ → List ℕ → List ℕ
 kept_of size rest bytes = drop (done_of (size + length bytes) - done_of size) (take (size % 16) rest ++ bytes)
 
 -- what appending bytes to an image of this length leaves, at any exit
-pub record Appends {T : Type 0} (result : Result T FlashStop) (first size : ℕ) (rest bytes left : List ℕ) (s t : Told) : Type 0 where
+pub record Appends {T : Type 0} (result : Result T FlashStop) (first size : ℕ) (rest bytes left : List ℕ)
+    (s t : Told) : Type 0 where
   -- nothing changes before the bytes that are new on the flash, nor behind the last block that they reach
   pub keeps : Keeps (4096 * first + done_of size) (4096 * (first + blocks_for (done_of (size + length bytes)))) s t
   -- nothing at all where no granule becomes whole

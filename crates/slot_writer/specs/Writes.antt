@@ -15,7 +15,8 @@ lowered_by writes (Some arming) = Some (record { n = arming.n - writes; k = armi
 
 -- What a call of so many erases and programs leaves of an arming, on every device: when done, each of them took one off, and none
 -- was the armed one; a loss clears it; where nothing was armed, none was reached.
-pub record SpendsArming {T : Type 0} (result : Result T FlashStop) (writes : ℕ) (armed arming : Option Arming) (old new : Counts) : Type 0 where
+pub record SpendsArming {T : Type 0} (result : Result T FlashStop) (writes : ℕ) (armed arming : Option Arming)
+    (old new : Counts) : Type 0 where
   pub lowered : OnOk result (arming ≡ lowered_by writes armed)
   pub passed : OnOk result (ForSome armed (λ a. 1 ≤ a.n → writes < a.n))
   pub lost : IsErrOf result Lost → arming ≡ None
@@ -35,7 +36,8 @@ programs_of_whole size n = if nat_lt (16 * ((size + 15) / 16)) (done_of (size + 
 
 -- appending so many bytes to an image of this length: an erase of each block that its whole granules reach first, and the programs
 abbrev pub writes_to_append : ℕ → ℕ → ℕ
-writes_to_append size n = (blocks_for (done_of (size + n)) - blocks_for (done_of size)) + (programs_of_kept size n + programs_of_whole size n)
+writes_to_append size n =
+    (blocks_for (done_of (size + n)) - blocks_for (done_of size)) + (programs_of_kept size n + programs_of_whole size n)
 
 -- ending an image of this length: an erase where the kept bytes begin a block, and one program where some are kept
 abbrev pub writes_to_finish : ℕ → ℕ
