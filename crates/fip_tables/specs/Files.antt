@@ -31,7 +31,8 @@ pub record IsOfSome (result : Result Toc TocStop) : Type 0 where
   pub answer : IsAnswer result (toc_of bytes)
 
 -- a reading fails only where the files' faults rose, or told files lack the name
-pub record HasReadCause {T : Type 0} (told : Option Directory) (name : List ℕ) (before now : ℕ) (result : Result T TocStop) : Type 0 where
+pub record HasReadCause {T : Type 0} (told : Option Directory) (name : List ℕ) (before now : ℕ)
+    (result : Result T TocStop) : Type 0 where
   pub later : before ≤ now
   pub failed : result ≡ Err ReadFailed → Rose before now ⊎ Lacks told name
 

@@ -69,7 +69,8 @@ next_entry f = slice_index_or f.entries f.count (marker f.size)
 
 -- each payload lies in so many bytes
 abbrev pub AreInside : List Entry → ℕ → Type 0
-AreInside entries size = (i : ℕ) (d : Entry) → i < length entries → (slice_index_or entries i d).offset + (slice_index_or entries i d).size ≤ size
+AreInside entries size =
+    (i : ℕ) (d : Entry) → i < length entries → (slice_index_or entries i d).offset + (slice_index_or entries i d).size ≤ size
 
 -- One more payload is in: it is the next part's where these are its bytes.
 pub record Fills (old new : Filling) (bytes : List ℕ) : Type 0 where

@@ -10,4 +10,6 @@ FaultsStand = (bytes rest : List ℕ) (f : FipFault) → decided (toc_of bytes) 
 
 -- Of what follows a whole table nothing but its length counts.
 abbrev pub TablesStandByLength : Type 0
-TablesStandByLength = (bytes gap other : List ℕ) → IsTrue (has_marker (toc_of bytes)) → length gap ≡ length other → toc_of (bytes ++ gap) ≡ toc_of (bytes ++ other)
+TablesStandByLength =
+    (bytes gap other : List ℕ) → IsTrue (has_marker (toc_of bytes)) → length gap ≡ length other
+    → toc_of (bytes ++ gap) ≡ toc_of (bytes ++ other)

@@ -62,7 +62,8 @@ pub fn outlines(alloc: Global, parts: &[Part]) -> Result<Vec<Outline>, AllocErro
 /// A serial number of zero is packed too, and then no reader takes the package (`ZeroSerial`).
 pub fn pack(alloc: Global, parts: &Parts, align: u32) -> Result<Vec<u8>, PackStop>
     ensures ok { IfOk result (λ v. v.items ≡ packed parts.now.serial parts.now.flags parts.now.parts.items align) }
-    ensures read_again { IfOk result (λ v. parts.now.serial ≢ 0 → ReadsAgain parts.now.serial parts.now.flags parts.now.parts.items v.items) }
+    ensures read_again { IfOk result (λ v. parts.now.serial ≢ 0
+        → ReadsAgain parts.now.serial parts.now.flags parts.now.parts.items v.items) }
     ensures fits { OnOk result (pack_fault parts.now.parts.items align ≡ None) }
     ensures err { (f : PackFault) → result ≡ Err (stop.Fault f) → pack_fault parts.now.parts.items align ≡ Some f }
 {

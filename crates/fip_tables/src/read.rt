@@ -33,8 +33,10 @@ fn feed_next<H: Files>(
     requires count { stream.old.count ≡ at }
     ensures some { IfOk result (λ count. (0 < count) × (at + count ≤ size)) }
     ensures count { IfOk result (λ count. stream.new.count ≡ at + count) }
-    ensures fed { IfOk result (λ count. HasFed (H.contents files.old) name.now stream.old at → HasFed (H.contents files.old) name.now stream.new (at + count)) }
-    ensures fault { (f : FipFault) → result ≡ Err (stop.Fault f) → HasFed (H.contents files.old) name.now stream.old at → IsFault (H.contents files.old) name.now f }
+    ensures fed { IfOk result (λ count. HasFed (H.contents files.old) name.now stream.old at
+        → HasFed (H.contents files.old) name.now stream.new (at + count)) }
+    ensures fault { (f : FipFault) → result ≡ Err (stop.Fault f) → HasFed (H.contents files.old) name.now stream.old at
+        → IsFault (H.contents files.old) name.now f }
     ensures same { H.contents files.new ≡ H.contents files.old }
     ensures cause { HasReadCause (H.contents files.old) name.now (H.faults files.old) (H.faults files.new) result }
 {
@@ -106,9 +108,11 @@ pub fn payload_at<H: Files>(
 ) -> Result<(), Failed>
     requires inside { at + length out.old ≤ entry.now.size }
     requires ends { entry.now.offset + entry.now.size < 2 ^ 64 }
-    requires stored { (bytes : List ℕ) → Tells (H.contents files.old) name.now bytes → entry.now.offset + entry.now.size ≤ length bytes }
+    requires stored { (bytes : List ℕ) → Tells (H.contents files.old) name.now bytes
+        → entry.now.offset + entry.now.size ≤ length bytes }
     requires there { Lacks (H.contents files.old) name.now → ⊥ }
-    ensures bytes { OnOk result ((bytes : List ℕ) → Tells (H.contents files.old) name.now bytes → out.new ≡ take (length out.old) (drop at (payload bytes entry.now))) }
+    ensures bytes { OnOk result ((bytes : List ℕ) → Tells (H.contents files.old) name.now bytes
+        → out.new ≡ take (length out.old) (drop at (payload bytes entry.now))) }
     ensures same { H.contents files.new ≡ H.contents files.old }
     ensures cause { HasCause (H.faults files.old) (H.faults files.new) result }
 {

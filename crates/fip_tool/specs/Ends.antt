@@ -79,21 +79,26 @@ SinkFailed n outcome files now was text files-rose =
     ⊎ (StandAfter n outcome files now files-rose × SaidStop n outcome was text files-rose)
 
 -- How the tool ended. The files were `files` and the told contents are `now`; the sink's text was `was` and is `text`.
-abbrev pub EndedBy : Outcome → Directory → Option Directory → Option (List ℕ) → Option (List ℕ) → Type 0 → Type 0 → Result (Unit {0}) Stop → Type 0
+abbrev pub EndedBy : Outcome → Directory → Option Directory → Option (List ℕ) → Option (List ℕ) → Type 0 → Type 0
+    → Result (Unit {0}) Stop → Type 0
 EndedBy outcome files now was text files-rose sink-rose (Ok done) =
-    (outcome ≡ Makes (steps_of outcome)) × Are now (written (steps_of outcome) files) × Appends was text (printed (steps_of outcome))
+    (outcome ≡ Makes (steps_of outcome)) × Are now (written (steps_of outcome) files)
+    × Appends was text (printed (steps_of outcome))
 EndedBy outcome files now was text files-rose sink-rose (Err stop.NoMemory) =
     (n : ℕ) × StandAfter n outcome files now files-rose × Appends was text (printed (take n (steps_of outcome)))
 EndedBy outcome files now was text files-rose sink-rose (Err stop.SinkFault) =
     sink-rose × (n : ℕ) × SinkFailed n outcome files now was text files-rose
 EndedBy outcome files now was text files-rose sink-rose (Err stop.FileFault) =
-    HasCauseOf outcome files-rose stop.FileFault × (n : ℕ) × AreUpTo (drop n (steps_of outcome)) now (written (take n (steps_of outcome)) files)
+    HasCauseOf outcome files-rose stop.FileFault × (n : ℕ)
+    × AreUpTo (drop n (steps_of outcome)) now (written (take n (steps_of outcome)) files)
     × Appends was text (printed (take n (steps_of outcome)) ++ stop_line stop.FileFault)
-EndedBy outcome files now was text files-rose sink-rose (Err s) = (outcome ≡ Refuses s) × Are now files × Appends was text (stop_line s)
+EndedBy outcome files now was text files-rose sink-rose (Err s) =
+    (outcome ≡ Refuses s) × Are now files × Appends was text (stop_line s)
 
 abbrev pub Ended : Outcome → Directory → Option Directory → Option (List ℕ) → Option (List ℕ) → Type 0 → Type 0 → ℕ → Type 0
 Ended outcome files now was text files-rose sink-rose status =
-    (result : Result (Unit {0}) Stop) × (status ≡ exit_status result) × EndedBy outcome files now was text files-rose sink-rose result
+    (result : Result (Unit {0}) Stop) × (status ≡ exit_status result)
+    × EndedBy outcome files now was text files-rose sink-rose result
 
 -- what the line of a stop leaves, and the stop then
 abbrev pub Told : Option (List ℕ) → Option (List ℕ) → Type 0 → Stop → Stop → Type 0

@@ -12,12 +12,14 @@ eight_digits n = encode_lower (reverse (le 4 n))
 
 unfoldable pub head_line : Toc → ℕ → List ℕ
 head_line toc size =
-    codes "serial=" ++ eight_digits toc.serial ++ codes " flags=" ++ decimal toc.flags ++ codes " entries=" ++ decimal (length toc.entries)
+    codes "serial=" ++ eight_digits toc.serial ++ codes " flags=" ++ decimal toc.flags
+    ++ codes " entries=" ++ decimal (length toc.entries)
     ++ codes " size=" ++ decimal size ++ codes "\n"
 
 unfoldable pub entry_line : Entry → List ℕ
 entry_line e =
-    guid_text e.guid ++ codes " offset=" ++ decimal e.offset ++ codes " size=" ++ decimal e.size ++ codes " flags=" ++ decimal e.flags ++ codes "\n"
+    guid_text e.guid ++ codes " offset=" ++ decimal e.offset ++ codes " size=" ++ decimal e.size
+    ++ codes " flags=" ++ decimal e.flags ++ codes "\n"
 
 -- a package with this table, of so many bytes
 unfoldable pub info_text : Toc → ℕ → List ℕ
@@ -38,4 +40,5 @@ abbrev pub unpacked_name : List ℕ → List ℕ → List ℕ
 unpacked_name prefix guid = prefix ++ guid_text guid ++ bin
 
 unfoldable pub unpacked_line : List ℕ → Entry → List ℕ
-unpacked_line prefix e = guid_text e.guid ++ codes " size=" ++ decimal e.size ++ codes " file=" ++ unpacked_name prefix e.guid ++ codes "\n"
+unpacked_line prefix e =
+    guid_text e.guid ++ codes " size=" ++ decimal e.size ++ codes " file=" ++ unpacked_name prefix e.guid ++ codes "\n"

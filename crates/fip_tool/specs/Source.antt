@@ -11,7 +11,8 @@ use Rattle.fip_tool.specs.declared.stops.Stop.TheVariants as stop
 -- The source gave a piece after what it had given, and the stream was fed it. None only at the end.
 abbrev pub FedSome : Stream → List ℕ → List ℕ → Option (List ℕ) → Option (List ℕ) → Type 0 → Result ℕ Stop → Type 0
 FedSome stream given piece was left source-rose (Ok n) =
-    Consumes was left piece × (length piece ≡ n) × (n ≡ 0 → IsAtEnd left) × Fed stream (given ++ piece) × (decided (toc_of (given ++ piece)) ≡ Ok tt)
+    Consumes was left piece × (length piece ≡ n) × (n ≡ 0 → IsAtEnd left) × Fed stream (given ++ piece)
+    × (decided (toc_of (given ++ piece)) ≡ Ok tt)
 FedSome stream given piece was left source-rose (Err (stop.NotFip f)) =
     Consumes was left piece × (length piece ≤ 4096) × (decided (toc_of (given ++ piece)) ≡ Err f)
 FedSome stream given piece was left source-rose (Err stop.FileFault) = Consumes was left piece × (length piece ≤ 4096) × source-rose

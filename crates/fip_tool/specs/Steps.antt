@@ -61,16 +61,19 @@ half_printed k (Prints text ∷ steps) = take k text
 
 -- What was done of a command, by its result. The files were `files` and the told contents are `now`; the sink's text was
 -- `was` and is `text`. Nothing but the command's steps was done, in their order.
-abbrev pub Did : Outcome → Directory → Option Directory → Option (List ℕ) → Option (List ℕ) → Type 0 → Type 0 → Result (Unit {0}) Stop → Type 0
+abbrev pub Did : Outcome → Directory → Option Directory → Option (List ℕ) → Option (List ℕ) → Type 0 → Type 0
+    → Result (Unit {0}) Stop → Type 0
 Did outcome files now was text files-rose sink-rose (Ok done) =
-    (outcome ≡ Makes (steps_of outcome)) × Are now (written (steps_of outcome) files) × Appends was text (printed (steps_of outcome))
+    (outcome ≡ Makes (steps_of outcome)) × Are now (written (steps_of outcome) files)
+    × Appends was text (printed (steps_of outcome))
 Did outcome files now was text files-rose sink-rose (Err NoMemory) =
     (n : ℕ) × Are now (written (take n (steps_of outcome)) files) × Appends was text (printed (take n (steps_of outcome)))
 Did outcome files now was text files-rose sink-rose (Err SinkFault) =
     sink-rose × (n : ℕ) × Are now (written (take n (steps_of outcome)) files)
     × (k : ℕ) × Appends was text (printed (take n (steps_of outcome)) ++ half_printed k (drop n (steps_of outcome)))
 Did outcome files now was text files-rose sink-rose (Err FileFault) =
-    ((outcome ≡ Refuses FileFault) ⊎ files-rose) × (n : ℕ) × AreUpTo (drop n (steps_of outcome)) now (written (take n (steps_of outcome)) files)
+    ((outcome ≡ Refuses FileFault) ⊎ files-rose) × (n : ℕ)
+    × AreUpTo (drop n (steps_of outcome)) now (written (take n (steps_of outcome)) files)
     × Appends was text (printed (take n (steps_of outcome)))
 Did outcome files now was text files-rose sink-rose (Err stop) = (outcome ≡ Refuses stop) × Are now files × Appends was text []
 

@@ -129,7 +129,8 @@ given_value given = after (given_table given) (λ t. Ok (info_text t.0 t.1))
 
 -- What a part of a command answers of what the source gave. The source was read to its end but where a fault was decided, or
 -- too many bytes came.
-abbrev pub GivenTo : {X Y : Type 0} → (X → Y) → (List ℕ → Result Y Stop) → Option (List ℕ) → Option (List ℕ) → Type 0 → Result X Stop → List ℕ → Type 0
+abbrev pub GivenTo : {X Y : Type 0} → (X → Y) → (List ℕ → Result Y Stop) → Option (List ℕ) → Option (List ℕ) → Type 0
+    → Result X Stop → List ℕ → Type 0
 GivenTo view value was left source-rose (Ok x) given = Consumes was left given × IsAtEnd left × (value given ≡ Ok (view x))
 GivenTo view value was left source-rose (Err stop.FileFault) given = Consumes was left given × source-rose
 GivenTo view value was left source-rose (Err stop.NoMemory) given = Consumes was left given
@@ -177,7 +178,8 @@ new_bytes None old = old
 new_bytes (Some p) old = p.bytes
 
 abbrev pub updated_part : List ℕ → List Part → Entry → Part
-updated_part bytes new e = record { guid = e.guid; flags = e.flags; bytes = new_bytes (find (λ p. same_bytes p.guid e.guid) new) (payload bytes e) }
+updated_part bytes new e =
+    record { guid = e.guid; flags = e.flags; bytes = new_bytes (find (λ p. same_bytes p.guid e.guid) new) (payload bytes e) }
 
 -- serial number, flags and order stay
 unfoldable pub update_value : Directory → ℕ → List ℕ → List NamedFile → Result (ℕ × List ℕ) Stop
@@ -270,7 +272,8 @@ unless_long count long =
 
 -- whether there is a manifest of named images, by how many they are and how long
 unfoldable pub sizes_value : Directory → List NamedImage → Result (Unit {0}) Stop
-sizes_value files named = after (there (each (image_in files) named)) (λ images. unless_long (length images) (list_any is_long images))
+sizes_value files named =
+    after (there (each (image_in files) named)) (λ images. unless_long (length images) (list_any is_long images))
 
 abbrev pub of_rows : ℕ → Option (List Row) → Result (ℕ × List ℕ) Stop
 of_rows security None = Err (stop.NoManifest fault.TooLarge)

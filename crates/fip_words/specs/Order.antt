@@ -46,31 +46,37 @@ abbrev pub info_by : Option Text → Option Asked
 info_by file = option_and_then (λ name. if same_bytes name (codes "-") then Some info_of_source else Some (info name)) file
 
 abbrev pub create_by : Option ℕ → Option Text → Option (List NamedFile) → Option Asked
-create_by align out parts = option_and_then (λ a. option_and_then (λ o. option_and_then (λ ps. Some (create a o ps)) parts) out) align
+create_by align out parts =
+    option_and_then (λ a. option_and_then (λ o. option_and_then (λ ps. Some (create a o ps)) parts) out) align
 
 abbrev pub update_by : Option ℕ → Option Text → Option Text → Option (List NamedFile) → Option Asked
 update_by align from out parts =
-    option_and_then (λ a. option_and_then (λ f. option_and_then (λ o. option_and_then (λ ps. Some (update a f o ps)) parts) out) from) align
+    option_and_then (λ a. option_and_then (λ f. option_and_then (λ o.
+        option_and_then (λ ps. Some (update a f o ps)) parts) out) from) align
 
 abbrev pub remove_by : Option ℕ → Option Text → Option Text → Option (List (List ℕ)) → Option Asked
 remove_by align from out names =
-    option_and_then (λ a. option_and_then (λ f. option_and_then (λ o. option_and_then (λ ns. Some (remove a f o ns)) names) out) from) align
+    option_and_then (λ a. option_and_then (λ f. option_and_then (λ o.
+        option_and_then (λ ns. Some (remove a f o ns)) names) out) from) align
 
 -- not where IN is a file that may be written
 abbrev pub unpack_to : Text → Text → List (List ℕ) → Option Asked
 unpack_to from prefix names = if is_unpacked prefix from then None else Some (unpack from prefix names)
 
 abbrev pub unpack_by : Option Text → Option Text → Option (List (List ℕ)) → Option Asked
-unpack_by from prefix names = option_and_then (λ f. option_and_then (λ p. option_and_then (λ ns. unpack_to f p ns) names) prefix) from
+unpack_by from prefix names =
+    option_and_then (λ f. option_and_then (λ p. option_and_then (λ ns. unpack_to f p ns) names) prefix) from
 
 abbrev pub manifest_by : Option Text → Option ℕ → Option (List NamedImage) → Option Asked
-manifest_by out security rows = option_and_then (λ o. option_and_then (λ s. option_and_then (λ rs. Some (manifest o s rs)) rows) security) out
+manifest_by out security rows =
+    option_and_then (λ o. option_and_then (λ s. option_and_then (λ rs. Some (manifest o s rs)) rows) security) out
 
 abbrev pub capsule_by : Option Text → Option Text → Option Asked
 capsule_by from out = option_and_then (λ f. option_and_then (λ o. Some (capsule f o)) out) from
 
 abbrev pub repackage_by : Option ℕ → Option Text → Option Text → Option Asked
-repackage_by align from out = option_and_then (λ a. option_and_then (λ f. option_and_then (λ o. Some (repackage a f o)) out) from) align
+repackage_by align from out =
+    option_and_then (λ a. option_and_then (λ f. option_and_then (λ o. Some (repackage a f o)) out) from) align
 
 abbrev pub align_in : List Row → Option ℕ
 align_in rows = align_of (first_of (codes "align") rows)
@@ -82,17 +88,20 @@ abbrev pub create_of : List Row → Option Asked
 create_of rows = create_by (align_in rows) (file_in (codes "out") rows) (parts_of (values_of (codes "parts") rows))
 
 abbrev pub update_of : List Row → Option Asked
-update_of rows = update_by (align_in rows) (file_in (codes "in") rows) (file_in (codes "out") rows) (parts_of (values_of (codes "parts") rows))
+update_of rows =
+    update_by (align_in rows) (file_in (codes "in") rows) (file_in (codes "out") rows) (parts_of (values_of (codes "parts") rows))
 
 abbrev pub remove_of : List Row → Option Asked
-remove_of rows = remove_by (align_in rows) (file_in (codes "in") rows) (file_in (codes "out") rows) (names_of (values_of (codes "parts") rows))
+remove_of rows =
+    remove_by (align_in rows) (file_in (codes "in") rows) (file_in (codes "out") rows) (names_of (values_of (codes "parts") rows))
 
 abbrev pub unpack_of : List Row → Option Asked
 unpack_of rows = unpack_by (file_in (codes "in") rows) (file_in (codes "prefix") rows) (names_of (values_of (codes "names") rows))
 
 abbrev pub manifest_of : List Row → Option Asked
 manifest_of rows =
-    manifest_by (file_in (codes "out") rows) (option_and_then number_read (first_of (codes "security") rows)) (rows_of (values_of (codes "rows") rows))
+    manifest_by (file_in (codes "out") rows) (option_and_then number_read (first_of (codes "security") rows))
+        (rows_of (values_of (codes "rows") rows))
 
 abbrev pub capsule_of : List Row → Option Asked
 capsule_of rows = capsule_by (file_in (codes "in") rows) (file_in (codes "out") rows)

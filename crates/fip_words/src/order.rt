@@ -89,7 +89,8 @@ fn given_number<'a>(found: &ArgMatches<'a>, id: &str) -> Result<u32, UsageStop>
 }
 
 fn given_parts<'a>(alloc: Global, found: &ArgMatches<'a>) -> Result<Vec<Part<'a>>, UsageStop>
-    ensures { Answers (λ v. map part_view v.items) result (value.parts_of (values_of (codes "parts") (rows_of (found_of found.now)))) }
+    ensures { Answers (λ v. map part_view v.items) result
+        (value.parts_of (values_of (codes "parts") (rows_of (found_of found.now)))) }
 {
     match given_all(alloc, found, "parts") {
         Ok(texts) => parts(alloc, texts.as_slice()),
@@ -107,7 +108,8 @@ fn given_names<'a>(alloc: Global, found: &ArgMatches<'a>, id: &str) -> Result<Ve
 }
 
 fn given_rows<'a>(alloc: Global, found: &ArgMatches<'a>) -> Result<Vec<ImageWord<'a>>, UsageStop>
-    ensures { Answers (λ v. map image_view v.items) result (value.rows_of (values_of (codes "rows") (rows_of (found_of found.now)))) }
+    ensures { Answers (λ v. map image_view v.items) result
+        (value.rows_of (values_of (codes "rows") (rows_of (found_of found.now)))) }
 {
     match given_all(alloc, found, "rows") {
         Ok(texts) => rows(alloc, texts.as_slice()),
