@@ -67,15 +67,22 @@ bits_staged (Some parts) = staged_bits parts
 -- the answer to a call by the plan for it; the bytes are those of a write
 unfoldable pub planned : Setting → State → ℕ → Option (List Staged) → List Handle → List ℕ → Plan → Answer
 planned E s boot staging handles bytes plan.Tell = answered (reply.Discovered (agent_state s staging)) [] (On boot staging handles)
-planned E s boot staging handles bytes (plan.Begin store) = answered reply.Success (if store then Free (update_bank s) ∷ [] else []) (On boot (nothing_staged E) no_handles)
-planned E s boot staging handles bytes (plan.Open h image o total) = answered (reply.Opened h) [] (On boot (opened_staging staging image o) (slice_set handles (h - 1) (opened_handle image o)))
-planned E s boot staging handles bytes (plan.Write h image at n) = answered reply.Success [] (On boot (with_appended staging image bytes) handles)
+planned E s boot staging handles bytes (plan.Begin store) =
+    answered reply.Success (if store then Free (update_bank s) ∷ [] else []) (On boot (nothing_staged E) no_handles)
+planned E s boot staging handles bytes (plan.Open h image o total) =
+    answered (reply.Opened h) [] (On boot (opened_staging staging image o) (slice_set handles (h - 1) (opened_handle image o)))
+planned E s boot staging handles bytes (plan.Write h image at n) =
+    answered reply.Success [] (On boot (with_appended staging image bytes) handles)
 planned E s boot staging handles bytes (plan.Read h image at n total) =
-    answered (reply.Got total (take n (drop at (content E s boot image)))) [] (On boot staging (slice_set handles (h - 1) (session.Reads image (at + n))))
-planned E s boot staging handles bytes (plan.Commit h image bit) = answered reply.Success [] (On boot (committed_staging staging image bit) (slice_set handles (h - 1) session.Free))
-planned E s boot staging handles bytes plan.End = answered reply.Success (Switch (update_bank s) (package_staged staging) (bits_staged staging) ∷ []) (On boot None no_handles)
+    answered (reply.Got total (take n (drop at (content E s boot image)))) []
+        (On boot staging (slice_set handles (h - 1) (session.Reads image (at + n))))
+planned E s boot staging handles bytes (plan.Commit h image bit) =
+    answered reply.Success [] (On boot (committed_staging staging image bit) (slice_set handles (h - 1) session.Free))
+planned E s boot staging handles bytes plan.End =
+    answered reply.Success (Switch (update_bank s) (package_staged staging) (bits_staged staging) ∷ []) (On boot None no_handles)
 planned E s boot staging handles bytes plan.Cancel = answered reply.Success [] (On boot None no_handles)
-planned E s boot staging handles bytes (plan.Accept image store) = answered reply.Success (if store then Accept image ∷ [] else []) (On boot staging handles)
+planned E s boot staging handles bytes (plan.Accept image store) =
+    answered reply.Success (if store then Accept image ∷ [] else []) (On boot staging handles)
 planned E s boot staging handles bytes plan.Back = answered reply.Success (Back ∷ []) (On boot staging handles)
 
 abbrev pub planned_in : Setting → State → Session → List ℕ → Plan → Answer
@@ -97,7 +104,8 @@ DecidesAs E s session c bytes (decision.ByVerdict b) = (b ≡ s.previous)
 
 -- The machine that a decision speaks of: its setting and state have the metadata and the counter that are given, and what is kept
 -- of the session fits the bytes of the staged images and the lengths of what is read.
-pub record Speaks (E : Setting) (s : State) (passes : List ℕ → Bool) (m : MetaRead) (counter : ℕ) (k : Kept) (boot : ℕ) (staged : ℕ → List ℕ) : Type 0 where
+pub record Speaks (E : Setting) (s : State) (passes : List ℕ → Bool) (m : MetaRead) (counter : ℕ) (k : Kept) (boot : ℕ)
+    (staged : ℕ → List ℕ) : Type 0 where
   pub rows : k.rows ≡ E.layout.rows
   pub banks : length s.banks ≡ E.layout.banks
   pub verifier : E.passes ≡ passes

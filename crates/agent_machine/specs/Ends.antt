@@ -18,8 +18,10 @@ IsWriter f number image = (1 ≤ number) × (handle_kept f.session (number - 1) 
 
 -- The marks were cleared, and the metadata stored, or that was stopped; or the clear was stopped.
 abbrev pub ClearsAndStores : {T : Type 0} → Result T FlashStop → Layout → Meta → Told → Told → Type 0
-ClearsAndStores result L m s t = ((mid : Told) × Clears {T = Unit {0}} (Ok tt) 3 s mid × Stores result L m mid t) ⊎ (IsErr result × Clears result 3 s t)
+ClearsAndStores result L m s t =
+    ((mid : Told) × Clears {T = Unit {0}} (Ok tt) 3 s mid × Stores result L m mid t) ⊎ (IsErr result × Clears result 3 s t)
 
 -- What a switch takes of an arming: the two erases and two programs of a store, and before them an erase of the marks, or none.
 abbrev pub TakesSwitch : Option Arming → Option Arming → Type 0
-TakesSwitch armed arming = (arming ≡ lowered (lowered (lowered (lowered armed)))) ⊎ (arming ≡ lowered (lowered (lowered (lowered (lowered armed)))))
+TakesSwitch armed arming =
+    (arming ≡ lowered (lowered (lowered (lowered armed)))) ⊎ (arming ≡ lowered (lowered (lowered (lowered (lowered armed)))))

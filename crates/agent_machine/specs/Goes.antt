@@ -13,7 +13,8 @@ use Rattle.agent_machine.specs.Moment.{Moment, Shows}
 use Rattle.agent_machine.specs.Meets.{Replies, Stays}
 
 -- From a moment that shows a state to one after these moves, with this session, or stopped on the way.
-pub record Goes (E : Setting) (result : Result (Unit {0}) FlashStop) (old new : Moment) (s : State) (ms : List Move) (y : Session) : Type 0 where
+pub record Goes (E : Setting) (result : Result (Unit {0}) FlashStop) (old new : Moment) (s : State) (ms : List Move)
+    (y : Session) : Type 0 where
   pub shows : OnOk result (Shows new (after s ms) y)
   pub does : IsTrue old.tells → IsReady E old.told s → Does result E s ms new.told
   pub guarded : IsTrue old.tells → IsAtRest old.told → GuardedBy result new.told

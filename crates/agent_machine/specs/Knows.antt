@@ -60,7 +60,8 @@ pub record Knows (f : Fields) (t : Told) : Type 0 where
   pub trials_are : f.trials ≡ (state_in f t.now).trials
   -- the bank that was started holds a package, with images of these lengths
   pub held : IsTrue (is_some (package_in f.layout t.now f.boot))
-  pub lengths_are : take (length f.layout.rows) f.lengths ≡ map (λ (bytes : List ℕ). length bytes) (held_package (package_in f.layout t.now f.boot))
+  pub lengths_are : take (length f.layout.rows) f.lengths
+      ≡ map (λ (bytes : List ℕ). length bytes) (held_package (package_in f.layout t.now f.boot))
   pub staged : HasStaged f t
 
 -- there are bytes of the staged images that what is kept fits

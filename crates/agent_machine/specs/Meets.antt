@@ -88,7 +88,8 @@ pub record Leaves (result : Result (Unit {0}) FlashStop) (passes : List ℕ → 
   pub stays : Stays old new
 
 -- What a call says of an agent that isn't gone: on any device, an answer or a refusal is that of each machine that the agent shows.
-pub record Meets {T : Type 0} (Says : T → Reply → Type 0) (result : Result T Stop) (passes : List ℕ → Bool) (c : Call) (old new : Moment) : Type 0 where
+pub record Meets {T : Type 0} (Says : T → Reply → Type 0) (result : Result T Stop) (passes : List ℕ → Bool) (c : Call)
+    (old new : Moment) : Type 0 where
   pub exact : (E : Setting) (s : State) (x : Session) → IsSettingOf old.fields passes E → Shows old s x
       → Answers Says result E s x c new
   pub leaves : Leaves (flash_result result) passes c old new

@@ -60,4 +60,5 @@ abbrev pub lowest_free_kept : Kept → ℕ
 lowest_free_kept k = position_or_len is_free_kept k.handles
 
 abbrev pub opened_as : Kept → Option ℕ → Op → ℕ → Decision
-opened_as k image op total = if nat_le 32 (lowest_free_kept k) then Refused status.Busy else Do (plan.Open (lowest_free_kept k + 1) image op total)
+opened_as k image op total =
+    if nat_le 32 (lowest_free_kept k) then Refused status.Busy else Do (plan.Open (lowest_free_kept k + 1) image op total)

@@ -129,8 +129,10 @@ HasTotal E s boot other = Unit {0}
 
 -- The machine that was spoken of is spoken of after the plan:
 -- its state is that after the moves, and the session that is meant is the next one.
-pub record SettlesIn (E : Setting) (s : State) (passes : List ℕ → Bool) (counter boot : ℕ) (staged : ℕ → List ℕ) (bytes : List ℕ) (p : Plan) (k : Kept) (m new_meta : MetaRead) (new : Kept) : Type 0 where
-  pub spoken : Speaks E (after s (planned_in E s (session_meant k boot staged) bytes p).moves) passes new_meta counter new boot (staged_after p bytes staged)
+pub record SettlesIn (E : Setting) (s : State) (passes : List ℕ → Bool) (counter boot : ℕ) (staged : ℕ → List ℕ) (bytes : List ℕ)
+    (p : Plan) (k : Kept) (m new_meta : MetaRead) (new : Kept) : Type 0 where
+  pub spoken : Speaks E (after s (planned_in E s (session_meant k boot staged) bytes p).moves) passes new_meta counter new boot
+      (staged_after p bytes staged)
   pub next : session_meant new boot (staged_after p bytes staged) ≡ (planned_in E s (session_meant k boot staged) bytes p).next
 
 -- in each setting and state that is spoken of

@@ -48,7 +48,8 @@ fn open_flash<R: Files>(rt: &R, name: &str) -> Option<FileFlash<R::File>>
 
 /// Says that the flash can't be used, and gives the status that comes of it.
 fn refuse_flash<O: Sink>(sink: &mut O) -> u8
-    ensures { Prints (codes "flash cannot be used\n") 5 result (O.taken sink.old) (O.taken sink.new) (O.faults sink.old) (O.faults sink.new) }
+    ensures { Prints (codes "flash cannot be used\n") 5 result
+        (O.taken sink.old) (O.taken sink.new) (O.faults sink.old) (O.faults sink.new) }
 {
     put_line(sink, b"flash cannot be used\n".as_slice(), 5)
 }

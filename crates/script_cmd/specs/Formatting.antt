@@ -114,7 +114,8 @@ pub record Tries (passes : List ℕ → Bool) (tells : Bool) (told : Option Dire
   -- refused for what is in bank 0
   pub refused : (found : Verdict) → r ≡ Err (Input (fault.Incomplete found)) → IsTrue tells
       → IsRefused passes L found new.told.now
-  pub images : Finishes r (IsTrue tells → (file : List ℕ) (toc : Toc) → Tells told name file → toc_of file ≡ Ok toc → HoldsImages L (images_of L.rows file toc) new.told.now)
+  pub images : Finishes r (IsTrue tells → (file : List ℕ) (toc : Toc) → Tells told name file → toc_of file ≡ Ok toc
+      → HoldsImages L (images_of L.rows file toc) new.told.now)
   -- blocks 3 to 7 and the banks behind bank 0 are erased: no old mark, record of the counter or package is left
   pub blank : Finishes r (IsTrue tells → IsBlank L new.told.now)
   pub deserved : (found : Verdict) → r ≡ Err (Input (fault.Incomplete found)) → IsTrue tells

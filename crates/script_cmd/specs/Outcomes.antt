@@ -31,7 +31,8 @@ pub record Promise (passes : List ℕ → Bool) (tells : Bool) (asked : Option A
   pub noted : Note
   pub faults_before : Faults
   pub faults_after : Faults
-  pub holds : Promised passes tells asked list files source journal status noted old new taken_before taken_after faults_before faults_after
+  pub holds : Promised passes tells asked list files source journal status noted old new
+      taken_before taken_after faults_before faults_after
 
 -- A script with a call isn't passed over: nothing done and status 0 is the end of a script without calls.
 abbrev pub NothingIsPassedOver : Type 0

@@ -35,7 +35,8 @@ given_to asked list files source = record { list = list; files = files; script =
 abbrev pub outcome : List Call → List Turn → ℕ → Moment → Moment → Outcome
 outcome calls journal status old new =
     record
-    { calls = calls; status = status; journal = journal; device = new.told; armed = new.armed; before = old.counts; after = new.counts }
+    { calls = calls; status = status; journal = journal; device = new.told; armed = new.armed;
+      before = old.counts; after = new.counts }
 
 -- from a sound flash the headline, for the calls that are asked for
 abbrev pub HeadlineHolds : (List ℕ → Bool) → Bool → Option Asked → Option (List ℕ → Option (List ℕ))
@@ -57,7 +58,8 @@ WroteHolds asked g journal status noted taken_before taken_after faults_before f
 -- why it ended as it did
 abbrev pub EndsHold : Option Asked → Given → List Turn → ℕ → Note → Moment → Moment → Faults
     → Faults → Type 0
-EndsHold asked g journal status noted old new faults_before faults_after = EndsAs (plainly asked) g.list g.files g.script status noted journal old.counts new.counts faults_before faults_after
+EndsHold asked g journal status noted old new faults_before faults_after =
+    EndsAs (plainly asked) g.list g.files g.script status noted journal old.counts new.counts faults_before faults_after
 
 -- What each turn did, on any device, one after the other from the device as it was handed in to what is left of it: its reply, what
 -- the agent keeps, what an armed loss counts, and its causes.
@@ -162,7 +164,8 @@ WaysKeepTheHeadline =
     (files : Option (List ℕ → Option (List ℕ))) (source : Option (List ℕ))
     (journal : List Turn) (status : ℕ) (noted : Note) (old new : Moment)
     (taken_before taken_after : Option (List ℕ)) (faults_before faults_after : Faults)
-    → Way passes tells asked (given_to asked list files source) journal status noted old new taken_before taken_after faults_before faults_after
+    → Way passes tells asked (given_to asked list files source) journal status noted old new
+        taken_before taken_after faults_before faults_after
     → HeadlineHolds passes tells asked files source journal status old new
 
 abbrev pub WaysBoot : Type 0
@@ -171,7 +174,8 @@ WaysBoot =
     (files : Option (List ℕ → Option (List ℕ))) (source : Option (List ℕ))
     (journal : List Turn) (status : ℕ) (noted : Note) (old new : Moment)
     (taken_before taken_after : Option (List ℕ)) (faults_before faults_after : Faults)
-    → Way passes tells asked (given_to asked list files source) journal status noted old new taken_before taken_after faults_before faults_after
+    → Way passes tells asked (given_to asked list files source) journal status noted old new
+        taken_before taken_after faults_before faults_after
     → BootWordHolds passes tells asked journal status noted old new
 
 abbrev pub WaysGuard : Type 0
@@ -188,7 +192,8 @@ WaysAreComplete =
     (files : Option (List ℕ → Option (List ℕ))) (source : Option (List ℕ))
     (journal : List Turn) (status : ℕ) (noted : Note) (old new : Moment)
     (taken_before taken_after : Option (List ℕ)) (faults_before faults_after : Faults)
-    → Way passes tells asked (given_to asked list files source) journal status noted old new taken_before taken_after faults_before faults_after
+    → Way passes tells asked (given_to asked list files source) journal status noted old new
+        taken_before taken_after faults_before faults_after
     → CompleteHolds passes tells asked list files source journal status old new faults_before faults_after
 
 -- ---- in one
@@ -200,12 +205,14 @@ pub record Promised (passes : List ℕ → Bool) (tells : Bool) (asked : Option 
     (taken_before taken_after : Option (List ℕ))
     (faults_before faults_after : Faults) : Type 0 where
   -- For every device, files, source and sink, told or not: which way it ended.
-  pub way : Way passes tells asked (given_to asked list files source) journal status noted old new taken_before taken_after faults_before faults_after
+  pub way : Way passes tells asked (given_to asked list files source) journal status noted old new
+      taken_before taken_after faults_before faults_after
   -- From a sound flash: the turns are those of the machine, every image that a loss may leave shows a state that they lead to, and
   -- each boot selects a complete and permitted package.
   pub headline : HeadlineHolds passes tells asked files source journal status old new
   -- For every device, files and source: the lines of what was done, at every status.
-  pub wrote : WroteHolds asked (given_to asked list files source) journal status noted taken_before taken_after faults_before faults_after
+  pub wrote : WroteHolds asked (given_to asked list files source) journal status noted
+      taken_before taken_after faults_before faults_after
   -- For every device, files, source and sink: which turns and causes ended the run.
   pub ends : EndsHold asked (given_to asked list files source) journal status noted old new faults_before faults_after
   -- For every device: each turn's reply is that of each machine that the agent shows; a boot's reply tells whether the flash is on,

@@ -84,7 +84,8 @@ CompleteByTable passes tells blocks asked list files source journal status old n
     → NothingDirty old.told → TableGives blocks old.told.now p
     → Premises E start (view_of p old.told) files passes old.counts new.counts
     → Asks (plainly asked) source calls → script_asked (plainly asked) source ≡ Some script
-    → IsServed (outcome calls journal status (seen_at p old) (seen_at p new)) (plainly asked) list files script faults_before faults_after
+    → IsServed (outcome calls journal status (seen_at p old) (seen_at p new)) (plainly asked) list files script
+        faults_before faults_after
     → (journal ≡ [] → Rose old.counts.cuts new.counts.cuts → ⊥)
     → (status ≡ 0) ⊎ (status ≡ 9)
 
@@ -94,11 +95,13 @@ pub record PromisedByTable (passes : List ℕ → Bool) (tells : Bool) (blocks :
     (source : Option (List ℕ)) (journal : List Turn) (status : ℕ) (said : Note) (old new : Moment)
     (taken_before taken_after : Option (List ℕ)) (faults_before faults_after : Faults) : Type 0 where
   -- For every device, files, source and sink, told or not: which way it ended.
-  pub way : WayByTable passes tells blocks asked (given_to asked list files source) journal status said old new taken_before taken_after faults_before faults_after
+  pub way : WayByTable passes tells blocks asked (given_to asked list files source) journal status said old new
+      taken_before taken_after faults_before faults_after
   -- For every device: where a turn ran or all was done, a run began behind the table, and it promises all that one
   -- on a plain flash does.
   pub run : (journal ≢ []) ⊎ (status ≡ 0)
-      → RunsByTable passes tells blocks asked list files source journal status said old new taken_before taken_after faults_before faults_after
+      → RunsByTable passes tells blocks asked list files source journal status said old new
+          taken_before taken_after faults_before faults_after
   -- Where none began, no loss harms the flash behind a valid table.
   pub kept : KeptByTable tells blocks journal status old new
   -- From a sound flash behind a valid table: the turns are those of the machine.

@@ -82,7 +82,8 @@ pub data Showed (tells : Bool) (g : Given) (old new : Moment) (status : ℕ) (no
 pub record RefusesBadList (g : Given) (old new : Moment) (status : ℕ)
     (faults_before faults_after : Faults) : Type 0 where
   pub lacking : LacksList g.files g.list → (new ≡ old) × IsTrue (may_fail_before status)
-  pub bad : IfSome (list_bytes g.list g.files) (λ bytes. (n : ℕ) → digests_of bytes ≡ Err n → (new ≡ old) × RefusesList status faults_before faults_after)
+  pub bad : IfSome (list_bytes g.list g.files) (λ bytes. (n : ℕ) → digests_of bytes ≡ Err n
+      → (new ≡ old) × RefusesList status faults_before faults_after)
 
 -- A command that runs no script is given what it asks for: a list of digests, where one is named, that is there and has no bad
 -- line; and nothing failed, and no power was lost.

@@ -42,7 +42,8 @@ pub data SoakEnds (rounds : ℕ) (calls : List Call) (journal : List Turn) (stat
   all_done : calls_of journal ≡ calls → EndsNone journal → told ≡ model_note.Nothing
       → Prints (soak_line rounds journal) 0 status taken_before taken_after faults_before faults_after
       → SoakEnds rounds calls journal status told taken_before taken_after faults_before faults_after
-  lacking : IsPrefixOf (calls_of journal) calls → EndsNone journal → told ≡ model_note.Nothing → status ≡ 9 → taken_after ≡ taken_before
+  lacking : IsPrefixOf (calls_of journal) calls → EndsNone journal → told ≡ model_note.Nothing → status ≡ 9
+      → taken_after ≡ taken_before
       → faults_before ≤ faults_after
       → SoakEnds rounds calls journal status told taken_before taken_after faults_before faults_after
   stopped : IsPrefixOf (calls_of journal) calls → (front : List Turn) (t : Turn) → journal ≡ front ++ t ∷ [] → EndsNone front
@@ -66,7 +67,8 @@ pub data SoakWay (tells : Bool) (g : Given) (seed n blocks : ℕ) (journal : Lis
   not_formatted : HasGoodList g.list g.files → IsFalse (is_too_small blocks) → journal ≡ [] → (stop : FormatStop)
       → Tries passes_any tells (Some (first_files seed)) (file_name 0) soak_layout blocks old new 0 0 (Err stop)
       → said ≡ format_note (Err stop)
-      → Prints (format_text (Err stop)) (format_status (Err stop)) status taken_before taken_after faults_before.sink faults_after.sink
+      → Prints (format_text (Err stop)) (format_status (Err stop)) status
+          taken_before taken_after faults_before.sink faults_after.sink
       → SoakWay tells g seed n blocks journal status said old new taken_before taken_after faults_before faults_after
   ran : HasGoodList g.list g.files → IsFalse (is_too_small blocks) → (done : Formatted) (start : Moment) (on : Option Fields)
       → Tries passes_any tells (Some (first_files seed)) (file_name 0) soak_layout blocks old start 0 0 (Ok done)

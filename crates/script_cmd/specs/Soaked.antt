@@ -39,7 +39,8 @@ first_images seed = generated_images soak_layout.rows (sizes_of seed) 0 1
 pub record RunsSoak (seed n : ℕ) (journal : List Turn) (status : ℕ) (new : Moment) : Type 0 where
   pub start : Moment
   pub formatted : IsFormatted passes_any soak_layout 1 start.told
-  pub run : Headline (soak_setting seed n) (first_state soak_layout (first_images seed)) (outcome (soak_calls seed n) journal status start new)
+  pub run : Headline (soak_setting seed n) (first_state soak_layout (first_images seed))
+      (outcome (soak_calls seed n) journal status start new)
 
 -- where a list of digests is named, it is there, was read and has no bad line
 pub record HasSoakList (g : Given) (faults_before faults_after : Faults) : Type 0 where
@@ -48,16 +49,18 @@ pub record HasSoakList (g : Given) (faults_before faults_after : Faults) : Type 
   pub read : Rose faults_before.files faults_after.files → ⊥
 
 -- All that `soak` promises.
-pub record SoakedBy (tells : Bool) (g : Given) (seed n blocks : ℕ) (journal : List Turn) (status : ℕ) (said : Note) (old new : Moment)
-    (taken_before taken_after : Option (List ℕ)) (faults_before faults_after : Faults) : Type 0 where
+pub record SoakedBy (tells : Bool) (g : Given) (seed n blocks : ℕ) (journal : List Turn) (status : ℕ) (said : Note)
+    (old new : Moment) (taken_before taken_after : Option (List ℕ)) (faults_before faults_after : Faults) : Type 0 where
   -- for every device and sink, told or not: which way it ended
   pub way : SoakWay tells g seed n blocks journal status said old new taken_before taken_after faults_before faults_after
   pub refuses_list : RefusesBadList g old new status faults_before faults_after
   -- on a told device that guards the blocks at the front, where no torn block was sealed by chance:
   -- a run of the machine, unless nothing ran
-  pub machine : IsTrue tells → Guards 1 7 old.told → (Rose old.counts.chances new.counts.chances → ⊥) → journal ≢ [] → RunsSoak seed n journal status new
+  pub machine : IsTrue tells → Guards 1 7 old.told → (Rose old.counts.chances new.counts.chances → ⊥) → journal ≢ []
+      → RunsSoak seed n journal status new
   -- a flash that is too small is as it was, and this is its status, unless the list, the sink or memory failed
-  pub small : IsTrue (is_too_small blocks) → (journal ≡ []) × (new ≡ old) × IsTrue ((status == 7) || (may_fail_before status || (status == 13)))
+  pub small : IsTrue (is_too_small blocks)
+      → (journal ≡ []) × (new ≡ old) × IsTrue ((status == 7) || (may_fail_before status || (status == 13)))
   pub seven : status ≡ 7 → IsTrue tells → IsTrue (is_too_small blocks)
   -- a failure of the flash, or a loss of power while it was formatted
   pub five : status ≡ 5 → Rose old.counts.faults new.counts.faults ⊎ ((journal ≡ []) × Rose old.counts.cuts new.counts.cuts)
@@ -68,6 +71,7 @@ pub record SoakedBy (tells : Bool) (g : Given) (seed n blocks : ℕ) (journal : 
   pub counts : NoneFalls old.counts new.counts
   pub guard : IsTrue tells → new.told.guard ≡ old.told.guard
   -- a flash with room for it does it all, where nothing failed and no loss came while it was formatted, unless memory was wanting
-  pub complete : IsTrue tells → Guards 1 7 old.told → IsFalse (is_too_small blocks) → (Rose old.counts.chances new.counts.chances → ⊥)
+  pub complete : IsTrue tells → Guards 1 7 old.told → IsFalse (is_too_small blocks)
+      → (Rose old.counts.chances new.counts.chances → ⊥)
       → (Rose old.counts.faults new.counts.faults → ⊥) → (journal ≡ [] → Rose old.counts.cuts new.counts.cuts → ⊥)
       → HasSoakList g faults_before faults_after → (Rose faults_before.sink faults_after.sink → ⊥) → (status ≡ 0) ⊎ (status ≡ 9)

@@ -92,8 +92,8 @@ abbrev pub stop_line : Turn → List ℕ
 stop_line t = stop_text t.call t.reply
 
 -- What one turn leaves: it does the call c, it is kept, and where it ends the soak its line is in the text.
-pub record SoakSteps (tells : Bool) (files : Option Directory) (c : Call) (before after : List Turn) (old new : Moment) (status : ℕ) (noted : Note)
-    (text : List ℕ) : Type 0 where
+pub record SoakSteps (tells : Bool) (files : Option Directory) (c : Call) (before after : List Turn) (old new : Moment)
+    (status : ℕ) (noted : Note) (text : List ℕ) : Type 0 where
   pub turn : Turn
   pub turns : Turns passes_any tells files c turn old new 0 0
   pub kept : after ≡ before ++ turn ∷ []
@@ -112,10 +112,12 @@ pub record GoesSoaking (tells : Bool) (all : Directory) (calls : List Call) (jou
 
 -- How a soak that does these calls stands:
 -- all were done; or memory was wanting for more than the first of them; or a turn ended it.
-pub data Stands (tells : Bool) (all : Directory) (calls : List Call) (journal : List Turn) (old new : Moment) (status : ℕ) (noted : Note) (text : List ℕ) : Type 0 where
+pub data Stands (tells : Bool) (all : Directory) (calls : List Call) (journal : List Turn) (old new : Moment) (status : ℕ)
+    (noted : Note) (text : List ℕ) : Type 0 where
   goes : status ≡ 0 → noted ≡ note.Nothing → text ≡ [] → GoesSoaking tells all calls journal old new
       → Stands tells all calls journal old new status noted text
-  starved : status ≡ 9 → noted ≡ note.Nothing → (front : List Call) → IsPrefixOf front calls → GoesSoaking tells all front journal old new
+  starved : status ≡ 9 → noted ≡ note.Nothing → (front : List Call) → IsPrefixOf front calls
+      → GoesSoaking tells all front journal old new
       → Stands tells all calls journal old new status noted text
   ended : (front : List Turn) (t : Turn) → journal ≡ front ++ t ∷ [] → IsPrefixOf (calls_of journal) calls
       → Ran passes_any tells (Some all) journal old new 0 0

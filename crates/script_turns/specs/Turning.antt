@@ -75,7 +75,8 @@ numbers_of_end (failed n) = n
 -- on a device that tells its content the agent of the bank that was booted shows what the flash shows,
 -- with nothing staged and no handle open
 abbrev pub ShowsStarted : Bool → Ended → Option Fields → Told → Type 0
-ShowsStarted tells (booted b n) (Some f) t = (s : State) → IsShown f.layout t.now s → agent.Shows (kept_at tells f t) s (started_session b)
+ShowsStarted tells (booted b n) (Some f) t =
+    (s : State) → IsShown f.layout t.now s → agent.Shows (kept_at tells f t) s (started_session b)
 ShowsStarted tells (booted b n) None t = ⊥
 ShowsStarted tells (bad_layout f) on t = ⊤
 ShowsStarted tells no_metadata on t = ⊤

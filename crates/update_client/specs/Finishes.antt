@@ -26,8 +26,10 @@ Finishes (Ok x) E old new s boot p bits = (may_install E s p ≡ true)
 Finishes (Err (End st)) E old new s boot p bits = (st ≡ AuthFail) × (may_install E s p ≡ false)
     × Goes E (Ok tt) old new s (end_moves E s p bits) (On boot None no_handles)
 Finishes (Err ReadFailed) E old new s boot p bits = Goes E (Ok tt) old new s [] (On boot None no_handles)
-Finishes (Err Lost) E old new s boot p bits = Goes E (Err flash_stop.Lost) old new s (end_moves E s p bits) (On boot None no_handles)
-Finishes (Err Fault) E old new s boot p bits = Goes E (Err flash_stop.Failed) old new s (end_moves E s p bits) (On boot None no_handles)
+Finishes (Err Lost) E old new s boot p bits =
+    Goes E (Err flash_stop.Lost) old new s (end_moves E s p bits) (On boot None no_handles)
+Finishes (Err Fault) E old new s boot p bits =
+    Goes E (Err flash_stop.Failed) old new s (end_moves E s p bits) (On boot None no_handles)
 Finishes (Err other) E old new s boot p bits = ⊥
 
 -- A staging that has all images is ended.

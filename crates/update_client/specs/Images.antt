@@ -22,7 +22,8 @@ pub record AreImages (E : Setting) (entries : List Entry) (images : ℕ) : Type 
   pub fit : (k : ℕ) → k < length entries → (slice_index_or entries k no_entry).size ≤ slot_bytes E.layout k
 
 -- the first images were read, written and committed
-pub record SendsFirst (told : Option Directory) (name : List ℕ) (entries : List Entry) (request k : ℕ) (old new : Moment) : Type 0 where
+pub record SendsFirst (told : Option Directory) (name : List ℕ) (entries : List Entry) (request k : ℕ)
+    (old new : Moment) : Type 0 where
   pub images : List (List ℕ)
   pub count : length images ≡ k
   pub read : (file : List ℕ) → Tells told name file → images ≡ map (payload file) (take k entries)
@@ -31,8 +32,8 @@ pub record SendsFirst (told : Option Directory) (name : List ℕ) (entries : Lis
       → Goes E (Ok tt) old new s [] (between boot n (request == 0) images)
 
 -- all were, or that was stopped
-pub record SendsImages (told : Option Directory) (name : List ℕ) (entries : List Entry) (request : ℕ) (result : Result (Unit {0}) SendStop)
-    (old new : Moment) : Type 0 where
+pub record SendsImages (told : Option Directory) (name : List ℕ) (entries : List Entry) (request : ℕ)
+    (result : Result (Unit {0}) SendStop) (old new : Moment) : Type 0 where
   pub images : List (List ℕ)
   pub count : OnOk result (length images ≡ length entries)
   pub read : OnOk result ((file : List ℕ) → Tells told name file → images ≡ map (payload file) entries)

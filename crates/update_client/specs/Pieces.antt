@@ -15,7 +15,8 @@ use Rattle.update_client.specs.Staged.{between, within}
 use Rattle.update_client.specs.Halts.{Halts}
 
 -- a piece of a payload, from a place of it on, was read and written behind what was there
-pub record WritesPiece (told : Option Directory) (name : List ℕ) (e : Entry) (at : ℕ) (result : Result ℕ SendStop) (old new : Moment) : Type 0 where
+pub record WritesPiece (told : Option Directory) (name : List ℕ) (e : Entry) (at : ℕ) (result : Result ℕ SendStop)
+    (old new : Moment) : Type 0 where
   pub bytes : List ℕ
   pub count : IfOk result (λ n. (length bytes ≡ n) × (0 < n) × (at + n ≤ e.size))
   pub read : IfOk result (λ n. (file : List ℕ) → Tells told name file → bytes ≡ take n (drop at (payload file e)))
@@ -35,7 +36,8 @@ pub record WritesFirst (told : Option Directory) (name : List ℕ) (e : Entry) (
       → Goes E (Ok tt) old new s [] (within boot images bit done bytes)
 
 -- a payload was read and written whole
-pub record WritesImage (told : Option Directory) (name : List ℕ) (e : Entry) (result : Result (Unit {0}) SendStop) (old new : Moment) : Type 0 where
+pub record WritesImage (told : Option Directory) (name : List ℕ) (e : Entry) (result : Result (Unit {0}) SendStop)
+    (old new : Moment) : Type 0 where
   pub bytes : List ℕ
   pub count : OnOk result (length bytes ≡ e.size)
   pub read : OnOk result ((file : List ℕ) → Tells told name file → bytes ≡ payload file e)

@@ -22,8 +22,8 @@ use Rattle.update_client.specs.declared.stops.SendStop.TheVariants.{MissingImage
 -- the machine's answer to a sending by the table that is given, of the images that were read
 abbrev pub send_answer : Setting → Toc → List (List ℕ) → ℕ → State → Session → Answer
 send_answer E toc p request s Off = answered reply.IsOff [] Off
-send_answer E toc p request s (On boot staging handles) = send_unless (first_image_fault E.layout.rows toc) E s boot staging handles p request
-    (skipped E.layout.rows toc)
+send_answer E toc p request s (On boot staging handles) =
+    send_unless (first_image_fault E.layout.rows toc) E s boot staging handles p request (skipped E.layout.rows toc)
 
 -- the session without a staging and a handle
 abbrev pub ended : Session → Session
@@ -37,10 +37,14 @@ AnswersBy r a E old new s = (r ≡ a.reply) × Goes E (Ok tt) old new s a.moves 
 -- An answer or a refusal is the machine's, with all its moves; a failed read leaves those of a begin, and no staging; at a stop of
 -- the flash each loss leaves a prefix of the moves. An agent that is there is never answered to be gone.
 abbrev pub SendsBy : Result Sent SendStop → Setting → Toc → List (List ℕ) → ℕ → Moment → Moment → State → Session → Type 0
-SendsBy (Ok sent) E toc p request old new s x = AnswersBy (reply.Sent sent.images sent.skipped) (send_answer E toc p request s x) E old new s
-SendsBy (Err (MissingImage guid)) E toc p request old new s x = AnswersBy (reply.Missing guid) (send_answer E toc p request s x) E old new s
-SendsBy (Err (ImageTooLarge guid)) E toc p request old new s x = AnswersBy (reply.TooLarge guid) (send_answer E toc p request s x) E old new s
-SendsBy (Err (Begin st)) E toc p request old new s x = AnswersBy (reply.BeginRefused st) (send_answer E toc p request s x) E old new s
+SendsBy (Ok sent) E toc p request old new s x =
+    AnswersBy (reply.Sent sent.images sent.skipped) (send_answer E toc p request s x) E old new s
+SendsBy (Err (MissingImage guid)) E toc p request old new s x =
+    AnswersBy (reply.Missing guid) (send_answer E toc p request s x) E old new s
+SendsBy (Err (ImageTooLarge guid)) E toc p request old new s x =
+    AnswersBy (reply.TooLarge guid) (send_answer E toc p request s x) E old new s
+SendsBy (Err (Begin st)) E toc p request old new s x =
+    AnswersBy (reply.BeginRefused st) (send_answer E toc p request s x) E old new s
 SendsBy (Err (End st)) E toc p request old new s x = AnswersBy (reply.EndRefused st) (send_answer E toc p request s x) E old new s
 SendsBy (Err ReadFailed) E toc p request old new s x = Goes E (Ok tt) old new s (answer E s x (call.Begin 0)).moves (ended x)
 SendsBy (Err Lost) E toc p request old new s x =
@@ -76,7 +80,8 @@ pub record IsInstalled (images : List (List ℕ)) (accepted : Bool) (rows : List
   pub counter : now.counter ≡ before.counter
 
 -- The machine that the agent shows then has installed the file's images.
-pub record Installs (told : Option Directory) (name : List ℕ) (toc : Toc) (request : ℕ) (new : Moment) (before : State) : Type 0 where
+pub record Installs (told : Option Directory) (name : List ℕ) (toc : Toc) (request : ℕ) (new : Moment)
+    (before : State) : Type 0 where
   pub now : State
   pub session : Session
   pub shows : Shows new now session
