@@ -75,7 +75,7 @@ planned E s boot staging handles bytes (plan.Write h image at n) =
     answered reply.Success [] (On boot (with_appended staging image bytes) handles)
 planned E s boot staging handles bytes (plan.Read h image at n total) =
     answered (reply.Got total (take n (drop at (content E s boot image)))) []
-        (On boot staging (slice_set handles (h - 1) (session.Reads image (at + n))))
+    (On boot staging (slice_set handles (h - 1) (session.Reads image (at + n))))
 planned E s boot staging handles bytes (plan.Commit h image bit) =
     answered reply.Success [] (On boot (committed_staging staging image bit) (slice_set handles (h - 1) session.Free))
 planned E s boot staging handles bytes plan.End =

@@ -58,13 +58,13 @@ pub record CarriedOut (p : Plan) (bytes : List ℕ) (old new : Moment) : Type 0 
       → new.fields.trials ≡ (after s (planned_moves s (staging_meant old.fields.session staged) p)).trials
   pub held : (s : State) (staged : ℕ → List ℕ) → SpeaksOf old.fields s → IsKept old.fields.session staged
       → (bank (after s (planned_moves s (staging_meant old.fields.session staged) p)) old.fields.boot).held
-          ≡ (bank s old.fields.boot).held
+      ≡ (bank s old.fields.boot).held
   -- where the device tells its content
   pub state_is : IsTrue old.tells
       → state_in new.fields new.told.now ≡ after (state_before old) (planned_moves (state_before old) (staging_before old) p)
   pub staged_are : IsTrue old.tells
       → MeansSame new.fields.session (staged_after p bytes (staged_bytes old.fields old.told.now))
-          (staged_bytes new.fields new.told.now)
+      (staged_bytes new.fields new.told.now)
 
 -- What is opened for reading is there, and has its total. A staging begins only where it may: from the active bank, which is
 -- accepted, into an invalid one.

@@ -60,8 +60,8 @@ pub record StoresMeet (result : Done) (f : Fields) (s t : Told) : Type 0 where
   pub back : IsTrue (is_accepted (state_at f.meta.meta f.meta.meta.previous))
       → Stores result f.layout (meta_after f.meta.meta Back) s t
       → StoreMeets result f
-          (λ E. IsTrue (holds_permitted E (state_in f s.now).counter (bank (state_in f s.now) (state_in f s.now).previous).held))
-          Back s t
+      (λ E. IsTrue (holds_permitted E (state_in f s.now).counter (bank (state_in f s.now) (state_in f s.now).previous).held))
+      Back s t
 
 -- ---- what a bank holds is in its slots
 

@@ -55,7 +55,7 @@ pub record Boots {T : Type 0} (result : Result T FlashStop) (passes : List ℕ �
   -- and of these no more than the repair and the moves of the bank that is chosen
   pub writes : let state = state_shown s.now shown in
       BootWrites result shown.layout shown.meta (count_moves state (choice (boot_setting passes shown.layout) state))
-          state.trials s t
+      state.trials s t
   -- when done, both replicas hold the metadata in version 2
   pub both : OnOk result (BothHold shown.layout (in_version 2 shown.meta.meta) t.now)
   -- on any flash: when done, the counter is that of the state after all moves
@@ -64,7 +64,7 @@ pub record Boots {T : Type 0} (result : Result T FlashStop) (passes : List ℕ �
   -- on any flash with tidy marks: when done, it shows the state after all moves
   pub shows : IsTidy s.now (state_shown s.now shown)
       → OnOk result (IsShown shown.layout t.now
-          (after (state_shown s.now shown) (all_moves (boot_setting passes shown.layout) (state_shown s.now shown))))
+      (after (state_shown s.now shown) (all_moves (boot_setting passes shown.layout) (state_shown s.now shown))))
   -- from a flash that is calm at least, with each loss
   pub does : (E : Setting) → IsCalm E s (state_shown s.now shown) → Guards 1 7 s
       → Does result E (state_shown s.now shown) (all_moves (boot_setting passes shown.layout) (state_shown s.now shown)) t

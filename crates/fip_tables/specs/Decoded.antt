@@ -11,7 +11,7 @@ entry_from bytes at = record {
   guid = take 16 (drop at bytes);
   offset = num_at 8 bytes (at + 16);
   size = num_at 8 bytes (at + 24);
-  flags = num_at 8 bytes (at + 32)
+  flags = num_at 8 bytes (at + 32);
 }
 
 -- the serial number and the flags of a header's sixteen bytes, or the first fault

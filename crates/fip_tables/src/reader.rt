@@ -42,8 +42,11 @@ impl Model for TableReader {
     ghost Value = { Reader };
 
     ghost view = { λ s.
-        record { stage = s.stage; pending = take s.held s.group;
-            toc = record { serial = s.serial; flags = s.flags; entries = s.entries } } };
+        record {
+          stage = s.stage;
+          pending = take s.held s.group;
+          toc = record { serial = s.serial; flags = s.flags; entries = s.entries };
+        } };
 
     ghost invariant = { λ s. s.held ≤ 40 };
 }

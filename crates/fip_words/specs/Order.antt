@@ -52,12 +52,12 @@ create_by align out parts =
 abbrev pub update_by : Option ℕ → Option Text → Option Text → Option (List NamedFile) → Option Asked
 update_by align from out parts =
     option_and_then (λ a. option_and_then (λ f. option_and_then (λ o.
-        option_and_then (λ ps. Some (update a f o ps)) parts) out) from) align
+    option_and_then (λ ps. Some (update a f o ps)) parts) out) from) align
 
 abbrev pub remove_by : Option ℕ → Option Text → Option Text → Option (List (List ℕ)) → Option Asked
 remove_by align from out names =
     option_and_then (λ a. option_and_then (λ f. option_and_then (λ o.
-        option_and_then (λ ns. Some (remove a f o ns)) names) out) from) align
+    option_and_then (λ ns. Some (remove a f o ns)) names) out) from) align
 
 -- not where IN is a file that may be written
 abbrev pub unpack_to : Text → Text → List (List ℕ) → Option Asked
@@ -101,7 +101,7 @@ unpack_of rows = unpack_by (file_in (codes "in") rows) (file_in (codes "prefix")
 abbrev pub manifest_of : List Row → Option Asked
 manifest_of rows =
     manifest_by (file_in (codes "out") rows) (option_and_then number_read (first_of (codes "security") rows))
-        (rows_of (values_of (codes "rows") rows))
+    (rows_of (values_of (codes "rows") rows))
 
 abbrev pub capsule_of : List Row → Option Asked
 capsule_of rows = capsule_by (file_in (codes "in") rows) (file_in (codes "out") rows)

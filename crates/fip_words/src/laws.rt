@@ -22,26 +22,26 @@ pub fn plain_words_are_taken()
         → asked (codes "create" ∷ out ∷ part ∷ []) ≡ create_by (Some 1) (file_named out) (parts_of (part ∷ [])) }
     ensures align { (align out part : Text) → IsPlain align → IsPlain out → IsPlain part
         → asked (codes "create" ∷ codes "--align" ∷ align ∷ out ∷ part ∷ [])
-            ≡ create_by (number_read align) (file_named out) (parts_of (part ∷ [])) }
+        ≡ create_by (number_read align) (file_named out) (parts_of (part ∷ [])) }
     ensures update { (from out part : Text) → IsPlain from → IsPlain out → IsPlain part
         → asked (codes "update" ∷ from ∷ out ∷ part ∷ [])
-            ≡ update_by (Some 1) (file_named from) (file_named out) (parts_of (part ∷ [])) }
+        ≡ update_by (Some 1) (file_named from) (file_named out) (parts_of (part ∷ [])) }
     ensures remove { (from out name : Text) → IsPlain from → IsPlain out → IsPlain name
         → asked (codes "remove" ∷ from ∷ out ∷ name ∷ [])
-            ≡ remove_by (Some 1) (file_named from) (file_named out) (names_of (name ∷ [])) }
+        ≡ remove_by (Some 1) (file_named from) (file_named out) (names_of (name ∷ [])) }
     ensures unpack { (from prefix name : Text) → IsPlain from → IsPlain prefix → IsPlain name
         → asked (codes "unpack" ∷ from ∷ prefix ∷ name ∷ [])
-            ≡ unpack_by (file_named from) (file_named prefix) (names_of (name ∷ [])) }
+        ≡ unpack_by (file_named from) (file_named prefix) (names_of (name ∷ [])) }
     ensures manifest { (out security row : Text) → IsPlain out → IsPlain security → IsPlain row
         → asked (codes "manifest" ∷ out ∷ security ∷ row ∷ [])
-            ≡ manifest_by (file_named out) (number_read security) (rows_of (row ∷ [])) }
+        ≡ manifest_by (file_named out) (number_read security) (rows_of (row ∷ [])) }
     ensures capsule { (from out : Text) → IsPlain from → IsPlain out
         → asked (codes "capsule" ∷ from ∷ out ∷ []) ≡ capsule_by (file_named from) (file_named out) }
     ensures package { (from out : Text) → IsPlain from → IsPlain out
         → asked (codes "package" ∷ from ∷ out ∷ []) ≡ repackage_by (Some 1) (file_named from) (file_named out) }
     ensures aligned_package { (align from out : Text) → IsPlain align → IsPlain from → IsPlain out
         → asked (codes "package" ∷ codes "--align" ∷ align ∷ from ∷ out ∷ [])
-            ≡ repackage_by (number_read align) (file_named from) (file_named out) }
+        ≡ repackage_by (number_read align) (file_named from) (file_named out) }
     ensures help { asked (codes "--help" ∷ []) ≡ None }
     ensures nothing { asked [] ≡ None }
 {}

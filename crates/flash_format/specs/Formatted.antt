@@ -26,14 +26,9 @@ empty_bank L = record { state = Invalid; bits = replicate (length L.rows) false;
 
 -- the state after a format: bank 0 is active and before, and holds the package
 abbrev pub first_state : Layout → List (List ℕ) → State
-first_state L p = record {
-  form = 2;
-  active = 0;
-  previous = 0;
-  banks = full_bank L p ∷ replicate (L.banks - 1) (empty_bank L);
-  trials = 0;
-  counter = 0
-}
+first_state L p =
+    record
+    { form = 2; active = 0; previous = 0; banks = full_bank L p ∷ replicate (L.banks - 1) (empty_bank L); trials = 0; counter = 0 }
 
 -- the flash has the layout and its first metadata, with nothing dirty,
 -- and bank 0 holds a complete package of this version that passes

@@ -26,7 +26,7 @@ pub fn plain_words_are_taken()
         → asked (codes "format" ∷ layout ∷ file ∷ []) ≡ format_by (Some 2) (rows_of layout) (file_named file) }
     ensures banks { (banks layout file : Text) → IsPlain banks → IsPlain layout → IsPlain file
         → asked (codes "format" ∷ codes "--banks" ∷ banks ∷ layout ∷ file ∷ [])
-            ≡ format_by (banks_of (Some banks)) (rows_of layout) (file_named file) }
+        ≡ format_by (banks_of (Some banks)) (rows_of layout) (file_named file) }
     ensures soak { (seed rounds : Text) → IsPlain seed → IsPlain rounds
         → asked (codes "soak" ∷ seed ∷ rounds ∷ []) ≡ soak_by (number_read seed) (number_read rounds) }
     ensures soak_alone { asked (codes "soak" ∷ []) ≡ None }

@@ -62,7 +62,7 @@ pub record Cleared (w : TableCopy) (blocks : ℕ) (t : Table) (s : Told) : Type 
 pub record Filled (w : TableCopy) (blocks : ℕ) (t : Table) (s : Told) : Type 0 where
   pub cleared : Cleared w blocks t s
   pub entries : part s.now (4096 * entries_at w blocks (blocks_of (number_of t)))
-          (4096 * entries_at w blocks (blocks_of (number_of t)) + length t.entries)
+      (4096 * entries_at w blocks (blocks_of (number_of t)) + length t.entries)
       ≡ t.entries
 
 -- What a step leaves, at any exit: in each image the table decides; when done, P.
@@ -74,8 +74,8 @@ pub record Steps {T : Type 0} (P : Told → Type 0) (result : Result T FlashStop
 abbrev pub Spells : TableCopy → ℕ → Table → List ℕ → Type 0
 Spells w blocks t bytes = (image : List ℕ) → length image ≡ 4096 * blocks → block (header_at w blocks) image ≡ blank 4096
     → part image (4096 * entries_at w blocks (blocks_of (number_of t)))
-            (4096 * entries_at w blocks (blocks_of (number_of t)) + length t.entries)
-        ≡ t.entries
+    (4096 * entries_at w blocks (blocks_of (number_of t)) + length t.entries)
+    ≡ t.entries
     → copy_in w blocks (overwritten (4096 * header_at w blocks) bytes image) ≡ Some t
 
 -- the copy that these bytes are written for, and the table

@@ -181,7 +181,7 @@ fn mend<D: Flash>(
 
     ensures steps { IsTrue D.tells → Ready copy (D.blocks flash.old) table.now (D.told flash.old)
         → Steps (λ u. BothSay (D.blocks flash.old) table.now u.now × NothingDirty u) result
-            (D.blocks flash.old) table.now (D.told flash.new) }
+        (D.blocks flash.old) table.now (D.told flash.new) }
     ensures keeps { IsTrue D.tells → Keeps
         (copy_from copy (D.blocks flash.old) (blocks_of (number_of table.now)))
         (copy_to copy (D.blocks flash.old) (blocks_of (number_of table.now)))

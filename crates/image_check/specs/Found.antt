@@ -33,7 +33,7 @@ by_version accepted counter bad (Ok version) = if not accepted then verdict.NotA
 abbrev pub found : (List ℕ → Bool) → ℕ → List ℕ → List ImageRow → ℕ → List ℕ → Verdict
 found passes counter image rows first manifest =
     by_version (passes manifest) counter (lowest_bad (is_good image rows first manifest) 0 (length rows - 1))
-        (version_of (manifest_of rows manifest))
+    (version_of (manifest_of rows manifest))
 
 -- the bytes of the manifest at the front of such a bank
 abbrev pub front_of : List ℕ → List ImageRow → ℕ → List ℕ

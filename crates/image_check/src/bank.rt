@@ -90,7 +90,7 @@ fn check_at<D: Flash, V: Verifier>(
     requires inside { first + slot_total rows.now ≤ D.blocks flash.old }
     ensures verdict { IfOk result (λ verdict. IsTrue D.tells →
         verdict ≡ found (V.passes verifier.now) counter (D.told flash.old).now rows.now first
-            (front_of (D.told flash.old).now rows.now first)) }
+        (front_of (D.told flash.old).now rows.now first)) }
     ensures content { IsTrue D.tells → D.told flash.new ≡ D.told flash.old }
     ensures power { D.on flash.new ≡ is_ok result }
     ensures size { D.blocks flash.new ≡ D.blocks flash.old }

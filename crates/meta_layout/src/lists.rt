@@ -29,7 +29,7 @@ impl Model for Bits {
 
     ghost inverse_ok = { λ b is.
         ap (λ n. record { count = n; bits = take b.count b.bits ++ replicate (16 - length (take b.count b.bits)) false })
-            (length-padded 16 false b.count b.bits is)
+        (length-padded 16 false b.count b.bits is)
         ∙ ap (λ l. record { count = b.count; bits = l }) (array-padded 16 false b.count b.bits is) };
 }
 
@@ -122,7 +122,7 @@ impl Model for States {
 
     ghost inverse_ok = { λ s is.
         ap (λ n. record { count = n; states = take s.count s.states ++ replicate (4 - length (take s.count s.states)) Invalid })
-            (length-padded 4 Invalid s.count s.states is)
+        (length-padded 4 Invalid s.count s.states is)
         ∙ ap (λ l. record { count = s.count; states = l }) (array-padded 4 Invalid s.count s.states is) };
 }
 
@@ -196,7 +196,7 @@ impl Model for BankBits {
 
     ghost inverse_ok = { λ b is.
         ap (λ n. record { count = n; banks = take b.count b.banks ++ replicate (4 - length (take b.count b.banks)) [] })
-            (length-padded 4 [] b.count b.banks is)
+        (length-padded 4 [] b.count b.banks is)
         ∙ ap (λ l. record { count = b.count; banks = l }) (array-padded 4 [] b.count b.banks is) };
 }
 
@@ -287,7 +287,7 @@ impl Model for Rows {
 
     ghost inverse_ok = { λ r is.
         ap (λ n. record { count = n; rows = take r.count r.rows ++ replicate (16 - length (take r.count r.rows)) no_row })
-            (length-padded 16 no_row r.count r.rows is)
+        (length-padded 16 no_row r.count r.rows is)
         ∙ ap (λ l. record { count = r.count; rows = l }) (array-padded 16 no_row r.count r.rows is) };
 }
 

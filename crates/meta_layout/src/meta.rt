@@ -163,8 +163,11 @@ impl Meta {
     pub fn set_bit(&mut self, bank: u32, image: u32, on: bool)
         requires below { bank < length self.old.meta.bits }
         requires within { image < length (slice_index_or self.old.meta.bits bank []) }
-        ensures set { self.new ≡ record self.old { meta = record self.old.meta {
-            bits = slice_set self.old.meta.bits bank (slice_set (slice_index_or self.old.meta.bits bank []) image on) } } }
+        ensures set { self.new ≡ record self.old {
+          meta = record self.old.meta {
+            bits = slice_set self.old.meta.bits bank (slice_set (slice_index_or self.old.meta.bits bank []) image on);
+          };
+        } }
         ensures fits { (L : LayoutValue) → IsTrue (fits_meta L self.old.meta) →
             IsTrue (fits_meta L self.new.meta) }
     {

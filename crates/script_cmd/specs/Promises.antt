@@ -34,9 +34,15 @@ given_to asked list files source = record { list = list; files = files; script =
 -- what it was asked for, and what it left
 abbrev pub outcome : List Call → List Turn → ℕ → Moment → Moment → Outcome
 outcome calls journal status old new =
-    record
-    { calls = calls; status = status; journal = journal; device = new.told; armed = new.armed;
-      before = old.counts; after = new.counts }
+    record {
+      calls = calls;
+      status = status;
+      journal = journal;
+      device = new.told;
+      armed = new.armed;
+      before = old.counts;
+      after = new.counts;
+    }
 
 -- from a sound flash the headline, for the calls that are asked for
 abbrev pub HeadlineHolds : (List ℕ → Bool) → Bool → Option Asked → Option (List ℕ → Option (List ℕ))
@@ -165,7 +171,7 @@ WaysKeepTheHeadline =
     (journal : List Turn) (status : ℕ) (noted : Note) (old new : Moment)
     (taken_before taken_after : Option (List ℕ)) (faults_before faults_after : Faults)
     → Way passes tells asked (given_to asked list files source) journal status noted old new
-        taken_before taken_after faults_before faults_after
+    taken_before taken_after faults_before faults_after
     → HeadlineHolds passes tells asked files source journal status old new
 
 abbrev pub WaysBoot : Type 0
@@ -175,7 +181,7 @@ WaysBoot =
     (journal : List Turn) (status : ℕ) (noted : Note) (old new : Moment)
     (taken_before taken_after : Option (List ℕ)) (faults_before faults_after : Faults)
     → Way passes tells asked (given_to asked list files source) journal status noted old new
-        taken_before taken_after faults_before faults_after
+    taken_before taken_after faults_before faults_after
     → BootWordHolds passes tells asked journal status noted old new
 
 abbrev pub WaysGuard : Type 0
@@ -193,7 +199,7 @@ WaysAreComplete =
     (journal : List Turn) (status : ℕ) (noted : Note) (old new : Moment)
     (taken_before taken_after : Option (List ℕ)) (faults_before faults_after : Faults)
     → Way passes tells asked (given_to asked list files source) journal status noted old new
-        taken_before taken_after faults_before faults_after
+    taken_before taken_after faults_before faults_after
     → CompleteHolds passes tells asked list files source journal status old new faults_before faults_after
 
 -- ---- in one

@@ -85,7 +85,7 @@ CompleteByTable passes tells blocks asked list files source journal status old n
     → Premises E start (view_of p old.told) files passes old.counts new.counts
     → Asks (plainly asked) source calls → script_asked (plainly asked) source ≡ Some script
     → IsServed (outcome calls journal status (seen_at p old) (seen_at p new)) (plainly asked) list files script
-        faults_before faults_after
+    faults_before faults_after
     → (journal ≡ [] → Rose old.counts.cuts new.counts.cuts → ⊥)
     → (status ≡ 0) ⊎ (status ≡ 9)
 
@@ -101,7 +101,7 @@ pub record PromisedByTable (passes : List ℕ → Bool) (tells : Bool) (blocks :
   -- on a plain flash does.
   pub run : (journal ≢ []) ⊎ (status ≡ 0)
       → RunsByTable passes tells blocks asked list files source journal status said old new
-          taken_before taken_after faults_before faults_after
+      taken_before taken_after faults_before faults_after
   -- Where none began, no loss harms the flash behind a valid table.
   pub kept : KeptByTable tells blocks journal status old new
   -- From a sound flash behind a valid table: the turns are those of the machine.

@@ -68,7 +68,7 @@ pub data SoakWay (tells : Bool) (g : Given) (seed n blocks : ℕ) (journal : Lis
       → Tries passes_any tells (Some (first_files seed)) (file_name 0) soak_layout blocks old new 0 0 (Err stop)
       → said ≡ format_note (Err stop)
       → Prints (format_text (Err stop)) (format_status (Err stop)) status
-          taken_before taken_after faults_before.sink faults_after.sink
+      taken_before taken_after faults_before.sink faults_after.sink
       → SoakWay tells g seed n blocks journal status said old new taken_before taken_after faults_before faults_after
   ran : HasGoodList g.list g.files → IsFalse (is_too_small blocks) → (done : Formatted) (start : Moment) (on : Option Fields)
       → Tries passes_any tells (Some (first_files seed)) (file_name 0) soak_layout blocks old start 0 0 (Ok done)
