@@ -58,6 +58,7 @@ fn program_behind<D: Flash>(
 
     ensures programs { IsTrue D.tells →
         Programs result first done bytes.now (D.told flash.old) (D.told flash.new) }
+    ensures still { length bytes.now ≡ 0 → flash.new ≡ flash.old }
     ensures power { D.on flash.new ≡ is_ok result }
     ensures size { D.blocks flash.new ≡ D.blocks flash.old }
     ensures arming { SpendsArming result (writes_behind done (length bytes.now))
@@ -101,6 +102,7 @@ fn append_whole<D: Flash>(
     ensures kept { OnOk result
         (take (length bytes.now % 16) rest.new
         ≡ drop (length bytes.now - length bytes.now % 16) bytes.now) }
+    ensures still { length bytes.now < 16 → flash.new ≡ flash.old }
     ensures power { D.on flash.new ≡ is_ok result }
     ensures size { D.blocks flash.new ≡ D.blocks flash.old }
     ensures arming { SpendsArming result (writes_behind size (length bytes.now - length bytes.now % 16))
@@ -138,6 +140,8 @@ pub fn append<D: Flash>(
     // on every device: the bytes that are kept, and how many erases and programs were made
     ensures kept { OnOk result
         (take ((size + length bytes.now) % 16) rest.new ≡ kept_of size rest.old bytes.now) }
+    // on every device: it is not touched where no granule becomes whole
+    ensures still { done_of (size + length bytes.now) ≡ done_of size → flash.new ≡ flash.old }
     ensures arming { SpendsArming result (writes_to_append size (length bytes.now))
         (D.arming flash.old) (D.arming flash.new) (D.counts flash.old) (D.counts flash.new) }
     ensures power { D.on flash.new ≡ is_ok result }
