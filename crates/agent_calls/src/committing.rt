@@ -1,13 +1,16 @@
 //! The commit of a handle.
-ghost use Rattle.std.specs.Prelude.{◌≡◌, ℕ, Some, List, Bool, IsFalse, IsErrOf, is_ok};
+ghost use Rattle.std.specs.Prelude.{◌≡◌, ℕ, Some, List, Bool, IsTrue, IsFalse, IsErrOf, is_ok};
 ghost use Rattle.flash_core.specs.Counts.{Spends, StaysUnarmed};
 ghost use Rattle.fwu_model.specs.Call as call;
 ghost use Rattle.fwu_model.specs.Reply.{Success};
+ghost use Rattle.fwu_formats.specs.Layout.{start};
+ghost use Rattle.slot_writer.specs.Slots.{Finishes};
 ghost use Rattle.slot_writer.specs.Writes.{SpendsArming, writes_to_finish};
 ghost use Rattle.agent_kept.specs.Kept.{kept, part_at, size_of};
 ghost use Rattle.agent_state.specs.Decides.{Decides};
 ghost use Rattle.agent_state.specs.Settles.{IsPlanOf};
 ghost use Rattle.agent_machine.specs.Ends.{IsWriter};
+ghost use Rattle.agent_machine.specs.Fields.{rest_of, target};
 ghost use Rattle.agent_machine.specs.Meets.{Meets, GoesBy, IsRefused, flash_result};
 
 use crate::agent::{Agent, stopped};
@@ -38,6 +41,10 @@ impl<D: Flash> Agent<D> {
         ensures goes { GoesBy result (gone self.old) (gone self.new) }
         ensures unrefused { IsRefused result → ⊥ }
         ensures known { IsErrOf result Stop.Gone → ⊥ }
+        ensures ends { IsTrue D.tells → let f = fields self.old in
+            Finishes (flash_result result) (start f.layout (target f) image)
+            (size_of (part_at f.session image)) (rest_of f image)
+            (D.told (device self.old)) (D.told (device self.new)) }
         ensures spent { SpendsArming (flash_result result)
             (writes_to_finish (size_of (part_at (kept self.old.session) image)))
             (D.arming (device self.old)) (D.arming (device self.new))
@@ -90,6 +97,13 @@ impl<D: Flash> Agent<D> {
         ensures goes { GoesBy result (gone self.old) (gone self.new) }
         ensures untouched { IsErrOf result Stop.Gone → self.new ≡ self.old }
         ensures refused { IsRefused result → self.new ≡ self.old }
+        // on any flash that tells its content, sound or not: the image that the handle wrote is ended,
+        // 0xFF behind it up to the block's end, and nothing else changes
+        ensures ends { IsFalse (gone self.old) → IsTrue D.tells → (image : ℕ) →
+            IsWriter (fields self.old) handle image → let f = fields self.old in
+            Finishes (flash_result result) (start f.layout (target f) image)
+            (size_of (part_at f.session image)) (rest_of f image)
+            (D.told (device self.old)) (D.told (device self.new)) }
         // on every device: what it takes to end an image of the size that the handle wrote
         ensures spent { IsFalse (gone self.old) → (image : ℕ) →
             IsWriter (fields self.old) handle image →

@@ -7,7 +7,7 @@ ghost use Rattle.fwu_model.specs.Reply.{Success};
 ghost use Rattle.agent_kept.specs.Kept.{kept};
 ghost use Rattle.agent_state.specs.Decides.{Decides};
 ghost use Rattle.agent_machine.specs.Ends.{ClearsAndStores, TakesSwitch};
-ghost use Rattle.agent_machine.specs.Meets.{Meets, GoesBy, IsRefused, flash_result};
+ghost use Rattle.agent_machine.specs.Meets.{Meets, GoesBy, IsDone, IsRefused, flash_result};
 
 use crate::agent::{Agent, stopped};
 use agent_machine::Stop;
@@ -96,6 +96,9 @@ impl<D: Flash> Agent<D> {
         ensures goes { GoesBy result (gone self.old) (gone self.new) }
         ensures unrefused { IsRefused result → ⊥ }
         ensures known { IsErrOf result Stop.Gone → ⊥ }
+        ensures ends { IsTrue D.tells → ClearsAndStores (flash_result result)
+            (fields self.old).layout (fields self.new).meta.meta
+            (D.told (device self.old)) (D.told (device self.new)) }
         ensures spent { OnOk result
             (TakesSwitch (D.arming (device self.old)) (D.arming (device self.new))) }
         ensures unarmed { StaysUnarmed (flash_result result)
@@ -141,6 +144,11 @@ impl<D: Flash> Agent<D> {
         ensures goes { GoesBy result (gone self.old) (gone self.new) }
         ensures untouched { IsErrOf result Stop.Gone → self.new ≡ self.old }
         ensures refused { IsRefused result → self.new ≡ self.old }
+        // on any flash that tells its content, sound or not: the trial marks are cleared, whatever the
+        // bits are, and then both replicas are written, and nothing else
+        ensures ends { IsDone result → IsTrue D.tells → ClearsAndStores (flash_result result)
+            (fields self.old).layout (fields self.new).meta.meta
+            (D.told (device self.old)) (D.told (device self.new)) }
         // on every device: an erase of the marks, or none, and two erases and two programs
         ensures spent { OnOk result
             (TakesSwitch (D.arming (device self.old)) (D.arming (device self.new))) }

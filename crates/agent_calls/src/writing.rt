@@ -1,5 +1,5 @@
 //! Bytes go behind those of a staged image.
-ghost use Rattle.std.specs.Prelude.{◌≡◌, ℕ, ◌+◌, ◌-◌, Bool, List, length, is_ok, IsTrue, IsFalse, IsErrOf};
+ghost use Rattle.std.specs.Prelude.{◌≡◌, ℕ, ◌+◌, ◌-◌, Bool, List, length, is_ok, IsFalse, IsErrOf};
 ghost use Rattle.flash_core.specs.Counts.{Spends, StaysUnarmed};
 ghost use Rattle.fwu_model.specs.Call as call;
 ghost use Rattle.fwu_model.specs.Reply.{Success};
@@ -37,10 +37,9 @@ impl<D: Flash> Agent<D> {
             (moment self.old) (moment self.new) }
         ensures goes { GoesBy result (gone self.old) (gone self.new) }
         ensures done { IsDone result }
-        ensures idle { IsTrue D.tells →
-            let size = size_of (part_at (kept self.old.session) image) in
+        ensures still { let size = size_of (part_at (kept self.old.session) image) in
             done_of (size + length bytes.now) ≡ done_of size →
-            D.told (device self.new) ≡ D.told (device self.old) }
+            device self.new ≡ device self.old }
         ensures spent { SpendsArming (flash_result result)
             (writes_to_append (size_of (part_at (kept self.old.session) image)) (length bytes.now))
             (D.arming (device self.old)) (D.arming (device self.new))
@@ -99,12 +98,12 @@ impl<D: Flash> Agent<D> {
         ensures goes { GoesBy result (gone self.old) (gone self.new) }
         ensures untouched { IsErrOf result Stop.Gone → self.new ≡ self.old }
         ensures refused { IsRefused result → self.new ≡ self.old }
-        // where no granule becomes whole, nothing is done on the device, as far as it tells: no barrier
-        ensures idle { IsTrue D.tells → (image : ℕ) →
+        // on any device: it is not touched where no granule becomes whole
+        ensures still { (image : ℕ) →
             handle_kept (fields self.old).session (handle - 1) ≡ handle_kinds.Writes image →
             let size = size_of (part_at (fields self.old).session image) in
             done_of (size + length bytes.now) ≡ done_of size →
-            D.told (device self.new) ≡ D.told (device self.old) }
+            device self.new ≡ device self.old }
         // what an armed loss counts of a write that is not refused, by the image of the handle
         ensures spent { IsDone result → (image : ℕ) →
             handle_kept (fields self.old).session (handle - 1) ≡ handle_kinds.Writes image →

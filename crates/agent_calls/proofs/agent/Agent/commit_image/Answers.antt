@@ -124,3 +124,22 @@ returns-in-Err-clause-meets g c passes h req most decides =
     (rest_of f c.args.image) s t
     (first-at (fields c.args.self.now) c.args.image c.target-bank.result c.start-first.result c.target-bank.ensures.value c.start-first.ensures)
     c.size-size.ensures (c.in-Err.ensures.finishes told)) passes h req most decides f refl refl))
+
+-- the image was ended, by the fields
+pub returns-in-Ok-clause-ends : goal.returns-in-Ok-clause-ends
+returns-in-Ok-clause-ends g c tells =
+    let f : Fields = fields c.args.self.now in
+    finishes-at (Ok tt) f c.args.image c.start-first.result c.size-size.result (rest_of f c.args.image) (g.D.Flash.told c.args.self.now.flash)
+    (g.D.Flash.told c.finish.new.flash) (first-at f c.args.image c.target-bank.result c.start-first.result c.target-bank.ensures.value c.start-first.ensures)
+    c.size-size.ensures (c.in-Ok.ensures.finishes tells)
+
+pub returns-in-Err-clause-ends : goal.returns-in-Err-clause-ends
+returns-in-Err-clause-ends g c tells =
+    let f : Fields = fields c.args.self.now in
+    let s = g.D.Flash.told c.args.self.now.flash in
+    let t = g.D.Flash.told c.finish.new.flash in
+    subst (λ (r : Done). Finishes r (start f.layout (target f) c.args.image) (size_of (part_at f.session c.args.image)) (rest_of f c.args.image) s t)
+    (sym c.stopped.ensures.stop)
+    (finishes-at (Err c.in-Err.stop) f c.args.image c.start-first.result c.size-size.result (rest_of f c.args.image) s t
+    (first-at f c.args.image c.target-bank.result c.start-first.result c.target-bank.ensures.value c.start-first.ensures)
+    c.size-size.ensures (c.in-Err.ensures.finishes tells))

@@ -5,6 +5,7 @@ use Rattle.agent_kept.specs.Kept.{Kept, kept}
 use Rattle.agent_kept.specs.declared.kinds.Plan.TheVariants as plan
 use Rattle.agent_machine.specs.Fields.{Fields}
 use Rattle.agent_machine.specs.Moment.{Moment}
+use Rattle.agent_machine.specs.Ends.{ClearsAndStores}
 use Rattle.agent_machine.specs.Meets.{Leaves}
 use Rattle.moves.specs.Law.{Done}
 use Rattle.agent_machine.proofs.Answered.{stopped-meets}
@@ -66,3 +67,8 @@ returns-in-Err-clause-meets g c passes decides =
     (subst (λ (r : Done). Leaves r passes call.End old new) (sym c.stopped.ensures.stop)
     (end-leaves f k c.settle.new.meta passes g.D.Flash.tells s t (c.args.self.now.fitting here) c.args.self.now.session.sound
     (c.args.self.now.knows here) c.requires.staging decides c.settle.ensures.meta (Err c.in-Err.stop) c.in-Err.ensures.ends))
+
+pub returns-in-Err-clause-ends : goal.returns-in-Err-clause-ends
+returns-in-Err-clause-ends g c tells =
+    subst (λ (r : Done). ClearsAndStores r (fields c.args.self.now).layout c.settle.new.meta.meta (g.D.Flash.told c.args.self.now.flash)
+    (g.D.Flash.told c.clear_and_store.new.flash)) (sym c.stopped.ensures.stop) (c.in-Err.ensures.ends tells)

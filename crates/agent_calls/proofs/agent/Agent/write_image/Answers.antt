@@ -104,10 +104,10 @@ returns-in-Err-clause-meets g c passes h decides =
     c.size-size.ensures c.in-Err.stop c.in-Err.ensures.appends passes h decides refl
     (record { layout = refl; boot = refl; counter = refl; lengths = refl; form = refl }) c.stopped.result c.stopped.ensures.stop c.stopped.ensures.stopped
 
-pub returns-in-Ok-clause-idle : goal.returns-in-Ok-clause-idle
-returns-in-Ok-clause-idle g c tells same =
-    (c.in-Ok.ensures.appends tells).idle (subst (λ (n : ℕ). done_of (n + length c.args.bytes.now) ≡ done_of n) (sym c.size-size.ensures) same)
+pub returns-in-Ok-clause-still : goal.returns-in-Ok-clause-still
+returns-in-Ok-clause-still g c same =
+    c.in-Ok.ensures.still (subst (λ (n : ℕ). done_of (n + length c.args.bytes.now) ≡ done_of n) (sym c.size-size.ensures) same)
 
-pub returns-in-Err-clause-idle : goal.returns-in-Err-clause-idle
-returns-in-Err-clause-idle g c tells same =
-    (c.in-Err.ensures.appends tells).idle (subst (λ (n : ℕ). done_of (n + length c.args.bytes.now) ≡ done_of n) (sym c.size-size.ensures) same)
+pub returns-in-Err-clause-still : goal.returns-in-Err-clause-still
+returns-in-Err-clause-still g c same =
+    c.in-Err.ensures.still (subst (λ (n : ℕ). done_of (n + length c.args.bytes.now) ≡ done_of n) (sym c.size-size.ensures) same)

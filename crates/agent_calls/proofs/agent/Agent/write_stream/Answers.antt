@@ -108,20 +108,20 @@ returns-in_default g c =
     let here = c.if-self.false in
     let bytes = c.args.bytes.now in
     let p = c.in-Ok.plan in
-    let still = quiet f (a.fitting here) a.session.sound (a.some here) c.args.handle bytes p c.in-Ok.ensures.plans c.in-Ok.ensures.of
+    let silent = quiet f (a.fitting here) a.session.sound (a.some here) c.args.handle bytes p c.in-Ok.ensures.plans c.in-Ok.ensures.of
     c.in_default.not-Write in
     let device = c.keep.ensures.device in
     record {
       meets = λ was passes.
           quiet-success (moment a) (moment c.keep.new.self) (a.fitting here) a.session.sound (a.knows here) passes
-          (request.Write c.args.handle (length bytes)) bytes (λ E s setting speaks. refl) p (c.in-Ok.ensures.plans passes) still
-          (ap g.D.Flash.told device) (carried-any p [] bytes (moment a) (moment c.keep.new.self) still c.keep.ensures.carried) refl;
+          (request.Write c.args.handle (length bytes)) bytes (λ E s setting speaks. refl) p (c.in-Ok.ensures.plans passes) silent
+          (ap g.D.Flash.told device) (carried-any p [] bytes (moment a) (moment c.keep.new.self) silent c.keep.ensures.carried) refl;
       goes = still-goes tt a.gone c.keep.new.self.gone here c.keep.ensures.here;
       untouched = λ e. absurd (done-gone tt e);
       refused = λ e. absurd e;
-      idle = λ tells image writes same. ap g.D.Flash.told device;
+      still = λ image writes same. device;
       spent = λ done image writes.
-          let none = quiet-spends f (a.fitting here) a.session.sound (a.some here) (λ m. true) c.args.handle (length bytes) bytes refl p still
+          let none = quiet-spends f (a.fitting here) a.session.sound (a.some here) (λ m. true) c.args.handle (length bytes) bytes refl p silent
           (c.in-Ok.ensures.plans (λ m. true)) image writes in
           subst (λ (n : ℕ). SpendsArming {T = Unit {0}} (Ok tt) n (g.D.Flash.arming a.flash) (g.D.Flash.arming c.keep.new.self.flash)
           (g.D.Flash.counts a.flash) (g.D.Flash.counts c.keep.new.self.flash)) (sym none)
@@ -142,11 +142,11 @@ returns-in-Err-clause-meets g c here passes =
     refused-meets (moment a) (a.fitting here) a.session.sound passes (request.Write c.args.handle (length c.args.bytes.now)) c.args.bytes.now
     (λ E s setting speaks. refl) c.in-Err.status (c.in-Err.ensures.plans passes) (λ value reply. reply ≡ Success)
 
-pub returns-in-Write-clause-idle : goal.returns-in-Write-clause-idle
-returns-in-Write-clause-idle g c tells image writes same =
+pub returns-in-Write-clause-still : goal.returns-in-Write-clause-still
+returns-in-Write-clause-still g c image writes same =
     let f : Fields = fields c.args.self.now in
     let n : ℕ = length c.args.bytes.now in
     let own = subst (IsPlanFor f.session f.meta.meta (request.Write c.args.handle n)) c.in-Write.is c.in-Ok.ensures.asked in
     let is : image ≡ c.in-Write.image = writes-same image c.in-Write.image (sym writes ∙ own.1) in
-    c.write_image.ensures.idle tells
+    c.write_image.ensures.still
     (subst (λ (i : ℕ). done_of (size_of (part_at f.session i) + n) ≡ done_of (size_of (part_at f.session i))) is same)
