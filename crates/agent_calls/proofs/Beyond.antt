@@ -1,5 +1,5 @@
 -- What a read leaves of the buffer behind what there is to read.
-use Rattle.std.proofs.Common.{◌≡◌, ℕ, ◌-◌, ◌≤◌, min, List, ◌++◌, length, take, drop, Option, sym, ap, ◌∙◌, subst, arith}
+use Rattle.std.proofs.Common.{◌≡◌, ℕ, ◌-◌, ◌≤◌, List, ◌++◌, length, take, drop, Option, sym, ◌∙◌, subst, arith}
 use Rattle.std.proofs.lemmas.List.{length-take-le}
 use Rattle.std.proofs.lemmas.Slice.{drop-append-drop}
 use Rattle.agent_kept.specs.declared.parts.Handle.TheVariants.{Reads, Writes}
@@ -15,6 +15,13 @@ reads-left i j at from total all e = cc
 
 pub writes-same : (image other : ℕ) → Writes image ≡ Writes other → image ≡ other
 writes-same image other e = cc
+
+-- a plan to read reads no more than there is room for
+pub read-room : (f : Fields) (h room : ℕ) (p : Plan) → IsPlanFor f.session f.meta.meta (request.Read h room) p
+    → (number : ℕ) (image : Option ℕ) (at n total : ℕ) → p ≡ plan.Read number image at n total → n ≤ room
+read-room f h room p asked number image at n total is =
+    let own = subst (IsPlanFor f.session f.meta.meta (request.Read h room)) is asked in
+    omega (arith, own.2)
 
 -- a plan to read reads no more than there is
 pub read-no-more : (f : Fields) (h room : ℕ) (p : Plan) → IsPlanFor f.session f.meta.meta (request.Read h room) p

@@ -1,6 +1,6 @@
 mod Starting
 mod Discovered
-mod Still
+mod NoOther
 pub mod StoredVerdict
 pub mod Listing
 mod Unstored

@@ -5,11 +5,8 @@ pub mod Verdicts
 pub mod Room
 pub mod Writing
 pub mod Quietly
-pub mod OwnPlans
 pub mod Showing
 pub mod Meeting
-pub mod WritesTo
-pub mod WriteDecided
 pub mod WriteCarried
 pub mod Going
 pub mod Committing
@@ -31,7 +28,5 @@ pub mod Held
 pub mod Totals
 pub mod Directory
 pub mod Reading
-pub mod OwnOpens
-pub mod OwnReads
 pub mod Opens
 pub mod ReadAnswers

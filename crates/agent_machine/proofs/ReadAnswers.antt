@@ -1,16 +1,16 @@
 -- A read: what it says, and what it leaves.
-use Rattle.std.proofs.Common.{◌≡◌, ℕ, ◌+◌, ◌≤◌, Bool, true, List, [], ◌++◌, length, take, drop, Option, None, Result, Ok, Err, refl, sym}
+use Rattle.std.proofs.Common.{◌≡◌, ℕ, ◌+◌, ◌≤◌, Bool, List, [], ◌++◌, length, take, drop, Option, Result, Ok, Err, refl, sym, ◌-◌}
 use Rattle.std.proofs.Common.{ap, ◌∙◌, subst, arith, IsTrue}
-use Rattle.std.proofs.lemmas.List.{length-take-le, take_at}
+use Rattle.std.proofs.lemmas.List.{length-take-le, take_at, length-take, length-drop}
 use Rattle.flash_core.specs.declared.flash.FlashStop.{FlashStop}
 use Rattle.flash_core.specs.declared.flash.FlashStop.TheVariants as flash_stop
 use Rattle.flash_core.specs.Told.{Told}
 use Rattle.fwu_model.specs.declared.kinds.Status.{Status}
-use Rattle.fwu_model.specs.Session.{Session, On}
+use Rattle.fwu_model.specs.Session.{Session, Staged, Handle}
 use Rattle.fwu_model.specs.Sound.{Setting}
 use Rattle.fwu_model.specs.Calm.{IsAtRest}
 use Rattle.fwu_model.specs.Reply.{Reply}
-use Rattle.fwu_model.specs.Answer.{answer}
+use Rattle.fwu_model.specs.Answer.{content}
 use Rattle.moves.specs.Moved.{Does, GuardedBy}
 use Rattle.moves.proofs.Composed.{does-nothing}
 use Rattle.agent_kept.specs.declared.kinds.Plan.{Plan}
@@ -23,33 +23,17 @@ use Rattle.agent_kept.specs.Plans.{call_of, planned, planned_in}
 use Rattle.agent_state.specs.Decides.{Decides}
 use Rattle.agent_state.specs.Settles.{IsPlanOf}
 use Rattle.agent_machine.specs.declared.stop.Stop.TheVariants as stop
-use Rattle.agent_machine.specs.Fields.{Fields, total_of}
+use Rattle.agent_machine.specs.Fields.{Fields, total_of, IsThere}
 use Rattle.agent_machine.specs.Carries.{CarriedOut, state_before}
 use Rattle.agent_machine.specs.Directory.{piece_of}
-use Rattle.agent_machine.specs.Knows.{Fitting, SessionSound, Knows, SomeStaged}
-use Rattle.agent_machine.specs.Moment.{Moment, Showing}
+use Rattle.agent_machine.specs.Knows.{Fitting, SessionSound, Knows}
+use Rattle.agent_machine.specs.Moment.{Moment, Shows}
 use Rattle.agent_machine.specs.Meets.{IsGot, Leaves, Meets, Stays}
-use Rattle.agent_machine.proofs.Answered.{planned-is, refused-meets, done-meets, lost-meets, fault-meets, leaves-by}
-use Rattle.agent_machine.proofs.OwnPlans.{told_kind, told-as-asked}
-use Rattle.agent_machine.proofs.Showing.{shows-some}
-use Rattle.agent_machine.proofs.Opens.{nothing-shown}
-use Rattle.agent_machine.proofs.OwnReads.{read-fits, read-says, read-total}
-
--- no plan but a read has the kind of its reply
-abbrev pub IsNoRead : Plan → Type 0
-IsNoRead p = (h : ℕ) (image : Option ℕ) (at n total : ℕ) → p ≡ plan.Read h image at n total → ⊥
-
-read-kind : (p : Plan) → told_kind p ≡ 3 → IsNoRead p → ⊥
-read-kind plan.Tell e not = absurd (omega (arith, e))
-read-kind (plan.Begin store) e not = absurd (omega (arith, e))
-read-kind (plan.Open h image o total) e not = absurd (omega (arith, e))
-read-kind (plan.Write h image at n) e not = absurd (omega (arith, e))
-read-kind (plan.Read h image at n total) e not = not h image at n total refl
-read-kind (plan.Commit h image bit) e not = absurd (omega (arith, e))
-read-kind plan.End e not = absurd (omega (arith, e))
-read-kind plan.Cancel e not = absurd (omega (arith, e))
-read-kind (plan.Accept image store) e not = absurd (omega (arith, e))
-read-kind plan.Back e not = absurd (omega (arith, e))
+use Rattle.agent_machine.proofs.Answered.{refused-meets, done-meets, lost-meets, fault-meets, leaves-by, content-total}
+use Rattle.fwu_model.specs.State.{State}
+use Rattle.agent_machine.proofs.Room.{old-readers}
+use Rattle.agent_machine.proofs.Reading.{piece-is}
+use Rattle.fwu_model.specs.Reply as reply
 
 guarded-by : (r : Result (Unit {0}) FlashStop) (t : Told) → IsAtRest t → GuardedBy r t
 guarded-by (Ok x) t rest = rest
@@ -79,8 +63,48 @@ filled out piece all n bytes fits long is read =
     let asked : length (take n out) ≡ n = length-take-le n out fits in
     ap (take n) is ∙ take_at piece (drop n out) n (long ∙ asked) ∙ read ∙ ap bytes asked
 
+-- ---- what a read says
+
+read-reply : (E : Setting) (s : State) (boot : ℕ) (stg : Option (List Staged)) (hs : List Handle) (bytes : List ℕ) (h : ℕ) (image : Option ℕ) (at n total : ℕ)
+    → (planned E s boot stg hs bytes (plan.Read h image at n total)).reply ≡ reply.Got total (take n (drop at (content E s boot image)))
+unfolding planned
+read-reply E s boot stg hs bytes h image at n total = refl
+
+module _ (m : Moment) (fitting : Fitting m.fields) (number : ℕ) (image : Option ℕ) (at n total : ℕ)
+    (of : IsPlanOf m.fields.session (plan.Read number image at n total)) where
+  -- what is read is there
+  read-there : IsThere m.fields image
+  read-there = (old-readers m.fields fitting (number - 1) image at total of.1).1
+
+  read-total : total ≡ total_of m.fields image
+  read-total = (old-readers m.fields fitting (number - 1) image at total of.1).0
+
+  pub read-inside : at + n ≤ total_of m.fields image
+  read-inside = omega (arith, read-total, of.2)
+
+  -- all of the piece is there
+  piece-long : (E : Setting) (s : State) (x : Session) → E.layout ≡ m.fields.layout → Shows m s x → length (take n (drop at (content E s m.fields.boot image))) ≡ n
+  piece-long E s x same shows =
+      let all = content E s m.fields.boot image in
+      let long : length all ≡ total_of m.fields image = content-total m.fields E s fitting.layout same shows.speaks image read-there in
+      length-take n (drop at all) ∙ omega (arith, length-drop at all, long, read-total, of.2)
+
+  read-says : (knows : IsTrue m.tells → Knows m.fields m.told) (E : Setting) (s : State) (x : Session) → E.layout ≡ m.fields.layout → Shows m s x → (out : List ℕ)
+      → (IsTrue m.tells → take n out ≡ piece_of m.fields.layout m.fields.meta.meta m.fields.boot m.fields.lengths m.told.now image at n)
+      → IsGot m.tells out (n, total) (planned_in E s x [] (plan.Read number image at n total)).reply
+  read-says knows E s x same shows out read =
+      let got = read-reply E s m.fields.boot (staging_meant m.fields.session shows.staged) (handles_meant m.fields.session) [] number image at n total in
+      subst (λ (y : Session). IsGot m.tells out (n, total) (planned_in E s y [] (plan.Read number image at n total)).reply) (sym shows.means) (
+        λ tells. got ∙ ap (reply.Got total) (
+            ap (λ (y : State). take n (drop at (content E y m.fields.boot image))) (shows.told tells).0
+            ∙ piece-is E m.fields m.told image at n same fitting (knows tells) read-there (omega (arith, of.2, read-total)) ∙ sym (read tells)),
+        (take n (drop at (content E s m.fields.boot image)), got, piece-long E s x same shows),
+      )
+
+-- ---- what it leaves
+
 module _ (old : Moment) (fitting : Fitting old.fields) (sound : SessionSound old.fields) (knows : IsTrue old.tells → Knows old.fields old.told)
-    (some : ∥ SomeStaged old.fields.session ∥₁) (h room : ℕ) where
+    (h room : ℕ) where
   abbrev f : Fields
   f = old.fields
 
@@ -92,67 +116,42 @@ module _ (old : Moment) (fitting : Fitting old.fields) (sound : SessionSound old
       → Meets {T = ℕ × ℕ} Says (Err (stop.Status st)) passes (call_of asked []) old old
   read-refused Says st decides passes = refused-meets old fitting sound passes asked [] (λ E s setting speaks. tt) st (decides passes) Says
 
-  module _ (p : Plan) (decides : (passes : List ℕ → Bool) → Decides passes f.meta f.counter f.session f.boot asked (decision.Do p)) where
-    -- no other plan is one of a read
-    never : IsNoRead p → Showing old → ⊥
-    never not one =
-        let passes : List ℕ → Bool = λ _. true in
-        let E : Setting = record { layout = f.layout; files = λ _. None; passes = passes } in
-        let stg = staging_meant f.session one.shows.staged in
-        let hs = handles_meant f.session in
-        let is : answer E one.state (On f.boot stg hs) (call_of asked []) ≡ planned E one.state f.boot stg hs [] p =
-        subst (λ (y : Session). answer E one.state y (call_of asked []) ≡ planned_in E one.state y [] p) one.shows.means
-        (planned-is old old fitting sound knows passes asked [] (λ E s setting speaks. tt) p (decides passes) E one.state one.session
-        (record { layout = refl; verifier = refl }) one.shows) in
-        read-kind p (told-as-asked E one.state f.boot stg hs [] asked p is) not
+  module _ (p : Plan) (decides : (passes : List ℕ → Bool) → Decides passes f.meta f.counter f.session f.boot asked (decision.Do p)) (number : ℕ)
+      (image : Option ℕ) (at n total : ℕ) (is : p ≡ plan.Read number image at n total) (of-it : IsPlanOf f.session p) where
+    abbrev own : Plan
+    own = plan.Read number image at n total
 
-    pub read-never : (Says : ℕ × ℕ → Reply → Type 0) (st : Status) → IsNoRead p → (passes : List ℕ → Bool)
-        → Meets {T = ℕ × ℕ} Says (Err (stop.Status st)) passes (call_of asked []) old old
-    read-never Says st not passes = nothing-shown Says st passes (call_of asked []) old (never not)
+    of : IsPlanOf f.session own
+    of = subst (IsPlanOf f.session) is of-it
 
-    module _ (number : ℕ) (image : Option ℕ) (at n total : ℕ) (is : p ≡ plan.Read number image at n total) (of-it : IsPlanOf f.session p) where
-      abbrev own : Plan
-      own = plan.Read number image at n total
+    reads : (passes : List ℕ → Bool) → Decides passes f.meta f.counter f.session f.boot asked (decision.Do own)
+    reads passes = subst (λ (q : Plan). Decides passes f.meta f.counter f.session f.boot asked (decision.Do q)) is (decides passes)
 
-      of : IsPlanOf f.session own
-      of = subst (IsPlanOf f.session) is of-it
+    module _ (new : Moment) (told : IsTrue old.tells → new.told ≡ old.told) (passes : List ℕ → Bool) where
+      leaves : (result : Result (Unit {0}) FlashStop) → Stays old new → Leaves result passes (call_of asked []) old new
+      leaves result stays =
+          leaves-by old new fitting sound knows passes asked [] (λ E s setting speaks. tt) own (reads passes) result
+          (λ tells E setting ready. subst (λ (t : Told). Does result E (state_before old) [] t) (sym (told tells))
+          (does-nothing result E (state_before old) old.told ready))
+          (λ tells rest. guarded-by result new.told (subst IsAtRest (sym (told tells)) rest)) stays
 
-      reads : (passes : List ℕ → Bool) → Decides passes f.meta f.counter f.session f.boot asked (decision.Do own)
-      reads passes = subst (λ (q : Plan). Decides passes f.meta f.counter f.session f.boot asked (decision.Do q)) is (decides passes)
+      pub read-lost : (Says : ℕ × ℕ → Reply → Type 0) → Stays old new → Meets {T = ℕ × ℕ} Says (Err stop.Lost) passes (call_of asked []) old new
+      read-lost Says stays =
+          lost-meets old new fitting sound knows passes asked [] (λ E s setting speaks. tt) own (reads passes) Says (leaves (Err flash_stop.Lost) stays)
 
-      -- no more is read than there is room for
-      pub read-room : n ≤ room
-      read-room = read-fits old fitting number image at n total of sound (shows-some f fitting old.tells old.told knows some) (λ _. true) h room
-          (reads (λ _. true))
+      pub read-faulty : (Says : ℕ × ℕ → Reply → Type 0) → Stays old new → Meets {T = ℕ × ℕ} Says (Err stop.Fault) passes (call_of asked []) old new
+      read-faulty Says stays =
+          fault-meets old new fitting sound knows passes asked [] (λ E s setting speaks. tt) own (reads passes) Says (leaves (Err flash_stop.Failed) stays)
 
-      pub read-inside : at + n ≤ total_of f image
-      read-inside = omega (arith, read-total old fitting number image at n total of, of.2)
-
-      module _ (new : Moment) (told : IsTrue old.tells → new.told ≡ old.told) (passes : List ℕ → Bool) where
-        leaves : (result : Result (Unit {0}) FlashStop) → Stays old new → Leaves result passes (call_of asked []) old new
-        leaves result stays =
-            leaves-by old new fitting sound knows passes asked [] (λ E s setting speaks. tt) own (reads passes) result
-            (λ tells E setting ready. subst (λ (t : Told). Does result E (state_before old) [] t) (sym (told tells))
-            (does-nothing result E (state_before old) old.told ready))
-            (λ tells rest. guarded-by result new.told (subst IsAtRest (sym (told tells)) rest)) stays
-
-        pub read-lost : (Says : ℕ × ℕ → Reply → Type 0) → Stays old new → Meets {T = ℕ × ℕ} Says (Err stop.Lost) passes (call_of asked []) old new
-        read-lost Says stays =
-            lost-meets old new fitting sound knows passes asked [] (λ E s setting speaks. tt) own (reads passes) Says (leaves (Err flash_stop.Lost) stays)
-
-        pub read-faulty : (Says : ℕ × ℕ → Reply → Type 0) → Stays old new → Meets {T = ℕ × ℕ} Says (Err stop.Fault) passes (call_of asked []) old new
-        read-faulty Says stays =
-            fault-meets old new fitting sound knows passes asked [] (λ E s setting speaks. tt) own (reads passes) Says (leaves (Err flash_stop.Failed) stays)
-
-        pub read-meets : (out : List ℕ) → (IsTrue old.tells → take n out ≡ piece_of f.layout f.meta.meta f.boot f.lengths old.told.now image at n)
-            → CarriedOut own [] old new
-            → Meets {T = ℕ × ℕ} (IsGot old.tells out) (Ok (n, total)) passes (call_of asked []) old new
-        read-meets out read carried =
-            done-meets old new fitting sound knows passes asked [] (λ E s setting speaks. tt) own (reads passes) carried (IsGot old.tells out) (n, total)
-            (λ E s x setting shows. read-says old fitting number image at n total of knows E s x setting.layout shows out read)
-            (leaves (Ok tt) (record {
-              tells = carried.tells;
-              layout = carried.beside.layout;
-              boot = carried.beside.boot;
-              guard = λ is. ap (λ (t : Told). t.guard) (told is);
-            }))
+      pub read-meets : (out : List ℕ) → (IsTrue old.tells → take n out ≡ piece_of f.layout f.meta.meta f.boot f.lengths old.told.now image at n)
+          → CarriedOut own [] old new
+          → Meets {T = ℕ × ℕ} (IsGot old.tells out) (Ok (n, total)) passes (call_of asked []) old new
+      read-meets out read carried =
+          done-meets old new fitting sound knows passes asked [] (λ E s setting speaks. tt) own (reads passes) carried (IsGot old.tells out) (n, total)
+          (λ E s x setting shows. read-says old fitting number image at n total of knows E s x setting.layout shows out read)
+          (leaves (Ok tt) (record {
+            tells = carried.tells;
+            layout = carried.beside.layout;
+            boot = carried.beside.boot;
+            guard = λ is. ap (λ (t : Told). t.guard) (told is);
+          }))

@@ -158,8 +158,7 @@ module _ (tells : Bool) (s t : Told) (f : Fields) (k : Kept) (new_meta : MetaRea
     write-done =
         done-meets before behind fitting sound knows passes (request.Write h (length bytes)) bytes fits_each (plan.Write number image at (length bytes))
         decides write-carried (λ value reply. reply ≡ Success) tt
-        (success-says before fitting sound knows passes (request.Write h (length bytes)) bytes fits_each (plan.Write number image at (length bytes)) decides
-        refl)
+        (λ E state x setting shows. success-says before bytes (plan.Write number image at (length bytes)) tt E state x shows)
         (write-leaves before behind image first size number at (length bytes) left bytes fitting sound knows of room fits first-is size-is (Ok tt) appends
         passes (request.Write h (length bytes)) fits_each decides refl write-carried.beside)
 

@@ -1,56 +1,33 @@
-use Rattle.std.proofs.Common.{◌≡◌, ℕ, Bool, true, List, [], Ok, refl, ap, arith}
+use Rattle.std.proofs.Common.{◌≡◌, [], sym, ap, subst}
 use Rattle.fwu_model.specs.Reply.{Success}
-use Rattle.agent_kept.specs.declared.kinds.Plan.{Plan}
-use Rattle.agent_kept.specs.declared.kinds.Plan.TheVariants as plan
 use Rattle.agent_kept.specs.declared.kinds.Request.TheVariants as request
-use Rattle.agent_machine.specs.Asks.{IsQuiet, IsOwnPlan, PlansAs}
-use Rattle.agent_state.specs.Settles.{IsPlanOf}
+use Rattle.agent_machine.specs.Asks.{IsQuiet}
+use Rattle.agent_machine.specs.Carries.{MayKeep}
 use Rattle.agent_machine.specs.Fields.{Fields}
-use Rattle.agent_machine.specs.Knows.{Fitting, SessionSound, SomeStaged}
 use Rattle.agent_machine.proofs.Answered.{refused-meets}
-use Rattle.agent_machine.proofs.Meeting.{quiet-unless-own, may-keep, quiet-success}
+use Rattle.agent_machine.proofs.Meeting.{SaysSuccess, quiet-success}
 use Rattle.agent_calls.specs.Shown.{fields, moment}
+use Rattle.agent_calls.proofs.NoOther.{cancels}
 use Rattle.agent_calls.proofs.agent.Agent.cancel.Goals as goal
-
--- its own plan is quiet
-own-quiet : (p : Plan) → IsOwnPlan request.Cancel p → IsQuiet p
-own-quiet plan.Tell own = absurd own
-own-quiet (plan.Begin store) own = absurd own
-own-quiet (plan.Open h image o total) own = absurd own
-own-quiet (plan.Write h image at n) own = absurd own
-own-quiet (plan.Read h image at n total) own = absurd own
-own-quiet (plan.Commit h image bit) own = absurd own
-own-quiet plan.End own = absurd own
-own-quiet plan.Cancel own = tt
-own-quiet (plan.Accept image store) own = absurd own
-own-quiet plan.Back own = absurd own
-
-quiet : (f : Fields) → Fitting f → SessionSound f → ∥ SomeStaged f.session ∥₁ → (p : Plan)
-    → ((passes : List ℕ → Bool) → PlansAs passes f request.Cancel (Ok p)) → IsPlanOf f.session p → IsQuiet p
-quiet f fitting sound some p plans of = quiet-unless-own f fitting sound some (λ m. true) request.Cancel [] (λ E s setting speaks. tt)
-    (λ e. omega (arith, e)) p (plans (λ m. true)) of (own-quiet p)
 
 pub keep-requires-clause-quiet : goal.keep-requires-clause-quiet
 keep-requires-clause-quiet g c =
-    let a = c.args.self.now in
-    let here = c.if-self.false in
-    quiet (fields a) (a.fitting here) a.session.sound (a.some here) c.in-Ok.plan c.in-Ok.ensures.plans c.in-Ok.ensures.of
+    let f : Fields = fields c.args.self.now in
+    subst IsQuiet (sym (cancels f.session f.meta.meta c.in-Ok.plan c.in-Ok.ensures.asked)) tt
 
 pub keep-requires-clause-may : goal.keep-requires-clause-may
 keep-requires-clause-may g c =
-    let a = c.args.self.now in
-    let here = c.if-self.false in
-    may-keep (fields a) (a.fitting here) a.session.sound (a.some here) (λ m. true) request.Cancel [] (λ E s setting speaks. tt) (λ e. omega (arith, e))
-    c.in-Ok.plan
-    (c.in-Ok.ensures.plans (λ m. true)) g.D.Flash.tells (g.D.Flash.told a.flash) (a.knows here) refl (λ e. omega (arith, e))
+    let f : Fields = fields c.args.self.now in
+    subst (MayKeep g.D.Flash.tells f) (sym (cancels f.session f.meta.meta c.in-Ok.plan c.in-Ok.ensures.asked)) tt
 
 pub returns-in-Ok-clause-meets : goal.returns-in-Ok-clause-meets
 returns-in-Ok-clause-meets g c here passes =
     let a = c.args.self.now in
+    let f : Fields = fields a in
+    let own = sym (cancels f.session f.meta.meta c.in-Ok.plan c.in-Ok.ensures.asked) in
     quiet-success (moment a) (moment c.keep.new.self) (a.fitting here) a.session.sound (a.knows here) passes request.Cancel [] (λ E s setting speaks. tt)
-    c.in-Ok.plan (c.in-Ok.ensures.plans passes) (quiet (fields a) (a.fitting here) a.session.sound (a.some here) c.in-Ok.plan c.in-Ok.ensures.plans
-    c.in-Ok.ensures.of)
-    (ap g.D.Flash.told c.keep.ensures.device) c.keep.ensures.carried refl
+    c.in-Ok.plan (c.in-Ok.ensures.plans passes) (subst IsQuiet own tt) (ap g.D.Flash.told c.keep.ensures.device) c.keep.ensures.carried
+    (subst SaysSuccess own tt)
 
 pub returns-in-Err-clause-meets : goal.returns-in-Err-clause-meets
 returns-in-Err-clause-meets g c here passes =

@@ -1,40 +1,36 @@
-use Rattle.std.proofs.Common.{◌-◌, ◌≤◌, [], length, refl, sym, ap, ◌∙◌, arith}
+use Rattle.std.proofs.Common.{◌-◌, ◌≤◌, [], length, refl, sym, ap, ◌∙◌, subst, arith}
 use Rattle.std.proofs.lemmas.List.{length-take, length-take-le}
 use Rattle.flash_core.specs.Told.{Told}
-use Rattle.fwu_model.specs.declared.kinds.Status.TheVariants.{Denied}
 use Rattle.agent_kept.specs.declared.kinds.Plan.TheVariants as plan
+use Rattle.agent_state.specs.Settles.{IsPlanOf}
 use Rattle.agent_machine.specs.Fields.{Fields}
 use Rattle.agent_machine.specs.Directory.{piece_of}
 use Rattle.agent_machine.specs.Meets.{IsGot}
-use Rattle.agent_machine.proofs.ReadAnswers.{read-refused, read-never, read-room, read-inside, read-lost, read-faulty, read-meets, carried-from, filled}
+use Rattle.agent_machine.proofs.ReadAnswers.{read-refused, read-inside, read-lost, read-faulty, read-meets, carried-from, filled}
 use Rattle.agent_calls.specs.Shown.{fields, moment}
-use Rattle.agent_calls.proofs.Beyond.{read-no-more, kept-beyond}
+use Rattle.agent_calls.proofs.Beyond.{read-room, read-no-more, kept-beyond}
+use Rattle.agent_calls.proofs.NoOther.{reads}
 use Rattle.agent_calls.proofs.agent.Agent.read_stream.Goals as goal
 
 pub slice_bounds-read_part-end : goal.slice_bounds-read_part-end
 slice_bounds-read_part-end g c =
     let a = c.args.self.now in
-    let here = c.if-self.false in
-    read-room (moment a) (a.fitting here) a.session.sound (a.knows here) (a.some here) c.args.h
-    (length c.args.out.now) c.in-Ok.plan c.in-Ok.ensures.plans c.in-Read.handle c.in-Read.image c.in-Read.at c.in-Read.length c.in-Read.total c.in-Read.is
-    c.in-Ok.ensures.of
+    read-room (fields a) c.args.h (length c.args.out.now) c.in-Ok.plan c.in-Ok.ensures.asked c.in-Read.handle
+    c.in-Read.image c.in-Read.at c.in-Read.length c.in-Read.total c.in-Read.is
 
 pub slice_bounds-read_part-end-in-Read : goal.slice_bounds-read_part-end-in-Read
 slice_bounds-read_part-end-in-Read g c =
     let a = c.args.self.now in
-    let here = c.if-self.false in
     sym (length-take-le c.in-Read.length c.args.out.now
-    (read-room (moment a) (a.fitting here) a.session.sound (a.knows here) (a.some here) c.args.h
-    (length c.args.out.now) c.in-Ok.plan c.in-Ok.ensures.plans c.in-Read.handle c.in-Read.image c.in-Read.at c.in-Read.length c.in-Read.total c.in-Read.is
-    c.in-Ok.ensures.of))
+    (read-room (fields a) c.args.h (length c.args.out.now) c.in-Ok.plan c.in-Ok.ensures.asked c.in-Read.handle
+    c.in-Read.image c.in-Read.at c.in-Read.length c.in-Read.total c.in-Read.is))
 
 pub read_part-requires-clause-within : goal.read_part-requires-clause-within
 read_part-requires-clause-within g c =
     let a = c.args.self.now in
     let here = c.if-self.false in
-    let inside = read-inside (moment a) (a.fitting here) a.session.sound (a.knows here) (a.some here) c.args.h
-    (length c.args.out.now) c.in-Ok.plan c.in-Ok.ensures.plans c.in-Read.handle c.in-Read.image c.in-Read.at c.in-Read.length c.in-Read.total c.in-Read.is
-    c.in-Ok.ensures.of in
+    let inside = read-inside (moment a) (a.fitting here) c.in-Read.handle c.in-Read.image c.in-Read.at c.in-Read.length c.in-Read.total
+    (subst (IsPlanOf (fields a).session) c.in-Read.is c.in-Ok.ensures.of) in
     omega (arith, inside, length-take c.in-Read.length c.args.out.now)
 
 pub returns-in-Ok-read_part-clause-meets : goal.returns-in-Ok-read_part-clause-meets
@@ -42,10 +38,9 @@ returns-in-Ok-read_part-clause-meets g c here passes =
     let a = c.args.self.now in
     let f : Fields = fields a in
     let n = c.in-Read.length in
-    let fits : n ≤ length c.args.out.now = read-room (moment a) (a.fitting here) a.session.sound (a.knows here) (a.some here) c.args.h
-    (length c.args.out.now) c.in-Ok.plan c.in-Ok.ensures.plans c.in-Read.handle c.in-Read.image c.in-Read.at n c.in-Read.total c.in-Read.is
-    c.in-Ok.ensures.of in
-    read-meets (moment a) (a.fitting here) a.session.sound (a.knows here) (a.some here) c.args.h
+    let fits : n ≤ length c.args.out.now = read-room (fields a) c.args.h (length c.args.out.now) c.in-Ok.plan c.in-Ok.ensures.asked c.in-Read.handle
+    c.in-Read.image c.in-Read.at n c.in-Read.total c.in-Read.is in
+    read-meets (moment a) (a.fitting here) a.session.sound (a.knows here) c.args.h
     (length c.args.out.now) c.in-Ok.plan c.in-Ok.ensures.plans c.in-Read.handle c.in-Read.image c.in-Read.at n c.in-Read.total c.in-Read.is
     c.in-Ok.ensures.of
     (moment c.keep.new.self) (λ tells. ap g.D.Flash.told c.keep.ensures.device ∙ c.read_part.ensures.content tells) passes _
@@ -58,16 +53,14 @@ returns-in-Ok-read_part-clause-meets g c here passes =
 pub returns-in-Ok-read_part-clause-room : goal.returns-in-Ok-read_part-clause-room
 returns-in-Ok-read_part-clause-room g c =
     let a = c.args.self.now in
-    let here = c.if-self.false in
-    read-room (moment a) (a.fitting here) a.session.sound (a.knows here) (a.some here) c.args.h
-    (length c.args.out.now) c.in-Ok.plan c.in-Ok.ensures.plans c.in-Read.handle c.in-Read.image c.in-Read.at c.in-Read.length c.in-Read.total c.in-Read.is
-    c.in-Ok.ensures.of
+    read-room (fields a) c.args.h (length c.args.out.now) c.in-Ok.plan c.in-Ok.ensures.asked c.in-Read.handle
+    c.in-Read.image c.in-Read.at c.in-Read.length c.in-Read.total c.in-Read.is
 
 pub returns-in-Err-Lost-clause-meets : goal.returns-in-Err-Lost-clause-meets
 returns-in-Err-Lost-clause-meets g c here passes =
     let a = c.args.self.now in
     let same = c.read_part.ensures.fields in
-    read-lost (moment a) (a.fitting here) a.session.sound (a.knows here) (a.some here) c.args.h
+    read-lost (moment a) (a.fitting here) a.session.sound (a.knows here) c.args.h
     (length c.args.out.now) c.in-Ok.plan c.in-Ok.ensures.plans c.in-Read.handle c.in-Read.image c.in-Read.at c.in-Read.length c.in-Read.total c.in-Read.is
     c.in-Ok.ensures.of
     (moment c.read_part.new.self) c.read_part.ensures.content passes (IsGot g.D.Flash.tells _)
@@ -82,7 +75,7 @@ pub returns-in-Err-Failed-clause-meets : goal.returns-in-Err-Failed-clause-meets
 returns-in-Err-Failed-clause-meets g c here passes =
     let a = c.args.self.now in
     let same = c.read_part.ensures.fields in
-    read-faulty (moment a) (a.fitting here) a.session.sound (a.knows here) (a.some here) c.args.h
+    read-faulty (moment a) (a.fitting here) a.session.sound (a.knows here) c.args.h
     (length c.args.out.now) c.in-Ok.plan c.in-Ok.ensures.plans c.in-Read.handle c.in-Read.image c.in-Read.at c.in-Read.length c.in-Read.total c.in-Read.is
     c.in-Ok.ensures.of
     (moment c.read_part.new.self) c.read_part.ensures.content passes (IsGot g.D.Flash.tells _)
@@ -93,48 +86,41 @@ returns-in-Err-Failed-clause-meets g c here passes =
       guard = λ told. ap (λ (t : Told). t.guard) (c.read_part.ensures.content told);
     })
 
+-- a read has no other plan
 pub returns-in_default-clause-meets : goal.returns-in_default-clause-meets
 returns-in_default-clause-meets g c here passes =
-    let a = c.args.self.now in
-    read-never (moment a) (a.fitting here) a.session.sound (a.knows here) (a.some here) c.args.h (length c.args.out.now) c.in-Ok.plan c.in-Ok.ensures.plans
-    (IsGot g.D.Flash.tells _) Denied
-    (λ number image at n total. c.in_default.not-Read number image at n total) passes
+    let f : Fields = fields c.args.self.now in
+    absurd (reads f.session f.meta.meta c.args.h (length c.args.out.now) c.in-Ok.plan c.in-Ok.ensures.asked c.in_default.not-Read)
 
 pub returns-in-Err-clause-meets : goal.returns-in-Err-clause-meets
 returns-in-Err-clause-meets g c here passes =
     let a = c.args.self.now in
-    read-refused (moment a) (a.fitting here) a.session.sound (a.knows here) (a.some here) c.args.h (length c.args.out.now)
+    read-refused (moment a) (a.fitting here) a.session.sound (a.knows here) c.args.h (length c.args.out.now)
     (IsGot g.D.Flash.tells _) c.in-Err.status c.in-Err.ensures.plans passes
 
 pub returns-in-Ok-read_part-clause-beyond : goal.returns-in-Ok-read_part-clause-beyond
 returns-in-Ok-read_part-clause-beyond g c image at total reads =
     let a = c.args.self.now in
-    let here = c.if-self.false in
     kept-beyond c.args.out.now c.read_part.new.out c.in-Read.length (total - at) c.read_part.auto.out
-    (read-room (moment a) (a.fitting here) a.session.sound (a.knows here) (a.some here) c.args.h
-    (length c.args.out.now) c.in-Ok.plan c.in-Ok.ensures.plans c.in-Read.handle c.in-Read.image c.in-Read.at c.in-Read.length c.in-Read.total c.in-Read.is
-    c.in-Ok.ensures.of)
+    (read-room (fields a) c.args.h (length c.args.out.now) c.in-Ok.plan c.in-Ok.ensures.asked c.in-Read.handle
+    c.in-Read.image c.in-Read.at c.in-Read.length c.in-Read.total c.in-Read.is)
     (read-no-more (fields a) c.args.h (length c.args.out.now) c.in-Ok.plan c.in-Ok.ensures.asked c.in-Read.handle c.in-Read.image c.in-Read.at
     c.in-Read.length c.in-Read.total c.in-Read.is image at total reads)
 
 pub returns-in-Err-Lost-clause-beyond : goal.returns-in-Err-Lost-clause-beyond
 returns-in-Err-Lost-clause-beyond g c image at total reads =
     let a = c.args.self.now in
-    let here = c.if-self.false in
     kept-beyond c.args.out.now c.read_part.new.out c.in-Read.length (total - at) c.read_part.auto.out
-    (read-room (moment a) (a.fitting here) a.session.sound (a.knows here) (a.some here) c.args.h
-    (length c.args.out.now) c.in-Ok.plan c.in-Ok.ensures.plans c.in-Read.handle c.in-Read.image c.in-Read.at c.in-Read.length c.in-Read.total c.in-Read.is
-    c.in-Ok.ensures.of)
+    (read-room (fields a) c.args.h (length c.args.out.now) c.in-Ok.plan c.in-Ok.ensures.asked c.in-Read.handle
+    c.in-Read.image c.in-Read.at c.in-Read.length c.in-Read.total c.in-Read.is)
     (read-no-more (fields a) c.args.h (length c.args.out.now) c.in-Ok.plan c.in-Ok.ensures.asked c.in-Read.handle c.in-Read.image c.in-Read.at
     c.in-Read.length c.in-Read.total c.in-Read.is image at total reads)
 
 pub returns-in-Err-Failed-clause-beyond : goal.returns-in-Err-Failed-clause-beyond
 returns-in-Err-Failed-clause-beyond g c image at total reads =
     let a = c.args.self.now in
-    let here = c.if-self.false in
     kept-beyond c.args.out.now c.read_part.new.out c.in-Read.length (total - at) c.read_part.auto.out
-    (read-room (moment a) (a.fitting here) a.session.sound (a.knows here) (a.some here) c.args.h
-    (length c.args.out.now) c.in-Ok.plan c.in-Ok.ensures.plans c.in-Read.handle c.in-Read.image c.in-Read.at c.in-Read.length c.in-Read.total c.in-Read.is
-    c.in-Ok.ensures.of)
+    (read-room (fields a) c.args.h (length c.args.out.now) c.in-Ok.plan c.in-Ok.ensures.asked c.in-Read.handle
+    c.in-Read.image c.in-Read.at c.in-Read.length c.in-Read.total c.in-Read.is)
     (read-no-more (fields a) c.args.h (length c.args.out.now) c.in-Ok.plan c.in-Ok.ensures.asked c.in-Read.handle c.in-Read.image c.in-Read.at
     c.in-Read.length c.in-Read.total c.in-Read.is image at total reads)

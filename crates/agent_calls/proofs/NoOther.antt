@@ -1,0 +1,61 @@
+-- A plan is one of the request's own kind.
+use Rattle.std.proofs.Common.{◌≡◌, ℕ, List, Option, refl}
+use Rattle.fwu_formats.specs.Metadata.{Meta}
+use Rattle.fwu_model.specs.declared.kinds.Op.{Op}
+use Rattle.agent_kept.specs.declared.kinds.Plan.{Plan}
+use Rattle.agent_kept.specs.declared.kinds.Plan.TheVariants as plan
+use Rattle.agent_kept.specs.declared.kinds.Request.TheVariants as request
+use Rattle.agent_kept.specs.Kept.{Kept}
+use Rattle.agent_state.specs.Asked.{IsPlanFor}
+
+module _ (k : Kept) (m : Meta) where
+  pub cancels : (p : Plan) → IsPlanFor k m request.Cancel p → p ≡ plan.Cancel
+  cancels plan.Tell asked = absurd asked
+  cancels (plan.Begin store) asked = absurd asked
+  cancels (plan.Open number image o total) asked = absurd asked
+  cancels (plan.Write number image at n) asked = absurd asked
+  cancels (plan.Read number image at n total) asked = absurd asked
+  cancels (plan.Commit number image bit) asked = absurd asked
+  cancels plan.End asked = absurd asked
+  cancels plan.Cancel asked = refl
+  cancels (plan.Accept image store) asked = absurd asked
+  cancels plan.Back asked = absurd asked
+
+  pub opens : (guid : List ℕ) (o : Op) (size : ℕ) (p : Plan) → IsPlanFor k m (request.Open guid o size) p
+      → ((number : ℕ) (image : Option ℕ) (kind : Op) (total : ℕ) → p ≡ plan.Open number image kind total → ⊥) → ⊥
+  opens guid o size plan.Tell asked not = asked
+  opens guid o size (plan.Begin store) asked not = asked
+  opens guid o size (plan.Open number image kind total) asked not = not number image kind total refl
+  opens guid o size (plan.Write number image at n) asked not = asked
+  opens guid o size (plan.Read number image at n total) asked not = asked
+  opens guid o size (plan.Commit number image bit) asked not = asked
+  opens guid o size plan.End asked not = asked
+  opens guid o size plan.Cancel asked not = asked
+  opens guid o size (plan.Accept image store) asked not = asked
+  opens guid o size plan.Back asked not = asked
+
+  pub writes : (h size : ℕ) (p : Plan) → IsPlanFor k m (request.Write h size) p
+      → ((number image at n : ℕ) → p ≡ plan.Write number image at n → ⊥) → ⊥
+  writes h size plan.Tell asked not = asked
+  writes h size (plan.Begin store) asked not = asked
+  writes h size (plan.Open number image o total) asked not = asked
+  writes h size (plan.Write number image at n) asked not = not number image at n refl
+  writes h size (plan.Read number image at n total) asked not = asked
+  writes h size (plan.Commit number image bit) asked not = asked
+  writes h size plan.End asked not = asked
+  writes h size plan.Cancel asked not = asked
+  writes h size (plan.Accept image store) asked not = asked
+  writes h size plan.Back asked not = asked
+
+  pub reads : (h room : ℕ) (p : Plan) → IsPlanFor k m (request.Read h room) p
+      → ((number : ℕ) (image : Option ℕ) (at n total : ℕ) → p ≡ plan.Read number image at n total → ⊥) → ⊥
+  reads h room plan.Tell asked not = asked
+  reads h room (plan.Begin store) asked not = asked
+  reads h room (plan.Open number image o total) asked not = asked
+  reads h room (plan.Write number image at n) asked not = asked
+  reads h room (plan.Read number image at n total) asked not = not number image at n total refl
+  reads h room (plan.Commit number image bit) asked not = asked
+  reads h room plan.End asked not = asked
+  reads h room plan.Cancel asked not = asked
+  reads h room (plan.Accept image store) asked not = asked
+  reads h room plan.Back asked not = asked
