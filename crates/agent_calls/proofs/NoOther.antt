@@ -1,12 +1,14 @@
--- A plan is one of the request's own kind.
+-- A plan is one of the request's own kind, and a request that asks no verifier waits for no verdict.
 use Rattle.std.proofs.Common.{◌≡◌, ℕ, List, Option, refl}
 use Rattle.fwu_formats.specs.Metadata.{Meta}
 use Rattle.fwu_model.specs.declared.kinds.Op.{Op}
 use Rattle.agent_kept.specs.declared.kinds.Plan.{Plan}
 use Rattle.agent_kept.specs.declared.kinds.Plan.TheVariants as plan
+use Rattle.agent_kept.specs.declared.kinds.Request.{Request}
 use Rattle.agent_kept.specs.declared.kinds.Request.TheVariants as request
 use Rattle.agent_kept.specs.Kept.{Kept}
-use Rattle.agent_state.specs.Asked.{IsPlanFor}
+use Rattle.agent_state.specs.Asked.{IsPlanFor, IsVerdictFor}
+use Rattle.agent_machine.specs.Asks.{IsPlain}
 
 module _ (k : Kept) (m : Meta) where
   pub cancels : (p : Plan) → IsPlanFor k m request.Cancel p → p ≡ plan.Cancel
@@ -59,3 +61,27 @@ module _ (k : Kept) (m : Meta) where
   reads h room plan.Cancel asked not = asked
   reads h room (plan.Accept image store) asked not = asked
   reads h room plan.Back asked not = asked
+
+  pub ends : (p : Plan) → IsPlanFor k m request.End p → (p ≡ plan.End → ⊥) → ⊥
+  ends plan.Tell asked not = asked
+  ends (plan.Begin store) asked not = asked
+  ends (plan.Open number image o total) asked not = asked
+  ends (plan.Write number image at n) asked not = asked
+  ends (plan.Read number image at n total) asked not = asked
+  ends (plan.Commit number image bit) asked not = asked
+  ends plan.End asked not = not refl
+  ends plan.Cancel asked not = asked
+  ends (plan.Accept image store) asked not = asked
+  ends plan.Back asked not = asked
+
+pub waits : (m : Meta) (r : Request) → IsPlain r → (b : ℕ) → IsVerdictFor m r b → ⊥
+waits m request.Discover plain b asked = asked
+waits m (request.Begin flags n) plain b asked = asked
+waits m (request.Open guid o total) plain b asked = asked
+waits m (request.Write h n) plain b asked = asked
+waits m (request.Read h room) plain b asked = asked
+waits m (request.Commit h req most) plain b asked = asked
+waits m request.End plain b asked = plain
+waits m request.Cancel plain b asked = asked
+waits m (request.Accept guid) plain b asked = asked
+waits m request.Previous plain b asked = plain

@@ -1,5 +1,5 @@
 -- Plans of which nothing is stored, since there is nothing to change.
-use Rattle.std.proofs.Common.{◌≡◌, ℕ, ◌+◌, ◌%◌, Bool, true, false, not, List, length, Some, refl, sym, ap, ◌∙◌, subst, IsTrue}
+use Rattle.std.proofs.Common.{◌≡◌, ℕ, ◌+◌, ◌%◌, Bool, false, not, List, length, Some, sym, ap, ◌∙◌, IsTrue}
 use Rattle.fwu_formats.specs.Layout.{ImageRow, find_image}
 use Rattle.fwu_formats.specs.Metadata.{state_at, bit_at}
 use Rattle.fwu_model.specs.State.{is_invalid}

@@ -1,5 +1,5 @@
 -- What is staged may be installed: the update bank holds the package, and is sure.
-use Rattle.std.proofs.Common.{◌≡◌, ◌⊎◌, Option, inl, inr, ℕ, suc, ◌+◌, ◌*◌, ◌%◌, ◌<◌, ◌≤◌, Bool, true, false, ◌&&◌, not, cond, List, [], ◌∷◌, length, get_or, take, drop, Some, None, refl, sym, ap, ◌∙◌, subst, arith, IsTrue, IsFalse, leb}
+use Rattle.std.proofs.Common.{◌≡◌, inl, inr, ℕ, suc, ◌+◌, ◌*◌, ◌%◌, ◌<◌, ◌≤◌, Bool, true, false, ◌&&◌, not, cond, List, [], ◌∷◌, length, get_or, take, drop, Some, None, refl, sym, ap, ◌∙◌, subst, arith, IsTrue, IsFalse, leb}
 use Rattle.std.proofs.lemmas.Bool.{and_parts, cases_lt}
 use Rattle.std.proofs.lemmas.List.{take-take, length-map}
 use Rattle.std.proofs.lemmas.List.Sums.{sum_by-cons}
@@ -19,7 +19,7 @@ use Rattle.fwu_model.specs.Session.{Staged, Handle, On, is_committed}
 use Rattle.fwu_model.specs.Call as call
 use Rattle.fwu_model.specs.Reply.{Refused, Success}
 use Rattle.fwu_model.specs.Answer as answer
-use Rattle.fwu_model.specs.Answer.{Answer, answer, answer_end, is_writer, may_go_back, staged_package, staged_bits, may_end}
+use Rattle.fwu_model.specs.Answer.{Answer, answer, answer_end, is_writer, staged_package, staged_bits, may_end}
 use Rattle.fwu_model.specs.MoveMetas.{meta_in}
 use Rattle.fwu_model.specs.Replica.{BothHold, in_version}
 use Rattle.moves.specs.StoreLaw.{EndsBy}
@@ -27,21 +27,16 @@ use Rattle.moves.proofs.Agree.{bank-count, state-is}
 use Rattle.moves.proofs.MetaIn.{meta-is}
 use Rattle.moves.proofs.Switching.{ends-by}
 use Rattle.meta_layout.proofs.Fits.{MetaFits, meta-fits}
-use Rattle.agent_kept.specs.declared.kinds.Plan.{Plan}
 use Rattle.agent_kept.specs.declared.kinds.Plan.TheVariants as plan
-use Rattle.agent_kept.specs.declared.kinds.Request.TheVariants as request
-use Rattle.agent_kept.specs.declared.kinds.Decision.TheVariants as decision
 use Rattle.agent_kept.specs.declared.parts.Part.{Part}
 use Rattle.agent_kept.specs.declared.parts.Part.TheVariants.{Nothing, Open, Committed}
-use Rattle.agent_kept.specs.Kept.{Kept, part_at, part_meant, parts_meant, staging_meant, handles_meant, size_of}
+use Rattle.agent_kept.specs.Kept.{part_at, part_meant, parts_meant, size_of}
 use Rattle.agent_kept.specs.Judged.{is_part_committed}
 use Rattle.agent_kept.specs.Plans.{planned}
 use Rattle.agent_kept.proofs.Installable.{each-committed, map-twice}
-use Rattle.agent_state.specs.Decides.{Decides}
 use Rattle.agent_machine.specs.Fields.{Fields, target}
 use Rattle.agent_machine.specs.Machine.{state_in, staged_bytes, part_bytes}
 use Rattle.agent_machine.specs.Knows.{Fitting, Knows}
-use Rattle.agent_machine.proofs.Verdicts.{move_kind, verdict-refuses}
 use Rattle.agent_machine.proofs.Known.{known-shown}
 
 -- ---- what an answered end says
@@ -61,71 +56,6 @@ unfolding answer answer_end planned
 ended-may E s boot parts handles e =
     passed (list_any is_writer handles) (may_end E s parts) _ _ _ (planned E s boot (Some parts) handles [] plan.End) e
     (λ is. not-success status.Busy is) (λ is. not-success status.AuthFail is)
-
--- ---- an end is refused, or it is that plan alone
-
--- a refusal, or the moves of a switch
-abbrev IsEnd : Answer → Type 0
-IsEnd a = ((st : Status) × (a.reply ≡ Refused st)) ⊎ (move_kind a.moves ≡ 2)
-
-end-cond : (b : Bool) (x y : Answer) → IsEnd x → IsEnd y → IsEnd (cond b x y)
-end-cond true x y hx hy = hx
-end-cond false x y hx hy = hy
-
-end-shape : (E : Setting) (s : State) (boot : ℕ) (stg : Option (List Staged)) (handles : List Handle) → IsEnd (answer_end E s boot stg handles)
-unfolding answer_end
-end-shape E s boot None handles = inl (status.Denied, refl)
-end-shape E s boot (Some parts) handles =
-    end-cond (list_any is_writer handles) _ _ (inl (status.Busy, refl)) (end-cond (not (may_end E s parts)) _ _ (inl (status.AuthFail, refl)) (inr refl))
-
-module _ (E : Setting) (s : State) (boot : ℕ) (stg : Option (List Staged)) (handles : List Handle) (bytes : List ℕ) where
-  not-refused : (p : Plan) (st : Status) → (planned E s boot stg handles bytes p).reply ≡ Refused st → ⊥
-  unfolding planned
-  not-refused plan.Tell st e = absurd cc
-  not-refused (plan.Begin store) st e = absurd cc
-  not-refused (plan.Open h image o total) st e = absurd cc
-  not-refused (plan.Write h image at n) st e = absurd cc
-  not-refused (plan.Read h image at n total) st e = absurd cc
-  not-refused (plan.Commit h image bit) st e = absurd cc
-  not-refused plan.End st e = absurd cc
-  not-refused plan.Cancel st e = absurd cc
-  not-refused (plan.Accept image store) st e = absurd cc
-  not-refused plan.Back st e = absurd cc
-
-  switches : (p : Plan) → move_kind (planned E s boot stg handles bytes p).moves ≡ 2 → p ≡ plan.End
-  unfolding planned
-  switches plan.Tell e = absurd (omega (arith, e))
-  switches (plan.Begin true) e = absurd (omega (arith, e))
-  switches (plan.Begin false) e = absurd (omega (arith, e))
-  switches (plan.Open h image o total) e = absurd (omega (arith, e))
-  switches (plan.Write h image at n) e = absurd (omega (arith, e))
-  switches (plan.Read h image at n total) e = absurd (omega (arith, e))
-  switches (plan.Commit h image bit) e = absurd (omega (arith, e))
-  switches plan.End e = refl
-  switches plan.Cancel e = absurd (omega (arith, e))
-  switches (plan.Accept image true) e = absurd (omega (arith, e))
-  switches (plan.Accept image false) e = absurd (omega (arith, e))
-  switches plan.Back e = absurd (omega (arith, e))
-
-  pub end-own : (p : Plan) → answer E s (On boot stg handles) call.End ≡ planned E s boot stg handles bytes p → p ≡ plan.End
-  unfolding answer
-  end-own p e = elim (end-shape E s boot stg handles) [
-    | inl (st, refused) ↦ absurd (not-refused p st (sym (ap (λ (a : Answer). a.reply) e) ∙ refused))
-    | inr switch ↦ switches p (sym (ap (λ (a : Answer). move_kind a.moves) e) ∙ switch)
-  ]
-
--- another plan is none of an end, so any refusal may be said of it
-pub end-alone : (passes : List ℕ → Bool) (m : MetaRead) (counter : ℕ) (k : Kept) (boot : ℕ) (p : Plan) (st : Status) → (p ≡ plan.End → ⊥)
-    → Decides passes m counter k boot request.End (decision.Do p) → Decides passes m counter k boot request.End (decision.Refused st)
-end-alone passes m counter k boot p st other decides E s staged bytes speaks fits =
-    absurd (other (end-own E s boot (staging_meant k staged) (handles_meant k) bytes p (decides E s staged bytes speaks fits)))
-
--- and a verdict decides nothing but a refusal
-pub end-unverdict : (passes : List ℕ → Bool) (m : MetaRead) (counter : ℕ) (k : Kept) (boot b : ℕ)
-    → Decides passes m counter k boot request.End (decision.ByVerdict b) → Decides passes m counter k boot request.End (decision.Refused status.Denied)
-end-unverdict passes m counter k boot b decides E s staged bytes speaks fits =
-    verdict-refuses E s boot (staging_meant k staged) (handles_meant k) bytes request.End (may_go_back E s (bank s b).held) (λ e. omega (arith, e))
-    (decides E s staged bytes speaks fits).1
 
 -- a bank is its slots, one after the other
 in-slots : (P : ℕ → Type 0) (rows : List ImageRow) (base : ℕ)

@@ -26,7 +26,7 @@ returns-in-Open-clause-meets g c here passes =
 
 -- an open has no other plan
 pub returns-in_default-clause-meets : goal.returns-in_default-clause-meets
-returns-in_default-clause-meets g c here passes =
+returns-in_default-clause-meets g c =
     let f : Fields = fields c.args.self.now in
     absurd (opens f.session f.meta.meta c.args.guid c.args.op c.total-total.result c.in-Ok.plan c.in-Ok.ensures.asked c.in_default.not-Open)
 

@@ -4,8 +4,9 @@ use Rattle.agent_kept.specs.declared.kinds.Decision.{Decision}
 use Rattle.agent_state.specs.Decides.{Decides}
 use Rattle.agent_machine.specs.Fields.{Fields}
 use Rattle.agent_machine.proofs.Room.{meta-of-session, rows-some}
-use Rattle.agent_machine.proofs.Verdicts.{refuses-any, plans-any, denies-any}
+use Rattle.agent_machine.proofs.Verdicts.{refuses-any, plans-any}
 use Rattle.agent_calls.specs.Shown.{fields}
+use Rattle.agent_calls.proofs.NoOther.{waits}
 use Rattle.agent_calls.proofs.agent.Agent.plan.Goals as goal
 
 pub decide-requires-clause-some : goal.decide-requires-clause-some
@@ -26,8 +27,8 @@ returns-in-Refused-clause-plans g c passes =
     refuses-any passes_any passes f.meta f.counter f.session f.boot c.args.request.now c.requires.plain c.in-Refused.status
     (subst (λ (d : Decision). Decides passes_any f.meta f.counter f.session f.boot c.args.request.now d) c.in-Refused.is c.decide.ensures.decides)
 
+-- none of these requests waits for a verdict
 pub returns-in-ByVerdict-clause-plans : goal.returns-in-ByVerdict-clause-plans
 returns-in-ByVerdict-clause-plans g c passes =
     let f : Fields = fields c.args.self.now in
-    denies-any passes_any passes f.meta f.counter f.session f.boot c.args.request.now c.requires.plain c.in-ByVerdict.bank
-    (subst (λ (d : Decision). Decides passes_any f.meta f.counter f.session f.boot c.args.request.now d) c.in-ByVerdict.is c.decide.ensures.decides)
+    absurd (waits f.meta.meta c.args.request.now c.requires.plain c.in-ByVerdict.bank c.in-ByVerdict.ensures.asked)

@@ -88,7 +88,7 @@ returns-in-Err-Failed-clause-meets g c here passes =
 
 -- a read has no other plan
 pub returns-in_default-clause-meets : goal.returns-in_default-clause-meets
-returns-in_default-clause-meets g c here passes =
+returns-in_default-clause-meets g c =
     let f : Fields = fields c.args.self.now in
     absurd (reads f.session f.meta.meta c.args.h (length c.args.out.now) c.in-Ok.plan c.in-Ok.ensures.asked c.in_default.not-Read)
 
