@@ -48,17 +48,3 @@ PlansAs passes f r (Err st) = Decides passes f.meta f.counter f.session f.boot r
 abbrev pub IsPlannedIn : Fields → Result Plan Status → Type 0
 IsPlannedIn f (Ok p) = IsPlanOf f.session p
 IsPlannedIn f (Err st) = Unit {0}
-
--- the plan is of the request's own kind
-abbrev pub IsOwnPlan : Request → Plan → Type 0
-IsOwnPlan request.Discover plan.Tell = Unit {0}
-IsOwnPlan (request.Begin flags count) (plan.Begin store) = Unit {0}
-IsOwnPlan (request.Open guid o size) (plan.Open h image p total) = Unit {0}
-IsOwnPlan (request.Write h m) (plan.Write number image at n) = Unit {0}
-IsOwnPlan (request.Read h room) (plan.Read number image at n total) = Unit {0}
-IsOwnPlan (request.Commit h req most) (plan.Commit number image bit) = Unit {0}
-IsOwnPlan request.End plan.End = Unit {0}
-IsOwnPlan request.Cancel plan.Cancel = Unit {0}
-IsOwnPlan (request.Accept guid) (plan.Accept image store) = Unit {0}
-IsOwnPlan request.Previous plan.Back = Unit {0}
-IsOwnPlan r p = ⊥
