@@ -9,6 +9,7 @@ pub mod PartLemmas
 pub mod Repacking
 pub mod SinkFaults
 pub mod SourceEnds
+pub mod SourceFaults
 pub mod SourceLemmas
 pub mod Tables
 pub mod Texts

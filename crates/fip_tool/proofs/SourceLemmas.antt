@@ -25,6 +25,7 @@ pub record HasGiven (was now : Option (List ℕ)) (stream : Stream) (count : ℕ
 
 pub record IsReading (was now : Option (List ℕ)) (before faults : ℕ) (stream : Stream) (count : ℕ) : Type 0 where
   pub later : before ≤ faults
+  pub none : faults ≡ before
   pub few : count ≤ 4294971392
   pub so-far : HasGiven was now stream count
 
@@ -41,18 +42,20 @@ pub nothing-yet : (was : Option (List ℕ)) (faults : ℕ) (stream : Stream) →
 unfolding toc_of
 nothing-yet was faults stream fed = record {
   later = omega arith;
+  none = refl;
   few = omega arith;
   so-far = record { given = []; consumed = Consumes-nil was; fed = fed; long = refl; undecided = refl; in-time = nothing-read };
 }
 
 pub goes-on : (was mid new : Option (List ℕ)) (before then now : ℕ) (stream next : Stream) (count n : ℕ) (source-rose : Type 0) → (r : IsReading was mid before then stream count)
-    → count ≤ 4294967296 → n ≤ 4096 → then ≤ now → ((piece : List ℕ) × FedSome next r.so-far.given piece mid new source-rose (Ok n)) → IsReading was new before now next (count + n)
-goes-on was mid new before then now stream next count n source-rose r few some later f =
+    → count ≤ 4294967296 → n ≤ 4096 → then ≤ now → now ≡ then → ((piece : List ℕ) × FedSome next r.so-far.given piece mid new source-rose (Ok n)) → IsReading was new before now next (count + n)
+goes-on was mid new before then now stream next count n source-rose r few some later same f =
     let piece : List ℕ = f.0 in
     let g : List ℕ = r.so-far.given in
     let lengths : length (g ++ piece) ≡ length g + length piece = length-append g piece in
     record {
       later = (let a = r.later in omega arith);
+      none = same ∙ r.none;
       few = omega arith;
       so-far = record {
         given = g ++ piece;

@@ -1,5 +1,5 @@
 -- What a command does, and what is there after it.
-use Rattle.std.specs.Prelude.{◌≡◌, ◌≢◌, ◌⊎◌, ◌≤◌, ⊤, ℕ, List, [], ◌∷◌, ◌++◌, Option, Some, None, Result, Ok, Err, if◌then◌else◌, take, drop}
+use Rattle.std.specs.Prelude.{◌≡◌, ◌≢◌, ◌⊎◌, ◌≤◌, ◌==◌, ◌||◌, ⊤, IsFalse, ℕ, List, [], ◌∷◌, ◌++◌, Option, Some, None, Result, Ok, Err, if◌then◌else◌, take, drop}
 use Rattle.std.specs.Str.{bytes_eq}
 use Rattle.std.specs.Io.KnownBytes.{Appends}
 use Rattle.base_core.specs.Counts.{Rose}
@@ -127,6 +127,21 @@ sink_failures (Err s) before = sink_failed s before
 abbrev pub line_failures : Stop → Stop → ℕ → ℕ
 line_failures SinkFault now before = before
 line_failures s now before = sink_failed now before
+
+-- how many calls of the source have failed after a listing of it that ended so: one more where it could not be read, and else as many as before
+abbrev pub source_failed : Stop → ℕ → ℕ
+source_failed FileFault before = raised before
+source_failed s before = before
+
+abbrev pub source_failures : {X : Type 0} → Result X Stop → ℕ → ℕ
+source_failures (Ok x) before = before
+source_failures (Err s) before = source_failed s before
+
+-- And by the exit status. The first call that fails ends the listing; the line of that may be cut by the sink, or find no memory.
+pub record FailsOnce (status before after : ℕ) : Type 0 where
+  pub once : (after ≡ before) ⊎ (after ≡ raised before)
+  pub failed : status ≡ 2 → after ≡ raised before
+  pub none : IsFalse ((status == 2) || ((status == 3) || (status == 9))) → after ≡ before
 
 -- what the writing of a file leaves
 abbrev pub Written : Directory → Option Directory → Type 0 → List ℕ → List ℕ → Result (Unit {0}) Stop → Type 0

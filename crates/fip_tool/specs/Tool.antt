@@ -1,5 +1,5 @@
 -- What each command of `fip` does, by the bytes of its files: the written files and the printed text.
-use Rattle.std.specs.Prelude.{◌≡◌, ◌≤◌, ◌⊎◌, ℕ, Bool, not, ◌||◌, ◌==◌, List, [], ◌∷◌, ◌++◌, Option, Some, None, Result, Ok, Err, if◌then◌else◌, length, map, filter, find, nat_lt, option_map}
+use Rattle.std.specs.Prelude.{◌≡◌, ◌≤◌, ◌⊎◌, ℕ, Bool, true, false, not, ◌||◌, ◌==◌, List, [], ◌∷◌, ◌++◌, Option, Some, None, Result, Ok, Err, if◌then◌else◌, length, map, filter, find, nat_lt, option_map}
 use Rattle.std.specs.List.{list_any}
 use Rattle.std.specs.Io.KnownBytes.{Consumes, IsAtEnd}
 use Rattle.base_core.specs.Bytes.{same_bytes}
@@ -305,6 +305,19 @@ command_outcome (repackage align from out) files = outcome_by (packs out) (repac
 abbrev pub outcome_of : Option Asked → Directory → Outcome
 outcome_of None files = Refuses stop.Usage
 outcome_of (Some asked) files = command_outcome asked files
+
+-- all but usage and a listing of the source ask for a file
+abbrev pub asks_files : Option Asked → Bool
+asks_files None = false
+asks_files (Some (info file)) = true
+asks_files (Some info_of_source) = false
+asks_files (Some (create align out parts)) = true
+asks_files (Some (update align from out parts)) = true
+asks_files (Some (remove align from out names)) = true
+asks_files (Some (unpack from prefix names)) = true
+asks_files (Some (manifest out security rows)) = true
+asks_files (Some (capsule from out)) = true
+asks_files (Some (repackage align from out)) = true
 
 -- no files at all
 abbrev pub no_files : Directory

@@ -3,7 +3,7 @@ ghost use Rattle.std.specs.Prelude.{◌≡◌, ◌≤◌, IfOk, List, Some, Err,
 ghost use Rattle.base_core.specs.Counts.{Rose};
 ghost use Rattle.host_io.specs.Contents.{Directory};
 ghost use Rattle.fip_tool.specs.Said.{IsListing};
-ghost use Rattle.fip_tool.specs.Steps.{Gives, ReadsOnly};
+ghost use Rattle.fip_tool.specs.Steps.{Gives, ReadsOnly, source_failures};
 ghost use Rattle.fip_tool.specs.Tool.{GivenTo, StopsInTime, given_value, info_value};
 ghost use Rattle.fip_tool.specs.declared.stops.Stop.TheVariants as stop;
 
@@ -40,6 +40,7 @@ pub fn source_info<I: Source>(alloc: Global, source: &mut I) -> Result<Vec<u8>, 
     ensures usage { result ≡ Err stop.Usage → ⊥ }
     ensures sink { result ≡ Err stop.SinkFault → ⊥ }
     ensures later { I.faults source.old ≤ I.faults source.new }
+    ensures count { I.faults source.new ≡ source_failures result (I.faults source.old) }
 {
     match read_given(source) {
         Ok((toc, size)) => match info_text(alloc, &toc, size) {

@@ -6,7 +6,7 @@ ghost use Rattle.host_io.specs.Contents.{Directory};
 ghost use Rattle.fwu_formats.specs.Package.{toc_of};
 ghost use Rattle.fip_tables.specs.Answers.{decided};
 ghost use Rattle.fip_tables.specs.Stream.{Fed};
-ghost use Rattle.fip_tool.specs.Steps.{Gives, ReadsOnly};
+ghost use Rattle.fip_tool.specs.Steps.{Gives, ReadsOnly, source_failures};
 ghost use Rattle.fip_tool.specs.Tool.{GivenTo, StopsInTime, after, capsule_in, capsule_stopped_by, given_table, size_in, sized_table, source_limit, stopped_by};
 ghost use Rattle.fip_tool.specs.Source.{EndsAs, FedSome};
 ghost use Rattle.fip_tool.specs.declared.stops.Stop.TheVariants as stop;
@@ -95,6 +95,7 @@ fn feed_some<I: Source>(source: &mut I, stream: &mut StreamToc) -> Result<usize,
     ensures usage { result ≡ Err stop.Usage → ⊥ }
     ensures sink { result ≡ Err stop.SinkFault → ⊥ }
     ensures later { I.faults source.old ≤ I.faults source.new }
+    ensures count { I.faults source.new ≡ source_failures result (I.faults source.old) }
 {
     let mut buffer = [0u8; 4096];
     let count = match source.read(&mut buffer) {
@@ -115,6 +116,7 @@ fn ended(stream: StreamToc, count: u64) -> Result<(Toc, u64), Stop>
         → EndsAs given result }
     ensures usage { result ≡ Err stop.Usage → ⊥ }
     ensures sink { result ≡ Err stop.SinkFault → ⊥ }
+    ensures fault { result ≡ Err stop.FileFault → ⊥ }
 {
     match stream.end() {
         Ok(toc) => Ok((toc, count)),
@@ -131,6 +133,7 @@ pub fn read_given<I: Source>(source: &mut I) -> Result<(Toc, u64), Stop>
     ensures usage { result ≡ Err stop.Usage → ⊥ }
     ensures sink { result ≡ Err stop.SinkFault → ⊥ }
     ensures later { I.faults source.old ≤ I.faults source.new }
+    ensures count { I.faults source.new ≡ source_failures result (I.faults source.old) }
 {
     let mut stream = StreamToc::new();
     let mut count = 0;

@@ -1,5 +1,5 @@
 //! The tool: it reads its words, does the command, and tells how it ended.
-ghost use Rattle.std.specs.Prelude.{◌==◌, if◌then◌else◌, ◌≡◌, ◌≢◌, ◌≤◌, ◌⊎◌, List, Option, Some, None, Ok, Err, ℕ, false, map, string_bytes};
+ghost use Rattle.std.specs.Prelude.{◌==◌, if◌then◌else◌, ◌≡◌, ◌≢◌, ◌≤◌, ◌⊎◌, IsFalse, List, Option, Some, None, Ok, Err, ℕ, false, map, string_bytes};
 ghost use Rattle.base_core.specs.Counts.{Rose};
 ghost use Rattle.host_io.specs.Calls.{raised};
 ghost use Rattle.host_io.specs.Contents.{Directory};
@@ -8,8 +8,8 @@ ghost use Rattle.fip_words.specs.Values.{is_unpacked};
 ghost use Rattle.fip_tool.specs.Converted.{Converts};
 ghost use Rattle.fip_tool.specs.Ends.{Ended, Reported, Told};
 ghost use Rattle.fip_tool.specs.Said.{IsTexts, IsTextsOf, SaidWith, Says};
-ghost use Rattle.fip_tool.specs.Steps.{Did, line_failures, sink_failed, sink_failures};
-ghost use Rattle.fip_tool.specs.Tool.{EndedSource, ReadSource, command_outcome, outcome_of};
+ghost use Rattle.fip_tool.specs.Steps.{Did, FailsOnce, line_failures, sink_failed, sink_failures, source_failures};
+ghost use Rattle.fip_tool.specs.Tool.{EndedSource, ReadSource, asks_files, command_outcome, outcome_of};
 ghost use Rattle.fip_tool.specs.declared.stops.Stop.TheVariants as stop;
 ghost use Rattle.fip_tool.specs.declared.stops.Stop.TheVariants.{SinkFault};
 
@@ -65,6 +65,7 @@ fn info_of_source<I: Source, O: Sink>(
     ensures cause { result ≡ Err stop.FileFault → Rose (I.faults source.old) (I.faults source.new) }
     ensures usage { result ≡ Err stop.Usage → ⊥ }
     ensures later { O.faults sink.old ≤ O.faults sink.new }
+    ensures source_count { I.faults source.new ≡ source_failures result (I.faults source.old) }
     ensures sink_count { O.faults sink.new ≡ sink_failures result (O.faults sink.old) }
 {
     match source_info(alloc, source) {
@@ -131,6 +132,9 @@ fn command<H: Files, I: Source, O: Sink>(
         (Rose (O.faults sink.old) (O.faults sink.new)) result }
     ensures source_stays { view order.now ≢ info_of_source
         → (I.left source.new ≡ I.left source.old) × (I.faults source.new ≡ I.faults source.old) }
+    ensures source_count { view order.now ≡ info_of_source
+        → I.faults source.new ≡ source_failures result (I.faults source.old) }
+    ensures files_stay { IsFalse (asks_files (Some (view order.now))) → files.new ≡ files.old }
     ensures usage { result ≡ Err stop.Usage → ⊥ }
     ensures later { O.faults sink.old ≤ O.faults sink.new }
     ensures sink_count { O.faults sink.new ≡ sink_failures result (O.faults sink.old) }
@@ -196,6 +200,10 @@ fn run<H: Files, I: Source, O: Sink>(
         ⊎ (result ≡ Err stop.NoMemory) }
     ensures source_stays { asked (map string_bytes words.now) ≢ Some info_of_source
         → (I.left source.new ≡ I.left source.old) × (I.faults source.new ≡ I.faults source.old) }
+    ensures source_count { asked (map string_bytes words.now) ≡ Some info_of_source
+        → I.faults source.new ≡ source_failures result (I.faults source.old) }
+    ensures files_stay { IsFalse (asks_files (asked (map string_bytes words.now)))
+        → files.new ≡ files.old }
     ensures cause { result ≡ Err stop.FileFault → H.contents files.old ≡ None
         → Rose (H.faults files.old) (H.faults files.new)
         ⊎ Rose (I.faults source.old) (I.faults source.new) }
@@ -253,6 +261,12 @@ pub fn fip_top<H: Files, I: Source, O: Sink>(
     // Nothing but a listing of the source reads it.
     ensures source_stays { asked (map string_bytes words.now) ≢ Some info_of_source
         → (I.left source.new ≡ I.left source.old) × (I.faults source.new ≡ I.faults source.old) }
+    // A listing of the source ends at the first call that fails, whatever source there is.
+    ensures source_count { asked (map string_bytes words.now) ≡ Some info_of_source
+        → FailsOnce result (I.faults source.old) (I.faults source.new) }
+    // Neither usage nor a listing of the source asks for a file, whatever files there are.
+    ensures files_stay { IsFalse (asks_files (asked (map string_bytes words.now)))
+        → files.new ≡ files.old }
 {
     match run(alloc, words, files, source, sink) {
         Ok(()) => 0,

@@ -1,8 +1,10 @@
-use Rattle.std.proofs.Common.{ℕ, List, Ok, arith, subst}
+use Rattle.std.proofs.Common.{ℕ, List, Ok, ap, arith, subst, ◌∙◌}
 use Rattle.base_core.specs.Counts.{Rose}
 use Rattle.fip_tool.proofs.SourceLemmas.{last, nothing-yet, stopped, too-long}
+use Rattle.fip_tool.proofs.SourceFaults.{ended-quiet}
 use Rattle.fip_tool.proofs.Tables.{rose-from}
 use Rattle.fip_tool.specs.Source.{FedSome}
+use Rattle.fip_tool.specs.Steps.{source_failed}
 use Rattle.fip_tool.proofs.table.read_given.Goals as goal
 
 pub loop-count-init : goal.loop-count-init
@@ -23,3 +25,12 @@ returns-then-some-eq0-clause-given g c =
 
 pub returns-clause-given : goal.returns-clause-given
 returns-clause-given g c = too-long _ _ _ _ c.loop-count.stream c.loop-count.count (Unit {0}) c.loop-count.invariant (omega (arith, c.loop-count-test.false))
+
+pub returns-in-Err-clause-count : goal.returns-in-Err-clause-count
+returns-in-Err-clause-count g c = c.in-Err.ensures.count ∙ ap (source_failed c.in-Err.stop) c.loop-count.invariant.none
+
+pub returns-then-some-eq0-clause-count : goal.returns-then-some-eq0-clause-count
+returns-then-some-eq0-clause-count g c = c.in-Ok.ensures.count ∙ c.loop-count.invariant.none ∙ ended-quiet c.ended.result _ c.ended.ensures.fault
+
+pub returns-clause-count : goal.returns-clause-count
+returns-clause-count g c = c.loop-count.invariant.none

@@ -11,6 +11,7 @@ use Rattle.fip_tool.proofs.Texts.{says-ends, sink-rose}
 use Rattle.fip_tool.specs.Tool.{no_files}
 use Rattle.fip_tool.specs.declared.stops.Stop.{Stop}
 use Rattle.fip_tool.proofs.SinkFaults.{counted, reported-sink}
+use Rattle.fip_tool.proofs.SourceFaults.{fails-once, none-failed}
 use Rattle.fip_tool.proofs.top.fip_top.Goals as goal
 
 pub returns-in-Ok-clause-told : goal.returns-in-Ok-clause-told
@@ -83,3 +84,9 @@ returns-in-Err-clause-sink g c = λ three.
 
 pub returns-in-Err-clause-sink_count : goal.returns-in-Err-clause-sink_count
 returns-in-Err-clause-sink_count g c = counted c.in-Err.stop c.report.result _ _ _ _ c.status.ensures (λ e. reported-sink _ _ _ c.in-Err.stop c.report.result e c.report.ensures.reported) c.in-Err.ensures.sink_count c.report.ensures.sink_count
+
+pub returns-in-Ok-clause-source_count : goal.returns-in-Ok-clause-source_count
+returns-in-Ok-clause-source_count g c = λ e. none-failed 0 _ _ refl (c.in-Ok.ensures.source_count e)
+
+pub returns-in-Err-clause-source_count : goal.returns-in-Err-clause-source_count
+returns-in-Err-clause-source_count g c = λ e. fails-once _ _ _ c.in-Err.stop c.report.result _ _ _ c.status.ensures c.report.ensures.reported (c.in-Err.ensures.source_count e)

@@ -1,4 +1,4 @@
-use Rattle.std.proofs.Common.{List, Vec, ℕ, refl, subst, sym}
+use Rattle.std.proofs.Common.{◌∙◌, List, Vec, ℕ, refl, subst, sym}
 use Rattle.std.specs.Global.{Global}
 use Rattle.base_core.specs.Counts.{Rose}
 use Rattle.fip_tool.proofs.SourceEnds.{source-printed, source-refused}
@@ -7,6 +7,7 @@ use Rattle.fip_tool.specs.Said.{IsListing, IsTexts}
 use Rattle.fip_tool.proofs.Texts.{err-same, says-nothing, says-printed}
 use Rattle.fip_tool.specs.Steps.{Printed}
 use Rattle.fip_tool.proofs.SinkFaults.{still}
+use Rattle.fip_tool.proofs.SourceFaults.{printed-quiet}
 use Rattle.fip_tool.proofs.top.info_of_source.Goals as goal
 
 pub returns-in-Ok-clause-listed : goal.returns-in-Ok-clause-listed
@@ -33,3 +34,6 @@ returns-in-Err-clause-says g c = says-nothing (IsTexts asks.info_of_source) _ _ 
 
 pub returns-in-Err-clause-sink_count : goal.returns-in-Err-clause-sink_count
 returns-in-Err-clause-sink_count g c = still _ c.in-Err.stop (λ e. c.in-Err.ensures.sink (err-same e))
+
+pub returns-in-Ok-clause-source_count : goal.returns-in-Ok-clause-source_count
+returns-in-Ok-clause-source_count g c = c.in-Ok.ensures.count ∙ printed-quiet _ _ _ _ c.print.result _ c.print.ensures.printed

@@ -1,0 +1,85 @@
+-- How often the source failed.
+use Rattle.std.proofs.Common.{◌≡◌, ◌≢◌, inl, inr, ◌∙◌, ℕ, List, [], Option, None, Result, Ok, Err, ap, refl, subst, sym}
+use Rattle.std.specs.Prelude.{◌==◌, ◌||◌, IsFalse}
+use Rattle.std.proofs.lemmas.Bool.{false≢true}
+use Rattle.host_io.specs.Calls.{raised}
+use Rattle.fip_tool.proofs.SourceEnds.{reported-two}
+use Rattle.fip_tool.specs.Ends.{Reported, Told, status_number}
+use Rattle.fip_tool.specs.Steps.{FailsOnce, Printed, source_failed, source_failures}
+use Rattle.fip_tool.specs.declared.stops.Stop.{Stop}
+use Rattle.fip_tool.specs.declared.stops.Stop.TheVariants as stop
+
+-- another stop is no failure of the source
+pub quiet : (n : ℕ) (s : Stop) → s ≢ stop.FileFault → n ≡ source_failed s n
+quiet n stop.FileFault other = absurd (other refl)
+quiet n stop.SinkFault other = refl
+quiet n stop.Usage other = refl
+quiet n (stop.NotFip f) other = refl
+quiet n (stop.NoSuchEntry guid) other = refl
+quiet n (stop.NotPacked f) other = refl
+quiet n (stop.NoManifest f) other = refl
+quiet n stop.TooLong other = refl
+quiet n (stop.NotCapsule f) other = refl
+quiet n stop.NoMemory other = refl
+
+-- nor is a text that was printed or not
+pub printed-quiet : (was text : Option (List ℕ)) (rose : Type 0) (piece : List ℕ) (r : Result (Unit {0}) Stop) (n : ℕ) → Printed was text rose piece r → n ≡ source_failures r n
+printed-quiet was text rose piece (Ok u) n p = refl
+printed-quiet was text rose piece (Err stop.FileFault) n p = absurd p
+printed-quiet was text rose piece (Err stop.SinkFault) n p = refl
+printed-quiet was text rose piece (Err stop.Usage) n p = refl
+printed-quiet was text rose piece (Err (stop.NotFip f)) n p = refl
+printed-quiet was text rose piece (Err (stop.NoSuchEntry guid)) n p = refl
+printed-quiet was text rose piece (Err (stop.NotPacked f)) n p = refl
+printed-quiet was text rose piece (Err (stop.NoManifest f)) n p = refl
+printed-quiet was text rose piece (Err stop.TooLong) n p = refl
+printed-quiet was text rose piece (Err (stop.NotCapsule f)) n p = refl
+printed-quiet was text rose piece (Err stop.NoMemory) n p = refl
+
+-- nor is the end of what was given
+pub ended-quiet : {X : Type 0} (r : Result X Stop) (n : ℕ) → (◌≡◌ {A = Result X Stop} r (Err stop.FileFault) → ⊥) → n ≡ source_failures r n
+ended-quiet (Ok x) n other = refl
+ended-quiet (Err s) n other = quiet n s (λ e. other (ap (λ (x : Stop). Err x) e))
+
+-- all was read
+pub none-failed : (status before after : ℕ) → status ≡ 0 → after ≡ before → FailsOnce status before after
+none-failed status before after zero same = record {
+  once = inl same;
+  failed = λ two. (let no : ◌≡◌ {A = ℕ} 0 2 = sym zero ∙ two in cc);
+  none = λ other. same;
+}
+
+none-by : (taken text : Option (List ℕ)) (rose : Type 0) (s now : Stop) (status before after : ℕ) → s ≢ stop.FileFault → status ≡ status_number now → Reported taken text rose s now → after ≡ before
+    → FailsOnce status before after
+none-by taken text rose s now status before after other is r same = record {
+  once = inl same;
+  failed = λ two. absurd (other (reported-two None None taken text rose [] s now r (sym is ∙ two)));
+  none = λ o. same;
+}
+
+by-number : (n status before after : ℕ) → status ≡ n → IsFalse ((status == 2) || ((status == 3) || (status == 9))) → IsFalse ((n == 2) || ((n == 3) || (n == 9)))
+by-number n status before after is o = subst (λ (x : ℕ). IsFalse ((x == 2) || ((x == 3) || (x == 9)))) is o
+
+late : (taken text : Option (List ℕ)) (rose : Type 0) (now : Stop) (status before after : ℕ) → status ≡ status_number now → Reported taken text rose stop.FileFault now
+    → IsFalse ((status == 2) || ((status == 3) || (status == 9))) → after ≡ before
+late taken text rose now status before after is (inl a) o = absurd (false≢true (sym (by-number 2 status before after (is ∙ ap status_number a.0) o)))
+late taken text rose now status before after is (inr (inl a)) o = absurd (false≢true (sym (by-number 3 status before after (is ∙ ap status_number a.0) o)))
+late taken text rose now status before after is (inr (inr a)) o = absurd (false≢true (sym (by-number 9 status before after (is ∙ ap status_number a.0) o)))
+
+-- so many failed in the listing that stopped; its line asks for no more of the source
+pub fails-once : (taken text : Option (List ℕ)) (rose : Type 0) (s now : Stop) (status before after : ℕ) → status ≡ status_number now → Reported taken text rose s now → after ≡ source_failed s before
+    → FailsOnce status before after
+fails-once taken text rose stop.FileFault now status before after is r m = record {
+  once = inr m;
+  failed = λ two. m;
+  none = late taken text rose now status before after is r;
+}
+fails-once taken text rose stop.SinkFault now status before after is r m = none-by taken text rose stop.SinkFault now status before after (λ e. cc) is r m
+fails-once taken text rose stop.Usage now status before after is r m = none-by taken text rose stop.Usage now status before after (λ e. cc) is r m
+fails-once taken text rose (stop.NotFip f) now status before after is r m = none-by taken text rose (stop.NotFip f) now status before after (λ e. cc) is r m
+fails-once taken text rose (stop.NoSuchEntry guid) now status before after is r m = none-by taken text rose (stop.NoSuchEntry guid) now status before after (λ e. cc) is r m
+fails-once taken text rose (stop.NotPacked f) now status before after is r m = none-by taken text rose (stop.NotPacked f) now status before after (λ e. cc) is r m
+fails-once taken text rose (stop.NoManifest f) now status before after is r m = none-by taken text rose (stop.NoManifest f) now status before after (λ e. cc) is r m
+fails-once taken text rose stop.TooLong now status before after is r m = none-by taken text rose stop.TooLong now status before after (λ e. cc) is r m
+fails-once taken text rose (stop.NotCapsule f) now status before after is r m = none-by taken text rose (stop.NotCapsule f) now status before after (λ e. cc) is r m
+fails-once taken text rose stop.NoMemory now status before after is r m = none-by taken text rose stop.NoMemory now status before after (λ e. cc) is r m
