@@ -1,12 +1,14 @@
 -- The command `format`: a stop of the flash has its cause, after the power came.
-use Rattle.std.proofs.Common.{◌≡◌, ℕ, List, Option, Result, Err, subst}
+use Rattle.std.proofs.Common.{◌≡◌, ℕ, List, Option, Result, Ok, Err, refl, subst}
+use Rattle.std.specs.Prelude.{IsTrue, is_ok}
 use Rattle.flash_core.specs.Counts.{Idles, ReachesNone, Spends}
 use Rattle.flash_core.specs.declared.flash.Counts.{Counts}
 use Rattle.flash_core.specs.declared.flash.FlashStop.{FlashStop}
 use Rattle.flash_format.specs.Stops.{flash_result}
 use Rattle.flash_format.specs.declared.formatting.Formatted.{Formatted}
 use Rattle.flash_format.specs.declared.stops.FormatStop.{FormatStop}
-use Rattle.flash_format.specs.declared.stops.FormatStop.TheVariants.{Flash}
+use Rattle.flash_format.specs.declared.stops.FormatStop.TheVariants.{Input, ReadFailed, Flash}
+use Rattle.script_cmd.specs.Formatting.{format_status}
 use Rattle.script_cmd.specs.Printed.{Prints}
 use Rattle.script_cmd.specs.Showing.{HasCause}
 use Rattle.script_cmd.proofs.ShowFlash.{has-cause}
@@ -21,3 +23,10 @@ stop-cause r stop before mid after is idle spends reaches =
 pub as-planned : (piece other : List ℕ) (planned plan status : ℕ) (old new : Option (List ℕ)) (was are : ℕ) → other ≡ piece → plan ≡ planned → Prints other plan status old new was are → Prints piece planned status old new was are
 as-planned piece other planned plan status old new was are same is p =
     subst (λ (n : ℕ). Prints piece n status old new was are) is (subst (λ (l : List ℕ). Prints l plan status old new was are) same p)
+
+-- what was formatted was stopped by no flash
+pub format-done : (r : Result Formatted FormatStop) → format_status r ≡ 0 → IsTrue (is_ok (flash_result r))
+format-done (Ok done) zero = refl
+format-done (Err (Input f)) zero = refl
+format-done (Err ReadFailed) zero = refl
+format-done (Err (Flash stop)) zero = cc

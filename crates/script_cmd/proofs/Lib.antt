@@ -14,6 +14,7 @@ pub mod RunTurns
 mod RunCalls
 mod RunEnds
 pub mod TopReads
+pub mod TopSources
 pub mod TopPrints
 pub mod TopWays
 pub mod TopCompletes

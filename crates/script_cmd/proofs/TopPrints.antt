@@ -24,3 +24,9 @@ pub not-done : (piece : List ℕ) (planned status : ℕ) (old new : Option (List
 not-done piece planned status old new was are some (all is _ _) e = some (sym is ∙ e)
 not-done piece planned status old new was are some (front is _ _ _ _) e = ne3 (sym is ∙ e)
 not-done piece planned status old new was are some (nothing is _ _) e = ne9 (sym is ∙ e)
+
+-- what was put for the status 0 alone is done
+pub done-planned : (piece : List ℕ) (planned status : ℕ) (old new : Option (List ℕ)) (was are : ℕ) → Prints piece planned status old new was are → status ≡ 0 → planned ≡ 0
+done-planned piece planned status old new was are (all is _ _) e = sym is ∙ e
+done-planned piece planned status old new was are (front is _ _ _ _) e = absurd (ne3 (sym is ∙ e))
+done-planned piece planned status old new was are (nothing is _ _) e = absurd (ne9 (sym is ∙ e))

@@ -1,5 +1,5 @@
 -- Reading a script's text from the source.
-use Rattle.std.proofs.Common.{◌≡◌, ◌≤◌, ◌<◌, ◌+◌, ℕ, Bool, true, List, [], ◌++◌, Option, Some, None, length, take, drop, arith, sym, ap, subst, ◌∙◌, append_assoc, take-append-drop}
+use Rattle.std.proofs.Common.{◌≡◌, ◌≤◌, ◌<◌, ◌+◌, ℕ, Bool, true, List, [], ◌++◌, Option, Some, None, length, take, drop, arith, refl, sym, ap, subst, ◌∙◌, append_assoc, take-append-drop}
 use Rattle.std.specs.Prelude.{IsTrue, if◌then◌else◌}
 use Rattle.std.specs.Io.KnownBytes.{Consumes}
 use Rattle.std.proofs.lemmas.List.{take_all}
@@ -11,22 +11,24 @@ use Rattle.script_text.proofs.Extents.{long-stays-long}
 -- the source gave this text so far, which is within the limits
 pub record IsReading (was now : Option (List ℕ)) (before faults : ℕ) (limit : Extent) (text : List ℕ) : Type 0 where
   pub later : before ≤ faults
+  pub none : faults ≡ before
   pub consumed : Consumes was now text
   pub extent : IsExtentOf limit text
 
 pub nothing-yet : (was : Option (List ℕ)) (faults : ℕ) (limit : Extent) → IsExtentOf limit [] → IsReading was was faults faults limit []
-nothing-yet was faults limit extent = record { later = omega arith; consumed = Consumes-nil was; extent = extent }
+nothing-yet was faults limit extent = record { later = omega arith; none = refl; consumed = Consumes-nil was; extent = extent }
 
 -- a piece was read, and was all within the limits
 pub goes-on : (was mid new : Option (List ℕ)) (before middle faults : ℕ) (limit next : Extent) (text longer piece : List ℕ) (count n : ℕ) (ok : Bool)
-    → IsReading was mid before middle limit text → middle ≤ faults → Consumes mid new piece → count ≡ length piece → n ≤ length piece → count ≤ n
+    → IsReading was mid before middle limit text → faults ≡ middle → Consumes mid new piece → count ≡ length piece → n ≤ length piece → count ≤ n
     → ((given : List ℕ) → IsExtentOf limit given → IsExtentOf next (given ++ take n piece)) → longer ≡ (if ok then text ++ piece else text) → ok ≡ true
     → IsReading was new before faults next longer
-goes-on was mid new before middle faults limit next text longer piece count n ok r later some is within all fed grows grown =
+goes-on was mid new before middle faults limit next text longer piece count n ok r same some is within all fed grows grown =
     let whole : take n piece ≡ piece = take_all n piece (omega arith) in
     let full : longer ≡ text ++ piece = grows ∙ ap (λ (b : Bool). if b then text ++ piece else text) grown in
     record {
       later = (let a = r.later in omega arith);
+      none = same ∙ r.none;
       consumed = subst (λ (l : List ℕ). Consumes was new l) (sym full) (Consumes-trans was mid new text piece r.consumed some);
       extent = subst (λ (l : List ℕ). IsExtentOf next l) (sym full) (subst (λ (l : List ℕ). IsExtentOf next (text ++ l)) whole (fed text r.extent));
     }

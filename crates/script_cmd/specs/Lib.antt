@@ -2,6 +2,7 @@ pub mod Printed
 pub mod Running
 pub mod Noted
 pub mod Asking
+pub mod Sourced
 pub mod BootWord
 pub mod Ways
 pub mod Showing

@@ -10,13 +10,14 @@ ghost use Rattle.fwu_model.specs.Wrote.{script_asked};
 ghost use Rattle.fwu_journal.specs.Shown.{turns};
 ghost use Rattle.fwu_words.specs.Order.{Asked, asked};
 ghost use Rattle.fwu_words.specs.Order as ask;
-ghost use Rattle.script_cmd.specs.Asking.{asked_with_list, asks_beyond, asks_files, asks_package, asks_run, plainly};
+ghost use Rattle.script_cmd.specs.Asking.{asked_with_list, asks_beyond, asks_files, asks_package, asks_run, leaves_on, plainly};
 ghost use Rattle.script_cmd.specs.Formatting.{FormattedBy};
 ghost use Rattle.script_turns.specs.Powered.{moment};
 ghost use Rattle.script_cmd.specs.Noted.{is_beyond, noted};
 ghost use Rattle.script_cmd.specs.Running.{calls_of, sends_none};
 ghost use Rattle.script_cmd.specs.Showing.{ShowedBy};
 ghost use Rattle.script_cmd.specs.SoakWays.{SoakWay};
+ghost use Rattle.script_cmd.specs.Sourced.{FailsOnce, ReadsInTime};
 ghost use Rattle.script_cmd.specs.WaysByTable.{WayByTable, over_table};
 ghost use Rattle.script_cmd.specs.Ways.{AsksTurns, ByList, Given, HasGoodList, HasPasses, IsIdle};
 ghost use Rattle.script_cmd.specs.Ways.{IsScriptOf, Later, ReadsList, RunsOrNone, Way, faults_of};
@@ -122,6 +123,9 @@ fn run_source<D: Flash, H: Files, I: Source, O: Sink, V: Verifier>(
     ensures later_source { I.faults source.old ≤ I.faults source.new }
     ensures later_sink { O.faults sink.old ≤ O.faults sink.new }
     ensures read_to_end { result.status ≡ 0 → IfSome (I.left source.new) (λ rest. rest ≡ []) }
+    ensures in_time { ReadsInTime (I.left source.old) (I.left source.new) }
+    ensures source_count { FailsOnce (turns result.journal) result.status (I.faults source.old)
+        (I.faults source.new) }
     ensures size { D.blocks result.flash ≡ D.blocks flash }
 {
     match read_source(alloc, source) {
@@ -205,6 +209,9 @@ fn run_source_by_table<D: Flash, H: Files, I: Source, O: Sink, V: Verifier>(
     ensures later_source { I.faults source.old ≤ I.faults source.new }
     ensures later_sink { O.faults sink.old ≤ O.faults sink.new }
     ensures read_to_end { result.status ≡ 0 → IfSome (I.left source.new) (λ rest. rest ≡ []) }
+    ensures in_time { ReadsInTime (I.left source.old) (I.left source.new) }
+    ensures source_count { FailsOnce (turns result.journal) result.status (I.faults source.old)
+        (I.faults source.new) }
     ensures size { D.blocks result.flash ≡ D.blocks flash }
 {
     match read_source(alloc, source) {
@@ -290,9 +297,16 @@ pub fn answer_with<D: Flash, H: Files, I: Source, O: Sink, V: Verifier>(
     ensures read_to_end_by_table { result.status ≡ 0
         → asked (map string_bytes words.now) ≡ Some ask.run_partitioned
         → IfSome (I.left source.new) (λ rest. rest ≡ []) }
+    ensures power { IsTrue (leaves_on (asked (map string_bytes words.now))) → result.status ≡ 0
+        → IsTrue (D.on result.flash) }
     // Only `run` reads the source.
     ensures source { IsFalse (asks_run (asked (map string_bytes words.now)))
         → source.new ≡ source.old }
+    ensures in_time { IsTrue (asks_run (asked (map string_bytes words.now)))
+        → ReadsInTime (I.left source.old) (I.left source.new) }
+    ensures source_count { IsTrue (asks_run (asked (map string_bytes words.now)))
+        → FailsOnce (turns result.journal) result.status (I.faults source.old)
+        (I.faults source.new) }
     // Only `run`, `format` and a list read files.
     ensures files { IsFalse (asks_files (asked (map string_bytes words.now)))
         → files.new ≡ files.old }
@@ -428,9 +442,16 @@ fn run_listed<D: Flash, H: Files, I: Source, O: Sink>(
     ensures read_to_end_by_table { result.status ≡ 0
         → asked (map string_bytes rest.now) ≡ Some ask.run_partitioned
         → IfSome (I.left source.new) (λ left. left ≡ []) }
+    ensures power { IsTrue (leaves_on (asked (map string_bytes rest.now))) → result.status ≡ 0
+        → IsTrue (D.on result.flash) }
     // Only `run` reads the source.
     ensures source { IsFalse (asks_run (asked (map string_bytes rest.now)))
         → source.new ≡ source.old }
+    ensures in_time { IsTrue (asks_run (asked (map string_bytes rest.now)))
+        → ReadsInTime (I.left source.old) (I.left source.new) }
+    ensures source_count { IsTrue (asks_run (asked (map string_bytes rest.now)))
+        → FailsOnce (turns result.journal) result.status (I.faults source.old)
+        (I.faults source.new) }
     // Behind a list that told files lack, or that is none, neither does `run`.
     ensures list_first { (HasGoodList (Some name.now) (H.contents files.old) → ⊥)
         → source.new ≡ source.old }
@@ -560,9 +581,16 @@ pub fn answer<D: Flash, H: Files, I: Source, O: Sink>(
     ensures read_to_end_by_table { result.status ≡ 0
         → asked_with_list (map string_bytes words.now) ≡ Some ask.run_partitioned
         → IfSome (I.left source.new) (λ rest. rest ≡ []) }
+    ensures power { IsTrue (leaves_on (asked_with_list (map string_bytes words.now))) → result.status ≡ 0
+        → IsTrue (D.on result.flash) }
     // Only `run` reads the source.
     ensures source { IsFalse (asks_run (asked_with_list (map string_bytes words.now)))
         → source.new ≡ source.old }
+    ensures in_time { IsTrue (asks_run (asked_with_list (map string_bytes words.now)))
+        → ReadsInTime (I.left source.old) (I.left source.new) }
+    ensures source_count { IsTrue (asks_run (asked_with_list (map string_bytes words.now)))
+        → FailsOnce (turns result.journal) result.status (I.faults source.old)
+        (I.faults source.new) }
     // Behind a list that told files lack, or that is none, neither does `run`.
     ensures list_first { (HasGoodList (list_name (map string_bytes words.now)) (H.contents files.old) → ⊥)
         → source.new ≡ source.old }

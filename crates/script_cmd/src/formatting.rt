@@ -1,5 +1,5 @@
 //! The command `format`.
-ghost use Rattle.std.specs.Prelude.{◌≡◌, ◌≤◌, ℕ, List, [], Option, None, IsFalse, is_ok};
+ghost use Rattle.std.specs.Prelude.{◌≡◌, ◌≤◌, ℕ, List, [], Option, None, IsTrue, IsFalse, is_ok};
 ghost use Rattle.flash_format.specs.Stops.{flash_result};
 ghost use Rattle.fwu_journal.specs.Shown.{turns};
 ghost use Rattle.script_turns.specs.Powered.{moment};
@@ -92,6 +92,7 @@ pub fn format_flash<D: Flash, H: Files, O: Sink, V: Verifier>(
         (O.taken sink.old) (O.taken sink.new)
         (record { files = H.faults files.old; source = source; sink = O.faults sink.old })
         (record { files = H.faults files.new; source = sources; sink = O.faults sink.new }) }
+    ensures power { result.status ≡ 0 → IsTrue (D.on result.flash) }
     ensures no_turns { turns result.journal ≡ [] }
     ensures same { H.contents files.new ≡ H.contents files.old }
     ensures later_files { H.faults files.old ≤ H.faults files.new }

@@ -5,6 +5,7 @@ ghost use Rattle.flash_core.specs.Counts.{Rose};
 ghost use Rattle.fwu_model.specs.Script.{is_too_long};
 ghost use Rattle.fwu_model.specs.Causes.{LacksFile};
 ghost use Rattle.host_io.specs.Contents.{Directory};
+ghost use Rattle.script_cmd.specs.Sourced.{ReadsInTime, read_failures};
 
 use base_core::NoMemory;
 use host_io::{Files, Source};
@@ -42,6 +43,8 @@ pub fn read_source<I: Source>(alloc: Global, source: &mut I) -> Result<Vec<u8>, 
     ensures later { I.faults source.old ≤ I.faults source.new }
     ensures failed { result ≡ Err SourceStop.Failed
         → Rose (I.faults source.old) (I.faults source.new) }
+    ensures in_time { ReadsInTime (I.left source.old) (I.left source.new) }
+    ensures count { I.faults source.new ≡ read_failures result (I.faults source.old) }
 {
     let mut text = Vec::new(alloc);
     let mut limit = TextLimit::new();

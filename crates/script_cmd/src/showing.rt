@@ -63,6 +63,7 @@ fn find<D: Flash>(flash: &mut D, text: &mut Vec<u8>) -> Found
     ensures counts { NoneFalls (D.counts flash.old) (D.counts flash.new) }
     ensures made { (D.counts flash.new).made ≡ (D.counts flash.old).made }
     ensures unarmed { D.arming flash.new ≡ None }
+    ensures power { result.status ≡ 0 → IsTrue (D.on flash.new) }
     ensures size { D.blocks flash.new ≡ D.blocks flash.old }
 {
     flash.power_on();
@@ -118,6 +119,7 @@ pub fn show<D: Flash, O: Sink>(alloc: Global, sink: &mut O, flash: D) -> Done<D>
     ensures counts { NoneFalls (D.counts flash) (D.counts result.flash) }
     ensures made { (D.counts result.flash).made ≡ (D.counts flash).made }
     ensures unarmed { D.arming result.flash ≡ None }
+    ensures power { result.status ≡ 0 → IsTrue (D.on result.flash) }
     ensures later { O.faults sink.old ≤ O.faults sink.new }
     ensures size { D.blocks result.flash ≡ D.blocks flash }
 {

@@ -7,13 +7,14 @@ ghost use Rattle.fwu_model.specs.Causes.{may_fail_before};
 ghost use Rattle.script_cmd.specs.Running.{calls_of, sends_none};
 ghost use Rattle.fwu_words.specs.Order.{Asked, asked};
 ghost use Rattle.fwu_words.specs.Order as ask;
-ghost use Rattle.script_cmd.specs.Asking.{asked_with_list, asks_beyond, asks_files, asks_package, asks_run};
+ghost use Rattle.script_cmd.specs.Asking.{asked_with_list, asks_beyond, asks_files, asks_package, asks_run, leaves_on};
 ghost use Rattle.script_cmd.specs.Formatting.{FormattedBy};
 ghost use Rattle.script_turns.specs.Powered.{moment};
 ghost use Rattle.script_cmd.specs.Noted.{is_beyond, noted};
 ghost use Rattle.script_cmd.specs.Promises.{Promised};
 ghost use Rattle.script_cmd.specs.PromisesByTable.{PromisedByTable};
 ghost use Rattle.script_cmd.specs.Showing.{ShowedBy};
+ghost use Rattle.script_cmd.specs.Sourced.{FailsOnce, ReadsInTime};
 ghost use Rattle.script_cmd.specs.Soaked.{SoakedBy};
 ghost use Rattle.script_cmd.specs.WaysByTable.{over_table};
 ghost use Rattle.script_cmd.specs.Ways.{ByList, HasGoodList, HasPasses, IsIdle, Later, RunsOrNone, faults_of};
@@ -105,9 +106,19 @@ pub fn fwu_top_with<D: Flash, H: Files, I: Source, O: Sink, V: Verifier>(
     // No fault count falls.
     ensures later { Later (faults_of H.faults I.faults O.faults files.old source.old sink.old)
         (faults_of H.faults I.faults O.faults files.new source.new sink.new) }
+    // Where `show` or `format` is done the flash is on: no call of it failed behind the last one that was needed.
+    ensures power { IsTrue (leaves_on (asked (map string_bytes words.now))) → result.status ≡ 0
+        → IsTrue (D.on result.flash) }
     // Only `run` reads the source.
     ensures source { IsFalse (asks_run (asked (map string_bytes words.now)))
         → source.new ≡ source.old }
+    // It reads no further than the piece of at most 4096 bytes with which the script is too long,
+    ensures in_time { IsTrue (asks_run (asked (map string_bytes words.now)))
+        → ReadsInTime (I.left source.old) (I.left source.new) }
+    // and no further than the first call that fails, whatever source there is.
+    ensures source_count { IsTrue (asks_run (asked (map string_bytes words.now)))
+        → FailsOnce (turns result.journal) result.status (I.faults source.old)
+        (I.faults source.new) }
     // Only `run`, `format` and a list read files.
     ensures files { IsFalse (asks_files (asked (map string_bytes words.now)))
         → files.new ≡ files.old }
@@ -228,9 +239,19 @@ pub fn fwu_top<D: Flash, H: Files, I: Source, O: Sink>(
     // No fault count falls.
     ensures later { Later (faults_of H.faults I.faults O.faults files.old source.old sink.old)
         (faults_of H.faults I.faults O.faults files.new source.new sink.new) }
+    // Where `show` or `format` is done the flash is on: no call of it failed behind the last one that was needed.
+    ensures power { IsTrue (leaves_on (asked_with_list (map string_bytes words.now))) → result.status ≡ 0
+        → IsTrue (D.on result.flash) }
     // Only `run` reads the source.
     ensures source { IsFalse (asks_run (asked_with_list (map string_bytes words.now)))
         → source.new ≡ source.old }
+    // It reads no further than the piece of at most 4096 bytes with which the script is too long,
+    ensures in_time { IsTrue (asks_run (asked_with_list (map string_bytes words.now)))
+        → ReadsInTime (I.left source.old) (I.left source.new) }
+    // and no further than the first call that fails, whatever source there is.
+    ensures source_count { IsTrue (asks_run (asked_with_list (map string_bytes words.now)))
+        → FailsOnce (turns result.journal) result.status (I.faults source.old)
+        (I.faults source.new) }
     // Behind a list that told files lack, or that is none, neither does `run`.
     ensures list_first { (HasGoodList (list_name (map string_bytes words.now)) (H.contents files.old) → ⊥)
         → source.new ≡ source.old }

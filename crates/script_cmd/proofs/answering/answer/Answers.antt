@@ -1,16 +1,18 @@
-use Rattle.std.proofs.Common.{List, Option, Some, ℕ, ap, map, refl, subst, sym, ◌∙◌, inl, inr}
+use Rattle.std.proofs.Common.{List, Option, Some, ℕ, ap, arith, map, refl, subst, sym, ◌∙◌, inl, inr}
 use Rattle.std.specs.Prelude.{string_bytes}
 use Rattle.fwu_formats.specs.Digests.{passes_any}
 use Rattle.fwu_model.specs.Allow.{list_name}
 use Rattle.fwu_model.specs.Wrote.{usage_line}
 use Rattle.fwu_model.specs.declared.kinds.Note.TheVariants as note
-use Rattle.script_cmd.specs.Asking.{asks_package}
+use Rattle.script_cmd.specs.Asking.{asks_package, asks_run, leaves_on}
 use Rattle.script_cmd.specs.Noted.{noted}
 use Rattle.script_cmd.specs.Ways.{HasGoodList, RunsOrNone, usage}
 use Rattle.script_cmd.specs.WaysByTable.{over_table}
 use Rattle.script_cmd.proofs.TableWays.{not-over, table-at}
 use Rattle.script_cmd.proofs.SoakTop.{soaks-at}
 use Rattle.script_cmd.proofs.TopFormats.{formatted-at, none-some}
+use Rattle.script_cmd.proofs.TopPrints.{not-done}
+use Rattle.script_cmd.proofs.TopSources.{in-time-still, none-fails}
 use Rattle.script_cmd.proofs.TopWays.{by-words, has-any, idles-at, no-list, no-words, none-bad, refused-by, same-moment, some-list, way-at}
 use Rattle.script_cmd.proofs.answering.answer.Goals as goal
 
@@ -116,3 +118,34 @@ pub returns-in-File-clause-list_first : goal.returns-in-File-clause-list_first
 returns-in-File-clause-list_first g c none =
     let n = some-list _ _ c.in-File.name.now c.in-File.ensures in
     c.run_listed.ensures.list_first (λ good. none (subst (λ (l : Option (List ℕ)). HasGoodList l (g.H.Files.contents c.args.files.now)) (sym n.2) good))
+
+-- ---- what a run takes of the source
+
+pub returns-in-No-clause-in_time : goal.returns-in-No-clause-in_time
+returns-in-No-clause-in_time g c runs = c.answer_with.ensures.in_time (sym (ap asks_run (no-list _ c.in-No.ensures).0) ∙ runs)
+
+pub returns-in-File-clause-in_time : goal.returns-in-File-clause-in_time
+returns-in-File-clause-in_time g c runs = c.run_listed.ensures.in_time (sym (ap asks_run (some-list _ _ c.in-File.name.now c.in-File.ensures).0) ∙ runs)
+
+pub returns-in-Usage-clause-in_time : goal.returns-in-Usage-clause-in_time
+returns-in-Usage-clause-in_time g c runs = in-time-still _
+
+pub returns-in-No-clause-source_count : goal.returns-in-No-clause-source_count
+returns-in-No-clause-source_count g c runs = c.answer_with.ensures.source_count (sym (ap asks_run (no-list _ c.in-No.ensures).0) ∙ runs)
+
+pub returns-in-File-clause-source_count : goal.returns-in-File-clause-source_count
+returns-in-File-clause-source_count g c runs = c.run_listed.ensures.source_count (sym (ap asks_run (some-list _ _ c.in-File.name.now c.in-File.ensures).0) ∙ runs)
+
+pub returns-in-Usage-clause-source_count : goal.returns-in-Usage-clause-source_count
+returns-in-Usage-clause-source_count g c runs = none-fails _ _ _ _ refl
+
+-- ---- power
+
+pub returns-in-No-clause-power : goal.returns-in-No-clause-power
+returns-in-No-clause-power g c leaves zero = c.answer_with.ensures.power (sym (ap leaves_on (no-list _ c.in-No.ensures).0) ∙ leaves) zero
+
+pub returns-in-File-clause-power : goal.returns-in-File-clause-power
+returns-in-File-clause-power g c leaves zero = c.run_listed.ensures.power (sym (ap leaves_on (some-list _ _ c.in-File.name.now c.in-File.ensures).0) ∙ leaves) zero
+
+pub returns-in-Usage-clause-power : goal.returns-in-Usage-clause-power
+returns-in-Usage-clause-power g c leaves zero = absurd (not-done usage_line 1 _ _ _ _ _ (λ one. absurd (omega arith)) c.print_usage.ensures.prints zero)

@@ -11,6 +11,7 @@ use Rattle.script_cmd.specs.Ways.{usage}
 use Rattle.script_cmd.proofs.PromiseWords.{boot-is-script, boot-is-short}
 use Rattle.script_cmd.proofs.TableWays.{not-over, table-of-boot, table-of-run, table-starved}
 use Rattle.script_cmd.proofs.TopShows.{showed-by}
+use Rattle.script_cmd.proofs.TopSources.{in-time-still, none-fails}
 use Rattle.script_cmd.proofs.TopWays.{no-list-named, refused-by, same-moment, way-of-boot, way-of-run}
 use Rattle.script_cmd.proofs.answering.answer_with.Goals as goal
 
@@ -109,3 +110,11 @@ returns-in-Ok-Soak-clause-soaks g c seed rounds is =
 
 pub returns-in-Ok-Soak-clause-by_table : goal.returns-in-Ok-Soak-clause-by_table
 returns-in-Ok-Soak-clause-by_table g c = λ plain over. absurd (not-over _ _ plain (rw c.in-Ok-Soak.field-0-is at c.in-Ok-Soak.ensures) refl over)
+
+-- ---- what a run takes of the source
+
+pub returns-in-Err-NoMemory-clause-in_time : goal.returns-in-Err-NoMemory-clause-in_time
+returns-in-Err-NoMemory-clause-in_time g c runs = in-time-still _
+
+pub returns-in-Err-NoMemory-clause-source_count : goal.returns-in-Err-NoMemory-clause-source_count
+returns-in-Err-NoMemory-clause-source_count g c runs = none-fails _ _ _ _ refl

@@ -13,6 +13,8 @@ use Rattle.script_cmd.proofs.SoakTop.{refused-soaks, soaks-with-list}
 use Rattle.script_cmd.proofs.TopFormats.{formats-with-list, refused-formats, starved-formats}
 use Rattle.script_cmd.proofs.TopShows.{refused-shows, shows-with-list, starved-shows}
 use Rattle.script_cmd.proofs.PromiseTurns.{by-plan}
+use Rattle.script_cmd.proofs.TopPrints.{not-done}
+use Rattle.script_cmd.proofs.TopSources.{in-time-still, none-fails}
 use Rattle.script_cmd.proofs.TopWays.{good-list, idles, idles-at, list-there, of-list, reads-list, refused-by, same-moment, with-list}
 use Rattle.script_cmd.proofs.answering.run_listed.Goals as goal
 
@@ -284,3 +286,43 @@ returns-in-Ok-read-clause-list_first g c none =
     let files = g.H.Files.contents c.args.files.now in
     let read : digests_of bytes ≡ Ok digests = ap digests_of (sym c.as_slice.ensures.value) ∙ c.in-Ok-read.ensures.ok in
     absurd (none (good-list files name bytes digests c.in-Ok.ensures.whole read))
+
+-- ---- what a run takes of the source
+
+pub returns-in-Err-Failed-clause-in_time : goal.returns-in-Err-Failed-clause-in_time
+returns-in-Err-Failed-clause-in_time g c runs = in-time-still _
+
+pub returns-in-Err-NoMemory-clause-in_time : goal.returns-in-Err-NoMemory-clause-in_time
+returns-in-Err-NoMemory-clause-in_time g c runs = in-time-still _
+
+pub returns-in-Err-BadLine-clause-in_time : goal.returns-in-Err-BadLine-clause-in_time
+returns-in-Err-BadLine-clause-in_time g c runs = in-time-still _
+
+pub returns-clause-in_time : goal.returns-clause-in_time
+returns-clause-in_time g c runs = in-time-still _
+
+pub returns-in-Err-Failed-clause-source_count : goal.returns-in-Err-Failed-clause-source_count
+returns-in-Err-Failed-clause-source_count g c runs = none-fails _ _ _ _ refl
+
+pub returns-in-Err-NoMemory-clause-source_count : goal.returns-in-Err-NoMemory-clause-source_count
+returns-in-Err-NoMemory-clause-source_count g c runs = none-fails _ _ _ _ refl
+
+pub returns-in-Err-BadLine-clause-source_count : goal.returns-in-Err-BadLine-clause-source_count
+returns-in-Err-BadLine-clause-source_count g c runs = none-fails _ _ _ _ refl
+
+pub returns-clause-source_count : goal.returns-clause-source_count
+returns-clause-source_count g c runs = none-fails _ _ _ _ refl
+
+-- ---- power
+
+pub returns-in-Err-Failed-clause-power : goal.returns-in-Err-Failed-clause-power
+returns-in-Err-Failed-clause-power g c leaves zero = absurd (not-done not_read_line 2 _ _ _ _ _ (λ two. absurd (omega arith)) c.refuse_reading.ensures.prints zero)
+
+pub returns-in-Err-NoMemory-clause-power : goal.returns-in-Err-NoMemory-clause-power
+returns-in-Err-NoMemory-clause-power g c leaves zero = absurd (omega (arith, zero, c.idle.ensures.status))
+
+pub returns-in-Err-BadLine-clause-power : goal.returns-in-Err-BadLine-clause-power
+returns-in-Err-BadLine-clause-power g c leaves zero = absurd (not-done (bad_list_line c.in-Err-BadLine.line) 13 _ _ _ _ _ (λ more. absurd (omega arith)) c.refuse_list.ensures.prints zero)
+
+pub returns-clause-power : goal.returns-clause-power
+returns-clause-power g c leaves zero = absurd (omega (arith, zero, c.idle-in-Err-NoMemory-read.ensures.status))

@@ -4,6 +4,7 @@ use Rattle.fwu_model.specs.declared.kinds.Note.TheVariants as note
 use Rattle.fwu_words.specs.Order as ask
 use Rattle.script_cmd.specs.Noted.{noted}
 use Rattle.script_cmd.specs.Ways.{not_read, too_long}
+use Rattle.script_cmd.proofs.TopSources.{none-fails, one-fails}
 use Rattle.script_cmd.proofs.TopWays.{of-told, refused-by, same-moment}
 use Rattle.script_cmd.proofs.answering.run_source.Goals as goal
 
@@ -24,3 +25,17 @@ returns-in-Err-TooLong-clause-way g c = λ given was are listed told later.
     let e = c.refuse_length.ensures in
     refused-by _ _ _ _ _ _ _ _ _ (Some ask.run) _ _ _ 8 too_long_line note.Nothing e.no_turns (same-moment g.D.Flash.told g.D.Flash.counts g.D.Flash.arming g.D.Flash.on _ _ e.flash) (ap noted e.note)
     (too_long listed refl (of-told _ _ (λ rest is. c.in-Err-TooLong.ensures.long (ap Err c.in-Err-TooLong.field-0-is) rest is))) e.prints
+
+pub returns-in-Ok-clause-source_count : goal.returns-in-Ok-clause-source_count
+returns-in-Ok-clause-source_count g c = none-fails _ _ _ _ c.in-Ok.ensures.count
+
+pub returns-in-Err-Failed-clause-source_count : goal.returns-in-Err-Failed-clause-source_count
+returns-in-Err-Failed-clause-source_count g c =
+    let e = c.refuse_reading.ensures in
+    one-fails not_read_line _ _ _ _ _ _ _ _ e.no_turns e.prints (rw c.in-Err-Failed.field-0-is at c.in-Err-Failed.ensures.count)
+
+pub returns-in-Err-TooLong-clause-source_count : goal.returns-in-Err-TooLong-clause-source_count
+returns-in-Err-TooLong-clause-source_count g c = none-fails _ _ _ _ (rw c.in-Err-TooLong.field-0-is at c.in-Err-TooLong.ensures.count)
+
+pub returns-in-Err-NoMemory-clause-source_count : goal.returns-in-Err-NoMemory-clause-source_count
+returns-in-Err-NoMemory-clause-source_count g c = none-fails _ _ _ _ (rw c.in-Err-NoMemory.field-0-is at c.in-Err-NoMemory.ensures.count)

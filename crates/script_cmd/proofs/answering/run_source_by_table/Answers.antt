@@ -4,6 +4,7 @@ use Rattle.fwu_words.specs.Order as ask
 use Rattle.script_cmd.specs.declared.done.Note.TheVariants as said
 use Rattle.script_cmd.specs.Ways.{not_read, too_long}
 use Rattle.script_cmd.proofs.TableWays.{table-refused, table-starved}
+use Rattle.script_cmd.proofs.TopSources.{none-fails, one-fails}
 use Rattle.script_cmd.proofs.TopWays.{of-told, same-moment}
 use Rattle.script_cmd.proofs.answering.run_source_by_table.Goals as goal
 
@@ -29,3 +30,17 @@ pub returns-in-Err-NoMemory-clause-way : goal.returns-in-Err-NoMemory-clause-way
 returns-in-Err-NoMemory-clause-way g c = λ given was are listed told later.
     let e = c.idle.ensures in
     table-starved _ _ _ _ _ _ _ _ _ _ (Some ask.run) _ _ _ e.no_turns (same-moment g.D.Flash.told g.D.Flash.counts g.D.Flash.arming g.D.Flash.on _ _ e.flash) e.status e.note refl
+
+pub returns-in-Ok-clause-source_count : goal.returns-in-Ok-clause-source_count
+returns-in-Ok-clause-source_count g c = none-fails _ _ _ _ c.in-Ok.ensures.count
+
+pub returns-in-Err-Failed-clause-source_count : goal.returns-in-Err-Failed-clause-source_count
+returns-in-Err-Failed-clause-source_count g c =
+    let e = c.refuse_reading.ensures in
+    one-fails not_read_line _ _ _ _ _ _ _ _ e.no_turns e.prints (rw c.in-Err-Failed.field-0-is at c.in-Err-Failed.ensures.count)
+
+pub returns-in-Err-TooLong-clause-source_count : goal.returns-in-Err-TooLong-clause-source_count
+returns-in-Err-TooLong-clause-source_count g c = none-fails _ _ _ _ (rw c.in-Err-TooLong.field-0-is at c.in-Err-TooLong.ensures.count)
+
+pub returns-in-Err-NoMemory-clause-source_count : goal.returns-in-Err-NoMemory-clause-source_count
+returns-in-Err-NoMemory-clause-source_count g c = none-fails _ _ _ _ (rw c.in-Err-NoMemory.field-0-is at c.in-Err-NoMemory.ensures.count)

@@ -1,6 +1,8 @@
 use Rattle.std.proofs.Common.{arith, ap, ◌∙◌}
 use Rattle.std.specs.Prelude.{not}
+use Rattle.host_io.specs.Calls.{raised}
 use Rattle.script_cmd.proofs.TopReads.{goes-on, is-long}
+use Rattle.script_cmd.proofs.TopSources.{in-time-failed, in-time-more}
 use Rattle.script_cmd.proofs.reading.read_source.Goals as goal
 
 pub returns-then-feed-count-clause-long : goal.returns-then-feed-count-clause-long
@@ -9,5 +11,31 @@ returns-then-feed-count-clause-long g c = λ _.
 
 pub loop-count-preserved : goal.loop-count-preserved
 loop-count-preserved g c =
-    goes-on _ _ _ _ _ _ c.loop-count.limit _ _ _ _ c.in-Ok.count c.feed.result _ c.loop-count.invariant c.in-Ok.ensures.cause.later c.in-Ok.ensures.bytes.0 c.in-Ok.ensures.bound.1
+    goes-on _ _ _ _ _ _ c.loop-count.limit _ _ _ _ c.in-Ok.count c.feed.result _ c.loop-count.invariant c.in-Ok.ensures.count c.in-Ok.ensures.bytes.0 c.in-Ok.ensures.bound.1
     c.feed.ensures.some c.if-feed-count.false c.feed.ensures.taken c.extend_from_slice.ensures.items (c.is_err.ensures.negation ∙ ap not c.if-is_err.false)
+
+-- ---- what was read, and how often that failed
+
+pub returns-in-Err-clause-in_time : goal.returns-in-Err-clause-in_time
+returns-in-Err-clause-in_time g c = in-time-failed _ _ _ _ _ c.loop-count.limit _ c.loop-count.invariant c.in-Err.ensures.bytes
+
+pub returns-in-Err-clause-count : goal.returns-in-Err-clause-count
+returns-in-Err-clause-count g c = c.in-Err.ensures.count ∙ ap raised c.loop-count.invariant.none
+
+pub returns-then-count-eq0-clause-in_time : goal.returns-then-count-eq0-clause-in_time
+returns-then-count-eq0-clause-in_time g c = in-time-more _ _ _ _ _ c.loop-count.limit _ _ c.loop-count.invariant c.in-Ok.ensures.bytes.0 (omega (arith, c.in-Ok.ensures.bound.0, c.in-Ok.ensures.bound.1))
+
+pub returns-then-count-eq0-clause-count : goal.returns-then-count-eq0-clause-count
+returns-then-count-eq0-clause-count g c = c.in-Ok.ensures.count ∙ c.loop-count.invariant.none
+
+pub returns-then-feed-count-clause-in_time : goal.returns-then-feed-count-clause-in_time
+returns-then-feed-count-clause-in_time g c = in-time-more _ _ _ _ _ c.loop-count.limit _ _ c.loop-count.invariant c.in-Ok.ensures.bytes.0 (omega (arith, c.in-Ok.ensures.bound.0, c.in-Ok.ensures.bound.1))
+
+pub returns-then-feed-count-clause-count : goal.returns-then-feed-count-clause-count
+returns-then-feed-count-clause-count g c = c.in-Ok.ensures.count ∙ c.loop-count.invariant.none
+
+pub returns-then-is_err-clause-in_time : goal.returns-then-is_err-clause-in_time
+returns-then-is_err-clause-in_time g c = in-time-more _ _ _ _ _ c.loop-count.limit _ _ c.loop-count.invariant c.in-Ok.ensures.bytes.0 (omega (arith, c.in-Ok.ensures.bound.0, c.in-Ok.ensures.bound.1))
+
+pub returns-then-is_err-clause-count : goal.returns-then-is_err-clause-count
+returns-then-is_err-clause-count g c = c.in-Ok.ensures.count ∙ c.loop-count.invariant.none
