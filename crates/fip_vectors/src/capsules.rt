@@ -1,15 +1,15 @@
 //! Capsules of worked parts, and hostile ones: each is the capsule of `hello` with some of its bytes changed, or its front, and
 //! the fault is the first one by the order of the tests.
 
-use crate::fixtures::{HELLO_CAPSULE, files_of, front, same};
+use crate::fixtures::{HELLO_CAPSULE, add, front, holds, holds_at, one_file};
 use base_core::Guid;
 use capsule_tables::{CapsuleFault, CapsuleStop, make_capsule, read_capsule};
 use fip_tables::{PackFault, PackStop, Part, Parts};
 use host_io::MemoryFiles;
-use std::alloc::{AllocError, Global};
-use std::test::Fail;
+use std::alloc::Global;
+use std::process::Abort;
 
-// Bytes that are changed: where each stands, and what stands there instead.
+/// Bytes that are changed: where each stands, and what stands there instead.
 pub type Change<'a> = &'a [(usize, u8)];
 
 // How many bytes of the capsule there are, what is changed in them, and the fault.
@@ -103,24 +103,147 @@ fn change(bytes: &mut Vec<u8>, changes: Change) {
 }
 
 /// The first bytes of the capsule of `hello`, with these changes, as the file `a.cap`.
-pub fn changed(alloc: Global, count: usize, changes: Change) -> Result<MemoryFiles, Fail> {
-    let mut bytes = front(alloc, HELLO_CAPSULE, count)?;
+pub fn changed(rt: &impl Abort, alloc: Global, count: usize, changes: Change) -> MemoryFiles {
+    let mut bytes = front(rt, alloc, HELLO_CAPSULE, count);
     change(&mut bytes, changes);
-    Ok(files_of(alloc, &[("a.cap", bytes.as_slice())], Vec::new(alloc))?)
+    one_file(rt, alloc, "a.cap", bytes, 0)
 }
 
-// Which of these has another fault.
-fn other_fault(
-    alloc: Global,
-    cases: &[(usize, Change, CapsuleFault)],
-) -> Result<Option<usize>, Fail> {
-    for (i, (count, changes, fault)) in cases.iter().enumerate() {
-        let mut files = changed(alloc, *count, changes)?;
-        if read_capsule(&mut files, "a.cap").err() != Some(CapsuleStop::Fault(*fault)) {
-            return Ok(Some(i));
-        }
+// How many items the file has as a capsule, or why it is none.
+fn items_in(files: MemoryFiles, name: &str) -> Result<usize, CapsuleStop> {
+    let mut files = files;
+    match read_capsule(&mut files, name) {
+        Ok(toc) => Ok(toc.entries.len()),
+        Err(stop) => Err(stop),
     }
-    Ok(None)
+}
+
+// Each of these has its fault.
+fn have_faults(rt: &impl Abort, alloc: Global, cases: &[(usize, Change, CapsuleFault)]) {
+    let mut row = 0usize;
+    for (count, changes, fault) in cases {
+        let found = items_in(changed(rt, alloc, *count, changes), "a.cap");
+        holds_at(rt, found == Err(CapsuleStop::Fault(*fault)), row);
+        row = row.wrapping_add(1);
+    }
+}
+
+#[test]
+fn faults_come_in_order(rt: HostRuntime) {
+    have_faults(&rt, rt.alloc(), &HEADERS);
+    have_faults(&rt, rt.alloc(), &ITEMS);
+}
+
+#[test]
+fn a_name_that_is_missing(rt: HostRuntime) {
+    let files = changed(&rt, rt.alloc(), 89, &[]);
+    let found = items_in(files, "b.cap");
+    holds(&rt, found == Err(CapsuleStop::ReadFailed), "b.cap");
+}
+
+// Adds the heads of so many items without images, whose types are sixteen times 1, 2 and so on.
+fn add_items(rt: &impl Abort, bytes: &mut Vec<u8>, count: u8) {
+    for i in 0..count {
+        add(rt, bytes, &[2, 0, 0, 0]);
+        add(rt, bytes, &[i.wrapping_add(1); 16]);
+        add(rt, bytes, &[0; 20]);
+    }
+}
+
+// A capsule of so many of these items.
+fn many(rt: &impl Abort, alloc: Global, count: u8) -> Vec<u8> {
+    let items = u32::from(count);
+    let mut bytes = front(rt, alloc, HELLO_CAPSULE, 24);
+    add(rt, &mut bytes, &(36 + 48 * items).to_le_bytes());
+    add(rt, &mut bytes, &[1, 0, 0, 0, 0, 0, count, 0]);
+    for i in 0..items {
+        add(
+            rt,
+            &mut bytes,
+            &u64::from(8 + 8 * items + 40 * i).to_le_bytes(),
+        );
+    }
+    add_items(rt, &mut bytes, count);
+    bytes
+}
+
+// The types of the second item, at 104, are made that of the first.
+const SAME_TYPE: [(usize, u8); 16] = [
+    (104, 1),
+    (105, 1),
+    (106, 1),
+    (107, 1),
+    (108, 1),
+    (109, 1),
+    (110, 1),
+    (111, 1),
+    (112, 1),
+    (113, 1),
+    (114, 1),
+    (115, 1),
+    (116, 1),
+    (117, 1),
+    (118, 1),
+    (119, 1),
+];
+
+// The same but for the last byte, and the version before it is made a bad one.
+const BAD_VERSION: [(usize, u8); 16] = [
+    (104, 1),
+    (105, 1),
+    (106, 1),
+    (107, 1),
+    (108, 1),
+    (109, 1),
+    (110, 1),
+    (111, 1),
+    (112, 1),
+    (113, 1),
+    (114, 1),
+    (115, 1),
+    (116, 1),
+    (117, 1),
+    (118, 1),
+    (100, 9),
+];
+
+// How many items a capsule has, what is changed in it, and how many are read, or the fault. The version of the third item is at 140.
+const SEVERAL: [(u8, Change, Result<usize, CapsuleStop>); 6] = [
+    (64, &[], Ok(64)),
+    (65, &[], Err(CapsuleStop::Fault(CapsuleFault::TooMany))),
+    (0, &[], Ok(0)),
+    (
+        3,
+        &SAME_TYPE,
+        Err(CapsuleStop::Fault(CapsuleFault::Duplicate(1))),
+    ),
+    (
+        3,
+        &BAD_VERSION,
+        Err(CapsuleStop::Fault(CapsuleFault::BadItem(1))),
+    ),
+    (
+        3,
+        &[(140, 9)],
+        Err(CapsuleStop::Fault(CapsuleFault::BadItem(2))),
+    ),
+];
+
+// The capsule of so many items with these changes, as the file `m.cap`.
+fn many_changed(rt: &impl Abort, alloc: Global, count: u8, changes: Change) -> MemoryFiles {
+    let mut bytes = many(rt, alloc, count);
+    change(&mut bytes, changes);
+    one_file(rt, alloc, "m.cap", bytes, 0)
+}
+
+#[test]
+fn faults_of_several_items(rt: HostRuntime) {
+    let mut row = 0usize;
+    for (count, changes, wanted) in &SEVERAL {
+        let found = items_in(many_changed(&rt, rt.alloc(), *count, changes), "m.cap");
+        holds_at(&rt, found == *wanted, row);
+        row = row.wrapping_add(1);
+    }
 }
 
 fn guid() -> Guid {
@@ -130,15 +253,29 @@ fn guid() -> Guid {
     ])
 }
 
-fn part(alloc: Global, guid: Guid, text: &str) -> Result<Part, AllocError> {
-    Ok(Part {
+// Adds a part of this type.
+fn add_part(rt: &impl Abort, alloc: Global, parts: &mut Vec<Part>, guid: Guid, text: &str) {
+    let bytes = Vec::from_slice(alloc, text.as_bytes()).expect(rt, "memory");
+    let part = Part {
         guid,
         flags: 7,
-        bytes: text.as_bytes().to_vec(alloc)?,
-    })
+        bytes,
+    };
+    parts.push(part).expect(rt, "memory");
 }
 
-fn capsule(alloc: Global, parts: Vec<Part>) -> Result<Vec<u8>, PackStop> {
+// The capsule of `hello` under this type, and then of `xyz` under these types.
+fn capsule(
+    rt: &impl Abort,
+    alloc: Global,
+    first: Guid,
+    others: &[Guid],
+) -> Result<Vec<u8>, PackStop> {
+    let mut parts = Vec::new(alloc);
+    add_part(rt, alloc, &mut parts, first, "hello");
+    for other in others {
+        add_part(rt, alloc, &mut parts, *other, "xyz");
+    }
     let parts = Parts {
         serial: 9,
         flags: 8,
@@ -147,138 +284,52 @@ fn capsule(alloc: Global, parts: Vec<Part>) -> Result<Vec<u8>, PackStop> {
     make_capsule(alloc, &parts)
 }
 
-// A capsule of so many items without images, whose types are sixteen times 1, 2 and so on.
-fn many(alloc: Global, count: u8) -> Result<Vec<u8>, Fail> {
-    let items = u32::from(count);
-    let mut bytes = front(alloc, HELLO_CAPSULE, 24)?;
-    bytes.extend_from_slice(&(36 + 48 * items).to_le_bytes())?;
-    bytes.extend_from_slice(&[1, 0, 0, 0, 0, 0, count, 0])?;
-    for i in 0..items {
-        bytes.extend_from_slice(&u64::from(8 + 8 * items + 40 * i).to_le_bytes())?;
-    }
-    for i in 0..count {
-        bytes.extend_from_slice(&[2, 0, 0, 0])?;
-        bytes.extend_from_slice(&[i.wrapping_add(1); 16])?;
-        bytes.extend_from_slice(&[0; 20])?;
-    }
-    Ok(bytes)
+#[test]
+fn capsules_of_parts(rt: HostRuntime) {
+    let alloc = rt.alloc();
+    let made = capsule(&rt, alloc, guid(), &[]).expect(&rt, "a capsule");
+    let hello = front(&rt, alloc, HELLO_CAPSULE, 89);
+    holds(&rt, made == hello, "the capsule of hello");
 }
 
-// How many items there are, or the fault, of a capsule of so many items with these changes.
-fn read_many(
+// Whether no capsule of these types is made, for this fault.
+fn is_refused(
+    rt: &impl Abort,
     alloc: Global,
-    count: u8,
-    changes: Change,
-) -> Result<Result<usize, CapsuleStop>, Fail> {
-    let mut bytes = many(alloc, count)?;
-    change(&mut bytes, changes);
-    let mut files = files_of(alloc, &[("m.cap", bytes.as_slice())], Vec::new(alloc))?;
-    Ok(read_capsule(&mut files, "m.cap").map(|toc| toc.entries.len()))
-}
-
-// The types of the third item, at 144, and of the second, at 104, are made that of the first, or the versions before them bad.
-#[test]
-fn faults_of_several_items(rt: HostRuntime) -> Result<(), Fail> {
-    let alloc = rt.alloc();
-    let fault = |fault| Err(CapsuleStop::Fault(fault));
-    same(&rt, read_many(alloc, 64, &[])?, Ok(64));
-    same(
-        &rt,
-        read_many(alloc, 65, &[])?,
-        fault(CapsuleFault::TooMany),
-    );
-    same(&rt, read_many(alloc, 0, &[])?, Ok(0));
-    let mut second = [(104, 1); 16];
-    for i in 0..16 {
-        second[i] = (104 + i, 1);
-    }
-    same(
-        &rt,
-        read_many(alloc, 3, &second)?,
-        fault(CapsuleFault::Duplicate(1)),
-    );
-    second[15] = (100, 9);
-    same(
-        &rt,
-        read_many(alloc, 3, &second)?,
-        fault(CapsuleFault::BadItem(1)),
-    );
-    same(
-        &rt,
-        read_many(alloc, 3, &[(140, 9)])?,
-        fault(CapsuleFault::BadItem(2)),
-    );
-    Ok(())
+    first: Guid,
+    others: &[Guid],
+    fault: PackFault,
+) -> bool {
+    capsule(rt, alloc, first, others).err() == Some(PackStop::Fault(fault))
 }
 
 #[test]
-fn capsules_of_parts(rt: HostRuntime) -> Result<(), Fail> {
+fn parts_of_no_capsule(rt: HostRuntime) {
     let alloc = rt.alloc();
-    let mut one = Vec::new(alloc);
-    one.push(part(alloc, guid(), "hello")?)?;
-    let made = capsule(alloc, one)?;
-    let hello = front(alloc, HELLO_CAPSULE, 89)?;
-    same(&rt, made.as_slice(), hello.as_slice());
-    let mut twice = Vec::new(alloc);
-    twice.push(part(alloc, guid(), "hello")?)?;
-    twice.push(part(alloc, guid(), "xyz")?)?;
-    same(
-        &rt,
-        capsule(alloc, twice).err(),
-        Some(PackStop::Fault(PackFault::Duplicate(1))),
-    );
-    let mut nil = Vec::new(alloc);
-    nil.push(part(alloc, Guid::nil(), "hello")?)?;
-    same(
-        &rt,
-        capsule(alloc, nil).err(),
-        Some(PackStop::Fault(PackFault::NilGuid(0))),
-    );
-    Ok(())
+    let is_so = is_refused(&rt, alloc, guid(), &[guid()], PackFault::Duplicate(1));
+    holds(&rt, is_so, "twice");
+    let is_so = is_refused(&rt, alloc, Guid::nil(), &[], PackFault::NilGuid(0));
+    holds(&rt, is_so, "nil");
 }
 
-// The entry of the capsule of `hello` with these changes: its type, and where its image stands.
-fn entry_of(alloc: Global, changes: Change) -> Result<Option<(Guid, u64, u64)>, Fail> {
-    let mut files = changed(alloc, 89, changes)?;
-    match read_capsule(&mut files, "a.cap") {
-        Ok(toc) => Ok(
-            toc.entries
-                .as_slice()
-                .first()
-                .map(|entry| (entry.guid, entry.offset, entry.size)),
-        ),
-        Err(_) => Ok(None),
+// Whether the first entry of the capsule has its image there.
+fn is_taken(files: MemoryFiles, offset: u64, size: u64) -> bool {
+    let mut files = files;
+    let Ok(toc) = read_capsule(&mut files, "a.cap") else {
+        return false;
+    };
+    match toc.entries.as_slice().first() {
+        Some(entry) => entry.guid == guid() && entry.offset == offset && entry.size == size,
+        None => false,
     }
 }
 
 #[test]
-fn images_of_capsules(rt: HostRuntime) -> Result<(), Fail> {
-    let alloc = rt.alloc();
+fn images_of_capsules(rt: HostRuntime) {
+    let mut row = 0usize;
     for (changes, offset, size) in &TAKEN {
-        same(
-            &rt,
-            entry_of(alloc, changes)?,
-            Some((guid(), *offset, *size)),
-        );
+        let files = changed(&rt, rt.alloc(), 89, changes);
+        holds_at(&rt, is_taken(files, *offset, *size), row);
+        row = row.wrapping_add(1);
     }
-    Ok(())
-}
-
-#[test]
-fn a_name_that_is_missing(rt: HostRuntime) -> Result<(), Fail> {
-    let mut files = changed(rt.alloc(), 89, &[])?;
-    same(
-        &rt,
-        read_capsule(&mut files, "b.cap").err(),
-        Some(CapsuleStop::ReadFailed),
-    );
-    Ok(())
-}
-
-#[test]
-fn faults_come_in_order(rt: HostRuntime) -> Result<(), Fail> {
-    let alloc = rt.alloc();
-    same(&rt, other_fault(alloc, &HEADERS)?, None);
-    same(&rt, other_fault(alloc, &ITEMS)?, None);
-    Ok(())
 }

@@ -1,13 +1,13 @@
 //! The commands that write files, in a row over the same files in memory. The bytes of the packages are those of the format, made
 //! by a Python program from the layout.
 
-use crate::fixtures::{EMPTY, HELLO, files_of, ran, same};
-use host_io::{Files, MemoryFiles};
-use std::alloc::{AllocError, Global};
-use std::test::Fail;
+use crate::fixtures::{EMPTY, HELLO, Step, add_all, all_end, files_of, has, holds};
+use host_io::MemoryFiles;
+use std::alloc::Global;
+use std::process::Abort;
 
 // The command, its status and what it prints.
-const STEPS: [(&str, u8, &str); 12] = [
+const STEPS: [Step; 12] = [
     ("create e.fip", 0, "packed entries=0 size=56\n"),
     ("create a.fip tb-fw=h.bin", 0, "packed entries=1 size=101\n"),
     (
@@ -58,73 +58,36 @@ const WRITTEN: [(&str, &str); 4] = [
     ("yd6d0eea7-fcea-d54b-9782-9934f234b6e4.bin", "68656c6c6f"),
 ];
 
-// The calls on files of these numbers fail.
-fn first_files(alloc: Global, fails: &[u64]) -> Result<MemoryFiles, AllocError> {
-    let fails = Vec::from_slice(alloc, fails)?;
-    files_of(alloc, &[("h.bin", b"hello"), ("s3.bin", b"xyz")], fails)
+// The call on files of this number fails.
+fn first_files(rt: &impl Abort, alloc: Global, fails: u64) -> MemoryFiles {
+    let mut files = Vec::new(alloc);
+    let named = [("h.bin", "68656c6c6f"), ("s3.bin", "78797a")];
+    add_all(rt, alloc, &mut files, &named);
+    files_of(rt, alloc, files, fails)
 }
 
-// Whether the command ends so over the files.
-fn is_done<H: Files>(
-    alloc: Global,
-    files: &mut H,
-    step: (&str, u8, &str),
-) -> Result<bool, AllocError> {
-    let (status, text) = ran(alloc, step.0, files)?;
-    Ok(status == step.1 && text.as_slice() == step.2.as_bytes())
-}
-
-/// The first of these commands that ends in another way.
-pub fn other_end<'a, H: Files>(
-    alloc: Global,
-    files: &mut H,
-    steps: &[(&'a str, u8, &str)],
-) -> Result<Option<&'a str>, AllocError> {
-    for step in steps {
-        if !is_done(alloc, files, *step)? {
-            return Ok(Some(step.0));
-        }
-    }
-    Ok(None)
-}
-
-fn has(alloc: Global, files: &MemoryFiles, name: &str, digits: &str) -> Result<bool, Fail> {
-    let wanted = hex::decode(alloc, digits)?;
-    match files.get(name) {
-        Some(found) => Ok(found == wanted.as_slice()),
-        None => Ok(false),
-    }
-}
-
-// The first of these files that has other bytes, or isn't there.
-fn other_file<'a>(
-    alloc: Global,
-    files: &MemoryFiles,
-    written: &[(&'a str, &str)],
-) -> Result<Option<&'a str>, Fail> {
+/// These files have the bytes that the digits spell.
+pub fn have(rt: &impl Abort, alloc: Global, files: &MemoryFiles, written: &[(&str, &str)]) {
     for (name, digits) in written {
-        if !has(alloc, files, name, digits)? {
-            return Ok(Some(*name));
-        }
+        let wanted = hex::decode(alloc, *digits).expect(rt, "digits");
+        has(rt, files, name, wanted.as_slice());
     }
-    Ok(None)
 }
 
 #[test]
-fn commands_write_their_files(rt: HostRuntime) -> Result<(), Fail> {
+fn commands_write_their_files(rt: HostRuntime) {
     let alloc = rt.alloc();
-    let mut files = first_files(alloc, &[])?;
-    same(&rt, other_end(alloc, &mut files, &STEPS)?, None);
-    same(&rt, other_file(alloc, &files, &WRITTEN)?, None);
-    same(&rt, files.get("z.fip"), None);
-    Ok(())
+    let mut files = first_files(&rt, alloc, 0);
+    all_end(&rt, alloc, &mut files, &STEPS);
+    have(&rt, alloc, &files, &WRITTEN);
+    holds(&rt, files.get("z.fip").is_none(), "z.fip");
 }
 
 #[test]
-fn a_write_that_fails_is_a_file_fault(rt: HostRuntime) -> Result<(), Fail> {
-    let mut files = first_files(rt.alloc(), &[1])?;
-    let step = ("create e.fip", 2, "file-fault\n");
-    assert!(rt; is_done(rt.alloc(), &mut files, step)?);
-    same(&rt, files.get("e.fip"), None);
-    Ok(())
+fn a_write_that_fails_is_a_file_fault(rt: HostRuntime) {
+    let alloc = rt.alloc();
+    let mut files = first_files(&rt, alloc, 1);
+    let steps = [("create e.fip", 2, "file-fault\n")];
+    all_end(&rt, alloc, &mut files, &steps);
+    holds(&rt, files.get("e.fip").is_none(), "e.fip");
 }

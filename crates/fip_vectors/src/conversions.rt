@@ -1,14 +1,15 @@
 //! Packages that are made capsules, and capsules that are made packages, by the tool's commands over files in memory.
 
 use crate::capsules::{Change, changed};
-use crate::commands::other_end;
-use crate::fixtures::{HELLO, HELLO_CAPSULE, files_of, front, ran, same};
+use crate::fixtures::{
+    HELLO, HELLO_CAPSULE, Step, add_all, all_end, ended, ends, files_of, front, has, holds,
+};
 use host_io::MemoryFiles;
 use std::alloc::Global;
-use std::test::Fail;
+use std::process::Abort;
 
 // The command, its status and what it prints.
-const STEPS: [(&str, u8, &str); 17] = [
+const STEPS: [Step; 17] = [
     ("capsule a.fip a.cap", 0, "capsule items=1 size=89\n"),
     ("package a.cap back.fip", 0, "packed entries=1 size=101\n"),
     ("package u.cap v.fip", 0, "packed entries=1 size=101\n"),
@@ -59,47 +60,68 @@ const TWICE: &str =
 const BY_MKEFICAPSULE: &str =
     "edd5cb6d2de8444cbda17194199ad92a1c000000000001006100000001000000000001001000000000000000030000000becf95f224d4d3ea544c39d81c73f0a0100000005000000000000000000000000000000000000000000000068656c6c6f";
 
-fn first_files(alloc: Global) -> Result<MemoryFiles, Fail> {
-    let hello = front(alloc, HELLO, 101)?;
-    let twice = front(alloc, TWICE, 132)?;
-    let other = front(alloc, BY_MKEFICAPSULE, 97)?;
-    let named: [(&str, &[u8]); 6] = [
-        ("a.fip", hello.as_slice()),
-        ("h.bin", b"hello"),
-        ("s3.bin", b"xyz"),
-        ("e.bin", b""),
-        ("twice.cap", twice.as_slice()),
-        ("u.cap", other.as_slice()),
-    ];
-    Ok(files_of(alloc, &named, Vec::new(alloc))?)
+const FILES: [(&str, &str); 6] = [
+    ("a.fip", HELLO),
+    ("h.bin", "68656c6c6f"),
+    ("s3.bin", "78797a"),
+    ("e.bin", ""),
+    ("twice.cap", TWICE),
+    ("u.cap", BY_MKEFICAPSULE),
+];
+
+fn first_files(rt: &impl Abort, alloc: Global) -> MemoryFiles {
+    let mut files = Vec::new(alloc);
+    add_all(rt, alloc, &mut files, &FILES);
+    files_of(rt, alloc, files, 0)
+}
+
+// A file that the steps leave, and another that has the same bytes.
+const SAME: [(&str, &str); 4] = [
+    ("back.fip", "a.fip"),
+    ("v.fip", "a.fip"),
+    ("again.fip", "b.fip"),
+    ("f.fip", "e.fip"),
+];
+
+// What the steps leave.
+fn are_converted(rt: &impl Abort, alloc: Global, files: &MemoryFiles) {
+    let capsule = front(rt, alloc, HELLO_CAPSULE, 89);
+    has(rt, files, "a.cap", capsule.as_slice());
+    for (one, other) in &SAME {
+        holds(rt, files.get(one) == files.get(other), one);
+    }
+    holds(rt, files.get("z.fip").is_none(), "z.fip");
 }
 
 #[test]
-fn packages_become_capsules_and_come_back(rt: HostRuntime) -> Result<(), Fail> {
+fn packages_become_capsules_and_come_back(rt: HostRuntime) {
     let alloc = rt.alloc();
-    let mut files = first_files(alloc)?;
-    same(&rt, other_end(alloc, &mut files, &STEPS)?, None);
-    let capsule = front(alloc, HELLO_CAPSULE, 89)?;
-    same(&rt, files.get("a.cap"), Some(capsule.as_slice()));
-    same(&rt, files.get("back.fip"), files.get("a.fip"));
-    same(&rt, files.get("v.fip"), files.get("a.fip"));
-    same(&rt, files.get("again.fip"), files.get("b.fip"));
-    same(&rt, files.get("f.fip"), files.get("e.fip"));
-    same(&rt, files.get("z.fip"), None);
-    Ok(())
+    let mut files = first_files(&rt, alloc);
+    all_end(&rt, alloc, &mut files, &STEPS);
+    are_converted(&rt, alloc, &files);
+}
+
+// No package is made of a hostile capsule, and this is printed.
+fn is_refused(rt: &impl Abort, alloc: Global, files: MemoryFiles, line: &str, text: &str) {
+    let mut files = files;
+    let answer = ended(rt, alloc, line, &mut files);
+    ends(rt, &answer, line, 8, text);
+    holds(rt, files.get("z.fip").is_none(), text);
 }
 
 #[test]
-fn hostile_capsules_are_refused_by_number(rt: HostRuntime) -> Result<(), Fail> {
+fn hostile_capsules_are_refused_by_number(rt: HostRuntime) {
     let alloc = rt.alloc();
     for (count, changes, text) in &HOSTILE {
-        let mut files = changed(alloc, *count, changes)?;
-        let (status, said) = ran(alloc, "package a.cap z.fip", &mut files)?;
-        same(&rt, (status, said.as_slice()), (8, text.as_bytes()));
-        same(&rt, files.get("z.fip"), None);
+        let files = changed(&rt, alloc, *count, changes);
+        is_refused(&rt, alloc, files, "package a.cap z.fip", text);
     }
-    let mut files = first_files(alloc)?;
-    let (status, said) = ran(alloc, "package twice.cap z.fip", &mut files)?;
-    same(&rt, (status, said.as_slice()), (8, b"not-capsule 8\n"));
-    Ok(())
+    let files = first_files(&rt, alloc);
+    is_refused(
+        &rt,
+        alloc,
+        files,
+        "package twice.cap z.fip",
+        "not-capsule 8\n",
+    );
 }

@@ -2,10 +2,8 @@
 
 use fip_tool::fip_top;
 use host_io::{Files, MemoryFiles, MemorySink, MemorySource};
-use std::alloc::{AllocError, Global};
-use std::fmt::Debug;
+use std::alloc::Global;
 use std::process::Abort;
-use std::test::Fail;
 
 /// A package of 101 bytes: `hello` as the payload of tb-fw, and no alignment.
 pub const HELLO: &str =
@@ -20,61 +18,142 @@ pub const HELLO_CAPSULE: &str =
 pub const EMPTY: &str =
     "010064aa78563412000000000000000000000000000000000000000000000000380000000000000000000000000000000000000000000000";
 
+/// Stops the test where this does not hold, and prints what it is of. A call costs its test's proof less than the macro in its place.
+pub fn holds(rt: &impl Abort, is_so: bool, of: &str) {
+    assert!(rt; is_so, "{of}");
+}
+
+/// The same of the row with this number.
+pub fn holds_at(rt: &impl Abort, is_so: bool, row: usize) {
+    assert!(rt; is_so, "at {row}");
+}
+
 /// The words of a line.
-pub fn words(alloc: Global, line: &str) -> Result<Vec<String>, AllocError> {
+pub fn words(rt: &impl Abort, alloc: Global, line: &str) -> Vec<String> {
     let mut list = Vec::new(alloc);
     for word in line.split(' ') {
-        list.push(String::from_str(alloc, word)?)?;
+        let word = String::from_str(alloc, word).expect(rt, "memory");
+        list.push(word).expect(rt, "memory");
     }
-    Ok(list)
+    list
 }
 
 /// The first bytes of a package or a capsule.
-pub fn front(alloc: Global, digits: &str, count: usize) -> Result<Vec<u8>, Fail> {
-    let mut bytes = hex::decode(alloc, digits)?;
+pub fn front(rt: &impl Abort, alloc: Global, digits: &str, count: usize) -> Vec<u8> {
+    let mut bytes = hex::decode(alloc, digits).expect(rt, "digits");
     bytes.truncate(count);
-    Ok(bytes)
+    bytes
 }
 
-/// Files of these names and bytes, and no other. The calls of these numbers fail.
-pub fn files_of(
+/// Adds bytes at the end.
+pub fn add(rt: &impl Abort, bytes: &mut Vec<u8>, more: &[u8]) {
+    bytes.extend_from_slice(more).expect(rt, "memory");
+}
+
+/// A file, by its name.
+pub type Named = (String, Vec<u8>);
+
+/// Adds a file.
+pub fn add_file(
+    rt: &impl Abort,
     alloc: Global,
-    named: &[(&str, &[u8])],
-    fails: Vec<u64>,
-) -> Result<MemoryFiles, AllocError> {
-    let mut all = Vec::new(alloc);
-    for (name, bytes) in named {
-        let name = String::from_str(alloc, name)?;
-        all.push((name, Vec::from_slice(alloc, bytes)?))?;
+    files: &mut Vec<Named>,
+    name: &str,
+    bytes: Vec<u8>,
+) {
+    let name = String::from_str(alloc, name).expect(rt, "memory");
+    files.push((name, bytes)).expect(rt, "memory");
+}
+
+/// The list of one call. There is no call of number 0.
+pub fn only(rt: &impl Abort, alloc: Global, call: u64) -> Vec<u64> {
+    Vec::from_slice(alloc, &[call]).expect(rt, "memory")
+}
+
+/// These files and no other, of which the call of this number fails.
+pub fn files_of(rt: &impl Abort, alloc: Global, files: Vec<Named>, fails: u64) -> MemoryFiles {
+    MemoryFiles::new(alloc, files, only(rt, alloc, fails))
+}
+
+/// One file alone.
+pub fn one_file(
+    rt: &impl Abort,
+    alloc: Global,
+    name: &str,
+    bytes: Vec<u8>,
+    fails: u64,
+) -> MemoryFiles {
+    let mut files = Vec::new(alloc);
+    add_file(rt, alloc, &mut files, name, bytes);
+    files_of(rt, alloc, files, fails)
+}
+
+/// Adds files of these names and of the bytes that the digits spell.
+pub fn add_all(rt: &impl Abort, alloc: Global, files: &mut Vec<Named>, named: &[(&str, &str)]) {
+    for (name, digits) in named {
+        let bytes = hex::decode(alloc, *digits).expect(rt, "digits");
+        add_file(rt, alloc, files, name, bytes);
     }
-    Ok(MemoryFiles::new(alloc, all, fails))
 }
 
-/// The status and the text of a line of words over files, with a source and a sink.
-pub fn ran_with<H: Files>(
+/// What the tool ended with.
+#[derive(Drop)]
+pub struct Answer {
+    pub status: u8,
+    pub text: Vec<u8>,
+}
+
+// The status of these words. What the tool promises is left out, so that goals stay small.
+fn end<H: Files>(
     alloc: Global,
-    line: &str,
+    words: Vec<String>,
     files: &mut H,
-    source: &mut MemorySource,
+    source: MemorySource,
     sink: &mut MemorySink,
-) -> Result<(u8, Vec<u8>), AllocError> {
-    let list = words(alloc, line)?;
-    let status = fip_top(alloc, list.as_slice(), files, source, sink);
-    Ok((status, sink.bytes().to_vec(alloc)?))
+) -> u8 {
+    let mut source = source;
+    fip_top(alloc, words.as_slice(), files, &mut source, sink)
 }
 
-/// The status and the text of a line of words over files, with nothing from the source.
-pub fn ran<H: Files>(
+/// How a line of words ends over files, with a source, and with a sink of which the call of this number fails.
+pub fn ended_with<H: Files>(
+    rt: &impl Abort,
     alloc: Global,
     line: &str,
     files: &mut H,
-) -> Result<(u8, Vec<u8>), AllocError> {
-    let mut source = MemorySource::new(Vec::new(alloc), Vec::new(alloc));
-    let mut sink = MemorySink::new(alloc, Vec::new(alloc), Vec::new(alloc));
-    ran_with(alloc, line, files, &mut source, &mut sink)
+    source: MemorySource,
+    fails: u64,
+) -> Answer {
+    let mut sink = MemorySink::new(alloc, Vec::new(alloc), only(rt, alloc, fails));
+    let status = end(alloc, words(rt, alloc, line), files, source, &mut sink);
+    let text = Vec::from_slice(alloc, sink.bytes()).expect(rt, "memory");
+    Answer { status, text }
 }
 
-/// Stops the test where the two differ, and prints both. A call costs its test's proof less than the macro in its place.
-pub fn same<T: Copy + PartialEq + Debug>(rt: &impl Abort, left: T, right: T) {
-    assert_eq!(rt; left, right);
+/// The same with nothing from the source, and a sink that takes all.
+pub fn ended<H: Files>(rt: &impl Abort, alloc: Global, line: &str, files: &mut H) -> Answer {
+    let source = MemorySource::new(Vec::new(alloc), Vec::new(alloc));
+    ended_with(rt, alloc, line, files, source, 0)
+}
+
+/// Stops the test where the line ended in another way.
+pub fn ends(rt: &impl Abort, answer: &Answer, line: &str, status: u8, text: &str) {
+    let is_so = answer.status == status && answer.text.as_slice() == text.as_bytes();
+    assert!(rt; is_so, "{line}: {text}");
+}
+
+/// A command, its status and what it prints.
+pub type Step = (&'static str, u8, &'static str);
+
+/// The commands end so, one after the other over the same files.
+pub fn all_end<H: Files>(rt: &impl Abort, alloc: Global, files: &mut H, steps: &[Step]) {
+    for (line, status, text) in steps {
+        let answer = ended(rt, alloc, line, files);
+        ends(rt, &answer, line, *status, text);
+    }
+}
+
+/// A file has these bytes.
+pub fn has(rt: &impl Abort, files: &MemoryFiles, name: &str, wanted: &[u8]) {
+    holds(rt, files.get(name) == Some(wanted), name);
 }

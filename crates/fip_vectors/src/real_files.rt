@@ -1,12 +1,13 @@
 //! The commands over files of the system, in a folder that has no file but those that the words name: a file that nobody named
 //! is never asked for, since that would be a file fault. The packages, the capsule and the manifest are written out by hand.
 
-use crate::commands::other_end;
-use crate::fixtures::{EMPTY, HELLO, HELLO_CAPSULE, front, ran_with, same};
+use crate::fixtures::{EMPTY, HELLO, HELLO_CAPSULE, Step, all_end, ended_with, ends, front, holds};
 use crate::manifests::wanted;
-use host_io::{HostFiles, MemorySink, MemorySource};
+use host_io::{HostFiles, MemorySource};
+use std::alloc::{Alloc, Global};
 use std::fs;
-use std::test::Fail;
+use std::process::Abort;
+use std::rt::Files;
 
 const FOLDER: &str = "fip_test";
 
@@ -25,7 +26,7 @@ const LISTED: &str =
     "serial=12345678 flags=0 entries=1 size=101\n5ff9ec0b-4d22-3e4d-a544-c39d81c73f0a offset=96 size=5 flags=0\n";
 
 // The command, its status and what it prints.
-const STEPS: [(&str, u8, &str); 17] = [
+const STEPS: [Step; 17] = [
     ("create fip_test/e.fip", 0, "packed entries=0 size=56\n"),
     (
         "create fip_test/a.fip tb-fw=fip_test/h.bin",
@@ -90,7 +91,7 @@ const STEPS: [(&str, u8, &str); 17] = [
 ];
 
 // Commands that name a file that is not there, or one that cannot be written.
-const MISSING: [(&str, u8, &str); 11] = [
+const MISSING: [Step; 11] = [
     ("info fip_test/none.fip", 2, "file-fault\n"),
     (
         "create fip_test/z.fip tb-fw=fip_test/none.bin",
@@ -152,46 +153,61 @@ const WRITTEN: [(&str, &str); 6] = [
     ),
 ];
 
-#[test]
-fn commands_over_files_of_the_system(rt: HostRuntime) -> Result<(), Fail> {
-    let alloc = rt.alloc();
-    let _ = fs::remove_dir_all(&rt, FOLDER);
-    fs::create_dir(&rt, FOLDER)?;
+// Makes the folder, with the given files in it.
+fn make_folder<R: Abort + Alloc + Files>(rt: &R, alloc: Global) {
+    let _ = fs::remove_dir_all(rt, FOLDER);
+    fs::create_dir(rt, FOLDER).expect(rt, "a folder");
     for (name, digits, count) in &GIVEN {
-        fs::write(&rt, *name, front(alloc, digits, *count)?)?;
+        let bytes = front(rt, alloc, digits, *count);
+        fs::write(rt, *name, bytes).expect(rt, "a file that is written");
     }
-    let mut files = HostFiles::new(&rt);
-    same(&rt, other_end(alloc, &mut files, &STEPS)?, None);
-    same(&rt, other_end(alloc, &mut files, &MISSING)?, None);
+}
+
+// Whether a file of the system has these bytes.
+fn is_written<R: Alloc + Files>(rt: &R, name: &str, wanted: &[u8]) -> bool {
+    match fs::read(rt, name) {
+        Ok(found) => found.as_slice() == wanted,
+        Err(_) => false,
+    }
+}
+
+// What the steps leave.
+fn have<R: Abort + Alloc + Files>(rt: &R, alloc: Global) {
     for (name, digits) in &WRITTEN {
-        let found = fs::read(&rt, *name)?;
-        same(
-            &rt,
-            found.as_slice(),
-            hex::decode(alloc, digits)?.as_slice(),
-        );
+        let wanted = hex::decode(alloc, *digits).expect(rt, "digits");
+        holds(rt, is_written(rt, name, wanted.as_slice()), name);
     }
     let manifest = wanted(
+        rt,
         alloc,
         "46574d46010000000100000002000000",
         "dfb762568ec809e6a8e136de9bae264bf9ebe5fecc8f297f2f37b0393cbb8273",
-    )?;
-    let found = fs::read(&rt, "fip_test/m.bin")?;
-    same(&rt, found.as_slice(), manifest.as_slice());
-    same(&rt, fs::metadata(&rt, "fip_test/z.fip").is_ok(), false);
-    fs::remove_dir_all(&rt, FOLDER)?;
-    Ok(())
+    );
+    holds(
+        rt,
+        is_written(rt, "fip_test/m.bin", manifest.as_slice()),
+        "m.bin",
+    );
+    holds(rt, fs::metadata(rt, "fip_test/z.fip").is_err(), "z.fip");
+}
+
+#[test]
+fn commands_over_files_of_the_system(rt: HostRuntime) {
+    let alloc = rt.alloc();
+    make_folder(&rt, alloc);
+    let mut files = HostFiles::new(&rt);
+    all_end(&rt, alloc, &mut files, &STEPS);
+    all_end(&rt, alloc, &mut files, &MISSING);
+    have(&rt, alloc);
+    fs::remove_dir_all(&rt, FOLDER).expect(&rt, "a folder that is removed");
 }
 
 // The source alone is read: no file has a name here.
 #[test]
-fn a_source_is_listed_without_files(rt: HostRuntime) -> Result<(), Fail> {
+fn a_source_is_listed_without_files(rt: HostRuntime) {
     let alloc = rt.alloc();
-    let mut source = MemorySource::new(front(alloc, HELLO, 101)?, Vec::new(alloc));
-    let mut sink = MemorySink::new(alloc, Vec::new(alloc), Vec::new(alloc));
+    let source = MemorySource::new(front(&rt, alloc, HELLO, 101), Vec::new(alloc));
     let mut files = HostFiles::new(&rt);
-    let (status, text) = ran_with(alloc, "info -", &mut files, &mut source, &mut sink)?;
-    same(&rt, status, 0);
-    same(&rt, text.as_slice(), LISTED.as_bytes());
-    Ok(())
+    let answer = ended_with(&rt, alloc, "info -", &mut files, source, 0);
+    ends(&rt, &answer, "info -", 0, LISTED);
 }

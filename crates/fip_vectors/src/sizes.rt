@@ -1,13 +1,13 @@
 //! Refusals by size come before a payload is read: each command is refused although its next call on the files would fail, and the
 //! call before that is needed.
 
-use crate::fixtures::{files_of, ran, same};
+use crate::fixtures::{add, add_file, ended, ends, files_of};
 use host_io::MemoryFiles;
-use std::alloc::{AllocError, Global};
-use std::test::Fail;
+use std::alloc::Global;
+use std::process::Abort;
 
 // How many entries the package has, each with all of its bytes as the payload.
-const ENTRIES: usize = 64;
+const ENTRIES: u8 = 64;
 
 // Where the payloads of the package end, in bytes. All of them together are more than 64 MiB.
 const END: usize = 1_100_000;
@@ -15,32 +15,37 @@ const END: usize = 1_100_000;
 // One byte more than an image may have.
 const LONG: usize = 1_048_577;
 
+// Adds an entry of this number.
+fn add_entry(rt: &impl Abort, bytes: &mut Vec<u8>, number: u8) {
+    add(rt, bytes, &[number; 16]);
+    add(rt, bytes, &[0; 8]);
+    add(rt, bytes, &(END as u64).to_le_bytes());
+    add(rt, bytes, &[0; 8]);
+}
+
 // A package whose entries overlap: each is all of it.
-fn overlapping(alloc: Global) -> Result<Vec<u8>, AllocError> {
+fn overlapping(rt: &impl Abort, alloc: Global) -> Vec<u8> {
     let mut bytes = Vec::new(alloc);
-    bytes.extend_from_slice(&[
+    let head = [
         1, 0, 0x64, 0xaa, 0x78, 0x56, 0x34, 0x12, 0, 0, 0, 0, 0, 0, 0, 0,
-    ])?;
+    ];
+    add(rt, &mut bytes, &head);
     for i in 0..ENTRIES {
-        bytes.extend_from_slice(&[1 + i as u8; 16])?;
-        bytes.extend_from_slice(&0u64.to_le_bytes())?;
-        bytes.extend_from_slice(&(END as u64).to_le_bytes())?;
-        bytes.extend_from_slice(&0u64.to_le_bytes())?;
+        add_entry(rt, &mut bytes, i.wrapping_add(1));
     }
-    bytes.resize(END, 0)?;
-    Ok(bytes)
+    bytes.resize(END, 0).expect(rt, "memory");
+    bytes
 }
 
 // The call of this number on the files fails.
-fn files(alloc: Global, fails: u64) -> Result<MemoryFiles, AllocError> {
-    let package = overlapping(alloc)?;
-    let long = vec![in alloc; 0; LONG]?;
-    let named: [(&str, &[u8]); 3] = [
-        ("p.fip", package.as_slice()),
-        ("long.bin", long.as_slice()),
-        ("h.bin", b"hello"),
-    ];
-    files_of(alloc, &named, Vec::from_slice(alloc, &[fails])?)
+fn files(rt: &impl Abort, alloc: Global, fails: u64) -> MemoryFiles {
+    let mut files = Vec::new(alloc);
+    add_file(rt, alloc, &mut files, "p.fip", overlapping(rt, alloc));
+    let long = vec![in alloc; 0; LONG].expect(rt, "memory");
+    add_file(rt, alloc, &mut files, "long.bin", long);
+    let hello = Vec::from_slice(alloc, b"hello").expect(rt, "memory");
+    add_file(rt, alloc, &mut files, "h.bin", hello);
+    files_of(rt, alloc, files, fails)
 }
 
 // A command, the number of its first call that would read a payload, and what it prints before that, with status 6. The table
@@ -70,20 +75,18 @@ const CASES: [(&str, u64, &str); 6] = [
     ),
 ];
 
-// How the command ends where the call of this number fails.
-fn ended(alloc: Global, line: &str, fails: u64) -> Result<(u8, Vec<u8>), AllocError> {
-    let mut files = files(alloc, fails)?;
-    ran(alloc, line, &mut files)
+// The command ends so where the call of this number fails.
+fn ends_so(rt: &impl Abort, alloc: Global, line: &str, fails: u64, status: u8, text: &str) {
+    let mut files = files(rt, alloc, fails);
+    let answer = ended(rt, alloc, line, &mut files);
+    ends(rt, &answer, line, status, text);
 }
 
 #[test]
-fn sizes_are_asked_first(rt: HostRuntime) -> Result<(), Fail> {
+fn sizes_are_asked_first(rt: HostRuntime) {
     let alloc = rt.alloc();
     for (line, fails, text) in &CASES {
-        let (status, said) = ended(alloc, line, *fails)?;
-        same(&rt, (status, said.as_slice()), (6, text.as_bytes()));
-        let (status, said) = ended(alloc, line, *fails - 1)?;
-        same(&rt, (status, said.as_slice()), (2, b"file-fault\n"));
+        ends_so(&rt, alloc, line, *fails, 6, text);
+        ends_so(&rt, alloc, line, fails.wrapping_sub(1), 2, "file-fault\n");
     }
-    Ok(())
 }

@@ -2,39 +2,22 @@
 
 ghost use Rattle.std.specs.Prelude.{◌<◌};
 
-use crate::fixtures::{EMPTY, HELLO, files_of, front, same};
+use crate::fixtures::{EMPTY, HELLO, add, front, holds, holds_at, one_file};
 use base_core::Guid;
 use fip_tables::{
     Entry, Frame, Outline, PackStop, Part, Parts, StreamToc, Toc, TocStop, pack, payload_at,
     read_toc,
 };
 use fwu_formats::FipFault;
-use host_io::{Failed, Files};
-use std::alloc::{AllocError, Global};
-use std::test::Fail;
+use host_io::{Failed, Files, MemoryFiles};
+use std::alloc::Global;
+use std::process::Abort;
 
 fn first_guid() -> Guid {
     Guid::of([
         0x5f, 0xf9, 0xec, 0x0b, 0x4d, 0x22, 0x3e, 0x4d, 0xa5, 0x44, 0xc3, 0x9d, 0x81, 0xc7, 0x3f,
         0x0a,
     ])
-}
-
-fn part(alloc: Global, guid: Guid, text: &str) -> Result<Part, AllocError> {
-    Ok(Part {
-        guid,
-        flags: 0,
-        bytes: text.as_bytes().to_vec(alloc)?,
-    })
-}
-
-fn package(alloc: Global, parts: Vec<Part>, align: u32) -> Result<Vec<u8>, PackStop> {
-    let parts = Parts {
-        serial: 0x1234_5678,
-        flags: 0,
-        parts,
-    };
-    pack(alloc, &parts, align)
 }
 
 // The table of bytes that are fed in pieces of a length.
@@ -79,108 +62,142 @@ fn hello_in<H: Files>(files: &mut H, name: &str) -> Result<[u8; 5], Failed> {
     Ok(out)
 }
 
-#[test]
-fn bytes_of_packages(rt: HostRuntime) -> Result<(), Fail> {
-    let alloc = rt.alloc();
-    let empty = package(alloc, Vec::new(alloc), 1)?;
-    same(&rt, empty.as_slice(), front(alloc, EMPTY, 56)?.as_slice());
-    let mut one = Vec::new(alloc);
-    one.push(part(alloc, first_guid(), "hello")?)?;
-    let hello = package(alloc, one, 1)?;
-    same(&rt, hello.as_slice(), front(alloc, HELLO, 101)?.as_slice());
-    Ok(())
+// Adds a part of this type.
+fn add_part(rt: &impl Abort, alloc: Global, parts: &mut Vec<Part>, guid: Guid, text: &str) {
+    let bytes = Vec::from_slice(alloc, text.as_bytes()).expect(rt, "memory");
+    let part = Part {
+        guid,
+        flags: 0,
+        bytes,
+    };
+    parts.push(part).expect(rt, "memory");
 }
 
-fn two_parts(alloc: Global) -> Result<Vec<Part>, AllocError> {
-    let mut two = Vec::new(alloc);
-    two.push(part(alloc, first_guid(), "hello")?)?;
-    two.push(part(alloc, Guid::of([7; 16]), "xyz")?)?;
-    Ok(two)
+// The package of these parts.
+fn package(rt: &impl Abort, alloc: Global, named: &[(Guid, &str)], align: u32) -> Vec<u8> {
+    let mut parts = Vec::new(alloc);
+    for (guid, text) in named {
+        add_part(rt, alloc, &mut parts, *guid, text);
+    }
+    let parts = Parts {
+        serial: 0x1234_5678,
+        flags: 0,
+        parts,
+    };
+    pack(alloc, &parts, align).expect(rt, "a package")
 }
 
 #[test]
-fn aligned_package(rt: HostRuntime) -> Result<(), Fail> {
+fn bytes_of_packages(rt: HostRuntime) {
     let alloc = rt.alloc();
-    let bytes = package(alloc, two_parts(alloc)?, 16)?;
-    assert_eq!(rt; bytes.len(), 176);
-    let toc = fed(bytes.as_slice(), 100).map_err(|_| "no package")?;
+    let empty = package(&rt, alloc, &[], 1);
+    holds(&rt, empty == front(&rt, alloc, EMPTY, 56), "no part");
+    let hello = package(&rt, alloc, &[(first_guid(), "hello")], 1);
+    holds(&rt, hello == front(&rt, alloc, HELLO, 101), "one part");
+}
+
+// Whether it is a table of two entries whose payloads stand there.
+fn has_offsets(toc: &Toc, first: u64, second: u64) -> bool {
     let entries = toc.entries.as_slice();
-    assert_eq!(rt; entries.len(), 2);
-    let (first, second) = (&entries[0], &entries[1]);
-    assert_eq!(rt; first.offset, 144);
-    assert_eq!(rt; second.offset, 160);
-    assert_eq!(rt; &bytes[160..], b"xyz\0\0\0\0\0\0\0\0\0\0\0\0\0".as_slice());
-    Ok(())
-}
-
-#[test]
-fn faults_of_packages(rt: HostRuntime) -> Result<(), Fail> {
-    let alloc = rt.alloc();
-    for (count, fault) in [
-        (101, None),
-        (95, Some(FipFault::NoEnd(1))),
-        (100, Some(FipFault::Beyond(0))),
-        (15, Some(FipFault::ShortHeader)),
-    ] {
-        let bytes = front(alloc, HELLO, count)?;
-        assert_eq!(rt; fed(bytes.as_slice(), 50).err(), fault, "at {count}");
+    if entries.len() != 2 {
+        return false;
     }
-    same(
-        &rt,
-        fed(b"a name that is other", 50).err(),
-        Some(FipFault::BadName),
-    );
-    Ok(())
+    let (one, other) = (&entries[0], &entries[1]);
+    one.offset == first && other.offset == second
 }
 
 #[test]
-fn tables_in_pieces(rt: HostRuntime) -> Result<(), Fail> {
-    let hello = front(rt.alloc(), HELLO, 101)?;
+fn aligned_package(rt: HostRuntime) {
+    let alloc = rt.alloc();
+    let two = [(first_guid(), "hello"), (Guid::of([7; 16]), "xyz")];
+    let bytes = package(&rt, alloc, &two, 16);
+    let last = b"xyz\0\0\0\0\0\0\0\0\0\0\0\0\0".as_slice();
+    holds(
+        &rt,
+        bytes.as_slice().get(160..) == Some(last),
+        "the last part",
+    );
+    let toc = fed(bytes.as_slice(), 100).expect(&rt, "a package");
+    holds(&rt, has_offsets(&toc, 144, 160), "the table");
+}
+
+// The fault of bytes that are fed in pieces of a length.
+fn fault_of(bytes: &[u8], step: usize) -> Option<FipFault>
+    requires some { 0 < step }
+{
+    fed(bytes, step).err()
+}
+
+// How many bytes of `HELLO` there are, and the fault.
+const FAULTS: [(usize, Option<FipFault>); 4] = [
+    (101, None),
+    (95, Some(FipFault::NoEnd(1))),
+    (100, Some(FipFault::Beyond(0))),
+    (15, Some(FipFault::ShortHeader)),
+];
+
+#[test]
+fn faults_of_packages(rt: HostRuntime) {
+    for (count, fault) in &FAULTS {
+        let bytes = front(&rt, rt.alloc(), HELLO, *count);
+        holds_at(&rt, fault_of(bytes.as_slice(), 50) == *fault, *count);
+    }
+    let other = fault_of(b"a name that is other", 50);
+    holds(&rt, other == Some(FipFault::BadName), "another name");
+}
+
+#[test]
+fn tables_in_pieces(rt: HostRuntime) {
+    let hello = front(&rt, rt.alloc(), HELLO, 101);
     for step in [101, 7, 1] {
-        let toc = fed(hello.as_slice(), step).map_err(|_| "no package")?;
-        assert!(rt; is_of_hello(&toc), "in pieces of {step}");
+        let toc = fed(hello.as_slice(), step).expect(&rt, "a package");
+        holds_at(&rt, is_of_hello(&toc), step);
     }
-    Ok(())
 }
 
 #[test]
-fn too_many_entries(rt: HostRuntime) -> Result<(), Fail> {
-    let head = front(rt.alloc(), HELLO, 16)?;
-    assert_eq!(rt; head.len(), 16);
-    let mut bytes = [0; 2656];
-    bytes[..16].copy_from_slice(head.as_slice());
-    for i in 0..65 {
-        bytes[16 + 40 * i] = 1 + i as u8;
+fn too_many_entries(rt: HostRuntime) {
+    let mut bytes = front(&rt, rt.alloc(), HELLO, 16);
+    for i in 1u8..66 {
+        add(&rt, &mut bytes, &[i]);
+        add(&rt, &mut bytes, &[0; 39]);
     }
-    assert_eq!(rt; fed(&bytes, 1000).err(), Some(FipFault::TooMany));
-    Ok(())
+    add(&rt, &mut bytes, &[0; 40]);
+    let fault = fault_of(bytes.as_slice(), 1000);
+    holds(&rt, fault == Some(FipFault::TooMany), "65 entries");
 }
 
 #[test]
-fn end_beyond_64_bits(rt: HostRuntime) -> Result<(), Fail> {
-    let mut bytes = front(rt.alloc(), HELLO, 101)?;
-    assert_eq!(rt; bytes.len(), 101);
-    bytes[32..48].copy_from_slice(&[0xff; 16]);
-    assert_eq!(rt; fed(bytes.as_slice(), 101).err(), Some(FipFault::Beyond(0)));
-    Ok(())
-}
-
-#[test]
-fn package_in_a_file(rt: HostRuntime) -> Result<(), Fail> {
-    let alloc = rt.alloc();
-    let hello = front(alloc, HELLO, 101)?;
-    let mut files = files_of(alloc, &[("a.fip", hello.as_slice())], Vec::new(alloc))?;
-    let toc = read_toc(&mut files, "a.fip").map_err(|_| "no table")?;
-    same(&rt, toc.serial, 0x1234_5678);
-    same(&rt, toc.entries.len(), 1);
-    same(
+fn end_beyond_64_bits(rt: HostRuntime) {
+    let mut bytes = front(&rt, rt.alloc(), HELLO, 101);
+    if let Some(place) = bytes.as_mut_slice().get_mut(32..48) {
+        place.fill(0xff);
+    }
+    let fault = fault_of(bytes.as_slice(), 101);
+    holds(
         &rt,
-        read_toc(&mut files, "b.fip").err(),
-        Some(TocStop::ReadFailed),
+        fault == Some(FipFault::Beyond(0)),
+        "an end beyond 64 bits",
     );
-    let payload = hello_in(&mut files, "a.fip").map_err(|_| "no payload")?;
-    same(&rt, &payload, b"hello");
-    Ok(())
+}
+
+// Why the file of this name has no table, if it has none, or one other than that of `HELLO`.
+fn stop_of(files: &mut MemoryFiles, name: &str) -> Result<bool, TocStop> {
+    match read_toc(files, name) {
+        Ok(toc) => Ok(is_of_hello(&toc)),
+        Err(stop) => Err(stop),
+    }
+}
+
+#[test]
+fn package_in_a_file(rt: HostRuntime) {
+    let hello = front(&rt, rt.alloc(), HELLO, 101);
+    let mut files = one_file(&rt, rt.alloc(), "a.fip", hello, 0);
+    holds(&rt, stop_of(&mut files, "a.fip") == Ok(true), "a.fip");
+    let stop = stop_of(&mut files, "b.fip");
+    holds(&rt, stop == Err(TocStop::ReadFailed), "b.fip");
+    let payload = hello_in(&mut files, "a.fip").expect(&rt, "a payload");
+    holds(&rt, &payload == b"hello", "the payload");
 }
 
 // A package of one file.
@@ -205,10 +222,10 @@ fn packed_file<H: Files>(alloc: Global, files: &mut H, name: &str) -> Result<Vec
 }
 
 #[test]
-fn frame_filled_from_a_file(rt: HostRuntime) -> Result<(), Fail> {
+fn frame_filled_from_a_file(rt: HostRuntime) {
     let alloc = rt.alloc();
-    let mut files = files_of(alloc, &[("hello", b"hello")], Vec::new(alloc))?;
-    let bytes = packed_file(alloc, &mut files, "hello")?;
-    same(&rt, bytes.as_slice(), front(alloc, HELLO, 101)?.as_slice());
-    Ok(())
+    let hello = Vec::from_slice(alloc, b"hello").expect(&rt, "memory");
+    let mut files = one_file(&rt, alloc, "hello", hello, 0);
+    let bytes = packed_file(alloc, &mut files, "hello").expect(&rt, "a package");
+    holds(&rt, bytes == front(&rt, alloc, HELLO, 101), "a package");
 }
