@@ -1,6 +1,6 @@
 //! The bytes of flashes. They come from demo/make_flash.py, which writes them from docs/FORMATS.md by Python's zlib and hashlib.
-use std::alloc::{AllocError, Global};
-use std::test::Fail;
+use std::alloc::Global;
+use std::process::Abort;
 
 // Two banks of a manifest of 1 block, tb-fw of 2 and nt-fw of 4.
 pub const LAYOUT: &str =
@@ -54,61 +54,62 @@ pub const MANIFEST_70000: &str =
 pub const LIST: &str = "6d807d1bea783d90ce1f9ee1bf8667e94ddc31fa6f5474f8a891bcc89d56fb9a\n";
 
 /// Puts the bytes that the digits spell into the image, where it has room for them.
-pub fn put(alloc: Global, image: &mut Vec<u8>, at: u32, digits: &str) -> Result<(), Fail> {
-    let bytes = hex::decode(alloc, digits)?;
+pub fn put(rt: &impl Abort, alloc: Global, image: &mut Vec<u8>, at: u32, digits: &str) {
+    let bytes = hex::decode(alloc, digits).expect(rt, "digits");
     let first = at as usize;
     let end = first + bytes.len();
-    if end <= image.len() {
-        image.as_mut_slice()[first..end].copy_from_slice(bytes.as_slice());
+    if let Some(place) = image.as_mut_slice().get_mut(first..end) {
+        place.copy_from_slice(bytes.as_slice());
     }
-    Ok(())
 }
 
-pub fn blank(alloc: Global, blocks: u32) -> Result<Vec<u8>, AllocError> {
-    vec![in alloc; 0xFF; 4096 * blocks as usize]
+/// So many blocks without data.
+pub fn blank(rt: &impl Abort, alloc: Global, blocks: u32) -> Vec<u8> {
+    vec![in alloc; 0xFF; 4096 * blocks as usize].expect(rt, "memory")
 }
 
 /// A bank, from this place on, with this manifest and the images `abc` and `hello`.
-pub fn put_bank(alloc: Global, image: &mut Vec<u8>, at: u32, manifest: &str) -> Result<(), Fail> {
-    put(alloc, image, at, manifest)?;
-    put(alloc, image, at.wrapping_add(4096), "616263")?;
-    put(alloc, image, at.wrapping_add(3 * 4096), "68656c6c6f")
+pub fn put_bank(rt: &impl Abort, alloc: Global, image: &mut Vec<u8>, at: u32, manifest: &str) {
+    put(rt, alloc, image, at, manifest);
+    put(rt, alloc, image, at.wrapping_add(4096), "616263");
+    put(rt, alloc, image, at.wrapping_add(3 * 4096), "68656c6c6f");
+}
+
+/// Puts metadata into both replicas.
+pub fn put_metadata(rt: &impl Abort, alloc: Global, image: &mut Vec<u8>, metadata: &str) {
+    put(rt, alloc, image, 4096, metadata);
+    put(rt, alloc, image, 2 * 4096, metadata);
 }
 
 /// A flash of so many blocks with this layout, this metadata in both replicas, and a bank 0 with this manifest.
-pub fn flash_of(
+pub fn flash_with(
+    rt: &impl Abort,
     alloc: Global,
     blocks: u32,
     layout: &str,
     metadata: &str,
     manifest: &str,
-) -> Result<Vec<u8>, Fail> {
-    let mut image = blank(alloc, blocks)?;
-    put(alloc, &mut image, 0, layout)?;
-    put(alloc, &mut image, 4096, metadata)?;
-    put(alloc, &mut image, 2 * 4096, metadata)?;
-    put_bank(alloc, &mut image, 8 * 4096, manifest)?;
-    Ok(image)
+) -> Vec<u8> {
+    let mut image = blank(rt, alloc, blocks);
+    put(rt, alloc, &mut image, 0, layout);
+    put_metadata(rt, alloc, &mut image, metadata);
+    put_bank(rt, alloc, &mut image, 8 * 4096, manifest);
+    image
 }
 
 /// 22 blocks, two banks of a manifest and the images `abc` and `hello`, bank 0 accepted with version 1, bank 1 invalid, and one mark
 /// of the counter.
-pub fn two_banks(alloc: Global) -> Result<Vec<u8>, Fail> {
-    let mut image = flash_of(alloc, 22, LAYOUT, METADATA, MANIFEST)?;
-    put(
-        alloc,
-        &mut image,
-        4 * 4096,
-        "00000000000000000000000000000000",
-    )?;
-    Ok(image)
+pub fn two_banks(rt: &impl Abort, alloc: Global) -> Vec<u8> {
+    let mut image = flash_with(rt, alloc, 22, LAYOUT, METADATA, MANIFEST);
+    let mark = "00000000000000000000000000000000";
+    put(rt, alloc, &mut image, 4 * 4096, mark);
+    image
 }
 
 /// The same with version 2 in bank 1, which is active and on trial.
-pub fn on_trial(alloc: Global) -> Result<Vec<u8>, Fail> {
-    let mut image = two_banks(alloc)?;
-    put(alloc, &mut image, 4096, ON_TRIAL)?;
-    put(alloc, &mut image, 2 * 4096, ON_TRIAL)?;
-    put_bank(alloc, &mut image, 15 * 4096, MANIFEST_2)?;
-    Ok(image)
+pub fn on_trial(rt: &impl Abort, alloc: Global) -> Vec<u8> {
+    let mut image = two_banks(rt, alloc);
+    put_metadata(rt, alloc, &mut image, ON_TRIAL);
+    put_bank(rt, alloc, &mut image, 15 * 4096, MANIFEST_2);
+    image
 }

@@ -1,242 +1,215 @@
 //! The flash behind a GUID partition table, by the program's own call.
-ghost use Rattle.std.specs.Prelude.{◌≡◌, IfOk, IsFalse, None};
+ghost use Rattle.std.specs.Prelude.{◌≡◌, IsFalse, None};
 ghost use Rattle.flash_devices.specs.Memory.{is_on, arming_of};
 
 use crate::flashes::put;
-use crate::runs::words_of;
+use crate::runs::{NOTHING, Named, Ran, Trouble, ends, flash_of, holds, run_on, source_of};
 use crate::tables::{BACKUP, PRIMARY, by_fdisk, partitioned};
-use flash_core::Flash;
 use flash_devices::{Cut, MemoryFlash};
-use host_io::{MemoryFiles, MemorySink, MemorySource};
-use script_cmd::{Done, NoTable, Note, fwu_top};
+use script_cmd::{NoTable, Note};
 use std::alloc::Global;
 use std::process::Abort;
-use std::test::Fail;
 
 const BOOT1: &str = "boot bank=0 version=1 trials=0 counter=1\n";
 
 /// The blocks of both headers, and those behind blocks 1 to 7 of the flash.
 pub const GUARDED: [u32; 9] = [1, 6, 7, 8, 9, 10, 25, 26, 39];
 
+// The same for the table that fdisk made.
+const GUARDED_BY_FDISK: [u32; 9] = [1, 9, 10, 11, 12, 13, 28, 29, 39];
+
 /// A device with these bytes, off, with nothing armed. Of it no more is told, so that goals stay small.
 pub fn device(
+    rt: &impl Abort,
     alloc: Global,
     image: Vec<u8>,
     guarded: &[u32],
-    cuts: Vec<Cut>,
-    faults: Vec<u64>,
-) -> Result<MemoryFlash, Fail>
-    ensures off { IfOk result (λ flash. IsFalse (is_on flash)) }
-    ensures unarmed { IfOk result (λ flash. arming_of flash ≡ None) }
+    trouble: &Trouble,
+) -> MemoryFlash
+    ensures off { IsFalse (is_on result) }
+    ensures unarmed { arming_of result ≡ None }
 {
-    let flash = MemoryFlash::from_bytes(alloc, image, cuts, faults)?;
-    Ok(flash.guard(guarded.to_vec(alloc)?))
+    let guarded = Vec::from_slice(alloc, guarded).expect(rt, "memory");
+    flash_of(rt, alloc, image, trouble).guard(guarded)
 }
 
-// The program's end. What it promises is left out, so that goals stay small.
-fn end_on<D: Flash>(
+// The program with these words and this script, and no files, on a device with these bytes.
+fn run_guarded(
+    rt: &impl Abort,
     alloc: Global,
-    words: &[String],
-    script: Vec<u8>,
-    sink: &mut MemorySink,
-    flash: D,
-) -> Done<D>
-    requires off { IsFalse (D.on flash) }
-    requires unarmed { D.arming flash ≡ None }
-{
-    let mut files = MemoryFiles::new(alloc, Vec::new(alloc), Vec::new(alloc));
-    let mut source = MemorySource::new(script, Vec::new(alloc));
-    fwu_top(alloc, words, &mut files, &mut source, sink, flash)
-}
-
-// What a run left, on a device that power came back to.
-#[derive(Drop)]
-struct Ran {
-    status: u8,
-    note: Note,
-    printed: Vec<u8>,
+    words: &str,
+    script: &str,
     image: Vec<u8>,
+    guarded: &[u32],
+    trouble: &Trouble,
+) -> Ran {
+    let mut source = source_of(rt, alloc, script, 0);
+    let files: Vec<Named> = Vec::new(alloc);
+    let flash = device(rt, alloc, image, guarded, trouble);
+    run_on(rt, alloc, words, files, &mut source, trouble, flash)
 }
 
-/// The bytes of a device once it has power.
-pub fn image_of(alloc: Global, flash: MemoryFlash) -> Result<Vec<u8>, Fail> {
-    let mut flash = flash;
-    if !flash.is_on() {
-        flash.power_on();
-    }
-    Ok(flash.bytes().to_vec(alloc)?)
-}
-
-// The program with these words and this script on a device.
-fn run_on(alloc: Global, words: &str, script: &str, flash: MemoryFlash) -> Result<Ran, Fail>
-    requires off { IsFalse (is_on flash) }
-    requires unarmed { arming_of flash ≡ None }
-{
-    let words = words_of(alloc, words)?;
-    let script = script.as_bytes().to_vec(alloc)?;
-    let mut sink = MemorySink::new(alloc, Vec::new(alloc), Vec::new(alloc));
-    let done = end_on(alloc, words.as_slice(), script, &mut sink, flash);
-    Ok(Ran {
-        status: done.status,
-        note: done.note,
-        printed: sink.bytes().to_vec(alloc)?,
-        image: image_of(alloc, done.flash)?,
-    })
-}
-
-// The same on a device with these bytes, that neither loses power nor fails.
-fn run(alloc: Global, words: &str, script: &str, image: Vec<u8>) -> Result<Ran, Fail> {
-    let flash = device(alloc, image, &GUARDED, Vec::new(alloc), Vec::new(alloc))?;
-    run_on(alloc, words, script, flash)
-}
-
-// It ended so.
-fn ends(rt: &impl Abort, ran: &Ran, status: u8, printed: &str) {
-    assert_eq!(rt; ran.printed.as_slice(), printed.as_bytes());
-    assert_eq!(rt; ran.status, status);
+// The same on a device that neither loses power nor fails.
+fn run(rt: &impl Abort, alloc: Global, words: &str, script: &str, image: Vec<u8>) -> Ran {
+    run_guarded(rt, alloc, words, script, image, &GUARDED, &NOTHING)
 }
 
 // Both headers stand.
-fn has_headers(alloc: Global, image: &[u8]) -> Result<bool, Fail> {
-    let primary = hex::decode(alloc, PRIMARY)?;
-    let backup = hex::decode(alloc, BACKUP)?;
-    Ok(
-        image.get(4096..4188) == Some(primary.as_slice())
-            && image.get(159_744..159_836) == Some(backup.as_slice()),
-    )
+fn has_headers(rt: &impl Abort, alloc: Global, image: &[u8]) -> bool {
+    let primary = hex::decode(alloc, PRIMARY).expect(rt, "digits");
+    let backup = hex::decode(alloc, BACKUP).expect(rt, "digits");
+    image.get(4096..4188) == Some(primary.as_slice())
+        && image.get(159_744..159_836) == Some(backup.as_slice())
 }
 
-#[test]
-fn a_boot_behind_a_table(rt: HostRuntime) -> Result<(), Fail> {
-    let alloc = rt.alloc();
-    let ran = run(alloc, "boot --gpt", "", partitioned(alloc, true, true)?)?;
-    ends(&rt, &ran, 0, BOOT1);
-    assert_eq!(rt; ran.note, Note::Nothing);
-    assert!(rt; ran.image.as_slice() == partitioned(alloc, true, true)?.as_slice());
-    Ok(())
-}
+// Which copies of the table there are, a command and its script, and the status, the line and the note of a run that changes nothing.
+type Row = (
+    bool,
+    bool,
+    &'static str,
+    &'static str,
+    u8,
+    &'static str,
+    Note,
+);
 
-#[test]
-fn a_missing_copy_is_repaired(rt: HostRuntime) -> Result<(), Fail> {
-    let alloc = rt.alloc();
-    for primary in [false, true] {
-        let ran = run(
-            alloc,
-            "boot --gpt",
-            "",
-            partitioned(alloc, primary, !primary)?,
-        )?;
-        ends(&rt, &ran, 0, BOOT1);
-        assert!(rt; has_headers(alloc, ran.image.as_slice())?);
-    }
-    Ok(())
-}
-
-#[test]
-fn without_a_table_nothing_runs(rt: HostRuntime) -> Result<(), Fail> {
-    let alloc = rt.alloc();
-    let ran = run(alloc, "boot --gpt", "", partitioned(alloc, false, false)?)?;
-    ends(&rt, &ran, 10, "gpt no-table\n");
-    assert_eq!(rt; ran.note, Note::NoTable(NoTable::Table));
-    assert!(rt; ran.image.as_slice() == partitioned(alloc, false, false)?.as_slice());
-    Ok(())
-}
-
-#[test]
-fn a_table_by_another_program(rt: HostRuntime) -> Result<(), Fail> {
-    let alloc = rt.alloc();
-    let guarded = [1, 9, 10, 11, 12, 13, 28, 29, 39];
-    let flash = device(
-        alloc,
-        by_fdisk(alloc)?,
-        &guarded,
-        Vec::new(alloc),
-        Vec::new(alloc),
-    )?;
-    let ran = run_on(alloc, "boot --gpt", "", flash)?;
-    ends(&rt, &ran, 0, BOOT1);
-    assert!(rt; ran.image.as_slice() == by_fdisk(alloc)?.as_slice());
-    Ok(())
-}
-
-#[test]
-fn a_script_behind_a_table(rt: HostRuntime) -> Result<(), Fail> {
-    let alloc = rt.alloc();
-    let script = "show\nboot\nshow\ncut 1 0\nboot\n";
-    let ran = run(alloc, "run --gpt", script, partitioned(alloc, true, true)?)?;
-    ends(
-        &rt,
-        &ran,
-        0,
-        "show off\nboot bank=0 version=1 trials=0 counter=1\nshow active=0 previous=0 banks=accepted,invalid bits=111,000 trials=0 counter=1\ncut ok\nboot bank=0 version=1 trials=0 counter=1\n",
-    );
-    Ok(())
-}
-
-#[test]
-fn a_bad_script_is_refused_before_the_table_is_read(rt: HostRuntime) -> Result<(), Fail> {
-    let alloc = rt.alloc();
-    let ran = run(
-        alloc,
+const ROWS: [Row; 3] = [
+    (true, true, "boot --gpt", "", 0, BOOT1, Note::Nothing),
+    (
+        false,
+        false,
+        "boot --gpt",
+        "",
+        10,
+        "gpt no-table\n",
+        Note::NoTable(NoTable::Table),
+    ),
+    // A bad script is refused before the table is read.
+    (
+        false,
+        true,
         "run --gpt",
         "boot\nbigin\n",
-        partitioned(alloc, false, true)?,
-    )?;
-    ends(&rt, &ran, 4, "bad-script 2\n");
-    assert!(rt; ran.image.as_slice() == partitioned(alloc, false, true)?.as_slice());
-    let usage = run(alloc, "show --gpt", "", partitioned(alloc, false, true)?)?;
-    assert_eq!(rt; usage.status, 1);
-    Ok(())
+        4,
+        "bad-script 2\n",
+        Note::BadLine(2),
+    ),
+];
+
+fn changes_nothing(rt: &impl Abort, alloc: Global, row: &Row) {
+    let (primary, backup, words, script, status, line, note) = *row;
+    let ran = run(
+        rt,
+        alloc,
+        words,
+        script,
+        partitioned(rt, alloc, primary, backup),
+    );
+    ends(rt, &ran, status, line);
+    holds(rt, ran.note == note, line);
+    holds(
+        rt,
+        ran.image == partitioned(rt, alloc, primary, backup),
+        line,
+    );
+}
+
+#[test]
+fn runs_that_change_nothing(rt: HostRuntime) {
+    for row in &ROWS {
+        changes_nothing(&rt, rt.alloc(), row);
+    }
+}
+
+#[test]
+fn no_show_behind_a_table(rt: HostRuntime) {
+    let alloc = rt.alloc();
+    let image = partitioned(&rt, alloc, false, true);
+    let status = run(&rt, alloc, "show --gpt", "", image).status;
+    holds(&rt, status == 1, "show --gpt");
+}
+
+// A boot of this device ends well, and then both headers stand.
+fn is_repaired(rt: &impl Abort, alloc: Global, image: Vec<u8>) {
+    let ran = run(rt, alloc, "boot --gpt", "", image);
+    ends(rt, &ran, 0, BOOT1);
+    holds(rt, has_headers(rt, alloc, ran.image.as_slice()), "headers");
+}
+
+#[test]
+fn a_missing_copy_is_repaired(rt: HostRuntime) {
+    let alloc = rt.alloc();
+    for primary in [false, true] {
+        is_repaired(&rt, alloc, partitioned(&rt, alloc, primary, !primary));
+    }
+}
+
+#[test]
+fn a_table_by_another_program(rt: HostRuntime) {
+    let alloc = rt.alloc();
+    let image = by_fdisk(&rt, alloc);
+    let guarded = &GUARDED_BY_FDISK;
+    let ran = run_guarded(&rt, alloc, "boot --gpt", "", image, guarded, &NOTHING);
+    ends(&rt, &ran, 0, BOOT1);
+    holds(&rt, ran.image == by_fdisk(&rt, alloc), "fdisk");
+}
+
+#[test]
+fn a_script_behind_a_table(rt: HostRuntime) {
+    let alloc = rt.alloc();
+    let script = "show\nboot\nshow\ncut 1 0\nboot\n";
+    let image = partitioned(&rt, alloc, true, true);
+    let ran = run(&rt, alloc, "run --gpt", script, image);
+    let lines =
+        "show off\nboot bank=0 version=1 trials=0 counter=1\nshow active=0 previous=0 banks=accepted,invalid bits=111,000 trials=0 counter=1\ncut ok\nboot bank=0 version=1 trials=0 counter=1\n";
+    ends(&rt, &ran, 0, lines);
+}
+
+// A boot of this device ends by a fault of the flash. What it leaves.
+fn fails(rt: &impl Abort, alloc: Global, image: Vec<u8>, trouble: &Trouble) -> Ran {
+    let ran = run_guarded(rt, alloc, "boot --gpt", "", image, &GUARDED, trouble);
+    ends(rt, &ran, 5, "flash-fault\n");
+    ran
 }
 
 // The calls of the device that fail: the reads of both headers and both arrays of entries.
 #[test]
-fn a_table_that_is_not_read(rt: HostRuntime) -> Result<(), Fail> {
+fn a_table_that_is_not_read(rt: HostRuntime) {
     let alloc = rt.alloc();
-    for call in 1..5 {
-        let faults = [call].to_vec(alloc)?;
-        let image = partitioned(alloc, true, true)?;
-        let flash = device(alloc, image, &GUARDED, Vec::new(alloc), faults)?;
-        let ran = run_on(alloc, "boot --gpt", "", flash)?;
-        ends(&rt, &ran, 5, "flash-fault\n");
-        assert_eq!(rt; ran.note, Note::Nothing);
+    for flash in 1..5 {
+        let trouble = Trouble { flash, ..NOTHING };
+        let image = partitioned(&rt, alloc, true, true);
+        let note = fails(&rt, alloc, image, &trouble).note;
+        holds(&rt, note == Note::Nothing, "a note");
     }
-    Ok(())
 }
 
 // A loss of power at one of the four operations of a repair, and then a boot.
-fn repairs_after(rt: &impl Abort, alloc: Global, primary: bool, cut: Cut) -> Result<(), Fail> {
-    let image = partitioned(alloc, primary, !primary)?;
-    let cuts = [cut].to_vec(alloc)?;
-    let flash = device(alloc, image, &GUARDED, cuts, Vec::new(alloc))?;
-    let lost = run_on(alloc, "boot --gpt", "", flash)?;
-    ends(rt, &lost, 5, "flash-fault\n");
-    let ran = run(alloc, "boot --gpt", "", lost.image)?;
-    ends(rt, &ran, 0, BOOT1);
-    assert!(rt; has_headers(alloc, ran.image.as_slice())?);
-    Ok(())
+fn repairs_after(rt: &impl Abort, alloc: Global, primary: bool, cut: Cut) {
+    let trouble = Trouble { cut, ..NOTHING };
+    let image = partitioned(rt, alloc, primary, !primary);
+    is_repaired(rt, alloc, fails(rt, alloc, image, &trouble).image);
 }
 
 // The same at each operation, after so many bytes, with what was dirty kept or not.
-fn repairs_after_each(rt: &impl Abort, alloc: Global, primary: bool) -> Result<(), Fail> {
+fn repairs_after_each(rt: &impl Abort, alloc: Global, primary: bool) {
     for op in 1..5 {
         for landed in [0, 8, 100, 4096] {
             for back in [false, true] {
-                repairs_after(rt, alloc, primary, Cut { op, landed, back })?;
+                repairs_after(rt, alloc, primary, Cut { op, landed, back });
             }
         }
     }
-    Ok(())
 }
 
 #[test]
-fn a_repair_of_the_primary_survives_each_loss(rt: HostRuntime) -> Result<(), Fail> {
-    repairs_after_each(&rt, rt.alloc(), false)
+fn a_repair_of_the_primary_survives_each_loss(rt: HostRuntime) {
+    repairs_after_each(&rt, rt.alloc(), false);
 }
 
 #[test]
-fn a_repair_of_the_backup_survives_each_loss(rt: HostRuntime) -> Result<(), Fail> {
-    repairs_after_each(&rt, rt.alloc(), true)
+fn a_repair_of_the_backup_survives_each_loss(rt: HostRuntime) {
+    repairs_after_each(&rt, rt.alloc(), true);
 }
 
 // Bytes that are changed in the device, each by its place and hexadecimal digits, with the line and status of a boot.
@@ -396,22 +369,21 @@ const CASES: [Case; 24] = [
 ];
 
 // Changes bytes of the image.
-fn change(alloc: Global, image: &mut Vec<u8>, changes: &str) -> Result<(), Fail> {
+fn change(rt: &impl Abort, alloc: Global, image: &mut Vec<u8>, changes: &str) {
     for part in changes.split(' ') {
-        let (at, digits) = part.split_once(':').ok_or("a place and digits")?;
-        put(alloc, image, at.parse().ok().ok_or("a place")?, digits)?;
+        let (at, digits) = part.split_once(':').expect(rt, "a place and digits");
+        let at: u32 = at.parse().ok().expect(rt, "a place");
+        put(rt, alloc, image, at, digits);
     }
-    Ok(())
 }
 
 #[test]
-fn tables_with_one_part_changed(rt: HostRuntime) -> Result<(), Fail> {
+fn tables_with_one_part_changed(rt: HostRuntime) {
     let alloc = rt.alloc();
     for case in &CASES {
-        let mut image = partitioned(alloc, true, true)?;
-        change(alloc, &mut image, case.changes)?;
-        let ran = run(alloc, "boot --gpt", "", image)?;
+        let mut image = partitioned(&rt, alloc, true, true);
+        change(&rt, alloc, &mut image, case.changes);
+        let ran = run(&rt, alloc, "boot --gpt", "", image);
         ends(&rt, &ran, case.status, case.line);
     }
-    Ok(())
 }

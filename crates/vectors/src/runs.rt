@@ -1,87 +1,169 @@
 //! Runs of the program on flashes in memory.
 ghost use Rattle.std.specs.Prelude.{◌≡◌, IsFalse, None};
+ghost use Rattle.flash_devices.specs.Memory.{is_on, arming_of};
 
 use flash_core::Flash;
 use flash_devices::{Cut, MemoryFlash};
-use host_io::{MemoryFiles, MemorySink, MemorySource};
-use script_cmd::{Done, fwu_top};
-use std::alloc::{AllocError, Global};
-use std::test::Fail;
+use host_io::{MemoryFiles, MemorySink, MemorySource, Sink};
+use script_cmd::{Done, Note, fwu_top};
+use std::alloc::Global;
+use std::process::Abort;
 
-/// What a run left.
+/// What a run left, on a flash that power came back to.
 #[derive(Drop)]
 pub struct Ran {
     pub status: u8,
+    pub note: Note,
     pub printed: Vec<u8>,
     pub image: Vec<u8>,
 }
 
-pub fn words_of(alloc: Global, line: &str) -> Result<Vec<String>, AllocError> {
+/// What stops a run: a cut, or the failure of one call, each by its number from 1 on. Number 0 is none.
+#[derive(Clone, Copy)]
+pub struct Trouble {
+    pub cut: Cut,
+    pub flash: u64,
+    pub source: u64,
+    pub sink: u64,
+}
+
+const NO_CUT: Cut = Cut {
+    op: 0,
+    landed: 0,
+    back: false,
+};
+
+/// Nothing stops the run.
+pub const NOTHING: Trouble = Trouble {
+    cut: NO_CUT,
+    flash: 0,
+    source: 0,
+    sink: 0,
+};
+
+/// Stops the test where this does not hold, and prints what it is of. A call costs its test's proof less than the macro in its place.
+pub fn holds(rt: &impl Abort, is_so: bool, of: &str) {
+    assert!(rt; is_so, "{of}");
+}
+
+/// The words of a line.
+pub fn words_of(rt: &impl Abort, alloc: Global, line: &str) -> Vec<String> {
     let mut words = Vec::new(alloc);
     for word in line.split(' ') {
-        words.push(String::from_str(alloc, word)?)?;
+        let word = String::from_str(alloc, word).expect(rt, "memory");
+        words.push(word).expect(rt, "memory");
     }
-    Ok(words)
+    words
 }
 
-fn left(alloc: Global, status: u8, printed: &[u8], image: &[u8]) -> Result<Ran, AllocError> {
-    let printed = printed.to_vec(alloc)?;
-    Ok(Ran {
-        status,
-        printed,
-        image: image.to_vec(alloc)?,
-    })
+/// A file, by its name.
+pub type Named = (String, Vec<u8>);
+
+/// This file and no other.
+pub fn one_file(rt: &impl Abort, alloc: Global, name: &str, bytes: Vec<u8>) -> Vec<Named> {
+    let mut files = Vec::new(alloc);
+    let name = String::from_str(alloc, name).expect(rt, "memory");
+    files.push((name, bytes)).expect(rt, "memory");
+    files
 }
 
-// The program's end on a flash. What it promises is left out, so that goals stay small.
-fn end_on<D: Flash>(
+// The list of one call.
+fn only(rt: &impl Abort, alloc: Global, call: u64) -> Vec<u64> {
+    Vec::from_slice(alloc, &[call]).expect(rt, "memory")
+}
+
+/// A source of this script, of which the call of this number fails.
+pub fn source_of(rt: &impl Abort, alloc: Global, script: &str, fails: u64) -> MemorySource {
+    let bytes = Vec::from_slice(alloc, script.as_bytes()).expect(rt, "memory");
+    MemorySource::new(bytes, only(rt, alloc, fails))
+}
+
+/// A flash with these bytes, off.
+pub fn flash_of(rt: &impl Abort, alloc: Global, image: Vec<u8>, trouble: &Trouble) -> MemoryFlash
+    ensures off { IsFalse (is_on result) }
+    ensures unarmed { arming_of result ≡ None }
+{
+    let cuts = Vec::from_slice(alloc, &[trouble.cut]).expect(rt, "memory");
+    let faults = only(rt, alloc, trouble.flash);
+    MemoryFlash::from_bytes(alloc, image, cuts, faults).expect(rt, "a flash")
+}
+
+/// The program's end on a flash. What it promises is left out, so that goals stay small.
+pub fn end_on<D: Flash, O: Sink>(
     alloc: Global,
     words: Vec<String>,
-    script: Vec<u8>,
-    files: Vec<(String, Vec<u8>)>,
-    sink: &mut MemorySink,
+    files: Vec<Named>,
+    source: &mut MemorySource,
+    sink: &mut O,
     flash: D,
 ) -> Done<D>
     requires off { IsFalse (D.on flash) }
     requires unarmed { D.arming flash ≡ None }
 {
     let mut files = MemoryFiles::new(alloc, files, Vec::new(alloc));
-    let mut source = MemorySource::new(script, Vec::new(alloc));
-    fwu_top(
-        alloc,
-        words.as_slice(),
-        &mut files,
-        &mut source,
-        sink,
-        flash,
-    )
+    fwu_top(alloc, words.as_slice(), &mut files, source, sink, flash)
 }
 
-/// The program with these words, files and script, on a flash with these bytes and cuts.
+// The bytes of a flash once it has power.
+fn image_of(rt: &impl Abort, alloc: Global, flash: MemoryFlash) -> Vec<u8> {
+    let mut flash = flash;
+    if !flash.is_on() {
+        flash.power_on();
+    }
+    Vec::from_slice(alloc, flash.bytes()).expect(rt, "memory")
+}
+
+/// What a run left that printed these bytes.
+pub fn ran_of(rt: &impl Abort, alloc: Global, done: Done<MemoryFlash>, printed: &[u8]) -> Ran {
+    Ran {
+        status: done.status,
+        note: done.note,
+        printed: Vec::from_slice(alloc, printed).expect(rt, "memory"),
+        image: image_of(rt, alloc, done.flash),
+    }
+}
+
+/// The program with these words, files and source, on a flash, with a sink of which a call fails.
+pub fn run_on(
+    rt: &impl Abort,
+    alloc: Global,
+    words: &str,
+    files: Vec<Named>,
+    source: &mut MemorySource,
+    trouble: &Trouble,
+    flash: MemoryFlash,
+) -> Ran
+    requires off { IsFalse (is_on flash) }
+    requires unarmed { arming_of flash ≡ None }
+{
+    let mut sink = MemorySink::new(alloc, Vec::new(alloc), only(rt, alloc, trouble.sink));
+    let words = words_of(rt, alloc, words);
+    let done = end_on(alloc, words, files, source, &mut sink, flash);
+    ran_of(rt, alloc, done, sink.bytes())
+}
+
+/// The program with these words, this script and these files, on a flash with these bytes.
 pub fn run_with(
+    rt: &impl Abort,
     alloc: Global,
     words: &str,
     script: &str,
-    files: Vec<(String, Vec<u8>)>,
+    files: Vec<Named>,
     image: Vec<u8>,
-    cuts: Vec<Cut>,
-) -> Result<Ran, Fail> {
-    let flash = MemoryFlash::from_bytes(alloc, image, cuts, Vec::new(alloc))?;
-    let words = words_of(alloc, words)?;
-    let script = script.as_bytes().to_vec(alloc)?;
-    let mut sink = MemorySink::new(alloc, Vec::new(alloc), Vec::new(alloc));
-    let done = end_on(alloc, words, script, files, &mut sink, flash);
-    Ok(left(alloc, done.status, sink.bytes(), done.flash.bytes())?)
+    trouble: &Trouble,
+) -> Ran {
+    let mut source = source_of(rt, alloc, script, trouble.source);
+    let flash = flash_of(rt, alloc, image, trouble);
+    run_on(rt, alloc, words, files, &mut source, trouble, flash)
 }
 
-/// The program with these words and this script, and no files and no cuts.
-pub fn run(alloc: Global, words: &str, script: &str, image: Vec<u8>) -> Result<Ran, Fail> {
-    run_with(
-        alloc,
-        words,
-        script,
-        Vec::new(alloc),
-        image,
-        Vec::new(alloc),
-    )
+/// The program with these words and this script, and no files, on a flash with these bytes.
+pub fn run(rt: &impl Abort, alloc: Global, words: &str, script: &str, image: Vec<u8>) -> Ran {
+    run_with(rt, alloc, words, script, Vec::new(alloc), image, &NOTHING)
+}
+
+/// It ended so.
+pub fn ends(rt: &impl Abort, ran: &Ran, status: u8, printed: &str) {
+    let is_so = ran.status == status && ran.printed.as_slice() == printed.as_bytes();
+    assert!(rt; is_so, "{printed}");
 }

@@ -1,308 +1,297 @@
 //! Scripts of boots and power cuts, and the commands beside them.
 use crate::flashes::{
     LAYOUT, LAYOUT_OF_FOUR, LAYOUT_OF_THREE, LIST, MANIFEST, MANIFEST_5, MANIFEST_70000, METADATA,
-    METADATA_OF_FOUR, METADATA_OF_THREE, VERSION_1, blank, flash_of, on_trial, put, two_banks,
+    METADATA_OF_FOUR, METADATA_OF_THREE, VERSION_1, blank, flash_with, on_trial, put, put_metadata,
+    two_banks,
 };
-use crate::runs::{Ran, run, run_with};
+use crate::runs::{NOTHING, Ran, Trouble, ends, holds, one_file, run, run_with};
 use flash_devices::Cut;
 use std::alloc::Global;
 use std::process::Abort;
-use std::test::Fail;
 
-// The script on the image, which ends well and prints this.
-fn prints(
-    rt: &impl Abort,
-    alloc: Global,
-    image: Vec<u8>,
-    script: &str,
-    printed: &str,
-) -> Result<Ran, Fail> {
-    let ran = run(alloc, "run", script, image)?;
-    assert_eq!(rt; ran.printed.as_slice(), printed.as_bytes());
-    assert_eq!(rt; ran.status, 0);
-    Ok(ran)
+// The flash that a script begins with.
+#[derive(Clone, Copy)]
+enum Start {
+    TwoBanks,
+    ThreeBanks,
+    FourBanks,
+    // The manifest has version 70,000.
+    Wide,
+    // The manifest has version 5.
+    Fifth,
+    // Replica 0 with one bit changed.
+    Torn,
+    // Metadata of version 1 in both replicas.
+    Old,
+    OnTrial,
+    // The same with a mark of a start behind a blank granule.
+    Marked,
 }
 
-// Replica 0 of the flash with one bit changed.
-fn torn_replica(alloc: Global) -> Result<Vec<u8>, Fail> {
-    let mut image = two_banks(alloc)?;
-    put(alloc, &mut image, 4096, "fd")?;
-    Ok(image)
+// 289 bytes without data, as digits.
+const FREE: &str =
+    "ffffffffffffffffffffffffffffffffffffffffffffffffffffffffffffffffffffffffffffffffffffffffffffffffffffffffffffffffffffffffffffffffffffffffffffffffffffffffffffffffffffffffffffffffffffffffffffffffffffffffffffffffffffffffffffffffffffffffffffffffffffffffffffffffffffffffffffffffffffffffffffffffffffffffffffffffffffffffffffffffffffffffffffffffffffffffffffffffffffffffffffffffffffffffffffffffffffffffffffffffffffffffffffffffffffffffffffffffffffffffffffffffffffffffffffffffffffffffffffffffffffffffffffffffffffffffffffffffffffffffffffffffffffffffffffffffffffffffffffffffffffffffffffffffff";
+
+fn old_metadata(rt: &impl Abort, alloc: Global) -> Vec<u8> {
+    let mut image = two_banks(rt, alloc);
+    put_metadata(rt, alloc, &mut image, FREE);
+    put_metadata(rt, alloc, &mut image, VERSION_1);
+    image
 }
 
-// Version 1 in both replicas.
-fn old_metadata(alloc: Global) -> Result<Vec<u8>, Fail> {
-    let mut image = two_banks(alloc)?;
-    for replica in [1, 2] {
-        for row in 0..17 {
-            put(
-                alloc,
-                &mut image,
-                replica * 4096 + row * 17,
-                "ffffffffffffffffffffffffffffffffff",
-            )?;
-        }
-        put(alloc, &mut image, replica * 4096, VERSION_1)?;
+// A flash with other bytes at a place.
+fn changed(rt: &impl Abort, alloc: Global, image: Vec<u8>, at: u32, digits: &str) -> Vec<u8> {
+    let mut image = image;
+    put(rt, alloc, &mut image, at, digits);
+    image
+}
+
+// Two banks with this manifest, and no mark of the counter.
+fn with_manifest(rt: &impl Abort, alloc: Global, manifest: &str) -> Vec<u8> {
+    flash_with(rt, alloc, 22, LAYOUT, METADATA, manifest)
+}
+
+fn three_banks(rt: &impl Abort, alloc: Global) -> Vec<u8> {
+    flash_with(rt, alloc, 29, LAYOUT_OF_THREE, METADATA_OF_THREE, MANIFEST)
+}
+
+fn four_banks(rt: &impl Abort, alloc: Global) -> Vec<u8> {
+    flash_with(rt, alloc, 36, LAYOUT_OF_FOUR, METADATA_OF_FOUR, MANIFEST)
+}
+
+fn marked(rt: &impl Abort, alloc: Global) -> Vec<u8> {
+    let mark = "00000000000000000000000000000000";
+    changed(rt, alloc, on_trial(rt, alloc), 12304, mark)
+}
+
+fn image_of(rt: &impl Abort, alloc: Global, start: Start) -> Vec<u8> {
+    match start {
+        Start::TwoBanks => two_banks(rt, alloc),
+        Start::ThreeBanks => three_banks(rt, alloc),
+        Start::FourBanks => four_banks(rt, alloc),
+        Start::Wide => with_manifest(rt, alloc, MANIFEST_70000),
+        Start::Fifth => with_manifest(rt, alloc, MANIFEST_5),
+        Start::Torn => changed(rt, alloc, two_banks(rt, alloc), 4096, "fd"),
+        Start::Old => old_metadata(rt, alloc),
+        Start::OnTrial => on_trial(rt, alloc),
+        Start::Marked => marked(rt, alloc),
     }
-    Ok(image)
 }
 
-#[test]
-fn a_boot_and_a_show(rt: HostRuntime) -> Result<(), Fail> {
-    let alloc = rt.alloc();
-    prints(
-        &rt,
-        alloc,
-        two_banks(alloc)?,
+// Scripts that end well, with what they print.
+const ROWS: [(Start, &str, &str); 10] = [
+    (
+        Start::TwoBanks,
         "boot\nshow\n",
         "boot bank=0 version=1 trials=0 counter=1\nshow active=0 previous=0 banks=accepted,invalid bits=111,000 trials=0 counter=1\n",
-    )?;
-    let three = flash_of(alloc, 29, LAYOUT_OF_THREE, METADATA_OF_THREE, MANIFEST)?;
-    prints(
-        &rt,
-        alloc,
-        three,
+    ),
+    (
+        Start::ThreeBanks,
         "boot\nshow\n",
         "boot bank=0 version=1 trials=0 counter=1\nshow active=0 previous=0 banks=accepted,invalid,invalid bits=111,000,000 trials=0 counter=1\n",
-    )?;
-    let four = flash_of(alloc, 36, LAYOUT_OF_FOUR, METADATA_OF_FOUR, MANIFEST)?;
-    prints(
-        &rt,
-        alloc,
-        four,
+    ),
+    (
+        Start::FourBanks,
         "boot\nshow\n",
         "boot bank=0 version=1 trials=0 counter=1\nshow active=0 previous=0 banks=accepted,invalid,invalid,invalid bits=111,000,000,000 trials=0 counter=1\n",
-    )?;
-    let wide = flash_of(alloc, 22, LAYOUT, METADATA, MANIFEST_70000)?;
-    prints(
-        &rt,
-        alloc,
-        wide,
+    ),
+    (
+        Start::Wide,
         "boot\n",
         "boot bank=0 version=70000 trials=0 counter=70000\n",
-    )?;
-    Ok(())
-}
-
-#[test]
-fn nothing_is_on(rt: HostRuntime) -> Result<(), Fail> {
-    let alloc = rt.alloc();
-    prints(
-        &rt,
-        alloc,
-        two_banks(alloc)?,
+    ),
+    // Nothing is on.
+    (
+        Start::TwoBanks,
         "# nothing is on\n\ncut 1 0\nshow\n",
         "cut ok\nshow off\n",
-    )?;
-    prints(&rt, alloc, two_banks(alloc)?, "", "")?;
-    Ok(())
-}
-
-#[test]
-fn a_bad_script_changes_nothing(rt: HostRuntime) -> Result<(), Fail> {
-    let alloc = rt.alloc();
-    let ran = run(alloc, "run", "boot\nbegin\nbigin\n", two_banks(alloc)?)?;
-    assert_eq!(rt; ran.printed.as_slice(), b"bad-script 3\n".as_slice());
-    assert_eq!(rt; ran.status, 4);
-    assert!(rt; ran.image == two_banks(alloc)?);
-    Ok(())
-}
-
-#[test]
-fn a_cut_within_a_repair(rt: HostRuntime) -> Result<(), Fail> {
-    let alloc = rt.alloc();
-    let ran = prints(
-        &rt,
-        alloc,
-        torn_replica(alloc)?,
-        "cut 2 100\nboot\nboot\n",
-        "cut ok\nboot lost\nboot bank=0 version=1 trials=0 counter=1\n",
-    )?;
-    assert!(rt; ran.image == two_banks(alloc)?);
-    Ok(())
-}
-
-#[test]
-fn a_cut_within_a_raise(rt: HostRuntime) -> Result<(), Fail> {
-    let alloc = rt.alloc();
-    let image = flash_of(alloc, 22, LAYOUT, METADATA, MANIFEST_5)?;
-    prints(
-        &rt,
-        alloc,
-        image.clone()?,
+    ),
+    (Start::TwoBanks, "", ""),
+    // A cut within a raise of the counter.
+    (
+        Start::Fifth,
         "cut 3 8\nboot\nboot\n",
         "cut ok\nboot bank=0 version=5 trials=0 counter=5\nboot bank=0 version=5 trials=0 counter=5\n",
-    )?;
-    prints(
-        &rt,
-        alloc,
-        image,
+    ),
+    (
+        Start::Fifth,
         "cut 2 8\nboot\nboot\n",
         "cut ok\nboot lost\nboot bank=0 version=5 trials=0 counter=5\n",
-    )?;
-    Ok(())
-}
-
-#[test]
-fn three_trials_and_a_fallback(rt: HostRuntime) -> Result<(), Fail> {
-    let alloc = rt.alloc();
-    prints(
-        &rt,
-        alloc,
-        on_trial(alloc)?,
+    ),
+    // Three trials and a fallback.
+    (
+        Start::OnTrial,
         "boot\nboot\nboot\nboot\nboot\n",
         "boot bank=1 version=2 trials=1 counter=1\nboot bank=1 version=2 trials=2 counter=1\nboot bank=1 version=2 trials=3 counter=1\nboot bank=0 version=1 trials=3 counter=1 fallback\nboot bank=0 version=1 trials=3 counter=1 fallback\n",
-    )?;
-    Ok(())
-}
-
-// A mark behind a blank granule: the mark that a start adds joins them, and the trials are what a read then counts.
-#[test]
-fn trials_are_counted_anew(rt: HostRuntime) -> Result<(), Fail> {
-    let alloc = rt.alloc();
-    let mut image = on_trial(alloc)?;
-    put(alloc, &mut image, 12304, "00000000000000000000000000000000")?;
-    prints(
-        &rt,
-        alloc,
-        image,
+    ),
+    // The mark that a start adds joins the one behind a blank granule, and the trials are what a read then counts.
+    (
+        Start::Marked,
         "boot\nshow\nboot\nboot\n",
         "boot bank=1 version=2 trials=2 counter=1\nshow active=1 previous=0 banks=accepted,valid bits=111,000 trials=2 counter=1\nboot bank=1 version=2 trials=3 counter=1\nboot bank=0 version=1 trials=3 counter=1 fallback\n",
-    )?;
-    Ok(())
+    ),
+];
+
+#[test]
+fn scripts_print_their_lines(rt: HostRuntime) {
+    let alloc = rt.alloc();
+    for (start, script, printed) in &ROWS {
+        let ran = run(&rt, alloc, "run", script, image_of(&rt, alloc, *start));
+        ends(&rt, &ran, 0, printed);
+    }
+}
+
+// A command, what comes to its source, the status, what is printed, and the flash that is left.
+type Leaving = (Start, &'static str, &'static str, u8, &'static str, Start);
+
+const LEAVINGS: [Leaving; 4] = [
+    // A bad script changes nothing.
+    (
+        Start::TwoBanks,
+        "run",
+        "boot\nbegin\nbigin\n",
+        4,
+        "bad-script 3\n",
+        Start::TwoBanks,
+    ),
+    // A cut within a repair.
+    (
+        Start::Torn,
+        "run",
+        "cut 2 100\nboot\nboot\n",
+        0,
+        "cut ok\nboot lost\nboot bank=0 version=1 trials=0 counter=1\n",
+        Start::TwoBanks,
+    ),
+    // A cut within a migration.
+    (
+        Start::Old,
+        "run",
+        "cut 3 4096\nboot\nboot\n",
+        0,
+        "cut ok\nboot lost\nboot bank=0 version=1 trials=0 counter=1\n",
+        Start::TwoBanks,
+    ),
+    // The flash is shown.
+    (
+        Start::OnTrial,
+        "show",
+        "",
+        0,
+        "show active=1 previous=0 banks=accepted,valid bits=111,000 trials=0 counter=1\n",
+        Start::OnTrial,
+    ),
+];
+
+fn leaves(rt: &impl Abort, alloc: Global, left: &Leaving) {
+    let (start, words, script, status, printed, end) = *left;
+    let ran = run(rt, alloc, words, script, image_of(rt, alloc, start));
+    ends(rt, &ran, status, printed);
+    holds(rt, ran.image == image_of(rt, alloc, end), printed);
 }
 
 #[test]
-fn a_cut_within_a_migration(rt: HostRuntime) -> Result<(), Fail> {
-    let alloc = rt.alloc();
-    let ran = prints(
-        &rt,
-        alloc,
-        old_metadata(alloc)?,
-        "cut 3 4096\nboot\nboot\n",
-        "cut ok\nboot lost\nboot bank=0 version=1 trials=0 counter=1\n",
-    )?;
-    assert!(rt; ran.image == two_banks(alloc)?);
-    Ok(())
+fn commands_leave_this_flash(rt: HostRuntime) {
+    for left in &LEAVINGS {
+        leaves(&rt, rt.alloc(), left);
+    }
+}
+
+#[test]
+fn a_blank_flash_is_shown(rt: HostRuntime) {
+    let ran = run(&rt, rt.alloc(), "show", "", blank(&rt, rt.alloc(), 8));
+    ends(&rt, &ran, 6, "show bad-layout 2\n");
+}
+
+// Whether a text ends with one of these lines.
+fn ends_with_one(text: &[u8], lines: &[&str]) -> bool {
+    for line in lines {
+        if text.ends_with(line.as_bytes()) {
+            return true;
+        }
+    }
+    false
 }
 
 // Whether two boots with this cut end well, and their last line is one of these.
-fn comes_back(alloc: Global, image: &Vec<u8>, cut: Cut, lines: &[&str]) -> Result<bool, Fail> {
-    let cuts = [cut].to_vec(alloc)?;
-    let image = image.clone()?;
-    let ran = run_with(alloc, "run", "boot\nboot\n", Vec::new(alloc), image, cuts)?;
-    let printed = ran.printed.as_slice();
-    Ok(ran.status == 0 && lines.iter().any(|line| printed.ends_with(line.as_bytes())))
+fn comes_back(rt: &impl Abort, alloc: Global, image: Vec<u8>, cut: Cut, lines: &[&str]) -> bool {
+    let trouble = Trouble { cut, ..NOTHING };
+    let files = Vec::new(alloc);
+    let ran = run_with(rt, alloc, "run", "boot\nboot\n", files, image, &trouble);
+    ran.status == 0 && ends_with_one(ran.printed.as_slice(), lines)
 }
 
-// Two boots with a cut at each erase or program, after so many bytes, with what was dirty kept or not: the last line is one of these.
-fn cut_everywhere(
-    rt: &impl Abort,
-    alloc: Global,
-    image: &Vec<u8>,
-    lines: &[&str],
-) -> Result<(), Fail> {
-    for op in 1..7u64 {
-        for landed in [0, 8, 100, 4096] {
-            for back in [false, true] {
-                let cut = Cut { op, landed, back };
-                assert!(rt;
-                    comes_back(alloc, image, cut, lines)?,
-                    "operation {op} after {landed}"
-                );
-            }
+// Stops the test where this does not hold.
+fn holds_at(rt: &impl Abort, is_so: bool, cut: Cut) {
+    let Cut { op, landed, back } = cut;
+    assert!(rt; is_so, "operation {op} after {landed}, {back}");
+}
+
+// Two boots with a cut at an erase or program, after so many bytes, with what was dirty kept or not: the last line is one of these.
+fn cut_at(rt: &impl Abort, alloc: Global, start: Start, op: u64, lines: &[&str]) {
+    for landed in [0, 8, 100, 4096] {
+        for back in [false, true] {
+            let cut = Cut { op, landed, back };
+            let image = image_of(rt, alloc, start);
+            holds_at(rt, comes_back(rt, alloc, image, cut, lines), cut);
         }
     }
-    Ok(())
 }
 
-#[test]
-fn cuts_at_every_operation(rt: HostRuntime) -> Result<(), Fail> {
-    let alloc = rt.alloc();
-    let first = "boot bank=0 version=1 trials=0 counter=1\n";
-    cut_everywhere(&rt, alloc, &torn_replica(alloc)?, &[first])?;
-    cut_everywhere(&rt, alloc, &old_metadata(alloc)?, &[first])?;
-    let fifth = flash_of(alloc, 22, LAYOUT, METADATA, MANIFEST_5)?;
-    cut_everywhere(
-        &rt,
-        alloc,
-        &fifth,
+// Flashes, and the last lines of two boots with a cut. The mark of the start that was cut counts or not. A cut at the second mark ends
+// the second boot.
+const CUTS: [(Start, &[&str]); 4] = [
+    (Start::Torn, &["boot bank=0 version=1 trials=0 counter=1\n"]),
+    (Start::Old, &["boot bank=0 version=1 trials=0 counter=1\n"]),
+    (
+        Start::Fifth,
         &["boot bank=0 version=5 trials=0 counter=5\n"],
-    )?;
-    // The mark of the start that was cut counts or not. A cut at the second mark ends the second boot.
-    cut_everywhere(
-        &rt,
-        alloc,
-        &on_trial(alloc)?,
+    ),
+    (
+        Start::OnTrial,
         &[
             "boot bank=1 version=2 trials=1 counter=1\n",
             "boot bank=1 version=2 trials=2 counter=1\n",
             "boot bank=1 version=2 trials=1 counter=1\nboot lost\n",
         ],
-    )?;
-    Ok(())
-}
+    ),
+];
 
 #[test]
-fn the_flash_is_shown(rt: HostRuntime) -> Result<(), Fail> {
-    let alloc = rt.alloc();
-    let ran = run(alloc, "show", "", on_trial(alloc)?)?;
-    assert_eq!(rt;
-        ran.printed.as_slice(),
-        b"show active=1 previous=0 banks=accepted,valid bits=111,000 trials=0 counter=1\n".as_slice()
-    );
-    assert_eq!(rt; ran.status, 0);
-    assert!(rt; ran.image == on_trial(alloc)?);
-    let ran = run(alloc, "show", "", blank(alloc, 8)?)?;
-    assert_eq!(rt; ran.printed.as_slice(), b"show bad-layout 2\n".as_slice());
-    assert_eq!(rt; ran.status, 6);
-    Ok(())
-}
-
-// A boot by a list of these lines.
-fn boot_by_list(alloc: Global, list: &str) -> Result<Ran, Fail> {
-    let mut files = Vec::new(alloc);
-    files.push((
-        String::from_str(alloc, "list")?,
-        list.as_bytes().to_vec(alloc)?,
-    ))?;
-    run_with(
-        alloc,
-        "--allow list boot",
-        "",
-        files,
-        two_banks(alloc)?,
-        Vec::new(alloc),
-    )
-}
-
-// The first of these lists by which a boot ends in another way.
-fn other_boot<'a>(alloc: Global, cases: &[(&'a str, u8, &str)]) -> Result<Option<&'a str>, Fail> {
-    for (list, status, line) in cases {
-        let ran = boot_by_list(alloc, list)?;
-        if ran.status != *status || ran.printed.as_slice() != line.as_bytes() {
-            return Ok(Some(*list));
+fn cuts_at_every_operation(rt: HostRuntime) {
+    for (start, lines) in &CUTS {
+        for op in 1..7 {
+            cut_at(&rt, rt.alloc(), *start, op, lines);
         }
     }
-    Ok(None)
+}
+
+// Lists, by which a boot ends with this status and this line.
+const LISTS: [(&str, u8, &str); 3] = [
+    (LIST, 0, "boot bank=0 version=1 trials=0 counter=1\n"),
+    ("", 6, "boot no-bank active=0 previous=0\n"),
+    ("00\n", 13, "bad-list 1\n"),
+];
+
+// A boot by a list of these lines.
+fn boot_by_list(rt: &impl Abort, alloc: Global, list: &str) -> Ran {
+    let bytes = Vec::from_slice(alloc, list.as_bytes()).expect(rt, "memory");
+    let files = one_file(rt, alloc, "list", bytes);
+    let image = two_banks(rt, alloc);
+    run_with(rt, alloc, "--allow list boot", "", files, image, &NOTHING)
 }
 
 #[test]
-fn a_list_says_which_manifests_pass(rt: HostRuntime) -> Result<(), Fail> {
-    let cases = [
-        (LIST, 0, "boot bank=0 version=1 trials=0 counter=1\n"),
-        ("", 6, "boot no-bank active=0 previous=0\n"),
-        ("00\n", 13, "bad-list 1\n"),
-    ];
-    assert_eq!(rt; other_boot(rt.alloc(), &cases)?, None);
-    Ok(())
-}
-
-#[test]
-fn a_list_that_is_not_there_is_a_fault(rt: HostRuntime) -> Result<(), Fail> {
+fn a_list_says_which_manifests_pass(rt: HostRuntime) {
     let alloc = rt.alloc();
-    let ran = run(alloc, "--allow none boot", "", two_banks(alloc)?)?;
-    assert_eq!(rt; ran.printed.as_slice(), b"read-fault\n".as_slice());
-    assert_eq!(rt; ran.status, 2);
-    Ok(())
+    for (list, status, line) in &LISTS {
+        ends(&rt, &boot_by_list(&rt, alloc, list), *status, line);
+    }
+}
+
+#[test]
+fn a_list_that_is_not_there_is_a_fault(rt: HostRuntime) {
+    let alloc = rt.alloc();
+    let ran = run(&rt, alloc, "--allow none boot", "", two_banks(&rt, alloc));
+    ends(&rt, &ran, 2, "read-fault\n");
 }

@@ -3,7 +3,7 @@ ghost use Rattle.std.specs.Prelude.{◌+◌, ◌≤◌};
 
 use crate::flashes::{blank, put, two_banks};
 use std::alloc::Global;
-use std::test::Fail;
+use std::process::Abort;
 
 // The tables of four entries come from demo/make_table.py, which writes them from UEFI's layout by Python's struct, uuid and zlib.
 
@@ -50,20 +50,20 @@ fn put_flash(image: &mut Vec<u8>, store: usize, flash: &[u8])
 }
 
 /// The flash of `two_banks` in a device of 40 blocks with these copies of a table.
-pub fn partitioned(alloc: Global, primary: bool, backup: bool) -> Result<Vec<u8>, Fail> {
-    let mut image = blank(alloc, 40)?;
+pub fn partitioned(rt: &impl Abort, alloc: Global, primary: bool, backup: bool) -> Vec<u8> {
+    let mut image = blank(rt, alloc, 40);
     for place in [2, 38] {
         put_zeros(&mut image, 4096 * place, 512);
-        put(alloc, &mut image, 4096 * place as u32, ENTRIES)?;
+        put(rt, alloc, &mut image, 4096 * place as u32, ENTRIES);
     }
     if primary {
-        put(alloc, &mut image, 4096, PRIMARY)?;
+        put(rt, alloc, &mut image, 4096, PRIMARY);
     }
     if backup {
-        put(alloc, &mut image, 39 * 4096, BACKUP)?;
+        put(rt, alloc, &mut image, 39 * 4096, BACKUP);
     }
-    put_flash(&mut image, 3, two_banks(alloc)?.as_slice());
-    Ok(image)
+    put_flash(&mut image, 3, two_banks(rt, alloc).as_slice());
+    image
 }
 
 // The bytes of a table of 128 entries that are not zero, by their places. It was made by fdisk of util-linux 2.38.1, on a file of
@@ -107,11 +107,11 @@ const BY_FDISK: [(u32, &str); 10] = [
 ];
 
 /// The same flash behind the table that fdisk made: the store from block 6 on, and the replicas in blocks 28 and 29.
-pub fn by_fdisk(alloc: Global) -> Result<Vec<u8>, Fail> {
-    let mut image = vec![in alloc; 0; 163_840]?;
-    for (at, digits) in BY_FDISK {
-        put(alloc, &mut image, at, digits)?;
+pub fn by_fdisk(rt: &impl Abort, alloc: Global) -> Vec<u8> {
+    let mut image = vec![in alloc; 0; 163_840].expect(rt, "memory");
+    for (at, digits) in &BY_FDISK {
+        put(rt, alloc, &mut image, *at, digits);
     }
-    put_flash(&mut image, 6, two_banks(alloc)?.as_slice());
-    Ok(image)
+    put_flash(&mut image, 6, two_banks(rt, alloc).as_slice());
+    image
 }
