@@ -1,10 +1,9 @@
 //! Power is lost at each erase and program of an update.
-use crate::runs::{Bench, Ran, Trouble, run_with};
+use crate::runs::{Bench, NOTHING, TWO_BANKS, Trouble, boot, holds};
 use crate::texts::expand;
 use flash_devices::Cut;
 use std::alloc::Global;
 use std::process::Abort;
-use std::test::Fail;
 
 // A script with a loss of power, once at each erase or program up to a number, after each of these numbers of bytes.
 #[derive(Clone, Copy)]
@@ -154,6 +153,22 @@ const SENDING_AGAIN: [(u64, u32, &str); 3] = [
     ),
 ];
 
+const AGAIN: Sweep = Sweep {
+    script: SEND_AGAIN,
+    back: false,
+    operations: 15,
+    front: "boot bank=1 version=2 trials=0 counter=2\nsend lost\n",
+    ends: &SENDING_AGAIN,
+};
+
+const SENDINGS_AGAIN: [Sweep; 2] = [
+    AGAIN,
+    Sweep {
+        back: true,
+        ..AGAIN
+    },
+];
+
 // The lines behind the first ones, after a loss at an operation.
 fn end_at(ends: &[(u64, u32, &'static str)], op: u64, landed: u32) -> &'static str {
     let mut last = "";
@@ -165,115 +180,100 @@ fn end_at(ends: &[(u64, u32, &'static str)], op: u64, landed: u32) -> &'static s
     last
 }
 
-// The script with the loss.
-fn run_cut(alloc: Global, bench: &Bench, sweep: &Sweep, op: u64, landed: u32) -> Result<Ran, Fail> {
-    match sweep.script.split_once("CUT") {
-        Some((before, behind)) => {
-            let script = format!(in alloc; "{before}cut {op} {landed}{behind}")?;
-            bench.run(alloc, script.as_str(), Trouble::Nothing)
-        }
-        None => {
-            let back = sweep.back;
-            bench.run(alloc, sweep.script, Trouble::Cut(Cut { op, landed, back }))
-        }
-    }
+// Whether the script with the loss ends well.
+fn survives(rt: &impl Abort, alloc: Global, bench: &Bench, sweep: &Sweep, cut: Cut) -> bool {
+    let Cut {
+        op,
+        landed,
+        back: _,
+    } = cut;
+    let line = format!(in alloc; "cut {op} {landed}").expect(rt, "memory");
+    let script = sweep.script.replace(alloc, "CUT", line.as_str());
+    let script = script.expect(rt, "memory");
+    let trouble = if sweep.script.contains("CUT") {
+        NOTHING
+    } else {
+        Trouble { cut, ..NOTHING }
+    };
+    let end = end_at(sweep.ends, op, landed);
+    bench.is_between(rt, alloc, script.as_str(), &trouble, sweep.front, end)
 }
 
-// Whether the run with the loss ends well, with these lines.
-fn ends_so(
-    alloc: Global,
-    bench: &Bench,
-    sweep: &Sweep,
-    op: u64,
-    landed: u32,
-) -> Result<bool, Fail> {
-    let ran = run_cut(alloc, bench, sweep, op, landed)?;
-    let front = expand(alloc, sweep.front)?;
-    let end = expand(alloc, end_at(sweep.ends, op, landed))?;
-    let printed = ran.printed.as_slice();
-    Ok(
-        ran.status == 0
-            && printed.starts_with(front.as_bytes())
-            && printed.ends_with(end.as_bytes()),
-    )
-}
-
-fn each_loss(rt: &impl Abort, alloc: Global, bench: &Bench, sweep: &Sweep) -> Result<(), Fail> {
+fn each_loss(rt: &impl Abort, alloc: Global, bench: &Bench, sweep: &Sweep) {
+    let back = sweep.back;
     for op in 1..sweep.operations.saturating_add(1) {
         for landed in LANDED {
-            assert!(rt;
-                ends_so(alloc, bench, sweep, op, landed)?,
-                "{}: operation {op} after {landed}, {}",
-                sweep.script,
-                sweep.back
-            );
+            let cut = Cut { op, landed, back };
+            let is_so = survives(rt, alloc, bench, sweep, cut);
+            holds_at(rt, is_so, sweep.script, cut);
         }
     }
-    Ok(())
+}
+
+// Stops the test where this does not hold.
+fn holds_at(rt: &impl Abort, is_so: bool, script: &str, cut: Cut) {
+    let Cut { op, landed, back } = cut;
+    assert!(rt; is_so, "{script}: operation {op} after {landed}, {back}");
 }
 
 #[test]
-fn a_staging_survives_each_loss(rt: HostRuntime) -> Result<(), Fail> {
+fn a_staging_survives_each_loss(rt: HostRuntime) {
     let alloc = rt.alloc();
-    let bench = Bench::counted(alloc)?;
-    for sweep in STAGING {
-        each_loss(&rt, alloc, &bench, &sweep)?;
+    let mut bench = Bench::new(&rt, alloc, TWO_BANKS);
+    bench.mark_counter(&rt);
+    for sweep in &STAGING {
+        each_loss(&rt, alloc, &bench, sweep);
     }
-    Ok(())
 }
 
 #[test]
-fn a_sending_survives_each_loss(rt: HostRuntime) -> Result<(), Fail> {
+fn a_sending_survives_each_loss(rt: HostRuntime) {
     let alloc = rt.alloc();
-    let bench = Bench::new(alloc, 2)?;
-    for sweep in SENDING {
-        each_loss(&rt, alloc, &bench, &sweep)?;
+    let bench = Bench::new(&rt, alloc, TWO_BANKS);
+    for sweep in &SENDING {
+        each_loss(&rt, alloc, &bench, sweep);
     }
-    Ok(())
 }
+
+// What accepts an update.
+const ACCEPTED: &str =
+    "boot\nsend p2.fip trial\nboot\naccept manifest\naccept tb-fw\naccept nt-fw\nboot\n";
 
 #[test]
-fn a_sending_over_a_package_survives_each_loss(rt: HostRuntime) -> Result<(), Fail> {
+fn a_sending_over_a_package_survives_each_loss(rt: HostRuntime) {
     let alloc = rt.alloc();
-    let mut bench = Bench::new(alloc, 2)?;
-    let updated = bench.run(
-        alloc,
-        "boot\nsend p2.fip trial\nboot\naccept manifest\naccept tb-fw\naccept nt-fw\nboot\n",
-        Trouble::Nothing,
-    )?;
-    bench.flash = updated.image;
-    for back in [false, true] {
-        let sweep = Sweep {
-            script: SEND_AGAIN,
-            back,
-            operations: 15,
-            front: "boot bank=1 version=2 trials=0 counter=2\nsend lost\n",
-            ends: &SENDING_AGAIN,
-        };
-        each_loss(&rt, alloc, &bench, &sweep)?;
+    let mut bench = Bench::new(&rt, alloc, TWO_BANKS);
+    bench.flash = bench.run(&rt, alloc, ACCEPTED, &NOTHING).image;
+    for sweep in &SENDINGS_AGAIN {
+        each_loss(&rt, alloc, &bench, sweep);
     }
-    Ok(())
 }
 
-// What an end prints where it is lost, at an operation after so many bytes, and the replica that the next boot repairs then.
+// Scripts with an end that is lost at an operation after so many bytes, and what they print. The next boot repairs the other replica.
 const ENDS: [(&str, &str); 3] = [
-    ("cut 2 100", "BOOT1\n"),
-    ("cut 2 4096", "boot bank=1 version=2 trials=1 counter=1\n"),
-    ("cut 3 2000", "boot bank=1 version=2 trials=1 counter=1\n"),
+    (
+        "boot\nSTAGE p2\ncut 2 100\nend\nboot\n",
+        "BOOT1\nSTAGED\ncut ok\nend lost\nBOOT1\n",
+    ),
+    (
+        "boot\nSTAGE p2\ncut 2 4096\nend\nboot\n",
+        "BOOT1\nSTAGED\ncut ok\nend lost\nboot bank=1 version=2 trials=1 counter=1\n",
+    ),
+    (
+        "boot\nSTAGE p2\ncut 3 2000\nend\nboot\n",
+        "BOOT1\nSTAGED\ncut ok\nend lost\nboot bank=1 version=2 trials=1 counter=1\n",
+    ),
 ];
 
 #[test]
-fn a_boot_after_a_lost_end_repairs_the_other_replica(rt: HostRuntime) -> Result<(), Fail> {
+fn a_boot_after_a_lost_end_repairs_the_other_replica(rt: HostRuntime) {
     let alloc = rt.alloc();
-    let bench = Bench::new(alloc, 2)?;
-    for (cut, line) in ENDS {
-        let script = format!(in alloc; "boot\nSTAGE p2\n{cut}\nend\nboot\n")?;
-        let lines = format!(in alloc; "BOOT1\nSTAGED\ncut ok\nend lost\n{line}")?;
-        let ran = bench.prints(&rt, alloc, script.as_str(), 0, lines.as_str())?;
-        let image = ran.image.as_slice();
-        assert!(rt; image.get(4096..8192) == image.get(8192..12288), "{cut}");
+    let bench = Bench::new(&rt, alloc, TWO_BANKS);
+    for (script, lines) in &ENDS {
+        let left = bench.prints(&rt, alloc, script, 0, lines).image;
+        let image = left.as_slice();
+        holds(&rt, image.get(4096..8192) == image.get(8192..12288), script);
     }
-    Ok(())
 }
 
 // Scripts of whole updates, each with its erases and programs, and the last lines that may come after a loss at any of them.
@@ -309,43 +309,53 @@ const UPDATES: [(&str, u64, &[&str]); 4] = [
 ];
 
 // Whether a text ends with one of these lines.
-fn ends_with_one(alloc: Global, text: &[u8], lines: &[&str]) -> Result<bool, Fail> {
+fn ends_with_one(rt: &impl Abort, alloc: Global, text: &[u8], lines: &[&str]) -> bool {
     for line in lines {
-        if text.ends_with(expand(alloc, line)?.as_bytes()) {
-            return Ok(true);
+        if text.ends_with(expand(rt, alloc, line).as_bytes()) {
+            return true;
         }
     }
-    Ok(false)
+    false
 }
 
 // The script with the loss ends well, with one of these lines, and then the flash boots.
 fn comes_back(
+    rt: &impl Abort,
     alloc: Global,
     bench: &Bench,
     script: &str,
     cut: Cut,
     lines: &[&str],
-) -> Result<bool, Fail> {
-    let ran = bench.run(alloc, script, Trouble::Cut(cut))?;
-    let booted = run_with(alloc, "boot", "", &[], &ran.image, Trouble::Nothing)?;
-    let is_allowed = ends_with_one(alloc, ran.printed.as_slice(), lines)?;
-    Ok(ran.status == 0 && is_allowed && booted.status == 0)
+) -> bool {
+    let ran = bench.run(rt, alloc, script, &Trouble { cut, ..NOTHING });
+    let booted = boot(rt, alloc, ran.image.as_slice());
+    let is_allowed = ends_with_one(rt, alloc, ran.printed.as_slice(), lines);
+    ran.status == 0 && is_allowed && booted.status == 0
+}
+
+// Power is lost at an operation of a script, after several numbers of bytes.
+fn each_return(
+    rt: &impl Abort,
+    alloc: Global,
+    bench: &Bench,
+    script: &str,
+    op: u64,
+    lines: &[&str],
+) {
+    for (landed, back) in [(0, true), (8, false), (100, true), (4096, false)] {
+        let cut = Cut { op, landed, back };
+        let is_so = comes_back(rt, alloc, bench, script, cut, lines);
+        holds_at(rt, is_so, script, cut);
+    }
 }
 
 #[test]
-fn a_whole_update_survives_each_loss(rt: HostRuntime) -> Result<(), Fail> {
+fn a_whole_update_survives_each_loss(rt: HostRuntime) {
     let alloc = rt.alloc();
-    let bench = Bench::new(alloc, 2)?;
-    for (script, operations, lines) in UPDATES {
+    let bench = Bench::new(&rt, alloc, TWO_BANKS);
+    for (script, operations, lines) in &UPDATES {
         for op in 1..operations.saturating_add(1) {
-            for (landed, back) in [(0, true), (8, false), (100, true), (4096, false)] {
-                let cut = Cut { op, landed, back };
-                assert!(rt;
-                    comes_back(alloc, &bench, script, cut, lines)?,
-                    "{script}: operation {op} after {landed}"
-                );
-            }
+            each_return(&rt, alloc, &bench, script, op, lines);
         }
     }
-    Ok(())
 }

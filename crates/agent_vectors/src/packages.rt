@@ -1,7 +1,7 @@
 //! The bytes of packages and capsules. They come from demo/make_packages.py, which writes them from docs/FORMATS.md by Python's
 //! struct, uuid and hashlib.
 use std::alloc::Global;
-use std::test::Fail;
+use std::process::Abort;
 
 /// The header and the table of a package of a manifest, `abc` and `hello`, which follow.
 pub const TABLE: &str =
@@ -58,55 +58,61 @@ pub const OTHER_CAPSULE: &str =
 /// A file, by its name.
 pub type Named = (String, Vec<u8>);
 
-// The packages with a table, a manifest and images.
-const PACKAGES: [(&str, [&str; 3]); 6] = [
-    ("p0.fip", [TABLE, MANIFEST_0, "61626368656c6c6f"]),
-    ("p1.fip", [TABLE, MANIFEST_1, "61626368656c6c6f"]),
-    ("p2.fip", [TABLE, MANIFEST_2, "61626368656c6c6f"]),
-    ("p5.fip", [TABLE, MANIFEST_5, "61626368656c6c6f"]),
-    ("p2x.fip", [TABLE, MANIFEST_2, "61626468656c6c6f"]),
-    ("empty.fip", [EMPTY_TABLE, EMPTY_MANIFEST, "68656c6c6f"]),
-];
+/// The parts of the package of version 2.
+pub const PACKAGE_2: [&str; 3] = [TABLE, MANIFEST_2, "61626368656c6c6f"];
 
-const OTHERS: [(&str, &str); 4] = [
-    ("a.fip", ALONE),
-    ("extra.fip", EXTRA),
-    ("p2.cap", CAPSULE),
-    ("other.cap", OTHER_CAPSULE),
+// The files that are digits alone, each with its parts.
+const FILES: [(&str, &[&str]); 10] = [
+    ("p0.fip", &[TABLE, MANIFEST_0, "61626368656c6c6f"]),
+    ("p1.fip", &[TABLE, MANIFEST_1, "61626368656c6c6f"]),
+    ("p2.fip", &PACKAGE_2),
+    ("p5.fip", &[TABLE, MANIFEST_5, "61626368656c6c6f"]),
+    ("p2x.fip", &[TABLE, MANIFEST_2, "61626468656c6c6f"]),
+    ("empty.fip", &[EMPTY_TABLE, EMPTY_MANIFEST, "68656c6c6f"]),
+    ("a.fip", &[ALONE]),
+    ("extra.fip", &[EXTRA]),
+    ("p2.cap", &[CAPSULE]),
+    ("other.cap", &[OTHER_CAPSULE]),
 ];
 
 /// How many bytes the long image has.
 pub const LONG: u32 = 4145;
 
 /// Bytes of the long image, from a place on.
-pub fn pattern(alloc: Global, at: u32, count: u32) -> Result<Vec<u8>, Fail> {
+pub fn pattern(rt: &impl Abort, alloc: Global, at: u32, count: u32) -> Vec<u8> {
     let mut bytes = Vec::new(alloc);
     for index in 0..count {
         let place = at.wrapping_add(index);
-        bytes.push((place.wrapping_mul(7).wrapping_add(2) % 256) as u8)?;
+        let byte = (place.wrapping_mul(7).wrapping_add(2) % 256) as u8;
+        bytes.push(byte).expect(rt, "memory");
     }
-    Ok(bytes)
+    bytes
 }
 
-fn joined(alloc: Global, parts: &[&str]) -> Result<Vec<u8>, Fail> {
-    let mut bytes = Vec::new(alloc);
-    for part in parts {
-        bytes.extend_from_slice(hex::decode(alloc, *part)?.as_slice())?;
-    }
-    Ok(bytes)
+/// The bytes of these digits.
+pub fn joined(rt: &impl Abort, alloc: Global, parts: &[&str]) -> Vec<u8> {
+    let digits = parts.concat(alloc).expect(rt, "memory");
+    hex::decode(alloc, digits.as_str()).expect(rt, "digits")
+}
+
+/// Adds a file.
+pub fn add_file(rt: &impl Abort, alloc: Global, files: &mut Vec<Named>, name: &str, bytes: &[u8]) {
+    let name = String::from_str(alloc, name).expect(rt, "memory");
+    let bytes = bytes.to_vec(alloc).expect(rt, "memory");
+    files.push((name, bytes)).expect(rt, "memory");
 }
 
 /// The packages and capsules of the rows.
-pub fn packages(alloc: Global) -> Result<Vec<Named>, Fail> {
+pub fn packages(rt: &impl Abort, alloc: Global) -> Vec<Named> {
     let mut files = Vec::new(alloc);
-    for (name, parts) in PACKAGES {
-        files.push((String::from_str(alloc, name)?, joined(alloc, &parts)?))?;
+    for (name, parts) in &FILES {
+        let bytes = joined(rt, alloc, parts);
+        add_file(rt, alloc, &mut files, name, bytes.as_slice());
     }
-    for (name, digits) in OTHERS {
-        files.push((String::from_str(alloc, name)?, hex::decode(alloc, digits)?))?;
-    }
-    let mut long = joined(alloc, &[LONG_TABLE, LONG_MANIFEST, "616263"])?;
-    long.extend_from_slice(pattern(alloc, 0, LONG)?.as_slice())?;
-    files.push((String::from_str(alloc, "long.fip")?, long))?;
-    Ok(files)
+    let mut long = joined(rt, alloc, &[LONG_TABLE, LONG_MANIFEST, "616263"]);
+    let image = pattern(rt, alloc, 0, LONG);
+    long.extend_from_slice(image.as_slice())
+        .expect(rt, "memory");
+    add_file(rt, alloc, &mut files, "long.fip", long.as_slice());
+    files
 }

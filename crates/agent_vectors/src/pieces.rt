@@ -1,117 +1,81 @@
 //! Images that are written and read in pieces.
 use crate::packages::{LONG, pattern};
-use crate::runs::{Bench, Trouble};
+use crate::runs::{Bench, NOTHING, TWO_BANKS, all_leave, all_print};
 use std::alloc::Global;
 use std::process::Abort;
-use std::test::Fail;
 
 // Where the long image stands, in bank 1: behind ten blocks and a bank of seven.
 const SLOT: usize = 18 * 4096;
 
-// Lengths of writes that make up the long image.
-const PIECES: [&[u32]; 5] = [
-    &[4096, 49],
-    &[1, 15, 16, 17, 4096],
-    &[17, 0, 4079, 16, 33],
-    &[4095, 2, 15, 1, 32],
-    &[15, 4096, 34],
+const SEND: &str = "boot\nsend long.fip now\nboot\n";
+
+const SENT: &str =
+    "BOOT1\nsend SUCCESS images=3 skipped=0\nboot bank=1 version=2 trials=0 counter=2\n";
+
+// Writes that make up the long image, and what they print.
+const WRITES: [(&str, &str); 5] = [
+    (
+        "boot\nSTAGE front of long\nopen nt-fw w\nwrite 1 LONG 0 4096\nwrite 1 LONG 4096 49\ncommit 1 now\nend\nboot\n",
+        "BOOT1\nbegin SUCCESS\nopen SUCCESS handle=1\nwrite SUCCESS\ncommit SUCCESS\nopen SUCCESS handle=1\nwrite SUCCESS\ncommit SUCCESS\nopen SUCCESS handle=1\nwrite SUCCESS\nwrite SUCCESS\ncommit SUCCESS\nend SUCCESS\nboot bank=1 version=2 trials=0 counter=2\n",
+    ),
+    (
+        "boot\nSTAGE front of long\nopen nt-fw w\nwrite 1 LONG 0 1\nwrite 1 LONG 1 15\nwrite 1 LONG 16 16\nwrite 1 LONG 32 17\nwrite 1 LONG 49 4096\ncommit 1 now\nend\nboot\n",
+        "BOOT1\nbegin SUCCESS\nopen SUCCESS handle=1\nwrite SUCCESS\ncommit SUCCESS\nopen SUCCESS handle=1\nwrite SUCCESS\ncommit SUCCESS\nopen SUCCESS handle=1\nwrite SUCCESS\nwrite SUCCESS\nwrite SUCCESS\nwrite SUCCESS\nwrite SUCCESS\ncommit SUCCESS\nend SUCCESS\nboot bank=1 version=2 trials=0 counter=2\n",
+    ),
+    (
+        "boot\nSTAGE front of long\nopen nt-fw w\nwrite 1 LONG 0 17\nwrite 1 -\nwrite 1 LONG 17 4079\nwrite 1 LONG 4096 16\nwrite 1 LONG 4112 33\ncommit 1 now\nend\nboot\n",
+        "BOOT1\nbegin SUCCESS\nopen SUCCESS handle=1\nwrite SUCCESS\ncommit SUCCESS\nopen SUCCESS handle=1\nwrite SUCCESS\ncommit SUCCESS\nopen SUCCESS handle=1\nwrite SUCCESS\nwrite SUCCESS\nwrite SUCCESS\nwrite SUCCESS\nwrite SUCCESS\ncommit SUCCESS\nend SUCCESS\nboot bank=1 version=2 trials=0 counter=2\n",
+    ),
+    (
+        "boot\nSTAGE front of long\nopen nt-fw w\nwrite 1 LONG 0 4095\nwrite 1 LONG 4095 2\nwrite 1 LONG 4097 15\nwrite 1 LONG 4112 1\nwrite 1 LONG 4113 32\ncommit 1 now\nend\nboot\n",
+        "BOOT1\nbegin SUCCESS\nopen SUCCESS handle=1\nwrite SUCCESS\ncommit SUCCESS\nopen SUCCESS handle=1\nwrite SUCCESS\ncommit SUCCESS\nopen SUCCESS handle=1\nwrite SUCCESS\nwrite SUCCESS\nwrite SUCCESS\nwrite SUCCESS\nwrite SUCCESS\ncommit SUCCESS\nend SUCCESS\nboot bank=1 version=2 trials=0 counter=2\n",
+    ),
+    (
+        "boot\nSTAGE front of long\nopen nt-fw w\nwrite 1 LONG 0 15\nwrite 1 LONG 15 4096\nwrite 1 LONG 4111 34\ncommit 1 now\nend\nboot\n",
+        "BOOT1\nbegin SUCCESS\nopen SUCCESS handle=1\nwrite SUCCESS\ncommit SUCCESS\nopen SUCCESS handle=1\nwrite SUCCESS\ncommit SUCCESS\nopen SUCCESS handle=1\nwrite SUCCESS\nwrite SUCCESS\nwrite SUCCESS\ncommit SUCCESS\nend SUCCESS\nboot bank=1 version=2 trials=0 counter=2\n",
+    ),
 ];
 
-// Lengths of reads of the long image, the last of them behind its end.
-const ROOMS: [&[u32]; 3] = [
-    &[1, 15, 4080, 16, 4096, 1],
-    &[4090, 4096, 4096],
-    &[4096, 0, 48, 1, 1],
-];
-
-// The lines that write the long image in these pieces.
-fn push_writes(alloc: Global, script: &mut String, pieces: &[u32]) -> Result<(), Fail> {
-    let mut at = 0u32;
-    for count in pieces {
-        let line = match count {
-            0 => format!(in alloc; "write 1 -\n")?,
-            _ => format!(in alloc; "write 1 LONG {at} {count}\n")?,
-        };
-        script.push_str(line.as_str())?;
-        at = at.wrapping_add(*count);
-    }
-    Ok(())
-}
-
-// The lines that read it so, and what they print.
-fn push_reads(
-    alloc: Global,
-    script: &mut String,
-    lines: &mut String,
-    rooms: &[u32],
-) -> Result<(), Fail> {
-    let mut at = 0u32;
-    for room in rooms {
-        script.push_str(format!(in alloc; "read 1 {room}\n")?.as_str())?;
-        let count = LONG.saturating_sub(at).min(*room);
-        let line = match count {
-            0 => format!(in alloc; "read SUCCESS total={LONG} -\n")?,
-            _ => format!(in alloc; "read SUCCESS total={LONG} LONG {at} {count}\n")?,
-        };
-        lines.push_str(line.as_str())?;
-        at = at.wrapping_add(count);
-    }
-    Ok(())
-}
-
-// Written in these pieces, the long image is on the flash as after a sending.
-fn is_written(alloc: Global, bench: &Bench, pieces: &[u32], image: &[u8]) -> Result<bool, Fail> {
-    let mut script = String::from_str(alloc, "boot\nSTAGE front of long\nopen nt-fw w\n")?;
-    push_writes(alloc, &mut script, pieces)?;
-    script.push_str("commit 1 now\nend\nboot\n")?;
-    let ran = bench.run(alloc, script.as_str(), Trouble::Nothing)?;
-    let is_booted = ran.printed.as_slice().ends_with(
-        b"commit SUCCESS\nend SUCCESS\nboot bank=1 version=2 trials=0 counter=2\n",
-    );
-    Ok(is_booted && ran.image.as_slice() == image)
-}
-
-#[test]
-fn an_image_is_written_in_pieces(rt: HostRuntime) -> Result<(), Fail> {
-    let alloc = rt.alloc();
-    let bench = Bench::new(alloc, 2)?;
-    let sent = bench.prints(
-        &rt,
-        alloc,
-        "boot\nsend long.fip now\nboot\n",
+// Reads of the long image, the last of them behind its end, and what they print.
+const READS: [(&str, u8, &str); 3] = [
+    (
+        "boot\nopen nt-fw r\nread 1 1\nread 1 15\nread 1 4080\nread 1 16\nread 1 4096\nread 1 1\n",
         0,
-        "BOOT1\nsend SUCCESS images=3 skipped=0\nboot bank=1 version=2 trials=0 counter=2\n",
-    )?;
-    let long = pattern(alloc, 0, LONG)?;
+        "boot bank=1 version=2 trials=0 counter=2\nopen SUCCESS handle=1\nread SUCCESS total=4145 LONG 0 1\nread SUCCESS total=4145 LONG 1 15\nread SUCCESS total=4145 LONG 16 4080\nread SUCCESS total=4145 LONG 4096 16\nread SUCCESS total=4145 LONG 4112 33\nread SUCCESS total=4145 -\n",
+    ),
+    (
+        "boot\nopen nt-fw r\nread 1 4090\nread 1 4096\nread 1 4096\n",
+        0,
+        "boot bank=1 version=2 trials=0 counter=2\nopen SUCCESS handle=1\nread SUCCESS total=4145 LONG 0 4090\nread SUCCESS total=4145 LONG 4090 55\nread SUCCESS total=4145 -\n",
+    ),
+    (
+        "boot\nopen nt-fw r\nread 1 4096\nread 1 0\nread 1 48\nread 1 1\nread 1 1\n",
+        0,
+        "boot bank=1 version=2 trials=0 counter=2\nopen SUCCESS handle=1\nread SUCCESS total=4145 LONG 0 4096\nread SUCCESS total=4145 -\nread SUCCESS total=4145 LONG 4096 48\nread SUCCESS total=4145 LONG 4144 1\nread SUCCESS total=4145 -\n",
+    ),
+];
+
+// Whether the long image stands in its slot, and behind it nothing up to a whole granule.
+fn has_long(rt: &impl Abort, alloc: Global, image: &[u8]) -> bool {
+    let long = pattern(rt, alloc, 0, LONG);
     let end = SLOT + LONG as usize;
-    assert!(rt; sent.image.as_slice().get(SLOT..end) == Some(long.as_slice()));
-    assert!(rt; sent.image.as_slice().get(end..end + 15) == Some([0xFF; 15].as_slice()));
-    for pieces in PIECES {
-        assert!(rt;
-            is_written(alloc, &bench, pieces, sent.image.as_slice())?,
-            "{pieces:?}"
-        );
-    }
-    Ok(())
+    let is_there = image.get(SLOT..end) == Some(long.as_slice());
+    is_there && image.get(end..end + 15) == Some([0xFF; 15].as_slice())
 }
 
 #[test]
-fn an_image_is_read_in_pieces(rt: HostRuntime) -> Result<(), Fail> {
+fn an_image_is_written_in_pieces(rt: HostRuntime) {
     let alloc = rt.alloc();
-    let bench = Bench::new(alloc, 2)?;
-    let sent = bench.run(alloc, "boot\nsend long.fip now\nboot\n", Trouble::Nothing)?;
-    let bench = Bench {
-        files: Vec::new(alloc),
-        flash: sent.image,
-    };
-    for rooms in ROOMS {
-        let mut script = String::from_str(alloc, "boot\nopen nt-fw r\n")?;
-        let mut lines = String::from_str(
-            alloc,
-            "boot bank=1 version=2 trials=0 counter=2\nopen SUCCESS handle=1\n",
-        )?;
-        push_reads(alloc, &mut script, &mut lines, rooms)?;
-        bench.prints(&rt, alloc, script.as_str(), 0, lines.as_str())?;
-    }
-    Ok(())
+    let bench = Bench::new(&rt, alloc, TWO_BANKS);
+    let sent = bench.prints(&rt, alloc, SEND, 0, SENT).image;
+    assert!(rt; has_long(&rt, alloc, sent.as_slice()));
+    all_leave(&rt, alloc, &bench, sent.as_slice(), &WRITES);
+}
+
+#[test]
+fn an_image_is_read_in_pieces(rt: HostRuntime) {
+    let alloc = rt.alloc();
+    let mut bench = Bench::new(&rt, alloc, TWO_BANKS);
+    bench.flash = bench.run(&rt, alloc, SEND, &NOTHING).image;
+    all_print(&rt, alloc, &bench, &READS);
 }

@@ -1,7 +1,5 @@
 //! Updates, from their first call to their acceptance.
-use crate::runs::{Bench, Trouble};
-use std::process::Abort;
-use std::test::Fail;
+use crate::runs::{Bench, NOTHING, TWO_BANKS, all_print};
 
 // Scripts on a flash that was formatted, with what they print and the status.
 const ROWS: [(&str, u8, &str); 14] = [
@@ -90,13 +88,9 @@ const ROWS: [(&str, u8, &str); 14] = [
 ];
 
 #[test]
-fn rows_of_updates(rt: HostRuntime) -> Result<(), Fail> {
+fn rows_of_updates(rt: HostRuntime) {
     let alloc = rt.alloc();
-    let bench = Bench::new(alloc, 2)?;
-    for (script, status, lines) in ROWS {
-        bench.prints(&rt, alloc, script, status, lines)?;
-    }
-    Ok(())
+    all_print(&rt, alloc, &Bench::new(&rt, alloc, TWO_BANKS), &ROWS);
 }
 
 // What comes first, the place of the byte that is changed then, in tb-fw of a bank, and what follows, with its status.
@@ -136,15 +130,12 @@ const CHANGES: [(&str, usize, &str, u8, &str); 4] = [
 ];
 
 #[test]
-fn an_image_that_changed_on_the_flash(rt: HostRuntime) -> Result<(), Fail> {
+fn an_image_that_changed_on_the_flash(rt: HostRuntime) {
     let alloc = rt.alloc();
-    for (before, place, script, status, lines) in CHANGES {
-        let mut bench = Bench::new(alloc, 2)?;
-        bench.flash = bench.run(alloc, before, Trouble::Nothing)?.image;
-        if let Some(byte) = bench.flash.as_mut_slice().get_mut(place) {
-            *byte = 0;
-        }
-        bench.prints(&rt, alloc, script, status, lines)?;
+    for (before, place, script, status, lines) in &CHANGES {
+        let mut bench = Bench::new(&rt, alloc, TWO_BANKS);
+        bench.flash = bench.run(&rt, alloc, before, &NOTHING).image;
+        bench.clear(&rt, *place, 1);
+        bench.prints(&rt, alloc, script, *status, lines);
     }
-    Ok(())
 }
