@@ -1,89 +1,101 @@
 //! A flash over a file: of the system, in memory, at a cursor, with short writes, torn in mid-stream, and broken. Block 3 begins at
 //! byte 12288.
 
-ghost use Rattle.std.specs.Prelude.{◌≡◌, IfOk, IsTrue};
-ghost use Rattle.flash_devices.specs.File.{is_on, block_count};
-
-use crate::fixtures::{image, same};
+use crate::fixtures::{arm, erase, gives, holds, image, only, power_on, put, read, same};
 use flash_core::{Flash, FlashStop};
 use flash_devices::{ByteFile, FileFlash, FlashOpenFault, MemoryFile};
-use std::alloc::{AllocError, Global};
+use std::alloc::Global;
 use std::fs::{self, File};
 use std::io::{self, Cursor, ErrorKind, Read, Seek, SeekFrom, Write};
 use std::process::Abort;
-use std::test::Fail;
 
-// A device of eight blocks, on.
-fn switched_on<F: ByteFile + Drop>(file: F) -> Result<FileFlash<F>, Fail>
-    ensures power { IfOk result (λ flash. IsTrue (is_on flash)) }
-    ensures size { IfOk result (λ flash. block_count flash ≡ 8) }
-{
-    let mut flash = FileFlash::open(file)?;
-    flash.power_on();
-    if flash.blocks() != 8 {
-        return Err(Fail::from("eight blocks"));
-    }
-    Ok(flash)
+// A device over a file, on.
+fn switched_on<F: ByteFile + Drop>(rt: &impl Abort, file: F) -> FileFlash<F> {
+    let mut flash = FileFlash::open(file).expect(rt, "a flash");
+    power_on(rt, &mut flash);
+    flash
+}
+
+// Programs a granule behind the first blocks of a device of eight.
+fn program<F: ByteFile>(
+    rt: &impl Abort,
+    flash: &mut FileFlash<F>,
+    at: u32,
+    bytes: &[u8; 16],
+) -> Result<(), FlashStop> {
+    holds(rt, flash.is_on() && flash.blocks() == 8, "it is ready");
+    holds(rt, at >= 12_288 && at <= 28_672 && at % 16 == 0, "a place");
+    flash.program(at, bytes)
+}
+
+fn barrier<F: ByteFile>(rt: &impl Abort, flash: &mut FileFlash<F>) -> Result<(), FlashStop> {
+    holds(rt, flash.is_on(), "power is on");
+    flash.barrier()
+}
+
+// Writes two granules of block 3, and loses power within a third one.
+fn programmed<F: ByteFile>(rt: &impl Abort, flash: &mut FileFlash<F>) {
+    same(rt, program(rt, flash, 12304, &[7; 16]), Ok(()));
+    same(rt, barrier(rt, flash), Ok(()));
+    let wanted = [0xFF, 7, 7, 7, 7, 7, 7, 7, 7, 7, 7, 7, 7, 7, 7, 7, 7, 0xFF];
+    gives(rt, flash, 12303, &wanted);
+    arm(rt, flash, 2, 3);
+    same(rt, program(rt, flash, 12320, &[6; 16]), Ok(()));
+    let end = program(rt, flash, 12288, &[5; 16]);
+    same(rt, end, Err(FlashStop::Lost));
 }
 
 // Erases block 3, writes two granules of it, and loses power within a third one.
-fn worked<F: ByteFile + Drop>(rt: &impl Abort, file: F) -> Result<F, Fail> {
-    let mut flash = switched_on(file)?;
-    flash.erase(3)?;
-    flash.program(12304, &[7; 16])?;
-    flash.barrier()?;
-    let mut bytes = [1; 18];
-    flash.read(12303, &mut bytes)?;
-    assert_eq!(rt;
-        bytes,
-        [0xFF, 7, 7, 7, 7, 7, 7, 7, 7, 7, 7, 7, 7, 7, 7, 7, 7, 0xFF]
-    );
-    flash.arm(2, 3);
-    flash.program(12320, &[6; 16])?;
-    same(rt, flash.program(12288, &[5; 16]), Err(FlashStop::Lost));
+fn worked<F: ByteFile + Drop>(rt: &impl Abort, file: F) -> F {
+    let mut flash = switched_on(rt, file);
+    same(rt, erase(rt, &mut flash, 3), Ok(()));
+    programmed(rt, &mut flash);
     let counts = flash.counts();
     same(rt, (counts.made, counts.reached, counts.faults), (1, 1, 0));
     same(rt, flash.is_on(), false);
-    Ok(flash.into_file())
+    flash.into_file()
+}
+
+// 32768 zero bytes.
+fn zeros(rt: &impl Abort, alloc: Global) -> Vec<u8> {
+    image(rt, alloc, 0, 32768)
 }
 
 // What is left of 32768 zero bytes.
-fn left(alloc: Global) -> Result<Vec<u8>, AllocError> {
-    let mut bytes = image(alloc, 0, 12288)?;
-    bytes.extend_from_slice(&[5; 3])?;
-    bytes.extend_from_slice(&[0xFF; 13])?;
-    bytes.extend_from_slice(&[7; 16])?;
-    bytes.extend_from_slice(&[6; 16])?;
-    bytes.extend_from_slice(&image(alloc, 0xFF, 4048)?)?;
-    bytes.extend_from_slice(&image(alloc, 0, 16384)?)?;
-    Ok(bytes)
+fn is_left(rt: &impl Abort, alloc: Global, bytes: &[u8]) -> bool {
+    let mut left = zeros(rt, alloc);
+    let blank = image(rt, alloc, 0xFF, 4096);
+    put(rt, left.as_mut_slice(), 12288, blank.as_slice());
+    put(rt, left.as_mut_slice(), 12288, &[5; 3]);
+    put(rt, left.as_mut_slice(), 12304, &[7; 16]);
+    put(rt, left.as_mut_slice(), 12320, &[6; 16]);
+    bytes == left.as_slice()
 }
 
 #[test]
-fn a_file_of_the_system_is_a_flash(rt: HostRuntime) -> Result<(), Fail> {
+fn a_file_of_the_system_is_a_flash(rt: HostRuntime) {
     let name = "file_flash_test.bin";
-    fs::write(&rt, name, image(rt.alloc(), 0, 32768)?.as_slice())?;
-    let file = File::options().read(true).write(true).open(&rt, name)?;
-    worked(&rt, file)?;
-    let bytes = fs::read(&rt, name)?;
-    fs::remove_file(&rt, name)?;
-    assert!(rt; bytes == left(rt.alloc())?);
-    Ok(())
+    let before = zeros(&rt, rt.alloc());
+    fs::write(&rt, name, before.as_slice()).expect(&rt, "written");
+    let file = File::options().read(true).write(true).open(&rt, name);
+    worked(&rt, file.expect(&rt, "opened"));
+    let bytes = fs::read(&rt, name).expect(&rt, "read");
+    fs::remove_file(&rt, name).expect(&rt, "removed");
+    holds(&rt, is_left(&rt, rt.alloc(), bytes.as_slice()), name);
 }
 
 #[test]
-fn a_file_in_memory_is_a_flash(rt: HostRuntime) -> Result<(), Fail> {
-    let file = MemoryFile::new(image(rt.alloc(), 0, 32768)?, Vec::new(rt.alloc()));
-    let file = worked(&rt, file)?;
-    assert!(rt; file.bytes() == left(rt.alloc())?.as_slice());
-    Ok(())
+fn a_file_in_memory_is_a_flash(rt: HostRuntime) {
+    let alloc = rt.alloc();
+    let file = worked(&rt, MemoryFile::new(zeros(&rt, alloc), Vec::new(alloc)));
+    holds(&rt, is_left(&rt, alloc, file.bytes()), "what is left");
 }
 
 #[test]
-fn a_cursor_is_a_flash(rt: HostRuntime) -> Result<(), Fail> {
-    let file = worked(&rt, Cursor::new(image(rt.alloc(), 0, 32768)?))?;
-    assert!(rt; file.into_inner() == left(rt.alloc())?);
-    Ok(())
+fn a_cursor_is_a_flash(rt: HostRuntime) {
+    let alloc = rt.alloc();
+    let bytes = worked(&rt, Cursor::new(zeros(&rt, alloc))).into_inner();
+    holds(&rt, is_left(&rt, alloc, bytes.as_slice()), "what is left");
 }
 
 // A file that takes few bytes at a time, and after so many bytes fails.
@@ -132,34 +144,39 @@ fn slow(bytes: Vec<u8>, most: usize, fails_after: usize) -> SlowFile {
 }
 
 #[test]
-fn short_reads_and_writes_are_gone_on_with(rt: HostRuntime) -> Result<(), Fail> {
-    let file = worked(&rt, slow(image(rt.alloc(), 0, 32768)?, 7, 1_000_000))?;
-    assert!(rt; file.inner.into_inner() == left(rt.alloc())?);
-    Ok(())
+fn short_reads_and_writes_are_gone_on_with(rt: HostRuntime) {
+    let alloc = rt.alloc();
+    let file = worked(&rt, slow(zeros(&rt, alloc), 7, 1_000_000));
+    let bytes = file.inner.into_inner();
+    holds(&rt, is_left(&rt, alloc, bytes.as_slice()), "what is left");
 }
 
 #[test]
-fn a_write_that_fails_in_mid_stream_is_a_fault(rt: HostRuntime) -> Result<(), Fail> {
-    let mut flash = switched_on(slow(image(rt.alloc(), 0, 32768)?, 64, 100))?;
-    same(&rt, flash.erase(3), Err(FlashStop::Failed));
+fn a_write_that_fails_in_mid_stream_is_a_fault(rt: HostRuntime) {
+    let alloc = rt.alloc();
+    let mut flash = switched_on(&rt, slow(zeros(&rt, alloc), 64, 100));
+    same(&rt, erase(&rt, &mut flash, 3), Err(FlashStop::Failed));
     same(&rt, (flash.is_on(), flash.counts().faults), (false, 1));
-    let mut bytes = image(rt.alloc(), 0, 12288)?;
-    bytes.extend_from_slice(&image(rt.alloc(), 0xFF, 100)?)?;
-    bytes.extend_from_slice(&image(rt.alloc(), 0, 20380)?)?;
-    assert!(rt; flash.into_file().inner.into_inner() == bytes);
-    Ok(())
+    let mut bytes = zeros(&rt, alloc);
+    let erased = image(&rt, alloc, 0xFF, 100);
+    put(&rt, bytes.as_mut_slice(), 12288, erased.as_slice());
+    let left = flash.into_file().inner.into_inner();
+    holds(&rt, left == bytes, "what is left");
 }
 
 #[test]
-fn a_listed_call_of_a_file_in_memory_fails(rt: HostRuntime) -> Result<(), Fail> {
-    let fails = [3].to_vec(rt.alloc())?;
-    let mut flash = switched_on(MemoryFile::new(image(rt.alloc(), 0xFF, 32768)?, fails))?;
-    flash.barrier()?;
-    same(&rt, flash.program(16384, &[5; 16]), Err(FlashStop::Failed));
+fn a_listed_call_of_a_file_in_memory_fails(rt: HostRuntime) {
+    let alloc = rt.alloc();
+    let blank = image(&rt, alloc, 0xFF, 32768);
+    let file = MemoryFile::new(blank, only(&rt, alloc, 3));
+    let mut flash = switched_on(&rt, file);
+    same(&rt, barrier(&rt, &mut flash), Ok(()));
+    let end = program(&rt, &mut flash, 16384, &[5; 16]);
+    same(&rt, end, Err(FlashStop::Failed));
     same(&rt, flash.counts().faults, 1);
+    let blank = image(&rt, alloc, 0xFF, 32768);
     let file = flash.into_file();
-    assert!(rt; file.bytes() == image(rt.alloc(), 0xFF, 32768)?.as_slice());
-    Ok(())
+    holds(&rt, file.bytes() == blank.as_slice(), "what is left");
 }
 
 // A file of so many bytes, of which nothing can be read or written.
@@ -195,15 +212,13 @@ fn a_file_of_seven_blocks_is_refused(rt: HostRuntime) {
 }
 
 #[test]
-fn an_error_of_the_file_is_a_fault(rt: HostRuntime) -> Result<(), Fail> {
-    let mut flash = FileFlash::open(Broken(32768))?;
-    flash.power_on();
-    assert_eq!(rt; flash.read(0, &mut [0; 2]), Err(FlashStop::Failed));
-    flash.power_on();
-    assert_eq!(rt; flash.erase(0), Err(FlashStop::Failed));
-    flash.power_on();
-    assert_eq!(rt; flash.barrier(), Err(FlashStop::Failed));
-    assert_eq!(rt; flash.counts().faults, 3);
-    assert!(rt; !flash.is_on());
-    Ok(())
+fn an_error_of_the_file_is_a_fault(rt: HostRuntime) {
+    let mut flash = switched_on(&rt, Broken(32768));
+    let failed = Err(FlashStop::Failed);
+    same(&rt, read(&rt, &mut flash, 0, &mut [0; 2]), failed);
+    power_on(&rt, &mut flash);
+    same(&rt, erase(&rt, &mut flash, 0), failed);
+    power_on(&rt, &mut flash);
+    same(&rt, barrier(&rt, &mut flash), failed);
+    same(&rt, (flash.counts().faults, flash.is_on()), (3, false));
 }

@@ -1,13 +1,17 @@
 //! Layout blocks and metadata: their bytes, their first faults, and their parts.
 
+ghost use Rattle.std.specs.Prelude.{◌<◌, [], length, slice_index_or};
+
 use crate::fixtures::{
-    METADATA, TYPES, boot_type, manifest_type, normal_type, row, same, three_rows,
+    METADATA, TYPES, boot_type, holds, image, manifest_type, normal_type, put, row, same, stands,
+    three_rows,
 };
-use base_core::{crc32, le32_at, put_le32};
+use base_core::{ImageRow, crc32, put_le32};
 use meta_layout::{
     BankBits, BankState, Bits, Layout, LayoutFault, Meta, MetaFault, States, directory_guid,
 };
-use std::test::Fail;
+use std::alloc::Global;
+use std::process::Abort;
 
 /// The first 32 bytes of the block of the layout below, with a checksum that zlib computed.
 const LAYOUT_HEAD: [u8; 32] = [
@@ -15,77 +19,103 @@ const LAYOUT_HEAD: [u8; 32] = [
     0, 0, 0, 0, 0, 0, 0, 0, 0,
 ];
 
-fn layout_of(banks: u32) -> Option<Layout> {
-    Layout::make(&three_rows(), banks, 36).ok()
+fn layout_of(rt: &impl Abort, banks: u32) -> Layout {
+    Layout::make(&three_rows(), banks, 36).expect(rt, "a layout")
+}
+
+// A row's bytes behind those of its type.
+fn put_row(rt: &impl Abort, block: &mut [u8], at: usize, guid: &[u8; 16], blocks: u8) {
+    put(rt, block, at, guid);
+    put(
+        rt,
+        block,
+        at.saturating_add(16),
+        &[blocks, 0, 0, 0, 0, 0, 0, 0],
+    );
 }
 
 /// The block of this layout with two banks.
-fn layout_block() -> [u8; 4096] {
-    let mut block = [0; 4096];
-    block[..32].copy_from_slice(&LAYOUT_HEAD);
-    block[32..48].copy_from_slice(&TYPES[0]);
-    block[48..56].copy_from_slice(&[1, 0, 0, 0, 0, 0, 0, 0]);
-    block[56..72].copy_from_slice(&TYPES[1]);
-    block[72..80].copy_from_slice(&[2, 0, 0, 0, 0, 0, 0, 0]);
-    block[80..96].copy_from_slice(&TYPES[2]);
-    block[96..104].copy_from_slice(&[4, 0, 0, 0, 0, 0, 0, 0]);
+fn layout_block(rt: &impl Abort, alloc: Global) -> Vec<u8> {
+    let mut bytes = image(rt, alloc, 0, 4096);
+    let block = bytes.as_mut_slice();
+    put(rt, block, 0, &LAYOUT_HEAD);
+    put_row(rt, block, 32, &TYPES[0], 1);
+    put_row(rt, block, 56, &TYPES[1], 2);
+    put_row(rt, block, 80, &TYPES[2], 4);
+    bytes
+}
+
+// The layout that these bytes are.
+fn layout_in(rt: &impl Abort, bytes: &[u8]) -> Layout {
+    Layout::read(bytes, 22).expect(rt, "a layout")
+}
+
+#[test]
+fn a_layout_is_read_from_its_bytes(rt: HostRuntime) {
+    let block = layout_block(&rt, rt.alloc());
+    let layout = layout_in(&rt, block.as_slice());
+    same(&rt, (layout.banks(), layout.blocks()), (2, 22));
+    same(&rt, layout.rows(), three_rows().as_slice());
+    let found = (layout.find(&normal_type()), layout.find(&directory_guid()));
+    same(&rt, found, (Some(2), None));
+    holds(&rt, layout == layout_of(&rt, 2), "as it is made");
+}
+
+// The block that a layout is written as.
+fn written(rt: &impl Abort, alloc: Global, layout: &Layout) -> Vec<u8> {
+    let mut block = image(rt, alloc, 0, 4096);
+    holds(rt, block.len() == 4096, "a block");
+    layout.write(block.as_mut_slice());
     block
 }
 
 #[test]
-fn a_layout_is_read_from_its_bytes(rt: HostRuntime) -> Result<(), Fail> {
-    let block = layout_block();
-    let layout = Layout::read(&block, 22).ok().ok_or("not read")?;
-    same(&rt, layout.banks(), 2);
-    same(&rt, layout.rows(), three_rows().as_slice());
-    same(&rt, layout.blocks(), 22);
-    same(&rt, layout.find(&normal_type()), Some(2));
-    same(&rt, layout.find(&directory_guid()), None);
-    assert!(rt; layout == layout_of(2).ok_or("not made")?);
-    Ok(())
+fn a_layout_is_written_as_its_bytes(rt: HostRuntime) {
+    let alloc = rt.alloc();
+    let block = layout_block(&rt, alloc);
+    let written = written(&rt, alloc, &layout_of(&rt, 2));
+    let written = written.as_slice();
+    stands(&rt, written, 0, &[0xe9, 0xce, 0xf4, 0xcb]);
+    same(&rt, written.get(4..104), block.as_slice().get(4..104));
+    stands(&rt, written, 104, &[0xff]);
+    stands(&rt, written, 4095, &[0xff]);
+}
+
+// The block at which an image of a bank begins.
+fn start(rt: &impl Abort, layout: &Layout, bank: u32, image: u32) -> u32 {
+    holds(rt, bank < layout.banks(), "a bank");
+    holds(rt, (image as usize) < layout.rows().len(), "an image");
+    layout.start(bank, image)
 }
 
 #[test]
-fn a_layout_is_written_as_its_bytes(rt: HostRuntime) -> Result<(), Fail> {
-    let layout = layout_of(2).ok_or("not made")?;
-    let block = layout_block();
-    let mut written = [0; 4096];
-    layout.write(&mut written);
-    same(&rt, le32_at(&written, 0), 0xcbf4_cee9);
-    same(&rt, &written[4..104], &block[4..104]);
-    same(&rt, written[104], 0xff);
-    same(&rt, written[4095], 0xff);
-    Ok(())
-}
-
-#[test]
-fn images_begin_at_their_blocks(rt: HostRuntime) -> Result<(), Fail> {
-    let layout = layout_of(2).ok_or("not made")?;
-    let banks = layout.banks();
-    let images = layout.rows().len();
-    assert!(rt; banks == 2 && images == 3);
-    same(&rt, layout.start(0, 0), 8);
-    same(&rt, layout.start(0, 2), 11);
-    same(&rt, layout.start(1, 1), 16);
+fn images_begin_at_their_blocks(rt: HostRuntime) {
+    let layout = layout_of(&rt, 2);
+    same(&rt, (layout.banks(), layout.rows().len()), (2, 3));
+    for (bank, image, block) in [(0, 0, 8), (0, 2, 11), (1, 1, 16)] {
+        same(&rt, start(&rt, &layout, bank, image), block);
+    }
     same(&rt, Meta::replica_size(&layout), 288);
-    Ok(())
+}
+
+// Replaces a number, and renews the checksum of so many bytes.
+fn change(rt: &impl Abort, block: &mut [u8], size: usize, at: usize, value: u32) {
+    holds(rt, block.len() == 4096, "a block");
+    holds(rt, at <= 4092 && size >= 4 && size <= 4096, "places");
+    put_le32(block, at, value);
+    let sum = crc32(&block[4..size]);
+    put_le32(block, 0, sum);
 }
 
 /// The fault of a layout block in which one number is replaced, with the checksum renewed.
-fn layout_fault(at: usize, value: u32) -> Option<LayoutFault> {
-    let layout = layout_of(2)?;
-    let mut block = [0; 4096];
-    layout.write(&mut block);
-    if at < 4093 {
-        put_le32(&mut block, at, value);
-    }
-    let sum = crc32(&block[4..104]);
-    put_le32(&mut block, 0, sum);
-    Layout::read(&block, 22).err()
+fn layout_fault(rt: &impl Abort, alloc: Global, at: usize, value: u32) -> Option<LayoutFault> {
+    let mut block = written(rt, alloc, &layout_of(rt, 2));
+    change(rt, block.as_mut_slice(), 104, at, value);
+    Layout::read(block.as_slice(), 22).err()
 }
 
 #[test]
-fn a_layout_block_has_its_first_fault(rt: HostRuntime) -> Result<(), Fail> {
+fn a_layout_block_has_its_first_fault(rt: HostRuntime) {
     let table = [
         (4, 0, Some(LayoutFault::BadMagic)),
         (12, 1, Some(LayoutFault::BadSize)),
@@ -101,127 +131,115 @@ fn a_layout_block_has_its_first_fault(rt: HostRuntime) -> Result<(), Fail> {
         (104, 0, None),
     ];
     for (at, value, fault) in table {
-        same(&rt, layout_fault(at, value), fault);
+        same(&rt, layout_fault(&rt, rt.alloc(), at, value), fault);
     }
-    Ok(())
+}
+
+// Why there is no such layout.
+fn refused(rows: &[ImageRow], banks: u32, blocks: u32) -> Option<LayoutFault> {
+    Layout::make(rows, banks, blocks).err()
 }
 
 #[test]
-fn a_layout_is_made_within_its_limits(rt: HostRuntime) -> Result<(), Fail> {
+fn a_layout_is_made_within_its_limits(rt: HostRuntime) {
     let twice = [
         row(manifest_type(), 1),
         row(boot_type(), 2),
         row(boot_type(), 4),
     ];
+    let rows = three_rows();
+    let field = Some(LayoutFault::BadField);
+    same(&rt, refused(&twice, 2, 22), field);
+    same(&rt, refused(&rows[..1], 2, 22), field);
+    same(&rt, refused(&rows, 5, 99), field);
+    same(&rt, refused(&rows, 3, 28), Some(LayoutFault::BeyondFlash));
+}
+
+// Why these bytes are no layout.
+fn read_fault(bytes: &[u8]) -> Option<LayoutFault> {
+    Layout::read(bytes, 22).err()
+}
+
+// Why these bytes are no metadata of two banks.
+fn meta_read_fault(rt: &impl Abort, bytes: &[u8]) -> Option<MetaFault> {
+    Meta::read(&layout_of(rt, 2), bytes).err()
+}
+
+#[test]
+fn short_blocks_are_refused(rt: HostRuntime) {
     same(
         &rt,
-        Layout::make(&twice, 2, 22).err(),
-        Some(LayoutFault::BadField),
-    );
-    same(
-        &rt,
-        Layout::make(&three_rows()[..1], 2, 22).err(),
-        Some(LayoutFault::BadField),
-    );
-    same(
-        &rt,
-        Layout::make(&three_rows(), 5, 99).err(),
-        Some(LayoutFault::BadField),
-    );
-    same(
-        &rt,
-        Layout::make(&three_rows(), 3, 28).err(),
-        Some(LayoutFault::BeyondFlash),
-    );
-    let layout = layout_of(2).ok_or("not made")?;
-    same(
-        &rt,
-        Meta::read(&layout, &[0xff; 279]).err(),
+        meta_read_fault(&rt, &[0xff; 279]),
         Some(MetaFault::Short),
     );
-    same(
-        &rt,
-        Layout::read(&[0xff; 31], 22).err(),
-        Some(LayoutFault::Short),
-    );
-    same(
-        &rt,
-        Layout::read(&LAYOUT_HEAD, 22).err(),
-        Some(LayoutFault::Short),
-    );
-    Ok(())
+    same(&rt, read_fault(&[0xff; 31]), Some(LayoutFault::Short));
+    same(&rt, read_fault(&LAYOUT_HEAD), Some(LayoutFault::Short));
+}
+
+// The block that the first metadata of a layout is written as.
+fn first_block(rt: &impl Abort, alloc: Global, layout: &Layout) -> Vec<u8> {
+    let mut block = image(rt, alloc, 0, 4096);
+    holds(rt, block.len() == 4096, "a block");
+    holds(rt, Meta::size(layout) <= 4096, "its size");
+    Meta::first(layout).write(layout, block.as_mut_slice());
+    block
+}
+
+// Writes the same in version 1 over a block.
+fn put_one(rt: &impl Abort, layout: &Layout, block: &mut [u8]) {
+    holds(rt, block.len() == 4096, "a block");
+    holds(rt, Meta::size(layout) <= 4096, "its size");
+    Meta::first(layout).write_one(layout, block);
+}
+
+// The metadata that these bytes are.
+fn meta_in(rt: &impl Abort, layout: &Layout, bytes: &[u8]) -> Meta {
+    Meta::read(layout, bytes).expect(rt, "metadata")
 }
 
 #[test]
-fn the_first_metadata_of_two_banks_has_its_bytes(rt: HostRuntime) -> Result<(), Fail> {
-    let layout = layout_of(2).ok_or("not made")?;
-    let meta = Meta::first(&layout);
-    let mut block = [0; 4096];
-    let size = Meta::size(&layout);
-    assert!(rt; size == 280);
-    meta.write(&layout, &mut block);
-    same(&rt, le32_at(&block, 0), 0x046b_72fc);
-    same(&rt, &block[4..40], METADATA.as_slice());
-    same(&rt, &block[280..288], [0xff; 8].as_slice());
-    let again = Meta::read(&layout, &block).ok().ok_or("not read")?;
-    assert!(rt; again.is(&meta));
-    block[26] = 0xfc;
-    same(
-        &rt,
-        Meta::read(&layout, &block).err(),
-        Some(MetaFault::BadCrc),
-    );
-    Ok(())
+fn the_first_metadata_of_two_banks_has_its_bytes(rt: HostRuntime) {
+    let layout = layout_of(&rt, 2);
+    same(&rt, Meta::size(&layout), 280);
+    let mut block = first_block(&rt, rt.alloc(), &layout);
+    let block = block.as_mut_slice();
+    stands(&rt, block, 0, &[0xfc, 0x72, 0x6b, 0x04]);
+    stands(&rt, block, 4, &METADATA);
+    stands(&rt, block, 280, &[0xff; 8]);
+    let again = meta_in(&rt, &layout, block);
+    holds(&rt, again.is(&Meta::first(&layout)), "as it was");
+    put(&rt, block, 26, &[0xfc]);
+    same(&rt, meta_read_fault(&rt, block), Some(MetaFault::BadCrc));
 }
 
 #[test]
-fn the_first_metadata_of_three_banks_has_its_bytes(rt: HostRuntime) -> Result<(), Fail> {
-    let layout = layout_of(3).ok_or("not made")?;
-    let meta = Meta::first(&layout);
-    let mut block = [0; 4096];
-    let size = Meta::size(&layout);
-    assert!(rt; size == 352);
-    meta.write(&layout, &mut block);
-    same(
-        &rt,
-        &block[16..40],
-        [
-            0x60, 1, 0, 0, 0x20, 0, 0, 0, 0xfc, 0xff, 0xff, 0xff, 0, 0, 0, 0, 3, 0, 3, 0, 0x68, 0,
-            0x18, 0,
-        ]
-        .as_slice(),
-    );
-    meta.write_one(&layout, &mut block);
-    same(
-        &rt,
-        &block[..16],
-        [0x23, 0x06, 0x58, 0x4a, 1, 0, 0, 0, 0, 0, 0, 0, 0, 0, 0, 0].as_slice(),
-    );
-    let mut again = Meta::read(&layout, &block).ok().ok_or("not read")?;
+fn the_first_metadata_of_three_banks_has_its_bytes(rt: HostRuntime) {
+    let layout = layout_of(&rt, 3);
+    same(&rt, Meta::size(&layout), 352);
+    let mut block = first_block(&rt, rt.alloc(), &layout);
+    let wanted = [
+        0x60, 1, 0, 0, 0x20, 0, 0, 0, 0xfc, 0xff, 0xff, 0xff, 0, 0, 0, 0, 3, 0, 3, 0, 0x68, 0,
+        0x18, 0,
+    ];
+    stands(&rt, block.as_slice(), 16, &wanted);
+    put_one(&rt, &layout, block.as_mut_slice());
+    let wanted = [0x23, 0x06, 0x58, 0x4a, 1, 0, 0, 0, 0, 0, 0, 0, 0, 0, 0, 0];
+    stands(&rt, block.as_slice(), 0, &wanted);
+    let mut again = meta_in(&rt, &layout, block.as_slice());
     same(&rt, again.form(), 1);
     again.migrate();
-    assert!(rt; again.is(&meta));
-    Ok(())
+    holds(&rt, again.is(&Meta::first(&layout)), "as it was");
 }
 
 /// The fault of a block of the first metadata in which one number is replaced, with the checksum renewed.
-fn meta_fault(at: usize, value: u32) -> Option<MetaFault> {
-    let layout = layout_of(2)?;
-    let mut block = [0; 4096];
-    if Meta::size(&layout) > 4096 {
-        return None;
-    }
-    Meta::first(&layout).write(&layout, &mut block);
-    if at < 4093 {
-        put_le32(&mut block, at, value);
-    }
-    let sum = crc32(&block[4..280]);
-    put_le32(&mut block, 0, sum);
-    Meta::read(&layout, &block).err()
+fn meta_fault(rt: &impl Abort, alloc: Global, at: usize, value: u32) -> Option<MetaFault> {
+    let mut block = first_block(rt, alloc, &layout_of(rt, 2));
+    change(rt, block.as_mut_slice(), 280, at, value);
+    meta_read_fault(rt, block.as_slice())
 }
 
 #[test]
-fn a_metadata_block_has_its_first_fault(rt: HostRuntime) -> Result<(), Fail> {
+fn a_metadata_block_has_its_first_fault(rt: HostRuntime) {
     let table = [
         (4, 3, Some(MetaFault::NotTwo)),
         (4, 0, Some(MetaFault::NotTwo)),
@@ -237,45 +255,94 @@ fn a_metadata_block_has_its_first_fault(rt: HostRuntime) -> Result<(), Fail> {
         (280, 0, None),
     ];
     for (at, value, fault) in table {
-        same(&rt, meta_fault(at, value), fault);
+        same(&rt, meta_fault(&rt, rt.alloc(), at, value), fault);
     }
-    Ok(())
 }
 
-#[test]
-fn each_part_is_set_alone(rt: HostRuntime) -> Result<(), Fail> {
+// The first bank is accepted, the other one valid.
+fn two_states() -> States {
     let mut states = States::new();
     states.push(BankState::Accepted);
     states.push(BankState::Valid);
+    states
+}
+
+fn two_bits() -> Bits {
     let mut bits = Bits::new();
     bits.push(true);
     bits.push(false);
+    bits
+}
+
+// The bits of two banks: these, and none of them.
+fn all_bits(bits: Bits) -> BankBits {
     let mut all = BankBits::new();
     all.push(bits);
     all.push(bits.cleared());
+    all
+}
+
+fn set_state(rt: &impl Abort, meta: &mut Meta, bank: u32, state: BankState) {
+    holds(rt, bank < meta.banks(), "a bank");
+    meta.set_state(bank, state);
+}
+
+fn state(rt: &impl Abort, meta: &Meta, bank: u32) -> BankState {
+    holds(rt, bank < meta.banks(), "a bank");
+    meta.state(bank)
+}
+
+// The metadata has this bit.
+fn has_bit(rt: &impl Abort, meta: &Meta, bank: usize, image: usize)
+    ensures below { bank < length meta.now.meta.bits }
+    ensures within { image < length (slice_index_or meta.now.meta.bits bank []) }
+{
+    holds(rt, bank < meta.bits().len(), "a bank");
+    holds(rt, image < meta.bits().get(bank).len(), "an image");
+}
+
+fn set_bit(rt: &impl Abort, meta: &mut Meta, bank: u32, image: u32, on: bool) {
+    has_bit(rt, meta, bank as usize, image as usize);
+    meta.set_bit(bank, image, on);
+}
+
+fn bit(rt: &impl Abort, meta: &Meta, bank: u32, image: u32) -> bool {
+    has_bit(rt, meta, bank as usize, image as usize);
+    meta.bit(bank, image)
+}
+
+fn set_second(rt: &impl Abort, states: &mut States, state: BankState) {
+    holds(rt, states.len() == 2, "two banks");
+    states.set(1, state);
+}
+
+#[test]
+fn each_part_is_set_alone(rt: HostRuntime) {
+    let mut states = two_states();
+    let bits = two_bits();
+    let all = all_bits(bits);
+    same(&rt, (states.len(), all.len(), bits.len()), (2, 2, 2));
     let mut meta = Meta::of(2, 0, 1, states, all);
     meta.set_active(1);
     meta.set_previous(0);
-    meta.set_state(1, BankState::Invalid);
-    meta.set_bit(1, 0, true);
+    set_state(&rt, &mut meta, 1, BankState::Invalid);
+    set_bit(&rt, &mut meta, 1, 0, true);
+    are_parts(&rt, &meta);
+    set_second(&rt, &mut states, BankState::Invalid);
+    holds(&rt, meta.states().is(&states), "the states");
+    holds(&rt, !meta.bits().is(&all), "the bits");
+}
+
+// The parts are what they were set to.
+fn are_parts(rt: &impl Abort, meta: &Meta) {
     same(
-        &rt,
+        rt,
         (meta.active(), meta.previous(), meta.banks()),
         (1, 0, 2),
     );
-    same(
-        &rt,
-        (meta.state(0), meta.state(1)),
-        (BankState::Accepted, BankState::Invalid),
-    );
-    same(
-        &rt,
-        (meta.bit(0, 0), meta.bit(0, 1), meta.bit(1, 0)),
-        (true, false, true),
-    );
-    states.set(1, BankState::Invalid);
-    assert!(rt; meta.states().is(&states));
-    assert!(rt; !meta.bits().is(&all));
-    same(&rt, (states.len(), all.len(), bits.len()), (2, 2, 2));
-    Ok(())
+    same(rt, state(rt, meta, 0), BankState::Accepted);
+    same(rt, state(rt, meta, 1), BankState::Invalid);
+    same(rt, bit(rt, meta, 0, 0), true);
+    same(rt, bit(rt, meta, 0, 1), false);
+    same(rt, bit(rt, meta, 1, 0), true);
 }

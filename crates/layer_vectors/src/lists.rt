@@ -1,19 +1,19 @@
 //! Lists of the digests of manifests, and which manifests pass.
 
-ghost use Rattle.std.specs.Prelude.{◌≡◌};
-
-use crate::fixtures::same;
+use crate::fixtures::{holds, same};
 use std::alloc::Global;
-use std::test::Fail;
+use std::process::Abort;
 use verify_core::{AnyManifest, Both, DigestList, ListFault, Verifier};
 
 // Of "abc", FIPS 180-4.
 const ABC: &[u8] = b"BA7816BF8f01cfea414140de5dae2223b00361a396177a9cb410ff61f20015ad\n";
 
-fn asks<V: Verifier>(verifier: &V, manifest: &[u8]) -> bool
-    ensures { result ≡ V.passes verifier.now manifest.now }
-{
+fn asks<V: Verifier>(verifier: &V, manifest: &[u8]) -> bool {
     verifier.accepts(manifest)
+}
+
+fn list_of(rt: &impl Abort, alloc: Global, bytes: &[u8]) -> DigestList {
+    DigestList::read(alloc, bytes).expect(rt, "a list")
 }
 
 fn fault_of(alloc: Global, bytes: &[u8]) -> Option<ListFault> {
@@ -22,47 +22,50 @@ fn fault_of(alloc: Global, bytes: &[u8]) -> Option<ListFault> {
 
 #[test]
 fn any_manifest_passes(rt: HostRuntime) {
-    assert!(rt; asks(&AnyManifest, b""));
-    assert!(rt; asks(&AnyManifest, b"no manifest"));
+    holds(&rt, asks(&AnyManifest, b""), "no bytes");
+    holds(&rt, asks(&AnyManifest, b"no manifest"), "no manifest");
 }
 
 #[test]
-fn listed_manifests_pass(rt: HostRuntime) -> Result<(), Fail> {
+fn listed_manifests_pass(rt: HostRuntime) {
     let alloc = rt.alloc();
-    let list = DigestList::read(alloc, ABC).ok().ok_or("a list")?;
-    assert!(rt; asks(&list, b"abc"));
-    assert!(rt; !asks(&list, b"abd"));
-    let empty = DigestList::read(alloc, b"").ok().ok_or("an empty list")?;
-    assert!(rt; !asks(&empty, b"abc"));
+    let list = list_of(&rt, alloc, ABC);
+    holds(&rt, asks(&list, b"abc"), "listed");
+    holds(&rt, !asks(&list, b"abd"), "not listed");
+    let empty = list_of(&rt, alloc, b"");
+    holds(&rt, !asks(&empty, b"abc"), "of none");
     let one = Both {
         first: list,
         second: AnyManifest,
     };
-    assert!(rt; asks(&one, b"abc"));
+    holds(&rt, asks(&one, b"abc"), "of both");
     let none = Both {
         first: one,
         second: empty,
     };
-    assert!(rt; !asks(&none, b"abc"));
-    Ok(())
+    holds(&rt, !asks(&none, b"abc"), "of one alone");
+}
+
+// These parts, one behind the other.
+fn joined(rt: &impl Abort, alloc: Global, parts: &[&[u8]]) -> Vec<u8> {
+    let mut all = Vec::new(alloc);
+    for part in parts {
+        all.extend_from_slice(part).expect(rt, "memory");
+    }
+    all
 }
 
 #[test]
-fn first_bad_lines(rt: HostRuntime) -> Result<(), Fail> {
+fn first_bad_lines(rt: HostRuntime) {
     let alloc = rt.alloc();
-    let mut text = ABC.to_vec(alloc)?;
-    same(&rt, fault_of(alloc, &text), None);
-    same(
-        &rt,
-        fault_of(alloc, &ABC[..64]),
-        Some(ListFault::BadLine(1)),
-    );
-    same(&rt, fault_of(alloc, b"00\n"), Some(ListFault::BadLine(1)));
-    text.extend_from_slice(b"\n")?;
-    same(&rt, fault_of(alloc, &text), Some(ListFault::BadLine(2)));
-    let mut other = ABC.to_vec(alloc)?;
-    other.extend_from_slice(b"xy7816bf8f01cfea414140de5dae2223b00361a396177a9cb410ff61f20015ad\n")?;
-    other.extend_from_slice(ABC)?;
-    same(&rt, fault_of(alloc, &other), Some(ListFault::BadLine(2)));
-    Ok(())
+    same(&rt, fault_of(alloc, ABC), None);
+    let first = Some(ListFault::BadLine(1));
+    same(&rt, fault_of(alloc, &ABC[..64]), first);
+    same(&rt, fault_of(alloc, b"00\n"), first);
+    let second = Some(ListFault::BadLine(2));
+    let empty = joined(&rt, alloc, &[ABC, b"\n"]);
+    same(&rt, fault_of(alloc, empty.as_slice()), second);
+    let line = b"xy7816bf8f01cfea414140de5dae2223b00361a396177a9cb410ff61f20015ad\n";
+    let other = joined(&rt, alloc, &[ABC, line, ABC]);
+    same(&rt, fault_of(alloc, other.as_slice()), second);
 }

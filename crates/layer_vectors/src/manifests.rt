@@ -1,9 +1,10 @@
 //! Manifests of both forms, as bytes and as values.
 
-use crate::fixtures::{MANIFEST, image_rows, image_type, same};
+use crate::fixtures::{MANIFEST, holds, image_rows, image_type, only, put, same};
 use fwu_formats::ManifestFault;
 use manifest_core::{Manifest, ManifestStop, Row, row_at, test};
-use std::test::Fail;
+use std::alloc::Global;
+use std::process::Abort;
 
 // As `MANIFEST`, with the security version 70000.
 const WIDE: [u8; 104] = [
@@ -16,67 +17,81 @@ const WIDE: [u8; 104] = [
     0x8A, 0x17, 0xFB, 0x50, 0xC1, 0x44, 0xE7, 0x0A,
 ];
 
+// What these bytes are tested to be.
+fn tested(bytes: &[u8]) -> Result<u32, ManifestFault> {
+    test(bytes, &image_rows())
+}
+
 #[test]
 fn both_forms(rt: HostRuntime) {
-    let images = image_rows();
-    same(&rt, test(&MANIFEST, &images), Ok(7));
-    same(&rt, test(&WIDE, &images), Ok(70000));
+    same(&rt, tested(&MANIFEST), Ok(7));
+    same(&rt, tested(&WIDE), Ok(70000));
+}
+
+// With this byte at a place, the bytes have this fault.
+fn has_fault(rt: &impl Abort, bytes: &mut [u8], at: usize, byte: u8, fault: ManifestFault) {
+    put(rt, bytes, at, &[byte]);
+    same(rt, tested(bytes), Err(fault));
 }
 
 // From the last fault to the first, each before those behind it.
 #[test]
 fn faults(rt: HostRuntime) {
-    let images = image_rows();
-    let mut bytes = MANIFEST;
-    bytes[103] ^= 1;
-    same(&rt, test(&bytes, &images), Err(ManifestFault::BadDigest));
-    bytes[33] = 0x10;
-    same(&rt, test(&bytes, &images), Err(ManifestFault::TooLarge));
-    bytes[16] = 0;
-    same(&rt, test(&bytes, &images), Err(ManifestFault::WrongOrder));
-    bytes[12] = 2;
-    same(&rt, test(&bytes, &images), Err(ManifestFault::BadCount));
-    bytes[8] = 224;
-    same(
-        &rt,
-        test(&bytes, &images),
-        Err(ManifestFault::VersionTooHigh),
-    );
-    bytes[4] = 2;
-    bytes[8] = 223;
-    same(&rt, test(&bytes, &images), Err(ManifestFault::BadForm));
-    bytes[0] = 0;
-    same(&rt, test(&bytes, &images), Err(ManifestFault::BadMagic));
-    same(&rt, test(&bytes[..103], &images), Err(ManifestFault::Short));
+    let mut bytes = MANIFEST.to_vec(rt.alloc()).expect(&rt, "memory");
+    let bytes = bytes.as_mut_slice();
+    for (at, byte, fault) in [
+        (103, 0xB8, ManifestFault::BadDigest),
+        (33, 0x10, ManifestFault::TooLarge),
+        (16, 0, ManifestFault::WrongOrder),
+        (12, 2, ManifestFault::BadCount),
+        (8, 224, ManifestFault::VersionTooHigh),
+    ] {
+        has_fault(&rt, bytes, at, byte, fault);
+    }
+    put(&rt, bytes, 4, &[2]);
+    has_fault(&rt, bytes, 8, 223, ManifestFault::BadForm);
+    has_fault(&rt, bytes, 0, 0, ManifestFault::BadMagic);
+    let short = bytes.get(..103).expect(&rt, "so many");
+    same(&rt, tested(short), Err(ManifestFault::Short));
+}
+
+// The row of `MANIFEST`.
+fn image_row() -> Row {
+    Row::of(image_type(), 9, b"abc")
+}
+
+// The first row of these bytes.
+fn first_row(rt: &impl Abort, bytes: &[u8]) -> Row {
+    holds(rt, bytes.len() == 104, "a manifest of one image");
+    row_at(bytes, 0)
 }
 
 #[test]
 fn rows_are_read(rt: HostRuntime) {
-    same(&rt, row_at(&MANIFEST, 0), Row::of(image_type(), 9, b"abc"));
+    same(&rt, first_row(&rt, &MANIFEST), image_row());
+}
+
+// The manifest of these bytes.
+fn read(rt: &impl Abort, alloc: Global, bytes: &[u8]) -> Manifest {
+    Manifest::read(alloc, bytes, &image_rows()).expect(rt, "a manifest")
 }
 
 #[test]
-fn written_and_read(rt: HostRuntime) -> Result<(), Fail> {
+fn written_and_read(rt: HostRuntime) {
     let alloc = rt.alloc();
-    let mut rows = Vec::new(alloc);
-    rows.push(Row::of(image_type(), 9, b"abc"))?;
-    let manifest = Manifest::of_rows(alloc, 70000, rows).ok().ok_or("rows")?;
-    let bytes = manifest.write(alloc).ok().ok_or("memory")?;
+    let rows = only(&rt, alloc, image_row());
+    let manifest = Manifest::of_rows(alloc, 70000, rows).expect(&rt, "rows");
+    let bytes = manifest.write(alloc).expect(&rt, "memory");
     same(&rt, bytes.as_slice(), WIDE.as_slice());
-    let read = Manifest::read(alloc, &WIDE, &image_rows())
-        .ok()
-        .ok_or("read")?;
+    let read = read(&rt, alloc, &WIDE);
     same(&rt, read.security(), 70000);
     same(&rt, read.rows(), manifest.rows());
-    Ok(())
 }
 
 #[test]
-fn a_manifest_without_rows_is_refused(rt: HostRuntime) -> Result<(), Fail> {
+fn a_manifest_without_rows_is_refused(rt: HostRuntime) {
     let alloc = rt.alloc();
-    let none = Manifest::of_rows(alloc, 7, Vec::new(alloc))
-        .err()
-        .ok_or("no rows")?;
-    same(&rt, none, ManifestStop::Fault(ManifestFault::BadCount));
-    Ok(())
+    let refused = Manifest::of_rows(alloc, 7, Vec::new(alloc)).err();
+    let wanted = ManifestStop::Fault(ManifestFault::BadCount);
+    same(&rt, refused, Some(wanted));
 }

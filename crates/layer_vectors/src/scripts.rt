@@ -1,11 +1,11 @@
 //! Scripts of calls, their first bad lines, and the limits of their text.
 
-use crate::fixtures::same;
+use crate::fixtures::{holds, image, same};
 use base_core::Guid;
 use fwu_model::Op;
 use script_text::{Call, Script, ScriptFault, TextLimit, is_too_long, read_script};
 use std::alloc::Global;
-use std::test::Fail;
+use std::process::Abort;
 
 fn read(alloc: Global, text: &[u8]) -> Result<Script, ScriptFault> {
     if is_too_long(text) {
@@ -14,50 +14,57 @@ fn read(alloc: Global, text: &[u8]) -> Result<Script, ScriptFault> {
     read_script(alloc, text)
 }
 
-fn fault_of(alloc: Global, text: &[u8]) -> Option<ScriptFault> {
-    read(alloc, text).err()
+// Whether the first bad line of a text is this one.
+fn is_bad(alloc: Global, text: &[u8], line: u32) -> bool {
+    match read(alloc, text) {
+        Err(fault) => fault == ScriptFault::BadLine(line),
+        Ok(_) => false,
+    }
+}
+
+fn script_of(rt: &impl Abort, alloc: Global, text: &[u8]) -> Script {
+    read(alloc, text).expect(rt, "a script")
+}
+
+fn taken(rt: &impl Abort, script: &mut Script, at: usize) -> Call {
+    holds(rt, at < script.len(), "a call");
+    script.take(at)
+}
+
+fn cuts(call: &Call, operation: u32, bytes: u32) -> bool {
+    match call {
+        Call::Cut { n, k } => *n == operation && *k == bytes,
+        _ => false,
+    }
 }
 
 #[test]
-fn lines_are_calls_or_nothing(rt: HostRuntime) -> Result<(), Fail> {
+fn lines_are_calls_or_nothing(rt: HostRuntime) {
     let alloc = rt.alloc();
-    let text = b"# nothing is on\n\ncut 1 0\nshow\n";
-    let script = read(alloc, text).ok().ok_or("a script")?;
+    let mut script = script_of(&rt, alloc, b"# nothing is on\n\ncut 1 0\nshow\n");
     same(&rt, script.len(), 2);
-    let mut script = script;
-    if script.len() == 2 {
-        assert!(rt; matches!(script.take(0), Call::Cut { n: 1, k: 0 }));
-        assert!(rt; matches!(script.take(1), Call::Show));
-    }
+    holds(&rt, cuts(&taken(&rt, &mut script, 0), 1, 0), "a cut");
+    holds(
+        &rt,
+        matches!(taken(&rt, &mut script, 1), Call::Show),
+        "show",
+    );
     // A last line without its end is a line.
-    let mut open = read(alloc, b"boot\ncut 4294967295 4096")
-        .ok()
-        .ok_or("a last line")?;
-    if open.len() == 2 {
-        assert!(rt; matches!(open.take(0), Call::Boot));
-        assert!(rt;
-            matches!(
-                open.take(1),
-                Call::Cut {
-                    n: 4294967295,
-                    k: 4096,
-                }
-            )
-        );
-    }
-    assert!(rt; !open.is_empty());
-    assert!(rt; read(alloc, b"").ok().ok_or("no line")?.is_empty());
-    assert!(rt; read(alloc, b"\n#").ok().ok_or("no call")?.is_empty());
-    Ok(())
+    let mut open = script_of(&rt, alloc, b"boot\ncut 4294967295 4096");
+    same(&rt, open.len(), 2);
+    holds(&rt, matches!(taken(&rt, &mut open, 0), Call::Boot), "boot");
+    let cut = taken(&rt, &mut open, 1);
+    holds(&rt, cuts(&cut, 4_294_967_295, 4096), "a last cut");
+    holds(&rt, !open.is_empty(), "two calls");
+    holds(&rt, script_of(&rt, alloc, b"").is_empty(), "no line");
+    holds(&rt, script_of(&rt, alloc, b"\n#").is_empty(), "no call");
 }
 
 // The one call of a line.
-fn call_of(alloc: Global, line: &str) -> Result<Call, Fail> {
-    let mut script = read(alloc, line.as_bytes()).ok().ok_or("a line")?;
-    if script.len() != 1 {
-        return Err("one call")?;
-    }
-    Ok(script.take(0))
+fn call_of(rt: &impl Abort, alloc: Global, line: &str) -> Call {
+    let mut script = script_of(rt, alloc, line.as_bytes());
+    holds(rt, script.len() == 1, line);
+    script.take(0)
 }
 
 fn opens(call: &Call, wanted: &Guid, how: Op) -> bool {
@@ -105,32 +112,58 @@ fn sends(call: &Call, wanted: &str, how: u32) -> bool {
 }
 
 #[test]
-fn calls_have_their_values(rt: HostRuntime) -> Result<(), Fail> {
+fn calls_with_types_have_their_values(rt: HostRuntime) {
     let alloc = rt.alloc();
-    let tb = Guid::read("5ff9ec0b-4d22-3e4d-a544-c39d81c73f0a").ok_or("a type")?;
-    assert!(rt; opens(&call_of(alloc, "open tb-fw r")?, &tb, Op::Read));
+    let tb = Guid::read("5ff9ec0b-4d22-3e4d-a544-c39d81c73f0a").expect(&rt, "a type");
+    let open = call_of(&rt, alloc, "open tb-fw r");
+    holds(&rt, opens(&open, &tb, Op::Read), "open r");
     let upper = "open 5FF9EC0B-4d22-3e4d-a544-c39d81c73f0a w";
-    assert!(rt; opens(&call_of(alloc, upper)?, &tb, Op::Write));
-    assert!(rt; accepts(&call_of(alloc, "accept tb-fw")?, &tb));
-    let most = "write 4294967295 00fFa5";
-    assert!(rt; writes(&call_of(alloc, most)?, 4_294_967_295, &[0, 255, 165]));
-    assert!(rt; writes(&call_of(alloc, "write 0 -")?, 0, &[]));
-    assert!(rt; reads(&call_of(alloc, "read 33 4096")?, 33, 4096));
-    assert!(rt; commits(&call_of(alloc, "commit 7 now")?, 7, 0));
-    assert!(rt; commits(&call_of(alloc, "commit 8 trial")?, 8, 1));
-    assert!(rt; sends(&call_of(alloc, "send p2.fip trial")?, "p2.fip", 1));
-    Ok(())
+    let open = call_of(&rt, alloc, upper);
+    holds(&rt, opens(&open, &tb, Op::Write), "open w");
+    let accept = call_of(&rt, alloc, "accept tb-fw");
+    holds(&rt, accepts(&accept, &tb), "accept");
 }
 
 #[test]
-fn words_are_calls(rt: HostRuntime) -> Result<(), Fail> {
+fn calls_have_their_values(rt: HostRuntime) {
     let alloc = rt.alloc();
-    assert!(rt; matches!(&call_of(alloc, "discover")?, Call::Discover));
-    assert!(rt; matches!(&call_of(alloc, "begin")?, Call::Begin));
-    assert!(rt; matches!(&call_of(alloc, "end")?, Call::End));
-    assert!(rt; matches!(&call_of(alloc, "cancel")?, Call::Cancel));
-    assert!(rt; matches!(&call_of(alloc, "previous")?, Call::Previous));
-    Ok(())
+    let most = call_of(&rt, alloc, "write 4294967295 00fFa5");
+    holds(&rt, writes(&most, 4_294_967_295, &[0, 255, 165]), "write");
+    let none = call_of(&rt, alloc, "write 0 -");
+    holds(&rt, writes(&none, 0, &[]), "write nothing");
+    let read = call_of(&rt, alloc, "read 33 4096");
+    holds(&rt, reads(&read, 33, 4096), "read");
+    let now = call_of(&rt, alloc, "commit 7 now");
+    holds(&rt, commits(&now, 7, 0), "commit now");
+    let trial = call_of(&rt, alloc, "commit 8 trial");
+    holds(&rt, commits(&trial, 8, 1), "commit trial");
+    let send = call_of(&rt, alloc, "send p2.fip trial");
+    holds(&rt, sends(&send, "p2.fip", 1), "send");
+}
+
+// Whether a call is the one of its place: discover, begin, end, cancel and previous.
+fn is_word(call: &Call, place: u32) -> bool {
+    match call {
+        Call::Discover => place == 0,
+        Call::Begin => place == 1,
+        Call::End => place == 2,
+        Call::Cancel => place == 3,
+        Call::Previous => place == 4,
+        _ => false,
+    }
+}
+
+#[test]
+fn words_are_calls(rt: HostRuntime) {
+    for (word, place) in [
+        ("discover", 0),
+        ("begin", 1),
+        ("end", 2),
+        ("cancel", 3),
+        ("previous", 4),
+    ] {
+        holds(&rt, is_word(&call_of(&rt, rt.alloc(), word), place), word);
+    }
 }
 
 #[test]
@@ -167,40 +200,31 @@ fn bad_lines_are_found(rt: HostRuntime) {
         " # no comment",
         "\0",
     ] {
-        assert_eq!(rt;
-            fault_of(alloc, text.as_bytes()),
-            Some(ScriptFault::BadLine(1)),
-            "{text:?}"
-        );
+        holds(&rt, is_bad(alloc, text.as_bytes(), 1), text);
     }
     // The first bad line counts.
-    same(
-        &rt,
-        fault_of(alloc, b"boot\nbegin\nbigin\n"),
-        Some(ScriptFault::BadLine(3)),
-    );
-    same(
-        &rt,
-        fault_of(alloc, b"\n#\nshow\naccept tbfw\nbigin"),
-        Some(ScriptFault::BadLine(4)),
-    );
+    holds(&rt, is_bad(alloc, b"boot\nbegin\nbigin\n", 3), "line 3");
+    let text = b"\n#\nshow\naccept tbfw\nbigin";
+    holds(&rt, is_bad(alloc, text, 4), "line 4");
 }
 
 #[test]
-fn the_limits_are_exact(rt: HostRuntime) -> Result<(), Fail> {
-    let alloc = rt.alloc();
-    let mut lines = vec![in alloc; b'\n'; 65_536]?;
-    assert!(rt; !is_too_long(&lines));
+fn the_limit_of_lines_is_exact(rt: HostRuntime) {
+    let mut lines = image(&rt, rt.alloc(), b'\n', 65_536);
+    holds(&rt, !is_too_long(&lines), "65536 lines");
     let mut limit = TextLimit::new();
     same(&rt, limit.feed(&lines), 65_536);
-    assert!(rt; !limit.take(b'#'));
+    holds(&rt, !limit.take(b'#'), "a byte more");
     same(&rt, limit.feed(b"#"), 0);
-    lines.push(b'\n')?;
-    assert!(rt; is_too_long(&lines));
-    let mut bytes = vec![in alloc; b'#'; 4_194_304]?;
-    assert!(rt; !is_too_long(&bytes));
-    bytes.push(b'#')?;
-    assert!(rt; is_too_long(&bytes));
+    lines.push(b'\n').expect(&rt, "memory");
+    holds(&rt, is_too_long(&lines), "a line more");
+}
+
+#[test]
+fn the_limit_of_bytes_is_exact(rt: HostRuntime) {
+    let mut bytes = image(&rt, rt.alloc(), b'#', 4_194_304);
+    holds(&rt, !is_too_long(&bytes), "4 MiB");
+    bytes.push(b'#').expect(&rt, "memory");
+    holds(&rt, is_too_long(&bytes), "a byte more");
     same(&rt, TextLimit::new().feed(&bytes), 4_194_304);
-    Ok(())
 }

@@ -1,82 +1,107 @@
 //! Metadata that is stored, loaded, repaired and migrated.
 
-use crate::fixtures::image_rows;
+ghost use Rattle.std.specs.Prelude.{◌≡◌, IsTrue};
+ghost use Rattle.flash_devices.specs.Memory.{is_on, block_count};
+
+use crate::fixtures::{erased, holds, image, image_rows, same};
 use flash_core::{Flash, replace};
 use flash_devices::MemoryFlash;
 use meta_layout::{Layout, Meta};
 use replicas::{ReplicaStop, Which, load, repair, store};
-use std::test::Fail;
+use std::alloc::Global;
+use std::process::Abort;
 
 // Two banks of two images of a block each.
-fn layout() -> Option<Layout> {
-    Layout::make(&image_rows(), 2, 12).ok()
+fn layout(rt: &impl Abort) -> Layout {
+    Layout::make(&image_rows(), 2, 12).expect(rt, "a layout")
 }
 
-#[test]
-fn metadata_is_stored_and_loaded(rt: HostRuntime) -> Result<(), Fail> {
-    let alloc = rt.alloc();
-    let layout = layout().ok_or("no layout")?;
-    let Ok(mut flash) = MemoryFlash::new(alloc, 12, Vec::new(alloc), Vec::new(alloc)) else {
-        assert!(rt; false);
-        return Ok(());
-    };
-    flash.power_on();
-    assert!(rt; load(&mut flash, &layout) == Err(ReplicaStop::NoMetadata));
-    let meta = Meta::first(&layout);
+// A flash of twelve erased blocks, on.
+fn blank(rt: &impl Abort, alloc: Global) -> MemoryFlash {
+    erased(rt, alloc, 12, Vec::new(alloc), Vec::new(alloc))
+}
+
+// The flash is on, and has twelve blocks.
+fn ready(rt: &impl Abort, flash: &MemoryFlash)
+    ensures power { IsTrue (is_on flash.now) }
+    ensures size { block_count flash.now ≡ 12 }
+{
+    holds(rt, flash.is_on(), "power is on");
+    holds(rt, flash.blocks() == 12, "twelve blocks");
+}
+
+// Stores the first metadata.
+fn store_first(rt: &impl Abort, flash: &mut MemoryFlash, layout: &Layout) {
     let mut buf = [0; 4096];
-    assert_eq!(rt; store(&mut flash, &layout, &meta, &mut buf), Ok(()));
-    assert!(rt; load(&mut flash, &layout) == Ok((meta, Which::Same)));
-    Ok(())
+    ready(rt, flash);
+    let end = store(flash, layout, &Meta::first(layout), &mut buf);
+    same(rt, end, Ok(()));
 }
 
-#[test]
-fn replica_zero_is_repaired(rt: HostRuntime) -> Result<(), Fail> {
-    let alloc = rt.alloc();
-    let layout = layout().ok_or("no layout")?;
-    let Ok(mut flash) = MemoryFlash::new(alloc, 12, Vec::new(alloc), Vec::new(alloc)) else {
-        assert!(rt; false);
-        return Ok(());
-    };
-    flash.power_on();
-    let meta = Meta::first(&layout);
+// Both replicas are the first metadata.
+fn shows_first(rt: &impl Abort, flash: &mut MemoryFlash, layout: &Layout) {
+    ready(rt, flash);
+    let found = load(flash, layout);
+    holds(rt, found == Ok((Meta::first(layout), Which::Same)), "both");
+}
+
+// This is to be repaired, and the repair is done.
+fn repaired(rt: &impl Abort, flash: &mut MemoryFlash, layout: &Layout, wanted: Which) {
     let mut buf = [0; 4096];
-    assert_eq!(rt; store(&mut flash, &layout, &meta, &mut buf), Ok(()));
-    assert_eq!(rt; flash.erase(1), Ok(()));
-    let Ok((found, which)) = load(&mut flash, &layout) else {
-        assert!(rt; false);
-        return Ok(());
-    };
-    assert_eq!(rt; which, Which::RepairZero);
-    let Ok(()) = repair(&mut flash, &layout, &found, which, &mut buf) else {
-        assert!(rt; false);
-        return Ok(());
-    };
-    assert!(rt; load(&mut flash, &layout) == Ok((meta, Which::Same)));
-    Ok(())
+    ready(rt, flash);
+    let (found, which) = load(flash, layout).expect(rt, "metadata");
+    same(rt, which, wanted);
+    let end = repair(flash, layout, &found, which, &mut buf);
+    same(rt, end, Ok(()));
 }
 
 #[test]
-fn version_one_is_migrated(rt: HostRuntime) -> Result<(), Fail> {
-    let alloc = rt.alloc();
-    let layout = layout().ok_or("no layout")?;
-    let Ok(mut flash) = MemoryFlash::new(alloc, 12, Vec::new(alloc), Vec::new(alloc)) else {
-        assert!(rt; false);
-        return Ok(());
-    };
-    flash.power_on();
-    let meta = Meta::first(&layout);
-    let mut block = [0; 4096];
-    meta.write_one(&layout, &mut block);
-    assert_eq!(rt; replace(&mut flash, 1, &block), Ok(()));
-    let Ok((found, which)) = load(&mut flash, &layout) else {
-        assert!(rt; false);
-        return Ok(());
-    };
-    assert_eq!(rt; which, Which::MigrateZero);
-    assert_eq!(rt;
-        repair(&mut flash, &layout, &found, which, &mut block),
-        Ok(())
-    );
-    assert!(rt; load(&mut flash, &layout) == Ok((meta, Which::Same)));
-    Ok(())
+fn metadata_is_stored_and_loaded(rt: HostRuntime) {
+    let layout = layout(&rt);
+    let mut flash = blank(&rt, rt.alloc());
+    ready(&rt, &flash);
+    let none = load(&mut flash, &layout);
+    holds(&rt, none == Err(ReplicaStop::NoMetadata), "none");
+    store_first(&rt, &mut flash, &layout);
+    shows_first(&rt, &mut flash, &layout);
+}
+
+fn erase_one(rt: &impl Abort, flash: &mut MemoryFlash) {
+    ready(rt, flash);
+    same(rt, flash.erase(1), Ok(()));
+}
+
+#[test]
+fn replica_zero_is_repaired(rt: HostRuntime) {
+    let layout = layout(&rt);
+    let mut flash = blank(&rt, rt.alloc());
+    store_first(&rt, &mut flash, &layout);
+    erase_one(&rt, &mut flash);
+    repaired(&rt, &mut flash, &layout, Which::RepairZero);
+    shows_first(&rt, &mut flash, &layout);
+}
+
+// Writes replica 0 in version 1.
+fn write_one(rt: &impl Abort, alloc: Global, flash: &mut MemoryFlash, layout: &Layout) {
+    let mut block = image(rt, alloc, 0, 4096);
+    holds(rt, block.len() == 4096, "a block");
+    holds(rt, Meta::size(layout) <= 4096, "its size");
+    Meta::first(layout).write_one(layout, block.as_mut_slice());
+    put_block_one(rt, flash, block.as_slice());
+}
+
+// Writes over block 1.
+fn put_block_one(rt: &impl Abort, flash: &mut MemoryFlash, block: &[u8]) {
+    ready(rt, flash);
+    holds(rt, block.len() == 4096, "a block");
+    same(rt, replace(flash, 1, block), Ok(()));
+}
+
+#[test]
+fn version_one_is_migrated(rt: HostRuntime) {
+    let layout = layout(&rt);
+    let mut flash = blank(&rt, rt.alloc());
+    write_one(&rt, rt.alloc(), &mut flash, &layout);
+    repaired(&rt, &mut flash, &layout, Which::MigrateZero);
+    shows_first(&rt, &mut flash, &layout);
 }

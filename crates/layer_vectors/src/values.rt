@@ -1,11 +1,12 @@
 //! The values of words: numbers, names of images and files, bytes.
 
-use crate::fixtures::same;
-use std::test::Fail;
+use crate::fixtures::holds;
+use std::alloc::Global;
+use std::process::Abort;
 use words_core::{guid_named, hex_bytes, is_file_name, number};
 
 #[test]
-fn numbers_have_one_spelling(rt: HostRuntime) -> Result<(), Fail> {
+fn numbers_have_one_spelling(rt: HostRuntime) {
     for (word, value) in [
         ("0", Some(0)),
         ("7", Some(7)),
@@ -19,40 +20,45 @@ fn numbers_have_one_spelling(rt: HostRuntime) -> Result<(), Fail> {
         ("1a", None),
         ("a", None),
     ] {
-        assert_eq!(rt; number(word.as_bytes()), value, "{word:?}");
+        holds(&rt, number(word.as_bytes()) == value, word);
     }
-    Ok(())
 }
 
 #[test]
-fn names_of_images_and_files(rt: HostRuntime) -> Result<(), Fail> {
+fn names_of_images_and_files(rt: HostRuntime) {
     for (name, text) in [
         ("tb-fw", "5FF9EC0B-4D22-3E4D-A544-C39D81C73F0A"),
         ("nt-fw", "d6d0eea7-fcea-d54b-9782-9934f234b6e4"),
         ("manifest", "4657554d-414e-4946-4553-540000000001"),
     ] {
-        let guid = guid_named(name.as_bytes()).ok_or("a name")?;
-        assert!(rt; guid_named(text.as_bytes()) == Some(guid), "{name:?}");
+        let guid = guid_named(name.as_bytes());
+        holds(&rt, guid.is_some(), name);
+        holds(&rt, guid_named(text.as_bytes()) == guid, name);
     }
-    assert!(rt; guid_named(b"tb_fw").is_none());
-    assert!(rt; is_file_name(b"a.fip"));
-    assert!(rt; !is_file_name(b"a b"));
-    assert!(rt; !is_file_name(b""));
-    Ok(())
+    holds(&rt, guid_named(b"tb_fw").is_none(), "tb_fw");
+    holds(&rt, is_file_name(b"a.fip"), "a.fip");
+    holds(&rt, !is_file_name(b"a b"), "a b");
+    holds(&rt, !is_file_name(b""), "no name");
+}
+
+// Whether a word is the digits of these bytes, or of none.
+fn are_digits(rt: &impl Abort, alloc: Global, word: &[u8], wanted: Option<&[u8]>) -> bool {
+    let bytes = hex_bytes(alloc, word).expect(rt, "memory");
+    match bytes {
+        Some(bytes) => wanted == Some(bytes.as_slice()),
+        None => wanted.is_none(),
+    }
 }
 
 #[test]
-fn bytes_in_digits(rt: HostRuntime) -> Result<(), Fail> {
+fn bytes_in_digits(rt: HostRuntime) {
     let alloc = rt.alloc();
-    let two = hex_bytes(alloc, b"aAfF").expect(&rt, "memory");
-    same(
+    holds(
         &rt,
-        two.ok_or("digits")?.as_slice(),
-        [0xAA, 0xFF].as_slice(),
+        are_digits(&rt, alloc, b"aAfF", Some(&[0xAA, 0xFF])),
+        "digits",
     );
-    let none = hex_bytes(alloc, b"-").expect(&rt, "memory");
-    same(&rt, none.ok_or("a hyphen")?.as_slice(), [].as_slice());
-    assert!(rt; hex_bytes(alloc, b"abc") == Ok(None));
-    assert!(rt; hex_bytes(alloc, b"") == Ok(None));
-    Ok(())
+    holds(&rt, are_digits(&rt, alloc, b"-", Some(&[])), "a hyphen");
+    holds(&rt, are_digits(&rt, alloc, b"abc", None), "three digits");
+    holds(&rt, are_digits(&rt, alloc, b"", None), "no digits");
 }

@@ -1,28 +1,29 @@
 //! The words of `fwu`: which of them ask for something, and for what.
 
-use crate::fixtures::same;
+use crate::fixtures::{holds, same};
+use base_core::ImageRow;
 use fwu_words::{Allow, Order, UsageStop, allow_of, fwu_order};
-use std::alloc::{AllocError, Global};
-use std::test::Fail;
+use std::alloc::Global;
+use std::process::Abort;
 use words_core::guid_named;
 
-fn words(alloc: Global, line: &str) -> Result<Vec<String>, AllocError> {
+fn words(rt: &impl Abort, alloc: Global, line: &str) -> Vec<String> {
     let mut list = Vec::new(alloc);
     for word in line.split(' ') {
-        list.push(String::from_str(alloc, word)?)?;
+        let word = String::from_str(alloc, word).expect(rt, "memory");
+        list.push(word).expect(rt, "memory");
     }
-    Ok(list)
+    list
 }
 
 // Why the words ask for nothing, if they do.
-fn refusal(alloc: Global, line: &str) -> Result<Option<UsageStop>, AllocError> {
-    let list = words(alloc, line)?;
-    Ok(fwu_order(alloc, list.as_slice()).err())
+fn refusal(rt: &impl Abort, alloc: Global, line: &str) -> Option<UsageStop> {
+    let list = words(rt, alloc, line);
+    fwu_order(alloc, list.as_slice()).err()
 }
 
 #[test]
-fn words_that_ask_for_something(rt: HostRuntime) -> Result<(), Fail> {
-    let alloc = rt.alloc();
+fn words_that_ask_for_something(rt: HostRuntime) {
     for line in [
         "run",
         "boot",
@@ -34,14 +35,13 @@ fn words_that_ask_for_something(rt: HostRuntime) -> Result<(), Fail> {
         "soak 1 0",
         "soak 4294967295 4294967295",
     ] {
-        assert_eq!(rt; refusal(alloc, line)?, None, "{line:?}");
+        holds(&rt, refusal(&rt, rt.alloc(), line).is_none(), line);
     }
-    Ok(())
 }
 
 #[test]
-fn words_that_ask_for_nothing(rt: HostRuntime) -> Result<(), Fail> {
-    let alloc = rt.alloc();
+fn words_that_ask_for_nothing(rt: HostRuntime) {
+    let usage = Some(UsageStop::Usage);
     for line in [
         "",
         "help",
@@ -65,58 +65,83 @@ fn words_that_ask_for_nothing(rt: HostRuntime) -> Result<(), Fail> {
         "soak -1 1",
         "soak x 1",
     ] {
-        assert_eq!(rt; refusal(alloc, line)?, Some(UsageStop::Usage), "{line:?}");
+        holds(&rt, refusal(&rt, rt.alloc(), line) == usage, line);
     }
-    assert!(rt; matches!(fwu_order(alloc, &[]), Err(UsageStop::Usage)));
-    Ok(())
+    same(&rt, fwu_order(rt.alloc(), &[]).err(), usage);
+}
+
+// Whether a row has this type and this many slots.
+fn is_row(row: Option<&ImageRow>, guid: &[u8], slots: u32) -> bool {
+    match row {
+        Some(row) => row.slots == slots && Some(row.guid) == guid_named(guid),
+        None => false,
+    }
+}
+
+// Whether these are the rows of the three images.
+fn are_three(rows: &[ImageRow]) -> bool {
+    let manifest = is_row(rows.get(0), b"4657554d-414e-4946-4553-540000000001", 1);
+    let boot = is_row(rows.get(1), b"5ff9ec0b-4d22-3e4d-a544-c39d81c73f0a", 2);
+    let normal = is_row(rows.get(2), b"d6d0eea7-fcea-d54b-9782-9934f234b6e4", 4);
+    rows.len() == 3 && manifest && boot && normal
+}
+
+// Whether the words ask for three banks of the three images, and this package.
+fn formats(alloc: Global, words: &[String], wanted: &str) -> bool {
+    match fwu_order(alloc, words) {
+        Ok(
+            Order::Format {
+                banks,
+                rows,
+                package,
+            },
+        ) => banks == 3 && package == wanted && are_three(rows.as_slice()),
+        _ => false,
+    }
 }
 
 #[test]
-fn a_layout_has_its_rows(rt: HostRuntime) -> Result<(), Fail> {
+fn a_layout_has_its_rows(rt: HostRuntime) {
     let alloc = rt.alloc();
-    let list = words(alloc, "format --banks 3 manifest:1,tb-fw:2,nt-fw:4 p1.fip")?;
-    let Ok(
-        Order::Format {
-            banks,
-            rows,
-            package,
-        },
-    ) = fwu_order(alloc, list.as_slice())
-    else {
-        return Err(Fail::from("no order"));
-    };
-    same(&rt, banks, 3);
-    same(&rt, package, "p1.fip");
-    let [first, second, third] = rows.as_slice() else {
-        return Err(Fail::from("three rows"));
-    };
-    assert!(rt; Some(first.guid) == guid_named(b"4657554d-414e-4946-4553-540000000001"));
-    assert!(rt; Some(second.guid) == guid_named(b"5ff9ec0b-4d22-3e4d-a544-c39d81c73f0a"));
-    assert!(rt; Some(third.guid) == guid_named(b"d6d0eea7-fcea-d54b-9782-9934f234b6e4"));
-    same(&rt, [first.slots, second.slots, third.slots], [1, 2, 4]);
-    Ok(())
+    let line = "format --banks 3 manifest:1,tb-fw:2,nt-fw:4 p1.fip";
+    let list = words(&rt, alloc, line);
+    holds(&rt, formats(alloc, list.as_slice(), "p1.fip"), line);
+}
+
+// Whether the words ask for a soak of these numbers.
+fn soaks(alloc: Global, words: &[String], numbers: (u32, u32)) -> bool {
+    match fwu_order(alloc, words) {
+        Ok(Order::Soak { seed, rounds }) => (seed, rounds) == numbers,
+        _ => false,
+    }
 }
 
 #[test]
-fn a_soak_has_its_numbers(rt: HostRuntime) -> Result<(), Fail> {
+fn a_soak_has_its_numbers(rt: HostRuntime) {
     let alloc = rt.alloc();
-    let list = words(alloc, "soak 4294967295 7")?;
-    let Ok(Order::Soak { seed, rounds }) = fwu_order(alloc, list.as_slice()) else {
-        return Err(Fail::from("no order"));
-    };
-    same(&rt, seed, 4_294_967_295);
-    same(&rt, rounds, 7);
-    Ok(())
+    let list = words(&rt, alloc, "soak 4294967295 7");
+    holds(
+        &rt,
+        soaks(alloc, list.as_slice(), (4_294_967_295, 7)),
+        "both",
+    );
+}
+
+// Whether the words begin with this list, and one word is behind it.
+fn names_list(words: &[String]) -> bool {
+    match allow_of(words) {
+        Allow::File { name, rest } => name == "l.txt" && rest.len() == 1,
+        _ => false,
+    }
 }
 
 #[test]
-fn a_list_stands_in_front(rt: HostRuntime) -> Result<(), Fail> {
-    let alloc = rt.alloc();
-    let list = words(alloc, "--allow l.txt boot")?;
+fn a_list_stands_in_front(rt: HostRuntime) {
+    let list = words(&rt, rt.alloc(), "--allow l.txt boot");
     let list = list.as_slice();
-    assert!(rt; matches!(allow_of(list), Allow::File { name: "l.txt", rest } if rest.len() == 1));
-    assert!(rt; matches!(allow_of(&list[..1]), Allow::Usage));
-    assert!(rt; matches!(allow_of(&list[1..]), Allow::No));
-    assert!(rt; matches!(allow_of(&list[..0]), Allow::No));
-    Ok(())
+    holds(&rt, list.len() == 3, "three words");
+    holds(&rt, names_list(list), "a list");
+    holds(&rt, matches!(allow_of(&list[..1]), Allow::Usage), "no name");
+    holds(&rt, matches!(allow_of(&list[1..]), Allow::No), "no list");
+    holds(&rt, matches!(allow_of(&list[..0]), Allow::No), "no words");
 }

@@ -6,7 +6,7 @@ use Rattle.layer_vectors.proofs.slot_pieces.in_pieces.Given as goal
 
 -- the bytes so far are in the slot, and behind them the block is blank
 abbrev pub invariant-loop-at : goal.invariant-loop-at
-invariant-loop-at l = record {
+invariant-loop-at g l = record {
   on : IsTrue l.flash.on;
   size : l.flash.blocks ≡ 10;
   within : l.at ≤ length l.image;
@@ -14,4 +14,4 @@ invariant-loop-at l = record {
 }
 
 abbrev pub decreases-loop-at : goal.decreases-loop-at
-decreases-loop-at l = length l.image - l.at
+decreases-loop-at g l = length l.image - l.at
