@@ -11,9 +11,6 @@ use std::{array, mem};
 /// How many handles there are.
 pub const HANDLES: usize = 32;
 
-/// The most bytes that a manifest has.
-pub const FRONT: usize = 888;
-
 /// The images that are staged and the handles that are open.
 #[derive(Drop)]
 pub struct Session {
