@@ -1,7 +1,9 @@
 #!/bin/sh
 # The processor time of writing 15 images of 1 MiB in pieces of 4096 bytes through the agent's own calls, beside that of one `sha256sum`
 # over the same bytes and one copy of them, as a ratio, in one run. A script has at most 4 MiB of text, and spells two digits for each
-# byte, so there is one run for each image: boot, begin, open, 256 writes, commit. The same without the writes is taken off.
+# byte, so there is one run for each image: boot, begin, open, 256 writes, commit. The same without the writes is taken off. What of
+# the rest is spent on the script's text alone, two digits for each byte, is told by runs of the same lines before any boot, which are
+# read whole and then answered `off`.
 set -eu
 cd "$(dirname "$0")/.."
 work=$(mktemp -d)
@@ -30,8 +32,8 @@ with open("images.bin", "wb") as file:
     file.write(b"".join(images))
 
 
-def script(image):
-    lines = ["boot", "begin", f"open {name} w"]
+def script(image, first=("boot",)):
+    lines = [*first, "begin", f"open {name} w"]
     lines += [f"write 1 {image[at : at + PIECE].hex()}" for at in range(0, len(image), PIECE)]
     return "\n".join(lines + ["commit 1 now", ""]).encode()
 
@@ -51,8 +53,12 @@ out = subprocess.run([fwu, "flash.img", "run"], check=True, capture_output=True,
 assert out[2] == "open SUCCESS handle=1" and set(out[3:-1]) == {"write SUCCESS"} and out[-1] == "commit SUCCESS", out[:5]
 writes = least([([fwu, "flash.img", "run"], script(image)) for image in images])
 idle = least([([fwu, "flash.img", "run"], script(b""))] * len(images))
+text = least([([fwu, "flash.img", "run"], script(image, ())) for image in images]) - least(
+    [([fwu, "flash.img", "run"], script(b"", ()))] * len(images)
+)
 digest = least([(["sha256sum", "images.bin"], None)])
 copy = least([(["cp", "images.bin", "copy.bin"], None)])
 print(f"writes {(writes - idle) * 1000:.1f} ms, sha256sum {digest * 1000:.1f} ms, cp {copy * 1000:.1f} ms (15 MiB, least of {ROUNDS})")
 print(f"ratio {(writes - idle) / (digest + copy):.2f}")
+print(f"of which reading the script's text {text * 1000:.1f} ms; without it, ratio {(writes - idle - text) / (digest + copy):.2f}")
 PY
