@@ -49,6 +49,8 @@ impl Files for ShortFiles {
 
     ghost faults = { λ f. f.inner.calls.faults };
 
+    ghost spoiled = { λ f. f.inner.spoiled };
+
     fn size(&mut self, name: &str) -> Result<Option<u64>, Failed> {
         self.inner.size(name)
     }

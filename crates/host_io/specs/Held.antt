@@ -12,12 +12,19 @@ pub record HeldSink : Type 0 where
   pub taken : List ℕ
   pub calls : Calls
 
--- files: names with their bytes, of which the first of a name counts
+-- files: names with their bytes, of which the first of a name counts, and how many writes failed
 pub record HeldFiles : Type 0 where
   pub files : List (List ℕ × List ℕ)
   pub calls : Calls
+  pub spoiled : ℕ
 
--- an adapter: the reader, the writer or the files of the system that it goes to, and how many calls failed
+-- an adapter: the reader or the writer that it goes to, and how many calls failed
 pub record Adapted (T : Type 0) : Type 0 where
   pub inner : T
   pub faults : ℕ
+
+-- an adapter of files: those of the system that it goes to, and how many calls and how many writes failed
+pub record AdaptedFiles (T : Type 0) : Type 0 where
+  pub inner : T
+  pub faults : ℕ
+  pub spoiled : ℕ

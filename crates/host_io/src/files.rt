@@ -19,13 +19,17 @@ pub trait Files {
     /// How many calls failed.
     ghost faults: { Self → ℕ };
 
+    /// How many writes failed.
+    ghost spoiled: { Self → ℕ };
+
     /// How many bytes the file has. `None` says that no file has the name; files that are not told
     /// answer `Failed` there.
     fn size(&mut self, name: &str) -> Result<Option<u64>, Failed>
         ensures size { IfOk result (TellsSize (contents self.old) name.now) }
         ensures same { contents self.new ≡ contents self.old }
         ensures cause { HasCause (faults self.old) (faults self.new) result }
-        ensures count { faults self.new ≡ failures result (faults self.old) };
+        ensures count { faults self.new ≡ failures result (faults self.old) }
+        ensures unspoiled { spoiled self.new ≡ spoiled self.old };
 
     /// Fills `out` with the bytes of the file from place `at` on.
     fn read_at(&mut self, name: &str, at: u64, out: &mut [u8]) -> Result<(), Failed>
@@ -33,7 +37,8 @@ pub trait Files {
         ensures bytes { OnOk result (TellsRange (contents self.old) name.now at out.new) }
         ensures same { contents self.new ≡ contents self.old }
         ensures cause { HasCause (faults self.old) (faults self.new) result }
-        ensures count { faults self.new ≡ failures result (faults self.old) };
+        ensures count { faults self.new ≡ failures result (faults self.old) }
+        ensures unspoiled { spoiled self.new ≡ spoiled self.old };
 
     /// Adds `count` bytes of the file, from place `at` on, at the end of `out`, which has the room for
     /// them, so that no memory is taken. After `Failed` it is as it was.
@@ -52,16 +57,19 @@ pub trait Files {
         ensures capacity { vec_capacity out.old ≤ vec_capacity out.new }
         ensures same { contents self.new ≡ contents self.old }
         ensures cause { HasCause (faults self.old) (faults self.new) result }
-        ensures count { faults self.new ≡ failures result (faults self.old) };
+        ensures count { faults self.new ≡ failures result (faults self.old) }
+        ensures unspoiled { spoiled self.new ≡ spoiled self.old };
 
     /// Makes the file anew, of these bytes, or writes over all of an old one. After `Failed` nothing
-    /// is known of this name, and no other changed. Files that are not told stay so.
+    /// is known of this name, which counts as spoiled, and no other changed. Files that are not told
+    /// stay so.
     fn write_whole(&mut self, name: &str, bytes: &[u8]) -> Result<(), WriteStop>
         ensures written { OnOk result (Holds (contents self.new) name.now bytes.now) }
         ensures others { ChangesOnly (contents self.old) (contents self.new) name.now }
         ensures memory { result ≡ Err stop.NoMemory → contents self.new ≡ contents self.old }
         ensures cause { HasWriteCause (faults self.old) (faults self.new) result }
-        ensures count { faults self.new ≡ write_failures result (faults self.old) };
+        ensures count { faults self.new ≡ write_failures result (faults self.old) }
+        ensures spoils { spoiled self.new ≡ write_failures result (spoiled self.old) };
 
     /// The contents are told at each time, or never.
     ghost steady: { (f : Self) → is_some (contents f) ≡ tells };

@@ -37,28 +37,34 @@ fn read_piece<F: Read>(file: &mut F, piece: &mut [u8], out: &mut Vec<u8>) -> io:
 pub struct HostFiles<R> {
     rt: R,
     faults: u64,
+    spoiled: u64,
 }
 
 impl<R> Model for HostFiles<R> {
-    ghost use Rattle.host_io.specs.Held.{Adapted};
+    ghost use Rattle.host_io.specs.Held.{AdaptedFiles};
 
-    ghost Value = { Adapted R };
+    ghost Value = { AdaptedFiles R };
 
-    ghost view = { λ f. record { inner = f.rt; faults = f.faults } };
+    ghost view = { λ f. record { inner = f.rt; faults = f.faults; spoiled = f.spoiled } };
 }
 
 impl<R: std::rt::Files> HostFiles<R> {
     /// The files that this runtime reaches.
     pub fn new(rt: R) -> HostFiles<R>
-        ensures { result ≡ record { inner = rt; faults = 0 } }
+        ensures { result ≡ record { inner = rt; faults = 0; spoiled = 0 } }
     {
-        HostFiles { rt, faults: 0 }
+        HostFiles {
+            rt,
+            faults: 0,
+            spoiled: 0,
+        }
     }
 
     // Counts a fault.
     fn fail(&mut self) -> Failed
         ensures count { self.new.faults ≡ raised self.old.faults }
         ensures inner { self.new.inner ≡ self.old.inner }
+        ensures unspoiled { self.new.spoiled ≡ self.old.spoiled }
         ensures rose { Rose self.old.faults self.new.faults }
         ensures later { self.old.faults ≤ self.new.faults }
     {
@@ -111,11 +117,14 @@ impl<R: std::rt::Files> Files for HostFiles<R> {
 
     ghost faults = { λ f. f.faults };
 
+    ghost spoiled = { λ f. f.spoiled };
+
     /// Besides what the trait says, `Ok` always holds a size.
     fn size(&mut self, name: &str) -> Result<Option<u64>, Failed>
         ensures size { IfOk result (λ size. IsSome size) }
         ensures cause { HasCause self.old.faults self.new.faults result }
         ensures count { self.new.faults ≡ failures result self.old.faults }
+        ensures unspoiled { self.new.spoiled ≡ self.old.spoiled }
         ensures inner { self.new.inner ≡ self.old.inner }
     {
         match fs::metadata(&self.rt, name) {
@@ -127,6 +136,7 @@ impl<R: std::rt::Files> Files for HostFiles<R> {
     fn read_at(&mut self, name: &str, at: u64, out: &mut [u8]) -> Result<(), Failed>
         ensures cause { HasCause self.old.faults self.new.faults result }
         ensures count { self.new.faults ≡ failures result self.old.faults }
+        ensures unspoiled { self.new.spoiled ≡ self.old.spoiled }
         ensures inner { self.new.inner ≡ self.old.inner }
     {
         match self.fill(name, at, out) {
@@ -149,6 +159,7 @@ impl<R: std::rt::Files> Files for HostFiles<R> {
         ensures capacity { vec_capacity out.old ≤ vec_capacity out.new }
         ensures cause { HasCause self.old.faults self.new.faults result }
         ensures count { self.new.faults ≡ failures result self.old.faults }
+        ensures unspoiled { self.new.spoiled ≡ self.old.spoiled }
         ensures inner { self.new.inner ≡ self.old.inner }
     {
         let before = out.len();
@@ -166,12 +177,14 @@ impl<R: std::rt::Files> Files for HostFiles<R> {
         ensures failed { OnErr result (result ≡ Err stop.Failed) }
         ensures cause { HasWriteCause self.old.faults self.new.faults result }
         ensures count { self.new.faults ≡ write_failures result self.old.faults }
+        ensures spoils { self.new.spoiled ≡ write_failures result self.old.spoiled }
         ensures inner { self.new.inner ≡ self.old.inner }
     {
         match fs::write(&self.rt, name, bytes) {
             Ok(()) => Ok(()),
             Err(_) => {
                 self.fail();
+                self.spoiled = self.spoiled.saturating_add(1);
                 Err(WriteStop::Failed)
             }
         }

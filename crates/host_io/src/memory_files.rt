@@ -65,6 +65,7 @@ pub struct MemoryFiles {
     alloc: Global,
     files: Vec<(String, Vec<u8>)>,
     calls: CallCounter,
+    spoiled: u64,
 }
 
 impl Model for MemoryFiles {
@@ -73,19 +74,28 @@ impl Model for MemoryFiles {
 
     ghost Value = { HeldFiles };
 
-    ghost view = { λ m. record { files = pairs_of m.files.items; calls = m.calls } };
+    ghost view = { λ m. record {
+      files = pairs_of m.files.items;
+      calls = m.calls;
+      spoiled = m.spoiled;
+    } };
 }
 
 impl MemoryFiles {
     /// Files of these names and bytes, whose calls of these numbers, counted from 1, fail. The names
     /// should differ: of several files of one name the first is seen.
     pub fn new(alloc: Global, files: Vec<(String, Vec<u8>)>, fails: Vec<u64>) -> MemoryFiles
-        ensures { result ≡ record { files = pairs_of files.items; calls = unused fails.items } }
+        ensures { result ≡ record {
+          files = pairs_of files.items;
+          calls = unused fails.items;
+          spoiled = 0;
+        } }
     {
         MemoryFiles {
             alloc,
             files,
             calls: CallCounter::new(fails),
+            spoiled: 0,
         }
     }
 
@@ -106,12 +116,15 @@ impl Files for MemoryFiles {
 
     ghost faults = { λ m. m.calls.faults };
 
+    ghost spoiled = { λ m. m.spoiled };
+
     /// Besides what the trait says, it fails exactly at the listed calls.
     fn size(&mut self, name: &str) -> Result<Option<u64>, Failed>
         ensures size { IfOk result (TellsSize (Some (bytes_in self.old.files)) name.now) }
         ensures same { Some (bytes_in self.new.files) ≡ Some (bytes_in self.old.files) }
         ensures cause { HasCause self.old.calls.faults self.new.calls.faults result }
         ensures count { self.new.calls.faults ≡ failures result self.old.calls.faults }
+        ensures unspoiled { self.new.spoiled ≡ self.old.spoiled }
         ensures listed { IsErr result ↔ IsListed self.old.calls }
         ensures calls { self.new.calls ≡ counted result self.old.calls }
     {
@@ -126,6 +139,7 @@ impl Files for MemoryFiles {
         ensures same { Some (bytes_in self.new.files) ≡ Some (bytes_in self.old.files) }
         ensures cause { HasCause self.old.calls.faults self.new.calls.faults result }
         ensures count { self.new.calls.faults ≡ failures result self.old.calls.faults }
+        ensures unspoiled { self.new.spoiled ≡ self.old.spoiled }
         ensures listed { IsErr result ↔ IsListed self.old.calls }
         ensures calls { self.new.calls ≡ counted result self.old.calls }
     {
@@ -154,6 +168,7 @@ impl Files for MemoryFiles {
         ensures same { Some (bytes_in self.new.files) ≡ Some (bytes_in self.old.files) }
         ensures cause { HasCause self.old.calls.faults self.new.calls.faults result }
         ensures count { self.new.calls.faults ≡ failures result self.old.calls.faults }
+        ensures unspoiled { self.new.spoiled ≡ self.old.spoiled }
         ensures listed { IsErr result ↔ IsListed self.old.calls }
         ensures calls { self.new.calls ≡ counted result self.old.calls }
     {
@@ -175,12 +190,14 @@ impl Files for MemoryFiles {
             Some (bytes_in self.new.files) ≡ Some (bytes_in self.old.files) }
         ensures cause { HasWriteCause self.old.calls.faults self.new.calls.faults result }
         ensures count { self.new.calls.faults ≡ write_failures result self.old.calls.faults }
+        ensures spoils { self.new.spoiled ≡ write_failures result self.old.spoiled }
         ensures listed { (result ≡ Err stop.Failed) ↔ IsListed self.old.calls }
         ensures calls { self.new.calls ≡ write_counted result self.old.calls }
         ensures unchanged { OnErr result (self.new.files ≡ self.old.files) }
     {
         if self.calls.fails_next() {
             self.calls.fail();
+            self.spoiled = self.spoiled.saturating_add(1);
             return Err(WriteStop::Failed);
         }
         put_bytes(self.alloc, &mut self.files, name, bytes)?;

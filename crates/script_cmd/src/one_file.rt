@@ -23,6 +23,8 @@ impl Files for OneFile {
 
     ghost faults = { λ _. 0 };
 
+    ghost spoiled = { λ _. 0 };
+
     fn size(&mut self, name: &str) -> Result<Option<u64>, Failed> {
         if self.name.as_str() == name {
             Ok(Some(self.bytes.len() as u64))
