@@ -8,9 +8,10 @@ use Rattle.fip_tables.specs.declared.toc.TocStop.TheVariants as stop
 use Rattle.fip_tables.specs.Files.{HasFed, IsAnswer, IsFault, IsOfSome, Tells}
 use Rattle.fip_tables.specs.Stream.{Stream}
 
-pub record IsFeeding (told : Option Directory) (name : List ℕ) (now : Option Directory) (before faults : ℕ) (stream : Stream) (size at : ℕ) : Type 0 where
+pub record IsFeeding (told : Option Directory) (name : List ℕ) (now : Option Directory) (before faults kept spoiled : ℕ) (stream : Stream) (size at : ℕ) : Type 0 where
   pub same : now ≡ told
   pub later : before ≤ faults
+  pub unspoiled : spoiled ≡ kept
   pub inside : at ≤ size
   pub count : stream.count ≡ at
   pub fed : HasFed told name stream at
