@@ -140,9 +140,10 @@ pub none-yet : (end : ℕ) → AreEntries [] end
 none-yet end = record { few = omega arith; inside = λ k d lt. absurd (omega (arith, lt)); distinct = refl }
 
 -- so many items are read
-pub record HasItems (told : Option Directory) (name : List ℕ) (now : Option Directory) (before faults : ℕ) (entries : List Entry) (s : Shape) (i : ℕ) : Type 0 where
+pub record HasItems (told : Option Directory) (name : List ℕ) (now : Option Directory) (before faults kept spoiled : ℕ) (entries : List Entry) (s : Shape) (i : ℕ) : Type 0 where
   pub same : now ≡ told
   pub later : before ≤ faults
+  pub unspoiled : spoiled ≡ kept
   pub count : length entries ≡ i
   pub any : AreEntries entries s.end
   pub entries_are : (bytes : List ℕ) → Tells told name bytes → entries ≡ entries_in bytes s i
