@@ -69,10 +69,10 @@ file-there out bytes files (Some d) are =
     are out ∙ rw same refl
 
 -- a command that was done has a value
-done-has : {X : Type 0} (steps : X → List Step) (r : Result X Stop) (files : Directory) (now : Option Directory) (was text : Option (List ℕ)) (rose sink-rose : Type 0)
-    → Did (outcome_by steps r) files now was text rose sink-rose (Ok tt) → (x : X) × (r ≡ Ok x) × Are now (written (steps x) files)
-done-has steps (Ok x) files now was text rose sink-rose d = (x, refl, d.1)
-done-has steps (Err s) files now was text rose sink-rose d = let no : Refuses s ≡ Makes [] = d.0 in cc
+done-has : {X : Type 0} (steps : X → List Step) (r : Result X Stop) (files : Directory) (now : Option Directory) (was text : Option (List ℕ)) (rose spoiled sink-rose : Type 0)
+    → Did (outcome_by steps r) files now was text rose spoiled sink-rose (Ok tt) → (x : X) × (r ≡ Ok x) × Are now (written (steps x) files)
+done-has steps (Ok x) files now was text rose spoiled sink-rose d = (x, refl, d.1)
+done-has steps (Err s) files now was text rose spoiled sink-rose d = let no : Refuses s ≡ Makes [] = d.0 in cc
 
 -- ---- a package as a capsule
 
@@ -168,22 +168,22 @@ package-kept files now a from out made value are = by-file (files from) refl val
 
 -- ---- by the words
 
-pub converted : (a : Option Asked) (files : Directory) (now : Option Directory) (was text : Option (List ℕ)) (rose sink-rose : Type 0)
-    → (a ≢ Some info_of_source → Did (outcome_of a files) files now was text rose sink-rose (Ok tt)) → Converts a files now
-converted None files now was text rose sink-rose h = tt
-converted (Some (capsule from out)) files now was text rose sink-rose h =
-    let d = done-has (encloses out) (capsule_value files from) files now was text rose sink-rose (h (λ e. cc)) in
+pub converted : (a : Option Asked) (files : Directory) (now : Option Directory) (was text : Option (List ℕ)) (rose spoiled sink-rose : Type 0)
+    → (a ≢ Some info_of_source → Did (outcome_of a files) files now was text rose spoiled sink-rose (Ok tt)) → Converts a files now
+converted None files now was text rose spoiled sink-rose h = tt
+converted (Some (capsule from out)) files now was text rose spoiled sink-rose h =
+    let d = done-has (encloses out) (capsule_value files from) files now was text rose spoiled sink-rose (h (λ e. cc)) in
     capsule-kept files now from out d.0 d.1 d.2
-converted (Some (repackage a from out)) files now was text rose sink-rose h =
-    let d = done-has (packs out) (repackage_value files a from) files now was text rose sink-rose (h (λ e. cc)) in
+converted (Some (repackage a from out)) files now was text rose spoiled sink-rose h =
+    let d = done-has (packs out) (repackage_value files a from) files now was text rose spoiled sink-rose (h (λ e. cc)) in
     package-kept files now a from out d.0 d.1 d.2
-converted (Some (info file)) files now was text rose sink-rose h = tt
-converted (Some info_of_source) files now was text rose sink-rose h = tt
-converted (Some (create a out parts)) files now was text rose sink-rose h = tt
-converted (Some (update a from out parts)) files now was text rose sink-rose h = tt
-converted (Some (remove a from out names)) files now was text rose sink-rose h = tt
-converted (Some (unpack from prefix names)) files now was text rose sink-rose h = tt
-converted (Some (manifest out security rows)) files now was text rose sink-rose h = tt
+converted (Some (info file)) files now was text rose spoiled sink-rose h = tt
+converted (Some info_of_source) files now was text rose spoiled sink-rose h = tt
+converted (Some (create a out parts)) files now was text rose spoiled sink-rose h = tt
+converted (Some (update a from out parts)) files now was text rose spoiled sink-rose h = tt
+converted (Some (remove a from out names)) files now was text rose spoiled sink-rose h = tt
+converted (Some (unpack from prefix names)) files now was text rose spoiled sink-rose h = tt
+converted (Some (manifest out security rows)) files now was text rose spoiled sink-rose h = tt
 
 -- no stop has the status 0
 pub no-zero : (s : Stop) → status_number s ≡ 0 → ⊥

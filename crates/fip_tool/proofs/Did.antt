@@ -3,7 +3,7 @@ use Rattle.std.proofs.Common.{◌≡◌, ◌⊎◌, inl, inr, ℕ, List, [], ◌
 use Rattle.std.specs.Io.KnownBytes.{Appends}
 use Rattle.std.proofs.KnownBytes.{Appends-nil}
 use Rattle.host_io.specs.Contents.{Directory}
-use Rattle.fip_tool.specs.Steps.{Outcome, Makes, Refuses, Step, Writes, Prints, Are, AreUpTo, Did, Gives, Printed, outcome_by}
+use Rattle.fip_tool.specs.Steps.{Outcome, Makes, Refuses, Step, Writes, Prints, Are, AreUpTo, StandAfter, Did, Gives, Printed, outcome_by}
 use Rattle.fip_tool.specs.Tool.{prints}
 use Rattle.fip_tool.specs.declared.stops.Stop.{Stop}
 use Rattle.fip_tool.specs.declared.stops.Stop.TheVariants as stop
@@ -23,72 +23,78 @@ appends-none was text e = subst (λ (t : Option (List ℕ)). Appends was t []) (
 
 -- a part that stopped before anything was done
 pub refused : {A X : Type 0} (steps : X → List Step) (view : A → X) (value : Result X Stop) (files : Directory) (now : Option Directory) (was text : Option (List ℕ))
-    (files-rose sink-rose : Type 0) (s : Stop) → Gives view files-rose value (Err s) → now ≡ Some files → text ≡ was
-    → Did (outcome_by steps value) files now was text files-rose sink-rose (Err s)
-refused steps view value files now was text files-rose sink-rose stop.Usage g e t = (ap (outcome_by steps) g, are-told files now e, appends-none was text t)
-refused steps view value files now was text files-rose sink-rose stop.FileFault (inl g) e t =
-    (inl (ap (outcome_by steps) g), 0, are-up-to _ now files (are-told files now e), appends-none was text t)
-refused steps view value files now was text files-rose sink-rose stop.FileFault (inr g) e t =
-    (inr g, 0, are-up-to _ now files (are-told files now e), appends-none was text t)
-refused steps view value files now was text files-rose sink-rose stop.SinkFault g e t = absurd g
-refused steps view value files now was text files-rose sink-rose (stop.NotFip f) g e t = (ap (outcome_by steps) g, are-told files now e, appends-none was text t)
-refused steps view value files now was text files-rose sink-rose (stop.NoSuchEntry guid) g e t = (ap (outcome_by steps) g, are-told files now e, appends-none was text t)
-refused steps view value files now was text files-rose sink-rose (stop.NotPacked f) g e t = (ap (outcome_by steps) g, are-told files now e, appends-none was text t)
-refused steps view value files now was text files-rose sink-rose (stop.NoManifest f) g e t = (ap (outcome_by steps) g, are-told files now e, appends-none was text t)
-refused steps view value files now was text files-rose sink-rose stop.TooLong g e t = (ap (outcome_by steps) g, are-told files now e, appends-none was text t)
-refused steps view value files now was text files-rose sink-rose (stop.NotCapsule f) g e t = (ap (outcome_by steps) g, are-told files now e, appends-none was text t)
-refused steps view value files now was text files-rose sink-rose stop.NoMemory g e t = (0, are-told files now e, appends-none was text t)
+    (files-rose spoiled sink-rose : Type 0) (s : Stop) → Gives view files-rose value (Err s) → now ≡ Some files → text ≡ was
+    → Did (outcome_by steps value) files now was text files-rose spoiled sink-rose (Err s)
+refused steps view value files now was text files-rose spoiled sink-rose stop.Usage g e t = (ap (outcome_by steps) g, are-told files now e, appends-none was text t)
+refused steps view value files now was text files-rose spoiled sink-rose stop.FileFault (inl g) e t =
+    (inl (ap (outcome_by steps) g), 0, inl (are-told files now e), appends-none was text t)
+refused steps view value files now was text files-rose spoiled sink-rose stop.FileFault (inr g) e t =
+    (inr g, 0, inl (are-told files now e), appends-none was text t)
+refused steps view value files now was text files-rose spoiled sink-rose stop.SinkFault g e t = absurd g
+refused steps view value files now was text files-rose spoiled sink-rose (stop.NotFip f) g e t = (ap (outcome_by steps) g, are-told files now e, appends-none was text t)
+refused steps view value files now was text files-rose spoiled sink-rose (stop.NoSuchEntry guid) g e t = (ap (outcome_by steps) g, are-told files now e, appends-none was text t)
+refused steps view value files now was text files-rose spoiled sink-rose (stop.NotPacked f) g e t = (ap (outcome_by steps) g, are-told files now e, appends-none was text t)
+refused steps view value files now was text files-rose spoiled sink-rose (stop.NoManifest f) g e t = (ap (outcome_by steps) g, are-told files now e, appends-none was text t)
+refused steps view value files now was text files-rose spoiled sink-rose stop.TooLong g e t = (ap (outcome_by steps) g, are-told files now e, appends-none was text t)
+refused steps view value files now was text files-rose spoiled sink-rose (stop.NotCapsule f) g e t = (ap (outcome_by steps) g, are-told files now e, appends-none was text t)
+refused steps view value files now was text files-rose spoiled sink-rose stop.NoMemory g e t = (0, are-told files now e, appends-none was text t)
 
 -- a text that was made, and printed
 made : (piece : List ℕ) (files : Directory) (now : Option Directory) (was text : Option (List ℕ))
-    (files-rose sink-rose : Type 0) (r : Result (Unit {0}) Stop) → now ≡ Some files → Printed was text sink-rose piece r
-    → Did (Makes (prints piece)) files now was text files-rose sink-rose r
-made piece files now was text files-rose sink-rose (Ok u) e p =
+    (files-rose spoiled sink-rose : Type 0) (r : Result (Unit {0}) Stop) → now ≡ Some files → Printed was text sink-rose piece r
+    → Did (Makes (prints piece)) files now was text files-rose spoiled sink-rose r
+made piece files now was text files-rose spoiled sink-rose (Ok u) e p =
     (refl, are-told files now e, subst (Appends was text) (sym (append-nil piece)) p)
-made piece files now was text files-rose sink-rose (Err stop.SinkFault) e p =
+made piece files now was text files-rose spoiled sink-rose (Err stop.SinkFault) e p =
     (p.0, 0, are-told files now e, p.1, p.2)
-made piece files now was text files-rose sink-rose (Err stop.NoMemory) e p = (0, are-told files now e, appends-none was text p)
-made piece files now was text files-rose sink-rose (Err stop.Usage) e p = absurd p
-made piece files now was text files-rose sink-rose (Err stop.FileFault) e p = absurd p
-made piece files now was text files-rose sink-rose (Err (stop.NotFip f)) e p = absurd p
-made piece files now was text files-rose sink-rose (Err (stop.NoSuchEntry guid)) e p = absurd p
-made piece files now was text files-rose sink-rose (Err (stop.NotPacked f)) e p = absurd p
-made piece files now was text files-rose sink-rose (Err (stop.NoManifest f)) e p = absurd p
-made piece files now was text files-rose sink-rose (Err stop.TooLong) e p = absurd p
-made piece files now was text files-rose sink-rose (Err (stop.NotCapsule f)) e p = absurd p
+made piece files now was text files-rose spoiled sink-rose (Err stop.NoMemory) e p = (0, are-told files now e, appends-none was text p)
+made piece files now was text files-rose spoiled sink-rose (Err stop.Usage) e p = absurd p
+made piece files now was text files-rose spoiled sink-rose (Err stop.FileFault) e p = absurd p
+made piece files now was text files-rose spoiled sink-rose (Err (stop.NotFip f)) e p = absurd p
+made piece files now was text files-rose spoiled sink-rose (Err (stop.NoSuchEntry guid)) e p = absurd p
+made piece files now was text files-rose spoiled sink-rose (Err (stop.NotPacked f)) e p = absurd p
+made piece files now was text files-rose spoiled sink-rose (Err (stop.NoManifest f)) e p = absurd p
+made piece files now was text files-rose spoiled sink-rose (Err stop.TooLong) e p = absurd p
+made piece files now was text files-rose spoiled sink-rose (Err (stop.NotCapsule f)) e p = absurd p
 
 pub printed-text : (value : Result (List ℕ) Stop) (piece : List ℕ) (files : Directory) (now : Option Directory) (was text : Option (List ℕ))
-    (files-rose sink-rose : Type 0) (r : Result (Unit {0}) Stop) → value ≡ Ok piece → now ≡ Some files → Printed was text sink-rose piece r
-    → Did (outcome_by prints value) files now was text files-rose sink-rose r
-printed-text value piece files now was text files-rose sink-rose r v e p =
-    subst (λ (o : Outcome). Did o files now was text files-rose sink-rose r) (sym (ap (outcome_by prints) v)) (made piece files now was text files-rose sink-rose r e p)
+    (files-rose spoiled sink-rose : Type 0) (r : Result (Unit {0}) Stop) → value ≡ Ok piece → now ≡ Some files → Printed was text sink-rose piece r
+    → Did (outcome_by prints value) files now was text files-rose spoiled sink-rose r
+printed-text value piece files now was text files-rose spoiled sink-rose r v e p =
+    subst (λ (o : Outcome). Did o files now was text files-rose spoiled sink-rose r) (sym (ap (outcome_by prints) v)) (made piece files now was text files-rose spoiled sink-rose r e p)
 
 -- a file that failed in a part of a command failed in the whole
-pub did-later : (outcome : Outcome) (files : Directory) (now : Option Directory) (was text : Option (List ℕ)) (rose late sink-rose : Type 0) (r : Result (Unit {0}) Stop) → (rose → late)
-    → Did outcome files now was text rose sink-rose r → Did outcome files now was text late sink-rose r
-did-later outcome files now was text rose late sink-rose (Ok u) rises d = d
-did-later outcome files now was text rose late sink-rose (Err stop.FileFault) rises d = (cause d.0, d.1, d.2, d.3)
+pub did-later : (outcome : Outcome) (files : Directory) (now : Option Directory) (was text : Option (List ℕ)) (rose late spoiled spoiled-late sink-rose : Type 0) (r : Result (Unit {0}) Stop) → (rose → late) → (spoiled → spoiled-late)
+    → Did outcome files now was text rose spoiled sink-rose r → Did outcome files now was text late spoiled-late sink-rose r
+did-later outcome files now was text rose late spoiled spoiled-late sink-rose (Ok u) rises spoils d = d
+did-later outcome files now was text rose late spoiled spoiled-late sink-rose (Err stop.FileFault) rises spoils d = (cause d.0, d.1, stand d.1 d.2, d.3)
   where
     cause : (outcome ≡ Refuses stop.FileFault) ⊎ rose → (outcome ≡ Refuses stop.FileFault) ⊎ late
     cause (inl e) = inl e
     cause (inr r) = inr (rises r)
-did-later outcome files now was text rose late sink-rose (Err stop.NoMemory) rises d = d
-did-later outcome files now was text rose late sink-rose (Err stop.SinkFault) rises d = d
-did-later outcome files now was text rose late sink-rose (Err stop.Usage) rises d = d
-did-later outcome files now was text rose late sink-rose (Err (stop.NotFip f)) rises d = d
-did-later outcome files now was text rose late sink-rose (Err (stop.NoSuchEntry guid)) rises d = d
-did-later outcome files now was text rose late sink-rose (Err (stop.NotPacked f)) rises d = d
-did-later outcome files now was text rose late sink-rose (Err (stop.NoManifest f)) rises d = d
-did-later outcome files now was text rose late sink-rose (Err stop.TooLong) rises d = d
-did-later outcome files now was text rose late sink-rose (Err (stop.NotCapsule f)) rises d = d
+
+    stand : (n : ℕ) → StandAfter n outcome files now spoiled → StandAfter n outcome files now spoiled-late
+    stand n (inl are) = inl are
+    stand n (inr up) = inr (spoils up.0, up.1)
+did-later outcome files now was text rose late spoiled spoiled-late sink-rose (Err stop.NoMemory) rises spoils d = d
+did-later outcome files now was text rose late spoiled spoiled-late sink-rose (Err stop.SinkFault) rises spoils d = d
+did-later outcome files now was text rose late spoiled spoiled-late sink-rose (Err stop.Usage) rises spoils d = d
+did-later outcome files now was text rose late spoiled spoiled-late sink-rose (Err (stop.NotFip f)) rises spoils d = d
+did-later outcome files now was text rose late spoiled spoiled-late sink-rose (Err (stop.NoSuchEntry guid)) rises spoils d = d
+did-later outcome files now was text rose late spoiled spoiled-late sink-rose (Err (stop.NotPacked f)) rises spoils d = d
+did-later outcome files now was text rose late spoiled spoiled-late sink-rose (Err (stop.NoManifest f)) rises spoils d = d
+did-later outcome files now was text rose late spoiled spoiled-late sink-rose (Err stop.TooLong) rises spoils d = d
+did-later outcome files now was text rose late spoiled spoiled-late sink-rose (Err (stop.NotCapsule f)) rises spoils d = d
 
 -- want of memory before anything was done
-pub no-memory-yet : (outcome : Outcome) (files : Directory) (now : Option Directory) (was text : Option (List ℕ)) (files-rose sink-rose : Type 0) → now ≡ Some files → text ≡ was
-    → Did outcome files now was text files-rose sink-rose (Err stop.NoMemory)
-no-memory-yet outcome files now was text files-rose sink-rose e t = (0, are-told files now e, appends-none was text t)
+pub no-memory-yet : (outcome : Outcome) (files : Directory) (now : Option Directory) (was text : Option (List ℕ)) (files-rose spoiled sink-rose : Type 0) → now ≡ Some files → text ≡ was
+    → Did outcome files now was text files-rose spoiled sink-rose (Err stop.NoMemory)
+no-memory-yet outcome files now was text files-rose spoiled sink-rose e t = (0, are-told files now e, appends-none was text t)
 
 -- the steps of a value that was made
-pub made-steps : {X : Type 0} (steps : X → List Step) (value : Result X Stop) (x : X) (files : Directory) (now : Option Directory) (was text : Option (List ℕ)) (rose late sink-rose : Type 0)
-    (r : Result (Unit {0}) Stop) → value ≡ Ok x → (rose → late) → Did (Makes (steps x)) files now was text rose sink-rose r → Did (outcome_by steps value) files now was text late sink-rose r
-made-steps steps value x files now was text rose late sink-rose r v rises d =
-    subst (λ (o : Outcome). Did o files now was text late sink-rose r) (sym (ap (outcome_by steps) v)) (did-later (Makes (steps x)) files now was text rose late sink-rose r rises d)
+pub made-steps : {X : Type 0} (steps : X → List Step) (value : Result X Stop) (x : X) (files : Directory) (now : Option Directory) (was text : Option (List ℕ)) (rose late spoiled spoiled-late sink-rose : Type 0)
+    (r : Result (Unit {0}) Stop) → value ≡ Ok x → (rose → late) → (spoiled → spoiled-late) → Did (Makes (steps x)) files now was text rose spoiled sink-rose r
+    → Did (outcome_by steps value) files now was text late spoiled-late sink-rose r
+made-steps steps value x files now was text rose late spoiled spoiled-late sink-rose r v rises spoils d =
+    subst (λ (o : Outcome). Did o files now was text late spoiled-late sink-rose r) (sym (ap (outcome_by steps) v))
+    (did-later (Makes (steps x)) files now was text rose late spoiled spoiled-late sink-rose r rises spoils d)

@@ -25,9 +25,10 @@ use Rattle.fip_tool.proofs.Tables.{gives-err, tells}
 -- ---- what the loop keeps
 
 -- the first items are in, and the next one's number is index
-pub record IsFilled (start now : Option Directory) (before faults : ℕ) (room : ℕ) (bytes : List ℕ) (ps : List Payload) (index i : ℕ) : Type 0 where
+pub record IsFilled (start now : Option Directory) (before faults kept spoiled : ℕ) (room : ℕ) (bytes : List ℕ) (ps : List Payload) (index i : ℕ) : Type 0 where
   pub same : now ≡ start
   pub later : before ≤ faults
+  pub unspoiled : spoiled ≡ kept
   pub number : index ≡ i + 1
   pub few : length ps ≤ 64
   pub small : capsule_size (map outline_of ps) ≤ 67108864
@@ -54,12 +55,13 @@ no-fault : (o : Option PackFault) → unless_fault {X = Unit {0}} o tt ≡ Ok tt
 no-fault None e = refl
 no-fault (Some f) e = cc
 
-pub begins : (start : Option Directory) (before room : ℕ) (bytes : List ℕ) (ps : List Payload) (os : List Part) → All (IsThere start) ps → os ≡ map outline_of ps → bytes ≡ front_bytes os → capsule_size os ≤ room → enclose_fit os ≡ Ok tt
-    → IsFilled start start before before room bytes ps 1 0
+pub begins : (start : Option Directory) (before kept room : ℕ) (bytes : List ℕ) (ps : List Payload) (os : List Part) → All (IsThere start) ps → os ≡ map outline_of ps → bytes ≡ front_bytes os → capsule_size os ≤ room → enclose_fit os ≡ Ok tt
+    → IsFilled start start before before kept kept room bytes ps 1 0
 unfolding capsule_bytes
-begins start before room bytes ps os all same front space fits = record {
+begins start before kept room bytes ps os all same front space fits = record {
   same = refl;
   later = omega arith;
+  unspoiled = refl;
   number = refl;
   few = omega (arith, few-parts os (no-fault (make_fault os) fits), ap length same, length-map ps outline_of);
   small = subst (λ (l : List Part). capsule_size l ≤ 67108864) same (size-passes os (no-fault (make_fault os) fits));
@@ -94,11 +96,13 @@ zeroed-is told p h =
     heads e = cc
 
 -- one more item is in
-pub filled : (start now : Option Directory) (before f g room more : ℕ) (bytes whole : List ℕ) (ps : List Payload) (index i : ℕ) (p : Payload) → i < length ps → p ≡ get_or ps i p → All (IsThere start) ps
-    → IsFilled start now before f room bytes ps index i → AddsItem now p index bytes whole → (after : Option Directory) → after ≡ now → f ≤ g → room ≤ more → IsFilled start after before g more whole ps (index + 1) (i + 1)
-filled start now before f g room more bytes whole ps index i p lt is all h a after kept rises wide = record {
-  same = kept ∙ h.same;
+pub filled : (start now : Option Directory) (before f g kept spoiled now-spoiled room more : ℕ) (bytes whole : List ℕ) (ps : List Payload) (index i : ℕ) (p : Payload) → i < length ps → p ≡ get_or ps i p → All (IsThere start) ps
+    → IsFilled start now before f kept spoiled room bytes ps index i → AddsItem now p index bytes whole → (after : Option Directory) → after ≡ now → f ≤ g → now-spoiled ≡ spoiled → room ≤ more
+    → IsFilled start after before g kept now-spoiled more whole ps (index + 1) (i + 1)
+filled start now before f g kept spoiled now-spoiled room more bytes whole ps index i p lt is all h a after same rises still wide = record {
+  same = same ∙ h.same;
   later = omega (arith, h.later, rises);
+  unspoiled = still ∙ h.unspoiled;
   number = ap (λ (n : ℕ). n + 1) h.number;
   few = h.few;
   small = h.small;
@@ -119,9 +123,9 @@ filled start now before f g room more bytes whole ps index i p lt is all h a aft
 -- ---- the end
 
 -- all items are in
-pub ends : (start now : Option Directory) (before f room : ℕ) (bytes : List ℕ) (ps : List Payload) (index i : ℕ) → length ps ≤ i → IsFilled start now before f room bytes ps index i
+pub ends : (start now : Option Directory) (before f kept spoiled room : ℕ) (bytes : List ℕ) (ps : List Payload) (index i : ℕ) → length ps ≤ i → IsFilled start now before f kept spoiled room bytes ps index i
     → (told : Directory) → start ≡ Some told → bytes ≡ capsule_bytes (map (part_told told) ps)
-ends start now before f room bytes ps index i le h told e =
+ends start now before f kept spoiled room bytes ps index i le h told e =
     let parts = map (part_told told) ps in
     let none : drop i parts ≡ [] = drop_all i parts (omega (arith, le, length-map ps (part_told told))) in
     sym (append-nil bytes) ∙ ap (λ (l : List Part). bytes ++ items_bytes index l) (sym none) ∙ h.so-far told e

@@ -348,11 +348,11 @@ gives-same view rose late v w (Err s) rises e g = gives-err view view rose late 
 
 -- the file and the line of a manifest
 pub manifest-written : (files : Directory) (out : List ℕ) (security : ℕ) (value : Result (ℕ × List ℕ) Stop) (made : ℕ × List ℕ) (bytes line : List ℕ) (now : Option Directory)
-    (was text : Option (List ℕ)) (rose late sink-rose : Type 0) (r : Result (Unit {0}) Stop) → value ≡ Ok made → bytes ≡ made.1 → line ≡ manifest_line made.0 (length made.1) security
-    → (rose → late) → Did (Makes (Writes out bytes ∷ Prints line ∷ [])) files now was text rose sink-rose r
-    → Did (outcome_by (writes_manifest out security) value) files now was text late sink-rose r
-manifest-written files out security value made bytes line now was text rose late sink-rose r v same said rises did =
+    (was text : Option (List ℕ)) (rose late spoiled spoiled-late sink-rose : Type 0) (r : Result (Unit {0}) Stop) → value ≡ Ok made → bytes ≡ made.1 → line ≡ manifest_line made.0 (length made.1) security
+    → (rose → late) → (spoiled → spoiled-late) → Did (Makes (Writes out bytes ∷ Prints line ∷ [])) files now was text rose spoiled sink-rose r
+    → Did (outcome_by (writes_manifest out security) value) files now was text late spoiled-late sink-rose r
+manifest-written files out security value made bytes line now was text rose late spoiled spoiled-late sink-rose r v same said rises spoils did =
     let steps : Writes out bytes ∷ Prints line ∷ [] ≡ writes_manifest out security made =
     ap (λ (l : List ℕ). Writes out l ∷ Prints line ∷ []) same ∙ ap (λ (l : List ℕ). Writes out made.1 ∷ Prints l ∷ []) said in
-    made-steps (writes_manifest out security) value made files now was text rose late sink-rose r v rises
-    (subst (λ (steps : List Step). Did (Makes steps) files now was text rose sink-rose r) steps did)
+    made-steps (writes_manifest out security) value made files now was text rose late spoiled spoiled-late sink-rose r v rises spoils
+    (subst (λ (steps : List Step). Did (Makes steps) files now was text rose spoiled sink-rose r) steps did)

@@ -7,16 +7,16 @@ use Rattle.fip_tool.specs.Steps.{Are, Did, Printed, outcome_by}
 use Rattle.fip_tool.specs.Tool.{GivenTo, IsReadFor, given_value, no_files, prints}
 use Rattle.fip_tool.specs.declared.stops.Stop.{Stop}
 use Rattle.fip_tool.specs.declared.stops.Stop.TheVariants as stop
-use Rattle.fip_tool.proofs.Did.{are-up-to, printed-text}
+use Rattle.fip_tool.proofs.Did.{printed-text}
 
 none-changed : Are (Some no_files) no_files
 none-changed = λ name. refl
 
 -- a listing that stopped before it printed
 pub source-refused : {A : Type 0} (view : A → List ℕ) (was left text : Option (List ℕ)) (rose sink-rose : Type 0) (given : List ℕ) (s : Stop) → GivenTo view given_value was left rose (Err s) given
-    → IsReadFor (Err s) was left given × Did (outcome_by prints (given_value given)) no_files (Some no_files) text text rose sink-rose (Err s)
+    → IsReadFor (Err s) was left given × Did (outcome_by prints (given_value given)) no_files (Some no_files) text text rose ⊥ sink-rose (Err s)
 source-refused view was left text rose sink-rose given (stop.NotFip f) g = ((g.0, g.1), (ap (outcome_by prints) g.2, none-changed, Appends-nil text))
-source-refused view was left text rose sink-rose given stop.FileFault g = (g.0, (inr g.1, 0, are-up-to _ (Some no_files) no_files none-changed, Appends-nil text))
+source-refused view was left text rose sink-rose given stop.FileFault g = (g.0, (inr g.1, 0, inl none-changed, Appends-nil text))
 source-refused view was left text rose sink-rose given stop.NoMemory g = (g, (0, none-changed, Appends-nil text))
 source-refused view was left text rose sink-rose given stop.SinkFault g = absurd g
 source-refused view was left text rose sink-rose given stop.Usage g = (g.0, (ap (outcome_by prints) g.1, none-changed, Appends-nil text))
@@ -41,9 +41,9 @@ read-all was left taken text sink-rose given piece (Err stop.NoMemory) c e p = c
 
 pub source-printed : (was left taken text : Option (List ℕ)) (rose sink-rose : Type 0) (given piece : List ℕ) (r : Result (Unit {0}) Stop) → Consumes was left given × IsAtEnd left × (given_value given ≡ Ok piece)
     → Printed taken text sink-rose piece r
-    → IsReadFor r was left given × Did (outcome_by prints (given_value given)) no_files (Some no_files) taken text rose sink-rose r
+    → IsReadFor r was left given × Did (outcome_by prints (given_value given)) no_files (Some no_files) taken text rose ⊥ sink-rose r
 source-printed was left taken text rose sink-rose given piece r g p =
-    (read-all was left taken text sink-rose given piece r g.0 g.1 p, printed-text (given_value given) piece no_files (Some no_files) taken text rose sink-rose r g.2 refl p)
+    (read-all was left taken text sink-rose given piece r g.0 g.1 p, printed-text (given_value given) piece no_files (Some no_files) taken text rose ⊥ sink-rose r g.2 refl p)
 
 consumed : (was left : Option (List ℕ)) (given : List ℕ) (s : Stop) → IsReadFor (Err s) was left given → Consumes was left given
 consumed was left given (stop.NotFip f) r = r.0

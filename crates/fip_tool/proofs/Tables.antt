@@ -17,6 +17,11 @@ pub rose-from : (a b c : ℕ) → a ≤ b → Rose b c → Rose a c
 rose-from a b c le (inl rose) = inl (omega arith)
 rose-from a b c le (inr full) = inr full
 
+-- from a count that was the same
+pub rose-still : (a b c : ℕ) → a ≡ b → Rose b c → Rose a c
+rose-still a b c same (inl rose) = inl (omega arith)
+rose-still a b c same (inr full) = inr full
+
 pub rose-until : (a b c : ℕ) → Rose a b → b ≤ c → Rose a c
 rose-until a b c (inl rose) le = inl (omega arith)
 rose-until a b c (inr full) le = inr (omega arith)

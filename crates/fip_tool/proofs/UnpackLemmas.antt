@@ -20,7 +20,7 @@ use Rattle.host_io.specs.Contents.{Directory}
 use Rattle.fip_tables.specs.Files.{Lacks, Tells}
 use Rattle.fwu_formats.specs.Package.{Entry, payload}
 use Rattle.fip_tool.specs.Lines.{unpacked_line, unpacked_name}
-use Rattle.fip_tool.specs.Steps.{Makes, Refuses, Step, Writes, Prints, Are, AreUpTo, Did, half_printed, printed, with_file, written}
+use Rattle.fip_tool.specs.Steps.{Makes, Refuses, Step, Writes, Prints, Are, AreUpTo, StandAfter, Did, half_printed, printed, with_file, written}
 use Rattle.fip_tool.specs.Tool.{chosen, is_named, there, unpack_steps}
 use Rattle.fip_tool.specs.declared.stops.Stop.{Stop}
 use Rattle.fip_tool.specs.declared.stops.Stop.TheVariants as stop
@@ -98,8 +98,8 @@ half-more k [] rest = (0, half-none rest)
 half-more k (Writes name bytes ∷ left) rest = (k, refl)
 half-more k (Prints text ∷ left) rest = (k, refl)
 
-module _ (first second rest : List Step) (files mid : Directory) (now : Option Directory) (was at text : Option (List ℕ)) (rose late sink-rose sink-late : Type 0)
-    (done : IsDone first files mid was at) (rises : rose → late) (sink-rises : sink-rose → sink-late) where
+module _ (first second rest : List Step) (files mid : Directory) (now : Option Directory) (was at text : Option (List ℕ)) (rose late spoiled spoiled-late sink-rose sink-late : Type 0)
+    (done : IsDone first files mid was at) (rises : rose → late) (spoils : spoiled → spoiled-late) (sink-rises : sink-rose → sink-late) where
   -- the first n of the second steps are some of the first of all
   reach : ℕ → ℕ
   reach n = length first + (fewer n second rest).0
@@ -136,10 +136,10 @@ module _ (first second rest : List Step) (files mid : Directory) (now : Option D
       (h.0, subst (Appends was text) (sym whole) (Appends-trans was at text (printed first) (printed (take n second) ++ half) done.said said))
 
   -- a stop in steps that others follow, after steps that were done
-  pub stops : (s : Stop) → Did (Makes second) mid now at text rose sink-rose (Err s) → Did (Makes (first ++ (second ++ rest))) files now was text late sink-late (Err s)
+  pub stops : (s : Stop) → Did (Makes second) mid now at text rose spoiled sink-rose (Err s) → Did (Makes (first ++ (second ++ rest))) files now was text late spoiled-late sink-late (Err s)
   stops stop.NoMemory d = (reach d.0, there-are d.0 d.1, there-said d.0 d.2)
   stops stop.SinkFault d = let f = there-half d.1 d.3 d.4 in (sink-rises d.0, reach d.1, there-are d.1 d.2, f.0, f.1)
-  stops stop.FileFault d = (cause d.0, reach d.1, upto d.1 d.2, there-said d.1 d.3)
+  stops stop.FileFault d = (cause d.0, reach d.1, stand d.1 d.2, there-said d.1 d.3)
     where
       cause : (Makes second ≡ Refuses stop.FileFault) ⊎ rose → (Makes (first ++ (second ++ rest)) ≡ Refuses stop.FileFault) ⊎ late
       cause (inl e) = cc
@@ -153,6 +153,10 @@ module _ (first second rest : List Step) (files mid : Directory) (now : Option D
           let more : AreUpTo (drop n second ++ rest) now (written (first ++ take n second) files) = more-left (drop n second) rest _ now along in
           subst (λ (l : List Step). AreUpTo l now (written (take (reach n) (first ++ (second ++ rest))) files)) (sym (unreached n))
           (subst (λ (l : List Step). AreUpTo (drop n second ++ rest) now (written l files)) (sym (reached n)) more)
+
+      stand : (n : ℕ) → StandAfter n (Makes second) mid now spoiled → StandAfter (reach n) (Makes (first ++ (second ++ rest))) files now spoiled-late
+      stand n (inl are) = inl (there-are n are)
+      stand n (inr up) = inr (spoils up.0, upto n up.1)
   stops stop.Usage d = let no : Makes second ≡ Refuses stop.Usage = d.0 in cc
   stops (stop.NotFip f) d = let no : Makes second ≡ Refuses (stop.NotFip f) = d.0 in cc
   stops (stop.NoSuchEntry guid) d = let no : Makes second ≡ Refuses (stop.NoSuchEntry guid) = d.0 in cc
@@ -162,15 +166,15 @@ module _ (first second rest : List Step) (files mid : Directory) (now : Option D
   stops (stop.NotCapsule f) d = let no : Makes second ≡ Refuses (stop.NotCapsule f) = d.0 in cc
 
 -- all steps were done
-pub did-all : (steps : List Step) (files now : Directory) (was text : Option (List ℕ)) (rose sink-rose : Type 0) (u : Unit {0}) → IsDone steps files now was text
-    → Did (Makes steps) files (Some now) was text rose sink-rose (Ok u)
-did-all steps files now was text rose sink-rose u done = (refl, done.are, done.said)
+pub did-all : (steps : List Step) (files now : Directory) (was text : Option (List ℕ)) (rose spoiled sink-rose : Type 0) (u : Unit {0}) → IsDone steps files now was text
+    → Did (Makes steps) files (Some now) was text rose spoiled sink-rose (Ok u)
+did-all steps files now was text rose spoiled sink-rose u done = (refl, done.are, done.said)
 
 -- what there is after a command that did all
-pub are-now : (steps : List Step) (files : Directory) (now : Option Directory) (was text : Option (List ℕ)) (rose sink-rose : Type 0) (u : Unit {0})
-    → Did (Makes steps) files now was text rose sink-rose (Ok u) → (d : Directory) × (now ≡ Some d) × IsDone steps files d was text
-are-now steps files None was text rose sink-rose u d = absurd d.1
-are-now steps files (Some now) was text rose sink-rose u d = (now, refl, record { are = d.1; said = d.2 })
+pub are-now : (steps : List Step) (files : Directory) (now : Option Directory) (was text : Option (List ℕ)) (rose spoiled sink-rose : Type 0) (u : Unit {0})
+    → Did (Makes steps) files now was text rose spoiled sink-rose (Ok u) → (d : Directory) × (now ≡ Some d) × IsDone steps files d was text
+are-now steps files None was text rose spoiled sink-rose u d = absurd d.1
+are-now steps files (Some now) was text rose spoiled sink-rose u d = (now, refl, record { are = d.1; said = d.2 })
 
 -- ---- the steps of `unpack`
 
@@ -236,11 +240,11 @@ pub begins : (prefix from bytes : List ℕ) (told : Directory) (contents : Optio
     → IsUnpacking prefix from bytes [] told contents was was
 begins prefix from bytes told contents was is stored = record { now = told; is = is; stored = stored; done = nothing-done told was }
 
-pub one-more : (prefix from bytes : List ℕ) (entries : List Entry) (e : Entry) (told : Directory) (mid contents : Option Directory) (was at text : Option (List ℕ)) (rose sink-rose : Type 0) (u : Unit {0})
+pub one-more : (prefix from bytes : List ℕ) (entries : List Entry) (e : Entry) (told : Directory) (mid contents : Option Directory) (was at text : Option (List ℕ)) (rose spoiled sink-rose : Type 0) (u : Unit {0})
     → (s : IsUnpacking prefix from bytes entries told mid was at) → from ≢ unpacked_name prefix e.guid
-    → Did (Makes (unpack_steps prefix bytes (e ∷ []))) s.now contents at text rose sink-rose (Ok u) → IsUnpacking prefix from bytes (entries ++ (e ∷ [])) told contents was text
-one-more prefix from bytes entries e told mid contents was at text rose sink-rose u s other did =
-    let n = are-now (unpack_steps prefix bytes (e ∷ [])) s.now contents at text rose sink-rose u did in record {
+    → Did (Makes (unpack_steps prefix bytes (e ∷ []))) s.now contents at text rose spoiled sink-rose (Ok u) → IsUnpacking prefix from bytes (entries ++ (e ∷ [])) told contents was text
+one-more prefix from bytes entries e told mid contents was at text rose spoiled sink-rose u s other did =
+    let n = are-now (unpack_steps prefix bytes (e ∷ [])) s.now contents at text rose spoiled sink-rose u did in record {
       now = n.0;
       is = n.1;
       stored = kept prefix bytes from e s.now n.0 at text other n.2 ∙ s.stored;
@@ -248,21 +252,21 @@ one-more prefix from bytes entries e told mid contents was at text rose sink-ros
           (done-then (unpack_steps prefix bytes entries) (unpack_steps prefix bytes (e ∷ [])) told s.now n.0 was at text s.done n.2);
     }
 
-pub one-stops : (prefix from bytes : List ℕ) (entries : List Entry) (e : Entry) (left : List Entry) (told : Directory) (mid contents : Option Directory) (was at text : Option (List ℕ)) (rose late sink-rose sink-late : Type 0)
-    (x : Stop) → (rose → late) → (sink-rose → sink-late) → (s : IsUnpacking prefix from bytes entries told mid was at)
-    → Did (Makes (unpack_steps prefix bytes (e ∷ []))) s.now contents at text rose sink-rose (Err x)
-    → Did (Makes (unpack_steps prefix bytes (entries ++ (e ∷ left)))) told contents was text late sink-late (Err x)
-one-stops prefix from bytes entries e left told mid contents was at text rose late sink-rose sink-late x rises sink-rises s did =
+pub one-stops : (prefix from bytes : List ℕ) (entries : List Entry) (e : Entry) (left : List Entry) (told : Directory) (mid contents : Option Directory) (was at text : Option (List ℕ)) (rose late spoiled spoiled-late sink-rose sink-late : Type 0)
+    (x : Stop) → (rose → late) → (spoiled → spoiled-late) → (sink-rose → sink-late) → (s : IsUnpacking prefix from bytes entries told mid was at)
+    → Did (Makes (unpack_steps prefix bytes (e ∷ []))) s.now contents at text rose spoiled sink-rose (Err x)
+    → Did (Makes (unpack_steps prefix bytes (entries ++ (e ∷ left)))) told contents was text late spoiled-late sink-late (Err x)
+one-stops prefix from bytes entries e left told mid contents was at text rose late spoiled spoiled-late sink-rose sink-late x rises spoils sink-rises s did =
     let split : unpack_steps prefix bytes (entries ++ (e ∷ left)) ≡ unpack_steps prefix bytes entries ++ (unpack_steps prefix bytes (e ∷ []) ++ unpack_steps prefix bytes left) =
     unpack-append prefix bytes entries (e ∷ left) in
-    subst (λ (l : List Step). Did (Makes l) told contents was text late sink-late (Err x)) (sym split)
-    (stops (unpack_steps prefix bytes entries) (unpack_steps prefix bytes (e ∷ [])) (unpack_steps prefix bytes left) told s.now contents was at text rose late sink-rose sink-late s.done rises sink-rises x did)
+    subst (λ (l : List Step). Did (Makes l) told contents was text late spoiled-late sink-late (Err x)) (sym split)
+    (stops (unpack_steps prefix bytes entries) (unpack_steps prefix bytes (e ∷ [])) (unpack_steps prefix bytes left) told s.now contents was at text rose late spoiled spoiled-late sink-rose sink-late s.done rises spoils sink-rises x did)
 
-pub ends : (prefix from bytes : List ℕ) (entries : List Entry) (told : Directory) (contents : Option Directory) (was text : Option (List ℕ)) (rose sink-rose : Type 0) (u : Unit {0})
-    → IsUnpacking prefix from bytes entries told contents was text → Did (Makes (unpack_steps prefix bytes entries)) told contents was text rose sink-rose (Ok u)
-ends prefix from bytes entries told contents was text rose sink-rose u s =
-    subst (λ (o : Option Directory). Did (Makes (unpack_steps prefix bytes entries)) told o was text rose sink-rose (Ok u)) (sym s.is)
-    (did-all (unpack_steps prefix bytes entries) told s.now was text rose sink-rose u s.done)
+pub ends : (prefix from bytes : List ℕ) (entries : List Entry) (told : Directory) (contents : Option Directory) (was text : Option (List ℕ)) (rose spoiled sink-rose : Type 0) (u : Unit {0})
+    → IsUnpacking prefix from bytes entries told contents was text → Did (Makes (unpack_steps prefix bytes entries)) told contents was text rose spoiled sink-rose (Ok u)
+ends prefix from bytes entries told contents was text rose spoiled sink-rose u s =
+    subst (λ (o : Option Directory). Did (Makes (unpack_steps prefix bytes entries)) told o was text rose spoiled sink-rose (Ok u)) (sym s.is)
+    (did-all (unpack_steps prefix bytes entries) told s.now was text rose spoiled sink-rose u s.done)
 
 -- ---- the file that is read stays
 
@@ -307,15 +311,15 @@ unfolding unpacked_line
 line-is prefix e shown line seen said = said ∙ ap (λ (n : List ℕ). guid_text e.guid ++ codes " size=" ++ decimal e.size ++ codes " file=" ++ n ++ codes "\n") seen
 
 -- a file that was written, and its line
-pub entry-did : (prefix bytes : List ℕ) (e : Entry) (name shown out line : List ℕ) (told : Directory) (now : Option Directory) (was text : Option (List ℕ)) (rose late sink-rose : Type 0) (r : Result (Unit {0}) Stop)
-    → name ≡ unpacked_name prefix e.guid → shown ≡ unpacked_name prefix e.guid → out ≡ payload bytes e → line ≡ guid_text e.guid ++ codes " size=" ++ decimal e.size ++ codes " file=" ++ shown ++ codes "\n" → (rose → late)
-    → Did (Makes (Writes name out ∷ Prints line ∷ [])) told now was text rose sink-rose r → Did (Makes (unpack_steps prefix bytes (e ∷ []))) told now was text late sink-rose r
+pub entry-did : (prefix bytes : List ℕ) (e : Entry) (name shown out line : List ℕ) (told : Directory) (now : Option Directory) (was text : Option (List ℕ)) (rose late spoiled spoiled-late sink-rose : Type 0) (r : Result (Unit {0}) Stop)
+    → name ≡ unpacked_name prefix e.guid → shown ≡ unpacked_name prefix e.guid → out ≡ payload bytes e → line ≡ guid_text e.guid ++ codes " size=" ++ decimal e.size ++ codes " file=" ++ shown ++ codes "\n" → (rose → late) → (spoiled → spoiled-late)
+    → Did (Makes (Writes name out ∷ Prints line ∷ [])) told now was text rose spoiled sink-rose r → Did (Makes (unpack_steps prefix bytes (e ∷ []))) told now was text late spoiled-late sink-rose r
 unfolding unpacked_line
-entry-did prefix bytes e name shown out line told now was text rose late sink-rose r named seen whole said rises d =
+entry-did prefix bytes e name shown out line told now was text rose late spoiled spoiled-late sink-rose r named seen whole said rises spoils d =
     let lined : line ≡ unpacked_line prefix e = said ∙ ap (λ (n : List ℕ). guid_text e.guid ++ codes " size=" ++ decimal e.size ++ codes " file=" ++ n ++ codes "\n") seen in
     let steps : Writes name out ∷ Prints line ∷ [] ≡ unpack_steps prefix bytes (e ∷ []) = cc in
-    did-later (Makes (unpack_steps prefix bytes (e ∷ []))) told now was text rose late sink-rose r rises
-    (subst (λ (l : List Step). Did (Makes l) told now was text rose sink-rose r) steps d)
+    did-later (Makes (unpack_steps prefix bytes (e ∷ []))) told now was text rose late spoiled spoiled-late sink-rose r rises spoils
+    (subst (λ (l : List Step). Did (Makes l) told now was text rose spoiled sink-rose r) steps d)
 
 pub same-ok : (a b : List ℕ) → ◌≡◌ {A = Result (List ℕ) Stop} (Ok a) (Ok b) → b ≡ a
 same-ok a b e = cc
@@ -352,22 +356,22 @@ module _ (prefix from bytes : List ℕ) (p : Entry → Bool) (es : List Entry) (
       → p e ≡ false → IsUnpacking prefix from bytes (filter p (take (i + 1) es)) told contents was text
   step-passed e lt here contents text s h = subst (λ (l : List Entry). IsUnpacking prefix from bytes l told contents was text) (sym (next-passed p es i e lt here h)) s
 
-  module _ (e : Entry) (lt : i < length es) (here : get_or es i e ≡ e) (mid contents : Option Directory) (at text : Option (List ℕ)) (rose sink-rose : Type 0)
+  module _ (e : Entry) (lt : i < length es) (here : get_or es i e ≡ e) (mid contents : Option Directory) (at text : Option (List ℕ)) (rose spoiled sink-rose : Type 0)
       (s : IsUnpacking prefix from bytes (filter p (take i es)) told mid was at) where
     pub step-done : (u : Unit {0}) → p e ≡ true → from ≢ unpacked_name prefix e.guid
-        → Did (Makes (unpack_steps prefix bytes (e ∷ []))) s.now contents at text rose sink-rose (Ok u) → IsUnpacking prefix from bytes (filter p (take (i + 1) es)) told contents was text
+        → Did (Makes (unpack_steps prefix bytes (e ∷ []))) s.now contents at text rose spoiled sink-rose (Ok u) → IsUnpacking prefix from bytes (filter p (take (i + 1) es)) told contents was text
     step-done u h other did =
         subst (λ (l : List Entry). IsUnpacking prefix from bytes l told contents was text) (sym (next-chosen p es i e lt here h))
-        (one-more prefix from bytes (filter p (take i es)) e told mid contents was at text rose sink-rose u s other did)
+        (one-more prefix from bytes (filter p (take i es)) e told mid contents was at text rose spoiled sink-rose u s other did)
 
-    pub step-stops : (late sink-late : Type 0) (x : Stop) → (rose → late) → (sink-rose → sink-late) → p e ≡ true
-        → Did (Makes (unpack_steps prefix bytes (e ∷ []))) s.now contents at text rose sink-rose (Err x) → Did (Makes (unpack_steps prefix bytes (filter p es))) told contents was text late sink-late (Err x)
-    step-stops late sink-late x rises sink-rises h did =
-        subst (λ (l : List Entry). Did (Makes (unpack_steps prefix bytes l)) told contents was text late sink-late (Err x)) (sym (split-chosen p es i e lt here h))
-        (one-stops prefix from bytes (filter p (take i es)) e (filter p (drop (i + 1) es)) told mid contents was at text rose late sink-rose sink-late x rises sink-rises s did)
+    pub step-stops : (late spoiled-late sink-late : Type 0) (x : Stop) → (rose → late) → (spoiled → spoiled-late) → (sink-rose → sink-late) → p e ≡ true
+        → Did (Makes (unpack_steps prefix bytes (e ∷ []))) s.now contents at text rose spoiled sink-rose (Err x) → Did (Makes (unpack_steps prefix bytes (filter p es))) told contents was text late spoiled-late sink-late (Err x)
+    step-stops late spoiled-late sink-late x rises spoils sink-rises h did =
+        subst (λ (l : List Entry). Did (Makes (unpack_steps prefix bytes l)) told contents was text late spoiled-late sink-late (Err x)) (sym (split-chosen p es i e lt here h))
+        (one-stops prefix from bytes (filter p (take i es)) e (filter p (drop (i + 1) es)) told mid contents was at text rose late spoiled spoiled-late sink-rose sink-late x rises spoils sink-rises s did)
 
-  pub all-done : (contents : Option Directory) (text : Option (List ℕ)) (rose sink-rose : Type 0) (u : Unit {0}) → length es ≤ i → IsUnpacking prefix from bytes (filter p (take i es)) told contents was text
-      → Did (Makes (unpack_steps prefix bytes (filter p es))) told contents was text rose sink-rose (Ok u)
-  all-done contents text rose sink-rose u far s =
-      ends prefix from bytes (filter p es) told contents was text rose sink-rose u
+  pub all-done : (contents : Option Directory) (text : Option (List ℕ)) (rose spoiled sink-rose : Type 0) (u : Unit {0}) → length es ≤ i → IsUnpacking prefix from bytes (filter p (take i es)) told contents was text
+      → Did (Makes (unpack_steps prefix bytes (filter p es))) told contents was text rose spoiled sink-rose (Ok u)
+  all-done contents text rose spoiled sink-rose u far s =
+      ends prefix from bytes (filter p es) told contents was text rose spoiled sink-rose u
       (subst (λ (l : List Entry). IsUnpacking prefix from bytes (filter p l) told contents was text) (take_all i es far) s)

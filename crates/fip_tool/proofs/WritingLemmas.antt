@@ -1,9 +1,10 @@
 -- What a writing and a line leave.
-use Rattle.std.proofs.Common.{◌≡◌, ◌≢◌, inr, ℕ, List, [], ◌∷◌, Bool, true, false, Option, Some, None, Result, Ok, Err, ◌≤◌, length, refl, sym, ap, subst, ◌∙◌, append-nil, true≢false}
+use Rattle.std.proofs.Common.{◌≡◌, ◌≢◌, inr, ℕ, List, [], ◌∷◌, Bool, true, false, Option, Some, None, Result, Ok, Err, ◌≤◌, length, refl, sym, ap, subst, ◌∙◌, append-nil, rules, true≢false}
 use Rattle.std.specs.Str.{bytes_eq}
 use Rattle.std.proofs.lemmas.Slice.Eq.{bytes_eq-Decides}
 use Rattle.std.specs.Io.KnownBytes.{Appends}
 use Rattle.base_core.specs.Counts.{Rose}
+use Rattle.host_io.specs.Calls.{raised}
 use Rattle.host_io.specs.Contents.{ChangesOnly, Directory, Holds}
 use Rattle.fip_tool.specs.Lines.{capsule_line, packed_line}
 use Rattle.fip_tool.specs.Steps.{Makes, Step, Writes, Prints, Are, AreBut, Did, Printed, Written, outcome_by, with_file}
@@ -11,7 +12,7 @@ use Rattle.fip_tool.specs.Tool.{encloses, packs}
 use Rattle.fip_tool.specs.declared.stops.Stop.{Stop}
 use Rattle.fip_tool.specs.declared.stops.Stop.TheVariants as stop
 use Rattle.fip_tool.proofs.Did.{appends-none, made-steps}
-use Rattle.fip_tool.proofs.Tables.{rose-from}
+use Rattle.fip_tool.proofs.Tables.{rose-from, rose-still}
 
 with-other : (name bytes other : List ℕ) (files new : Directory) → new name ≡ Some bytes → ((other : List ℕ) → other ≢ name → new other ≡ files other) → new other ≡ with_file name bytes files other
 with-other name bytes other files new holds only = go (bytes_eq name other) refl
@@ -41,50 +42,56 @@ pub silent : (o now : Option Directory) (name : List ℕ) → ChangesOnly o now 
 silent None now name only e = only
 silent (Some old) now name only e = cc
 
-pub write-stopped : (files : Directory) (now : Option Directory) (was text : Option (List ℕ)) (files-rose sink-rose : Type 0) (name bytes line : List ℕ) (s : Stop)
-    → Written files now files-rose name bytes (Err s) → text ≡ was → Did (Makes (Writes name bytes ∷ Prints line ∷ [])) files now was text files-rose sink-rose (Err s)
-write-stopped files now was text files-rose sink-rose name bytes line stop.FileFault w t = (inr w.0, 0, w.1, appends-none was text t)
-write-stopped files now was text files-rose sink-rose name bytes line stop.NoMemory w t = (0, w, appends-none was text t)
-write-stopped files now was text files-rose sink-rose name bytes line stop.Usage w t = absurd w
-write-stopped files now was text files-rose sink-rose name bytes line stop.SinkFault w t = absurd w
-write-stopped files now was text files-rose sink-rose name bytes line (stop.NotFip f) w t = absurd w
-write-stopped files now was text files-rose sink-rose name bytes line (stop.NoSuchEntry guid) w t = absurd w
-write-stopped files now was text files-rose sink-rose name bytes line (stop.NotPacked f) w t = absurd w
-write-stopped files now was text files-rose sink-rose name bytes line (stop.NoManifest f) w t = absurd w
-write-stopped files now was text files-rose sink-rose name bytes line stop.TooLong w t = absurd w
-write-stopped files now was text files-rose sink-rose name bytes line (stop.NotCapsule f) w t = absurd w
+-- a writing that failed was counted
+pub raised-rose : (before after : ℕ) → after ≡ raised before → Rose before after
+raised-rose before after is = search rules
+
+pub write-stopped : (files : Directory) (now : Option Directory) (was text : Option (List ℕ)) (files-rose spoiled sink-rose : Type 0) (name bytes line : List ℕ) (s : Stop)
+    → Written files now files-rose spoiled name bytes (Err s) → text ≡ was → Did (Makes (Writes name bytes ∷ Prints line ∷ [])) files now was text files-rose spoiled sink-rose (Err s)
+write-stopped files now was text files-rose spoiled sink-rose name bytes line stop.FileFault w t = (inr w.0, 0, inr (w.1, w.2), appends-none was text t)
+write-stopped files now was text files-rose spoiled sink-rose name bytes line stop.NoMemory w t = (0, w, appends-none was text t)
+write-stopped files now was text files-rose spoiled sink-rose name bytes line stop.Usage w t = absurd w
+write-stopped files now was text files-rose spoiled sink-rose name bytes line stop.SinkFault w t = absurd w
+write-stopped files now was text files-rose spoiled sink-rose name bytes line (stop.NotFip f) w t = absurd w
+write-stopped files now was text files-rose spoiled sink-rose name bytes line (stop.NoSuchEntry guid) w t = absurd w
+write-stopped files now was text files-rose spoiled sink-rose name bytes line (stop.NotPacked f) w t = absurd w
+write-stopped files now was text files-rose spoiled sink-rose name bytes line (stop.NoManifest f) w t = absurd w
+write-stopped files now was text files-rose spoiled sink-rose name bytes line stop.TooLong w t = absurd w
+write-stopped files now was text files-rose spoiled sink-rose name bytes line (stop.NotCapsule f) w t = absurd w
 
 -- the file and the line of a package
-pub package-put : (files : Directory) (out : List ℕ) (value : Result (ℕ × List ℕ) Stop) (n : ℕ) (bytes same line : List ℕ) (now : Option Directory) (was text : Option (List ℕ)) (a b c : ℕ) (sink-rose : Type 0)
-    (r : Result (Unit {0}) Stop) → value ≡ Ok (n, bytes) → same ≡ bytes → line ≡ packed_line n (length bytes) → a ≤ b → Did (Makes (Writes out same ∷ Prints line ∷ [])) files now was text (Rose b c) sink-rose r
-    → Did (outcome_by (packs out) value) files now was text (Rose a c) sink-rose r
-package-put files out value n bytes same line now was text a b c sink-rose r v is lined le did =
+pub package-put : (files : Directory) (out : List ℕ) (value : Result (ℕ × List ℕ) Stop) (n : ℕ) (bytes same line : List ℕ) (now : Option Directory) (was text : Option (List ℕ)) (a b c k s t : ℕ) (sink-rose : Type 0)
+    (r : Result (Unit {0}) Stop) → value ≡ Ok (n, bytes) → same ≡ bytes → line ≡ packed_line n (length bytes) → a ≤ b → k ≡ s
+    → Did (Makes (Writes out same ∷ Prints line ∷ [])) files now was text (Rose b c) (Rose s t) sink-rose r
+    → Did (outcome_by (packs out) value) files now was text (Rose a c) (Rose k t) sink-rose r
+package-put files out value n bytes same line now was text a b c k s t sink-rose r v is lined le kept did =
     let steps : Writes out same ∷ Prints line ∷ [] ≡ packs out (n, bytes) =
     ap (λ (l : List ℕ). Writes out l ∷ Prints line ∷ []) is ∙ ap (λ (l : List ℕ). Writes out bytes ∷ Prints l ∷ []) lined in
-    made-steps (packs out) value (n, bytes) files now was text (Rose b c) (Rose a c) sink-rose r v (rose-from a b c le)
-    (subst (λ (s : List Step). Did (Makes s) files now was text (Rose b c) sink-rose r) steps did)
+    made-steps (packs out) value (n, bytes) files now was text (Rose b c) (Rose a c) (Rose s t) (Rose k t) sink-rose r v (rose-from a b c le) (rose-still k s t kept)
+    (subst (λ (l : List Step). Did (Makes l) files now was text (Rose b c) (Rose s t) sink-rose r) steps did)
 
 -- the file and the line of a capsule
-pub capsule-put : (files : Directory) (out : List ℕ) (value : Result (ℕ × List ℕ) Stop) (n : ℕ) (bytes same line : List ℕ) (now : Option Directory) (was text : Option (List ℕ)) (a b c : ℕ) (sink-rose : Type 0)
-    (r : Result (Unit {0}) Stop) → value ≡ Ok (n, bytes) → same ≡ bytes → line ≡ capsule_line n (length bytes) → a ≤ b → Did (Makes (Writes out same ∷ Prints line ∷ [])) files now was text (Rose b c) sink-rose r
-    → Did (outcome_by (encloses out) value) files now was text (Rose a c) sink-rose r
-capsule-put files out value n bytes same line now was text a b c sink-rose r v is lined le did =
+pub capsule-put : (files : Directory) (out : List ℕ) (value : Result (ℕ × List ℕ) Stop) (n : ℕ) (bytes same line : List ℕ) (now : Option Directory) (was text : Option (List ℕ)) (a b c k s t : ℕ) (sink-rose : Type 0)
+    (r : Result (Unit {0}) Stop) → value ≡ Ok (n, bytes) → same ≡ bytes → line ≡ capsule_line n (length bytes) → a ≤ b → k ≡ s
+    → Did (Makes (Writes out same ∷ Prints line ∷ [])) files now was text (Rose b c) (Rose s t) sink-rose r
+    → Did (outcome_by (encloses out) value) files now was text (Rose a c) (Rose k t) sink-rose r
+capsule-put files out value n bytes same line now was text a b c k s t sink-rose r v is lined le kept did =
     let steps : Writes out same ∷ Prints line ∷ [] ≡ encloses out (n, bytes) =
     ap (λ (l : List ℕ). Writes out l ∷ Prints line ∷ []) is ∙ ap (λ (l : List ℕ). Writes out bytes ∷ Prints l ∷ []) lined in
-    made-steps (encloses out) value (n, bytes) files now was text (Rose b c) (Rose a c) sink-rose r v (rose-from a b c le)
-    (subst (λ (s : List Step). Did (Makes s) files now was text (Rose b c) sink-rose r) steps did)
+    made-steps (encloses out) value (n, bytes) files now was text (Rose b c) (Rose a c) (Rose s t) (Rose k t) sink-rose r v (rose-from a b c le) (rose-still k s t kept)
+    (subst (λ (l : List Step). Did (Makes l) files now was text (Rose b c) (Rose s t) sink-rose r) steps did)
 
-pub then-printed : (files : Directory) (now : Option Directory) (was text : Option (List ℕ)) (files-rose sink-rose : Type 0) (name bytes line : List ℕ) (r : Result (Unit {0}) Stop)
-    → Are now (with_file name bytes files) → Printed was text sink-rose line r → Did (Makes (Writes name bytes ∷ Prints line ∷ [])) files now was text files-rose sink-rose r
-then-printed files now was text files-rose sink-rose name bytes line (Ok u) w p = (refl, w, subst (Appends was text) (sym (append-nil line)) p)
-then-printed files now was text files-rose sink-rose name bytes line (Err stop.SinkFault) w p =
+pub then-printed : (files : Directory) (now : Option Directory) (was text : Option (List ℕ)) (files-rose spoiled sink-rose : Type 0) (name bytes line : List ℕ) (r : Result (Unit {0}) Stop)
+    → Are now (with_file name bytes files) → Printed was text sink-rose line r → Did (Makes (Writes name bytes ∷ Prints line ∷ [])) files now was text files-rose spoiled sink-rose r
+then-printed files now was text files-rose spoiled sink-rose name bytes line (Ok u) w p = (refl, w, subst (Appends was text) (sym (append-nil line)) p)
+then-printed files now was text files-rose spoiled sink-rose name bytes line (Err stop.SinkFault) w p =
     (p.0, 1, w, p.1, p.2)
-then-printed files now was text files-rose sink-rose name bytes line (Err stop.NoMemory) w p = (1, w, appends-none was text p)
-then-printed files now was text files-rose sink-rose name bytes line (Err stop.Usage) w p = absurd p
-then-printed files now was text files-rose sink-rose name bytes line (Err stop.FileFault) w p = absurd p
-then-printed files now was text files-rose sink-rose name bytes line (Err (stop.NotFip f)) w p = absurd p
-then-printed files now was text files-rose sink-rose name bytes line (Err (stop.NoSuchEntry guid)) w p = absurd p
-then-printed files now was text files-rose sink-rose name bytes line (Err (stop.NotPacked f)) w p = absurd p
-then-printed files now was text files-rose sink-rose name bytes line (Err (stop.NoManifest f)) w p = absurd p
-then-printed files now was text files-rose sink-rose name bytes line (Err stop.TooLong) w p = absurd p
-then-printed files now was text files-rose sink-rose name bytes line (Err (stop.NotCapsule f)) w p = absurd p
+then-printed files now was text files-rose spoiled sink-rose name bytes line (Err stop.NoMemory) w p = (1, w, appends-none was text p)
+then-printed files now was text files-rose spoiled sink-rose name bytes line (Err stop.Usage) w p = absurd p
+then-printed files now was text files-rose spoiled sink-rose name bytes line (Err stop.FileFault) w p = absurd p
+then-printed files now was text files-rose spoiled sink-rose name bytes line (Err (stop.NotFip f)) w p = absurd p
+then-printed files now was text files-rose spoiled sink-rose name bytes line (Err (stop.NoSuchEntry guid)) w p = absurd p
+then-printed files now was text files-rose spoiled sink-rose name bytes line (Err (stop.NotPacked f)) w p = absurd p
+then-printed files now was text files-rose spoiled sink-rose name bytes line (Err (stop.NoManifest f)) w p = absurd p
+then-printed files now was text files-rose spoiled sink-rose name bytes line (Err stop.TooLong) w p = absurd p
+then-printed files now was text files-rose spoiled sink-rose name bytes line (Err (stop.NotCapsule f)) w p = absurd p

@@ -9,7 +9,7 @@ use Rattle.fwu_formats.specs.declared.kinds.ManifestFault.{ManifestFault}
 use Rattle.fwu_formats.specs.declared.kinds.ManifestFault.TheVariants as manifest
 use Rattle.fip_tables.specs.declared.faults.PackFault.{PackFault}
 use Rattle.fip_tables.specs.declared.faults.PackFault.TheVariants as pack
-use Rattle.fip_tool.specs.Steps.{Outcome, Makes, Refuses, Are, AreUpTo, half_printed, steps_of, printed, written}
+use Rattle.fip_tool.specs.Steps.{Outcome, Makes, Refuses, Are, StandAfter, half_printed, steps_of, printed, written}
 use Rattle.fip_tool.specs.declared.stops.Stop.{Stop}
 use Rattle.fip_tool.specs.declared.stops.Stop.TheVariants as stop
 
@@ -59,12 +59,6 @@ exit_status (Err s) = status_number s
 abbrev pub HasCauseOf : Outcome → Type 0 → Stop → Type 0
 HasCauseOf outcome files-rose s = (outcome ≡ Refuses s) ⊎ ((s ≡ stop.FileFault) × files-rose)
 
--- the files after the first n steps, but for one whose writing failed
-abbrev pub StandAfter : ℕ → Outcome → Directory → Option Directory → Type 0 → Type 0
-StandAfter n outcome files now files-rose =
-    Are now (written (take n (steps_of outcome)) files)
-    ⊎ (files-rose × AreUpTo (drop n (steps_of outcome)) now (written (take n (steps_of outcome)) files))
-
 -- the text of the first n steps, and a front of a stop's line
 abbrev pub SaidStop : ℕ → Outcome → Option (List ℕ) → Option (List ℕ) → Type 0 → Type 0
 SaidStop n outcome was text files-rose =
@@ -72,33 +66,33 @@ SaidStop n outcome was text files-rose =
     × (k : ℕ) × Appends was text (printed (take n (steps_of outcome)) ++ take k (stop_line s))
 
 -- The sink failed behind the first n steps: at the text of the next one, or at the line of a stop.
-abbrev pub SinkFailed : ℕ → Outcome → Directory → Option Directory → Option (List ℕ) → Option (List ℕ) → Type 0 → Type 0
-SinkFailed n outcome files now was text files-rose =
+abbrev pub SinkFailed : ℕ → Outcome → Directory → Option Directory → Option (List ℕ) → Option (List ℕ) → Type 0 → Type 0 → Type 0
+SinkFailed n outcome files now was text files-rose spoiled =
     (Are now (written (take n (steps_of outcome)) files)
     × ((k : ℕ) × Appends was text (printed (take n (steps_of outcome)) ++ half_printed k (drop n (steps_of outcome)))))
-    ⊎ (StandAfter n outcome files now files-rose × SaidStop n outcome was text files-rose)
+    ⊎ (StandAfter n outcome files now spoiled × SaidStop n outcome was text files-rose)
 
 -- How the tool ended. The files were `files` and the told contents are `now`; the sink's text was `was` and is `text`.
-abbrev pub EndedBy : Outcome → Directory → Option Directory → Option (List ℕ) → Option (List ℕ) → Type 0 → Type 0
+-- Where it stopped, the files are those after the first steps, but for one whose writing failed.
+abbrev pub EndedBy : Outcome → Directory → Option Directory → Option (List ℕ) → Option (List ℕ) → Type 0 → Type 0 → Type 0
     → Result (Unit {0}) Stop → Type 0
-EndedBy outcome files now was text files-rose sink-rose (Ok done) =
+EndedBy outcome files now was text files-rose spoiled sink-rose (Ok done) =
     (outcome ≡ Makes (steps_of outcome)) × Are now (written (steps_of outcome) files)
     × Appends was text (printed (steps_of outcome))
-EndedBy outcome files now was text files-rose sink-rose (Err stop.NoMemory) =
-    (n : ℕ) × StandAfter n outcome files now files-rose × Appends was text (printed (take n (steps_of outcome)))
-EndedBy outcome files now was text files-rose sink-rose (Err stop.SinkFault) =
-    sink-rose × (n : ℕ) × SinkFailed n outcome files now was text files-rose
-EndedBy outcome files now was text files-rose sink-rose (Err stop.FileFault) =
-    HasCauseOf outcome files-rose stop.FileFault × (n : ℕ)
-    × AreUpTo (drop n (steps_of outcome)) now (written (take n (steps_of outcome)) files)
+EndedBy outcome files now was text files-rose spoiled sink-rose (Err stop.NoMemory) =
+    (n : ℕ) × StandAfter n outcome files now spoiled × Appends was text (printed (take n (steps_of outcome)))
+EndedBy outcome files now was text files-rose spoiled sink-rose (Err stop.SinkFault) =
+    sink-rose × (n : ℕ) × SinkFailed n outcome files now was text files-rose spoiled
+EndedBy outcome files now was text files-rose spoiled sink-rose (Err stop.FileFault) =
+    HasCauseOf outcome files-rose stop.FileFault × (n : ℕ) × StandAfter n outcome files now spoiled
     × Appends was text (printed (take n (steps_of outcome)) ++ stop_line stop.FileFault)
-EndedBy outcome files now was text files-rose sink-rose (Err s) =
+EndedBy outcome files now was text files-rose spoiled sink-rose (Err s) =
     (outcome ≡ Refuses s) × Are now files × Appends was text (stop_line s)
 
-abbrev pub Ended : Outcome → Directory → Option Directory → Option (List ℕ) → Option (List ℕ) → Type 0 → Type 0 → ℕ → Type 0
-Ended outcome files now was text files-rose sink-rose status =
+abbrev pub Ended : Outcome → Directory → Option Directory → Option (List ℕ) → Option (List ℕ) → Type 0 → Type 0 → Type 0 → ℕ → Type 0
+Ended outcome files now was text files-rose spoiled sink-rose status =
     (result : Result (Unit {0}) Stop) × (status ≡ exit_status result)
-    × EndedBy outcome files now was text files-rose sink-rose result
+    × EndedBy outcome files now was text files-rose spoiled sink-rose result
 
 -- what the line of a stop leaves, and the stop then
 abbrev pub Told : Option (List ℕ) → Option (List ℕ) → Type 0 → Stop → Stop → Type 0

@@ -59,23 +59,29 @@ half_printed k [] = []
 half_printed k (Writes name bytes ∷ steps) = []
 half_printed k (Prints text ∷ steps) = take k text
 
+-- the files after the first n steps. Only where a writing failed may that of the next step be another.
+abbrev pub StandAfter : ℕ → Outcome → Directory → Option Directory → Type 0 → Type 0
+StandAfter n outcome files now spoiled =
+    Are now (written (take n (steps_of outcome)) files)
+    ⊎ (spoiled × AreUpTo (drop n (steps_of outcome)) now (written (take n (steps_of outcome)) files))
+
 -- What was done of a command, by its result. The files were `files` and the told contents are `now`; the sink's text was
--- `was` and is `text`. Nothing but the command's steps was done, in their order.
-abbrev pub Did : Outcome → Directory → Option Directory → Option (List ℕ) → Option (List ℕ) → Type 0 → Type 0
+-- `was` and is `text`. Nothing but the command's steps was done, in their order. A call of the files failed where
+-- `files-rose`, a writing where `spoiled`, and a call of the sink where `sink-rose`.
+abbrev pub Did : Outcome → Directory → Option Directory → Option (List ℕ) → Option (List ℕ) → Type 0 → Type 0 → Type 0
     → Result (Unit {0}) Stop → Type 0
-Did outcome files now was text files-rose sink-rose (Ok done) =
+Did outcome files now was text files-rose spoiled sink-rose (Ok done) =
     (outcome ≡ Makes (steps_of outcome)) × Are now (written (steps_of outcome) files)
     × Appends was text (printed (steps_of outcome))
-Did outcome files now was text files-rose sink-rose (Err NoMemory) =
+Did outcome files now was text files-rose spoiled sink-rose (Err NoMemory) =
     (n : ℕ) × Are now (written (take n (steps_of outcome)) files) × Appends was text (printed (take n (steps_of outcome)))
-Did outcome files now was text files-rose sink-rose (Err SinkFault) =
+Did outcome files now was text files-rose spoiled sink-rose (Err SinkFault) =
     sink-rose × (n : ℕ) × Are now (written (take n (steps_of outcome)) files)
     × (k : ℕ) × Appends was text (printed (take n (steps_of outcome)) ++ half_printed k (drop n (steps_of outcome)))
-Did outcome files now was text files-rose sink-rose (Err FileFault) =
-    ((outcome ≡ Refuses FileFault) ⊎ files-rose) × (n : ℕ)
-    × AreUpTo (drop n (steps_of outcome)) now (written (take n (steps_of outcome)) files)
+Did outcome files now was text files-rose spoiled sink-rose (Err FileFault) =
+    ((outcome ≡ Refuses FileFault) ⊎ files-rose) × (n : ℕ) × StandAfter n outcome files now spoiled
     × Appends was text (printed (take n (steps_of outcome)))
-Did outcome files now was text files-rose sink-rose (Err stop) = (outcome ≡ Refuses stop) × Are now files × Appends was text []
+Did outcome files now was text files-rose spoiled sink-rose (Err stop) = (outcome ≡ Refuses stop) × Are now files × Appends was text []
 
 -- the outcome of a command whose steps are made of a value
 abbrev pub outcome_by : {X : Type 0} → (X → List Step) → Result X Stop → Outcome
@@ -144,8 +150,8 @@ pub record FailsOnce (status before after : ℕ) : Type 0 where
   pub none : IsFalse ((status == 2) || ((status == 3) || (status == 9))) → after ≡ before
 
 -- what the writing of a file leaves
-abbrev pub Written : Directory → Option Directory → Type 0 → List ℕ → List ℕ → Result (Unit {0}) Stop → Type 0
-Written files now files-rose name bytes (Ok done) = Are now (with_file name bytes files)
-Written files now files-rose name bytes (Err FileFault) = files-rose × AreBut name now files
-Written files now files-rose name bytes (Err NoMemory) = Are now files
-Written files now files-rose name bytes (Err stop) = ⊥
+abbrev pub Written : Directory → Option Directory → Type 0 → Type 0 → List ℕ → List ℕ → Result (Unit {0}) Stop → Type 0
+Written files now files-rose spoiled name bytes (Ok done) = Are now (with_file name bytes files)
+Written files now files-rose spoiled name bytes (Err FileFault) = files-rose × spoiled × AreBut name now files
+Written files now files-rose spoiled name bytes (Err NoMemory) = Are now files
+Written files now files-rose spoiled name bytes (Err stop) = ⊥

@@ -334,7 +334,7 @@ abbrev pub ReadSource : Result (Unit {0}) Stop → Option Directory → Option D
     → Option (List ℕ) → Option (List ℕ) → Type 0 → Type 0 → Type 0
 ReadSource result told now left-was left was text source-rose sink-rose =
     (given : List ℕ) × StopsInTime given × (now ≡ told) × IsReadFor result left-was left given
-    × Did (outcome_by prints (given_value given)) no_files (Some no_files) was text source-rose sink-rose result
+    × Did (outcome_by prints (given_value given)) no_files (Some no_files) was text source-rose ⊥ sink-rose result
 
 -- and how the tool ended then
 abbrev pub EndedSource : ℕ → Option Directory → Option Directory → Option (List ℕ) → Option (List ℕ)
@@ -342,4 +342,4 @@ abbrev pub EndedSource : ℕ → Option Directory → Option Directory → Optio
 EndedSource status told now left-was left was text source-rose sink-rose =
     (given : List ℕ) × StopsInTime given × (now ≡ told) × (result : Result (Unit {0}) Stop) × (status ≡ exit_status result)
     × IsReadFor result left-was left given
-    × EndedBy (outcome_by prints (given_value given)) no_files (Some no_files) was text source-rose sink-rose result
+    × EndedBy (outcome_by prints (given_value given)) no_files (Some no_files) was text source-rose ⊥ sink-rose result

@@ -38,6 +38,7 @@ fn capsule_of_entries<H: Files>(
     ensures count { IfOk result (λ m. m.0 ≡ length entries.now) }
     ensures reads { ReadsOnly (H.contents files.old) (H.contents files.new) (H.faults files.old)
         (H.faults files.new) result }
+    ensures unspoiled { H.spoiled files.new ≡ H.spoiled files.old }
 {
     let none = Vec::new(alloc);
     let Ok(payloads) = payloads_of_entries(alloc, from, entries, none.as_slice()) else {
@@ -58,6 +59,7 @@ fn capsule_of_package<H: Files>(
     ensures count { IfOk result (λ m. (t : Toc) × (m.0 ≡ length t.entries)) }
     ensures reads { ReadsOnly (H.contents files.old) (H.contents files.new) (H.faults files.old)
         (H.faults files.new) result }
+    ensures unspoiled { H.spoiled files.new ≡ H.spoiled files.old }
 {
     match table_with(files, from, &[]) {
         Ok(toc) => capsule_of_entries(alloc, files, from, toc.entries.as_slice()),
@@ -84,6 +86,7 @@ fn package_of_items<H: Files>(
     ensures count { IfOk result (λ m. m.0 ≡ length toc.now.entries) }
     ensures reads { ReadsOnly (H.contents files.old) (H.contents files.new) (H.faults files.old)
         (H.faults files.new) result }
+    ensures unspoiled { H.spoiled files.new ≡ H.spoiled files.old }
 {
     let none = Vec::new(alloc);
     let entries = toc.entries.as_slice();
@@ -103,6 +106,7 @@ fn package_of_capsule<H: Files>(
     ensures count { IfOk result (λ m. (t : Toc) × (m.0 ≡ length t.entries)) }
     ensures reads { ReadsOnly (H.contents files.old) (H.contents files.new) (H.faults files.old)
         (H.faults files.new) result }
+    ensures unspoiled { H.spoiled files.new ≡ H.spoiled files.old }
 {
     match read_enclosed(files, from) {
         Ok(toc) => package_of_items(alloc, files, align, from, &toc),
@@ -122,6 +126,7 @@ pub fn run_capsule<H: Files, O: Sink>(
         → Did (outcome_by (encloses out.now) (capsule_value told from.now)) told
         (H.contents files.new) (O.taken sink.old) (O.taken sink.new)
         (Rose (H.faults files.old) (H.faults files.new))
+        (Rose (H.spoiled files.old) (H.spoiled files.new))
         (Rose (O.faults sink.old) (O.faults sink.new)) result }
     ensures says { Says (IsTexts (Asked.capsule from.now out.now)) (O.taken sink.old)
         (O.taken sink.new)
@@ -150,6 +155,7 @@ pub fn run_package<H: Files, O: Sink>(
         → Did (outcome_by (packs out.now) (repackage_value told align from.now)) told
         (H.contents files.new) (O.taken sink.old) (O.taken sink.new)
         (Rose (H.faults files.old) (H.faults files.new))
+        (Rose (H.spoiled files.old) (H.spoiled files.new))
         (Rose (O.faults sink.old) (O.faults sink.new)) result }
     ensures says { Says (IsTexts (Asked.repackage align from.now out.now)) (O.taken sink.old)
         (O.taken sink.new)

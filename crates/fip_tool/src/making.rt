@@ -37,6 +37,7 @@ fn created<H: Files>(
     ensures count { IfOk result (λ m. m.0 ≡ length named.now) }
     ensures reads { ReadsOnly (H.contents files.old) (H.contents files.new) (H.faults files.old)
         (H.faults files.new) result }
+    ensures unspoiled { H.spoiled files.new ≡ H.spoiled files.old }
 {
     match payloads_of_files(alloc, files, named) {
         Ok(payloads) => packed(alloc, files, NEW_SERIAL, 0, align, payloads.as_slice()),
@@ -67,6 +68,7 @@ pub fn repacked<H: Files>(
     ensures count { IfOk result (λ m. m.0 ≡ length entries.now) }
     ensures reads { ReadsOnly (H.contents files.old) (H.contents files.new) (H.faults files.old)
         (H.faults files.new) result }
+    ensures unspoiled { H.spoiled files.new ≡ H.spoiled files.old }
 {
     let Ok(payloads) = payloads_of_entries(alloc, from, entries, new) else {
         return Err(Stop::NoMemory);
@@ -121,6 +123,7 @@ fn without<H: Files>(
         (filter (λ e. not (is_named guids.now e)) toc.now.entries)) }
     ensures reads { ReadsOnly (H.contents files.old) (H.contents files.new) (H.faults files.old)
         (H.faults files.new) result }
+    ensures unspoiled { H.spoiled files.new ≡ H.spoiled files.old }
 {
     let Ok(kept) = kept_entries(alloc, toc.entries.as_slice(), guids) else {
         return Err(Stop::NoMemory);
@@ -152,6 +155,7 @@ fn removed<H: Files>(
         × (m.0 ≡ length (filter (λ e. not (is_named guids.now e)) t.entries))) }
     ensures reads { ReadsOnly (H.contents files.old) (H.contents files.new) (H.faults files.old)
         (H.faults files.new) result }
+    ensures unspoiled { H.spoiled files.new ≡ H.spoiled files.old }
 {
     match table_with(files, from, guids) {
         Ok(toc) => without(alloc, files, align, from, &toc, guids),
@@ -180,6 +184,7 @@ fn replaced<H: Files>(
     ensures count { IfOk result (λ m. m.0 ≡ length toc.now.entries) }
     ensures reads { ReadsOnly (H.contents files.old) (H.contents files.new) (H.faults files.old)
         (H.faults files.new) result }
+    ensures unspoiled { H.spoiled files.new ≡ H.spoiled files.old }
 {
     match payloads_of_files(alloc, files, named) {
         Ok(new) => {
@@ -206,6 +211,7 @@ fn updated<H: Files>(
         × (m.0 ≡ length t.entries)) }
     ensures reads { ReadsOnly (H.contents files.old) (H.contents files.new) (H.faults files.old)
         (H.faults files.new) result }
+    ensures unspoiled { H.spoiled files.new ≡ H.spoiled files.old }
 {
     let Ok(types) = types_of(alloc, named) else {
         return Err(Stop::NoMemory);
@@ -229,6 +235,7 @@ pub fn run_create<H: Files, O: Sink>(
         → Did (outcome_by (packs out.now) (create_value told align (map part_view named.now))) told
         (H.contents files.new) (O.taken sink.old) (O.taken sink.new)
         (Rose (H.faults files.old) (H.faults files.new))
+        (Rose (H.spoiled files.old) (H.spoiled files.new))
         (Rose (O.faults sink.old) (O.faults sink.new)) result }
     ensures says { Says (IsTexts (Asked.create align out.now (map part_view named.now)))
         (O.taken sink.old) (O.taken sink.new)
@@ -257,6 +264,7 @@ pub fn run_remove<H: Files, O: Sink>(
         → Did (outcome_by (packs out.now) (remove_value told align from.now guids.now)) told
         (H.contents files.new) (O.taken sink.old) (O.taken sink.new)
         (Rose (H.faults files.old) (H.faults files.new))
+        (Rose (H.spoiled files.old) (H.spoiled files.new))
         (Rose (O.faults sink.old) (O.faults sink.new)) result }
     ensures says { Says (IsTexts (Asked.remove align from.now out.now guids.now)) (O.taken sink.old)
         (O.taken sink.new)
@@ -287,6 +295,7 @@ pub fn run_update<H: Files, O: Sink>(
         (update_value told align from.now (map part_view named.now))) told (H.contents files.new)
         (O.taken sink.old) (O.taken sink.new)
         (Rose (H.faults files.old) (H.faults files.new))
+        (Rose (H.spoiled files.old) (H.spoiled files.new))
         (Rose (O.faults sink.old) (O.faults sink.new)) result }
     ensures says { Says (IsTexts (Asked.update align from.now out.now (map part_view named.now)))
         (O.taken sink.old) (O.taken sink.new)

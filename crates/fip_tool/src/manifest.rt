@@ -50,6 +50,7 @@ fn row_of_file<H: Files>(
         (after (there (image_in told (image_view named.now))) (λ i. Ok (image_row i))) result }
     ensures reads { ReadsOnly (H.contents files.old) (H.contents files.new) (H.faults files.old)
         (H.faults files.new) result }
+    ensures unspoiled { H.spoiled files.new ≡ H.spoiled files.old }
 {
     match read_file(alloc, files, named.file) {
         Ok(image) => Ok(row_of(named.guid, named.version, image.as_slice())),
@@ -85,6 +86,7 @@ fn rows_of_files<H: Files>(
         (λ images. Ok (each image_row images))) result }
     ensures reads { ReadsOnly (H.contents files.old) (H.contents files.new) (H.faults files.old)
         (H.faults files.new) result }
+    ensures unspoiled { H.spoiled files.new ≡ H.spoiled files.old }
     ensures count { IfOk result (λ rows. IfSome rows (λ v. length v.items ≡ length named.now)) }
 {
     let mut rows = Some(Vec::new(alloc));
@@ -155,6 +157,7 @@ fn is_long_file<H: Files>(files: &mut H, named: &ImageWord<'_>) -> Result<bool, 
         (after (there (image_in told (image_view named.now))) (λ i. Ok (is_long i))) result }
     ensures reads { ReadsOnly (H.contents files.old) (H.contents files.new) (H.faults files.old)
         (H.faults files.new) result }
+    ensures unspoiled { H.spoiled files.new ≡ H.spoiled files.old }
 {
     match size_of(files, named.file) {
         Ok(size) => Ok(size > IMAGE_LIMIT as u64),
@@ -169,6 +172,7 @@ fn check_sizes<H: Files>(files: &mut H, named: &[ImageWord<'_>]) -> Result<(), S
         (sizes_value told (map image_view named.now)) result }
     ensures reads { ReadsOnly (H.contents files.old) (H.contents files.new) (H.faults files.old)
         (H.faults files.new) result }
+    ensures unspoiled { H.spoiled files.new ≡ H.spoiled files.old }
 {
     let mut is_long = false;
     for one in named {
@@ -194,6 +198,7 @@ pub fn manifest<H: Files>(
     ensures count { IfOk result (λ m. m.0 ≡ length named.now) }
     ensures reads { ReadsOnly (H.contents files.old) (H.contents files.new) (H.faults files.old)
         (H.faults files.new) result }
+    ensures unspoiled { H.spoiled files.new ≡ H.spoiled files.old }
 {
     match check_sizes(files, named) {
         Ok(()) => {}
@@ -220,6 +225,7 @@ pub fn run_manifest<H: Files, O: Sink>(
         (manifest_value told security (map image_view named.now))) told (H.contents files.new)
         (O.taken sink.old) (O.taken sink.new)
         (Rose (H.faults files.old) (H.faults files.new))
+        (Rose (H.spoiled files.old) (H.spoiled files.new))
         (Rose (O.faults sink.old) (O.faults sink.new)) result }
     ensures says { Says (IsTexts (Asked.manifest out.now security (map image_view named.now)))
         (O.taken sink.old) (O.taken sink.new)

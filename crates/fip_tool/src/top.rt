@@ -35,6 +35,7 @@ fn info<H: Files, O: Sink>(
         → Did (command_outcome (Asked.info name.now) told) told (H.contents files.new)
         (O.taken sink.old) (O.taken sink.new)
         (Rose (H.faults files.old) (H.faults files.new))
+        (Rose (H.spoiled files.old) (H.spoiled files.new))
         (Rose (O.faults sink.old) (O.faults sink.new)) result }
     ensures says { Says (IsTexts (Asked.info name.now)) (O.taken sink.old) (O.taken sink.new)
         (Rose (O.faults sink.old) (O.faults sink.new)) result }
@@ -119,6 +120,7 @@ fn command<H: Files, I: Source, O: Sink>(
         → Did (command_outcome (view order.now) told) told (H.contents files.new) (O.taken sink.old)
         (O.taken sink.new)
         (Rose (H.faults files.old) (H.faults files.new))
+        (Rose (H.spoiled files.old) (H.spoiled files.new))
         (Rose (O.faults sink.old) (O.faults sink.new)) result }
     ensures source { view order.now ≡ info_of_source
         → ReadSource result (H.contents files.old) (H.contents files.new) (I.left source.old)
@@ -187,6 +189,7 @@ fn run<H: Files, I: Source, O: Sink>(
         → Did (outcome_of (asked (map string_bytes words.now)) told) told (H.contents files.new)
         (O.taken sink.old) (O.taken sink.new)
         (Rose (H.faults files.old) (H.faults files.new))
+        (Rose (H.spoiled files.old) (H.spoiled files.new))
         (Rose (O.faults sink.old) (O.faults sink.new)) result }
     ensures source { asked (map string_bytes words.now) ≡ Some info_of_source
         → ReadSource result (H.contents files.old) (H.contents files.new)
@@ -229,11 +232,13 @@ pub fn fip_top<H: Files, I: Source, O: Sink>(
     source: &mut I,
     sink: &mut O,
 ) -> u8
+    // What was done is the first ones of the command's steps. Only where a writing failed is a file other than they leave it.
     ensures told { (told : Directory) → H.contents files.old ≡ Some told
         → asked (map string_bytes words.now) ≢ Some info_of_source
         → Ended (outcome_of (asked (map string_bytes words.now)) told) told (H.contents files.new)
         (O.taken sink.old) (O.taken sink.new)
         (Rose (H.faults files.old) (H.faults files.new))
+        (Rose (H.spoiled files.old) (H.spoiled files.new))
         (Rose (O.faults sink.old) (O.faults sink.new)) result }
     ensures source { asked (map string_bytes words.now) ≡ Some info_of_source
         → EndedSource result (H.contents files.old) (H.contents files.new)

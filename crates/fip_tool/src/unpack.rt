@@ -71,10 +71,12 @@ fn unpack_entry<H: Files, O: Sink>(
         → Did (Makes (unpack_steps prefix.now bytes (entry.now ∷ []))) told (H.contents files.new)
         (O.taken sink.old) (O.taken sink.new)
         (Rose (H.faults files.old) (H.faults files.new))
+        (Rose (H.spoiled files.old) (H.spoiled files.new))
         (Rose (O.faults sink.old) (O.faults sink.new)) result }
     ensures other { OnOk result (is_unpacked prefix.now from.now ≡ false
         → from.now ≢ unpacked_name prefix.now entry.now.guid) }
     ensures silent { H.contents files.old ≡ None → H.contents files.new ≡ None }
+    ensures unspoiled { OnOk result (H.spoiled files.new ≡ H.spoiled files.old) }
     ensures says { Says (λ texts. texts ≡ unpacked_line prefix.now entry.now ∷ [])
         (O.taken sink.old) (O.taken sink.new)
         (Rose (O.faults sink.old) (O.faults sink.new)) result }
@@ -131,6 +133,7 @@ fn unpack_entries<H: Files, O: Sink>(
         (filter (λ e. (length names.now == 0) || is_named names.now e) entries.now))) told
         (H.contents files.new) (O.taken sink.old) (O.taken sink.new)
         (Rose (H.faults files.old) (H.faults files.new))
+        (Rose (H.spoiled files.old) (H.spoiled files.new))
         (Rose (O.faults sink.old) (O.faults sink.new)) result }
     ensures says { Says (λ texts. texts ≡ map (unpacked_line prefix.now)
         (filter (λ e. (length names.now == 0) || is_named names.now e) entries.now))
@@ -169,6 +172,7 @@ pub fn run_unpack<H: Files, O: Sink>(
         (unpack_value told from.now names.now)) told (H.contents files.new) (O.taken sink.old)
         (O.taken sink.new)
         (Rose (H.faults files.old) (H.faults files.new))
+        (Rose (H.spoiled files.old) (H.spoiled files.new))
         (Rose (O.faults sink.old) (O.faults sink.new)) result }
     ensures says { Says (IsTexts (Asked.unpack from.now prefix.now names.now)) (O.taken sink.old)
         (O.taken sink.new)

@@ -1,5 +1,5 @@
 //! A file that is written, and the line that is printed then.
-ghost use Rattle.std.specs.Prelude.{◌≡◌, ◌⊎◌, ◌≤◌, ◌∷◌, [], List, Some, None, Ok, Result, Err, IfErr, ℕ, length};
+ghost use Rattle.std.specs.Prelude.{◌≡◌, ◌⊎◌, ◌≤◌, ◌∷◌, [], List, Some, None, Ok, Result, Err, IfErr, OnOk, ℕ, length};
 ghost use Rattle.base_core.specs.Counts.{Rose};
 ghost use Rattle.host_io.specs.Contents.{Directory};
 ghost use Rattle.fip_tool.specs.Said.{IsCapsuleLine, IsPackedLine, Says};
@@ -18,7 +18,9 @@ use std::alloc::Global;
 pub fn write<H: Files>(files: &mut H, name: &str, bytes: &[u8]) -> Result<(), Stop>
     ensures told { (told : Directory) → H.contents files.old ≡ Some told
         → Written told (H.contents files.new)
-        (Rose (H.faults files.old) (H.faults files.new)) name.now bytes.now result }
+        (Rose (H.faults files.old) (H.faults files.new))
+        (Rose (H.spoiled files.old) (H.spoiled files.new)) name.now bytes.now result }
+    ensures unspoiled { OnOk result (H.spoiled files.new ≡ H.spoiled files.old) }
     ensures cause { result ≡ Err stop.FileFault → Rose (H.faults files.old) (H.faults files.new) }
     ensures silent { H.contents files.old ≡ None → H.contents files.new ≡ None }
     ensures late { IfErr result IsLate }
@@ -45,7 +47,9 @@ pub fn write_and_print<H: Files, O: Sink>(
         → Did (Makes (Writes name.now bytes.now ∷ Prints line.now ∷ [])) told (H.contents files.new)
         (O.taken sink.old) (O.taken sink.new)
         (Rose (H.faults files.old) (H.faults files.new))
+        (Rose (H.spoiled files.old) (H.spoiled files.new))
         (Rose (O.faults sink.old) (O.faults sink.new)) result }
+    ensures unspoiled { OnOk result (H.spoiled files.new ≡ H.spoiled files.old) }
     ensures cause { result ≡ Err stop.FileFault → Rose (H.faults files.old) (H.faults files.new) }
     ensures silent { H.contents files.old ≡ None → H.contents files.new ≡ None }
     ensures says { Says (λ texts. texts ≡ line.now ∷ []) (O.taken sink.old) (O.taken sink.new)
@@ -70,13 +74,14 @@ pub fn put_made<H: Files, O: Sink>(
     out: &str,
     made: Result<(u64, Vec<u8>), Stop>,
 ) -> Result<(), Stop>
-    ensures told { (told : Directory) (value : Result (ℕ × List ℕ) Stop) (before : ℕ)
+    ensures told { (told : Directory) (value : Result (ℕ × List ℕ) Stop) (before kept : ℕ)
         → H.contents files.old ≡ Some told
-        → before ≤ H.faults files.old → Gives (λ m. (m.0, m.1.items))
-        (Rose before (H.faults files.old)) value made
+        → before ≤ H.faults files.old → kept ≡ H.spoiled files.old
+        → Gives (λ m. (m.0, m.1.items)) (Rose before (H.faults files.old)) value made
         → Did (outcome_by (packs out.now) value) told (H.contents files.new) (O.taken sink.old)
         (O.taken sink.new)
-        (Rose before (H.faults files.new)) (Rose (O.faults sink.old) (O.faults sink.new)) result }
+        (Rose before (H.faults files.new)) (Rose kept (H.spoiled files.new))
+        (Rose (O.faults sink.old) (O.faults sink.new)) result }
     ensures says { (made ≡ Err stop.SinkFault → ⊥) → Says (IsPackedLine made)
         (O.taken sink.old) (O.taken sink.new)
         (Rose (O.faults sink.old) (O.faults sink.new)) result }
@@ -106,13 +111,14 @@ pub fn put_capsule<H: Files, O: Sink>(
     out: &str,
     made: Result<(u64, Vec<u8>), Stop>,
 ) -> Result<(), Stop>
-    ensures told { (told : Directory) (value : Result (ℕ × List ℕ) Stop) (before : ℕ)
+    ensures told { (told : Directory) (value : Result (ℕ × List ℕ) Stop) (before kept : ℕ)
         → H.contents files.old ≡ Some told
-        → before ≤ H.faults files.old → Gives (λ m. (m.0, m.1.items))
-        (Rose before (H.faults files.old)) value made
+        → before ≤ H.faults files.old → kept ≡ H.spoiled files.old
+        → Gives (λ m. (m.0, m.1.items)) (Rose before (H.faults files.old)) value made
         → Did (outcome_by (encloses out.now) value) told (H.contents files.new) (O.taken sink.old)
         (O.taken sink.new)
-        (Rose before (H.faults files.new)) (Rose (O.faults sink.old) (O.faults sink.new)) result }
+        (Rose before (H.faults files.new)) (Rose kept (H.spoiled files.new))
+        (Rose (O.faults sink.old) (O.faults sink.new)) result }
     ensures says { (made ≡ Err stop.SinkFault → ⊥) → Says (IsCapsuleLine made)
         (O.taken sink.old) (O.taken sink.new)
         (Rose (O.faults sink.old) (O.faults sink.new)) result }

@@ -1,4 +1,4 @@
-use Rattle.std.proofs.Common.{◌≡◌, ◌∙◌, ◌∷◌, [], ℕ, ap, length}
+use Rattle.std.proofs.Common.{◌≡◌, ◌∙◌, ◌∷◌, [], ℕ, ap, length, sym}
 use Rattle.fwu_formats.specs.Package.{Toc}
 use Rattle.fip_tool.specs.Lines.{capsule_line}
 use Rattle.fip_tool.specs.Said.{IsCapsuleLine}
@@ -9,7 +9,8 @@ use Rattle.fip_tool.proofs.capsules.run_capsule.Goals as goal
 
 pub returns-clause-told : goal.returns-clause-told
 returns-clause-told g c = λ told e.
-    c.put_capsule.ensures.told told (capsule_value told c.args.from.now) _ (c.capsule_of_package-made.ensures.reads.same ∙ e) c.capsule_of_package-made.ensures.reads.later (c.capsule_of_package-made.ensures.told told e)
+    c.put_capsule.ensures.told told (capsule_value told c.args.from.now) _ _ (c.capsule_of_package-made.ensures.reads.same ∙ e) c.capsule_of_package-made.ensures.reads.later (sym c.capsule_of_package-made.ensures.unspoiled)
+    (c.capsule_of_package-made.ensures.told told e)
 
 pub returns-clause-says : goal.returns-clause-says
 returns-clause-says g c =

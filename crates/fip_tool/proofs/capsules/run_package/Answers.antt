@@ -1,4 +1,4 @@
-use Rattle.std.proofs.Common.{◌≡◌, ◌∙◌, ◌∷◌, [], ℕ, ap, length}
+use Rattle.std.proofs.Common.{◌≡◌, ◌∙◌, ◌∷◌, [], ℕ, ap, length, sym}
 use Rattle.fwu_formats.specs.Package.{Toc}
 use Rattle.fip_tool.specs.Lines.{packed_line}
 use Rattle.fip_tool.specs.Said.{IsPackedLine}
@@ -9,7 +9,8 @@ use Rattle.fip_tool.proofs.capsules.run_package.Goals as goal
 
 pub returns-clause-told : goal.returns-clause-told
 returns-clause-told g c = λ told e.
-    c.put_made.ensures.told told (repackage_value told c.args.align c.args.from.now) _ (c.package_of_capsule-made.ensures.reads.same ∙ e) c.package_of_capsule-made.ensures.reads.later (c.package_of_capsule-made.ensures.told told e)
+    c.put_made.ensures.told told (repackage_value told c.args.align c.args.from.now) _ _ (c.package_of_capsule-made.ensures.reads.same ∙ e) c.package_of_capsule-made.ensures.reads.later (sym c.package_of_capsule-made.ensures.unspoiled)
+    (c.package_of_capsule-made.ensures.told told e)
 
 pub returns-clause-says : goal.returns-clause-says
 returns-clause-says g c =

@@ -15,7 +15,7 @@ returns-in-Err-clause-told g c = λ told e.
 
 pub loop-payload-init : goal.loop-payload-init
 loop-payload-init g c =
-    begins (g.H.Files.contents c.args.files.now) (g.H.Files.faults c.args.files.now) (vec_capacity c.in-Ok-front_of.bytes) c.in-Ok-front_of.bytes.items c.args.payloads.now c.as_slice.result.now c.requires.there
+    begins (g.H.Files.contents c.args.files.now) (g.H.Files.faults c.args.files.now) (g.H.Files.spoiled c.args.files.now) (vec_capacity c.in-Ok-front_of.bytes) c.in-Ok-front_of.bytes.items c.args.payloads.now c.as_slice.result.now c.requires.there
     (c.as_slice.ensures.value ∙ c.in-Ok.ensures) c.in-Ok-front_of.ensures.front c.in-Ok-front_of.ensures.room c.in-Ok-front_of.ensures.value
 
 pub add_item-requires-clause-short : goal.add_item-requires-clause-short
@@ -31,13 +31,14 @@ add_item-requires-clause-room g c =
 pub loop-payload-preserved : goal.loop-payload-preserved
 loop-payload-preserved g c =
     filled (g.H.Files.contents c.args.files.now) (g.H.Files.contents c.loop-payload.files) (g.H.Files.faults c.args.files.now) (g.H.Files.faults c.loop-payload.files) (g.H.Files.faults c.add_item.new.files)
-    (vec_capacity c.loop-payload.bytes) (vec_capacity c.add_item.new.bytes) c.loop-payload.bytes.items c.add_item.new.bytes.items c.args.payloads.now c.loop-payload.index c.loop-payload.payload-index c.payload-item.result
-    c.loop-payload-test.true c.payload-item.is c.requires.there c.loop-payload.invariant c.in-Ok-add_item.ensures.added (g.H.Files.contents c.add_item.new.files) c.add_item.ensures.reads.same c.add_item.ensures.reads.later
+    (g.H.Files.spoiled c.args.files.now) (g.H.Files.spoiled c.loop-payload.files) (g.H.Files.spoiled c.add_item.new.files) (vec_capacity c.loop-payload.bytes) (vec_capacity c.add_item.new.bytes) c.loop-payload.bytes.items c.add_item.new.bytes.items c.args.payloads.now c.loop-payload.index c.loop-payload.payload-index c.payload-item.result
+    c.loop-payload-test.true c.payload-item.is c.requires.there c.loop-payload.invariant c.in-Ok-add_item.ensures.added (g.H.Files.contents c.add_item.new.files) c.add_item.ensures.reads.same c.add_item.ensures.reads.later c.add_item.ensures.unspoiled
     c.add_item.ensures.capacity
 
 pub returns-clause-told : goal.returns-clause-told
 returns-clause-told g c = λ told e.
     let all = subst (λ (o : Option Directory). All (IsThere o) c.args.payloads.now) e c.requires.there in
     parts-enclosed told (length c.args.payloads.now) c.args.payloads.now c.as_slice.result.now c.loop-payload.bytes.items all (c.as_slice.ensures.value ∙ c.in-Ok.ensures) refl c.in-Ok-front_of.ensures.value
-    (ends (g.H.Files.contents c.args.files.now) (g.H.Files.contents c.loop-payload.files) (g.H.Files.faults c.args.files.now) (g.H.Files.faults c.loop-payload.files) (vec_capacity c.loop-payload.bytes)
+    (ends (g.H.Files.contents c.args.files.now) (g.H.Files.contents c.loop-payload.files) (g.H.Files.faults c.args.files.now) (g.H.Files.faults c.loop-payload.files)
+    (g.H.Files.spoiled c.args.files.now) (g.H.Files.spoiled c.loop-payload.files) (vec_capacity c.loop-payload.bytes)
     c.loop-payload.bytes.items c.args.payloads.now c.loop-payload.index c.loop-payload.payload-index (omega (arith, c.loop-payload-test.false)) c.loop-payload.invariant told e)

@@ -10,7 +10,8 @@ use Rattle.fip_tool.proofs.making.run_create.Goals as goal
 
 pub returns-clause-told : goal.returns-clause-told
 returns-clause-told g c = λ told e.
-    c.put_made.ensures.told told (create_value told c.args.align (map part_view c.args.named.now)) _ (c.created-made.ensures.reads.same ∙ e) c.created-made.ensures.reads.later (c.created-made.ensures.told told e)
+    c.put_made.ensures.told told (create_value told c.args.align (map part_view c.args.named.now)) _ _ (c.created-made.ensures.reads.same ∙ e) c.created-made.ensures.reads.later (sym c.created-made.ensures.unspoiled)
+    (c.created-made.ensures.told told e)
 
 pub returns-clause-says : goal.returns-clause-says
 returns-clause-says g c =

@@ -1,4 +1,4 @@
-use Rattle.std.proofs.Common.{◌≡◌, ◌∙◌, ◌∷◌, [], ℕ, None, ap, length}
+use Rattle.std.proofs.Common.{◌≡◌, ◌∙◌, ◌∷◌, [], ℕ, None, ap, length, sym}
 use Rattle.std.specs.Prelude.{filter, not}
 use Rattle.fwu_formats.specs.Package.{Toc}
 use Rattle.fip_tool.specs.Lines.{packed_line}
@@ -10,7 +10,8 @@ use Rattle.fip_tool.proofs.making.run_remove.Goals as goal
 
 pub returns-clause-told : goal.returns-clause-told
 returns-clause-told g c = λ told e.
-    c.put_made.ensures.told told (remove_value told c.args.align c.args.from.now c.args.guids.now) _ (c.removed-made.ensures.reads.same ∙ e) c.removed-made.ensures.reads.later (c.removed-made.ensures.told told e)
+    c.put_made.ensures.told told (remove_value told c.args.align c.args.from.now c.args.guids.now) _ _ (c.removed-made.ensures.reads.same ∙ e) c.removed-made.ensures.reads.later (sym c.removed-made.ensures.unspoiled)
+    (c.removed-made.ensures.told told e)
 
 pub returns-clause-says : goal.returns-clause-says
 returns-clause-says g c =

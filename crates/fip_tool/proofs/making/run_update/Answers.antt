@@ -1,4 +1,4 @@
-use Rattle.std.proofs.Common.{◌≡◌, ◌∙◌, ◌∷◌, [], ℕ, None, ap, length, map}
+use Rattle.std.proofs.Common.{◌≡◌, ◌∙◌, ◌∷◌, [], ℕ, None, ap, length, map, sym}
 use Rattle.fwu_formats.specs.Package.{Toc}
 use Rattle.fip_words.specs.Order.{part_view}
 use Rattle.fip_tool.specs.Lines.{packed_line}
@@ -10,7 +10,8 @@ use Rattle.fip_tool.proofs.making.run_update.Goals as goal
 
 pub returns-clause-told : goal.returns-clause-told
 returns-clause-told g c = λ told e.
-    c.put_made.ensures.told told (update_value told c.args.align c.args.from.now (map part_view c.args.named.now)) _ (c.updated-made.ensures.reads.same ∙ e) c.updated-made.ensures.reads.later (c.updated-made.ensures.told told e)
+    c.put_made.ensures.told told (update_value told c.args.align c.args.from.now (map part_view c.args.named.now)) _ _ (c.updated-made.ensures.reads.same ∙ e) c.updated-made.ensures.reads.later (sym c.updated-made.ensures.unspoiled)
+    (c.updated-made.ensures.told told e)
 
 pub returns-clause-says : goal.returns-clause-says
 returns-clause-says g c =

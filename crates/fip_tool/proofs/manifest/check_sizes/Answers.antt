@@ -23,6 +23,7 @@ loop-one-preserved g c =
     (c.in-Ok.ensures.told told (c.loop-one.invariant.same ∙ e)) in record {
       same = c.is_long_file.ensures.reads.same ∙ c.loop-one.invariant.same;
       later = (let a = c.loop-one.invariant.later in let b = c.is_long_file.ensures.reads.later in omega arith);
+      unspoiled = c.is_long_file.ensures.unspoiled ∙ c.loop-one.invariant.unspoiled;
       so-far = λ told e.
           more told e
           ∙ elim c.if-is_long.branch [

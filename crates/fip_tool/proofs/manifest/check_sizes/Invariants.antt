@@ -9,5 +9,6 @@ abbrev pub invariant-loop-one : goal.invariant-loop-one
 invariant-loop-one g l = record {
   same : g.H.Files.contents l.files ≡ g.H.Files.contents l.fn.files;
   later : g.H.Files.faults l.fn.files ≤ g.H.Files.faults l.files;
+  unspoiled : g.H.Files.spoiled l.files ≡ g.H.Files.spoiled l.fn.files;
   so-far : (told : Directory) → g.H.Files.contents l.fn.files ≡ Some told → longs_value told (map image_view (take l.one-index l.named)) ≡ Ok l.is_long;
 }

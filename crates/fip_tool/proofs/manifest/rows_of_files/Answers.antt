@@ -20,6 +20,7 @@ pub loop-one-preserved : goal.loop-one-preserved
 loop-one-preserved g c = record {
   same = c.row_of_file.ensures.reads.same ∙ c.loop-one.invariant.same;
   later = (let a = c.loop-one.invariant.later in let b = c.row_of_file.ensures.reads.later in omega arith);
+  unspoiled = c.row_of_file.ensures.unspoiled ∙ c.loop-one.invariant.unspoiled;
   count = count-more (λ v. v.items) c.loop-one.rows c.in-Ok-with_row.rows c.in-Ok.more c.loop-one.one-index c.in-Ok-with_row.ensures c.loop-one.invariant.count;
   so-far = λ told e.
       rows-more-at told c.args.named.now c.loop-one.one-index c.one-item.result c.loop-one-test.true c.one-item.is

@@ -11,6 +11,7 @@ abbrev pub invariant-loop-one : goal.invariant-loop-one
 invariant-loop-one g l = record {
   same : g.H.Files.contents l.files ≡ g.H.Files.contents l.fn.files;
   later : g.H.Files.faults l.fn.files ≤ g.H.Files.faults l.files;
+  unspoiled : g.H.Files.spoiled l.files ≡ g.H.Files.spoiled l.fn.files;
   count : IfSome l.rows (λ v. length v.items ≡ l.one-index);
   so-far : (told : Directory) → g.H.Files.contents l.fn.files ≡ Some told → rows_value told (map image_view (take l.one-index l.named)) ≡ Ok (option_map (λ v. map row v.items) l.rows);
 }

@@ -12,28 +12,28 @@ use Rattle.fip_tool.specs.Steps.{outcome_by}
 use Rattle.fip_tool.specs.Tool.{manifest_value, writes_manifest}
 use Rattle.fip_tool.proofs.Did.{no-memory-yet, refused}
 use Rattle.fip_tool.proofs.ManifestLemmas.{manifest-written}
-use Rattle.fip_tool.proofs.Tables.{rose-from}
+use Rattle.fip_tool.proofs.Tables.{rose-from, rose-still}
 use Rattle.fip_tool.proofs.SinkFaults.{still}
 use Rattle.fip_tool.proofs.manifest.run_manifest.Goals as goal
 
 pub returns-clause-told : goal.returns-clause-told
 returns-clause-told g c = λ told e.
-    manifest-written told c.args.out.now c.args.security _ (c.in-Ok.made.0, c.in-Ok.made.1.items) c.as_slice.result.now c.as_slice-2.result.now _ _ _ _ _ _ c.write_and_print.result
+    manifest-written told c.args.out.now c.args.security _ (c.in-Ok.made.0, c.in-Ok.made.1.items) c.as_slice.result.now c.as_slice-2.result.now _ _ _ _ _ _ _ _ c.write_and_print.result
     (c.in-Ok.ensures.told told e) c.as_slice.ensures.value
     (let long : c.len.result ≡ length c.in-Ok.made.1.items = search rules in
     c.as_slice-2.ensures.value ∙ c.in-Ok-manifest_line.ensures ∙ ap (λ (n : ℕ). manifest_line c.in-Ok.made.0 n c.args.security) long)
-    (λ r. rose-from _ _ _ c.manifest.ensures.reads.later r)
+    (λ r. rose-from _ _ _ c.manifest.ensures.reads.later r) (λ r. rose-still _ _ _ (sym c.manifest.ensures.unspoiled) r)
     (c.write_and_print.ensures.told told (c.manifest.ensures.reads.same ∙ e))
 
 pub returns-in-Err-clause-told : goal.returns-in-Err-clause-told
 returns-in-Err-clause-told g c = λ told e.
-    refused (writes_manifest c.args.out.now c.args.security) (λ (m : ℕ × Vec ℕ Global). (m.0, m.1.items)) (manifest_value told c.args.security (map image_view c.args.named.now)) told _ _ _ _ _ c.in-Err.stop
+    refused (writes_manifest c.args.out.now c.args.security) (λ (m : ℕ × Vec ℕ Global). (m.0, m.1.items)) (manifest_value told c.args.security (map image_view c.args.named.now)) told _ _ _ _ _ _ c.in-Err.stop
     (c.in-Err.ensures.told told e) (c.manifest.ensures.reads.same ∙ e) refl
 
 pub returns-in_default-clause-told : goal.returns-in_default-clause-told
 returns-in_default-clause-told g c = λ told e.
     no-memory-yet (outcome_by (writes_manifest c.args.out.now c.args.security) (manifest_value told c.args.security (map image_view c.args.named.now))) told _ _ _
-    (Rose (g.H.Files.faults c.args.files.now) (g.H.Files.faults c.manifest.new.files)) (Rose (g.O.Sink.faults c.args.sink.now) (g.O.Sink.faults c.args.sink.now))
+    (Rose (g.H.Files.faults c.args.files.now) (g.H.Files.faults c.manifest.new.files)) (Rose (g.H.Files.spoiled c.args.files.now) (g.H.Files.spoiled c.manifest.new.files)) (Rose (g.O.Sink.faults c.args.sink.now) (g.O.Sink.faults c.args.sink.now))
     (c.manifest.ensures.reads.same ∙ e) refl
 
 pub returns-clause-cause : goal.returns-clause-cause

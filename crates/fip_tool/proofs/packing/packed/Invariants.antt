@@ -10,6 +10,7 @@ abbrev pub invariant-loop-payload : goal.invariant-loop-payload
 invariant-loop-payload g l = record {
   same : g.H.Files.contents l.files ≡ g.H.Files.contents l.fn.files;
   later : g.H.Files.faults l.fn.files ≤ g.H.Files.faults l.files;
+  unspoiled : g.H.Files.spoiled l.files ≡ g.H.Files.spoiled l.fn.files;
   count : l.frame.count ≡ l.payload-index;
   entries : l.frame.entries ≡ packed_entries l.align (table_end (map outline_of l.payloads)) (map outline_of l.payloads);
   so-far : (told : Directory) → g.H.Files.contents l.fn.files ≡ Some told → IsFrame l.frame l.serial l.flags (map (part_told told) l.payloads) l.align;

@@ -20,6 +20,7 @@ loop-one-preserved g c =
     let more = c.in-Ok-push.ensures.items in record {
       same = c.payload_of_file.ensures.reads.same ∙ c.loop-one.invariant.same;
       later = (let a = c.loop-one.invariant.later in let b = c.payload_of_file.ensures.reads.later in omega arith);
+      unspoiled = c.payload_of_file.ensures.unspoiled ∙ c.loop-one.invariant.unspoiled;
       count = omega (arith, ap length more, length-append c.loop-one.payloads.items (c.in-Ok.payload ∷ []), c.loop-one.invariant.count);
       there = subst (All (IsThere (g.H.Files.contents c.args.files.now))) (sym more)
           (one-more-there (IsThere (g.H.Files.contents c.args.files.now)) c.loop-one.payloads.items c.in-Ok.payload c.loop-one.invariant.there

@@ -10,6 +10,7 @@ abbrev pub invariant-loop-one : goal.invariant-loop-one
 invariant-loop-one g l = record {
   same : g.H.Files.contents l.files ≡ g.H.Files.contents l.fn.files;
   later : g.H.Files.faults l.fn.files ≤ g.H.Files.faults l.files;
+  unspoiled : g.H.Files.spoiled l.files ≡ g.H.Files.spoiled l.fn.files;
   count : length l.payloads.items ≡ l.one-index;
   there : All (IsThere (g.H.Files.contents l.fn.files)) l.payloads.items;
   so-far : (told : Directory) → g.H.Files.contents l.fn.files ≡ Some told → parts_in told (map part_view (take l.one-index l.named)) ≡ Ok (map (part_told told) l.payloads.items);

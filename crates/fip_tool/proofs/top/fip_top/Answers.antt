@@ -21,7 +21,7 @@ pub returns-in-Err-clause-told : goal.returns-in-Err-clause-told
 returns-in-Err-clause-told g c = λ told e other. (
   Err c.report.result,
   c.status.ensures,
-  ends _ told _ _ _ _ _ _ (Rose (g.O.Sink.faults c.args.sink.now) (g.O.Sink.faults c.report.new.sink)) (λ r. rose-until _ _ _ r c.report.ensures.later) c.in-Err.stop c.report.result
+  ends _ told _ _ _ _ _ _ _ (Rose (g.O.Sink.faults c.args.sink.now) (g.O.Sink.faults c.report.new.sink)) (λ r. rose-until _ _ _ r c.report.ensures.later) c.in-Err.stop c.report.result
       (c.in-Err.ensures.told told e other) (reported-later _ _ _ _ _ _ (λ r. rose-from _ _ _ c.run.ensures.later r) c.report.ensures.reported),
 )
 
@@ -40,7 +40,7 @@ returns-in-Err-clause-source g c = λ e.
       Err c.report.result,
       c.status.ensures,
       reported-read _ _ _ _ _ s.0 c.in-Err.stop c.report.result s.3 r,
-      ends _ no_files (Some no_files) (g.O.Sink.taken c.args.sink.now) _ _ (Rose (g.I.Source.faults c.args.source.now) (g.I.Source.faults c.run.new.source)) _ _ (λ r. rose-until _ _ _ r c.report.ensures.later) c.in-Err.stop c.report.result s.4 r,
+      ends _ no_files (Some no_files) (g.O.Sink.taken c.args.sink.now) _ _ (Rose (g.I.Source.faults c.args.source.now) (g.I.Source.faults c.run.new.source)) ⊥ _ _ (λ r. rose-until _ _ _ r c.report.ensures.later) c.in-Err.stop c.report.result s.4 r,
     )
 
 pub returns-in-Err-clause-cause : goal.returns-in-Err-clause-cause
@@ -71,7 +71,7 @@ returns-in-Err-clause-said g c = (
 pub returns-in-Ok-clause-converts : goal.returns-in-Ok-clause-converts
 returns-in-Ok-clause-converts g c = λ told e none.
     converted (asked (map string_bytes c.args.words.now)) told _ _ _ (Rose (g.H.Files.faults c.args.files.now) (g.H.Files.faults c.run.new.files))
-    (Rose (g.O.Sink.faults c.args.sink.now) (g.O.Sink.faults c.run.new.sink)) (c.in-Ok.ensures.told told e)
+    (Rose (g.H.Files.spoiled c.args.files.now) (g.H.Files.spoiled c.run.new.files)) (Rose (g.O.Sink.faults c.args.sink.now) (g.O.Sink.faults c.run.new.sink)) (c.in-Ok.ensures.told told e)
 
 pub returns-in-Err-clause-converts : goal.returns-in-Err-clause-converts
 returns-in-Err-clause-converts g c = λ told e zero. absurd (no-zero c.report.result (sym c.status.ensures ∙ zero))

@@ -10,7 +10,7 @@ use Rattle.fip_tool.proofs.Texts.{err-same, says-as, says-nothing}
 use Rattle.fip_tool.specs.Tool.{chosen, is_named, unpack_steps, unpack_value}
 use Rattle.fip_tool.proofs.Did.{made-steps, refused}
 use Rattle.fip_tool.proofs.Repacking.{opened, stored-of, there-of, unpack-err, unpack-of}
-use Rattle.fip_tool.proofs.Tables.{gives-err, rose-from}
+use Rattle.fip_tool.proofs.Tables.{gives-err, rose-from, rose-still}
 use Rattle.fip_tool.proofs.UnpackLemmas.{chosen-filter}
 use Rattle.fip_tool.proofs.SinkFaults.{still}
 use Rattle.fip_tool.proofs.unpack.run_unpack.Goals as goal
@@ -25,7 +25,7 @@ unpack_entries-requires-clause-there g c = there-of _ _ c.args.from.now c.args.n
 
 pub returns-in-Err-clause-told : goal.returns-in-Err-clause-told
 returns-in-Err-clause-told g c = λ told is.
-    refused (λ v. unpack_steps c.args.prefix.now v.0 v.1) (λ (v : List ℕ × List Entry). v) (unpack_value told c.args.from.now c.args.names.now) told _ _ _ _ _ c.in-Err.stop
+    refused (λ v. unpack_steps c.args.prefix.now v.0 v.1) (λ (v : List ℕ × List Entry). v) (unpack_value told c.args.from.now c.args.names.now) told _ _ _ _ _ _ c.in-Err.stop
     (gives-err (λ (t : Toc). t) (λ (v : List ℕ × List Entry). v) _ _ _ _ c.in-Err.stop (λ r. r) (unpack-err told c.args.from.now c.args.names.now c.in-Err.stop) (c.in-Err.ensures.told told is))
     (c.table_with.ensures.reads.same ∙ is) refl
 
@@ -34,9 +34,11 @@ returns-in-Ok-clause-told g c = λ told is.
     let o = opened told c.args.from.now c.args.names.now c.in-Ok.toc (c.in-Ok.ensures.told told is) in
     let same = c.as_slice-entries.ensures ∙ ap (λ (t : Toc). t.entries) c.toc.view_is in
     let did = c.unpack_entries.ensures.told told o.bytes (c.table_with.ensures.reads.same ∙ is) o.is in
-    made-steps (λ v. unpack_steps c.args.prefix.now v.0 v.1) _ _ told _ _ _ _ _ _ c.unpack_entries.result (unpack-of told c.args.from.now c.args.names.now c.in-Ok.toc o) (λ r. rose-from _ _ _ c.table_with.ensures.reads.later r)
+    made-steps (λ v. unpack_steps c.args.prefix.now v.0 v.1) _ _ told _ _ _ _ _ _ _ _ c.unpack_entries.result (unpack-of told c.args.from.now c.args.names.now c.in-Ok.toc o) (λ r. rose-from _ _ _ c.table_with.ensures.reads.later r)
+    (λ r. rose-still _ _ _ (sym c.table_with.ensures.unspoiled) r)
     (subst (λ (l : List Entry). Did (Makes (unpack_steps c.args.prefix.now o.bytes l)) told (g.H.Files.contents c.unpack_entries.new.files) (g.O.Sink.taken c.args.sink.now) (g.O.Sink.taken c.unpack_entries.new.sink)
-    (Rose (g.H.Files.faults c.table_with.new.files) (g.H.Files.faults c.unpack_entries.new.files)) (Rose (g.O.Sink.faults c.args.sink.now) (g.O.Sink.faults c.unpack_entries.new.sink)) c.unpack_entries.result)
+    (Rose (g.H.Files.faults c.table_with.new.files) (g.H.Files.faults c.unpack_entries.new.files)) (Rose (g.H.Files.spoiled c.table_with.new.files) (g.H.Files.spoiled c.unpack_entries.new.files))
+    (Rose (g.O.Sink.faults c.args.sink.now) (g.O.Sink.faults c.unpack_entries.new.sink)) c.unpack_entries.result)
     (chosen-filter c.args.names.now c.as_slice-entries.result.now ∙ ap (chosen c.args.names.now) same) did)
 
 pub returns-in-Ok-clause-says : goal.returns-in-Ok-clause-says

@@ -9,7 +9,7 @@ use Rattle.fip_tool.specs.Lines.{unpacked_line}
 use Rattle.fip_tool.specs.Said.{joined}
 use Rattle.fip_tool.specs.Tool.{is_named}
 use Rattle.fip_tool.proofs.Texts.{said-more, says-behind}
-use Rattle.fip_tool.proofs.Tables.{rose-from}
+use Rattle.fip_tool.proofs.Tables.{rose-from, rose-still}
 use Rattle.fip_tool.proofs.UnpackLemmas.{all-done, begins, next-chosen, next-passed, split-chosen, step-done, step-passed, step-stops, tells-still, there-still}
 use Rattle.fip_tool.specs.Steps.{sink_failed}
 use Rattle.fip_tool.proofs.unpack.unpack_entries.Goals as goal
@@ -19,6 +19,7 @@ pub loop-entry-init : goal.loop-entry-init
 loop-entry-init g c = record {
   silent = λ e. e;
   later = omega arith;
+  unspoiled = refl;
   later_sink = omega arith;
   sink_count = refl;
   said = Appends-nil _;
@@ -38,8 +39,8 @@ pub returns-in-Err-clause-told : goal.returns-in-Err-clause-told
 returns-in-Err-clause-told g c = λ told bytes is stored.
     let s = c.loop-entry.invariant.so-far told bytes is stored in
     step-stops c.args.prefix.now c.args.from.now bytes (λ e. (length c.args.names.now == 0) || is_named c.args.names.now e) c.args.entries.now c.loop-entry.entry-index told _
-    c.entry-item.result c.loop-entry-test.true (sym c.entry-item.is) _ _ _ _ _ _ s _ _ c.in-Err.stop
-    (λ r. rose-from _ _ _ c.loop-entry.invariant.later r) (λ r. rose-from _ _ _ c.loop-entry.invariant.later_sink r) (sym c.is_chosen.ensures ∙ c.if-is_chosen.true) (c.in-Err.ensures.told s.now bytes s.is s.stored)
+    c.entry-item.result c.loop-entry-test.true (sym c.entry-item.is) _ _ _ _ _ _ _ s _ _ _ c.in-Err.stop
+    (λ r. rose-from _ _ _ c.loop-entry.invariant.later r) (λ r. rose-still _ _ _ (sym c.loop-entry.invariant.unspoiled) r) (λ r. rose-from _ _ _ c.loop-entry.invariant.later_sink r) (sym c.is_chosen.ensures ∙ c.if-is_chosen.true) (c.in-Err.ensures.told s.now bytes s.is s.stored)
 
 pub loop-entry-preserved : goal.loop-entry-preserved
 loop-entry-preserved g c =
@@ -48,6 +49,7 @@ loop-entry-preserved g c =
           rw (w.files-is, w.sink-is) (record {
             silent = λ e. w.in-Ok.ensures.silent (c.loop-entry.invariant.silent e);
             later = omega (arith, c.loop-entry.invariant.later, w.unpack_entry.ensures.later);
+            unspoiled = w.in-Ok.ensures.unspoiled ∙ c.loop-entry.invariant.unspoiled;
             later_sink = omega (arith, c.loop-entry.invariant.later_sink, w.unpack_entry.ensures.later_sink);
             sink_count = w.in-Ok.ensures.sink_count ∙ c.loop-entry.invariant.sink_count;
             said =
@@ -61,13 +63,14 @@ loop-entry-preserved g c =
             so-far = λ told bytes is stored.
                 let s = c.loop-entry.invariant.so-far told bytes is stored in
                 step-done c.args.prefix.now c.args.from.now bytes (λ e. (length c.args.names.now == 0) || is_named c.args.names.now e) c.args.entries.now c.loop-entry.entry-index told _
-                c.entry-item.result c.loop-entry-test.true (sym c.entry-item.is) _ _ _ _ (Unit {0}) (Unit {0}) s _
+                c.entry-item.result c.loop-entry-test.true (sym c.entry-item.is) _ _ _ _ (Unit {0}) (Unit {0}) (Unit {0}) s _
                 (sym c.is_chosen.ensures ∙ w.if-is_chosen.true) (w.in-Ok.ensures.other c.requires.other) (w.in-Ok.ensures.told s.now bytes s.is s.stored);
           })
       | else-is_chosen w ↦
           rw (w.files-is, w.sink-is) (record {
             silent = c.loop-entry.invariant.silent;
             later = c.loop-entry.invariant.later;
+            unspoiled = c.loop-entry.invariant.unspoiled;
             later_sink = c.loop-entry.invariant.later_sink;
             sink_count = c.loop-entry.invariant.sink_count;
             said =
@@ -106,7 +109,7 @@ returns-clause-says g c =
 pub returns-clause-told : goal.returns-clause-told
 returns-clause-told g c = λ told bytes is stored.
     let far : length c.args.entries.now ≤ c.loop-entry.entry-index = omega (arith, c.loop-entry-test.false) in
-    all-done c.args.prefix.now c.args.from.now bytes (λ e. (length c.args.names.now == 0) || is_named c.args.names.now e) c.args.entries.now c.loop-entry.entry-index told _ _ _ (Unit {0}) (Unit {0}) tt far
+    all-done c.args.prefix.now c.args.from.now bytes (λ e. (length c.args.names.now == 0) || is_named c.args.names.now e) c.args.entries.now c.loop-entry.entry-index told _ _ _ (Unit {0}) (Unit {0}) (Unit {0}) tt far
     (c.loop-entry.invariant.so-far told bytes is stored)
 
 pub returns-in-Err-clause-sink_count : goal.returns-in-Err-clause-sink_count

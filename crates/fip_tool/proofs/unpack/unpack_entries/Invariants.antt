@@ -13,6 +13,7 @@ abbrev pub invariant-loop-entry : goal.invariant-loop-entry
 invariant-loop-entry g l = record {
   silent : g.H.Files.contents l.fn.files ≡ None → g.H.Files.contents l.files ≡ None;
   later : g.H.Files.faults l.fn.files ≤ g.H.Files.faults l.files;
+  unspoiled : g.H.Files.spoiled l.files ≡ g.H.Files.spoiled l.fn.files;
   later_sink : g.O.Sink.faults l.fn.sink ≤ g.O.Sink.faults l.sink;
   sink_count : g.O.Sink.faults l.sink ≡ g.O.Sink.faults l.fn.sink;
   said : Appends (g.O.Sink.taken l.fn.sink) (g.O.Sink.taken l.sink) (joined (map (unpacked_line l.prefix) (filter (λ e. (length l.names == 0) || is_named l.names e) (take l.entry-index l.entries))));

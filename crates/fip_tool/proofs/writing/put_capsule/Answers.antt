@@ -13,12 +13,12 @@ use Rattle.fip_tool.proofs.SinkFaults.{still}
 use Rattle.fip_tool.proofs.writing.put_capsule.Goals as goal
 
 pub returns-in-Ok-capsule_line-clause-told : goal.returns-in-Ok-capsule_line-clause-told
-returns-in-Ok-capsule_line-clause-told g c = λ told value before e le gives.
+returns-in-Ok-capsule_line-clause-told g c = λ told value before kept e le same gives.
     let made = c.in-Ok.made in
     let is : value ≡ Ok (made.0, made.1.items) = rw c.in-Ok.is at gives in
     let long : c.len.result ≡ length made.1.items = search rules in
-    capsule-put told c.args.out.now value made.0 made.1.items c.as_slice.result.now c.as_slice-in-Ok-capsule_line.result.now _ _ _ before _ _ _ c.write_and_print.result
-    is c.as_slice.ensures.value (c.as_slice-in-Ok-capsule_line.ensures.value ∙ c.in-Ok-capsule_line.ensures ∙ ap (capsule_line made.0) long) le (c.write_and_print.ensures.told told e)
+    capsule-put told c.args.out.now value made.0 made.1.items c.as_slice.result.now c.as_slice-in-Ok-capsule_line.result.now _ _ _ before _ _ kept _ _ _ c.write_and_print.result
+    is c.as_slice.ensures.value (c.as_slice-in-Ok-capsule_line.ensures.value ∙ c.in-Ok-capsule_line.ensures ∙ ap (capsule_line made.0) long) le same (c.write_and_print.ensures.told told e)
 
 pub returns-in-Ok-capsule_line-clause-says : goal.returns-in-Ok-capsule_line-clause-says
 returns-in-Ok-capsule_line-clause-says g c = λ other.
@@ -29,15 +29,15 @@ returns-in-Ok-capsule_line-clause-says g c = λ other.
     (λ r. r) c.write_and_print.ensures.says
 
 pub returns-in-Err-clause-told : goal.returns-in-Err-clause-told
-returns-in-Err-clause-told g c = λ told value before e le gives.
-    refused (encloses c.args.out.now) (λ (m : ℕ × Vec ℕ Global). (m.0, m.1.items)) value told _ _ _ _ _ c.in-Err.stop (rw c.in-Err.is at gives) e refl
+returns-in-Err-clause-told g c = λ told value before kept e le same gives.
+    refused (encloses c.args.out.now) (λ (m : ℕ × Vec ℕ Global). (m.0, m.1.items)) value told _ _ _ _ _ _ c.in-Err.stop (rw c.in-Err.is at gives) e refl
 
 pub returns-in-Err-clause-says : goal.returns-in-Err-clause-says
 returns-in-Err-clause-says g c = λ other. says-nothing (IsCapsuleLine c.args.made) _ _ _ c.in-Err.stop (λ e. other (c.in-Err.is ∙ err-same e)) refl
 
 pub returns-clause-told : goal.returns-clause-told
-returns-clause-told g c = λ told value before e le gives.
-    no-memory-yet (outcome_by (encloses c.args.out.now) value) told _ _ _ (Rose before (g.H.Files.faults c.args.files.now)) (Rose (g.O.Sink.faults c.args.sink.now) (g.O.Sink.faults c.args.sink.now)) e refl
+returns-clause-told g c = λ told value before kept e le same gives.
+    no-memory-yet (outcome_by (encloses c.args.out.now) value) told _ _ _ (Rose before (g.H.Files.faults c.args.files.now)) (Rose kept (g.H.Files.spoiled c.args.files.now)) (Rose (g.O.Sink.faults c.args.sink.now) (g.O.Sink.faults c.args.sink.now)) e refl
 
 pub returns-clause-says : goal.returns-clause-says
 returns-clause-says g c = λ other. ([], inl refl, Appends-nil _)

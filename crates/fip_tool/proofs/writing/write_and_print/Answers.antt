@@ -5,13 +5,13 @@ use Rattle.fip_tool.proofs.SinkFaults.{still}
 use Rattle.fip_tool.proofs.writing.write_and_print.Goals as goal
 
 pub returns-in-Ok-clause-told : goal.returns-in-Ok-clause-told
-returns-in-Ok-clause-told g c = λ told e. then-printed told _ _ _ _ _ c.args.name.now c.args.bytes.now c.args.line.now c.print.result (c.in-Ok.ensures.told told e) c.print.ensures.printed
+returns-in-Ok-clause-told g c = λ told e. then-printed told _ _ _ _ _ _ c.args.name.now c.args.bytes.now c.args.line.now c.print.result (c.in-Ok.ensures.told told e) c.print.ensures.printed
 
 pub returns-in-Ok-clause-says : goal.returns-in-Ok-clause-says
 returns-in-Ok-clause-says g c = says-printed (λ texts. texts ≡ c.args.line.now ∷ []) c.args.line.now _ _ _ c.print.result refl c.print.ensures.printed
 
 pub returns-in-Err-clause-told : goal.returns-in-Err-clause-told
-returns-in-Err-clause-told g c = λ told e. write-stopped told _ _ _ _ _ c.args.name.now c.args.bytes.now c.args.line.now c.in-Err.stop (c.in-Err.ensures.told told e) refl
+returns-in-Err-clause-told g c = λ told e. write-stopped told _ _ _ _ _ _ c.args.name.now c.args.bytes.now c.args.line.now c.in-Err.stop (c.in-Err.ensures.told told e) refl
 
 pub returns-in-Err-clause-sink_count : goal.returns-in-Err-clause-sink_count
 returns-in-Err-clause-sink_count g c = still _ c.in-Err.stop (λ e. c.in-Err.ensures.sink (err-same e))
