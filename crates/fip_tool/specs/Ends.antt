@@ -89,7 +89,8 @@ EndedBy outcome files now was text files-rose spoiled sink-rose (Err stop.FileFa
 EndedBy outcome files now was text files-rose spoiled sink-rose (Err s) =
     (outcome ≡ Refuses s) × Are now files × Appends was text (stop_line s)
 
-abbrev pub Ended : Outcome → Directory → Option Directory → Option (List ℕ) → Option (List ℕ) → Type 0 → Type 0 → Type 0 → ℕ → Type 0
+abbrev pub Ended : Outcome → Directory → Option Directory → Option (List ℕ) → Option (List ℕ) → Type 0 → Type 0 → Type 0
+    → ℕ → Type 0
 Ended outcome files now was text files-rose spoiled sink-rose status =
     (result : Result (Unit {0}) Stop) × (status ≡ exit_status result)
     × EndedBy outcome files now was text files-rose spoiled sink-rose result

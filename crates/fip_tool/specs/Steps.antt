@@ -81,7 +81,8 @@ Did outcome files now was text files-rose spoiled sink-rose (Err SinkFault) =
 Did outcome files now was text files-rose spoiled sink-rose (Err FileFault) =
     ((outcome ≡ Refuses FileFault) ⊎ files-rose) × (n : ℕ) × StandAfter n outcome files now spoiled
     × Appends was text (printed (take n (steps_of outcome)))
-Did outcome files now was text files-rose spoiled sink-rose (Err stop) = (outcome ≡ Refuses stop) × Are now files × Appends was text []
+Did outcome files now was text files-rose spoiled sink-rose (Err stop) =
+    (outcome ≡ Refuses stop) × Are now files × Appends was text []
 
 -- the outcome of a command whose steps are made of a value
 abbrev pub outcome_by : {X : Type 0} → (X → List Step) → Result X Stop → Outcome
@@ -134,7 +135,8 @@ abbrev pub line_failures : Stop → Stop → ℕ → ℕ
 line_failures SinkFault now before = before
 line_failures s now before = sink_failed now before
 
--- how many calls of the source have failed after a listing of it that ended so: one more where it could not be read, and else as many as before
+-- how many calls of the source have failed after a listing of it that ended so: one more where it could not be read, and else as
+-- many as before
 abbrev pub source_failed : Stop → ℕ → ℕ
 source_failed FileFault before = raised before
 source_failed s before = before

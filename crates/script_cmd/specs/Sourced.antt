@@ -23,7 +23,8 @@ read_failures (Err stop.Failed) before = raised before
 read_failures (Err stop.TooLong) before = before
 read_failures (Err stop.NoMemory) before = before
 
--- The first call of the source that fails is the last one, and no turn ran then. The line of that may be cut by the sink, or find no memory.
+-- The first call of the source that fails is the last one, and no turn ran then. The line of that may be cut by the sink, or find no
+-- memory.
 pub record FailsOnce (journal : List Turn) (status before after : ℕ) : Type 0 where
   pub once : (after ≡ before) ⊎ (after ≡ raised before)
   pub ran : journal ≢ [] → after ≡ before
