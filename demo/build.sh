@@ -1,5 +1,5 @@
 #!/bin/sh
-# Proves the crates that both programs stand on, on all processors, builds the programs, and puts them into bin/ as fwu and fip.
+# Proves the crates of both programs on all processors, builds the programs, and puts them into bin/ as fwu and fip.
 # It prints a line for each crate as soon as that is done. README tells how long it takes.
 # One rt works in a checkout at a time, so each processor gets a copy of the crates, and takes what was proved in the others. What
 # was proved is kept in the folders out/ of this checkout.
@@ -13,8 +13,8 @@ trap 'rm -rf "$logs" "$copies"' EXIT
 workers=$(nproc)
 began=$(date +%s)
 
-# The crates that the programs stand on, each with those of this repository that it names, as "crate: names": first the one
-# with the longest way up to a program.
+# The programs and the crates that they stand on, each with those of this repository that it names, as "crate: names": first the
+# one with the longest way up to a program.
 order() {
     awk -F: '
         /^[a-z]/ { names[$1] = $2 }
@@ -28,7 +28,6 @@ order() {
             visit("fwu_prog", 0)
             visit("fip_prog", 0)
             for (crate in tall) {
-                if (crate ~ /_prog$/) continue
                 count = split(names[crate], list, " ")
                 own = ""
                 for (i = 1; i <= count; i++) if (list[i] in names) own = own " " list[i]
@@ -53,10 +52,22 @@ copy_crates() {
     done
 }
 
-# Proves a crate in a copy, with so many jobs, and builds its library, with a mark for how it ended. Then the copy is free.
+# Proves a crate here, with so many jobs, and builds its library or its program. rt runs a program that it built once, on nothing,
+# and what that says counts for nothing.
+prove() {
+    case $1 in
+        *_prog)
+            rt run </dev/null || true
+            [ -x "out/$1" ]
+            ;;
+        *) rt lib --jobs "$2" ;;
+    esac
+}
+
+# Proves and builds a crate in a copy, with so many jobs, with a mark for how it ended. Then the copy is free.
 attempt() {
     echo "$2" >"$logs/$1.copy"
-    if (cd "$copies/$2/crates/$1" && rt lib --jobs "$3") >"$logs/$1.log" 2>&1; then
+    if (cd "$copies/$2/crates/$1" && prove "$1" "$3") >"$logs/$1.log" 2>&1; then
         mv "$logs/$1.running" "$logs/$1.done"
     else
         mv "$logs/$1.running" "$logs/$1.failed"
@@ -121,14 +132,9 @@ keep_work() {
     done <"$logs/order"
 }
 
-# Builds a program over what was proved: rt runs it once, on nothing, and that tells nothing here.
-build() {
-    rm -f "crates/$1/out/$1"
-    (cd "crates/$1" && rt run </dev/null) >"$logs/$1.log" 2>&1 || true
-    if ! cp "crates/$1/out/$1" "bin/$2"; then
-        tail -40 "$logs/$1.log"
-        exit 1
-    fi
+# Puts a program into bin/.
+install() {
+    cp "$copies/$(cat "$logs/$1.copy")/crates/$1/out/$1" "bin/$2"
 }
 
 copy_crates
@@ -141,7 +147,7 @@ while [ "$(count told)" -lt "$all" ]; do
     tell
     end_at_failure
 done
+install fwu_prog fwu
+install fip_prog fip
 keep_work
-build fwu_prog fwu
-build fip_prog fip
 echo "built bin/fwu and bin/fip"
