@@ -1,4 +1,6 @@
 pub mod AnswerLemmas
+pub mod CommandLemmas
+pub mod EachLemmas
 pub mod FoundLemmas
 pub mod NoFlags
 pub mod Refusals

@@ -1,4 +1,4 @@
-use Rattle.std.proofs.Common.{arith}
+use Rattle.std.proofs.Common.{lit<}
 use Rattle.std.proofs.lemmas.Str.Pattern.{split_once_first}
 use Rattle.clap_words.proofs.SplitLemmas.{split_result}
 use Rattle.fip_words.proofs.values.split_at_comma.Goals as goal
@@ -6,4 +6,4 @@ use Rattle.fip_words.proofs.values.split_at_comma.Goals as goal
 pub returns : goal.returns
 returns c =
     split_result 44 c.args.text.now c.split_once.result
-    (split_once_first 44 c.args.text.now c.split_once.result c.split_once.ensures.cases (omega arith))
+    (split_once_first 44 c.args.text.now c.split_once.result c.split_once.ensures.cases (lit< tt))

@@ -1,0 +1,17 @@
+-- A command with one more argument, or with one more command below it.
+use Rattle.std.proofs.Common.{◌∙◌, ap, ap₂}
+use Rattle.clap.specs.Words.{App, Rule, with_rule}
+use Rattle.clap.specs.declared.builder.Command.{Command}
+use Rattle.clap_words.specs.Words.{AddsLeaf, AddsRule, IsApp, with_leaf}
+
+pub rule_added : {old new : Command} {a : App} {r : Rule} → IsApp old a → AddsRule old new r → IsApp new (with_rule a r)
+rule_added {r = r} is adds = record {
+  app = adds.app ∙ ap (λ (x : App). with_rule x r) is.app;
+  globals = adds.globals ∙ is.globals;
+}
+
+pub leaf_added : {old leaf new : Command} {a b : App} → IsApp old a → IsApp leaf b → AddsLeaf old leaf new → IsApp new (with_leaf a b)
+leaf_added is below adds = record {
+  app = adds.app ∙ ap₂ with_leaf is.app below.app;
+  globals = adds.globals ∙ is.globals;
+}
