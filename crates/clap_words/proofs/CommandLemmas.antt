@@ -1,8 +1,17 @@
 -- A command with one more argument, or with one more command below it.
-use Rattle.std.proofs.Common.{◌∙◌, ap, ap₂}
-use Rattle.clap.specs.Words.{App, Rule, with_rule}
+use Rattle.std.proofs.Common.{◌≡◌, ◌∙◌, false, ap, ap₂}
+use Rattle.std.proofs.Math.Bool.{or-false}
+use Rattle.clap.specs.Words.{AddsArg, App, Rule, app_of, rule_of, with_rule}
+use Rattle.clap.specs.declared.builder.Arg.{Arg}
 use Rattle.clap.specs.declared.builder.Command.{Command}
 use Rattle.clap_words.specs.Words.{AddsLeaf, AddsRule, IsApp, with_leaf}
+
+-- what `clap` tells of an argument that it adds
+pub arg_added : {old new : Command} {a : Arg} {r : Rule} → rule_of a ≡ r → a.global ≡ false → AddsArg old a new → AddsRule old new r
+arg_added {old = old} is local adds = record {
+  app = adds.shape local ∙ ap (with_rule (app_of old)) is;
+  globals = adds.globals ∙ rw local (or-false _);
+}
 
 pub rule_added : {old new : Command} {a : App} {r : Rule} → IsApp old a → AddsRule old new r → IsApp new (with_rule a r)
 rule_added {r = r} is adds = record {
