@@ -1,7 +1,8 @@
 //! Command sets, built for `clap`.
 ghost use Rattle.std.specs.Prelude.{◌≡◌, IfOk, false};
 ghost use Rattle.clap.specs.declared.builder.Command.TheViews.{out-Command};
-ghost use Rattle.clap_words.specs.Words.{AddsLeaf, AddsRule, IsApp, option, some_words, top_app, word, words};
+ghost use Rattle.clap.specs.Words.{App};
+ghost use Rattle.clap_words.specs.Words.{AddsLeaf, AddsRule, IsApp, option, some_words, top_app, with_leaf, word, words};
 
 use clap::{Arg, ArgAction, Command};
 use std::alloc::{AllocError, Global};
@@ -69,4 +70,16 @@ pub fn with_leaf_command<'a>(
     ensures { IfOk result (λ r. AddsLeaf command.entry leaf.entry r) }
 {
     command.subcommand(leaf)
+}
+
+/// The command with one more below it, where that one could be made.
+pub fn with_command<'a>(
+    command: Command<'a>,
+    leaf: Result<Command<'a>, AllocError>,
+) -> Result<Command<'a>, AllocError>
+    requires { IfOk leaf (λ l. (out-Command l).has_globals ≡ false) }
+    ensures { (a b : App) → IsApp command.entry a → IfOk leaf.entry (λ l. IsApp l b)
+        → IfOk result (λ r. IsApp r (with_leaf a b)) }
+{
+    with_leaf_command(command, leaf?)
 }

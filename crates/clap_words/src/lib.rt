@@ -5,7 +5,9 @@ mod commands;
 mod found;
 mod values;
 
-pub use commands::{top, with_leaf_command, with_option, with_some_words, with_word, with_words};
+pub use commands::{
+    top, with_command, with_leaf_command, with_option, with_some_words, with_word, with_words,
+};
 pub use found::{given, given_all, given_file, matches};
 use thiserror::Error;
 pub use values::{file_value, read_name, read_number};

@@ -5,7 +5,7 @@ ghost use Rattle.clap_words.specs.Words.{IsApp};
 ghost use Rattle.fip_words.specs.Commands.{capsule_app, change_app, contents_app, create_app, fip_app, info_app, manifest_app, package_app, repackage_app, unpack_app};
 
 use clap::Command;
-use clap_words::{top, with_leaf_command, with_option, with_some_words, with_word, with_words};
+use clap_words::{top, with_command, with_option, with_some_words, with_word, with_words};
 use std::alloc::{AllocError, Global};
 
 fn info_command<'a>(alloc: Global) -> Result<Command<'a>, AllocError>
@@ -67,29 +67,26 @@ fn repackage_command<'a>(alloc: Global) -> Result<Command<'a>, AllocError>
 fn package_commands<'a>(alloc: Global) -> Result<Command<'a>, AllocError>
     ensures { IfOk result (λ c. IsApp c package_app) }
 {
-    let command = top(alloc, "fip");
-    let command = with_leaf_command(command, info_command(alloc)?)?;
-    let command = with_leaf_command(command, create_command(alloc)?)?;
-    let command = with_leaf_command(command, change_command(alloc, "update")?)?;
-    with_leaf_command(command, change_command(alloc, "remove")?)
+    let command = with_command(top(alloc, "fip"), info_command(alloc))?;
+    let command = with_command(command, create_command(alloc))?;
+    let command = with_command(command, change_command(alloc, "update"))?;
+    with_command(command, change_command(alloc, "remove"))
 }
 
 // And with those that write payloads and manifests.
 fn contents_commands<'a>(alloc: Global) -> Result<Command<'a>, AllocError>
     ensures { IfOk result (λ c. IsApp c contents_app) }
 {
-    let command = package_commands(alloc)?;
-    let command = with_leaf_command(command, unpack_command(alloc)?)?;
-    with_leaf_command(command, manifest_command(alloc)?)
+    let command = with_command(package_commands(alloc)?, unpack_command(alloc))?;
+    with_command(command, manifest_command(alloc))
 }
 
 /// `fip` with its eight commands.
 pub fn fip_command<'a>(alloc: Global) -> Result<Command<'a>, AllocError>
     ensures { IfOk result (λ c. IsApp c fip_app) }
 {
-    let command = contents_commands(alloc)?;
-    let command = with_leaf_command(command, capsule_command(alloc)?)?;
-    with_leaf_command(command, repackage_command(alloc)?)
+    let command = with_command(contents_commands(alloc)?, capsule_command(alloc))?;
+    with_command(command, repackage_command(alloc))
 }
 
 /// The command set is one of those that `clap`'s exact clauses are about.

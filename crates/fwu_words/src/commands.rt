@@ -5,7 +5,7 @@ ghost use Rattle.clap_words.specs.Words.{AddsRule, IsApp};
 ghost use Rattle.fwu_words.specs.Commands.{flag, format_app, fwu_app, soak_app, turns_app};
 
 use clap::{Arg, ArgAction, Command};
-use clap_words::{top, with_leaf_command, with_option, with_word};
+use clap_words::{top, with_command, with_leaf_command, with_option, with_word};
 use std::alloc::{AllocError, Global};
 
 /// The command with an option that has no value.
@@ -45,12 +45,11 @@ fn soak_command<'a>(alloc: Global) -> Result<Command<'a>, AllocError>
 pub fn fwu_command<'a>(alloc: Global) -> Result<Command<'a>, AllocError>
     ensures { IfOk result (λ c. IsApp c fwu_app) }
 {
-    let command = top(alloc, "fwu");
-    let command = with_leaf_command(command, turns_command(alloc, "run")?)?;
-    let command = with_leaf_command(command, turns_command(alloc, "boot")?)?;
+    let command = with_command(top(alloc, "fwu"), turns_command(alloc, "run"))?;
+    let command = with_command(command, turns_command(alloc, "boot"))?;
     let command = with_leaf_command(command, Command::new(alloc, "show"))?;
-    let command = with_leaf_command(command, format_command(alloc)?)?;
-    with_leaf_command(command, soak_command(alloc)?)
+    let command = with_command(command, format_command(alloc))?;
+    with_command(command, soak_command(alloc))
 }
 
 /// The command set is one of those that `clap`'s exact clauses are about.

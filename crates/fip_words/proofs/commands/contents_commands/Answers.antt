@@ -1,12 +1,13 @@
-use Rattle.std.proofs.Common.{◌∙◌, ap₂}
 use Rattle.std.proofs.lemmas.Result.{IfOk-weaker}
-use Rattle.clap_words.specs.Words.{with_leaf}
 use Rattle.fip_words.proofs.commands.contents_commands.Goals as goal
+
+pub with_command-requires : goal.with_command-requires
+with_command-requires c = IfOk-weaker c.unpack_command.result _ _ (λ l h. h.globals) c.unpack_command.ensures
+
+pub with_command-requires-2 : goal.with_command-requires-2
+with_command-requires-2 c = IfOk-weaker c.manifest_command.result _ _ (λ l h. h.globals) c.manifest_command.ensures
 
 pub returns : goal.returns
 returns c =
-    let unpack = c.in_ok-command-2.ensures.app ∙ ap₂ with_leaf c.in_ok-command.ensures.app c.in_ok-unpack_command.ensures.app in
-    IfOk-weaker c.with_leaf_command-2.result _ _ (λ r h. record {
-      app = h.app ∙ ap₂ with_leaf unpack c.in_ok-manifest_command.ensures.app;
-      globals = h.globals ∙ c.in_ok-command-2.ensures.globals ∙ c.in_ok-command.ensures.globals;
-    }) c.with_leaf_command-2.ensures
+    let unpack = c.in_ok-command.ensures _ _ c.in_ok-package_commands.ensures c.unpack_command.ensures in
+    c.with_command-2.ensures _ _ unpack c.manifest_command.ensures

@@ -1,16 +1,23 @@
-use Rattle.std.proofs.Common.{◌∙◌, ap₂}
 use Rattle.std.proofs.lemmas.Result.{IfOk-weaker}
-use Rattle.clap_words.specs.Words.{with_leaf}
+use Rattle.clap_words.proofs.CommandLemmas.{leaf_added}
 use Rattle.fwu_words.proofs.commands.fwu_command.Goals as goal
+
+pub with_command-requires : goal.with_command-requires
+with_command-requires c = IfOk-weaker c.turns_command.result _ _ (λ l h. h.globals) c.turns_command.ensures
+
+pub with_command-requires-2 : goal.with_command-requires-2
+with_command-requires-2 c = IfOk-weaker c.turns_command-2.result _ _ (λ l h. h.globals) c.turns_command-2.ensures
+
+pub with_command-requires-3 : goal.with_command-requires-3
+with_command-requires-3 c = IfOk-weaker c.format_command.result _ _ (λ l h. h.globals) c.format_command.ensures
+
+pub with_command-requires-4 : goal.with_command-requires-4
+with_command-requires-4 c = IfOk-weaker c.soak_command.result _ _ (λ l h. h.globals) c.soak_command.ensures
 
 pub returns : goal.returns
 returns c =
-    let run = c.in_ok-command.ensures.app ∙ ap₂ with_leaf c.top-command.ensures.app c.in_ok-turns_command.ensures.app in
-    let boot = c.in_ok-command-2.ensures.app ∙ ap₂ with_leaf run c.in_ok-turns_command-2.ensures.app in
-    let show = c.in_ok-command-3.ensures.app ∙ ap₂ with_leaf boot c.new.ensures.app in
-    let format = c.in_ok-command-4.ensures.app ∙ ap₂ with_leaf show c.in_ok-format_command.ensures.app in
-    IfOk-weaker c.with_leaf_command-5.result _ _ (λ r h. record {
-      app = h.app ∙ ap₂ with_leaf format c.in_ok-soak_command.ensures.app;
-      globals = h.globals ∙ c.in_ok-command-4.ensures.globals ∙ c.in_ok-command-3.ensures.globals ∙ c.in_ok-command-2.ensures.globals
-          ∙ c.in_ok-command.ensures.globals ∙ c.top-command.ensures.globals;
-    }) c.with_leaf_command-5.ensures
+    let run = c.in_ok-command.ensures _ _ c.top.ensures c.turns_command.ensures in
+    let boot = c.in_ok-command-2.ensures _ _ run c.turns_command-2.ensures in
+    let show = leaf_added boot (record { app = c.new.ensures.app; globals = c.new.ensures.local }) c.in_ok-command-3.ensures in
+    let format = c.in_ok-command-4.ensures _ _ show c.format_command.ensures in
+    c.with_command-4.ensures _ _ format c.soak_command.ensures
