@@ -32,3 +32,4 @@ pub mod SoakTotals
 pub mod SoakEnding
 pub mod SoakTop
 pub mod SoakPromise
+pub mod AnsweredBy

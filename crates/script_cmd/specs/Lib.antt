@@ -15,3 +15,4 @@ pub mod PromisesByTable
 pub mod Soaking
 pub mod SoakWays
 pub mod Soaked
+pub mod Answered

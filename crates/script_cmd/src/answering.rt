@@ -1,26 +1,22 @@
 //! What the words ask for is done, in one of the ways that it may end.
 ghost use Rattle.std.specs.Prelude.{◌≡◌, ◌≤◌, ℕ, Bool, List, [], Option, Some, None};
-ghost use Rattle.std.specs.Prelude.{Ok, IfSome, map, string_bytes, IsTrue, IsFalse, length, false, true};
+ghost use Rattle.std.specs.Prelude.{Ok, IfSome, map, string_bytes, IsTrue, IsFalse, length, false};
 ghost use Rattle.fwu_model.specs.Allow.{asks_list, list_name};
-ghost use Rattle.fwu_model.specs.Causes.{Faults, may_fail_before};
-ghost use Rattle.fwu_formats.specs.Layout.{ImageRow};
+ghost use Rattle.fwu_model.specs.Causes.{Faults};
 ghost use Rattle.fwu_model.specs.Call.{Call};
 ghost use Rattle.fwu_model.specs.Script.{is_too_long, script_of};
-ghost use Rattle.fwu_model.specs.Wrote.{script_asked};
 ghost use Rattle.fwu_journal.specs.Shown.{turns};
 ghost use Rattle.fwu_words.specs.Order.{Asked, asked};
 ghost use Rattle.fwu_words.specs.Order as ask;
-ghost use Rattle.script_cmd.specs.Asking.{asked_with_list, asks_beyond, asks_files, asks_package, asks_run, leaves_on, plainly};
-ghost use Rattle.script_cmd.specs.Formatting.{FormattedBy};
+ghost use Rattle.script_cmd.specs.Answered.{Answered};
+ghost use Rattle.script_cmd.specs.Asking.{asked_with_list};
 ghost use Rattle.script_turns.specs.Powered.{moment};
 ghost use Rattle.script_cmd.specs.Noted.{is_beyond, noted};
 ghost use Rattle.script_cmd.specs.Running.{calls_of, sends_none};
-ghost use Rattle.script_cmd.specs.Showing.{ShowedBy};
-ghost use Rattle.script_cmd.specs.SoakWays.{SoakWay};
 ghost use Rattle.script_cmd.specs.Sourced.{FailsOnce, ReadsInTime};
-ghost use Rattle.script_cmd.specs.WaysByTable.{WayByTable, over_table};
+ghost use Rattle.script_cmd.specs.WaysByTable.{WayByTable};
 ghost use Rattle.script_cmd.specs.Ways.{AsksTurns, ByList, Given, HasGoodList, HasPasses, IsIdle};
-ghost use Rattle.script_cmd.specs.Ways.{IsScriptOf, Later, ReadsList, RunsOrNone, Way, faults_of};
+ghost use Rattle.script_cmd.specs.Ways.{IsScriptOf, ReadsList, Way, faults_of};
 
 use crate::done::{Done, Note};
 use crate::formatting::format_flash;
@@ -234,87 +230,13 @@ pub fn answer_with<D: Flash, H: Files, I: Source, O: Sink, V: Verifier>(
 ) -> Done<D>
     requires off { IsFalse (D.on flash) }
     requires unarmed { D.arming flash ≡ None }
-    ensures way { RunsOrNone (asked (map string_bytes words.now))
-        → Way (V.passes verifier.now) D.tells (asked (map string_bytes words.now))
-        (record {
-          list = None;
-          files = H.contents files.old;
-          script = script_asked (plainly (asked (map string_bytes words.now))) (I.left source.old);
-        })
-        (turns result.journal) result.status (noted result.note)
-        (moment D.told D.counts D.arming D.on flash)
+    ensures answers { Answered (V.passes verifier.now) D.tells (D.blocks flash) (asked (map string_bytes words.now)) None
+        (H.contents files.old) (I.left source.old) (I.left source.new) (turns result.journal)
+        result.status result.note (moment D.told D.counts D.arming D.on flash)
         (moment D.told D.counts D.arming D.on result.flash) (O.taken sink.old)
         (O.taken sink.new) (faults_of H.faults I.faults O.faults files.old source.old sink.old)
-        (faults_of H.faults I.faults O.faults files.new source.new sink.new) }
-    ensures by_table { (plain : Asked) → over_table (asked (map string_bytes words.now)) ≡ Some plain
-        → WayByTable (V.passes verifier.now) D.tells (D.blocks flash) (Some plain)
-        (record {
-          list = None;
-          files = H.contents files.old;
-          script = script_asked (plainly (Some plain)) (I.left source.old);
-        })
-        (turns result.journal) result.status result.note
-        (moment D.told D.counts D.arming D.on flash)
-        (moment D.told D.counts D.arming D.on result.flash) (O.taken sink.old)
-        (O.taken sink.new) (faults_of H.faults I.faults O.faults files.old source.old sink.old)
-        (faults_of H.faults I.faults O.faults files.new source.new sink.new) }
-    // No fault count falls.
-    ensures later { Later (faults_of H.faults I.faults O.faults files.old source.old sink.old)
-        (faults_of H.faults I.faults O.faults files.new source.new sink.new) }
-    ensures shows { asked (map string_bytes words.now) ≡ Some ask.show
-        → ShowedBy D.tells
-        (record { list = None; files = H.contents files.old; script = I.left source.old })
-        (moment D.told D.counts D.arming D.on flash)
-        (moment D.told D.counts D.arming D.on result.flash) result.status (noted result.note)
-        (turns result.journal) (O.taken sink.old) (O.taken sink.new)
-        (faults_of H.faults I.faults O.faults files.old source.old sink.old)
-        (faults_of H.faults I.faults O.faults files.new source.new sink.new) }
-    ensures formats { (banks : ℕ) (rows : List ImageRow) (file : List ℕ)
-        → asked (map string_bytes words.now) ≡ Some (ask.format banks rows file)
-        → FormattedBy (V.passes verifier.now) D.tells
-        (record { list = None; files = H.contents files.old; script = I.left source.old }) file
-        (record { banks = banks; rows = rows }) (D.blocks flash)
-        (moment D.told D.counts D.arming D.on flash)
-        (moment D.told D.counts D.arming D.on result.flash) result.status result.note
-        (turns result.journal) (O.taken sink.old) (O.taken sink.new)
-        (faults_of H.faults I.faults O.faults files.old source.old sink.old)
-        (faults_of H.faults I.faults O.faults files.new source.new sink.new) }
-    ensures soaks { (seed rounds : ℕ)
-        → asked (map string_bytes words.now) ≡ Some (ask.soak seed rounds)
-        → SoakWay D.tells
-        (record {
-          list = None;
-          files = H.contents files.old;
-          script = I.left source.old;
-        }) seed rounds (D.blocks flash) (turns result.journal) result.status result.note
-        (moment D.told D.counts D.arming D.on flash)
-        (moment D.told D.counts D.arming D.on result.flash) (O.taken sink.old)
-        (O.taken sink.new)
-        (faults_of H.faults I.faults O.faults files.old source.old sink.old)
-        (faults_of H.faults I.faults O.faults files.new source.new sink.new) }
-    ensures read_to_end { result.status ≡ 0 → asked (map string_bytes words.now) ≡ Some ask.run
-        → IfSome (I.left source.new) (λ rest. rest ≡ []) }
-    ensures read_to_end_by_table { result.status ≡ 0
-        → asked (map string_bytes words.now) ≡ Some ask.run_partitioned
-        → IfSome (I.left source.new) (λ rest. rest ≡ []) }
-    ensures power { IsTrue (leaves_on (asked (map string_bytes words.now))) → result.status ≡ 0
-        → IsTrue (D.on result.flash) }
-    // Only `run` reads the source.
-    ensures source { IsFalse (asks_run (asked (map string_bytes words.now)))
-        → source.new ≡ source.old }
-    ensures in_time { IsTrue (asks_run (asked (map string_bytes words.now)))
-        → ReadsInTime (I.left source.old) (I.left source.new) }
-    ensures source_count { IsTrue (asks_run (asked (map string_bytes words.now)))
-        → FailsOnce (turns result.journal) result.status (I.faults source.old)
-        (I.faults source.new) }
-    // Only `run`, `format` and a list read files.
-    ensures files { IsFalse (asks_files (asked (map string_bytes words.now)))
-        → files.new ≡ files.old }
-    // And where no turn is a `send`, only `format` and a list do.
-    ensures unsent { IsFalse (asks_package (asked (map string_bytes words.now)))
-        → IsTrue (sends_none (calls_of (turns result.journal))) → files.new ≡ files.old }
-    ensures note { IsFalse (asks_beyond (asked (map string_bytes words.now)))
-        → IsFalse (is_beyond result.note) }
+        (faults_of H.faults I.faults O.faults files.new source.new sink.new) files.old files.new
+        source.old source.new }
     ensures same_files { H.contents files.new ≡ H.contents files.old }
     ensures size { D.blocks result.flash ≡ D.blocks flash }
 {
@@ -362,106 +284,17 @@ fn run_listed<D: Flash, H: Files, I: Source, O: Sink>(
 ) -> Done<D>
     requires off { IsFalse (D.on flash) }
     requires unarmed { D.arming flash ≡ None }
-    ensures way { RunsOrNone (asked (map string_bytes rest.now))
-        → ByList (ReadsList (Some name.now) (H.contents files.old))
+    ensures answers { ByList (ReadsList (Some name.now) (H.contents files.old))
         (IsIdle (turns result.journal) result.status
         (moment D.told D.counts D.arming D.on flash)
         (moment D.told D.counts D.arming D.on result.flash))
-        (λ passes. Way passes D.tells (asked (map string_bytes rest.now))
-        (record {
-          list = Some name.now;
-          files = H.contents files.old;
-          script = script_asked (plainly (asked (map string_bytes rest.now))) (I.left source.old);
-        })
-        (turns result.journal) result.status (noted result.note)
-        (moment D.told D.counts D.arming D.on flash)
+        (λ passes. Answered passes D.tells (D.blocks flash) (asked (map string_bytes rest.now)) (Some name.now)
+        (H.contents files.old) (I.left source.old) (I.left source.new) (turns result.journal)
+        result.status result.note (moment D.told D.counts D.arming D.on flash)
         (moment D.told D.counts D.arming D.on result.flash) (O.taken sink.old)
-        (O.taken sink.new)
-        (faults_of H.faults I.faults O.faults files.old source.old sink.old)
-        (faults_of H.faults I.faults O.faults files.new source.new sink.new)) }
-    ensures by_table { (plain : Asked) → over_table (asked (map string_bytes rest.now)) ≡ Some plain
-        → ByList (ReadsList (Some name.now) (H.contents files.old))
-        (IsIdle (turns result.journal) result.status
-        (moment D.told D.counts D.arming D.on flash)
-        (moment D.told D.counts D.arming D.on result.flash))
-        (λ passes. WayByTable passes D.tells (D.blocks flash) (Some plain)
-        (record {
-          list = Some name.now;
-          files = H.contents files.old;
-          script = script_asked (plainly (Some plain)) (I.left source.old);
-        })
-        (turns result.journal) result.status result.note
-        (moment D.told D.counts D.arming D.on flash)
-        (moment D.told D.counts D.arming D.on result.flash) (O.taken sink.old)
-        (O.taken sink.new)
-        (faults_of H.faults I.faults O.faults files.old source.old sink.old)
-        (faults_of H.faults I.faults O.faults files.new source.new sink.new)) }
-    ensures later { Later (faults_of H.faults I.faults O.faults files.old source.old sink.old)
-        (faults_of H.faults I.faults O.faults files.new source.new sink.new) }
-    ensures shows { asked (map string_bytes rest.now) ≡ Some ask.show
-        → ShowedBy D.tells
-        (record
-        { list = Some name.now; files = H.contents files.old; script = I.left source.old })
-        (moment D.told D.counts D.arming D.on flash)
-        (moment D.told D.counts D.arming D.on result.flash) result.status (noted result.note)
-        (turns result.journal) (O.taken sink.old) (O.taken sink.new)
-        (faults_of H.faults I.faults O.faults files.old source.old sink.old)
-        (faults_of H.faults I.faults O.faults files.new source.new sink.new) }
-    ensures formats { (banks : ℕ) (rows : List ImageRow) (file : List ℕ)
-        → asked (map string_bytes rest.now) ≡ Some (ask.format banks rows file)
-        → ByList (ReadsList (Some name.now) (H.contents files.old))
-        (IsIdle (turns result.journal) result.status
-        (moment D.told D.counts D.arming D.on flash)
-        (moment D.told D.counts D.arming D.on result.flash))
-        (λ passes. FormattedBy passes D.tells
-        (record {
-          list = Some name.now;
-          files = H.contents files.old;
-          script = I.left source.old;
-        }) file (record { banks = banks; rows = rows })
-        (D.blocks flash) (moment D.told D.counts D.arming D.on flash)
-        (moment D.told D.counts D.arming D.on result.flash) result.status result.note
-        (turns result.journal) (O.taken sink.old) (O.taken sink.new)
-        (faults_of H.faults I.faults O.faults files.old source.old sink.old)
-        (faults_of H.faults I.faults O.faults files.new source.new sink.new)) }
-    ensures soaks { (seed rounds : ℕ)
-        → asked (map string_bytes rest.now) ≡ Some (ask.soak seed rounds)
-        → SoakWay D.tells
-        (record {
-          list = Some name.now;
-          files = H.contents files.old;
-          script = I.left source.old;
-        }) seed rounds (D.blocks flash) (turns result.journal) result.status result.note
-        (moment D.told D.counts D.arming D.on flash)
-        (moment D.told D.counts D.arming D.on result.flash) (O.taken sink.old)
-        (O.taken sink.new)
-        (faults_of H.faults I.faults O.faults files.old source.old sink.old)
-        (faults_of H.faults I.faults O.faults files.new source.new sink.new) }
-    ensures read_to_end { result.status ≡ 0 → asked (map string_bytes rest.now) ≡ Some ask.run
-        → IfSome (I.left source.new) (λ left. left ≡ []) }
-    ensures read_to_end_by_table { result.status ≡ 0
-        → asked (map string_bytes rest.now) ≡ Some ask.run_partitioned
-        → IfSome (I.left source.new) (λ left. left ≡ []) }
-    ensures power { IsTrue (leaves_on (asked (map string_bytes rest.now))) → result.status ≡ 0
-        → IsTrue (D.on result.flash) }
-    // Only `run` reads the source.
-    ensures source { IsFalse (asks_run (asked (map string_bytes rest.now)))
-        → source.new ≡ source.old }
-    ensures in_time { IsTrue (asks_run (asked (map string_bytes rest.now)))
-        → ReadsInTime (I.left source.old) (I.left source.new) }
-    ensures source_count { IsTrue (asks_run (asked (map string_bytes rest.now)))
-        → FailsOnce (turns result.journal) result.status (I.faults source.old)
-        (I.faults source.new) }
-    // Behind a list that told files lack, or that is none, neither does `run`.
-    ensures list_first { (HasGoodList (Some name.now) (H.contents files.old) → ⊥)
-        → source.new ≡ source.old }
-    // Where no turn is a `send`, no other file than the list was asked for.
-    ensures list_alone { IsFalse (asks_package (asked (map string_bytes rest.now)))
-        → IsTrue (sends_none (calls_of (turns result.journal)))
-        → IsFalse (may_fail_before result.status)
-        → H.faults files.new ≡ H.faults files.old }
-    ensures note { IsFalse (asks_beyond (asked (map string_bytes rest.now)))
-        → IsFalse (is_beyond result.note) }
+        (O.taken sink.new) (faults_of H.faults I.faults O.faults files.old source.old sink.old)
+        (faults_of H.faults I.faults O.faults files.new source.new sink.new) files.old files.new
+        source.old source.new) }
     ensures same_files { H.contents files.new ≡ H.contents files.old }
     ensures size { D.blocks result.flash ≡ D.blocks flash }
 {
@@ -488,126 +321,20 @@ pub fn answer<D: Flash, H: Files, I: Source, O: Sink>(
 ) -> Done<D>
     requires off { IsFalse (D.on flash) }
     requires unarmed { D.arming flash ≡ None }
-    ensures way { RunsOrNone (asked_with_list (map string_bytes words.now))
-        → ByList
+    ensures answers { ByList
         (HasPasses (asks_list (map string_bytes words.now))
         (list_name (map string_bytes words.now)) (H.contents files.old))
         (IsIdle (turns result.journal) result.status
         (moment D.told D.counts D.arming D.on flash)
         (moment D.told D.counts D.arming D.on result.flash))
-        (λ passes. Way passes D.tells (asked_with_list (map string_bytes words.now))
-        (record {
-          list = list_name (map string_bytes words.now);
-          files = H.contents files.old;
-          script = script_asked (plainly (asked_with_list (map string_bytes words.now))) (I.left source.old);
-        })
-        (turns result.journal) result.status (noted result.note)
-        (moment D.told D.counts D.arming D.on flash)
+        (λ passes. Answered passes D.tells (D.blocks flash)
+        (asked_with_list (map string_bytes words.now)) (list_name (map string_bytes words.now))
+        (H.contents files.old) (I.left source.old) (I.left source.new) (turns result.journal)
+        result.status result.note (moment D.told D.counts D.arming D.on flash)
         (moment D.told D.counts D.arming D.on result.flash) (O.taken sink.old)
-        (O.taken sink.new)
-        (faults_of H.faults I.faults O.faults files.old source.old sink.old)
-        (faults_of H.faults I.faults O.faults files.new source.new sink.new)) }
-    ensures by_table { (plain : Asked)
-        → over_table (asked_with_list (map string_bytes words.now)) ≡ Some plain
-        → ByList
-        (HasPasses (asks_list (map string_bytes words.now))
-        (list_name (map string_bytes words.now)) (H.contents files.old))
-        (IsIdle (turns result.journal) result.status
-        (moment D.told D.counts D.arming D.on flash)
-        (moment D.told D.counts D.arming D.on result.flash))
-        (λ passes. WayByTable passes D.tells (D.blocks flash) (Some plain)
-        (record {
-          list = list_name (map string_bytes words.now);
-          files = H.contents files.old;
-          script = script_asked (plainly (Some plain)) (I.left source.old);
-        })
-        (turns result.journal) result.status result.note
-        (moment D.told D.counts D.arming D.on flash)
-        (moment D.told D.counts D.arming D.on result.flash) (O.taken sink.old)
-        (O.taken sink.new)
-        (faults_of H.faults I.faults O.faults files.old source.old sink.old)
-        (faults_of H.faults I.faults O.faults files.new source.new sink.new)) }
-    // No fault count falls.
-    ensures later { Later (faults_of H.faults I.faults O.faults files.old source.old sink.old)
-        (faults_of H.faults I.faults O.faults files.new source.new sink.new) }
-    ensures shows { asked_with_list (map string_bytes words.now) ≡ Some ask.show
-        → ShowedBy D.tells
-        (record {
-          list = list_name (map string_bytes words.now);
-          files = H.contents files.old;
-          script = I.left source.old;
-        })
-        (moment D.told D.counts D.arming D.on flash)
-        (moment D.told D.counts D.arming D.on result.flash) result.status (noted result.note)
-        (turns result.journal) (O.taken sink.old) (O.taken sink.new)
-        (faults_of H.faults I.faults O.faults files.old source.old sink.old)
-        (faults_of H.faults I.faults O.faults files.new source.new sink.new) }
-    ensures formats { (banks : ℕ) (rows : List ImageRow) (file : List ℕ)
-        → asked_with_list (map string_bytes words.now) ≡ Some (ask.format banks rows file)
-        → ByList
-        (HasPasses (asks_list (map string_bytes words.now))
-        (list_name (map string_bytes words.now)) (H.contents files.old))
-        (IsIdle (turns result.journal) result.status
-        (moment D.told D.counts D.arming D.on flash)
-        (moment D.told D.counts D.arming D.on result.flash))
-        (λ passes. FormattedBy passes D.tells
-        (record {
-          list = list_name (map string_bytes words.now);
-          files = H.contents files.old;
-          script = I.left source.old;
-        }) file
-        (record { banks = banks; rows = rows }) (D.blocks flash)
-        (moment D.told D.counts D.arming D.on flash)
-        (moment D.told D.counts D.arming D.on result.flash) result.status result.note
-        (turns result.journal) (O.taken sink.old) (O.taken sink.new)
-        (faults_of H.faults I.faults O.faults files.old source.old sink.old)
-        (faults_of H.faults I.faults O.faults files.new source.new sink.new)) }
-    ensures soaks { (seed rounds : ℕ)
-        → asked_with_list (map string_bytes words.now) ≡ Some (ask.soak seed rounds)
-        → SoakWay D.tells
-        (record {
-          list = list_name (map string_bytes words.now);
-          files = H.contents files.old;
-          script = I.left source.old;
-        }) seed rounds (D.blocks flash) (turns result.journal) result.status result.note
-        (moment D.told D.counts D.arming D.on flash)
-        (moment D.told D.counts D.arming D.on result.flash) (O.taken sink.old)
-        (O.taken sink.new)
-        (faults_of H.faults I.faults O.faults files.old source.old sink.old)
-        (faults_of H.faults I.faults O.faults files.new source.new sink.new) }
-    ensures read_to_end { result.status ≡ 0
-        → asked_with_list (map string_bytes words.now) ≡ Some ask.run
-        → IfSome (I.left source.new) (λ rest. rest ≡ []) }
-    ensures read_to_end_by_table { result.status ≡ 0
-        → asked_with_list (map string_bytes words.now) ≡ Some ask.run_partitioned
-        → IfSome (I.left source.new) (λ rest. rest ≡ []) }
-    ensures power { IsTrue (leaves_on (asked_with_list (map string_bytes words.now))) → result.status ≡ 0
-        → IsTrue (D.on result.flash) }
-    // Only `run` reads the source.
-    ensures source { IsFalse (asks_run (asked_with_list (map string_bytes words.now)))
-        → source.new ≡ source.old }
-    ensures in_time { IsTrue (asks_run (asked_with_list (map string_bytes words.now)))
-        → ReadsInTime (I.left source.old) (I.left source.new) }
-    ensures source_count { IsTrue (asks_run (asked_with_list (map string_bytes words.now)))
-        → FailsOnce (turns result.journal) result.status (I.faults source.old)
-        (I.faults source.new) }
-    // Behind a list that told files lack, or that is none, neither does `run`.
-    ensures list_first { (HasGoodList (list_name (map string_bytes words.now)) (H.contents files.old) → ⊥)
-        → source.new ≡ source.old }
-    // Only `run`, `format` and a list read files.
-    ensures files { list_name (map string_bytes words.now) ≡ None
-        → IsFalse (asks_files (asked_with_list (map string_bytes words.now)))
-        → files.new ≡ files.old }
-    // And where no turn is a `send`, only `format` and a list do.
-    ensures unsent { list_name (map string_bytes words.now) ≡ None
-        → IsFalse (asks_package (asked_with_list (map string_bytes words.now)))
-        → IsTrue (sends_none (calls_of (turns result.journal))) → files.new ≡ files.old }
-    ensures list_alone { IsFalse (asks_package (asked_with_list (map string_bytes words.now)))
-        → IsTrue (sends_none (calls_of (turns result.journal)))
-        → IsFalse (may_fail_before result.status)
-        → H.faults files.new ≡ H.faults files.old }
-    ensures note { IsFalse (asks_beyond (asked_with_list (map string_bytes words.now)))
-        → IsFalse (is_beyond result.note) }
+        (O.taken sink.new) (faults_of H.faults I.faults O.faults files.old source.old sink.old)
+        (faults_of H.faults I.faults O.faults files.new source.new sink.new) files.old files.new
+        source.old source.new) }
     ensures same_files { H.contents files.new ≡ H.contents files.old }
     ensures size { D.blocks result.flash ≡ D.blocks flash }
 {
