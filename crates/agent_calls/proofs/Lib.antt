@@ -4,4 +4,6 @@ mod NoOther
 pub mod StoredVerdict
 pub mod Listing
 mod Unstored
+mod Makes
+mod Appending
 mod Beyond

@@ -1,5 +1,5 @@
 -- A plan is one of the request's own kind, and a request that asks no verifier waits for no verdict.
-use Rattle.std.proofs.Common.{◌≡◌, ℕ, List, Option, refl}
+use Rattle.std.proofs.Common.{◌≡◌, ℕ, Bool, List, Option, refl}
 use Rattle.fwu_formats.specs.Metadata.{Meta}
 use Rattle.fwu_model.specs.declared.kinds.Op.{Op}
 use Rattle.agent_kept.specs.declared.kinds.Plan.{Plan}
@@ -73,6 +73,19 @@ module _ (k : Kept) (m : Meta) where
   ends plan.Cancel asked not = asked
   ends (plan.Accept image store) asked not = asked
   ends plan.Back asked not = asked
+
+  pub accepts : (guid : List ℕ) (p : Plan) → IsPlanFor k m (request.Accept guid) p
+      → ((image : ℕ) (store : Bool) → p ≡ plan.Accept image store → ⊥) → ⊥
+  accepts guid plan.Tell asked not = asked
+  accepts guid (plan.Begin store) asked not = asked
+  accepts guid (plan.Open number image o total) asked not = asked
+  accepts guid (plan.Write number image at n) asked not = asked
+  accepts guid (plan.Read number image at n total) asked not = asked
+  accepts guid (plan.Commit number image bit) asked not = asked
+  accepts guid plan.End asked not = asked
+  accepts guid plan.Cancel asked not = asked
+  accepts guid (plan.Accept image store) asked not = not image store refl
+  accepts guid plan.Back asked not = asked
 
 pub waits : (m : Meta) (r : Request) → IsPlain r → (b : ℕ) → IsVerdictFor m r b → ⊥
 waits m request.Discover plain b asked = asked

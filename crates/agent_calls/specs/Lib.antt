@@ -2,3 +2,4 @@ pub mod Shown
 pub mod Started
 pub mod Told
 pub mod Asked
+pub mod Metas

@@ -5,8 +5,12 @@ ghost use Rattle.fwu_formats.specs.Layout.{find_image};
 ghost use Rattle.fwu_formats.specs.Metadata.{bit_at};
 ghost use Rattle.fwu_model.specs.Call as call;
 ghost use Rattle.fwu_model.specs.Reply.{Success};
-ghost use Rattle.agent_machine.specs.Meets.{Meets, GoesBy, IsRefused, flash_result};
+ghost use Rattle.agent_machine.specs.Meets.{Meets, GoesBy, IsDone, IsRefused, flash_result};
 ghost use Rattle.agent_machine.specs.Stored.{TakesStore};
+ghost use Rattle.agent_calls.specs.Metas.{meta_accepted};
+ghost use Rattle.fwu_model.specs.MoveMetas.{meta_after};
+ghost use Rattle.fwu_model.specs.State.{Accept};
+ghost use Rattle.replicas.specs.Stores.{Stores};
 
 use crate::agent::Agent;
 use agent_machine::Stop;
@@ -36,6 +40,17 @@ impl<D: Flash> Agent<D> {
         ensures still { (image : ℕ) → find_image (fields self.old).layout.rows guid ≡ Some image →
             IsTrue (bit_at (fields self.old).meta.meta (fields self.old).meta.meta.active image) →
             device self.new ≡ device self.old }
+        // On any flash that tells its content, sound or not: else the metadata is stored in which it is,
+        // over replica 0, then over replica 1, and nothing else.
+        ensures stores { IsDone result → IsTrue D.tells → (image : ℕ) → let f = fields self.old in
+            find_image f.layout.rows guid ≡ Some image →
+            IsFalse (bit_at f.meta.meta f.meta.meta.active image) →
+            Stores (flash_result result) f.layout (meta_after f.meta.meta (Accept image))
+            (D.told (device self.old)) (D.told (device self.new)) }
+        // On any device: the agent keeps the metadata in which the bit is set, and the session as it was.
+        ensures keeps { (image : ℕ) → find_image (fields self.old).layout.rows guid ≡ Some image →
+            OnOk result ((fields self.new).meta ≡ meta_accepted (fields self.old) image) }
+        ensures session { OnOk result ((fields self.new).session ≡ (fields self.old).session) }
         ensures power { IsFalse (gone self.old) →
             D.on (device self.new) ≡ is_ok (flash_result result) }
         ensures size { D.blocks (device self.new) ≡ D.blocks (device self.old) }

@@ -1,13 +1,17 @@
 //! A staging begins.
-ghost use Rattle.std.specs.Prelude.{◌≡◌, ℕ, Bool, List, is_ok, IsTrue, IsFalse, IsErrOf, OnOk};
+ghost use Rattle.std.specs.Prelude.{◌≡◌, ℕ, Bool, true, List, is_ok, IsTrue, IsFalse, IsErrOf, OnOk};
 ghost use Rattle.flash_core.specs.Counts.{Spends, StaysUnarmed};
 ghost use Rattle.fwu_formats.specs.Metadata.{state_at};
-ghost use Rattle.fwu_model.specs.State.{is_invalid};
+ghost use Rattle.fwu_model.specs.State.{Free, is_invalid};
 ghost use Rattle.fwu_model.specs.Call as call;
 ghost use Rattle.fwu_model.specs.Reply.{Success};
 ghost use Rattle.agent_machine.specs.Fields.{target};
-ghost use Rattle.agent_machine.specs.Meets.{Meets, GoesBy, IsRefused, flash_result};
+ghost use Rattle.agent_machine.specs.Meets.{Meets, GoesBy, IsDone, IsRefused, flash_result};
 ghost use Rattle.agent_machine.specs.Stored.{TakesStore, frees};
+ghost use Rattle.agent_calls.specs.Metas.{meta_begun};
+ghost use Rattle.agent_kept.specs.Kept.{Restarts};
+ghost use Rattle.fwu_model.specs.MoveMetas.{meta_after};
+ghost use Rattle.replicas.specs.Stores.{Stores};
 
 use crate::agent::Agent;
 use agent_machine::Stop;
@@ -46,6 +50,17 @@ impl<D: Flash> Agent<D> {
         ensures still { IsTrue (is_invalid
             (state_at (fields self.old).meta.meta (target (fields self.old)))) →
             device self.new ≡ device self.old }
+        // On any flash that tells its content, sound or not: else the metadata is stored in which it is,
+        // over replica 0, then over replica 1, and nothing else.
+        ensures stores { IsDone result → IsTrue D.tells → let f = fields self.old in
+            IsFalse (is_invalid (state_at f.meta.meta (target f))) →
+            Stores (flash_result result) f.layout (meta_after f.meta.meta (Free (target f)))
+            (D.told (device self.old)) (D.told (device self.new)) }
+        // On any device: the agent keeps the metadata in which the update bank is invalid, and a package
+        // is staged of which nothing is there.
+        ensures keeps { OnOk result ((fields self.new).meta ≡ meta_begun (fields self.old)) }
+        ensures restarts { OnOk result
+            (Restarts true (fields self.old).session (fields self.new).session) }
         ensures power { IsFalse (gone self.old) →
             D.on (device self.new) ≡ is_ok (flash_result result) }
         ensures size { D.blocks (device self.new) ≡ D.blocks (device self.old) }

@@ -1,10 +1,11 @@
 //! The end of a staging.
-ghost use Rattle.std.specs.Prelude.{◌≡◌, ◌⊎◌, ℕ, Bool, true, List, IsTrue, IsFalse, IsErrOf, IfErr, OnOk, is_ok};
+ghost use Rattle.std.specs.Prelude.{◌≡◌, ◌⊎◌, ℕ, Bool, true, false, List, IsTrue, IsFalse, IsErrOf, IfErr, OnOk, is_ok};
 ghost use Rattle.flash_core.specs.Counts.{Spends, StaysUnarmed};
 ghost use Rattle.fwu_formats.specs.Metadata.{fits_meta};
 ghost use Rattle.fwu_model.specs.Call as call;
 ghost use Rattle.fwu_model.specs.Reply.{Success};
-ghost use Rattle.agent_kept.specs.Kept.{kept};
+ghost use Rattle.agent_kept.specs.Kept.{Restarts, kept};
+ghost use Rattle.agent_calls.specs.Metas.{meta_ended};
 ghost use Rattle.agent_state.specs.Decides.{Decides};
 ghost use Rattle.agent_machine.specs.Ends.{ClearsAndStores, TakesSwitch};
 ghost use Rattle.agent_machine.specs.Meets.{Meets, GoesBy, IsDone, IsRefused, flash_result};
@@ -99,6 +100,8 @@ impl<D: Flash> Agent<D> {
         ensures ends { IsTrue D.tells → ClearsAndStores (flash_result result)
             (fields self.old).layout (fields self.new).meta.meta
             (D.told (device self.old)) (D.told (device self.new)) }
+        ensures keeps { (fields self.new).meta ≡ meta_ended (fields self.old) }
+        ensures restarts { Restarts false (fields self.old).session (fields self.new).session }
         ensures spent { OnOk result
             (TakesSwitch (D.arming (device self.old)) (D.arming (device self.new))) }
         ensures unarmed { StaysUnarmed (flash_result result)
@@ -149,6 +152,11 @@ impl<D: Flash> Agent<D> {
         ensures ends { IsDone result → IsTrue D.tells → ClearsAndStores (flash_result result)
             (fields self.old).layout (fields self.new).meta.meta
             (D.told (device self.old)) (D.told (device self.new)) }
+        // On any device: that metadata is the one in which the update bank is active, with the bits of the
+        // committed images; and nothing is staged, and no handle is open.
+        ensures keeps { IsDone result → (fields self.new).meta ≡ meta_ended (fields self.old) }
+        ensures restarts { IsDone result →
+            Restarts false (fields self.old).session (fields self.new).session }
         // on every device: an erase of the marks, or none, and two erases and two programs
         ensures spent { OnOk result
             (TakesSwitch (D.arming (device self.old)) (D.arming (device self.new))) }

@@ -2,15 +2,18 @@
 ghost use Rattle.std.specs.Prelude.{◌≡◌, ◌<◌, ◌≤◌, ◌&&◌, ℕ, Bool, false, List, length, is_ok, IfOk, IsTrue, IsFalse, IsErrOf, OnOk};
 ghost use Rattle.flash_core.specs.Counts.{Spends, ReachesNone, StaysUnarmed, arming_kept};
 ghost use Rattle.fwu_formats.specs.Layout.{blocks_needed};
-ghost use Rattle.fwu_model.specs.State.{is_valid, is_accepted};
+ghost use Rattle.fwu_model.specs.MoveMetas.{meta_after};
+ghost use Rattle.fwu_model.specs.State.{Back, is_valid, is_accepted};
 ghost use Rattle.image_check.specs.Verdict.{verdict_on};
 ghost use Rattle.image_check.specs.Law.{may_start};
 ghost use Rattle.agent_kept.specs.declared.kinds.Request.TheVariants as request;
 ghost use Rattle.agent_kept.specs.Kept.{kept};
 ghost use Rattle.agent_state.specs.Decides.{Decides};
 ghost use Rattle.agent_state.specs.Ruled.{ruled_as};
-ghost use Rattle.agent_machine.specs.Meets.{MeetsPrevious, GoesBy, IsRefused, flash_result};
+ghost use Rattle.agent_machine.specs.Meets.{MeetsPrevious, GoesBy, IsDone, IsRefused, flash_result};
 ghost use Rattle.agent_machine.specs.Stored.{TakesStore, is_to_do, may_try_kept};
+ghost use Rattle.agent_calls.specs.Metas.{meta_back};
+ghost use Rattle.replicas.specs.Stores.{Stores};
 
 use crate::agent::{Agent, stopped};
 use agent_machine::Stop;
@@ -115,6 +118,11 @@ impl<D: Flash> Agent<D> {
         ensures refused { IsRefused result → fields self.new ≡ fields self.old }
         ensures still { let f = fields self.old in
             may_try_kept f.meta.meta f.session f.boot ≡ false → device self.new ≡ device self.old }
+        ensures stores { IsDone result → IsTrue D.tells → let f = fields self.old in
+            Stores (flash_result result) f.layout (meta_after f.meta.meta Back)
+            (D.told (device self.old)) (D.told (device self.new)) }
+        ensures keeps { OnOk result ((fields self.new).meta ≡ meta_back (fields self.old)) }
+        ensures session { OnOk result ((fields self.new).session ≡ (fields self.old).session) }
         ensures content { IsRefused result → IsTrue D.tells →
             D.told (device self.new) ≡ D.told (device self.old) }
         ensures arming { IsRefused result →
@@ -170,6 +178,14 @@ impl<D: Flash> Agent<D> {
         // look at the device.
         ensures still { let f = fields self.old in
             may_try_kept f.meta.meta f.session f.boot ≡ false → device self.new ≡ device self.old }
+        // On any flash that tells its content, sound or not: the metadata is stored in which the two banks
+        // changed places, over replica 0, then over replica 1, and nothing else.
+        ensures stores { IsDone result → IsTrue D.tells → let f = fields self.old in
+            Stores (flash_result result) f.layout (meta_after f.meta.meta Back)
+            (D.told (device self.old)) (D.told (device self.new)) }
+        // On any device: the agent keeps that metadata, and the session as it was.
+        ensures keeps { OnOk result ((fields self.new).meta ≡ meta_back (fields self.old)) }
+        ensures session { OnOk result ((fields self.new).session ≡ (fields self.old).session) }
         ensures content { IsRefused result → IsTrue D.tells →
             D.told (device self.new) ≡ D.told (device self.old) }
         ensures arming { IsRefused result →

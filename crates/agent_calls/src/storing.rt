@@ -1,5 +1,5 @@
 //! Carrying out a plan that may store metadata.
-ghost use Rattle.std.specs.Prelude.{◌≡◌, ◌<◌, false, is_ok, length, IsTrue, IsFalse, OnOk};
+ghost use Rattle.std.specs.Prelude.{◌≡◌, ◌<◌, false, [], is_ok, length, IsTrue, IsFalse, OnOk};
 ghost use Rattle.flash_core.specs.Counts.{Spends, StaysUnarmed};
 ghost use Rattle.fwu_formats.specs.Metadata.{fits_meta};
 ghost use Rattle.agent_machine.specs.Meets.{flash_result};
@@ -72,6 +72,7 @@ impl<D: Flash> Agent<D> {
     ghost use Rattle.agent_calls.specs.Shown.{fields, device, gone, moment};
     ghost use Rattle.agent_machine.specs.Meets.{GoesBy, IsRefused};
     ghost use Rattle.agent_machine.specs.Stored.{MayCarryOut, CarriesOut, TakesStore};
+    ghost use Rattle.agent_state.specs.Settles.{Changes, meta_planned};
 
     /// Makes of the metadata and of the session what a plan says, and stores the metadata where the plan
     /// does. A stop of the flash leaves the agent gone.
@@ -80,6 +81,15 @@ impl<D: Flash> Agent<D> {
         requires plan { MayCarryOut (fields self.old) plan }
         ensures carries { CarriesOut (flash_result result) plan (moment self.old) (moment self.new) }
         ensures answered { IsRefused result → ⊥ }
+        // On any device: the metadata and the session are what the plan makes of them.
+        ensures planned { let f = fields self.old in
+            (fields self.new).meta ≡ record f.meta { meta = meta_planned f.session f.meta.meta plan } }
+        ensures changed { Changes (fields self.old).session [] plan (fields self.new).session }
+        // On any flash that tells its content, sound or not: that metadata is stored, and nothing else.
+        ensures stores { IsTrue D.tells → let f = fields self.old in
+            StoresIf (is_stored plan) (flash_result result) f.layout
+            (meta_planned f.session f.meta.meta plan)
+            (D.told (device self.old)) (D.told (device self.new)) }
         ensures still { is_stored plan ≡ false → device self.new ≡ device self.old }
         ensures goes { GoesBy result (gone self.old) (gone self.new) }
         ensures power { D.on (device self.new) ≡ is_ok (flash_result result) }

@@ -1,17 +1,19 @@
 //! Bytes go behind those of a staged image.
-ghost use Rattle.std.specs.Prelude.{◌≡◌, ℕ, ◌+◌, ◌-◌, Bool, List, length, is_ok, IsFalse, IsErrOf};
+ghost use Rattle.std.specs.Prelude.{◌≡◌, ℕ, ◌+◌, ◌-◌, ◌%◌, Bool, List, length, take, is_ok, IsTrue, IsFalse, IsErrOf, OnOk};
 ghost use Rattle.flash_core.specs.Counts.{Spends, StaysUnarmed};
 ghost use Rattle.fwu_model.specs.Call as call;
 ghost use Rattle.fwu_model.specs.Reply.{Success};
-ghost use Rattle.slot_writer.specs.Slots.{done_of};
+ghost use Rattle.fwu_formats.specs.Layout.{start};
+ghost use Rattle.slot_writer.specs.Slots.{Appends, done_of, kept_of};
 ghost use Rattle.slot_writer.specs.Writes.{SpendsArming, writes_to_append};
 ghost use Rattle.agent_kept.specs.declared.kinds.Request.TheVariants as request;
 ghost use Rattle.agent_kept.specs.declared.kinds.Plan.TheVariants as plan;
 ghost use Rattle.agent_kept.specs.declared.kinds.Decision.TheVariants as decision;
 ghost use Rattle.agent_kept.specs.declared.parts.Handle.TheVariants as handle_kinds;
-ghost use Rattle.agent_kept.specs.Kept.{kept, part_at, handle_kept, size_of};
+ghost use Rattle.agent_kept.specs.Kept.{AppendsPart, kept, part_at, handle_kept, size_of};
 ghost use Rattle.agent_state.specs.Decides.{Decides};
 ghost use Rattle.agent_state.specs.Settles.{IsPlanOf};
+ghost use Rattle.agent_machine.specs.Fields.{rest_of, target};
 ghost use Rattle.agent_machine.specs.Meets.{Meets, GoesBy, IsRefused, IsStopped, IsDone, flash_result};
 ghost use Rattle.agent_calls.specs.Shown.{fields, device, gone, moment};
 
@@ -37,6 +39,16 @@ impl<D: Flash> Agent<D> {
             (moment self.old) (moment self.new) }
         ensures goes { GoesBy result (gone self.old) (gone self.new) }
         ensures done { IsDone result }
+        ensures appends { IsTrue D.tells → let f = fields self.old in
+            Appends (flash_result result) (start f.layout (target f) image)
+            (size_of (part_at f.session image)) (rest_of f image) bytes.now
+            (rest_of (fields self.new) image)
+            (D.told (device self.old)) (D.told (device self.new)) }
+        ensures keeps { OnOk result (let size = size_of (part_at (fields self.old).session image) in
+            take ((size + length bytes.now) % 16) (rest_of (fields self.new) image)
+            ≡ kept_of size (rest_of (fields self.old) image) bytes.now) }
+        ensures grows { OnOk result (AppendsPart (fields self.old).session image bytes.now
+            (fields self.new).session) }
         ensures still { let size = size_of (part_at (kept self.old.session) image) in
             done_of (size + length bytes.now) ≡ done_of size →
             device self.new ≡ device self.old }
@@ -98,6 +110,24 @@ impl<D: Flash> Agent<D> {
         ensures goes { GoesBy result (gone self.old) (gone self.new) }
         ensures untouched { IsErrOf result Stop.Gone → self.new ≡ self.old }
         ensures refused { IsRefused result → self.new ≡ self.old }
+        // on any flash that tells its content, sound or not: the bytes stand behind those that the image
+        // has, the block that they end in is blank behind them, and nothing else changes
+        ensures appends { IsDone result → IsTrue D.tells → (image : ℕ) →
+            handle_kept (fields self.old).session (handle - 1) ≡ handle_kinds.Writes image →
+            let f = fields self.old in
+            Appends (flash_result result) (start f.layout (target f) image)
+            (size_of (part_at f.session image)) (rest_of f image) bytes.now
+            (rest_of (fields self.new) image)
+            (D.told (device self.old)) (D.told (device self.new)) }
+        // on any device: the bytes that fill no granule are kept, and the image has all of them
+        ensures keeps { OnOk result ((image : ℕ) →
+            handle_kept (fields self.old).session (handle - 1) ≡ handle_kinds.Writes image →
+            let size = size_of (part_at (fields self.old).session image) in
+            take ((size + length bytes.now) % 16) (rest_of (fields self.new) image)
+            ≡ kept_of size (rest_of (fields self.old) image) bytes.now) }
+        ensures grows { OnOk result ((image : ℕ) →
+            handle_kept (fields self.old).session (handle - 1) ≡ handle_kinds.Writes image →
+            AppendsPart (fields self.old).session image bytes.now (fields self.new).session) }
         // on any device: it is not touched where no granule becomes whole
         ensures still { (image : ℕ) →
             handle_kept (fields self.old).session (handle - 1) ≡ handle_kinds.Writes image →

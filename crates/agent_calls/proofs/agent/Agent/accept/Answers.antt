@@ -1,16 +1,17 @@
-use Rattle.std.proofs.Common.{◌≡◌, ◌<◌, ℕ, List, length, Bool, true, false, refl, subst}
+use Rattle.std.proofs.Common.{◌<◌, ℕ, List, length, Bool, true, refl, subst}
 use Rattle.fwu_model.specs.Call as call
 use Rattle.agent_kept.specs.declared.kinds.Request.TheVariants as request
-use Rattle.agent_kept.specs.declared.kinds.Plan.{Plan}
 use Rattle.agent_kept.specs.declared.kinds.Plan.TheVariants as plan
 use Rattle.agent_kept.specs.Kept.{kept}
 use Rattle.agent_state.specs.Settles.{IsPlanOf}
-use Rattle.agent_machine.proofs.StoredAnswers.{is_accept}
-use Rattle.agent_machine.proofs.StoredCalls.{accept-may, accept-answers, accept-idle, refused-of}
-use Rattle.agent_machine.proofs.StoredMeets.{carried-meets, idle-meets, refused-meets}
+use Rattle.agent_machine.specs.Meets.{flash_result}
+use Rattle.agent_machine.proofs.StoredCalls.{accept-may, accept-answers, refused-of}
+use Rattle.agent_machine.proofs.StoredMeets.{carried-meets, refused-meets}
 use Rattle.agent_calls.specs.Shown.{fields, moment}
 use Rattle.agent_state.specs.Asked.{IsPlanFor}
 use Rattle.agent_machine.specs.Fields.{Fields}
+use Rattle.agent_calls.proofs.NoOther.{accepts}
+use Rattle.agent_calls.proofs.Makes.{ok-any, accept-stores, accept-keeps}
 use Rattle.agent_calls.proofs.Unstored.{accept-stores-none}
 use Rattle.agent_calls.proofs.agent.Agent.accept.Goals as goal
 
@@ -38,27 +39,11 @@ returns-in-Accept-clause-meets g c = λ here passes.
     accept-answers (fields a) (a.fitting here) a.session.sound passes c.args.guid c.in-Ok.plan (c.in-Ok.ensures.plans passes) g.D.Flash.tells
     (g.D.Flash.told a.flash) E s x setting shows c.in-Accept.image c.in-Accept.store c.in-Accept.is)
 
-other-plan : (p : Plan) → ((image : ℕ) (store : Bool) → p ≡ plan.Accept image store → ⊥) → is_accept p ≡ false
-other-plan plan.Tell other = refl
-other-plan (plan.Begin store) other = refl
-other-plan (plan.Open h image o total) other = refl
-other-plan (plan.Write h image at n) other = refl
-other-plan (plan.Read h image at n total) other = refl
-other-plan (plan.Commit h image bit) other = refl
-other-plan plan.End other = refl
-other-plan plan.Cancel other = refl
-other-plan (plan.Accept image store) other = absurd (other image store refl)
-other-plan plan.Back other = refl
-
-pub returns-in_default-clause-meets : goal.returns-in_default-clause-meets
-returns-in_default-clause-meets g c = λ here passes.
-    let a = c.args.self.now in
-    let t = g.D.Flash.told a.flash in
-    let other : is_accept c.in-Ok.plan ≡ false = other-plan c.in-Ok.plan c.in_default.not-Accept in
-    idle-meets g.D.Flash.tells (fields a) t t (λ is. refl) passes (call.Accepts c.args.guid)
-    (λ E s x setting shows.
-    accept-idle (fields a) (a.fitting here) a.session.sound passes c.args.guid c.in-Ok.plan
-    (c.in-Ok.ensures.plans passes) g.D.Flash.tells t E s x setting shows other)
+-- an accept has no other plan
+pub returns-in_default : goal.returns-in_default
+returns-in_default g c =
+    let f : Fields = fields c.args.self.now in
+    absurd (accepts f.session f.meta.meta c.args.guid c.in-Ok.plan c.in-Ok.ensures.asked c.in_default.not-Accept)
 
 pub returns-in-Accept-clause-still : goal.returns-in-Accept-clause-still
 returns-in-Accept-clause-still g c = λ image found set.
@@ -66,3 +51,23 @@ returns-in-Accept-clause-still g c = λ image found set.
     let f : Fields = fields a in
     let asked = subst (IsPlanFor f.session f.meta.meta (request.Accept c.args.guid)) c.in-Accept.is c.in-Ok.ensures.asked in
     c.carry_out.ensures.still (accept-stores-none f (a.fitting c.if-self.false) c.args.guid c.in-Accept.image c.in-Accept.store asked image found set)
+
+pub returns-in-Accept-clause-stores : goal.returns-in-Accept-clause-stores
+returns-in-Accept-clause-stores g c done tells image found clear =
+    let a = c.args.self.now in
+    let f : Fields = fields a in
+    let asked = subst (IsPlanFor f.session f.meta.meta (request.Accept c.args.guid)) c.in-Accept.is c.in-Ok.ensures.asked in
+    accept-stores f (a.fitting c.if-self.false) c.args.guid c.in-Accept.image c.in-Accept.store asked image found clear
+    (flash_result c.carry_out.result) (g.D.Flash.told a.flash) (g.D.Flash.told c.carry_out.new.self.flash) (c.carry_out.ensures.stores tells)
+
+pub returns-in-Accept-clause-keeps : goal.returns-in-Accept-clause-keeps
+returns-in-Accept-clause-keeps g c image found =
+    let a = c.args.self.now in
+    let f : Fields = fields a in
+    let asked = subst (IsPlanFor f.session f.meta.meta (request.Accept c.args.guid)) c.in-Accept.is c.in-Ok.ensures.asked in
+    ok-any c.carry_out.result
+    (accept-keeps f (a.fitting c.if-self.false) c.args.guid c.in-Accept.image c.in-Accept.store asked image found
+    c.carry_out.new.self.meta c.carry_out.ensures.planned)
+
+pub returns-in-Accept-clause-session : goal.returns-in-Accept-clause-session
+returns-in-Accept-clause-session g c = ok-any c.carry_out.result c.carry_out.ensures.changed

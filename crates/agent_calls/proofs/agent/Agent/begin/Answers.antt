@@ -6,6 +6,8 @@ use Rattle.agent_machine.specs.Stored.{MayBegin}
 use Rattle.agent_machine.proofs.StoredCalls.{begin-may, begin-answers, refused-of}
 use Rattle.agent_machine.proofs.StoredMeets.{AnswersBy, carried-meets, refused-meets}
 use Rattle.agent_calls.specs.Shown.{fields, moment}
+use Rattle.agent_machine.specs.Meets.{flash_result}
+use Rattle.agent_calls.proofs.Makes.{ok-any, begin-frees, begin-stores, begin-keeps}
 use Rattle.agent_calls.proofs.Unstored.{begin-stores-none}
 use Rattle.agent_calls.proofs.agent.Agent.begin.Goals as goal
 
@@ -40,3 +42,23 @@ returns-in-Ok-clause-still g c = λ free.
     let a = c.args.self.now in
     c.carry_out.ensures.still (c.frees.ensures
     ∙ begin-stores-none (fields a) (a.fitting c.if-self.false) c.args.vendor_flags c.args.partial_count c.in-Ok.plan c.in-Ok.ensures.asked free)
+
+pub returns-in-Ok-clause-stores : goal.returns-in-Ok-clause-stores
+returns-in-Ok-clause-stores g c done tells used =
+    let a = c.args.self.now in
+    let fitting = a.fitting c.if-self.false in
+    begin-stores (fields a) fitting c.frees.result
+    (c.frees.ensures ∙ begin-frees (fields a) fitting c.args.vendor_flags c.args.partial_count c.in-Ok.plan c.in-Ok.ensures.asked) used
+    (flash_result c.carry_out.result) (g.D.Flash.told a.flash) (g.D.Flash.told c.carry_out.new.self.flash) (c.carry_out.ensures.stores tells)
+
+pub returns-in-Ok-clause-keeps : goal.returns-in-Ok-clause-keeps
+returns-in-Ok-clause-keeps g c =
+    let a = c.args.self.now in
+    let fitting = a.fitting c.if-self.false in
+    ok-any c.carry_out.result
+    (begin-keeps (fields a) fitting c.frees.result
+    (c.frees.ensures ∙ begin-frees (fields a) fitting c.args.vendor_flags c.args.partial_count c.in-Ok.plan c.in-Ok.ensures.asked)
+    c.carry_out.new.self.meta c.carry_out.ensures.planned)
+
+pub returns-in-Ok-clause-restarts : goal.returns-in-Ok-clause-restarts
+returns-in-Ok-clause-restarts g c = ok-any c.carry_out.result c.carry_out.ensures.changed

@@ -1,8 +1,11 @@
-use Rattle.std.proofs.Common.{length, Ok, Err, Result, sym, subst, arith}
+use Rattle.std.proofs.Common.{Bool, length, Ok, Err, Result, sym, subst, arith}
 use Rattle.flash_core.specs.declared.flash.FlashStop.{FlashStop}
 use Rattle.meta_layout.proofs.Fits.{meta-fits}
 use Rattle.agent_kept.specs.Kept.{kept}
-use Rattle.agent_machine.specs.Stored.{CarriesOut}
+use Rattle.fwu_formats.specs.Metadata.{MetaRead}
+use Rattle.moves.specs.Law.{Done}
+use Rattle.agent_state.specs.Settles.{meta_planned}
+use Rattle.agent_machine.specs.Stored.{CarriesOut, StoresIf, is_stored}
 use Rattle.agent_machine.proofs.StoredSpends.{takes-store}
 use Rattle.agent_machine.proofs.StoredPlans.{is-meta-of, after-fitting, after-some, after-known, after-carried}
 use Rattle.agent_calls.specs.Shown.{fields, moment}
@@ -79,3 +82,23 @@ pub returns-in-Ok-clause-spent : goal.returns-in-Ok-clause-spent
 returns-in-Ok-clause-spent g c =
     takes-store (fields c.args.self.now) (g.D.Flash.arming c.args.self.now.flash) (g.D.Flash.arming c.store_if.new.flash) c.args.plan c.is_stored-stored.result
     c.settle.new.meta c.requires.plan c.is_stored-stored.ensures c.settle.ensures.meta c.in-Ok.ensures.spent
+
+pub returns-in-Ok-clause-stores : goal.returns-in-Ok-clause-stores
+returns-in-Ok-clause-stores g c tells =
+    let f = fields c.args.self.now in
+    let s = g.D.Flash.told c.args.self.now.flash in
+    let t = g.D.Flash.told c.store_if.new.flash in
+    subst (λ (b : Bool). StoresIf {T = Unit {0}} b (Ok tt) f.layout (meta_planned f.session f.meta.meta c.args.plan) s t) c.is_stored-stored.ensures
+    (subst (λ (m : MetaRead). StoresIf {T = Unit {0}} c.is_stored-stored.result (Ok tt) f.layout m.meta s t) c.settle.ensures.meta
+    (c.in-Ok.ensures.stores tells))
+
+pub returns-in-Err-clause-stores : goal.returns-in-Err-clause-stores
+returns-in-Err-clause-stores g c tells =
+    let f = fields c.args.self.now in
+    let s = g.D.Flash.told c.args.self.now.flash in
+    let t = g.D.Flash.told c.store_if.new.flash in
+    subst (λ (r : Done). StoresIf (is_stored c.args.plan) r f.layout (meta_planned f.session f.meta.meta c.args.plan) s t) (sym c.stopped.ensures.stop)
+    (subst (λ (b : Bool). StoresIf {T = Unit {0}} b (Err c.in-Err.stop) f.layout (meta_planned f.session f.meta.meta c.args.plan) s t)
+    c.is_stored-stored.ensures
+    (subst (λ (m : MetaRead). StoresIf {T = Unit {0}} c.is_stored-stored.result (Err c.in-Err.stop) f.layout m.meta s t) c.settle.ensures.meta
+    (c.in-Err.ensures.stores tells)))

@@ -1,11 +1,18 @@
-use Rattle.std.proofs.Common.{true, false, refl, arith}
+use Rattle.std.proofs.Common.{true, false, refl, sym, subst, arith}
+use Rattle.flash_core.specs.Told.{Told}
+use Rattle.fwu_model.specs.State.{Back}
+use Rattle.fwu_model.specs.MoveMetas.{meta_after}
+use Rattle.moves.specs.Law.{Done}
+use Rattle.replicas.specs.Stores.{Stores}
 use Rattle.agent_kept.specs.Kept.{kept}
 use Rattle.agent_state.specs.Ruled.{ruled_as}
+use Rattle.agent_machine.specs.Meets.{flash_result}
 use Rattle.agent_machine.specs.Stored.{is_to_do, may_try_kept}
 use Rattle.meta_layout.proofs.Fits.{meta-fits}
 use Rattle.agent_machine.proofs.StoredBack.{untried-meets, stopped-meets, bad-meets, back-meets}
 use Rattle.agent_calls.specs.Shown.{fields, moment}
 use Rattle.agent_calls.proofs.StoredVerdict.{good-permitted, promised}
+use Rattle.agent_calls.proofs.Makes.{ok-any, back-stopped}
 use Rattle.agent_calls.proofs.agent.Agent.go_back.Goals as goal
 
 pub may_try-requires-clause-active : goal.may_try-requires-clause-active
@@ -66,3 +73,28 @@ returns-in-Err-clause-meets g c =
     let a = c.args.self.now in
     stopped-meets g.D.Flash.tells (fields a) (a.fitting c.requires.here) a.session.sound (g.D.Flash.told a.flash)
     (g.D.Flash.told c.is_bank_good.new.flash) c.in-Err.ensures.content (g.V.Verifier.passes c.args.verifier.now) c.stopped.result c.stopped.ensures.stopped
+
+-- the read before the store left the content as it was
+pub returns-else-not-goes_back-clause-stores : goal.returns-else-not-goes_back-clause-stores
+returns-else-not-goes_back-clause-stores g c done tells =
+    let f = fields c.args.self.now in
+    subst (λ (u : Told). Stores (flash_result c.carry_out.result) f.layout (meta_after f.meta.meta Back) u (g.D.Flash.told c.carry_out.new.self.flash))
+    (c.in-Ok.ensures.content tells) (c.carry_out.ensures.stores tells)
+
+pub returns-in-Err-clause-stores : goal.returns-in-Err-clause-stores
+returns-in-Err-clause-stores g c done tells =
+    let a = c.args.self.now in
+    let f = fields a in
+    subst (λ (r : Done). Stores r f.layout (meta_after f.meta.meta Back) (g.D.Flash.told a.flash) (g.D.Flash.told c.is_bank_good.new.flash))
+    (sym c.stopped.ensures.stop)
+    (back-stopped f (a.fitting c.requires.here) c.in-Err.stop (g.D.Flash.told a.flash) (g.D.Flash.told c.is_bank_good.new.flash)
+    (omega (arith, a.inside c.requires.here, (g.met.D.Flash.sound a.flash tells).size)) (c.in-Err.ensures.content tells))
+
+pub returns-else-not-goes_back-clause-keeps : goal.returns-else-not-goes_back-clause-keeps
+returns-else-not-goes_back-clause-keeps g c = ok-any c.carry_out.result c.carry_out.ensures.planned
+
+pub returns-else-not-goes_back-clause-session : goal.returns-else-not-goes_back-clause-session
+returns-else-not-goes_back-clause-session g c = ok-any c.carry_out.result c.carry_out.ensures.changed
+
+pub returns-else-not-goes_back-clause-content : goal.returns-else-not-goes_back-clause-content
+returns-else-not-goes_back-clause-content g c refused = absurd (c.carry_out.ensures.answered refused)

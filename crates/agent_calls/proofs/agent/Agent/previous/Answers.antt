@@ -7,7 +7,8 @@ use Rattle.agent_state.specs.Decides.{Decides}
 use Rattle.agent_machine.proofs.Answered.{layout-limits}
 use Rattle.agent_machine.proofs.StoredPlans.{is-meta-of}
 use Rattle.agent_machine.proofs.StoredBack.{refused-meets-previous}
-use Rattle.agent_calls.specs.Shown.{fields}
+use Rattle.agent_machine.specs.Meets.{MeetsPrevious}
+use Rattle.agent_calls.specs.Shown.{fields, moment}
 use Rattle.agent_calls.proofs.agent.Agent.previous.Goals as goal
 
 pub decide-decision-requires-clause-some : goal.decide-decision-requires-clause-some
@@ -26,3 +27,20 @@ returns-in-Refused-clause-meets g c = λ here passes same.
     refused-meets-previous g.D.Flash.tells (fields a) (a.fitting here) a.session.sound s s (λ is. refl) passes c.in-Refused.status
     (subst (λ (ps : List ℕ → Bool). Decides ps a.meta a.counter (kept a.session) a.boot request.Previous (decision.Refused c.in-Refused.status))
     (sym same) c.in-Refused.ensures.decides)
+
+pub returns-clause-meets : goal.returns-clause-meets
+returns-clause-meets g c = λ here passes same.
+    subst (λ (ps : List ℕ → Bool). MeetsPrevious c.go_back.result ps (moment c.args.self.now) (moment c.go_back.new.self)) (sym same)
+    c.go_back.ensures.meets
+
+pub returns-clause-stores : goal.returns-clause-stores
+returns-clause-stores g c = c.go_back.ensures.stores
+
+pub returns-clause-keeps : goal.returns-clause-keeps
+returns-clause-keeps g c = c.go_back.ensures.keeps
+
+pub returns-clause-session : goal.returns-clause-session
+returns-clause-session g c = c.go_back.ensures.session
+
+pub returns-clause-content : goal.returns-clause-content
+returns-clause-content g c = c.go_back.ensures.content

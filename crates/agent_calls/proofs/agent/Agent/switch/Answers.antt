@@ -14,6 +14,7 @@ use Rattle.agent_machine.proofs.Showing.{some-after}
 use Rattle.agent_machine.proofs.Ended.{ended-fitting}
 use Rattle.agent_machine.proofs.EndMeets.{stored-when-done, end-leaves, end-knows, end-meets}
 use Rattle.agent_calls.specs.Shown.{fields}
+use Rattle.agent_calls.proofs.Makes.{end-keeps}
 use Rattle.agent_calls.proofs.agent.Agent.switch.Goals as goal
 
 pub settle-requires-clause-fits : goal.settle-requires-clause-fits
@@ -72,3 +73,13 @@ pub returns-in-Err-clause-ends : goal.returns-in-Err-clause-ends
 returns-in-Err-clause-ends g c tells =
     subst (λ (r : Done). ClearsAndStores r (fields c.args.self.now).layout c.settle.new.meta.meta (g.D.Flash.told c.args.self.now.flash)
     (g.D.Flash.told c.clear_and_store.new.flash)) (sym c.stopped.ensures.stop) (c.in-Err.ensures.ends tells)
+
+pub returns-in-Ok-clause-keeps : goal.returns-in-Ok-clause-keeps
+returns-in-Ok-clause-keeps g c =
+    let a = c.args.self.now in
+    end-keeps (fields a) (a.fitting c.requires.here) c.settle.new.meta c.settle.ensures.meta
+
+pub returns-in-Err-clause-keeps : goal.returns-in-Err-clause-keeps
+returns-in-Err-clause-keeps g c =
+    let a = c.args.self.now in
+    end-keeps (fields a) (a.fitting c.requires.here) c.settle.new.meta c.settle.ensures.meta

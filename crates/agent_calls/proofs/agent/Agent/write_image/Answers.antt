@@ -1,12 +1,14 @@
-use Rattle.std.proofs.Common.{◌≡◌, ℕ, ◌+◌, ◌≤◌, List, length, set, Ok, refl, sym, ap, ◌∙◌, subst, arith}
+use Rattle.std.proofs.Common.{◌≡◌, ℕ, ◌+◌, ◌≤◌, List, length, set, Ok, Err, refl, sym, ap, ◌∙◌, subst, arith}
 use Rattle.fwu_formats.specs.Layout.{ImageRow, start, slot_bytes}
 use Rattle.slot_writer.specs.Writes.{SpendsArming, writes_to_append}
 use Rattle.agent_kept.specs.Kept.{kept, part_at, size_of, slot_of}
-use Rattle.agent_machine.specs.Fields.{Fields, target}
+use Rattle.agent_machine.specs.Fields.{Fields, rest_of, target}
 use Rattle.agent_machine.proofs.Room.{slot-inside, meta-of-session}
 use Rattle.agent_machine.proofs.WriteCarried.{write-fitting, write-known, write-some, write-done, write-stopped}
 use Rattle.agent_calls.specs.Shown.{fields, moment}
-use Rattle.slot_writer.specs.Slots.{done_of}
+use Rattle.agent_calls.proofs.Appending.{appended, left-kept, left_of}
+use Rattle.slot_writer.specs.Slots.{Appends, done_of}
+use Rattle.moves.specs.Law.{Done}
 use Rattle.agent_calls.proofs.agent.Agent.write_image.Goals as goal
 
 pub append-requires-clause-inside : goal.append-requires-clause-inside
@@ -111,3 +113,34 @@ returns-in-Ok-clause-still g c same =
 pub returns-in-Err-clause-still : goal.returns-in-Err-clause-still
 returns-in-Err-clause-still g c same =
     c.in-Err.ensures.still (subst (λ (n : ℕ). done_of (n + length c.args.bytes.now) ≡ done_of n) (sym c.size-size.ensures) same)
+
+pub returns-in-Ok-clause-appends : goal.returns-in-Ok-clause-appends
+returns-in-Ok-clause-appends g c tells =
+    let a = c.args.self.now in
+    let f : Fields = fields a in
+    let fitting = a.fitting c.requires.here in
+    let first : c.start-first.result ≡ start f.layout (target f) c.args.image = c.start-first.ensures
+    ∙ ap (λ (b : ℕ). start f.layout b c.args.image) c.target-bank.ensures.value in
+    appended f fitting c.args.image c.size-size.result c.args.bytes.now c.append.new.rest c.requires.plan.0 c.size-size.ensures (Ok tt)
+    c.start-first.result (g.D.Flash.told a.flash) (g.D.Flash.told c.append.new.flash) first (c.in-Ok.ensures.appends tells)
+
+pub returns-in-Err-clause-appends : goal.returns-in-Err-clause-appends
+returns-in-Err-clause-appends g c tells =
+    let a = c.args.self.now in
+    let f : Fields = fields a in
+    let fitting = a.fitting c.requires.here in
+    let first : c.start-first.result ≡ start f.layout (target f) c.args.image = c.start-first.ensures
+    ∙ ap (λ (b : ℕ). start f.layout b c.args.image) c.target-bank.ensures.value in
+    let s = g.D.Flash.told a.flash in
+    let t = g.D.Flash.told c.append.new.flash in
+    subst (λ (r : Done). Appends r (start f.layout (target f) c.args.image) (size_of (part_at f.session c.args.image)) (rest_of f c.args.image)
+    c.args.bytes.now (left_of f fitting c.args.image c.size-size.result c.args.bytes.now c.append.new.rest c.requires.plan.0 c.size-size.ensures) s t)
+    (sym c.stopped.ensures.stop)
+    (appended f fitting c.args.image c.size-size.result c.args.bytes.now c.append.new.rest c.requires.plan.0 c.size-size.ensures (Err c.in-Err.stop)
+    c.start-first.result s t first (c.in-Err.ensures.appends tells))
+
+pub returns-in-Ok-clause-keeps : goal.returns-in-Ok-clause-keeps
+returns-in-Ok-clause-keeps g c =
+    let a = c.args.self.now in
+    left-kept (fields a) (a.fitting c.requires.here) c.args.image c.size-size.result c.args.bytes.now c.append.new.rest c.requires.plan.0
+    c.size-size.ensures c.in-Ok.ensures.kept

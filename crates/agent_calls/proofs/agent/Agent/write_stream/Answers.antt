@@ -1,4 +1,6 @@
-use Rattle.std.proofs.Common.{◌≡◌, ℕ, ◌+◌, length, refl, sym, ap, ◌∙◌, subst, arith}
+use Rattle.std.proofs.Common.{◌≡◌, ℕ, ◌+◌, ◌%◌, length, take, refl, sym, ap, ◌∙◌, subst, arith}
+use Rattle.std.proofs.lemmas.Result.{on_ok_weaker}
+use Rattle.fwu_formats.specs.Layout.{start}
 use Rattle.fwu_model.specs.Reply.{Success}
 use Rattle.slot_writer.specs.Writes.{SpendsArming, writes_to_append}
 use Rattle.agent_kept.specs.declared.kinds.Plan.{Plan}
@@ -7,12 +9,12 @@ use Rattle.agent_kept.specs.declared.kinds.Request.TheVariants as request
 use Rattle.agent_kept.specs.declared.kinds.Decision.TheVariants as decision
 use Rattle.agent_state.specs.Decides.{Decides}
 use Rattle.agent_state.specs.Settles.{IsPlanOf}
-use Rattle.agent_machine.specs.Fields.{Fields}
+use Rattle.agent_machine.specs.Fields.{Fields, rest_of, target}
 use Rattle.agent_machine.specs.Meets.{flash_result}
 use Rattle.agent_machine.proofs.Answered.{refused-meets}
 use Rattle.agent_calls.specs.Shown.{fields, moment}
-use Rattle.slot_writer.specs.Slots.{done_of}
-use Rattle.agent_kept.specs.Kept.{part_at, size_of}
+use Rattle.slot_writer.specs.Slots.{Appends, done_of, kept_of}
+use Rattle.agent_kept.specs.Kept.{AppendsPart, part_at, size_of}
 use Rattle.agent_state.specs.Asked.{IsPlanFor}
 use Rattle.agent_calls.proofs.Beyond.{writes-same}
 use Rattle.agent_calls.proofs.NoOther.{writes}
@@ -70,3 +72,31 @@ returns-in-Write-clause-still g c image writes same =
     let is : image ≡ c.in-Write.image = writes-same image c.in-Write.image (sym writes ∙ own.1) in
     c.write_image.ensures.still
     (subst (λ (i : ℕ). done_of (size_of (part_at f.session i) + n) ≡ done_of (size_of (part_at f.session i))) is same)
+
+pub returns-in-Write-clause-appends : goal.returns-in-Write-clause-appends
+returns-in-Write-clause-appends g c done tells image writes =
+    let a = c.args.self.now in
+    let f : Fields = fields a in
+    let own = subst (IsPlanFor f.session f.meta.meta (request.Write c.args.handle (length c.args.bytes.now))) c.in-Write.is c.in-Ok.ensures.asked in
+    let is : c.in-Write.image ≡ image = writes-same c.in-Write.image image (sym own.1 ∙ writes) in
+    subst (λ (i : ℕ). Appends (flash_result c.write_image.result) (start f.layout (target f) i) (size_of (part_at f.session i)) (rest_of f i)
+    c.args.bytes.now (rest_of (fields c.write_image.new.self) i) (g.D.Flash.told a.flash) (g.D.Flash.told c.write_image.new.self.flash)) is
+    (c.write_image.ensures.appends tells)
+
+pub returns-in-Write-clause-keeps : goal.returns-in-Write-clause-keeps
+returns-in-Write-clause-keeps g c =
+    let f : Fields = fields c.args.self.now in
+    let n : ℕ = length c.args.bytes.now in
+    let own = subst (IsPlanFor f.session f.meta.meta (request.Write c.args.handle n)) c.in-Write.is c.in-Ok.ensures.asked in
+    on_ok_weaker c.write_image.result (λ kept image writes.
+    let is : c.in-Write.image ≡ image = writes-same c.in-Write.image image (sym own.1 ∙ writes) in
+    subst (λ (i : ℕ). take ((size_of (part_at f.session i) + n) % 16) (rest_of (fields c.write_image.new.self) i)
+    ≡ kept_of (size_of (part_at f.session i)) (rest_of f i) c.args.bytes.now) is kept) c.write_image.ensures.keeps
+
+pub returns-in-Write-clause-grows : goal.returns-in-Write-clause-grows
+returns-in-Write-clause-grows g c =
+    let f : Fields = fields c.args.self.now in
+    let own = subst (IsPlanFor f.session f.meta.meta (request.Write c.args.handle (length c.args.bytes.now))) c.in-Write.is c.in-Ok.ensures.asked in
+    on_ok_weaker c.write_image.result (λ grows image writes.
+    let is : c.in-Write.image ≡ image = writes-same c.in-Write.image image (sym own.1 ∙ writes) in
+    subst (λ (i : ℕ). AppendsPart f.session i c.args.bytes.now (fields c.write_image.new.self).session) is grows) c.write_image.ensures.grows

@@ -1,0 +1,35 @@
+-- What was appended to an image, and what is kept of it, by the fields.
+use Rattle.std.proofs.Common.{◌≡◌, ℕ, ◌+◌, ◌%◌, ◌<◌, List, [], length, take, get_or, set, sym, ap, ◌∙◌, subst, arith, get_or-set_same}
+use Rattle.flash_core.specs.Told.{Told}
+use Rattle.fwu_formats.specs.Layout.{ImageRow, start}
+use Rattle.moves.specs.Law.{Done}
+use Rattle.slot_writer.specs.Slots.{Appends, kept_of}
+use Rattle.agent_kept.specs.Kept.{part_at, size_of}
+use Rattle.agent_machine.specs.Fields.{Fields, rest_of, target}
+use Rattle.agent_machine.specs.Knows.{Fitting}
+use Rattle.agent_machine.proofs.Answered.{layout-limits}
+
+module _ (f : Fields) (fitting : Fitting f) (image size : ℕ) (bytes left : List ℕ) (within : image < length f.session.rows)
+    (size-is : size ≡ size_of (part_at f.session image)) where
+  abbrev pub left_of : List ℕ
+  left_of = get_or (set f.rests image left) image []
+
+  left-is : left_of ≡ left
+  left-is =
+      let few = (layout-limits f.layout fitting.layout).few_rows in
+      let rows : length f.session.rows ≡ length f.layout.rows = ap (λ (l : List ImageRow). length l) fitting.rows in
+      get_or-set_same f.rests image left [] (omega (arith, within, few, rows, fitting.rests))
+
+  pub appended : (result : Done) (first : ℕ) (s t : Told) → first ≡ start f.layout (target f) image
+      → Appends result first size (rest_of f image) bytes left s t
+      → Appends result (start f.layout (target f) image) (size_of (part_at f.session image)) (rest_of f image) bytes left_of s t
+  appended result first s t first-is appends =
+      subst (λ (l : List ℕ). Appends result (start f.layout (target f) image) (size_of (part_at f.session image)) (rest_of f image) bytes l s t) (sym left-is)
+      (subst (λ (a : ℕ). Appends result a (size_of (part_at f.session image)) (rest_of f image) bytes left s t) first-is
+      (subst (λ (n : ℕ). Appends result first n (rest_of f image) bytes left s t) size-is appends))
+
+  pub left-kept : take ((size + length bytes) % 16) left ≡ kept_of size (rest_of f image) bytes
+      → take ((size_of (part_at f.session image) + length bytes) % 16) left_of ≡ kept_of (size_of (part_at f.session image)) (rest_of f image) bytes
+  left-kept kept =
+      subst (λ (n : ℕ). take ((n + length bytes) % 16) left_of ≡ kept_of n (rest_of f image) bytes) size-is
+      (ap (λ (l : List ℕ). take ((size + length bytes) % 16) l) left-is ∙ kept)

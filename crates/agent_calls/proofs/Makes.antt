@@ -1,0 +1,126 @@
+-- What a call makes of the metadata, by its request.
+use Rattle.std.proofs.Common.{◌≡◌, inl, inr, ℕ, ◌+◌, ◌*◌, ◌<◌, ◌≤◌, Bool, true, false, not, cond, List, [], length, Some, refl, sym, ap, ◌∙◌, subst, arith, IsFalse}
+use Rattle.std.specs.Prelude.{Result, Ok, Err, OnOk}
+use Rattle.flash_core.specs.declared.flash.FlashStop.{FlashStop}
+use Rattle.flash_core.specs.Told.{Told}
+use Rattle.flash_core.proofs.Calls.{keeps_same, block_quiet}
+use Rattle.fwu_formats.specs.Layout.{ImageRow, find_image, blocks_needed}
+use Rattle.fwu_formats.specs.Metadata.{Meta, MetaRead, state_at, bit_at}
+use Rattle.fwu_model.specs.State.{Free, Switch, Accept, Back, is_invalid}
+use Rattle.fwu_model.specs.MoveMetas.{meta_after}
+use Rattle.moves.specs.Law.{Done}
+use Rattle.moves.proofs.Fitting.{fits-back}
+use Rattle.replicas.specs.Stores.{WritesBoth, Stores}
+use Rattle.replicas.proofs.Both.{quiet_zero, quiet_one, stored}
+use Rattle.agent_kept.specs.declared.kinds.Request.TheVariants as request
+use Rattle.agent_kept.specs.declared.kinds.Plan.{Plan}
+use Rattle.agent_kept.specs.declared.kinds.Plan.TheVariants as plan
+use Rattle.agent_state.specs.Asked.{IsPlanFor}
+use Rattle.agent_state.specs.Decides.{next_bank}
+use Rattle.agent_state.specs.Settles.{bits_kept, meta_planned}
+use Rattle.agent_machine.specs.Fields.{Fields, target}
+use Rattle.agent_machine.specs.Knows.{Fitting}
+use Rattle.agent_machine.specs.Stored.{StoresIf, frees}
+use Rattle.agent_machine.proofs.Stored.{next-target}
+use Rattle.agent_calls.specs.Metas.{meta_begun, meta_accepted, meta_ended}
+
+-- what holds at each exit holds of an answer
+pub ok-any : {T E A : Type 0} (r : Result T E) → A → OnOk r A
+ok-any (Ok x) a = a
+ok-any (Err e) a = tt
+
+-- one of two, by whether it is done already
+chosen : {X : Type 0} (done store : Bool) (new old other : X) → store ≡ not done → new ≡ other → cond store new old ≡ cond done old other
+chosen true store new old other is same = ap (λ (b : Bool). cond b new old) is
+chosen false store new old other is same = ap (λ (b : Bool). cond b new old) is ∙ same
+
+some-same : (a b : ℕ) → Some a ≡ Some b → a ≡ b
+some-same a b e = cc
+
+-- a store that was stopped before it wrote anything
+unwritten : (stop : FlashStop) (new : List ℕ) (s : Told) → 12288 ≤ length s.now → WritesBoth {T = Unit {0}} (Err stop) new s s
+unwritten stop new s room = record {
+  keeps = keeps_same 4096 12288 s;
+  between = λ guards quiet image may. inl (
+    inl (block_quiet 1 s image (omega (arith, room)) (quiet_zero s quiet) may.leaves),
+    block_quiet 2 s image (omega (arith, room)) (quiet_one s quiet) may.leaves,
+  );
+  other = λ guards quiet image may. inl (block_quiet 2 s image (omega (arith, room)) (quiet_one s quiet) may.leaves);
+  zero = tt;
+  one = tt;
+  stable = tt;
+}
+
+module _ (f : Fields) (fitting : Fitting f) where
+  abbrev m : Meta
+  m = f.meta.meta
+
+  -- ---- begin
+
+  -- the update bank is made invalid where it isn't
+  pub begin-frees : (flags count : ℕ) (p : Plan) → IsPlanFor f.session m (request.Begin flags count) p
+      → frees p ≡ not (is_invalid (state_at m (target f)))
+  begin-frees flags count plan.Tell asked = absurd asked
+  begin-frees flags count (plan.Begin store) asked = asked ∙ ap (λ (b : ℕ). not (is_invalid (state_at m b))) (next-target f fitting)
+  begin-frees flags count (plan.Open h image o total) asked = absurd asked
+  begin-frees flags count (plan.Write h image at n) asked = absurd asked
+  begin-frees flags count (plan.Read h image at n total) asked = absurd asked
+  begin-frees flags count (plan.Commit h image bit) asked = absurd asked
+  begin-frees flags count plan.End asked = absurd asked
+  begin-frees flags count plan.Cancel asked = absurd asked
+  begin-frees flags count (plan.Accept image store) asked = absurd asked
+  begin-frees flags count plan.Back asked = absurd asked
+
+  module _ (store : Bool) (is : store ≡ not (is_invalid (state_at m (target f)))) where
+    pub begin-stores : IsFalse (is_invalid (state_at m (target f))) → (result : Done) (s t : Told)
+        → StoresIf store result f.layout (meta_planned f.session m (plan.Begin store)) s t
+        → Stores result f.layout (meta_after m (Free (target f))) s t
+    begin-stores used result s t stores =
+        subst (λ (b : ℕ). Stores result f.layout (meta_after m (Free b)) s t) (next-target f fitting)
+        (subst (λ (b : Bool). StoresIf b result f.layout (meta_planned f.session m (plan.Begin b)) s t) (is ∙ ap not used) stores)
+
+    pub begin-keeps : (new : MetaRead) → new ≡ record f.meta { meta = meta_planned f.session m (plan.Begin store) } → new ≡ meta_begun f
+    begin-keeps new planned =
+        planned ∙ ap (λ (x : Meta). record f.meta { meta = x })
+        (chosen (is_invalid (state_at m (target f))) store (meta_after m (Free (next_bank m))) m (meta_after m (Free (target f))) is
+        (ap (λ (b : ℕ). meta_after m (Free b)) (next-target f fitting)))
+
+  -- ---- accept
+
+  module _ (guid : List ℕ) (image : ℕ) (store : Bool) (asked : IsPlanFor f.session m (request.Accept guid) (plan.Accept image store)) (other : ℕ)
+      (found : find_image f.layout.rows guid ≡ Some other) where
+    accept-same : image ≡ other
+    accept-same = some-same image other (sym asked.0 ∙ ap (λ (l : List ImageRow). find_image l guid) fitting.rows ∙ found)
+
+    -- the bit is set where it isn't
+    pub accept-sets : store ≡ not (bit_at m m.active other)
+    accept-sets = asked.1 ∙ ap (λ (i : ℕ). not (bit_at m m.active i)) accept-same
+
+    pub accept-stores : IsFalse (bit_at m m.active other) → (result : Done) (s t : Told)
+        → StoresIf store result f.layout (meta_planned f.session m (plan.Accept image store)) s t
+        → Stores result f.layout (meta_after m (Accept other)) s t
+    accept-stores clear result s t stores =
+        subst (λ (b : Bool). StoresIf b result f.layout (meta_planned f.session m (plan.Accept other b)) s t) (accept-sets ∙ ap not clear)
+        (subst (λ (i : ℕ). StoresIf store result f.layout (meta_planned f.session m (plan.Accept i store)) s t) accept-same stores)
+
+    pub accept-keeps : (new : MetaRead) → new ≡ record f.meta { meta = meta_planned f.session m (plan.Accept image store) } → new ≡ meta_accepted f other
+    accept-keeps new planned =
+        planned ∙ ap (λ (x : Meta). record f.meta { meta = x })
+        (chosen (bit_at m m.active other) store (meta_after m (Accept image)) m (meta_after m (Accept other)) accept-sets
+        (ap (λ (i : ℕ). meta_after m (Accept i)) accept-same))
+
+  -- ---- previous
+
+  -- a read before the store was stopped
+  pub back-stopped : (stop : FlashStop) (s t : Told) → blocks_needed f.layout * 4096 ≤ length s.now → t ≡ s
+      → Stores {T = Unit {0}} (Err stop) f.layout (meta_after m Back) s t
+  back-stopped stop s t room same =
+      subst (λ (u : Told). Stores {T = Unit {0}} (Err stop) f.layout (meta_after m Back) s u) (sym same)
+      (stored (Err stop) f.layout fitting.layout (meta_after m Back) (fits-back f.layout m fitting.meta) s s
+      (unwritten stop _ s (omega (arith, room))))
+
+  -- ---- end
+
+  pub end-keeps : (new : MetaRead) → new ≡ record f.meta { meta = meta_planned f.session m plan.End } → new ≡ meta_ended f
+  end-keeps new planned =
+      planned ∙ ap (λ (b : ℕ). record f.meta { meta = meta_after m (Switch b [] (bits_kept f.session)) }) (next-target f fitting)

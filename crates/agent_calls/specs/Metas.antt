@@ -1,0 +1,27 @@
+-- The metadata that an agent keeps once a call changed it.
+use Rattle.std.specs.Prelude.{ℕ, if◌then◌else◌, []}
+use Rattle.fwu_formats.specs.Metadata.{MetaRead, state_at, bit_at}
+use Rattle.fwu_model.specs.State.{Free, Switch, Accept, Back, is_invalid}
+use Rattle.fwu_model.specs.MoveMetas.{meta_after}
+use Rattle.agent_state.specs.Settles.{bits_kept}
+use Rattle.agent_machine.specs.Fields.{Fields, target}
+
+-- the update bank is invalid
+abbrev pub meta_begun : Fields → MetaRead
+meta_begun f = record f.meta {
+  meta = if is_invalid (state_at f.meta.meta (target f)) then f.meta.meta else meta_after f.meta.meta (Free (target f));
+}
+
+-- an image of the active bank is accepted
+abbrev pub meta_accepted : Fields → ℕ → MetaRead
+meta_accepted f image = record f.meta {
+  meta = if bit_at f.meta.meta f.meta.meta.active image then f.meta.meta else meta_after f.meta.meta (Accept image);
+}
+
+-- the bank that was the previous one is active
+abbrev pub meta_back : Fields → MetaRead
+meta_back f = record f.meta { meta = meta_after f.meta.meta Back }
+
+-- the update bank is active, with the bits of the images that are committed
+abbrev pub meta_ended : Fields → MetaRead
+meta_ended f = record f.meta { meta = meta_after f.meta.meta (Switch (target f) [] (bits_kept f.session)) }
