@@ -10,5 +10,6 @@ pub mod OwnImages
 pub mod Installed
 pub mod WholeSending
 pub mod Taking
+mod Spending
 pub mod Writer
 pub mod ImagesTaking

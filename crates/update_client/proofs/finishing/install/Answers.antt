@@ -1,4 +1,4 @@
-use Rattle.std.proofs.Common.{◌≡◌, false, Err, sym, subst, ◌∙◌}
+use Rattle.std.proofs.Common.{◌≡◌, false, Ok, Err, sym, subst, ◌∙◌}
 use Rattle.std.proofs.lemmas.Result.{on_ok_weaker}
 use Rattle.agent_calls.specs.Shown.{device, moment}
 use Rattle.update_client.specs.declared.stops.SendStop.{SendStop}
@@ -8,6 +8,7 @@ use Rattle.update_client.specs.Finishes.{InstallsImages}
 use Rattle.update_client.specs.Images.{SendsImages}
 use Rattle.update_client.proofs.Installed.{installed, uninstalled, uncancelled, interrupted, unread-is}
 use Rattle.update_client.proofs.ImagesTaking.{install-takes}
+use Rattle.update_client.proofs.Spending.{spent-then, still-spent, stop-spent}
 use Rattle.update_client.proofs.finishing.install.Goals as goal
 
 pub returns-then-not-is_unread-clause-installs : goal.returns-then-not-is_unread-clause-installs
@@ -39,3 +40,25 @@ returns-in-Err-cancel-clause-installs g c =
 pub returns-in-Ok-clause-takes : goal.returns-in-Ok-clause-takes
 returns-in-Ok-clause-takes g c = on_ok_weaker c.finish.result (λ ends. install-takes c.args.entries.now c.args.acceptance (moment c.args.agent.now) _
     (g.D.Flash.arming (device c.send_images.new.agent)) _ c.in-Ok.ensures.takes ends) c.finish.ensures.takes
+
+-- ---- what it spends
+
+pub returns-in-Ok-clause-spent : goal.returns-in-Ok-clause-spent
+returns-in-Ok-clause-spent g c = spent-then _ _ _ _ _ _ _ _ _ _ _ _ _ _ c.in-Ok.ensures.spent c.finish.ensures.spent
+
+pub returns-in-Ok-cancel-clause-spent : goal.returns-in-Ok-cancel-clause-spent
+returns-in-Ok-cancel-clause-spent g c =
+    let is : c.in-Err.stop ≡ ReadFailed = unread-is c.in-Err.stop (sym c.is_unread.ensures ∙ c.if-not-is_unread.false) in
+    let spent = subst (λ (st : SendStop). SpentBy (flash_of {T = Unit {0}} (Err st)) c.args.agent.now c.send_images.new.agent) is c.in-Err.ensures.spent in
+    let e = c.in-Ok-cancel.ensures in
+    spent-then _ _ _ _ _ _ _ _ _ _ _ _ _ _ spent (still-spent (Ok c.in-Ok-cancel.field-0) _ _ _ _ _ g.D.Flash.arming g.D.Flash.counts _ _ spent.gone_is e.goes e.power e.size e.costs e.answers e.still)
+
+pub returns-in-Err-cancel-clause-spent : goal.returns-in-Err-cancel-clause-spent
+returns-in-Err-cancel-clause-spent g c =
+    let is : c.in-Err.stop ≡ ReadFailed = unread-is c.in-Err.stop (sym c.is_unread.ensures ∙ c.if-not-is_unread.false) in
+    let spent = subst (λ (st : SendStop). SpentBy (flash_of {T = Unit {0}} (Err st)) c.args.agent.now c.send_images.new.agent) is c.in-Err.ensures.spent in
+    let e = c.in-Err-cancel.ensures in
+    subst (λ (st : SendStop). SpentBy (flash_of {T = Unit {0}} (Err st)) c.args.agent.now c.cancel.new.self) (sym c.stopped.ensures)
+    (spent-then _ _ _ _ _ _ _ _ _ _ _ _ _ _ spent
+    (stop-spent (Unit {0}) (Unit {0}) c.in-Err-cancel.stop _ _ _ _ _ _ _ _
+    (still-spent {T = Unit {0}} (Err c.in-Err-cancel.stop) _ _ _ _ _ g.D.Flash.arming g.D.Flash.counts _ _ spent.gone_is e.goes e.power e.size e.costs e.answers e.still)))

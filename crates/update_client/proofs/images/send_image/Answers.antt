@@ -1,10 +1,12 @@
-use Rattle.std.proofs.Common.{Err, sym, subst}
+use Rattle.std.proofs.Common.{Err, Ok, ℕ, sym, subst}
 use Rattle.agent_calls.specs.Shown.{device, moment}
 use Rattle.update_client.specs.declared.stops.SendStop.{SendStop}
 use Rattle.update_client.specs.Pieces.{SendsImage}
 use Rattle.update_client.proofs.WrittenPiece.{image-unopened, image-unwritten, image-sent, image-uncommitted}
+use Rattle.update_client.specs.Halts.{SpentBy, flash_of}
 use Rattle.update_client.specs.Takes.{FirstTake}
 use Rattle.update_client.proofs.ImagesTaking.{image-takes}
+use Rattle.update_client.proofs.Spending.{call-spent, spent-then, still-spent, stop-spent}
 use Rattle.update_client.proofs.images.send_image.Goals as goal
 
 pub returns-in-Err-clause-sent : goal.returns-in-Err-clause-sent
@@ -37,3 +39,35 @@ returns-in-Ok-commit-clause-takes g c =
     (subst (λ d. FirstTake c.args.entry.now c.args.entry.now.size (moment c.open.new.self) (g.D.Flash.arming d)
     (g.D.Flash.arming (device c.write_image.new.agent))) c.in-Ok.ensures.still c.in-Ok-write_image.ensures.takes)
     (λ image writes. (c.in-Ok-commit.ensures.spent c.in-Ok-write_image.ensures.spent.gone_is image writes).lowered)
+
+-- ---- what it spends
+
+pub returns-in-Err-clause-spent : goal.returns-in-Err-clause-spent
+returns-in-Err-clause-spent g c =
+    let e = c.in-Err.ensures in
+    subst (λ (st : SendStop). SpentBy (flash_of {T = Unit {0}} (Err st)) c.args.agent.now c.open.new.self) (sym c.stopped.ensures)
+    (stop-spent ℕ (Unit {0}) c.in-Err.stop _ _ _ _ _ _ _ _ (still-spent {T = ℕ} (Err c.in-Err.stop) _ _ _ _ _ g.D.Flash.arming g.D.Flash.counts _ _ c.requires.here e.goes e.power e.size e.costs e.answers e.still))
+
+pub returns-in-Err-write_image-clause-spent : goal.returns-in-Err-write_image-clause-spent
+returns-in-Err-write_image-clause-spent g c =
+    let e = c.in-Ok.ensures in
+    spent-then _ _ _ _ _ _ _ _ _ _ _ _ _ _ (still-spent (Ok c.in-Ok.field-0) _ _ _ _ _ g.D.Flash.arming g.D.Flash.counts _ _ c.requires.here e.goes e.power e.size e.costs e.answers e.still)
+    c.in-Err-write_image.ensures.spent
+
+pub returns-in-Ok-commit-clause-spent : goal.returns-in-Ok-commit-clause-spent
+returns-in-Ok-commit-clause-spent g c =
+    let e = c.in-Ok.ensures in
+    let wrote = c.in-Ok-write_image.ensures.spent in
+    let ends = c.in-Ok-commit.ensures in
+    spent-then _ _ _ _ _ _ _ _ _ _ _ _ _ _ (still-spent (Ok c.in-Ok.field-0) _ _ _ _ _ g.D.Flash.arming g.D.Flash.counts _ _ c.requires.here e.goes e.power e.size e.costs e.answers e.still)
+    (spent-then _ _ _ _ _ _ _ _ _ _ _ _ _ _ wrote (call-spent (Ok c.in-Ok-commit.field-0) _ _ _ _ _ _ _ _ _ wrote.gone_is ends.goes ends.power ends.size ends.costs ends.unarmed))
+
+pub returns-in-Err-commit-clause-spent : goal.returns-in-Err-commit-clause-spent
+returns-in-Err-commit-clause-spent g c =
+    let e = c.in-Ok.ensures in
+    let wrote = c.in-Ok-write_image.ensures.spent in
+    let ends = c.in-Err-commit.ensures in
+    subst (λ (st : SendStop). SpentBy (flash_of {T = Unit {0}} (Err st)) c.args.agent.now c.commit.new.self) (sym c.stopped-in-Err-commit.ensures)
+    (spent-then _ _ _ _ _ _ _ _ _ _ _ _ _ _ (still-spent (Ok c.in-Ok.field-0) _ _ _ _ _ g.D.Flash.arming g.D.Flash.counts _ _ c.requires.here e.goes e.power e.size e.costs e.answers e.still)
+    (spent-then _ _ _ _ _ _ _ _ _ _ _ _ _ _ wrote
+    (stop-spent (Unit {0}) (Unit {0}) c.in-Err-commit.stop _ _ _ _ _ _ _ _ (call-spent {T = Unit {0}} (Err c.in-Err-commit.stop) _ _ _ _ _ _ _ _ _ wrote.gone_is ends.goes ends.power ends.size ends.costs ends.unarmed))))

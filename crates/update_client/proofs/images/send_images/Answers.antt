@@ -1,7 +1,6 @@
 use Rattle.std.proofs.Common.{◌≡◌, ◌<◌, ℕ, List, length, get_or, Ok, Err, Option, refl, ap, subst, ◌∙◌, arith}
 use Rattle.std.proofs.lemmas.List.{get_or_default}
-use Rattle.flash_core.proofs.Costs.{spends_then}
-use Rattle.update_client.proofs.Taking.{still-unarmed, unarmed-then}
+use Rattle.update_client.proofs.Spending.{none-spent, spent-then}
 use Rattle.update_client.proofs.ImagesTaking.{images-take-none, images-take-more, images-take-all}
 use Rattle.host_io.specs.Contents.{Directory}
 use Rattle.fwu_formats.specs.Package.{Entry}
@@ -16,23 +15,7 @@ pub loop-k-init : goal.loop-k-init
 loop-k-init g c = record {
   first = images-none _ _ _ _ _;
   takes = images-take-none c.args.entries.now c.args.acceptance _ _;
-  spent = record {
-    gone_is = c.requires.here;
-    power = c.args.agent.now.power c.requires.here;
-    size = refl;
-    costs =
-        record {
-          faults = omega arith;
-          cuts = omega arith;
-          reached = omega arith;
-          chances = omega arith;
-          made = refl;
-          lost = λ no. absurd cc;
-          failed =
-              λ no. absurd cc;
-        };
-    unarmed = still-unarmed _ _;
-  };
+  spent = none-spent _ _ _ _ _ c.requires.here (c.args.agent.now.power c.requires.here);
   buffer = refl;
   same = refl;
   later = omega arith;
@@ -58,14 +41,7 @@ loop-k-preserved g c =
     record {
       first = images-more _ _ _ _ k below _ (moment c.loop-k.agent) _ before.first image;
       takes = images-take-more _ _ _ _ k _ (moment c.loop-k.agent) _ _ _ below before.first before.takes takes;
-      spent = record {
-        gone_is = c.in-Ok.ensures.spent.gone_is;
-        power = c.in-Ok.ensures.spent.power;
-        size = c.in-Ok.ensures.spent.size
-            ∙ before.spent.size;
-        costs = spends_then (Ok tt) (Ok tt) _ _ _ before.spent.costs c.in-Ok.ensures.spent.costs;
-        unarmed = unarmed-then (Ok tt) _ _ _ _ _ _ before.spent.costs.cuts before.spent.unarmed c.in-Ok.ensures.spent.unarmed;
-      };
+      spent = spent-then (Ok tt) _ _ _ _ _ _ _ _ _ _ _ _ _ before.spent c.in-Ok.ensures.spent;
       buffer = c.in-Ok.ensures.buffer ∙ before.buffer;
       same = c.in-Ok.ensures.same ∙ before.same;
       later = omega (arith, before.later, c.in-Ok.ensures.reads.later);
@@ -93,3 +69,6 @@ returns-clause-sent g c = images-done _ _ _ _ c.loop-k.k _ _ (omega (arith, c.lo
 
 pub returns-clause-takes : goal.returns-clause-takes
 returns-clause-takes g c = images-take-all c.args.entries.now c.args.acceptance c.loop-k.k _ _ _ (omega (arith, c.loop-k-test.false)) c.loop-k.invariant.takes
+
+pub returns-in-Err-clause-spent : goal.returns-in-Err-clause-spent
+returns-in-Err-clause-spent g c = spent-then _ _ _ _ _ _ _ _ _ _ _ _ _ _ c.loop-k.invariant.spent c.in-Err.ensures.spent

@@ -1,7 +1,6 @@
 use Rattle.std.proofs.Common.{Ok, Err, Option, refl, ap, subst, ◌∙◌, arith}
 use Rattle.host_io.specs.Contents.{Directory}
-use Rattle.flash_core.proofs.Costs.{spends_then}
-use Rattle.update_client.proofs.Taking.{still-unarmed, unarmed-then}
+use Rattle.update_client.proofs.Spending.{none-spent, spent-then}
 use Rattle.update_client.proofs.ImagesTaking.{first-takes-none, first-takes-more, first-takes-all}
 use Rattle.fwu_formats.specs.Package.{Entry}
 use Rattle.agent_calls.specs.Shown.{moment}
@@ -19,23 +18,7 @@ loop-at-init g c = record {
   inside = omega arith;
   first = first-none _ _ _ _;
   takes = first-takes-none c.args.entry.now _ _;
-  spent = record {
-    gone_is = c.requires.here;
-    power = c.args.agent.now.power c.requires.here;
-    size = refl;
-    costs =
-        record {
-          faults = omega arith;
-          cuts = omega arith;
-          reached = omega arith;
-          chances = omega arith;
-          made = refl;
-          lost = λ no. absurd cc;
-          failed =
-              λ no. absurd cc;
-        };
-    unarmed = still-unarmed _ _;
-  };
+  spent = none-spent _ _ _ _ _ c.requires.here (c.args.agent.now.power c.requires.here);
   buffer = refl;
   same = refl;
   later = omega arith;
@@ -50,14 +33,7 @@ loop-at-preserved g c =
       inside = omega (arith, wrote.count.2, ap (λ (e : Entry). e.size) c.entry.view_is);
       first = first-more _ _ _ _ _ _ _ before.first c.in-Ok.count wrote;
       takes = first-takes-more _ _ c.args.entry.now _ c.in-Ok.count _ (moment c.loop-at.agent) _ _ _ before.first before.takes c.in-Ok.ensures.takes;
-      spent = record {
-        gone_is = c.in-Ok.ensures.spent.gone_is;
-        power = c.in-Ok.ensures.spent.power;
-        size = c.in-Ok.ensures.spent.size
-            ∙ before.spent.size;
-        costs = spends_then (Ok tt) (Ok tt) _ _ _ before.spent.costs c.in-Ok.ensures.spent.costs;
-        unarmed = unarmed-then (Ok tt) _ _ _ _ _ _ before.spent.costs.cuts before.spent.unarmed c.in-Ok.ensures.spent.unarmed;
-      };
+      spent = spent-then (Ok tt) _ _ _ _ _ _ _ _ _ _ _ _ _ before.spent c.in-Ok.ensures.spent;
       buffer = c.in-Ok.ensures.buffer ∙ before.buffer;
       same = c.in-Ok.ensures.same ∙ before.same;
       later = omega (arith, before.later, c.in-Ok.ensures.reads.later);
@@ -74,3 +50,6 @@ pub returns-clause-takes : goal.returns-clause-takes
 returns-clause-takes g c =
     let size = ap (λ (e : Entry). e.size) c.entry.view_is in
     first-takes-all c.args.entry.now _ _ _ _ (omega (arith, c.loop-at-test.false, c.loop-at.invariant.inside, size)) c.loop-at.invariant.takes
+
+pub returns-in-Err-clause-spent : goal.returns-in-Err-clause-spent
+returns-in-Err-clause-spent g c = spent-then _ _ _ _ _ _ _ _ _ _ _ _ _ _ c.loop-at.invariant.spent c.in-Err.ensures.spent

@@ -1,13 +1,15 @@
-use Rattle.std.proofs.Common.{◌≡◌, ◌++◌, ◌≤◌, ℕ, length, take, drop, Err, sym, ap, subst, ◌∙◌, arith}
+use Rattle.std.proofs.Common.{◌≡◌, ◌++◌, ◌≤◌, ℕ, length, take, drop, Ok, Err, sym, ap, subst, ◌∙◌, arith}
 use Rattle.std.proofs.lemmas.List.{length-take-le, take-append-le, take_all}
 use Rattle.fwu_formats.specs.Package.{Entry, payload}
 use Rattle.slot_writer.specs.Writes.{lowered_by, writes_to_append}
 use Rattle.agent_kept.specs.Kept.{part_at, size_of}
 use Rattle.agent_calls.specs.Shown.{device, fields, moment}
 use Rattle.update_client.specs.declared.stops.SendStop.{SendStop}
+use Rattle.update_client.specs.Halts.{SpentBy, flash_of}
 use Rattle.update_client.specs.Pieces.{WritesPiece}
 use Rattle.update_client.proofs.WrittenPiece.{piece-unread, piece-written, piece-stopped}
 use Rattle.update_client.proofs.ImagesTaking.{piece-takes}
+use Rattle.update_client.proofs.Spending.{call-spent, none-spent, stop-spent}
 use Rattle.update_client.proofs.pieces.write_piece.Goals as goal
 
 pub returns-in-Err-clause-wrote : goal.returns-in-Err-clause-wrote
@@ -54,3 +56,19 @@ returns-in-Ok-write_stream-clause-takes g c =
     piece-takes _ _ _ _ _ (λ image writes.
     (c.in-Ok-write_stream.ensures.spent tt image writes).lowered
     ∙ ap (λ (m : ℕ). lowered_by (writes_to_append (size_of (part_at (fields c.args.agent.now).session image)) m) (g.D.Flash.arming (device c.args.agent.now))) whole)
+
+-- ---- what it spends
+
+pub returns-in-Err-clause-spent : goal.returns-in-Err-clause-spent
+returns-in-Err-clause-spent g c = none-spent _ _ _ _ _ c.requires.here (c.args.agent.now.power c.requires.here)
+
+pub returns-in-Ok-write_stream-clause-spent : goal.returns-in-Ok-write_stream-clause-spent
+returns-in-Ok-write_stream-clause-spent g c =
+    let e = c.in-Ok-write_stream.ensures in
+    call-spent (Ok c.in-Ok-write_stream.field-0) _ _ _ _ _ _ _ _ _ c.requires.here e.goes e.power e.size e.costs e.unarmed
+
+pub returns-in-Err-write_stream-clause-spent : goal.returns-in-Err-write_stream-clause-spent
+returns-in-Err-write_stream-clause-spent g c =
+    let e = c.in-Err-write_stream.ensures in
+    subst (λ (st : SendStop). SpentBy (flash_of {T = ℕ} (Err st)) c.args.agent.now c.write_stream.new.self) (sym c.stopped.ensures)
+    (stop-spent (Unit {0}) ℕ c.in-Err-write_stream.stop _ _ _ _ _ _ _ _ (call-spent {T = Unit {0}} (Err c.in-Err-write_stream.stop) _ _ _ _ _ _ _ _ _ c.requires.here e.goes e.power e.size e.costs e.unarmed))

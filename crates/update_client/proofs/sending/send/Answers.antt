@@ -1,20 +1,26 @@
-use Rattle.std.proofs.Common.{◌≡◌, ◌+◌, ◌^◌, ◌<◌, ◌≤◌, Bool, true, false, List, length, Some, Result, Ok, Err, refl, sym, ap, subst, ◌∙◌, arith, IsFalse}
+use Rattle.std.proofs.Common.{◌≡◌, ◌+◌, ◌^◌, ◌<◌, ◌≤◌, Bool, true, false, List, length, Some, Result, Ok, Err, is_ok, refl, sym, ap, subst, ◌∙◌, arith, IsFalse}
 use Rattle.std.specs.List.{All}
 use Rattle.fwu_formats.specs.Layout.{ImageRow}
 use Rattle.fwu_formats.specs.Package.{Entry}
 use Rattle.fwu_model.specs.Answer.{first_image_fault, skipped}
+use Rattle.flash_core.specs.declared.flash.FlashStop.{FlashStop}
+use Rattle.flash_core.specs.Counts.{Spends, StaysUnarmed}
+use Rattle.flash_core.proofs.Costs.{spends_then}
 use Rattle.agent_machine.specs.declared.stop.Stop.{Stop}
 use Rattle.agent_machine.specs.declared.stop.Stop.TheVariants as stop
 use Rattle.agent_machine.specs.Meets.{GoesBy}
 use Rattle.agent_calls.specs.Shown.{device, fields, moment}
 use Rattle.update_client.specs.declared.stops.SendStop.{SendStop}
 use Rattle.update_client.specs.Choosing.{AreChosen, refused_image}
+use Rattle.update_client.specs.Halts.{flash_of}
 use Rattle.update_client.specs.Finishes.{InstallsImages}
 use Rattle.update_client.specs.Sends.{Sends}
+use Rattle.update_client.specs.declared.stops.Sent.{Sent}
 use Rattle.update_client.specs.Takes.{InstallTakes, blocks_sent}
 use Rattle.agent_machine.proofs.Showing.{shows-some}
 use Rattle.update_client.proofs.Chosen.{chosen_have}
-use Rattle.update_client.proofs.Taking.{takes-some, takes-store, takes-then}
+use Rattle.update_client.proofs.Spending.{unbegun-flash}
+use Rattle.update_client.proofs.Taking.{takes-some, takes-store, takes-then, unarmed-then}
 use Rattle.update_client.proofs.WholeSending.{installs-done, sends-early, sends-unbegun, sends-done, sends-halted, sends-take, switches}
 use Rattle.update_client.proofs.sending.send.Goals as goal
 
@@ -100,3 +106,47 @@ returns-in-Ok-install-clause-spent g c =
     (sends-take (g.H.Files.contents c.args.files.now) c.args.name.now c.args.toc.now c.args.acceptance (g.V.Verifier.passes c.args.verifier.now) (moment agent)
     c.in-Ok.entries (moment c.begin.new.self) (moment c.install.new.agent) (agent.fitting here).layout chosen (c.in-Ok-begin.ensures.meets here)
     begun arming installs))
+
+-- ---- what it costs
+
+pub returns-in-Err-begin-clause-costs : goal.returns-in-Err-begin-clause-costs
+returns-in-Err-begin-clause-costs g c =
+    let agent = c.args.agent.now in
+    let flash = unbegun-flash (Unit {0}) Sent c.in-Err-begin.stop ∙ ap (λ (st : SendStop). flash_of {T = Sent} (Err st)) (sym c.unbegun.ensures) in
+    subst (λ (f : Result (Unit {0}) FlashStop). Spends f (g.D.Flash.counts (device agent)) (g.D.Flash.counts (device c.begin.new.self))) flash c.in-Err-begin.ensures.costs
+
+pub returns-in-Err-begin-clause-power : goal.returns-in-Err-begin-clause-power
+returns-in-Err-begin-clause-power g c = λ here.
+    let flash = unbegun-flash (Unit {0}) Sent c.in-Err-begin.stop ∙ ap (λ (st : SendStop). flash_of {T = Sent} (Err st)) (sym c.unbegun.ensures) in
+    c.in-Err-begin.ensures.power here ∙ ap (λ (f : Result (Unit {0}) FlashStop). is_ok f) flash
+
+pub returns-in-Err-begin-clause-unarmed : goal.returns-in-Err-begin-clause-unarmed
+returns-in-Err-begin-clause-unarmed g c =
+    let agent = c.args.agent.now in
+    let flash = unbegun-flash (Unit {0}) Sent c.in-Err-begin.stop ∙ ap (λ (st : SendStop). flash_of {T = Sent} (Err st)) (sym c.unbegun.ensures) in
+    subst (λ (f : Result (Unit {0}) FlashStop). StaysUnarmed f (g.D.Flash.arming (device agent)) (g.D.Flash.arming (device c.begin.new.self))
+    (g.D.Flash.counts (device agent)) (g.D.Flash.counts (device c.begin.new.self))) flash c.in-Err-begin.ensures.unarmed
+
+pub returns-in-Ok-install-clause-costs : goal.returns-in-Ok-install-clause-costs
+returns-in-Ok-install-clause-costs g c = spends_then (Ok tt) (Ok tt) _ _ _ c.in-Ok-begin.ensures.costs c.in-Ok-install.ensures.spent.costs
+
+pub returns-in-Ok-install-clause-power : goal.returns-in-Ok-install-clause-power
+returns-in-Ok-install-clause-power g c = λ here. c.in-Ok-install.ensures.spent.power
+
+pub returns-in-Ok-install-clause-size : goal.returns-in-Ok-install-clause-size
+returns-in-Ok-install-clause-size g c = c.in-Ok-install.ensures.spent.size ∙ c.in-Ok-begin.ensures.size
+
+pub returns-in-Ok-install-clause-unarmed : goal.returns-in-Ok-install-clause-unarmed
+returns-in-Ok-install-clause-unarmed g c = unarmed-then (Ok tt) _ _ _ _ _ _ c.in-Ok-begin.ensures.costs.cuts c.in-Ok-begin.ensures.unarmed c.in-Ok-install.ensures.spent.unarmed
+
+pub returns-in-Err-install-clause-costs : goal.returns-in-Err-install-clause-costs
+returns-in-Err-install-clause-costs g c = spends_then (Ok tt) (flash_of {T = Sent} (Err c.in-Err-install.stop)) _ _ _ c.in-Ok-begin.ensures.costs c.in-Err-install.ensures.spent.costs
+
+pub returns-in-Err-install-clause-power : goal.returns-in-Err-install-clause-power
+returns-in-Err-install-clause-power g c = λ here. c.in-Err-install.ensures.spent.power
+
+pub returns-in-Err-install-clause-size : goal.returns-in-Err-install-clause-size
+returns-in-Err-install-clause-size g c = c.in-Err-install.ensures.spent.size ∙ c.in-Ok-begin.ensures.size
+
+pub returns-in-Err-install-clause-unarmed : goal.returns-in-Err-install-clause-unarmed
+returns-in-Err-install-clause-unarmed g c = unarmed-then (flash_of {T = Sent} (Err c.in-Err-install.stop)) _ _ _ _ _ _ c.in-Ok-begin.ensures.costs.cuts c.in-Ok-begin.ensures.unarmed c.in-Err-install.ensures.spent.unarmed
