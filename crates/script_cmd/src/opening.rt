@@ -15,7 +15,7 @@ use gpt_core::{GptStop, PlaceFault, Places, Table, WhichTable, places, read_tabl
 use std::alloc::Global;
 
 /// Why a device has no flash to run on.
-#[derive(Clone, Copy, Debug, PartialEq, Eq)]
+#[derive(Clone, Copy)]
 pub enum Unopened {
     /// Its partition table lacks something.
     Lacks(NoTable),

@@ -13,7 +13,7 @@ use script_text::TextLimit;
 use std::alloc::Global;
 
 /// Why a script's text was not read.
-#[derive(Clone, Copy, Debug, PartialEq, Eq)]
+#[derive(Clone, Copy)]
 pub enum SourceStop {
     /// A read failed.
     Failed,
@@ -23,7 +23,7 @@ pub enum SourceStop {
 }
 
 /// Why a file was not read.
-#[derive(Clone, Copy, Debug, PartialEq, Eq)]
+#[derive(Clone, Copy)]
 pub enum FileStop {
     /// A read failed, or no file has the name.
     Failed,
