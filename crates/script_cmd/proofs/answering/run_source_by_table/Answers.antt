@@ -6,6 +6,7 @@ use Rattle.script_cmd.specs.Ways.{not_read, too_long}
 use Rattle.script_cmd.proofs.TableWays.{table-refused, table-starved}
 use Rattle.script_cmd.proofs.TopSources.{none-fails, one-fails}
 use Rattle.script_cmd.proofs.TopWays.{of-told, same-moment}
+use Rattle.script_cmd.proofs.TopPrints.{later, not-done}
 use Rattle.script_cmd.proofs.answering.run_source_by_table.Goals as goal
 
 pub returns-in-Ok-clause-way : goal.returns-in-Ok-clause-way
@@ -44,3 +45,17 @@ returns-in-Err-TooLong-clause-source_count g c = none-fails _ _ _ _ (rw c.in-Err
 
 pub returns-in-Err-NoMemory-clause-source_count : goal.returns-in-Err-NoMemory-clause-source_count
 returns-in-Err-NoMemory-clause-source_count g c = none-fails _ _ _ _ (rw c.in-Err-NoMemory.field-0-is at c.in-Err-NoMemory.ensures.count)
+
+-- ---- what the line of a refusal leaves
+
+pub returns-in-Err-Failed-clause-later_sink : goal.returns-in-Err-Failed-clause-later_sink
+returns-in-Err-Failed-clause-later_sink g c = later _ _ _ _ _ _ _ c.refuse_reading.ensures.prints
+
+pub returns-in-Err-TooLong-clause-later_sink : goal.returns-in-Err-TooLong-clause-later_sink
+returns-in-Err-TooLong-clause-later_sink g c = later _ _ _ _ _ _ _ c.refuse_length.ensures.prints
+
+pub returns-in-Err-Failed-clause-read_to_end : goal.returns-in-Err-Failed-clause-read_to_end
+returns-in-Err-Failed-clause-read_to_end g c zero = absurd (not-done not_read_line 2 _ _ _ _ _ (λ other. absurd (omega arith)) c.refuse_reading.ensures.prints zero)
+
+pub returns-in-Err-TooLong-clause-read_to_end : goal.returns-in-Err-TooLong-clause-read_to_end
+returns-in-Err-TooLong-clause-read_to_end g c zero = absurd (not-done too_long_line 8 _ _ _ _ _ (λ other. absurd (omega arith)) c.refuse_length.ensures.prints zero)

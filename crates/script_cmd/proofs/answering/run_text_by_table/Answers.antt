@@ -5,6 +5,7 @@ use Rattle.script_cmd.specs.declared.done.Note.TheVariants as said
 use Rattle.script_cmd.specs.Ways.{bad_script}
 use Rattle.script_cmd.proofs.TableWays.{table-refused, table-starved}
 use Rattle.script_cmd.proofs.TopWays.{of-script, same-moment}
+use Rattle.script_cmd.proofs.TopPrints.{later}
 use Rattle.script_cmd.proofs.answering.run_text_by_table.Goals as goal
 
 pub returns-in-Err-BadLine-clause-way : goal.returns-in-Err-BadLine-clause-way
@@ -35,3 +36,6 @@ pub returns-in-Err-clause-way : goal.returns-in-Err-clause-way
 returns-in-Err-clause-way g c = λ asked given was are listed asks is told later.
     let e = c.idle-in-Err.ensures in
     table-starved _ _ _ _ _ _ _ _ _ _ asked given _ _ e.no_turns (same-moment g.D.Flash.told g.D.Flash.counts g.D.Flash.arming g.D.Flash.on _ _ e.flash) e.status e.note refl
+
+pub returns-in-Err-BadLine-clause-later : goal.returns-in-Err-BadLine-clause-later
+returns-in-Err-BadLine-clause-later g c = later _ _ _ _ _ _ _ c.refuse_script.ensures.prints

@@ -3,6 +3,7 @@ use Rattle.script_turns.specs.Powered.{moment}
 use Rattle.script_cmd.specs.WaysByTable.{ran}
 use Rattle.script_cmd.proofs.TableWays.{lacked-way, starved-way, stopped-way}
 use Rattle.script_cmd.proofs.TopWays.{ran-told, same-moment}
+use Rattle.script_cmd.proofs.TopPrints.{later}
 use Rattle.script_cmd.proofs.partitioned.run_by_table.Goals as goal
 
 pub returns-in-Ok-clause-way : goal.returns-in-Ok-clause-way
@@ -30,3 +31,9 @@ returns-clause-way g c = λ asked given was are reads told later.
     let opens = rw c.in-Err-NoMemory.field-0-is at c.in-Err-NoMemory.ensures.opens in
     starved-way _ _ _ _ _ _ _ _ _ _ asked given _ _ _ c.args.script reads e.no_turns opens
     (same-moment g.D.Flash.told g.D.Flash.counts g.D.Flash.arming g.D.Flash.on _ _ e.flash) e.status e.note refl
+
+pub returns-in-Err-Lacks-clause-later : goal.returns-in-Err-Lacks-clause-later
+returns-in-Err-Lacks-clause-later g c = later _ _ _ _ _ _ _ c.refuse_table.ensures.prints
+
+pub returns-in-Err-Stopped-clause-later : goal.returns-in-Err-Stopped-clause-later
+returns-in-Err-Stopped-clause-later g c = later _ _ _ _ _ _ _ c.refuse_stop.ensures.prints

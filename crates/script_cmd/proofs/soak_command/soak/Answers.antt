@@ -4,6 +4,7 @@ use Rattle.gen_core.specs.Setup.{is_too_small}
 use Rattle.script_cmd.specs.Soaking.{first_files}
 use Rattle.script_cmd.specs.SoakWays.{too_small}
 use Rattle.script_cmd.proofs.TopWays.{same-moment}
+use Rattle.script_cmd.proofs.TopPrints.{later}
 use Rattle.script_cmd.proofs.soak_command.soak.Goals as goal
 
 pub returns-then-is_too_small-clause-way : goal.returns-then-is_too_small-clause-way
@@ -15,3 +16,6 @@ pub returns-clause-way : goal.returns-clause-way
 returns-clause-way g c given was are good =
     c.format_and_soak.ensures.way c.args.seed given was are good (ap is_too_small (sym c.blocks-2.ensures) ∙ sym c.is_too_small.ensures ∙ c.if-is_too_small.false)
     (c.first_file.ensures.moves_on ∙ ap (register_after 2) c.new-register.ensures) (c.in-Ok.ensures.file ∙ ap first_files c.new-register.ensures)
+
+pub returns-then-is_too_small-clause-later : goal.returns-then-is_too_small-clause-later
+returns-then-is_too_small-clause-later g c = later _ _ _ _ _ _ _ c.refuse.ensures.prints
