@@ -1,12 +1,27 @@
 //! The command set, built for `clap`.
 ghost use Rattle.std.specs.Prelude.{◌≡◌, IfOk, true};
 ghost use Rattle.clap.specs.Faults.{is_simple_and_free};
-ghost use Rattle.clap_words.specs.Words.{IsApp};
+ghost use Rattle.clap.specs.Words.{App, with_rule};
+ghost use Rattle.clap_words.specs.Words.{IsApp, word};
 ghost use Rattle.fip_words.specs.Commands.{capsule_app, change_app, contents_app, create_app, fip_app, info_app, manifest_app, package_app, repackage_app, unpack_app};
 
 use clap::Command;
 use clap_words::{top, with_command, with_option, with_some_words, with_word, with_words};
 use std::alloc::{AllocError, Global};
+
+// The command with two arguments that have to be there.
+fn with_two_words<'a>(
+    alloc: Global,
+    command: Command<'a>,
+    first: &'a str,
+    second: &'a str,
+) -> Result<Command<'a>, AllocError>
+    ensures { (a : App) → IsApp command.entry a
+        → IfOk result (λ c. IsApp c (with_rule (with_rule a (word first.entry.now)) (word second.entry.now))) }
+{
+    let command = with_word(alloc, command, first)?;
+    with_word(alloc, command, second)
+}
 
 fn info_command<'a>(alloc: Global) -> Result<Command<'a>, AllocError>
     ensures { IfOk result (λ c. IsApp c info_app) }
@@ -27,40 +42,35 @@ fn change_command<'a>(alloc: Global, name: &'a str) -> Result<Command<'a>, Alloc
     ensures { IfOk result (λ c. IsApp c (change_app name.entry.now)) }
 {
     let command = with_option(alloc, Command::new(alloc, name), "align")?;
-    let command = with_word(alloc, command, "in")?;
-    let command = with_word(alloc, command, "out")?;
+    let command = with_two_words(alloc, command, "in", "out")?;
     with_some_words(alloc, command, "parts")
 }
 
 fn unpack_command<'a>(alloc: Global) -> Result<Command<'a>, AllocError>
     ensures { IfOk result (λ c. IsApp c unpack_app) }
 {
-    let command = with_word(alloc, Command::new(alloc, "unpack"), "in")?;
-    let command = with_word(alloc, command, "prefix")?;
+    let command = with_two_words(alloc, Command::new(alloc, "unpack"), "in", "prefix")?;
     with_words(alloc, command, "names")
 }
 
 fn manifest_command<'a>(alloc: Global) -> Result<Command<'a>, AllocError>
     ensures { IfOk result (λ c. IsApp c manifest_app) }
 {
-    let command = with_word(alloc, Command::new(alloc, "manifest"), "out")?;
-    let command = with_word(alloc, command, "security")?;
+    let command = with_two_words(alloc, Command::new(alloc, "manifest"), "out", "security")?;
     with_some_words(alloc, command, "rows")
 }
 
 fn capsule_command<'a>(alloc: Global) -> Result<Command<'a>, AllocError>
     ensures { IfOk result (λ c. IsApp c capsule_app) }
 {
-    let command = with_word(alloc, Command::new(alloc, "capsule"), "in")?;
-    with_word(alloc, command, "out")
+    with_two_words(alloc, Command::new(alloc, "capsule"), "in", "out")
 }
 
 fn repackage_command<'a>(alloc: Global) -> Result<Command<'a>, AllocError>
     ensures { IfOk result (λ c. IsApp c repackage_app) }
 {
     let command = with_option(alloc, Command::new(alloc, "package"), "align")?;
-    let command = with_word(alloc, command, "in")?;
-    with_word(alloc, command, "out")
+    with_two_words(alloc, command, "in", "out")
 }
 
 // `fip` with the commands that list, make and change packages.

@@ -5,6 +5,4 @@ use Rattle.fip_words.proofs.commands.change_command.Goals as goal
 pub returns : goal.returns
 returns c =
     let one = rule_added (record { app = c.new.ensures.app; globals = c.new.ensures.local }) c.in_ok-command.ensures in
-    let two = rule_added one c.in_ok-command-2.ensures in
-    let three = rule_added two c.in_ok-command-3.ensures in
-    IfOk-weaker c.with_some_words.result _ _ (λ r h. rule_added three h) c.with_some_words.ensures
+    IfOk-weaker c.with_some_words.result _ _ (λ r h. rule_added (c.in_ok-command-2.ensures _ one) h) c.with_some_words.ensures

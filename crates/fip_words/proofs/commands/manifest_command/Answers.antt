@@ -4,6 +4,5 @@ use Rattle.fip_words.proofs.commands.manifest_command.Goals as goal
 
 pub returns : goal.returns
 returns c =
-    let one = rule_added (record { app = c.new.ensures.app; globals = c.new.ensures.local }) c.in_ok-command.ensures in
-    let two = rule_added one c.in_ok-command-2.ensures in
+    let two = c.in_ok-command.ensures _ (record { app = c.new.ensures.app; globals = c.new.ensures.local }) in
     IfOk-weaker c.with_some_words.result _ _ (λ r h. rule_added two h) c.with_some_words.ensures
