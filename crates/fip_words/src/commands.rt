@@ -56,7 +56,8 @@ fn unpack_command<'a>(alloc: Global) -> Result<Command<'a>, AllocError>
 fn manifest_command<'a>(alloc: Global) -> Result<Command<'a>, AllocError>
     ensures { IfOk result (λ c. IsApp c manifest_app) }
 {
-    let command = with_two_words(alloc, Command::new(alloc, "manifest"), "out", "security")?;
+    let command = with_word(alloc, Command::new(alloc, "manifest"), "out")?;
+    let command = with_word(alloc, command, "security")?;
     with_some_words(alloc, command, "rows")
 }
 

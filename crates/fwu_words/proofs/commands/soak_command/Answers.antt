@@ -1,8 +1,0 @@
-use Rattle.std.proofs.lemmas.Result.{IfOk-weaker}
-use Rattle.clap_words.proofs.CommandLemmas.{rule_added}
-use Rattle.fwu_words.proofs.commands.soak_command.Goals as goal
-
-pub returns : goal.returns
-returns c =
-    let one = rule_added (record { app = c.new.ensures.app; globals = c.new.ensures.local }) c.in_ok-command.ensures in
-    IfOk-weaker c.with_word-2.result _ _ (λ r h. rule_added one h) c.with_word-2.ensures
