@@ -217,7 +217,7 @@ module _ (passes : List ℕ → Bool) (tells : Bool) (files : Option Directory) 
         let t = step.turn in
         let printed = printed-all (line t.call t.reply) (status_by t.reply) status mids takes am are step.prints (ap may_lack zero_is) in
         record {
-          ran = ran-on passes tells files c t journal old mid new from through to off goes.ran goes.on step.turns;
+          ran = ran-on passes tells files c t journal old mid new from through to off goes.ran goes.on step.turns step.fits;
           calls = calls-more script n c t journal goes.calls at step.turns.call_is;
           on = on-more journal t goes.on (on-at-zero t.reply (sym printed.0 ∙ zero_is));
           bytes = λ before is. more-bytes script n c journal t status noted taken mids takes was am are (line t.call t.reply) before (goes.bytes before is) printed.1
@@ -230,7 +230,7 @@ module _ (passes : List ℕ → Bool) (tells : Bool) (files : Option Directory) 
     goes-on off goes at step zero_is = subst (λ (j : List Turn). GoesOn passes tells files script (n + 1) j old new from to taken takes was are) (sym step.kept) (goes-push off goes at step zero_is)
 
     pub ends-ran : old.on ≡ None → GoesOn passes tells files script n journal old mid from through taken mids was am → Steps passes tells files c journal after mid new through to status noted mids takes am are → Ran passes tells files after old new from to
-    ends-ran off goes step = subst (λ (j : List Turn). Ran passes tells files j old new from to) (sym step.kept) (ran-on passes tells files c step.turn journal old mid new from through to off goes.ran goes.on step.turns)
+    ends-ran off goes step = subst (λ (j : List Turn). Ran passes tells files j old new from to) (sym step.kept) (ran-on passes tells files c step.turn journal old mid new from through to off goes.ran goes.on step.turns step.fits)
 
     pub ends-by : GoesOn passes tells files script n journal old mid from through taken mids was am → slice_get script n ≡ Some c → Steps passes tells files c journal after mid new through to status noted mids takes am are → status ≢ 0 → Ended script after status noted
     ends-by goes at step other =

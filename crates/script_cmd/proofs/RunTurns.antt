@@ -26,7 +26,7 @@ use Rattle.fwu_model.proofs.Runs.{runs-grow}
 use Rattle.fwu_model.proofs.Frame.{calm-stays, start-is-calm}
 use Rattle.script_turns.specs.Booted.{BootsFrom}
 use Rattle.agent_machine.specs.Fields.{Fields}
-use Rattle.script_turns.specs.Powered.{Moment, IsSafe, Shows}
+use Rattle.script_turns.specs.Powered.{Fits, Moment, IsSafe, Shows}
 use Rattle.script_turns.specs.Replies.{power_after}
 use Rattle.script_turns.specs.Turning.{Makes, NoneFalls, Turns}
 use Rattle.script_cmd.specs.Running.{Follows, Ran, RunsTo, power_left}
@@ -174,14 +174,16 @@ not-read-around files low was are high other before after not_read = absurd not_
 module _ (passes : List ℕ → Bool) (tells : Bool) (files : Option Directory) where
   -- what a turn does, behind what those before it did
   follows-on : (journal : List Turn) (t : Turn) (old mid new : Moment) (from through to : ℕ) → Follows passes tells files journal old mid from through → Turns passes tells files t.call t mid new through to
-      → Follows passes tells files (journal ++ t ∷ []) old new from to
-  follows-on [] t old mid new from through to (same, none) turned = (
+      → Fits tells new → Follows passes tells files (journal ++ t ∷ []) old new from to
+  follows-on [] t old mid new from through to (same, none) turned fits = (
     new,
     to,
     subst (λ (m : Moment). Turns passes tells files t.call t m new from to) same (subst (λ (k : ℕ). Turns passes tells files t.call t mid new k to) none turned),
+    fits,
     (refl, refl),
   )
-  follows-on (u ∷ turns) t old mid new from through to (next, k, first, rest) turned = (next, k, first, follows-on turns t next mid new k through to rest turned)
+  follows-on (u ∷ turns) t old mid new from through to (next, k, first, is, rest) turned fits =
+      (next, k, first, is, follows-on turns t next mid new k through to rest turned fits)
 
   pub ran-none : (old : Moment) (from : ℕ) → old.on ≡ None → Ran passes tells files [] old old from from
   ran-none old from off = record {
@@ -246,8 +248,9 @@ module _ (passes : List ℕ → Bool) (tells : Bool) (files : Option Directory) 
       ]
 
   pub ran-on : (c : Call) (t : Turn) (journal : List Turn) (old mid new : Moment) (from through to : ℕ) → old.on ≡ None → Ran passes tells files journal old mid from through
-      → IsFalse (list_any (λ (x : Turn). ends_run x.reply) journal) → Turns passes tells files c t mid new through to → Ran passes tells files (journal ++ t ∷ []) old new from to
-  ran-on c t journal old mid new from through to off ran none turned = record {
+      → IsFalse (list_any (λ (x : Turn). ends_run x.reply) journal) → Turns passes tells files c t mid new through to → Fits tells new
+      → Ran passes tells files (journal ++ t ∷ []) old new from to
+  ran-on c t journal old mid new from through to off ran none turned fits = record {
     counts = falls-on old.counts mid.counts new.counts ran.counts turned.counts;
     lost_turns = losses-on t journal old.counts mid.counts new.counts turned.counts turned.lost ran.lost_turns;
     fault_turns = λ u in_it is. elim (Contains-push_cases journal t u in_it) [
@@ -264,7 +267,7 @@ module _ (passes : List ℕ → Bool) (tells : Bool) (files : Option Directory) 
         (made-by (cuts_in journal) old.counts.made mid.counts.made new.counts.made t.call (subst (λ (x : Call). Makes x mid.counts.made new.counts.made) (sym turned.call_is) turned.made) ran.made);
     power = turned.power ∙ ap (λ (b : Bool). power_after b t.reply) ran.power ∙ sym (power-more old.power journal t);
     guard = λ told. turned.guard told ∙ ran.guard told;
-    follows = follows-on journal t old mid new from through to ran.follows (subst (λ (x : Call). Turns passes tells files x t mid new through to) (sym turned.call_is) turned);
+    follows = follows-on journal t old mid new from through to ran.follows (subst (λ (x : Call). Turns passes tells files x t mid new through to) (sym turned.call_is) turned) fits;
     ends = ends-on t journal none;
     run = λ told E start sound files_are no_chance.
         run-on E start c t journal old mid new through to told sound.passes_are files_are ran.counts none turned (λ rose. no_chance (rose-before old.counts.chances mid.counts.chances new.counts.chances ran.counts.chances rose))

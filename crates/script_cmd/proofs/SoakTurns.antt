@@ -58,7 +58,7 @@ module _ (tells : Bool) (one all : Directory) (done : List Call) (c : Call) (jou
       → Ran passes_any tells (Some all) after old new 0 0
   ran-more was s agree off =
       subst (λ (ts : List Turn). Ran passes_any tells (Some all) ts old new 0 0) (sym s.kept)
-      (ran-on passes_any tells (Some all) c s.turn journal old mid new 0 0 0 off was.ran was.none (turns-with passes_any tells one all c s.turn mid new 0 0 agree s.turns))
+      (ran-on passes_any tells (Some all) c s.turn journal old mid new 0 0 0 off was.ran was.none (turns-with passes_any tells one all c s.turn mid new 0 0 agree s.turns) s.fits)
 
   calls-more : GoesSoaking tells all done journal old mid → (s : SoakSteps tells (Some one) c journal after mid new status noted text) → calls_of after ≡ done ++ c ∷ []
   calls-more was s =

@@ -19,7 +19,7 @@ use Rattle.fwu_model.specs.Causes.{FileNotRead, LossesAreCounted, cuts_in, statu
 use Rattle.fwu_model.specs.Wrote.{LacksLast, StopsInLast, may_lack}
 use Rattle.fwu_model.specs.declared.kinds.Note.{Note}
 use Rattle.fwu_model.specs.declared.kinds.Note.TheVariants as note
-use Rattle.script_turns.specs.Powered.{Moment, IsAt, IsSafe}
+use Rattle.script_turns.specs.Powered.{Fits, Moment, IsAt, IsSafe}
 use Rattle.script_turns.specs.Booted.{BootsFrom}
 use Rattle.script_turns.specs.Replies.{power_after}
 use Rattle.script_turns.specs.Turning.{NoneFalls, Turns}
@@ -38,10 +38,12 @@ power_left power [] = power
 power_left power (t ∷ turns) = power_left (power_after power t.reply) turns
 
 -- The turns of a journal, one after the other, from a device and the files' faults to those that they leave.
+-- After each of them an agent that is there fits some machine, on any device.
 abbrev pub Follows : (List ℕ → Bool) → Bool → Option Directory → List Turn → Moment → Moment → ℕ → ℕ → Type 0
 Follows passes tells files [] old new was are = (new ≡ old) × (are ≡ was)
 Follows passes tells files (t ∷ turns) old new was are =
-    (mid : Moment) × (n : ℕ) × Turns passes tells files t.call t old mid was n × Follows passes tells files turns mid new n are
+    (mid : Moment) × (n : ℕ) × Turns passes tells files t.call t old mid was n × Fits tells mid
+    × Follows passes tells files turns mid new n are
 
 -- a flash from which the headline holds: sound, with nothing dirty, and guarded at the front
 pub record StartsSound (E : Setting) (start : State) (passes : List ℕ → Bool)
@@ -96,6 +98,7 @@ pub record Steps (passes : List ℕ → Bool) (tells : Bool) (files : Option Dir
     (taken_before taken_after : Option (List ℕ)) (faults_before faults_after : ℕ) : Type 0 where
   pub turn : Turn
   pub turns : Turns passes tells files c turn old new was are
+  pub fits : Fits tells new
   pub kept : after ≡ before ++ turn ∷ []
   pub prints : Prints (line turn.call turn.reply) (status_by turn.reply) status taken_before taken_after faults_before faults_after
   pub noted_is : noted ≡ note_by turn.reply

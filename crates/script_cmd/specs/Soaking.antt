@@ -18,7 +18,7 @@ use Rattle.gen_core.specs.Line.{Started, is_booted, is_fallback, is_lost, is_sen
 use Rattle.gen_core.specs.Rounds.{soak_rounds}
 use Rattle.gen_core.specs.declared.line.Totals.{Totals}
 use Rattle.gen_core.specs.declared.rounds.Cut.{Cut}
-use Rattle.script_turns.specs.Powered.{Moment}
+use Rattle.script_turns.specs.Powered.{Fits, Moment}
 use Rattle.script_turns.specs.Turning.{Turns}
 use Rattle.script_cmd.specs.Running.{Ran, calls_of}
 use Rattle.script_cmd.specs.Showing.{flash_fault_line}
@@ -96,6 +96,7 @@ pub record SoakSteps (tells : Bool) (files : Option Directory) (c : Call) (befor
     (status : ℕ) (noted : Note) (text : List ℕ) : Type 0 where
   pub turn : Turn
   pub turns : Turns passes_any tells files c turn old new 0 0
+  pub fits : Fits tells new
   pub kept : after ≡ before ++ turn ∷ []
   pub status_is : status ≡ status_by turn.reply
   pub noted_is : noted ≡ note_by turn.reply

@@ -1,4 +1,5 @@
 mod Boots
+mod Fitting
 mod Quiets
 pub mod OffTurns
 pub mod SendTurns

@@ -80,6 +80,10 @@ pub record SameDevice (old new : Moment) : Type 0 where
 abbrev pub kept_at : Bool → Fields → Told → agent.Moment
 kept_at tells f t = record { tells = tells; told = t; fields = f }
 
+-- what the agent keeps fits some machine, where a bank was started
+abbrev pub Fits : Bool → Moment → Type 0
+Fits tells m = (f : Fields) → m.on ≡ Some f → ∥ agent.Showing (kept_at tells f m.told) ∥₁
+
 -- ---- the condition of a run, on a flash that tells its content
 
 -- The one candidate is a state that the agent shows, with the session of the condition, and the flash is ready for it.

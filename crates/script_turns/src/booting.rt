@@ -78,6 +78,7 @@ fn was_booted<D: Flash>(booted: Booted<D>, read: Numbers) -> Turned<D>
 {
     let turn = turn_with(booted_reply(&booted), Some(read));
     let agent = Agent::start(booted);
+    agent.showing();
     Turned {
         turn,
         powered: Powered::On(Live { agent }),

@@ -1,7 +1,8 @@
 //! The flash of a run between two turns.
 ghost use Rattle.std.specs.Prelude.{IsTrue, IsFalse};
 ghost use Rattle.flash_core.specs.Told.{NothingDirty};
-ghost use Rattle.agent_calls.specs.Shown.{gone};
+ghost use Rattle.agent_machine.specs.Moment.{Showing};
+ghost use Rattle.agent_calls.specs.Shown.{gone, moment};
 
 use agent_calls::Agent;
 use flash_core::Flash;
@@ -14,11 +15,12 @@ pub struct Fresh<D: Flash> {
     ghost clean: { IsTrue D.tells → NothingDirty (D.told flash) },
 }
 
-/// A flash on which a bank was started, with its agent, which no stop of the flash has ended.
+/// A flash on which a bank was started, with its agent, which no stop of the flash has ended, and which shows some machine.
 #[derive(Drop)]
 pub struct Live<D: Flash> {
     pub agent: Agent<D>,
     ghost here: { IsFalse (gone agent) },
+    ghost shows: { ∥ Showing (moment agent) ∥₁ },
 }
 
 /// A flash between two turns: off, or on before the first boot, or on with a bank that was started.

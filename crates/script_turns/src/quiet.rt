@@ -79,6 +79,7 @@ fn arm<D: Flash>(powered: Powered<D>, n: u32, k: u32) -> Powered<D>
         Powered::On(live) => {
             let mut agent = live.agent;
             agent.arm(n, k);
+            agent.showing();
             Powered::On(Live { agent })
         }
     }

@@ -38,6 +38,7 @@ pub(crate) fn answered<D: Flash>(agent: Agent<D>, call: Call, answer: Reply) -> 
     ensures has { has_power result.powered ≡ true }
     ensures device { device result.powered ≡ agent_device agent }
 {
+    agent.showing();
     Turned {
         turn: turn_of(call, answer),
         powered: Powered::On(Live { agent }),

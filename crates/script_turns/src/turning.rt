@@ -6,7 +6,7 @@ ghost use Rattle.fwu_journal.specs.Shown.{IsShort, turn};
 ghost use Rattle.script_text.specs.Armable.{IsArmable};
 ghost use Rattle.script_text.specs.Shown.{HasBuffer, shown};
 ghost use Rattle.script_turns.specs.Needs.{needs_bank};
-ghost use Rattle.script_turns.specs.Powered.{device, has_power, moment_of, shown_on};
+ghost use Rattle.script_turns.specs.Powered.{Fits, device, has_power, moment_of, shown_on};
 ghost use Rattle.script_turns.specs.Sending.{LacksSent};
 ghost use Rattle.script_turns.specs.Turning.{Turns};
 
@@ -82,6 +82,8 @@ pub fn turn<D: Flash, H: Files, V: Verifier>(
     ensures turns { Turns (V.passes verifier.now) D.tells (H.contents files.old) (shown call)
         (turn result.turn) (moment_of powered) (moment_of result.powered)
         (H.faults files.old) (H.faults files.new) }
+    // On any device: an agent that is there fits some machine.
+    ensures fits { Fits D.tells (moment_of result.powered) }
     // Where the run goes on.
     ensures powered { IsFalse (ends_run (turn result.turn).reply)
         → D.on (device result.powered) ≡ has_power result.powered }

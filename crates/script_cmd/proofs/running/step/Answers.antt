@@ -7,6 +7,7 @@ pub returns-clause-steps : goal.returns-clause-steps
 returns-clause-steps g c = record {
   turn = turn c.turn-next.result.turn;
   turns = c.turn-next.ensures.turns;
+  fits = c.turn-next.ensures.fits;
   kept = c.add.ensures.adds;
   prints = c.print_turn-end.ensures.prints;
   noted_is = c.print_turn-end.ensures.noted;

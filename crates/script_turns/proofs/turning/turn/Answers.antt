@@ -4,6 +4,7 @@ use Rattle.fwu_journal.specs.Shown.{turn}
 use Rattle.script_text.specs.Shown.{shown}
 use Rattle.script_turns.specs.Powered.{moment_of}
 use Rattle.script_turns.specs.Turning.{Turns}
+use Rattle.script_turns.proofs.Fitting.{fitting}
 use Rattle.script_turns.proofs.turning.turn.Goals as goal
 
 pub returns-in-Boot-clause-turns : goal.returns-in-Boot-clause-turns
@@ -28,3 +29,12 @@ returns-in-Cut-clause-turns g c =
     let faults = g.H.Files.faults c.args.files.now in
     subst (λ (what : Call). Turns passes g.D.Flash.tells files what (turn c.cut_turn.result.turn) (moment_of c.args.powered)
     (moment_of c.cut_turn.result.powered) faults faults) (sym (ap shown c.in-Cut.is)) (c.cut_turn.ensures.turns passes files faults)
+
+pub returns-in-Boot-clause-fits : goal.returns-in-Boot-clause-fits
+returns-in-Boot-clause-fits g c = fitting c.boot_turn.result.powered
+
+pub returns-in-Show-clause-fits : goal.returns-in-Show-clause-fits
+returns-in-Show-clause-fits g c = fitting c.show_turn.result.powered
+
+pub returns-in-Cut-clause-fits : goal.returns-in-Cut-clause-fits
+returns-in-Cut-clause-fits g c = fitting c.cut_turn.result.powered
