@@ -1,3 +1,4 @@
+pub mod ArgumentLemmas
 pub mod PlainWords
 pub mod Unpacked
 pub mod Distinct

@@ -1,8 +1,0 @@
-use Rattle.std.proofs.lemmas.Result.{IfOk-weaker}
-use Rattle.clap_words.proofs.CommandLemmas.{rule_added}
-use Rattle.fip_words.proofs.commands.unpack_command.Goals as goal
-
-pub returns : goal.returns
-returns c =
-    let two = c.in_ok-command.ensures _ (record { app = c.new.ensures.app; globals = c.new.ensures.local }) in
-    IfOk-weaker c.with_words.result _ _ (λ r h. rule_added two h) c.with_words.ensures

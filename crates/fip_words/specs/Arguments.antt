@@ -1,0 +1,25 @@
+-- The arguments of a command, as they are listed.
+use Rattle.std.specs.Prelude.{◌≡◌, List, [], ◌∷◌}
+use Rattle.clap.specs.Words.{App, Rule, app_of, with_rule}
+use Rattle.clap.specs.declared.builder.Command.{Command}
+use Rattle.clap.specs.declared.builder.Command.TheViews.{out-Command}
+use Rattle.clap_words.specs.Words.{option, some_words, word, words}
+use Rattle.fip_words.specs.declared.commands.Argument.{Argument}
+use Rattle.fip_words.specs.declared.commands.Argument.TheVariants.{Setting, Word, Words, SomeWords}
+
+-- what `clap` sees of an argument
+abbrev pub argument_rule : Argument → Rule
+argument_rule (Setting id) = option id.now
+argument_rule (Word id) = word id.now
+argument_rule (Words id) = words id.now
+argument_rule (SomeWords id) = some_words id.now
+
+-- with each of these arguments, in this order
+abbrev pub with_rules : App → List Argument → App
+with_rules a [] = a
+with_rules a (argument ∷ arguments) = with_rules (with_rule a (argument_rule argument)) arguments
+
+-- `new` is `old` with these arguments
+pub record AddsArguments (old new : Command) (arguments : List Argument) : Type 0 where
+  pub app : app_of new ≡ with_rules (app_of old) arguments
+  pub globals : (out-Command new).has_globals ≡ (out-Command old).has_globals
