@@ -9,49 +9,49 @@ use Rattle.fip_words.specs.Values.{file_named, names_of, number_read, parts_of, 
 
 info_taken : (a : Text) → IsNoFlag a → asked (codes "info" ∷ a ∷ []) ≡ info_by (file_named a)
 unfolding clap_on_literals
-info_taken a p = simp (p.long, p.short, p.dashes)
+info_taken a p = rw (p.long, p.short, p.dashes) refl
 
 create_taken : (a b : Text) → IsNoFlag a → IsNoFlag b → asked (codes "create" ∷ a ∷ b ∷ []) ≡ create_by (Some 1) (file_named a) (parts_of (b ∷ []))
 unfolding clap_on_literals
-create_taken a b p q = simp (p.long, p.short, p.dashes) (simp (q.long, q.short, q.dashes))
+create_taken a b p q = rw (p.long, p.short, p.dashes, q.long, q.short, q.dashes) refl
 
 aligned_taken : (n a b : Text) → IsNoFlag n → IsNoFlag a → IsNoFlag b
     → asked (codes "create" ∷ codes "--align" ∷ n ∷ a ∷ b ∷ []) ≡ create_by (number_read n) (file_named a) (parts_of (b ∷ []))
 unfolding clap_on_literals
-aligned_taken n a b o p q = simp (o.long, o.short, o.dashes) (simp (p.long, p.short, p.dashes) (rw (q.long, q.short, q.dashes) refl))
+aligned_taken n a b o p q = rw (o.long, o.short, o.dashes, p.long, p.short, p.dashes, q.long, q.short, q.dashes) refl
 
 update_taken : (a b c : Text) → IsNoFlag a → IsNoFlag b → IsNoFlag c
     → asked (codes "update" ∷ a ∷ b ∷ c ∷ []) ≡ update_by (Some 1) (file_named a) (file_named b) (parts_of (c ∷ []))
 unfolding clap_on_literals
-update_taken a b c o p q = simp (o.long, o.short, o.dashes) (simp (p.long, p.short, p.dashes) (rw (q.long, q.short, q.dashes) refl))
+update_taken a b c o p q = rw (o.long, o.short, o.dashes, p.long, p.short, p.dashes, q.long, q.short, q.dashes) refl
 
 remove_taken : (a b c : Text) → IsNoFlag a → IsNoFlag b → IsNoFlag c
     → asked (codes "remove" ∷ a ∷ b ∷ c ∷ []) ≡ remove_by (Some 1) (file_named a) (file_named b) (names_of (c ∷ []))
 unfolding clap_on_literals
-remove_taken a b c o p q = simp (o.long, o.short, o.dashes) (simp (p.long, p.short, p.dashes) (rw (q.long, q.short, q.dashes) refl))
+remove_taken a b c o p q = rw (o.long, o.short, o.dashes, p.long, p.short, p.dashes, q.long, q.short, q.dashes) refl
 
 unpack_taken : (a b c : Text) → IsNoFlag a → IsNoFlag b → IsNoFlag c
     → asked (codes "unpack" ∷ a ∷ b ∷ c ∷ []) ≡ unpack_by (file_named a) (file_named b) (names_of (c ∷ []))
 unfolding clap_on_literals
-unpack_taken a b c o p q = simp (o.long, o.short, o.dashes) (simp (p.long, p.short, p.dashes) (rw q.long (rw q.short (rw q.dashes refl))))
+unpack_taken a b c o p q = rw (o.long, o.short, o.dashes, p.long, p.short, p.dashes, q.long, q.short, q.dashes) refl
 
 manifest_taken : (a b c : Text) → IsNoFlag a → IsNoFlag b → IsNoFlag c
     → asked (codes "manifest" ∷ a ∷ b ∷ c ∷ []) ≡ manifest_by (file_named a) (number_read b) (rows_of (c ∷ []))
 unfolding clap_on_literals
-manifest_taken a b c o p q = simp (o.long, o.short, o.dashes) (simp (p.long, p.short, p.dashes) (rw (q.long, q.short, q.dashes) refl))
+manifest_taken a b c o p q = rw (o.long, o.short, o.dashes, p.long, p.short, p.dashes, q.long, q.short, q.dashes) refl
 
 capsule_taken : (a b : Text) → IsNoFlag a → IsNoFlag b → asked (codes "capsule" ∷ a ∷ b ∷ []) ≡ capsule_by (file_named a) (file_named b)
 unfolding clap_on_literals
-capsule_taken a b p q = simp (p.long, p.short, p.dashes) (rw (q.long, q.short, q.dashes) refl)
+capsule_taken a b p q = rw (p.long, p.short, p.dashes, q.long, q.short, q.dashes) refl
 
 package_taken : (a b : Text) → IsNoFlag a → IsNoFlag b → asked (codes "package" ∷ a ∷ b ∷ []) ≡ repackage_by (Some 1) (file_named a) (file_named b)
 unfolding clap_on_literals
-package_taken a b p q = simp (p.long, p.short, p.dashes) (rw (q.long, q.short, q.dashes) refl)
+package_taken a b p q = rw (p.long, p.short, p.dashes, q.long, q.short, q.dashes) refl
 
 aligned_package_taken : (n a b : Text) → IsNoFlag n → IsNoFlag a → IsNoFlag b
     → asked (codes "package" ∷ codes "--align" ∷ n ∷ a ∷ b ∷ []) ≡ repackage_by (number_read n) (file_named a) (file_named b)
 unfolding clap_on_literals
-aligned_package_taken n a b o p q = simp (o.long, o.short, o.dashes) (simp (p.long, p.short, p.dashes) (rw (q.long, q.short, q.dashes) refl))
+aligned_package_taken n a b o p q = rw (o.long, o.short, o.dashes, p.long, p.short, p.dashes, q.long, q.short, q.dashes) refl
 
 pub plain_info : (a : Text) → IsPlain a → asked (codes "info" ∷ a ∷ []) ≡ info_by (file_named a)
 plain_info a p = info_taken a (plain_is_no_flag a p)
