@@ -14,7 +14,7 @@ use std::alloc::Global;
 use words_core::is_word;
 
 /// What the words of `fip` ask for. Files are named as they stand in the words.
-#[derive(Debug, Drop)]
+#[derive(Drop)]
 pub enum FipOrder<'a> {
     /// Lists a package.
     Info {
