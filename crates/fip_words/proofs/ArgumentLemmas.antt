@@ -1,11 +1,12 @@
--- A command with each of its arguments.
+-- A command with each of its arguments, and a program with each of its commands.
 use Rattle.std.proofs.Common.{◌≡◌, ◌∙◌, ◌<◌, ◌≤◌, ◌+◌, ℕ, List, length, drop, get_or, add-one, ap, sym, drop-cons}
 use Rattle.std.proofs.lemmas.List.{drop_all}
 use Rattle.clap.specs.Words.{App, app_of}
 use Rattle.clap.specs.declared.builder.Command.{Command}
-use Rattle.clap_words.specs.Words.{AddsRule, IsApp}
+use Rattle.clap_words.specs.Words.{AddsRule, IsApp, with_leaf}
 use Rattle.fip_words.specs.declared.commands.Argument.{Argument}
-use Rattle.fip_words.specs.Arguments.{AddsArguments, argument_rule, with_rules}
+use Rattle.fip_words.specs.declared.commands.Leaf.{Leaf}
+use Rattle.fip_words.specs.Arguments.{AddsArguments, argument_rule, leaf_app, with_leaves, with_rules}
 
 module _ (arguments : List Argument) (i : ℕ) where
   -- one more is added
@@ -29,3 +30,16 @@ arguments_added {arguments = arguments} is adds = record {
   app = adds.app ∙ ap (λ (x : App). with_rules x arguments) is.app;
   globals = adds.globals ∙ is.globals;
 }
+
+module _ (leaves : List Leaf) (i : ℕ) where
+  -- one more is below it
+  pub next_below : (d : Leaf) (first before : App) → i < length leaves
+      → with_leaves before (drop i leaves) ≡ with_leaves first leaves
+      → with_leaves (with_leaf before (leaf_app (get_or leaves i d))) (drop (i + 1) leaves) ≡ with_leaves first leaves
+  next_below d first before within so_far =
+      rw add-one (ap (with_leaves before) (sym (drop-cons leaves i d within)) ∙ so_far)
+
+  -- all are below it
+  pub all_below : (first last : App) → length leaves ≤ i → with_leaves last (drop i leaves) ≡ with_leaves first leaves
+      → last ≡ with_leaves first leaves
+  all_below first last past so_far = ap (with_leaves last) (sym (drop_all i leaves past)) ∙ so_far

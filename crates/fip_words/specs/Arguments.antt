@@ -1,10 +1,11 @@
--- The arguments of a command, as they are listed.
+-- The commands of a program and their arguments, as they are listed.
 use Rattle.std.specs.Prelude.{◌≡◌, List, [], ◌∷◌}
-use Rattle.clap.specs.Words.{App, Rule, app_of, with_rule}
+use Rattle.clap.specs.Words.{App, Rule, app_of, new_app, with_rule}
 use Rattle.clap.specs.declared.builder.Command.{Command}
 use Rattle.clap.specs.declared.builder.Command.TheViews.{out-Command}
-use Rattle.clap_words.specs.Words.{option, some_words, word, words}
+use Rattle.clap_words.specs.Words.{option, some_words, with_leaf, word, words}
 use Rattle.fip_words.specs.declared.commands.Argument.{Argument}
+use Rattle.fip_words.specs.declared.commands.Leaf.{Leaf}
 use Rattle.fip_words.specs.declared.commands.Argument.TheVariants.{Setting, Word, Words, SomeWords}
 
 -- what `clap` sees of an argument
@@ -23,3 +24,11 @@ with_rules a (argument ∷ arguments) = with_rules (with_rule a (argument_rule a
 pub record AddsArguments (old new : Command) (arguments : List Argument) : Type 0 where
   pub app : app_of new ≡ with_rules (app_of old) arguments
   pub globals : (out-Command new).has_globals ≡ (out-Command old).has_globals
+
+-- a command of its own, and a program with each of these below it
+abbrev pub leaf_app : Leaf → App
+leaf_app leaf = with_rules (new_app leaf.name.now) leaf.arguments.now
+
+abbrev pub with_leaves : App → List Leaf → App
+with_leaves a [] = a
+with_leaves a (leaf ∷ leaves) = with_leaves (with_leaf a (leaf_app leaf)) leaves

@@ -1,10 +1,10 @@
 //! The command set, built for `clap`.
 ghost use Rattle.std.specs.Prelude.{◌≡◌, IfOk, true};
 ghost use Rattle.clap.specs.Faults.{is_simple_and_free};
-ghost use Rattle.clap.specs.Words.{App, new_app};
-ghost use Rattle.clap_words.specs.Words.{AddsRule, IsApp, with_leaf};
-ghost use Rattle.fip_words.specs.Arguments.{AddsArguments, argument_rule, with_rules};
-ghost use Rattle.fip_words.specs.Commands.{fip_app, package_app};
+ghost use Rattle.clap.specs.Words.{App};
+ghost use Rattle.clap_words.specs.Words.{AddsRule, IsApp};
+ghost use Rattle.fip_words.specs.Arguments.{AddsArguments, argument_rule, with_leaves};
+ghost use Rattle.fip_words.specs.Commands.{fip_app};
 
 use clap::Command;
 use clap_words::{top, with_command, with_option, with_some_words, with_word, with_words};
@@ -21,6 +21,13 @@ enum Argument<'a> {
     Words(&'a str),
     /// One word or more.
     SomeWords(&'a str),
+}
+
+/// A command below its program.
+#[derive(Clone, Copy)]
+struct Leaf<'a> {
+    name: &'a str,
+    arguments: &'a [Argument<'a>],
 }
 
 // The command with one more argument.
@@ -53,19 +60,20 @@ fn with_arguments<'a>(
     Ok(command)
 }
 
-// The command with one more below it, of this name and with these arguments.
-fn and_command<'a>(
+// The command with each of these below it.
+fn with_leaves<'a>(
     alloc: Global,
-    command: Result<Command<'a>, AllocError>,
-    name: &'a str,
-    arguments: &[Argument<'a>],
+    mut command: Command<'a>,
+    leaves: &[Leaf<'a>],
 ) -> Result<Command<'a>, AllocError>
-    ensures { (a : App) → IfOk command.entry (λ c. IsApp c a)
-        → IfOk result (λ c. IsApp c (with_leaf a (with_rules (new_app name.entry.now) arguments.now))) }
+    ensures { (a : App) → IsApp command.entry a
+        → IfOk result (λ c. IsApp c (with_leaves a leaves.now)) }
 {
-    let command = command?;
-    let leaf = with_arguments(alloc, Command::new(alloc, name), arguments);
-    with_command(command, leaf)
+    for leaf in leaves {
+        let below = with_arguments(alloc, Command::new(alloc, leaf.name), leaf.arguments);
+        command = with_command(command, below)?;
+    }
+    Ok(command)
 }
 
 const INFO: [Argument<'static>; 1] = [Argument::Word("file")];
@@ -104,26 +112,46 @@ const PACKAGE: [Argument<'static>; 3] = [
     Argument::Word("out"),
 ];
 
-// `fip` with the commands that list, make and change packages.
-fn package_commands<'a>(alloc: Global) -> Result<Command<'a>, AllocError>
-    ensures { IfOk result (λ c. IsApp c package_app) }
-{
-    let command = Ok(top(alloc, "fip"));
-    let command = and_command(alloc, command, "info", &INFO);
-    let command = and_command(alloc, command, "create", &CREATE);
-    let command = and_command(alloc, command, "update", &CHANGE);
-    and_command(alloc, command, "remove", &CHANGE)
-}
+const COMMANDS: [Leaf<'static>; 8] = [
+    Leaf {
+        name: "info",
+        arguments: &INFO,
+    },
+    Leaf {
+        name: "create",
+        arguments: &CREATE,
+    },
+    Leaf {
+        name: "update",
+        arguments: &CHANGE,
+    },
+    Leaf {
+        name: "remove",
+        arguments: &CHANGE,
+    },
+    Leaf {
+        name: "unpack",
+        arguments: &UNPACK,
+    },
+    Leaf {
+        name: "manifest",
+        arguments: &MANIFEST,
+    },
+    Leaf {
+        name: "capsule",
+        arguments: &CAPSULE,
+    },
+    Leaf {
+        name: "package",
+        arguments: &PACKAGE,
+    },
+];
 
 /// `fip` with its eight commands.
 pub fn fip_command<'a>(alloc: Global) -> Result<Command<'a>, AllocError>
     ensures { IfOk result (λ c. IsApp c fip_app) }
 {
-    let command = package_commands(alloc);
-    let command = and_command(alloc, command, "unpack", &UNPACK);
-    let command = and_command(alloc, command, "manifest", &MANIFEST);
-    let command = and_command(alloc, command, "capsule", &CAPSULE);
-    and_command(alloc, command, "package", &PACKAGE)
+    with_leaves(alloc, top(alloc, "fip"), &COMMANDS)
 }
 
 /// The command set is one of those that `clap`'s exact clauses are about.
