@@ -9,12 +9,12 @@ use Rattle.fwu_words.specs.Values.{banks_of, file_named, number_read, rows_of}
 
 format_taken : (a b : Text) → IsNoFlag a → IsNoFlag b → asked (codes "format" ∷ a ∷ b ∷ []) ≡ format_by (Some 2) (rows_of a) (file_named b)
 unfolding clap_on_literals
-format_taken a b p q = simp (p.long, p.short, p.dashes) (simp (q.long, q.short, q.dashes))
+format_taken a b p q = rw (p.long, p.short, p.dashes, q.long, q.short, q.dashes) refl
 
 banks_taken : (n a b : Text) → IsNoFlag n → IsNoFlag a → IsNoFlag b
     → asked (codes "format" ∷ codes "--banks" ∷ n ∷ a ∷ b ∷ []) ≡ format_by (banks_of (Some n)) (rows_of a) (file_named b)
 unfolding clap_on_literals
-banks_taken n a b o p q = simp (o.long, o.short, o.dashes) (simp (p.long, p.short, p.dashes) (rw (q.long, q.short, q.dashes) refl))
+banks_taken n a b o p q = rw (o.long, o.short, o.dashes, p.long, p.short, p.dashes, q.long, q.short, q.dashes) refl
 
 pub plain_format : (a b : Text) → IsPlain a → IsPlain b → asked (codes "format" ∷ a ∷ b ∷ []) ≡ format_by (Some 2) (rows_of a) (file_named b)
 plain_format a b p q = format_taken a b (plain_is_no_flag a p) (plain_is_no_flag b q)
@@ -25,15 +25,15 @@ plain_banks n a b o p q = banks_taken n a b (plain_is_no_flag n o) (plain_is_no_
 
 soak_taken : (s n : Text) → IsNoFlag s → IsNoFlag n → asked (codes "soak" ∷ s ∷ n ∷ []) ≡ soak_by (number_read s) (number_read n)
 unfolding clap_on_literals
-soak_taken s n p q = simp (p.long, p.short, p.dashes) (simp (q.long, q.short, q.dashes))
+soak_taken s n p q = rw (p.long, p.short, p.dashes, q.long, q.short, q.dashes) refl
 
 seed_refused : (s : Text) → IsNoFlag s → asked (codes "soak" ∷ s ∷ []) ≡ None
 unfolding clap_on_literals
-seed_refused s p = simp (p.long, p.short, p.dashes)
+seed_refused s p = rw (p.long, p.short, p.dashes) refl
 
 third_refused : (s n t : Text) → IsNoFlag s → IsNoFlag n → IsNoFlag t → asked (codes "soak" ∷ s ∷ n ∷ t ∷ []) ≡ None
 unfolding clap_on_literals
-third_refused s n t p q r = simp (p.long, p.short, p.dashes) (simp (q.long, q.short, q.dashes) (rw (r.long, r.short, r.dashes) refl))
+third_refused s n t p q r = rw (p.long, p.short, p.dashes, q.long, q.short, q.dashes, r.long, r.short, r.dashes) refl
 
 pub plain_soak : (s n : Text) → IsPlain s → IsPlain n → asked (codes "soak" ∷ s ∷ n ∷ []) ≡ soak_by (number_read s) (number_read n)
 plain_soak s n p q = soak_taken s n (plain_is_no_flag s p) (plain_is_no_flag n q)
