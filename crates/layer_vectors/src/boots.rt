@@ -7,13 +7,23 @@ use flash_devices::MemoryFlash;
 use std::process::Abort;
 use verify_core::AnyManifest;
 
-// Whether the boot ends by a fault, with no numbers and the power gone.
-fn faults(rt: &impl Abort, flash: MemoryFlash) -> bool {
-    holds(rt, flash.is_on(), "power is on");
-    match boot(flash, &AnyManifest) {
+// Whether a boot ended by a fault, with no numbers and the power gone.
+fn is_fault(end: &BootEnd<MemoryFlash>) -> bool {
+    match end {
         BootEnd::Fault(flash, None) => !flash.is_on(),
         _ => false,
     }
+}
+
+// How a boot ends. What it promises is left out, so that goals stay small.
+fn booted(rt: &impl Abort, flash: MemoryFlash) -> BootEnd<MemoryFlash> {
+    holds(rt, flash.is_on(), "power is on");
+    boot(flash, &AnyManifest)
+}
+
+fn faults(rt: &impl Abort, flash: MemoryFlash) -> bool {
+    let end = booted(rt, flash);
+    is_fault(&end)
 }
 
 #[test]

@@ -1,13 +1,16 @@
 //! A flash over a file: of the system, in memory, at a cursor, with short writes, torn in mid-stream, and broken. Block 3 begins at
 //! byte 12288.
 
-use crate::fixtures::{arm, erase, gives, holds, image, only, power_on, put, read, same};
+use crate::fixtures::{
+    are_numbers, arm, ends, erase, gives, holds, image, only, power_on, put, read, removed, same,
+};
 use flash_core::{Flash, FlashStop};
 use flash_devices::{ByteFile, FileFlash, FlashOpenFault, MemoryFile};
 use std::alloc::Global;
 use std::fs::{self, File};
 use std::io::{self, Cursor, ErrorKind, Read, Seek, SeekFrom, Write};
 use std::process::Abort;
+use std::rt::Files;
 
 // A device over a file, on.
 fn switched_on<F: ByteFile + Drop>(rt: &impl Abort, file: F) -> FileFlash<F> {
@@ -16,43 +19,57 @@ fn switched_on<F: ByteFile + Drop>(rt: &impl Abort, file: F) -> FileFlash<F> {
     flash
 }
 
-// Programs a granule behind the first blocks of a device of eight.
-fn program<F: ByteFile>(
+// What becomes of a program of a granule of this byte, behind the first blocks of a device of eight.
+fn programs<F: ByteFile>(
     rt: &impl Abort,
     flash: &mut FileFlash<F>,
     at: u32,
-    bytes: &[u8; 16],
-) -> Result<(), FlashStop> {
+    byte: u8,
+    wanted: Result<(), FlashStop>,
+) {
     holds(rt, flash.is_on() && flash.blocks() == 8, "it is ready");
     holds(rt, at >= 12_288 && at <= 28_672 && at % 16 == 0, "a place");
-    flash.program(at, bytes)
+    ends(rt, flash.program(at, &[byte; 16]), wanted);
 }
 
-fn barrier<F: ByteFile>(rt: &impl Abort, flash: &mut FileFlash<F>) -> Result<(), FlashStop> {
+fn settles<D: Flash>(rt: &impl Abort, flash: &mut D, wanted: Result<(), FlashStop>) {
     holds(rt, flash.is_on(), "power is on");
-    flash.barrier()
+    ends(rt, flash.barrier(), wanted);
+}
+
+fn erases<D: Flash>(rt: &impl Abort, flash: &mut D, block: u32, wanted: Result<(), FlashStop>) {
+    ends(rt, erase(rt, flash, block), wanted);
+}
+
+// A granule of sevens is settled and read, and a loss is armed.
+fn settled<D: Flash>(rt: &impl Abort, flash: &mut D) {
+    settles(rt, flash, Ok(()));
+    let wanted = [0xFF, 7, 7, 7, 7, 7, 7, 7, 7, 7, 7, 7, 7, 7, 7, 7, 7, 0xFF];
+    gives(rt, flash, 12303, &wanted);
+    arm(rt, flash, 2, 3);
 }
 
 // Writes two granules of block 3, and loses power within a third one.
 fn programmed<F: ByteFile>(rt: &impl Abort, flash: &mut FileFlash<F>) {
-    same(rt, program(rt, flash, 12304, &[7; 16]), Ok(()));
-    same(rt, barrier(rt, flash), Ok(()));
-    let wanted = [0xFF, 7, 7, 7, 7, 7, 7, 7, 7, 7, 7, 7, 7, 7, 7, 7, 7, 0xFF];
-    gives(rt, flash, 12303, &wanted);
-    arm(rt, flash, 2, 3);
-    same(rt, program(rt, flash, 12320, &[6; 16]), Ok(()));
-    let end = program(rt, flash, 12288, &[5; 16]);
-    same(rt, end, Err(FlashStop::Lost));
+    programs(rt, flash, 12304, 7, Ok(()));
+    settled(rt, flash);
+    programs(rt, flash, 12320, 6, Ok(()));
+    programs(rt, flash, 12288, 5, Err(FlashStop::Lost));
+}
+
+// The device is off, and counted so many armings made and reached, and faults.
+fn is_off<F: ByteFile + Drop>(rt: &impl Abort, flash: &FileFlash<F>, wanted: (u64, u64, u64)) {
+    let counts = flash.counts();
+    are_numbers(rt, (counts.made, counts.reached, counts.faults), wanted);
+    holds(rt, !flash.is_on(), "power is off");
 }
 
 // Erases block 3, writes two granules of it, and loses power within a third one.
 fn worked<F: ByteFile + Drop>(rt: &impl Abort, file: F) -> F {
     let mut flash = switched_on(rt, file);
-    same(rt, erase(rt, &mut flash, 3), Ok(()));
+    erases(rt, &mut flash, 3, Ok(()));
     programmed(rt, &mut flash);
-    let counts = flash.counts();
-    same(rt, (counts.made, counts.reached, counts.faults), (1, 1, 0));
-    same(rt, flash.is_on(), false);
+    is_off(rt, &flash, (1, 1, 0));
     flash.into_file()
 }
 
@@ -61,41 +78,47 @@ fn zeros(rt: &impl Abort, alloc: Global) -> Vec<u8> {
     image(rt, alloc, 0, 32768)
 }
 
-// What is left of 32768 zero bytes.
-fn is_left(rt: &impl Abort, alloc: Global, bytes: &[u8]) -> bool {
+// These bytes are what is left of 32768 zero bytes.
+fn are_left(rt: &impl Abort, alloc: Global, bytes: &[u8]) {
     let mut left = zeros(rt, alloc);
     let blank = image(rt, alloc, 0xFF, 4096);
-    put(rt, left.as_mut_slice(), 12288, blank.as_slice());
-    put(rt, left.as_mut_slice(), 12288, &[5; 3]);
-    put(rt, left.as_mut_slice(), 12304, &[7; 16]);
-    put(rt, left.as_mut_slice(), 12320, &[6; 16]);
-    bytes == left.as_slice()
+    let slice = left.as_mut_slice();
+    put(rt, slice, 12288, blank.as_slice());
+    put(rt, slice, 12288, &[5; 3]);
+    put(rt, slice, 12304, &[7; 16]);
+    put(rt, slice, 12320, &[6; 16]);
+    holds(rt, bytes == left.as_slice(), "what is left");
+}
+
+// Makes a file of zero bytes.
+fn make(rt: &(impl Files + Abort), alloc: Global, name: &str) {
+    let before = zeros(rt, alloc);
+    fs::write(rt, name, before.as_slice()).expect(rt, "written");
 }
 
 #[test]
 fn a_file_of_the_system_is_a_flash(rt: HostRuntime) {
     let name = "file_flash_test.bin";
-    let before = zeros(&rt, rt.alloc());
-    fs::write(&rt, name, before.as_slice()).expect(&rt, "written");
+    make(&rt, rt.alloc(), name);
     let file = File::options().read(true).write(true).open(&rt, name);
     worked(&rt, file.expect(&rt, "opened"));
     let bytes = fs::read(&rt, name).expect(&rt, "read");
-    fs::remove_file(&rt, name).expect(&rt, "removed");
-    holds(&rt, is_left(&rt, rt.alloc(), bytes.as_slice()), name);
+    removed(&rt, name);
+    are_left(&rt, rt.alloc(), bytes.as_slice());
 }
 
 #[test]
 fn a_file_in_memory_is_a_flash(rt: HostRuntime) {
     let alloc = rt.alloc();
     let file = worked(&rt, MemoryFile::new(zeros(&rt, alloc), Vec::new(alloc)));
-    holds(&rt, is_left(&rt, alloc, file.bytes()), "what is left");
+    are_left(&rt, alloc, file.bytes());
 }
 
 #[test]
 fn a_cursor_is_a_flash(rt: HostRuntime) {
     let alloc = rt.alloc();
     let bytes = worked(&rt, Cursor::new(zeros(&rt, alloc))).into_inner();
-    holds(&rt, is_left(&rt, alloc, bytes.as_slice()), "what is left");
+    are_left(&rt, alloc, bytes.as_slice());
 }
 
 // A file that takes few bytes at a time, and after so many bytes fails.
@@ -148,34 +171,53 @@ fn short_reads_and_writes_are_gone_on_with(rt: HostRuntime) {
     let alloc = rt.alloc();
     let file = worked(&rt, slow(zeros(&rt, alloc), 7, 1_000_000));
     let bytes = file.inner.into_inner();
-    holds(&rt, is_left(&rt, alloc, bytes.as_slice()), "what is left");
+    are_left(&rt, alloc, bytes.as_slice());
+}
+
+// An erase of block 3 fails.
+fn not_erased<F: ByteFile + Drop>(rt: &impl Abort, file: F) -> F {
+    let mut flash = switched_on(rt, file);
+    erases(rt, &mut flash, 3, Err(FlashStop::Failed));
+    is_off(rt, &flash, (0, 0, 1));
+    flash.into_file()
+}
+
+// These are zero bytes, of which the first hundred of block 3 are erased.
+fn are_partly_erased(rt: &impl Abort, alloc: Global, bytes: &[u8]) {
+    let mut left = zeros(rt, alloc);
+    let erased = image(rt, alloc, 0xFF, 100);
+    put(rt, left.as_mut_slice(), 12288, erased.as_slice());
+    holds(rt, bytes == left.as_slice(), "what is left");
 }
 
 #[test]
 fn a_write_that_fails_in_mid_stream_is_a_fault(rt: HostRuntime) {
     let alloc = rt.alloc();
-    let mut flash = switched_on(&rt, slow(zeros(&rt, alloc), 64, 100));
-    same(&rt, erase(&rt, &mut flash, 3), Err(FlashStop::Failed));
-    same(&rt, (flash.is_on(), flash.counts().faults), (false, 1));
-    let mut bytes = zeros(&rt, alloc);
-    let erased = image(&rt, alloc, 0xFF, 100);
-    put(&rt, bytes.as_mut_slice(), 12288, erased.as_slice());
-    let left = flash.into_file().inner.into_inner();
-    holds(&rt, left == bytes, "what is left");
+    let file = not_erased(&rt, slow(zeros(&rt, alloc), 64, 100));
+    let left = file.inner.into_inner();
+    are_partly_erased(&rt, alloc, left.as_slice());
+}
+
+// A barrier is done, and a program fails.
+fn not_programmed<F: ByteFile + Drop>(rt: &impl Abort, file: F) -> F {
+    let mut flash = switched_on(rt, file);
+    settles(rt, &mut flash, Ok(()));
+    programs(rt, &mut flash, 16384, 5, Err(FlashStop::Failed));
+    is_off(rt, &flash, (0, 0, 1));
+    flash.into_file()
+}
+
+// 32768 erased bytes.
+fn blank(rt: &impl Abort, alloc: Global) -> Vec<u8> {
+    image(rt, alloc, 0xFF, 32768)
 }
 
 #[test]
 fn a_listed_call_of_a_file_in_memory_fails(rt: HostRuntime) {
     let alloc = rt.alloc();
-    let blank = image(&rt, alloc, 0xFF, 32768);
-    let file = MemoryFile::new(blank, only(&rt, alloc, 3));
-    let mut flash = switched_on(&rt, file);
-    same(&rt, barrier(&rt, &mut flash), Ok(()));
-    let end = program(&rt, &mut flash, 16384, &[5; 16]);
-    same(&rt, end, Err(FlashStop::Failed));
-    same(&rt, flash.counts().faults, 1);
-    let blank = image(&rt, alloc, 0xFF, 32768);
-    let file = flash.into_file();
+    let file = MemoryFile::new(blank(&rt, alloc), only(&rt, alloc, 3));
+    let file = not_programmed(&rt, file);
+    let blank = blank(&rt, alloc);
     holds(&rt, file.bytes() == blank.as_slice(), "what is left");
 }
 
@@ -205,20 +247,30 @@ impl Seek for Broken {
     }
 }
 
+// Why a file is no flash.
+fn refused<F: ByteFile + Drop>(file: F) -> Option<FlashOpenFault> {
+    FileFlash::open(file).err()
+}
+
 #[test]
 fn a_file_of_seven_blocks_is_refused(rt: HostRuntime) {
-    let made = FileFlash::open(Broken(28672));
-    assert_eq!(rt; made.err(), Some(FlashOpenFault::BadSize(28672)));
+    let wanted = Some(FlashOpenFault::BadSize(28672));
+    same(&rt, refused(Broken(28672)), wanted);
+}
+
+// A read, an erase and a barrier fail, each after power came back.
+fn fails<D: Flash>(rt: &impl Abort, flash: &mut D) {
+    let failed = Err(FlashStop::Failed);
+    ends(rt, read(rt, flash, 0, &mut [0; 2]), failed);
+    power_on(rt, flash);
+    erases(rt, flash, 0, failed);
+    power_on(rt, flash);
+    settles(rt, flash, failed);
 }
 
 #[test]
 fn an_error_of_the_file_is_a_fault(rt: HostRuntime) {
     let mut flash = switched_on(&rt, Broken(32768));
-    let failed = Err(FlashStop::Failed);
-    same(&rt, read(&rt, &mut flash, 0, &mut [0; 2]), failed);
-    power_on(&rt, &mut flash);
-    same(&rt, erase(&rt, &mut flash, 0), failed);
-    power_on(&rt, &mut flash);
-    same(&rt, barrier(&rt, &mut flash), failed);
-    same(&rt, (flash.counts().faults, flash.is_on()), (3, false));
+    fails(&rt, &mut flash);
+    is_off(&rt, &flash, (0, 0, 3));
 }

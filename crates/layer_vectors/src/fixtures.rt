@@ -7,7 +7,9 @@ use flash_core::{Flash, FlashStop, replace};
 use flash_devices::{Cut, MemoryFlash};
 use std::alloc::Global;
 use std::fmt::Debug;
+use std::fs;
 use std::process::Abort;
+use std::rt::Files;
 
 /// Bytes 4 to 40 of the first metadata of two banks, written out by hand from the format.
 pub const METADATA: [u8; 36] = [
@@ -91,12 +93,27 @@ pub fn put(rt: &impl Abort, bytes: &mut [u8], at: usize, piece: &[u8]) {
 /// Stops the test where other bytes stand at this place.
 pub fn stands(rt: &impl Abort, bytes: &[u8], at: usize, wanted: &[u8]) {
     let end = at.saturating_add(wanted.len());
-    assert_eq!(rt; bytes.get(at..end), Some(wanted), "at {at}");
+    same(rt, (at, bytes.get(at..end)), (at, Some(wanted)));
 }
 
 /// Stops the test where the two differ, and prints both. A call costs its test's proof less than the macro in its place.
 pub fn same<T: Copy + PartialEq + Debug>(rt: &impl Abort, left: T, right: T) {
     assert_eq!(rt; left, right);
+}
+
+/// As `same`, of bytes. What `same` needs of its type is proved here alone.
+pub fn are_bytes(rt: &impl Abort, bytes: &[u8], wanted: &[u8]) {
+    same(rt, bytes, wanted);
+}
+
+/// As `same`, of three counts.
+pub fn are_numbers(rt: &impl Abort, numbers: (u64, u64, u64), wanted: (u64, u64, u64)) {
+    same(rt, numbers, wanted);
+}
+
+/// As `same`, of the ends of calls of a flash.
+pub fn ends(rt: &impl Abort, end: Result<(), FlashStop>, wanted: Result<(), FlashStop>) {
+    same(rt, end, wanted);
 }
 
 /// Stops the test where this does not hold, and tells what it is of.
@@ -195,6 +212,11 @@ pub fn erased(
     let mut flash = MemoryFlash::new(alloc, blocks, cuts, faults).expect(rt, "a flash");
     power_on(rt, &mut flash);
     flash
+}
+
+/// Removes a file of the system.
+pub fn removed(rt: &(impl Files + Abort), name: &str) {
+    fs::remove_file(rt, name).expect(rt, "removed");
 }
 
 /// The list of one.

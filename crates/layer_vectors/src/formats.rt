@@ -86,15 +86,30 @@ fn format_from(rt: &impl Abort, flash: &mut MemoryFlash, files: &mut MemoryFiles
 fn a_flash_is_formatted(rt: HostRuntime) {
     let alloc = rt.alloc();
     let mut flash = erased(&rt, alloc, 22, Vec::new(alloc), Vec::new(alloc));
-    let done = format_from(&rt, &mut flash, &mut files(&rt, alloc));
-    same(&rt, (done.version, done.layout.banks()), (7, 2));
-    let bytes = flash.bytes();
-    same(&rt, bytes.len(), 90112);
-    stands(&rt, bytes, 4, b"FWUL");
-    stands(&rt, bytes, 4100, &METADATA);
-    stands(&rt, bytes, 8196, &METADATA);
-    let boot = image(&rt, alloc, 0xA5, 5000);
-    stands(&rt, bytes, 36864, boot.as_slice());
-    let rest = image(&rt, alloc, 0xFF, 3192);
-    stands(&rt, bytes, 41864, rest.as_slice());
+    is_formatted(&rt, &mut flash, &mut files(&rt, alloc));
+    have_tables(&rt, flash.bytes());
+    have_boot(&rt, alloc, flash.bytes());
+}
+
+// The flash is formatted with the version 7 and two banks.
+fn is_formatted(rt: &impl Abort, flash: &mut MemoryFlash, files: &mut MemoryFiles) {
+    let done = format_from(rt, flash, files);
+    same(rt, done.version, 7);
+    same(rt, done.layout.banks(), 2);
+}
+
+// The layout and both replicas of the metadata stand in these bytes.
+fn have_tables(rt: &impl Abort, bytes: &[u8]) {
+    same(rt, bytes.len(), 90112);
+    stands(rt, bytes, 4, b"FWUL");
+    stands(rt, bytes, 4100, &METADATA);
+    stands(rt, bytes, 8196, &METADATA);
+}
+
+// The boot firmware stands in these bytes, and erased bytes behind it.
+fn have_boot(rt: &impl Abort, alloc: Global, bytes: &[u8]) {
+    let boot = image(rt, alloc, 0xA5, 5000);
+    stands(rt, bytes, 36864, boot.as_slice());
+    let rest = image(rt, alloc, 0xFF, 3192);
+    stands(rt, bytes, 41864, rest.as_slice());
 }

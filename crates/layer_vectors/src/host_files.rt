@@ -2,7 +2,7 @@
 
 ghost use Rattle.std.specs.Prelude.{◌+◌, ◌≤◌, false, refl, vec_capacity, vec_len};
 
-use crate::fixtures::{holds, image, only, same};
+use crate::fixtures::{are_bytes, holds, image, only, removed, same};
 use host_io::{
     Failed, Files, HostFiles, MemoryFiles, MemorySink, MemorySource, Sink, Source, StdSink,
     StdSource, SteadyRead, SteadyWrite, WriteStop,
@@ -31,15 +31,19 @@ fn drains<I: Source>(rt: &impl Abort, alloc: Global, source: &mut I, wanted: &[u
             break;
         }
     }
-    same(rt, all.as_slice(), wanted);
+    are_bytes(rt, all.as_slice(), wanted);
+}
+
+// What becomes of a put of a word.
+fn put_word<O: Sink>(rt: &impl Abort, sink: &mut O, word: &[u8], end: Result<(), WriteStop>) {
+    same(rt, sink.put(word), end);
 }
 
 // What becomes of a put of each word.
-fn put_words<O: Sink>(rt: &impl Abort, sink: &mut O, want: &[Result<(), WriteStop>]) {
-    let words = ["one ", "two ", "three "];
-    for (word, end) in words.iter().zip(want) {
-        same(rt, sink.put(word.as_bytes()), *end);
-    }
+fn put_words<O: Sink>(rt: &impl Abort, sink: &mut O, ends: [Result<(), WriteStop>; 3]) {
+    put_word(rt, sink, b"one ", ends[0]);
+    put_word(rt, sink, b"two ", ends[1]);
+    put_word(rt, sink, b"three ", ends[2]);
 }
 
 // A reader that gives a byte, fails, and so on.
@@ -110,30 +114,45 @@ fn memory_sink(rt: &impl Abort, alloc: Global) -> MemorySink {
 #[test]
 fn sinks_in_memory(rt: HostRuntime) {
     let mut memory = memory_sink(&rt, rt.alloc());
-    put_words(&rt, &mut memory, &[Ok(()), Err(WriteStop::Failed), Ok(())]);
-    same(&rt, memory.bytes(), b"zero one three ".as_slice());
+    put_words(&rt, &mut memory, [Ok(()), Err(WriteStop::Failed), Ok(())]);
+    are_bytes(&rt, memory.bytes(), b"zero one three ");
+}
+
+// The words are put into a writer.
+fn put_into<W: SteadyWrite + Drop>(rt: &impl Abort, writer: W, ends: [Result<(), WriteStop>; 3]) {
+    put_words(rt, &mut StdSink::new(writer), ends);
 }
 
 #[test]
-fn sinks(rt: HostRuntime) {
+fn a_sink_of_bytes(rt: HostRuntime) {
     let mut bytes = Vec::new(rt.alloc());
-    put_words(
-        &rt,
-        &mut StdSink::new(&mut bytes),
-        &[Ok(()), Ok(()), Ok(())],
-    );
-    same(&rt, bytes.as_slice(), b"one two three ".as_slice());
+    put_into(&rt, &mut bytes, [Ok(()); 3]);
+    are_bytes(&rt, bytes.as_slice(), b"one two three ");
+}
+
+#[test]
+fn sinks_that_fail(rt: HostRuntime) {
     // Room for six bytes: the writer then takes nothing.
-    let mut small = StdSink::new(Cursor::new([0; 6]));
     let full = Err(WriteStop::Failed);
-    put_words(&rt, &mut small, &[Ok(()), full, full]);
-    put_words(&rt, &mut StdSink::new(Stuck), &[full, full, full]);
+    put_into(&rt, Cursor::new([0; 6]), [Ok(()), full, full]);
+    put_into(&rt, Stuck, [full; 3]);
 }
 
 // Writes a file, and gives its size afterwards.
 fn stored<H: Files>(files: &mut H, name: &str, bytes: &[u8]) -> Result<Option<u64>, WriteStop> {
     files.write_whole(name, bytes)?;
     Ok(files.size(name)?)
+}
+
+// What becomes of writing a file, and its size afterwards.
+fn stores<H: Files>(
+    rt: &impl Abort,
+    files: &mut H,
+    name: &str,
+    bytes: &[u8],
+    wanted: Result<Option<u64>, WriteStop>,
+) {
+    same(rt, stored(files, name, bytes), wanted);
 }
 
 // Reads three bytes from the third one on, where the file has them.
@@ -174,8 +193,14 @@ fn memory_files(rt: &impl Abort, alloc: Global) -> MemoryFiles {
     MemoryFiles::new(alloc, list, only(rt, alloc, 4))
 }
 
-fn size_of<H: Files>(files: &mut H, name: &str) -> Result<Option<u64>, Failed> {
-    files.size(name)
+// The file's size is told so.
+fn sized<H: Files>(
+    rt: &impl Abort,
+    files: &mut H,
+    name: &str,
+    wanted: Result<Option<u64>, Failed>,
+) {
+    same(rt, files.size(name), wanted);
 }
 
 // The file has these bytes, or there is none.
@@ -187,101 +212,150 @@ fn is_held(rt: &impl Abort, files: &MemoryFiles, name: &str, wanted: Option<&str
     }
 }
 
+// The file "a" has this range.
+fn has_range(rt: &impl Abort, files: &mut MemoryFiles) {
+    let mut out = [0; 3];
+    same(rt, range(files, "a", &mut out), Ok(true));
+    holds(rt, out == *b"cde", "a range");
+}
+
 #[test]
 fn files_in_memory(rt: HostRuntime) {
     let mut files = memory_files(&rt, rt.alloc());
-    let mut out = [0; 3];
-    same(&rt, size_of(&mut files, "a"), Ok(Some(6)));
-    same(&rt, size_of(&mut files, "b"), Ok(None));
-    same(&rt, range(&mut files, "a", &mut out), Ok(true));
-    holds(&rt, out == *b"cde", "a range");
-    same(&rt, stored(&mut files, "b", b"xy"), Err(WriteStop::Failed));
+    have_sizes(&rt, &mut files);
+    has_range(&rt, &mut files);
+    stores(&rt, &mut files, "b", b"xy", Err(WriteStop::Failed));
     is_held(&rt, &files, "b", None);
-    same(&rt, stored(&mut files, "b", b"xy"), Ok(Some(2)));
-    same(&rt, stored(&mut files, "a", b"z"), Ok(Some(1)));
-    for (name, bytes) in [("a", "z"), ("b", "xy"), ("empty", "")] {
-        is_held(&rt, &files, name, Some(bytes));
-    }
+    store_both(&rt, &mut files);
+    are_held(&rt, &files);
+}
+
+fn have_sizes<H: Files>(rt: &impl Abort, files: &mut H) {
+    sized(rt, files, "a", Ok(Some(6)));
+    sized(rt, files, "b", Ok(None));
+}
+
+fn store_both<H: Files>(rt: &impl Abort, files: &mut H) {
+    stores(rt, files, "b", b"xy", Ok(Some(2)));
+    stores(rt, files, "a", b"z", Ok(Some(1)));
+}
+
+fn are_held(rt: &impl Abort, files: &MemoryFiles) {
+    is_held(rt, files, "a", Some("z"));
+    is_held(rt, files, "b", Some("xy"));
+    is_held(rt, files, "empty", Some(""));
+}
+
+// A list that begins with `old `, and has the room for so many bytes more.
+fn old(rt: &impl Abort, alloc: Global, count: usize) -> Vec<u8>
+    ensures { vec_len result + count ≤ vec_capacity result }
+{
+    let mut list = b"old ".to_vec(alloc).expect(rt, "memory");
+    list.reserve(count).expect(rt, "memory");
+    list
 }
 
 #[test]
 fn ranges_in_memory(rt: HostRuntime) {
     let mut files = memory_files(&rt, rt.alloc());
-    let mut list = b"old ".to_vec(rt.alloc()).expect(&rt, "memory");
-    list.reserve(3).expect(&rt, "memory");
+    let mut list = old(&rt, rt.alloc(), 3);
     same(&rt, range_onto(&mut files, "a", &mut list), Ok(true));
-    same(&rt, list.as_slice(), b"old cde".as_slice());
+    are_bytes(&rt, list.as_slice(), b"old cde");
 }
 
-// What a read from this place on gives.
-fn read_at<R: std::rt::Files>(
+// What becomes of a read from this place on.
+fn reads<R: std::rt::Files>(
+    rt: &impl Abort,
     files: &mut HostFiles<R>,
-    name: &str,
-    at: u64,
+    place: (&str, u64),
     out: &mut [u8],
-) -> Result<(), Failed> {
-    files.read_at(name, at, out)
+    wanted: Result<(), Failed>,
+) {
+    let (name, at) = place;
+    same(rt, files.read_at(name, at, out), wanted);
 }
 
 // A read from this place on gives these four bytes.
 fn gives<R: std::rt::Files>(
     rt: &impl Abort,
     files: &mut HostFiles<R>,
-    name: &str,
-    at: u64,
+    place: (&str, u64),
     wanted: &[u8; 4],
 ) {
     let mut out = [0; 4];
-    same(rt, read_at(files, name, at, &mut out), Ok(()));
-    holds(rt, out == *wanted, name);
+    reads(rt, files, place, &mut out, Ok(()));
+    are_bytes(rt, &out, wanted);
 }
 
-// Files are made, and written over by shorter ones.
+// A file is made, and written over by a shorter one.
+fn rewritten<R: std::rt::Files>(rt: &impl Abort, files: &mut HostFiles<R>, name: &str) {
+    stores(rt, files, name, b"firmware", Ok(Some(8)));
+    gives(rt, files, (name, 4), b"ware");
+    stores(rt, files, name, b"short", Ok(Some(5)));
+    gives(rt, files, (name, 1), b"hort");
+}
+
+fn whole_files<R: std::rt::Files + Abort>(rt: &R) {
+    let name = "host_io_whole.tmp";
+    rewritten(rt, &mut HostFiles::new(rt), name);
+    removed(rt, name);
+}
+
 #[test]
 fn files_of_the_system(rt: HostRuntime) {
-    let name = "host_io_whole.tmp";
-    let mut files = HostFiles::new(&rt);
-    same(&rt, stored(&mut files, name, b"firmware"), Ok(Some(8)));
-    gives(&rt, &mut files, name, 4, b"ware");
-    same(&rt, stored(&mut files, name, b"short"), Ok(Some(5)));
-    gives(&rt, &mut files, name, 1, b"hort");
-    fs::remove_file(&rt, name).expect(&rt, "removed");
+    whole_files(&rt);
+}
+
+// No size is told, and nothing is written.
+fn refuses<H: Files>(rt: &impl Abort, files: &mut H, name: &str, other: &str) {
+    sized(rt, files, name, Err(Failed));
+    stores(rt, files, other, b"x", Err(WriteStop::Failed));
 }
 
 // Each call on a file that isn't there fails.
 fn is_missing<R: std::rt::Files>(rt: &impl Abort, files: &mut HostFiles<R>, name: &str) {
-    same(rt, size_of(files, name), Err(Failed));
-    same(rt, read_at(files, name, 0, &mut [0; 4]), Err(Failed));
-    same(rt, read_at(files, name, 0, &mut []), Err(Failed));
+    reads(rt, files, (name, 0), &mut [0; 4], Err(Failed));
+    reads(rt, files, (name, 0), &mut [], Err(Failed));
+    refuses(rt, files, name, "host_io_none/file");
 }
 
 // A range outside a file fails.
+fn is_short<R: std::rt::Files>(rt: &impl Abort, files: &mut HostFiles<R>, name: &str) {
+    stores(rt, files, name, b"short", Ok(Some(5)));
+    reads(rt, files, (name, 2), &mut [0; 4], Err(Failed));
+    reads(rt, files, (name, 5), &mut [], Ok(()));
+    reads(rt, files, (name, 6), &mut [], Err(Failed));
+}
+
+fn short_files<R: std::rt::Files + Abort>(rt: &R) {
+    let name = "host_io_short.tmp";
+    let mut files = HostFiles::new(rt);
+    is_short(rt, &mut files, name);
+    removed(rt, name);
+    is_missing(rt, &mut files, name);
+}
+
 #[test]
 fn short_and_missing_files(rt: HostRuntime) {
-    let name = "host_io_short.tmp";
-    let mut files = HostFiles::new(&rt);
-    let mut out = [0; 4];
-    same(&rt, stored(&mut files, name, b"short"), Ok(Some(5)));
-    same(&rt, read_at(&mut files, name, 2, &mut out), Err(Failed));
-    same(&rt, read_at(&mut files, name, 5, &mut []), Ok(()));
-    same(&rt, read_at(&mut files, name, 6, &mut []), Err(Failed));
-    fs::remove_file(&rt, name).expect(&rt, "removed");
-    is_missing(&rt, &mut files, name);
-    let stop = Err(WriteStop::Failed);
-    same(&rt, stored(&mut files, "host_io_none/file", b"x"), stop);
+    short_files(&rt);
 }
 
 // Each call on a folder fails.
+fn is_folder<R: std::rt::Files>(rt: &impl Abort, files: &mut HostFiles<R>, name: &str) {
+    reads(rt, files, (name, 0), &mut [0; 4], Err(Failed));
+    refuses(rt, files, name, name);
+}
+
+fn one_folder<R: std::rt::Files + Abort>(rt: &R) {
+    let name = "host_io_folder.tmp";
+    fs::create_dir(rt, name).expect(rt, "made");
+    is_folder(rt, &mut HostFiles::new(rt), name);
+    fs::remove_dir(rt, name).expect(rt, "removed");
+}
+
 #[test]
 fn folders(rt: HostRuntime) {
-    let name = "host_io_folder.tmp";
-    fs::create_dir(&rt, name).expect(&rt, "made");
-    let mut files = HostFiles::new(&rt);
-    same(&rt, size_of(&mut files, name), Err(Failed));
-    same(&rt, read_at(&mut files, name, 0, &mut [0; 4]), Err(Failed));
-    let stop = Err(WriteStop::Failed);
-    same(&rt, stored(&mut files, name, b"x"), stop);
-    fs::remove_dir(&rt, name).expect(&rt, "removed");
+    one_folder(&rt);
 }
 
 // A file of 70,000 bytes, of which the last is 2 and the others are 1.
@@ -291,39 +365,45 @@ fn long_file(rt: &impl Abort, alloc: Global) -> Vec<u8> {
     bytes
 }
 
-// What reading this range onto `old ` gives, and the list afterwards.
+// Reads 69,998 bytes from this place on, which ends so, onto `old `. The list afterwards.
 fn onto<R: std::rt::Files>(
     rt: &impl Abort,
     alloc: Global,
     files: &mut HostFiles<R>,
-    name: &str,
-    range: (u64, usize),
-) -> (Result<(), Failed>, Vec<u8>) {
-    let (at, count) = range;
-    let mut list = b"old ".to_vec(alloc).expect(rt, "memory");
-    list.reserve(count).expect(rt, "memory");
-    let end = files.read_onto(name, at, count, &mut list);
-    (end, list)
+    place: (&str, u64),
+    wanted: Result<(), Failed>,
+) -> Vec<u8> {
+    let (name, at) = place;
+    let mut list = old(rt, alloc, 69_998);
+    let end = files.read_onto(name, at, 69_998, &mut list);
+    same(rt, end, wanted);
+    list
+}
+
+// A list of so many bytes, of which the fifth is 1 and the last is 2.
+fn is_added(rt: &impl Abort, list: &[u8]) {
+    same(rt, list.len(), 70_002);
+    same(rt, list.get(4).copied(), Some(1));
+    same(rt, list.last().copied(), Some(2));
 }
 
 // A range of more than one piece is added, and one outside the file leaves the list as it was.
+fn ranges<R: std::rt::Files>(rt: &impl Abort, alloc: Global, files: &mut HostFiles<R>, name: &str) {
+    let bytes = long_file(rt, alloc);
+    stores(rt, files, name, bytes.as_slice(), Ok(Some(70_000)));
+    let list = onto(rt, alloc, files, (name, 3), Err(Failed));
+    are_bytes(rt, list.as_slice(), b"old ");
+    let list = onto(rt, alloc, files, (name, 2), Ok(()));
+    is_added(rt, list.as_slice());
+}
+
+fn long_ranges<R: std::rt::Files + Abort>(rt: &R, alloc: Global) {
+    let name = "host_io_range.tmp";
+    ranges(rt, alloc, &mut HostFiles::new(rt), name);
+    removed(rt, name);
+}
+
 #[test]
 fn ranges_of_the_system(rt: HostRuntime) {
-    let alloc = rt.alloc();
-    let name = "host_io_range.tmp";
-    let bytes = long_file(&rt, alloc);
-    let mut files = HostFiles::new(&rt);
-    same(
-        &rt,
-        stored(&mut files, name, bytes.as_slice()),
-        Ok(Some(70_000)),
-    );
-    let (end, list) = onto(&rt, alloc, &mut files, name, (3, 69_998));
-    same(&rt, end, Err(Failed));
-    same(&rt, list.as_slice(), b"old ".as_slice());
-    let (end, list) = onto(&rt, alloc, &mut files, name, (2, 69_998));
-    same(&rt, end, Ok(()));
-    same(&rt, (list.len(), list.get(4).copied()), (70_002, Some(1)));
-    same(&rt, list.last().copied(), Some(2));
-    fs::remove_file(&rt, name).expect(&rt, "removed");
+    long_ranges(&rt, rt.alloc());
 }

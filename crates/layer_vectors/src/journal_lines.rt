@@ -2,7 +2,7 @@
 
 ghost use Rattle.fwu_journal.specs.Shown.{IsShort, reply as shown_reply};
 
-use crate::fixtures::{holds, same};
+use crate::fixtures::{are_bytes, holds, same};
 use base_core::Guid;
 use early_boot::Numbers;
 use fwu_formats::{BankState, CapsuleFault, FipFault, LayoutFault};
@@ -24,7 +24,7 @@ fn has_line(rt: &impl Abort, alloc: Global, call: Call, reply: Reply, wanted: &s
         numbers: None,
     };
     add_line(&mut text, &turn);
-    same(rt, text.as_slice(), wanted.as_bytes());
+    are_bytes(rt, text.as_slice(), wanted.as_bytes());
 }
 
 // A boot's reply has this line.
@@ -209,8 +209,11 @@ fn turns_are_kept_in_order(rt: HostRuntime) {
     same(&rt, Journal::new(alloc).len(), 0);
     let journal = two_turns(&rt, alloc);
     same(&rt, journal.len(), 2);
-    let turns = journal.turns();
-    holds(&rt, turns.len() == 2, "two turns");
-    holds(&rt, matches!(turns[0].reply, Reply::CutOk), "a cut");
-    holds(&rt, matches!(turns[1].reply, Reply::Lost), "a loss");
+    are_in_order(&rt, journal.turns());
+}
+
+fn are_in_order(rt: &impl Abort, turns: &[Turn]) {
+    holds(rt, turns.len() == 2, "two turns");
+    holds(rt, matches!(turns[0].reply, Reply::CutOk), "a cut");
+    holds(rt, matches!(turns[1].reply, Reply::Lost), "a loss");
 }

@@ -54,11 +54,17 @@ fn layout_in(rt: &impl Abort, bytes: &[u8]) -> Layout {
 fn a_layout_is_read_from_its_bytes(rt: HostRuntime) {
     let block = layout_block(&rt, rt.alloc());
     let layout = layout_in(&rt, block.as_slice());
-    same(&rt, (layout.banks(), layout.blocks()), (2, 22));
-    same(&rt, layout.rows(), three_rows().as_slice());
-    let found = (layout.find(&normal_type()), layout.find(&directory_guid()));
-    same(&rt, found, (Some(2), None));
+    has_parts(&rt, &layout);
     holds(&rt, layout == layout_of(&rt, 2), "as it is made");
+}
+
+// The parts of the layout with two banks.
+fn has_parts(rt: &impl Abort, layout: &Layout) {
+    same(rt, layout.banks(), 2);
+    same(rt, layout.blocks(), 22);
+    same(rt, layout.rows(), three_rows().as_slice());
+    same(rt, layout.find(&normal_type()), Some(2));
+    same(rt, layout.find(&directory_guid()), None);
 }
 
 // The block that a layout is written as.
@@ -74,11 +80,14 @@ fn a_layout_is_written_as_its_bytes(rt: HostRuntime) {
     let alloc = rt.alloc();
     let block = layout_block(&rt, alloc);
     let written = written(&rt, alloc, &layout_of(&rt, 2));
-    let written = written.as_slice();
-    stands(&rt, written, 0, &[0xe9, 0xce, 0xf4, 0xcb]);
-    same(&rt, written.get(4..104), block.as_slice().get(4..104));
-    stands(&rt, written, 104, &[0xff]);
-    stands(&rt, written, 4095, &[0xff]);
+    is_written(&rt, written.as_slice(), block.as_slice());
+}
+
+fn is_written(rt: &impl Abort, written: &[u8], block: &[u8]) {
+    stands(rt, written, 0, &[0xe9, 0xce, 0xf4, 0xcb]);
+    same(rt, written.get(4..104), block.get(4..104));
+    stands(rt, written, 104, &[0xff]);
+    stands(rt, written, 4095, &[0xff]);
 }
 
 // The block at which an image of a bank begins.
@@ -91,10 +100,11 @@ fn start(rt: &impl Abort, layout: &Layout, bank: u32, image: u32) -> u32 {
 #[test]
 fn images_begin_at_their_blocks(rt: HostRuntime) {
     let layout = layout_of(&rt, 2);
-    same(&rt, (layout.banks(), layout.rows().len()), (2, 3));
-    for (bank, image, block) in [(0, 0, 8), (0, 2, 11), (1, 1, 16)] {
-        same(&rt, start(&rt, &layout, bank, image), block);
-    }
+    same(&rt, layout.banks(), 2);
+    same(&rt, layout.rows().len(), 3);
+    same(&rt, start(&rt, &layout, 0, 0), 8);
+    same(&rt, start(&rt, &layout, 0, 2), 11);
+    same(&rt, start(&rt, &layout, 1, 1), 16);
     same(&rt, Meta::replica_size(&layout), 288);
 }
 
@@ -202,14 +212,26 @@ fn the_first_metadata_of_two_banks_has_its_bytes(rt: HostRuntime) {
     let layout = layout_of(&rt, 2);
     same(&rt, Meta::size(&layout), 280);
     let mut block = first_block(&rt, rt.alloc(), &layout);
-    let block = block.as_mut_slice();
-    stands(&rt, block, 0, &[0xfc, 0x72, 0x6b, 0x04]);
-    stands(&rt, block, 4, &METADATA);
-    stands(&rt, block, 280, &[0xff; 8]);
-    let again = meta_in(&rt, &layout, block);
-    holds(&rt, again.is(&Meta::first(&layout)), "as it was");
-    put(&rt, block, 26, &[0xfc]);
-    same(&rt, meta_read_fault(&rt, block), Some(MetaFault::BadCrc));
+    has_two_banks(&rt, block.as_slice());
+    let again = meta_in(&rt, &layout, block.as_slice());
+    is_first(&rt, &layout, &again);
+    put(&rt, block.as_mut_slice(), 26, &[0xfc]);
+    is_spoiled(&rt, block.as_slice());
+}
+
+fn has_two_banks(rt: &impl Abort, block: &[u8]) {
+    stands(rt, block, 0, &[0xfc, 0x72, 0x6b, 0x04]);
+    stands(rt, block, 4, &METADATA);
+    stands(rt, block, 280, &[0xff; 8]);
+}
+
+// This is the first metadata of a layout.
+fn is_first(rt: &impl Abort, layout: &Layout, meta: &Meta) {
+    holds(rt, meta.is(&Meta::first(layout)), "as it was");
+}
+
+fn is_spoiled(rt: &impl Abort, block: &[u8]) {
+    same(rt, meta_read_fault(rt, block), Some(MetaFault::BadCrc));
 }
 
 #[test]
@@ -217,18 +239,26 @@ fn the_first_metadata_of_three_banks_has_its_bytes(rt: HostRuntime) {
     let layout = layout_of(&rt, 3);
     same(&rt, Meta::size(&layout), 352);
     let mut block = first_block(&rt, rt.alloc(), &layout);
+    has_three_banks(&rt, block.as_slice());
+    put_one(&rt, &layout, block.as_mut_slice());
+    has_version_one(&rt, block.as_slice());
+    let mut again = meta_in(&rt, &layout, block.as_slice());
+    same(&rt, again.form(), 1);
+    again.migrate();
+    is_first(&rt, &layout, &again);
+}
+
+fn has_three_banks(rt: &impl Abort, block: &[u8]) {
     let wanted = [
         0x60, 1, 0, 0, 0x20, 0, 0, 0, 0xfc, 0xff, 0xff, 0xff, 0, 0, 0, 0, 3, 0, 3, 0, 0x68, 0,
         0x18, 0,
     ];
-    stands(&rt, block.as_slice(), 16, &wanted);
-    put_one(&rt, &layout, block.as_mut_slice());
+    stands(rt, block, 16, &wanted);
+}
+
+fn has_version_one(rt: &impl Abort, block: &[u8]) {
     let wanted = [0x23, 0x06, 0x58, 0x4a, 1, 0, 0, 0, 0, 0, 0, 0, 0, 0, 0, 0];
-    stands(&rt, block.as_slice(), 0, &wanted);
-    let mut again = meta_in(&rt, &layout, block.as_slice());
-    same(&rt, again.form(), 1);
-    again.migrate();
-    holds(&rt, again.is(&Meta::first(&layout)), "as it was");
+    stands(rt, block, 0, &wanted);
 }
 
 /// The fault of a block of the first metadata in which one number is replaced, with the checksum renewed.
@@ -321,7 +351,7 @@ fn each_part_is_set_alone(rt: HostRuntime) {
     let mut states = two_states();
     let bits = two_bits();
     let all = all_bits(bits);
-    same(&rt, (states.len(), all.len(), bits.len()), (2, 2, 2));
+    have_two(&rt, &states, &all, &bits);
     let mut meta = Meta::of(2, 0, 1, states, all);
     meta.set_active(1);
     meta.set_previous(0);
@@ -329,17 +359,26 @@ fn each_part_is_set_alone(rt: HostRuntime) {
     set_bit(&rt, &mut meta, 1, 0, true);
     are_parts(&rt, &meta);
     set_second(&rt, &mut states, BankState::Invalid);
-    holds(&rt, meta.states().is(&states), "the states");
-    holds(&rt, !meta.bits().is(&all), "the bits");
+    differ(&rt, &meta, &states, &all);
+}
+
+fn have_two(rt: &impl Abort, states: &States, all: &BankBits, bits: &Bits) {
+    same(rt, states.len(), 2);
+    same(rt, all.len(), 2);
+    same(rt, bits.len(), 2);
+}
+
+// The metadata has these states, and other bits than these.
+fn differ(rt: &impl Abort, meta: &Meta, states: &States, all: &BankBits) {
+    holds(rt, meta.states().is(states), "the states");
+    holds(rt, !meta.bits().is(all), "the bits");
 }
 
 // The parts are what they were set to.
 fn are_parts(rt: &impl Abort, meta: &Meta) {
-    same(
-        rt,
-        (meta.active(), meta.previous(), meta.banks()),
-        (1, 0, 2),
-    );
+    same(rt, meta.active(), 1);
+    same(rt, meta.previous(), 0);
+    same(rt, meta.banks(), 2);
     same(rt, state(rt, meta, 0), BankState::Accepted);
     same(rt, state(rt, meta, 1), BankState::Invalid);
     same(rt, bit(rt, meta, 0, 0), true);

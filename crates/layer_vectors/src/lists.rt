@@ -16,8 +16,9 @@ fn list_of(rt: &impl Abort, alloc: Global, bytes: &[u8]) -> DigestList {
     DigestList::read(alloc, bytes).expect(rt, "a list")
 }
 
-fn fault_of(alloc: Global, bytes: &[u8]) -> Option<ListFault> {
-    DigestList::read(alloc, bytes).err()
+// Why these bytes are no list, if they are none.
+fn has_fault(rt: &impl Abort, alloc: Global, bytes: &[u8], wanted: Option<ListFault>) {
+    same(rt, DigestList::read(alloc, bytes).err(), wanted);
 }
 
 #[test]
@@ -34,16 +35,20 @@ fn listed_manifests_pass(rt: HostRuntime) {
     holds(&rt, !asks(&list, b"abd"), "not listed");
     let empty = list_of(&rt, alloc, b"");
     holds(&rt, !asks(&empty, b"abc"), "of none");
-    let one = Both {
-        first: list,
-        second: AnyManifest,
-    };
-    holds(&rt, asks(&one, b"abc"), "of both");
-    let none = Both {
-        first: one,
-        second: empty,
-    };
-    holds(&rt, !asks(&none, b"abc"), "of one alone");
+    both_pass(&rt, list, empty);
+}
+
+// "abc" passes this list and any, and not these and one of none.
+fn both_pass(rt: &impl Abort, first: DigestList, empty: DigestList) {
+    let second = AnyManifest;
+    let one = Both { first, second };
+    holds(rt, asks(&one, b"abc"), "of both");
+    one_passes(rt, one, empty);
+}
+
+fn one_passes(rt: &impl Abort, first: Both<DigestList, AnyManifest>, second: DigestList) {
+    let none = Both { first, second };
+    holds(rt, !asks(&none, b"abc"), "of one alone");
 }
 
 // These parts, one behind the other.
@@ -58,14 +63,14 @@ fn joined(rt: &impl Abort, alloc: Global, parts: &[&[u8]]) -> Vec<u8> {
 #[test]
 fn first_bad_lines(rt: HostRuntime) {
     let alloc = rt.alloc();
-    same(&rt, fault_of(alloc, ABC), None);
+    has_fault(&rt, alloc, ABC, None);
     let first = Some(ListFault::BadLine(1));
-    same(&rt, fault_of(alloc, &ABC[..64]), first);
-    same(&rt, fault_of(alloc, b"00\n"), first);
+    has_fault(&rt, alloc, &ABC[..64], first);
+    has_fault(&rt, alloc, b"00\n", first);
     let second = Some(ListFault::BadLine(2));
     let empty = joined(&rt, alloc, &[ABC, b"\n"]);
-    same(&rt, fault_of(alloc, empty.as_slice()), second);
+    has_fault(&rt, alloc, empty.as_slice(), second);
     let line = b"xy7816bf8f01cfea414140de5dae2223b00361a396177a9cb410ff61f20015ad\n";
     let other = joined(&rt, alloc, &[ABC, line, ABC]);
-    same(&rt, fault_of(alloc, other.as_slice()), second);
+    has_fault(&rt, alloc, other.as_slice(), second);
 }

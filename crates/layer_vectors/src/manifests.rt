@@ -1,6 +1,6 @@
 //! Manifests of both forms, as bytes and as values.
 
-use crate::fixtures::{MANIFEST, holds, image_rows, image_type, only, put, same};
+use crate::fixtures::{MANIFEST, are_bytes, holds, image_rows, image_type, only, put, same};
 use fwu_formats::ManifestFault;
 use manifest_core::{Manifest, ManifestStop, Row, row_at, test};
 use std::alloc::Global;
@@ -18,41 +18,48 @@ const WIDE: [u8; 104] = [
 ];
 
 // What these bytes are tested to be.
-fn tested(bytes: &[u8]) -> Result<u32, ManifestFault> {
-    test(bytes, &image_rows())
+fn is_tested(rt: &impl Abort, bytes: &[u8], wanted: Result<u32, ManifestFault>) {
+    same(rt, test(bytes, &image_rows()), wanted);
 }
 
 #[test]
 fn both_forms(rt: HostRuntime) {
-    same(&rt, tested(&MANIFEST), Ok(7));
-    same(&rt, tested(&WIDE), Ok(70000));
+    is_tested(&rt, &MANIFEST, Ok(7));
+    is_tested(&rt, &WIDE, Ok(70000));
 }
 
 // With this byte at a place, the bytes have this fault.
 fn has_fault(rt: &impl Abort, bytes: &mut [u8], at: usize, byte: u8, fault: ManifestFault) {
     put(rt, bytes, at, &[byte]);
-    same(rt, tested(bytes), Err(fault));
+    is_tested(rt, bytes, Err(fault));
 }
 
 // From the last fault to the first, each before those behind it.
 #[test]
 fn faults(rt: HostRuntime) {
     let mut bytes = MANIFEST.to_vec(rt.alloc()).expect(&rt, "memory");
-    let bytes = bytes.as_mut_slice();
-    for (at, byte, fault) in [
-        (103, 0xB8, ManifestFault::BadDigest),
-        (33, 0x10, ManifestFault::TooLarge),
-        (16, 0, ManifestFault::WrongOrder),
-        (12, 2, ManifestFault::BadCount),
-        (8, 224, ManifestFault::VersionTooHigh),
-    ] {
-        has_fault(&rt, bytes, at, byte, fault);
-    }
-    put(&rt, bytes, 4, &[2]);
-    has_fault(&rt, bytes, 8, 223, ManifestFault::BadForm);
-    has_fault(&rt, bytes, 0, 0, ManifestFault::BadMagic);
-    let short = bytes.get(..103).expect(&rt, "so many");
-    same(&rt, tested(short), Err(ManifestFault::Short));
+    have_faults(&rt, bytes.as_mut_slice());
+    have_first_faults(&rt, bytes.as_mut_slice());
+    is_short(&rt, bytes.as_slice());
+}
+
+fn have_faults(rt: &impl Abort, bytes: &mut [u8]) {
+    has_fault(rt, bytes, 103, 0xB8, ManifestFault::BadDigest);
+    has_fault(rt, bytes, 33, 0x10, ManifestFault::TooLarge);
+    has_fault(rt, bytes, 16, 0, ManifestFault::WrongOrder);
+    has_fault(rt, bytes, 12, 2, ManifestFault::BadCount);
+    has_fault(rt, bytes, 8, 224, ManifestFault::VersionTooHigh);
+}
+
+fn have_first_faults(rt: &impl Abort, bytes: &mut [u8]) {
+    put(rt, bytes, 4, &[2]);
+    has_fault(rt, bytes, 8, 223, ManifestFault::BadForm);
+    has_fault(rt, bytes, 0, 0, ManifestFault::BadMagic);
+}
+
+fn is_short(rt: &impl Abort, bytes: &[u8]) {
+    let short = bytes.get(..103).expect(rt, "so many");
+    is_tested(rt, short, Err(ManifestFault::Short));
 }
 
 // The row of `MANIFEST`.
@@ -81,11 +88,21 @@ fn written_and_read(rt: HostRuntime) {
     let alloc = rt.alloc();
     let rows = only(&rt, alloc, image_row());
     let manifest = Manifest::of_rows(alloc, 70000, rows).expect(&rt, "rows");
-    let bytes = manifest.write(alloc).expect(&rt, "memory");
-    same(&rt, bytes.as_slice(), WIDE.as_slice());
-    let read = read(&rt, alloc, &WIDE);
-    same(&rt, read.security(), 70000);
-    same(&rt, read.rows(), manifest.rows());
+    is_written(&rt, alloc, &manifest);
+    is_read(&rt, alloc, manifest.rows());
+}
+
+// The manifest is written as `WIDE`.
+fn is_written(rt: &impl Abort, alloc: Global, manifest: &Manifest) {
+    let bytes = manifest.write(alloc).expect(rt, "memory");
+    are_bytes(rt, bytes.as_slice(), &WIDE);
+}
+
+// `WIDE` is read as a manifest of these rows.
+fn is_read(rt: &impl Abort, alloc: Global, rows: &[Row]) {
+    let read = read(rt, alloc, &WIDE);
+    same(rt, read.security(), 70000);
+    same(rt, read.rows(), rows);
 }
 
 #[test]

@@ -1,6 +1,6 @@
 //! Marks in a block, and the anti-rollback counter.
 
-use crate::fixtures::{flash_of, gives, holds, image, ready, same};
+use crate::fixtures::{ends, flash_of, gives, holds, image, ready, same};
 use flash_core::FlashStop;
 use flash_devices::MemoryFlash;
 use marks_core::{add, clear, count, counter, raise};
@@ -12,15 +12,21 @@ fn zeros(rt: &impl Abort, alloc: Global) -> MemoryFlash {
     flash_of(rt, alloc, image(rt, alloc, 0, 32768), Vec::new(alloc))
 }
 
-fn counted(rt: &impl Abort, flash: &mut MemoryFlash) -> Result<u32, FlashStop> {
-    ready(rt, flash);
-    count(flash, 3, 3)
+fn gives_number(rt: &impl Abort, end: Result<u32, FlashStop>, wanted: Result<u32, FlashStop>) {
+    same(rt, end, wanted);
 }
 
-fn cleared(rt: &impl Abort, flash: &mut MemoryFlash) -> Result<(), FlashStop> {
+// So many marks are counted.
+fn has_marks(rt: &impl Abort, flash: &mut MemoryFlash, wanted: Result<u32, FlashStop>) {
+    ready(rt, flash);
+    gives_number(rt, count(flash, 3, 3), wanted);
+}
+
+// The marks are cleared.
+fn clears(rt: &impl Abort, flash: &mut MemoryFlash) {
     let mut buf = [0; 4096];
     ready(rt, flash);
-    clear(flash, 3, &mut buf)
+    ends(rt, clear(flash, 3, &mut buf), Ok(()));
 }
 
 // Whether there is no mark, and one is added.
@@ -38,10 +44,10 @@ fn is_first_added(rt: &impl Abort, flash: &mut MemoryFlash) -> bool {
 #[test]
 fn marks_are_counted_cleared_and_added(rt: HostRuntime) {
     let mut flash = zeros(&rt, rt.alloc());
-    same(&rt, counted(&rt, &mut flash), Ok(3));
-    same(&rt, cleared(&rt, &mut flash), Ok(()));
+    has_marks(&rt, &mut flash, Ok(3));
+    clears(&rt, &mut flash);
     holds(&rt, is_first_added(&rt, &mut flash), "no mark, then one");
-    same(&rt, counted(&rt, &mut flash), Ok(1));
+    has_marks(&rt, &mut flash, Ok(1));
 }
 
 // A record of 70000, made by Python's struct and zlib.crc32.
@@ -50,9 +56,10 @@ const RECORD: [u8; 32] = [
     0, 0, 0, 0,
 ];
 
-fn value(rt: &impl Abort, flash: &mut MemoryFlash) -> Result<u32, FlashStop> {
+// The counter has this value.
+fn has_value(rt: &impl Abort, flash: &mut MemoryFlash, wanted: Result<u32, FlashStop>) {
     ready(rt, flash);
-    counter(flash)
+    gives_number(rt, counter(flash), wanted);
 }
 
 // Whether the counter is 223, and is raised.
@@ -72,6 +79,6 @@ fn is_raised(rt: &impl Abort, flash: &mut MemoryFlash) -> bool {
 fn a_counter_is_raised(rt: HostRuntime) {
     let mut flash = zeros(&rt, rt.alloc());
     holds(&rt, is_raised(&rt, &mut flash), "from 223");
-    same(&rt, value(&rt, &mut flash), Ok(70000));
+    has_value(&rt, &mut flash, Ok(70000));
     gives(&rt, &mut flash, 20480, &RECORD);
 }

@@ -1,7 +1,8 @@
 //! Losses, faults and chances over blocks of a memory device. Block 3 begins at byte 12288.
 
 use crate::fixtures::{
-    arm, erased, flash_of, gives, holds, image, only, power_on, read, replaced, same, stands,
+    are_numbers, arm, ends, erased, flash_of, gives, holds, image, only, power_on, read, replaced,
+    same, stands,
 };
 use base_core::put_le32;
 use flash_core::{Flash, FlashStop, read_block};
@@ -14,20 +15,25 @@ fn one_cut(rt: &impl Abort, alloc: Global, landed: u32, back: bool) -> Vec<Cut> 
     only(rt, alloc, Cut { op, landed, back })
 }
 
+// Power is lost as block 3 is written over.
+fn loses(rt: &impl Abort, flash: &mut MemoryFlash, bytes: &[u8]) {
+    let end = replaced(rt, flash, 3, bytes);
+    ends(rt, end, Err(FlashStop::Lost));
+}
+
+fn was_cut(rt: &impl Abort, flash: &MemoryFlash) {
+    let counts = flash.counts();
+    are_numbers(rt, (counts.cuts, counts.reached, counts.chances), (1, 0, 0));
+}
+
 #[test]
 fn a_program_is_cut_after_its_first_granule(rt: HostRuntime) {
     let alloc = rt.alloc();
     let cuts = one_cut(&rt, alloc, 16, false);
     let mut flash = erased(&rt, alloc, 8, cuts, Vec::new(alloc));
-    let end = replaced(&rt, &mut flash, 3, &[0; 32]);
-    same(&rt, end, Err(FlashStop::Lost));
+    loses(&rt, &mut flash, &[0; 32]);
     power_on(&rt, &mut flash);
-    let counts = flash.counts();
-    same(
-        &rt,
-        (counts.cuts, counts.reached, counts.chances),
-        (1, 0, 0),
-    );
+    was_cut(&rt, &flash);
     gives(&rt, &mut flash, 12288, &[0; 16]);
     gives(&rt, &mut flash, 12304, &[0xFF; 16]);
 }
@@ -38,7 +44,7 @@ fn block_three(rt: &impl Abort, alloc: Global, flash: &mut MemoryFlash) -> Vec<u
     holds(rt, flash.is_on() && flash.blocks() == 8, "it is ready");
     holds(rt, block.len() == 4096, "a block");
     let end = read_block(flash, 3, block.as_mut_slice());
-    same(rt, end, Ok(()));
+    ends(rt, end, Ok(()));
     block
 }
 
@@ -46,13 +52,17 @@ fn block_three(rt: &impl Abort, alloc: Global, flash: &mut MemoryFlash) -> Vec<u
 fn goes_back(rt: &impl Abort, alloc: Global, back: bool, rest: u8) {
     let cuts = one_cut(rt, alloc, 16, back);
     let mut flash = flash_of(rt, alloc, image(rt, alloc, 0x5A, 32768), cuts);
-    let end = replaced(rt, &mut flash, 3, &[0; 32]);
-    same(rt, end, Err(FlashStop::Lost));
+    loses(rt, &mut flash, &[0; 32]);
     power_on(rt, &mut flash);
     let block = block_three(rt, alloc, &mut flash);
-    stands(rt, block.as_slice(), 0, &[0; 16]);
+    is_cut(rt, block.as_slice(), rest);
+}
+
+// A block has its first granule, and then this byte.
+fn is_cut(rt: &impl Abort, block: &[u8], rest: u8) {
+    stands(rt, block, 0, &[0; 16]);
     for at in [16, 32, 4095] {
-        stands(rt, block.as_slice(), at, &[rest]);
+        stands(rt, block, at, &[rest]);
     }
 }
 
@@ -63,17 +73,20 @@ fn erased_bytes_go_back_or_stay(rt: HostRuntime) {
     }
 }
 
+fn was_reached(rt: &impl Abort, flash: &MemoryFlash) {
+    let counts = flash.counts();
+    are_numbers(rt, (counts.cuts, counts.reached, counts.made), (0, 1, 2));
+}
+
 #[test]
 fn an_armed_loss_leaves_its_bytes(rt: HostRuntime) {
     let alloc = rt.alloc();
     let mut flash = erased(&rt, alloc, 8, Vec::new(alloc), Vec::new(alloc));
     arm(&rt, &mut flash, 2, 16);
-    let end = replaced(&rt, &mut flash, 3, &[0; 32]);
-    same(&rt, end, Err(FlashStop::Lost));
+    loses(&rt, &mut flash, &[0; 32]);
     arm(&rt, &mut flash, 9, 9);
     power_on(&rt, &mut flash);
-    let counts = flash.counts();
-    same(&rt, (counts.cuts, counts.reached, counts.made), (0, 1, 2));
+    was_reached(&rt, &flash);
     gives(&rt, &mut flash, 12288, &[0; 16]);
     gives(&rt, &mut flash, 12304, &[0xFF]);
 }
@@ -84,10 +97,15 @@ fn a_listed_call_fails(rt: HostRuntime) {
     let faults = only(&rt, alloc, 2);
     let mut flash = erased(&rt, alloc, 8, Vec::new(alloc), faults);
     gives(&rt, &mut flash, 0, &[0xFF; 2]);
-    let end = read(&rt, &mut flash, 0, &mut [0; 2]);
-    same(&rt, end, Err(FlashStop::Failed));
-    same(&rt, flash.counts().faults, 1);
-    same(&rt, flash.is_on(), false);
+    has_failed(&rt, &mut flash);
+}
+
+// A read fails, and counts as the first fault.
+fn has_failed(rt: &impl Abort, flash: &mut MemoryFlash) {
+    let end = read(rt, flash, 0, &mut [0; 2]);
+    ends(rt, end, Err(FlashStop::Failed));
+    same(rt, flash.counts().faults, 1);
+    same(rt, flash.is_on(), false);
 }
 
 // 32 bytes with the checksum of bytes 4 to 32 in front, and 16 bytes behind them.
@@ -110,22 +128,29 @@ fn guarding(rt: &impl Abort, alloc: Global, guarded: u32, cuts: Vec<Cut>) -> Mem
 #[test]
 fn a_seal_by_chance_counts_in_guarded_blocks(rt: HostRuntime) {
     let alloc = rt.alloc();
-    for (guarded, chances) in [(3, 1), (9, 0)] {
-        let cuts = one_cut(&rt, alloc, 32, false);
-        let mut flash = guarding(&rt, alloc, guarded, cuts);
-        let end = replaced(&rt, &mut flash, 3, &sealed_and_more());
-        same(&rt, end, Err(FlashStop::Lost));
-        power_on(&rt, &mut flash);
-        same(&rt, flash.counts().chances, chances);
-    }
+    has_chances(&rt, alloc, 3, 1);
+    has_chances(&rt, alloc, 9, 0);
+}
+
+// With this block guarded, so many chances are counted.
+fn has_chances(rt: &impl Abort, alloc: Global, guarded: u32, chances: u64) {
+    let cuts = one_cut(rt, alloc, 32, false);
+    let mut flash = guarding(rt, alloc, guarded, cuts);
+    loses(rt, &mut flash, &sealed_and_more());
+    power_on(rt, &mut flash);
+    same(rt, flash.counts().chances, chances);
+}
+
+// Why these bytes are no flash.
+fn refused(alloc: Global, bytes: Vec<u8>) -> Option<FlashMakeFault> {
+    MemoryFlash::from_bytes(alloc, bytes, Vec::new(alloc), Vec::new(alloc)).err()
 }
 
 #[test]
 fn whole_blocks_are_taken(rt: HostRuntime) {
     let alloc = rt.alloc();
-    let bytes = image(&rt, alloc, 0, 32767);
-    let short = MemoryFlash::from_bytes(alloc, bytes, Vec::new(alloc), Vec::new(alloc));
-    same(&rt, short.err(), Some(FlashMakeFault::BadSize));
+    let short = refused(alloc, image(&rt, alloc, 0, 32767));
+    same(&rt, short, Some(FlashMakeFault::BadSize));
     let bytes = image(&rt, alloc, 0, 32768);
     let flash = flash_of(&rt, alloc, bytes, Vec::new(alloc));
     same(&rt, flash.bytes().len(), 32768);

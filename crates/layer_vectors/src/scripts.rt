@@ -49,15 +49,19 @@ fn lines_are_calls_or_nothing(rt: HostRuntime) {
         matches!(taken(&rt, &mut script, 1), Call::Show),
         "show",
     );
-    // A last line without its end is a line.
+    holds(&rt, script_of(&rt, alloc, b"").is_empty(), "no line");
+    holds(&rt, script_of(&rt, alloc, b"\n#").is_empty(), "no call");
+}
+
+#[test]
+fn a_last_line_without_its_end_is_a_line(rt: HostRuntime) {
+    let alloc = rt.alloc();
     let mut open = script_of(&rt, alloc, b"boot\ncut 4294967295 4096");
     same(&rt, open.len(), 2);
     holds(&rt, matches!(taken(&rt, &mut open, 0), Call::Boot), "boot");
     let cut = taken(&rt, &mut open, 1);
     holds(&rt, cuts(&cut, 4_294_967_295, 4096), "a last cut");
     holds(&rt, !open.is_empty(), "two calls");
-    holds(&rt, script_of(&rt, alloc, b"").is_empty(), "no line");
-    holds(&rt, script_of(&rt, alloc, b"\n#").is_empty(), "no call");
 }
 
 // The one call of a line.
@@ -115,17 +119,22 @@ fn sends(call: &Call, wanted: &str, how: u32) -> bool {
 fn calls_with_types_have_their_values(rt: HostRuntime) {
     let alloc = rt.alloc();
     let tb = Guid::read("5ff9ec0b-4d22-3e4d-a544-c39d81c73f0a").expect(&rt, "a type");
-    let open = call_of(&rt, alloc, "open tb-fw r");
-    holds(&rt, opens(&open, &tb, Op::Read), "open r");
+    is_open(&rt, alloc, "open tb-fw r", &tb, Op::Read);
     let upper = "open 5FF9EC0B-4d22-3e4d-a544-c39d81c73f0a w";
-    let open = call_of(&rt, alloc, upper);
-    holds(&rt, opens(&open, &tb, Op::Write), "open w");
-    let accept = call_of(&rt, alloc, "accept tb-fw");
-    holds(&rt, accepts(&accept, &tb), "accept");
+    is_open(&rt, alloc, upper, &tb, Op::Write);
+    is_accept(&rt, alloc, "accept tb-fw", &tb);
+}
+
+fn is_open(rt: &impl Abort, alloc: Global, line: &str, wanted: &Guid, how: Op) {
+    holds(rt, opens(&call_of(rt, alloc, line), wanted, how), line);
+}
+
+fn is_accept(rt: &impl Abort, alloc: Global, line: &str, wanted: &Guid) {
+    holds(rt, accepts(&call_of(rt, alloc, line), wanted), line);
 }
 
 #[test]
-fn calls_have_their_values(rt: HostRuntime) {
+fn writes_and_reads_have_their_values(rt: HostRuntime) {
     let alloc = rt.alloc();
     let most = call_of(&rt, alloc, "write 4294967295 00fFa5");
     holds(&rt, writes(&most, 4_294_967_295, &[0, 255, 165]), "write");
@@ -133,6 +142,11 @@ fn calls_have_their_values(rt: HostRuntime) {
     holds(&rt, writes(&none, 0, &[]), "write nothing");
     let read = call_of(&rt, alloc, "read 33 4096");
     holds(&rt, reads(&read, 33, 4096), "read");
+}
+
+#[test]
+fn commits_and_sendings_have_their_values(rt: HostRuntime) {
+    let alloc = rt.alloc();
     let now = call_of(&rt, alloc, "commit 7 now");
     holds(&rt, commits(&now, 7, 0), "commit now");
     let trial = call_of(&rt, alloc, "commit 8 trial");
@@ -211,13 +225,18 @@ fn bad_lines_are_found(rt: HostRuntime) {
 #[test]
 fn the_limit_of_lines_is_exact(rt: HostRuntime) {
     let mut lines = image(&rt, rt.alloc(), b'\n', 65_536);
-    holds(&rt, !is_too_long(&lines), "65536 lines");
-    let mut limit = TextLimit::new();
-    same(&rt, limit.feed(&lines), 65_536);
-    holds(&rt, !limit.take(b'#'), "a byte more");
-    same(&rt, limit.feed(b"#"), 0);
+    are_most(&rt, lines.as_slice());
     lines.push(b'\n').expect(&rt, "memory");
     holds(&rt, is_too_long(&lines), "a line more");
+}
+
+// These lines are as many as a text may have.
+fn are_most(rt: &impl Abort, lines: &[u8]) {
+    holds(rt, !is_too_long(lines), "65536 lines");
+    let mut limit = TextLimit::new();
+    same(rt, limit.feed(lines), 65_536);
+    holds(rt, !limit.take(b'#'), "a byte more");
+    same(rt, limit.feed(b"#"), 0);
 }
 
 #[test]

@@ -1,7 +1,7 @@
 //! Images that are written piece by piece into a slot of two blocks, over a device of ten blocks. The
 //! slot begins at block 8, byte 32768.
 
-use crate::fixtures::{flash_of, holds, image, only, same, stands};
+use crate::fixtures::{ends, flash_of, holds, image, only, same, stands};
 use flash_core::{Flash, FlashStop};
 use flash_devices::{Cut, MemoryFlash};
 use slot_writer::{append, finish};
@@ -63,7 +63,7 @@ fn comes_in(rt: &impl Abort, alloc: Global, piece: usize, len: u32) {
     let image = pattern(rt, alloc, len);
     let mut flash = device(rt, alloc, Vec::new(alloc));
     let end = in_pieces(rt, &mut flash, image.as_slice(), piece);
-    same(rt, end, Ok(()));
+    ends(rt, end, Ok(()));
     holds(rt, is_held(&flash, image.as_slice()), "the image");
 }
 
@@ -102,11 +102,11 @@ fn a_loss_at_each_operation(rt: HostRuntime) {
     let image = image.as_slice();
     for (op, done) in [(1, 0), (2, 0), (3, 2992), (4, 3008), (5, 3008), (6, 4992)] {
         let (end, flash) = lost_at(&rt, alloc, image, op);
-        same(&rt, end, Err(FlashStop::Lost));
+        ends(&rt, end, Err(FlashStop::Lost));
         let wanted = image.get(..done).expect(&rt, "so many");
         stands(&rt, flash.bytes(), 32768, wanted);
     }
     let (end, flash) = lost_at(&rt, alloc, image, 7);
-    same(&rt, end, Ok(()));
+    ends(&rt, end, Ok(()));
     same(&rt, flash.counts().cuts, 0);
 }

@@ -3,7 +3,7 @@
 ghost use Rattle.std.specs.Prelude.{◌≡◌, IsTrue};
 ghost use Rattle.flash_devices.specs.Memory.{is_on, block_count};
 
-use crate::fixtures::{erased, holds, image, image_rows, same};
+use crate::fixtures::{ends, erased, holds, image, image_rows, same};
 use flash_core::{Flash, replace};
 use flash_devices::MemoryFlash;
 use meta_layout::{Layout, Meta};
@@ -35,7 +35,7 @@ fn store_first(rt: &impl Abort, flash: &mut MemoryFlash, layout: &Layout) {
     let mut buf = [0; 4096];
     ready(rt, flash);
     let end = store(flash, layout, &Meta::first(layout), &mut buf);
-    same(rt, end, Ok(()));
+    ends(rt, end, Ok(()));
 }
 
 // Both replicas are the first metadata.
@@ -52,23 +52,28 @@ fn repaired(rt: &impl Abort, flash: &mut MemoryFlash, layout: &Layout, wanted: W
     let (found, which) = load(flash, layout).expect(rt, "metadata");
     same(rt, which, wanted);
     let end = repair(flash, layout, &found, which, &mut buf);
-    same(rt, end, Ok(()));
+    ends(rt, end, Ok(()));
+}
+
+// No metadata is stored.
+fn has_none(rt: &impl Abort, flash: &mut MemoryFlash, layout: &Layout) {
+    ready(rt, flash);
+    let none = load(flash, layout).err();
+    same(rt, none, Some(ReplicaStop::NoMetadata));
 }
 
 #[test]
 fn metadata_is_stored_and_loaded(rt: HostRuntime) {
     let layout = layout(&rt);
     let mut flash = blank(&rt, rt.alloc());
-    ready(&rt, &flash);
-    let none = load(&mut flash, &layout);
-    holds(&rt, none == Err(ReplicaStop::NoMetadata), "none");
+    has_none(&rt, &mut flash, &layout);
     store_first(&rt, &mut flash, &layout);
     shows_first(&rt, &mut flash, &layout);
 }
 
 fn erase_one(rt: &impl Abort, flash: &mut MemoryFlash) {
     ready(rt, flash);
-    same(rt, flash.erase(1), Ok(()));
+    ends(rt, flash.erase(1), Ok(()));
 }
 
 #[test]
@@ -94,7 +99,7 @@ fn write_one(rt: &impl Abort, alloc: Global, flash: &mut MemoryFlash, layout: &L
 fn put_block_one(rt: &impl Abort, flash: &mut MemoryFlash, block: &[u8]) {
     ready(rt, flash);
     holds(rt, block.len() == 4096, "a block");
-    same(rt, replace(flash, 1, block), Ok(()));
+    ends(rt, replace(flash, 1, block), Ok(()));
 }
 
 #[test]

@@ -10,6 +10,7 @@ use crate::fixtures::{MANIFEST, image_rows, same};
 use flash_core::{Arming, Counts, Flash, FlashStop};
 use image_check::{Verdict, check};
 use meta_layout::Layout;
+use std::process::Abort;
 use verify_core::{AnyManifest, Verifier};
 
 // A device that is only read: three banks of two blocks have the manifest, the first of them the image, and the
@@ -146,29 +147,29 @@ fn verdict<V: Verifier>(bank: u32, counter: u32, verifier: &V) -> Option<Verdict
     result.ok()
 }
 
+// The verdict on a bank, by the counter, is this one.
+fn gives<V: Verifier>(rt: &impl Abort, place: (u32, u32), verifier: &V, wanted: Option<Verdict>) {
+    let (bank, counter) = place;
+    same(rt, verdict(bank, counter, verifier), wanted);
+}
+
+// The verdicts by any manifest.
+fn gives_each<V: Verifier>(rt: &impl Abort, any: &V) {
+    gives(rt, (0, 7), any, Some(Verdict::Good { version: 7 }));
+    let below = Verdict::BelowCounter {
+        version: 7,
+        counter: 8,
+    };
+    gives(rt, (0, 8), any, Some(below));
+    gives(rt, (1, 8), any, Some(Verdict::BadImage { image: 1 }));
+    gives(rt, (2, 8), any, Some(Verdict::BadManifest));
+}
+
 #[test]
 fn verdicts(rt: HostRuntime) {
-    same(
-        &rt,
-        verdict(0, 7, &AnyManifest),
-        Some(Verdict::Good { version: 7 }),
-    );
-    same(
-        &rt,
-        verdict(0, 8, &AnyManifest),
-        Some(Verdict::BelowCounter {
-            version: 7,
-            counter: 8,
-        }),
-    );
-    same(
-        &rt,
-        verdict(1, 8, &AnyManifest),
-        Some(Verdict::BadImage { image: 1 }),
-    );
-    same(&rt, verdict(2, 8, &AnyManifest), Some(Verdict::BadManifest));
+    gives_each(&rt, &AnyManifest);
     let no = NoManifest;
-    same(&rt, verdict(1, 8, &no), Some(Verdict::NotAccepted));
-    same(&rt, verdict(2, 8, &no), Some(Verdict::BadManifest));
+    gives(&rt, (1, 8), &no, Some(Verdict::NotAccepted));
+    gives(&rt, (2, 8), &no, Some(Verdict::BadManifest));
     let NoManifest = no;
 }

@@ -7,11 +7,15 @@ use std::alloc::Global;
 use std::process::Abort;
 use words_core::guid_named;
 
+fn add_word(rt: &impl Abort, alloc: Global, list: &mut Vec<String>, word: &str) {
+    let word = String::from_str(alloc, word).expect(rt, "memory");
+    list.push(word).expect(rt, "memory");
+}
+
 fn words(rt: &impl Abort, alloc: Global, line: &str) -> Vec<String> {
     let mut list = Vec::new(alloc);
     for word in line.split(' ') {
-        let word = String::from_str(alloc, word).expect(rt, "memory");
-        list.push(word).expect(rt, "memory");
+        add_word(rt, alloc, &mut list, word);
     }
     list
 }
@@ -138,10 +142,21 @@ fn names_list(words: &[String]) -> bool {
 #[test]
 fn a_list_stands_in_front(rt: HostRuntime) {
     let list = words(&rt, rt.alloc(), "--allow l.txt boot");
-    let list = list.as_slice();
-    holds(&rt, list.len() == 3, "three words");
-    holds(&rt, names_list(list), "a list");
-    holds(&rt, matches!(allow_of(&list[..1]), Allow::Usage), "no name");
-    holds(&rt, matches!(allow_of(&list[1..]), Allow::No), "no list");
-    holds(&rt, matches!(allow_of(&list[..0]), Allow::No), "no words");
+    stands_in_front(&rt, list.as_slice());
+}
+
+fn is_no_name(words: &[String]) -> bool {
+    matches!(allow_of(words), Allow::Usage)
+}
+
+fn is_no_list(words: &[String]) -> bool {
+    matches!(allow_of(words), Allow::No)
+}
+
+fn stands_in_front(rt: &impl Abort, list: &[String]) {
+    holds(rt, list.len() == 3, "three words");
+    holds(rt, names_list(list), "a list");
+    holds(rt, is_no_name(&list[..1]), "no name");
+    holds(rt, is_no_list(&list[1..]), "no list");
+    holds(rt, is_no_list(&list[..0]), "no words");
 }
