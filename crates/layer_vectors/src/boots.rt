@@ -3,26 +3,20 @@
 use crate::fixtures::{erased, holds, only};
 use early_boot::{BootEnd, boot};
 use flash_core::Flash;
-use flash_devices::MemoryFlash;
 use std::process::Abort;
 use verify_core::AnyManifest;
 
 // Whether a boot ended by a fault, with no numbers and the power gone.
-fn is_fault(end: &BootEnd<MemoryFlash>) -> bool {
+fn is_fault<D: Flash>(end: &BootEnd<D>) -> bool {
     match end {
         BootEnd::Fault(flash, None) => !flash.is_on(),
         _ => false,
     }
 }
 
-// How a boot ends. What it promises is left out, so that goals stay small.
-fn booted(rt: &impl Abort, flash: MemoryFlash) -> BootEnd<MemoryFlash> {
+fn faults<D: Flash + Drop>(rt: &impl Abort, flash: D) -> bool {
     holds(rt, flash.is_on(), "power is on");
-    boot(flash, &AnyManifest)
-}
-
-fn faults(rt: &impl Abort, flash: MemoryFlash) -> bool {
-    let end = booted(rt, flash);
+    let end = boot(flash, &AnyManifest);
     is_fault(&end)
 }
 

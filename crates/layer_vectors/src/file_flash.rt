@@ -96,15 +96,19 @@ fn make(rt: &(impl Files + Abort), alloc: Global, name: &str) {
     fs::write(rt, name, before.as_slice()).expect(rt, "written");
 }
 
+fn work_on_a_file<R: Files + AllocGlobal + Abort>(rt: &R) {
+    let name = "file_flash_test.bin";
+    make(rt, rt.alloc(), name);
+    let file = File::options().read(true).write(true).open(rt, name);
+    worked(rt, file.expect(rt, "opened"));
+    let bytes = fs::read(rt, name).expect(rt, "read");
+    removed(rt, name);
+    are_left(rt, rt.alloc(), bytes.as_slice());
+}
+
 #[test]
 fn a_file_of_the_system_is_a_flash(rt: HostRuntime) {
-    let name = "file_flash_test.bin";
-    make(&rt, rt.alloc(), name);
-    let file = File::options().read(true).write(true).open(&rt, name);
-    worked(&rt, file.expect(&rt, "opened"));
-    let bytes = fs::read(&rt, name).expect(&rt, "read");
-    removed(&rt, name);
-    are_left(&rt, rt.alloc(), bytes.as_slice());
+    work_on_a_file(&rt);
 }
 
 #[test]

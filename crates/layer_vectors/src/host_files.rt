@@ -295,15 +295,15 @@ fn rewritten<R: std::rt::Files>(rt: &impl Abort, files: &mut HostFiles<R>, name:
     gives(rt, files, (name, 1), b"hort");
 }
 
-fn whole_files<R: std::rt::Files + Abort>(rt: &R) {
+fn whole_files<R: std::rt::Files + Drop>(rt: &(impl std::rt::Files + Abort), runtime: R) {
     let name = "host_io_whole.tmp";
-    rewritten(rt, &mut HostFiles::new(rt), name);
+    rewritten(rt, &mut HostFiles::new(runtime), name);
     removed(rt, name);
 }
 
 #[test]
 fn files_of_the_system(rt: HostRuntime) {
-    whole_files(&rt);
+    whole_files(&rt, &rt);
 }
 
 // No size is told, and nothing is written.
@@ -327,9 +327,9 @@ fn is_short<R: std::rt::Files>(rt: &impl Abort, files: &mut HostFiles<R>, name: 
     reads(rt, files, (name, 6), &mut [], Err(Failed));
 }
 
-fn short_files<R: std::rt::Files + Abort>(rt: &R) {
+fn short_files<R: std::rt::Files + Drop>(rt: &(impl std::rt::Files + Abort), runtime: R) {
     let name = "host_io_short.tmp";
-    let mut files = HostFiles::new(rt);
+    let mut files = HostFiles::new(runtime);
     is_short(rt, &mut files, name);
     removed(rt, name);
     is_missing(rt, &mut files, name);
@@ -337,7 +337,7 @@ fn short_files<R: std::rt::Files + Abort>(rt: &R) {
 
 #[test]
 fn short_and_missing_files(rt: HostRuntime) {
-    short_files(&rt);
+    short_files(&rt, &rt);
 }
 
 // Each call on a folder fails.
@@ -346,16 +346,16 @@ fn is_folder<R: std::rt::Files>(rt: &impl Abort, files: &mut HostFiles<R>, name:
     refuses(rt, files, name, name);
 }
 
-fn one_folder<R: std::rt::Files + Abort>(rt: &R) {
+fn one_folder<R: std::rt::Files + Drop>(rt: &(impl std::rt::Files + Abort), runtime: R) {
     let name = "host_io_folder.tmp";
     fs::create_dir(rt, name).expect(rt, "made");
-    is_folder(rt, &mut HostFiles::new(rt), name);
+    is_folder(rt, &mut HostFiles::new(runtime), name);
     fs::remove_dir(rt, name).expect(rt, "removed");
 }
 
 #[test]
 fn folders(rt: HostRuntime) {
-    one_folder(&rt);
+    one_folder(&rt, &rt);
 }
 
 // A file of 70,000 bytes, of which the last is 2 and the others are 1.
@@ -397,13 +397,17 @@ fn ranges<R: std::rt::Files>(rt: &impl Abort, alloc: Global, files: &mut HostFil
     is_added(rt, list.as_slice());
 }
 
-fn long_ranges<R: std::rt::Files + Abort>(rt: &R, alloc: Global) {
+fn long_ranges<R: std::rt::Files + Drop>(
+    rt: &(impl std::rt::Files + Abort),
+    alloc: Global,
+    runtime: R,
+) {
     let name = "host_io_range.tmp";
-    ranges(rt, alloc, &mut HostFiles::new(rt), name);
+    ranges(rt, alloc, &mut HostFiles::new(runtime), name);
     removed(rt, name);
 }
 
 #[test]
 fn ranges_of_the_system(rt: HostRuntime) {
-    long_ranges(&rt, rt.alloc());
+    long_ranges(&rt, rt.alloc(), &rt);
 }

@@ -32,10 +32,15 @@ fn a_program_is_cut_after_its_first_granule(rt: HostRuntime) {
     let cuts = one_cut(&rt, alloc, 16, false);
     let mut flash = erased(&rt, alloc, 8, cuts, Vec::new(alloc));
     loses(&rt, &mut flash, &[0; 32]);
-    power_on(&rt, &mut flash);
-    was_cut(&rt, &flash);
-    gives(&rt, &mut flash, 12288, &[0; 16]);
-    gives(&rt, &mut flash, 12304, &[0xFF; 16]);
+    has_first_granule(&rt, &mut flash);
+}
+
+// Power comes back, and the first granule of block 3 is programmed.
+fn has_first_granule(rt: &impl Abort, flash: &mut MemoryFlash) {
+    power_on(rt, flash);
+    was_cut(rt, flash);
+    gives(rt, flash, 12288, &[0; 16]);
+    gives(rt, flash, 12304, &[0xFF; 16]);
 }
 
 // The bytes of block 3.
@@ -85,10 +90,15 @@ fn an_armed_loss_leaves_its_bytes(rt: HostRuntime) {
     arm(&rt, &mut flash, 2, 16);
     loses(&rt, &mut flash, &[0; 32]);
     arm(&rt, &mut flash, 9, 9);
-    power_on(&rt, &mut flash);
-    was_reached(&rt, &flash);
-    gives(&rt, &mut flash, 12288, &[0; 16]);
-    gives(&rt, &mut flash, 12304, &[0xFF]);
+    has_sixteen_bytes(&rt, &mut flash);
+}
+
+// Power comes back, and 16 bytes of block 3 are programmed.
+fn has_sixteen_bytes(rt: &impl Abort, flash: &mut MemoryFlash) {
+    power_on(rt, flash);
+    was_reached(rt, flash);
+    gives(rt, flash, 12288, &[0; 16]);
+    gives(rt, flash, 12304, &[0xFF]);
 }
 
 #[test]
