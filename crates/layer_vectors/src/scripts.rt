@@ -38,17 +38,26 @@ fn cuts(call: &Call, operation: u32, bytes: u32) -> bool {
     }
 }
 
+fn has_cut(rt: &impl Abort, script: &mut Script, at: usize, wanted: (u32, u32)) {
+    let (operation, bytes) = wanted;
+    holds(rt, cuts(&taken(rt, script, at), operation, bytes), "a cut");
+}
+
+fn has_show(rt: &impl Abort, script: &mut Script, at: usize) {
+    holds(rt, matches!(taken(rt, script, at), Call::Show), "show");
+}
+
+fn has_boot(rt: &impl Abort, script: &mut Script, at: usize) {
+    holds(rt, matches!(taken(rt, script, at), Call::Boot), "boot");
+}
+
 #[test]
 fn lines_are_calls_or_nothing(rt: HostRuntime) {
     let alloc = rt.alloc();
     let mut script = script_of(&rt, alloc, b"# nothing is on\n\ncut 1 0\nshow\n");
     same(&rt, script.len(), 2);
-    holds(&rt, cuts(&taken(&rt, &mut script, 0), 1, 0), "a cut");
-    holds(
-        &rt,
-        matches!(taken(&rt, &mut script, 1), Call::Show),
-        "show",
-    );
+    has_cut(&rt, &mut script, 0, (1, 0));
+    has_show(&rt, &mut script, 1);
     holds(&rt, script_of(&rt, alloc, b"").is_empty(), "no line");
     holds(&rt, script_of(&rt, alloc, b"\n#").is_empty(), "no call");
 }
@@ -58,9 +67,8 @@ fn a_last_line_without_its_end_is_a_line(rt: HostRuntime) {
     let alloc = rt.alloc();
     let mut open = script_of(&rt, alloc, b"boot\ncut 4294967295 4096");
     same(&rt, open.len(), 2);
-    holds(&rt, matches!(taken(&rt, &mut open, 0), Call::Boot), "boot");
-    let cut = taken(&rt, &mut open, 1);
-    holds(&rt, cuts(&cut, 4_294_967_295, 4096), "a last cut");
+    has_boot(&rt, &mut open, 0);
+    has_cut(&rt, &mut open, 1, (4_294_967_295, 4096));
     holds(&rt, !open.is_empty(), "two calls");
 }
 
@@ -180,10 +188,16 @@ fn words_are_calls(rt: HostRuntime) {
     }
 }
 
+// Each of these lines is bad.
+fn are_bad(rt: &impl Abort, alloc: Global, lines: &[&str]) {
+    for line in lines {
+        holds(rt, is_bad(alloc, line.as_bytes(), 1), line);
+    }
+}
+
 #[test]
-fn bad_lines_are_found(rt: HostRuntime) {
-    let alloc = rt.alloc();
-    for text in [
+fn bad_losses_and_openings_are_found(rt: HostRuntime) {
+    let lines = [
         "cut 0 1",
         "cut 1 4097",
         "cut 4294967296 0",
@@ -194,6 +208,13 @@ fn bad_lines_are_found(rt: HostRuntime) {
         "open tb-fw x",
         "open tb r",
         "open tb-fw",
+    ];
+    are_bad(&rt, rt.alloc(), &lines);
+}
+
+#[test]
+fn bad_calls_of_images_are_found(rt: HostRuntime) {
+    let lines = [
         "write 1 0",
         "write 1",
         "write 1 0g",
@@ -205,6 +226,13 @@ fn bad_lines_are_found(rt: HostRuntime) {
         "send p2.fip",
         "send p2.fip later",
         "send p\u{e9} now",
+    ];
+    are_bad(&rt, rt.alloc(), &lines);
+}
+
+#[test]
+fn bad_words_are_found(rt: HostRuntime) {
+    let lines = [
         "begin 0",
         "boot ",
         " boot",
@@ -213,10 +241,13 @@ fn bad_lines_are_found(rt: HostRuntime) {
         "boot\r\n",
         " # no comment",
         "\0",
-    ] {
-        holds(&rt, is_bad(alloc, text.as_bytes(), 1), text);
-    }
-    // The first bad line counts.
+    ];
+    are_bad(&rt, rt.alloc(), &lines);
+}
+
+#[test]
+fn the_first_bad_line_counts(rt: HostRuntime) {
+    let alloc = rt.alloc();
     holds(&rt, is_bad(alloc, b"boot\nbegin\nbigin\n", 3), "line 3");
     let text = b"\n#\nshow\naccept tbfw\nbigin";
     holds(&rt, is_bad(alloc, text, 4), "line 4");

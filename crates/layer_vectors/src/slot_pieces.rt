@@ -101,12 +101,22 @@ fn a_loss_at_each_operation(rt: HostRuntime) {
     let image = pattern(&rt, alloc, 5000);
     let image = image.as_slice();
     for (op, done) in [(1, 0), (2, 0), (3, 2992), (4, 3008), (5, 3008), (6, 4992)] {
-        let (end, flash) = lost_at(&rt, alloc, image, op);
-        ends(&rt, end, Err(FlashStop::Lost));
-        let wanted = image.get(..done).expect(&rt, "so many");
-        stands(&rt, flash.bytes(), 32768, wanted);
+        is_lost_at(&rt, alloc, image, op, done);
     }
-    let (end, flash) = lost_at(&rt, alloc, image, 7);
-    ends(&rt, end, Ok(()));
-    same(&rt, flash.counts().cuts, 0);
+    is_not_lost(&rt, alloc, image);
+}
+
+// A loss at this operation leaves so many bytes of the image.
+fn is_lost_at(rt: &impl Abort, alloc: Global, image: &[u8], op: u64, done: usize) {
+    let (end, flash) = lost_at(rt, alloc, image, op);
+    ends(rt, end, Err(FlashStop::Lost));
+    let wanted = image.get(..done).expect(rt, "so many");
+    stands(rt, flash.bytes(), 32768, wanted);
+}
+
+// There is no operation behind the sixth.
+fn is_not_lost(rt: &impl Abort, alloc: Global, image: &[u8]) {
+    let (end, flash) = lost_at(rt, alloc, image, 7);
+    ends(rt, end, Ok(()));
+    same(rt, flash.counts().cuts, 0);
 }

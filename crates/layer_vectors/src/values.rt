@@ -24,17 +24,18 @@ fn numbers_have_one_spelling(rt: HostRuntime) {
     }
 }
 
+// This is the name of an image of the type that the text spells.
+fn is_named(rt: &impl Abort, name: &str, text: &str) {
+    let guid = guid_named(name.as_bytes());
+    holds(rt, guid.is_some(), name);
+    holds(rt, guid_named(text.as_bytes()) == guid, name);
+}
+
 #[test]
 fn names_of_images_and_files(rt: HostRuntime) {
-    for (name, text) in [
-        ("tb-fw", "5FF9EC0B-4D22-3E4D-A544-C39D81C73F0A"),
-        ("nt-fw", "d6d0eea7-fcea-d54b-9782-9934f234b6e4"),
-        ("manifest", "4657554d-414e-4946-4553-540000000001"),
-    ] {
-        let guid = guid_named(name.as_bytes());
-        holds(&rt, guid.is_some(), name);
-        holds(&rt, guid_named(text.as_bytes()) == guid, name);
-    }
+    is_named(&rt, "tb-fw", "5FF9EC0B-4D22-3E4D-A544-C39D81C73F0A");
+    is_named(&rt, "nt-fw", "d6d0eea7-fcea-d54b-9782-9934f234b6e4");
+    is_named(&rt, "manifest", "4657554d-414e-4946-4553-540000000001");
     holds(&rt, guid_named(b"tb_fw").is_none(), "tb_fw");
     holds(&rt, is_file_name(b"a.fip"), "a.fip");
     holds(&rt, !is_file_name(b"a b"), "a b");

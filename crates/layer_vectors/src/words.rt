@@ -43,10 +43,16 @@ fn words_that_ask_for_something(rt: HostRuntime) {
     }
 }
 
+// Each of these lines asks for nothing.
+fn are_refused(rt: &impl Abort, alloc: Global, lines: &[&str]) {
+    for line in lines {
+        holds(rt, refusal(rt, alloc, line) == Some(UsageStop::Usage), line);
+    }
+}
+
 #[test]
 fn words_that_ask_for_nothing(rt: HostRuntime) {
-    let usage = Some(UsageStop::Usage);
-    for line in [
+    let lines = [
         "",
         "help",
         "--help",
@@ -57,6 +63,18 @@ fn words_that_ask_for_nothing(rt: HostRuntime) {
         "format --banks 1 tb-fw:1 p",
         "format --banks 02 tb-fw:1 p",
         "format --banks 2 --banks 2 tb-fw:1 p",
+    ];
+    are_refused(&rt, rt.alloc(), &lines);
+    same(
+        &rt,
+        fwu_order(rt.alloc(), &[]).err(),
+        Some(UsageStop::Usage),
+    );
+}
+
+#[test]
+fn rows_and_soaks_that_ask_for_nothing(rt: HostRuntime) {
+    let lines = [
         "format tb-fw:2,nt-fw p",
         "format tb-fw:2, p",
         "format tb-fw:02 p",
@@ -68,10 +86,8 @@ fn words_that_ask_for_nothing(rt: HostRuntime) {
         "soak 4294967296 1",
         "soak -1 1",
         "soak x 1",
-    ] {
-        holds(&rt, refusal(&rt, rt.alloc(), line) == usage, line);
-    }
-    same(&rt, fwu_order(rt.alloc(), &[]).err(), usage);
+    ];
+    are_refused(&rt, rt.alloc(), &lines);
 }
 
 // Whether a row has this type and this many slots.
