@@ -213,8 +213,7 @@ fn the_first_metadata_of_two_banks_has_its_bytes(rt: HostRuntime) {
     same(&rt, Meta::size(&layout), 280);
     let mut block = first_block(&rt, rt.alloc(), &layout);
     has_two_banks(&rt, block.as_slice());
-    let again = meta_in(&rt, &layout, block.as_slice());
-    is_first(&rt, &layout, &again);
+    is_read(&rt, &layout, block.as_slice());
     put(&rt, block.as_mut_slice(), 26, &[0xfc]);
     is_spoiled(&rt, block.as_slice());
 }
@@ -230,6 +229,10 @@ fn is_first(rt: &impl Abort, layout: &Layout, meta: &Meta) {
     holds(rt, meta.is(&Meta::first(layout)), "as it was");
 }
 
+fn is_read(rt: &impl Abort, layout: &Layout, block: &[u8]) {
+    is_first(rt, layout, &meta_in(rt, layout, block));
+}
+
 fn is_spoiled(rt: &impl Abort, block: &[u8]) {
     same(rt, meta_read_fault(rt, block), Some(MetaFault::BadCrc));
 }
@@ -242,10 +245,15 @@ fn the_first_metadata_of_three_banks_has_its_bytes(rt: HostRuntime) {
     has_three_banks(&rt, block.as_slice());
     put_one(&rt, &layout, block.as_mut_slice());
     has_version_one(&rt, block.as_slice());
-    let mut again = meta_in(&rt, &layout, block.as_slice());
-    same(&rt, again.form(), 1);
+    is_migrated(&rt, &layout, block.as_slice());
+}
+
+// The block is read in version 1, and migrated to the first metadata of a layout.
+fn is_migrated(rt: &impl Abort, layout: &Layout, block: &[u8]) {
+    let mut again = meta_in(rt, layout, block);
+    same(rt, again.form(), 1);
     again.migrate();
-    is_first(&rt, &layout, &again);
+    is_first(rt, layout, &again);
 }
 
 fn has_three_banks(rt: &impl Abort, block: &[u8]) {

@@ -1,6 +1,10 @@
 //! Images that are written piece by piece into a slot of two blocks, over a device of ten blocks. The
 //! slot begins at block 8, byte 32768.
 
+ghost use Rattle.std.specs.Prelude.{◌≡◌, ◌+◌, ◌≤◌, OnOk, is_ok, length, IsTrue};
+ghost use Rattle.flash_devices.specs.Memory.{is_on, block_count, told_of};
+ghost use Rattle.slot_writer.specs.Slots.{IsBlankAhead, done_of};
+
 use crate::fixtures::{ends, flash_of, holds, image, only, same, stands};
 use flash_core::{Flash, FlashStop};
 use flash_devices::{Cut, MemoryFlash};
@@ -22,6 +26,25 @@ fn pattern(rt: &impl Abort, alloc: Global, len: u32) -> Vec<u8> {
     bytes
 }
 
+// Appends a piece. Of what an append promises only this is needed, and goals stay small.
+fn append_piece(
+    flash: &mut MemoryFlash,
+    at: u32,
+    rest: &mut [u8; 16],
+    bytes: &[u8],
+) -> Result<(), FlashStop>
+    requires on { IsTrue (is_on flash.old) }
+    requires blocks { block_count flash.old ≡ 10 }
+    requires inside { at + length bytes.now ≤ 8192 }
+    requires ahead { IsBlankAhead 8 (done_of at) (told_of flash.old).now }
+    ensures power { is_on flash.new ≡ is_ok result }
+    ensures size { block_count flash.new ≡ 10 }
+    ensures ahead { OnOk result
+        (IsBlankAhead 8 (done_of (at + length bytes.now)) (told_of flash.new).now) }
+{
+    append(flash, 8, at, rest, bytes)
+}
+
 // Writes an image into the slot in pieces of so many bytes.
 fn in_pieces(
     rt: &impl Abort,
@@ -36,7 +59,7 @@ fn in_pieces(
     let mut at: usize = 0;
     while at < image.len() {
         let end = at + piece.min(image.len() - at);
-        append(flash, 8, at as u32, &mut rest, &image[at..end])?;
+        append_piece(flash, at as u32, &mut rest, &image[at..end])?;
         at = end;
     }
     finish(flash, 8, at as u32, &rest)
