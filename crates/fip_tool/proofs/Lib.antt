@@ -1,6 +1,7 @@
 pub mod Conversions
 pub mod Converted
 pub mod Did
+pub mod DoneBy
 pub mod Enclosings
 pub mod Ending
 pub mod ManifestLemmas

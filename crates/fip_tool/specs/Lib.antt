@@ -6,3 +6,4 @@ pub mod Ends
 pub mod Payloads
 pub mod Said
 pub mod Converted
+pub mod Done

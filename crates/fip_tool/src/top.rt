@@ -6,8 +6,9 @@ ghost use Rattle.host_io.specs.Contents.{Directory};
 ghost use Rattle.fip_words.specs.Order.{Asked, asked, info_of_source, view};
 ghost use Rattle.fip_words.specs.Values.{is_unpacked};
 ghost use Rattle.fip_tool.specs.Converted.{Converts};
+ghost use Rattle.fip_tool.specs.Done.{Done};
 ghost use Rattle.fip_tool.specs.Ends.{Ended, Reported, Told};
-ghost use Rattle.fip_tool.specs.Said.{IsTexts, IsTextsOf, SaidWith, Says};
+ghost use Rattle.fip_tool.specs.Said.{IsTexts, SaidWith, Says};
 ghost use Rattle.fip_tool.specs.Steps.{Did, FailsOnce, line_failures, sink_failed, sink_failures, source_failures};
 ghost use Rattle.fip_tool.specs.Tool.{EndedSource, ReadSource, asks_files, command_outcome, outcome_of};
 ghost use Rattle.fip_tool.specs.declared.stops.Stop.TheVariants as stop;
@@ -115,31 +116,8 @@ fn command<H: Files, I: Source, O: Sink>(
 ) -> Result<(), Stop>
     requires other { (from prefix : List ℕ) → (names : List (List ℕ))
         → view order.now ≡ Asked.unpack from prefix names → is_unpacked prefix from ≡ false }
-    ensures told { (told : Directory) → H.contents files.old ≡ Some told
-        → view order.now ≢ info_of_source
-        → Did (command_outcome (view order.now) told) told (H.contents files.new) (O.taken sink.old)
-        (O.taken sink.new)
-        (Rose (H.faults files.old) (H.faults files.new))
-        (Rose (H.spoiled files.old) (H.spoiled files.new))
-        (Rose (O.faults sink.old) (O.faults sink.new)) result }
-    ensures source { view order.now ≡ info_of_source
-        → ReadSource result (H.contents files.old) (H.contents files.new) (I.left source.old)
-        (I.left source.new)
-        (O.taken sink.old) (O.taken sink.new) (Rose (I.faults source.old) (I.faults source.new))
-        (Rose (O.faults sink.old) (O.faults sink.new)) }
-    ensures cause { result ≡ Err stop.FileFault → H.contents files.old ≡ None
-        → Rose (H.faults files.old) (H.faults files.new)
-        ⊎ Rose (I.faults source.old) (I.faults source.new) }
-    ensures says { Says (IsTexts (view order.now)) (O.taken sink.old) (O.taken sink.new)
-        (Rose (O.faults sink.old) (O.faults sink.new)) result }
-    ensures source_stays { view order.now ≢ info_of_source
-        → (I.left source.new ≡ I.left source.old) × (I.faults source.new ≡ I.faults source.old) }
-    ensures source_count { view order.now ≡ info_of_source
-        → I.faults source.new ≡ source_failures result (I.faults source.old) }
-    ensures files_stay { IsFalse (asks_files (Some (view order.now))) → files.new ≡ files.old }
-    ensures usage { result ≡ Err stop.Usage → ⊥ }
-    ensures later { O.faults sink.old ≤ O.faults sink.new }
-    ensures sink_count { O.faults sink.new ≡ sink_failures result (O.faults sink.old) }
+    ensures { Done H.contents H.faults H.spoiled I.left I.faults O.taken O.faults (Some (view order.now))
+        result files.old files.new source.old source.new sink.old sink.new }
 {
     match order {
         FipOrder::Info { file } => info(alloc, files, sink, file),
@@ -184,35 +162,9 @@ fn run<H: Files, I: Source, O: Sink>(
     source: &mut I,
     sink: &mut O,
 ) -> Result<(), Stop>
-    ensures told { (told : Directory) → H.contents files.old ≡ Some told
-        → asked (map string_bytes words.now) ≢ Some info_of_source
-        → Did (outcome_of (asked (map string_bytes words.now)) told) told (H.contents files.new)
-        (O.taken sink.old) (O.taken sink.new)
-        (Rose (H.faults files.old) (H.faults files.new))
-        (Rose (H.spoiled files.old) (H.spoiled files.new))
-        (Rose (O.faults sink.old) (O.faults sink.new)) result }
-    ensures source { asked (map string_bytes words.now) ≡ Some info_of_source
-        → ReadSource result (H.contents files.old) (H.contents files.new)
-        (I.left source.old) (I.left source.new) (O.taken sink.old) (O.taken sink.new)
-        (Rose (I.faults source.old) (I.faults source.new))
-        (Rose (O.faults sink.old) (O.faults sink.new)) }
-    ensures says { Says (IsTextsOf (asked (map string_bytes words.now))) (O.taken sink.old)
-        (O.taken sink.new)
-        (Rose (O.faults sink.old) (O.faults sink.new)) result }
-    ensures words { asked (map string_bytes words.now) ≡ None → (result ≡ Err stop.Usage)
-        ⊎ (result ≡ Err stop.NoMemory) }
-    ensures source_stays { asked (map string_bytes words.now) ≢ Some info_of_source
-        → (I.left source.new ≡ I.left source.old) × (I.faults source.new ≡ I.faults source.old) }
-    ensures source_count { asked (map string_bytes words.now) ≡ Some info_of_source
-        → I.faults source.new ≡ source_failures result (I.faults source.old) }
-    ensures files_stay { IsFalse (asks_files (asked (map string_bytes words.now)))
-        → files.new ≡ files.old }
-    ensures cause { result ≡ Err stop.FileFault → H.contents files.old ≡ None
-        → Rose (H.faults files.old) (H.faults files.new)
-        ⊎ Rose (I.faults source.old) (I.faults source.new) }
-    ensures usage { result ≡ Err stop.Usage → asked (map string_bytes words.now) ≡ None }
-    ensures later { O.faults sink.old ≤ O.faults sink.new }
-    ensures sink_count { O.faults sink.new ≡ sink_failures result (O.faults sink.old) }
+    ensures { Done H.contents H.faults H.spoiled I.left I.faults O.taken O.faults
+        (asked (map string_bytes words.now)) result files.old files.new source.old source.new
+        sink.old sink.new }
 {
     match fip_order(alloc, words) {
         Ok(order) => command(alloc, &order, files, source, sink),
