@@ -22,6 +22,14 @@ pub fn add_number(line: &mut Vec<u8>, n: u64) -> Result<(), NoMemory>
     add(line, digits.format(n).as_bytes())
 }
 
+/// Adds a name, and the number behind it.
+pub fn add_named(line: &mut Vec<u8>, name: &[u8], n: u64) -> Result<(), NoMemory>
+    ensures { OnOk result (line.new.items ≡ line.old.items ++ name.now ++ decimal n) }
+{
+    add(line, name)?;
+    add_number(line, n)
+}
+
 pub fn add_guid(line: &mut Vec<u8>, guid: &Guid) -> Result<(), NoMemory>
     ensures { OnOk result (line.new.items ≡ line.old.items ++ guid_text guid.now) }
 {
@@ -46,12 +54,9 @@ fn head_line(alloc: Global, toc: &Toc, size: u64) -> Result<Vec<u8>, NoMemory>
 {
     let mut line = Vec::from_slice(alloc, b"serial=")?;
     add_eight_digits(&mut line, toc.serial)?;
-    add(&mut line, b" flags=")?;
-    add_number(&mut line, toc.flags)?;
-    add(&mut line, b" entries=")?;
-    add_number(&mut line, toc.entries.len() as u64)?;
-    add(&mut line, b" size=")?;
-    add_number(&mut line, size)?;
+    add_named(&mut line, b" flags=", toc.flags)?;
+    add_named(&mut line, b" entries=", toc.entries.len() as u64)?;
+    add_named(&mut line, b" size=", size)?;
     add(&mut line, b"\n")?;
     Ok(line)
 }
@@ -62,12 +67,9 @@ fn entry_line(alloc: Global, entry: &Entry) -> Result<Vec<u8>, NoMemory>
 {
     let mut line = Vec::new(alloc);
     add_guid(&mut line, &entry.guid)?;
-    add(&mut line, b" offset=")?;
-    add_number(&mut line, entry.offset)?;
-    add(&mut line, b" size=")?;
-    add_number(&mut line, entry.size)?;
-    add(&mut line, b" flags=")?;
-    add_number(&mut line, entry.flags)?;
+    add_named(&mut line, b" offset=", entry.offset)?;
+    add_named(&mut line, b" size=", entry.size)?;
+    add_named(&mut line, b" flags=", entry.flags)?;
     add(&mut line, b"\n")?;
     Ok(line)
 }
@@ -90,10 +92,9 @@ pub fn info_text(alloc: Global, toc: &Toc, size: u64) -> Result<Vec<u8>, NoMemor
 pub fn packed_line(alloc: Global, entries: u64, size: u64) -> Result<Vec<u8>, NoMemory>
     ensures { IfOk result (λ line. line.items ≡ said.packed_line entries size) }
 {
-    let mut line = Vec::from_slice(alloc, b"packed entries=")?;
-    add_number(&mut line, entries)?;
-    add(&mut line, b" size=")?;
-    add_number(&mut line, size)?;
+    let mut line = Vec::new(alloc);
+    add_named(&mut line, b"packed entries=", entries)?;
+    add_named(&mut line, b" size=", size)?;
     add(&mut line, b"\n")?;
     Ok(line)
 }
@@ -108,12 +109,10 @@ pub fn manifest_line(
 ) -> Result<Vec<u8>, NoMemory>
     ensures { IfOk result (λ line. line.items ≡ said.manifest_line rows size security) }
 {
-    let mut line = Vec::from_slice(alloc, b"manifest rows=")?;
-    add_number(&mut line, rows)?;
-    add(&mut line, b" size=")?;
-    add_number(&mut line, size)?;
-    add(&mut line, b" security=")?;
-    add_number(&mut line, u64::from(security))?;
+    let mut line = Vec::new(alloc);
+    add_named(&mut line, b"manifest rows=", rows)?;
+    add_named(&mut line, b" size=", size)?;
+    add_named(&mut line, b" security=", u64::from(security))?;
     add(&mut line, b"\n")?;
     Ok(line)
 }
@@ -123,10 +122,9 @@ pub fn manifest_line(
 pub fn capsule_line(alloc: Global, items: u64, size: u64) -> Result<Vec<u8>, NoMemory>
     ensures { IfOk result (λ line. line.items ≡ said.capsule_line items size) }
 {
-    let mut line = Vec::from_slice(alloc, b"capsule items=")?;
-    add_number(&mut line, items)?;
-    add(&mut line, b" size=")?;
-    add_number(&mut line, size)?;
+    let mut line = Vec::new(alloc);
+    add_named(&mut line, b"capsule items=", items)?;
+    add_named(&mut line, b" size=", size)?;
     add(&mut line, b"\n")?;
     Ok(line)
 }

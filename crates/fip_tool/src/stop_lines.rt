@@ -5,7 +5,7 @@ ghost use Rattle.fwu_formats.specs.FaultText.{capsule_fault_number};
 ghost use Rattle.fwu_formats.specs.FaultText as text;
 ghost use Rattle.fip_tool.specs.Ends as said;
 
-use crate::lines::{add, add_guid, add_number};
+use crate::lines::{add, add_guid, add_named};
 use crate::stops::Stop;
 use base_core::{Guid, NoMemory};
 use capsule_tables::CapsuleFault;
@@ -22,8 +22,8 @@ fn word(alloc: Global, word: &[u8]) -> Result<Vec<u8>, NoMemory>
 fn numbered(alloc: Global, word: &[u8], number: u32) -> Result<Vec<u8>, NoMemory>
     ensures { IfOk result (λ text. text.items ≡ word.now ++ decimal number) }
 {
-    let mut text = Vec::from_slice(alloc, word)?;
-    add_number(&mut text, u64::from(number))?;
+    let mut text = Vec::new(alloc);
+    add_named(&mut text, word, u64::from(number))?;
     Ok(text)
 }
 
@@ -87,8 +87,8 @@ fn not_capsule_line(alloc: Global, fault: CapsuleFault) -> Result<Vec<u8>, NoMem
     ensures { IfOk result (λ line. line.items ≡ codes "not-capsule " ++ decimal (capsule_fault_number fault)
         ++ codes "\n") }
 {
-    let mut line = Vec::from_slice(alloc, b"not-capsule ")?;
-    add_number(&mut line, u64::from(fault.number()))?;
+    let mut line = Vec::new(alloc);
+    add_named(&mut line, b"not-capsule ", u64::from(fault.number()))?;
     add(&mut line, b"\n")?;
     Ok(line)
 }
