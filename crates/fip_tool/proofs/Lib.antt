@@ -16,6 +16,7 @@ pub mod Tables
 pub mod Texts
 pub mod UnpackLemmas
 pub mod UnpackWords
+pub mod UnpackedBy
 pub mod UsageEnds
 pub mod Whole
 pub mod WritingLemmas

@@ -7,3 +7,4 @@ pub mod Payloads
 pub mod Said
 pub mod Converted
 pub mod Done
+pub mod Unpacked

@@ -1,5 +1,5 @@
 //! `unpack`: payloads that are written to files of their own.
-ghost use Rattle.std.specs.Prelude.{◌≡◌, ◌≢◌, ◌≤◌, ◌+◌, ◌++◌, ◌∷◌, ◌||◌, ◌==◌, [], All, IfErr, IfOk, OnOk, List, Some, None, Ok, Err, ℕ, codes, decimal, false, filter, length, map, string_bytes};
+ghost use Rattle.std.specs.Prelude.{◌≡◌, ◌≢◌, ◌≤◌, ◌+◌, ◌++◌, ◌||◌, ◌==◌, All, IfOk, OnOk, List, Some, None, Ok, Err, ℕ, codes, decimal, false, filter, length, map, string_bytes};
 ghost use Rattle.base_core.specs.Counts.{Rose};
 ghost use Rattle.base_core.specs.Guid.{guid_text};
 ghost use Rattle.fip_tables.specs.Files.{Lacks, Tells};
@@ -8,11 +8,12 @@ ghost use Rattle.fip_words.specs.Values.{is_unpacked};
 ghost use Rattle.host_io.specs.Contents.{Directory};
 ghost use Rattle.fip_tool.specs.Lines.{unpacked_line, unpacked_name};
 ghost use Rattle.fip_tool.specs.Said.{IsTexts, Says};
-ghost use Rattle.fip_tool.specs.Steps.{Did, IsLate, Makes, outcome_by, sink_failures};
+ghost use Rattle.fip_tool.specs.Steps.{Did, Makes, outcome_by, sink_failures};
 ghost use Rattle.fip_tool.specs.Tool.{is_named, unpack_steps, unpack_value};
+ghost use Rattle.fip_tool.specs.Unpacked.{Unpacked};
 ghost use Rattle.fip_tool.specs.declared.stops.Stop.TheVariants as stop;
 
-use crate::lines::{add, add_guid, add_number};
+use crate::lines::{add, add_guid, add_named};
 use crate::named::{is_named, table_with};
 use crate::reading::read_payload;
 use crate::stops::Stop;
@@ -46,8 +47,7 @@ fn unpacked_line(alloc: Global, entry: &Entry, file: &str) -> Result<Vec<u8>, No
 {
     let mut line = Vec::new(alloc);
     add_guid(&mut line, &entry.guid)?;
-    add(&mut line, b" size=")?;
-    add_number(&mut line, entry.size)?;
+    add_named(&mut line, b" size=", entry.size)?;
     add(&mut line, b" file=")?;
     add(&mut line, file.as_bytes())?;
     add(&mut line, b"\n")?;
@@ -66,26 +66,8 @@ fn unpack_entry<H: Files, O: Sink>(
     requires stored { (bytes : List ℕ) → Tells (H.contents files.old) from.now bytes
         → entry.now.offset + entry.now.size ≤ length bytes }
     requires there { Lacks (H.contents files.old) from.now → ⊥ }
-    ensures told { (told : Directory) → (bytes : List ℕ) → H.contents files.old ≡ Some told
-        → told from.now ≡ Some bytes
-        → Did (Makes (unpack_steps prefix.now bytes (entry.now ∷ []))) told (H.contents files.new)
-        (O.taken sink.old) (O.taken sink.new)
-        (Rose (H.faults files.old) (H.faults files.new))
-        (Rose (H.spoiled files.old) (H.spoiled files.new))
-        (Rose (O.faults sink.old) (O.faults sink.new)) result }
-    ensures other { OnOk result (is_unpacked prefix.now from.now ≡ false
-        → from.now ≢ unpacked_name prefix.now entry.now.guid) }
-    ensures silent { H.contents files.old ≡ None → H.contents files.new ≡ None }
-    ensures unspoiled { OnOk result (H.spoiled files.new ≡ H.spoiled files.old) }
-    ensures says { Says (λ texts. texts ≡ unpacked_line prefix.now entry.now ∷ [])
-        (O.taken sink.old) (O.taken sink.new)
-        (Rose (O.faults sink.old) (O.faults sink.new)) result }
-    ensures late { IfErr result IsLate }
-    ensures cause { result ≡ Err stop.FileFault → Rose (H.faults files.old) (H.faults files.new) }
-    ensures usage { result ≡ Err stop.Usage → ⊥ }
-    ensures later { H.faults files.old ≤ H.faults files.new }
-    ensures later_sink { O.faults sink.old ≤ O.faults sink.new }
-    ensures sink_count { O.faults sink.new ≡ sink_failures result (O.faults sink.old) }
+    ensures { Unpacked H.contents H.faults H.spoiled O.taken O.faults from.now prefix.now entry.now
+        result files.old files.new sink.old sink.new }
 {
     let bytes = match read_payload(alloc, files, from, entry) {
         Ok(bytes) => bytes,
