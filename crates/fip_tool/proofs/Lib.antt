@@ -7,6 +7,7 @@ pub mod Ending
 pub mod ManifestLemmas
 pub mod Packings
 pub mod PartLemmas
+pub mod ReadsBy
 pub mod Repacking
 pub mod SinkFaults
 pub mod SourceEnds

@@ -5,6 +5,8 @@ use Rattle.host_io.specs.Contents.{Directory}
 use Rattle.fip_tool.specs.Payloads.{IsThere, part_told}
 use Rattle.fip_tool.proofs.Enclosings.{begins, enclosing-refused, ends, filled, parts-enclosed, payload-short}
 use Rattle.fip_tool.proofs.Packings.{zeroed-all}
+use Rattle.fip_tool.proofs.ReadsBy.{gives-late, reads-done, reads-stopped}
+use Rattle.fip_tool.proofs.Tables.{rose-from}
 use Rattle.fip_tool.proofs.enclosing.enclosed.Goals as goal
 
 pub returns-in-Err-clause-told : goal.returns-in-Err-clause-told
@@ -42,3 +44,14 @@ returns-clause-told g c = λ told e.
     (ends (g.H.Files.contents c.args.files.now) (g.H.Files.contents c.loop-payload.files) (g.H.Files.faults c.args.files.now) (g.H.Files.faults c.loop-payload.files)
     (g.H.Files.spoiled c.args.files.now) (g.H.Files.spoiled c.loop-payload.files) (vec_capacity c.loop-payload.bytes)
     c.loop-payload.bytes.items c.args.payloads.now c.loop-payload.index c.loop-payload.payload-index (omega (arith, c.loop-payload-test.false)) c.loop-payload.invariant told e)
+
+pub returns-clause-reads : goal.returns-clause-reads
+returns-clause-reads g c = reads-done c.loop-payload.invariant.same c.loop-payload.invariant.later
+
+pub returns-in-Err-add_item-clause-told : goal.returns-in-Err-add_item-clause-told
+returns-in-Err-add_item-clause-told g c = λ told e.
+    let stopped = c.in-Err-add_item.ensures in
+    gives-late (λ (m : ℕ × Vec ℕ Global). (m.0, m.1.items)) _ _ c.in-Err-add_item.stop stopped.late stopped.reads.sink (λ failed. rose-from _ _ _ c.loop-payload.invariant.later (stopped.cause failed))
+
+pub returns-in-Err-add_item-clause-reads : goal.returns-in-Err-add_item-clause-reads
+returns-in-Err-add_item-clause-reads g c = reads-stopped c.loop-payload.invariant.same c.loop-payload.invariant.later c.in-Err-add_item.ensures.reads

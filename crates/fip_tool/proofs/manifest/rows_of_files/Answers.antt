@@ -7,6 +7,7 @@ use Rattle.fip_words.specs.declared.values.ImageWord.{ImageWord}
 use Rattle.manifest_core.specs.Shown.{row}
 use Rattle.manifest_core.specs.declared.rows.Row.{Row as CodeRow}
 use Rattle.fip_tool.proofs.ManifestLemmas.{count-more, rows-more-at, rows_value, seen-more, stopped-at}
+use Rattle.fip_tool.proofs.ReadsBy.{reads-done, reads-starved, reads-stopped}
 use Rattle.fip_tool.proofs.Tables.{gives-err, rose-from}
 use Rattle.fip_tool.proofs.manifest.rows_of_files.Goals as goal
 
@@ -33,3 +34,13 @@ pub returns-clause-told : goal.returns-clause-told
 returns-clause-told g c = λ told e.
     let all : take c.loop-one.one-index c.args.named.now ≡ c.args.named.now = take_all c.loop-one.one-index c.args.named.now (omega arith) in
     ap (λ (l : List ImageWord). rows_value told (map image_view l)) (sym all) ∙ c.loop-one.invariant.so-far told e
+
+pub returns-clause-reads : goal.returns-clause-reads
+returns-clause-reads g c = reads-done c.loop-one.invariant.same c.loop-one.invariant.later
+
+pub returns-in-Err-clause-reads : goal.returns-in-Err-clause-reads
+returns-in-Err-clause-reads g c = reads-stopped c.loop-one.invariant.same c.loop-one.invariant.later c.in-Err.ensures.reads
+
+pub returns-in-Err-with_row-clause-reads : goal.returns-in-Err-with_row-clause-reads
+returns-in-Err-with_row-clause-reads g c =
+    reads-starved (c.row_of_file.ensures.reads.same ∙ c.loop-one.invariant.same) (omega (arith, c.loop-one.invariant.later, c.row_of_file.ensures.reads.later))

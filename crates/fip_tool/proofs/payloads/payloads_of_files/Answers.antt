@@ -1,12 +1,16 @@
-use Rattle.std.proofs.Common.{◌∙◌, All, Ok, Option, List, Vec, [], ◌∷◌, ap, arith, sym, subst, length, map}
-use Rattle.std.proofs.lemmas.List.{length-append}
+use Rattle.std.proofs.Common.{◌∙◌, All, Ok, Option, List, Vec, [], ◌∷◌, ap, arith, sym, subst, length, map, take, ◌≡◌}
+use Rattle.std.proofs.lemmas.List.{length-append, take_all}
 use Rattle.std.specs.Global.{Global}
 use Rattle.host_io.specs.Contents.{Directory}
 use Rattle.fip_tool.specs.Payloads.{IsThere, part_told}
 use Rattle.fip_tool.specs.declared.payloads.Payload.{Payload}
 use Rattle.fip_tool.proofs.Packings.{more-payloads, one-more-there}
 use Rattle.fip_tool.proofs.PartLemmas.{stopped-at}
+use Rattle.fip_tool.proofs.ReadsBy.{reads-done, reads-starved, reads-stopped}
 use Rattle.fip_tool.proofs.Tables.{gives-err, rose-from}
+use Rattle.fip_tool.specs.Tool.{parts_in}
+use Rattle.fip_words.specs.Order.{part_view}
+use Rattle.fip_words.specs.declared.values.Part.{Part}
 use Rattle.fip_tool.proofs.payloads.payloads_of_files.Goals as goal
 
 pub returns-in-Err-clause-told : goal.returns-in-Err-clause-told
@@ -31,3 +35,18 @@ loop-one-preserved g c =
           (c.in-Ok.ensures.told told (c.loop-one.invariant.same ∙ e))
           ∙ ap (λ (l : List Payload). Ok (map (part_told told) l)) (sym more);
     }
+
+pub returns-clause-told : goal.returns-clause-told
+returns-clause-told g c = λ told e.
+    let all : take c.loop-one.one-index c.args.named.now ≡ c.args.named.now = take_all c.loop-one.one-index c.args.named.now (omega (arith, c.loop-one-test.false)) in
+    ap (λ (l : List Part). parts_in told (map part_view l)) (sym all) ∙ c.loop-one.invariant.so-far told e
+
+pub returns-clause-reads : goal.returns-clause-reads
+returns-clause-reads g c = reads-done c.loop-one.invariant.same c.loop-one.invariant.later
+
+pub returns-in-Err-clause-reads : goal.returns-in-Err-clause-reads
+returns-in-Err-clause-reads g c = reads-stopped c.loop-one.invariant.same c.loop-one.invariant.later c.in-Err.ensures.reads
+
+pub returns-in-Err-push-clause-reads : goal.returns-in-Err-push-clause-reads
+returns-in-Err-push-clause-reads g c =
+    reads-starved (c.payload_of_file.ensures.reads.same ∙ c.loop-one.invariant.same) (omega (arith, c.loop-one.invariant.later, c.payload_of_file.ensures.reads.later))

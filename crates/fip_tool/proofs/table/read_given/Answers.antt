@@ -1,6 +1,6 @@
 use Rattle.std.proofs.Common.{ℕ, List, Ok, ap, arith, subst, ◌∙◌}
 use Rattle.base_core.specs.Counts.{Rose}
-use Rattle.fip_tool.proofs.SourceLemmas.{last, nothing-yet, stopped, too-long}
+use Rattle.fip_tool.proofs.SourceLemmas.{goes-on, last, nothing-yet, stopped, too-long}
 use Rattle.fip_tool.proofs.SourceFaults.{ended-quiet}
 use Rattle.fip_tool.proofs.Tables.{rose-from}
 use Rattle.fip_tool.specs.Source.{FedSome}
@@ -9,6 +9,12 @@ use Rattle.fip_tool.proofs.table.read_given.Goals as goal
 
 pub loop-count-init : goal.loop-count-init
 loop-count-init g c = nothing-yet _ _ _ c.new-stream.ensures
+
+pub loop-count-preserved : goal.loop-count-preserved
+loop-count-preserved g c =
+    let so-far = c.loop-count.invariant.so-far in
+    goes-on _ _ _ _ _ _ c.loop-count.stream c.feed_some.new.stream c.loop-count.count c.in-Ok.some (Rose (g.I.Source.faults c.loop-count.source) (g.I.Source.faults c.feed_some.new.source)) c.loop-count.invariant (omega (arith, c.loop-count-test.true)) c.in-Ok.ensures.few c.feed_some.ensures.later
+    c.in-Ok.ensures.count (c.in-Ok.ensures.fed so-far.given so-far.fed)
 
 pub returns-in-Err-clause-given : goal.returns-in-Err-clause-given
 returns-in-Err-clause-given g c =
