@@ -14,7 +14,18 @@ module _ {X : Type 0} {told now : Option Directory} {before after : ℕ} where
   pub reads-starved : now ≡ told → before ≤ after → ReadsOnly {X = X} told now before after (Err stop.NoMemory)
   reads-starved same later = record { same = same; later = later; cause = λ e. absurd cc; usage = λ e. absurd cc; sink = λ e. absurd cc }
 
-  -- a stop of a part, after others that read alone
+  -- the last part, after others that read alone
+  pub reads-then : {mid : Option Directory} {between : ℕ} {result : Result X Stop} → mid ≡ told → before ≤ between → ReadsOnly mid now between after result
+      → ReadsOnly told now before after result
+  reads-then same later reads = record {
+    same = reads.same ∙ same;
+    later = omega (arith, later, reads.later);
+    cause = λ e untold. rose-from _ _ _ later (reads.cause e (same ∙ untold));
+    usage = reads.usage;
+    sink = reads.sink;
+  }
+
+  -- and a stop of a part
   pub reads-stopped : {Y : Type 0} {mid : Option Directory} {between : ℕ} {s : Stop} → mid ≡ told → before ≤ between → ReadsOnly {X = Y} mid now between after (Err s)
       → ReadsOnly {X = X} told now before after (Err s)
   reads-stopped {s = s} same later reads = record {

@@ -1,9 +1,10 @@
-use Rattle.std.proofs.Common.{◌∙◌, Vec, ℕ}
+use Rattle.std.proofs.Common.{◌∙◌, Vec, ℕ, refl, arith}
 use Rattle.std.specs.Global.{Global}
 use Rattle.fwu_formats.specs.Package.{Toc}
 use Rattle.fip_tool.proofs.Conversions.{capsule-stored, capsule-there, opened-capsule, package-err, package-of}
 use Rattle.fip_tool.proofs.PartLemmas.{gives-same}
 use Rattle.fip_tool.proofs.Tables.{gives-err, if-ok-as, rose-from}
+use Rattle.fip_tool.proofs.ReadsBy.{reads-stopped, reads-then}
 use Rattle.fip_tool.proofs.capsules.package_of_capsule.Goals as goal
 
 pub package_of_items-requires-clause-stored : goal.package_of_items-requires-clause-stored
@@ -25,3 +26,9 @@ returns-in-Ok-clause-count g c = if-ok-as c.package_of_items.result _ _ (λ m e.
 pub returns-in-Err-clause-told : goal.returns-in-Err-clause-told
 returns-in-Err-clause-told g c = λ told e.
     gives-err (λ (t : Toc). t) (λ (m : ℕ × Vec ℕ Global). (m.0, m.1.items)) _ _ _ _ c.in-Err.stop (λ r. r) (package-err told c.args.align c.args.from.now _) (c.in-Err.ensures.told told e)
+
+pub returns-in-Ok-clause-reads : goal.returns-in-Ok-clause-reads
+returns-in-Ok-clause-reads g c = reads-then c.read_enclosed.ensures.reads.same c.read_enclosed.ensures.reads.later c.package_of_items.ensures.reads
+
+pub returns-in-Err-clause-reads : goal.returns-in-Err-clause-reads
+returns-in-Err-clause-reads g c = reads-stopped refl (omega arith) c.in-Err.ensures.reads

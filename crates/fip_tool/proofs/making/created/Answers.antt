@@ -1,4 +1,4 @@
-use Rattle.std.proofs.Common.{◌≡◌, ◌∙◌, List, Vec, ℕ, ap, length, map, subst, sym}
+use Rattle.std.proofs.Common.{◌≡◌, ◌∙◌, List, Vec, ℕ, ap, length, map, subst, sym, refl, arith}
 use Rattle.std.specs.Prelude.{IfOk}
 use Rattle.std.specs.Global.{Global}
 use Rattle.fip_words.specs.Order.{part_view}
@@ -8,6 +8,7 @@ use Rattle.fip_tool.specs.declared.payloads.Payload.{Payload}
 use Rattle.fip_tool.proofs.PartLemmas.{create-err, create-of, gives-same}
 use Rattle.fip_tool.proofs.Packings.{there-of-files}
 use Rattle.fip_tool.proofs.Tables.{gives-err, rose-from}
+use Rattle.fip_tool.proofs.ReadsBy.{reads-stopped, reads-then}
 use Rattle.fip_tool.proofs.making.created.Goals as goal
 
 pub packed-requires : goal.packed-requires
@@ -27,3 +28,9 @@ returns-in-Err-clause-told g c = λ told e.
 pub returns-in-Ok-clause-count : goal.returns-in-Ok-clause-count
 returns-in-Ok-clause-count g c =
     subst (λ (n : ℕ). IfOk c.packed.result (λ m. m.0 ≡ n)) (ap length c.as_slice.ensures.value ∙ c.in-Ok.ensures.count) c.packed.ensures.count
+
+pub returns-in-Ok-clause-reads : goal.returns-in-Ok-clause-reads
+returns-in-Ok-clause-reads g c = reads-then c.payloads_of_files.ensures.reads.same c.payloads_of_files.ensures.reads.later c.packed.ensures.reads
+
+pub returns-in-Err-clause-reads : goal.returns-in-Err-clause-reads
+returns-in-Err-clause-reads g c = reads-stopped refl (omega arith) c.in-Err.ensures.reads

@@ -1,9 +1,10 @@
-use Rattle.std.proofs.Common.{◌∙◌, Vec, ℕ}
+use Rattle.std.proofs.Common.{◌∙◌, Vec, ℕ, refl, arith}
 use Rattle.std.specs.Global.{Global}
 use Rattle.fwu_formats.specs.Package.{Toc}
 use Rattle.fip_tool.proofs.PartLemmas.{gives-same}
 use Rattle.fip_tool.proofs.Repacking.{opened, remove-err, remove-of, stored-of, there-of}
 use Rattle.fip_tool.proofs.Tables.{gives-err, if-ok-as, rose-from}
+use Rattle.fip_tool.proofs.ReadsBy.{reads-stopped, reads-then}
 use Rattle.fip_tool.proofs.making.removed.Goals as goal
 
 pub without-requires-clause-stored : goal.without-requires-clause-stored
@@ -25,3 +26,9 @@ returns-in-Ok-clause-count g c = if-ok-as c.without.result _ _ (λ m e. (c.in-Ok
 pub returns-in-Err-clause-told : goal.returns-in-Err-clause-told
 returns-in-Err-clause-told g c = λ told e.
     gives-err (λ (t : Toc). t) (λ (m : ℕ × Vec ℕ Global). (m.0, m.1.items)) _ _ _ _ c.in-Err.stop (λ r. r) (remove-err told c.args.align c.args.from.now c.args.guids.now _) (c.in-Err.ensures.told told e)
+
+pub returns-in-Ok-clause-reads : goal.returns-in-Ok-clause-reads
+returns-in-Ok-clause-reads g c = reads-then c.table_with.ensures.reads.same c.table_with.ensures.reads.later c.without.ensures.reads
+
+pub returns-in-Err-clause-reads : goal.returns-in-Err-clause-reads
+returns-in-Err-clause-reads g c = reads-stopped refl (omega arith) c.in-Err.ensures.reads

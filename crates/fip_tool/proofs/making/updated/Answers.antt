@@ -1,10 +1,11 @@
-use Rattle.std.proofs.Common.{◌∙◌, Vec, ℕ, ap, sym}
+use Rattle.std.proofs.Common.{◌∙◌, Vec, ℕ, ap, sym, refl, arith}
 use Rattle.std.specs.Global.{Global}
 use Rattle.fwu_formats.specs.Package.{Toc}
 use Rattle.fip_tool.proofs.PartLemmas.{gives-same}
 use Rattle.fip_tool.proofs.Repacking.{opened, stored-of, there-of, types-are, update-err, update-of}
 use Rattle.fip_tool.specs.Tool.{first_missing}
 use Rattle.fip_tool.proofs.Tables.{gives-err, if-ok-as, rose-from}
+use Rattle.fip_tool.proofs.ReadsBy.{reads-starved, reads-stopped, reads-then}
 use Rattle.fip_tool.proofs.making.updated.Goals as goal
 
 pub replaced-requires-clause-stored : goal.replaced-requires-clause-stored
@@ -29,3 +30,12 @@ pub returns-clause-told : goal.returns-clause-told
 returns-clause-told g c = λ told e.
     gives-err (λ (t : Toc). t) (λ (m : ℕ × Vec ℕ Global). (m.0, m.1.items)) _ _ _ _ c.in-Err.stop (λ r. r)
     (update-err told c.args.align c.args.from.now c.args.named.now c.as_slice.result.now _ (c.as_slice.ensures.value ∙ c.in-Ok.ensures)) (c.in-Err.ensures.told told e)
+
+pub returns-in-Ok-table_with-clause-reads : goal.returns-in-Ok-table_with-clause-reads
+returns-in-Ok-table_with-clause-reads g c = reads-then c.table_with.ensures.reads.same c.table_with.ensures.reads.later c.replaced.ensures.reads
+
+pub returns-clause-reads : goal.returns-clause-reads
+returns-clause-reads g c = reads-stopped refl (omega arith) c.in-Err.ensures.reads
+
+pub returns-in_default-clause-reads : goal.returns-in_default-clause-reads
+returns-in_default-clause-reads g c = reads-starved refl (omega arith)

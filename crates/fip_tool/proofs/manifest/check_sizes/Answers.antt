@@ -7,6 +7,7 @@ use Rattle.fip_words.specs.declared.values.ImageWord.{ImageWord}
 use Rattle.fip_tool.specs.Tool.{nothing}
 use Rattle.fip_tool.proofs.ManifestLemmas.{gives-same, longs-more-at, longs_value, sizes-of, sizes-stopped-at}
 use Rattle.fip_tool.proofs.Tables.{gives-err, rose-from}
+use Rattle.fip_tool.proofs.ReadsBy.{reads-stopped}
 use Rattle.fip_tool.proofs.manifest.check_sizes.Goals.{then-is_long, else-is_long}
 use Rattle.fip_tool.proofs.manifest.check_sizes.Goals as goal
 
@@ -38,3 +39,6 @@ returns-clause-told g c = λ told e.
     gives-same (nothing {X = Unit {0}}) _ _ _ _ c.check_count.result (λ r. absurd r)
     (sizes-of told c.args.named.now c.loop-one.is_long (ap (λ (l : List ImageWord). longs_value told (map image_view l)) (sym all) ∙ c.loop-one.invariant.so-far told e))
     c.check_count.ensures.value
+
+pub returns-in-Err-clause-reads : goal.returns-in-Err-clause-reads
+returns-in-Err-clause-reads g c = reads-stopped c.loop-one.invariant.same c.loop-one.invariant.later c.in-Err.ensures.reads

@@ -1,4 +1,4 @@
-use Rattle.std.proofs.Common.{◌∙◌, Vec, ℕ, map, option_map}
+use Rattle.std.proofs.Common.{◌∙◌, Vec, ℕ, map, option_map, refl, arith}
 use Rattle.std.specs.Global.{Global}
 use Rattle.fip_words.specs.Order.{image_view}
 use Rattle.manifest_core.specs.Shown.{row}
@@ -6,6 +6,7 @@ use Rattle.manifest_core.specs.declared.rows.Row.{Row as CodeRow}
 use Rattle.fip_tool.proofs.ManifestLemmas.{gives-same, made-of, sizes-refuse, too-long-of, value-stopped}
 use Rattle.fip_tool.specs.Tool.{nothing}
 use Rattle.fip_tool.proofs.Tables.{gives-err, rose-from}
+use Rattle.fip_tool.proofs.ReadsBy.{reads-stopped}
 use Rattle.fip_tool.proofs.manifest.manifest.Goals as goal
 
 pub returns-in-Ok-Some-clause-told : goal.returns-in-Ok-Some-clause-told
@@ -26,3 +27,9 @@ pub returns-in-Err-rows_of_files-clause-told : goal.returns-in-Err-rows_of_files
 returns-in-Err-rows_of_files-clause-told g c = λ told e.
     gives-err (option_map (λ (v : Vec CodeRow Global). map row v.items)) (λ (m : ℕ × Vec ℕ Global). (m.0, m.1.items)) _ _ _ _ c.in-Err-rows_of_files.stop (λ r. rose-from _ _ _ c.check_sizes.ensures.reads.later r) (value-stopped told c.args.security (map image_view c.args.named.now) _)
     (c.in-Err-rows_of_files.ensures.told told (c.check_sizes.ensures.reads.same ∙ e))
+
+pub returns-in-Err-clause-reads : goal.returns-in-Err-clause-reads
+returns-in-Err-clause-reads g c = reads-stopped refl (omega arith) c.in-Err.ensures.reads
+
+pub returns-in-Err-rows_of_files-clause-reads : goal.returns-in-Err-rows_of_files-clause-reads
+returns-in-Err-rows_of_files-clause-reads g c = reads-stopped c.check_sizes.ensures.reads.same c.check_sizes.ensures.reads.later c.in-Err-rows_of_files.ensures.reads

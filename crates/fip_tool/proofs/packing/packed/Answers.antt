@@ -7,6 +7,7 @@ use Rattle.fip_tables.specs.Frame.{Filling, table_end}
 use Rattle.fip_tables.proofs.Filled.{entries-count}
 use Rattle.fip_tool.specs.Payloads.{IsThere, outline_of, part_told}
 use Rattle.fip_tool.proofs.Packings.{next-there, packing-ends, packing-refused, parts-fit, payload-filled, zeroed-all}
+use Rattle.fip_tool.proofs.ReadsBy.{reads-done, reads-starved}
 use Rattle.fip_tool.proofs.packing.packed.Goals as goal
 
 pub loop-payload-init : goal.loop-payload-init
@@ -65,3 +66,9 @@ returns-in-Err-clause-told g c = λ told e.
     let all = subst (λ (o : Option Directory). All (IsThere o) c.args.payloads.now) e c.requires.there in
     packing-refused Filling (λ (m : ℕ × Vec ℕ Global). (m.0, m.1.items)) _ c.args.serial c.args.flags c.args.align (map (part_told told) c.args.payloads.now) c.as_slice.result.now c.in-Err.stop
     (zeroed-all told c.args.payloads.now all ∙ sym (c.as_slice.ensures.value ∙ c.in-Ok.ensures)) c.in-Err.ensures.value
+
+pub returns-clause-reads : goal.returns-clause-reads
+returns-clause-reads g c = reads-done c.loop-payload.invariant.same c.loop-payload.invariant.later
+
+pub returns-in_default-clause-reads : goal.returns-in_default-clause-reads
+returns-in_default-clause-reads g c = reads-starved refl (omega arith)

@@ -1,8 +1,9 @@
-use Rattle.std.proofs.Common.{◌∙◌, Vec, ℕ, sym, refl}
+use Rattle.std.proofs.Common.{◌∙◌, Vec, ℕ, sym, refl, arith}
 use Rattle.std.specs.Global.{Global}
 use Rattle.fip_tool.proofs.Tables.{gives-err, rose-from, tells}
 use Rattle.fip_tool.proofs.PartLemmas.{gives-same}
 use Rattle.fip_tool.proofs.Whole.{file-err, has-range, range-gives, whole-is}
+use Rattle.fip_tool.proofs.ReadsBy.{reads-stopped, reads-then}
 use Rattle.fip_tool.proofs.reading.read_file.Goals as goal
 
 pub returns-in-Err-clause-told : goal.returns-in-Err-clause-told
@@ -19,3 +20,9 @@ returns-in-Ok-clause-told g c = λ told e.
     gives-same (λ (v : Vec ℕ Global). v.items) _ _ _ _ c.read_range.result (λ r. r) whole.2
     (range-gives _ c.args.name.now whole.0 0 c.in-Ok.size c.read_range.result (tells _ told c.args.name.now whole.0 (c.size_of.ensures.reads.same ∙ e) whole.1) (λ r. rose-from _ _ _ c.size_of.ensures.reads.later r)
     c.read_range.ensures.size c.read_range.ensures.bytes c.read_range.ensures.late c.read_range.ensures.cause c.read_range.ensures.reads.sink)
+
+pub returns-in-Ok-clause-reads : goal.returns-in-Ok-clause-reads
+returns-in-Ok-clause-reads g c = reads-then c.size_of.ensures.reads.same c.size_of.ensures.reads.later c.read_range.ensures.reads
+
+pub returns-in-Err-clause-reads : goal.returns-in-Err-clause-reads
+returns-in-Err-clause-reads g c = reads-stopped refl (omega arith) c.in-Err.ensures.reads
