@@ -1,39 +1,117 @@
 #!/bin/sh
 # Proves the crates of both programs on all processors, builds the programs, and puts them into bin/ as fwu and fip.
 # It prints a line for each crate as soon as that is done. README tells how long it takes.
-# One rt works in a checkout at a time, so each processor gets a copy of the crates, and takes what was proved in the others. What
-# was proved is kept in the folders out/ of this checkout.
+# It calls the toolchain's prover itself, as the gate does: each crate is proved from nothing over the statements of the libraries
+# below it. What the gate asks besides (tests, must-fail edits, words that no source may have) it doesn't ask. What was proved stays
+# in bin/proved, each with a sum of all that it stands on, and is proved again only where that changed.
 set -eu
 cd "$(dirname "$0")/.."
 command -v rt >/dev/null || { echo "rt isn't installed: the toolchain that README names" >&2; exit 1; }
-mkdir -p bin
-copies=$(mktemp -d "$PWD/bin/copies.XXXXXX")
+toolchain=$(dirname "$(dirname "$(readlink -f "$(command -v rt)")")")
+version=$(rt version)
+proved=$PWD/bin/proved
+mkdir -p "$proved"
 logs=$(mktemp -d)
-trap 'rm -rf "$logs" "$copies"' EXIT
+trap 'rm -rf "$logs"' EXIT
 workers=$(nproc)
 began=$(date +%s)
 
+# The libraries that a crate names.
+named() {
+    sed -n "s/^$1: //p" crates.txt
+}
+
+# How many lines each crate's sources have. A proof takes about as long as these and 400 more would take, for what it begins with.
+lines() {
+    for crate in crates/*/; do
+        echo "$(basename "$crate") $(cat "$crate"src/*.rt | wc -l)"
+    done
+}
+
 # The programs and the crates that they stand on, each with those of this repository that it names, as "crate: names": first the
-# one with the longest way up to a program.
+# one with the longest way up to a program, by the lines of the crates on it.
 order() {
-    awk -F: '
-        /^[a-z]/ { names[$1] = $2 }
-        function visit(crate, height,    list, count, i) {
-            if (crate in tall && tall[crate] >= height) return
-            tall[crate] = height
+    lines | awk '
+        NR == FNR { own[$1] = $2 + 400; next }
+        /^[a-z]/ { crate = $1; sub(/:.*/, "", crate); sub(/^[^:]*:/, ""); names[crate] = $0 }
+        function visit(crate, above,    list, count, i) {
+            if (crate in tall && tall[crate] >= above + own[crate]) return
+            tall[crate] = above + own[crate]
             count = split(names[crate], list, " ")
-            for (i = 1; i <= count; i++) if (list[i] in names) visit(list[i], height + 1)
+            for (i = 1; i <= count; i++) if (list[i] in names) visit(list[i], tall[crate])
         }
         END {
             visit("fwu_prog", 0)
             visit("fip_prog", 0)
             for (crate in tall) {
                 count = split(names[crate], list, " ")
-                own = ""
-                for (i = 1; i <= count; i++) if (list[i] in names) own = own " " list[i]
-                print tall[crate] "\t" crate ":" own
+                below = ""
+                for (i = 1; i <= count; i++) if (list[i] in names) below = below " " list[i]
+                print tall[crate] "\t" crate ":" below
             }
-        }' crates.txt | sort -rn | cut -f2
+        }' - crates.txt | sort -rn | cut -f2
+}
+
+# A sum of all that a crate's proof stands on: the toolchain, its files, and the sums of the crates that it names.
+sum_of() {
+    {
+        echo "$version"
+        find "crates/$1/src" "crates/$1/specs" "crates/$1/proofs" -type f 2>/dev/null | LC_ALL=C sort | xargs sha256sum
+        for name in $(named "$1"); do
+            if [ -d "crates/$name" ]; then cat "$proved/$name.sum"; fi
+        done
+    } | sha256sum
+}
+
+# The words by which the prover finds a crate, and the libraries that it names and stands on.
+words_of() {
+    root=src/lib.rt
+    case $1 in *_prog) root=src/main.rt ;; esac
+    echo "--crate-name $1 $root --extern std=$toolchain/rlibs/std.rlib"
+    for name in $(named "$1"); do
+        folder=$toolchain/rlibs
+        if [ -d "crates/$name" ]; then folder=$proved; fi
+        echo "--extern $name=$folder/$name.rlib"
+    done
+    echo "-L dependency=$toolchain/rlibs -L dependency=$proved"
+    echo "--antt-project $toolchain/rattle/logic/antt-project.json --logic-built $toolchain/logic_built --links $1="
+}
+
+# Proves a library with so many jobs, and makes what others read of it.
+make_library() {
+    words=$(words_of "$1")
+    (cd "crates/$1" && "$toolchain/bin/rattle" build $words --jobs "$2" --statements -o "$proved/$1.rlib")
+}
+
+# Proves a program, compiles it and what it stands on, and links it.
+make_program() {
+    words=$(words_of "$1")
+    object=$proved/$1.o
+    compiler="--toolchain $toolchain/toolchain"
+    (cd "crates/$1" && "$toolchain/bin/rattle" build $words --jobs "$2" $compiler --backend llvm -o "$object") &&
+        "$toolchain/bin/rattle-link" --target x86_64-unknown-linux-gnu $compiler -o "$proved/$1" "$object" \
+            "$toolchain/c/libos_c.a" "$toolchain/c/liblibc_c.a"
+}
+
+# Proves and makes a crate, if that isn't done yet for what it stands on now.
+prove() {
+    sum=$(sum_of "$1")
+    if [ "$sum" = "$(cat "$proved/$1.sum" 2>/dev/null)" ]; then return 0; fi
+    rm -f "$proved/$1.sum"
+    case $1 in
+        *_prog) make_program "$1" "$2" ;;
+        *) make_library "$1" "$2" ;;
+    esac || return 1
+    echo "$sum" >"$proved/$1.sum"
+}
+
+# Proves a crate with so many jobs, with a mark for how it ended.
+attempt() {
+    if prove "$1" "$2" >"$logs/$1.log" 2>&1; then
+        mv "$logs/$1.running" "$logs/$1.done"
+    else
+        mv "$logs/$1.running" "$logs/$1.failed"
+    fi
 }
 
 # Whether all crates of a list are done.
@@ -41,42 +119,6 @@ are_done() {
     for name in $1; do
         [ -e "$logs/$name.done" ] || return 1
     done
-}
-
-# Makes a copy of the crates for each processor.
-copy_crates() {
-    for number in $(seq "$workers"); do
-        mkdir "$copies/$number"
-        tar -cf - --exclude=crates/*/out crates.txt crates | tar -xf - -C "$copies/$number"
-        : >"$logs/$number.free"
-    done
-}
-
-# Proves a crate here, with so many jobs, and builds its library or its program. rt runs a program that it built once, on nothing,
-# and what that says counts for nothing.
-prove() {
-    case $1 in
-        *_prog)
-            rt run </dev/null || true
-            [ -x "out/$1" ]
-            ;;
-        *) rt lib --jobs "$2" ;;
-    esac
-}
-
-# Proves and builds a crate in a copy, with so many jobs, with a mark for how it ended. Then the copy is free.
-attempt() {
-    echo "$2" >"$logs/$1.copy"
-    if (cd "$copies/$2/crates/$1" && prove "$1" "$3") >"$logs/$1.log" 2>&1; then
-        mv "$logs/$1.running" "$logs/$1.done"
-    else
-        mv "$logs/$1.running" "$logs/$1.failed"
-    fi
-    : >"$logs/$2.free"
-}
-
-count() {
-    find "$logs" -name "*.$1" | wc -l
 }
 
 # The crates of the order whose turn has come.
@@ -87,20 +129,27 @@ ready() {
     done <"$logs/order"
 }
 
-# Starts the first crate whose turn has come, in a copy that is free, with all processors that the others whose turn has come leave.
-# False where there is none.
+# How many jobs are under way.
+jobs_now() {
+    cat "$logs"/*.running 2>/dev/null | awk '{ all += $1 } END { print all + 0 }'
+}
+
+# Starts the first crate whose turn has come, with all processors that the others whose turn has come leave.
+# False where there is none, or no processor is free.
 start_one() {
     crates=$(ready)
+    free=$((workers - $(jobs_now)))
+    [ -n "$crates" ] && [ "$free" -gt 0 ] || return 1
     first=$(echo "$crates" | head -1)
-    free=$(count free)
-    [ -n "$first" ] && [ "$free" -gt 0 ] || return 1
     jobs=$((free - $(echo "$crates" | wc -l) + 1))
     [ "$jobs" -ge 1 ] || jobs=1
-    for mark in "$logs"/*.free; do break; done
-    rm "$mark"
     : >"$logs/$first.begun"
-    : >"$logs/$first.running"
-    attempt "$first" "$(basename "$mark" .free)" "$jobs" &
+    echo "$jobs" >"$logs/$first.running"
+    attempt "$first" "$jobs" &
+}
+
+count() {
+    find "$logs" -name "*.$1" | wc -l
 }
 
 # Prints each crate that was done since the last time.
@@ -125,19 +174,6 @@ end_at_failure() {
     done
 }
 
-# Moves what was proved in a copy here, where nothing was proved before.
-keep_work() {
-    while IFS=: read -r crate _; do
-        [ -e "crates/$crate/out" ] || mv "$copies/$(cat "$logs/$crate.copy")/crates/$crate/out" "crates/$crate/out"
-    done <"$logs/order"
-}
-
-# Puts a program into bin/.
-install() {
-    cp "$copies/$(cat "$logs/$1.copy")/crates/$1/out/$1" "bin/$2"
-}
-
-copy_crates
 order >"$logs/order"
 all=$(wc -l <"$logs/order")
 echo "proving $all crates on $workers processors"
@@ -147,7 +183,6 @@ while [ "$(count told)" -lt "$all" ]; do
     tell
     end_at_failure
 done
-install fwu_prog fwu
-install fip_prog fip
-keep_work
+cp "$proved/fwu_prog" bin/fwu
+cp "$proved/fip_prog" bin/fip
 echo "built bin/fwu and bin/fip"
