@@ -10,8 +10,6 @@ mod packages;
 mod register;
 mod rounds;
 mod setup;
-#[cfg(test)]
-mod tests;
 
 pub use calls::{SoakCall, file_name, round_calls};
 pub use laws::{generated_are_complete, layouts_have_images, rounds_have_packages};

@@ -28,6 +28,8 @@ mod scripts;
 #[cfg(test)]
 mod slot_pieces;
 #[cfg(test)]
+mod soak_rounds;
+#[cfg(test)]
 mod stored_metadata;
 #[cfg(test)]
 mod values;

@@ -28,7 +28,7 @@ use Rattle.script_cmd.specs.WaysByTable.{WayByTable}
 use Rattle.script_cmd.specs.declared.done.Note.{Note}
 use Rattle.script_cmd.specs.declared.done.Note.TheVariants as note
 use Rattle.script_cmd.proofs.SoakTop.{refused-soaks, soaks-with-list}
-use Rattle.script_cmd.proofs.TableWays.{not-over, table-at, table-of-boot, table-of-run, table-refused, table-starved, table-with-list}
+use Rattle.script_cmd.proofs.TableWays.{not-over, table-of-boot, table-of-run, table-refused, table-starved, table-with-list}
 use Rattle.script_cmd.proofs.TopFormats.{formats-with-list, none-some, refused-formats, starved-formats}
 use Rattle.script_cmd.proofs.TopPrints.{not-done}
 use Rattle.script_cmd.proofs.TopShows.{refused-shows, shows-with-list, starved-shows}

@@ -57,9 +57,3 @@ module _ (tells : Bool) (told files : Option Directory) (name : List ℕ) (scrip
       go (not_formatted listed large none stop tries is prints) = not_formatted good large none stop tries is (at-sink _ _ prints)
       go (ran listed large done start on tries off power turns ends quiet) =
           ran good large done start on tries off power turns (subst (λ (k : ℕ). SoakEnds n (soak_calls seed n) journal status (noted said) taken takes k are.sink) (sym sink) ends) quiet
-
-module _ (tells : Bool) (list other : Option (List ℕ)) (files : Option Directory) (script : Option (List ℕ)) (seed n blocks : ℕ) (journal : List Turn) (status : ℕ) (said : Note) (old new : Moment) (taken takes : Option (List ℕ)) (was are : Faults) where
-  -- the list that the words name
-  pub soaks-at : list ≡ other → SoakWay tells (record { list = other; files = files; script = script }) seed n blocks journal status said old new taken takes was are
-      → SoakWay tells (record { list = list; files = files; script = script }) seed n blocks journal status said old new taken takes was are
-  soaks-at is way = subst (λ (l : Option (List ℕ)). SoakWay tells (record { list = l; files = files; script = script }) seed n blocks journal status said old new taken takes was are) (sym is) way

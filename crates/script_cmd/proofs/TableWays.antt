@@ -74,13 +74,6 @@ module _ (passes : List ℕ → Bool) (tells : Bool) (blocks : ℕ) (journal : L
       (ran-told passes tells files told journal (seen_at p start) (seen_at p (at on new.told new.counts new.armed new.power)) from are.files (sym same_files) does)
       beside ended beyond (subst (λ (n : ℕ). Printed journal status taken takes n are.sink) (sym sink) printed)
 
-  -- a way at an equal list
-  pub table-at : (asked : Option Asked) (list named : Option (List ℕ)) (files : Option Directory) (script : Option (List ℕ)) (was are : Faults) → list ≡ named
-      → WayByTable passes tells blocks asked (record { list = named; files = files; script = script }) journal status said old new taken takes was are
-      → WayByTable passes tells blocks asked (record { list = list; files = files; script = script }) journal status said old new taken takes was are
-  table-at asked list named files script was are is way =
-      subst (λ (l : Option (List ℕ)). WayByTable passes tells blocks asked (record { list = l; files = files; script = script }) journal status said old new taken takes was are) (sym is) way
-
   -- `run --gpt` with the script that the source gives, and `boot --gpt` with a script of its own
   pub table-of-run : (asked : Option Asked) (plain : Asked) (files : Option Directory) (left : Option (List ℕ)) (was are : Faults) → asked ≡ Some ask.run_partitioned → over_table asked ≡ Some plain
       → WayByTable passes tells blocks (Some ask.run) (record { list = None; files = files; script = left }) journal status said old new taken takes was are

@@ -202,10 +202,3 @@ module _ (passes : List ℕ → Bool) (tells : Bool) (told files : Option Direct
             refuses (Some (ask.format L.banks L.rows file)) told files name script first was are refused.0 (noted said) refused.1 good later source refused.2,
             at-sink refused.1 refused.0 refused.3,
           )
-
-module _ (passes : List ℕ → Bool) (tells : Bool) (list other : Option (List ℕ)) (files : Option Directory) (script : Option (List ℕ)) (file : List ℕ) (L : Layout) (blocks : ℕ) (old new : Moment) (status : ℕ) (said : Note) (journal : List Turn) (taken takes : Option (List ℕ)) (was are : Faults) where
-  -- the list that the words name
-  pub formatted-at : list ≡ other
-      → FormattedBy passes tells (record { list = other; files = files; script = script }) file L blocks old new status said journal taken takes was are
-      → FormattedBy passes tells (record { list = list; files = files; script = script }) file L blocks old new status said journal taken takes was are
-  formatted-at is by = subst (λ (l : Option (List ℕ)). FormattedBy passes tells (record { list = l; files = files; script = script }) file L blocks old new status said journal taken takes was are) (sym is) by

@@ -1,5 +1,5 @@
 //! What the words ask for is done, in one of the ways that it may end.
-ghost use Rattle.std.specs.Prelude.{◌≡◌, ◌≤◌, ℕ, Bool, List, [], Option, Some, None};
+ghost use Rattle.std.specs.Prelude.{◌≡◌, ◌≤◌, List, [], Option, Some, None};
 ghost use Rattle.std.specs.Prelude.{Ok, IfSome, map, string_bytes, IsTrue, IsFalse, length, false};
 ghost use Rattle.fwu_model.specs.Allow.{asks_list, list_name};
 ghost use Rattle.fwu_model.specs.Causes.{Faults};

@@ -1,13 +1,15 @@
 //! Draws, rounds, calls and packages, against values from elsewhere: the numbers of the C standard's
 //! example of `rand`, and rounds and packages as Python draws and makes them.
 
-use crate::{
+use crate::fixtures::same;
+use base_core::Guid;
+use gen_core::{
     Cut, Ending, Lcg, Round, SoakCall, Totals, draw_sizes, file_name, is_too_small, package,
     round_calls, soak_rows,
 };
-use base_core::Guid;
 use sha2::{Digest, Sha256};
-use std::test::Fail;
+use std::alloc::Global;
+use std::process::Abort;
 
 // The SHA-256 of the package that a soak of seed 1 formats a flash with, of 6546 bytes.
 const FIRST_DIGEST: [u8; 32] = [
@@ -94,80 +96,105 @@ fn send() -> SoakCall {
     }
 }
 
+// The calls of a round are these.
+fn has_calls(rt: &impl Abort, alloc: Global, round: &Round, wanted: &[SoakCall]) {
+    let calls = round_calls(alloc, &soak_rows(), round).ok();
+    same(rt, calls.expect(rt, "memory").as_slice(), wanted);
+}
+
 #[test]
-fn calls_of_rounds(rt: HostRuntime) -> Result<(), Fail> {
+fn calls_of_rounds(rt: HostRuntime) {
     let alloc = rt.alloc();
-    let rows = soak_rows();
     let mut register = Lcg::new(1);
     let _sizes = draw_sizes(&mut register);
     let mut round = Round::draw(&mut register, 1);
-    let calls = round_calls(alloc, &rows, &round).ok().ok_or("memory")?;
-    let want = [SoakCall::Cut(Cut { n: 2, k: 3322 }), send(), SoakCall::Boot];
-    assert_eq!(rt; calls.as_slice(), want.as_slice());
+    let cut = SoakCall::Cut(Cut { n: 2, k: 3322 });
+    has_calls(&rt, alloc, &round, &[cut, send(), SoakCall::Boot]);
     round.cut = None;
+    round.ending = Ending::Previous;
+    has_calls(
+        &rt,
+        alloc,
+        &round,
+        &[send(), SoakCall::Boot, SoakCall::Previous, SoakCall::Boot],
+    );
     round.ending = Ending::Accept;
-    let calls = round_calls(alloc, &rows, &round).ok().ok_or("memory")?;
-    let want = [
+    has_calls(&rt, alloc, &round, &accepting());
+}
+
+// The calls of a round that accepts its package, image by image.
+fn accepting() -> [SoakCall; 6] {
+    let [first, second, third] = soak_rows();
+    [
         send(),
         SoakCall::Boot,
-        SoakCall::Accept { guid: rows[0].guid },
-        SoakCall::Accept { guid: rows[1].guid },
-        SoakCall::Accept { guid: rows[2].guid },
+        SoakCall::Accept { guid: first.guid },
+        SoakCall::Accept { guid: second.guid },
+        SoakCall::Accept { guid: third.guid },
         SoakCall::Boot,
-    ];
-    assert_eq!(rt; calls.as_slice(), want.as_slice());
-    round.ending = Ending::Previous;
-    let calls = round_calls(alloc, &rows, &round).ok().ok_or("memory")?;
-    let want = [send(), SoakCall::Boot, SoakCall::Previous, SoakCall::Boot];
-    assert_eq!(rt; calls.as_slice(), want.as_slice());
-    Ok(())
+    ]
+}
+
+// The package of this number has this name.
+fn has_name(rt: &impl Abort, alloc: Global, number: u32, wanted: &str) {
+    let name = file_name(alloc, number).ok();
+    same(rt, name.expect(rt, "memory").as_str(), wanted);
 }
 
 #[test]
-fn names_of_packages(rt: HostRuntime) -> Result<(), Fail> {
-    let alloc = rt.alloc();
-    let first = file_name(alloc, 1).ok().ok_or("memory")?;
-    assert_eq!(rt; first.as_str(), "g1");
-    let last = file_name(alloc, 4_294_967_295).ok().ok_or("memory")?;
-    assert_eq!(rt; last.as_str(), "g4294967295");
-    Ok(())
+fn names_of_packages(rt: HostRuntime) {
+    has_name(&rt, rt.alloc(), 1, "g1");
+    has_name(&rt, rt.alloc(), 4_294_967_295, "g4294967295");
 }
 
 #[test]
-fn packages_of_seed_one(rt: HostRuntime) -> Result<(), Fail> {
+fn types_of_images(rt: HostRuntime) {
+    let second = Guid::read("5ff9ec0b-4d22-3e4d-a544-c39d81c73f0a");
+    assert_eq!(rt; Some(soak_rows()[1].guid), second);
+}
+
+// The package of this number, by these lengths, has so many bytes and this SHA-256.
+fn has_digest(rt: &impl Abort, file: &[u8], len: usize, digest: [u8; 32]) {
+    same(rt, file.len(), len);
+    same(rt, Sha256::digest(file), digest);
+}
+
+#[test]
+fn packages_of_seed_one(rt: HostRuntime) {
     let alloc = rt.alloc();
     let rows = soak_rows();
-    assert_eq!(rt;
-        rows[1].guid,
-        Guid::read("5ff9ec0b-4d22-3e4d-a544-c39d81c73f0a").ok_or("type")?
-    );
     let mut register = Lcg::new(1);
-    let sizes = draw_sizes(&mut register);
-    let file = package(alloc, &rows, &sizes, 0, 1).ok().ok_or("memory")?;
-    assert_eq!(rt; file.len(), 6546);
-    assert_eq!(rt; Sha256::digest(file.as_slice()), FIRST_DIGEST);
+    let file = package(alloc, &rows, &draw_sizes(&mut register), 0, 1).ok();
+    has_digest(
+        &rt,
+        file.expect(&rt, "memory").as_slice(),
+        6546,
+        FIRST_DIGEST,
+    );
     let round = Round::draw(&mut register, 1);
-    let file = package(alloc, &rows, &round.sizes, round.number, round.security)
-        .ok()
-        .ok_or("memory")?;
-    assert_eq!(rt; file.len(), 3386);
-    assert_eq!(rt; Sha256::digest(file.as_slice()), ROUND_DIGEST);
-    Ok(())
+    let file = package(alloc, &rows, &round.sizes, round.number, round.security).ok();
+    has_digest(
+        &rt,
+        file.expect(&rt, "memory").as_slice(),
+        3386,
+        ROUND_DIGEST,
+    );
 }
 
 // The sum for a byte passes 32 bits.
 #[test]
-#[tactic(auto, unfolding(crate::specs::Generated::fit_sizes))]
-fn package_of_the_greatest_number(rt: HostRuntime) -> Result<(), Fail> {
-    let file = package(rt.alloc(), &soak_rows(), &[0, 3], 4_294_967_295, 223)
-        .ok()
-        .ok_or("memory")?;
-    assert_eq!(rt; file.as_slice(), GREATEST.as_slice());
-    Ok(())
+#[tactic(auto, unfolding(gen_core::specs::Generated::fit_sizes))]
+fn package_of_the_greatest_number(rt: HostRuntime) {
+    let file = package(rt.alloc(), &soak_rows(), &[0, 3], 4_294_967_295, 223).ok();
+    same(
+        &rt,
+        file.expect(&rt, "memory").as_slice(),
+        GREATEST.as_slice(),
+    );
 }
 
 #[test]
-fn line_of_one_round(rt: HostRuntime) -> Result<(), Fail> {
+fn line_of_one_round(rt: HostRuntime) {
     let totals = Totals {
         turns: 4,
         boots: 2,
@@ -178,10 +205,9 @@ fn line_of_one_round(rt: HostRuntime) -> Result<(), Fail> {
         version: 1,
         counter: 1,
     };
-    let line = totals.line(rt.alloc(), 1).ok().ok_or("memory")?;
+    let line = totals.line(rt.alloc(), 1).ok();
     let want =
         b"soak rounds=1 turns=4 boots=2 losses=1 fallbacks=0 sends=0 bank=0 version=1 counter=1\n";
-    assert_eq!(rt; line.as_slice(), &want[..]);
-    assert_eq!(rt; (is_too_small(21), is_too_small(22)), (true, false));
-    Ok(())
+    same(&rt, line.expect(&rt, "memory").as_slice(), want.as_slice());
+    same(&rt, (is_too_small(21), is_too_small(22)), (true, false));
 }
