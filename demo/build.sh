@@ -21,18 +21,11 @@ named() {
     sed -n "s/^$1: //p" crates.txt
 }
 
-# How many lines each crate's sources have. A proof takes about as long as these and 400 more would take, for what it begins with.
-lines() {
-    for crate in crates/*/; do
-        echo "$(basename "$crate") $(cat "$crate"src/*.rt | wc -l)"
-    done
-}
-
 # The programs and the crates that they stand on, each with those of this repository that it names, as "crate: names": first the
-# one with the longest way up to a program, by the lines of the crates on it.
+# one with the longest way up to a program, by the seconds that the proofs on it took when four ran at once.
 order() {
-    lines | awk '
-        NR == FNR { own[$1] = $2 + 400; next }
+    awk '
+        NR == FNR { own[$1] = $2; next }
         /^[a-z]/ { crate = $1; sub(/:.*/, "", crate); sub(/^[^:]*:/, ""); names[crate] = $0 }
         function visit(crate, above,    list, count, i) {
             if (crate in tall && tall[crate] >= above + own[crate]) return
@@ -49,7 +42,7 @@ order() {
                 for (i = 1; i <= count; i++) if (list[i] in names) below = below " " list[i]
                 print tall[crate] "\t" crate ":" below
             }
-        }' - crates.txt | sort -rn | cut -f2
+        }' demo/proof_seconds.txt crates.txt | sort -rn | cut -f2
 }
 
 # A sum of all that a crate's proof stands on: the toolchain, its files, and the sums of the crates that it names.
