@@ -1,13 +1,17 @@
 -- What a repair leaves.
-use Rattle.std.specs.Prelude.{◌≡◌, List, ℕ, Some, Result, OnOk}
+use Rattle.std.specs.Prelude.{◌≡◌, ◌⊎◌, List, ℕ, Option, Some, Result, OnOk}
 use Rattle.base_core.specs.Block.{block}
+use Rattle.flash_core.specs.declared.flash.Arming.{Arming}
 use Rattle.flash_core.specs.declared.flash.FlashStop.{FlashStop}
+use Rattle.flash_core.specs.Counts.{lowered}
 use Rattle.flash_core.specs.Told.{Told}
 use Rattle.flash_core.specs.May.{May, Guards, Keeps, Quiet}
 use Rattle.flash_core.specs.Replaces.{padded, IsOldOrNew}
 use Rattle.fwu_formats.specs.Layout.{Layout}
 use Rattle.fwu_formats.specs.Metadata.{MetaRead, meta_read, replica_bytes}
 use Rattle.fwu_model.specs.Replica.{BothHold, Decides, in_version}
+use Rattle.replicas.specs.declared.which.Which.{Which}
+use Rattle.replicas.specs.declared.which.Which.TheVariants.{Same, RepairZero, RepairOne, MigrateZero, MigrateOne}
 
 -- what a repair writes over the replica in block b, where that lacks the metadata
 pub record Rewrites {T : Type 0} (result : Result T FlashStop) (L : Layout) (b : ℕ)
@@ -38,3 +42,21 @@ pub record Repairs {T : Type 0} (result : Result T FlashStop) (L : Layout) (r : 
   -- when done, both replicas hold it in version 2, and are stable where they were so before
   pub both : OnOk result (BothHold L (in_version 2 r.meta) t.now)
   pub quiet : Quiet 4096 12288 s → OnOk result (Quiet 4096 12288 t)
+
+-- ---- on every device, how much nearer an armed loss a repair that is done brings
+
+-- one replica was written: an erase and a program
+abbrev pub TakesOne : Option Arming → Option Arming → Type 0
+TakesOne armed arming = arming ≡ lowered (lowered armed)
+
+-- both were
+abbrev pub TakesBoth : Option Arming → Option Arming → Type 0
+TakesBoth armed arming = arming ≡ lowered (lowered (lowered (lowered armed)))
+
+-- what is to be done takes so much; where replica 0 is version 1, replica 1 may hold the metadata in version 2, and stays then
+abbrev pub TakesRepair : Which → Option Arming → Option Arming → Type 0
+TakesRepair Same armed arming = arming ≡ armed
+TakesRepair RepairZero armed arming = TakesOne armed arming
+TakesRepair RepairOne armed arming = TakesOne armed arming
+TakesRepair MigrateZero armed arming = TakesOne armed arming ⊎ TakesBoth armed arming
+TakesRepair MigrateOne armed arming = TakesBoth armed arming

@@ -22,6 +22,14 @@ Finds RepairOne r zero one = (zero ≡ Some r) × (one ≢ Some r) × (r.form �
 Finds MigrateZero r zero one = (zero ≡ Some r) × (r.form ≡ 1)
 Finds MigrateOne r zero one = (zero ≡ None) × (one ≡ Some r) × (r.form ≡ 1)
 
+-- in which version metadata is read for which this is to be done
+abbrev pub form_of : Which → ℕ
+form_of Same = 2
+form_of RepairZero = 2
+form_of RepairOne = 2
+form_of MigrateZero = 1
+form_of MigrateOne = 1
+
 -- this metadata of the layout decides in the image, and this is to be done
 pub record Loads (L : Layout) (which : Which) (r : MetaRead) (image : List ℕ) : Type 0 where
   pub decides : deciding L image ≡ Some r

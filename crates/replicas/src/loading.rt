@@ -5,7 +5,7 @@ ghost use Rattle.base_core.specs.Block.{block};
 ghost use Rattle.flash_core.specs.Counts.{Spends, ReachesNone, arming_kept};
 ghost use Rattle.fwu_formats.specs.Metadata.{fits_meta, meta_read};
 ghost use Rattle.fwu_formats.specs.Image.{deciding};
-ghost use Rattle.replicas.specs.Which.{HasForm, Finds, Loads, flash_result};
+ghost use Rattle.replicas.specs.Which.{HasForm, Finds, Loads, flash_result, form_of};
 
 use crate::which::{ReplicaStop, Which};
 use flash_core::{Flash, FlashStop, read_block};
@@ -46,6 +46,7 @@ fn decide(zero: Option<Meta>, one: Option<Meta>) -> Option<(Meta, Which)>
     requires one_form { ForSome one HasForm }
 
     ensures some { IfSome result (λ r. Finds r.1 r.0 zero one) }
+    ensures form { IfSome result (λ r. r.0.form ≡ form_of r.1) }
     ensures none { IfNone result ((zero ≡ None) × (one ≡ None)) }
 {
     let Some(meta) = zero else {
@@ -76,6 +77,7 @@ pub fn load<D: Flash>(flash: &mut D, layout: &Layout) -> Result<(Meta, Which), R
     ensures none { IsErrOf result ReplicaStop.NoMetadata → IsTrue D.tells →
         deciding layout.now (D.told flash.old).now ≡ None }
     ensures fits { IfOk result (λ r. IsTrue (fits_meta layout.now r.0.meta)) }
+    ensures form { IfOk result (λ r. r.0.form ≡ form_of r.1) }
     ensures content { IsTrue D.tells → D.told flash.new ≡ D.told flash.old }
     ensures power { D.on flash.new ≡ is_ok (flash_result result) }
     ensures size { D.blocks flash.new ≡ D.blocks flash.old }

@@ -1,13 +1,13 @@
 //! Writing the metadata that decides over the replica that lacks it.
-ghost use Rattle.std.specs.Prelude.{◌≡◌, ◌↔◌, ◌%◌, ◌<◌, ◌≤◌, Some, length, is_ok, IsTrue, IfOk};
+ghost use Rattle.std.specs.Prelude.{◌≡◌, ◌↔◌, ◌%◌, ◌<◌, ◌≤◌, Some, length, is_ok, IsTrue, IfOk, OnOk};
 ghost use Rattle.base_core.specs.Block.{block};
-ghost use Rattle.flash_core.specs.Counts.{Spends};
+ghost use Rattle.flash_core.specs.Counts.{Spends, ReachesNone, StaysUnarmed, arming_kept};
 ghost use Rattle.fwu_formats.specs.Layout.{fits_layout};
 ghost use Rattle.fwu_formats.specs.Metadata.{fits_meta, meta_read, replica_bytes};
 ghost use Rattle.fwu_model.specs.Replica.{in_version};
 ghost use Rattle.replicas.specs.Which.{Loads};
-ghost use Rattle.replicas.specs.Repairs.{Repairs};
-ghost use Rattle.replicas.specs.declared.which.Which.TheVariants.{MigrateZero};
+ghost use Rattle.replicas.specs.Repairs.{Repairs, TakesRepair};
+ghost use Rattle.replicas.specs.declared.which.Which.TheVariants.{Same, MigrateZero};
 
 use crate::loading::read_replica;
 use crate::storing::{spell, write_both};
@@ -26,7 +26,9 @@ fn holds<D: Flash>(flash: &mut D, layout: &Layout, meta: &Meta) -> Result<bool, 
     ensures content { IsTrue D.tells → D.told flash.new ≡ D.told flash.old }
     ensures power { D.on flash.new ≡ is_ok result }
     ensures size { D.blocks flash.new ≡ D.blocks flash.old }
+    ensures arming { D.arming flash.new ≡ arming_kept result (D.arming flash.old) }
     ensures costs { Spends result (D.counts flash.old) (D.counts flash.new) }
+    ensures reached { ReachesNone result (D.counts flash.old) (D.counts flash.new) }
 {
     let mut migrated = *meta;
     migrated.migrate();
@@ -59,6 +61,9 @@ fn migrate_zero<D: Flash>(
     ensures power { D.on flash.new ≡ is_ok result }
     ensures size { D.blocks flash.new ≡ D.blocks flash.old }
     ensures costs { Spends result (D.counts flash.old) (D.counts flash.new) }
+    ensures spent { OnOk result (TakesRepair MigrateZero (D.arming flash.old) (D.arming flash.new)) }
+    ensures unarmed { StaysUnarmed result (D.arming flash.old) (D.arming flash.new)
+        (D.counts flash.old) (D.counts flash.new) }
 {
     if holds(flash, layout, meta)? {
         return replace(flash, FIRST_REPLICA, bytes);
@@ -84,9 +89,15 @@ pub fn repair<D: Flash>(
 
     ensures repairs { IsTrue D.tells →
         Repairs result layout.now meta.now (D.told flash.old) (D.told flash.new) }
+    // on every device: where both replicas hold it in version 2, nothing is called
+    ensures none { which ≡ Same → flash.new ≡ flash.old }
     ensures power { D.on flash.new ≡ is_ok result }
     ensures size { D.blocks flash.new ≡ D.blocks flash.old }
     ensures costs { Spends result (D.counts flash.old) (D.counts flash.new) }
+    // on every device: as many erases and programs as what is to be done asks for
+    ensures spent { OnOk result (TakesRepair which (D.arming flash.old) (D.arming flash.new)) }
+    ensures unarmed { StaysUnarmed result (D.arming flash.old) (D.arming flash.new)
+        (D.counts flash.old) (D.counts flash.new) }
     ensures buffer { length buf.new ≡ length buf.old }
 {
     let size = spell(layout, meta, buf);

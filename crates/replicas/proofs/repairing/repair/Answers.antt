@@ -1,7 +1,8 @@
-use Rattle.std.proofs.Common.{◌≤◌, length, refl, subst, arith, List, ℕ}
-use Rattle.std.specs.Prelude.{Ok}
+use Rattle.std.proofs.Common.{◌≤◌, length, refl, subst, sym, arith, List, ℕ}
+use Rattle.std.specs.Prelude.{Ok, OnOk}
 use Rattle.flash_core.specs.Replaces.{padded}
 use Rattle.replicas.specs.Stores.{WritesBoth}
+use Rattle.replicas.specs.Repairs.{TakesRepair}
 use Rattle.replicas.specs.Which.{Loads}
 use Rattle.replicas.specs.declared.which.Which.{Which}
 use Rattle.replicas.proofs.Reading.{replica_read}
@@ -50,3 +51,24 @@ returns-in-MigrateOne-clause-repairs g c tells =
     let loads = subst (λ (w : Which). Loads L w r s.now) c.in-MigrateOne.is (c.requires.loaded tells) in
     one_migrated L c.spell-size.ensures.layout r spelled c.write_both.result s _ room loads
     (subst (λ (bytes : List ℕ). WritesBoth c.write_both.result (padded bytes) s (g.D.Flash.told c.write_both.new.flash)) c.spell-size.ensures.spelled (c.write_both.ensures.writes tells))
+
+pub returns-in-Same-clause-spent : goal.returns-in-Same-clause-spent
+returns-in-Same-clause-spent g c =
+    let armed = g.D.Flash.arming c.args.flash.now in
+    subst (λ (w : Which). TakesRepair w armed armed) (sym c.in-Same.is) refl
+
+pub returns-in-RepairZero-clause-spent : goal.returns-in-RepairZero-clause-spent
+returns-in-RepairZero-clause-spent g c =
+    subst (λ (w : Which). OnOk c.replace.result (TakesRepair w (g.D.Flash.arming c.args.flash.now) (g.D.Flash.arming c.replace.new.flash))) (sym c.in-RepairZero.is) c.replace.ensures.spent
+
+pub returns-in-RepairOne-clause-spent : goal.returns-in-RepairOne-clause-spent
+returns-in-RepairOne-clause-spent g c =
+    subst (λ (w : Which). OnOk c.replace-in-RepairOne.result (TakesRepair w (g.D.Flash.arming c.args.flash.now) (g.D.Flash.arming c.replace-in-RepairOne.new.flash))) (sym c.in-RepairOne.is) c.replace-in-RepairOne.ensures.spent
+
+pub returns-in-MigrateZero-clause-spent : goal.returns-in-MigrateZero-clause-spent
+returns-in-MigrateZero-clause-spent g c =
+    subst (λ (w : Which). OnOk c.migrate_zero.result (TakesRepair w (g.D.Flash.arming c.args.flash.now) (g.D.Flash.arming c.migrate_zero.new.flash))) (sym c.in-MigrateZero.is) c.migrate_zero.ensures.spent
+
+pub returns-in-MigrateOne-clause-spent : goal.returns-in-MigrateOne-clause-spent
+returns-in-MigrateOne-clause-spent g c =
+    subst (λ (w : Which). OnOk c.write_both.result (TakesRepair w (g.D.Flash.arming c.args.flash.now) (g.D.Flash.arming c.write_both.new.flash))) (sym c.in-MigrateOne.is) c.write_both.ensures.spent
