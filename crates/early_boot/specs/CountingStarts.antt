@@ -1,7 +1,9 @@
 -- What counting a start leaves of a flash.
-use Rattle.std.specs.Prelude.{◌≡◌, ℕ, ◌+◌, ◌*◌, ◌<◌, ◌≤◌, ◌==◌, nat_lt, if◌then◌else◌, List, [], ◌∷◌, replicate, Result, OnOk, IsTrue}
+use Rattle.std.specs.Prelude.{◌≡◌, ℕ, ◌+◌, ◌*◌, ◌<◌, ◌≤◌, ◌==◌, nat_lt, if◌then◌else◌, List, [], ◌∷◌, replicate, Option, Result, OnOk, IsTrue}
 use Rattle.base_core.specs.Block.{granule}
+use Rattle.flash_core.specs.declared.flash.Arming.{Arming}
 use Rattle.flash_core.specs.declared.flash.FlashStop.{FlashStop}
+use Rattle.flash_core.specs.Counts.{lowered}
 use Rattle.flash_core.specs.Told.{Told, NothingDirty}
 use Rattle.flash_core.specs.May.{Keeps}
 use Rattle.flash_core.specs.Replaces.{padded, Replaces}
@@ -94,6 +96,12 @@ abbrev pub counting_moves : Counting → ℕ → List Move
 counting_moves counting.Nothing v = []
 counting_moves counting.Trial v = Trial ∷ []
 counting_moves counting.Raise v = RaiseTo v ∷ []
+
+-- on every device, how much nearer an armed loss it brings: a mark is one program, a record an erase and a program
+abbrev pub TakesCounting : Counting → Option Arming → Option Arming → Type 0
+TakesCounting counting.Nothing armed arming = arming ≡ armed
+TakesCounting counting.Trial armed arming = arming ≡ lowered armed
+TakesCounting counting.Raise armed arming = arming ≡ lowered (lowered armed)
 
 -- ---- what is shown then
 

@@ -1,5 +1,6 @@
 -- What a boot leaves of a flash that shows this: the replicas are repaired, a bank is chosen, and its start is counted.
 use Rattle.std.specs.Prelude.{◌≡◌, ◌⊎◌, ℕ, Bool, List, [], ◌++◌, Option, Some, None, Result, Ok, Err, OnOk}
+use Rattle.flash_core.specs.declared.flash.Arming.{Arming}
 use Rattle.flash_core.specs.declared.flash.FlashStop.{FlashStop}
 use Rattle.flash_core.specs.Told.{Told}
 use Rattle.flash_core.specs.May.{Guards, Keeps}
@@ -12,13 +13,14 @@ use Rattle.fwu_model.specs.Seen.{IsTidy}
 use Rattle.fwu_model.specs.Calm.{IsCalm, IsAtRest}
 use Rattle.fwu_model.specs.Answer.{migrate_moves, chosen_moves}
 use Rattle.fwu_model.specs.Replica.{BothHold, in_version}
-use Rattle.replicas.specs.Repairs.{Repairs}
+use Rattle.replicas.specs.Repairs.{Repairs, TakesRepair}
 use Rattle.moves.specs.Moved.{IsShown, Does, GuardedBy}
 use Rattle.early_boot.specs.declared.choosing.Chosen.{Chosen}
 use Rattle.early_boot.specs.declared.showing.Shown.{Shown}
 use Rattle.early_boot.specs.Showing.{state_shown}
 use Rattle.early_boot.specs.Choosing.{boot_setting}
-use Rattle.early_boot.specs.CountingStarts.{WritesMoves}
+use Rattle.early_boot.specs.Mending.{mended}
+use Rattle.early_boot.specs.CountingStarts.{WritesMoves, TakesCounting, counting_in}
 
 -- the bank that was chosen, without what is shown once its start is counted
 abbrev pub chosen_of : Option (Shown × Chosen) → Option Chosen
@@ -47,6 +49,21 @@ abbrev pub BootWrites : {T : Type 0} → Result T FlashStop → Layout → MetaR
 BootWrites (Ok x) L r ms trials s t = RepairsAndCounts (Ok x) L r ms trials s t
 BootWrites (Err stop) L r ms trials s t =
     Repairs {T = Unit {0}} (Err stop) L r s t ⊎ RepairsAndCounts {T = Unit {0}} (Err stop) L r ms trials s t
+
+-- ---- how much nearer an armed loss it brings, on every device
+
+-- what was chosen by what is shown is counted, and where none was, nothing is
+abbrev pub TakesFound : Shown → Option (Shown × Chosen) → Option Arming → Option Arming → Type 0
+TakesFound shown None armed arming = arming ≡ armed
+TakesFound shown (Some start) armed arming = TakesCounting (counting_in shown start.1) armed arming
+
+-- and before that the replicas are repaired
+pub record TakesRepairAndStart (shown : Shown) (found : Option (Shown × Chosen)) (armed arming : Option Arming) : Type 0 where
+  pub repaired : Option Arming
+  pub repair : TakesRepair shown.which armed repaired
+  pub start : TakesFound (mended shown) found repaired arming
+
+-- ---- all of it
 
 pub record Boots {T : Type 0} (result : Result T FlashStop) (passes : List ℕ → Bool) (shown : Shown) (s t : Told) : Type 0 where
   -- nothing but the replicas, the marks and the records changes; where none is chosen, nothing but the replicas
