@@ -8,5 +8,6 @@ pub mod Recorded
 pub mod Plans
 pub mod Showing
 pub mod Ordered
+pub mod Clearing
 pub mod Formats
 pub mod Given

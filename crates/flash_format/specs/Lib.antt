@@ -1,4 +1,5 @@
 pub mod Choosing
+pub mod Cleared
 pub mod Formatted
 pub mod Places
 pub mod Planned

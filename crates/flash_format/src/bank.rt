@@ -5,6 +5,7 @@ ghost use Rattle.flash_core.specs.May.{Keeps};
 ghost use Rattle.fwu_formats.specs.Layout.{blocks_needed, slot_total};
 ghost use Rattle.fip_tables.specs.Files.{Lacks, Tells};
 ghost use Rattle.flash_format.specs.Choosing.{no_entry, no_row};
+ghost use Rattle.flash_format.specs.Cleared.{LeavesNoMore};
 ghost use Rattle.flash_format.specs.Places.{Erased, AllStand};
 ghost use Rattle.flash_format.specs.Stops.{flash_result, ReadsBy, RefusesNothing};
 
@@ -38,6 +39,7 @@ pub fn write_bank<D: Flash, H: Files>(
     ensures keeps { IsTrue D.tells →
         Keeps 32768 (4096 * (8 + slot_total layout.now.rows)) (D.told flash.old)
         (D.told flash.new) }
+    ensures left { IsTrue D.tells → LeavesNoMore 8 (D.told flash.old) (D.told flash.new) }
     ensures bytes { OnOk result (IsTrue D.tells → (file : List ℕ) →
         Tells (H.contents files.old) name.now file
         → AllStand (length layout.now.rows) layout.now file entries.now (D.told flash.new).now) }

@@ -11,6 +11,7 @@ ghost use Rattle.fwu_formats.specs.Manifest.{is_complete, manifest_part};
 ghost use Rattle.meta_layout.specs.Rows.{fitted};
 ghost use Rattle.fip_tables.specs.Files.{Lacks, Tells};
 ghost use Rattle.image_check.specs.declared.bank.Verdict.{Verdict};
+ghost use Rattle.flash_format.specs.Cleared.{OnlyErased};
 ghost use Rattle.flash_format.specs.Choosing.{refusal};
 ghost use Rattle.flash_format.specs.Formatted.{HoldsImages, IsBlank, IsFormatted, IsOrdered, IsRefused};
 ghost use Rattle.flash_format.specs.Places.{AllStand, Erased};
@@ -52,6 +53,8 @@ fn finish<D: Flash, V: Verifier>(
         IsFormatted (V.passes verifier.now) layout.now version (D.told flash.new)) }
     ensures refused { (found : Verdict) → result ≡ Err (InputRefused (BankRefused found)) →
         IsTrue D.tells → IsRefused (V.passes verifier.now) layout.now found (D.told flash.new).now }
+    ensures clean { Finishes result (IsTrue D.tells → NothingDirty (D.told flash.old)
+        → NothingDirty (D.told flash.new)) }
     ensures keeps { IsTrue D.tells → Keeps 0 12288 (D.told flash.old) (D.told flash.new) }
     // Whatever a loss leaves, no layout is there before both replicas are.
     ensures ordered { IsTrue D.tells → NothingDirty (D.told flash.old) →
@@ -94,10 +97,14 @@ fn carry_out<D: Flash, H: Files, V: Verifier>(
         → AllStand (length plan.now.layout.rows) plan.now.layout file plan.now.entries (D.told flash.new).now) }
     ensures blank { Finishes result (IsTrue D.tells →
         IsBlank plan.now.layout (D.told flash.new).now) }
+    ensures clean { Finishes result (IsTrue D.tells → NothingDirty (D.told flash.new)) }
     ensures failed { result ≡ Err FileFailed → IsTrue D.tells →
         IsErr (layout_seen (D.told flash.new).now) }
     ensures keeps { IsTrue D.tells →
         Keeps 0 (4096 * blocks_needed plan.now.layout) (D.told flash.old) (D.told flash.new) }
+    // Whatever a loss leaves, no layout is there before both replicas are, or nothing new is.
+    ensures ordered { IsTrue D.tells → IsOrdered plan.now.layout (D.told flash.new)
+        ⊎ OnlyErased (D.told flash.old) (D.told flash.new) }
     ensures power { D.on flash.new ≡ is_ok (flash_result result) }
     ensures size { D.blocks flash.new ≡ D.blocks flash.old }
     ensures costs { Spends (flash_result result) (D.counts flash.old) (D.counts flash.new) }
@@ -123,7 +130,10 @@ fn carry_out<D: Flash, H: Files, V: Verifier>(
 /// layout. Then blocks 0 to the last bank's end are erased, the images are written to the starts of their slots in bank 0, and
 /// bank 0 is tested as a boot does, with a counter of 0. Only then the two replicas are written, and after them the layout in
 /// block 0. So a flash that was touched has no layout until it is formatted whole.
-/// Of a loss of power while blocks are erased nothing is said.
+///
+/// After a loss of power while blocks are erased or images written, each of the first eight blocks that is guarded is as it was
+/// before the call, or has no seal. Where block 0 isn't guarded, any bytes may stand there, the old layout among them.
+/// After a later loss there is no layout, or there are both replicas.
 pub fn format<D: Flash, H: Files, V: Verifier>(
     flash: &mut D,
     rows: &[ImageRow],
@@ -167,6 +177,12 @@ pub fn format<D: Flash, H: Files, V: Verifier>(
         toc_of file ≡ Ok toc
         → IsTrue (is_complete rows.now (images_of rows.now file toc))
         → IsTrue (V.passes verifier.now (manifest_part (images_of rows.now file toc))) → ⊥ }
+    // Either way nothing is dirty, so that a loss leaves just what is there.
+    ensures clean { Finishes result (IsTrue D.tells → NothingDirty (D.told flash.new)) }
+    // At any exit, whatever a loss leaves: no layout is there before both replicas are, or the first blocks were erased at most.
+    ensures ordered { IsTrue D.tells →
+        IsOrdered (record { banks = banks; rows = rows.now }) (D.told flash.new)
+        ⊎ OnlyErased (D.told flash.old) (D.told flash.new) }
     // Beyond the last bank nothing changes, at any exit.
     ensures keeps { IsTrue D.tells →
         Keeps 0 (4096 * blocks_needed (record { banks = banks; rows = rows.now }))

@@ -6,6 +6,7 @@ ghost use Rattle.flash_core.specs.May.{Keeps};
 ghost use Rattle.host_io.specs.Causes.{HasCause};
 ghost use Rattle.fwu_formats.specs.Package.{payload};
 ghost use Rattle.fip_tables.specs.Files.{Lacks, Tells};
+ghost use Rattle.flash_format.specs.Cleared.{LeavesNoMore};
 ghost use Rattle.flash_format.specs.Places.{Erased, Stands};
 ghost use Rattle.flash_format.specs.Stops.{flash_result, ReadsBy, RefusesNothing};
 
@@ -65,6 +66,7 @@ fn write_piece<D: Flash, H: Files>(
 
     ensures keeps { IsTrue D.tells →
         Keeps (4096 * block) (4096 * block + 4096) (D.told flash.old) (D.told flash.new) }
+    ensures left { IsTrue D.tells → LeavesNoMore block (D.told flash.old) (D.told flash.new) }
     ensures bytes { OnOk result (IsTrue D.tells → (file : List ℕ) →
         Tells (H.contents files.old) name.now file
         → Stands (4096 * block) 4096 (drop done (payload file entry.now)) (D.told flash.new).now) }
@@ -108,6 +110,7 @@ pub fn write_image<D: Flash, H: Files>(
 
     ensures keeps { IsTrue D.tells →
         Keeps (4096 * first) (4096 * (first + slots)) (D.told flash.old) (D.told flash.new) }
+    ensures left { IsTrue D.tells → LeavesNoMore first (D.told flash.old) (D.told flash.new) }
     ensures bytes { OnOk result (IsTrue D.tells → (file : List ℕ) →
         Tells (H.contents files.old) name.now file
         → Stands (4096 * first) (4096 * slots) (payload file entry.now) (D.told flash.new).now) }

@@ -12,6 +12,7 @@ use Rattle.fwu_formats.proofs.SealLaws.{limits}
 use Rattle.image_check.proofs.OfBank.{bank_fits}
 use Rattle.flash_format.specs.Choosing.{no_row, no_entry}
 use Rattle.flash_format.specs.Places.{Stands}
+use Rattle.flash_format.proofs.Clearing.{left_then, left_fewer}
 use Rattle.flash_format.proofs.Ranges.{erased_stays}
 use Rattle.flash_format.proofs.Slots.{slots_more, slots_more_le, all_stand_more}
 use Rattle.flash_format.proofs.Unarmed.{unarmed_then}
@@ -53,6 +54,12 @@ returns-in_err-write_image-clause-keeps g c = λ tells.
     keeps_then 32768 high (g.D.Flash.told c.args.flash.now) (g.D.Flash.told c.loop-k.flash) (g.D.Flash.told c.write_image.new.flash) (c.loop-k.invariant.keeps tells)
     (keeps_wider (4096 * first) (4096 * (first + slots)) 32768 high (g.D.Flash.told c.loop-k.flash) (g.D.Flash.told c.write_image.new.flash) (omega (arith, c.start-first.ensures)) (omega (arith, row, more, c.start-first.ensures)) (c.write_image.ensures.keeps tells))
 
+pub returns-in_err-write_image-clause-left : goal.returns-in_err-write_image-clause-left
+returns-in_err-write_image-clause-left g c = λ tells.
+    let m = g.D.Flash.told c.loop-k.flash in
+    let t = g.D.Flash.told c.write_image.new.flash in
+    left_then 8 (g.D.Flash.told c.args.flash.now) m t (c.loop-k.invariant.left tells) (left_fewer 8 c.start-first.result m t (omega (arith, c.start-first.ensures)) (c.write_image.ensures.left tells))
+
 pub loop-k-preserved : goal.loop-k-preserved
 loop-k-preserved g c =
     let L = c.args.layout.now in
@@ -75,6 +82,7 @@ loop-k-preserved g c =
       same_size = done.size ∙ before.same_size;
       keeps = λ tells. keeps_then 32768 high s m t (before.keeps tells)
           (keeps_wider (4096 * first) (4096 * (first + slots)) 32768 high m t (omega (arith, c.start-first.ensures)) (omega (arith, row, more, c.start-first.ensures)) (done.keeps tells));
+      left = λ tells. left_then 8 s m t (before.left tells) (left_fewer 8 first m t (omega (arith, c.start-first.ensures)) (done.left tells));
       rest = λ tells. erased_stays (4096 * (8 + slot_total (take (k + 1) L.rows))) high (4096 * first) (4096 * (first + slots)) m t (inr (omega (arith, row, next, c.start-first.ensures))) (done.keeps tells)
           (λ i above under. before.rest tells i (omega (arith, above, next)) under);
       front = λ tells file told.

@@ -1,9 +1,12 @@
-use Rattle.std.proofs.Common.{◌≡◌, ap, subst, ◌∙◌, arith, Result, Err}
+use Rattle.std.proofs.Common.{◌≡◌, inl, ℕ, ap, subst, ◌∙◌, arith, Result, Err}
 use Rattle.std.specs.Prelude.{IsTrue, OnOk}
+use Rattle.flash_format.specs.Formatted.{IsBlank}
 use Rattle.flash_format.specs.Places.{Erased}
 use Rattle.flash_format.specs.Stops.{flash_result}
 use Rattle.flash_format.specs.declared.stops.FormatStop.{FormatStop}
 use Rattle.flash_format.specs.declared.stops.FormatStop.TheVariants.{ReadFailed}
+use Rattle.flash_format.proofs.Given.{finishes_from}
+use Rattle.flash_format.proofs.Ordered.{blank_stays}
 use Rattle.flash_format.proofs.Showing.{unlaid}
 use Rattle.flash_format.proofs.formatting.carry_out.Goals as goal
 
@@ -15,3 +18,12 @@ returns-in-Err-clause-failed g c = λ is tells.
     let stop : c.in-Err.stop ≡ ReadFailed = cc in
     let erased = subst (λ (r : Result (Unit {0}) FormatStop). OnOk (flash_result r) (IsTrue g.D.Flash.tells → Erased 0 32768 t.now)) (c.in-Err.is ∙ ap Err stop) c.fill.ensures.erased in
     unlaid t.now (omega (arith, size, many)) (λ i above below. erased tells i above (omega (arith, below)))
+
+pub returns-clause-blank : goal.returns-clause-blank
+returns-clause-blank g c =
+    let L = c.args.plan.now.layout in
+    let t = g.D.Flash.told c.finish.new.flash in
+    finishes_from ℕ c.finish.result (IsTrue g.D.Flash.tells → IsBlank L t.now) (λ tells. blank_stays L (g.D.Flash.told c.fill.new.flash) t (c.finish.ensures.keeps tells) (c.in-Ok.ensures.blank tells))
+
+pub returns-clause-ordered : goal.returns-clause-ordered
+returns-clause-ordered g c = λ tells. inl (c.finish.ensures.ordered tells (c.in-Ok.ensures.clean tells))

@@ -7,9 +7,17 @@ use Rattle.fip_tables.specs.Files.{Tells}
 use Rattle.fwu_formats.specs.Package.{Entry, payload}
 use Rattle.flash_format.specs.Places.{Stands}
 use Rattle.flash_format.proofs.Ranges.{erased_stays, stands_stays}
+use Rattle.flash_format.proofs.Clearing.{left_then, left_fewer}
 use Rattle.flash_format.proofs.Pieces.{stands_more}
 use Rattle.flash_format.proofs.Unarmed.{unarmed_then}
 use Rattle.flash_format.proofs.images.write_image.Goals as goal
+
+pub returns-in_err-write_piece-clause-left : goal.returns-in_err-write_piece-clause-left
+returns-in_err-write_piece-clause-left g c = λ tells.
+    let m = g.D.Flash.told c.loop-k.flash in
+    let t = g.D.Flash.told c.write_piece.new.flash in
+    let b = c.args.first + c.loop-k.k in
+    left_then c.args.first (g.D.Flash.told c.args.flash.now) m t (c.loop-k.invariant.left tells) (left_fewer c.args.first b m t (omega arith) (c.write_piece.ensures.left tells))
 
 pub loop-k-preserved : goal.loop-k-preserved
 loop-k-preserved g c =
@@ -27,6 +35,7 @@ loop-k-preserved g c =
       same_size = done.size ∙ before.same_size;
       keeps = λ tells. keeps_then (4096 * first) (4096 * (first + c.args.slots)) s m t (before.keeps tells)
           (keeps_wider (4096 * b) (4096 * b + 4096) (4096 * first) (4096 * (first + c.args.slots)) m t (omega arith) (omega (arith, within)) (done.keeps tells));
+      left = λ tells. left_then first s m t (before.left tells) (left_fewer first b m t (omega arith) (done.left tells));
       rest = λ tells. erased_stays (4096 * (first + (k + 1))) (4096 * (first + c.args.slots)) (4096 * b) (4096 * b + 4096) m t (inr (omega arith)) (done.keeps tells)
           (λ i above below. before.rest tells i (omega arith) below);
       front = λ tells file told.

@@ -6,8 +6,10 @@ use Rattle.flash_core.specs.Told.{Told}
 use Rattle.flash_core.specs.May.{Keeps}
 use Rattle.flash_core.proofs.Calls.{keeps_same}
 use Rattle.fwu_formats.specs.Package.{payload}
+use Rattle.flash_format.specs.Cleared.{LeavesNoMore}
 use Rattle.flash_format.specs.Places.{Stands}
 use Rattle.flash_format.proofs.Ranges.{keeps_written, erased_range}
+use Rattle.flash_format.proofs.Clearing.{left_same, left_below}
 use Rattle.flash_format.proofs.Pieces.{piece_written}
 use Rattle.flash_format.proofs.images.write_piece.Goals as goal
 
@@ -33,6 +35,22 @@ returns-in_err-program-clause-keeps g c = λ tells.
     let size : length bytes ≤ 4096 = omega (arith, length-take-le c.in-Ok.size c.read_piece.new.out (omega (arith, c.in-Ok.ensures.some, c.in-Ok.ensures.buffer)), c.in-Ok.ensures.some) in
     subst (Keeps at (at + 4096) s) (sym (c.program.ensures.content tells))
     (keeps_written c.program.result at (at + 4096) at bytes s s (omega arith) (omega (arith, size)) (omega (arith, inside, c.requires.inside, size)) (keeps_same at (at + 4096) s))
+
+pub returns-in_err-program-clause-left : goal.returns-in_err-program-clause-left
+returns-in_err-program-clause-left g c = λ tells.
+    let s = g.D.Flash.told c.args.flash.now in
+    let inside = (g.met.D.Flash.sound c.args.flash.now tells).size in
+    let bytes = take c.in-Ok.size c.read_piece.new.out in
+    let size : length bytes ≤ 4096 = omega (arith, length-take-le c.in-Ok.size c.read_piece.new.out (omega (arith, c.in-Ok.ensures.some, c.in-Ok.ensures.buffer)), c.in-Ok.ensures.some) in
+    subst (LeavesNoMore c.args.block s) (sym (c.program.ensures.content tells)) (left_below c.program.result c.args.block (4096 * c.args.block) bytes s (omega arith) (omega (arith, inside, c.requires.inside, size)))
+
+pub returns-clause-left : goal.returns-clause-left
+returns-clause-left g c = λ tells.
+    let s = g.D.Flash.told c.args.flash.now in
+    let inside = (g.met.D.Flash.sound c.args.flash.now tells).size in
+    let bytes = take c.in-Ok.size c.read_piece.new.out in
+    let size : length bytes ≤ 4096 = omega (arith, length-take-le c.in-Ok.size c.read_piece.new.out (omega (arith, c.in-Ok.ensures.some, c.in-Ok.ensures.buffer)), c.in-Ok.ensures.some) in
+    subst (LeavesNoMore c.args.block s) (sym (c.program.ensures.content tells)) (left_below c.program.result c.args.block (4096 * c.args.block) bytes s (omega arith) (omega (arith, inside, c.requires.inside, size)))
 
 pub returns-clause-keeps : goal.returns-clause-keeps
 returns-clause-keeps g c = λ tells.

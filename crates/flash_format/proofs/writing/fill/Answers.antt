@@ -4,8 +4,10 @@ use Rattle.flash_core.specs.May.{Keeps}
 use Rattle.flash_core.proofs.Calls.{keeps_wider, keeps_then, settle-fresh}
 use Rattle.fwu_formats.specs.Layout.{slot_total, blocks_needed}
 use Rattle.fwu_formats.specs.Package.{Entry}
+use Rattle.flash_format.specs.Cleared.{OnlyErased}
 use Rattle.flash_format.specs.Formatted.{IsBlank}
 use Rattle.flash_format.specs.Places.{AllStand, Erased}
+use Rattle.flash_format.proofs.Clearing.{only_above, only_settled}
 use Rattle.flash_format.proofs.Ranges.{erased_stays}
 use Rattle.flash_format.proofs.Plans.{bank_within}
 use Rattle.flash_format.proofs.Recorded.{keeps_settled, now_settled}
@@ -82,6 +84,35 @@ returns-clause-blank g c = λ tells.
       front = erased_stays 12288 32768 32768 high m n (inl (omega arith)) (c.write_bank.ensures.keeps tells) (λ i above below. all i (omega arith) (omega (arith, below, enough)));
       banks = erased_stays high (4096 * blocks_needed L) 32768 high m n (inr (omega arith)) (c.write_bank.ensures.keeps tells) (λ i above below. all i (omega arith) below);
     })
+
+pub returns-in_err-write_bank-clause-only : goal.returns-in_err-write_bank-clause-only
+returns-in_err-write_bank-clause-only g c = λ tells.
+    let s = g.D.Flash.told c.args.flash.now in
+    let m = g.D.Flash.told c.erase_all.new.flash in
+    let n = g.D.Flash.told c.write_bank.new.flash in
+    let size = (g.met.D.Flash.sound c.erase_all.new.flash tells).size in
+    let many = (g.met.D.Flash.sizes c.erase_all.new.flash).0 in
+    only_above (4096 * (8 + slot_total c.args.plan.now.layout.rows)) s m n (omega (arith, size, many)) (c.erase_all.ensures.only tells) (c.write_bank.ensures.keeps tells) (c.write_bank.ensures.left tells)
+
+pub returns-in_err-barrier-clause-only : goal.returns-in_err-barrier-clause-only
+returns-in_err-barrier-clause-only g c = λ tells.
+    let s = g.D.Flash.told c.args.flash.now in
+    let m = g.D.Flash.told c.erase_all.new.flash in
+    let n = g.D.Flash.told c.write_bank.new.flash in
+    let size = (g.met.D.Flash.sound c.erase_all.new.flash tells).size in
+    let many = (g.met.D.Flash.sizes c.erase_all.new.flash).0 in
+    subst (OnlyErased s) (sym (c.barrier.ensures.content tells)) (only_settled c.barrier.result s n
+    (only_above (4096 * (8 + slot_total c.args.plan.now.layout.rows)) s m n (omega (arith, size, many)) (c.erase_all.ensures.only tells) (c.write_bank.ensures.keeps tells) (c.write_bank.ensures.left tells)))
+
+pub returns-clause-only : goal.returns-clause-only
+returns-clause-only g c = λ tells.
+    let s = g.D.Flash.told c.args.flash.now in
+    let m = g.D.Flash.told c.erase_all.new.flash in
+    let n = g.D.Flash.told c.write_bank.new.flash in
+    let size = (g.met.D.Flash.sound c.erase_all.new.flash tells).size in
+    let many = (g.met.D.Flash.sizes c.erase_all.new.flash).0 in
+    subst (OnlyErased s) (sym (c.barrier.ensures.content tells)) (only_settled c.barrier.result s n
+    (only_above (4096 * (8 + slot_total c.args.plan.now.layout.rows)) s m n (omega (arith, size, many)) (c.erase_all.ensures.only tells) (c.write_bank.ensures.keeps tells) (c.write_bank.ensures.left tells)))
 
 pub returns-clause-clean : goal.returns-clause-clean
 returns-clause-clean g c = λ tells. subst NothingDirty (sym (c.in_ok-barrier.ensures.content tells)) (settle-fresh (g.D.Flash.told c.write_bank.new.flash))
