@@ -11,8 +11,8 @@ ghost use Rattle.fwu_formats.specs.Manifest.{is_complete, manifest_part};
 ghost use Rattle.meta_layout.specs.Rows.{fitted};
 ghost use Rattle.fip_tables.specs.Files.{Lacks, Tells};
 ghost use Rattle.image_check.specs.declared.bank.Verdict.{Verdict};
-ghost use Rattle.flash_format.specs.Cleared.{OnlyErased};
 ghost use Rattle.flash_format.specs.Choosing.{refusal};
+ghost use Rattle.flash_format.specs.Cleared.{OnlyErased};
 ghost use Rattle.flash_format.specs.Formatted.{HoldsImages, IsBlank, IsFormatted, IsOrdered, IsRefused};
 ghost use Rattle.flash_format.specs.Places.{AllStand, Erased};
 ghost use Rattle.flash_format.specs.Planned.{IsPlanned};
@@ -102,7 +102,7 @@ fn carry_out<D: Flash, H: Files, V: Verifier>(
         IsErr (layout_seen (D.told flash.new).now) }
     ensures keeps { IsTrue D.tells →
         Keeps 0 (4096 * blocks_needed plan.now.layout) (D.told flash.old) (D.told flash.new) }
-    // Whatever a loss leaves, no layout is there before both replicas are, or nothing new is.
+    // Whatever a loss leaves, no layout is there before both replicas are, or the first blocks were erased at most.
     ensures ordered { IsTrue D.tells → IsOrdered plan.now.layout (D.told flash.new)
         ⊎ OnlyErased (D.told flash.old) (D.told flash.new) }
     ensures power { D.on flash.new ≡ is_ok (flash_result result) }
@@ -132,8 +132,8 @@ fn carry_out<D: Flash, H: Files, V: Verifier>(
 /// block 0. So a flash that was touched has no layout until it is formatted whole.
 ///
 /// After a loss of power while blocks are erased or images written, each of the first eight blocks that is guarded is as it was
-/// before the call, or has no seal. Where block 0 isn't guarded, any bytes may stand there, the old layout among them.
-/// After a later loss there is no layout, or there are both replicas.
+/// before the call, or has no seal (where nothing was dirty then). Where block 0 isn't guarded, any bytes may stand there, the old
+/// layout among them. After a later loss there is no layout, or there are both replicas.
 pub fn format<D: Flash, H: Files, V: Verifier>(
     flash: &mut D,
     rows: &[ImageRow],

@@ -14,7 +14,6 @@ use Rattle.flash_format.specs.declared.formatting.Formatted.{Formatted}
 use Rattle.flash_format.specs.declared.stops.FormatStop.{FormatStop}
 use Rattle.flash_format.specs.declared.stops.FormatStop.TheVariants.{Input}
 use Rattle.flash_format.specs.declared.stops.InputFault.TheVariants.{Incomplete}
-use Rattle.flash_format.proofs.Clearing.{only_same}
 use Rattle.flash_format.proofs.Formats.{not_refused}
 use Rattle.flash_format.proofs.Given.{fitted_is, hold_given, finishes_err}
 use Rattle.flash_format.proofs.formatting.format.Goals as goal

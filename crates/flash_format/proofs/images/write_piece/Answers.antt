@@ -9,7 +9,7 @@ use Rattle.fwu_formats.specs.Package.{payload}
 use Rattle.flash_format.specs.Cleared.{LeavesNoMore}
 use Rattle.flash_format.specs.Places.{Stands}
 use Rattle.flash_format.proofs.Ranges.{keeps_written, erased_range}
-use Rattle.flash_format.proofs.Clearing.{left_same, left_below}
+use Rattle.flash_format.proofs.Clearing.{left_below}
 use Rattle.flash_format.proofs.Pieces.{piece_written}
 use Rattle.flash_format.proofs.images.write_piece.Goals as goal
 
