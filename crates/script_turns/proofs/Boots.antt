@@ -3,7 +3,9 @@ use Rattle.std.proofs.Common.{◌≡◌, ◌≢◌, Contains, ℕ, ◌≤◌, �
 use Rattle.std.specs.Prelude.{◌⊎◌, Result, Ok, is_some, is_ok}
 use Rattle.std.specs.List.{list_any}
 use Rattle.flash_core.specs.declared.flash.Counts.{Counts}
-use Rattle.flash_core.specs.Counts.{Rose, Spends}
+use Rattle.flash_core.specs.declared.flash.FlashStop.{FlashStop}
+use Rattle.flash_core.specs.declared.flash.Arming.{Arming}
+use Rattle.flash_core.specs.Counts.{ReachesNone, Rose, Spends, StaysUnarmed}
 use Rattle.flash_core.specs.Told.{Told, NothingDirty, fresh, is_unsure}
 use Rattle.flash_core.specs.May.{Guards, Leaves, May, NoChance, as_now}
 use Rattle.host_io.specs.Contents.{Directory}
@@ -26,11 +28,11 @@ use Rattle.agent_machine.specs.Fields.{Fields}
 use Rattle.agent_machine.specs.Moment as agent
 use Rattle.early_boot.specs.Started.{Started, started_session}
 use Rattle.early_boot.specs.Ends.{Ended, booted, bad_layout, no_metadata, no_bank, lost, failed, stop_of}
-use Rattle.early_boot.specs.EndsBy.{BootEnds, EndsByBytes, EndsByMachine, IdleEnd, StartsReady, StopsWith}
+use Rattle.early_boot.specs.EndsBy.{BootEnds, EndsByBytes, EndsByMachine, IdleEnd, StartsReady, StopsWith, TakesBoot}
 use Rattle.script_turns.specs.Powered.{Moment, IsAt, IsSafe, kept_at}
 use Rattle.script_turns.specs.Booted.{BootsFrom}
 use Rattle.script_turns.specs.Replies.{LeavesOn, power_after}
-use Rattle.script_turns.specs.Takes.{TakesBy}
+use Rattle.script_turns.specs.Takes.{BootsBy, TakesBy, stop_told}
 use Rattle.script_turns.specs.Turning.{NoneFalls, Turns, PowersOn, GetsPower, IsOnAfter, ShowsStarted, boot_turn, reply_of_end}
 
 -- ---- the guard
@@ -238,6 +240,37 @@ module _ (old was are : Counts) (waiting : Waits old was) where
   failed-then (lost n) costs h = absurd cc
   failed-then (failed n) costs h = rose-later old.faults was.faults are.faults waiting.falls.faults (costs.failed refl)
 
+-- ---- what an armed loss counts
+
+stop-of-reply : (e : Ended) → stop_of e ≡ stop_told (reply_of_end e)
+stop-of-reply (booted b n) = refl
+stop-of-reply (bad_layout f) = refl
+stop-of-reply no_metadata = refl
+stop-of-reply (no_bank active previous) = refl
+stop-of-reply (lost n) = refl
+stop-of-reply (failed n) = refl
+
+reaches-then : {T : Type 0} (result : Result T FlashStop) (old was are : Counts) → old.cuts ≤ was.cuts → was.reached ≡ old.reached → ReachesNone result was are → ReachesNone result old are
+reaches-then result old was are cuts reached none = record { same = none.same ∙ reached; lost = λ h. rose-later old.cuts was.cuts are.cuts cuts (none.lost h) }
+
+armed-had : (tells : Bool) (on : Option Fields) (old mid : Moment) → GetsPower tells on old mid → mid.armed ≡ old.armed
+armed-had tells None old mid has = has.armed
+armed-had tells (Some f) old mid has = has.armed
+
+reached-had : (tells : Bool) (on : Option Fields) (old mid : Moment) → GetsPower tells on old mid → mid.counts.reached ≡ old.counts.reached
+reached-had tells None old mid has = has.idles.reached
+reached-had tells (Some f) old mid has = ap (λ (c : Counts). c.reached) has.counts
+
+boots-spent : (e : Ended) (old mid new : Moment) → mid.armed ≡ old.armed → old.counts.cuts ≤ mid.counts.cuts → mid.counts.reached ≡ old.counts.reached
+    → TakesBoot e mid.armed new.armed → StaysUnarmed (stop_of e) mid.armed new.armed mid.counts new.counts → BootsBy (reply_of_end e) old new
+boots-spent e old mid new armed cuts reached spent unarmed = record {
+  end = e;
+  reply_is = refl;
+  spent = subst (λ (a : Option Arming). TakesBoot e a new.armed) armed spent;
+  unarmed = λ none. let free = unarmed (armed ∙ none) in
+      (free.0, subst (λ (x : Result (Unit {0}) FlashStop). ReachesNone x old.counts new.counts) (stop-of-reply e) (reaches-then (stop_of e) old.counts mid.counts new.counts cuts reached free.1));
+}
+
 -- ---- the flash that boots
 
 -- power that was there, with nothing dirty
@@ -328,6 +361,8 @@ pub record EndsTurn (passes : List ℕ → Bool) (tells : Bool) (e : Ended) (mid
   pub power_is : new.power ≡ is_ok (stop_of e)
   pub costs : Spends (stop_of e) mid.counts new.counts
   pub idle : IdleEnd e mid.armed new.armed mid.counts new.counts
+  pub spent : TakesBoot e mid.armed new.armed
+  pub unarmed : StaysUnarmed (stop_of e) mid.armed new.armed mid.counts new.counts
   pub ends : IsTrue tells → BootEnds passes mid.told e new.told
 
 module _ (passes : List ℕ → Bool) (tells : Bool) (files : Option Directory) (faults : ℕ) (e : Ended) (old mid new : Moment) (power : mid.power ≡ true)
@@ -353,6 +388,7 @@ module _ (passes : List ℕ → Bool) (tells : Bool) (files : Option Directory) 
             reply_is = refl;
             on_is = ended.on_is;
             idle = ended.idle;
+            spent = ended.spent;
             ends = ended.ends;
           },
         );
@@ -367,9 +403,12 @@ module _ (passes : List ℕ → Bool) (tells : Bool) (files : Option Directory) 
             subst (λ (image : List ℕ). BootsFrom passes image (reply_of_end e)) (bytes-had tells on old mid told has clean) (boots-from passes e mid.told new.told (ended.ends told).by_bytes);
       }
     where
+      spends : BootsBy (reply_of_end e) old new
+      spends = boots-spent e old mid new (armed-had tells on old mid has) (waits tells on old mid has).falls.cuts (reached-had tells on old mid has) ended.spent ended.unarmed
+
       takes : (o : Option Fields) → TakesBy call.Boot o old (reply_of_end e) new
-      takes None = tt
-      takes (Some f) = tt
+      takes None = spends
+      takes (Some f) = spends
 
       guard : IsTrue tells → new.told.guard ≡ mid.told.guard
       guard told = guard-kept passes e mid.told new.told (ended.ends told).by_bytes

@@ -14,6 +14,9 @@ use Rattle.fwu_model.specs.Call.{Call}
 use Rattle.fwu_model.specs.Call as call
 use Rattle.fwu_model.specs.Reply.{Reply}
 use Rattle.fwu_model.specs.Reply as reply
+use Rattle.early_boot.specs.Ends.{Ended}
+use Rattle.early_boot.specs.EndsBy.{TakesBoot}
+use Rattle.script_turns.specs.Boots.{reply_of_end}
 use Rattle.script_turns.specs.Powered.{Moment, SameDevice}
 
 -- how the flash's own calls tell of a turn with this reply
@@ -75,6 +78,14 @@ SendTakes (reply.TooLarge guid) old new = SameDevice old new
 SendTakes (reply.BeginRefused st) old new = SameDevice old new
 SendTakes other old new = ⊤
 
+-- A boot comes as much nearer an armed loss as an end with this reply does: by the repair of the metadata, and by what the start of
+-- a bank is counted as. A loss that is armed stays so while power comes back.
+pub record BootsBy (r : Reply) (old new : Moment) : Type 0 where
+  pub end : Ended
+  pub reply_is : r ≡ reply_of_end end
+  pub spent : TakesBoot end old.armed new.armed
+  pub unarmed : StaysFree r old new
+
 -- by what the agent kept
 abbrev pub TakesOn : Call → Fields → Moment → Reply → Moment → Type 0
 TakesOn call.Discover f old r new = SameDevice old new
@@ -89,18 +100,18 @@ TakesOn call.Cancel f old r new = SameDevice old new
 TakesOn (call.Accepts guid) f old r new = StoresBy r f new.on old new
 TakesOn call.Previous f old r new = StoresBy r f new.on old new
 TakesOn (call.Send name request) f old r new = SendTakes r old new
-TakesOn call.Boot f old r new = ⊤
+TakesOn call.Boot f old r new = BootsBy r old new
 TakesOn (call.Cut n k) f old r new = ⊤
 TakesOn call.Show f old r new = SameDevice old new
 
 -- no flash that is off is touched but by a boot and a `cut`
-abbrev pub TakesOff : Call → Moment → Moment → Type 0
-TakesOff call.Boot old new = ⊤
-TakesOff (call.Cut n k) old new = ⊤
-TakesOff other old new = SameDevice old new
+abbrev pub TakesOff : Call → Moment → Reply → Moment → Type 0
+TakesOff call.Boot old r new = BootsBy r old new
+TakesOff (call.Cut n k) old r new = ⊤
+TakesOff other old r new = SameDevice old new
 
 abbrev pub TakesBy : Call → Option Fields → Moment → Reply → Moment → Type 0
-TakesBy c None old r new = TakesOff c old new
+TakesBy c None old r new = TakesOff c old r new
 TakesBy c (Some f) old r new = TakesOn c f old r new
 
 abbrev pub Takes : Call → Moment → Reply → Moment → Type 0

@@ -1,7 +1,7 @@
 use Rattle.std.proofs.Common.{sym, ap, subst, ◌∙◌}
 use Rattle.early_boot.specs.Ends.{ended, stop_of}
-use Rattle.early_boot.specs.EndsBy.{BootEnds, IdleEnd}
-use Rattle.flash_core.specs.Counts.{Spends}
+use Rattle.early_boot.specs.EndsBy.{BootEnds, IdleEnd, TakesBoot}
+use Rattle.flash_core.specs.Counts.{Spends, StaysUnarmed}
 use Rattle.fwu_model.specs.Call as call
 use Rattle.fwu_model.specs.Reply.{Turn}
 use Rattle.script_turns.specs.Powered.{moment, moment_of}
@@ -26,5 +26,7 @@ returns-clause-turns g c files faults =
       power_is = ap F.on c.turned_by.ensures.device ∙ c.boot.ensures.power;
       costs = subst (λ d. Spends (stop_of e) (F.counts flash) (F.counts d)) (sym c.turned_by.ensures.device) c.boot.ensures.costs;
       idle = subst (λ d. IdleEnd e (F.arming flash) (F.arming d) (F.counts flash) (F.counts d)) (sym c.turned_by.ensures.device) c.boot.ensures.idle;
+      spent = subst (λ d. TakesBoot e (F.arming flash) (F.arming d)) (sym c.turned_by.ensures.device) c.boot.ensures.spent;
+      unarmed = subst (λ d. StaysUnarmed (stop_of e) (F.arming flash) (F.arming d) (F.counts flash) (F.counts d)) (sym c.turned_by.ensures.device) c.boot.ensures.unarmed;
       ends = λ told. subst (λ d. BootEnds passes (F.told flash) e (F.told d)) (sym c.turned_by.ensures.device) (c.boot.ensures.ends told);
     }) c.with_power.ensures.has)
