@@ -1,6 +1,6 @@
 -- The turn of a call of the agent, on its device: what each call says, and what its turn left.
-use Rattle.std.proofs.Common.{◌≡◌, ℕ, ◌≤◌, Bool, true, false, List, [], length, Option, Some, Result, Ok, Err, refl, sym, ap, subst, ◌∙◌, inl, inr, IsTrue, IsFalse, arith}
-use Rattle.std.specs.Prelude.{◌⊎◌, is_ok, IfOk}
+use Rattle.std.proofs.Common.{◌≡◌, ℕ, ◌≤◌, Bool, List, [], length, Option, Some, Result, Ok, Err, refl, sym, ap, subst, ◌∙◌, IsTrue, IsFalse, arith}
+use Rattle.std.specs.Prelude.{is_ok, IfOk}
 use Rattle.std.proofs.lemmas.List.{length-take-le}
 use Rattle.flash_core.specs.declared.flash.Flash.{Ghosts}
 use Rattle.flash_core.specs.declared.flash.Counts.{Counts}
@@ -22,7 +22,7 @@ use Rattle.agent_machine.specs.declared.stop.Stop.{Stop}
 use Rattle.agent_machine.specs.declared.stop.Stop.TheVariants as stop
 use Rattle.agent_machine.specs.Fields.{Fields}
 use Rattle.agent_machine.specs.Moment as agent
-use Rattle.agent_machine.specs.Meets.{Answers, GoesBack, GoesBy, IsGot, IsStopped, Meets, MeetsPrevious, flash_result}
+use Rattle.agent_machine.specs.Meets.{Answers, GoesBack, GoesBy, IsGot, Meets, MeetsPrevious, flash_result}
 use Rattle.agent_calls.specs.declared.agent.Agent.{Agent}
 use Rattle.agent_calls.specs.Shown.{fields, gone, moment}
 use Rattle.agent_calls.specs.Shown.{device as agent_device}
@@ -41,22 +41,6 @@ use Rattle.script_turns.proofs.CallTurns.{Called, GoesBackAs, call-turns}
 
 pub never-gone : {T : Type 0} (result : Result T Stop) (was now : Bool) → GoesBy result was now → IsFalse was → result ≡ Err stop.Gone → ⊥
 never-gone result was now goes here gone = let e : IsTrue was = goes.gone.0 gone in cc
-
-not-stopped : {T : Type 0} (result : Result T Stop) → IsTrue (is_there result) → IsStopped result → ⊥
-not-stopped (Ok value) there stopped = stopped
-not-stopped (Err (stop.Status st)) there stopped = stopped
-not-stopped (Err stop.Lost) there stopped = cc
-not-stopped (Err stop.Fault) there stopped = cc
-not-stopped (Err stop.Gone) there stopped = stopped
-
--- it is there afterwards but for a stop of the flash
-pub still-there : {T : Type 0} (result : Result T Stop) (was now : Bool) → GoesBy result was now → IsFalse was → IsTrue (is_there result) → IsFalse now
-still-there result was true goes here there = by-cause (goes.later.0 refl)
-  where
-    by-cause : IsTrue was ⊎ IsStopped result → IsFalse true
-    by-cause (inl gone) = absurd cc
-    by-cause (inr stopped) = absurd (not-stopped result there stopped)
-still-there result was false goes here there = refl
 
 -- ---- what a call says
 

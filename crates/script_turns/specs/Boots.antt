@@ -50,7 +50,8 @@ GetsPower tells (Some f) old new = SameDevice old new
 -- ---- all of it
 
 -- The flash had power, and its boot ended so. On any device a boot that found no layout or no metadata wrote nothing, and one that
--- started a bank wrote no more than the repair and the count of the start. Where the content is told, the end is that of the bytes, sound or not, and so is what was written.
+-- started a bank wrote no more than the repair and the count of the start. Where the content is told, the end is that of the bytes,
+-- sound or not, and so is what was written.
 pub record BootsAs (passes : List ℕ → Bool) (tells : Bool) (old : Moment) (r : Reply) (new : Moment) : Type 0 where
   pub mid : Moment
   pub has : GetsPower tells old.on old mid
