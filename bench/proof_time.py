@@ -3,9 +3,9 @@
 
 usage: bench/proof_time.py CRATE [--test] [--keep FOLDER] [--only FUNCTION ..]
 
-It goes by the libraries that demo/build.sh made in bin/proved. Seconds are those between the times at which the prover kept one
-module and the next, on one processor, and mean something only where nothing else runs. With --keep the folder's work is taken and
-kept, so that only what changed is proved; with --test the crate is read with its tests.
+It goes by the libraries that demo/build.sh made, in the folder that bin/proved_at names. Seconds are those between the times at which
+the prover kept one module and the next, on one processor, and mean something only where nothing else runs. With --keep the folder's
+work is taken and kept, so that only what changed is proved; with --test the crate is read with its tests.
 """
 import argparse
 import os
@@ -19,7 +19,7 @@ from collections import Counter
 from pathlib import Path
 
 TOP = Path(__file__).resolve().parent.parent
-PROVED = TOP / "bin" / "proved"
+PROVED_AT = TOP / "bin" / "proved_at"
 KINDS = "Lts|Tie|Proof|Kinds|Answers|Invariants|Code|Met|Key|Statement|Instances|TheLink"
 OF_FUNCTION = re.compile(rf"Rattle-\w+-(?:proofs|specs)\.(.*?)\.({KINDS})[-.\d]")
 
@@ -35,14 +35,20 @@ def named(crate):
     return found[1].split() if found else sys.exit(f"crates.txt has no crate {crate}")
 
 
+def proved():
+    """Returns the folder in which demo/build.sh keeps what it proved."""
+    return PROVED_AT.read_text().strip() if PROVED_AT.is_file() else sys.exit("nothing is proved yet: run demo/build.sh first")
+
+
 def words_of(crate, kit):
     """Returns the words by which the prover finds a crate and the libraries below it, as demo/build.sh has them."""
+    below = proved()
     root = "src/main.rt" if (TOP / "crates" / crate / "src/main.rt").is_file() else "src/lib.rt"
     words = ["--crate-name", crate, root, "--extern", f"std={kit}/rlibs/std.rlib"]
     for name in named(crate):
-        folder = PROVED if (TOP / "crates" / name).is_dir() else kit / "rlibs"
+        folder = below if (TOP / "crates" / name).is_dir() else kit / "rlibs"
         words += ["--extern", f"{name}={folder}/{name}.rlib"]
-    words += ["-L", f"dependency={kit}/rlibs", "-L", f"dependency={PROVED}"]
+    words += ["-L", f"dependency={kit}/rlibs", "-L", f"dependency={below}"]
     words += ["--antt-project", f"{kit}/rattle/logic/antt-project.json", "--logic-built", f"{kit}/logic_built"]
     return [*words, "--links", f"{crate}=", "--jobs", "1"]
 

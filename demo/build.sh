@@ -3,14 +3,17 @@
 # It prints a line for each crate as soon as that is done. README tells how long it takes.
 # It calls the toolchain's prover itself, as the gate does: each crate is proved from nothing over the statements of the libraries
 # below it. What the gate asks besides (tests, must-fail edits, words that no source may have) it doesn't ask. What was proved stays
-# in bin/proved, each with a sum of all that it stands on, and is proved again only where that changed.
+# in a folder that bin/proved_at names, each with a sum of all that it stands on, and is proved again only where that changed. That
+# folder is in the user's cache, since the gate refuses texts of Rattle in this one that no check reads.
 set -eu
 cd "$(dirname "$0")/.."
 command -v rt >/dev/null || { echo "rt isn't installed: the toolchain that README names" >&2; exit 1; }
 toolchain=$(dirname "$(dirname "$(readlink -f "$(command -v rt)")")")
 version=$(rt version)
-proved=$PWD/bin/proved
-mkdir -p "$proved"
+cache=${XDG_CACHE_HOME:-${HOME:-/tmp}/.cache}
+proved=$cache/fwu-and-fip/$(basename "$PWD")-$(pwd | cksum | cut -d' ' -f1)
+mkdir -p bin "$proved"
+echo "$proved" >bin/proved_at
 logs=$(mktemp -d)
 trap 'rm -rf "$logs"' EXIT
 workers=$(nproc)
@@ -169,7 +172,7 @@ end_at_failure() {
 
 order >"$logs/order"
 all=$(wc -l <"$logs/order")
-echo "proving $all crates on $workers processors"
+echo "proving $all crates on $workers processors, in $proved"
 while [ "$(count told)" -lt "$all" ]; do
     while start_one; do :; done
     sleep 1
