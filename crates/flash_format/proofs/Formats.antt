@@ -78,6 +78,7 @@ module _ (passes : List ℕ → Bool) (L : Layout) (v : ℕ) (s t : Told) (fits 
 pub refused : (passes : List ℕ → Bool) (L : Layout) (found : Verdict) (s t : Told) → t ≡ s → 32768 ≤ length s.now → Erased 0 32768 s.now → verdict_on passes 0 L s.now 0 ≡ found → may_start found ≡ false → IsRefused passes L found t.now
 refused passes L found s t same room erased is bad = subst (λ (u : Told). IsRefused passes L found u.now) (sym same) (record {
   blank = unlaid s.now (omega arith) (λ i above below. erased i above (omega arith));
+  front = erased;
   found_is = is;
   bad = bad;
 })

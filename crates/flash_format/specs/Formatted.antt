@@ -55,6 +55,8 @@ pub record HoldsImages (L : Layout) (images : List (List ℕ)) (image : List ℕ
 -- the flash has no layout, and this is the verdict on bank 0, which isn't good
 pub record IsRefused (passes : List ℕ → Bool) (L : Layout) (found : Verdict) (image : List ℕ) : Type 0 where
   pub blank : IsErr (layout_seen image)
+  -- and the first eight blocks are erased
+  pub front : Erased 0 32768 image
   pub found_is : verdict_on passes 0 L image 0 ≡ found
   pub bad : may_start found ≡ false
 

@@ -10,6 +10,8 @@ ghost use Rattle.fwu_model.specs.Answer.{images_of};
 ghost use Rattle.fwu_formats.specs.Manifest.{is_complete, manifest_part};
 ghost use Rattle.meta_layout.specs.Rows.{fitted};
 ghost use Rattle.fip_tables.specs.Files.{Lacks, Tells};
+ghost use Rattle.image_check.specs.Passed.{HasPassed};
+ghost use Rattle.image_check.specs.declared.bank.Verdict.TheVariants.{Good};
 ghost use Rattle.image_check.specs.declared.bank.Verdict.{Verdict};
 ghost use Rattle.flash_format.specs.Choosing.{refusal};
 ghost use Rattle.flash_format.specs.Cleared.{OnlyErased};
@@ -49,6 +51,7 @@ fn finish<D: Flash, V: Verifier>(
     requires inside { blocks_needed layout.now ≤ D.blocks flash.old }
     requires erased { IsTrue D.tells → Erased 0 32768 (D.told flash.old).now }
 
+    ensures passed { IfOk result (λ version. HasPassed (V.passes verifier.now) layout.now.rows 0 (Good version)) }
     ensures formatted { IfOk result (λ version. IsTrue D.tells →
         IsFormatted (V.passes verifier.now) layout.now version (D.told flash.new)) }
     ensures refused { (found : Verdict) → result ≡ Err (InputRefused (BankRefused found)) →
@@ -87,6 +90,7 @@ fn carry_out<D: Flash, H: Files, V: Verifier>(
     requires inside { blocks_needed plan.now.layout ≤ D.blocks flash.old }
     requires planned { IsPlanned (H.contents files.old) name.now plan.now.layout plan.now.entries }
 
+    ensures passed { IfOk result (λ version. HasPassed (V.passes verifier.now) plan.now.layout.rows 0 (Good version)) }
     ensures formatted { IfOk result (λ version. IsTrue D.tells →
         IsFormatted (V.passes verifier.now) plan.now.layout version (D.told flash.new)) }
     ensures refused { (found : Verdict) → result ≡ Err (InputRefused (BankRefused found)) →
@@ -160,6 +164,8 @@ pub fn format<D: Flash, H: Files, V: Verifier>(
     // Formatted: what the flash shows, and that it is sound.
     ensures given { IfOk result (λ done. fitted (record { banks = banks; rows = rows.now })
         (D.blocks flash.old) ≡ Ok done.layout) }
+    // On any device the version is that of some manifest which passes.
+    ensures passed { IfOk result (λ done. HasPassed (V.passes verifier.now) done.layout.rows 0 (Good done.version)) }
     ensures formatted { IfOk result (λ done. IsTrue D.tells →
         IsFormatted (V.passes verifier.now) done.layout done.version (D.told flash.new)) }
     // Refused: the flash has no layout, and what it is refused for is the verdict on what bank 0 holds.

@@ -5,6 +5,7 @@ ghost use Rattle.flash_core.specs.May.{Keeps};
 ghost use Rattle.fwu_formats.specs.Layout.{blocks_needed};
 ghost use Rattle.fip_tables.specs.Files.{Tells};
 ghost use Rattle.image_check.specs.Law.{may_start};
+ghost use Rattle.image_check.specs.Passed.{HasPassed};
 ghost use Rattle.image_check.specs.Verdict.{verdict_on};
 ghost use Rattle.image_check.specs.declared.bank.Verdict.{Verdict as Found};
 ghost use Rattle.image_check.specs.declared.bank.Verdict.TheVariants.{Good};
@@ -77,6 +78,7 @@ pub fn check_bank<D: Flash, V: Verifier>(
 
     ensures good { IfOk result (λ version. IsTrue D.tells →
         verdict_on (V.passes verifier.now) 0 layout.now (D.told flash.old).now 0 ≡ Good version) }
+    ensures passed { IfOk result (λ version. HasPassed (V.passes verifier.now) layout.now.rows 0 (Good version)) }
     ensures bad { (found : Found) → result ≡ Err (InputRefused (BankRefused found)) →
         may_start found ≡ false }
     ensures found { (found : Found) → result ≡ Err (InputRefused (BankRefused found)) →

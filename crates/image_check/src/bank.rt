@@ -1,8 +1,11 @@
 //! The verdict on a bank.
-ghost use Rattle.std.specs.Prelude.{◌≡◌, ◌+◌, ◌-◌, ◌<◌, ◌≤◌, length, is_ok, IsTrue, IfOk};
+ghost use Rattle.std.specs.Prelude.{◌≡◌, ◌+◌, ◌-◌, ◌<◌, ◌≤◌, Ok, ℕ, Bool, List, length, is_ok, IsTrue, IfOk};
 ghost use Rattle.flash_core.specs.Counts.{Spends, ReachesNone, arming_kept};
 ghost use Rattle.fwu_formats.specs.Layout.{slot_total, blocks_needed};
 ghost use Rattle.fwu_formats.specs.Manifest as model;
+ghost use Rattle.fwu_formats.specs.Layout.{ImageRow as Row};
+ghost use Rattle.manifest_core.specs.Shown.{version_of};
+ghost use Rattle.image_check.specs.Passed.{HasPassed};
 ghost use Rattle.image_check.specs.Found.{found, front_of};
 ghost use Rattle.image_check.specs.Verdict.{by_counter, verdict_on};
 
@@ -26,7 +29,10 @@ pub enum Verdict {
 }
 
 fn of_counter(version: u32, counter: u32) -> Verdict
-    ensures { result ≡ by_counter counter version }
+    ensures verdict { result ≡ by_counter counter version }
+    ensures passed { (passes : List ℕ → Bool) (rows : List Row) (manifest : List ℕ)
+        → version_of (model.manifest_of rows manifest) ≡ Ok version → IsTrue (passes manifest)
+        → HasPassed passes rows counter result }
 {
     if version < counter {
         Verdict::BelowCounter { version, counter }
@@ -53,6 +59,7 @@ fn check_manifest<D: Flash, V: Verifier>(
     requires inside { first + slot_total rows.now ≤ D.blocks flash.old }
     ensures verdict { IfOk result (λ verdict. IsTrue D.tells →
         verdict ≡ found (V.passes verifier.now) counter (D.told flash.old).now rows.now first manifest.now) }
+    ensures passed { IfOk result (HasPassed (V.passes verifier.now) rows.now counter) }
     ensures content { IsTrue D.tells → D.told flash.new ≡ D.told flash.old }
     ensures power { D.on flash.new ≡ is_ok result }
     ensures size { D.blocks flash.new ≡ D.blocks flash.old }
@@ -91,6 +98,7 @@ fn check_at<D: Flash, V: Verifier>(
     ensures verdict { IfOk result (λ verdict. IsTrue D.tells →
         verdict ≡ found (V.passes verifier.now) counter (D.told flash.old).now rows.now first
         (front_of (D.told flash.old).now rows.now first)) }
+    ensures passed { IfOk result (HasPassed (V.passes verifier.now) rows.now counter) }
     ensures content { IsTrue D.tells → D.told flash.new ≡ D.told flash.old }
     ensures power { D.on flash.new ≡ is_ok result }
     ensures size { D.blocks flash.new ≡ D.blocks flash.old }
@@ -122,6 +130,8 @@ pub fn check<D: Flash, V: Verifier>(
     requires bank { bank < layout.now.banks }
     ensures verdict { IfOk result (λ verdict. IsTrue D.tells →
         verdict ≡ verdict_on (V.passes verifier.now) counter layout.now (D.told flash.old).now bank) }
+    // on every device: what is good is of a version that some manifest has which passes
+    ensures passed { IfOk result (HasPassed (V.passes verifier.now) layout.now.rows counter) }
     ensures content { IsTrue D.tells → D.told flash.new ≡ D.told flash.old }
     ensures power { D.on flash.new ≡ is_ok result }
     ensures size { D.blocks flash.new ≡ D.blocks flash.old }

@@ -6,7 +6,7 @@ ghost use Rattle.fwu_formats.specs.Layout.{fits_layout};
 ghost use Rattle.fwu_formats.specs.Metadata.{fits_meta, meta_read, replica_bytes};
 ghost use Rattle.fwu_model.specs.Replica.{in_version};
 ghost use Rattle.replicas.specs.Which.{Loads};
-ghost use Rattle.replicas.specs.Repairs.{Repairs, TakesRepair};
+ghost use Rattle.replicas.specs.Repairs.{Repairs, TakesOne, TakesRepair};
 ghost use Rattle.replicas.specs.declared.which.Which.TheVariants.{Same, MigrateZero};
 
 use crate::loading::read_replica;
@@ -62,6 +62,10 @@ fn migrate_zero<D: Flash>(
     ensures size { D.blocks flash.new ≡ D.blocks flash.old }
     ensures costs { Spends result (D.counts flash.old) (D.counts flash.new) }
     ensures spent { OnOk result (TakesRepair MigrateZero (D.arming flash.old) (D.arming flash.new)) }
+    // a replica 1 that holds the metadata in version 2 stays, so that one replica is written
+    ensures once { OnOk result (IsTrue D.tells →
+        meta_read layout.now (block 2 (D.told flash.old).now) ≡ Some (in_version 2 meta.now.meta) →
+        TakesOne (D.arming flash.old) (D.arming flash.new)) }
     ensures unarmed { StaysUnarmed result (D.arming flash.old) (D.arming flash.new)
         (D.counts flash.old) (D.counts flash.new) }
 {
@@ -96,6 +100,10 @@ pub fn repair<D: Flash>(
     ensures costs { Spends result (D.counts flash.old) (D.counts flash.new) }
     // on every device: as many erases and programs as what is to be done asks for
     ensures spent { OnOk result (TakesRepair which (D.arming flash.old) (D.arming flash.new)) }
+    // a replica 1 that holds the metadata in version 2 stays, so that one replica is written
+    ensures once { OnOk result (IsTrue D.tells → which ≡ MigrateZero →
+        meta_read layout.now (block 2 (D.told flash.old).now) ≡ Some (in_version 2 meta.now.meta) →
+        TakesOne (D.arming flash.old) (D.arming flash.new)) }
     ensures unarmed { StaysUnarmed result (D.arming flash.old) (D.arming flash.new)
         (D.counts flash.old) (D.counts flash.new) }
     ensures buffer { length buf.new ≡ length buf.old }

@@ -28,7 +28,7 @@ use Rattle.agent_machine.specs.Fields.{Fields}
 use Rattle.agent_machine.specs.Moment as agent
 use Rattle.early_boot.specs.Started.{Started, started_session}
 use Rattle.early_boot.specs.Ends.{Ended, booted, bad_layout, no_metadata, no_bank, lost, failed, stop_of}
-use Rattle.early_boot.specs.EndsBy.{BootEnds, EndsByBytes, EndsByMachine, IdleEnd, StartsReady, StopsWith, TakesBoot}
+use Rattle.early_boot.specs.EndsBy.{BootEnds, EndsByBytes, EndsByMachine, IdleEnd, StartsReady, StopsWith, StartedBy, StartsPermitted, TakesBoot}
 use Rattle.script_turns.specs.Powered.{Moment, IsAt, IsSafe, kept_at}
 use Rattle.script_turns.specs.Booted.{BootsFrom}
 use Rattle.script_turns.specs.Replies.{LeavesOn, power_after}
@@ -362,6 +362,8 @@ pub record EndsTurn (passes : List ℕ → Bool) (tells : Bool) (e : Ended) (mid
   pub costs : Spends (stop_of e) mid.counts new.counts
   pub idle : IdleEnd e mid.armed new.armed mid.counts new.counts
   pub spent : TakesBoot e mid.armed new.armed
+  pub started : StartedBy e
+  pub permitted : StartsPermitted passes e
   pub unarmed : StaysUnarmed (stop_of e) mid.armed new.armed mid.counts new.counts
   pub ends : IsTrue tells → BootEnds passes mid.told e new.told
 
@@ -389,6 +391,8 @@ module _ (passes : List ℕ → Bool) (tells : Bool) (files : Option Directory) 
             on_is = ended.on_is;
             idle = ended.idle;
             spent = ended.spent;
+            started = ended.started;
+            permitted = ended.permitted;
             ends = ended.ends;
           },
         );

@@ -4,7 +4,13 @@ use Rattle.flash_core.specs.Told.{Told}
 use Rattle.early_boot.specs.declared.choosing.Chosen.{Chosen}
 use Rattle.early_boot.specs.declared.showing.Shown.{Shown}
 use Rattle.early_boot.specs.Showing.{Shows, state_shown}
-use Rattle.early_boot.specs.Choosing.{boot_setting, chosen_in}
+use Rattle.early_boot.specs.Choosing.{boot_setting, chosen_in, IsPermitted, MayBeChosen}
+use Rattle.fwu_formats.specs.Layout.{Layout}
+use Rattle.fwu_model.specs.State.{Numbers}
+use Rattle.image_check.specs.Passed.{HasPassed}
+use Rattle.image_check.specs.declared.bank.Verdict.TheVariants as verdict
+use Rattle.early_boot.specs.EndsBy.{StartedBy, StartsByNumbers, StartsPermitted}
+use Rattle.early_boot.proofs.Choices.{starts_by_numbers, unshown_started, stopped_started, unshown_permitted, stopped_permitted}
 use Rattle.early_boot.specs.Mending.{mended}
 use Rattle.early_boot.specs.Numbers.{numbers}
 use Rattle.early_boot.specs.Starting.{Boots, chosen_of}
@@ -108,3 +114,35 @@ returns-in-Err-mend_and_start-clause-ends g c tells =
     subst (λ (e : Ended). BootEnds passes old e (g.D.Flash.told (device_of c.stopped_with.result))) (sym c.stopped_with.ensures.ended)
     (subst (λ (t : Told). BootEnds passes old (stopped_with stop n) t) (sym (ap g.D.Flash.told c.stopped_with.ensures.device))
     (stopped-ends passes shown old new shows fits {T = Option (Shown × Chosen)} stop ends n read))
+
+pub returns-in-Ok-Some-clause-started : goal.returns-in-Ok-Some-clause-started
+returns-in-Ok-Some-clause-started g c =
+    let shown = c.in-Ok.shown in
+    let n = numbers c.numbers_in-numbers.result in
+    let later = subst (λ (o : Option (Shown × Chosen)). IfSome o (λ (start : Shown × Chosen). CountsLater (mended shown) start.0)) c.in-Ok-Some.field-0-is c.in-Ok-Some.ensures.later in
+    let may = subst (λ (o : Option (Shown × Chosen)). IfSome o (λ (start : Shown × Chosen). MayBeChosen shown shown.trials start.1)) c.in-Ok-Some.field-0-is c.in-Ok-Some.ensures.may in
+    subst (λ (b : Started). StartsByNumbers b n) (sym c.of.ensures.started)
+    (starts_by_numbers shown c.in-Ok-Some.after c.in-Ok-Some.chosen n c.numbers_in-numbers.ensures later may)
+
+pub returns-in-Err-clause-started : goal.returns-in-Err-clause-started
+returns-in-Err-clause-started g c = subst StartedBy (sym c.unshown.ensures.ended) (unshown_started c.in-Err.why)
+
+pub returns-in-Err-mend_and_start-clause-started : goal.returns-in-Err-mend_and_start-clause-started
+returns-in-Err-mend_and_start-clause-started g c = subst StartedBy (sym c.stopped_with.ensures.ended) (stopped_started c.in-Err-mend_and_start.stop _)
+
+pub returns-in-Ok-Some-clause-permitted : goal.returns-in-Ok-Some-clause-permitted
+returns-in-Ok-Some-clause-permitted g c =
+    let shown = c.in-Ok.shown in
+    let passes = g.V.Verifier.passes c.args.verifier.now in
+    let n = numbers c.numbers_in-numbers.result in
+    let later = subst (λ (o : Option (Shown × Chosen)). IfSome o (λ (start : Shown × Chosen). CountsLater (mended shown) start.0)) c.in-Ok-Some.field-0-is c.in-Ok-Some.ensures.later in
+    let permitted = subst (λ (o : Option (Shown × Chosen)). IfSome o (λ (start : Shown × Chosen). IsPermitted passes shown start.1)) c.in-Ok-Some.field-0-is c.in-Ok-Some.ensures.permitted in
+    subst (λ (b : Started). StartsPermitted passes (booted b n)) (sym c.of.ensures.started)
+    (subst (λ (L : Layout). HasPassed passes L.rows n.counter (verdict.Good c.in-Ok-Some.chosen.version)) (sym later.layout)
+    (subst (λ (m : Numbers). HasPassed passes shown.layout.rows m.counter (verdict.Good c.in-Ok-Some.chosen.version)) (sym c.numbers_in-numbers.ensures) permitted))
+
+pub returns-in-Err-clause-permitted : goal.returns-in-Err-clause-permitted
+returns-in-Err-clause-permitted g c = subst (StartsPermitted (g.V.Verifier.passes c.args.verifier.now)) (sym c.unshown.ensures.ended) (unshown_permitted _ c.in-Err.why)
+
+pub returns-in-Err-mend_and_start-clause-permitted : goal.returns-in-Err-mend_and_start-clause-permitted
+returns-in-Err-mend_and_start-clause-permitted g c = subst (StartsPermitted (g.V.Verifier.passes c.args.verifier.now)) (sym c.stopped_with.ensures.ended) (stopped_permitted _ c.in-Err-mend_and_start.stop _)

@@ -27,6 +27,8 @@ returns-clause-turns g c files faults =
       costs = subst (λ d. Spends (stop_of e) (F.counts flash) (F.counts d)) (sym c.turned_by.ensures.device) c.boot.ensures.costs;
       idle = subst (λ d. IdleEnd e (F.arming flash) (F.arming d) (F.counts flash) (F.counts d)) (sym c.turned_by.ensures.device) c.boot.ensures.idle;
       spent = subst (λ d. TakesBoot e (F.arming flash) (F.arming d)) (sym c.turned_by.ensures.device) c.boot.ensures.spent;
+      started = c.boot.ensures.started;
+      permitted = c.boot.ensures.permitted;
       unarmed = subst (λ d. StaysUnarmed (stop_of e) (F.arming flash) (F.arming d) (F.counts flash) (F.counts d)) (sym c.turned_by.ensures.device) c.boot.ensures.unarmed;
       ends = λ told. subst (λ d. BootEnds passes (F.told flash) e (F.told d)) (sym c.turned_by.ensures.device) (c.boot.ensures.ends told);
     }) c.with_power.ensures.has)
