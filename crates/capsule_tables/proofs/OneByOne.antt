@@ -6,6 +6,7 @@ use Rattle.std.proofs.lemmas.List.FromFn.{map-range_with_len_more}
 use Rattle.std.specs.List.{list_any, range_with_len}
 use Rattle.base_core.specs.Bytes.{num_at, same_bytes}
 use Rattle.host_io.specs.Contents.{Directory}
+use Rattle.host_io.specs.declared.writes.Writes.{Writes}
 use Rattle.fwu_formats.specs.Layout.{are_distinct}
 use Rattle.fwu_formats.specs.Package.{Entry, has_guid}
 use Rattle.fip_tables.specs.Files.{Tells}
@@ -140,10 +141,10 @@ pub none-yet : (end : ℕ) → AreEntries [] end
 none-yet end = record { few = omega arith; inside = λ k d lt. absurd (omega (arith, lt)); distinct = refl }
 
 -- so many items are read
-pub record HasItems (told : Option Directory) (name : List ℕ) (now : Option Directory) (before faults kept spoiled : ℕ) (entries : List Entry) (s : Shape) (i : ℕ) : Type 0 where
+pub record HasItems (told : Option Directory) (name : List ℕ) (now : Option Directory) (before faults : ℕ) (kept writes : Writes) (entries : List Entry) (s : Shape) (i : ℕ) : Type 0 where
   pub same : now ≡ told
-  pub later : before ≤ faults
-  pub unspoiled : spoiled ≡ kept
+  pub quiet : faults ≡ before
+  pub unwritten : writes ≡ kept
   pub count : length entries ≡ i
   pub any : AreEntries entries s.end
   pub entries_are : (bytes : List ℕ) → Tells told name bytes → entries ≡ entries_in bytes s i

@@ -1,5 +1,5 @@
 -- What a reading of a file answers, and when it fails.
-use Rattle.std.specs.Prelude.{◌≡◌, ◌≤◌, ◌+◌, ◌⊎◌, ℕ, List, Option, Result, Ok, Err, All, IsTrue, length, map}
+use Rattle.std.specs.Prelude.{◌≡◌, ◌≤◌, ◌+◌, ◌⊎◌, ℕ, List, Option, Result, Ok, Err, OnOk, All, IsTrue, length, map}
 use Rattle.base_core.specs.Counts.{Rose}
 use Rattle.host_io.specs.Contents.{Directory}
 use Rattle.fwu_formats.specs.Layout.{are_distinct}
@@ -16,10 +16,13 @@ IsAnswer (Ok x) answer = answer ≡ Ok x
 IsAnswer (Err (Fault f)) answer = answer ≡ Err f
 IsAnswer (Err ReadFailed) answer = Unit {0}
 
--- a reading fails only where the files' faults rose, or told files lack the name
+-- a reading fails only where the files' faults rose, by one at most, or told files lack the name
 pub record HasReadCause {T : Type 0} (told : Option Directory) (name : List ℕ) (before now : ℕ)
     (result : Result T CapsuleStop) : Type 0 where
   pub later : before ≤ now
+  pub once : now ≤ before + 1
+  pub done : OnOk result (now ≡ before)
+  pub fault : (f : CapsuleFault) → result ≡ Err (Fault f) → now ≡ before
   pub failed : result ≡ Err ReadFailed → Rose before now ⊎ Lacks told name
 
 -- Whatever file it is: at most 64 entries, which end within so many bytes, of different types.

@@ -65,7 +65,7 @@ fn read_item<H: Files>(
     ensures ends { IfOk result (λ o. IfSome o (λ e. e.offset + e.size ≤ shape.now.end)) }
     ensures same { H.contents files.new ≡ H.contents files.old }
     ensures cause { HasCause (H.faults files.old) (H.faults files.new) result }
-    ensures unspoiled { H.spoiled files.new ≡ H.spoiled files.old }
+    ensures unwritten { H.writes files.new ≡ H.writes files.old }
 {
     let mut place = [0u8; 8];
     read_range(
@@ -105,7 +105,7 @@ pub fn read_items<H: Files>(
     ensures same { H.contents files.new ≡ H.contents files.old }
     ensures cause { HasReadCause (H.contents files.old) name.now (H.faults files.old)
         (H.faults files.new) result }
-    ensures unspoiled { H.spoiled files.new ≡ H.spoiled files.old }
+    ensures unwritten { H.writes files.new ≡ H.writes files.old }
 {
     let mut entries = Entries::new();
     for i in 0..shape.items {

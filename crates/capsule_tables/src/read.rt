@@ -29,7 +29,7 @@ pub fn read_capsule<H: Files>(files: &mut H, name: &str) -> Result<Toc, CapsuleS
     ensures same { H.contents files.new ≡ H.contents files.old }
     ensures cause { HasReadCause (H.contents files.old) name.now (H.faults files.old)
         (H.faults files.new) result }
-    ensures unspoiled { H.spoiled files.new ≡ H.spoiled files.old }
+    ensures unwritten { H.writes files.new ≡ H.writes files.old }
 {
     let Some(size) = files.size(name)? else {
         return Err(CapsuleStop::ReadFailed);

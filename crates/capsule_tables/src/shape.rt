@@ -91,7 +91,7 @@ pub fn read_shape<H: Files>(files: &mut H, name: &str, size: u64) -> Result<Shap
     ensures same { H.contents files.new ≡ H.contents files.old }
     ensures cause { HasReadCause (H.contents files.old) name.now (H.faults files.old)
         (H.faults files.new) result }
-    ensures unspoiled { H.spoiled files.new ≡ H.spoiled files.old }
+    ensures unwritten { H.writes files.new ≡ H.writes files.old }
 {
     if size < HEADER_SIZE {
         return Err(CapsuleStop::Fault(CapsuleFault::ShortHeader));

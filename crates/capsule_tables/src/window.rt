@@ -22,7 +22,7 @@ pub fn read_range<H: Files>(
         → out.new ≡ take (length out.old) (drop at bytes)) }
     ensures same { H.contents files.new ≡ H.contents files.old }
     ensures cause { HasCause (H.faults files.old) (H.faults files.new) result }
-    ensures unspoiled { H.spoiled files.new ≡ H.spoiled files.old }
+    ensures unwritten { H.writes files.new ≡ H.writes files.old }
 {
     files.read_at(name, at, out)
 }

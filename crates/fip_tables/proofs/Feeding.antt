@@ -1,6 +1,7 @@
 -- What the loop over a file's table keeps.
 use Rattle.std.proofs.Common.{◌≡◌, ◌≤◌, ℕ, List, [], Option, Result, Err, refl, arith}
 use Rattle.host_io.specs.Contents.{Directory}
+use Rattle.host_io.specs.declared.writes.Writes.{Writes}
 use Rattle.fwu_formats.specs.Package.{toc_of}
 use Rattle.fwu_formats.specs.declared.kinds.FipFault.{FipFault}
 use Rattle.fip_tables.specs.declared.toc.TocStop.{TocStop}
@@ -8,10 +9,10 @@ use Rattle.fip_tables.specs.declared.toc.TocStop.TheVariants as stop
 use Rattle.fip_tables.specs.Files.{HasFed, IsAnswer, IsFault, IsOfSome, Tells}
 use Rattle.fip_tables.specs.Stream.{Stream}
 
-pub record IsFeeding (told : Option Directory) (name : List ℕ) (now : Option Directory) (before faults kept spoiled : ℕ) (stream : Stream) (size at : ℕ) : Type 0 where
+pub record IsFeeding (told : Option Directory) (name : List ℕ) (now : Option Directory) (before faults : ℕ) (kept writes : Writes) (stream : Stream) (size at : ℕ) : Type 0 where
   pub same : now ≡ told
-  pub later : before ≤ faults
-  pub unspoiled : spoiled ≡ kept
+  pub quiet : faults ≡ before
+  pub unwritten : writes ≡ kept
   pub inside : at ≤ size
   pub count : stream.count ≡ at
   pub fed : HasFed told name stream at

@@ -1,5 +1,5 @@
 -- A package in a file whose bytes may be told.
-use Rattle.std.specs.Prelude.{◌≡◌, ◌⊎◌, ◌≤◌, ◌<◌, ◌^◌, ℕ, List, Option, Some, None, Result, Ok, Err, length, take}
+use Rattle.std.specs.Prelude.{◌≡◌, ◌⊎◌, ◌+◌, ◌≤◌, ◌<◌, ◌^◌, ℕ, List, Option, Some, None, Result, Ok, Err, OnOk, length, take}
 use Rattle.base_core.specs.Counts.{Rose}
 use Rattle.host_io.specs.Contents.{Directory}
 use Rattle.fwu_formats.specs.Package.{Toc, toc_of}
@@ -30,10 +30,13 @@ pub record IsOfSome (result : Result Toc TocStop) : Type 0 where
   pub short : length bytes < 2 ^ 64
   pub answer : IsAnswer result (toc_of bytes)
 
--- a reading fails only where the files' faults rose, or told files lack the name
+-- a reading fails only where the files' faults rose, by one at most, or told files lack the name
 pub record HasReadCause {T : Type 0} (told : Option Directory) (name : List ℕ) (before now : ℕ)
     (result : Result T TocStop) : Type 0 where
   pub later : before ≤ now
+  pub once : now ≤ before + 1
+  pub done : OnOk result (now ≡ before)
+  pub fault : (f : FipFault) → result ≡ Err (Fault f) → now ≡ before
   pub failed : result ≡ Err ReadFailed → Rose before now ⊎ Lacks told name
 
 -- the fault is the first one of the file's bytes where they are told, and of some bytes in any case

@@ -169,7 +169,7 @@ fn add_range<H: Files>(
     ensures capacity { vec_capacity buffer.old ≤ vec_capacity buffer.new }
     ensures same { H.contents files.new ≡ H.contents files.old }
     ensures cause { HasCause (H.faults files.old) (H.faults files.new) result }
-    ensures unspoiled { H.spoiled files.new ≡ H.spoiled files.old }
+    ensures unwritten { H.writes files.new ≡ H.writes files.old }
 {
     files.read_onto(name, at, size, buffer)?;
     buffer.resize(next, 0).unwrap();
@@ -257,7 +257,7 @@ impl Frame {
         ensures unchanged { OnErr result (self.new ≡ self.old) }
         ensures same { H.contents files.new ≡ H.contents files.old }
         ensures cause { HasCause (H.faults files.old) (H.faults files.new) result }
-        ensures unspoiled { H.spoiled files.new ≡ H.spoiled files.old }
+        ensures unwritten { H.writes files.new ≡ H.writes files.old }
     {
         let entries = self.entries.as_slice();
         let entry = &entries[self.count];

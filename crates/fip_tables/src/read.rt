@@ -39,7 +39,7 @@ fn feed_next<H: Files>(
         → IsFault (H.contents files.old) name.now f }
     ensures same { H.contents files.new ≡ H.contents files.old }
     ensures cause { HasReadCause (H.contents files.old) name.now (H.faults files.old) (H.faults files.new) result }
-    ensures unspoiled { H.spoiled files.new ≡ H.spoiled files.old }
+    ensures unwritten { H.writes files.new ≡ H.writes files.old }
 {
     let count = (size - at).min(group_at(at));
     let mut group = [0u8; 40];
@@ -61,7 +61,7 @@ fn feed_table<H: Files>(files: &mut H, name: &str, size: u64) -> Result<StreamTo
     ensures fault { (f : FipFault) → result ≡ Err (stop.Fault f) → IsFault (H.contents files.old) name.now f }
     ensures same { H.contents files.new ≡ H.contents files.old }
     ensures cause { HasReadCause (H.contents files.old) name.now (H.faults files.old) (H.faults files.new) result }
-    ensures unspoiled { H.spoiled files.new ≡ H.spoiled files.old }
+    ensures unwritten { H.writes files.new ≡ H.writes files.old }
 {
     let mut stream = StreamToc::new();
     let mut at = 0;
@@ -85,7 +85,7 @@ pub fn read_toc<H: Files>(files: &mut H, name: &str) -> Result<Toc, TocStop>
     ensures missing { Lacks (H.contents files.old) name.now → result ≡ Err stop.ReadFailed }
     ensures same { H.contents files.new ≡ H.contents files.old }
     ensures cause { HasReadCause (H.contents files.old) name.now (H.faults files.old) (H.faults files.new) result }
-    ensures unspoiled { H.spoiled files.new ≡ H.spoiled files.old }
+    ensures unwritten { H.writes files.new ≡ H.writes files.old }
 {
     let size = match files.size(name) {
         Ok(Some(size)) => size,
@@ -118,7 +118,7 @@ pub fn payload_at<H: Files>(
         → out.new ≡ take (length out.old) (drop at (payload bytes entry.now))) }
     ensures same { H.contents files.new ≡ H.contents files.old }
     ensures cause { HasCause (H.faults files.old) (H.faults files.new) result }
-    ensures unspoiled { H.spoiled files.new ≡ H.spoiled files.old }
+    ensures unwritten { H.writes files.new ≡ H.writes files.old }
 {
     files.read_at(name, entry.offset + at, out)
 }

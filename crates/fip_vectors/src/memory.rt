@@ -49,7 +49,7 @@ impl Files for ShortFiles {
 
     ghost faults = { λ f. f.inner.calls.faults };
 
-    ghost spoiled = { λ f. f.inner.spoiled };
+    ghost writes = { λ f. f.inner.writes };
 
     fn size(&mut self, name: &str) -> Result<Option<u64>, Failed> {
         self.inner.size(name)

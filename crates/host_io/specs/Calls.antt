@@ -1,6 +1,7 @@
 -- The calls of an object in memory. They have the numbers 1, 2 and so on, up to the greatest u64.
 use Rattle.std.specs.Prelude.{ℕ, ◌+◌, min, List, Contains, Result, Ok, Err}
 use Rattle.host_io.specs.declared.stops.WriteStop.{WriteStop}
+use Rattle.host_io.specs.declared.writes.Writes.{Writes}
 use Rattle.host_io.specs.declared.stops.WriteStop.TheVariants.{Failed, NoMemory}
 
 pub record Calls : Type 0 where
@@ -41,6 +42,20 @@ abbrev pub write_failures : {T : Type 0} → Result T WriteStop → ℕ → ℕ
 write_failures (Ok _) before = before
 write_failures (Err Failed) before = raised before
 write_failures (Err NoMemory) before = before
+
+-- the writes after one that wrote a file
+abbrev pub done_once : Writes → Writes
+done_once writes = record { done = raised writes.done; failed = writes.failed }
+
+-- the writes after one that failed
+abbrev pub failed_once : Writes → Writes
+failed_once writes = record { done = writes.done; failed = raised writes.failed }
+
+-- the writes after one with this result; one that finds no memory is not counted
+abbrev pub writes_after : {T : Type 0} → Result T WriteStop → Writes → Writes
+writes_after (Ok _) writes = done_once writes
+writes_after (Err Failed) writes = failed_once writes
+writes_after (Err NoMemory) writes = writes
 
 -- the calls after one with this result
 abbrev pub counted : {T E : Type 0} → Result T E → Calls → Calls

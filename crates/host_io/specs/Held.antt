@@ -1,6 +1,7 @@
 -- What is seen of the objects in memory.
 use Rattle.std.specs.Prelude.{ℕ, List}
 use Rattle.host_io.specs.Calls.{Calls}
+use Rattle.host_io.specs.declared.writes.Writes.{Writes}
 
 -- a source: the bytes that are left
 pub record HeldSource : Type 0 where
@@ -12,19 +13,19 @@ pub record HeldSink : Type 0 where
   pub taken : List ℕ
   pub calls : Calls
 
--- files: names with their bytes, of which the first of a name counts, and how many writes failed
+-- files: names with their bytes, of which the first of a name counts, and how many were written
 pub record HeldFiles : Type 0 where
   pub files : List (List ℕ × List ℕ)
   pub calls : Calls
-  pub spoiled : ℕ
+  pub writes : Writes
 
 -- an adapter: the reader or the writer that it goes to, and how many calls failed
 pub record Adapted (T : Type 0) : Type 0 where
   pub inner : T
   pub faults : ℕ
 
--- an adapter of files: those of the system that it goes to, and how many calls and how many writes failed
+-- an adapter of files: those of the system that it goes to, how many calls failed, and how many files were written
 pub record AdaptedFiles (T : Type 0) : Type 0 where
   pub inner : T
   pub faults : ℕ
-  pub spoiled : ℕ
+  pub writes : Writes

@@ -1,6 +1,6 @@
 //! The numbered calls of an object in memory.
 
-ghost use Rattle.std.specs.Prelude.{◌≡◌, ◌↔◌, ◌≤◌, IsErr, IsTrue};
+ghost use Rattle.std.specs.Prelude.{◌≡◌, ◌↔◌, ◌+◌, ◌≤◌, IsErr, IsTrue};
 ghost use Rattle.base_core.specs.Counts.{Rose};
 ghost use Rattle.host_io.specs.Calls.{IsListed, counted, failed, passed, unused};
 ghost use Rattle.host_io.specs.Causes.{HasCause};
@@ -54,6 +54,7 @@ impl CallCounter {
         ensures failed { self.new ≡ failed self.old }
         ensures rose { Rose self.old.faults self.new.faults }
         ensures later { self.old.faults ≤ self.new.faults }
+        ensures once { self.new.faults ≤ self.old.faults + 1 }
     {
         self.made = self.made.saturating_add(1);
         self.faults = self.faults.saturating_add(1);

@@ -5,10 +5,11 @@ use crate::stops::{Failed, WriteStop};
 /// Files by their names.
 pub trait Files {
     ghost use Rattle.std.specs.Prelude.{◌≡◌, ◌+◌, ◌≤◌, ℕ, Bool, Option, Err, IfOk, OnOk, OnErr, is_some, length, vec_capacity, vec_len};
-    ghost use Rattle.host_io.specs.Calls.{failures, write_failures};
+    ghost use Rattle.host_io.specs.Calls.{failures, write_failures, writes_after};
     ghost use Rattle.host_io.specs.Causes.{HasCause, HasWriteCause};
     ghost use Rattle.host_io.specs.Contents.{AddsRange, ChangesOnly, Directory, HasRange, Holds, TellsRange, TellsSize};
     ghost use Rattle.host_io.specs.declared.stops.WriteStop.TheVariants as stop;
+    ghost use Rattle.host_io.specs.declared.writes.Writes.{Writes};
 
     /// Whether files of this type tell their contents.
     ghost tells: { Bool };
@@ -19,8 +20,8 @@ pub trait Files {
     /// How many calls failed.
     ghost faults: { Self → ℕ };
 
-    /// How many writes failed.
-    ghost spoiled: { Self → ℕ };
+    /// How many files were written whole, and how many writes failed.
+    ghost writes: { Self → Writes };
 
     /// How many bytes the file has. `None` says that no file has the name; files that are not told
     /// answer `Failed` there.
@@ -29,7 +30,7 @@ pub trait Files {
         ensures same { contents self.new ≡ contents self.old }
         ensures cause { HasCause (faults self.old) (faults self.new) result }
         ensures count { faults self.new ≡ failures result (faults self.old) }
-        ensures unspoiled { spoiled self.new ≡ spoiled self.old };
+        ensures unwritten { writes self.new ≡ writes self.old };
 
     /// Fills `out` with the bytes of the file from place `at` on.
     fn read_at(&mut self, name: &str, at: u64, out: &mut [u8]) -> Result<(), Failed>
@@ -38,7 +39,7 @@ pub trait Files {
         ensures same { contents self.new ≡ contents self.old }
         ensures cause { HasCause (faults self.old) (faults self.new) result }
         ensures count { faults self.new ≡ failures result (faults self.old) }
-        ensures unspoiled { spoiled self.new ≡ spoiled self.old };
+        ensures unwritten { writes self.new ≡ writes self.old };
 
     /// Adds `count` bytes of the file, from place `at` on, at the end of `out`, which has the room for
     /// them, so that no memory is taken. After `Failed` it is as it was.
@@ -58,18 +59,17 @@ pub trait Files {
         ensures same { contents self.new ≡ contents self.old }
         ensures cause { HasCause (faults self.old) (faults self.new) result }
         ensures count { faults self.new ≡ failures result (faults self.old) }
-        ensures unspoiled { spoiled self.new ≡ spoiled self.old };
+        ensures unwritten { writes self.new ≡ writes self.old };
 
     /// Makes the file anew, of these bytes, or writes over all of an old one. After `Failed` nothing
-    /// is known of this name, which counts as spoiled, and no other changed. Files that are not told
-    /// stay so.
+    /// is known of this name, and no other changed. Files that are not told stay so.
     fn write_whole(&mut self, name: &str, bytes: &[u8]) -> Result<(), WriteStop>
         ensures written { OnOk result (Holds (contents self.new) name.now bytes.now) }
         ensures others { ChangesOnly (contents self.old) (contents self.new) name.now }
         ensures memory { result ≡ Err stop.NoMemory → contents self.new ≡ contents self.old }
         ensures cause { HasWriteCause (faults self.old) (faults self.new) result }
         ensures count { faults self.new ≡ write_failures result (faults self.old) }
-        ensures spoils { spoiled self.new ≡ write_failures result (spoiled self.old) };
+        ensures writes { writes self.new ≡ writes_after result (writes self.old) };
 
     /// The contents are told at each time, or never.
     ghost steady: { (f : Self) → is_some (contents f) ≡ tells };

@@ -2,13 +2,14 @@
 
 ghost use Rattle.std.specs.Prelude.{◌≡◌, ◌+◌, ◌≤◌, false, refl, None, Err, IsSome, IfOk, OnErr, OnOk, length, take, vec_capacity, vec_len};
 ghost use Rattle.base_core.specs.Counts.{Rose};
-ghost use Rattle.host_io.specs.Calls.{failures, raised, write_failures};
+ghost use Rattle.host_io.specs.Calls.{failures, raised, write_failures, writes_after};
 ghost use Rattle.host_io.specs.Causes.{HasCause, HasWriteCause};
 ghost use Rattle.host_io.specs.Contents.{AddsRange};
 ghost use Rattle.host_io.specs.declared.stops.WriteStop.TheVariants as stop;
 
 use crate::files::Files;
 use crate::stops::{Failed, WriteStop};
+use crate::writes::Writes;
 use std::fs::OpenFile;
 use std::io::{Read, Seek, SeekFrom};
 use std::marker::Model;
@@ -37,7 +38,7 @@ fn read_piece<F: Read>(file: &mut F, piece: &mut [u8], out: &mut Vec<u8>) -> io:
 pub struct HostFiles<R> {
     rt: R,
     faults: u64,
-    spoiled: u64,
+    writes: Writes,
 }
 
 impl<R> Model for HostFiles<R> {
@@ -45,18 +46,18 @@ impl<R> Model for HostFiles<R> {
 
     ghost Value = { AdaptedFiles R };
 
-    ghost view = { λ f. record { inner = f.rt; faults = f.faults; spoiled = f.spoiled } };
+    ghost view = { λ f. record { inner = f.rt; faults = f.faults; writes = f.writes } };
 }
 
 impl<R: std::rt::Files> HostFiles<R> {
     /// The files that this runtime reaches.
     pub fn new(rt: R) -> HostFiles<R>
-        ensures { result ≡ record { inner = rt; faults = 0; spoiled = 0 } }
+        ensures { result ≡ record { inner = rt; faults = 0; writes = record { done = 0; failed = 0 } } }
     {
         HostFiles {
             rt,
             faults: 0,
-            spoiled: 0,
+            writes: Writes::none(),
         }
     }
 
@@ -64,9 +65,10 @@ impl<R: std::rt::Files> HostFiles<R> {
     fn fail(&mut self) -> Failed
         ensures count { self.new.faults ≡ raised self.old.faults }
         ensures inner { self.new.inner ≡ self.old.inner }
-        ensures unspoiled { self.new.spoiled ≡ self.old.spoiled }
+        ensures unwritten { self.new.writes ≡ self.old.writes }
         ensures rose { Rose self.old.faults self.new.faults }
         ensures later { self.old.faults ≤ self.new.faults }
+        ensures once { self.new.faults ≤ self.old.faults + 1 }
     {
         self.faults = self.faults.saturating_add(1);
         Failed
@@ -117,14 +119,14 @@ impl<R: std::rt::Files> Files for HostFiles<R> {
 
     ghost faults = { λ f. f.faults };
 
-    ghost spoiled = { λ f. f.spoiled };
+    ghost writes = { λ f. f.writes };
 
     /// Besides what the trait says, `Ok` always holds a size.
     fn size(&mut self, name: &str) -> Result<Option<u64>, Failed>
         ensures size { IfOk result (λ size. IsSome size) }
         ensures cause { HasCause self.old.faults self.new.faults result }
         ensures count { self.new.faults ≡ failures result self.old.faults }
-        ensures unspoiled { self.new.spoiled ≡ self.old.spoiled }
+        ensures unwritten { self.new.writes ≡ self.old.writes }
         ensures inner { self.new.inner ≡ self.old.inner }
     {
         match fs::metadata(&self.rt, name) {
@@ -136,7 +138,7 @@ impl<R: std::rt::Files> Files for HostFiles<R> {
     fn read_at(&mut self, name: &str, at: u64, out: &mut [u8]) -> Result<(), Failed>
         ensures cause { HasCause self.old.faults self.new.faults result }
         ensures count { self.new.faults ≡ failures result self.old.faults }
-        ensures unspoiled { self.new.spoiled ≡ self.old.spoiled }
+        ensures unwritten { self.new.writes ≡ self.old.writes }
         ensures inner { self.new.inner ≡ self.old.inner }
     {
         match self.fill(name, at, out) {
@@ -159,7 +161,7 @@ impl<R: std::rt::Files> Files for HostFiles<R> {
         ensures capacity { vec_capacity out.old ≤ vec_capacity out.new }
         ensures cause { HasCause self.old.faults self.new.faults result }
         ensures count { self.new.faults ≡ failures result self.old.faults }
-        ensures unspoiled { self.new.spoiled ≡ self.old.spoiled }
+        ensures unwritten { self.new.writes ≡ self.old.writes }
         ensures inner { self.new.inner ≡ self.old.inner }
     {
         let before = out.len();
@@ -177,14 +179,17 @@ impl<R: std::rt::Files> Files for HostFiles<R> {
         ensures failed { OnErr result (result ≡ Err stop.Failed) }
         ensures cause { HasWriteCause self.old.faults self.new.faults result }
         ensures count { self.new.faults ≡ write_failures result self.old.faults }
-        ensures spoils { self.new.spoiled ≡ write_failures result self.old.spoiled }
+        ensures writes { self.new.writes ≡ writes_after result self.old.writes }
         ensures inner { self.new.inner ≡ self.old.inner }
     {
         match fs::write(&self.rt, name, bytes) {
-            Ok(()) => Ok(()),
+            Ok(()) => {
+                self.writes.pass();
+                Ok(())
+            }
             Err(_) => {
                 self.fail();
-                self.spoiled = self.spoiled.saturating_add(1);
+                self.writes.fail();
                 Err(WriteStop::Failed)
             }
         }

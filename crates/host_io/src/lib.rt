@@ -12,6 +12,7 @@ mod sink;
 mod source;
 mod steady;
 mod stops;
+mod writes;
 
 pub use files::Files;
 pub use host_files::HostFiles;
@@ -20,3 +21,4 @@ pub use sink::{MemorySink, Sink, StdSink};
 pub use source::{MemorySource, Source, StdSource};
 pub use steady::{SteadyRead, SteadyWrite};
 pub use stops::{Failed, WriteStop};
+pub use writes::Writes;

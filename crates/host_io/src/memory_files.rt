@@ -1,7 +1,7 @@
 //! Files in memory.
 
 ghost use Rattle.std.specs.Prelude.{◌≡◌, ◌≢◌, ◌↔◌, ◌+◌, ◌≤◌, ℕ, true, refl, List, Some, Err, IsErr, IfOk, OnOk, OnErr, length, option_map, vec_capacity, vec_len};
-ghost use Rattle.host_io.specs.Calls.{IsListed, counted, failures, unused, write_counted, write_failures};
+ghost use Rattle.host_io.specs.Calls.{IsListed, counted, failures, unused, write_counted, write_failures, writes_after};
 ghost use Rattle.host_io.specs.Causes.{HasCause, HasWriteCause};
 ghost use Rattle.host_io.specs.Contents.{AddsRange, ChangesOnly, HasRange, Holds, TellsRange, TellsSize, bytes_in, pairs_of, place_in};
 ghost use Rattle.host_io.specs.declared.stops.WriteStop.TheVariants as stop;
@@ -9,6 +9,7 @@ ghost use Rattle.host_io.specs.declared.stops.WriteStop.TheVariants as stop;
 use crate::calls::CallCounter;
 use crate::files::Files;
 use crate::stops::{Failed, WriteStop};
+use crate::writes::Writes;
 use std::alloc::{AllocError, Global};
 use std::marker::Model;
 
@@ -65,7 +66,7 @@ pub struct MemoryFiles {
     alloc: Global,
     files: Vec<(String, Vec<u8>)>,
     calls: CallCounter,
-    spoiled: u64,
+    writes: Writes,
 }
 
 impl Model for MemoryFiles {
@@ -77,7 +78,7 @@ impl Model for MemoryFiles {
     ghost view = { λ m. record {
       files = pairs_of m.files.items;
       calls = m.calls;
-      spoiled = m.spoiled;
+      writes = m.writes;
     } };
 }
 
@@ -88,14 +89,14 @@ impl MemoryFiles {
         ensures { result ≡ record {
           files = pairs_of files.items;
           calls = unused fails.items;
-          spoiled = 0;
+          writes = record { done = 0; failed = 0 };
         } }
     {
         MemoryFiles {
             alloc,
             files,
             calls: CallCounter::new(fails),
-            spoiled: 0,
+            writes: Writes::none(),
         }
     }
 
@@ -116,7 +117,7 @@ impl Files for MemoryFiles {
 
     ghost faults = { λ m. m.calls.faults };
 
-    ghost spoiled = { λ m. m.spoiled };
+    ghost writes = { λ m. m.writes };
 
     /// Besides what the trait says, it fails exactly at the listed calls.
     fn size(&mut self, name: &str) -> Result<Option<u64>, Failed>
@@ -124,7 +125,7 @@ impl Files for MemoryFiles {
         ensures same { Some (bytes_in self.new.files) ≡ Some (bytes_in self.old.files) }
         ensures cause { HasCause self.old.calls.faults self.new.calls.faults result }
         ensures count { self.new.calls.faults ≡ failures result self.old.calls.faults }
-        ensures unspoiled { self.new.spoiled ≡ self.old.spoiled }
+        ensures unwritten { self.new.writes ≡ self.old.writes }
         ensures listed { IsErr result ↔ IsListed self.old.calls }
         ensures calls { self.new.calls ≡ counted result self.old.calls }
     {
@@ -139,7 +140,7 @@ impl Files for MemoryFiles {
         ensures same { Some (bytes_in self.new.files) ≡ Some (bytes_in self.old.files) }
         ensures cause { HasCause self.old.calls.faults self.new.calls.faults result }
         ensures count { self.new.calls.faults ≡ failures result self.old.calls.faults }
-        ensures unspoiled { self.new.spoiled ≡ self.old.spoiled }
+        ensures unwritten { self.new.writes ≡ self.old.writes }
         ensures listed { IsErr result ↔ IsListed self.old.calls }
         ensures calls { self.new.calls ≡ counted result self.old.calls }
     {
@@ -168,7 +169,7 @@ impl Files for MemoryFiles {
         ensures same { Some (bytes_in self.new.files) ≡ Some (bytes_in self.old.files) }
         ensures cause { HasCause self.old.calls.faults self.new.calls.faults result }
         ensures count { self.new.calls.faults ≡ failures result self.old.calls.faults }
-        ensures unspoiled { self.new.spoiled ≡ self.old.spoiled }
+        ensures unwritten { self.new.writes ≡ self.old.writes }
         ensures listed { IsErr result ↔ IsListed self.old.calls }
         ensures calls { self.new.calls ≡ counted result self.old.calls }
     {
@@ -190,18 +191,19 @@ impl Files for MemoryFiles {
             Some (bytes_in self.new.files) ≡ Some (bytes_in self.old.files) }
         ensures cause { HasWriteCause self.old.calls.faults self.new.calls.faults result }
         ensures count { self.new.calls.faults ≡ write_failures result self.old.calls.faults }
-        ensures spoils { self.new.spoiled ≡ write_failures result self.old.spoiled }
+        ensures writes { self.new.writes ≡ writes_after result self.old.writes }
         ensures listed { (result ≡ Err stop.Failed) ↔ IsListed self.old.calls }
         ensures calls { self.new.calls ≡ write_counted result self.old.calls }
         ensures unchanged { OnErr result (self.new.files ≡ self.old.files) }
     {
         if self.calls.fails_next() {
             self.calls.fail();
-            self.spoiled = self.spoiled.saturating_add(1);
+            self.writes.fail();
             return Err(WriteStop::Failed);
         }
         put_bytes(self.alloc, &mut self.files, name, bytes)?;
         self.calls.pass();
+        self.writes.pass();
         Ok(())
     }
 }

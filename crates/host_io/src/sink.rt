@@ -1,6 +1,6 @@
 //! A place for bytes.
 
-ghost use Rattle.std.specs.Prelude.{◌≡◌, ◌↔◌, ◌<◌, ◌≤◌, ℕ, Bool, true, refl, List, Option, Some, Err, IfOk, MatchResult, OnErr, is_some, length};
+ghost use Rattle.std.specs.Prelude.{◌≡◌, ◌↔◌, ◌+◌, ◌<◌, ◌≤◌, ℕ, Bool, true, refl, List, Option, Some, Err, IfOk, MatchResult, OnErr, is_some, length};
 ghost use Rattle.std.specs.Io.KnownBytes.{Appends, Keeps, WriteAppends};
 ghost use Rattle.base_core.specs.Counts.{Rose};
 ghost use Rattle.host_io.specs.Calls.{IsListed, failures, raised, unused, write_counted, write_failures};
@@ -132,6 +132,7 @@ impl<W: Write> StdSink<W> {
         ensures count { self.new.faults ≡ raised self.old.faults }
         ensures rose { Rose self.old.faults self.new.faults }
         ensures later { self.old.faults ≤ self.new.faults }
+        ensures once { self.new.faults ≤ self.old.faults + 1 }
     {
         self.faults = self.faults.saturating_add(1);
         Failed

@@ -23,7 +23,7 @@ impl Files for OneFile {
 
     ghost faults = { λ _. 0 };
 
-    ghost spoiled = { λ _. 0 };
+    ghost writes = { λ _. record { done = 0; failed = 0 } };
 
     fn size(&mut self, name: &str) -> Result<Option<u64>, Failed> {
         if self.name.as_str() == name {

@@ -43,8 +43,8 @@ loop-i-preserved g c =
     let lt = subst (λ (x : Shape). i < x.items) c.shape.view_is c.loop-i-test.true in
     record {
       same = c.read_item.ensures.same ∙ c.loop-i.invariant.same;
-      later = let a = c.loop-i.invariant.later in let b = c.read_item.ensures.cause.later in omega (arith, a, b);
-      unspoiled = c.read_item.ensures.unspoiled ∙ c.loop-i.invariant.unspoiled;
+      quiet = c.in_ok-entry.ensures.cause.done ∙ c.loop-i.invariant.quiet;
+      unwritten = c.read_item.ensures.unwritten ∙ c.loop-i.invariant.unwritten;
       count = ap length pushed ∙ length-append es (e ∷ []) ∙ ap (λ (n : ℕ). n + 1) c.loop-i.invariant.count;
       any = subst (λ (xs : List Entry). AreEntries xs s.end) (sym pushed) (entries-more es e s.end (let few = c.requires.few in let count = c.loop-i.invariant.count in omega (arith, few, count, lt)) c.loop-i.invariant.any
           (let ends = subst (λ (o : Option Entry). IfSome o (λ x. x.offset + x.size ≤ s.end)) c.in-Some.is c.in_ok-entry.ensures.ends in ends) none);
