@@ -1,9 +1,10 @@
 -- Payloads that are read straight to their places in a capsule.
-use Rattle.std.proofs.Common.{◌≡◌, ◌∙◌, ◌<◌, ◌≤◌, ◌+◌, ◌++◌, ℕ, zero, suc, List, [], ◌∷◌, Option, Some, None, Result, Ok, Err, inr, get_or, length, map, take, drop, unwrap_or, arith, refl, sym, ap, subst, append-nil, length-append}
+use Rattle.std.proofs.Common.{◌≡◌, ◌∙◌, ◌<◌, ◌≤◌, ◌+◌, ◌++◌, ℕ, zero, suc, List, [], ◌∷◌, Option, Some, None, Ok, Err, get_or, length, map, take, drop, unwrap_or, arith, refl, sym, ap, subst, append-nil, length-append}
 use Rattle.std.specs.List.{All}
 use Rattle.std.proofs.lemmas.List.{drop_all, drop_more, get_or-map, length-map, length-replicate}
 use Rattle.std.proofs.lemmas.List.Elements.{All-get_or}
 use Rattle.host_io.specs.Contents.{Directory, HasRange, TellsRange}
+use Rattle.host_io.specs.declared.writes.Writes.{Writes}
 use Rattle.fwu_formats.specs.Package.{Part}
 use Rattle.fip_tables.specs.Packing.{zeroed}
 use Rattle.fip_tables.specs.declared.faults.PackFault.{PackFault}
@@ -14,7 +15,7 @@ use Rattle.capsule_tables.proofs.MadeZeros.{few-parts, same-front, same-make_fau
 use Rattle.capsule_tables.proofs.MadeFaults.{size-passes}
 use Rattle.capsule_tables.proofs.ReadAgain.{front-total, total}
 use Rattle.fip_tool.specs.Payloads.{AddsItem, IsThere, outline_of, part_told}
-use Rattle.fip_tool.specs.Steps.{Gives, IsLate}
+use Rattle.fip_tool.specs.Steps.{Gives}
 use Rattle.fip_tool.specs.Tool.{enclose_fit, enclose_value, nothing, unless_fault}
 use Rattle.fip_tool.specs.declared.payloads.Payload.{Payload}
 use Rattle.fip_tool.specs.declared.stops.Stop.{Stop}
@@ -25,10 +26,10 @@ use Rattle.fip_tool.proofs.Tables.{gives-err, tells}
 -- ---- what the loop keeps
 
 -- the first items are in, and the next one's number is index
-pub record IsFilled (start now : Option Directory) (before faults kept spoiled : ℕ) (room : ℕ) (bytes : List ℕ) (ps : List Payload) (index i : ℕ) : Type 0 where
+pub record IsFilled (start now : Option Directory) (before faults : ℕ) (kept writes : Writes) (room : ℕ) (bytes : List ℕ) (ps : List Payload) (index i : ℕ) : Type 0 where
   pub same : now ≡ start
-  pub later : before ≤ faults
-  pub unspoiled : spoiled ≡ kept
+  pub quiet : faults ≡ before
+  pub unwritten : writes ≡ kept
   pub number : index ≡ i + 1
   pub few : length ps ≤ 64
   pub small : capsule_size (map outline_of ps) ≤ 67108864
@@ -55,13 +56,13 @@ no-fault : (o : Option PackFault) → unless_fault {X = Unit {0}} o tt ≡ Ok tt
 no-fault None e = refl
 no-fault (Some f) e = cc
 
-pub begins : (start : Option Directory) (before kept room : ℕ) (bytes : List ℕ) (ps : List Payload) (os : List Part) → All (IsThere start) ps → os ≡ map outline_of ps → bytes ≡ front_bytes os → capsule_size os ≤ room → enclose_fit os ≡ Ok tt
+pub begins : (start : Option Directory) (before : ℕ) (kept : Writes) (room : ℕ) (bytes : List ℕ) (ps : List Payload) (os : List Part) → All (IsThere start) ps → os ≡ map outline_of ps → bytes ≡ front_bytes os → capsule_size os ≤ room → enclose_fit os ≡ Ok tt
     → IsFilled start start before before kept kept room bytes ps 1 0
 unfolding capsule_bytes
 begins start before kept room bytes ps os all same front space fits = record {
   same = refl;
-  later = omega arith;
-  unspoiled = refl;
+  quiet = refl;
+  unwritten = refl;
   number = refl;
   few = omega (arith, few-parts os (no-fault (make_fault os) fits), ap length same, length-map ps outline_of);
   small = subst (λ (l : List Part). capsule_size l ≤ 67108864) same (size-passes os (no-fault (make_fault os) fits));
@@ -96,13 +97,13 @@ zeroed-is told p h =
     heads e = cc
 
 -- one more item is in
-pub filled : (start now : Option Directory) (before f g kept spoiled now-spoiled room more : ℕ) (bytes whole : List ℕ) (ps : List Payload) (index i : ℕ) (p : Payload) → i < length ps → p ≡ get_or ps i p → All (IsThere start) ps
-    → IsFilled start now before f kept spoiled room bytes ps index i → AddsItem now p index bytes whole → (after : Option Directory) → after ≡ now → f ≤ g → now-spoiled ≡ spoiled → room ≤ more
-    → IsFilled start after before g kept now-spoiled more whole ps (index + 1) (i + 1)
-filled start now before f g kept spoiled now-spoiled room more bytes whole ps index i p lt is all h a after same rises still wide = record {
+pub filled : (start now : Option Directory) (before f g : ℕ) (kept writes now-writes : Writes) (room more : ℕ) (bytes whole : List ℕ) (ps : List Payload) (index i : ℕ) (p : Payload) → i < length ps → p ≡ get_or ps i p → All (IsThere start) ps
+    → IsFilled start now before f kept writes room bytes ps index i → AddsItem now p index bytes whole → (after : Option Directory) → after ≡ now → g ≡ f → now-writes ≡ writes → room ≤ more
+    → IsFilled start after before g kept now-writes more whole ps (index + 1) (i + 1)
+filled start now before f g kept writes now-writes room more bytes whole ps index i p lt is all h a after same quiet still wide = record {
   same = same ∙ h.same;
-  later = omega (arith, h.later, rises);
-  unspoiled = still ∙ h.unspoiled;
+  quiet = quiet ∙ h.quiet;
+  unwritten = still ∙ h.unwritten;
   number = ap (λ (n : ℕ). n + 1) h.number;
   few = h.few;
   small = h.small;
@@ -123,9 +124,9 @@ filled start now before f g kept spoiled now-spoiled room more bytes whole ps in
 -- ---- the end
 
 -- all items are in
-pub ends : (start now : Option Directory) (before f kept spoiled room : ℕ) (bytes : List ℕ) (ps : List Payload) (index i : ℕ) → length ps ≤ i → IsFilled start now before f kept spoiled room bytes ps index i
+pub ends : (start now : Option Directory) (before f : ℕ) (kept writes : Writes) (room : ℕ) (bytes : List ℕ) (ps : List Payload) (index i : ℕ) → length ps ≤ i → IsFilled start now before f kept writes room bytes ps index i
     → (told : Directory) → start ≡ Some told → bytes ≡ capsule_bytes (map (part_told told) ps)
-ends start now before f kept spoiled room bytes ps index i le h told e =
+ends start now before f kept writes room bytes ps index i le h told e =
     let parts = map (part_told told) ps in
     let none : drop i parts ≡ [] = drop_all i parts (omega (arith, le, length-map ps (part_told told))) in
     sym (append-nil bytes) ∙ ap (λ (l : List Part). bytes ++ items_bytes index l) (sym none) ∙ h.so-far told e
@@ -134,19 +135,6 @@ ends start now before f kept spoiled room bytes ps index i le h told e =
 pub next-there : (start now : Option Directory) (ps : List Payload) (i : ℕ) (p : Payload) → i < length ps → p ≡ get_or ps i p → All (IsThere start) ps → now ≡ start → IsThere now p
 next-there start now ps i p lt is all same =
     subst (λ (o : Option Directory). IsThere o p) (sym same) (subst (IsThere start) (sym is) (All-get_or (IsThere start) ps i p lt all))
-
--- a stop of an item is one of the capsule
-pub late-gives : {X : Type 0} (view : X → ℕ × List ℕ) (rose : Type 0) (value : Result (ℕ × List ℕ) Stop) (s : Stop) → IsLate s → (s ≡ stop.FileFault → rose) → (s ≡ stop.SinkFault → ⊥) → Gives view rose value (Err s)
-late-gives view rose value stop.FileFault late cause sink = inr (cause refl)
-late-gives view rose value stop.NoMemory late cause sink = tt
-late-gives view rose value stop.SinkFault late cause sink = sink refl
-late-gives view rose value stop.Usage late cause sink = absurd late
-late-gives view rose value (stop.NotFip f) late cause sink = absurd late
-late-gives view rose value (stop.NoSuchEntry guid) late cause sink = absurd late
-late-gives view rose value (stop.NotPacked f) late cause sink = absurd late
-late-gives view rose value (stop.NoManifest f) late cause sink = absurd late
-late-gives view rose value stop.TooLong late cause sink = absurd late
-late-gives view rose value (stop.NotCapsule f) late cause sink = absurd late
 
 pub parts-enclosed : (told : Directory) (n : ℕ) (ps : List Payload) (os : List Part) (bytes : List ℕ) → All (IsThere (Some told)) ps → os ≡ map outline_of ps → n ≡ length ps → enclose_fit os ≡ Ok tt → bytes ≡ capsule_bytes (map (part_told told) ps)
     → enclose_value (map (part_told told) ps) ≡ Ok (n, bytes)

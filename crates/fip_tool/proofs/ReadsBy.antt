@@ -1,40 +1,118 @@
 -- What a part that reads alone answers, from what its own parts answered.
-use Rattle.std.proofs.Common.{◌≡◌, ◌≤◌, inr, ℕ, Option, Result, Ok, Err, arith, refl, ◌∙◌}
+use Rattle.std.proofs.Common.{◌≡◌, ◌⊎◌, inl, inr, ℕ, List, Option, None, Result, Ok, Err, arith, refl, subst, sym, ◌∙◌}
+use Rattle.base_core.specs.Counts.{Rose}
 use Rattle.host_io.specs.Contents.{Directory}
+use Rattle.fwu_formats.specs.Package.{Toc}
+use Rattle.fip_tables.specs.Files.{Lacks, HasReadCause as PackageCause}
+use Rattle.fip_tables.specs.declared.toc.TocStop.{TocStop}
+use Rattle.fip_tables.specs.declared.toc.TocStop.TheVariants as toc
+use Rattle.capsule_tables.specs.Answers.{HasReadCause as CapsuleCause}
+use Rattle.capsule_tables.specs.declared.faults.CapsuleStop.{CapsuleStop}
+use Rattle.capsule_tables.specs.declared.faults.CapsuleStop.TheVariants as items
 use Rattle.fip_tool.specs.Steps.{Gives, IsLate, ReadsOnly}
+use Rattle.fip_tool.specs.Tool.{capsule_stopped_by, stopped_by}
 use Rattle.fip_tool.specs.declared.stops.Stop.{Stop}
 use Rattle.fip_tool.specs.declared.stops.Stop.TheVariants as stop
-use Rattle.fip_tool.proofs.Tables.{rose-from}
+use Rattle.fip_tool.proofs.FileFaults.{quiet-as, quiet-then}
+use Rattle.fip_tool.proofs.Tables.{rose-still}
 use Rattle.fip_tool.proofs.Texts.{err-same}
 
 module _ {X : Type 0} {told now : Option Directory} {before after : ℕ} where
-  pub reads-done : {x : X} → now ≡ told → before ≤ after → ReadsOnly told now before after (Ok x)
-  reads-done same later = record { same = same; later = later; cause = λ e. absurd cc; usage = λ e. absurd cc; sink = λ e. absurd cc }
+  pub reads-done : {x : X} → now ≡ told → after ≡ before → ReadsOnly told now before after (Ok x)
+  reads-done same quiet = record {
+    same = same;
+    later = omega (arith, quiet);
+    once = omega (arith, quiet);
+    quiet = quiet;
+    cause = λ e. absurd cc;
+    usage = λ e. absurd cc;
+    sink = λ e. absurd cc;
+  }
 
-  pub reads-starved : now ≡ told → before ≤ after → ReadsOnly {X = X} told now before after (Err stop.NoMemory)
-  reads-starved same later = record { same = same; later = later; cause = λ e. absurd cc; usage = λ e. absurd cc; sink = λ e. absurd cc }
+  pub reads-starved : now ≡ told → after ≡ before → ReadsOnly {X = X} told now before after (Err stop.NoMemory)
+  reads-starved same quiet = record {
+    same = same;
+    later = omega (arith, quiet);
+    once = omega (arith, quiet);
+    quiet = quiet;
+    cause = λ e. absurd cc;
+    usage = λ e. absurd cc;
+    sink = λ e. absurd cc;
+  }
 
   -- the last part, after others that read alone
-  pub reads-then : {mid : Option Directory} {between : ℕ} {result : Result X Stop} → mid ≡ told → before ≤ between → ReadsOnly mid now between after result
+  pub reads-then : {mid : Option Directory} {between : ℕ} {result : Result X Stop} → mid ≡ told → between ≡ before → ReadsOnly mid now between after result
       → ReadsOnly told now before after result
-  reads-then same later reads = record {
+  reads-then {between = between} {result = result} same quiet reads = record {
     same = reads.same ∙ same;
-    later = omega (arith, later, reads.later);
-    cause = λ e untold. rose-from _ _ _ later (reads.cause e (same ∙ untold));
+    later = omega (arith, quiet, reads.later);
+    once = omega (arith, quiet, reads.once);
+    quiet = quiet-then result before between after quiet reads.quiet;
+    cause = λ e untold. rose-still _ _ _ (sym quiet) (reads.cause e (same ∙ untold));
     usage = reads.usage;
     sink = reads.sink;
   }
 
   -- and a stop of a part
-  pub reads-stopped : {Y : Type 0} {mid : Option Directory} {between : ℕ} {s : Stop} → mid ≡ told → before ≤ between → ReadsOnly {X = Y} mid now between after (Err s)
+  pub reads-stopped : {Y : Type 0} {mid : Option Directory} {between : ℕ} {s : Stop} → mid ≡ told → between ≡ before → ReadsOnly {X = Y} mid now between after (Err s)
       → ReadsOnly {X = X} told now before after (Err s)
-  reads-stopped {s = s} same later reads = record {
+  reads-stopped {between = between} {s = s} same quiet reads = record {
     same = reads.same ∙ same;
-    later = omega (arith, later, reads.later);
-    cause = λ e untold. let is : s ≡ stop.FileFault = cc in rose-from _ _ _ later (reads.cause (err-same is) (same ∙ untold));
+    later = omega (arith, quiet, reads.later);
+    once = omega (arith, quiet, reads.once);
+    quiet = quiet-as s before between after quiet reads.quiet;
+    cause = λ e untold. let is : s ≡ stop.FileFault = cc in rose-still _ _ _ (sym quiet) (reads.cause (err-same is) (same ∙ untold));
     usage = λ e. let is : s ≡ stop.Usage = cc in reads.usage (err-same is);
     sink = λ e. let is : s ≡ stop.SinkFault = cc in reads.sink (err-same is);
   }
+
+  -- a table that was not read, of a file that is there where its contents are told
+  module _ {mid : Option Directory} {name : List ℕ} {between : ℕ} where
+    failed : mid ≡ told → between ≡ before → Rose between after ⊎ Lacks mid name → told ≡ None → Rose before after
+    failed same quiet (inl rose) untold = rose-still _ _ _ (sym quiet) rose
+    failed same quiet (inr lacks) untold = absurd (subst (λ (o : Option Directory). Lacks o name) (same ∙ untold) lacks)
+
+    pub reads-no-table : (s : TocStop) → mid ≡ told → now ≡ mid → between ≡ before → PackageCause {T = Toc} mid name between after (Err s)
+        → ReadsOnly {X = X} told now before after (Err (stopped_by s))
+    reads-no-table (toc.Fault f) same still quiet h = record {
+      same = still ∙ same;
+      later = omega (arith, quiet, h.later);
+      once = omega (arith, quiet, h.once);
+      quiet = h.fault f refl ∙ quiet;
+      cause = λ e. absurd cc;
+      usage = λ e. absurd cc;
+      sink = λ e. absurd cc;
+    }
+    reads-no-table toc.ReadFailed same still quiet h = record {
+      same = still ∙ same;
+      later = omega (arith, quiet, h.later);
+      once = omega (arith, quiet, h.once);
+      quiet = tt;
+      cause = λ e untold. failed same quiet (h.failed refl) untold;
+      usage = λ e. absurd cc;
+      sink = λ e. absurd cc;
+    }
+
+    pub reads-no-items : (s : CapsuleStop) → mid ≡ told → now ≡ mid → between ≡ before → CapsuleCause {T = Toc} mid name between after (Err s)
+        → ReadsOnly {X = X} told now before after (Err (capsule_stopped_by s))
+    reads-no-items (items.Fault f) same still quiet h = record {
+      same = still ∙ same;
+      later = omega (arith, quiet, h.later);
+      once = omega (arith, quiet, h.once);
+      quiet = h.fault f refl ∙ quiet;
+      cause = λ e. absurd cc;
+      usage = λ e. absurd cc;
+      sink = λ e. absurd cc;
+    }
+    reads-no-items items.ReadFailed same still quiet h = record {
+      same = still ∙ same;
+      later = omega (arith, quiet, h.later);
+      once = omega (arith, quiet, h.once);
+      quiet = tt;
+      cause = λ e untold. failed same quiet (h.failed refl) untold;
+      usage = λ e. absurd cc;
+      sink = λ e. absurd cc;
+    }
 
 -- a stop that may come late, of a part that does not print
 pub gives-late : {X Y Z : Type 0} (view : X → Y) (rose : Type 0) (value : Result Y Stop) (s : Stop) → IsLate s → (◌≡◌ {A = Result Z Stop} (Err s) (Err stop.SinkFault) → ⊥)

@@ -2,6 +2,7 @@
 use Rattle.std.proofs.Common.{◌≡◌, ◌⊎◌, inl, inr, ◌≤◌, ℕ, List, Option, Some, None, Result, Ok, Err, IfOk, length, arith, refl, sym, ap, ◌∙◌}
 use Rattle.base_core.specs.Counts.{Rose}
 use Rattle.host_io.specs.Contents.{Directory}
+use Rattle.host_io.specs.declared.writes.Writes.{Writes}
 use Rattle.fwu_formats.specs.Package.{Toc, toc_of}
 use Rattle.fwu_formats.specs.declared.kinds.FipFault.{FipFault}
 use Rattle.fip_tables.specs.Files.{IsAnswer, Lacks, Tells}
@@ -21,6 +22,10 @@ rose-from a b c le (inr full) = inr full
 pub rose-still : (a b c : ℕ) → a ≡ b → Rose b c → Rose a c
 rose-still a b c same (inl rose) = inl (omega arith)
 rose-still a b c same (inr full) = inr full
+
+-- no write failed where none was made
+pub failed-same : {now before : Writes} → now ≡ before → before.failed ≡ now.failed
+failed-same same = sym (ap (λ (w : Writes). w.failed) same)
 
 pub rose-until : (a b c : ℕ) → Rose a b → b ≤ c → Rose a c
 rose-until a b c (inl rose) le = inl (omega arith)

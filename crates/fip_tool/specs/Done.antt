@@ -3,22 +3,24 @@ use Rattle.std.specs.Prelude.{◌≡◌, ◌≢◌, ◌≤◌, ◌⊎◌, ℕ, L
 use Rattle.base_core.specs.Counts.{Rose}
 use Rattle.fip_words.specs.Order.{Asked, info_of_source}
 use Rattle.host_io.specs.Contents.{Directory}
+use Rattle.host_io.specs.declared.writes.Writes.{Writes}
 use Rattle.fip_tool.specs.Said.{IsTextsOf, Says}
-use Rattle.fip_tool.specs.Steps.{Did, sink_failures, source_failures}
+use Rattle.fip_tool.specs.Steps.{Did, FaultsOnce, sink_failures, source_failures}
 use Rattle.fip_tool.specs.Tool.{ReadSource, asks_files, outcome_of}
+use Rattle.fip_tool.specs.Wrote.{WroteFor}
 use Rattle.fip_tool.specs.declared.stops.Stop.{Stop}
 use Rattle.fip_tool.specs.declared.stops.Stop.TheVariants as stop
 
 -- What was done, with what is seen of the files, the source and the sink. A status is not told yet, nor a line that says why the
 -- command stopped.
-pub record Done {H I O : Type 0} (contents : H → Option Directory) (file_faults spoiled : H → ℕ)
+pub record Done {H I O : Type 0} (contents : H → Option Directory) (file_faults : H → ℕ) (writes : H → Writes)
     (left : I → Option (List ℕ)) (source_faults : I → ℕ)
     (taken : O → Option (List ℕ)) (sink_faults : O → ℕ)
     (asked : Option Asked) (result : Result (Unit {0}) Stop)
     (files_before files_after : H) (source_before source_after : I) (sink_before sink_after : O) : Type 0 where
   pub told : (told : Directory) → contents files_before ≡ Some told → asked ≢ Some info_of_source
       → Did (outcome_of asked told) told (contents files_after) (taken sink_before) (taken sink_after)
-      (Rose (file_faults files_before) (file_faults files_after)) (Rose (spoiled files_before) (spoiled files_after))
+      (Rose (file_faults files_before) (file_faults files_after)) (Rose (writes files_before).failed (writes files_after).failed)
       (Rose (sink_faults sink_before) (sink_faults sink_after)) result
   pub source : asked ≡ Some info_of_source
       → ReadSource result (contents files_before) (contents files_after) (left source_before) (left source_after)
@@ -36,6 +38,10 @@ pub record Done {H I O : Type 0} (contents : H → Option Directory) (file_fault
       → source_faults source_after ≡ source_failures result (source_faults source_before)
   pub files_stay : IsFalse (asks_files asked) → files_after ≡ files_before
   pub cause : result ≡ Err stop.FileFault → contents files_before ≡ None
-      → Rose (file_faults files_before) (file_faults files_after) ⊎ Rose (source_faults source_before) (source_faults source_after)
+      → Rose (file_faults files_before) (file_faults files_after)
+      ⊎ Rose (source_faults source_before) (source_faults source_after)
+  -- at most one call of the files failed, and ended it
+  pub file_count : FaultsOnce (file_faults files_before) (file_faults files_after) result
+  pub wrote : WroteFor asked (taken sink_before) (taken sink_after) (writes files_before).done (writes files_after).done result
   pub later : sink_faults sink_before ≤ sink_faults sink_after
   pub sink_count : sink_faults sink_after ≡ sink_failures result (sink_faults sink_before)

@@ -5,6 +5,7 @@ pub mod Source
 pub mod Ends
 pub mod Payloads
 pub mod Said
+pub mod Wrote
 pub mod Converted
 pub mod Done
 pub mod Unpacked

@@ -1,5 +1,5 @@
 -- What a command does, and what is there after it.
-use Rattle.std.specs.Prelude.{◌≡◌, ◌≢◌, ◌⊎◌, ◌≤◌, ◌==◌, ◌||◌, ⊤, IsFalse, ℕ, List, [], ◌∷◌, ◌++◌, Option, Some, None, Result, Ok, Err, if◌then◌else◌, take, drop}
+use Rattle.std.specs.Prelude.{◌≡◌, ◌≢◌, ◌⊎◌, ◌+◌, ◌≤◌, ◌==◌, ◌||◌, ⊤, IsFalse, ℕ, List, [], ◌∷◌, ◌++◌, Option, Some, None, Result, Ok, Err, if◌then◌else◌, take, drop}
 use Rattle.std.specs.Str.{bytes_eq}
 use Rattle.std.specs.Io.KnownBytes.{Appends}
 use Rattle.base_core.specs.Counts.{Rose}
@@ -104,11 +104,29 @@ IsLate SinkFault = ⊤
 IsLate NoMemory = ⊤
 IsLate s = ⊥
 
+-- no call of the files failed in a part of a command that ended so, unless it ended for a file's fault
+abbrev pub NoneFailed : {X : Type 0} → Result X Stop → ℕ → ℕ → Type 0
+NoneFailed (Ok x) before after = after ≡ before
+NoneFailed (Err FileFault) before after = ⊤
+NoneFailed (Err s) before after = after ≡ before
+
+-- At most one call of the files failed, and none but where a file's fault ended it.
+pub record FaultsOnce {X : Type 0} (before after : ℕ) (result : Result X Stop) : Type 0 where
+  pub once : after ≤ before + 1
+  pub quiet : NoneFailed result before after
+
+-- And by the exit status. The line of such a stop may be cut by the sink, or find no memory.
+pub record FailsAtMostOnce (status before after : ℕ) : Type 0 where
+  pub once : after ≤ before + 1
+  pub none : IsFalse ((status == 2) || ((status == 3) || (status == 9))) → after ≡ before
+
 -- A part that reads alone answers that a file failed only where faults rose, or told files lack one. It answers neither usage
--- nor that the sink failed.
+-- nor that the sink failed. At most one call of the files fails, and ends it.
 pub record ReadsOnly {X : Type 0} (told now : Option Directory) (before after : ℕ) (result : Result X Stop) : Type 0 where
   pub same : now ≡ told
   pub later : before ≤ after
+  pub once : after ≤ before + 1
+  pub quiet : NoneFailed result before after
   pub cause : result ≡ Err FileFault → told ≡ None → Rose before after
   pub usage : result ≡ Err Usage → ⊥
   pub sink : result ≡ Err SinkFault → ⊥

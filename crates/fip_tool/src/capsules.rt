@@ -6,8 +6,9 @@ ghost use Rattle.fwu_formats.specs.Package.{Toc};
 ghost use Rattle.host_io.specs.Contents.{Directory};
 ghost use Rattle.fip_words.specs.Order.{Asked};
 ghost use Rattle.fip_tool.specs.Said.{IsTexts, Says};
-ghost use Rattle.fip_tool.specs.Steps.{Did, Gives, ReadsOnly, outcome_by, sink_failures};
+ghost use Rattle.fip_tool.specs.Steps.{Did, FaultsOnce, Gives, ReadsOnly, outcome_by, sink_failures};
 ghost use Rattle.fip_tool.specs.Tool.{capsule_value, enclose_value, encloses, kept_part, pack_value, repackage_value, packs};
+ghost use Rattle.fip_tool.specs.Wrote.{Wrote};
 ghost use Rattle.fip_tool.specs.declared.stops.Stop.TheVariants as stop;
 
 use crate::enclosing::enclosed;
@@ -38,7 +39,7 @@ fn capsule_of_entries<H: Files>(
     ensures count { IfOk result (λ m. m.0 ≡ length entries.now) }
     ensures reads { ReadsOnly (H.contents files.old) (H.contents files.new) (H.faults files.old)
         (H.faults files.new) result }
-    ensures unspoiled { H.spoiled files.new ≡ H.spoiled files.old }
+    ensures unwritten { H.writes files.new ≡ H.writes files.old }
 {
     let none = Vec::new(alloc);
     let Ok(payloads) = payloads_of_entries(alloc, from, entries, none.as_slice()) else {
@@ -59,7 +60,7 @@ fn capsule_of_package<H: Files>(
     ensures count { IfOk result (λ m. (t : Toc) × (m.0 ≡ length t.entries)) }
     ensures reads { ReadsOnly (H.contents files.old) (H.contents files.new) (H.faults files.old)
         (H.faults files.new) result }
-    ensures unspoiled { H.spoiled files.new ≡ H.spoiled files.old }
+    ensures unwritten { H.writes files.new ≡ H.writes files.old }
 {
     match table_with(files, from, &[]) {
         Ok(toc) => capsule_of_entries(alloc, files, from, toc.entries.as_slice()),
@@ -86,7 +87,7 @@ fn package_of_items<H: Files>(
     ensures count { IfOk result (λ m. m.0 ≡ length toc.now.entries) }
     ensures reads { ReadsOnly (H.contents files.old) (H.contents files.new) (H.faults files.old)
         (H.faults files.new) result }
-    ensures unspoiled { H.spoiled files.new ≡ H.spoiled files.old }
+    ensures unwritten { H.writes files.new ≡ H.writes files.old }
 {
     let none = Vec::new(alloc);
     let entries = toc.entries.as_slice();
@@ -106,7 +107,7 @@ fn package_of_capsule<H: Files>(
     ensures count { IfOk result (λ m. (t : Toc) × (m.0 ≡ length t.entries)) }
     ensures reads { ReadsOnly (H.contents files.old) (H.contents files.new) (H.faults files.old)
         (H.faults files.new) result }
-    ensures unspoiled { H.spoiled files.new ≡ H.spoiled files.old }
+    ensures unwritten { H.writes files.new ≡ H.writes files.old }
 {
     match read_enclosed(files, from) {
         Ok(toc) => package_of_items(alloc, files, align, from, &toc),
@@ -126,11 +127,15 @@ pub fn run_capsule<H: Files, O: Sink>(
         → Did (outcome_by (encloses out.now) (capsule_value told from.now)) told
         (H.contents files.new) (O.taken sink.old) (O.taken sink.new)
         (Rose (H.faults files.old) (H.faults files.new))
-        (Rose (H.spoiled files.old) (H.spoiled files.new))
+        (Rose (H.writes files.old).failed (H.writes files.new).failed)
         (Rose (O.faults sink.old) (O.faults sink.new)) result }
     ensures says { Says (IsTexts (Asked.capsule from.now out.now)) (O.taken sink.old)
         (O.taken sink.new)
         (Rose (O.faults sink.old) (O.faults sink.new)) result }
+    ensures file_count { FaultsOnce (H.faults files.old) (H.faults files.new) result }
+    ensures wrote { Wrote (IsTexts (Asked.capsule from.now out.now))
+        (O.taken sink.old) (O.taken sink.new) (H.writes files.old).done (H.writes files.new).done
+        result }
     ensures cause { result ≡ Err stop.FileFault → H.contents files.old ≡ None
         → Rose (H.faults files.old) (H.faults files.new) }
     ensures usage { result ≡ Err stop.Usage → ⊥ }
@@ -155,11 +160,15 @@ pub fn run_package<H: Files, O: Sink>(
         → Did (outcome_by (packs out.now) (repackage_value told align from.now)) told
         (H.contents files.new) (O.taken sink.old) (O.taken sink.new)
         (Rose (H.faults files.old) (H.faults files.new))
-        (Rose (H.spoiled files.old) (H.spoiled files.new))
+        (Rose (H.writes files.old).failed (H.writes files.new).failed)
         (Rose (O.faults sink.old) (O.faults sink.new)) result }
     ensures says { Says (IsTexts (Asked.repackage align from.now out.now)) (O.taken sink.old)
         (O.taken sink.new)
         (Rose (O.faults sink.old) (O.faults sink.new)) result }
+    ensures file_count { FaultsOnce (H.faults files.old) (H.faults files.new) result }
+    ensures wrote { Wrote (IsTexts (Asked.repackage align from.now out.now))
+        (O.taken sink.old) (O.taken sink.new) (H.writes files.old).done (H.writes files.new).done
+        result }
     ensures cause { result ≡ Err stop.FileFault → H.contents files.old ≡ None
         → Rose (H.faults files.old) (H.faults files.new) }
     ensures usage { result ≡ Err stop.Usage → ⊥ }

@@ -21,7 +21,7 @@ pub fn file_info<H: Files>(alloc: Global, files: &mut H, name: &str) -> Result<V
     ensures listed { IfOk result (λ text. IsListing text.items) }
     ensures reads { ReadsOnly (H.contents files.old) (H.contents files.new) (H.faults files.old)
         (H.faults files.new) result }
-    ensures unspoiled { H.spoiled files.new ≡ H.spoiled files.old }
+    ensures unwritten { H.writes files.new ≡ H.writes files.old }
 {
     match read_package(files, name) {
         Ok((toc, size)) => match info_text(alloc, &toc, size) {

@@ -7,8 +7,9 @@ ghost use Rattle.host_io.specs.Contents.{Directory};
 ghost use Rattle.fip_words.specs.Order.{Asked, part_view};
 ghost use Rattle.fip_tool.specs.Payloads.{IsThere, part_told};
 ghost use Rattle.fip_tool.specs.Said.{IsTexts, Says};
-ghost use Rattle.fip_tool.specs.Steps.{Did, Gives, ReadsOnly, outcome_by, sink_failures};
+ghost use Rattle.fip_tool.specs.Steps.{Did, FaultsOnce, Gives, ReadsOnly, outcome_by, sink_failures};
 ghost use Rattle.fip_tool.specs.Tool.{after, create_value, first_missing, is_named, kept_part, pack_value, packs, parts_in, remove_value, update_value, updated_part};
+ghost use Rattle.fip_tool.specs.Wrote.{Wrote};
 ghost use Rattle.fip_tool.specs.declared.stops.Stop.TheVariants as stop;
 
 use crate::named::{is_named, table_with};
@@ -37,7 +38,7 @@ fn created<H: Files>(
     ensures count { IfOk result (λ m. m.0 ≡ length named.now) }
     ensures reads { ReadsOnly (H.contents files.old) (H.contents files.new) (H.faults files.old)
         (H.faults files.new) result }
-    ensures unspoiled { H.spoiled files.new ≡ H.spoiled files.old }
+    ensures unwritten { H.writes files.new ≡ H.writes files.old }
 {
     match payloads_of_files(alloc, files, named) {
         Ok(payloads) => packed(alloc, files, NEW_SERIAL, 0, align, payloads.as_slice()),
@@ -68,7 +69,7 @@ pub fn repacked<H: Files>(
     ensures count { IfOk result (λ m. m.0 ≡ length entries.now) }
     ensures reads { ReadsOnly (H.contents files.old) (H.contents files.new) (H.faults files.old)
         (H.faults files.new) result }
-    ensures unspoiled { H.spoiled files.new ≡ H.spoiled files.old }
+    ensures unwritten { H.writes files.new ≡ H.writes files.old }
 {
     let Ok(payloads) = payloads_of_entries(alloc, from, entries, new) else {
         return Err(Stop::NoMemory);
@@ -123,7 +124,7 @@ fn without<H: Files>(
         (filter (λ e. not (is_named guids.now e)) toc.now.entries)) }
     ensures reads { ReadsOnly (H.contents files.old) (H.contents files.new) (H.faults files.old)
         (H.faults files.new) result }
-    ensures unspoiled { H.spoiled files.new ≡ H.spoiled files.old }
+    ensures unwritten { H.writes files.new ≡ H.writes files.old }
 {
     let Ok(kept) = kept_entries(alloc, toc.entries.as_slice(), guids) else {
         return Err(Stop::NoMemory);
@@ -155,7 +156,7 @@ fn removed<H: Files>(
         × (m.0 ≡ length (filter (λ e. not (is_named guids.now e)) t.entries))) }
     ensures reads { ReadsOnly (H.contents files.old) (H.contents files.new) (H.faults files.old)
         (H.faults files.new) result }
-    ensures unspoiled { H.spoiled files.new ≡ H.spoiled files.old }
+    ensures unwritten { H.writes files.new ≡ H.writes files.old }
 {
     match table_with(files, from, guids) {
         Ok(toc) => without(alloc, files, align, from, &toc, guids),
@@ -184,7 +185,7 @@ fn replaced<H: Files>(
     ensures count { IfOk result (λ m. m.0 ≡ length toc.now.entries) }
     ensures reads { ReadsOnly (H.contents files.old) (H.contents files.new) (H.faults files.old)
         (H.faults files.new) result }
-    ensures unspoiled { H.spoiled files.new ≡ H.spoiled files.old }
+    ensures unwritten { H.writes files.new ≡ H.writes files.old }
 {
     match payloads_of_files(alloc, files, named) {
         Ok(new) => {
@@ -211,7 +212,7 @@ fn updated<H: Files>(
         × (m.0 ≡ length t.entries)) }
     ensures reads { ReadsOnly (H.contents files.old) (H.contents files.new) (H.faults files.old)
         (H.faults files.new) result }
-    ensures unspoiled { H.spoiled files.new ≡ H.spoiled files.old }
+    ensures unwritten { H.writes files.new ≡ H.writes files.old }
 {
     let Ok(types) = types_of(alloc, named) else {
         return Err(Stop::NoMemory);
@@ -235,11 +236,15 @@ pub fn run_create<H: Files, O: Sink>(
         → Did (outcome_by (packs out.now) (create_value told align (map part_view named.now))) told
         (H.contents files.new) (O.taken sink.old) (O.taken sink.new)
         (Rose (H.faults files.old) (H.faults files.new))
-        (Rose (H.spoiled files.old) (H.spoiled files.new))
+        (Rose (H.writes files.old).failed (H.writes files.new).failed)
         (Rose (O.faults sink.old) (O.faults sink.new)) result }
     ensures says { Says (IsTexts (Asked.create align out.now (map part_view named.now)))
         (O.taken sink.old) (O.taken sink.new)
         (Rose (O.faults sink.old) (O.faults sink.new)) result }
+    ensures file_count { FaultsOnce (H.faults files.old) (H.faults files.new) result }
+    ensures wrote { Wrote (IsTexts (Asked.create align out.now (map part_view named.now)))
+        (O.taken sink.old) (O.taken sink.new) (H.writes files.old).done (H.writes files.new).done
+        result }
     ensures cause { result ≡ Err stop.FileFault → H.contents files.old ≡ None
         → Rose (H.faults files.old) (H.faults files.new) }
     ensures usage { result ≡ Err stop.Usage → ⊥ }
@@ -264,11 +269,15 @@ pub fn run_remove<H: Files, O: Sink>(
         → Did (outcome_by (packs out.now) (remove_value told align from.now guids.now)) told
         (H.contents files.new) (O.taken sink.old) (O.taken sink.new)
         (Rose (H.faults files.old) (H.faults files.new))
-        (Rose (H.spoiled files.old) (H.spoiled files.new))
+        (Rose (H.writes files.old).failed (H.writes files.new).failed)
         (Rose (O.faults sink.old) (O.faults sink.new)) result }
     ensures says { Says (IsTexts (Asked.remove align from.now out.now guids.now)) (O.taken sink.old)
         (O.taken sink.new)
         (Rose (O.faults sink.old) (O.faults sink.new)) result }
+    ensures file_count { FaultsOnce (H.faults files.old) (H.faults files.new) result }
+    ensures wrote { Wrote (IsTexts (Asked.remove align from.now out.now guids.now))
+        (O.taken sink.old) (O.taken sink.new) (H.writes files.old).done (H.writes files.new).done
+        result }
     ensures cause { result ≡ Err stop.FileFault → H.contents files.old ≡ None
         → Rose (H.faults files.old) (H.faults files.new) }
     ensures usage { result ≡ Err stop.Usage → ⊥ }
@@ -295,11 +304,15 @@ pub fn run_update<H: Files, O: Sink>(
         (update_value told align from.now (map part_view named.now))) told (H.contents files.new)
         (O.taken sink.old) (O.taken sink.new)
         (Rose (H.faults files.old) (H.faults files.new))
-        (Rose (H.spoiled files.old) (H.spoiled files.new))
+        (Rose (H.writes files.old).failed (H.writes files.new).failed)
         (Rose (O.faults sink.old) (O.faults sink.new)) result }
     ensures says { Says (IsTexts (Asked.update align from.now out.now (map part_view named.now)))
         (O.taken sink.old) (O.taken sink.new)
         (Rose (O.faults sink.old) (O.faults sink.new)) result }
+    ensures file_count { FaultsOnce (H.faults files.old) (H.faults files.new) result }
+    ensures wrote { Wrote (IsTexts (Asked.update align from.now out.now (map part_view named.now)))
+        (O.taken sink.old) (O.taken sink.new) (H.writes files.old).done (H.writes files.new).done
+        result }
     ensures cause { result ≡ Err stop.FileFault → H.contents files.old ≡ None
         → Rose (H.faults files.old) (H.faults files.new) }
     ensures usage { result ≡ Err stop.Usage → ⊥ }

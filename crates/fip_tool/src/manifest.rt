@@ -7,8 +7,9 @@ ghost use Rattle.fip_words.specs.Values.{each};
 ghost use Rattle.host_io.specs.Contents.{Directory};
 ghost use Rattle.manifest_core.specs.Shown.{row};
 ghost use Rattle.fip_tool.specs.Said.{IsTexts, Says};
-ghost use Rattle.fip_tool.specs.Steps.{Did, Gives, ReadsOnly, outcome_by, sink_failures};
+ghost use Rattle.fip_tool.specs.Steps.{Did, FaultsOnce, Gives, ReadsOnly, outcome_by, sink_failures};
 ghost use Rattle.fip_tool.specs.Tool.{after, image_in, image_row, is_long, manifest_value, nothing, of_rows, sizes_value, there, unless_long, writes_manifest};
+ghost use Rattle.fip_tool.specs.Wrote.{Wrote};
 ghost use Rattle.fip_tool.specs.declared.stops.Stop.TheVariants as stop;
 
 use crate::lines::manifest_line;
@@ -50,7 +51,7 @@ fn row_of_file<H: Files>(
         (after (there (image_in told (image_view named.now))) (λ i. Ok (image_row i))) result }
     ensures reads { ReadsOnly (H.contents files.old) (H.contents files.new) (H.faults files.old)
         (H.faults files.new) result }
-    ensures unspoiled { H.spoiled files.new ≡ H.spoiled files.old }
+    ensures unwritten { H.writes files.new ≡ H.writes files.old }
 {
     match read_file(alloc, files, named.file) {
         Ok(image) => Ok(row_of(named.guid, named.version, image.as_slice())),
@@ -86,7 +87,7 @@ fn rows_of_files<H: Files>(
         (λ images. Ok (each image_row images))) result }
     ensures reads { ReadsOnly (H.contents files.old) (H.contents files.new) (H.faults files.old)
         (H.faults files.new) result }
-    ensures unspoiled { H.spoiled files.new ≡ H.spoiled files.old }
+    ensures unwritten { H.writes files.new ≡ H.writes files.old }
     ensures count { IfOk result (λ rows. IfSome rows (λ v. length v.items ≡ length named.now)) }
 {
     let mut rows = Some(Vec::new(alloc));
@@ -157,7 +158,7 @@ fn is_long_file<H: Files>(files: &mut H, named: &ImageWord<'_>) -> Result<bool, 
         (after (there (image_in told (image_view named.now))) (λ i. Ok (is_long i))) result }
     ensures reads { ReadsOnly (H.contents files.old) (H.contents files.new) (H.faults files.old)
         (H.faults files.new) result }
-    ensures unspoiled { H.spoiled files.new ≡ H.spoiled files.old }
+    ensures unwritten { H.writes files.new ≡ H.writes files.old }
 {
     match size_of(files, named.file) {
         Ok(size) => Ok(size > IMAGE_LIMIT as u64),
@@ -172,7 +173,7 @@ fn check_sizes<H: Files>(files: &mut H, named: &[ImageWord<'_>]) -> Result<(), S
         (sizes_value told (map image_view named.now)) result }
     ensures reads { ReadsOnly (H.contents files.old) (H.contents files.new) (H.faults files.old)
         (H.faults files.new) result }
-    ensures unspoiled { H.spoiled files.new ≡ H.spoiled files.old }
+    ensures unwritten { H.writes files.new ≡ H.writes files.old }
 {
     let mut is_long = false;
     for one in named {
@@ -198,7 +199,7 @@ pub fn manifest<H: Files>(
     ensures count { IfOk result (λ m. m.0 ≡ length named.now) }
     ensures reads { ReadsOnly (H.contents files.old) (H.contents files.new) (H.faults files.old)
         (H.faults files.new) result }
-    ensures unspoiled { H.spoiled files.new ≡ H.spoiled files.old }
+    ensures unwritten { H.writes files.new ≡ H.writes files.old }
 {
     match check_sizes(files, named) {
         Ok(()) => {}
@@ -225,11 +226,15 @@ pub fn run_manifest<H: Files, O: Sink>(
         (manifest_value told security (map image_view named.now))) told (H.contents files.new)
         (O.taken sink.old) (O.taken sink.new)
         (Rose (H.faults files.old) (H.faults files.new))
-        (Rose (H.spoiled files.old) (H.spoiled files.new))
+        (Rose (H.writes files.old).failed (H.writes files.new).failed)
         (Rose (O.faults sink.old) (O.faults sink.new)) result }
     ensures says { Says (IsTexts (Asked.manifest out.now security (map image_view named.now)))
         (O.taken sink.old) (O.taken sink.new)
         (Rose (O.faults sink.old) (O.faults sink.new)) result }
+    ensures file_count { FaultsOnce (H.faults files.old) (H.faults files.new) result }
+    ensures wrote { Wrote (IsTexts (Asked.manifest out.now security (map image_view named.now)))
+        (O.taken sink.old) (O.taken sink.new) (H.writes files.old).done (H.writes files.new).done
+        result }
     ensures cause { result ≡ Err stop.FileFault → H.contents files.old ≡ None
         → Rose (H.faults files.old) (H.faults files.new) }
     ensures usage { result ≡ Err stop.Usage → ⊥ }

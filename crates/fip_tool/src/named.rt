@@ -36,7 +36,7 @@ pub fn table_with<H: Files>(files: &mut H, name: &str, guids: &[Guid]) -> Result
     ensures ends { IfOk result (λ t. All (λ e. e.offset + e.size < 2 ^ 64) t.entries) }
     ensures reads { ReadsOnly (H.contents files.old) (H.contents files.new) (H.faults files.old)
         (H.faults files.new) result }
-    ensures unspoiled { H.spoiled files.new ≡ H.spoiled files.old }
+    ensures unwritten { H.writes files.new ≡ H.writes files.old }
 {
     match read_package(files, name) {
         Ok((toc, _)) => match first_missing(&toc, guids) {

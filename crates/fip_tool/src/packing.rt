@@ -68,7 +68,7 @@ pub fn packed<H: Files>(
     ensures count { IfOk result (λ m. m.0 ≡ length payloads.now) }
     ensures reads { ReadsOnly (H.contents files.old) (H.contents files.new) (H.faults files.old)
         (H.faults files.new) result }
-    ensures unspoiled { H.spoiled files.new ≡ H.spoiled files.old }
+    ensures unwritten { H.writes files.new ≡ H.writes files.old }
 {
     let Ok(outlines) = outlines(alloc, payloads) else {
         return Err(Stop::NoMemory);

@@ -48,7 +48,7 @@ fn payload_of_file<'a, H: Files>(files: &mut H, named: &NamedFile<'a>) -> Result
     ensures there { IfOk result (IsThere (H.contents files.old)) }
     ensures reads { ReadsOnly (H.contents files.old) (H.contents files.new) (H.faults files.old)
         (H.faults files.new) result }
-    ensures unspoiled { H.spoiled files.new ≡ H.spoiled files.old }
+    ensures unwritten { H.writes files.new ≡ H.writes files.old }
 {
     match size_of(files, named.file) {
         Ok(size) => Ok(Payload {
@@ -75,7 +75,7 @@ pub fn payloads_of_files<'a, H: Files>(
     ensures count { IfOk result (λ v. length v.items ≡ length named.now) }
     ensures reads { ReadsOnly (H.contents files.old) (H.contents files.new) (H.faults files.old)
         (H.faults files.new) result }
-    ensures unspoiled { H.spoiled files.new ≡ H.spoiled files.old }
+    ensures unwritten { H.writes files.new ≡ H.writes files.old }
 {
     let mut payloads = Vec::new(alloc);
     for one in named {

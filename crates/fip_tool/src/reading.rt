@@ -29,7 +29,7 @@ fn read_range<H: Files>(
     ensures late { IfErr result IsLate }
     ensures reads { ReadsOnly (H.contents files.old) (H.contents files.new) (H.faults files.old)
         (H.faults files.new) result }
-    ensures unspoiled { H.spoiled files.new ≡ H.spoiled files.old }
+    ensures unwritten { H.writes files.new ≡ H.writes files.old }
 {
     let Ok(mut bytes) = Vec::with_capacity(alloc, size as usize) else {
         return Err(Stop::NoMemory);
@@ -47,7 +47,7 @@ pub fn read_file<H: Files>(alloc: Global, files: &mut H, name: &str) -> Result<V
         (file_value told name.now) result }
     ensures reads { ReadsOnly (H.contents files.old) (H.contents files.new) (H.faults files.old)
         (H.faults files.new) result }
-    ensures unspoiled { H.spoiled files.new ≡ H.spoiled files.old }
+    ensures unwritten { H.writes files.new ≡ H.writes files.old }
 {
     match size_of(files, name) {
         Ok(size) => read_range(alloc, files, name, 0, size),
@@ -72,7 +72,7 @@ pub fn read_payload<H: Files>(
     ensures late { IfErr result IsLate }
     ensures reads { ReadsOnly (H.contents files.old) (H.contents files.new) (H.faults files.old)
         (H.faults files.new) result }
-    ensures unspoiled { H.spoiled files.new ≡ H.spoiled files.old }
+    ensures unwritten { H.writes files.new ≡ H.writes files.old }
 {
     read_range(alloc, files, name, entry.offset, entry.size)
 }

@@ -27,7 +27,7 @@ pub fn size_of<H: Files>(files: &mut H, name: &str) -> Result<u64, Stop>
         (size_in told name.now) result }
     ensures reads { ReadsOnly (H.contents files.old) (H.contents files.new) (H.faults files.old)
         (H.faults files.new) result }
-    ensures unspoiled { H.spoiled files.new ≡ H.spoiled files.old }
+    ensures unwritten { H.writes files.new ≡ H.writes files.old }
 {
     match files.size(name) {
         Ok(Some(size)) => Ok(size),
@@ -52,7 +52,7 @@ pub fn read_package<H: Files>(files: &mut H, name: &str) -> Result<(Toc, u64), S
     ensures ends { IfOk result (λ t. All (λ e. e.offset + e.size < 2 ^ 64) t.0.entries) }
     ensures reads { ReadsOnly (H.contents files.old) (H.contents files.new) (H.faults files.old)
         (H.faults files.new) result }
-    ensures unspoiled { H.spoiled files.new ≡ H.spoiled files.old }
+    ensures unwritten { H.writes files.new ≡ H.writes files.old }
 {
     let size = match size_of(files, name) {
         Ok(size) => size,
@@ -80,7 +80,7 @@ pub fn read_enclosed<H: Files>(files: &mut H, name: &str) -> Result<Toc, Stop>
         (after (capsule_in told name.now) (λ p. Ok p.1)) result }
     ensures reads { ReadsOnly (H.contents files.old) (H.contents files.new) (H.faults files.old)
         (H.faults files.new) result }
-    ensures unspoiled { H.spoiled files.new ≡ H.spoiled files.old }
+    ensures unwritten { H.writes files.new ≡ H.writes files.old }
 {
     match read_capsule(files, name) {
         Ok(toc) => Ok(toc),

@@ -9,8 +9,9 @@ ghost use Rattle.fip_tool.specs.Converted.{Converts};
 ghost use Rattle.fip_tool.specs.Done.{Done};
 ghost use Rattle.fip_tool.specs.Ends.{Ended, Reported, Told};
 ghost use Rattle.fip_tool.specs.Said.{IsTexts, SaidWith, Says};
-ghost use Rattle.fip_tool.specs.Steps.{Did, FailsOnce, line_failures, sink_failed, sink_failures, source_failures};
+ghost use Rattle.fip_tool.specs.Steps.{Did, FailsAtMostOnce, FailsOnce, FaultsOnce, line_failures, sink_failed, sink_failures, source_failures};
 ghost use Rattle.fip_tool.specs.Tool.{EndedSource, ReadSource, asks_files, command_outcome, outcome_of};
+ghost use Rattle.fip_tool.specs.Wrote.{WroteWith};
 ghost use Rattle.fip_tool.specs.declared.stops.Stop.TheVariants as stop;
 ghost use Rattle.fip_tool.specs.declared.stops.Stop.TheVariants.{SinkFault};
 
@@ -36,10 +37,12 @@ fn info<H: Files, O: Sink>(
         → Did (command_outcome (Asked.info name.now) told) told (H.contents files.new)
         (O.taken sink.old) (O.taken sink.new)
         (Rose (H.faults files.old) (H.faults files.new))
-        (Rose (H.spoiled files.old) (H.spoiled files.new))
+        (Rose (H.writes files.old).failed (H.writes files.new).failed)
         (Rose (O.faults sink.old) (O.faults sink.new)) result }
     ensures says { Says (IsTexts (Asked.info name.now)) (O.taken sink.old) (O.taken sink.new)
         (Rose (O.faults sink.old) (O.faults sink.new)) result }
+    ensures file_count { FaultsOnce (H.faults files.old) (H.faults files.new) result }
+    ensures unwritten { H.writes files.new ≡ H.writes files.old }
     ensures cause { result ≡ Err stop.FileFault → H.contents files.old ≡ None
         → Rose (H.faults files.old) (H.faults files.new) }
     ensures usage { result ≡ Err stop.Usage → ⊥ }
@@ -116,7 +119,7 @@ fn command<H: Files, I: Source, O: Sink>(
 ) -> Result<(), Stop>
     requires other { (from prefix : List ℕ) → (names : List (List ℕ))
         → view order.now ≡ Asked.unpack from prefix names → is_unpacked prefix from ≡ false }
-    ensures { Done H.contents H.faults H.spoiled I.left I.faults O.taken O.faults (Some (view order.now))
+    ensures { Done H.contents H.faults H.writes I.left I.faults O.taken O.faults (Some (view order.now))
         result files.old files.new source.old source.new sink.old sink.new }
 {
     match order {
@@ -162,7 +165,7 @@ fn run<H: Files, I: Source, O: Sink>(
     source: &mut I,
     sink: &mut O,
 ) -> Result<(), Stop>
-    ensures { Done H.contents H.faults H.spoiled I.left I.faults O.taken O.faults
+    ensures { Done H.contents H.faults H.writes I.left I.faults O.taken O.faults
         (asked (map string_bytes words.now)) result files.old files.new source.old source.new
         sink.old sink.new }
 {
@@ -190,7 +193,7 @@ pub fn fip_top<H: Files, I: Source, O: Sink>(
         → Ended (outcome_of (asked (map string_bytes words.now)) told) told (H.contents files.new)
         (O.taken sink.old) (O.taken sink.new)
         (Rose (H.faults files.old) (H.faults files.new))
-        (Rose (H.spoiled files.old) (H.spoiled files.new))
+        (Rose (H.writes files.old).failed (H.writes files.new).failed)
         (Rose (O.faults sink.old) (O.faults sink.new)) result }
     ensures source { asked (map string_bytes words.now) ≡ Some info_of_source
         → EndedSource result (H.contents files.old) (H.contents files.new)
@@ -211,6 +214,11 @@ pub fn fip_top<H: Files, I: Source, O: Sink>(
     ensures cause { result ≡ 2 → H.contents files.old ≡ None
         → Rose (H.faults files.old) (H.faults files.new)
         ⊎ Rose (I.faults source.old) (I.faults source.new) }
+    // A command ends at the first call of the files that fails, whatever files there are.
+    ensures file_count { FailsAtMostOnce result (H.faults files.old) (H.faults files.new) }
+    // What is written, whatever files there are: each file once, with its line behind it, and nothing by a listing.
+    ensures wrote { WroteWith (asked (map string_bytes words.now)) (O.taken sink.old)
+        (O.taken sink.new) (H.writes files.old).done (H.writes files.new).done result }
     // Usage is answered exactly by the words, whatever files there are.
     ensures usage { result ≡ 1 → asked (map string_bytes words.now) ≡ None }
     ensures words { asked (map string_bytes words.now) ≡ None → (result ≡ 1) ⊎ (result ≡ 3)

@@ -8,8 +8,9 @@ ghost use Rattle.fip_words.specs.Values.{is_unpacked};
 ghost use Rattle.host_io.specs.Contents.{Directory};
 ghost use Rattle.fip_tool.specs.Lines.{unpacked_line, unpacked_name};
 ghost use Rattle.fip_tool.specs.Said.{IsTexts, Says};
-ghost use Rattle.fip_tool.specs.Steps.{Did, Makes, outcome_by, sink_failures};
+ghost use Rattle.fip_tool.specs.Steps.{Did, FaultsOnce, Makes, outcome_by, sink_failures};
 ghost use Rattle.fip_tool.specs.Tool.{is_named, unpack_steps, unpack_value};
+ghost use Rattle.fip_tool.specs.Wrote.{Wrote};
 ghost use Rattle.fip_tool.specs.Unpacked.{Unpacked};
 ghost use Rattle.fip_tool.specs.declared.stops.Stop.TheVariants as stop;
 
@@ -66,7 +67,7 @@ fn unpack_entry<H: Files, O: Sink>(
     requires stored { (bytes : List ℕ) → Tells (H.contents files.old) from.now bytes
         → entry.now.offset + entry.now.size ≤ length bytes }
     requires there { Lacks (H.contents files.old) from.now → ⊥ }
-    ensures { Unpacked H.contents H.faults H.spoiled O.taken O.faults from.now prefix.now entry.now
+    ensures { Unpacked H.contents H.faults H.writes O.taken O.faults from.now prefix.now entry.now
         result files.old files.new sink.old sink.new }
 {
     let bytes = match read_payload(alloc, files, from, entry) {
@@ -115,12 +116,17 @@ fn unpack_entries<H: Files, O: Sink>(
         (filter (λ e. (length names.now == 0) || is_named names.now e) entries.now))) told
         (H.contents files.new) (O.taken sink.old) (O.taken sink.new)
         (Rose (H.faults files.old) (H.faults files.new))
-        (Rose (H.spoiled files.old) (H.spoiled files.new))
+        (Rose (H.writes files.old).failed (H.writes files.new).failed)
         (Rose (O.faults sink.old) (O.faults sink.new)) result }
     ensures says { Says (λ texts. texts ≡ map (unpacked_line prefix.now)
         (filter (λ e. (length names.now == 0) || is_named names.now e) entries.now))
         (O.taken sink.old) (O.taken sink.new)
         (Rose (O.faults sink.old) (O.faults sink.new)) result }
+    ensures file_count { FaultsOnce (H.faults files.old) (H.faults files.new) result }
+    ensures wrote { Wrote (λ texts. texts ≡ map (unpacked_line prefix.now)
+        (filter (λ e. (length names.now == 0) || is_named names.now e) entries.now))
+        (O.taken sink.old) (O.taken sink.new) (H.writes files.old).done (H.writes files.new).done
+        result }
     ensures cause { result ≡ Err stop.FileFault → Rose (H.faults files.old) (H.faults files.new) }
     ensures usage { result ≡ Err stop.Usage → ⊥ }
     ensures later { H.faults files.old ≤ H.faults files.new }
@@ -154,11 +160,15 @@ pub fn run_unpack<H: Files, O: Sink>(
         (unpack_value told from.now names.now)) told (H.contents files.new) (O.taken sink.old)
         (O.taken sink.new)
         (Rose (H.faults files.old) (H.faults files.new))
-        (Rose (H.spoiled files.old) (H.spoiled files.new))
+        (Rose (H.writes files.old).failed (H.writes files.new).failed)
         (Rose (O.faults sink.old) (O.faults sink.new)) result }
     ensures says { Says (IsTexts (Asked.unpack from.now prefix.now names.now)) (O.taken sink.old)
         (O.taken sink.new)
         (Rose (O.faults sink.old) (O.faults sink.new)) result }
+    ensures file_count { FaultsOnce (H.faults files.old) (H.faults files.new) result }
+    ensures wrote { Wrote (IsTexts (Asked.unpack from.now prefix.now names.now))
+        (O.taken sink.old) (O.taken sink.new) (H.writes files.old).done (H.writes files.new).done
+        result }
     ensures cause { result ≡ Err stop.FileFault → H.contents files.old ≡ None
         → Rose (H.faults files.old) (H.faults files.new) }
     ensures usage { result ≡ Err stop.Usage → ⊥ }

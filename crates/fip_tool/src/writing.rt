@@ -3,8 +3,9 @@ ghost use Rattle.std.specs.Prelude.{◌≡◌, ◌⊎◌, ◌≤◌, ◌∷◌, 
 ghost use Rattle.base_core.specs.Counts.{Rose};
 ghost use Rattle.host_io.specs.Contents.{Directory};
 ghost use Rattle.fip_tool.specs.Said.{IsCapsuleLine, IsPackedLine, Says};
-ghost use Rattle.fip_tool.specs.Steps.{Did, Gives, IsLate, Makes, Prints, Writes, Written, outcome_by, sink_failures};
+ghost use Rattle.fip_tool.specs.Steps.{Did, FaultsOnce, Gives, IsLate, Makes, Prints, Writes, Written, outcome_by, sink_failures};
 ghost use Rattle.fip_tool.specs.Tool.{encloses, packs};
+ghost use Rattle.fip_tool.specs.Wrote.{Wrote, written_once};
 ghost use Rattle.fip_tool.specs.declared.stops.Stop.{Stop};
 ghost use Rattle.fip_tool.specs.declared.stops.Stop.TheVariants as stop;
 
@@ -19,8 +20,10 @@ pub fn write<H: Files>(files: &mut H, name: &str, bytes: &[u8]) -> Result<(), St
     ensures told { (told : Directory) → H.contents files.old ≡ Some told
         → Written told (H.contents files.new)
         (Rose (H.faults files.old) (H.faults files.new))
-        (Rose (H.spoiled files.old) (H.spoiled files.new)) name.now bytes.now result }
-    ensures unspoiled { OnOk result (H.spoiled files.new ≡ H.spoiled files.old) }
+        (Rose (H.writes files.old).failed (H.writes files.new).failed) name.now bytes.now result }
+    ensures file_count { FaultsOnce (H.faults files.old) (H.faults files.new) result }
+    ensures wrote { (H.writes files.new).done ≡ written_once result (H.writes files.old).done }
+    ensures unspoiled { OnOk result ((H.writes files.new).failed ≡ (H.writes files.old).failed) }
     ensures cause { result ≡ Err stop.FileFault → Rose (H.faults files.old) (H.faults files.new) }
     ensures silent { H.contents files.old ≡ None → H.contents files.new ≡ None }
     ensures late { IfErr result IsLate }
@@ -47,9 +50,13 @@ pub fn write_and_print<H: Files, O: Sink>(
         → Did (Makes (Writes name.now bytes.now ∷ Prints line.now ∷ [])) told (H.contents files.new)
         (O.taken sink.old) (O.taken sink.new)
         (Rose (H.faults files.old) (H.faults files.new))
-        (Rose (H.spoiled files.old) (H.spoiled files.new))
+        (Rose (H.writes files.old).failed (H.writes files.new).failed)
         (Rose (O.faults sink.old) (O.faults sink.new)) result }
-    ensures unspoiled { OnOk result (H.spoiled files.new ≡ H.spoiled files.old) }
+    ensures file_count { FaultsOnce (H.faults files.old) (H.faults files.new) result }
+    ensures wrote { Wrote (λ texts. texts ≡ line.now ∷ [])
+        (O.taken sink.old) (O.taken sink.new) (H.writes files.old).done (H.writes files.new).done
+        result }
+    ensures unspoiled { OnOk result ((H.writes files.new).failed ≡ (H.writes files.old).failed) }
     ensures cause { result ≡ Err stop.FileFault → Rose (H.faults files.old) (H.faults files.new) }
     ensures silent { H.contents files.old ≡ None → H.contents files.new ≡ None }
     ensures says { Says (λ texts. texts ≡ line.now ∷ []) (O.taken sink.old) (O.taken sink.new)
@@ -76,15 +83,20 @@ pub fn put_made<H: Files, O: Sink>(
 ) -> Result<(), Stop>
     ensures told { (told : Directory) (value : Result (ℕ × List ℕ) Stop) (before kept : ℕ)
         → H.contents files.old ≡ Some told
-        → before ≤ H.faults files.old → kept ≡ H.spoiled files.old
+        → before ≤ H.faults files.old → kept ≡ (H.writes files.old).failed
         → Gives (λ m. (m.0, m.1.items)) (Rose before (H.faults files.old)) value made
         → Did (outcome_by (packs out.now) value) told (H.contents files.new) (O.taken sink.old)
         (O.taken sink.new)
-        (Rose before (H.faults files.new)) (Rose kept (H.spoiled files.new))
+        (Rose before (H.faults files.new)) (Rose kept (H.writes files.new).failed)
         (Rose (O.faults sink.old) (O.faults sink.new)) result }
     ensures says { (made ≡ Err stop.SinkFault → ⊥) → Says (IsPackedLine made)
         (O.taken sink.old) (O.taken sink.new)
         (Rose (O.faults sink.old) (O.faults sink.new)) result }
+    ensures file_count { (before : ℕ) → FaultsOnce before (H.faults files.old) made
+        → FaultsOnce before (H.faults files.new) result }
+    ensures wrote { Wrote (IsPackedLine made)
+        (O.taken sink.old) (O.taken sink.new) (H.writes files.old).done (H.writes files.new).done
+        result }
     ensures cause { result ≡ Err stop.FileFault → (made ≡ Err stop.FileFault)
         ⊎ Rose (H.faults files.old) (H.faults files.new) }
     ensures usage { result ≡ Err stop.Usage → made ≡ Err stop.Usage }
@@ -113,15 +125,20 @@ pub fn put_capsule<H: Files, O: Sink>(
 ) -> Result<(), Stop>
     ensures told { (told : Directory) (value : Result (ℕ × List ℕ) Stop) (before kept : ℕ)
         → H.contents files.old ≡ Some told
-        → before ≤ H.faults files.old → kept ≡ H.spoiled files.old
+        → before ≤ H.faults files.old → kept ≡ (H.writes files.old).failed
         → Gives (λ m. (m.0, m.1.items)) (Rose before (H.faults files.old)) value made
         → Did (outcome_by (encloses out.now) value) told (H.contents files.new) (O.taken sink.old)
         (O.taken sink.new)
-        (Rose before (H.faults files.new)) (Rose kept (H.spoiled files.new))
+        (Rose before (H.faults files.new)) (Rose kept (H.writes files.new).failed)
         (Rose (O.faults sink.old) (O.faults sink.new)) result }
     ensures says { (made ≡ Err stop.SinkFault → ⊥) → Says (IsCapsuleLine made)
         (O.taken sink.old) (O.taken sink.new)
         (Rose (O.faults sink.old) (O.faults sink.new)) result }
+    ensures file_count { (before : ℕ) → FaultsOnce before (H.faults files.old) made
+        → FaultsOnce before (H.faults files.new) result }
+    ensures wrote { Wrote (IsCapsuleLine made)
+        (O.taken sink.old) (O.taken sink.new) (H.writes files.old).done (H.writes files.new).done
+        result }
     ensures cause { result ≡ Err stop.FileFault → (made ≡ Err stop.FileFault)
         ⊎ Rose (H.faults files.old) (H.faults files.new) }
     ensures usage { result ≡ Err stop.Usage → made ≡ Err stop.Usage }

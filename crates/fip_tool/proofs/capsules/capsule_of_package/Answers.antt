@@ -1,4 +1,4 @@
-use Rattle.std.proofs.Common.{◌∙◌, ◌≤◌, ◌+◌, [], List, Vec, ℕ, ap, length, map, subst, sym, refl, arith}
+use Rattle.std.proofs.Common.{◌∙◌, ◌≤◌, ◌+◌, [], List, Vec, ℕ, ap, length, map, subst, sym, refl}
 use Rattle.std.specs.Global.{Global}
 use Rattle.std.specs.List.{All}
 use Rattle.fwu_formats.specs.Package.{Entry, Toc}
@@ -36,7 +36,7 @@ returns-in-Err-clause-told g c = λ told e.
     gives-err (λ (t : Toc). t) (λ (m : ℕ × Vec ℕ Global). (m.0, m.1.items)) _ _ _ _ c.in-Err.stop (λ r. r) (capsule-err told c.args.from.now _) (c.in-Err.ensures.told told e)
 
 pub returns-in-Ok-clause-reads : goal.returns-in-Ok-clause-reads
-returns-in-Ok-clause-reads g c = reads-then c.table_with.ensures.reads.same c.table_with.ensures.reads.later c.capsule_of_entries.ensures.reads
+returns-in-Ok-clause-reads g c = reads-then c.table_with.ensures.reads.same c.in-Ok.ensures.reads.quiet c.capsule_of_entries.ensures.reads
 
 pub returns-in-Err-clause-reads : goal.returns-in-Err-clause-reads
-returns-in-Err-clause-reads g c = reads-stopped refl (omega arith) c.in-Err.ensures.reads
+returns-in-Err-clause-reads g c = reads-stopped refl refl c.in-Err.ensures.reads

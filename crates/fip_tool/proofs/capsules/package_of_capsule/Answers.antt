@@ -1,4 +1,4 @@
-use Rattle.std.proofs.Common.{◌∙◌, Vec, ℕ, refl, arith}
+use Rattle.std.proofs.Common.{◌∙◌, Vec, ℕ, refl}
 use Rattle.std.specs.Global.{Global}
 use Rattle.fwu_formats.specs.Package.{Toc}
 use Rattle.fip_tool.proofs.Conversions.{capsule-stored, capsule-there, opened-capsule, package-err, package-of}
@@ -28,7 +28,7 @@ returns-in-Err-clause-told g c = λ told e.
     gives-err (λ (t : Toc). t) (λ (m : ℕ × Vec ℕ Global). (m.0, m.1.items)) _ _ _ _ c.in-Err.stop (λ r. r) (package-err told c.args.align c.args.from.now _) (c.in-Err.ensures.told told e)
 
 pub returns-in-Ok-clause-reads : goal.returns-in-Ok-clause-reads
-returns-in-Ok-clause-reads g c = reads-then c.read_enclosed.ensures.reads.same c.read_enclosed.ensures.reads.later c.package_of_items.ensures.reads
+returns-in-Ok-clause-reads g c = reads-then c.read_enclosed.ensures.reads.same c.in-Ok.ensures.reads.quiet c.package_of_items.ensures.reads
 
 pub returns-in-Err-clause-reads : goal.returns-in-Err-clause-reads
-returns-in-Err-clause-reads g c = reads-stopped refl (omega arith) c.in-Err.ensures.reads
+returns-in-Err-clause-reads g c = reads-stopped refl refl c.in-Err.ensures.reads

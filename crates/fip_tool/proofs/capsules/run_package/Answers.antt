@@ -1,22 +1,36 @@
-use Rattle.std.proofs.Common.{◌≡◌, ◌∙◌, ◌∷◌, [], ℕ, ap, length, sym}
+use Rattle.std.proofs.Common.{◌≡◌, ◌∙◌, ◌∷◌, [], ℕ, List, Result, Vec, ap, length}
 use Rattle.fwu_formats.specs.Package.{Toc}
+use Rattle.std.specs.Prelude.{IfOk}
+use Rattle.std.specs.Global.{Global}
+use Rattle.host_io.specs.declared.writes.Writes.{Writes}
+use Rattle.fip_words.specs.Order.{repackage}
 use Rattle.fip_tool.specs.Lines.{packed_line}
-use Rattle.fip_tool.specs.Said.{IsPackedLine}
+use Rattle.fip_tool.specs.Said.{IsPackedLine, IsTexts}
 use Rattle.fip_tool.specs.Tool.{repackage_value}
-use Rattle.fip_tool.proofs.Tables.{either-rose}
+use Rattle.fip_tool.specs.declared.stops.Stop.{Stop}
+use Rattle.fip_tool.proofs.FileFaults.{faults-of}
+use Rattle.fip_tool.proofs.Tables.{either-rose, failed-same}
 use Rattle.fip_tool.proofs.Texts.{packed-texts, says-as}
+use Rattle.fip_tool.proofs.WroteLemmas.{wrote-as}
 use Rattle.fip_tool.proofs.capsules.run_package.Goals as goal
+
+-- the line is of a capsule that was read, with some size
+texts-are : {align : ℕ} {from out : List ℕ} (made : Result (ℕ × Vec ℕ Global) Stop) → IfOk made (λ m. (t : Toc) × (m.0 ≡ length t.entries)) → (texts : List (List ℕ)) → IsPackedLine made texts → IsTexts (repackage align from out) texts
+texts-are made count texts t = let p = packed-texts made (λ n. (t : Toc) × (n ≡ length t.entries)) count texts t in (p.1.0, p.2, p.3 ∙ ap (λ (n : ℕ). packed_line n p.2 ∷ []) p.1.1)
 
 pub returns-clause-told : goal.returns-clause-told
 returns-clause-told g c = λ told e.
-    c.put_made.ensures.told told (repackage_value told c.args.align c.args.from.now) _ _ (c.package_of_capsule-made.ensures.reads.same ∙ e) c.package_of_capsule-made.ensures.reads.later (sym c.package_of_capsule-made.ensures.unspoiled)
+    c.put_made.ensures.told told (repackage_value told c.args.align c.args.from.now) _ _ (c.package_of_capsule-made.ensures.reads.same ∙ e) c.package_of_capsule-made.ensures.reads.later (failed-same c.package_of_capsule-made.ensures.unwritten)
     (c.package_of_capsule-made.ensures.told told e)
 
 pub returns-clause-says : goal.returns-clause-says
-returns-clause-says g c =
-    says-as (IsPackedLine c.package_of_capsule-made.result) _ _ _ _ _ c.put_made.result
-    (λ texts t. let p = packed-texts c.package_of_capsule-made.result (λ n. (t : Toc) × (n ≡ length t.entries)) c.package_of_capsule-made.ensures.count texts t in (p.1.0, p.2, p.3 ∙ ap (λ (n : ℕ). packed_line n p.2 ∷ []) p.1.1))
-    (λ r. r) (c.put_made.ensures.says c.package_of_capsule-made.ensures.reads.sink)
+returns-clause-says g c = says-as (IsPackedLine c.package_of_capsule-made.result) _ _ _ _ _ c.put_made.result (texts-are c.package_of_capsule-made.result c.package_of_capsule-made.ensures.count) (λ r. r) (c.put_made.ensures.says c.package_of_capsule-made.ensures.reads.sink)
+
+pub returns-clause-wrote : goal.returns-clause-wrote
+returns-clause-wrote g c = wrote-as (IsPackedLine c.package_of_capsule-made.result) _ _ _ _ _ _ c.put_made.result (texts-are c.package_of_capsule-made.result c.package_of_capsule-made.ensures.count) (ap (λ (w : Writes). w.done) c.package_of_capsule-made.ensures.unwritten) c.put_made.ensures.wrote
+
+pub returns-clause-file_count : goal.returns-clause-file_count
+returns-clause-file_count g c = c.put_made.ensures.file_count _ (faults-of c.package_of_capsule-made.ensures.reads)
 
 pub returns-clause-cause : goal.returns-clause-cause
 returns-clause-cause g c = λ failed none.

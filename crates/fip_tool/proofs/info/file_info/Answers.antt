@@ -1,6 +1,7 @@
-use Rattle.std.proofs.Common.{Vec, ℕ}
+use Rattle.std.proofs.Common.{Vec, ℕ, refl}
 use Rattle.std.specs.Global.{Global}
 use Rattle.fip_tool.proofs.Tables.{gives-err, info-err, info-made}
+use Rattle.fip_tool.proofs.ReadsBy.{reads-stopped}
 use Rattle.fip_tool.proofs.info.file_info.Goals as goal
 
 pub returns-in-Ok-info_text-clause-told : goal.returns-in-Ok-info_text-clause-told
@@ -13,3 +14,6 @@ returns-in-Ok-info_text-clause-listed g c = (c.in-Ok.toc, c.in-Ok.size, c.in-Ok-
 pub returns-in-Err-clause-told : goal.returns-in-Err-clause-told
 returns-in-Err-clause-told g c = λ told e.
     gives-err (λ t. t) (λ (text : Vec ℕ Global). text.items) _ _ _ _ c.in-Err.stop (λ r. r) (info-err told c.args.name.now _) (c.in-Err.ensures.told told e)
+
+pub returns-in-Err-clause-reads : goal.returns-in-Err-clause-reads
+returns-in-Err-clause-reads g c = reads-stopped refl refl c.in-Err.ensures.reads

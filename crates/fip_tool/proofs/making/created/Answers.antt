@@ -1,4 +1,4 @@
-use Rattle.std.proofs.Common.{◌≡◌, ◌∙◌, List, Vec, ℕ, ap, length, map, subst, sym, refl, arith}
+use Rattle.std.proofs.Common.{◌≡◌, ◌∙◌, List, Vec, ℕ, ap, length, map, subst, sym, refl}
 use Rattle.std.specs.Prelude.{IfOk}
 use Rattle.std.specs.Global.{Global}
 use Rattle.fip_words.specs.Order.{part_view}
@@ -30,7 +30,7 @@ returns-in-Ok-clause-count g c =
     subst (λ (n : ℕ). IfOk c.packed.result (λ m. m.0 ≡ n)) (ap length c.as_slice.ensures.value ∙ c.in-Ok.ensures.count) c.packed.ensures.count
 
 pub returns-in-Ok-clause-reads : goal.returns-in-Ok-clause-reads
-returns-in-Ok-clause-reads g c = reads-then c.payloads_of_files.ensures.reads.same c.payloads_of_files.ensures.reads.later c.packed.ensures.reads
+returns-in-Ok-clause-reads g c = reads-then c.payloads_of_files.ensures.reads.same c.in-Ok.ensures.reads.quiet c.packed.ensures.reads
 
 pub returns-in-Err-clause-reads : goal.returns-in-Err-clause-reads
-returns-in-Err-clause-reads g c = reads-stopped refl (omega arith) c.in-Err.ensures.reads
+returns-in-Err-clause-reads g c = reads-stopped refl refl c.in-Err.ensures.reads

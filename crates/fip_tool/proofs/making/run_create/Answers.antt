@@ -1,23 +1,37 @@
-use Rattle.std.proofs.Common.{◌≡◌, ◌∙◌, ◌∷◌, [], ℕ, ap, length, map, sym}
+use Rattle.std.proofs.Common.{◌≡◌, ◌∙◌, ◌∷◌, [], ℕ, List, Result, Vec, ap, length, map, sym}
 use Rattle.std.proofs.lemmas.List.{length-map}
-use Rattle.fip_words.specs.Order.{part_view}
+use Rattle.fip_words.specs.Order.{create, part_view}
+use Rattle.std.specs.Prelude.{IfOk}
+use Rattle.std.specs.Global.{Global}
+use Rattle.host_io.specs.declared.writes.Writes.{Writes}
+use Rattle.fip_words.specs.declared.values.Part.{Part}
 use Rattle.fip_tool.specs.Lines.{packed_line}
-use Rattle.fip_tool.specs.Said.{IsPackedLine}
+use Rattle.fip_tool.specs.Said.{IsPackedLine, IsTexts}
 use Rattle.fip_tool.specs.Tool.{create_value}
-use Rattle.fip_tool.proofs.Tables.{either-rose}
+use Rattle.fip_tool.specs.declared.stops.Stop.{Stop}
+use Rattle.fip_tool.proofs.FileFaults.{faults-of}
+use Rattle.fip_tool.proofs.Tables.{either-rose, failed-same}
 use Rattle.fip_tool.proofs.Texts.{packed-texts, says-as}
+use Rattle.fip_tool.proofs.WroteLemmas.{wrote-as}
 use Rattle.fip_tool.proofs.making.run_create.Goals as goal
+
+-- the line is of all named files, with some size
+texts-are : {align : ℕ} {out : List ℕ} (made : Result (ℕ × Vec ℕ Global) Stop) (named : List Part) → IfOk made (λ m. m.0 ≡ length named) → (texts : List (List ℕ)) → IsPackedLine made texts → IsTexts (create align out (map part_view named)) texts
+texts-are made named count texts t = let p = packed-texts made (λ n. n ≡ length named) count texts t in (p.2, p.3 ∙ ap (λ (n : ℕ). packed_line n p.2 ∷ []) (p.1 ∙ sym (length-map named part_view)))
 
 pub returns-clause-told : goal.returns-clause-told
 returns-clause-told g c = λ told e.
-    c.put_made.ensures.told told (create_value told c.args.align (map part_view c.args.named.now)) _ _ (c.created-made.ensures.reads.same ∙ e) c.created-made.ensures.reads.later (sym c.created-made.ensures.unspoiled)
+    c.put_made.ensures.told told (create_value told c.args.align (map part_view c.args.named.now)) _ _ (c.created-made.ensures.reads.same ∙ e) c.created-made.ensures.reads.later (failed-same c.created-made.ensures.unwritten)
     (c.created-made.ensures.told told e)
 
 pub returns-clause-says : goal.returns-clause-says
-returns-clause-says g c =
-    says-as (IsPackedLine c.created-made.result) _ _ _ _ _ c.put_made.result
-    (λ texts t. let p = packed-texts c.created-made.result (λ n. n ≡ length c.args.named.now) c.created-made.ensures.count texts t in (p.2, p.3 ∙ ap (λ (n : ℕ). packed_line n p.2 ∷ []) (p.1 ∙ sym (length-map c.args.named.now part_view))))
-    (λ r. r) (c.put_made.ensures.says c.created-made.ensures.reads.sink)
+returns-clause-says g c = says-as (IsPackedLine c.created-made.result) _ _ _ _ _ c.put_made.result (texts-are c.created-made.result c.args.named.now c.created-made.ensures.count) (λ r. r) (c.put_made.ensures.says c.created-made.ensures.reads.sink)
+
+pub returns-clause-wrote : goal.returns-clause-wrote
+returns-clause-wrote g c = wrote-as (IsPackedLine c.created-made.result) _ _ _ _ _ _ c.put_made.result (texts-are c.created-made.result c.args.named.now c.created-made.ensures.count) (ap (λ (w : Writes). w.done) c.created-made.ensures.unwritten) c.put_made.ensures.wrote
+
+pub returns-clause-file_count : goal.returns-clause-file_count
+returns-clause-file_count g c = c.put_made.ensures.file_count _ (faults-of c.created-made.ensures.reads)
 
 pub returns-clause-cause : goal.returns-clause-cause
 returns-clause-cause g c = λ failed none.

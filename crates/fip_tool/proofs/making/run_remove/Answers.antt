@@ -1,23 +1,36 @@
-use Rattle.std.proofs.Common.{◌≡◌, ◌∙◌, ◌∷◌, [], ℕ, None, ap, length, sym}
-use Rattle.std.specs.Prelude.{filter, not}
+use Rattle.std.proofs.Common.{◌≡◌, ◌∙◌, ◌∷◌, [], ℕ, List, Result, Vec, None, ap, length}
 use Rattle.fwu_formats.specs.Package.{Toc}
+use Rattle.std.specs.Prelude.{IfOk, filter, not}
+use Rattle.std.specs.Global.{Global}
+use Rattle.host_io.specs.declared.writes.Writes.{Writes}
+use Rattle.fip_words.specs.Order.{remove}
 use Rattle.fip_tool.specs.Lines.{packed_line}
-use Rattle.fip_tool.specs.Said.{IsPackedLine}
+use Rattle.fip_tool.specs.Said.{IsPackedLine, IsTexts}
 use Rattle.fip_tool.specs.Tool.{remove_value, first_missing, is_named}
-use Rattle.fip_tool.proofs.Tables.{either-rose}
+use Rattle.fip_tool.specs.declared.stops.Stop.{Stop}
+use Rattle.fip_tool.proofs.FileFaults.{faults-of}
+use Rattle.fip_tool.proofs.Tables.{either-rose, failed-same}
 use Rattle.fip_tool.proofs.Texts.{packed-texts, says-as}
+use Rattle.fip_tool.proofs.WroteLemmas.{wrote-as}
 use Rattle.fip_tool.proofs.making.run_remove.Goals as goal
+
+-- the line is of a package that was read, with some size
+texts-are : {align : ℕ} {from out : List ℕ} (made : Result (ℕ × Vec ℕ Global) Stop) (guids : List (List ℕ)) → IfOk made (λ m. (t : Toc) × (first_missing t guids ≡ None) × (m.0 ≡ length (filter (λ e. not (is_named guids e)) t.entries))) → (texts : List (List ℕ)) → IsPackedLine made texts → IsTexts (remove align from out guids) texts
+texts-are made guids count texts t = let p = packed-texts made (λ n. (t : Toc) × (first_missing t guids ≡ None) × (n ≡ length (filter (λ e. not (is_named guids e)) t.entries))) count texts t in (p.1.0, p.2, p.1.1, p.3 ∙ ap (λ (n : ℕ). packed_line n p.2 ∷ []) p.1.2)
 
 pub returns-clause-told : goal.returns-clause-told
 returns-clause-told g c = λ told e.
-    c.put_made.ensures.told told (remove_value told c.args.align c.args.from.now c.args.guids.now) _ _ (c.removed-made.ensures.reads.same ∙ e) c.removed-made.ensures.reads.later (sym c.removed-made.ensures.unspoiled)
+    c.put_made.ensures.told told (remove_value told c.args.align c.args.from.now c.args.guids.now) _ _ (c.removed-made.ensures.reads.same ∙ e) c.removed-made.ensures.reads.later (failed-same c.removed-made.ensures.unwritten)
     (c.removed-made.ensures.told told e)
 
 pub returns-clause-says : goal.returns-clause-says
-returns-clause-says g c =
-    says-as (IsPackedLine c.removed-made.result) _ _ _ _ _ c.put_made.result
-    (λ texts t. let p = packed-texts c.removed-made.result (λ n. (t : Toc) × (first_missing t c.args.guids.now ≡ None) × (n ≡ length (filter (λ e. not (is_named c.args.guids.now e)) t.entries))) c.removed-made.ensures.count texts t in (p.1.0, p.2, p.1.1, p.3 ∙ ap (λ (n : ℕ). packed_line n p.2 ∷ []) p.1.2))
-    (λ r. r) (c.put_made.ensures.says c.removed-made.ensures.reads.sink)
+returns-clause-says g c = says-as (IsPackedLine c.removed-made.result) _ _ _ _ _ c.put_made.result (texts-are c.removed-made.result c.args.guids.now c.removed-made.ensures.count) (λ r. r) (c.put_made.ensures.says c.removed-made.ensures.reads.sink)
+
+pub returns-clause-wrote : goal.returns-clause-wrote
+returns-clause-wrote g c = wrote-as (IsPackedLine c.removed-made.result) _ _ _ _ _ _ c.put_made.result (texts-are c.removed-made.result c.args.guids.now c.removed-made.ensures.count) (ap (λ (w : Writes). w.done) c.removed-made.ensures.unwritten) c.put_made.ensures.wrote
+
+pub returns-clause-file_count : goal.returns-clause-file_count
+returns-clause-file_count g c = c.put_made.ensures.file_count _ (faults-of c.removed-made.ensures.reads)
 
 pub returns-clause-cause : goal.returns-clause-cause
 returns-clause-cause g c = λ failed none.

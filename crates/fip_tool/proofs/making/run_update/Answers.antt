@@ -1,23 +1,37 @@
-use Rattle.std.proofs.Common.{◌≡◌, ◌∙◌, ◌∷◌, [], ℕ, None, ap, length, map, sym}
+use Rattle.std.proofs.Common.{◌≡◌, ◌∙◌, ◌∷◌, [], ℕ, List, Result, Vec, None, ap, length, map}
 use Rattle.fwu_formats.specs.Package.{Toc}
-use Rattle.fip_words.specs.Order.{part_view}
+use Rattle.fip_words.specs.Order.{update, part_view}
+use Rattle.std.specs.Prelude.{IfOk}
+use Rattle.std.specs.Global.{Global}
+use Rattle.host_io.specs.declared.writes.Writes.{Writes}
+use Rattle.fip_words.specs.declared.values.Part.{Part}
 use Rattle.fip_tool.specs.Lines.{packed_line}
-use Rattle.fip_tool.specs.Said.{IsPackedLine}
+use Rattle.fip_tool.specs.Said.{IsPackedLine, IsTexts}
 use Rattle.fip_tool.specs.Tool.{update_value, first_missing}
-use Rattle.fip_tool.proofs.Tables.{either-rose}
+use Rattle.fip_tool.specs.declared.stops.Stop.{Stop}
+use Rattle.fip_tool.proofs.FileFaults.{faults-of}
+use Rattle.fip_tool.proofs.Tables.{either-rose, failed-same}
 use Rattle.fip_tool.proofs.Texts.{packed-texts, says-as}
+use Rattle.fip_tool.proofs.WroteLemmas.{wrote-as}
 use Rattle.fip_tool.proofs.making.run_update.Goals as goal
+
+-- the line is of a package that was read, with some size
+texts-are : {align : ℕ} {from out : List ℕ} (made : Result (ℕ × Vec ℕ Global) Stop) (named : List Part) → IfOk made (λ m. (t : Toc) × (first_missing t (map (λ p. p.guid) (map part_view named)) ≡ None) × (m.0 ≡ length t.entries)) → (texts : List (List ℕ)) → IsPackedLine made texts → IsTexts (update align from out (map part_view named)) texts
+texts-are made named count texts t = let p = packed-texts made (λ n. (t : Toc) × (first_missing t (map (λ p. p.guid) (map part_view named)) ≡ None) × (n ≡ length t.entries)) count texts t in (p.1.0, p.2, p.1.1, p.3 ∙ ap (λ (n : ℕ). packed_line n p.2 ∷ []) p.1.2)
 
 pub returns-clause-told : goal.returns-clause-told
 returns-clause-told g c = λ told e.
-    c.put_made.ensures.told told (update_value told c.args.align c.args.from.now (map part_view c.args.named.now)) _ _ (c.updated-made.ensures.reads.same ∙ e) c.updated-made.ensures.reads.later (sym c.updated-made.ensures.unspoiled)
+    c.put_made.ensures.told told (update_value told c.args.align c.args.from.now (map part_view c.args.named.now)) _ _ (c.updated-made.ensures.reads.same ∙ e) c.updated-made.ensures.reads.later (failed-same c.updated-made.ensures.unwritten)
     (c.updated-made.ensures.told told e)
 
 pub returns-clause-says : goal.returns-clause-says
-returns-clause-says g c =
-    says-as (IsPackedLine c.updated-made.result) _ _ _ _ _ c.put_made.result
-    (λ texts t. let p = packed-texts c.updated-made.result (λ n. (t : Toc) × (first_missing t (map (λ p. p.guid) (map part_view c.args.named.now)) ≡ None) × (n ≡ length t.entries)) c.updated-made.ensures.count texts t in (p.1.0, p.2, p.1.1, p.3 ∙ ap (λ (n : ℕ). packed_line n p.2 ∷ []) p.1.2))
-    (λ r. r) (c.put_made.ensures.says c.updated-made.ensures.reads.sink)
+returns-clause-says g c = says-as (IsPackedLine c.updated-made.result) _ _ _ _ _ c.put_made.result (texts-are c.updated-made.result c.args.named.now c.updated-made.ensures.count) (λ r. r) (c.put_made.ensures.says c.updated-made.ensures.reads.sink)
+
+pub returns-clause-wrote : goal.returns-clause-wrote
+returns-clause-wrote g c = wrote-as (IsPackedLine c.updated-made.result) _ _ _ _ _ _ c.put_made.result (texts-are c.updated-made.result c.args.named.now c.updated-made.ensures.count) (ap (λ (w : Writes). w.done) c.updated-made.ensures.unwritten) c.put_made.ensures.wrote
+
+pub returns-clause-file_count : goal.returns-clause-file_count
+returns-clause-file_count g c = c.put_made.ensures.file_count _ (faults-of c.updated-made.ensures.reads)
 
 pub returns-clause-cause : goal.returns-clause-cause
 returns-clause-cause g c = λ failed none.

@@ -1,4 +1,4 @@
-use Rattle.std.proofs.Common.{◌∙◌, Vec, ℕ, ap, sym, refl, arith}
+use Rattle.std.proofs.Common.{◌∙◌, Vec, ℕ, ap, sym, refl}
 use Rattle.std.specs.Global.{Global}
 use Rattle.fwu_formats.specs.Package.{Toc}
 use Rattle.fip_tool.proofs.PartLemmas.{gives-same}
@@ -32,10 +32,10 @@ returns-clause-told g c = λ told e.
     (update-err told c.args.align c.args.from.now c.args.named.now c.as_slice.result.now _ (c.as_slice.ensures.value ∙ c.in-Ok.ensures)) (c.in-Err.ensures.told told e)
 
 pub returns-in-Ok-table_with-clause-reads : goal.returns-in-Ok-table_with-clause-reads
-returns-in-Ok-table_with-clause-reads g c = reads-then c.table_with.ensures.reads.same c.table_with.ensures.reads.later c.replaced.ensures.reads
+returns-in-Ok-table_with-clause-reads g c = reads-then c.table_with.ensures.reads.same c.in-Ok-table_with.ensures.reads.quiet c.replaced.ensures.reads
 
 pub returns-clause-reads : goal.returns-clause-reads
-returns-clause-reads g c = reads-stopped refl (omega arith) c.in-Err.ensures.reads
+returns-clause-reads g c = reads-stopped refl refl c.in-Err.ensures.reads
 
 pub returns-in_default-clause-reads : goal.returns-in_default-clause-reads
-returns-in_default-clause-reads g c = reads-starved refl (omega arith)
+returns-in_default-clause-reads g c = reads-starved refl refl

@@ -6,14 +6,14 @@ use Rattle.fip_words.specs.Order.{image_view}
 use Rattle.fip_words.specs.declared.values.ImageWord.{ImageWord}
 use Rattle.fip_tool.specs.Tool.{nothing}
 use Rattle.fip_tool.proofs.ManifestLemmas.{gives-same, longs-more-at, longs_value, sizes-of, sizes-stopped-at}
-use Rattle.fip_tool.proofs.Tables.{gives-err, rose-from}
+use Rattle.fip_tool.proofs.Tables.{gives-err, rose-still}
 use Rattle.fip_tool.proofs.ReadsBy.{reads-stopped}
 use Rattle.fip_tool.proofs.manifest.check_sizes.Goals.{then-is_long, else-is_long}
 use Rattle.fip_tool.proofs.manifest.check_sizes.Goals as goal
 
 pub returns-in-Err-clause-told : goal.returns-in-Err-clause-told
 returns-in-Err-clause-told g c = λ told e.
-    gives-err (λ (long : Bool). long) (nothing {X = Unit {0}}) _ _ _ _ c.in-Err.stop (λ r. rose-from _ _ _ c.loop-one.invariant.later r)
+    gives-err (λ (long : Bool). long) (nothing {X = Unit {0}}) _ _ _ _ c.in-Err.stop (λ r. rose-still _ _ _ (sym c.loop-one.invariant.quiet) r)
     (sizes-stopped-at told c.args.named.now c.loop-one.one-index c.one-item.result c.loop-one-test.true c.one-item.is _)
     (c.in-Err.ensures.told told (c.loop-one.invariant.same ∙ e))
 
@@ -23,8 +23,8 @@ loop-one-preserved g c =
     longs-more-at told c.args.named.now c.loop-one.one-index c.one-item.result c.loop-one-test.true c.one-item.is c.loop-one.is_long c.in-Ok.more (c.loop-one.invariant.so-far told e)
     (c.in-Ok.ensures.told told (c.loop-one.invariant.same ∙ e)) in record {
       same = c.is_long_file.ensures.reads.same ∙ c.loop-one.invariant.same;
-      later = (let a = c.loop-one.invariant.later in let b = c.is_long_file.ensures.reads.later in omega arith);
-      unspoiled = c.is_long_file.ensures.unspoiled ∙ c.loop-one.invariant.unspoiled;
+      quiet = c.in-Ok.ensures.reads.quiet ∙ c.loop-one.invariant.quiet;
+      unwritten = c.is_long_file.ensures.unwritten ∙ c.loop-one.invariant.unwritten;
       so-far = λ told e.
           more told e
           ∙ elim c.if-is_long.branch [
@@ -41,4 +41,4 @@ returns-clause-told g c = λ told e.
     c.check_count.ensures.value
 
 pub returns-in-Err-clause-reads : goal.returns-in-Err-clause-reads
-returns-in-Err-clause-reads g c = reads-stopped c.loop-one.invariant.same c.loop-one.invariant.later c.in-Err.ensures.reads
+returns-in-Err-clause-reads g c = reads-stopped c.loop-one.invariant.same c.loop-one.invariant.quiet c.in-Err.ensures.reads

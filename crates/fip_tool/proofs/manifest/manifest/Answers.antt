@@ -1,4 +1,4 @@
-use Rattle.std.proofs.Common.{◌∙◌, Vec, ℕ, map, option_map, refl, arith}
+use Rattle.std.proofs.Common.{◌∙◌, Vec, ℕ, map, option_map, refl}
 use Rattle.std.specs.Global.{Global}
 use Rattle.fip_words.specs.Order.{image_view}
 use Rattle.manifest_core.specs.Shown.{row}
@@ -29,7 +29,7 @@ returns-in-Err-rows_of_files-clause-told g c = λ told e.
     (c.in-Err-rows_of_files.ensures.told told (c.check_sizes.ensures.reads.same ∙ e))
 
 pub returns-in-Err-clause-reads : goal.returns-in-Err-clause-reads
-returns-in-Err-clause-reads g c = reads-stopped refl (omega arith) c.in-Err.ensures.reads
+returns-in-Err-clause-reads g c = reads-stopped refl refl c.in-Err.ensures.reads
 
 pub returns-in-Err-rows_of_files-clause-reads : goal.returns-in-Err-rows_of_files-clause-reads
-returns-in-Err-rows_of_files-clause-reads g c = reads-stopped c.check_sizes.ensures.reads.same c.check_sizes.ensures.reads.later c.in-Err-rows_of_files.ensures.reads
+returns-in-Err-rows_of_files-clause-reads g c = reads-stopped c.check_sizes.ensures.reads.same c.in-Ok.ensures.reads.quiet c.in-Err-rows_of_files.ensures.reads

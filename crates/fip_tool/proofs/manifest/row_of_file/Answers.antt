@@ -1,6 +1,6 @@
 use Rattle.fip_words.specs.Order.{image_view}
 use Rattle.manifest_core.specs.Shown.{row}
-use Rattle.std.proofs.Common.{Vec, ℕ, option_map, refl, arith}
+use Rattle.std.proofs.Common.{Vec, ℕ, option_map, refl}
 use Rattle.std.specs.Global.{Global}
 use Rattle.fip_tool.proofs.ManifestLemmas.{row-made, row-stopped}
 use Rattle.fip_tool.proofs.Tables.{gives-err}
@@ -16,7 +16,7 @@ returns-in-Err-clause-told g c = λ told e.
     gives-err (λ (v : Vec ℕ Global). v.items) (option_map row) _ _ _ _ c.in-Err.stop (λ r. r) (row-stopped told (image_view c.args.named.now) _) (c.in-Err.ensures.told told e)
 
 pub returns-in-Ok-clause-reads : goal.returns-in-Ok-clause-reads
-returns-in-Ok-clause-reads g c = reads-done c.read_file.ensures.reads.same c.read_file.ensures.reads.later
+returns-in-Ok-clause-reads g c = reads-done c.read_file.ensures.reads.same c.in-Ok.ensures.reads.quiet
 
 pub returns-in-Err-clause-reads : goal.returns-in-Err-clause-reads
-returns-in-Err-clause-reads g c = reads-stopped refl (omega arith) c.in-Err.ensures.reads
+returns-in-Err-clause-reads g c = reads-stopped refl refl c.in-Err.ensures.reads

@@ -1,4 +1,4 @@
-use Rattle.std.proofs.Common.{◌≡◌, ◌≤◌, Some, Ok, length, map, take, option_map}
+use Rattle.std.proofs.Common.{◌≡◌, Some, Ok, length, map, take, option_map}
 use Rattle.std.specs.Prelude.{IfSome}
 use Rattle.host_io.specs.Contents.{Directory}
 use Rattle.manifest_core.specs.Shown.{row}
@@ -10,8 +10,8 @@ use Rattle.fip_tool.proofs.manifest.rows_of_files.Given as goal
 abbrev pub invariant-loop-one : goal.invariant-loop-one
 invariant-loop-one g l = record {
   same : g.H.Files.contents l.files ≡ g.H.Files.contents l.fn.files;
-  later : g.H.Files.faults l.fn.files ≤ g.H.Files.faults l.files;
-  unspoiled : g.H.Files.spoiled l.files ≡ g.H.Files.spoiled l.fn.files;
+  quiet : g.H.Files.faults l.files ≡ g.H.Files.faults l.fn.files;
+  unwritten : g.H.Files.writes l.files ≡ g.H.Files.writes l.fn.files;
   count : IfSome l.rows (λ v. length v.items ≡ l.one-index);
   so-far : (told : Directory) → g.H.Files.contents l.fn.files ≡ Some told → rows_value told (map image_view (take l.one-index l.named)) ≡ Ok (option_map (λ v. map row v.items) l.rows);
 }

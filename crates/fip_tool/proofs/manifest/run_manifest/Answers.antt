@@ -12,8 +12,11 @@ use Rattle.fip_tool.specs.Steps.{outcome_by}
 use Rattle.fip_tool.specs.Tool.{manifest_value, writes_manifest}
 use Rattle.fip_tool.proofs.Did.{no-memory-yet, refused}
 use Rattle.fip_tool.proofs.ManifestLemmas.{manifest-written}
-use Rattle.fip_tool.proofs.Tables.{rose-from, rose-still}
+use Rattle.fip_tool.proofs.FileFaults.{faults-as, faults-none, faults-of, faults-then}
+use Rattle.fip_tool.proofs.Tables.{failed-same, rose-from, rose-still}
 use Rattle.fip_tool.proofs.SinkFaults.{still}
+use Rattle.fip_tool.proofs.WroteLemmas.{wrote-as}
+use Rattle.host_io.specs.declared.writes.Writes.{Writes}
 use Rattle.fip_tool.proofs.manifest.run_manifest.Goals as goal
 
 pub returns-clause-told : goal.returns-clause-told
@@ -22,7 +25,7 @@ returns-clause-told g c = λ told e.
     (c.in-Ok.ensures.told told e) c.as_slice.ensures.value
     (let long : c.len.result ≡ length c.in-Ok.made.1.items = search rules in
     c.as_slice-2.ensures.value ∙ c.in-Ok-manifest_line.ensures ∙ ap (λ (n : ℕ). manifest_line c.in-Ok.made.0 n c.args.security) long)
-    (λ r. rose-from _ _ _ c.manifest.ensures.reads.later r) (λ r. rose-still _ _ _ (sym c.manifest.ensures.unspoiled) r)
+    (λ r. rose-from _ _ _ c.manifest.ensures.reads.later r) (λ r. rose-still _ _ _ (failed-same c.manifest.ensures.unwritten) r)
     (c.write_and_print.ensures.told told (c.manifest.ensures.reads.same ∙ e))
 
 pub returns-in-Err-clause-told : goal.returns-in-Err-clause-told
@@ -33,7 +36,7 @@ returns-in-Err-clause-told g c = λ told e.
 pub returns-in_default-clause-told : goal.returns-in_default-clause-told
 returns-in_default-clause-told g c = λ told e.
     no-memory-yet (outcome_by (writes_manifest c.args.out.now c.args.security) (manifest_value told c.args.security (map image_view c.args.named.now))) told _ _ _
-    (Rose (g.H.Files.faults c.args.files.now) (g.H.Files.faults c.manifest.new.files)) (Rose (g.H.Files.spoiled c.args.files.now) (g.H.Files.spoiled c.manifest.new.files)) (Rose (g.O.Sink.faults c.args.sink.now) (g.O.Sink.faults c.args.sink.now))
+    (Rose (g.H.Files.faults c.args.files.now) (g.H.Files.faults c.manifest.new.files)) (Rose (g.H.Files.writes c.args.files.now).failed (g.H.Files.writes c.manifest.new.files).failed) (Rose (g.O.Sink.faults c.args.sink.now) (g.O.Sink.faults c.args.sink.now))
     (c.manifest.ensures.reads.same ∙ e) refl
 
 pub returns-clause-cause : goal.returns-clause-cause
@@ -61,6 +64,28 @@ returns-clause-says g c =
     let lined = c.as_slice-2.ensures.value ∙ c.in-Ok-manifest_line.ensures ∙ ap (λ (n : ℕ). manifest_line n c.len.result c.args.security) named in
     says-as (λ texts. texts ≡ c.as_slice-2.result.now ∷ []) (IsTexts (asks.manifest c.args.out.now c.args.security (map image_view c.args.named.now))) _ _ _ _ c.write_and_print.result
     (λ texts t. (c.len.result, t ∙ ap (λ (l : List ℕ). l ∷ []) lined)) (λ r. r) c.write_and_print.ensures.says
+
+pub returns-clause-wrote : goal.returns-clause-wrote
+returns-clause-wrote g c =
+    let named = c.in-Ok.ensures.count ∙ sym (length-map c.args.named.now image_view) in
+    let lined = c.as_slice-2.ensures.value ∙ c.in-Ok-manifest_line.ensures ∙ ap (λ (n : ℕ). manifest_line n c.len.result c.args.security) named in
+    wrote-as (λ texts. texts ≡ c.as_slice-2.result.now ∷ []) (IsTexts (asks.manifest c.args.out.now c.args.security (map image_view c.args.named.now))) _ _ _ _ _ c.write_and_print.result
+    (λ texts t. (c.len.result, t ∙ ap (λ (l : List ℕ). l ∷ []) lined)) (ap (λ (w : Writes). w.done) c.manifest.ensures.unwritten) c.write_and_print.ensures.wrote
+
+pub returns-in-Err-clause-wrote : goal.returns-in-Err-clause-wrote
+returns-in-Err-clause-wrote g c = inl (ap (λ (w : Writes). w.done) c.in-Err.ensures.unwritten)
+
+pub returns-in_default-clause-wrote : goal.returns-in_default-clause-wrote
+returns-in_default-clause-wrote g c = inl (ap (λ (w : Writes). w.done) c.manifest.ensures.unwritten)
+
+pub returns-clause-file_count : goal.returns-clause-file_count
+returns-clause-file_count g c = faults-then c.in-Ok.ensures.reads.quiet c.write_and_print.ensures.file_count
+
+pub returns-in-Err-clause-file_count : goal.returns-in-Err-clause-file_count
+returns-in-Err-clause-file_count g c = faults-as (faults-of c.in-Err.ensures.reads)
+
+pub returns-in_default-clause-file_count : goal.returns-in_default-clause-file_count
+returns-in_default-clause-file_count g c = faults-none c.in-Ok.ensures.reads.quiet
 
 pub returns-in-Err-clause-says : goal.returns-in-Err-clause-says
 returns-in-Err-clause-says g c = says-nothing (IsTexts (asks.manifest c.args.out.now c.args.security (map image_view c.args.named.now))) _ _ _ c.in-Err.stop (λ e. c.in-Err.ensures.reads.sink (err-same e)) refl

@@ -14,8 +14,8 @@ pub loop-payload-init : goal.loop-payload-init
 loop-payload-init g c =
     let os = c.as_slice.ensures.value ∙ c.in-Ok.ensures in record {
       same = refl;
-      later = omega arith;
-      unspoiled = refl;
+      quiet = refl;
+      unwritten = refl;
       count = c.in-Ok-frame_of.ensures.none_in;
       entries = c.in-Ok-frame_of.ensures.entries ∙ ap (λ (ps : List Part). packed_entries c.args.align (table_end ps) ps) os;
       so-far = λ told e.
@@ -37,8 +37,8 @@ pub loop-payload-preserved : goal.loop-payload-preserved
 loop-payload-preserved g c =
     let filled = c.in-Ok-read.ensures.filled in record {
       same = c.read.ensures.same ∙ c.loop-payload.invariant.same;
-      later = omega (arith, c.loop-payload.invariant.later, c.read.ensures.cause.later);
-      unspoiled = c.read.ensures.unspoiled ∙ c.loop-payload.invariant.unspoiled;
+      quiet = c.in-Ok-read.ensures.cause.done ∙ c.loop-payload.invariant.quiet;
+      unwritten = c.read.ensures.unwritten ∙ c.loop-payload.invariant.unwritten;
       count = filled.fills.count ∙ ap (λ (n : ℕ). n + 1) c.loop-payload.invariant.count;
       entries = filled.fills.entries ∙ c.loop-payload.invariant.entries;
       so-far = λ told e.
@@ -68,7 +68,7 @@ returns-in-Err-clause-told g c = λ told e.
     (zeroed-all told c.args.payloads.now all ∙ sym (c.as_slice.ensures.value ∙ c.in-Ok.ensures)) c.in-Err.ensures.value
 
 pub returns-clause-reads : goal.returns-clause-reads
-returns-clause-reads g c = reads-done c.loop-payload.invariant.same c.loop-payload.invariant.later
+returns-clause-reads g c = reads-done c.loop-payload.invariant.same c.loop-payload.invariant.quiet
 
 pub returns-in_default-clause-reads : goal.returns-in_default-clause-reads
-returns-in_default-clause-reads g c = reads-starved refl (omega arith)
+returns-in_default-clause-reads g c = reads-starved refl refl

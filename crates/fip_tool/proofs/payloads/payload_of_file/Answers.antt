@@ -2,6 +2,7 @@ use Rattle.std.proofs.Common.{refl}
 use Rattle.fip_tool.specs.Payloads.{part_told}
 use Rattle.fip_tool.specs.declared.payloads.Payload.{Payload}
 use Rattle.fip_tool.proofs.Packings.{payload-made, payload-stopped}
+use Rattle.fip_tool.proofs.ReadsBy.{reads-stopped}
 use Rattle.fip_tool.proofs.Tables.{gives-err}
 use Rattle.fip_tool.proofs.Whole.{has-range}
 use Rattle.fip_tool.proofs.payloads.payload_of_file.Goals as goal
@@ -17,3 +18,6 @@ returns-in-Ok-clause-there g c = has-range _ c.args.named.now.file.now c.in-Ok.s
 pub returns-in-Err-clause-told : goal.returns-in-Err-clause-told
 returns-in-Err-clause-told g c = λ told e.
     gives-err (λ n. n) (part_told told) _ _ _ _ c.in-Err.stop (λ r. r) (payload-stopped told c.args.named.now _) (c.in-Err.ensures.told told e)
+
+pub returns-in-Err-clause-reads : goal.returns-in-Err-clause-reads
+returns-in-Err-clause-reads g c = reads-stopped refl refl c.in-Err.ensures.reads

@@ -7,7 +7,7 @@ use Rattle.fip_tool.specs.declared.payloads.Payload.{Payload}
 use Rattle.fip_tool.proofs.Packings.{more-payloads, one-more-there}
 use Rattle.fip_tool.proofs.PartLemmas.{stopped-at}
 use Rattle.fip_tool.proofs.ReadsBy.{reads-done, reads-starved, reads-stopped}
-use Rattle.fip_tool.proofs.Tables.{gives-err, rose-from}
+use Rattle.fip_tool.proofs.Tables.{gives-err, rose-still}
 use Rattle.fip_tool.specs.Tool.{parts_in}
 use Rattle.fip_words.specs.Order.{part_view}
 use Rattle.fip_words.specs.declared.values.Part.{Part}
@@ -15,7 +15,7 @@ use Rattle.fip_tool.proofs.payloads.payloads_of_files.Goals as goal
 
 pub returns-in-Err-clause-told : goal.returns-in-Err-clause-told
 returns-in-Err-clause-told g c = λ told e.
-    gives-err (part_told told) (λ (v : Vec Payload Global). map (part_told told) v.items) _ _ _ _ c.in-Err.stop (λ r. rose-from _ _ _ c.loop-one.invariant.later r)
+    gives-err (part_told told) (λ (v : Vec Payload Global). map (part_told told) v.items) _ _ _ _ c.in-Err.stop (λ r. rose-still _ _ _ (sym c.loop-one.invariant.quiet) r)
     (stopped-at told c.args.named.now c.loop-one.one-index c.one-item.result c.loop-one-test.true c.one-item.is _)
     (c.in-Err.ensures.told told (c.loop-one.invariant.same ∙ e))
 
@@ -23,8 +23,8 @@ pub loop-one-preserved : goal.loop-one-preserved
 loop-one-preserved g c =
     let more = c.in-Ok-push.ensures.items in record {
       same = c.payload_of_file.ensures.reads.same ∙ c.loop-one.invariant.same;
-      later = (let a = c.loop-one.invariant.later in let b = c.payload_of_file.ensures.reads.later in omega arith);
-      unspoiled = c.payload_of_file.ensures.unspoiled ∙ c.loop-one.invariant.unspoiled;
+      quiet = c.in-Ok.ensures.reads.quiet ∙ c.loop-one.invariant.quiet;
+      unwritten = c.payload_of_file.ensures.unwritten ∙ c.loop-one.invariant.unwritten;
       count = omega (arith, ap length more, length-append c.loop-one.payloads.items (c.in-Ok.payload ∷ []), c.loop-one.invariant.count);
       there = subst (All (IsThere (g.H.Files.contents c.args.files.now))) (sym more)
           (one-more-there (IsThere (g.H.Files.contents c.args.files.now)) c.loop-one.payloads.items c.in-Ok.payload c.loop-one.invariant.there
@@ -42,11 +42,11 @@ returns-clause-told g c = λ told e.
     ap (λ (l : List Part). parts_in told (map part_view l)) (sym all) ∙ c.loop-one.invariant.so-far told e
 
 pub returns-clause-reads : goal.returns-clause-reads
-returns-clause-reads g c = reads-done c.loop-one.invariant.same c.loop-one.invariant.later
+returns-clause-reads g c = reads-done c.loop-one.invariant.same c.loop-one.invariant.quiet
 
 pub returns-in-Err-clause-reads : goal.returns-in-Err-clause-reads
-returns-in-Err-clause-reads g c = reads-stopped c.loop-one.invariant.same c.loop-one.invariant.later c.in-Err.ensures.reads
+returns-in-Err-clause-reads g c = reads-stopped c.loop-one.invariant.same c.loop-one.invariant.quiet c.in-Err.ensures.reads
 
 pub returns-in-Err-push-clause-reads : goal.returns-in-Err-push-clause-reads
 returns-in-Err-push-clause-reads g c =
-    reads-starved (c.payload_of_file.ensures.reads.same ∙ c.loop-one.invariant.same) (omega (arith, c.loop-one.invariant.later, c.payload_of_file.ensures.reads.later))
+    reads-starved (c.payload_of_file.ensures.reads.same ∙ c.loop-one.invariant.same) (c.in-Ok.ensures.reads.quiet ∙ c.loop-one.invariant.quiet)

@@ -1,4 +1,4 @@
-use Rattle.std.proofs.Common.{◌∙◌, Vec, ℕ, sym, refl, arith}
+use Rattle.std.proofs.Common.{◌∙◌, Vec, ℕ, sym, refl}
 use Rattle.std.specs.Global.{Global}
 use Rattle.fip_tool.proofs.Tables.{gives-err, rose-from, tells}
 use Rattle.fip_tool.proofs.PartLemmas.{gives-same}
@@ -22,7 +22,7 @@ returns-in-Ok-clause-told g c = λ told e.
     c.read_range.ensures.size c.read_range.ensures.bytes c.read_range.ensures.late c.read_range.ensures.cause c.read_range.ensures.reads.sink)
 
 pub returns-in-Ok-clause-reads : goal.returns-in-Ok-clause-reads
-returns-in-Ok-clause-reads g c = reads-then c.size_of.ensures.reads.same c.size_of.ensures.reads.later c.read_range.ensures.reads
+returns-in-Ok-clause-reads g c = reads-then c.size_of.ensures.reads.same c.in-Ok.ensures.reads.quiet c.read_range.ensures.reads
 
 pub returns-in-Err-clause-reads : goal.returns-in-Err-clause-reads
-returns-in-Err-clause-reads g c = reads-stopped refl (omega arith) c.in-Err.ensures.reads
+returns-in-Err-clause-reads g c = reads-stopped refl refl c.in-Err.ensures.reads

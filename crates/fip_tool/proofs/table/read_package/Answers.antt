@@ -1,4 +1,5 @@
-use Rattle.std.proofs.Common.{◌∙◌}
+use Rattle.std.proofs.Common.{◌∙◌, refl}
+use Rattle.fip_tool.proofs.ReadsBy.{reads-no-table, reads-stopped}
 use Rattle.fip_tool.proofs.Repacking.{ends-below}
 use Rattle.fip_tool.proofs.Tables.{gives-err, size-err, sized, table-ok, table-stop, tells}
 use Rattle.fip_tool.proofs.table.read_package.Goals as goal
@@ -22,3 +23,10 @@ returns-in-Err-read_toc-clause-told g c = λ told e.
 
 pub returns-in-Ok-read_toc-clause-ends : goal.returns-in-Ok-read_toc-clause-ends
 returns-in-Ok-read_toc-clause-ends g c = let s = c.in-Ok-read_toc.ensures.some in ends-below s.bytes c.in-Ok-read_toc.toc s.short s.answer
+
+pub returns-in-Err-clause-reads : goal.returns-in-Err-clause-reads
+returns-in-Err-clause-reads g c = reads-stopped refl refl c.in-Err.ensures.reads
+
+pub returns-in-Err-read_toc-clause-reads : goal.returns-in-Err-read_toc-clause-reads
+returns-in-Err-read_toc-clause-reads g c =
+    rw c.stop_of.ensures (reads-no-table c.in-Err-read_toc.stop c.size_of.ensures.reads.same c.in-Err-read_toc.ensures.same c.in-Ok.ensures.reads.quiet c.in-Err-read_toc.ensures.cause)

@@ -12,6 +12,8 @@ use Rattle.fip_tool.specs.Tool.{no_files}
 use Rattle.fip_tool.specs.declared.stops.Stop.{Stop}
 use Rattle.fip_tool.proofs.SinkFaults.{counted, reported-sink}
 use Rattle.fip_tool.proofs.SourceFaults.{fails-once, none-failed}
+use Rattle.fip_tool.proofs.FileFaults.{fails-done, fails-told}
+use Rattle.fip_tool.proofs.WroteLemmas.{reported-tail, wrote-longer}
 use Rattle.fip_tool.proofs.top.fip_top.Goals as goal
 
 pub returns-in-Ok-clause-told : goal.returns-in-Ok-clause-told
@@ -71,7 +73,7 @@ returns-in-Err-clause-said g c = (
 pub returns-in-Ok-clause-converts : goal.returns-in-Ok-clause-converts
 returns-in-Ok-clause-converts g c = λ told e none.
     converted (asked (map string_bytes c.args.words.now)) told _ _ _ (Rose (g.H.Files.faults c.args.files.now) (g.H.Files.faults c.run.new.files))
-    (Rose (g.H.Files.spoiled c.args.files.now) (g.H.Files.spoiled c.run.new.files)) (Rose (g.O.Sink.faults c.args.sink.now) (g.O.Sink.faults c.run.new.sink)) (c.in-Ok.ensures.told told e)
+    (Rose (g.H.Files.writes c.args.files.now).failed (g.H.Files.writes c.run.new.files).failed) (Rose (g.O.Sink.faults c.args.sink.now) (g.O.Sink.faults c.run.new.sink)) (c.in-Ok.ensures.told told e)
 
 pub returns-in-Err-clause-converts : goal.returns-in-Err-clause-converts
 returns-in-Err-clause-converts g c = λ told e zero. absurd (no-zero c.report.result (sym c.status.ensures ∙ zero))
@@ -90,3 +92,20 @@ returns-in-Ok-clause-source_count g c = λ e. none-failed 0 _ _ refl (c.in-Ok.en
 
 pub returns-in-Err-clause-source_count : goal.returns-in-Err-clause-source_count
 returns-in-Err-clause-source_count g c = λ e. fails-once _ _ _ c.in-Err.stop c.report.result _ _ _ c.status.ensures c.report.ensures.reported (c.in-Err.ensures.source_count e)
+
+pub returns-in-Ok-clause-file_count : goal.returns-in-Ok-clause-file_count
+returns-in-Ok-clause-file_count g c = fails-done 0 _ _ c.in-Ok.ensures.file_count
+
+pub returns-in-Err-clause-file_count : goal.returns-in-Err-clause-file_count
+returns-in-Err-clause-file_count g c = fails-told _ _ _ c.in-Err.stop c.report.result _ _ _ c.status.ensures c.report.ensures.reported c.in-Err.ensures.file_count
+
+pub returns-in-Ok-clause-wrote : goal.returns-in-Ok-clause-wrote
+returns-in-Ok-clause-wrote g c = (Ok tt, refl, c.in-Ok.ensures.wrote)
+
+pub returns-in-Err-clause-wrote : goal.returns-in-Err-clause-wrote
+returns-in-Err-clause-wrote g c =
+    let tail = reported-tail _ _ _ c.in-Err.stop c.report.result c.report.ensures.reported in (
+      Err c.report.result,
+      c.status.ensures,
+      wrote-longer (asked (map string_bytes c.args.words.now)) _ _ _ tail.0 _ _ c.in-Err.stop c.report.result tail.1 c.in-Err.ensures.wrote,
+    )

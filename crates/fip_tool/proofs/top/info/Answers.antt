@@ -7,6 +7,7 @@ use Rattle.fip_tool.specs.Said.{IsListing, IsTexts}
 use Rattle.fip_tool.proofs.Texts.{err-same, says-nothing, says-printed}
 use Rattle.fip_tool.specs.Steps.{Printed}
 use Rattle.fip_tool.specs.Tool.{info_value, prints}
+use Rattle.fip_tool.proofs.FileFaults.{faults-as, faults-none, faults-of}
 use Rattle.fip_tool.proofs.SinkFaults.{still}
 use Rattle.fip_tool.proofs.top.info.Goals as goal
 
@@ -30,3 +31,9 @@ returns-in-Err-clause-says g c = says-nothing (IsTexts (asks.info c.args.name.no
 
 pub returns-in-Err-clause-sink_count : goal.returns-in-Err-clause-sink_count
 returns-in-Err-clause-sink_count g c = still _ c.in-Err.stop (λ e. c.in-Err.ensures.reads.sink (err-same e))
+
+pub returns-in-Ok-clause-file_count : goal.returns-in-Ok-clause-file_count
+returns-in-Ok-clause-file_count g c = faults-none c.in-Ok.ensures.reads.quiet
+
+pub returns-in-Err-clause-file_count : goal.returns-in-Err-clause-file_count
+returns-in-Err-clause-file_count g c = faults-as (faults-of c.in-Err.ensures.reads)

@@ -1,4 +1,4 @@
-use Rattle.std.proofs.Common.{◌≡◌, ◌∙◌, ◌≤◌, ◌+◌, ℕ, All, List, ap, filter, length, map, subst, sym, refl}
+use Rattle.std.proofs.Common.{◌≡◌, ◌∙◌, ◌≤◌, ◌+◌, ℕ, All, List, ap, filter, inl, length, map, subst, sym, refl}
 use Rattle.base_core.specs.Counts.{Rose}
 use Rattle.fwu_formats.specs.Package.{Entry, Toc}
 use Rattle.std.specs.Prelude.{◌==◌, ◌||◌}
@@ -10,9 +10,12 @@ use Rattle.fip_tool.proofs.Texts.{err-same, says-as, says-nothing}
 use Rattle.fip_tool.specs.Tool.{chosen, is_named, unpack_steps, unpack_value}
 use Rattle.fip_tool.proofs.Did.{made-steps, refused}
 use Rattle.fip_tool.proofs.Repacking.{opened, stored-of, there-of, unpack-err, unpack-of}
-use Rattle.fip_tool.proofs.Tables.{gives-err, rose-from, rose-still}
+use Rattle.fip_tool.proofs.FileFaults.{faults-as, faults-of, faults-then}
+use Rattle.fip_tool.proofs.Tables.{failed-same, gives-err, rose-still}
 use Rattle.fip_tool.proofs.UnpackLemmas.{chosen-filter}
 use Rattle.fip_tool.proofs.SinkFaults.{still}
+use Rattle.fip_tool.proofs.WroteLemmas.{wrote-as}
+use Rattle.host_io.specs.declared.writes.Writes.{Writes}
 use Rattle.fip_tool.proofs.unpack.run_unpack.Goals as goal
 
 pub unpack_entries-requires-clause-stored : goal.unpack_entries-requires-clause-stored
@@ -34,10 +37,10 @@ returns-in-Ok-clause-told g c = λ told is.
     let o = opened told c.args.from.now c.args.names.now c.in-Ok.toc (c.in-Ok.ensures.told told is) in
     let same = c.as_slice-entries.ensures ∙ ap (λ (t : Toc). t.entries) c.toc.view_is in
     let did = c.unpack_entries.ensures.told told o.bytes (c.table_with.ensures.reads.same ∙ is) o.is in
-    made-steps (λ v. unpack_steps c.args.prefix.now v.0 v.1) _ _ told _ _ _ _ _ _ _ _ c.unpack_entries.result (unpack-of told c.args.from.now c.args.names.now c.in-Ok.toc o) (λ r. rose-from _ _ _ c.table_with.ensures.reads.later r)
-    (λ r. rose-still _ _ _ (sym c.table_with.ensures.unspoiled) r)
+    made-steps (λ v. unpack_steps c.args.prefix.now v.0 v.1) _ _ told _ _ _ _ _ _ _ _ c.unpack_entries.result (unpack-of told c.args.from.now c.args.names.now c.in-Ok.toc o) (λ r. rose-still _ _ _ (sym c.in-Ok.ensures.reads.quiet) r)
+    (λ r. rose-still _ _ _ (failed-same c.table_with.ensures.unwritten) r)
     (subst (λ (l : List Entry). Did (Makes (unpack_steps c.args.prefix.now o.bytes l)) told (g.H.Files.contents c.unpack_entries.new.files) (g.O.Sink.taken c.args.sink.now) (g.O.Sink.taken c.unpack_entries.new.sink)
-    (Rose (g.H.Files.faults c.table_with.new.files) (g.H.Files.faults c.unpack_entries.new.files)) (Rose (g.H.Files.spoiled c.table_with.new.files) (g.H.Files.spoiled c.unpack_entries.new.files))
+    (Rose (g.H.Files.faults c.table_with.new.files) (g.H.Files.faults c.unpack_entries.new.files)) (Rose (g.H.Files.writes c.table_with.new.files).failed (g.H.Files.writes c.unpack_entries.new.files).failed)
     (Rose (g.O.Sink.faults c.args.sink.now) (g.O.Sink.faults c.unpack_entries.new.sink)) c.unpack_entries.result)
     (chosen-filter c.args.names.now c.as_slice-entries.result.now ∙ ap (chosen c.args.names.now) same) did)
 
@@ -54,3 +57,20 @@ returns-in-Err-clause-says g c = says-nothing (IsTexts (unpack c.args.from.now c
 
 pub returns-in-Err-clause-sink_count : goal.returns-in-Err-clause-sink_count
 returns-in-Err-clause-sink_count g c = still _ c.in-Err.stop (λ e. c.in-Err.ensures.reads.sink (err-same e))
+
+pub returns-in-Ok-clause-file_count : goal.returns-in-Ok-clause-file_count
+returns-in-Ok-clause-file_count g c = faults-then c.in-Ok.ensures.reads.quiet c.unpack_entries.ensures.file_count
+
+pub returns-in-Err-clause-file_count : goal.returns-in-Err-clause-file_count
+returns-in-Err-clause-file_count g c = faults-as (faults-of c.in-Err.ensures.reads)
+
+pub returns-in-Ok-clause-wrote : goal.returns-in-Ok-clause-wrote
+returns-in-Ok-clause-wrote g c =
+    let same = c.as_slice-entries.ensures ∙ ap (λ (t : Toc). t.entries) c.toc.view_is in
+    wrote-as (λ texts. texts ≡ map (unpacked_line c.args.prefix.now) (filter (λ e. (length c.args.names.now == 0) || is_named c.args.names.now e) c.as_slice-entries.result.now))
+    (IsTexts (unpack c.args.from.now c.args.prefix.now c.args.names.now)) _ _ _ _ _ c.unpack_entries.result
+    (λ texts t. (c.in-Ok.toc, c.in-Ok.ensures.all, t ∙ ap (map (unpacked_line c.args.prefix.now)) (chosen-filter c.args.names.now c.as_slice-entries.result.now ∙ ap (chosen c.args.names.now) same)))
+    (ap (λ (w : Writes). w.done) c.table_with.ensures.unwritten) c.unpack_entries.ensures.wrote
+
+pub returns-in-Err-clause-wrote : goal.returns-in-Err-clause-wrote
+returns-in-Err-clause-wrote g c = inl (ap (λ (w : Writes). w.done) c.in-Err.ensures.unwritten)

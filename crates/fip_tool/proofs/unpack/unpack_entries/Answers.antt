@@ -1,7 +1,7 @@
-use Rattle.std.proofs.Common.{◌∙◌, ◌+◌, ◌≤◌, ◌∷◌, [], List, ap, drop, filter, length, map, refl, take, arith, sym, subst}
+use Rattle.std.proofs.Common.{◌∙◌, ◌+◌, ◌≤◌, ◌∷◌, [], ℕ, List, ap, drop, filter, length, map, refl, take, arith, sym, subst}
 use Rattle.std.specs.Io.KnownBytes.{Appends}
 use Rattle.std.proofs.KnownBytes.{Appends-nil}
-use Rattle.std.proofs.lemmas.List.{map-append, take_all}
+use Rattle.std.proofs.lemmas.List.{length-append, length-map, map-append, take_all}
 use Rattle.std.specs.Prelude.{◌==◌, ◌||◌}
 use Rattle.std.proofs.lemmas.List.Elements.{All-get_or}
 use Rattle.fwu_formats.specs.Package.{Entry}
@@ -9,17 +9,21 @@ use Rattle.fip_tool.specs.Lines.{unpacked_line}
 use Rattle.fip_tool.specs.Said.{joined}
 use Rattle.fip_tool.specs.Tool.{is_named}
 use Rattle.fip_tool.proofs.Texts.{said-more, says-behind}
+use Rattle.fip_tool.proofs.FileFaults.{faults-none, faults-then}
 use Rattle.fip_tool.proofs.Tables.{rose-from, rose-still}
 use Rattle.fip_tool.proofs.UnpackLemmas.{all-done, begins, next-chosen, next-passed, split-chosen, step-done, step-passed, step-stops, tells-still, there-still}
 use Rattle.fip_tool.specs.Steps.{sink_failed}
+use Rattle.fip_tool.specs.Wrote.{raised_by}
+use Rattle.fip_tool.proofs.WroteLemmas.{one-wrote, wrote-behind}
 use Rattle.fip_tool.proofs.unpack.unpack_entries.Goals as goal
 use Rattle.fip_tool.proofs.unpack.unpack_entries.Goals.{then-is_chosen+in-Ok, else-is_chosen}
 
 pub loop-entry-init : goal.loop-entry-init
 loop-entry-init g c = record {
   silent = λ e. e;
-  later = omega arith;
+  quiet = refl;
   unspoiled = refl;
+  wrote = refl;
   later_sink = omega arith;
   sink_count = refl;
   said = Appends-nil _;
@@ -40,7 +44,7 @@ returns-in-Err-clause-told g c = λ told bytes is stored.
     let s = c.loop-entry.invariant.so-far told bytes is stored in
     step-stops c.args.prefix.now c.args.from.now bytes (λ e. (length c.args.names.now == 0) || is_named c.args.names.now e) c.args.entries.now c.loop-entry.entry-index told _
     c.entry-item.result c.loop-entry-test.true (sym c.entry-item.is) _ _ _ _ _ _ _ s _ _ _ c.in-Err.stop
-    (λ r. rose-from _ _ _ c.loop-entry.invariant.later r) (λ r. rose-still _ _ _ (sym c.loop-entry.invariant.unspoiled) r) (λ r. rose-from _ _ _ c.loop-entry.invariant.later_sink r) (sym c.is_chosen.ensures ∙ c.if-is_chosen.true) (c.in-Err.ensures.told s.now bytes s.is s.stored)
+    (λ r. rose-still _ _ _ (sym c.loop-entry.invariant.quiet) r) (λ r. rose-still _ _ _ (sym c.loop-entry.invariant.unspoiled) r) (λ r. rose-from _ _ _ c.loop-entry.invariant.later_sink r) (sym c.is_chosen.ensures ∙ c.if-is_chosen.true) (c.in-Err.ensures.told s.now bytes s.is s.stored)
 
 pub loop-entry-preserved : goal.loop-entry-preserved
 loop-entry-preserved g c =
@@ -48,8 +52,15 @@ loop-entry-preserved g c =
       | then-is_chosen+in-Ok w ↦
           rw (w.files-is, w.sink-is) (record {
             silent = λ e. w.in-Ok.ensures.silent (c.loop-entry.invariant.silent e);
-            later = omega (arith, c.loop-entry.invariant.later, w.unpack_entry.ensures.later);
+            quiet = w.in-Ok.ensures.file_count.quiet ∙ c.loop-entry.invariant.quiet;
             unspoiled = w.in-Ok.ensures.unspoiled ∙ c.loop-entry.invariant.unspoiled;
+            wrote =
+                let p = λ (e : Entry). (length c.args.names.now == 0) || is_named c.args.names.now e in
+                let e = c.entry-item.result in
+                let es = c.args.entries.now in
+                let more = next-chosen p es c.loop-entry.entry-index e c.loop-entry-test.true (sym c.entry-item.is) (sym c.is_chosen.ensures ∙ w.if-is_chosen.true) in
+                one-wrote (unpacked_line c.args.prefix.now e) _ _ _ _ _ (length (filter p (take c.loop-entry.entry-index es))) _ c.loop-entry.invariant.wrote
+                (ap length more ∙ length-append (filter p (take c.loop-entry.entry-index es)) (e ∷ [])) w.in-Ok.ensures.wrote;
             later_sink = omega (arith, c.loop-entry.invariant.later_sink, w.unpack_entry.ensures.later_sink);
             sink_count = w.in-Ok.ensures.sink_count ∙ c.loop-entry.invariant.sink_count;
             said =
@@ -69,8 +80,12 @@ loop-entry-preserved g c =
       | else-is_chosen w ↦
           rw (w.files-is, w.sink-is) (record {
             silent = c.loop-entry.invariant.silent;
-            later = c.loop-entry.invariant.later;
+            quiet = c.loop-entry.invariant.quiet;
             unspoiled = c.loop-entry.invariant.unspoiled;
+            wrote =
+                let p = λ (e : Entry). (length c.args.names.now == 0) || is_named c.args.names.now e in
+                let same = next-passed p c.args.entries.now c.loop-entry.entry-index c.entry-item.result c.loop-entry-test.true (sym c.entry-item.is) (sym c.is_chosen.ensures ∙ w.if-is_chosen.false) in
+                c.loop-entry.invariant.wrote ∙ ap (λ (l : List Entry). raised_by (length l) (g.H.Files.writes c.args.files.now).done) (sym same);
             later_sink = c.loop-entry.invariant.later_sink;
             sink_count = c.loop-entry.invariant.sink_count;
             said =
@@ -114,3 +129,34 @@ returns-clause-told g c = λ told bytes is stored.
 
 pub returns-in-Err-clause-sink_count : goal.returns-in-Err-clause-sink_count
 returns-in-Err-clause-sink_count g c = c.in-Err.ensures.sink_count ∙ ap (sink_failed c.in-Err.stop) c.loop-entry.invariant.sink_count
+
+pub returns-in-Err-clause-file_count : goal.returns-in-Err-clause-file_count
+returns-in-Err-clause-file_count g c = faults-then c.loop-entry.invariant.quiet c.in-Err.ensures.file_count
+
+pub returns-clause-file_count : goal.returns-clause-file_count
+returns-clause-file_count g c = faults-none c.loop-entry.invariant.quiet
+
+pub returns-in-Err-clause-wrote : goal.returns-in-Err-clause-wrote
+returns-in-Err-clause-wrote g c =
+    let p = λ (e : Entry). (length c.args.names.now == 0) || is_named c.args.names.now e in
+    let e = c.entry-item.result in
+    let es = c.args.entries.now in
+    let i = c.loop-entry.entry-index in
+    let line = unpacked_line c.args.prefix.now in
+    let split = split-chosen p es i e c.loop-entry-test.true (sym c.entry-item.is) (sym c.is_chosen.ensures ∙ c.if-is_chosen.true) in
+    let start = (g.H.Files.writes c.args.files.now).done in
+    wrote-behind (map line (filter p (take i es))) (line e) (map line (filter p (drop (i + 1) es))) (map line (filter p es)) _ _ _ _ start _ _ c.in-Err.stop
+    (ap (map line) split ∙ map-append line (filter p (take i es)) (e ∷ filter p (drop (i + 1) es))) c.loop-entry.invariant.said
+    (c.loop-entry.invariant.wrote ∙ ap (λ (n : ℕ). raised_by n start) (sym (length-map (filter p (take i es)) line))) c.in-Err.ensures.late c.in-Err.ensures.says c.in-Err.ensures.wrote
+
+pub returns-clause-wrote : goal.returns-clause-wrote
+returns-clause-wrote g c =
+    let p = λ (e : Entry). (length c.args.names.now == 0) || is_named c.args.names.now e in
+    let line = unpacked_line c.args.prefix.now in
+    let start = (g.H.Files.writes c.args.files.now).done in
+    let all = take_all c.loop-entry.entry-index c.args.entries.now (omega (arith, c.loop-entry-test.false)) in record {
+      texts = map line (filter p c.args.entries.now);
+      are = refl;
+      said = subst (λ (l : List Entry). Appends (g.O.Sink.taken c.args.sink.now) (g.O.Sink.taken c.loop-entry.sink) (joined (map line (filter p l)))) all c.loop-entry.invariant.said;
+      count = c.loop-entry.invariant.wrote ∙ ap (λ (l : List Entry). raised_by (length (filter p l)) start) all ∙ ap (λ (n : ℕ). raised_by n start) (sym (length-map (filter p c.args.entries.now) line));
+    }

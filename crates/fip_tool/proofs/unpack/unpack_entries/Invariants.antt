@@ -5,6 +5,7 @@ use Rattle.host_io.specs.Contents.{Directory}
 use Rattle.fip_tool.specs.Lines.{unpacked_line}
 use Rattle.fip_tool.specs.Said.{joined}
 use Rattle.fip_tool.specs.Tool.{is_named}
+use Rattle.fip_tool.specs.Wrote.{raised_by}
 use Rattle.fip_tool.proofs.UnpackLemmas.{IsUnpacking}
 use Rattle.fip_tool.proofs.unpack.unpack_entries.Given as goal
 
@@ -12,8 +13,9 @@ use Rattle.fip_tool.proofs.unpack.unpack_entries.Given as goal
 abbrev pub invariant-loop-entry : goal.invariant-loop-entry
 invariant-loop-entry g l = record {
   silent : g.H.Files.contents l.fn.files ≡ None → g.H.Files.contents l.files ≡ None;
-  later : g.H.Files.faults l.fn.files ≤ g.H.Files.faults l.files;
-  unspoiled : g.H.Files.spoiled l.files ≡ g.H.Files.spoiled l.fn.files;
+  quiet : g.H.Files.faults l.files ≡ g.H.Files.faults l.fn.files;
+  unspoiled : (g.H.Files.writes l.files).failed ≡ (g.H.Files.writes l.fn.files).failed;
+  wrote : (g.H.Files.writes l.files).done ≡ raised_by (length (filter (λ e. (length l.names == 0) || is_named l.names e) (take l.entry-index l.entries))) (g.H.Files.writes l.fn.files).done;
   later_sink : g.O.Sink.faults l.fn.sink ≤ g.O.Sink.faults l.sink;
   sink_count : g.O.Sink.faults l.sink ≡ g.O.Sink.faults l.fn.sink;
   said : Appends (g.O.Sink.taken l.fn.sink) (g.O.Sink.taken l.sink) (joined (map (unpacked_line l.prefix) (filter (λ e. (length l.names == 0) || is_named l.names e) (take l.entry-index l.entries))));

@@ -12,16 +12,16 @@ returns g c =
     written-out c.read_payload.new.files _ c.as_str-2.result.now c.as_str.result.now c.as_slice.result.now c.as_slice-2.result.now (ap (λ (e : Entry). unpacked_name c.args.prefix.now e.guid) c.entry.view_is)
     (c.as_str-2.ensures.value ∙ c.in-Ok-file_name.ensures.name) (c.as_str.ensures.value ∙ c.in-Ok-file_name.ensures.name)
     (λ bytes tells. c.as_slice.ensures.value ∙ same-ok _ _ (c.in-Ok.ensures.told bytes tells)) (c.as_slice-2.ensures.value ∙ c.in-Ok-unpacked_line.ensures)
-    c.in-Ok-file_name.ensures.other read.reads.same read.reads.later read.unspoiled
-    e.told e.unspoiled e.cause e.silent e.says e.late e.usage e.later e.later_sink e.sink_count
+    c.in-Ok-file_name.ensures.other read.reads.same c.in-Ok.ensures.reads.quiet read.unwritten
+    e.told e.file_count e.wrote e.unspoiled e.cause e.silent e.says e.late e.usage e.later e.later_sink e.sink_count
 
 pub returns-in-Err : goal.returns-in-Err
 returns-in-Err g c =
     let e = c.in-Err.ensures in
-    unread c.in-Err.stop e.told e.reads e.late e.cause
+    unread c.in-Err.stop e.told e.reads e.late e.cause e.unwritten
 
 pub returns-in_default : goal.returns-in_default
-returns-in_default g c = unnamed c.read_payload.ensures.reads.same c.read_payload.ensures.reads.later
+returns-in_default g c = unnamed c.read_payload.ensures.reads.same c.in-Ok.ensures.reads.quiet c.read_payload.ensures.unwritten
 
 pub returns-in_default-unpacked_line : goal.returns-in_default-unpacked_line
-returns-in_default-unpacked_line g c = unnamed c.read_payload.ensures.reads.same c.read_payload.ensures.reads.later
+returns-in_default-unpacked_line g c = unnamed c.read_payload.ensures.reads.same c.in-Ok.ensures.reads.quiet c.read_payload.ensures.unwritten

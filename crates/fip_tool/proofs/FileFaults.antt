@@ -1,0 +1,85 @@
+-- How often a call of the files failed.
+use Rattle.std.proofs.Common.{◌≡◌, ◌∙◌, inl, inr, ℕ, Option, List, Result, Ok, Err, ap, arith, refl, sym}
+use Rattle.std.proofs.lemmas.Bool.{false≢true}
+use Rattle.std.specs.Prelude.{◌==◌, ◌||◌, IsFalse}
+use Rattle.host_io.specs.Contents.{Directory}
+use Rattle.fip_tool.proofs.SourceFaults.{by-number}
+use Rattle.fip_tool.specs.Ends.{Reported, status_number}
+use Rattle.fip_tool.specs.Steps.{FailsAtMostOnce, FaultsOnce, NoneFailed, ReadsOnly}
+use Rattle.fip_tool.specs.declared.stops.Stop.{Stop}
+use Rattle.fip_tool.specs.declared.stops.Stop.TheVariants as stop
+
+-- a stop of a part is one of the whole, after parts that failed not once
+pub quiet-as : {X Y : Type 0} (s : Stop) (before between after : ℕ) → between ≡ before → NoneFailed {X = X} (Err s) between after → NoneFailed {X = Y} (Err s) before after
+quiet-as stop.FileFault before between after same h = tt
+quiet-as stop.SinkFault before between after same h = h ∙ same
+quiet-as stop.Usage before between after same h = h ∙ same
+quiet-as (stop.NotFip f) before between after same h = h ∙ same
+quiet-as (stop.NoSuchEntry guid) before between after same h = h ∙ same
+quiet-as (stop.NotPacked f) before between after same h = h ∙ same
+quiet-as (stop.NoManifest f) before between after same h = h ∙ same
+quiet-as stop.TooLong before between after same h = h ∙ same
+quiet-as (stop.NotCapsule f) before between after same h = h ∙ same
+quiet-as stop.NoMemory before between after same h = h ∙ same
+
+pub quiet-then : {X : Type 0} (r : Result X Stop) (before between after : ℕ) → between ≡ before → NoneFailed r between after → NoneFailed r before after
+quiet-then (Ok x) before between after same h = h ∙ same
+quiet-then (Err s) before between after same h = quiet-as s before between after same h
+
+quiet-stop : {X : Type 0} (s : Stop) (before after : ℕ) → after ≡ before → NoneFailed {X = X} (Err s) before after
+quiet-stop stop.FileFault before after same = tt
+quiet-stop stop.SinkFault before after same = same
+quiet-stop stop.Usage before after same = same
+quiet-stop (stop.NotFip f) before after same = same
+quiet-stop (stop.NoSuchEntry guid) before after same = same
+quiet-stop (stop.NotPacked f) before after same = same
+quiet-stop (stop.NoManifest f) before after same = same
+quiet-stop stop.TooLong before after same = same
+quiet-stop (stop.NotCapsule f) before after same = same
+quiet-stop stop.NoMemory before after same = same
+
+pub quiet-still : {X : Type 0} (r : Result X Stop) (before after : ℕ) → after ≡ before → NoneFailed r before after
+quiet-still (Ok x) before after same = same
+quiet-still (Err s) before after same = quiet-stop s before after same
+
+module _ {X : Type 0} {before after : ℕ} {result : Result X Stop} where
+  pub faults-none : after ≡ before → FaultsOnce before after result
+  faults-none same = record { once = omega (arith, same); quiet = quiet-still result before after same }
+
+  -- of the last part, after others that failed not once
+  pub faults-then : {between : ℕ} → between ≡ before → FaultsOnce between after result → FaultsOnce before after result
+  faults-then {between = between} same faults = record { once = omega (arith, same, faults.once); quiet = quiet-then result before between after same faults.quiet }
+
+  pub faults-of : {told now : Option Directory} → ReadsOnly told now before after result → FaultsOnce before after result
+  faults-of reads = record { once = reads.once; quiet = reads.quiet }
+
+pub faults-as : {X Y : Type 0} {before after : ℕ} {s : Stop} → FaultsOnce {X = X} before after (Err s) → FaultsOnce {X = Y} before after (Err s)
+faults-as {before = before} {after = after} {s = s} faults = record { once = faults.once; quiet = quiet-as s before before after refl faults.quiet }
+
+-- ---- and by the exit status
+
+pub fails-done : (status before after : ℕ) → FaultsOnce {X = Unit {0}} before after (Ok tt) → FailsAtMostOnce status before after
+fails-done status before after faults = record { once = faults.once; none = λ other. faults.quiet }
+
+late : (was text : Option (List ℕ)) (rose : Type 0) (now : Stop) (status before after : ℕ) → status ≡ status_number now → Reported was text rose stop.FileFault now
+    → IsFalse ((status == 2) || ((status == 3) || (status == 9))) → after ≡ before
+late was text rose now status before after is (inl a) o = absurd (false≢true (sym (by-number 2 status before after (is ∙ ap status_number a.0) o)))
+late was text rose now status before after is (inr (inl a)) o = absurd (false≢true (sym (by-number 3 status before after (is ∙ ap status_number a.0) o)))
+late was text rose now status before after is (inr (inr a)) o = absurd (false≢true (sym (by-number 9 status before after (is ∙ ap status_number a.0) o)))
+
+none-but : (was text : Option (List ℕ)) (rose : Type 0) (s now : Stop) (status before after : ℕ) → status ≡ status_number now → Reported was text rose s now → NoneFailed {X = Unit {0}} (Err s) before after
+    → IsFalse ((status == 2) || ((status == 3) || (status == 9))) → after ≡ before
+none-but was text rose stop.FileFault now status before after is r h o = late was text rose now status before after is r o
+none-but was text rose stop.SinkFault now status before after is r h o = h
+none-but was text rose stop.Usage now status before after is r h o = h
+none-but was text rose (stop.NotFip f) now status before after is r h o = h
+none-but was text rose (stop.NoSuchEntry guid) now status before after is r h o = h
+none-but was text rose (stop.NotPacked f) now status before after is r h o = h
+none-but was text rose (stop.NoManifest f) now status before after is r h o = h
+none-but was text rose stop.TooLong now status before after is r h o = h
+none-but was text rose (stop.NotCapsule f) now status before after is r h o = h
+none-but was text rose stop.NoMemory now status before after is r h o = h
+
+pub fails-told : (was text : Option (List ℕ)) (rose : Type 0) (s now : Stop) (status before after : ℕ) → status ≡ status_number now → Reported was text rose s now → FaultsOnce {X = Unit {0}} before after (Err s)
+    → FailsAtMostOnce status before after
+fails-told was text rose s now status before after is r faults = record { once = faults.once; none = none-but was text rose s now status before after is r faults.quiet }

@@ -1,0 +1,68 @@
+-- What is written, whatever files there are: files one after the other, each with its text behind it.
+use Rattle.std.specs.Prelude.{◌≡◌, ◌⊎◌, ◌+◌, ◌≤◌, ℕ, zero, suc, List, ◌++◌, Option, Some, None, Result, Ok, Err, length, take}
+use Rattle.std.specs.Io.KnownBytes.{Appends}
+use Rattle.host_io.specs.Calls.{raised}
+use Rattle.fip_words.specs.Order.{Asked, info, info_of_source, create, update, remove, unpack, manifest, capsule, repackage}
+use Rattle.fip_tool.specs.Ends.{exit_status}
+use Rattle.fip_tool.specs.Said.{IsTexts, joined}
+use Rattle.fip_tool.specs.declared.stops.Stop.{Stop}
+
+-- how many files were written after one writing with this result
+abbrev pub written_once : Result (Unit {0}) Stop → ℕ → ℕ
+written_once (Ok done) before = raised before
+written_once (Err s) before = before
+
+-- a count that is n more; it stands still at the greatest u64
+abbrev pub raised_by : ℕ → ℕ → ℕ
+raised_by zero count = count
+raised_by (suc n) count = raised (raised_by n count)
+
+-- as many files were written as there are texts, and all texts were printed
+pub record WroteAll (T : List (List ℕ) → Type 0) (was text : Option (List ℕ)) (before after : ℕ) : Type 0 where
+  pub texts : List (List ℕ)
+  pub are : T texts
+  pub said : Appends was text (joined texts)
+  pub count : after ≡ raised_by (length texts) before
+
+-- as many files were written as texts were printed, or one more, whose text was not printed whole
+pub record WroteSome (T : List (List ℕ) → Type 0) (was text : Option (List ℕ)) (before after : ℕ) : Type 0 where
+  pub texts : List (List ℕ)
+  pub are : T texts
+  pub printed : ℕ
+  pub rest : List ℕ
+  pub said : Appends was text (joined (take printed texts) ++ rest)
+  pub files : ℕ
+  pub few : files ≤ length texts
+  pub least : printed ≤ files
+  pub most : files ≤ printed + 1
+  pub count : after ≡ raised_by files before
+
+-- by the result of a command, whose texts are these where all is done
+abbrev pub Wrote : (List (List ℕ) → Type 0) → Option (List ℕ) → Option (List ℕ) → ℕ → ℕ → Result (Unit {0}) Stop → Type 0
+Wrote T was text before after (Ok done) = WroteAll T was text before after
+Wrote T was text before after (Err s) = (after ≡ before) ⊎ WroteSome T was text before after
+
+-- a listing writes nothing
+abbrev pub WroteFor : Option Asked → Option (List ℕ) → Option (List ℕ) → ℕ → ℕ → Result (Unit {0}) Stop → Type 0
+WroteFor None was text before after result = after ≡ before
+WroteFor (Some (info file)) was text before after result = after ≡ before
+WroteFor (Some info_of_source) was text before after result = after ≡ before
+WroteFor (Some (create align out parts)) was text before after result =
+    Wrote (IsTexts (create align out parts)) was text before after result
+WroteFor (Some (update align from out parts)) was text before after result =
+    Wrote (IsTexts (update align from out parts)) was text before after result
+WroteFor (Some (remove align from out names)) was text before after result =
+    Wrote (IsTexts (remove align from out names)) was text before after result
+WroteFor (Some (unpack from prefix names)) was text before after result =
+    Wrote (IsTexts (unpack from prefix names)) was text before after result
+WroteFor (Some (manifest out security rows)) was text before after result =
+    Wrote (IsTexts (manifest out security rows)) was text before after result
+WroteFor (Some (capsule from out)) was text before after result =
+    Wrote (IsTexts (capsule from out)) was text before after result
+WroteFor (Some (repackage align from out)) was text before after result =
+    Wrote (IsTexts (repackage align from out)) was text before after result
+
+-- and by the exit status; the line of a stop stands behind what was printed
+abbrev pub WroteWith : Option Asked → Option (List ℕ) → Option (List ℕ) → ℕ → ℕ → ℕ → Type 0
+WroteWith asked was text before after status =
+    (result : Result (Unit {0}) Stop) × (status ≡ exit_status result) × WroteFor asked was text before after result
