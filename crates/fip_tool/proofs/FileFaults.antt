@@ -10,37 +10,37 @@ use Rattle.fip_tool.specs.declared.stops.Stop.{Stop}
 use Rattle.fip_tool.specs.declared.stops.Stop.TheVariants as stop
 
 -- a stop of a part is one of the whole, after parts that failed not once
-pub quiet-as : {X Y : Type 0} (s : Stop) (before between after : ℕ) → between ≡ before → NoneFailed {X = X} (Err s) between after → NoneFailed {X = Y} (Err s) before after
-quiet-as stop.FileFault before between after same h = tt
-quiet-as stop.SinkFault before between after same h = h ∙ same
-quiet-as stop.Usage before between after same h = h ∙ same
-quiet-as (stop.NotFip f) before between after same h = h ∙ same
-quiet-as (stop.NoSuchEntry guid) before between after same h = h ∙ same
-quiet-as (stop.NotPacked f) before between after same h = h ∙ same
-quiet-as (stop.NoManifest f) before between after same h = h ∙ same
-quiet-as stop.TooLong before between after same h = h ∙ same
-quiet-as (stop.NotCapsule f) before between after same h = h ∙ same
-quiet-as stop.NoMemory before between after same h = h ∙ same
+pub quiet-as : (X Y : Type 0) (s : Stop) (before between after : ℕ) → between ≡ before → NoneFailed {X = X} (Err s) between after → NoneFailed {X = Y} (Err s) before after
+quiet-as X Y stop.FileFault before between after same h = tt
+quiet-as X Y stop.SinkFault before between after same h = h ∙ same
+quiet-as X Y stop.Usage before between after same h = h ∙ same
+quiet-as X Y (stop.NotFip f) before between after same h = h ∙ same
+quiet-as X Y (stop.NoSuchEntry guid) before between after same h = h ∙ same
+quiet-as X Y (stop.NotPacked f) before between after same h = h ∙ same
+quiet-as X Y (stop.NoManifest f) before between after same h = h ∙ same
+quiet-as X Y stop.TooLong before between after same h = h ∙ same
+quiet-as X Y (stop.NotCapsule f) before between after same h = h ∙ same
+quiet-as X Y stop.NoMemory before between after same h = h ∙ same
 
 pub quiet-then : {X : Type 0} (r : Result X Stop) (before between after : ℕ) → between ≡ before → NoneFailed r between after → NoneFailed r before after
-quiet-then (Ok x) before between after same h = h ∙ same
-quiet-then (Err s) before between after same h = quiet-as s before between after same h
+quiet-then {X = X} (Ok x) before between after same h = h ∙ same
+quiet-then {X = X} (Err s) before between after same h = quiet-as X X s before between after same h
 
-quiet-stop : {X : Type 0} (s : Stop) (before after : ℕ) → after ≡ before → NoneFailed {X = X} (Err s) before after
-quiet-stop stop.FileFault before after same = tt
-quiet-stop stop.SinkFault before after same = same
-quiet-stop stop.Usage before after same = same
-quiet-stop (stop.NotFip f) before after same = same
-quiet-stop (stop.NoSuchEntry guid) before after same = same
-quiet-stop (stop.NotPacked f) before after same = same
-quiet-stop (stop.NoManifest f) before after same = same
-quiet-stop stop.TooLong before after same = same
-quiet-stop (stop.NotCapsule f) before after same = same
-quiet-stop stop.NoMemory before after same = same
+quiet-stop : (X : Type 0) (s : Stop) (before after : ℕ) → after ≡ before → NoneFailed {X = X} (Err s) before after
+quiet-stop X stop.FileFault before after same = tt
+quiet-stop X stop.SinkFault before after same = same
+quiet-stop X stop.Usage before after same = same
+quiet-stop X (stop.NotFip f) before after same = same
+quiet-stop X (stop.NoSuchEntry guid) before after same = same
+quiet-stop X (stop.NotPacked f) before after same = same
+quiet-stop X (stop.NoManifest f) before after same = same
+quiet-stop X stop.TooLong before after same = same
+quiet-stop X (stop.NotCapsule f) before after same = same
+quiet-stop X stop.NoMemory before after same = same
 
 pub quiet-still : {X : Type 0} (r : Result X Stop) (before after : ℕ) → after ≡ before → NoneFailed r before after
-quiet-still (Ok x) before after same = same
-quiet-still (Err s) before after same = quiet-stop s before after same
+quiet-still {X = X} (Ok x) before after same = same
+quiet-still {X = X} (Err s) before after same = quiet-stop X s before after same
 
 module _ {X : Type 0} {before after : ℕ} {result : Result X Stop} where
   pub faults-none : after ≡ before → FaultsOnce before after result
@@ -54,7 +54,7 @@ module _ {X : Type 0} {before after : ℕ} {result : Result X Stop} where
   faults-of reads = record { once = reads.once; quiet = reads.quiet }
 
 pub faults-as : {X Y : Type 0} {before after : ℕ} {s : Stop} → FaultsOnce {X = X} before after (Err s) → FaultsOnce {X = Y} before after (Err s)
-faults-as {before = before} {after = after} {s = s} faults = record { once = faults.once; quiet = quiet-as s before before after refl faults.quiet }
+faults-as {X = X} {Y = Y} {before = before} {after = after} {s = s} faults = record { once = faults.once; quiet = quiet-as X Y s before before after refl faults.quiet }
 
 -- ---- and by the exit status
 

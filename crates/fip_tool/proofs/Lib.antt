@@ -3,6 +3,7 @@ pub mod Converted
 pub mod Did
 pub mod DoneBy
 pub mod Enclosings
+pub mod FileFaults
 pub mod Ending
 pub mod ManifestLemmas
 pub mod Packings
@@ -21,3 +22,4 @@ pub mod UnpackedBy
 pub mod UsageEnds
 pub mod Whole
 pub mod WritingLemmas
+pub mod WroteLemmas

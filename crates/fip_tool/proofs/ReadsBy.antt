@@ -17,6 +17,11 @@ use Rattle.fip_tool.proofs.FileFaults.{quiet-as, quiet-then}
 use Rattle.fip_tool.proofs.Tables.{rose-still}
 use Rattle.fip_tool.proofs.Texts.{err-same}
 
+-- of files that tell nothing none is known to lack
+failed : (told mid : Option Directory) (name : List ℕ) (before between after : ℕ) → mid ≡ told → between ≡ before → Rose between after ⊎ Lacks mid name → told ≡ None → Rose before after
+failed told mid name before between after same quiet (inl rose) untold = rose-still _ _ _ (sym quiet) rose
+failed told mid name before between after same quiet (inr lacks) untold = absurd (subst (λ (o : Option Directory). Lacks o name) (same ∙ untold) lacks)
+
 module _ {X : Type 0} {told now : Option Directory} {before after : ℕ} where
   pub reads-done : {x : X} → now ≡ told → after ≡ before → ReadsOnly told now before after (Ok x)
   reads-done same quiet = record {
@@ -56,11 +61,11 @@ module _ {X : Type 0} {told now : Option Directory} {before after : ℕ} where
   -- and a stop of a part
   pub reads-stopped : {Y : Type 0} {mid : Option Directory} {between : ℕ} {s : Stop} → mid ≡ told → between ≡ before → ReadsOnly {X = Y} mid now between after (Err s)
       → ReadsOnly {X = X} told now before after (Err s)
-  reads-stopped {between = between} {s = s} same quiet reads = record {
+  reads-stopped {Y = Y} {between = between} {s = s} same quiet reads = record {
     same = reads.same ∙ same;
     later = omega (arith, quiet, reads.later);
     once = omega (arith, quiet, reads.once);
-    quiet = quiet-as s before between after quiet reads.quiet;
+    quiet = quiet-as Y X s before between after quiet reads.quiet;
     cause = λ e untold. let is : s ≡ stop.FileFault = cc in rose-still _ _ _ (sym quiet) (reads.cause (err-same is) (same ∙ untold));
     usage = λ e. let is : s ≡ stop.Usage = cc in reads.usage (err-same is);
     sink = λ e. let is : s ≡ stop.SinkFault = cc in reads.sink (err-same is);
@@ -68,10 +73,6 @@ module _ {X : Type 0} {told now : Option Directory} {before after : ℕ} where
 
   -- a table that was not read, of a file that is there where its contents are told
   module _ {mid : Option Directory} {name : List ℕ} {between : ℕ} where
-    failed : mid ≡ told → between ≡ before → Rose between after ⊎ Lacks mid name → told ≡ None → Rose before after
-    failed same quiet (inl rose) untold = rose-still _ _ _ (sym quiet) rose
-    failed same quiet (inr lacks) untold = absurd (subst (λ (o : Option Directory). Lacks o name) (same ∙ untold) lacks)
-
     pub reads-no-table : (s : TocStop) → mid ≡ told → now ≡ mid → between ≡ before → PackageCause {T = Toc} mid name between after (Err s)
         → ReadsOnly {X = X} told now before after (Err (stopped_by s))
     reads-no-table (toc.Fault f) same still quiet h = record {
@@ -88,7 +89,7 @@ module _ {X : Type 0} {told now : Option Directory} {before after : ℕ} where
       later = omega (arith, quiet, h.later);
       once = omega (arith, quiet, h.once);
       quiet = tt;
-      cause = λ e untold. failed same quiet (h.failed refl) untold;
+      cause = λ e untold. failed told mid name before between after same quiet (h.failed refl) untold;
       usage = λ e. absurd cc;
       sink = λ e. absurd cc;
     }
@@ -109,7 +110,7 @@ module _ {X : Type 0} {told now : Option Directory} {before after : ℕ} where
       later = omega (arith, quiet, h.later);
       once = omega (arith, quiet, h.once);
       quiet = tt;
-      cause = λ e untold. failed same quiet (h.failed refl) untold;
+      cause = λ e untold. failed told mid name before between after same quiet (h.failed refl) untold;
       usage = λ e. absurd cc;
       sink = λ e. absurd cc;
     }

@@ -12,12 +12,12 @@ use Rattle.fip_tool.specs.Steps.{IsLate, Printed}
 use Rattle.fip_tool.specs.declared.stops.Stop.{Stop}
 use Rattle.fip_tool.specs.declared.stops.Stop.TheVariants as stop
 
-appends-same : (was text : Option (List ℕ)) → text ≡ was → Appends was text []
+pub appends-same : (was text : Option (List ℕ)) → text ≡ was → Appends was text []
 appends-same was text e = subst (λ (t : Option (List ℕ)). Appends was t []) (sym e) (Appends-nil was)
 
 -- ---- one text
 
-joined-one : (line : List ℕ) → joined (line ∷ []) ≡ line
+pub joined-one : (line : List ℕ) → joined (line ∷ []) ≡ line
 joined-one line = append-nil line
 
 -- a text that was printed is all of its kind

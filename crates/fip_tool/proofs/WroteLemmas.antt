@@ -75,7 +75,9 @@ wrote-as T U was text mid before after (Err s) turns same (inr w) = inr (record 
 -- ---- files one after the other
 
 raised-twice : (m n before : ℕ) → raised_by m (raised_by n before) ≡ raised_by (m + n) before
-raised-twice zero n before = refl
+raised-twice zero n before =
+    let same : n ≡ zero + n = omega arith in
+    ap (λ (k : ℕ). raised_by k before) same
 raised-twice (suc m) n before =
     let next : suc (m + n) ≡ suc m + n = omega arith in
     ap raised (raised-twice m n before) ∙ ap (λ (k : ℕ). raised_by k before) next

@@ -15,8 +15,8 @@ use Rattle.fip_tool.proofs.WroteLemmas.{wrote-as}
 use Rattle.fip_tool.proofs.capsules.run_capsule.Goals as goal
 
 -- the line is of a package that was read, with some size
-texts-are : {from out : List ℕ} (made : Result (ℕ × Vec ℕ Global) Stop) → IfOk made (λ m. (t : Toc) × (m.0 ≡ length t.entries)) → (texts : List (List ℕ)) → IsCapsuleLine made texts → IsTexts (capsule from out) texts
-texts-are made count texts t = let p = capsule-texts made (λ n. (t : Toc) × (n ≡ length t.entries)) count texts t in (p.1.0, p.2, p.3 ∙ ap (λ (n : ℕ). capsule_line n p.2 ∷ []) p.1.1)
+texts-are : (from out : List ℕ) (made : Result (ℕ × Vec ℕ Global) Stop) → IfOk made (λ m. (t : Toc) × (m.0 ≡ length t.entries)) → (texts : List (List ℕ)) → IsCapsuleLine made texts → IsTexts (capsule from out) texts
+texts-are from out made count texts t = let p = capsule-texts made (λ n. (t : Toc) × (n ≡ length t.entries)) count texts t in (p.1.0, p.2, p.3 ∙ ap (λ (n : ℕ). capsule_line n p.2 ∷ []) p.1.1)
 
 pub returns-clause-told : goal.returns-clause-told
 returns-clause-told g c = λ told e.
@@ -24,10 +24,10 @@ returns-clause-told g c = λ told e.
     (c.capsule_of_package-made.ensures.told told e)
 
 pub returns-clause-says : goal.returns-clause-says
-returns-clause-says g c = says-as (IsCapsuleLine c.capsule_of_package-made.result) _ _ _ _ _ c.put_capsule.result (texts-are c.capsule_of_package-made.result c.capsule_of_package-made.ensures.count) (λ r. r) (c.put_capsule.ensures.says c.capsule_of_package-made.ensures.reads.sink)
+returns-clause-says g c = says-as (IsCapsuleLine c.capsule_of_package-made.result) _ _ _ _ _ c.put_capsule.result (texts-are c.args.from.now c.args.out.now c.capsule_of_package-made.result c.capsule_of_package-made.ensures.count) (λ r. r) (c.put_capsule.ensures.says c.capsule_of_package-made.ensures.reads.sink)
 
 pub returns-clause-wrote : goal.returns-clause-wrote
-returns-clause-wrote g c = wrote-as (IsCapsuleLine c.capsule_of_package-made.result) _ _ _ _ _ _ c.put_capsule.result (texts-are c.capsule_of_package-made.result c.capsule_of_package-made.ensures.count) (ap (λ (w : Writes). w.done) c.capsule_of_package-made.ensures.unwritten) c.put_capsule.ensures.wrote
+returns-clause-wrote g c = wrote-as (IsCapsuleLine c.capsule_of_package-made.result) _ _ _ _ _ _ c.put_capsule.result (texts-are c.args.from.now c.args.out.now c.capsule_of_package-made.result c.capsule_of_package-made.ensures.count) (ap (λ (w : Writes). w.done) c.capsule_of_package-made.ensures.unwritten) c.put_capsule.ensures.wrote
 
 pub returns-clause-file_count : goal.returns-clause-file_count
 returns-clause-file_count g c = c.put_capsule.ensures.file_count _ (faults-of c.capsule_of_package-made.ensures.reads)

@@ -15,8 +15,8 @@ use Rattle.fip_tool.proofs.WroteLemmas.{wrote-as}
 use Rattle.fip_tool.proofs.capsules.run_package.Goals as goal
 
 -- the line is of a capsule that was read, with some size
-texts-are : {align : ℕ} {from out : List ℕ} (made : Result (ℕ × Vec ℕ Global) Stop) → IfOk made (λ m. (t : Toc) × (m.0 ≡ length t.entries)) → (texts : List (List ℕ)) → IsPackedLine made texts → IsTexts (repackage align from out) texts
-texts-are made count texts t = let p = packed-texts made (λ n. (t : Toc) × (n ≡ length t.entries)) count texts t in (p.1.0, p.2, p.3 ∙ ap (λ (n : ℕ). packed_line n p.2 ∷ []) p.1.1)
+texts-are : (align : ℕ) (from out : List ℕ) (made : Result (ℕ × Vec ℕ Global) Stop) → IfOk made (λ m. (t : Toc) × (m.0 ≡ length t.entries)) → (texts : List (List ℕ)) → IsPackedLine made texts → IsTexts (repackage align from out) texts
+texts-are align from out made count texts t = let p = packed-texts made (λ n. (t : Toc) × (n ≡ length t.entries)) count texts t in (p.1.0, p.2, p.3 ∙ ap (λ (n : ℕ). packed_line n p.2 ∷ []) p.1.1)
 
 pub returns-clause-told : goal.returns-clause-told
 returns-clause-told g c = λ told e.
@@ -24,10 +24,10 @@ returns-clause-told g c = λ told e.
     (c.package_of_capsule-made.ensures.told told e)
 
 pub returns-clause-says : goal.returns-clause-says
-returns-clause-says g c = says-as (IsPackedLine c.package_of_capsule-made.result) _ _ _ _ _ c.put_made.result (texts-are c.package_of_capsule-made.result c.package_of_capsule-made.ensures.count) (λ r. r) (c.put_made.ensures.says c.package_of_capsule-made.ensures.reads.sink)
+returns-clause-says g c = says-as (IsPackedLine c.package_of_capsule-made.result) _ _ _ _ _ c.put_made.result (texts-are c.args.align c.args.from.now c.args.out.now c.package_of_capsule-made.result c.package_of_capsule-made.ensures.count) (λ r. r) (c.put_made.ensures.says c.package_of_capsule-made.ensures.reads.sink)
 
 pub returns-clause-wrote : goal.returns-clause-wrote
-returns-clause-wrote g c = wrote-as (IsPackedLine c.package_of_capsule-made.result) _ _ _ _ _ _ c.put_made.result (texts-are c.package_of_capsule-made.result c.package_of_capsule-made.ensures.count) (ap (λ (w : Writes). w.done) c.package_of_capsule-made.ensures.unwritten) c.put_made.ensures.wrote
+returns-clause-wrote g c = wrote-as (IsPackedLine c.package_of_capsule-made.result) _ _ _ _ _ _ c.put_made.result (texts-are c.args.align c.args.from.now c.args.out.now c.package_of_capsule-made.result c.package_of_capsule-made.ensures.count) (ap (λ (w : Writes). w.done) c.package_of_capsule-made.ensures.unwritten) c.put_made.ensures.wrote
 
 pub returns-clause-file_count : goal.returns-clause-file_count
 returns-clause-file_count g c = c.put_made.ensures.file_count _ (faults-of c.package_of_capsule-made.ensures.reads)

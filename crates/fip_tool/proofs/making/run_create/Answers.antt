@@ -16,8 +16,8 @@ use Rattle.fip_tool.proofs.WroteLemmas.{wrote-as}
 use Rattle.fip_tool.proofs.making.run_create.Goals as goal
 
 -- the line is of all named files, with some size
-texts-are : {align : ℕ} {out : List ℕ} (made : Result (ℕ × Vec ℕ Global) Stop) (named : List Part) → IfOk made (λ m. m.0 ≡ length named) → (texts : List (List ℕ)) → IsPackedLine made texts → IsTexts (create align out (map part_view named)) texts
-texts-are made named count texts t = let p = packed-texts made (λ n. n ≡ length named) count texts t in (p.2, p.3 ∙ ap (λ (n : ℕ). packed_line n p.2 ∷ []) (p.1 ∙ sym (length-map named part_view)))
+texts-are : (align : ℕ) (out : List ℕ) (made : Result (ℕ × Vec ℕ Global) Stop) (named : List Part) → IfOk made (λ m. m.0 ≡ length named) → (texts : List (List ℕ)) → IsPackedLine made texts → IsTexts (create align out (map part_view named)) texts
+texts-are align out made named count texts t = let p = packed-texts made (λ n. n ≡ length named) count texts t in (p.2, p.3 ∙ ap (λ (n : ℕ). packed_line n p.2 ∷ []) (p.1 ∙ sym (length-map named part_view)))
 
 pub returns-clause-told : goal.returns-clause-told
 returns-clause-told g c = λ told e.
@@ -25,10 +25,10 @@ returns-clause-told g c = λ told e.
     (c.created-made.ensures.told told e)
 
 pub returns-clause-says : goal.returns-clause-says
-returns-clause-says g c = says-as (IsPackedLine c.created-made.result) _ _ _ _ _ c.put_made.result (texts-are c.created-made.result c.args.named.now c.created-made.ensures.count) (λ r. r) (c.put_made.ensures.says c.created-made.ensures.reads.sink)
+returns-clause-says g c = says-as (IsPackedLine c.created-made.result) _ _ _ _ _ c.put_made.result (texts-are c.args.align c.args.out.now c.created-made.result c.args.named.now c.created-made.ensures.count) (λ r. r) (c.put_made.ensures.says c.created-made.ensures.reads.sink)
 
 pub returns-clause-wrote : goal.returns-clause-wrote
-returns-clause-wrote g c = wrote-as (IsPackedLine c.created-made.result) _ _ _ _ _ _ c.put_made.result (texts-are c.created-made.result c.args.named.now c.created-made.ensures.count) (ap (λ (w : Writes). w.done) c.created-made.ensures.unwritten) c.put_made.ensures.wrote
+returns-clause-wrote g c = wrote-as (IsPackedLine c.created-made.result) _ _ _ _ _ _ c.put_made.result (texts-are c.args.align c.args.out.now c.created-made.result c.args.named.now c.created-made.ensures.count) (ap (λ (w : Writes). w.done) c.created-made.ensures.unwritten) c.put_made.ensures.wrote
 
 pub returns-clause-file_count : goal.returns-clause-file_count
 returns-clause-file_count g c = c.put_made.ensures.file_count _ (faults-of c.created-made.ensures.reads)

@@ -16,8 +16,8 @@ use Rattle.fip_tool.proofs.WroteLemmas.{wrote-as}
 use Rattle.fip_tool.proofs.making.run_update.Goals as goal
 
 -- the line is of a package that was read, with some size
-texts-are : {align : ℕ} {from out : List ℕ} (made : Result (ℕ × Vec ℕ Global) Stop) (named : List Part) → IfOk made (λ m. (t : Toc) × (first_missing t (map (λ p. p.guid) (map part_view named)) ≡ None) × (m.0 ≡ length t.entries)) → (texts : List (List ℕ)) → IsPackedLine made texts → IsTexts (update align from out (map part_view named)) texts
-texts-are made named count texts t = let p = packed-texts made (λ n. (t : Toc) × (first_missing t (map (λ p. p.guid) (map part_view named)) ≡ None) × (n ≡ length t.entries)) count texts t in (p.1.0, p.2, p.1.1, p.3 ∙ ap (λ (n : ℕ). packed_line n p.2 ∷ []) p.1.2)
+texts-are : (align : ℕ) (from out : List ℕ) (made : Result (ℕ × Vec ℕ Global) Stop) (named : List Part) → IfOk made (λ m. (t : Toc) × (first_missing t (map (λ p. p.guid) (map part_view named)) ≡ None) × (m.0 ≡ length t.entries)) → (texts : List (List ℕ)) → IsPackedLine made texts → IsTexts (update align from out (map part_view named)) texts
+texts-are align from out made named count texts t = let p = packed-texts made (λ n. (t : Toc) × (first_missing t (map (λ p. p.guid) (map part_view named)) ≡ None) × (n ≡ length t.entries)) count texts t in (p.1.0, p.2, p.1.1, p.3 ∙ ap (λ (n : ℕ). packed_line n p.2 ∷ []) p.1.2)
 
 pub returns-clause-told : goal.returns-clause-told
 returns-clause-told g c = λ told e.
@@ -25,10 +25,10 @@ returns-clause-told g c = λ told e.
     (c.updated-made.ensures.told told e)
 
 pub returns-clause-says : goal.returns-clause-says
-returns-clause-says g c = says-as (IsPackedLine c.updated-made.result) _ _ _ _ _ c.put_made.result (texts-are c.updated-made.result c.args.named.now c.updated-made.ensures.count) (λ r. r) (c.put_made.ensures.says c.updated-made.ensures.reads.sink)
+returns-clause-says g c = says-as (IsPackedLine c.updated-made.result) _ _ _ _ _ c.put_made.result (texts-are c.args.align c.args.from.now c.args.out.now c.updated-made.result c.args.named.now c.updated-made.ensures.count) (λ r. r) (c.put_made.ensures.says c.updated-made.ensures.reads.sink)
 
 pub returns-clause-wrote : goal.returns-clause-wrote
-returns-clause-wrote g c = wrote-as (IsPackedLine c.updated-made.result) _ _ _ _ _ _ c.put_made.result (texts-are c.updated-made.result c.args.named.now c.updated-made.ensures.count) (ap (λ (w : Writes). w.done) c.updated-made.ensures.unwritten) c.put_made.ensures.wrote
+returns-clause-wrote g c = wrote-as (IsPackedLine c.updated-made.result) _ _ _ _ _ _ c.put_made.result (texts-are c.args.align c.args.from.now c.args.out.now c.updated-made.result c.args.named.now c.updated-made.ensures.count) (ap (λ (w : Writes). w.done) c.updated-made.ensures.unwritten) c.put_made.ensures.wrote
 
 pub returns-clause-file_count : goal.returns-clause-file_count
 returns-clause-file_count g c = c.put_made.ensures.file_count _ (faults-of c.updated-made.ensures.reads)
