@@ -1,11 +1,13 @@
 -- What is written, whatever files there are: files one after the other, each with its text behind it.
-use Rattle.std.specs.Prelude.{◌≡◌, ◌⊎◌, ◌+◌, ◌≤◌, ℕ, zero, suc, List, ◌++◌, Option, Some, None, Result, Ok, Err, length, take}
+use Rattle.std.specs.Prelude.{◌≡◌, ◌⊎◌, ◌+◌, ◌<◌, ◌≤◌, ℕ, zero, suc, List, ◌++◌, Option, Some, None, Result, Ok, Err, length, take}
 use Rattle.std.specs.Io.KnownBytes.{Appends}
 use Rattle.host_io.specs.Calls.{raised}
 use Rattle.fip_words.specs.Order.{Asked, info, info_of_source, create, update, remove, unpack, manifest, capsule, repackage}
 use Rattle.fip_tool.specs.Ends.{exit_status}
 use Rattle.fip_tool.specs.Said.{IsTexts, joined}
+use Rattle.fip_tool.specs.Steps.{IsLate}
 use Rattle.fip_tool.specs.declared.stops.Stop.{Stop}
+use Rattle.fip_tool.specs.declared.stops.Stop.TheVariants.{FileFault}
 
 -- how many files were written after one writing with this result
 abbrev pub written_once : Result (Unit {0}) Stop → ℕ → ℕ
@@ -24,23 +26,28 @@ pub record WroteAll (T : List (List ℕ) → Type 0) (was text : Option (List �
   pub said : Appends was text (joined texts)
   pub count : after ≡ raised_by (length texts) before
 
--- as many files were written as texts were printed, or one more, whose text was not printed whole
-pub record WroteSome (T : List (List ℕ) → Type 0) (was text : Option (List ℕ)) (before after : ℕ) : Type 0 where
+-- as many files were written as texts were printed, which are not all, or so many more
+pub record WroteSome (T : List (List ℕ) → Type 0) (more : ℕ) (was text : Option (List ℕ)) (before after : ℕ) : Type 0 where
   pub texts : List (List ℕ)
   pub are : T texts
   pub printed : ℕ
+  pub left : printed < length texts
   pub rest : List ℕ
   pub said : Appends was text (joined (take printed texts) ++ rest)
   pub files : ℕ
-  pub few : files ≤ length texts
   pub least : printed ≤ files
-  pub most : files ≤ printed + 1
+  pub most : files ≤ printed + more
   pub count : after ≡ raised_by files before
 
--- by the result of a command, whose texts are these where all is done
+-- how many files may be written whose text was not printed whole: none where a file's fault is told
+abbrev pub files_ahead : Stop → ℕ
+files_ahead FileFault = 0
+files_ahead s = 1
+
+-- By the result of a command, whose texts are these where all is done. Where it refuses, nothing is written.
 abbrev pub Wrote : (List (List ℕ) → Type 0) → Option (List ℕ) → Option (List ℕ) → ℕ → ℕ → Result (Unit {0}) Stop → Type 0
 Wrote T was text before after (Ok done) = WroteAll T was text before after
-Wrote T was text before after (Err s) = (after ≡ before) ⊎ WroteSome T was text before after
+Wrote T was text before after (Err s) = (after ≡ before) ⊎ (IsLate s × WroteSome T (files_ahead s) was text before after)
 
 -- a listing writes nothing
 abbrev pub WroteFor : Option Asked → Option (List ℕ) → Option (List ℕ) → ℕ → ℕ → Result (Unit {0}) Stop → Type 0

@@ -216,7 +216,7 @@ pub fn fip_top<H: Files, I: Source, O: Sink>(
         ⊎ Rose (I.faults source.old) (I.faults source.new) }
     // A command ends at the first call of the files that fails, whatever files there are.
     ensures file_count { FailsAtMostOnce result (H.faults files.old) (H.faults files.new) }
-    // What is written, whatever files there are: each file once, with its line behind it, and nothing by a listing.
+    // What is written, whatever files there are: each file once, with its line behind it, and nothing by a listing or a refusal.
     ensures wrote { WroteWith (asked (map string_bytes words.now)) (O.taken sink.old)
         (O.taken sink.new) (H.writes files.old).done (H.writes files.new).done result }
     // Usage is answered exactly by the words, whatever files there are.

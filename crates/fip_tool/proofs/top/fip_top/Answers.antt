@@ -13,7 +13,7 @@ use Rattle.fip_tool.specs.declared.stops.Stop.{Stop}
 use Rattle.fip_tool.proofs.SinkFaults.{counted, reported-sink}
 use Rattle.fip_tool.proofs.SourceFaults.{fails-once, none-failed}
 use Rattle.fip_tool.proofs.FileFaults.{fails-done, fails-told}
-use Rattle.fip_tool.proofs.WroteLemmas.{reported-tail, wrote-longer}
+use Rattle.fip_tool.proofs.WroteLemmas.{reported-tail, still-late, wrote-longer}
 use Rattle.fip_tool.proofs.top.fip_top.Goals as goal
 
 pub returns-in-Ok-clause-told : goal.returns-in-Ok-clause-told
@@ -107,5 +107,5 @@ returns-in-Err-clause-wrote g c =
     let tail = reported-tail _ _ _ c.in-Err.stop c.report.result c.report.ensures.reported in (
       Err c.report.result,
       c.status.ensures,
-      wrote-longer (asked (map string_bytes c.args.words.now)) _ _ _ tail.0 _ _ c.in-Err.stop c.report.result tail.1 c.in-Err.ensures.wrote,
+      wrote-longer (asked (map string_bytes c.args.words.now)) _ _ _ tail.0 _ _ c.in-Err.stop c.report.result (still-late _ _ _ c.in-Err.stop c.report.result c.report.ensures.reported) tail.1 c.in-Err.ensures.wrote,
     )
