@@ -116,6 +116,7 @@ fn carry_out<D: Flash, H: Files, V: Verifier>(
         (D.counts flash.old) (D.counts flash.new) }
     ensures stops { IsEarly result → ⊥ }
     ensures same { H.contents files.new ≡ H.contents files.old }
+    ensures unwritten { H.writes files.new ≡ H.writes files.old }
     ensures reads { ReadsBy (H.contents files.old) name.now (H.faults files.old)
         (H.faults files.new) result }
 {
@@ -199,6 +200,7 @@ pub fn format<D: Flash, H: Files, V: Verifier>(
     ensures unarmed { StaysUnarmed (flash_result result) (D.arming flash.old) (D.arming flash.new)
         (D.counts flash.old) (D.counts flash.new) }
     ensures same { H.contents files.new ≡ H.contents files.old }
+    ensures unwritten { H.writes files.new ≡ H.writes files.old }
     ensures reads { ReadsBy (H.contents files.old) name.now (H.faults files.old)
         (H.faults files.new) result }
 {

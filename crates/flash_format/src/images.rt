@@ -38,6 +38,7 @@ fn read_piece<H: Files>(
     ensures erased { IfOk result (λ n. Erased n 4096 out.new) }
     ensures buffer { length out.new ≡ 4096 }
     ensures same { H.contents files.new ≡ H.contents files.old }
+    ensures unwritten { H.writes files.new ≡ H.writes files.old }
     ensures cause { HasCause (H.faults files.old) (H.faults files.new) result }
 {
     let size = (entry.size - done).min(4096) as usize;
@@ -76,6 +77,7 @@ fn write_piece<D: Flash, H: Files>(
     ensures unarmed { StaysUnarmed (flash_result result) (D.arming flash.old) (D.arming flash.new)
         (D.counts flash.old) (D.counts flash.new) }
     ensures same { H.contents files.new ≡ H.contents files.old }
+    ensures unwritten { H.writes files.new ≡ H.writes files.old }
     ensures reads { ReadsBy (H.contents files.old) name.now (H.faults files.old)
         (H.faults files.new) result }
     ensures stops { RefusesNothing result }
@@ -120,6 +122,7 @@ pub fn write_image<D: Flash, H: Files>(
     ensures unarmed { StaysUnarmed (flash_result result) (D.arming flash.old) (D.arming flash.new)
         (D.counts flash.old) (D.counts flash.new) }
     ensures same { H.contents files.new ≡ H.contents files.old }
+    ensures unwritten { H.writes files.new ≡ H.writes files.old }
     ensures reads { ReadsBy (H.contents files.old) name.now (H.faults files.old)
         (H.faults files.new) result }
     ensures stops { RefusesNothing result }

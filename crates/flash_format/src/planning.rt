@@ -28,6 +28,7 @@ fn plan_of<H: Files>(files: &mut H, name: &str, layout: Layout) -> Result<Plan, 
     ensures other { IsOfLayout result → ⊥ }
     ensures stops { IfErr result StopsEarly }
     ensures same { H.contents files.new ≡ H.contents files.old }
+    ensures unwritten { H.writes files.new ≡ H.writes files.old }
     ensures reads { ReadsBy (H.contents files.old) name.now (H.faults files.old)
         (H.faults files.new) result }
 {
@@ -63,6 +64,7 @@ pub fn plan<H: Files>(
         (result ≡ Err FileFailed) }
     ensures stops { IfErr result StopsEarly }
     ensures same { H.contents files.new ≡ H.contents files.old }
+    ensures unwritten { H.writes files.new ≡ H.writes files.old }
     ensures reads { ReadsBy (H.contents files.old) name.now (H.faults files.old)
         (H.faults files.new) result }
 {

@@ -21,6 +21,7 @@ pub fn read_table<H: Files>(files: &mut H, name: &str) -> Result<Toc, FormatStop
     ensures there { IfOk result (λ toc. Lacks (H.contents files.old) name.now → ⊥) }
     ensures ends { IfOk result (λ toc. All (λ e. e.offset + e.size < 2 ^ 64) toc.entries) }
     ensures same { H.contents files.new ≡ H.contents files.old }
+    ensures unwritten { H.writes files.new ≡ H.writes files.old }
     ensures reads { ReadsBy (H.contents files.old) name.now (H.faults files.old)
         (H.faults files.new) result }
 {

@@ -19,5 +19,6 @@ invariant-loop-k g l = record {
   costs : Spends {T = Unit {0}} (Ok tt) (g.D.Flash.counts l.fn.flash) (g.D.Flash.counts l.flash);
   unarmed : StaysUnarmed {T = Unit {0}} (Ok tt) (g.D.Flash.arming l.fn.flash) (g.D.Flash.arming l.flash) (g.D.Flash.counts l.fn.flash) (g.D.Flash.counts l.flash);
   same : g.H.Files.contents l.files ≡ g.H.Files.contents l.fn.files;
+  unwritten : g.H.Files.writes l.files ≡ g.H.Files.writes l.fn.files;
   later : g.H.Files.faults l.fn.files ≤ g.H.Files.faults l.files;
 }

@@ -48,5 +48,6 @@ loop-k-preserved g c =
       costs = spends_then (Ok tt) (Ok tt) _ _ _ before.costs done.costs;
       unarmed = unarmed_then _ _ _ _ (g.D.Flash.counts c.args.flash.now) (g.D.Flash.counts c.loop-k.flash) (g.D.Flash.counts c.write_piece.new.flash) before.unarmed done.unarmed;
       same = done.same ∙ before.same;
+      unwritten = done.unwritten ∙ before.unwritten;
       later = omega (arith, before.later, done.reads.later);
     }
