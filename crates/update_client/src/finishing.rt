@@ -64,6 +64,7 @@ pub fn install<D: Flash, H: Files, V: Verifier>(
     ensures spent { SpentBy (flash_of result) agent.old agent.new }
     ensures buffer { length buf.new ≡ length buf.old }
     ensures same { H.contents files.new ≡ H.contents files.old }
+    ensures unwritten { H.writes files.new ≡ H.writes files.old }
     ensures reads { ReadsBy (H.faults files.old) (H.faults files.new) result }
 {
     match send_images(agent, files, name, entries, acceptance, buf) {

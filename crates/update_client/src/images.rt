@@ -42,6 +42,7 @@ pub fn send_image<D: Flash, H: Files>(
     ensures spent { SpentBy (flash_of result) agent.old agent.new }
     ensures buffer { length buf.new ≡ length buf.old }
     ensures same { H.contents files.new ≡ H.contents files.old }
+    ensures unwritten { H.writes files.new ≡ H.writes files.old }
     ensures reads { ReadsBy (H.faults files.old) (H.faults files.new) result }
 {
     match agent.open(guid, Op::Write) {
@@ -82,6 +83,7 @@ pub fn send_images<D: Flash, H: Files>(
     ensures spent { SpentBy (flash_of result) agent.old agent.new }
     ensures buffer { length buf.new ≡ length buf.old }
     ensures same { H.contents files.new ≡ H.contents files.old }
+    ensures unwritten { H.writes files.new ≡ H.writes files.old }
     ensures reads { ReadsBy (H.faults files.old) (H.faults files.new) result }
 {
     for k in 0..entries.len() {

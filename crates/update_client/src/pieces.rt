@@ -69,6 +69,7 @@ fn write_piece<D: Flash, H: Files>(
     ensures spent { SpentBy (flash_of result) agent.old agent.new }
     ensures buffer { length buf.new ≡ length buf.old }
     ensures same { H.contents files.new ≡ H.contents files.old }
+    ensures unwritten { H.writes files.new ≡ H.writes files.old }
     ensures reads { ReadsBy (H.faults files.old) (H.faults files.new) result }
 {
     let size = (entry.size - at).min(buf.len() as u64) as usize;
@@ -105,6 +106,7 @@ pub fn write_image<D: Flash, H: Files>(
     ensures spent { SpentBy (flash_of result) agent.old agent.new }
     ensures buffer { length buf.new ≡ length buf.old }
     ensures same { H.contents files.new ≡ H.contents files.old }
+    ensures unwritten { H.writes files.new ≡ H.writes files.old }
     ensures reads { ReadsBy (H.faults files.old) (H.faults files.new) result }
 {
     let mut at = 0;

@@ -87,6 +87,7 @@ pub fn send<D: Flash, H: Files, V: Verifier>(
         (D.counts (device agent.old)) (D.counts (device agent.new)) }
     ensures buffer { length buf.new ≡ length buf.old }
     ensures same { H.contents files.new ≡ H.contents files.old }
+    ensures unwritten { H.writes files.new ≡ H.writes files.old }
     ensures reads { ReadsBy (H.faults files.old) (H.faults files.new) result }
 {
     let entries = match choose(agent.rows(), toc) {

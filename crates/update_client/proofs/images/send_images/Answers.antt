@@ -18,6 +18,7 @@ loop-k-init g c = record {
   spent = none-spent _ _ _ _ _ c.requires.here (c.args.agent.now.power c.requires.here);
   buffer = refl;
   same = refl;
+  unwritten = refl;
   later = omega arith;
 }
 
@@ -44,6 +45,7 @@ loop-k-preserved g c =
       spent = spent-then (Ok tt) _ _ _ _ _ _ _ _ _ _ _ _ _ before.spent c.in-Ok.ensures.spent;
       buffer = c.in-Ok.ensures.buffer ∙ before.buffer;
       same = c.in-Ok.ensures.same ∙ before.same;
+      unwritten = c.in-Ok.ensures.unwritten ∙ before.unwritten;
       later = omega (arith, before.later, c.in-Ok.ensures.reads.later);
     }
 

@@ -21,6 +21,7 @@ loop-at-init g c = record {
   spent = none-spent _ _ _ _ _ c.requires.here (c.args.agent.now.power c.requires.here);
   buffer = refl;
   same = refl;
+  unwritten = refl;
   later = omega arith;
 }
 
@@ -36,6 +37,7 @@ loop-at-preserved g c =
       spent = spent-then (Ok tt) _ _ _ _ _ _ _ _ _ _ _ _ _ before.spent c.in-Ok.ensures.spent;
       buffer = c.in-Ok.ensures.buffer ∙ before.buffer;
       same = c.in-Ok.ensures.same ∙ before.same;
+      unwritten = c.in-Ok.ensures.unwritten ∙ before.unwritten;
       later = omega (arith, before.later, c.in-Ok.ensures.reads.later);
     }
 

@@ -16,6 +16,7 @@ invariant-loop-at g l = record {
       (g.D.Flash.counts (device l.agent));
   buffer : length l.buf ≡ length l.fn.buf;
   same : g.H.Files.contents l.files ≡ g.H.Files.contents l.fn.files;
+  unwritten : g.H.Files.writes l.files ≡ g.H.Files.writes l.fn.files;
   later : g.H.Files.faults l.fn.files ≤ g.H.Files.faults l.files;
 }
 
