@@ -96,6 +96,7 @@ fn send_by<D: Flash, H: Files, V: Verifier>(
         → D.on (device result.powered) ≡ has_power result.powered }
     ensures size { D.blocks (device result.powered) ≡ D.blocks (agent_device live.agent) }
     ensures same { H.contents files.new ≡ H.contents files.old }
+    ensures unwritten { H.writes files.new ≡ H.writes files.old }
     ensures short { IsShort (turn result.turn).reply }
 {
     let mut agent = live.agent;
@@ -128,6 +129,7 @@ pub fn send_turn<D: Flash, H: Files, V: Verifier>(
         → D.on (device result.powered) ≡ has_power result.powered }
     ensures size { D.blocks (device result.powered) ≡ D.blocks (agent_device live.agent) }
     ensures same { H.contents files.new ≡ H.contents files.old }
+    ensures unwritten { H.writes files.new ≡ H.writes files.old }
     ensures missing { Lacks (H.contents files.old) (string_bytes name)
         → (turn result.turn).reply ≡ model.ReadFault }
     ensures short { IsShort (turn result.turn).reply }

@@ -35,6 +35,7 @@ fn is_capsule<H: Files>(files: &mut H, name: &str) -> Result<bool, TableStop>
     ensures there { IfOk result (λ found. Lacks (H.contents files.old) name.now → ⊥) }
     ensures stops { IfErr result (λ why. why ≡ stop.ReadFailed) }
     ensures same { H.contents files.new ≡ H.contents files.old }
+    ensures unwritten { H.writes files.new ≡ H.writes files.old }
     ensures cause { HasTableCause (H.contents files.old) name.now (H.faults files.old)
         (H.faults files.new) result }
 {
@@ -62,6 +63,7 @@ fn package_table<H: Files>(files: &mut H, name: &str) -> Result<Toc, TableStop>
     ensures there { IfOk result (λ toc. Lacks (H.contents files.old) name.now → ⊥) }
     ensures missing { Lacks (H.contents files.old) name.now → result ≡ Err stop.ReadFailed }
     ensures same { H.contents files.new ≡ H.contents files.old }
+    ensures unwritten { H.writes files.new ≡ H.writes files.old }
     ensures cause { HasTableCause (H.contents files.old) name.now (H.faults files.old)
         (H.faults files.new) result }
 {
@@ -82,6 +84,7 @@ fn capsule_table<H: Files>(files: &mut H, name: &str) -> Result<Toc, TableStop>
     ensures there { IfOk result (λ toc. Lacks (H.contents files.old) name.now → ⊥) }
     ensures missing { Lacks (H.contents files.old) name.now → result ≡ Err stop.ReadFailed }
     ensures same { H.contents files.new ≡ H.contents files.old }
+    ensures unwritten { H.writes files.new ≡ H.writes files.old }
     ensures cause { HasTableCause (H.contents files.old) name.now (H.faults files.old)
         (H.faults files.new) result }
 {
@@ -106,6 +109,7 @@ pub fn read_table<H: Files>(files: &mut H, name: &str) -> Result<Toc, TableStop>
     ensures there { IfOk result (λ toc. Lacks (H.contents files.old) name.now → ⊥) }
     ensures missing { Lacks (H.contents files.old) name.now → result ≡ Err stop.ReadFailed }
     ensures same { H.contents files.new ≡ H.contents files.old }
+    ensures unwritten { H.writes files.new ≡ H.writes files.old }
     ensures cause { HasTableCause (H.contents files.old) name.now (H.faults files.old)
         (H.faults files.new) result }
 {

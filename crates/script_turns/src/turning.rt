@@ -42,6 +42,7 @@ fn live_turn<D: Flash, H: Files, V: Verifier>(
         → D.on (device result.powered) ≡ has_power result.powered }
     ensures size { D.blocks (device result.powered) ≡ D.blocks (device powered) }
     ensures same { H.contents files.new ≡ H.contents files.old }
+    ensures unwritten { H.writes files.new ≡ H.writes files.old }
     ensures files { IsFalse (is_send (shown call)) → files.new ≡ files.old }
     ensures idle { shown_on powered ≡ None → files.new ≡ files.old }
     // A file that is not there.
@@ -89,6 +90,7 @@ pub fn turn<D: Flash, H: Files, V: Verifier>(
         → D.on (device result.powered) ≡ has_power result.powered }
     ensures size { D.blocks (device result.powered) ≡ D.blocks (device powered) }
     ensures same { H.contents files.new ≡ H.contents files.old }
+    ensures unwritten { H.writes files.new ≡ H.writes files.old }
     ensures files { IsFalse (is_send (shown call)) → files.new ≡ files.old }
     ensures idle { shown_on powered ≡ None → files.new ≡ files.old }
     // A file that is not there.
