@@ -64,6 +64,7 @@ fn run_text<D: Flash, H: Files, O: Sink, V: Verifier>(
         → files.new ≡ files.old }
     ensures later_files { H.faults files.old ≤ H.faults files.new }
     ensures same_files { H.contents files.new ≡ H.contents files.old }
+    ensures unwritten { H.writes files.new ≡ H.writes files.old }
     ensures note { IsFalse (is_beyond result.note) }
     ensures later { O.faults sink.old ≤ O.faults sink.new }
     ensures size { D.blocks result.flash ≡ D.blocks flash }
@@ -114,6 +115,7 @@ fn run_source<D: Flash, H: Files, I: Source, O: Sink, V: Verifier>(
     ensures note { IsFalse (is_beyond result.note) }
     ensures later_files { H.faults files.old ≤ H.faults files.new }
     ensures same_files { H.contents files.new ≡ H.contents files.old }
+    ensures unwritten { H.writes files.new ≡ H.writes files.old }
     ensures unsent { IsTrue (sends_none (calls_of (turns result.journal)))
         → files.new ≡ files.old }
     ensures later_source { I.faults source.old ≤ I.faults source.new }
@@ -160,6 +162,7 @@ fn run_text_by_table<D: Flash, H: Files, O: Sink, V: Verifier>(
         → files.new ≡ files.old }
     ensures later_files { H.faults files.old ≤ H.faults files.new }
     ensures same_files { H.contents files.new ≡ H.contents files.old }
+    ensures unwritten { H.writes files.new ≡ H.writes files.old }
     ensures later { O.faults sink.old ≤ O.faults sink.new }
     ensures size { D.blocks result.flash ≡ D.blocks flash }
 {
@@ -200,6 +203,7 @@ fn run_source_by_table<D: Flash, H: Files, I: Source, O: Sink, V: Verifier>(
         }) }
     ensures later_files { H.faults files.old ≤ H.faults files.new }
     ensures same_files { H.contents files.new ≡ H.contents files.old }
+    ensures unwritten { H.writes files.new ≡ H.writes files.old }
     ensures unsent { IsTrue (sends_none (calls_of (turns result.journal)))
         → files.new ≡ files.old }
     ensures later_source { I.faults source.old ≤ I.faults source.new }
@@ -238,6 +242,7 @@ pub fn answer_with<D: Flash, H: Files, I: Source, O: Sink, V: Verifier>(
         (faults_of H.faults I.faults O.faults files.new source.new sink.new) files.old files.new
         source.old source.new }
     ensures same_files { H.contents files.new ≡ H.contents files.old }
+    ensures unwritten { H.writes files.new ≡ H.writes files.old }
     ensures size { D.blocks result.flash ≡ D.blocks flash }
 {
     match fwu_order(alloc, words) {
@@ -296,6 +301,7 @@ fn run_listed<D: Flash, H: Files, I: Source, O: Sink>(
         (faults_of H.faults I.faults O.faults files.new source.new sink.new) files.old files.new
         source.old source.new) }
     ensures same_files { H.contents files.new ≡ H.contents files.old }
+    ensures unwritten { H.writes files.new ≡ H.writes files.old }
     ensures size { D.blocks result.flash ≡ D.blocks flash }
 {
     let bytes = match read_file(alloc, files, name) {
@@ -336,6 +342,7 @@ pub fn answer<D: Flash, H: Files, I: Source, O: Sink>(
         (faults_of H.faults I.faults O.faults files.new source.new sink.new) files.old files.new
         source.old source.new) }
     ensures same_files { H.contents files.new ≡ H.contents files.old }
+    ensures unwritten { H.writes files.new ≡ H.writes files.old }
     ensures size { D.blocks result.flash ≡ D.blocks flash }
 {
     match allow_of(words) {

@@ -59,6 +59,7 @@ pub fn try_format<D: Flash, H: Files, V: Verifier>(
         result }
     ensures power { D.on flash.new ≡ is_ok (flash_result result) }
     ensures same { H.contents files.new ≡ H.contents files.old }
+    ensures unwritten { H.writes files.new ≡ H.writes files.old }
     ensures later { H.faults files.old ≤ H.faults files.new }
     ensures size { D.blocks flash.new ≡ D.blocks flash.old }
 {
@@ -95,6 +96,7 @@ pub fn format_flash<D: Flash, H: Files, O: Sink, V: Verifier>(
     ensures power { result.status ≡ 0 → IsTrue (D.on result.flash) }
     ensures no_turns { turns result.journal ≡ [] }
     ensures same { H.contents files.new ≡ H.contents files.old }
+    ensures unwritten { H.writes files.new ≡ H.writes files.old }
     ensures later_files { H.faults files.old ≤ H.faults files.new }
     ensures later_sink { O.faults sink.old ≤ O.faults sink.new }
     ensures size { D.blocks result.flash ≡ D.blocks flash }

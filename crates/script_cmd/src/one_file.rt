@@ -1,6 +1,6 @@
 //! One file in memory, none of whose calls fails.
 ghost use Rattle.std.specs.Prelude.{◌≡◌, ◌+◌, ◌≤◌, true, refl, [], ◌∷◌, Some, Err, IfOk, OnOk, OnErr, length, string_bytes, vec_capacity, vec_len};
-ghost use Rattle.host_io.specs.Calls.{failures, write_failures};
+ghost use Rattle.host_io.specs.Calls.{failures, write_failures, writes_after};
 ghost use Rattle.host_io.specs.Causes.{HasCause, HasWriteCause};
 ghost use Rattle.host_io.specs.Contents.{AddsRange, ChangesOnly, HasRange, Holds, TellsRange, TellsSize, bytes_in};
 ghost use Rattle.host_io.specs.declared.stops.WriteStop.TheVariants as stop;

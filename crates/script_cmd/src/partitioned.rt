@@ -82,6 +82,7 @@ fn run_mapped<D: Flash, K: Start, H: Files, O: Sink, V: Verifier>(
         (seen_at places (at on (D.told result.flash) (D.counts result.flash)
         (D.arming result.flash) (D.on result.flash))) (H.faults files.old) (H.faults files.new) }
     ensures same_files { H.contents files.new ≡ H.contents files.old }
+    ensures unwritten { H.writes files.new ≡ H.writes files.old }
     ensures files { IsTrue (sends_none script) → files.new ≡ files.old }
     ensures unsent { IsTrue (sends_none (calls_of (turns result.journal)))
         → files.new ≡ files.old }
@@ -120,6 +121,7 @@ fn run_at<D: Flash, H: Files, O: Sink, V: Verifier>(
         (seen_at places (at on (D.told result.flash) (D.counts result.flash)
         (D.arming result.flash) (D.on result.flash))) (H.faults files.old) (H.faults files.new) }
     ensures same_files { H.contents files.new ≡ H.contents files.old }
+    ensures unwritten { H.writes files.new ≡ H.writes files.old }
     ensures files { IsTrue (sends_none script) → files.new ≡ files.old }
     ensures unsent { IsTrue (sends_none (calls_of (turns result.journal)))
         → files.new ≡ files.old }
@@ -160,6 +162,7 @@ pub fn run_by_table<D: Flash, H: Files, O: Sink, V: Verifier>(
     ensures later { O.faults sink.old ≤ O.faults sink.new }
     ensures later_files { H.faults files.old ≤ H.faults files.new }
     ensures same_files { H.contents files.new ≡ H.contents files.old }
+    ensures unwritten { H.writes files.new ≡ H.writes files.old }
     ensures files { IsTrue (sends_none script) → files.new ≡ files.old }
     ensures unsent { IsTrue (sends_none (calls_of (turns result.journal)))
         → files.new ≡ files.old }

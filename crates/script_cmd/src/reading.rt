@@ -82,6 +82,7 @@ pub fn read_file<H: Files>(alloc: Global, files: &mut H, name: &str) -> Result<V
         (λ bytes. (directory : Directory) → H.contents files.old ≡ Some directory
         → directory name.now ≡ Some bytes.items) }
     ensures same { H.contents files.new ≡ H.contents files.old }
+    ensures unwritten { H.writes files.new ≡ H.writes files.old }
     ensures later { H.faults files.old ≤ H.faults files.new }
     ensures quiet { IfOk result (λ bytes. H.faults files.new ≡ H.faults files.old) }
     ensures failed { result ≡ Err FileStop.Failed

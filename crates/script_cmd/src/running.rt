@@ -117,6 +117,7 @@ fn step<D: Flash, H: Files, O: Sink, V: Verifier>(
     ensures line_fits { LINE_ROOM ≤ vec_capacity result.running.text }
     ensures size { D.blocks (device result.running.powered) ≡ D.blocks (device running.powered) }
     ensures same_files { H.contents files.new ≡ H.contents files.old }
+    ensures unwritten { H.writes files.new ≡ H.writes files.old }
     ensures files { IsFalse (is_send (shown call)) → files.new ≡ files.old }
 {
     let Running {
@@ -189,6 +190,7 @@ pub fn run_script<D: Flash, H: Files, O: Sink, V: Verifier>(
         (O.taken sink.new) (O.faults sink.old) (O.faults sink.new) }
     ensures size { D.blocks result.flash ≡ D.blocks (device start) }
     ensures same_files { H.contents files.new ≡ H.contents files.old }
+    ensures unwritten { H.writes files.new ≡ H.writes files.old }
     ensures files { IsTrue (sends_none script) → files.new ≡ files.old }
     // Where no turn is a `send`, no file was read.
     ensures unsent { IsTrue (sends_none (calls_of (turns result.journal)))

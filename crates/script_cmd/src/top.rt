@@ -128,7 +128,9 @@ pub fn fwu_top_with<D: Flash, H: Files, I: Source, O: Sink, V: Verifier>(
     // What was given is noted by `format` and `soak` alone, and what a table lacks with `--gpt` alone.
     ensures note { IsFalse (asks_beyond (asked (map string_bytes words.now)))
         → IsFalse (is_beyond result.note) }
+    // Files that are told stay as they are, and none is written, whatever files there are.
     ensures same_files { H.contents files.new ≡ H.contents files.old }
+    ensures unwritten { H.writes files.new ≡ H.writes files.old }
     ensures size { D.blocks result.flash ≡ D.blocks flash }
 {
     answer_with(alloc, words, files, source, sink, flash, verifier)
@@ -271,7 +273,9 @@ pub fn fwu_top<D: Flash, H: Files, I: Source, O: Sink>(
     // What was given is noted by `format` and `soak` alone, and what a table lacks with `--gpt` alone.
     ensures note { IsFalse (asks_beyond (asked_with_list (map string_bytes words.now)))
         → IsFalse (is_beyond result.note) }
+    // Files that are told stay as they are, and none is written, whatever files there are.
     ensures same_files { H.contents files.new ≡ H.contents files.old }
+    ensures unwritten { H.writes files.new ≡ H.writes files.old }
     ensures size { D.blocks result.flash ≡ D.blocks flash }
 {
     answer(alloc, words, files, source, sink, flash)

@@ -35,6 +35,7 @@ loop-index-init g c =
       line_fits = omega (arith, c.requires.line_fits);
       size = refl;
       same_files = refl;
+      unwritten = refl;
       files = λ none. refl;
       unsent = λ none. refl;
     }
@@ -53,6 +54,7 @@ loop-index-preserved g c =
       line_fits = c.step-after.ensures.line_fits;
       size = c.step-after.ensures.size ∙ was.size;
       same_files = c.step-after.ensures.same_files ∙ was.same_files;
+      unwritten = c.step-after.ensures.unwritten ∙ was.unwritten;
       files = λ none. c.step-after.ensures.files (reads-none c.args.script c.loop-index.index taken_call none at_call) ∙ was.files none;
       unsent = λ none.
           let step = c.step-after.ensures.steps in

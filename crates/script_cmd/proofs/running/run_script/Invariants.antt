@@ -22,6 +22,7 @@ invariant-loop-index g l = record {
   line_fits : LINE_ROOM ≤ vec_capacity l.running.text;
   size : g.D.Flash.blocks (device l.running.powered) ≡ g.D.Flash.blocks (device l.fn.start);
   same_files : g.H.Files.contents l.files ≡ g.H.Files.contents l.fn.files;
+  unwritten : g.H.Files.writes l.files ≡ g.H.Files.writes l.fn.files;
   files : IsTrue (sends_none l.fn.script) → l.files ≡ l.fn.files;
   unsent : IsTrue (sends_none (calls_of (turns l.running.journal))) → l.files ≡ l.fn.files;
 }
