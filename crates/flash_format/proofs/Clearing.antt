@@ -71,6 +71,17 @@ left_below result count at bytes t above fits b below image =
 pub only_same : (s : Told) → OnlyErased s s
 only_same s = record { now = λ b below. inl refl; left = left_same 8 s }
 
+pub only_then : (s t u : Told) → OnlyErased s t → OnlyErased t u → OnlyErased s u
+only_then s t u first second = record {
+  now = λ b below. at b (second.now b below) (first.now b below);
+  left = left_then 8 s t u first.left second.left;
+}
+  where
+    at : (b : ℕ) → (block b u.now ≡ block b t.now) ⊎ (block b u.now ≡ blank 4096) → (block b t.now ≡ block b s.now) ⊎ (block b t.now ≡ blank 4096) → (block b u.now ≡ block b s.now) ⊎ (block b u.now ≡ blank 4096)
+    at b (inr is) old = inr is
+    at b (inl is) (inl old) = inl (is ∙ old)
+    at b (inl is) (inr old) = inr (is ∙ old)
+
 -- block b after an erase of block i
 module _ (i : ℕ) (t : Told) (room : 32768 ≤ length t.now) (inside : 4096 * i + 4096 ≤ length t.now) where
   fits : 4096 * i + length (blank 4096) ≤ length t.now
@@ -101,27 +112,14 @@ module _ (i : ℕ) (t : Told) (room : 32768 ≤ length t.now) (inside : 4096 * i
   ]
 
   pub only_erase : {T E : Type 0} (result : Result T E) (s : Told) → OnlyErased s t → OnlyErased s (written result (4096 * i) (blank 4096) t)
-  only_erase result s before = record {
-    now = λ b below. both b (now_erased result b below) (before.now b below);
-    left = left_then 8 s t (written result (4096 * i) (blank 4096) t) before.left (left_erased result);
-  }
-    where
-      both : (b : ℕ) → (block b (written result (4096 * i) (blank 4096) t).now ≡ block b t.now) ⊎ (block b (written result (4096 * i) (blank 4096) t).now ≡ blank 4096) → (block b t.now ≡ block b s.now) ⊎ (block b t.now ≡ blank 4096)
-          → (block b (written result (4096 * i) (blank 4096) t).now ≡ block b s.now) ⊎ (block b (written result (4096 * i) (blank 4096) t).now ≡ blank 4096)
-      both b (inr is) old = inr is
-      both b (inl is) (inl old) = inl (is ∙ old)
-      both b (inl is) (inr old) = inr (is ∙ old)
+  only_erase result s before = only_then s t (written result (4096 * i) (blank 4096) t) before (record { now = λ b below. now_erased result b below; left = left_erased result })
 
 -- only blocks above the first eight were written
 pub only_above : (high : ℕ) (s t u : Told) → 32768 ≤ length t.now → OnlyErased s t → Keeps 32768 high t u → LeavesNoMore 8 t u → OnlyErased s u
-only_above high s t u room before keeps left = record {
-  now = λ b below. at b (now_kept b 32768 high t u (omega arith) (inl (omega arith)) keeps) (before.now b below);
-  left = left_then 8 s t u before.left left;
-}
-  where
-    at : (b : ℕ) → block b u.now ≡ block b t.now → (block b t.now ≡ block b s.now) ⊎ (block b t.now ≡ blank 4096) → (block b u.now ≡ block b s.now) ⊎ (block b u.now ≡ blank 4096)
-    at b same (inl old) = inl (same ∙ old)
-    at b same (inr old) = inr (same ∙ old)
+only_above high s t u room before keeps left = only_then s t u before (record {
+  now = λ b below. inl (now_kept b 32768 high t u (omega arith) (inl (omega arith)) keeps);
+  left = left;
+})
 
 -- a barrier, whatever its result
 pub only_settled : {T E : Type 0} (result : Result T E) (s t : Told) → OnlyErased s t → OnlyErased s (settled result t)

@@ -28,9 +28,9 @@ erased_stays from to low high s t apart keeps erased i above below = keeps.now i
     outside (inl l) = inl (omega arith)
     outside (inr r) = inr (omega arith)
 
--- one block more, from the start on
-pub erased_more : (b : ℕ) (t : Told) → 4096 * b + 4096 ≤ length t.now → Erased 0 (4096 * b) t.now → Erased 0 (4096 * (b + 1)) (put (4096 * b) (blank 4096) t).now
-erased_more b t inside erased i above below = ap (λ (l : List ℕ). get_or l i 0) (now-put (4096 * b) (blank 4096) t) ∙ at (cases_lt i (4096 * b))
+-- one block more
+pub erased_more : (from b : ℕ) (t : Told) → 4096 * b + 4096 ≤ length t.now → Erased from (4096 * b) t.now → Erased from (4096 * (b + 1)) (put (4096 * b) (blank 4096) t).now
+erased_more from b t inside erased i above below = ap (λ (l : List ℕ). get_or l i 0) (now-put (4096 * b) (blank 4096) t) ∙ at (cases_lt i (4096 * b))
   where
     fits : 4096 * b + length (blank 4096) ≤ length t.now
     fits = omega (arith, inside, length-blank 4096)

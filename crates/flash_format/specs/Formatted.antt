@@ -2,7 +2,7 @@
 use Rattle.std.specs.Prelude.{◌≡◌, ◌⊎◌, ◌+◌, ◌-◌, ◌*◌, ◌<◌, ℕ, Bool, true, false, List, [], ◌∷◌, ◌++◌, length, replicate, Some, None, Ok, IsErr, IsTrue, slice_index_or}
 use Rattle.base_core.specs.Block.{blank}
 use Rattle.flash_core.specs.Told.{Told, NothingDirty}
-use Rattle.flash_core.specs.May.{May}
+use Rattle.flash_core.specs.May.{Keeps, May}
 use Rattle.fwu_formats.specs.Layout.{Layout, blocks_needed, slot_bytes, slot_total}
 use Rattle.fwu_formats.specs.Metadata.{first_meta}
 use Rattle.fwu_formats.specs.Manifest.{is_complete, manifest_part, version}
@@ -12,6 +12,7 @@ use Rattle.fwu_model.specs.Seen.{seen, SoundFlash}
 use Rattle.fwu_model.specs.State.{State, Bank}
 use Rattle.fwu_model.specs.Sound.{Setting}
 use Rattle.fwu_formats.specs.declared.kinds.BankState.TheVariants.{Accepted, Invalid}
+use Rattle.flash_format.specs.Cleared.{OnlyErased}
 use Rattle.flash_format.specs.Places.{Erased}
 use Rattle.image_check.specs.Law.{may_start}
 use Rattle.image_check.specs.Verdict.{verdict_on}
@@ -68,3 +69,12 @@ pub record IsBlank (L : Layout) (image : List ℕ) : Type 0 where
 -- each image that the next power-on may leave has no layout, or both replicas
 abbrev pub IsOrdered : Layout → Told → Type 0
 IsOrdered L t = (image : List ℕ) → May t image → IsErr (layout_seen image) ⊎ BothHold L (in_version 2 (first_meta L)) image
+
+-- What a format that led from s to t did is in order: block 0 is erased first, and the layout is written last.
+pub data IsInOrder (L : Layout) (s t : Told) : Type 0 where
+  -- from byte 4096 on all is as it was, and block 0 was erased at most
+  begun : OnlyErased s t → Keeps 0 4096 s t → IsInOrder L s t
+  -- no loss leaves a layout, and the first eight blocks were erased at most
+  bared : OnlyErased s t → ((image : List ℕ) → May t image → IsErr (layout_seen image)) → IsInOrder L s t
+  -- no loss leaves a layout before both replicas, and each leaves blocks 3 to 7 and the banks behind bank 0 erased
+  filled : ((image : List ℕ) → May t image → IsBlank L image) → IsOrdered L t → IsInOrder L s t

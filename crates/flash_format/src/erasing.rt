@@ -1,19 +1,20 @@
 //! Erasing the front of a flash.
-ghost use Rattle.std.specs.Prelude.{◌≡◌, ◌*◌, ◌≤◌, is_ok, IsTrue, OnOk};
+ghost use Rattle.std.specs.Prelude.{◌≡◌, ◌⊎◌, ◌*◌, ◌≤◌, is_ok, IsTrue, OnOk};
 ghost use Rattle.flash_core.specs.Counts.{Spends, StaysUnarmed};
 ghost use Rattle.flash_core.specs.May.{Keeps};
-ghost use Rattle.flash_format.specs.Cleared.{OnlyErased};
+ghost use Rattle.flash_core.specs.Told.{NothingDirty};
+ghost use Rattle.flash_format.specs.Cleared.{IsBare, OnlyErased};
 ghost use Rattle.flash_format.specs.Places.{Erased};
 
 use flash_core::{Flash, FlashStop};
 
-/// Erases the first blocks, from block 0 on.
-pub fn erase_all<D: Flash>(flash: &mut D, count: u32) -> Result<(), FlashStop>
+/// Erases block 0, which holds the layout, and makes a barrier.
+fn erase_layout<D: Flash>(flash: &mut D) -> Result<(), FlashStop>
     requires on { IsTrue (D.on flash.old) }
-    requires inside { count ≤ D.blocks flash.old }
 
-    ensures keeps { IsTrue D.tells → Keeps 0 (4096 * count) (D.told flash.old) (D.told flash.new) }
-    ensures erased { OnOk result (IsTrue D.tells → Erased 0 (4096 * count) (D.told flash.new).now) }
+    ensures keeps { IsTrue D.tells → Keeps 0 4096 (D.told flash.old) (D.told flash.new) }
+    ensures erased { OnOk result (IsTrue D.tells → Erased 0 4096 (D.told flash.new).now) }
+    ensures clean { OnOk result (IsTrue D.tells → NothingDirty (D.told flash.new)) }
     ensures only { IsTrue D.tells → OnlyErased (D.told flash.old) (D.told flash.new) }
     ensures power { D.on flash.new ≡ is_ok result }
     ensures size { D.blocks flash.new ≡ D.blocks flash.old }
@@ -21,8 +22,50 @@ pub fn erase_all<D: Flash>(flash: &mut D, count: u32) -> Result<(), FlashStop>
     ensures unarmed { StaysUnarmed result (D.arming flash.old) (D.arming flash.new)
         (D.counts flash.old) (D.counts flash.new) }
 {
-    for block in 0..count {
+    flash.erase(0)?;
+    flash.barrier()
+}
+
+/// Erases the blocks from block 1 to before the count.
+fn erase_behind<D: Flash>(flash: &mut D, count: u32) -> Result<(), FlashStop>
+    requires on { IsTrue (D.on flash.old) }
+    requires inside { count ≤ D.blocks flash.old }
+    requires some { 1 ≤ count }
+
+    ensures keeps { IsTrue D.tells → Keeps 4096 (4096 * count) (D.told flash.old) (D.told flash.new) }
+    ensures erased { OnOk result (IsTrue D.tells → Erased 4096 (4096 * count) (D.told flash.new).now) }
+    ensures only { IsTrue D.tells → OnlyErased (D.told flash.old) (D.told flash.new) }
+    ensures power { D.on flash.new ≡ is_ok result }
+    ensures size { D.blocks flash.new ≡ D.blocks flash.old }
+    ensures costs { Spends result (D.counts flash.old) (D.counts flash.new) }
+    ensures unarmed { StaysUnarmed result (D.arming flash.old) (D.arming flash.new)
+        (D.counts flash.old) (D.counts flash.new) }
+{
+    for block in 1..count {
         flash.erase(block)?;
     }
     Ok(())
+}
+
+/// Erases the first blocks: block 0 with a barrier behind it, and then the others.
+pub fn erase_all<D: Flash>(flash: &mut D, count: u32) -> Result<(), FlashStop>
+    requires on { IsTrue (D.on flash.old) }
+    requires inside { count ≤ D.blocks flash.old }
+    requires some { 1 ≤ count }
+
+    ensures keeps { IsTrue D.tells → Keeps 0 (4096 * count) (D.told flash.old) (D.told flash.new) }
+    ensures erased { OnOk result (IsTrue D.tells → Erased 0 (4096 * count) (D.told flash.new).now) }
+    ensures only { IsTrue D.tells → OnlyErased (D.told flash.old) (D.told flash.new) }
+    // Until block 0 is bare no other block is touched.
+    ensures first { IsTrue D.tells → Keeps 0 4096 (D.told flash.old) (D.told flash.new) ⊎
+        IsBare (D.told flash.new) }
+    ensures bare { OnOk result (IsTrue D.tells → IsBare (D.told flash.new)) }
+    ensures power { D.on flash.new ≡ is_ok result }
+    ensures size { D.blocks flash.new ≡ D.blocks flash.old }
+    ensures costs { Spends result (D.counts flash.old) (D.counts flash.new) }
+    ensures unarmed { StaysUnarmed result (D.arming flash.old) (D.arming flash.new)
+        (D.counts flash.old) (D.counts flash.new) }
+{
+    erase_layout(flash)?;
+    erase_behind(flash, count)
 }

@@ -14,8 +14,7 @@ ghost use Rattle.image_check.specs.Passed.{HasPassed};
 ghost use Rattle.image_check.specs.declared.bank.Verdict.TheVariants.{Good};
 ghost use Rattle.image_check.specs.declared.bank.Verdict.{Verdict};
 ghost use Rattle.flash_format.specs.Choosing.{refusal};
-ghost use Rattle.flash_format.specs.Cleared.{OnlyErased};
-ghost use Rattle.flash_format.specs.Formatted.{HoldsImages, IsBlank, IsFormatted, IsOrdered, IsRefused};
+ghost use Rattle.flash_format.specs.Formatted.{HoldsImages, IsBlank, IsFormatted, IsInOrder, IsOrdered, IsRefused};
 ghost use Rattle.flash_format.specs.Places.{AllStand, Erased};
 ghost use Rattle.flash_format.specs.Planned.{IsPlanned};
 ghost use Rattle.flash_format.specs.Stops.{flash_result, Answers, Finishes, IsEarly, IsOfLayout, LayoutBy, ReadsBy, RefusesBank};
@@ -106,9 +105,9 @@ fn carry_out<D: Flash, H: Files, V: Verifier>(
         IsErr (layout_seen (D.told flash.new).now) }
     ensures keeps { IsTrue D.tells →
         Keeps 0 (4096 * blocks_needed plan.now.layout) (D.told flash.old) (D.told flash.new) }
-    // Whatever a loss leaves, no layout is there before both replicas are, or the first blocks were erased at most.
-    ensures ordered { IsTrue D.tells → IsOrdered plan.now.layout (D.told flash.new)
-        ⊎ OnlyErased (D.told flash.old) (D.told flash.new) }
+    // At any exit block 0 goes first and the layout comes last, whatever a loss leaves.
+    ensures ordered { IsTrue D.tells →
+        IsInOrder plan.now.layout (D.told flash.old) (D.told flash.new) }
     ensures power { D.on flash.new ≡ is_ok (flash_result result) }
     ensures size { D.blocks flash.new ≡ D.blocks flash.old }
     ensures costs { Spends (flash_result result) (D.counts flash.old) (D.counts flash.new) }
@@ -132,13 +131,15 @@ fn carry_out<D: Flash, H: Files, V: Verifier>(
 /// which is accepted with all bits set.
 ///
 /// Before the flash is touched the rows, banks and blocks are tested, then the file's table, then its images in the order of the
-/// layout. Then blocks 0 to the last bank's end are erased, the images are written to the starts of their slots in bank 0, and
-/// bank 0 is tested as a boot does, with a counter of 0. Only then the two replicas are written, and after them the layout in
-/// block 0. So a flash that was touched has no layout until it is formatted whole.
+/// layout. Then block 0 is erased, with a barrier behind it, and after it the blocks up to the last bank's end. The images are
+/// written to the starts of their slots in bank 0, and bank 0 is tested as a boot does, with a counter of 0. Only then the two
+/// replicas are written, and after them the layout in block 0. So from that first barrier on the flash has no layout until it is
+/// formatted whole.
 ///
-/// After a loss of power while blocks are erased or images written, each of the first eight blocks that is guarded is as it was
-/// before the call, or has no seal (where nothing was dirty then). Where block 0 isn't guarded, any bytes may stand there, the old
-/// layout among them. After a later loss there is no layout, or there are both replicas.
+/// A loss of power up to that barrier leaves the blocks behind block 0 as one before the call might have: where nothing was dirty
+/// then, as they were. Where block 0 isn't guarded any bytes may stand in it, the old layout among them. After a later loss there
+/// is no layout, or there are both replicas. Until the images are written, a loss leaves of each of the first eight blocks that is
+/// guarded no more than one before the call might have: where nothing was dirty then, the block as it was or without a seal.
 pub fn format<D: Flash, H: Files, V: Verifier>(
     flash: &mut D,
     rows: &[ImageRow],
@@ -186,10 +187,10 @@ pub fn format<D: Flash, H: Files, V: Verifier>(
         → IsTrue (V.passes verifier.now (manifest_part (images_of rows.now file toc))) → ⊥ }
     // Either way nothing is dirty, so that a loss leaves just what is there.
     ensures clean { Finishes result (IsTrue D.tells → NothingDirty (D.told flash.new)) }
-    // At any exit, whatever a loss leaves: no layout is there before both replicas are, or the first blocks were erased at most.
+    // At any exit, whatever a loss leaves: block 0 alone was touched, or there is no layout, or both replicas are there as well.
     ensures ordered { IsTrue D.tells →
-        IsOrdered (record { banks = banks; rows = rows.now }) (D.told flash.new)
-        ⊎ OnlyErased (D.told flash.old) (D.told flash.new) }
+        IsInOrder (record { banks = banks; rows = rows.now }) (D.told flash.old)
+        (D.told flash.new) }
     // Beyond the last bank nothing changes, at any exit.
     ensures keeps { IsTrue D.tells →
         Keeps 0 (4096 * blocks_needed (record { banks = banks; rows = rows.now }))

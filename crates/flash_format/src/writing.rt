@@ -1,5 +1,5 @@
 //! Writing the images of a plan, and testing them.
-ghost use Rattle.std.specs.Prelude.{◌≡◌, ◌*◌, ◌≤◌, ℕ, List, Ok, Err, true, false, length, is_ok, IsTrue, IfOk, OnOk};
+ghost use Rattle.std.specs.Prelude.{◌≡◌, ◌⊎◌, ◌*◌, ◌≤◌, ℕ, List, Ok, Err, true, false, length, is_ok, IsTrue, IfOk, OnOk};
 ghost use Rattle.flash_core.specs.Counts.{Spends, StaysUnarmed};
 ghost use Rattle.flash_core.specs.May.{Keeps};
 ghost use Rattle.fwu_formats.specs.Layout.{blocks_needed};
@@ -10,7 +10,7 @@ ghost use Rattle.image_check.specs.Verdict.{verdict_on};
 ghost use Rattle.image_check.specs.declared.bank.Verdict.{Verdict as Found};
 ghost use Rattle.image_check.specs.declared.bank.Verdict.TheVariants.{Good};
 ghost use Rattle.flash_core.specs.Told.{NothingDirty};
-ghost use Rattle.flash_format.specs.Cleared.{OnlyErased};
+ghost use Rattle.flash_format.specs.Cleared.{IsBare, OnlyErased};
 ghost use Rattle.flash_format.specs.Formatted.{IsBlank};
 ghost use Rattle.flash_format.specs.Places.{AllStand, Erased};
 ghost use Rattle.flash_format.specs.Planned.{IsPlanned};
@@ -43,6 +43,9 @@ pub fn fill<D: Flash, H: Files>(
         Keeps 0 (4096 * blocks_needed plan.now.layout) (D.told flash.old) (D.told flash.new) }
     // Whatever the result, nothing is in the first blocks that wasn't there.
     ensures only { IsTrue D.tells → OnlyErased (D.told flash.old) (D.told flash.new) }
+    // Until block 0 is bare no other block is touched.
+    ensures first { IsTrue D.tells → Keeps 0 4096 (D.told flash.old) (D.told flash.new) ⊎
+        IsBare (D.told flash.new) }
     ensures erased { OnOk (flash_result result) (IsTrue D.tells →
         Erased 0 32768 (D.told flash.new).now) }
     ensures blank { OnOk result (IsTrue D.tells → IsBlank plan.now.layout (D.told flash.new).now) }

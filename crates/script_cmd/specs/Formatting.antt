@@ -20,8 +20,7 @@ use Rattle.fip_tables.specs.Files.{Lacks, Tells}
 use Rattle.image_check.specs.declared.bank.Verdict.{Verdict}
 use Rattle.image_check.specs.declared.bank.Verdict.TheVariants as verdict
 use Rattle.flash_format.specs.Choosing.{refusal}
-use Rattle.flash_format.specs.Cleared.{OnlyErased}
-use Rattle.flash_format.specs.Formatted.{HoldsImages, IsBlank, IsFormatted, IsOrdered, IsRefused}
+use Rattle.flash_format.specs.Formatted.{HoldsImages, IsBlank, IsFormatted, IsInOrder, IsRefused}
 use Rattle.flash_format.specs.Stops.{Answers, Finishes, IsEarly, IsOfLayout, LayoutBy, ReadsBy}
 use Rattle.flash_format.specs.declared.formatting.Formatted.{Formatted}
 use Rattle.flash_format.specs.declared.stops.FormatStop.{FormatStop}
@@ -123,10 +122,10 @@ pub record Tries (passes : List ℕ → Bool) (tells : Bool) (told : Option Dire
       → (file : List ℕ) (toc : Toc) → Tells told name file → toc_of file ≡ Ok toc
       → IsTrue (is_complete L.rows (images_of L.rows file toc))
       → IsTrue (passes (manifest_part (images_of L.rows file toc))) → ⊥
-  -- either way nothing is dirty; and whatever the end, a loss leaves no layout before both replicas, or the first eight blocks
-  -- were erased at most
+  -- either way nothing is dirty; and whatever the end, and whatever a loss leaves, block 0 alone was touched, or there is no
+  -- layout, or both replicas are there as well
   pub clean : Finishes r (IsTrue tells → NothingDirty new.told)
-  pub ordered : IsTrue tells → IsOrdered L new.told ⊎ OnlyErased mid new.told
+  pub ordered : IsTrue tells → IsInOrder L mid new.told
   -- nothing changes beyond the last bank
   pub keeps : IsTrue tells → Keeps 0 (4096 * blocks_needed L) mid new.told
   pub guard : IsTrue tells → new.told.guard ≡ old.told.guard

@@ -1,60 +1,52 @@
-use Rattle.std.proofs.Common.{◌+◌, ◌*◌, ◌∙◌, sym, subst, arith}
-use Rattle.std.specs.Prelude.{Ok}
-use Rattle.base_core.specs.Block.{blank}
-use Rattle.base_core.proofs.Blocks.{length-blank}
-use Rattle.flash_core.specs.Told.{Told}
-use Rattle.flash_core.specs.May.{Keeps}
-use Rattle.flash_core.proofs.Calls.{keeps_wider}
-use Rattle.flash_core.proofs.Costs.{spends_then}
-use Rattle.flash_format.specs.Cleared.{OnlyErased}
+use Rattle.std.proofs.Common.{◌*◌, inl, inr, arith}
+use Rattle.std.specs.Prelude.{IsTrue}
+use Rattle.std.proofs.lemmas.Bool.{cases_lt}
+use Rattle.flash_core.proofs.Calls.{keeps_wider, keeps_joined}
 use Rattle.flash_format.specs.Places.{Erased}
-use Rattle.flash_format.proofs.Clearing.{only_erase}
-use Rattle.flash_format.proofs.Ranges.{keeps_written, erased_more}
-use Rattle.flash_format.proofs.Unarmed.{unarmed_then, unarmed_spent}
+use Rattle.flash_format.proofs.Clearing.{only_then}
+use Rattle.flash_format.proofs.Ordered.{bare_fresh, bare_stays}
+use Rattle.flash_format.proofs.Ranges.{erased_stays}
+use Rattle.flash_format.proofs.Recorded.{on_ok_from, on_ok_map}
 use Rattle.flash_format.proofs.erasing.erase_all.Goals as goal
 
-pub returns-in_err-erase-clause-keeps : goal.returns-in_err-erase-clause-keeps
-returns-in_err-erase-clause-keeps g c tells =
+pub returns-in_err-erase_layout-clause-keeps : goal.returns-in_err-erase_layout-clause-keeps
+returns-in_err-erase_layout-clause-keeps g c = λ tells.
     let s = g.D.Flash.told c.args.flash.now in
-    let m = g.D.Flash.told c.loop-block.flash in
-    let b = c.loop-block.block in
-    let before = c.loop-block.invariant.keeps tells in
-    let size = (g.met.D.Flash.sound c.args.flash.now tells).size in
-    let wide = keeps_wider 0 (4096 * b) 0 (4096 * c.args.count) s m (omega arith) (omega arith) before in
-    subst (Keeps 0 (4096 * c.args.count) s) (sym (c.erase.ensures.content tells))
-    (keeps_written c.erase.result 0 (4096 * c.args.count) (4096 * b) (blank 4096) s m (omega arith) (omega (arith, length-blank 4096)) (omega (arith, length-blank 4096, size)) wide)
+    let m = g.D.Flash.told c.erase_layout.new.flash in
+    keeps_wider 0 4096 0 (4096 * c.args.count) s m (omega arith) (omega (arith, c.requires.some)) (c.erase_layout.ensures.keeps tells)
 
-pub returns-in_err-erase-clause-only : goal.returns-in_err-erase-clause-only
-returns-in_err-erase-clause-only g c tells =
-    let s = g.D.Flash.told c.args.flash.now in
-    let m = g.D.Flash.told c.loop-block.flash in
-    let b = c.loop-block.block in
-    let size = (g.met.D.Flash.sound c.loop-block.flash tells).size in
-    let many = (g.met.D.Flash.sizes c.loop-block.flash).0 in
-    subst (OnlyErased s) (sym (c.erase.ensures.content tells)) (only_erase b m (omega (arith, size, many)) (omega (arith, size, c.loop-block.invariant.same_size)) c.erase.result s (c.loop-block.invariant.only tells))
+pub returns-in_err-erase_layout-clause-first : goal.returns-in_err-erase_layout-clause-first
+returns-in_err-erase_layout-clause-first g c = λ tells. inl (c.erase_layout.ensures.keeps tells)
 
-pub loop-block-preserved : goal.loop-block-preserved
-loop-block-preserved g c =
-    let b = c.loop-block.block in
+pub returns-clause-keeps : goal.returns-clause-keeps
+returns-clause-keeps g c = λ tells.
     let s = g.D.Flash.told c.args.flash.now in
-    let m = g.D.Flash.told c.loop-block.flash in
-    record {
-      on = c.in_ok-erase.ensures.power;
-      same_size = c.in_ok-erase.ensures.size ∙ c.loop-block.invariant.same_size;
-      keeps = λ tells.
-          let size = (g.met.D.Flash.sound c.args.flash.now tells).size in
-          let wide = keeps_wider 0 (4096 * b) 0 (4096 * (b + 1)) s m (omega arith) (omega arith) (c.loop-block.invariant.keeps tells) in
-          subst (Keeps 0 (4096 * (b + 1)) s) (sym (c.erase.ensures.content tells))
-          (keeps_written c.erase.result 0 (4096 * (b + 1)) (4096 * b) (blank 4096) s m (omega arith) (omega (arith, length-blank 4096)) (omega (arith, length-blank 4096, size)) wide);
-      erased = λ tells.
-          let size = (g.met.D.Flash.sound c.loop-block.flash tells).size in
-          subst (λ (t : Told). Erased 0 (4096 * (b + 1)) t.now) (sym (c.in_ok-erase.ensures.content tells))
-          (erased_more b m (omega (arith, size, c.loop-block.invariant.same_size)) (c.loop-block.invariant.erased tells));
-      only = λ tells.
-          let size = (g.met.D.Flash.sound c.loop-block.flash tells).size in
-          let many = (g.met.D.Flash.sizes c.loop-block.flash).0 in
-          subst (OnlyErased s) (sym (c.erase.ensures.content tells)) (only_erase b m (omega (arith, size, many)) (omega (arith, size, c.loop-block.invariant.same_size)) c.erase.result s (c.loop-block.invariant.only tells));
-      costs = spends_then (Ok tt) (Ok tt) _ _ _ c.loop-block.invariant.costs c.in_ok-erase.ensures.counts;
-      unarmed = unarmed_then _ _ _ _ (g.D.Flash.counts c.args.flash.now) (g.D.Flash.counts c.loop-block.flash) (g.D.Flash.counts c.erase.new.self) c.loop-block.invariant.unarmed
-          (unarmed_spent c.erase.result _ _ _ _ c.erase.ensures.arming c.erase.ensures.reached);
-    }
+    let m = g.D.Flash.told c.erase_layout.new.flash in
+    let t = g.D.Flash.told c.erase_behind.new.flash in
+    keeps_joined 0 4096 (4096 * c.args.count) s m t (omega arith) (omega (arith, c.requires.some)) (c.erase_layout.ensures.keeps tells) (c.erase_behind.ensures.keeps tells)
+
+pub returns-clause-erased : goal.returns-clause-erased
+returns-clause-erased g c =
+    let m = g.D.Flash.told c.erase_layout.new.flash in
+    let t = g.D.Flash.told c.erase_behind.new.flash in
+    let high = 4096 * c.args.count in
+    on_ok_map (IsTrue g.D.Flash.tells → Erased 4096 high t.now) (IsTrue g.D.Flash.tells → Erased 0 high t.now) c.erase_behind.result
+    (λ rest tells i above below. elim (cases_lt i 4096) [
+      | inl l ↦ erased_stays 0 4096 4096 high m t (inl (omega arith)) (c.erase_behind.ensures.keeps tells) (c.in_ok-erase_layout.ensures.erased tells) i above l
+      | inr r ↦ rest tells i r below
+    ])
+    c.erase_behind.ensures.erased
+
+pub returns-clause-only : goal.returns-clause-only
+returns-clause-only g c = λ tells.
+    only_then (g.D.Flash.told c.args.flash.now) (g.D.Flash.told c.erase_layout.new.flash) (g.D.Flash.told c.erase_behind.new.flash) (c.erase_layout.ensures.only tells) (c.erase_behind.ensures.only tells)
+
+pub returns-clause-first : goal.returns-clause-first
+returns-clause-first g c = λ tells.
+    let m = g.D.Flash.told c.erase_layout.new.flash in
+    inr (bare_stays 4096 (4096 * c.args.count) m (g.D.Flash.told c.erase_behind.new.flash) (omega arith) (c.erase_behind.ensures.keeps tells) (bare_fresh m (c.in_ok-erase_layout.ensures.erased tells) (c.in_ok-erase_layout.ensures.clean tells)))
+
+pub returns-clause-bare : goal.returns-clause-bare
+returns-clause-bare g c = on_ok_from _ c.erase_behind.result (λ tells.
+    let m = g.D.Flash.told c.erase_layout.new.flash in
+    bare_stays 4096 (4096 * c.args.count) m (g.D.Flash.told c.erase_behind.new.flash) (omega arith) (c.erase_behind.ensures.keeps tells) (bare_fresh m (c.in_ok-erase_layout.ensures.erased tells) (c.in_ok-erase_layout.ensures.clean tells)))

@@ -1,4 +1,4 @@
-use Rattle.std.proofs.Common.{◌≡◌, inl, ℕ, ap, subst, ◌∙◌, arith, Result, Err}
+use Rattle.std.proofs.Common.{◌≡◌, ℕ, ap, subst, ◌∙◌, arith, Result, Err}
 use Rattle.std.specs.Prelude.{IsTrue, OnOk}
 use Rattle.flash_format.specs.Formatted.{IsBlank}
 use Rattle.flash_format.specs.Places.{Erased}
@@ -6,7 +6,7 @@ use Rattle.flash_format.specs.Stops.{flash_result}
 use Rattle.flash_format.specs.declared.stops.FormatStop.{FormatStop}
 use Rattle.flash_format.specs.declared.stops.FormatStop.TheVariants.{ReadFailed}
 use Rattle.flash_format.proofs.Given.{finishes_from}
-use Rattle.flash_format.proofs.Ordered.{blank_stays}
+use Rattle.flash_format.proofs.Ordered.{blank_stays, in_order_before, in_order_filled}
 use Rattle.flash_format.proofs.Showing.{unlaid}
 use Rattle.flash_format.proofs.formatting.carry_out.Goals as goal
 
@@ -25,5 +25,16 @@ returns-clause-blank g c =
     let t = g.D.Flash.told c.finish.new.flash in
     finishes_from ℕ c.finish.result (IsTrue g.D.Flash.tells → IsBlank L t.now) (λ tells. blank_stays L (g.D.Flash.told c.fill.new.flash) t (c.finish.ensures.keeps tells) (c.in-Ok.ensures.blank tells))
 
+pub returns-in-Err-clause-ordered : goal.returns-in-Err-clause-ordered
+returns-in-Err-clause-ordered g c = λ tells.
+    let t = g.D.Flash.told c.fill.new.flash in
+    let size = (g.met.D.Flash.sound c.fill.new.flash tells).size in
+    let many = (g.met.D.Flash.sizes c.fill.new.flash).0 in
+    in_order_before c.args.plan.now.layout (g.D.Flash.told c.args.flash.now) t (omega (arith, size, many)) (c.fill.ensures.only tells) (c.fill.ensures.first tells)
+
 pub returns-clause-ordered : goal.returns-clause-ordered
-returns-clause-ordered g c = λ tells. inl (c.finish.ensures.ordered tells (c.in-Ok.ensures.clean tells))
+returns-clause-ordered g c = λ tells.
+    let s = g.D.Flash.told c.fill.new.flash in
+    let t = g.D.Flash.told c.finish.new.flash in
+    let clean = c.in-Ok.ensures.clean tells in
+    in_order_filled c.args.plan.now.layout (g.D.Flash.told c.args.flash.now) s t clean (c.finish.ensures.keeps tells) (c.in-Ok.ensures.blank tells) (c.finish.ensures.ordered tells clean)

@@ -4,10 +4,11 @@ use Rattle.flash_core.specs.May.{Keeps}
 use Rattle.flash_core.proofs.Calls.{keeps_wider, keeps_then, settle-fresh}
 use Rattle.fwu_formats.specs.Layout.{slot_total, blocks_needed}
 use Rattle.fwu_formats.specs.Package.{Entry}
-use Rattle.flash_format.specs.Cleared.{OnlyErased}
+use Rattle.flash_format.specs.Cleared.{IsBare, OnlyErased}
 use Rattle.flash_format.specs.Formatted.{IsBlank}
 use Rattle.flash_format.specs.Places.{AllStand, Erased}
 use Rattle.flash_format.proofs.Clearing.{only_above, only_settled}
+use Rattle.flash_format.proofs.Ordered.{bare_settled, bare_stays}
 use Rattle.flash_format.proofs.Ranges.{erased_stays}
 use Rattle.flash_format.proofs.Plans.{bank_within}
 use Rattle.flash_format.proofs.Recorded.{keeps_settled, now_settled}
@@ -116,3 +117,28 @@ returns-clause-only g c = λ tells.
 
 pub returns-clause-clean : goal.returns-clause-clean
 returns-clause-clean g c = λ tells. subst NothingDirty (sym (c.in_ok-barrier.ensures.content tells)) (settle-fresh (g.D.Flash.told c.write_bank.new.flash))
+
+pub erase_all-requires-clause-some : goal.erase_all-requires-clause-some
+erase_all-requires-clause-some g c =
+    let enough = bank_within c.args.plan.now.layout c.rows-rows.ensures.fit in
+    omega (arith, enough, c.blocks-2.ensures)
+
+pub returns-in_err-write_bank-clause-first : goal.returns-in_err-write_bank-clause-first
+returns-in_err-write_bank-clause-first g c = λ tells.
+    let m = g.D.Flash.told c.erase_all.new.flash in
+    let n = g.D.Flash.told c.write_bank.new.flash in
+    inr (bare_stays 32768 (4096 * (8 + slot_total c.args.plan.now.layout.rows)) m n (omega arith) (c.write_bank.ensures.keeps tells) (c.in_ok-erase_all.ensures.bare tells))
+
+pub returns-in_err-barrier-clause-first : goal.returns-in_err-barrier-clause-first
+returns-in_err-barrier-clause-first g c = λ tells.
+    let m = g.D.Flash.told c.erase_all.new.flash in
+    let n = g.D.Flash.told c.write_bank.new.flash in
+    let bare = bare_stays 32768 (4096 * (8 + slot_total c.args.plan.now.layout.rows)) m n (omega arith) (c.write_bank.ensures.keeps tells) (c.in_ok-erase_all.ensures.bare tells) in
+    inr (subst IsBare (sym (c.barrier.ensures.content tells)) (bare_settled c.barrier.result n bare))
+
+pub returns-clause-first : goal.returns-clause-first
+returns-clause-first g c = λ tells.
+    let m = g.D.Flash.told c.erase_all.new.flash in
+    let n = g.D.Flash.told c.write_bank.new.flash in
+    let bare = bare_stays 32768 (4096 * (8 + slot_total c.args.plan.now.layout.rows)) m n (omega arith) (c.write_bank.ensures.keeps tells) (c.in_ok-erase_all.ensures.bare tells) in
+    inr (subst IsBare (sym (c.barrier.ensures.content tells)) (bare_settled c.barrier.result n bare))

@@ -1,0 +1,59 @@
+use Rattle.std.proofs.Common.{◌≡◌, sym, ap, subst, ◌∙◌, arith}
+use Rattle.base_core.specs.Block.{blank}
+use Rattle.base_core.proofs.Blocks.{length-blank}
+use Rattle.flash_core.specs.Told.{Told}
+use Rattle.flash_core.specs.May.{Keeps}
+use Rattle.flash_core.proofs.Calls.{keeps_same}
+use Rattle.flash_format.specs.Cleared.{OnlyErased}
+use Rattle.flash_format.specs.Places.{Erased}
+use Rattle.flash_format.proofs.Clearing.{only_erase, only_same, only_settled}
+use Rattle.flash_format.proofs.Ranges.{keeps_written, erased_more}
+use Rattle.flash_format.proofs.Recorded.{on_ok_from, keeps_settled, now_settled, clean_after}
+use Rattle.flash_format.proofs.erasing.erase_layout.Goals as goal
+
+pub returns-in_err-erase-clause-keeps : goal.returns-in_err-erase-clause-keeps
+returns-in_err-erase-clause-keeps g c = λ tells.
+    let s = g.D.Flash.told c.args.flash.now in
+    let size = (g.met.D.Flash.sound c.args.flash.now tells).size in
+    let many = (g.met.D.Flash.sizes c.args.flash.now).0 in
+    subst (Keeps 0 4096 s) (sym (c.erase.ensures.content tells))
+    (keeps_written c.erase.result 0 4096 0 (blank 4096) s s (omega arith) (omega (arith, length-blank 4096)) (omega (arith, length-blank 4096, size, many)) (keeps_same 0 4096 s))
+
+pub returns-clause-keeps : goal.returns-clause-keeps
+returns-clause-keeps g c = λ tells.
+    let s = g.D.Flash.told c.args.flash.now in
+    let size = (g.met.D.Flash.sound c.args.flash.now tells).size in
+    let many = (g.met.D.Flash.sizes c.args.flash.now).0 in
+    let after = subst (Keeps 0 4096 s) (sym (c.erase.ensures.content tells))
+    (keeps_written c.erase.result 0 4096 0 (blank 4096) s s (omega arith) (omega (arith, length-blank 4096)) (omega (arith, length-blank 4096, size, many)) (keeps_same 0 4096 s)) in
+    subst (Keeps 0 4096 s) (sym (c.barrier.ensures.content tells)) (keeps_settled c.barrier.result 0 4096 s (g.D.Flash.told c.erase.new.self) after)
+
+pub returns-clause-erased : goal.returns-clause-erased
+returns-clause-erased g c = on_ok_from _ c.barrier.result (λ tells.
+    let s = g.D.Flash.told c.args.flash.now in
+    let m = g.D.Flash.told c.erase.new.self in
+    let t = g.D.Flash.told c.barrier.new.self in
+    let size = (g.met.D.Flash.sound c.args.flash.now tells).size in
+    let many = (g.met.D.Flash.sizes c.args.flash.now).0 in
+    let now : t.now ≡ m.now = ap (λ (u : Told). u.now) (c.barrier.ensures.content tells) ∙ now_settled c.barrier.result m in
+    let there : Erased 0 4096 m.now = subst (λ (u : Told). Erased 0 4096 u.now) (sym (c.in_ok-erase.ensures.content tells)) (erased_more 0 0 s (omega (arith, size, many)) (λ i above below. absurd (omega (arith, below)))) in
+    subst (Erased 0 4096) (sym now) there)
+
+pub returns-clause-clean : goal.returns-clause-clean
+returns-clause-clean g c = clean_after _ c.barrier.result (g.D.Flash.told c.erase.new.self) (g.D.Flash.told c.barrier.new.self) c.barrier.ensures.content
+
+pub returns-in_err-erase-clause-only : goal.returns-in_err-erase-clause-only
+returns-in_err-erase-clause-only g c = λ tells.
+    let s = g.D.Flash.told c.args.flash.now in
+    let size = (g.met.D.Flash.sound c.args.flash.now tells).size in
+    let many = (g.met.D.Flash.sizes c.args.flash.now).0 in
+    subst (OnlyErased s) (sym (c.erase.ensures.content tells)) (only_erase 0 s (omega (arith, size, many)) (omega (arith, size, many)) c.erase.result s (only_same s))
+
+pub returns-clause-only : goal.returns-clause-only
+returns-clause-only g c = λ tells.
+    let s = g.D.Flash.told c.args.flash.now in
+    let m = g.D.Flash.told c.erase.new.self in
+    let size = (g.met.D.Flash.sound c.args.flash.now tells).size in
+    let many = (g.met.D.Flash.sizes c.args.flash.now).0 in
+    let after : OnlyErased s m = subst (OnlyErased s) (sym (c.erase.ensures.content tells)) (only_erase 0 s (omega (arith, size, many)) (omega (arith, size, many)) c.erase.result s (only_same s)) in
+    subst (OnlyErased s) (sym (c.barrier.ensures.content tells)) (only_settled c.barrier.result s m after)
