@@ -10,4 +10,5 @@ pub mod Showing
 pub mod Ordered
 pub mod Clearing
 pub mod Formats
+pub mod Whole
 pub mod Given

@@ -1,5 +1,5 @@
 -- What a loss leaves once block 0 is bare, and while the records are written.
-use Rattle.std.proofs.Common.{◌≡◌, ◌⊎◌, ◌+◌, ◌*◌, ◌≤◌, ℕ, List, get_or, inl, inr, length, ap, ◌∙◌, arith}
+use Rattle.std.proofs.Common.{◌≡◌, ◌⊎◌, ◌+◌, ◌*◌, ◌≤◌, ℕ, Bool, List, get_or, inl, inr, length, ap, ◌∙◌, arith}
 use Rattle.std.specs.Prelude.{IsErr, Result}
 use Rattle.base_core.specs.Block.{blank}
 use Rattle.flash_core.specs.Told.{Told, NothingDirty, settled}
@@ -10,7 +10,7 @@ use Rattle.fwu_formats.specs.Layout.{Layout, blocks_needed, slot_total}
 use Rattle.fwu_formats.specs.Metadata.{meta_read, first_meta}
 use Rattle.fwu_model.specs.Replica.{BothHold, in_version}
 use Rattle.flash_format.specs.Cleared.{IsBare, OnlyErased}
-use Rattle.flash_format.specs.Formatted.{IsBlank, IsInOrder, IsOrdered, bared, begun, filled}
+use Rattle.flash_format.specs.Formatted.{IsBlank, IsInOrder, IsOrdered, IsWhole, bared, begun, filled}
 use Rattle.flash_format.specs.Places.{Erased}
 use Rattle.flash_format.proofs.Ranges.{erased_stays}
 use Rattle.flash_format.proofs.Recorded.{keeps_settled}
@@ -36,9 +36,9 @@ bare_unlaid t image room bare may = unlaid_by image (block_quiet 0 t image (omeg
 
 -- ---- up to the images
 
-pub in_order_before : (L : Layout) (s t : Told) → 4096 ≤ length t.now → OnlyErased s t → Keeps 0 4096 s t ⊎ IsBare t → IsInOrder L s t
-in_order_before L s t room only (inl keeps) = begun only keeps
-in_order_before L s t room only (inr bare) = bared only (λ image may. bare_unlaid t image room bare may)
+pub in_order_before : (passes : List ℕ → Bool) (L : Layout) (s t : Told) → 4096 ≤ length t.now → OnlyErased s t → Keeps 0 4096 s t ⊎ IsBare t → IsInOrder passes L s t
+in_order_before passes L s t room only (inl keeps) = begun only keeps
+in_order_before passes L s t room only (inr bare) = bared only (λ image may. bare_unlaid t image room bare may)
 
 -- ---- the records
 
@@ -71,5 +71,5 @@ blank_left L s t image clean keeps blank leaves = record {
     at : (i : ℕ) → 12288 ≤ i → get_or image i 0 ≡ get_or s.now i 0
     at i above = leaves.sure i (keeps.sure i (inr above) (quiet_fresh 0 (i + 1) s clean i (omega arith) (omega arith))) ∙ keeps.now i (inr above)
 
-pub in_order_filled : (L : Layout) (r s t : Told) → NothingDirty s → Keeps 0 12288 s t → IsBlank L s.now → IsOrdered L t → IsInOrder L r t
-in_order_filled L r s t clean keeps blank ordered = filled (λ image may. blank_left L s t image clean keeps blank may.leaves) ordered
+pub in_order_filled : (passes : List ℕ → Bool) (L : Layout) (r s t : Told) → NothingDirty s → Keeps 0 12288 s t → IsBlank L s.now → IsOrdered L t → IsWhole passes L t → IsInOrder passes L r t
+in_order_filled passes L r s t clean keeps blank ordered whole = filled (λ image may. blank_left L s t image clean keeps blank may.leaves) ordered whole

@@ -1,7 +1,7 @@
 -- What a flash shows that was formatted, and what one holds whose package was refused.
 use Rattle.std.specs.Prelude.{◌≡◌, ◌⊎◌, ◌+◌, ◌-◌, ◌*◌, ◌<◌, ℕ, Bool, true, false, List, [], ◌∷◌, ◌++◌, length, replicate, Some, None, Ok, IsErr, IsTrue, slice_index_or}
 use Rattle.base_core.specs.Block.{blank}
-use Rattle.flash_core.specs.Told.{Told, NothingDirty}
+use Rattle.flash_core.specs.Told.{Told, NothingDirty, fresh}
 use Rattle.flash_core.specs.May.{Keeps, May}
 use Rattle.fwu_formats.specs.Layout.{Layout, blocks_needed, slot_bytes, slot_total}
 use Rattle.fwu_formats.specs.Metadata.{first_meta}
@@ -70,11 +70,17 @@ pub record IsBlank (L : Layout) (image : List ℕ) : Type 0 where
 abbrev pub IsOrdered : Layout → Told → Type 0
 IsOrdered L t = (image : List ℕ) → May t image → IsErr (layout_seen image) ⊎ BothHold L (in_version 2 (first_meta L)) image
 
+-- each image that the next power-on may leave with this layout is, with power on, a flash that was formatted
+abbrev pub IsWhole : (List ℕ → Bool) → Layout → Told → Type 0
+IsWhole passes L t = (image : List ℕ) → May t image → layout_seen image ≡ Ok L
+    → (v : ℕ) × IsFormatted passes L v (fresh t.guard image)
+
 -- What a format that led from s to t did is in order: block 0 is erased first, and the layout is written last.
-pub data IsInOrder (L : Layout) (s t : Told) : Type 0 where
+pub data IsInOrder (passes : List ℕ → Bool) (L : Layout) (s t : Told) : Type 0 where
   -- from byte 4096 on all is as it was, and block 0 was erased at most
-  begun : OnlyErased s t → Keeps 0 4096 s t → IsInOrder L s t
+  begun : OnlyErased s t → Keeps 0 4096 s t → IsInOrder passes L s t
   -- no loss leaves a layout, and the first eight blocks were erased at most
-  bared : OnlyErased s t → ((image : List ℕ) → May t image → IsErr (layout_seen image)) → IsInOrder L s t
-  -- no loss leaves a layout before both replicas, and each leaves blocks 3 to 7 and the banks behind bank 0 erased
-  filled : ((image : List ℕ) → May t image → IsBlank L image) → IsOrdered L t → IsInOrder L s t
+  bared : OnlyErased s t → ((image : List ℕ) → May t image → IsErr (layout_seen image)) → IsInOrder passes L s t
+  -- each loss leaves blocks 3 to 7 and the banks behind bank 0 erased, a layout only with both replicas, and this one only on a
+  -- flash that is formatted whole
+  filled : ((image : List ℕ) → May t image → IsBlank L image) → IsOrdered L t → IsWhole passes L t → IsInOrder passes L s t

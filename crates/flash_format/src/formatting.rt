@@ -14,7 +14,7 @@ ghost use Rattle.image_check.specs.Passed.{HasPassed};
 ghost use Rattle.image_check.specs.declared.bank.Verdict.TheVariants.{Good};
 ghost use Rattle.image_check.specs.declared.bank.Verdict.{Verdict};
 ghost use Rattle.flash_format.specs.Choosing.{refusal};
-ghost use Rattle.flash_format.specs.Formatted.{HoldsImages, IsBlank, IsFormatted, IsInOrder, IsOrdered, IsRefused};
+ghost use Rattle.flash_format.specs.Formatted.{HoldsImages, IsBlank, IsFormatted, IsInOrder, IsOrdered, IsRefused, IsWhole};
 ghost use Rattle.flash_format.specs.Places.{AllStand, Erased};
 ghost use Rattle.flash_format.specs.Planned.{IsPlanned};
 ghost use Rattle.flash_format.specs.Stops.{flash_result, Answers, Finishes, IsEarly, IsOfLayout, LayoutBy, ReadsBy, RefusesBank};
@@ -58,9 +58,11 @@ fn finish<D: Flash, V: Verifier>(
     ensures clean { Finishes result (IsTrue D.tells → NothingDirty (D.told flash.old)
         → NothingDirty (D.told flash.new)) }
     ensures keeps { IsTrue D.tells → Keeps 0 12288 (D.told flash.old) (D.told flash.new) }
-    // Whatever a loss leaves, no layout is there before both replicas are.
+    // Whatever a loss leaves, no layout is there before both replicas are, and this one only on a flash that is formatted.
     ensures ordered { IsTrue D.tells → NothingDirty (D.told flash.old) →
         IsOrdered layout.now (D.told flash.new) }
+    ensures whole { IsTrue D.tells → NothingDirty (D.told flash.old) →
+        IsWhole (V.passes verifier.now) layout.now (D.told flash.new) }
     ensures power { D.on flash.new ≡ is_ok (flash_result result) }
     ensures size { D.blocks flash.new ≡ D.blocks flash.old }
     ensures costs { Spends (flash_result result) (D.counts flash.old) (D.counts flash.new) }
@@ -107,7 +109,7 @@ fn carry_out<D: Flash, H: Files, V: Verifier>(
         Keeps 0 (4096 * blocks_needed plan.now.layout) (D.told flash.old) (D.told flash.new) }
     // At any exit block 0 goes first and the layout comes last, whatever a loss leaves.
     ensures ordered { IsTrue D.tells →
-        IsInOrder plan.now.layout (D.told flash.old) (D.told flash.new) }
+        IsInOrder (V.passes verifier.now) plan.now.layout (D.told flash.old) (D.told flash.new) }
     ensures power { D.on flash.new ≡ is_ok (flash_result result) }
     ensures size { D.blocks flash.new ≡ D.blocks flash.old }
     ensures costs { Spends (flash_result result) (D.counts flash.old) (D.counts flash.new) }
@@ -187,10 +189,10 @@ pub fn format<D: Flash, H: Files, V: Verifier>(
         → IsTrue (V.passes verifier.now (manifest_part (images_of rows.now file toc))) → ⊥ }
     // Either way nothing is dirty, so that a loss leaves just what is there.
     ensures clean { Finishes result (IsTrue D.tells → NothingDirty (D.told flash.new)) }
-    // At any exit, whatever a loss leaves: block 0 alone was touched, or there is no layout, or both replicas are there as well.
+    // At any exit, whatever a loss leaves: block 0 alone was touched, or there is no layout, or it is on a flash that is formatted.
     ensures ordered { IsTrue D.tells →
-        IsInOrder (record { banks = banks; rows = rows.now }) (D.told flash.old)
-        (D.told flash.new) }
+        IsInOrder (V.passes verifier.now) (record { banks = banks; rows = rows.now })
+        (D.told flash.old) (D.told flash.new) }
     // Beyond the last bank nothing changes, at any exit.
     ensures keeps { IsTrue D.tells →
         Keeps 0 (4096 * blocks_needed (record { banks = banks; rows = rows.now }))

@@ -123,9 +123,9 @@ pub record Tries (passes : List ℕ → Bool) (tells : Bool) (told : Option Dire
       → IsTrue (is_complete L.rows (images_of L.rows file toc))
       → IsTrue (passes (manifest_part (images_of L.rows file toc))) → ⊥
   -- either way nothing is dirty; and whatever the end, and whatever a loss leaves, block 0 alone was touched, or there is no
-  -- layout, or both replicas are there as well
+  -- layout, or it is on a flash that is formatted
   pub clean : Finishes r (IsTrue tells → NothingDirty new.told)
-  pub ordered : IsTrue tells → IsInOrder L mid new.told
+  pub ordered : IsTrue tells → IsInOrder passes L mid new.told
   -- nothing changes beyond the last bank
   pub keeps : IsTrue tells → Keeps 0 (4096 * blocks_needed L) mid new.told
   pub guard : IsTrue tells → new.told.guard ≡ old.told.guard

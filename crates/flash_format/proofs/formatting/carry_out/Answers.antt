@@ -30,11 +30,11 @@ returns-in-Err-clause-ordered g c = λ tells.
     let t = g.D.Flash.told c.fill.new.flash in
     let size = (g.met.D.Flash.sound c.fill.new.flash tells).size in
     let many = (g.met.D.Flash.sizes c.fill.new.flash).0 in
-    in_order_before c.args.plan.now.layout (g.D.Flash.told c.args.flash.now) t (omega (arith, size, many)) (c.fill.ensures.only tells) (c.fill.ensures.first tells)
+    in_order_before (g.V.Verifier.passes c.args.verifier.now) c.args.plan.now.layout (g.D.Flash.told c.args.flash.now) t (omega (arith, size, many)) (c.fill.ensures.only tells) (c.fill.ensures.first tells)
 
 pub returns-clause-ordered : goal.returns-clause-ordered
 returns-clause-ordered g c = λ tells.
     let s = g.D.Flash.told c.fill.new.flash in
     let t = g.D.Flash.told c.finish.new.flash in
     let clean = c.in-Ok.ensures.clean tells in
-    in_order_filled c.args.plan.now.layout (g.D.Flash.told c.args.flash.now) s t clean (c.finish.ensures.keeps tells) (c.in-Ok.ensures.blank tells) (c.finish.ensures.ordered tells clean)
+    in_order_filled (g.V.Verifier.passes c.args.verifier.now) c.args.plan.now.layout (g.D.Flash.told c.args.flash.now) s t clean (c.finish.ensures.keeps tells) (c.in-Ok.ensures.blank tells) (c.finish.ensures.ordered tells clean) (c.finish.ensures.whole tells clean)

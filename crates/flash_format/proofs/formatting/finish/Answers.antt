@@ -1,9 +1,11 @@
 use Rattle.std.proofs.Common.{sym, subst, ◌∙◌, arith}
-use Rattle.flash_core.specs.Told.{Told}
+use Rattle.flash_core.specs.Told.{Told, NothingDirty}
 use Rattle.flash_core.specs.May.{Keeps}
 use Rattle.flash_core.proofs.Calls.{keeps_same}
+use Rattle.flash_format.specs.Formatted.{IsWhole}
 use Rattle.flash_format.proofs.Formats.{formatted, refused}
-use Rattle.flash_format.proofs.Ordered.{ordered_before}
+use Rattle.flash_format.proofs.Ordered.{bare_fresh, bare_unlaid, ordered_before}
+use Rattle.flash_format.proofs.Whole.{whole_after, whole_before}
 use Rattle.flash_format.proofs.formatting.finish.Goals as goal
 
 pub returns-in-Err-clause-refused : goal.returns-in-Err-clause-refused
@@ -32,3 +34,33 @@ returns-in-Err-clause-ordered g c = λ tells clean.
     let many = (g.met.D.Flash.sizes c.args.flash.now).0 in
     let keeps = subst (Keeps 4096 12288 s) (sym (c.check_bank.ensures.content tells)) (keeps_same 4096 12288 s) in
     ordered_before c.args.layout.now 4096 s (g.D.Flash.told c.check_bank.new.flash) (omega arith) (omega (arith, size, many)) (λ i above below. c.requires.erased tells i above (omega (arith, below))) clean keeps
+
+pub returns-in-Err-clause-whole : goal.returns-in-Err-clause-whole
+returns-in-Err-clause-whole g c = λ tells clean.
+    let L = c.args.layout.now in
+    let passes = g.V.Verifier.passes c.args.verifier.now in
+    let s = g.D.Flash.told c.args.flash.now in
+    let size = (g.met.D.Flash.sound c.args.flash.now tells).size in
+    let many = (g.met.D.Flash.sizes c.args.flash.now).0 in
+    let bare = bare_fresh s (λ i above below. c.requires.erased tells i above (omega (arith, below))) clean in
+    subst (IsWhole passes L) (sym (c.check_bank.ensures.content tells)) (whole_before passes L s (λ image may. bare_unlaid s image (omega (arith, size, many)) bare may))
+
+pub returns-in_err-write_records-clause-whole : goal.returns-in_err-write_records-clause-whole
+returns-in_err-write_records-clause-whole g c = λ tells clean.
+    let s = g.D.Flash.told c.args.flash.now in
+    let t = g.D.Flash.told c.write_records.new.flash in
+    let same = c.check_bank.ensures.content tells in
+    let size = (g.met.D.Flash.sound c.args.flash.now tells).size in
+    let many = (g.met.D.Flash.sizes c.args.flash.now).0 in
+    whole_after (g.V.Verifier.passes c.args.verifier.now) c.args.layout.now c.in-Ok.version s t c.rows-rows.ensures.fit (omega (arith, size, many)) (c.requires.erased tells) clean (c.in-Ok.ensures.good tells)
+    (subst (λ (m : Told). Keeps 0 12288 m t) same (c.write_records.ensures.keeps tells)) (c.write_records.ensures.ordered tells (subst NothingDirty (sym same) clean))
+
+pub returns-clause-whole : goal.returns-clause-whole
+returns-clause-whole g c = λ tells clean.
+    let s = g.D.Flash.told c.args.flash.now in
+    let t = g.D.Flash.told c.write_records.new.flash in
+    let same = c.check_bank.ensures.content tells in
+    let size = (g.met.D.Flash.sound c.args.flash.now tells).size in
+    let many = (g.met.D.Flash.sizes c.args.flash.now).0 in
+    whole_after (g.V.Verifier.passes c.args.verifier.now) c.args.layout.now c.in-Ok.version s t c.rows-rows.ensures.fit (omega (arith, size, many)) (c.requires.erased tells) clean (c.in-Ok.ensures.good tells)
+    (subst (λ (m : Told). Keeps 0 12288 m t) same (c.write_records.ensures.keeps tells)) (c.write_records.ensures.ordered tells (subst NothingDirty (sym same) clean))

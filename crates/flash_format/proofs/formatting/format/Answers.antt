@@ -115,11 +115,11 @@ returns-in-Err-carry_out-clause-ordered g c = λ tells.
     let K = c.in-Ok.plan.layout in
     let L : Layout = record { banks = c.args.banks; rows = c.args.rows.now } in
     let t = g.D.Flash.told c.carry_out.new.flash in
-    subst (λ (l : Layout). IsInOrder l (g.D.Flash.told c.args.flash.now) t) (fitted_is L c.blocks-2.result K c.in-Ok.ensures.fits).is (c.carry_out.ensures.ordered tells)
+    subst (λ (l : Layout). IsInOrder (g.V.Verifier.passes c.args.verifier.now) l (g.D.Flash.told c.args.flash.now) t) (fitted_is L c.blocks-2.result K c.in-Ok.ensures.fits).is (c.carry_out.ensures.ordered tells)
 
 pub returns-clause-ordered : goal.returns-clause-ordered
 returns-clause-ordered g c = λ tells.
     let K = c.in-Ok.plan.layout in
     let L : Layout = record { banks = c.args.banks; rows = c.args.rows.now } in
     let t = g.D.Flash.told c.carry_out.new.flash in
-    subst (λ (l : Layout). IsInOrder l (g.D.Flash.told c.args.flash.now) t) (fitted_is L c.blocks-2.result K c.in-Ok.ensures.fits).is (c.carry_out.ensures.ordered tells)
+    subst (λ (l : Layout). IsInOrder (g.V.Verifier.passes c.args.verifier.now) l (g.D.Flash.told c.args.flash.now) t) (fitted_is L c.blocks-2.result K c.in-Ok.ensures.fits).is (c.carry_out.ensures.ordered tells)
