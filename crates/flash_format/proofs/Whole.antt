@@ -43,5 +43,5 @@ whole_after passes L v s t fits room erased clean is_good keeps ordered image ma
     from (inr both) = (
       v,
       formatted passes L v s (fresh t.guard image) fits room erased is_good (keeps_left 0 12288 s t image clean keeps may.leaves) (subst (BothHold L (in_version 2 (first_meta L))) (sym (now-fresh t.guard image)) both)
-      (ap layout_seen (now-fresh t.guard image) ∙ is) (fresh-clean t.guard image),
+          (ap layout_seen (now-fresh t.guard image) ∙ is) (fresh-clean t.guard image),
     )

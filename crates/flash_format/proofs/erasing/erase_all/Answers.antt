@@ -1,22 +1,13 @@
 use Rattle.std.proofs.Common.{◌*◌, inl, inr, arith}
 use Rattle.std.specs.Prelude.{IsTrue}
 use Rattle.std.proofs.lemmas.Bool.{cases_lt}
-use Rattle.flash_core.proofs.Calls.{keeps_wider, keeps_joined}
+use Rattle.flash_core.proofs.Calls.{keeps_joined}
 use Rattle.flash_format.specs.Places.{Erased}
 use Rattle.flash_format.proofs.Clearing.{only_then}
 use Rattle.flash_format.proofs.Ordered.{bare_fresh, bare_stays}
 use Rattle.flash_format.proofs.Ranges.{erased_stays}
 use Rattle.flash_format.proofs.Recorded.{on_ok_from, on_ok_map}
 use Rattle.flash_format.proofs.erasing.erase_all.Goals as goal
-
-pub returns-in_err-erase_layout-clause-keeps : goal.returns-in_err-erase_layout-clause-keeps
-returns-in_err-erase_layout-clause-keeps g c = λ tells.
-    let s = g.D.Flash.told c.args.flash.now in
-    let m = g.D.Flash.told c.erase_layout.new.flash in
-    keeps_wider 0 4096 0 (4096 * c.args.count) s m (omega arith) (omega (arith, c.requires.some)) (c.erase_layout.ensures.keeps tells)
-
-pub returns-in_err-erase_layout-clause-first : goal.returns-in_err-erase_layout-clause-first
-returns-in_err-erase_layout-clause-first g c = λ tells. inl (c.erase_layout.ensures.keeps tells)
 
 pub returns-clause-keeps : goal.returns-clause-keeps
 returns-clause-keeps g c = λ tells.

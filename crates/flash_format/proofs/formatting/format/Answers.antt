@@ -1,20 +1,18 @@
 use Rattle.std.proofs.Common.{◌≡◌, ◌*◌, ℕ, List, length, ap, sym, subst, ◌∙◌, arith, Option, Result, Ok, Err}
 use Rattle.std.specs.Prelude.{IsTrue}
 use Rattle.flash_core.specs.May.{Keeps}
-use Rattle.flash_core.proofs.Calls.{keeps_same}
 use Rattle.host_io.specs.Contents.{Directory}
 use Rattle.fwu_formats.specs.Layout.{Layout, blocks_needed, fits_layout}
 use Rattle.fwu_model.specs.Answer.{images_of}
 use Rattle.fwu_formats.specs.Package.{Toc, toc_of}
 use Rattle.fip_tables.specs.Files.{Tells}
-use Rattle.flash_format.specs.Formatted.{HoldsImages, IsBlank, IsInOrder, IsRefused, begun}
+use Rattle.flash_format.specs.Formatted.{HoldsImages, IsBlank, IsInOrder, IsRefused}
 use Rattle.flash_format.specs.Places.{AllStand}
 use Rattle.flash_format.specs.Stops.{Finishes}
 use Rattle.flash_format.specs.declared.formatting.Formatted.{Formatted}
 use Rattle.flash_format.specs.declared.stops.FormatStop.{FormatStop}
 use Rattle.flash_format.specs.declared.stops.FormatStop.TheVariants.{Input}
 use Rattle.flash_format.specs.declared.stops.InputFault.TheVariants.{Incomplete}
-use Rattle.flash_format.proofs.Clearing.{only_same}
 use Rattle.flash_format.proofs.Formats.{not_refused}
 use Rattle.flash_format.proofs.Given.{fitted_is, hold_given, finishes_err}
 use Rattle.flash_format.proofs.formatting.format.Goals as goal
@@ -104,11 +102,6 @@ returns-clause-blank g c = λ tells.
     let L : Layout = record { banks = c.args.banks; rows = c.args.rows.now } in
     let t = g.D.Flash.told c.carry_out.new.flash in
     subst (λ (l : Layout). IsBlank l t.now) (fitted_is L c.blocks-2.result K c.in-Ok.ensures.fits).is (c.in-Ok-carry_out.ensures.blank tells)
-
-pub returns-in-Err-clause-ordered : goal.returns-in-Err-clause-ordered
-returns-in-Err-clause-ordered g c = λ tells.
-    let s = g.D.Flash.told c.args.flash.now in
-    begun (only_same s) (keeps_same 0 4096 s)
 
 pub returns-in-Err-carry_out-clause-ordered : goal.returns-in-Err-carry_out-clause-ordered
 returns-in-Err-carry_out-clause-ordered g c = λ tells.
