@@ -3,3 +3,4 @@ pub mod Started
 pub mod Told
 pub mod Asked
 pub mod Metas
+pub mod GoneBack

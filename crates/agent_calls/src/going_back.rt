@@ -8,10 +8,12 @@ ghost use Rattle.image_check.specs.Verdict.{verdict_on};
 ghost use Rattle.image_check.specs.Law.{may_start};
 ghost use Rattle.agent_kept.specs.declared.kinds.Request.TheVariants as request;
 ghost use Rattle.agent_kept.specs.Kept.{kept};
+ghost use Rattle.agent_state.specs.Asked.{IsFor};
 ghost use Rattle.agent_state.specs.Decides.{Decides};
 ghost use Rattle.agent_state.specs.Ruled.{ruled_as};
 ghost use Rattle.agent_machine.specs.Meets.{MeetsPrevious, GoesBy, IsDone, IsRefused, flash_result};
 ghost use Rattle.agent_machine.specs.Stored.{TakesStore, is_to_do, may_try_kept};
+ghost use Rattle.agent_calls.specs.GoneBack.{SomePassed};
 ghost use Rattle.agent_calls.specs.Metas.{meta_back};
 ghost use Rattle.replicas.specs.Stores.{Stores};
 
@@ -81,6 +83,8 @@ fn is_bank_good<D: Flash, V: Verifier>(
     requires bank { bank < layout.now.banks }
     ensures good { IfOk result (λ good. IsTrue D.tells → good ≡ may_start
         (verdict_on (V.passes verifier.now) counter layout.now (D.told flash.old).now bank)) }
+    ensures passed { IfOk result (λ good. IsTrue good →
+        SomePassed (V.passes verifier.now) layout.now.rows counter) }
     ensures content { IsTrue D.tells → D.told flash.new ≡ D.told flash.old }
     ensures power { D.on flash.new ≡ is_ok result }
     ensures size { D.blocks flash.new ≡ D.blocks flash.old }
@@ -112,6 +116,8 @@ impl<D: Flash> Agent<D> {
         requires here { IsFalse (gone self.old) }
         requires decided { Decides (V.passes verifier.now) self.old.meta self.old.counter
             (kept self.old.session) self.old.boot request.Previous decision.now }
+        requires asked { IsFor (kept self.old.session) self.old.meta.meta request.Previous
+            decision.now }
         ensures meets { MeetsPrevious result (V.passes verifier.now)
             (moment self.old) (moment self.new) }
         ensures goes { GoesBy result (gone self.old) (gone self.new) }
@@ -123,6 +129,8 @@ impl<D: Flash> Agent<D> {
             (D.told (device self.old)) (D.told (device self.new)) }
         ensures keeps { OnOk result ((fields self.new).meta ≡ meta_back (fields self.old)) }
         ensures session { OnOk result ((fields self.new).session ≡ (fields self.old).session) }
+        ensures passed { OnOk result (SomePassed (V.passes verifier.now)
+            (fields self.old).layout.rows (fields self.old).counter) }
         ensures content { IsRefused result → IsTrue D.tells →
             D.told (device self.new) ≡ D.told (device self.old) }
         ensures arming { IsRefused result →
@@ -186,6 +194,10 @@ impl<D: Flash> Agent<D> {
         // On any device: the agent keeps that metadata, and the session as it was.
         ensures keeps { OnOk result ((fields self.new).meta ≡ meta_back (fields self.old)) }
         ensures session { OnOk result ((fields self.new).session ≡ (fields self.old).session) }
+        // On any device: where it goes back, some manifest passed, of a version that is not below the
+        // counter.
+        ensures passed { OnOk result (SomePassed (V.passes verifier.now)
+            (fields self.old).layout.rows (fields self.old).counter) }
         ensures content { IsRefused result → IsTrue D.tells →
             D.told (device self.new) ≡ D.told (device self.old) }
         ensures arming { IsRefused result →

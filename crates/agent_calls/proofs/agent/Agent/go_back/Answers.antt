@@ -11,7 +11,7 @@ use Rattle.agent_machine.specs.Stored.{is_to_do, may_try_kept}
 use Rattle.meta_layout.proofs.Fits.{meta-fits}
 use Rattle.agent_machine.proofs.StoredBack.{untried-meets, stopped-meets, bad-meets, back-meets}
 use Rattle.agent_calls.specs.Shown.{fields, moment}
-use Rattle.agent_calls.proofs.StoredVerdict.{good-permitted, promised}
+use Rattle.agent_calls.proofs.StoredVerdict.{back-is-good, good-permitted, promised}
 use Rattle.agent_calls.proofs.Makes.{ok-any, back-stopped}
 use Rattle.agent_calls.proofs.agent.Agent.go_back.Goals as goal
 
@@ -98,3 +98,12 @@ returns-else-not-goes_back-clause-session g c = ok-any c.carry_out.result c.carr
 
 pub returns-else-not-goes_back-clause-content : goal.returns-else-not-goes_back-clause-content
 returns-else-not-goes_back-clause-content g c refused = absurd (c.carry_out.ensures.answered refused)
+
+-- the decision was one that the verdict rules, so that it was good
+pub returns-else-not-goes_back-clause-passed : goal.returns-else-not-goes_back-clause-passed
+returns-else-not-goes_back-clause-passed g c =
+    let a = c.args.self.now in
+    ok-any c.carry_out.result
+    (c.in-Ok.ensures.passed
+    (back-is-good (kept a.session) a.meta.meta c.args.decision.now c.in-Ok.good c.requires.asked
+    (promised c.goes_back.result (is_to_do (ruled_as c.args.decision.now c.in-Ok.good)) true c.goes_back.ensures c.if-not-goes_back.false)))

@@ -44,3 +44,6 @@ returns-clause-session g c = c.go_back.ensures.session
 
 pub returns-clause-content : goal.returns-clause-content
 returns-clause-content g c = c.go_back.ensures.content
+
+pub returns-clause-passed : goal.returns-clause-passed
+returns-clause-passed g c = c.go_back.ensures.passed
