@@ -9,5 +9,6 @@ pub mod Mended
 pub mod Led
 pub mod Boots
 pub mod Ended
+pub mod Taken
 pub mod Known
 pub mod Whole

@@ -19,7 +19,7 @@ use Rattle.early_boot.specs.declared.choosing.Chosen.{Chosen}
 use Rattle.early_boot.specs.declared.showing.Shown.{Shown}
 use Rattle.early_boot.specs.Showing.{state_shown}
 use Rattle.early_boot.specs.Choosing.{boot_setting}
-use Rattle.early_boot.specs.Mending.{mended}
+use Rattle.early_boot.specs.Mending.{TakesMending, mended}
 use Rattle.early_boot.specs.CountingStarts.{WritesMoves, TakesCounting, counting_in}
 
 -- the bank that was chosen, without what is shown once its start is counted
@@ -61,6 +61,13 @@ TakesFound shown (Some start) armed arming = TakesCounting (counting_in shown st
 pub record TakesRepairAndStart (shown : Shown) (found : Option (Shown × Chosen)) (armed arming : Option Arming) : Type 0 where
   pub repaired : Option Arming
   pub repair : TakesRepair shown.which armed repaired
+  pub start : TakesFound (mended shown) found repaired arming
+
+-- the same, by what an image that shows this holds
+pub record TakesMendingAndStart (shown : Shown) (image : List ℕ) (found : Option (Shown × Chosen))
+    (armed arming : Option Arming) : Type 0 where
+  pub repaired : Option Arming
+  pub repair : TakesMending shown.layout shown.which shown.meta image armed repaired
   pub start : TakesFound (mended shown) found repaired arming
 
 -- ---- all of it

@@ -1,5 +1,6 @@
-use Rattle.std.proofs.Common.{ℕ, Option, Ok, Err, sym, ap, subst, ◌∙◌, IsTrue}
+use Rattle.std.proofs.Common.{ℕ, Option, Some, None, Ok, Err, sym, ap, subst, ◌∙◌, IsTrue}
 use Rattle.std.specs.Prelude.{IfSome}
+use Rattle.flash_core.specs.declared.flash.Arming.{Arming}
 use Rattle.flash_core.specs.Told.{Told}
 use Rattle.early_boot.specs.declared.choosing.Chosen.{Chosen}
 use Rattle.early_boot.specs.declared.showing.Shown.{Shown}
@@ -13,13 +14,14 @@ use Rattle.early_boot.specs.EndsBy.{StartedBy, StartsByNumbers, StartsPermitted}
 use Rattle.early_boot.proofs.Choices.{starts_by_numbers, unshown_started, stopped_started, unshown_permitted, stopped_permitted}
 use Rattle.early_boot.specs.Mending.{mended}
 use Rattle.early_boot.specs.Numbers.{numbers}
-use Rattle.early_boot.specs.Starting.{Boots, chosen_of}
+use Rattle.early_boot.specs.Starting.{Boots, TakesMendingAndStart, chosen_of}
 use Rattle.early_boot.specs.CountingStarts.{CountsLater}
 use Rattle.early_boot.specs.Started.{Started, started, started_as}
 use Rattle.early_boot.specs.Ends.{Ended, booted, device_of, no_bank}
-use Rattle.early_boot.specs.EndsBy.{BootEnds, IdleEnd, stopped_with, unshown_end}
+use Rattle.early_boot.specs.EndsBy.{BootEnds, IdleEnd, TakesByBytes, stopped_with, unshown_end}
 use Rattle.early_boot.proofs.Endings.{shown-numbers}
 use Rattle.early_boot.proofs.Ended.{unshown-ends, unshown-idle, stopped-idle, started-bytes, started-ends, none-ends, stopped-ends}
+use Rattle.early_boot.proofs.Taken.{none-takes, start-takes, stopped-takes, unshown-takes}
 use Rattle.early_boot.proofs.Known.{started-knows}
 use Rattle.early_boot.proofs.start.boot.Goals as goal
 
@@ -146,3 +148,49 @@ returns-in-Err-clause-permitted g c = subst (StartsPermitted (g.V.Verifier.passe
 
 pub returns-in-Err-mend_and_start-clause-permitted : goal.returns-in-Err-mend_and_start-clause-permitted
 returns-in-Err-mend_and_start-clause-permitted g c = subst (StartsPermitted (g.V.Verifier.passes c.args.verifier.now)) (sym c.stopped_with.ensures.ended) (stopped_permitted _ c.in-Err-mend_and_start.stop _)
+
+-- what was shown is shown by the bytes at entry, and the device was only read before that
+pub returns-in-Ok-Some-clause-once : goal.returns-in-Ok-Some-clause-once
+returns-in-Ok-Some-clause-once g c tells =
+    let shown = c.in-Ok.shown in
+    let n = numbers c.numbers_in-numbers.result in
+    let image = (g.D.Flash.told c.args.flash).now in
+    let armed = g.D.Flash.arming c.args.flash in
+    let read = c.read_shown.new.flash in
+    let arming = g.D.Flash.arming c.mend_and_start.new.flash in
+    let start : Option (Shown × Chosen) = Some (c.in-Ok-Some.after, c.in-Ok-Some.chosen) in
+    let later = subst (λ (o : Option (Shown × Chosen)). IfSome o (λ (start : Shown × Chosen). CountsLater (mended shown) start.0)) c.in-Ok-Some.field-0-is c.in-Ok-Some.ensures.later in
+    let takes = subst (λ (o : Option (Shown × Chosen)). TakesMendingAndStart shown (g.D.Flash.told read).now o (g.D.Flash.arming read) arming) c.in-Ok-Some.field-0-is (c.in-Ok-Some.ensures.once tells) in
+    let at_entry = subst (λ (u : Told). TakesMendingAndStart shown u.now start (g.D.Flash.arming read) arming) (c.in-Ok.ensures.content tells) takes in
+    let from_entry = subst (λ (a : Option Arming). TakesMendingAndStart shown image start a arming) c.in-Ok.ensures.arming at_entry in
+    subst (λ (a : Option Arming). TakesByBytes image (booted (started c.of.result) n) armed a) (sym (ap g.D.Flash.arming c.of.ensures.device))
+    (subst (λ (b : Started). TakesByBytes image (booted b n) armed arming) (sym c.of.ensures.started)
+    (start-takes shown c.in-Ok-Some.after c.in-Ok-Some.chosen n c.numbers_in-numbers.ensures later image armed arming (c.in-Ok.ensures.shows tells) from_entry))
+
+pub returns-in-Ok-None-clause-once : goal.returns-in-Ok-None-clause-once
+returns-in-Ok-None-clause-once g c tells =
+    let shown = c.in-Ok.shown in
+    let image = (g.D.Flash.told c.args.flash).now in
+    let armed = g.D.Flash.arming c.args.flash in
+    let read = c.read_shown.new.flash in
+    let arming = g.D.Flash.arming c.mend_and_start.new.flash in
+    let takes = subst (λ (o : Option (Shown × Chosen)). TakesMendingAndStart shown (g.D.Flash.told read).now o (g.D.Flash.arming read) arming) c.in-Ok-None.field-0-is (c.in-Ok-None.ensures.once tells) in
+    let at_entry = subst (λ (u : Told). TakesMendingAndStart shown u.now None (g.D.Flash.arming read) arming) (c.in-Ok.ensures.content tells) takes in
+    let from_entry = subst (λ (a : Option Arming). TakesMendingAndStart shown image None a arming) c.in-Ok.ensures.arming at_entry in
+    none-takes shown image armed arming (c.in-Ok.ensures.shows tells) from_entry
+
+pub returns-in-Err-clause-once : goal.returns-in-Err-clause-once
+returns-in-Err-clause-once g c tells =
+    let image = (g.D.Flash.told c.args.flash).now in
+    let armed = g.D.Flash.arming c.args.flash in
+    subst (λ (e : Ended). TakesByBytes image e armed (g.D.Flash.arming (device_of c.unshown.result))) (sym c.unshown.ensures.ended)
+    (subst (λ (a : Option Arming). TakesByBytes image (unshown_end c.in-Err.why) armed a) (sym (ap g.D.Flash.arming c.unshown.ensures.device))
+    (unshown-takes c.in-Err.why image armed (g.D.Flash.arming c.read_shown.new.flash) c.in-Err.ensures.arming))
+
+pub returns-in-Err-mend_and_start-clause-once : goal.returns-in-Err-mend_and_start-clause-once
+returns-in-Err-mend_and_start-clause-once g c tells =
+    let image = (g.D.Flash.told c.args.flash).now in
+    let armed = g.D.Flash.arming c.args.flash in
+    let arming = g.D.Flash.arming (device_of c.stopped_with.result) in
+    subst (λ (e : Ended). TakesByBytes image e armed arming) (sym c.stopped_with.ensures.ended)
+    (stopped-takes c.in-Err-mend_and_start.stop (numbers c.numbers_in-numbers.result) image armed arming)

@@ -1,0 +1,77 @@
+-- How much nearer an armed loss a boot comes, by the bytes that its device told at entry.
+use Rattle.std.proofs.Common.{◌≡◌, ℕ, ◌==◌, Bool, true, false, not, cond, List, Option, Some, None, Err, refl, sym, ap, subst, ◌∙◌}
+use Rattle.flash_core.specs.declared.flash.Arming.{Arming}
+use Rattle.flash_core.specs.declared.flash.FlashStop.{FlashStop}
+use Rattle.flash_core.specs.declared.flash.FlashStop.TheVariants as flash_stop
+use Rattle.flash_core.specs.Counts.{arming_kept}
+use Rattle.fwu_formats.specs.Metadata.{MetaRead, state_at}
+use Rattle.fwu_model.specs.State.{Numbers}
+use Rattle.early_boot.specs.declared.choosing.Chosen.{Chosen}
+use Rattle.early_boot.specs.declared.counting_starts.Counting.{Counting}
+use Rattle.early_boot.specs.declared.counting_starts.Counting.TheVariants as counting
+use Rattle.early_boot.specs.declared.showing.Shown.{Shown}
+use Rattle.early_boot.specs.declared.showing.Unshown.{Unshown}
+use Rattle.early_boot.specs.declared.showing.Unshown.TheVariants as unshown
+use Rattle.early_boot.specs.Showing.{Shows, stop_in}
+use Rattle.early_boot.specs.Mending.{TakesMending, mended}
+use Rattle.early_boot.specs.Numbers.{numbers_shown}
+use Rattle.early_boot.specs.CountingStarts.{CountsLater, TakesCounting, counting_in, counting_of}
+use Rattle.early_boot.specs.Starting.{TakesMendingAndStart}
+use Rattle.early_boot.specs.Tells.{started_as}
+use Rattle.early_boot.specs.EndsBy.{TakesByBytes, TakesLoaded, TakesLoadedAndStart, counting_told, stopped_with, unshown_end}
+
+-- ---- nothing was shown, or the flash stopped it
+
+pub unshown-takes : (why : Unshown) (image : List ℕ) (armed arming : Option Arming) → arming ≡ arming_kept (stop_in {T = Shown} (Err why)) armed
+    → TakesByBytes image (unshown_end why) armed arming
+unshown-takes (unshown.Layout f) image armed arming is = is
+unshown-takes unshown.Metadata image armed arming is = is
+unshown-takes (unshown.Flash flash_stop.Lost) image armed arming is = tt
+unshown-takes (unshown.Flash flash_stop.Failed) image armed arming is = tt
+
+pub stopped-takes : (stop : FlashStop) (n : Numbers) (image : List ℕ) (armed arming : Option Arming) → TakesByBytes image (stopped_with stop n) armed arming
+stopped-takes flash_stop.Lost n image armed arming = tt
+stopped-takes flash_stop.Failed n image armed arming = tt
+
+-- ---- what the start is counted as is told by the numbers
+
+swapped : (b : Bool) (x y : Counting) → cond b x y ≡ cond (not b) y x
+swapped true x y = refl
+swapped false x y = refl
+
+module _ (shown after : Shown) (chosen : Chosen) (n : Numbers) (read : n ≡ numbers_shown shown) (later : CountsLater (mended shown) after) where
+  abbrev counted : Counting
+  counted = counting_of (state_at shown.meta.meta shown.meta.meta.active) shown.counter chosen.version
+
+  counting-is : counting_in (mended shown) chosen ≡ counting_told (started_as after chosen) n
+  counting-is =
+      swapped (chosen.bank == shown.meta.meta.active) counted counting.Nothing
+      ∙ ap (λ (r : MetaRead). cond (not (chosen.bank == r.meta.active)) counting.Nothing counted) (sym later.meta)
+      ∙ ap (λ (m : Numbers). counting_told (started_as after chosen) m) (sym read)
+
+  pub start-takes : (image : List ℕ) (armed arming : Option Arming) → Shows image shown → TakesMendingAndStart shown image (Some (after, chosen)) armed arming
+      → TakesLoadedAndStart image (started_as after chosen) n armed arming
+  start-takes image armed arming shows takes = record {
+    repaired = takes.repaired;
+    repair = record {
+      layout = shown.layout;
+      layout_is = shows.layout_is;
+      which = shown.which;
+      meta = shown.meta;
+      loads = shows.loads;
+      takes = takes.repair;
+    };
+    counting = subst (λ (k : Counting). TakesCounting k takes.repaired arming) counting-is takes.start;
+  }
+
+-- where none was started, the repair alone
+pub none-takes : (shown : Shown) (image : List ℕ) (armed arming : Option Arming) → Shows image shown → TakesMendingAndStart shown image None armed arming
+    → TakesLoaded image armed arming
+none-takes shown image armed arming shows takes = record {
+  layout = shown.layout;
+  layout_is = shows.layout_is;
+  which = shown.which;
+  meta = shown.meta;
+  loads = shows.loads;
+  takes = subst (λ (a : Option Arming). TakesMending shown.layout shown.which shown.meta image armed a) (sym takes.start) takes.repair;
+}
