@@ -28,7 +28,7 @@ use Rattle.agent_machine.specs.Fields.{Fields}
 use Rattle.agent_machine.specs.Moment as agent
 use Rattle.early_boot.specs.Started.{Started, started_session}
 use Rattle.early_boot.specs.Ends.{Ended, booted, bad_layout, no_metadata, no_bank, lost, failed, stop_of}
-use Rattle.early_boot.specs.EndsBy.{BootEnds, EndsByBytes, EndsByMachine, IdleEnd, StartsReady, StopsWith, StartedBy, StartsPermitted, TakesBoot}
+use Rattle.early_boot.specs.EndsBy.{BootEnds, EndsByBytes, EndsByMachine, IdleEnd, StartsReady, StopsWith, StartedBy, StartsPermitted, TakesBoot, TakesByBytes}
 use Rattle.script_turns.specs.Powered.{Moment, IsAt, IsSafe, kept_at}
 use Rattle.script_turns.specs.Booted.{BootsFrom}
 use Rattle.script_turns.specs.Replies.{LeavesOn, power_after}
@@ -364,6 +364,7 @@ pub record EndsTurn (passes : List ℕ → Bool) (tells : Bool) (e : Ended) (mid
   pub spent : TakesBoot e mid.armed new.armed
   pub started : StartedBy e
   pub permitted : StartsPermitted passes e
+  pub once : IsTrue tells → TakesByBytes mid.told.now e mid.armed new.armed
   pub unarmed : StaysUnarmed (stop_of e) mid.armed new.armed mid.counts new.counts
   pub ends : IsTrue tells → BootEnds passes mid.told e new.told
 
@@ -393,6 +394,7 @@ module _ (passes : List ℕ → Bool) (tells : Bool) (files : Option Directory) 
             spent = ended.spent;
             started = ended.started;
             permitted = ended.permitted;
+            once = ended.once;
             ends = ended.ends;
           },
         );

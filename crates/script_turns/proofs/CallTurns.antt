@@ -27,7 +27,7 @@ use Rattle.agent_machine.specs.Fields.{Fields}
 use Rattle.agent_machine.specs.Moment as agent
 use Rattle.agent_machine.specs.Meets.{Answers, IsSettingOf, Leaves, flash_result}
 use Rattle.script_turns.specs.Powered.{Moment, IsAt, IsSafe, at, kept_at}
-use Rattle.script_turns.specs.Replies.{AnswersCall, CallSays, GoesBackBy, IsDecided, IsFlashStop, IsPrevious, IsReplyOf, Replies, power_after}
+use Rattle.script_turns.specs.Replies.{AnswersCall, CallSays, GoesBackBy, IsDecided, IsFlashStop, IsPrevious, IsReplyOf, PermitsBack, Replies, power_after}
 use Rattle.script_turns.specs.Takes.{TakesOn}
 use Rattle.script_turns.specs.Calls.{is_agents, on_by, reply_by}
 use Rattle.script_turns.specs.Turning.{Makes, Turns, quiet_turn}
@@ -262,6 +262,7 @@ pub record Called {T : Type 0} (says : T → Reply) (result : Result T Stop) (pa
   pub exact : (E : Setting) (s : State) (x : Session) → IsSettingOf old.fields passes E → agent.Shows old s x → IsDecided old.tells c
       → Answers (λ value q. IsReplyOf old.tells c q (says value)) result E s x c new
   pub back : IsPrevious c → (s : State) (x : Session) → agent.Shows old s x → GoesBackAs says result s x new
+  pub permitted : IsPrevious c → (value : T) → result ≡ Ok value → PermitsBack passes (says value) old.fields
   pub leaves : Leaves (flash_result result) passes c old new
 
 -- a refusal is the machine's, of each call
@@ -277,12 +278,13 @@ module _ {T : Type 0} (says : T → Reply) (passes : List ℕ → Bool) (tells :
       → Turns passes tells files c (quiet_turn c (reply_by says result)) (at (Some f) told was armed power) (at (on_by result g) now are after_armed after_power) faults faults
   call-turns (Ok value) called power_is costs takes =
       let answers : AnswersCall passes c (says value) (kept_at tells f told) (kept_at tells g now) =
-      record { exact = called.exact; back = called.back; stays = called.leaves.stays } in
+      record { exact = called.exact; back = called.back; permitted = λ previous. called.permitted previous value refl; stays = called.leaves.stays } in
       turns-answered passes tells files faults c (says value) f g told now was are armed after_armed power after_power called.agents (called.never value) power_was power_is answers called.leaves costs takes
   call-turns (Err (stop.Status st)) called power_is costs takes =
       let answers : AnswersCall passes c (reply.Refused st) (kept_at tells f told) (kept_at tells g now) = record {
         exact = λ E s x setting shows d. let h = called.exact E s x setting shows d in (refused-reply tells c _ st h.0, h.1);
         back = called.back;
+        permitted = λ previous. tt;
         stays = called.leaves.stays;
       } in
       turns-answered passes tells files faults c (reply.Refused st) f g told now was are armed after_armed power after_power called.agents refl power_was power_is answers called.leaves costs takes

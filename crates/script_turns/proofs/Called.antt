@@ -1,6 +1,6 @@
 -- The turn of a call of the agent, on its device: what each call says, and what its turn left.
 use Rattle.std.proofs.Common.{◌≡◌, ℕ, ◌≤◌, Bool, List, [], length, Option, Some, Result, Ok, Err, refl, sym, ap, subst, ◌∙◌, IsTrue, IsFalse, arith}
-use Rattle.std.specs.Prelude.{is_ok, IfOk}
+use Rattle.std.specs.Prelude.{is_ok, IfOk, OnOk}
 use Rattle.std.proofs.lemmas.List.{length-take-le}
 use Rattle.flash_core.specs.declared.flash.Flash.{Ghosts}
 use Rattle.flash_core.specs.declared.flash.Counts.{Counts}
@@ -24,6 +24,7 @@ use Rattle.agent_machine.specs.Fields.{Fields}
 use Rattle.agent_machine.specs.Moment as agent
 use Rattle.agent_machine.specs.Meets.{Answers, GoesBack, GoesBy, IsGot, Meets, MeetsPrevious, flash_result}
 use Rattle.agent_calls.specs.declared.agent.Agent.{Agent}
+use Rattle.agent_calls.specs.GoneBack.{SomePassed}
 use Rattle.agent_calls.specs.Shown.{fields, gone, moment}
 use Rattle.agent_calls.specs.Shown.{device as agent_device}
 use Rattle.script_turns.specs.declared.powered.Powered.{Powered}
@@ -62,6 +63,7 @@ called Says says result passes c old new agents other never here same meets = re
   here = here;
   exact = λ E s x setting shows d. answers-as Says (λ value q. IsReplyOf old.tells c q (says value)) result E s x c new same (meets.exact E s x setting shows);
   back = λ previous. absurd (other previous);
+  permitted = λ previous value is. absurd (other previous);
   leaves = meets.leaves;
 }
 
@@ -73,13 +75,15 @@ goes-back (Err stop.Fault) s x new goes = tt
 goes-back (Err stop.Gone) s x new goes = tt
 
 pub called-previous : (result : Result (Unit {0}) Stop) (passes : List ℕ → Bool) (old new : agent.Moment) → (result ≡ Err stop.Gone → ⊥)
-    → MeetsPrevious result passes old new → Called (λ value. reply.Success) result passes call.Previous old new
-called-previous result passes old new here meets = record {
+    → MeetsPrevious result passes old new → OnOk result (SomePassed passes old.fields.layout.rows old.fields.counter)
+    → Called (λ value. reply.Success) result passes call.Previous old new
+called-previous result passes old new here meets passed = record {
   agents = refl;
   never = λ value. refl;
   here = here;
   exact = λ E s x setting shows d. meets.exact E s x setting shows d;
   back = λ previous s x shows. goes-back result s x new (meets.shows s x shows);
+  permitted = λ previous value is. subst (λ (r : Result (Unit {0}) Stop). OnOk r (SomePassed passes old.fields.layout.rows old.fields.counter)) is passed;
   leaves = meets.leaves;
 }
 

@@ -10,7 +10,7 @@ use Rattle.agent_machine.specs.Fields.{Fields}
 use Rattle.agent_calls.specs.Started.{StartsFrom}
 use Rattle.early_boot.specs.Started.{started_reply}
 use Rattle.early_boot.specs.Ends.{Ended, booted, bad_layout, no_metadata, no_bank, lost, failed}
-use Rattle.early_boot.specs.EndsBy.{BootEnds, IdleEnd, StartedBy, StartsPermitted, TakesBoot}
+use Rattle.early_boot.specs.EndsBy.{BootEnds, IdleEnd, StartedBy, StartsPermitted, TakesBoot, TakesByBytes}
 use Rattle.script_turns.specs.Powered.{Moment, SameDevice}
 
 abbrev pub reply_of_end : Ended → Reply
@@ -52,7 +52,7 @@ GetsPower tells (Some f) old new = SameDevice old new
 -- The flash had power, and its boot ended so. On any device a boot that found no layout or no metadata wrote nothing, and one that
 -- started a bank wrote no more than the repair and the count of the start; and what was started may be, by the numbers at entry, and
 -- is of a version that some manifest has which passes, not below the counter. Where the content is told, the end is that of the
--- bytes, sound or not, and so is what was written.
+-- bytes, sound or not, and so are what was written and how much nearer an armed loss came.
 pub record BootsAs (passes : List ℕ → Bool) (tells : Bool) (old : Moment) (r : Reply) (new : Moment) : Type 0 where
   pub mid : Moment
   pub has : GetsPower tells old.on old mid
@@ -63,4 +63,5 @@ pub record BootsAs (passes : List ℕ → Bool) (tells : Bool) (old : Moment) (r
   pub spent : TakesBoot end mid.armed new.armed
   pub started : StartedBy end
   pub permitted : StartsPermitted passes end
+  pub once : IsTrue tells → TakesByBytes mid.told.now end mid.armed new.armed
   pub ends : IsTrue tells → BootEnds passes mid.told end new.told

@@ -15,6 +15,7 @@ use Rattle.agent_kept.specs.Kept.{HasNothing, handles_meant}
 use Rattle.agent_machine.specs.Fields.{Fields}
 use Rattle.agent_machine.specs.Moment as agent
 use Rattle.agent_machine.specs.Meets.{IsSettingOf, ShowsNext, Stays, may_try}
+use Rattle.agent_calls.specs.GoneBack.{SomePassed}
 use Rattle.script_turns.specs.Powered.{Moment, kept_at, numbers_kept}
 use Rattle.script_turns.specs.Arms.{Arms}
 use Rattle.script_turns.specs.Boots.{BootsAs}
@@ -86,12 +87,18 @@ GoesBackBy reply.Success s x new = IsTrue (may_try s x) × agent.Shows new (afte
 GoesBackBy (reply.Refused st) s x new = (st ≡ status.Denied) × agent.Shows new s x
 GoesBackBy other s x new = ⊥
 
+-- Where it goes back, some manifest passed, of a version that is not below the counter that the agent keeps.
+abbrev pub PermitsBack : (List ℕ → Bool) → Reply → Fields → Type 0
+PermitsBack passes reply.Success f = SomePassed passes f.layout.rows f.counter
+PermitsBack passes other f = ⊤
+
 -- An answer or a refusal of a call of the agent is that of each machine that the agent shows, and it shows the machine after it.
 pub record AnswersCall (passes : List ℕ → Bool) (c : Call) (r : Reply) (old new : agent.Moment) : Type 0 where
   pub exact : (E : Setting) (s : State) (x : Session) → IsSettingOf old.fields passes E → agent.Shows old s x
       → IsDecided old.tells c
       → IsReplyOf old.tells c (answer E s x c).reply r × ShowsNext E s x c new
   pub back : IsPrevious c → (s : State) (x : Session) → agent.Shows old s x → GoesBackBy r s x new
+  pub permitted : IsPrevious c → PermitsBack passes r old.fields
   pub stays : Stays old new
 
 -- While off no call of the agent is done. Else it is answered or refused, or the flash stops it and nothing is on.

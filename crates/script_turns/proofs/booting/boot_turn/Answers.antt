@@ -1,6 +1,6 @@
 use Rattle.std.proofs.Common.{sym, ap, subst, ◌∙◌}
 use Rattle.early_boot.specs.Ends.{ended, stop_of}
-use Rattle.early_boot.specs.EndsBy.{BootEnds, IdleEnd, TakesBoot}
+use Rattle.early_boot.specs.EndsBy.{BootEnds, IdleEnd, TakesBoot, TakesByBytes}
 use Rattle.flash_core.specs.Counts.{Spends, StaysUnarmed}
 use Rattle.fwu_model.specs.Call as call
 use Rattle.fwu_model.specs.Reply.{Turn}
@@ -29,6 +29,7 @@ returns-clause-turns g c files faults =
       spent = subst (λ d. TakesBoot e (F.arming flash) (F.arming d)) (sym c.turned_by.ensures.device) c.boot.ensures.spent;
       started = c.boot.ensures.started;
       permitted = c.boot.ensures.permitted;
+      once = λ told. subst (λ d. TakesByBytes (F.told flash).now e (F.arming flash) (F.arming d)) (sym c.turned_by.ensures.device) (c.boot.ensures.once told);
       unarmed = subst (λ d. StaysUnarmed (stop_of e) (F.arming flash) (F.arming d) (F.counts flash) (F.counts d)) (sym c.turned_by.ensures.device) c.boot.ensures.unarmed;
       ends = λ told. subst (λ d. BootEnds passes (F.told flash) e (F.told d)) (sym c.turned_by.ensures.device) (c.boot.ensures.ends told);
     }) c.with_power.ensures.has)

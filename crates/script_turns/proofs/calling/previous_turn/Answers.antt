@@ -15,7 +15,7 @@ returns-clause-turns g c files faults =
     let h = c.previous-result.ensures in
     let here = never-gone result _ _ h.goes live in
     turns-by a b c.done.result.powered live c.done.ensures.device (λ value. reply.Success) result (g.V.Verifier.passes c.args.verifier.now) files faults call.Previous _ c.done.ensures.turn c.done.ensures.on (h.power live) h.costs
-    (called-previous result (g.V.Verifier.passes c.args.verifier.now) _ _ here (h.meets live (g.V.Verifier.passes c.args.verifier.now) refl))
+    (called-previous result (g.V.Verifier.passes c.args.verifier.now) _ _ here (h.meets live (g.V.Verifier.passes c.args.verifier.now) refl) h.passed)
     (stores-by result (fields a) (fields b) _ _ h.spent h.arming h.unarmed)
 
 pub returns-clause-powered : goal.returns-clause-powered
