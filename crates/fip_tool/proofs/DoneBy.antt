@@ -107,7 +107,7 @@ module _ {H I O : Type 0} {contents : H → Option Directory} {file_faults : H �
       files_stay = λ stays. refl;
       cause = λ e untold. absurd cc;
       file_count = faults-none refl;
-      wrote = wrote-none asked (taken sink) (taken sink) (writes files).done stop.NoMemory;
+      wrote = wrote-none asked (taken sink) (writes files).done stop.NoMemory;
       later = omega arith;
       sink_count = refl;
     }

@@ -2,6 +2,7 @@
 use Rattle.std.proofs.Common.{◌≡◌, ◌≢◌, ◌≤◌, ◌∷◌, ◌++◌, [], ℕ, List, Option, Some, None, Result, Ok, Err, Vec, ap, arith, false, inl, refl, subst, sym, ◌∙◌}
 use Rattle.std.specs.Prelude.{IfErr, OnOk, codes, decimal}
 use Rattle.std.specs.Global.{Global}
+use Rattle.std.proofs.KnownBytes.{Appends-nil}
 use Rattle.base_core.specs.Counts.{Rose}
 use Rattle.base_core.specs.Guid.{guid_text}
 use Rattle.fip_tables.specs.Files.{Tells}
@@ -52,7 +53,7 @@ module _ {H O : Type 0} {contents : H → Option Directory} {file_faults : H →
       cause = λ e. let same : s ≡ stop.FileFault = cc in cause (err-same same);
       usage = λ e. let same : s ≡ stop.Usage = cc in reads.usage (err-same same);
       file_count = faults-as (faults-of reads);
-      wrote = inl (ap (λ (w : Writes). w.done) unwritten);
+      wrote = inl (ap (λ (w : Writes). w.done) unwritten, Appends-nil _);
       later = reads.later;
       later_sink = omega arith;
       sink_count = still _ s (λ e. reads.sink (err-same e));

@@ -1,13 +1,13 @@
 -- What is written, whatever files there are: files one after the other, each with its text behind it.
-use Rattle.std.specs.Prelude.{◌≡◌, ◌⊎◌, ◌+◌, ◌<◌, ◌≤◌, ℕ, zero, suc, List, ◌++◌, Option, Some, None, Result, Ok, Err, length, take}
+use Rattle.std.specs.Prelude.{◌≡◌, ◌⊎◌, ◌+◌, ◌<◌, ◌≤◌, ℕ, zero, suc, List, [], ◌++◌, Option, Some, None, Result, Ok, Err, length, take, drop}
 use Rattle.std.specs.Io.KnownBytes.{Appends}
 use Rattle.host_io.specs.Calls.{raised}
 use Rattle.fip_words.specs.Order.{Asked, info, info_of_source, create, update, remove, unpack, manifest, capsule, repackage}
-use Rattle.fip_tool.specs.Ends.{exit_status}
-use Rattle.fip_tool.specs.Said.{IsTexts, joined}
+use Rattle.fip_tool.specs.Ends.{Reported, status_number}
+use Rattle.fip_tool.specs.Said.{IsTexts, half_of, joined}
 use Rattle.fip_tool.specs.Steps.{IsLate}
 use Rattle.fip_tool.specs.declared.stops.Stop.{Stop}
-use Rattle.fip_tool.specs.declared.stops.Stop.TheVariants.{FileFault}
+use Rattle.fip_tool.specs.declared.stops.Stop.TheVariants.{FileFault, SinkFault}
 
 -- how many files were written after one writing with this result
 abbrev pub written_once : Result (Unit {0}) Stop → ℕ → ℕ
@@ -26,28 +26,38 @@ pub record WroteAll (T : List (List ℕ) → Type 0) (was text : Option (List �
   pub said : Appends was text (joined texts)
   pub count : after ≡ raised_by (length texts) before
 
--- as many files were written as texts were printed, which are not all, or so many more
-pub record WroteSome (T : List (List ℕ) → Type 0) (more : ℕ) (was text : Option (List ℕ)) (before after : ℕ) : Type 0 where
-  pub texts : List (List ℕ)
-  pub are : T texts
-  pub printed : ℕ
-  pub left : printed < length texts
-  pub rest : List ℕ
-  pub said : Appends was text (joined (take printed texts) ++ rest)
-  pub files : ℕ
-  pub least : printed ≤ files
-  pub most : files ≤ printed + more
-  pub count : after ≡ raised_by files before
-
 -- how many files may be written whose text was not printed whole: none where a file's fault is told
 abbrev pub files_ahead : Stop → ℕ
 files_ahead FileFault = 0
 files_ahead s = 1
 
+-- what stands behind the texts that were printed whole: a front of the next one where the sink failed, and else nothing
+abbrev pub IsRest : Stop → List ℕ → List (List ℕ) → Type 0
+IsRest SinkFault rest texts = (k : ℕ) × (rest ≡ half_of k texts)
+IsRest s rest texts = rest ≡ []
+
+-- Before the stop s as many files were written as texts were printed, which are not all, or one more.
+pub record WroteSome (T : List (List ℕ) → Type 0) (s : Stop) (was text : Option (List ℕ)) (before after : ℕ) : Type 0 where
+  pub texts : List (List ℕ)
+  pub are : T texts
+  pub printed : ℕ
+  pub left : printed < length texts
+  pub rest : List ℕ
+  pub rest_is : IsRest s rest (drop printed texts)
+  pub said : Appends was text (joined (take printed texts) ++ rest)
+  pub files : ℕ
+  pub least : printed ≤ files
+  pub most : files ≤ printed + files_ahead s
+  pub count : after ≡ raised_by files before
+
+-- nothing was printed, and no file was written
+abbrev pub WroteNone : Option (List ℕ) → Option (List ℕ) → ℕ → ℕ → Type 0
+WroteNone was text before after = (after ≡ before) × Appends was text []
+
 -- By the result of a command, whose texts are these where all is done. Where it refuses, nothing is written.
 abbrev pub Wrote : (List (List ℕ) → Type 0) → Option (List ℕ) → Option (List ℕ) → ℕ → ℕ → Result (Unit {0}) Stop → Type 0
 Wrote T was text before after (Ok done) = WroteAll T was text before after
-Wrote T was text before after (Err s) = (after ≡ before) ⊎ (IsLate s × WroteSome T (files_ahead s) was text before after)
+Wrote T was text before after (Err s) = WroteNone was text before after ⊎ (IsLate s × WroteSome T s was text before after)
 
 -- a listing writes nothing
 abbrev pub WroteFor : Option Asked → Option (List ℕ) → Option (List ℕ) → ℕ → ℕ → Result (Unit {0}) Stop → Type 0
@@ -69,7 +79,9 @@ WroteFor (Some (capsule from out)) was text before after result =
 WroteFor (Some (repackage align from out)) was text before after result =
     Wrote (IsTexts (repackage align from out)) was text before after result
 
--- and by the exit status; the line of a stop stands behind what was printed
-abbrev pub WroteWith : Option Asked → Option (List ℕ) → Option (List ℕ) → ℕ → ℕ → ℕ → Type 0
-WroteWith asked was text before after status =
-    (result : Result (Unit {0}) Stop) × (status ≡ exit_status result) × WroteFor asked was text before after result
+-- And by the exit status. Where a command stopped, the line that tells why stands behind what it printed.
+abbrev pub WroteWith : Option Asked → Option (List ℕ) → Option (List ℕ) → Type 0 → ℕ → ℕ → ℕ → Type 0
+WroteWith asked was text sink-rose before after status =
+    ((status ≡ 0) × WroteFor asked was text before after (Ok tt))
+    ⊎ ((s : Stop) × (now : Stop) × (printed : Option (List ℕ)) × WroteFor asked was printed before after (Err s)
+    × Reported printed text sink-rose s now × (status ≡ status_number now))

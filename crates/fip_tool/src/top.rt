@@ -218,7 +218,9 @@ pub fn fip_top<H: Files, I: Source, O: Sink>(
     ensures file_count { FailsAtMostOnce result (H.faults files.old) (H.faults files.new) }
     // What is written, whatever files there are: each file once, with its line behind it, and nothing by a listing or a refusal.
     ensures wrote { WroteWith (asked (map string_bytes words.now)) (O.taken sink.old)
-        (O.taken sink.new) (H.writes files.old).done (H.writes files.new).done result }
+        (O.taken sink.new)
+        (Rose (O.faults sink.old) (O.faults sink.new))
+        (H.writes files.old).done (H.writes files.new).done result }
     // Usage is answered exactly by the words, whatever files there are.
     ensures usage { result ≡ 1 → asked (map string_bytes words.now) ≡ None }
     ensures words { asked (map string_bytes words.now) ≡ None → (result ≡ 1) ⊎ (result ≡ 3)

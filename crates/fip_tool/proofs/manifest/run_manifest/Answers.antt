@@ -73,10 +73,10 @@ returns-clause-wrote g c =
     (λ texts t. (c.len.result, t ∙ ap (λ (l : List ℕ). l ∷ []) lined)) (ap (λ (w : Writes). w.done) c.manifest.ensures.unwritten) c.write_and_print.ensures.wrote
 
 pub returns-in-Err-clause-wrote : goal.returns-in-Err-clause-wrote
-returns-in-Err-clause-wrote g c = inl (ap (λ (w : Writes). w.done) c.in-Err.ensures.unwritten)
+returns-in-Err-clause-wrote g c = inl (ap (λ (w : Writes). w.done) c.in-Err.ensures.unwritten, Appends-nil _)
 
 pub returns-in_default-clause-wrote : goal.returns-in_default-clause-wrote
-returns-in_default-clause-wrote g c = inl (ap (λ (w : Writes). w.done) c.manifest.ensures.unwritten)
+returns-in_default-clause-wrote g c = inl (ap (λ (w : Writes). w.done) c.manifest.ensures.unwritten, Appends-nil _)
 
 pub returns-clause-file_count : goal.returns-clause-file_count
 returns-clause-file_count g c = faults-then c.in-Ok.ensures.reads.quiet c.write_and_print.ensures.file_count

@@ -1,4 +1,4 @@
-use Rattle.std.proofs.Common.{◌∙◌, [], Ok, Err, Some, map, refl, string_bytes, sym, ap}
+use Rattle.std.proofs.Common.{◌∙◌, [], Ok, Err, Some, inl, inr, map, refl, string_bytes, sym, ap}
 use Rattle.base_core.specs.Counts.{Rose}
 use Rattle.fip_tool.proofs.Converted.{converted, no-zero}
 use Rattle.fip_tool.proofs.Ending.{ends, reported-later}
@@ -13,7 +13,6 @@ use Rattle.fip_tool.specs.declared.stops.Stop.{Stop}
 use Rattle.fip_tool.proofs.SinkFaults.{counted, reported-sink}
 use Rattle.fip_tool.proofs.SourceFaults.{fails-once, none-failed}
 use Rattle.fip_tool.proofs.FileFaults.{fails-done, fails-told}
-use Rattle.fip_tool.proofs.WroteLemmas.{reported-tail, still-late, wrote-longer}
 use Rattle.fip_tool.proofs.top.fip_top.Goals as goal
 
 pub returns-in-Ok-clause-told : goal.returns-in-Ok-clause-told
@@ -100,12 +99,15 @@ pub returns-in-Err-clause-file_count : goal.returns-in-Err-clause-file_count
 returns-in-Err-clause-file_count g c = fails-told _ _ _ c.in-Err.stop c.report.result _ _ _ c.status.ensures c.report.ensures.reported c.in-Err.ensures.file_count
 
 pub returns-in-Ok-clause-wrote : goal.returns-in-Ok-clause-wrote
-returns-in-Ok-clause-wrote g c = (Ok tt, refl, c.in-Ok.ensures.wrote)
+returns-in-Ok-clause-wrote g c = inl (refl, c.in-Ok.ensures.wrote)
 
 pub returns-in-Err-clause-wrote : goal.returns-in-Err-clause-wrote
 returns-in-Err-clause-wrote g c =
-    let tail = reported-tail _ _ _ c.in-Err.stop c.report.result c.report.ensures.reported in (
-      Err c.report.result,
+    inr (
+      c.in-Err.stop,
+      c.report.result,
+      g.O.Sink.taken c.run.new.sink,
+      c.in-Err.ensures.wrote,
+      reported-later _ _ _ _ _ _ (λ r. rose-from _ _ _ c.run.ensures.later r) c.report.ensures.reported,
       c.status.ensures,
-      wrote-longer (asked (map string_bytes c.args.words.now)) _ _ _ tail.0 _ _ c.in-Err.stop c.report.result (still-late _ _ _ c.in-Err.stop c.report.result c.report.ensures.reported) tail.1 c.in-Err.ensures.wrote,
     )

@@ -1,4 +1,5 @@
 use Rattle.std.proofs.Common.{◌≡◌, ◌∙◌, ◌≤◌, ◌+◌, ℕ, All, List, ap, filter, inl, length, map, subst, sym, refl}
+use Rattle.std.proofs.KnownBytes.{Appends-nil}
 use Rattle.base_core.specs.Counts.{Rose}
 use Rattle.fwu_formats.specs.Package.{Entry, Toc}
 use Rattle.std.specs.Prelude.{◌==◌, ◌||◌}
@@ -73,4 +74,4 @@ returns-in-Ok-clause-wrote g c =
     (ap (λ (w : Writes). w.done) c.table_with.ensures.unwritten) c.unpack_entries.ensures.wrote
 
 pub returns-in-Err-clause-wrote : goal.returns-in-Err-clause-wrote
-returns-in-Err-clause-wrote g c = inl (ap (λ (w : Writes). w.done) c.in-Err.ensures.unwritten)
+returns-in-Err-clause-wrote g c = inl (ap (λ (w : Writes). w.done) c.in-Err.ensures.unwritten, Appends-nil _)

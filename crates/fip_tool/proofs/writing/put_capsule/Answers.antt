@@ -56,10 +56,10 @@ returns-in-Ok-capsule_line-clause-wrote g c =
     refl c.write_and_print.ensures.wrote
 
 pub returns-in-Err-clause-wrote : goal.returns-in-Err-clause-wrote
-returns-in-Err-clause-wrote g c = inl refl
+returns-in-Err-clause-wrote g c = inl (refl, Appends-nil _)
 
 pub returns-clause-wrote : goal.returns-clause-wrote
-returns-clause-wrote g c = inl refl
+returns-clause-wrote g c = inl (refl, Appends-nil _)
 
 pub returns-in-Ok-capsule_line-clause-file_count : goal.returns-in-Ok-capsule_line-clause-file_count
 returns-in-Ok-capsule_line-clause-file_count g c = λ before faults. faults-then (rw c.in-Ok.is at faults.quiet) c.write_and_print.ensures.file_count

@@ -1,4 +1,5 @@
 use Rattle.std.proofs.Common.{◌≡◌, ◌∷◌, [], inl, refl}
+use Rattle.std.proofs.KnownBytes.{Appends-nil}
 use Rattle.fip_tool.proofs.Texts.{err-same, says-printed}
 use Rattle.fip_tool.proofs.WritingLemmas.{then-printed, write-stopped}
 use Rattle.fip_tool.proofs.FileFaults.{faults-none}
@@ -28,4 +29,4 @@ pub returns-in-Err-clause-file_count : goal.returns-in-Err-clause-file_count
 returns-in-Err-clause-file_count g c = c.in-Err.ensures.file_count
 
 pub returns-in-Err-clause-wrote : goal.returns-in-Err-clause-wrote
-returns-in-Err-clause-wrote g c = inl c.in-Err.ensures.wrote
+returns-in-Err-clause-wrote g c = inl (c.in-Err.ensures.wrote, Appends-nil _)
