@@ -1,5 +1,5 @@
 -- What a call makes of the metadata, by its request.
-use Rattle.std.proofs.Common.{◌≡◌, inl, inr, ℕ, ◌+◌, ◌*◌, ◌<◌, ◌≤◌, Bool, true, false, not, cond, List, [], length, Some, refl, sym, ap, ◌∙◌, subst, arith, IsFalse}
+use Rattle.std.proofs.Common.{◌≡◌, inl, ℕ, ◌*◌, ◌≤◌, Bool, true, false, not, cond, List, [], length, Some, sym, ap, ◌∙◌, subst, arith, IsFalse}
 use Rattle.std.specs.Prelude.{Result, Ok, Err, OnOk}
 use Rattle.flash_core.specs.declared.flash.FlashStop.{FlashStop}
 use Rattle.flash_core.specs.Told.{Told}

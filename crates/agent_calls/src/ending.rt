@@ -7,7 +7,8 @@ ghost use Rattle.fwu_model.specs.Reply.{Success};
 ghost use Rattle.agent_kept.specs.Kept.{Restarts, kept};
 ghost use Rattle.agent_calls.specs.Metas.{meta_ended};
 ghost use Rattle.agent_state.specs.Decides.{Decides};
-ghost use Rattle.agent_machine.specs.Ends.{ClearsAndStores, TakesSwitch};
+ghost use Rattle.marks_core.specs.Marks.{is_clear};
+ghost use Rattle.agent_machine.specs.Ends.{ClearsAndStores, TakesSwitch, TakesSwitchBy};
 ghost use Rattle.agent_machine.specs.Meets.{Meets, GoesBy, IsDone, IsRefused, flash_result};
 
 use crate::agent::{Agent, stopped};
@@ -32,6 +33,9 @@ fn clear_and_store<D: Flash>(flash: &mut D, layout: &Layout, meta: &Meta) -> Res
     ensures size { D.blocks flash.new ≡ D.blocks flash.old }
     // on every device: an erase of the marks, or none, and two erases and two programs
     ensures spent { OnOk result (TakesSwitch (D.arming flash.old) (D.arming flash.new)) }
+    // where the content is told, by the bytes of the marks' block
+    ensures once { IsTrue D.tells → OnOk result
+        (TakesSwitchBy (is_clear 3 (D.told flash.old).now) (D.arming flash.old) (D.arming flash.new)) }
     ensures unarmed { StaysUnarmed result (D.arming flash.old) (D.arming flash.new)
         (D.counts flash.old) (D.counts flash.new) }
     ensures costs { Spends result (D.counts flash.old) (D.counts flash.new) }
@@ -104,6 +108,10 @@ impl<D: Flash> Agent<D> {
         ensures restarts { Restarts false (fields self.old).session (fields self.new).session }
         ensures spent { OnOk result
             (TakesSwitch (D.arming (device self.old)) (D.arming (device self.new))) }
+        // where the content is told, by the bytes of the marks' block
+        ensures once { IsTrue D.tells → OnOk result
+            (TakesSwitchBy (is_clear 3 (D.told (device self.old)).now)
+            (D.arming (device self.old)) (D.arming (device self.new))) }
         ensures unarmed { StaysUnarmed (flash_result result)
             (D.arming (device self.old)) (D.arming (device self.new))
             (D.counts (device self.old)) (D.counts (device self.new)) }
@@ -160,6 +168,10 @@ impl<D: Flash> Agent<D> {
         // on every device: an erase of the marks, or none, and two erases and two programs
         ensures spent { OnOk result
             (TakesSwitch (D.arming (device self.old)) (D.arming (device self.new))) }
+        // where the content is told, by the bytes of the marks' block
+        ensures once { IsTrue D.tells → OnOk result
+            (TakesSwitchBy (is_clear 3 (D.told (device self.old)).now)
+            (D.arming (device self.old)) (D.arming (device self.new))) }
         ensures unarmed { StaysUnarmed (flash_result result)
             (D.arming (device self.old)) (D.arming (device self.new))
             (D.counts (device self.old)) (D.counts (device self.new)) }

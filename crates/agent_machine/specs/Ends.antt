@@ -1,5 +1,5 @@
 -- What a commit and the end of a staging do on the flash.
-use Rattle.std.specs.Prelude.{◌≡◌, ◌⊎◌, ℕ, ◌-◌, ◌≤◌, Option, Ok, Result, IsErr}
+use Rattle.std.specs.Prelude.{◌≡◌, ◌⊎◌, ℕ, ◌-◌, ◌≤◌, Bool, true, false, Option, Ok, Result, IsErr}
 use Rattle.flash_core.specs.declared.flash.Arming.{Arming}
 use Rattle.flash_core.specs.declared.flash.FlashStop.{FlashStop}
 use Rattle.flash_core.specs.Counts.{lowered}
@@ -25,3 +25,8 @@ ClearsAndStores result L m s t =
 abbrev pub TakesSwitch : Option Arming → Option Arming → Type 0
 TakesSwitch armed arming =
     (arming ≡ lowered (lowered (lowered (lowered armed)))) ⊎ (arming ≡ lowered (lowered (lowered (lowered (lowered armed)))))
+
+-- and by whether the block of the marks was blank
+abbrev pub TakesSwitchBy : Bool → Option Arming → Option Arming → Type 0
+TakesSwitchBy true armed arming = arming ≡ lowered (lowered (lowered (lowered armed)))
+TakesSwitchBy false armed arming = arming ≡ lowered (lowered (lowered (lowered (lowered armed))))

@@ -20,7 +20,7 @@ use Rattle.flash_format.specs.declared.stops.FormatStop.TheVariants.{Input, Read
 use Rattle.flash_format.proofs.Plans.{bank_within}
 use Rattle.flash_format.proofs.Formats.{holds_images}
 
-same_ok : {X F : Type 0} (x y : X) → ◌≡◌ {A = Result X F} (Ok x) (Ok y) → x ≡ y
+pub same_ok : {X F : Type 0} (x y : X) → ◌≡◌ {A = Result X F} (Ok x) (Ok y) → x ≡ y
 same_ok x y e = cc
 
 -- a layout that fits a flash

@@ -12,3 +12,4 @@ pub mod Clearing
 pub mod Formats
 pub mod Whole
 pub mod Given
+pub mod Taking

@@ -5,3 +5,4 @@ pub mod Places
 pub mod Planned
 pub mod Stops
 pub mod Table
+pub mod Takes

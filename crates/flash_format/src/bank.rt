@@ -1,6 +1,6 @@
 //! Writing the images of a package into bank 0.
 ghost use Rattle.std.specs.Prelude.{◌≡◌, ◌+◌, ◌*◌, ◌^◌, ◌<◌, ◌≤◌, ℕ, List, All, length, slice_index_or, is_ok, IsTrue, OnOk};
-ghost use Rattle.flash_core.specs.Counts.{Spends, StaysUnarmed};
+ghost use Rattle.flash_core.specs.Counts.{Spends, StaysUnarmed, lowered_by};
 ghost use Rattle.flash_core.specs.May.{Keeps};
 ghost use Rattle.fwu_formats.specs.Layout.{blocks_needed, slot_total};
 ghost use Rattle.fip_tables.specs.Files.{Lacks, Tells};
@@ -8,6 +8,7 @@ ghost use Rattle.flash_format.specs.Choosing.{no_entry, no_row};
 ghost use Rattle.flash_format.specs.Cleared.{LeavesNoMore};
 ghost use Rattle.flash_format.specs.Places.{Erased, AllStand};
 ghost use Rattle.flash_format.specs.Stops.{flash_result, ReadsBy, RefusesNothing};
+ghost use Rattle.flash_format.specs.Takes.{pieces_in};
 
 use crate::images::write_image;
 use crate::stops::FormatStop;
@@ -46,6 +47,8 @@ pub fn write_bank<D: Flash, H: Files>(
     ensures power { D.on flash.new ≡ is_ok (flash_result result) }
     ensures size { D.blocks flash.new ≡ D.blocks flash.old }
     ensures costs { Spends (flash_result result) (D.counts flash.old) (D.counts flash.new) }
+    ensures spent { OnOk result (D.arming flash.new
+        ≡ lowered_by (pieces_in entries.now) (D.arming flash.old)) }
     ensures unarmed { StaysUnarmed (flash_result result) (D.arming flash.old) (D.arming flash.new)
         (D.counts flash.old) (D.counts flash.new) }
     ensures same { H.contents files.new ≡ H.contents files.old }

@@ -1,6 +1,6 @@
 //! Erasing the front of a flash.
-ghost use Rattle.std.specs.Prelude.{◌≡◌, ◌⊎◌, ◌*◌, ◌≤◌, is_ok, IsTrue, OnOk};
-ghost use Rattle.flash_core.specs.Counts.{Spends, StaysUnarmed};
+ghost use Rattle.std.specs.Prelude.{◌≡◌, ◌⊎◌, ◌-◌, ◌*◌, ◌≤◌, is_ok, IsTrue, OnOk};
+ghost use Rattle.flash_core.specs.Counts.{Spends, StaysUnarmed, lowered_by};
 ghost use Rattle.flash_core.specs.May.{Keeps};
 ghost use Rattle.flash_core.specs.Told.{NothingDirty};
 ghost use Rattle.flash_format.specs.Cleared.{IsBare, OnlyErased};
@@ -19,6 +19,8 @@ fn erase_layout<D: Flash>(flash: &mut D) -> Result<(), FlashStop>
     ensures power { D.on flash.new ≡ is_ok result }
     ensures size { D.blocks flash.new ≡ D.blocks flash.old }
     ensures costs { Spends result (D.counts flash.old) (D.counts flash.new) }
+    // on every device: one erase
+    ensures spent { OnOk result (D.arming flash.new ≡ lowered_by 1 (D.arming flash.old)) }
     ensures unarmed { StaysUnarmed result (D.arming flash.old) (D.arming flash.new)
         (D.counts flash.old) (D.counts flash.new) }
 {
@@ -38,6 +40,7 @@ fn erase_behind<D: Flash>(flash: &mut D, count: u32) -> Result<(), FlashStop>
     ensures power { D.on flash.new ≡ is_ok result }
     ensures size { D.blocks flash.new ≡ D.blocks flash.old }
     ensures costs { Spends result (D.counts flash.old) (D.counts flash.new) }
+    ensures spent { OnOk result (D.arming flash.new ≡ lowered_by (count - 1) (D.arming flash.old)) }
     ensures unarmed { StaysUnarmed result (D.arming flash.old) (D.arming flash.new)
         (D.counts flash.old) (D.counts flash.new) }
 {
@@ -63,6 +66,8 @@ pub fn erase_all<D: Flash>(flash: &mut D, count: u32) -> Result<(), FlashStop>
     ensures power { D.on flash.new ≡ is_ok result }
     ensures size { D.blocks flash.new ≡ D.blocks flash.old }
     ensures costs { Spends result (D.counts flash.old) (D.counts flash.new) }
+    // on every device: one erase of each block
+    ensures spent { OnOk result (D.arming flash.new ≡ lowered_by count (D.arming flash.old)) }
     ensures unarmed { StaysUnarmed result (D.arming flash.old) (D.arming flash.new)
         (D.counts flash.old) (D.counts flash.new) }
 {

@@ -1,6 +1,6 @@
 //! Formatting a flash.
 ghost use Rattle.std.specs.Prelude.{◌≡◌, ◌⊎◌, ◌*◌, ◌≤◌, ℕ, List, Ok, Err, IsErr, IfOk, IfErr, OnOk, length, is_ok, IsTrue};
-ghost use Rattle.flash_core.specs.Counts.{Spends, StaysUnarmed};
+ghost use Rattle.flash_core.specs.Counts.{Spends, StaysUnarmed, lowered_by};
 ghost use Rattle.flash_core.specs.May.{Keeps};
 ghost use Rattle.flash_core.specs.Told.{NothingDirty};
 ghost use Rattle.fwu_formats.specs.Layout.{blocks_needed};
@@ -20,6 +20,7 @@ ghost use Rattle.flash_format.specs.Planned.{IsPlanned};
 ghost use Rattle.flash_format.specs.Stops.{flash_result, Answers, Finishes, IsEarly, IsOfLayout, LayoutBy, ReadsBy, RefusesBank};
 ghost use Rattle.flash_format.specs.declared.stops.FormatStop.TheVariants.{Input as InputRefused, ReadFailed as FileFailed};
 ghost use Rattle.flash_format.specs.declared.stops.InputFault.TheVariants.{Incomplete as BankRefused};
+ghost use Rattle.flash_format.specs.Takes.{Takes, pieces_in, writes_of};
 
 use crate::plan::Plan;
 use crate::planning::plan;
@@ -66,6 +67,7 @@ fn finish<D: Flash, V: Verifier>(
     ensures power { D.on flash.new ≡ is_ok (flash_result result) }
     ensures size { D.blocks flash.new ≡ D.blocks flash.old }
     ensures costs { Spends (flash_result result) (D.counts flash.old) (D.counts flash.new) }
+    ensures spent { OnOk result (D.arming flash.new ≡ lowered_by 3 (D.arming flash.old)) }
     ensures unarmed { StaysUnarmed (flash_result result) (D.arming flash.old) (D.arming flash.new)
         (D.counts flash.old) (D.counts flash.new) }
     ensures stops { RefusesBank result }
@@ -113,6 +115,8 @@ fn carry_out<D: Flash, H: Files, V: Verifier>(
     ensures power { D.on flash.new ≡ is_ok (flash_result result) }
     ensures size { D.blocks flash.new ≡ D.blocks flash.old }
     ensures costs { Spends (flash_result result) (D.counts flash.old) (D.counts flash.new) }
+    ensures spent { OnOk result (D.arming flash.new
+        ≡ lowered_by (writes_of plan.now.layout (pieces_in plan.now.entries)) (D.arming flash.old)) }
     ensures unarmed { StaysUnarmed (flash_result result) (D.arming flash.old) (D.arming flash.new)
         (D.counts flash.old) (D.counts flash.new) }
     ensures stops { IsEarly result → ⊥ }
@@ -189,7 +193,8 @@ pub fn format<D: Flash, H: Files, V: Verifier>(
         → IsTrue (V.passes verifier.now (manifest_part (images_of rows.now file toc))) → ⊥ }
     // Either way nothing is dirty, so that a loss leaves just what is there.
     ensures clean { Finishes result (IsTrue D.tells → NothingDirty (D.told flash.new)) }
-    // At any exit, whatever a loss leaves: block 0 alone was touched, or there is no layout, or it is on a flash that is formatted.
+    // At any exit, whatever a loss leaves: block 0 alone was touched, or a layout stands only with both replicas, and the one that
+    // was asked for only on a flash that is formatted whole.
     ensures ordered { IsTrue D.tells →
         IsInOrder (V.passes verifier.now) (record { banks = banks; rows = rows.now })
         (D.told flash.old) (D.told flash.new) }
@@ -200,6 +205,9 @@ pub fn format<D: Flash, H: Files, V: Verifier>(
     ensures power { D.on flash.new ≡ is_ok (flash_result result) }
     ensures size { D.blocks flash.new ≡ D.blocks flash.old }
     ensures costs { Spends (flash_result result) (D.counts flash.old) (D.counts flash.new) }
+    // On every device: each block is erased once, and each piece of an image, each replica and the layout are programmed once.
+    ensures spent { IfOk result (λ done.
+        Takes (H.contents files.old) name.now done.layout (D.arming flash.old) (D.arming flash.new)) }
     ensures unarmed { StaysUnarmed (flash_result result) (D.arming flash.old) (D.arming flash.new)
         (D.counts flash.old) (D.counts flash.new) }
     ensures same { H.contents files.new ≡ H.contents files.old }

@@ -1,7 +1,7 @@
 //! Writing an image of a package into its slot.
 ghost use Rattle.std.specs.Prelude.{◌≡◌, ◌+◌, ◌*◌, ◌%◌, ◌^◌, ◌<◌, ◌≤◌, ℕ, List, length, drop, is_ok, IsTrue, IfOk, OnOk};
 ghost use Rattle.base_core.specs.Block.{blank};
-ghost use Rattle.flash_core.specs.Counts.{Spends, StaysUnarmed};
+ghost use Rattle.flash_core.specs.Counts.{Spends, StaysUnarmed, lowered_by};
 ghost use Rattle.flash_core.specs.May.{Keeps};
 ghost use Rattle.host_io.specs.Causes.{HasCause};
 ghost use Rattle.fwu_formats.specs.Package.{payload};
@@ -9,6 +9,7 @@ ghost use Rattle.fip_tables.specs.Files.{Lacks, Tells};
 ghost use Rattle.flash_format.specs.Cleared.{LeavesNoMore};
 ghost use Rattle.flash_format.specs.Places.{Erased, Stands};
 ghost use Rattle.flash_format.specs.Stops.{flash_result, ReadsBy, RefusesNothing};
+ghost use Rattle.flash_format.specs.Takes.{pieces_of};
 
 use crate::stops::FormatStop;
 use fip_tables::{Entry, payload_at};
@@ -74,6 +75,7 @@ fn write_piece<D: Flash, H: Files>(
     ensures power { D.on flash.new ≡ is_ok (flash_result result) }
     ensures size { D.blocks flash.new ≡ D.blocks flash.old }
     ensures costs { Spends (flash_result result) (D.counts flash.old) (D.counts flash.new) }
+    ensures spent { OnOk result (D.arming flash.new ≡ lowered_by 1 (D.arming flash.old)) }
     ensures unarmed { StaysUnarmed (flash_result result) (D.arming flash.old) (D.arming flash.new)
         (D.counts flash.old) (D.counts flash.new) }
     ensures same { H.contents files.new ≡ H.contents files.old }
@@ -119,6 +121,9 @@ pub fn write_image<D: Flash, H: Files>(
     ensures power { D.on flash.new ≡ is_ok (flash_result result) }
     ensures size { D.blocks flash.new ≡ D.blocks flash.old }
     ensures costs { Spends (flash_result result) (D.counts flash.old) (D.counts flash.new) }
+    // on every device: one program of each piece
+    ensures spent { OnOk result (D.arming flash.new
+        ≡ lowered_by (pieces_of entry.now.size) (D.arming flash.old)) }
     ensures unarmed { StaysUnarmed (flash_result result) (D.arming flash.old) (D.arming flash.new)
         (D.counts flash.old) (D.counts flash.new) }
     ensures same { H.contents files.new ≡ H.contents files.old }

@@ -1,6 +1,6 @@
 //! Writing the images of a plan, and testing them.
-ghost use Rattle.std.specs.Prelude.{◌≡◌, ◌⊎◌, ◌*◌, ◌≤◌, ℕ, List, Ok, Err, true, false, length, is_ok, IsTrue, IfOk, OnOk};
-ghost use Rattle.flash_core.specs.Counts.{Spends, StaysUnarmed};
+ghost use Rattle.std.specs.Prelude.{◌≡◌, ◌⊎◌, ◌+◌, ◌*◌, ◌≤◌, ℕ, List, Ok, Err, true, false, length, is_ok, IsTrue, IfOk, OnOk};
+ghost use Rattle.flash_core.specs.Counts.{Spends, StaysUnarmed, lowered_by};
 ghost use Rattle.flash_core.specs.May.{Keeps};
 ghost use Rattle.fwu_formats.specs.Layout.{blocks_needed};
 ghost use Rattle.fip_tables.specs.Files.{Tells};
@@ -17,6 +17,7 @@ ghost use Rattle.flash_format.specs.Planned.{IsPlanned};
 ghost use Rattle.flash_format.specs.Stops.{flash_result, ReadsBy, RefusesBank, RefusesNothing};
 ghost use Rattle.flash_format.specs.declared.stops.FormatStop.TheVariants.{Input as InputRefused};
 ghost use Rattle.flash_format.specs.declared.stops.InputFault.TheVariants.{Incomplete as BankRefused};
+ghost use Rattle.flash_format.specs.Takes.{pieces_in};
 
 use crate::bank::write_bank;
 use crate::erasing::erase_all;
@@ -56,6 +57,9 @@ pub fn fill<D: Flash, H: Files>(
     ensures power { D.on flash.new ≡ is_ok (flash_result result) }
     ensures size { D.blocks flash.new ≡ D.blocks flash.old }
     ensures costs { Spends (flash_result result) (D.counts flash.old) (D.counts flash.new) }
+    // on every device: one erase of each block, and one program of each piece of an image
+    ensures spent { OnOk result (D.arming flash.new
+        ≡ lowered_by (blocks_needed plan.now.layout + pieces_in plan.now.entries) (D.arming flash.old)) }
     ensures unarmed { StaysUnarmed (flash_result result) (D.arming flash.old) (D.arming flash.new)
         (D.counts flash.old) (D.counts flash.new) }
     ensures same { H.contents files.new ≡ H.contents files.old }
@@ -92,6 +96,7 @@ pub fn check_bank<D: Flash, V: Verifier>(
     ensures power { D.on flash.new ≡ is_ok (flash_result result) }
     ensures size { D.blocks flash.new ≡ D.blocks flash.old }
     ensures costs { Spends (flash_result result) (D.counts flash.old) (D.counts flash.new) }
+    ensures arming { OnOk result (D.arming flash.new ≡ D.arming flash.old) }
     ensures unarmed { StaysUnarmed (flash_result result) (D.arming flash.old) (D.arming flash.new)
         (D.counts flash.old) (D.counts flash.new) }
     ensures stops { RefusesBank result }

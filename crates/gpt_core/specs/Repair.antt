@@ -1,8 +1,7 @@
 -- What a repair of a table leaves.
-use Rattle.std.specs.Prelude.{◌≡◌, ℕ, ◌+◌, ◌-◌, ◌*◌, List, length, Option, Some, None, IsTrue, Result, OnOk}
+use Rattle.std.specs.Prelude.{◌≡◌, ℕ, ◌+◌, ◌-◌, ◌*◌, List, length, Some, IsTrue, Result, OnOk}
 use Rattle.base_core.specs.Block.{block, blank}
 use Rattle.base_core.specs.Bytes.{part, overwritten}
-use Rattle.flash_core.specs.declared.flash.Arming.{Arming}
 use Rattle.flash_core.specs.declared.flash.FlashStop.{FlashStop}
 use Rattle.flash_core.specs.Told.{Told, NothingDirty, is_guarded}
 use Rattle.flash_core.specs.May.{May, Keeps}
@@ -22,11 +21,6 @@ abbrev pub StaysBeside : ℕ → Table → WhichTable → Told → Told → Type
 StaysBeside blocks t Same s u = u ≡ s
 StaysBeside blocks t RepairPrimary s u = Keeps 4096 (4096 * (2 + blocks_of (number_of t))) s u
 StaysBeside blocks t RepairBackup s u = Keeps (4096 * (blocks - 1 - blocks_of (number_of t))) (4096 * blocks) s u
-
--- an arming after so many erases and programs that were done
-abbrev pub lowered_by : ℕ → Option Arming → Option Arming
-lowered_by writes None = None
-lowered_by writes (Some arming) = Some (record { n = arming.n - writes; k = arming.k })
 
 -- how many erases and programs a repair of a table with so many blocks of entries takes:
 -- each block of the copy is erased and programmed

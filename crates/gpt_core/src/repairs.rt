@@ -3,7 +3,7 @@
 ghost use Rattle.std.specs.Prelude.{◌≡◌, ℕ, List, Ok, ◌+◌, ◌-◌, ◌*◌, ◌<◌, ◌≤◌, ◌++◌, Some, length, take, replicate, is_ok, IsTrue, OnOk};
 ghost use Rattle.base_core.specs.Bytes.{le};
 ghost use Rattle.base_core.specs.Crc.{crc};
-ghost use Rattle.flash_core.specs.Counts.{Spends, StaysUnarmed};
+ghost use Rattle.flash_core.specs.Counts.{Spends, StaysUnarmed, lowered_by};
 ghost use Rattle.flash_core.specs.May.{Keeps, May};
 ghost use Rattle.flash_core.specs.Told.{Told, NothingDirty, is_guarded};
 ghost use Rattle.gpt_core.specs.declared.layout.Places.{Places};
@@ -12,7 +12,7 @@ ghost use Rattle.gpt_core.specs.Places.{through};
 ghost use Rattle.gpt_core.specs.PlacesOf.{places_of};
 ghost use Rattle.gpt_core.specs.View.{view_of};
 ghost use Rattle.gpt_core.specs.Table.{Table as Said, FitsTable, blocks_of, number_of, header_at, other, entries_at, copy_in, DecidesTable, BothSay, header_lead, header_places, header_back, header_with, header_bytes, table_in_image, copy_from, copy_to};
-ghost use Rattle.gpt_core.specs.Repair.{Mends, HeadersGuarded, StaysBeside, Ready, Steps, Spells, lowered_by, writes_of};
+ghost use Rattle.gpt_core.specs.Repair.{Mends, HeadersGuarded, StaysBeside, Ready, Steps, Spells, writes_of};
 
 use crate::headers::{
     ENTRY_SIZE, HEADER_SIZE, REVISION, blocks_for, entries_place, header_place, other_copy,

@@ -3,12 +3,12 @@
 ghost use Rattle.std.specs.Prelude.{◌⊎◌, ◌≡◌, ℕ, ◌+◌, ◌*◌, ◌/◌, ◌%◌, ◌<◌, ◌≤◌, length, is_ok, IsTrue, OnOk, Some};
 ghost use Rattle.base_core.specs.Block.{block, blank};
 ghost use Rattle.base_core.specs.Bytes.{part, overwritten};
-ghost use Rattle.flash_core.specs.Counts.{Spends, StaysUnarmed};
+ghost use Rattle.flash_core.specs.Counts.{Spends, StaysUnarmed, lowered_by};
 ghost use Rattle.flash_core.specs.Told.{Told, NothingDirty};
 ghost use Rattle.flash_core.specs.May.{Keeps};
 ghost use Rattle.gpt_core.specs.declared.table.TableCopy.{TableCopy};
 ghost use Rattle.gpt_core.specs.Table.{Table, blocks_of, number_of, header_at, entries_at, copy_in, BothSay};
-ghost use Rattle.gpt_core.specs.Repair.{Ready, Cleared, Filled, Steps, Writing, lowered_by};
+ghost use Rattle.gpt_core.specs.Repair.{Ready, Cleared, Filled, Steps, Writing};
 
 use base_core::BLOCK_BYTES;
 use flash_core::{Flash, FlashStop};

@@ -1,18 +1,20 @@
 -- What each exit of `clear` leaves.
-use Rattle.std.proofs.Common.{◌≡◌, ℕ, zero, suc, ◌+◌, ◌*◌, ◌<◌, Bool, List, ◌++◌, length, replicate, true, refl, sym, ◌∙◌, ap, arith}
+use Rattle.std.proofs.Common.{◌≡◌, ℕ, zero, suc, ◌+◌, ◌*◌, ◌<◌, Bool, List, ◌++◌, length, replicate, Option, true, refl, sym, subst, ◌∙◌, ap, arith}
 use Rattle.std.proofs.lemmas.Bool.{false≢true}
 use Rattle.std.proofs.lemmas.List.{drop_all, append-nil}
 use Rattle.std.proofs.lemmas.Result.{IfOk-from_err}
-use Rattle.std.specs.Prelude.{Result, Ok, Err, IsErr, IsFalse}
+use Rattle.std.specs.Prelude.{Result, Ok, Err, IsErr, IsFalse, OnOk}
 use Rattle.base_core.specs.Block.{block, blank}
 use Rattle.base_core.proofs.Blocks.{length-blank, length-block}
+use Rattle.flash_core.specs.Counts.{arming_kept, lowered}
+use Rattle.flash_core.specs.declared.flash.Arming.{Arming}
 use Rattle.flash_core.specs.declared.flash.FlashStop.{FlashStop}
 use Rattle.flash_core.specs.Told.{Told, IsSound, put, halt, settled}
 use Rattle.flash_core.specs.May.{Keeps}
 use Rattle.flash_core.proofs.Images.{block-overwritten_front}
 use Rattle.flash_core.proofs.Calls.{keeps_same, keeps_put, keeps_halt, keeps_settle, now-put, now-settle, quiet_settle}
 use Rattle.fwu_formats.specs.Image.{is_blank}
-use Rattle.marks_core.specs.Marks.{Clears}
+use Rattle.marks_core.specs.Marks.{Clears, TakesClear}
 use Rattle.marks_core.proofs.Granules.{blank_list}
 
 all_blank : (bytes : List ℕ) → length bytes ≡ 4096 → is_blank bytes ≡ true → bytes ≡ blank 4096
@@ -26,6 +28,12 @@ blank_is (suc n) = blank_is n
 is_blank-blank : (n : ℕ) → is_blank (blank n) ≡ true
 unfolding blank
 is_blank-blank n = blank_is n
+
+-- a block that wasn't blank was erased, with a barrier behind that
+pub takes_erase : {T : Type 0} (result : Result T FlashStop) (clear : Bool) (armed amid arming : Option Arming) → IsFalse clear → amid ≡ lowered armed → arming ≡ arming_kept result amid
+    → OnOk result (TakesClear clear armed arming)
+takes_erase (Ok x) clear armed amid arming unclear erased kept = subst (λ (b : Bool). TakesClear b armed arming) (sym unclear) (kept ∙ erased)
+takes_erase (Err stop) clear armed amid arming unclear erased kept = tt
 
 module _ (b blocks : ℕ) (on : Bool) (s : Told) (sound : IsSound blocks on s) (within : b < blocks) where
   -- nothing was written

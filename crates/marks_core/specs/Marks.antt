@@ -1,10 +1,12 @@
 -- What adding a mark and clearing a block leave.
-use Rattle.std.specs.Prelude.{◌≡◌, ◌⊎◌, ℕ, ◌+◌, ◌*◌, ◌<◌, ◌≤◌, IsTrue, List, replicate, Result, OnOk}
+use Rattle.std.specs.Prelude.{◌≡◌, ◌⊎◌, ℕ, ◌+◌, ◌*◌, ◌<◌, ◌≤◌, Bool, true, false, IsTrue, List, Option, replicate, Result, OnOk}
 use Rattle.base_core.specs.Block.{block, blank, granule}
+use Rattle.flash_core.specs.Counts.{lowered}
+use Rattle.flash_core.specs.declared.flash.Arming.{Arming}
 use Rattle.flash_core.specs.declared.flash.FlashStop.{FlashStop}
 use Rattle.flash_core.specs.Told.{Told, NothingDirty}
 use Rattle.flash_core.specs.May.{May, Keeps, Quiet}
-use Rattle.fwu_formats.specs.Image.{marks, is_tidy}
+use Rattle.fwu_formats.specs.Image.{is_blank, marks, is_tidy}
 
 -- A mark may go to this place of a block: it is the count, below the limit, and up to the limit no mark follows it.
 pub record IsNext (image : List ℕ) (b at limit : ℕ) : Type 0 where
@@ -38,3 +40,12 @@ pub record Clears {T : Type 0} (result : Result T FlashStop) (b : ℕ) (s t : To
   -- when done, it is blank, and stable where it was so before
   pub erased : OnOk result (block b t.now ≡ blank 4096)
   pub quiet : Quiet (4096 * b) (4096 * b + 4096) s → OnOk result (Quiet (4096 * b) (4096 * b + 4096) t)
+
+-- whether a block of an image is blank
+abbrev pub is_clear : ℕ → List ℕ → Bool
+is_clear b image = is_blank (block b image)
+
+-- what clearing a block takes of an arming: nothing where it is blank, and else an erase
+abbrev pub TakesClear : Bool → Option Arming → Option Arming → Type 0
+TakesClear true armed arming = arming ≡ armed
+TakesClear false armed arming = arming ≡ lowered armed

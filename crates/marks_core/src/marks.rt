@@ -3,7 +3,7 @@ ghost use Rattle.std.specs.Prelude.{◌≡◌, ◌⊎◌, ◌+◌, ◌*◌, ◌<
 ghost use Rattle.base_core.specs.Block.{granule};
 ghost use Rattle.flash_core.specs.Counts.{Spends, ReachesNone, StaysUnarmed, arming_kept, lowered};
 ghost use Rattle.fwu_formats.specs.Image.{is_blank, marks};
-ghost use Rattle.marks_core.specs.Marks.{Adds, Clears};
+ghost use Rattle.marks_core.specs.Marks.{Adds, Clears, TakesClear, is_clear};
 
 use flash_core::{Flash, FlashStop, read_block};
 
@@ -73,6 +73,9 @@ pub fn clear<D: Flash>(flash: &mut D, block: u32, buf: &mut [u8]) -> Result<(), 
     // on every device: one erase, or none
     ensures spent { OnOk result ((D.arming flash.new ≡ D.arming flash.old)
         ⊎ (D.arming flash.new ≡ lowered (D.arming flash.old))) }
+    // where the content is told, by the bytes
+    ensures once { IsTrue D.tells → OnOk result
+        (TakesClear (is_clear block (D.told flash.old).now) (D.arming flash.old) (D.arming flash.new)) }
     ensures unarmed { StaysUnarmed result (D.arming flash.old) (D.arming flash.new)
         (D.counts flash.old) (D.counts flash.new) }
     ensures buffer { length buf.new ≡ length buf.old }
@@ -92,6 +95,9 @@ fn clear_by<D: Flash>(flash: &mut D, block: u32, buf: &mut [u8]) -> Result<(), F
     // on every device: one erase, or none
     ensures spent { OnOk result ((D.arming flash.new ≡ D.arming flash.old)
         ⊎ (D.arming flash.new ≡ lowered (D.arming flash.old))) }
+    // where the content is told, by the bytes
+    ensures once { IsTrue D.tells → OnOk result
+        (TakesClear (is_clear block (D.told flash.old).now) (D.arming flash.old) (D.arming flash.new)) }
     ensures unarmed { StaysUnarmed result (D.arming flash.old) (D.arming flash.new)
         (D.counts flash.old) (D.counts flash.new) }
     ensures buffer { length buf.new ≡ length buf.old }

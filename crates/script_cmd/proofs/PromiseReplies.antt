@@ -35,7 +35,7 @@ none-leaves : (tells : Bool) (journal : List Turn) (old new : Moment) → journa
 none-leaves tells journal old new empty same =
     subst (λ (turns : List Turn). LeavesDevice tells turns old new) (sym empty)
     (subst (λ (m : Moment). LeavesDevice tells [] old m) (sym same)
-    (record { untouched = λ none. same-device journal old; power = refl; guard = λ told. refl }))
+    (record { untouched = λ none. same-device journal old; power = refl; once = omega arith; guard = λ told. refl }))
 
 pub ways-leave-the-device : WaysLeaveTheDevice
 ways-leave-the-device passes tells asked g journal status noted old new taken takes was are (starved empty same nine quiet stuck) = none-leaves tells journal old new empty same
@@ -45,6 +45,7 @@ ways-leave-the-device passes tells asked g journal status noted old new taken ta
       let same = turns.untouched empty in
       record { told = ap (λ (m : Moment). m.told) same; counts = ap (λ (m : Moment). m.counts) same; armed = ap (λ (m : Moment). m.armed) same; power = ap (λ (m : Moment). m.power) same };
   power = turns.power;
+  once = turns.once;
   guard = turns.guard;
 }
 

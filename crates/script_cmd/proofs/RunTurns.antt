@@ -6,7 +6,7 @@ use Rattle.std.proofs.lemmas.Bool.{cases_Bool, cases_lt, false≢true, or_parts}
 use Rattle.std.proofs.lemmas.Option.{same_Some, slice_get-get_or, slice_get_within}
 use Rattle.std.proofs.lemmas.List.Elements.{Contains-push_cases}
 use Rattle.std.proofs.lemmas.List.Sums.{sum_by-append}
-use Rattle.flash_core.specs.Counts.{Rose}
+use Rattle.flash_core.specs.Counts.{Rose, stops_in}
 use Rattle.flash_core.specs.declared.flash.Arming.{Arming}
 use Rattle.flash_core.specs.declared.flash.Counts.{Counts}
 use Rattle.flash_core.specs.Told.{Told, NothingDirty, fresh, is_unsure}
@@ -28,8 +28,9 @@ use Rattle.script_turns.specs.Booted.{BootsFrom}
 use Rattle.agent_machine.specs.Fields.{Fields}
 use Rattle.script_turns.specs.Powered.{Fits, Moment, IsSafe, Shows}
 use Rattle.script_turns.specs.Replies.{power_after}
+use Rattle.script_turns.specs.Takes.{stop_told}
 use Rattle.script_turns.specs.Turning.{Makes, NoneFalls, Turns}
-use Rattle.script_cmd.specs.Running.{Follows, Ran, RunsTo, power_left}
+use Rattle.script_cmd.specs.Running.{Follows, Ran, RunsTo, power_left, stops_of}
 
 -- ---- the places of a list with one element more
 
@@ -155,6 +156,10 @@ made-by : (n before mid after : ℕ) (what : Call) → Makes what mid after → 
 made-by n before mid after (call.Cut m k) one was = made-more before n mid after one was
 made-by n before mid after other same was = let none : n ≡ n + 0 = omega arith in same ∙ was ∙ ap (made_after before) none
 
+-- the stops of a journal, and of one turn more
+stops-more : (journal : List Turn) (t : Turn) → stops_of (journal ++ t ∷ []) ≡ stops_of journal + stops_in (stop_told t.reply)
+stops-more journal t = sum_by-append (λ (x : Turn). stops_in (stop_told x.reply)) journal (t ∷ []) ∙ omega arith
+
 -- ---- the power
 
 power-more : (power : Bool) (journal : List Turn) (t : Turn) → power_left power (journal ++ t ∷ []) ≡ power_after (power_left power journal) t.reply
@@ -188,6 +193,7 @@ module _ (passes : List ℕ → Bool) (tells : Bool) (files : Option Directory) 
   pub ran-none : (old : Moment) (from : ℕ) → old.on ≡ None → Ran passes tells files [] old old from from
   ran-none old from off = record {
     counts = falls-same old.counts;
+    once = omega arith;
     lost_turns = inl (omega arith);
     fault_turns = λ t in_it is. absurd (no-turn t in_it);
     unread_turns = λ t in_it is. absurd (no-turn t in_it);
@@ -252,6 +258,7 @@ module _ (passes : List ℕ → Bool) (tells : Bool) (files : Option Directory) 
       → Ran passes tells files (journal ++ t ∷ []) old new from to
   ran-on c t journal old mid new from through to off ran none turned fits = record {
     counts = falls-on old.counts mid.counts new.counts ran.counts turned.counts;
+    once = omega (arith, ran.once, turned.once, stops-more journal t);
     lost_turns = losses-on t journal old.counts mid.counts new.counts turned.counts turned.lost ran.lost_turns;
     fault_turns = λ u in_it is. elim (Contains-push_cases journal t u in_it) [
       | inl before ↦ rose-after old.counts.faults mid.counts.faults new.counts.faults turned.counts.faults (ran.fault_turns u before is)

@@ -1,8 +1,8 @@
 -- The command `show`: a clean flash is read as it is.
-use Rattle.std.proofs.Common.{◌≡◌, ℕ, ◌≤◌, arith, List, ext_get_or, Option, None, Ok, Err, Result, refl, sym, ap, subst, ◌∙◌, inl, inr, IsFalse}
+use Rattle.std.proofs.Common.{◌≡◌, ℕ, ◌+◌, ◌≤◌, arith, List, ext_get_or, Option, None, Ok, Err, Result, refl, sym, ap, subst, ◌∙◌, inl, inr, IsFalse}
 use Rattle.flash_core.specs.Told.{Told, NothingDirty, fresh, is_unsure}
 use Rattle.flash_core.specs.May.{Leaves}
-use Rattle.flash_core.specs.Counts.{Rose, Idles, ReachesNone, Spends, arming_kept}
+use Rattle.flash_core.specs.Counts.{Rose, Idles, ReachesNone, Spends, all_stops, arming_kept, stops_in}
 use Rattle.flash_core.specs.declared.flash.Arming.{Arming}
 use Rattle.flash_core.specs.declared.flash.Counts.{Counts}
 use Rattle.flash_core.specs.declared.flash.FlashStop.{FlashStop}
@@ -51,14 +51,17 @@ none-falls result before mid after idle spends = record {
   chances = omega (arith, idle.chances, spends.chances);
 }
 
+pub stops-then : {T : Type 0} (result : Result T FlashStop) (before mid after : Counts) → Idles before mid → Spends result mid after → all_stops after ≤ all_stops before + stops_in result
+stops-then result before mid after idle spends = omega (arith, idle.faults, idle.cuts, idle.reached, spends.once)
+
 pub rose-later : (a b c : ℕ) → a ≤ b → Rose b c → Rose a c
 rose-later a b c later (inl less) = inl (omega (arith, later, less))
 rose-later a b c later (inr most) = inr most
 
 -- power comes back, and then the flash stops a call that reaches no armed loss
 pub has-cause : (stop : FlashStop) (before mid after : Counts) → Idles before mid → Spends {T = Unit {0}} (Err stop) mid after → ReachesNone {T = Unit {0}} (Err stop) mid after → HasCause before after
-has-cause flash_stop.Lost before mid after idle spends reaches = inr (rose-later before.cuts mid.cuts after.cuts idle.cuts (reaches.lost refl))
-has-cause flash_stop.Failed before mid after idle spends reaches = inl (rose-later before.faults mid.faults after.faults idle.faults (spends.failed refl))
+has-cause flash_stop.Lost before mid after idle spends reaches = inr (rose-later before.cuts mid.cuts after.cuts (omega (arith, idle.cuts)) (reaches.lost refl))
+has-cause flash_stop.Failed before mid after idle spends reaches = inl (rose-later before.faults mid.faults after.faults (omega (arith, idle.faults)) (spends.failed refl))
 
 pub not-found : (known : Type 0) (image : List ℕ) (before after : Counts) (why : NoBoot) (status : ℕ) (noted : Note) (line : List ℕ)
     → status ≡ 6 → noted ≡ note.Boot why → line ≡ not_shown_line why → (known → ShowsNone image why) → Finds known image before after status noted line

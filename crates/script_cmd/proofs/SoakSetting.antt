@@ -207,13 +207,13 @@ module _ (passes : List ℕ → Bool) (tells : Bool) (one all : Directory) where
   says-with name request (Some f) before r None now same says = says
   says-with name request (Some f) before r (Some g) now same says = answers-with name request r (kept_at tells f before) (kept_at tells g now) same says
 
-  replies-with : (c : Call) (old : Moment) (r : Reply) (new : Moment) → AgreeFor one all c → Replies passes tells (Some one) c old r new → Replies passes tells (Some all) c old r new
-  replies-with (call.Send name request) old r new agree says = says-with name request old.on old.told r new.on new.told agree.0 says
-  replies-with call.Boot old r new agree says = says
-  replies-with (call.Cut n k) old r new agree says = says
-  replies-with (call.Accepts guid) old r new agree says = says
-  replies-with call.Previous old r new agree says = says
-  replies-with c old r new agree says = absurd agree
+  replies-with : (c : Call) (old : Moment) (t : Turn) (new : Moment) → AgreeFor one all c → Replies passes tells (Some one) c old t new → Replies passes tells (Some all) c old t new
+  replies-with (call.Send name request) old t new agree says = says-with name request old.on old.told t.reply new.on new.told agree.0 says
+  replies-with call.Boot old t new agree says = says
+  replies-with (call.Cut n k) old t new agree says = says
+  replies-with (call.Accepts guid) old t new agree says = says
+  replies-with call.Previous old t new agree says = says
+  replies-with c old t new agree says = absurd agree
 
   agree-back : (c : Call) → AgreeFor one all c → (files : Directory) → files ≡ all → AgreeFor one files c
   agree-back c agree files same = subst (λ (d : Directory). AgreeFor one d c) (sym same) agree
@@ -221,15 +221,17 @@ module _ (passes : List ℕ → Bool) (tells : Bool) (one all : Directory) where
   pub turns-with : (c : Call) (t : Turn) (old new : Moment) (was are : ℕ) → AgreeFor one all c → Turns passes tells (Some one) c t old new was are → Turns passes tells (Some all) c t old new was are
   turns-with c t old new was are agree turned = record {
     call_is = turned.call_is;
+    unnumbered = turned.unnumbered;
     counts = turned.counts;
     made = turned.made;
     armed = turned.armed;
     lost = turned.lost;
     failed = turned.failed;
+    once = turned.once;
     unread = λ is. unread-with c was are agree (turned.unread is);
     later = turned.later;
     reads_none = turned.reads_none;
-    replies = replies-with c old t.reply new agree turned.replies;
+    replies = replies-with c old t new agree turned.replies;
     takes = turned.takes;
     power = turned.power;
     guard = turned.guard;

@@ -33,22 +33,24 @@ woken-same old mid clean wakes = wakes.fresh_is ∙ ap (fresh old.guard) (woken-
 
 -- ---- what was counted
 
-pub waits-idle : (old mid : Moment) → Idles old.counts mid.counts → mid.counts.made ≡ old.counts.made → mid.armed ≡ old.armed → old.armed ≡ None → Waits old mid
+pub waits-idle : (old mid : Moment) → Idles old.counts mid.counts → mid.counts.made ≡ old.counts.made → mid.armed ≡ old.armed → old.armed ≡ None → Waits 0 old mid
 waits-idle old mid idles made armed none = record {
-  falls = record { faults = idles.faults; cuts = idles.cuts; reached = omega (arith, idles.reached); chances = idles.chances };
+  falls = record { faults = omega (arith, idles.faults); cuts = omega (arith, idles.cuts); reached = omega (arith, idles.reached); chances = idles.chances };
+  once = omega (arith, idles.faults, idles.cuts, idles.reached);
   made = made;
   reached = idles.reached;
   armed = armed ∙ none;
 }
 
-pub waits-then : (old mid new : Moment) → Waits old mid → Waits mid new → Waits old new
-waits-then old mid new first then = record {
+pub waits-then : (stops : ℕ) (old mid new : Moment) → Waits 0 old mid → Waits stops mid new → Waits stops old new
+waits-then stops old mid new first then = record {
   falls = record {
     faults = let a = first.falls.faults in let b = then.falls.faults in omega arith;
     cuts = let a = first.falls.cuts in let b = then.falls.cuts in omega arith;
     reached = let a = first.falls.reached in let b = then.falls.reached in omega arith;
     chances = let a = first.falls.chances in let b = then.falls.chances in omega arith;
   };
+  once = omega (arith, first.once, then.once);
   made = then.made ∙ first.made;
   reached = then.reached ∙ first.reached;
   armed = then.armed;
@@ -58,7 +60,7 @@ chance-later : (old mid new : ℕ) (N : Type 0) → mid ≤ new → Rose old mid
 chance-later old mid new N later (inl rose) = inl (rose-after old mid new later rose)
 chance-later old mid new N later (inr none) = inr none
 
-cause-before : (old mid new : Moment) → Waits old mid → Rose mid.counts.faults new.counts.faults ⊎ Rose mid.counts.cuts new.counts.cuts
+cause-before : (old mid new : Moment) → Waits 0 old mid → Rose mid.counts.faults new.counts.faults ⊎ Rose mid.counts.cuts new.counts.cuts
     → Rose old.counts.faults new.counts.faults ⊎ Rose old.counts.cuts new.counts.cuts
 cause-before old mid new waits (inl fault) = inl (rose-before old.counts.faults mid.counts.faults new.counts.faults waits.falls.faults fault)
 cause-before old mid new waits (inr cut) = inr (rose-before old.counts.cuts mid.counts.cuts new.counts.cuts waits.falls.cuts cut)
@@ -66,11 +68,11 @@ cause-before old mid new waits (inr cut) = inr (rose-before old.counts.cuts mid.
 -- ---- a repair, done or stopped
 
 -- from where power came, by what the search found and the repair did
-module _ (tells : Bool) (blocks m n : ℕ) (old mid found new : Moment) (table : Table) (which : WhichTable) (mid_size : m ≡ blocks) (found_size : n ≡ m)
-    (wakes : IsTrue tells → Wakes old.told mid.told) (woke : Waits old mid) (looked : Waits mid found) (mended : Waits found new) (same : IsTrue tells → found.told ≡ mid.told)
+module _ (stops : ℕ) (tells : Bool) (blocks m n : ℕ) (old mid found new : Moment) (table : Table) (which : WhichTable) (mid_size : m ≡ blocks) (found_size : n ≡ m)
+    (wakes : IsTrue tells → Wakes old.told mid.told) (woke : Waits 0 old mid) (looked : Waits 0 mid found) (mended : Waits stops found new) (same : IsTrue tells → found.told ≡ mid.told)
     (decides : IsTrue tells → table_in_image m mid.told.now ≡ Some (table, which)) where
-  waited : Waits old new
-  waited = waits-then old found new (waits-then old mid found woke looked) mended
+  waited : Waits stops old new
+  waited = waits-then stops old found new (waits-then 0 old mid found woke looked) mended
 
   size : n ≡ blocks
   size = found_size ∙ mid_size
@@ -86,10 +88,10 @@ module _ (tells : Bool) (blocks m n : ℕ) (old mid found new : Moment) (table :
   mends-here result mends told =
       subst (λ (t : Told). HeadersGuarded blocks t → Mends result blocks table new.told) (same told) (subst (λ (k : ℕ). HeadersGuarded k found.told → Mends result k table new.told) size mends)
 
-  pub starts-from : (p : Places) → FitsTable m table → places_of m table ≡ Ok p → (IsTrue tells → Rose old.counts.chances mid.counts.chances ⊎ NoChance old.told mid.told.now)
+  pub starts-from : stops ≡ 0 → (p : Places) → FitsTable m table → places_of m table ≡ Ok p → (IsTrue tells → Rose old.counts.chances mid.counts.chances ⊎ NoChance old.told mid.told.now)
       → (IsTrue tells → HeadersGuarded n found.told → Mends {T = Unit {0}} (Ok tt) n table new.told) → (IsTrue tells → StaysBeside n table which found.told new.told)
       → (IsTrue tells → NothingDirty found.told → NothingDirty new.told) → new.on ≡ None → new.power ≡ true → Starts tells blocks old p new
-  starts-from p fits gives chance mends beside clean not_booted power = record {
+  starts-from none p fits gives chance mends beside clean not_booted power = record {
     woken = mid.told;
     wakes = wakes;
     chance = λ told. chance-later old.counts.chances mid.counts.chances new.counts.chances _ (later-chances) (chance told);
@@ -103,7 +105,7 @@ module _ (tells : Bool) (blocks m n : ℕ) (old mid found new : Moment) (table :
     mends = λ told. mends-here (Ok tt) (mends told) told;
     beside = λ told. beside-here (beside told) told;
     clean = λ told. clean told (subst NothingDirty (sym (same told)) (woken-clean old.told mid.told (wakes told)));
-    waits = waited;
+    waits = subst (λ (k : ℕ). Waits k old new) none waited;
     not_booted = not_booted;
     power = power;
   }
@@ -111,9 +113,9 @@ module _ (tells : Bool) (blocks m n : ℕ) (old mid found new : Moment) (table :
       later-chances : mid.counts.chances ≤ new.counts.chances
       later-chances = let a = looked.falls.chances in let b = mended.falls.chances in omega arith
 
-  pub stops-from : (stop : FlashStop) → (IsTrue tells → HeadersGuarded n found.told → Mends {T = Unit {0}} (Err stop) n table new.told) → (IsTrue tells → StaysBeside n table which found.told new.told)
+  pub stops-from : stops ≡ 1 → (stop : FlashStop) → (IsTrue tells → HeadersGuarded n found.told → Mends {T = Unit {0}} (Err stop) n table new.told) → (IsTrue tells → StaysBeside n table which found.told new.told)
       → Rose found.counts.faults new.counts.faults ⊎ Rose found.counts.cuts new.counts.cuts → new.power ≡ false → StopsBefore tells blocks old new
-  stops-from stop mends beside cause off = record {
+  stops-from one stop mends beside cause off = record {
     woken = mid.told;
     wakes = wakes;
     left = λ told. inr (record {
@@ -123,7 +125,7 @@ module _ (tells : Bool) (blocks m n : ℕ) (old mid found new : Moment) (table :
       stays = λ guarded. (mends-here (Err stop) (mends told) told guarded).stays;
       beside = beside-here (beside told) told;
     });
-    waits = waited;
+    waits = subst (λ (k : ℕ). Waits k old new) one waited;
     off = off;
-    cause = cause-before old found new (waits-then old mid found woke looked) cause;
+    cause = cause-before old found new (waits-then 0 old mid found woke looked) cause;
   }

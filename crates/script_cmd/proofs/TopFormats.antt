@@ -173,6 +173,7 @@ tries-from passes tells told name L blocks old new first was are r later t = rec
   keeps = t.keeps;
   guard = t.guard;
   counts = t.counts;
+  once = t.once;
   made = t.made;
   unarmed = t.unarmed;
   stopped = t.stopped;

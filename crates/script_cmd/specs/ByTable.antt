@@ -1,6 +1,6 @@
 -- The flash that a device has behind a GUID partition table, and how it is found before a run.
-use Rattle.std.specs.Prelude.{◌≡◌, ◌⊎◌, ℕ, Bool, true, false, List, [], ◌∷◌, ◌++◌, Option, Some, None, Result, Ok, Err, IsTrue, codes, decimal}
-use Rattle.flash_core.specs.Counts.{Rose}
+use Rattle.std.specs.Prelude.{◌≡◌, ◌⊎◌, ℕ, ◌+◌, ◌≤◌, Bool, true, false, List, [], ◌∷◌, ◌++◌, Option, Some, None, Result, Ok, Err, IsTrue, codes, decimal}
+use Rattle.flash_core.specs.Counts.{Rose, all_stops}
 use Rattle.flash_core.specs.Told.{Told, NothingDirty, fresh}
 use Rattle.flash_core.specs.May.{Leaves, May, NoChance}
 use Rattle.gpt_core.specs.declared.layout.Places.{Places}
@@ -56,9 +56,10 @@ pub record Wakes (old mid : Told) : Type 0 where
   pub fresh_is : mid ≡ fresh old.guard mid.now
   pub leaves : Leaves old mid.now
 
--- No count fell, no loss was armed and none is, and so no armed loss was reached.
-pub record Waits (old new : Moment) : Type 0 where
+-- No count fell, no loss was armed and none is, and so no armed loss was reached; and no more stops are counted than these.
+pub record Waits (stops : ℕ) (old new : Moment) : Type 0 where
   pub falls : NoneFalls old.counts new.counts
+  pub once : all_stops new.counts ≤ all_stops old.counts + stops
   pub made : new.counts.made ≡ old.counts.made
   pub reached : new.counts.reached ≡ old.counts.reached
   pub armed : new.armed ≡ None
@@ -66,7 +67,7 @@ pub record Waits (old new : Moment) : Type 0 where
 -- Power came to it, and nothing was written.
 pub record Looks (tells : Bool) (old new : Moment) : Type 0 where
   pub wakes : IsTrue tells → Wakes old.told new.told
-  pub waits : Waits old new
+  pub waits : Waits 0 old new
   pub power : new.power ≡ true
 
 -- The table that decides in a device of so many blocks, which copy is to be repaired, and the places that it
@@ -94,7 +95,7 @@ pub record Starts (tells : Bool) (blocks : ℕ) (old : Moment) (p : Places)
   -- but for the copy that was repaired nothing changed
   pub beside : IsTrue tells → StaysBeside blocks has.table has.which woken start.told
   pub clean : IsTrue tells → NothingDirty start.told
-  pub waits : Waits old start
+  pub waits : Waits 0 old start
   pub not_booted : start.on ≡ None
   pub power : start.power ≡ true
 
@@ -113,7 +114,7 @@ pub record StopsBefore (tells : Bool) (blocks : ℕ) (old new : Moment) : Type 0
   pub woken : Told
   pub wakes : IsTrue tells → Wakes old.told woken
   pub left : IsTrue tells → (new.told ≡ woken) ⊎ StopsMending blocks woken new.told
-  pub waits : Waits old new
+  pub waits : Waits 1 old new
   pub off : new.power ≡ false
   pub cause : Rose old.counts.faults new.counts.faults ⊎ Rose old.counts.cuts new.counts.cuts
 
@@ -123,6 +124,13 @@ goes_on (Ok x) = true
 goes_on (Err (unopened.Lacks why)) = true
 goes_on (Err unopened.Stopped) = false
 goes_on (Err unopened.NoMemory) = true
+
+-- how many stops this result tells
+abbrev pub stops_opened : {T : Type 0} → Result T Unopened → ℕ
+stops_opened (Ok x) = 0
+stops_opened (Err (unopened.Lacks why)) = 0
+stops_opened (Err unopened.Stopped) = 1
+stops_opened (Err unopened.NoMemory) = 0
 
 -- What looking for the flash behind a table leaves, by its result.
 abbrev pub Opens : Bool → ℕ → Moment → Moment → Result Places Unopened → Type 0

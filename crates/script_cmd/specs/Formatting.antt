@@ -1,5 +1,6 @@
 -- What the command `format` does, tells and prints.
-use Rattle.std.specs.Prelude.{◌≡◌, ◌⊎◌, ◌*◌, ◌||◌, ◌==◌, ℕ, ◌++◌, ◌∷◌, [], Bool, List, Option, None, Result, Ok, Err, IfOk, IsErr, IsTrue, IsFalse, codes, decimal, length}
+use Rattle.std.specs.Prelude.{◌≡◌, ◌⊎◌, ◌+◌, ◌*◌, ◌≤◌, ◌||◌, ◌==◌, ℕ, ◌++◌, ◌∷◌, [], Bool, List, Option, None, Result, Ok, Err, IfOk, IsErr, IsTrue, IsFalse, codes, decimal, length}
+use Rattle.flash_core.specs.Counts.{all_stops, stops_in}
 use Rattle.flash_core.specs.May.{Keeps}
 use Rattle.flash_core.specs.Told.{Told, NothingDirty}
 use Rattle.flash_core.specs.declared.flash.FlashStop.{FlashStop}
@@ -21,7 +22,7 @@ use Rattle.image_check.specs.declared.bank.Verdict.{Verdict}
 use Rattle.image_check.specs.declared.bank.Verdict.TheVariants as verdict
 use Rattle.flash_format.specs.Choosing.{refusal}
 use Rattle.flash_format.specs.Formatted.{HoldsImages, IsBlank, IsFormatted, IsInOrder, IsRefused}
-use Rattle.flash_format.specs.Stops.{Answers, Finishes, IsEarly, IsOfLayout, LayoutBy, ReadsBy}
+use Rattle.flash_format.specs.Stops.{Answers, Finishes, IsEarly, IsOfLayout, LayoutBy, ReadsBy, flash_result}
 use Rattle.flash_format.specs.declared.formatting.Formatted.{Formatted}
 use Rattle.flash_format.specs.declared.stops.FormatStop.{FormatStop}
 use Rattle.flash_format.specs.declared.stops.FormatStop.TheVariants.{Input, ReadFailed, Flash}
@@ -122,8 +123,8 @@ pub record Tries (passes : List ℕ → Bool) (tells : Bool) (told : Option Dire
       → (file : List ℕ) (toc : Toc) → Tells told name file → toc_of file ≡ Ok toc
       → IsTrue (is_complete L.rows (images_of L.rows file toc))
       → IsTrue (passes (manifest_part (images_of L.rows file toc))) → ⊥
-  -- either way nothing is dirty; and whatever the end, and whatever a loss leaves, block 0 alone was touched, or there is no
-  -- layout, or it is on a flash that is formatted
+  -- either way nothing is dirty; and whatever the end, and whatever a loss leaves, block 0 alone was touched, or a layout stands
+  -- only with both replicas, and the one that was asked for only on a flash that is formatted whole
   pub clean : Finishes r (IsTrue tells → NothingDirty new.told)
   pub ordered : IsTrue tells → IsInOrder passes L mid new.told
   -- nothing changes beyond the last bank
@@ -131,6 +132,8 @@ pub record Tries (passes : List ℕ → Bool) (tells : Bool) (told : Option Dire
   pub guard : IsTrue tells → new.told.guard ≡ old.told.guard
   -- no count falls, no loss is armed, and a stop of the flash has its cause
   pub counts : NoneFalls old.counts new.counts
+  -- none is counted but the one that is told
+  pub once : all_stops new.counts ≤ all_stops old.counts + stops_in (flash_result r)
   pub made : new.counts.made ≡ old.counts.made
   pub unarmed : new.armed ≡ None
   pub stopped : (stop : FlashStop) → r ≡ Err (Flash stop) → HasCause old.counts new.counts

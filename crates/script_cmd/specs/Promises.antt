@@ -1,6 +1,6 @@
 -- What `run` or `boot` promises, whichever way it ends.
-use Rattle.std.specs.Prelude.{◌≡◌, ◌≢◌, ◌≤◌, ◌⊎◌, ℕ, Bool, List, ◌++◌, Option, Some, IsTrue, IsFalse, ◌||◌, ◌==◌, [], slice_get}
-use Rattle.flash_core.specs.Counts.{Rose}
+use Rattle.std.specs.Prelude.{◌≡◌, ◌≢◌, ◌+◌, ◌≤◌, ◌⊎◌, ℕ, Bool, List, ◌++◌, Option, Some, IsTrue, IsFalse, ◌||◌, ◌==◌, [], slice_get}
+use Rattle.flash_core.specs.Counts.{Rose, all_stops}
 use Rattle.flash_core.specs.Told.{NothingDirty}
 use Rattle.flash_core.specs.May.{Guards}
 use Rattle.fwu_model.specs.State.{State}
@@ -23,7 +23,7 @@ use Rattle.script_cmd.specs.Asking.{plainly}
 use Rattle.script_cmd.specs.BootWord.{BootsBy}
 use Rattle.script_turns.specs.Booted.{BootsFrom}
 use Rattle.script_turns.specs.Powered.{Moment, SameDevice, at}
-use Rattle.script_cmd.specs.Running.{Follows, power_left}
+use Rattle.script_cmd.specs.Running.{Follows, power_left, stops_of}
 use Rattle.script_cmd.specs.Ways.{Given, Refuses, Way}
 
 -- what the program was given to read, with what the source tells
@@ -91,10 +91,12 @@ BootWordHolds passes tells asked journal status noted old new =
     → (Rose old.counts.reached new.counts.reached → ⊥)
     → BootsBy passes old.told.now status noted journal
 
--- What a run does to any device: where no turn ran it is as it was; its power is by the replies; the same blocks are guarded.
+-- What a run does to any device: where no turn ran it is as it was; its power is by the replies; no failure and no loss is counted
+-- but those that its turns tell; and the same blocks are guarded.
 pub record LeavesDevice (tells : Bool) (journal : List Turn) (old new : Moment) : Type 0 where
   pub untouched : journal ≡ [] → SameDevice old new
   pub power : new.power ≡ power_left old.power journal
+  pub once : all_stops new.counts ≤ all_stops old.counts + stops_of journal
   pub guard : IsTrue tells → new.told.guard ≡ old.told.guard
 
 -- on any flash with nothing dirty a first turn that is a boot goes by the bytes

@@ -1,7 +1,7 @@
 -- What a run of a script did so far.
 use Rattle.std.specs.List.{list_all}
-use Rattle.std.specs.Prelude.{not, ◌≡◌, ◌≢◌, ℕ, ◌+◌, ◌≤◌, Bool, List, [], ◌∷◌, ◌++◌, length, map, Option, Some, None, IsTrue, IsFalse, Contains, slice_get}
-use Rattle.flash_core.specs.Counts.{Rose}
+use Rattle.std.specs.Prelude.{not, ◌≡◌, ◌≢◌, ℕ, ◌+◌, ◌≤◌, Bool, List, [], ◌∷◌, ◌++◌, length, map, sum_by, Option, Some, None, IsTrue, IsFalse, Contains, slice_get}
+use Rattle.flash_core.specs.Counts.{Rose, all_stops, stops_in}
 use Rattle.flash_core.specs.Told.{NothingDirty}
 use Rattle.flash_core.specs.May.{Guards}
 use Rattle.host_io.specs.Contents.{Directory}
@@ -22,6 +22,7 @@ use Rattle.fwu_model.specs.declared.kinds.Note.TheVariants as note
 use Rattle.script_turns.specs.Powered.{Fits, Moment, IsAt, IsSafe}
 use Rattle.script_turns.specs.Booted.{BootsFrom}
 use Rattle.script_turns.specs.Replies.{power_after}
+use Rattle.script_turns.specs.Takes.{stop_told}
 use Rattle.script_turns.specs.Turning.{NoneFalls, Turns}
 use Rattle.script_cmd.specs.Printed.{Prints}
 
@@ -31,6 +32,10 @@ calls_of journal = map (λ (t : Turn). t.call) journal
 -- no call reads a file
 abbrev pub sends_none : List Call → Bool
 sends_none script = list_all (λ c. not (is_send c)) script
+
+-- how many turns of a journal tell a stop of the flash
+abbrev pub stops_of : List Turn → ℕ
+stops_of journal = sum_by (λ (t : Turn). stops_in (stop_told t.reply)) journal
 
 -- whether the device has power after the turns of a journal
 abbrev pub power_left : Bool → List Turn → Bool
@@ -66,6 +71,8 @@ pub record RunsTo (E : Setting) (start : State) (journal : List Turn)
 pub record Ran (passes : List ℕ → Bool) (tells : Bool) (files : Option Directory)
     (journal : List Turn) (old new : Moment) (was are : ℕ) : Type 0 where
   pub counts : NoneFalls old.counts new.counts
+  -- no failure and no loss is counted but those that the turns tell
+  pub once : all_stops new.counts ≤ all_stops old.counts + stops_of journal
   -- each `cut` is an arming, and there are no others
   pub made : new.counts.made ≡ made_after old.counts.made (cuts_in journal)
   pub lost_turns : LossesAreCounted journal old.counts new.counts

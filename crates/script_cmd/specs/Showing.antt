@@ -1,6 +1,6 @@
 -- What the command `show` tells and prints.
-use Rattle.std.specs.Prelude.{◌≡◌, ◌⊎◌, ℕ, ◌++◌, ◌∷◌, [], Bool, List, Option, Some, None, Ok, Err, IfSome, IsSome, IsTrue, codes}
-use Rattle.flash_core.specs.Counts.{Rose}
+use Rattle.std.specs.Prelude.{if◌then◌else◌, ◌==◌, ◌≡◌, ◌⊎◌, ℕ, ◌+◌, ◌≤◌, ◌++◌, ◌∷◌, [], Bool, List, Option, Some, None, Ok, Err, IfSome, IsSome, IsTrue, codes}
+use Rattle.flash_core.specs.Counts.{Rose, all_stops}
 use Rattle.flash_core.specs.Told.{NothingDirty}
 use Rattle.flash_core.specs.declared.flash.Counts.{Counts}
 use Rattle.fwu_model.specs.State.{Numbers}
@@ -54,6 +54,10 @@ pub data Finds (known : Type 0) (image : List ℕ) (before after : Counts) : ℕ
       → Finds known image before after 6 (note.Boot why) (not_shown_line why)
   stopped : HasCause before after → Finds known image before after 5 note.Nothing flash_fault_line
 
+-- how many stops of the flash this status tells
+abbrev pub stops_shown : ℕ → ℕ
+stops_shown status = if status == 5 then 1 else 0
+
 -- a list of digests was not read or is none, so nothing was looked at
 abbrev pub RefusedList : Asked → Given → ℕ → Note → Option (List ℕ) → Option (List ℕ) → Faults
     → Faults → Type 0
@@ -74,6 +78,7 @@ pub data Showed (tells : Bool) (g : Given) (old new : Moment) (status : ℕ) (no
       → Showed tells g old new status noted taken_before taken_after faults_before faults_after
   found : HasGoodList g.list g.files → (planned : ℕ) (line : List ℕ)
       → Finds (IsTrue tells × NothingDirty old.told) old.told.now old.counts new.counts planned noted line
+      → all_stops new.counts ≤ all_stops old.counts + stops_shown planned
       → Prints line planned status taken_before taken_after faults_before.sink faults_after.sink
       → Showed tells g old new status noted taken_before taken_after faults_before faults_after
 

@@ -1,12 +1,12 @@
 //! The flash that a device has behind a GUID partition table: the table is read and repaired before a run.
 ghost use Rattle.std.specs.Prelude.{◌≡◌, ◌≤◌, ◌⊎◌, Some, None, Ok, Err, IfOk, OnOk, IsErr, IsTrue, IsFalse, is_ok};
-ghost use Rattle.flash_core.specs.Counts.{Rose, Spends, StaysUnarmed};
+ghost use Rattle.flash_core.specs.Counts.{Rose, Spends, StaysUnarmed, stops_in};
 ghost use Rattle.flash_core.specs.Told.{NothingDirty};
 ghost use Rattle.gpt_core.specs.Places.{Fit};
 ghost use Rattle.gpt_core.specs.PlacesOf.{places_of};
 ghost use Rattle.gpt_core.specs.Repair.{HeadersGuarded, Mends, StaysBeside};
 ghost use Rattle.gpt_core.specs.Table.{FitsTable, table_in_image};
-ghost use Rattle.script_cmd.specs.ByTable.{Opens, Waits, goes_on, lacked_by, lacked_in};
+ghost use Rattle.script_cmd.specs.ByTable.{Opens, Waits, goes_on, lacked_by, lacked_in, stops_opened};
 ghost use Rattle.script_turns.specs.Powered.{moment};
 
 use crate::done::NoTable;
@@ -43,7 +43,8 @@ fn read<D: Flash>(alloc: Global, flash: &mut D) -> Result<(Table, WhichTable), U
         → lacked_in (D.blocks flash.old) (D.told flash.old).now ≡ Some why }
     ensures content { IsTrue D.tells → D.told flash.new ≡ D.told flash.old }
     ensures power { D.on flash.new ≡ goes_on result }
-    ensures waits { Waits (moment D.told D.counts D.arming D.on flash.old)
+    ensures waits { Waits (stops_opened result)
+        (moment D.told D.counts D.arming D.on flash.old)
         (moment D.told D.counts D.arming D.on flash.new) }
     ensures cause { result ≡ Err Unopened.Stopped
         → Rose (D.counts flash.old).faults (D.counts flash.new).faults
@@ -90,7 +91,8 @@ fn find<D: Flash>(alloc: Global, flash: &mut D) -> Result<Found, Unopened>
         → lacked_in (D.blocks flash.old) (D.told flash.old).now ≡ Some why }
     ensures content { IsTrue D.tells → D.told flash.new ≡ D.told flash.old }
     ensures power { D.on flash.new ≡ goes_on result }
-    ensures waits { Waits (moment D.told D.counts D.arming D.on flash.old)
+    ensures waits { Waits (stops_opened result)
+        (moment D.told D.counts D.arming D.on flash.old)
         (moment D.told D.counts D.arming D.on flash.new) }
     ensures cause { result ≡ Err Unopened.Stopped
         → Rose (D.counts flash.old).faults (D.counts flash.new).faults
@@ -126,7 +128,8 @@ fn mend<D: Flash>(flash: &mut D, found: &Found) -> Result<(), FlashStop>
     ensures clean { OnOk result (IsTrue D.tells → NothingDirty (D.told flash.old)
         → NothingDirty (D.told flash.new)) }
     ensures power { D.on flash.new ≡ is_ok result }
-    ensures waits { Waits (moment D.told D.counts D.arming D.on flash.old)
+    ensures waits { Waits (stops_in result)
+        (moment D.told D.counts D.arming D.on flash.old)
         (moment D.told D.counts D.arming D.on flash.new) }
     ensures cause { IsErr result → Rose (D.counts flash.old).faults (D.counts flash.new).faults
         ⊎ Rose (D.counts flash.old).cuts (D.counts flash.new).cuts }

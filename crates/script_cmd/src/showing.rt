@@ -1,5 +1,6 @@
 //! The command `show`.
-ghost use Rattle.std.specs.Prelude.{◌≡◌, ◌≤◌, ◌++◌, [], None, length, IsTrue, IsFalse};
+ghost use Rattle.std.specs.Prelude.{◌≡◌, ◌+◌, ◌≤◌, ◌++◌, [], None, length, IsTrue, IsFalse};
+ghost use Rattle.flash_core.specs.Counts.{all_stops};
 ghost use Rattle.flash_core.specs.Told.{NothingDirty};
 ghost use Rattle.early_boot.specs.Numbers.{numbers as read};
 ghost use Rattle.fwu_journal.specs.Room.{Grows, HasRoom};
@@ -10,7 +11,7 @@ ghost use Rattle.script_turns.specs.Powered.{moment};
 ghost use Rattle.script_cmd.specs.Ways.{Given, HasGoodList};
 ghost use Rattle.script_cmd.specs.Noted.{is_beyond, noted};
 ghost use Rattle.script_turns.specs.Turning.{NoneFalls};
-ghost use Rattle.script_cmd.specs.Showing.{Finds, Showed, shown_line, not_shown_line};
+ghost use Rattle.script_cmd.specs.Showing.{Finds, Showed, shown_line, not_shown_line, stops_shown};
 
 use crate::done::{Done, Note};
 use crate::printing::put_line;
@@ -61,6 +62,8 @@ fn find<D: Flash>(flash: &mut D, text: &mut Vec<u8>) -> Found
         → D.told flash.new ≡ D.told flash.old }
     ensures guard { IsTrue D.tells → (D.told flash.new).guard ≡ (D.told flash.old).guard }
     ensures counts { NoneFalls (D.counts flash.old) (D.counts flash.new) }
+    ensures once { all_stops (D.counts flash.new) ≤ all_stops (D.counts flash.old)
+        + stops_shown result.status }
     ensures made { (D.counts flash.new).made ≡ (D.counts flash.old).made }
     ensures unarmed { D.arming flash.new ≡ None }
     ensures power { result.status ≡ 0 → IsTrue (D.on flash.new) }

@@ -1,11 +1,11 @@
 -- A boot of a flash, from how it ends: a step of a run, what no loss harms, and what the reply says of the bytes.
-use Rattle.std.proofs.Common.{◌≡◌, ◌≢◌, Contains, ℕ, ◌≤◌, ◌==◌, Bool, true, false, List, [], ◌∷◌, ext_get_or, Option, Some, None, refl, sym, ap, subst, ◌∙◌, inl, inr, arith, IsTrue, IsFalse}
+use Rattle.std.proofs.Common.{◌≡◌, ◌≢◌, Contains, ℕ, ◌+◌, ◌≤◌, ◌==◌, Bool, true, false, List, [], ◌∷◌, ext_get_or, Option, Some, None, refl, sym, ap, subst, ◌∙◌, inl, inr, arith, IsTrue, IsFalse}
 use Rattle.std.specs.Prelude.{◌⊎◌, Result, Ok, is_some, is_ok}
 use Rattle.std.specs.List.{list_any}
 use Rattle.flash_core.specs.declared.flash.Counts.{Counts}
 use Rattle.flash_core.specs.declared.flash.FlashStop.{FlashStop}
 use Rattle.flash_core.specs.declared.flash.Arming.{Arming}
-use Rattle.flash_core.specs.Counts.{ReachesNone, Rose, Spends, StaysUnarmed}
+use Rattle.flash_core.specs.Counts.{ReachesNone, Rose, Spends, StaysUnarmed, all_stops, stops_in}
 use Rattle.flash_core.specs.Told.{Told, NothingDirty, fresh, is_unsure}
 use Rattle.flash_core.specs.May.{Guards, Leaves, May, NoChance, as_now}
 use Rattle.host_io.specs.Contents.{Directory}
@@ -196,17 +196,27 @@ rose-on : (a b c : ℕ) → Rose a b → b ≤ c → Rose a c
 rose-on a b c (inl lt) le = inl (omega arith)
 rose-on a b c (inr most) le = inr (omega arith)
 
--- Until the boot begins no count falls, and no arming is made.
+stop-of-reply : (e : Ended) → stop_of e ≡ stop_told (reply_of_end e)
+stop-of-reply (booted b n) = refl
+stop-of-reply (bad_layout f) = refl
+stop-of-reply no_metadata = refl
+stop-of-reply (no_bank active previous) = refl
+stop-of-reply (lost n) = refl
+stop-of-reply (failed n) = refl
+
+-- Until the boot begins no count falls, no stop is counted, and no arming is made.
 record Waits (old was : Counts) : Type 0 where
   falls : NoneFalls old was
+  once : all_stops was ≤ all_stops old
   made : was.made ≡ old.made
 
 waits-none : (was : Counts) → Waits was was
-waits-none was = record { falls = record { faults = omega arith; cuts = omega arith; reached = omega arith; chances = omega arith }; made = refl }
+waits-none was = record { falls = record { faults = omega arith; cuts = omega arith; reached = omega arith; chances = omega arith }; once = omega arith; made = refl }
 
 waits : (tells : Bool) (on : Option Fields) (old mid : Moment) → GetsPower tells on old mid → Waits old.counts mid.counts
 waits tells None old mid has = record {
-  falls = record { faults = has.idles.faults; cuts = has.idles.cuts; reached = omega (arith, has.idles.reached); chances = has.idles.chances };
+  falls = record { faults = omega (arith, has.idles.faults); cuts = omega (arith, has.idles.cuts); reached = omega (arith, has.idles.reached); chances = has.idles.chances };
+  once = omega (arith, has.idles.faults, has.idles.cuts, has.idles.reached);
   made = has.made;
 }
 waits tells (Some f) old mid has = subst (Waits old.counts) (sym has.counts) (waits-none old.counts)
@@ -240,15 +250,10 @@ module _ (old was are : Counts) (waiting : Waits old was) where
   failed-then (lost n) costs h = absurd cc
   failed-then (failed n) costs h = rose-later old.faults was.faults are.faults waiting.falls.faults (costs.failed refl)
 
--- ---- what an armed loss counts
+  once-then : (e : Ended) → Spends (stop_of e) was are → all_stops are ≤ all_stops old + stops_in (stop_told (reply_of_end e))
+  once-then e costs = omega (arith, waiting.once, costs.once, ap stops_in (stop-of-reply e))
 
-stop-of-reply : (e : Ended) → stop_of e ≡ stop_told (reply_of_end e)
-stop-of-reply (booted b n) = refl
-stop-of-reply (bad_layout f) = refl
-stop-of-reply no_metadata = refl
-stop-of-reply (no_bank active previous) = refl
-stop-of-reply (lost n) = refl
-stop-of-reply (failed n) = refl
+-- ---- what an armed loss counts
 
 reaches-then : {T : Type 0} (result : Result T FlashStop) (old was are : Counts) → old.cuts ≤ was.cuts → was.reached ≡ old.reached → ReachesNone result was are → ReachesNone result old are
 reaches-then result old was are cuts reached none = record { same = none.same ∙ reached; lost = λ h. rose-later old.cuts was.cuts are.cuts cuts (none.lost h) }
@@ -276,7 +281,7 @@ boots-spent e old mid new armed cuts reached spent unarmed = record {
 -- power that was there, with nothing dirty
 pub powers-none : (tells : Bool) (m : Moment) → (IsTrue tells → NothingDirty m.told) → PowersOn tells m m
 powers-none tells m clean = record {
-  idles = record { faults = omega arith; cuts = omega arith; chances = omega arith; reached = refl };
+  idles = record { faults = refl; cuts = refl; chances = omega arith; reached = refl };
   made = refl;
   armed = refl;
   clean = clean;
@@ -374,11 +379,13 @@ module _ (passes : List ℕ → Bool) (tells : Bool) (files : Option Directory) 
   boots-by on on_is has =
       let waiting : Waits old.counts mid.counts = waits tells on old mid has in record {
         call_is = refl;
+        unnumbered = λ no. absurd cc;
         counts = falls-then old.counts mid.counts new.counts waiting e ended.costs;
         made = ended.costs.made ∙ waiting.made;
         armed = tt;
         lost = lost-then old.counts mid.counts new.counts waiting e ended.costs;
         failed = failed-then old.counts mid.counts new.counts waiting e ended.costs;
+        once = once-then old.counts mid.counts new.counts waiting e ended.costs;
         unread = λ is. absurd (reads-none e is);
         later = omega arith;
         reads_none = λ none. refl;
@@ -389,6 +396,7 @@ module _ (passes : List ℕ → Bool) (tells : Bool) (files : Option Directory) 
             has = subst (λ (o : Option Fields). GetsPower tells o old mid) (sym on_is) has;
             end = e;
             reply_is = refl;
+            numbers_are = refl;
             on_is = ended.on_is;
             idle = ended.idle;
             spent = ended.spent;

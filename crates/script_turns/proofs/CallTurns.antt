@@ -1,12 +1,12 @@
 -- The turn of a call of the agent, from what the agent's call says: the reply, what is kept, a step of a run, and what no loss harms.
-use Rattle.std.proofs.Common.{◌≡◌, ◌≢◌, Contains, ℕ, ◌==◌, Bool, true, false, not, ◌||◌, List, [], ◌∷◌, Option, Some, None, Result, Ok, Err, refl, sym, ap, subst, ◌∙◌, arith, IsTrue, IsFalse}
+use Rattle.std.proofs.Common.{◌≡◌, ◌≢◌, Contains, ℕ, ◌+◌, ◌≤◌, ◌==◌, Bool, true, false, not, ◌||◌, List, [], ◌∷◌, Option, Some, None, Result, Ok, Err, refl, sym, ap, subst, ◌∙◌, arith, IsTrue, IsFalse}
 use Rattle.std.specs.Prelude.{◌⊎◌, MatchBool, IsSome, IsNone, is_ok, ⊤}
 use Rattle.std.specs.List.{list_any}
 use Rattle.flash_core.specs.declared.flash.Arming.{Arming}
 use Rattle.flash_core.specs.declared.flash.Counts.{Counts}
 use Rattle.flash_core.specs.declared.flash.FlashStop.{FlashStop}
 use Rattle.flash_core.specs.declared.flash.FlashStop.TheVariants as flash_stop
-use Rattle.flash_core.specs.Counts.{Rose, Spends}
+use Rattle.flash_core.specs.Counts.{Rose, Spends, all_stops, stops_in}
 use Rattle.flash_core.specs.Told.{Told}
 use Rattle.flash_core.specs.May.{Guards}
 use Rattle.host_io.specs.Contents.{Directory}
@@ -28,7 +28,7 @@ use Rattle.agent_machine.specs.Moment as agent
 use Rattle.agent_machine.specs.Meets.{Answers, IsSettingOf, Leaves, flash_result}
 use Rattle.script_turns.specs.Powered.{Moment, IsAt, IsSafe, at, kept_at}
 use Rattle.script_turns.specs.Replies.{AnswersCall, CallSays, GoesBackBy, IsDecided, IsFlashStop, IsPrevious, IsReplyOf, PermitsBack, Replies, power_after}
-use Rattle.script_turns.specs.Takes.{TakesOn}
+use Rattle.script_turns.specs.Takes.{TakesOn, stop_told}
 use Rattle.script_turns.specs.Calls.{is_agents, on_by, reply_by}
 use Rattle.script_turns.specs.Turning.{Makes, Turns, quiet_turn}
 
@@ -51,7 +51,7 @@ never-cuts (call.Cut n k) r armed agents = absurd cc
 never-cuts other r armed agents = tt
 
 replies-of : (passes : List ℕ → Bool) (tells : Bool) (files : Option Directory) (c : Call) (f : Fields) (old new : Moment) (r : Reply) → IsTrue (is_agents c) → old.on ≡ Some f
-    → CallSays passes tells c old.on old.told r new.on new.told → Replies passes tells files c old r new
+    → CallSays passes tells c old.on old.told r new.on new.told → Replies passes tells files c old (quiet_turn c r) new
 replies-of passes tells files (call.Send name request) f old new r agents on says = absurd cc
 replies-of passes tells files call.Boot f old new r agents on says = absurd cc
 replies-of passes tells files (call.Cut n k) f old new r agents on says = absurd cc
@@ -142,11 +142,13 @@ module _ (passes : List ℕ → Bool) (tells : Bool) (files : Option Directory) 
       → Turns passes tells files c (quiet_turn c r) (at (Some f) told was armed power) (at (Some g) now are after_armed after_power) faults faults
   turns-answered costs takes = record {
     call_is = refl;
+    unnumbered = λ no. refl;
     counts = record { faults = costs.faults; cuts = costs.cuts; reached = costs.reached; chances = costs.chances };
     made = makes-none c was.made are.made agents costs.made;
     armed = never-cuts c r after_armed agents;
     lost = λ e. absurd (no-stop r reply.Lost none refl e);
     failed = λ e. absurd (no-stop r reply.Fault none refl e);
+    once = omega (arith, costs.once);
     unread = λ e. absurd (no-stop r reply.ReadFault none refl e);
     later = omega arith;
     reads_none = λ sends. refl;
@@ -194,6 +196,10 @@ failed-by : (why : FlashStop) (was are : Counts) → Spends {T = Unit {0}} (Err 
 failed-by flash_stop.Lost was are costs e = absurd cc
 failed-by flash_stop.Failed was are costs e = costs.failed refl
 
+once-by : (why : FlashStop) (was are : Counts) → Spends {T = Unit {0}} (Err why) was are → all_stops are ≤ all_stops was + stops_in (stop_told (stopped_reply why))
+once-by flash_stop.Lost was are costs = costs.once
+once-by flash_stop.Failed was are costs = costs.once
+
 module _ (passes : List ℕ → Bool) (tells : Bool) (files : Option Directory) (faults : ℕ) (c : Call) (why : FlashStop) (f g : Fields) (told now : Told) (was are : Counts) (armed after_armed : Option Arming) (power after_power : Bool)
     (agents : IsTrue (is_agents c)) (power_was : power ≡ true) (power_is : after_power ≡ false)
     (leaves : Leaves (Err why) passes c (kept_at tells f told) (kept_at tells g now)) where
@@ -225,11 +231,13 @@ module _ (passes : List ℕ → Bool) (tells : Bool) (files : Option Directory) 
       → Turns passes tells files c (quiet_turn c (stopped_reply why)) (at (Some f) told was armed power) (at None now are after_armed after_power) faults faults
   turns-stopped costs takes = record {
     call_is = refl;
+    unnumbered = λ no. refl;
     counts = record { faults = costs.faults; cuts = costs.cuts; reached = costs.reached; chances = costs.chances };
     made = makes-none c was.made are.made agents costs.made;
     armed = never-cuts c (stopped_reply why) after_armed agents;
     lost = lost-by why was are costs;
     failed = failed-by why was are costs;
+    once = once-by why was are costs;
     unread = λ e. absurd (reads-none why e);
     later = omega arith;
     reads_none = λ sends. refl;

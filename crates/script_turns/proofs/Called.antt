@@ -1,9 +1,8 @@
 -- The turn of a call of the agent, on its device: what each call says, and what its turn left.
-use Rattle.std.proofs.Common.{◌≡◌, ℕ, ◌≤◌, Bool, List, [], length, Option, Some, Result, Ok, Err, refl, sym, ap, subst, ◌∙◌, IsTrue, IsFalse, arith}
+use Rattle.std.proofs.Common.{◌≡◌, ℕ, ◌≤◌, Bool, List, [], length, Option, Some, Result, Ok, Err, refl, sym, ap, subst, ◌∙◌, IsTrue, IsFalse}
 use Rattle.std.specs.Prelude.{is_ok, IfOk, OnOk}
 use Rattle.std.proofs.lemmas.List.{length-take-le}
 use Rattle.flash_core.specs.declared.flash.Flash.{Ghosts}
-use Rattle.flash_core.specs.declared.flash.Counts.{Counts}
 use Rattle.flash_core.specs.Counts.{Spends}
 use Rattle.host_io.specs.Contents.{Directory}
 use Rattle.fwu_model.specs.declared.kinds.Op.{Op}
@@ -123,18 +122,6 @@ takes-open guid op.Write f old r new same = same
 pub shown-open : (guid : List ℕ) (o : Op) → shown (variant.Open guid o) ≡ open_call guid o
 shown-open guid op.Read = refl
 shown-open guid op.Write = refl
-
--- a discovery asks nothing of the device
-pub spends-none : (was : Counts) → Spends {T = Unit {0}} (Ok tt) was was
-spends-none was = record {
-  faults = omega arith;
-  cuts = omega arith;
-  reached = omega arith;
-  chances = omega arith;
-  made = refl;
-  lost = λ e. absurd cc;
-  failed = λ e. absurd cc;
-}
 
 -- ---- what its turn left
 

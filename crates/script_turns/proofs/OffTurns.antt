@@ -28,7 +28,7 @@ module _ (passes : List ℕ → Bool) (tells : Bool) (files : Option Directory) 
   record LeavesOff (c : Call) : Type 0 where
     made : Makes c cs.made cs.made
     cut : IsCut (Some (quiet_turn c reply.IsOff)) armed
-    replies : Replies passes tells files c here reply.IsOff here
+    replies : Replies passes tells files c here (quiet_turn c reply.IsOff) here
     takes : Takes c here reply.IsOff here
     no_boot : IsFalse (is_boot c)
     numbers : HasNumbers (quiet_turn c reply.IsOff)
@@ -50,11 +50,13 @@ module _ (passes : List ℕ → Bool) (tells : Bool) (files : Option Directory) 
   stays-off : (c : Call) → LeavesOff c → Turns passes tells files c (quiet_turn c reply.IsOff) here here was was
   stays-off c leaves = record {
     call_is = refl;
+    unnumbered = λ no. refl;
     counts = record { faults = omega arith; cuts = omega arith; reached = omega arith; chances = omega arith };
     made = leaves.made;
     armed = leaves.cut;
     lost = λ e. absurd cc;
     failed = λ e. absurd cc;
+    once = omega arith;
     unread = λ e. absurd cc;
     later = omega arith;
     reads_none = λ e. refl;

@@ -1,8 +1,9 @@
 -- A turn that leaves the flash as it is.
-use Rattle.std.proofs.Common.{◌≡◌, ◌≢◌, Contains, ℕ, Bool, true, not, ◌||◌, List, [], ◌∷◌, Option, Some, None, refl, sym, ap, subst, ◌∙◌, arith, IsTrue, IsFalse}
+use Rattle.std.proofs.Common.{◌≡◌, ◌≢◌, Contains, ℕ, ◌≤◌, Bool, true, not, ◌||◌, List, [], ◌∷◌, Option, Some, None, refl, sym, ap, subst, ◌∙◌, arith, IsTrue, IsFalse}
 use Rattle.std.specs.Prelude.{MatchBool, IsSome, IsNone}
 use Rattle.host_io.specs.Contents.{Directory}
 use Rattle.fwu_formats.specs.Metadata.{Meta}
+use Rattle.flash_core.specs.Counts.{all_stops}
 use Rattle.flash_core.specs.Told.{Told}
 use Rattle.fwu_model.specs.State.{State, Numbers, numbers_of, after}
 use Rattle.fwu_model.specs.Sound.{Setting}
@@ -34,6 +35,7 @@ pub record IsQuiet (tells : Bool) (what : Call) (r : Reply) (old new : Moment) :
   pub on_is : new.on ≡ old.on
   pub same : IsTrue tells → new.told ≡ old.told
   pub counts : NoneFalls old.counts new.counts
+  pub once : all_stops new.counts ≤ all_stops old.counts
   pub made : Makes what old.counts.made new.counts.made
   pub armed : IsCut (Some (quiet_turn what r)) new.armed
   pub power : new.power ≡ old.power
@@ -91,14 +93,16 @@ module _ (what : Call) (r : Reply) (no_boot : IsFalse (is_boot what)) (no_stop :
           (subst (λ (session : Session). IsTrue (not (is_off session))) (sym is.shows.shows.means) refl)
 
 pub quiet-turns : (passes : List ℕ → Bool) (tells : Bool) (files : Option Directory) (what : Call) (r : Reply) (old new : Moment) (faults : ℕ)
-    → IsQuiet tells what r old new → Replies passes tells files what old r new → Turns passes tells files what (quiet_turn what r) old new faults faults
+    → IsQuiet tells what r old new → Replies passes tells files what old (quiet_turn what r) new → Turns passes tells files what (quiet_turn what r) old new faults faults
 quiet-turns passes tells files what r old new faults quiet replied = record {
   call_is = refl;
+  unnumbered = λ no. refl;
   counts = quiet.counts;
   made = quiet.made;
   armed = quiet.armed;
   lost = λ e. absurd (stays r reply.Lost quiet.no_stop refl e);
   failed = λ e. absurd (stays r reply.Fault quiet.no_stop refl e);
+  once = omega (arith, quiet.once);
   unread = λ e. absurd (stays r reply.ReadFault quiet.no_stop refl e);
   later = omega arith;
   reads_none = λ none. refl;
@@ -171,6 +175,7 @@ show-turns passes tells files m faults = quiet-turns passes tells files call.Sho
   on_is = refl;
   same = λ test. refl;
   counts = record { faults = omega arith; cuts = omega arith; reached = omega arith; chances = omega arith };
+  once = omega arith;
   made = refl;
   armed = tt;
   power = refl;
@@ -202,6 +207,7 @@ cut-turns passes tells files n k old new faults arms = quiet-turns passes tells 
   on_is = arms.on_is;
   same = arms.same;
   counts = arms.counts;
+  once = arms.once;
   made = arms.made;
   armed = arms.armed_is;
   power = arms.power_is;

@@ -11,7 +11,7 @@ use Rattle.flash_core.specs.declared.flash.Counts.{Counts}
 use Rattle.flash_core.specs.declared.flash.Flash.{Ghosts}
 use Rattle.flash_core.specs.declared.flash.FlashStop.{FlashStop}
 use Rattle.flash_core.specs.declared.flash.FlashStop.TheVariants as flash_stop
-use Rattle.flash_core.specs.Counts.{Spends}
+use Rattle.flash_core.specs.Counts.{Spends, stops_in}
 use Rattle.flash_core.specs.May.{Guards}
 use Rattle.flash_core.specs.Told.{Told}
 use Rattle.fwu_formats.specs.Layout.{Layout}
@@ -50,7 +50,7 @@ use Rattle.script_turns.specs.Powered.{Moment, at, device, kept_at, moment_of, s
 use Rattle.script_turns.specs.Replies.{power_after}
 use Rattle.script_turns.specs.Sending.{AnswersSend, IsTableOf, SendSays, is_answered, on_sent, sent_reply}
 use Rattle.script_turns.specs.Sending as said
-use Rattle.script_turns.specs.Takes.{SendTakes}
+use Rattle.script_turns.specs.Takes.{SendTakes, stop_told}
 use Rattle.script_turns.specs.Turning.{NoneFalls, Turns, quiet_turn}
 
 -- the turn of a sending
@@ -202,11 +202,13 @@ module _ (passes : List ℕ → Bool) (tells : Bool) (files : Option Directory) 
       → Turns passes tells files (send_call name request) (quiet_turn (send_call name request) r) here here was are
   bad-table r no_stop keeps table says there early = record {
     call_is = refl;
+    unnumbered = λ no. refl;
     counts = nothing-falls;
     made = refl;
     armed = tt;
     lost = λ e. absurd (let stop = ap is_stop e in cc);
     failed = λ e. absurd (let stop = ap is_stop e in cc);
+    once = omega arith;
     unread = λ e. absurd (let stop = ap is_stop e in cc);
     later = later;
     reads_none = λ e. absurd cc;
@@ -229,11 +231,13 @@ module _ (passes : List ℕ → Bool) (tells : Bool) (files : Option Directory) 
       → Turns passes tells files (send_call name request) (quiet_turn (send_call name request) reply.ReadFault) here (at None t cs armed power) was are
   unread-table cause = record {
     call_is = refl;
+    unnumbered = λ no. refl;
     counts = nothing-falls;
     made = refl;
     armed = tt;
     lost = λ e. absurd cc;
     failed = λ e. absurd cc;
+    once = omega arith;
     unread = λ e. cause;
     later = later;
     reads_none = λ e. absurd cc;
@@ -363,6 +367,18 @@ module _ (passes : List ℕ → Bool) (tells : Bool) (files : Option Directory) 
   unread-sent (Err Fault) e = absurd cc
   unread-sent (Err Gone) e = absurd cc
 
+  -- a stop of the flash is told
+  told-stops : (result : Result Sent SendStop) → stops_in (flash_of result) ≤ stops_in (stop_told (sent_reply result))
+  told-stops (Ok sent) = omega arith
+  told-stops (Err (MissingImage guid)) = omega arith
+  told-stops (Err (ImageTooLarge guid)) = omega arith
+  told-stops (Err (Begin st)) = omega arith
+  told-stops (Err (End st)) = omega arith
+  told-stops (Err ReadFailed) = omega arith
+  told-stops (Err Lost) = omega arith
+  told-stops (Err Fault) = omega arith
+  told-stops (Err Gone) = omega arith
+
   -- whether the device has power
   powers : (result : Result Sent SendStop) → is_ok (flash_of result) ≡ power_after true (sent_reply result)
   powers (Ok sent) = refl
@@ -397,11 +413,13 @@ module _ (passes : List ℕ → Bool) (tells : Bool) (files : Option Directory) 
       → Turns passes tells files (send_call name request) (quiet_turn (send_call name request) (sent_reply result)) (at (Some f) t cs armed true) (at (on_sent result g) u ds arming power) was are
   sent-turn result power powered there table lacks_none sends some showing spent reads takes = record {
     call_is = refl;
+    unnumbered = λ no. refl;
     counts = record { faults = spent.faults; cuts = spent.cuts; reached = spent.reached; chances = spent.chances };
     made = spent.made;
     armed = tt;
     lost = λ e. spent.lost (lost-sent result e);
     failed = λ e. spent.failed (failed-sent result e);
+    once = omega (arith, spent.once, told-stops result);
     unread = λ e. inl (reads.failed (unread-sent result e));
     later = reads.later;
     reads_none = λ e. absurd cc;
@@ -454,11 +472,13 @@ pub sends-later : {passes : List ℕ → Bool} {tells : Bool} {files : Option Di
     → Turns passes tells files (send_call name request) t old new mid are → Turns passes tells files (send_call name request) t old new was are
 sends-later {files = files} {name = name} was mid are le turns = record {
   call_is = turns.call_is;
+  unnumbered = turns.unnumbered;
   counts = turns.counts;
   made = turns.made;
   armed = turns.armed;
   lost = turns.lost;
   failed = turns.failed;
+  once = turns.once;
   unread = λ e. earlier (turns.unread e);
   later = omega (arith, turns.later);
   reads_none = λ e. absurd cc;

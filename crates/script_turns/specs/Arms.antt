@@ -1,6 +1,7 @@
 -- A loss of power that is armed.
 use Rattle.std.specs.Prelude.{◌≡◌, ℕ, ◌+◌, ◌≤◌, min, Bool, Some, IsTrue}
 use Rattle.flash_core.specs.declared.flash.Counts.{Counts}
+use Rattle.flash_core.specs.Counts.{all_stops}
 use Rattle.fwu_model.specs.Causes.{greatest}
 use Rattle.script_turns.specs.Powered.{Moment}
 
@@ -11,12 +12,14 @@ pub record NoneFalls (old new : Counts) : Type 0 where
   pub reached : old.reached ≤ new.reached
   pub chances : old.chances ≤ new.chances
 
--- A loss was armed: what the agent keeps, what is told and the power stay, one arming more was made, and no armed loss was reached.
+-- A loss was armed: what the agent keeps, what is told and the power stay, one arming more was made, and no failure and no loss was
+-- counted.
 pub record Arms (tells : Bool) (n k : ℕ) (old new : Moment) : Type 0 where
   pub on_is : new.on ≡ old.on
   pub same : IsTrue tells → new.told ≡ old.told
   pub counts : NoneFalls old.counts new.counts
   pub reached : new.counts.reached ≡ old.counts.reached
+  pub once : all_stops new.counts ≤ all_stops old.counts
   pub made : new.counts.made ≡ min (old.counts.made + 1) greatest
   pub armed_is : new.armed ≡ Some (record { n = n; k = k })
   pub power_is : new.power ≡ old.power

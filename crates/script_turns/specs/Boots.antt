@@ -3,7 +3,8 @@ use Rattle.std.specs.Prelude.{◌≡◌, ◌⊎◌, Bool, List, ℕ, Option, Som
 use Rattle.flash_core.specs.Counts.{Rose, Idles}
 use Rattle.flash_core.specs.Told.{fresh}
 use Rattle.flash_core.specs.May.{Leaves, NoChance}
-use Rattle.fwu_model.specs.Reply.{Reply}
+use Rattle.fwu_model.specs.Reply.{Reply, Turn}
+use Rattle.fwu_model.specs.State.{Numbers}
 use Rattle.fwu_model.specs.Reply as reply
 use Rattle.fwu_model.specs.declared.kinds.NoBoot.TheVariants as no_boot
 use Rattle.agent_machine.specs.Fields.{Fields}
@@ -20,6 +21,15 @@ reply_of_end no_metadata = reply.NotBooted no_boot.Metadata
 reply_of_end (no_bank active previous) = reply.NotBooted (no_boot.Bank active previous)
 reply_of_end (lost n) = reply.Lost
 reply_of_end (failed n) = reply.Fault
+
+-- the numbers that the flash held as the boot began, where the boot tells them
+abbrev pub numbers_of_end : Ended → Option Numbers
+numbers_of_end (booted b n) = Some n
+numbers_of_end (bad_layout f) = None
+numbers_of_end no_metadata = None
+numbers_of_end (no_bank active previous) = None
+numbers_of_end (lost n) = n
+numbers_of_end (failed n) = n
 
 -- what the agent keeps afterwards: what it started from, where a bank was booted
 abbrev pub IsOnAfter : Ended → Option Fields → Type 0
@@ -53,11 +63,12 @@ GetsPower tells (Some f) old new = SameDevice old new
 -- started a bank wrote no more than the repair and the count of the start; and what was started may be, by the numbers at entry, and
 -- is of a version that some manifest has which passes, not below the counter. Where the content is told, the end is that of the
 -- bytes, sound or not, and so are what was written and how much nearer an armed loss came.
-pub record BootsAs (passes : List ℕ → Bool) (tells : Bool) (old : Moment) (r : Reply) (new : Moment) : Type 0 where
+pub record BootsAs (passes : List ℕ → Bool) (tells : Bool) (old : Moment) (t : Turn) (new : Moment) : Type 0 where
   pub mid : Moment
   pub has : GetsPower tells old.on old mid
   pub end : Ended
-  pub reply_is : r ≡ reply_of_end end
+  pub reply_is : t.reply ≡ reply_of_end end
+  pub numbers_are : t.numbers ≡ numbers_of_end end
   pub on_is : IsOnAfter end new.on
   pub idle : IdleEnd end mid.armed new.armed mid.counts new.counts
   pub spent : TakesBoot end mid.armed new.armed

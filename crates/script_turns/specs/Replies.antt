@@ -5,7 +5,7 @@ use Rattle.fwu_model.specs.Sound.{Setting}
 use Rattle.fwu_model.specs.Session.{Session, no_handles}
 use Rattle.fwu_model.specs.Call.{Call}
 use Rattle.fwu_model.specs.Call as call
-use Rattle.fwu_model.specs.Reply.{Reply}
+use Rattle.fwu_model.specs.Reply.{Reply, Turn}
 use Rattle.fwu_model.specs.Reply as reply
 use Rattle.fwu_model.specs.Answer.{answer}
 use Rattle.fwu_model.specs.declared.kinds.Status.TheVariants as status
@@ -109,11 +109,11 @@ CallSays passes tells c (Some f) before r (Some g) now = AnswersCall passes c r 
 
 -- ---- a turn
 
--- A turn of this call has this reply, and leaves the agent so.
-abbrev pub Replies : (List ℕ → Bool) → Bool → Option Directory → Call → Moment → Reply → Moment → Type 0
-Replies passes tells files call.Boot old r new = LeavesOn r new.on × BootsAs passes tells old r new
-Replies passes tells files call.Show old r new = (r ≡ show_reply old.on) × (new.on ≡ old.on)
-Replies passes tells files (call.Cut n k) old r new = (r ≡ reply.CutOk) × Arms tells n k old new
-Replies passes tells files (call.Send name request) old r new =
-    SendSays passes tells files name request old.on old.told r new.on new.told
-Replies passes tells files other old r new = CallSays passes tells other old.on old.told r new.on new.told
+-- What a turn of this call says, and that it leaves the agent so.
+abbrev pub Replies : (List ℕ → Bool) → Bool → Option Directory → Call → Moment → Turn → Moment → Type 0
+Replies passes tells files call.Boot old t new = LeavesOn t.reply new.on × BootsAs passes tells old t new
+Replies passes tells files call.Show old t new = (t.reply ≡ show_reply old.on) × (new.on ≡ old.on)
+Replies passes tells files (call.Cut n k) old t new = (t.reply ≡ reply.CutOk) × Arms tells n k old new
+Replies passes tells files (call.Send name request) old t new =
+    SendSays passes tells files name request old.on old.told t.reply new.on new.told
+Replies passes tells files other old t new = CallSays passes tells other old.on old.told t.reply new.on new.told

@@ -1,15 +1,15 @@
 -- What one turn of a run does.
 use Rattle.std.specs.Prelude.{◌≡◌, ◌⊎◌, ℕ, ◌+◌, ◌≤◌, min, Bool, List, Option, Some, None, IsTrue, IsFalse, ⊤}
-use Rattle.flash_core.specs.Counts.{Rose}
+use Rattle.flash_core.specs.Counts.{Rose, all_stops, stops_in}
 use Rattle.flash_core.specs.Told.{Told, NothingDirty}
 use Rattle.host_io.specs.Contents.{Directory}
-use Rattle.fwu_model.specs.State.{State, Numbers}
+use Rattle.fwu_model.specs.State.{State}
 use Rattle.fwu_model.specs.Sound.{Setting}
 use Rattle.fwu_model.specs.Call.{Call}
 use Rattle.fwu_model.specs.Call as call
 use Rattle.fwu_model.specs.Reply.{Reply, Turn}
 use Rattle.fwu_model.specs.Reply as reply
-use Rattle.fwu_model.specs.Run.{Condition, Step, is_send}
+use Rattle.fwu_model.specs.Run.{Condition, Step, is_boot, is_send}
 use Rattle.fwu_model.specs.Headline.{IsCut}
 use Rattle.fwu_model.specs.Causes.{FileNotRead, greatest}
 use Rattle.moves.specs.Moved.{IsShown}
@@ -20,9 +20,9 @@ use Rattle.early_boot.specs.Ends.{Ended, booted, bad_layout, no_metadata, no_ban
 use Rattle.script_turns.specs.Powered.{Moment, IsAt, IsSafe, kept_at}
 use Rattle.script_turns.specs.Booted.{BootsFrom}
 pub use Rattle.script_turns.specs.Arms.{Arms, NoneFalls}
-pub use Rattle.script_turns.specs.Boots.{IsOnAfter, PowersOn, GetsPower, reply_of_end}
+pub use Rattle.script_turns.specs.Boots.{IsOnAfter, PowersOn, GetsPower, numbers_of_end, reply_of_end}
 use Rattle.script_turns.specs.Replies.{Replies, power_after}
-use Rattle.script_turns.specs.Takes.{TakesTurn}
+use Rattle.script_turns.specs.Takes.{TakesTurn, stop_told}
 
 -- a `cut` makes one arming, and no other call makes any; the count stands still at the greatest number
 abbrev pub Makes : Call → ℕ → ℕ → Type 0
@@ -34,6 +34,8 @@ Makes other before after = after ≡ before
 pub record Turns (passes : List ℕ → Bool) (tells : Bool) (files : Option Directory) (c : Call) (t : Turn)
     (old new : Moment) (was are : ℕ) : Type 0 where
   pub call_is : t.call ≡ c
+  -- a boot alone tells the numbers that the flash held
+  pub unnumbered : IsFalse (is_boot c) → t.numbers ≡ None
   pub counts : NoneFalls old.counts new.counts
   pub made : Makes c old.counts.made new.counts.made
   pub armed : IsCut (Some t) new.armed
@@ -41,12 +43,14 @@ pub record Turns (passes : List ℕ → Bool) (tells : Bool) (files : Option Dir
   pub lost : t.reply ≡ reply.Lost → Rose old.counts.cuts new.counts.cuts
       ⊎ Rose old.counts.reached new.counts.reached
   pub failed : t.reply ≡ reply.Fault → Rose old.counts.faults new.counts.faults
+  -- and none is counted but the one that is told: no call of the flash that failed or lost power was passed over
+  pub once : all_stops new.counts ≤ all_stops old.counts + stops_in (stop_told t.reply)
   pub unread : t.reply ≡ reply.ReadFault → FileNotRead files was are c
   -- only `send` reads a file
   pub later : was ≤ are
   pub reads_none : IsFalse (is_send c) → are ≡ was
   -- on any device: the reply, what the agent keeps, and what an armed loss counts
-  pub replies : Replies passes tells files c old t.reply new
+  pub replies : Replies passes tells files c old t new
   pub takes : TakesTurn c old t.reply new was are
   pub power : new.power ≡ power_after old.power t.reply
   -- no call changes which blocks are guarded
@@ -62,15 +66,6 @@ pub record Turns (passes : List ℕ → Bool) (tells : Bool) (files : Option Dir
       → BootsFrom passes old.told.now t.reply
 
 -- ---- a boot of a flash that is on
-
--- the numbers that the flash held as the boot began, where the boot tells them
-abbrev pub numbers_of_end : Ended → Option Numbers
-numbers_of_end (booted b n) = Some n
-numbers_of_end (bad_layout f) = None
-numbers_of_end no_metadata = None
-numbers_of_end (no_bank active previous) = None
-numbers_of_end (lost n) = n
-numbers_of_end (failed n) = n
 
 -- on a device that tells its content the agent of the bank that was booted shows what the flash shows,
 -- with nothing staged and no handle open

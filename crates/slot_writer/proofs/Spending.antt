@@ -5,9 +5,10 @@ use Rattle.flash_core.specs.declared.flash.Arming.{Arming}
 use Rattle.flash_core.specs.declared.flash.Counts.{Counts}
 use Rattle.flash_core.specs.declared.flash.FlashStop.{FlashStop}
 use Rattle.flash_core.specs.declared.flash.FlashStop.TheVariants.{Lost, Failed}
-use Rattle.flash_core.specs.Counts.{StaysUnarmed, ReachesNone, Fires, IsDue, arming_spent, arming_kept}
+use Rattle.flash_core.specs.Counts.{StaysUnarmed, ReachesNone, Fires, IsDue, arming_spent, arming_kept, lowered_by}
 use Rattle.flash_core.proofs.Costs.{rose_earlier}
-use Rattle.slot_writer.specs.Writes.{SpendsArming, lowered_by}
+use Rattle.flash_core.proofs.Spent.{lowered_then}
+use Rattle.slot_writer.specs.Writes.{SpendsArming}
 
 -- one erase or program
 pub spends_one : {T : Type 0} (result : Result T FlashStop) (armed arming : Option Arming) (old new : Counts) → arming ≡ arming_spent result armed → Fires result armed old new → SpendsArming result 1 armed arming old new
@@ -67,10 +68,6 @@ spends_barrier (Ok x) armed arming old new is none = subst (λ (o : Option Armin
     settled (Some a) = record { lowered = ap (λ (n : ℕ). Some (record { n = n; k = a.k })) (omega arith); passed = λ b e some. some; lost = λ e. absurd cc; unarmed = λ e. absurd cc }
 spends_barrier (Err Lost) armed arming old new is none = record { lowered = tt; passed = tt; lost = λ e. is; unarmed = λ e. (is, none) }
 spends_barrier (Err Failed) armed arming old new is none = record { lowered = tt; passed = tt; lost = λ e. absurd cc; unarmed = λ e. (is ∙ e, none) }
-
-lowered_then : (i j : ℕ) (o : Option Arming) → lowered_by j (lowered_by i o) ≡ lowered_by (i + j) o
-lowered_then i j None = refl
-lowered_then i j (Some a) = ap (λ (n : ℕ). Some (record { n = n; k = a.k })) (omega arith)
 
 unarmed_then : {T U : Type 0} (x : T) (result : Result U FlashStop) (a b c : Option Arming) (u v w : Counts) → u.cuts ≤ v.cuts → StaysUnarmed {T = T} (Ok x) a b u v → StaysUnarmed result b c v w → StaysUnarmed result a c u w
 unarmed_then x result a b c u v w less first second none =

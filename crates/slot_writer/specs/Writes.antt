@@ -1,17 +1,12 @@
 -- How many erases and programs writing an image takes, as an armed loss counts them.
-use Rattle.std.specs.Prelude.{if◌then◌else◌, ◌==◌, ◌&&◌, nat_lt, nat_le, ◌≡◌, ℕ, ◌+◌, ◌-◌, ◌*◌, ◌/◌, ◌%◌, ◌<◌, ◌≤◌, Option, Some, None, Result, OnOk, IsErrOf}
+use Rattle.std.specs.Prelude.{if◌then◌else◌, ◌==◌, ◌&&◌, nat_lt, nat_le, ◌≡◌, ℕ, ◌+◌, ◌-◌, ◌*◌, ◌/◌, ◌%◌, ◌<◌, ◌≤◌, Option, None, Result, OnOk, IsErrOf}
 use Rattle.std.specs.Option.{ForSome}
 use Rattle.flash_core.specs.declared.flash.Arming.{Arming}
 use Rattle.flash_core.specs.declared.flash.Counts.{Counts}
 use Rattle.flash_core.specs.declared.flash.FlashStop.{FlashStop}
 use Rattle.flash_core.specs.declared.flash.FlashStop.TheVariants.{Lost}
-use Rattle.flash_core.specs.Counts.{StaysUnarmed}
+use Rattle.flash_core.specs.Counts.{StaysUnarmed, lowered_by}
 use Rattle.slot_writer.specs.Slots.{blocks_for, done_of}
-
--- an arming after so many erases and programs that were done
-abbrev pub lowered_by : ℕ → Option Arming → Option Arming
-lowered_by writes None = None
-lowered_by writes (Some arming) = Some (record { n = arming.n - writes; k = arming.k })
 
 -- What a call of so many erases and programs leaves of an arming, on every device: when done, each of them took one off, and none
 -- was the armed one; a loss clears it; where nothing was armed, none was reached.

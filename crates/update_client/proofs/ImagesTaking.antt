@@ -9,7 +9,8 @@ use Rattle.fwu_formats.specs.Package.{Entry, Toc, entry_of}
 use Rattle.fwu_model.specs.Call as call
 use Rattle.fwu_model.specs.Reply as reply
 use Rattle.slot_writer.specs.Slots.{blocks_for, done_of}
-use Rattle.slot_writer.specs.Writes.{lowered_by, writes_to_append, writes_to_finish}
+use Rattle.flash_core.specs.Counts.{lowered_by}
+use Rattle.slot_writer.specs.Writes.{writes_to_append, writes_to_finish}
 use Rattle.agent_kept.specs.declared.parts.Handle.TheVariants.{Writes}
 use Rattle.agent_kept.specs.Kept.{part_at, handle_kept, size_of}
 use Rattle.agent_machine.specs.Ends.{IsWriter}

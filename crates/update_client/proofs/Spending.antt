@@ -1,11 +1,11 @@
 -- What the calls of a sending spend, one after another.
-use Rattle.std.proofs.Common.{◌≡◌, ◌⊎◌, inl, inr, ℕ, Bool, true, false, not, Option, Result, Ok, Err, is_ok, refl, sym, subst, ◌∙◌, arith, IsTrue, IsFalse}
+use Rattle.std.proofs.Common.{◌≡◌, ◌⊎◌, inl, inr, ℕ, Bool, true, false, not, Option, Result, Ok, Err, is_ok, refl, sym, subst, ◌∙◌, IsTrue, IsFalse}
 use Rattle.std.proofs.lemmas.Bool.{false≢true}
 use Rattle.flash_core.specs.declared.flash.Arming.{Arming}
 use Rattle.flash_core.specs.declared.flash.Counts.{Counts}
 use Rattle.flash_core.specs.declared.flash.FlashStop.{FlashStop}
 use Rattle.flash_core.specs.Counts.{Spends, StaysUnarmed}
-use Rattle.flash_core.proofs.Costs.{spends_then}
+use Rattle.flash_core.proofs.Costs.{spends_none, spends_then}
 use Rattle.agent_machine.specs.declared.stop.Stop.{Stop}
 use Rattle.agent_machine.specs.declared.stop.Stop.TheVariants as stop
 use Rattle.agent_machine.specs.Meets.{GoesBy, IsStopped, flash_result}
@@ -58,15 +58,7 @@ none-spent gone on blocks armed counts here power = record {
   gone_is = here;
   power = power;
   size = refl;
-  costs = record {
-    faults = omega arith;
-    cuts = omega arith;
-    reached = omega arith;
-    chances = omega arith;
-    made = refl;
-    lost = λ no. absurd cc;
-    failed = λ no. absurd cc;
-  };
+  costs = spends_none tt counts;
   unarmed = still-unarmed armed counts;
 }
 
@@ -77,7 +69,7 @@ spent-then result first-gone first-on gone on blocks between is armed amid armin
   gone_is = second.gone_is;
   power = second.power;
   size = second.size ∙ first.size;
-  costs = spends_then (Ok tt) result a b c first.costs second.costs;
+  costs = spends_then tt result a b c first.costs second.costs;
   unarmed = unarmed-then result armed amid arming a b c first.costs.cuts first.unarmed second.unarmed;
 }
 

@@ -7,9 +7,8 @@ use Rattle.flash_core.specs.declared.flash.Arming.{Arming}
 use Rattle.flash_core.specs.declared.flash.Counts.{Counts}
 use Rattle.flash_core.specs.declared.flash.FlashStop.{FlashStop}
 use Rattle.flash_core.specs.declared.flash.FlashStop.TheVariants.{Lost}
-use Rattle.flash_core.specs.Counts.{StaysUnarmed, lowered}
+use Rattle.flash_core.specs.Counts.{StaysUnarmed, lowered, lowered_by}
 use Rattle.flash_core.proofs.Costs.{rose_earlier}
-use Rattle.slot_writer.specs.Writes.{lowered_by}
 use Rattle.fwu_formats.specs.Metadata.{MetaRead}
 use Rattle.agent_machine.specs.Ends.{TakesSwitch}
 use Rattle.agent_machine.specs.Stored.{TakesStore, stored_arming}

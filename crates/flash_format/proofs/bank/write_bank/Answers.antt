@@ -1,9 +1,11 @@
-use Rattle.std.proofs.Common.{◌≡◌, inr, ◌+◌, ◌*◌, ◌<◌, ℕ, List, length, get_or, take, sym, ap, subst, ◌∙◌, arith}
+use Rattle.std.proofs.Common.{◌≡◌, inr, ◌+◌, ◌*◌, ◌<◌, ◌≤◌, ℕ, List, length, get_or, take, sym, ap, subst, ◌∙◌, arith}
 use Rattle.std.specs.Prelude.{Ok, Option}
 use Rattle.std.proofs.lemmas.List.{get_or_default}
 use Rattle.flash_core.specs.May.{Keeps}
 use Rattle.flash_core.proofs.Calls.{keeps_wider, keeps_then}
 use Rattle.flash_core.proofs.Costs.{spends_then}
+use Rattle.flash_core.proofs.Spent.{spent_both}
+use Rattle.flash_core.specs.Counts.{lowered_by}
 use Rattle.host_io.specs.Contents.{Directory}
 use Rattle.fip_tables.specs.Files.{Tells}
 use Rattle.fwu_formats.specs.Layout.{ImageRow, slot_total, start, slot_bytes}
@@ -12,9 +14,11 @@ use Rattle.fwu_formats.proofs.SealLaws.{limits}
 use Rattle.image_check.proofs.OfBank.{bank_fits}
 use Rattle.flash_format.specs.Choosing.{no_row, no_entry}
 use Rattle.flash_format.specs.Places.{Stands}
+use Rattle.flash_format.specs.Takes.{pieces_in, pieces_of}
 use Rattle.flash_format.proofs.Clearing.{left_then, left_fewer}
 use Rattle.flash_format.proofs.Ranges.{erased_stays}
 use Rattle.flash_format.proofs.Slots.{slots_more, slots_more_le, all_stand_more}
+use Rattle.flash_format.proofs.Taking.{pieces_all, pieces_more}
 use Rattle.flash_format.proofs.Unarmed.{unarmed_then}
 use Rattle.flash_format.proofs.bank.write_bank.Goals as goal
 
@@ -95,9 +99,21 @@ loop-k-preserved g c =
           let sized = subst (λ (n : ℕ). Stands (4096 * start L 0 k) (4096 * n) (payload file c.index-entries-k.result) t.now) row placed in
           let stands = subst (λ (e : Entry). Stands (4096 * start L 0 k) (slot_bytes L k) (payload file e) t.now) entry sized in
           all_stand_more L k file c.args.entries.now m t below kept (before.front tells file told) stands;
-      costs = spends_then (Ok tt) (Ok tt) _ _ _ before.costs done.costs;
+      costs = spends_then tt (Ok tt) _ _ _ before.costs done.costs;
+      spent =
+          let es = c.args.entries.now in
+          let one : k < length es = omega (arith, below, c.requires.count) in
+          let entry = c.index-entries-k.is ∙ get_or_default es k c.index-entries-k.result no_entry one in
+          spent_both (pieces_in (take k es)) (pieces_of c.index-entries-k.result.size) (pieces_in (take (k + 1) es)) _ _ _
+          (ap (λ (e : Entry). pieces_in (take k es) + pieces_of e.size) entry ∙ sym (pieces_more es k one)) before.spent done.spent;
       unarmed = unarmed_then _ _ _ _ (g.D.Flash.counts c.args.flash.now) (g.D.Flash.counts c.loop-k.flash) (g.D.Flash.counts c.write_image.new.flash) before.unarmed done.unarmed;
       same = done.same ∙ before.same;
       unwritten = done.unwritten ∙ before.unwritten;
       later = omega (arith, before.later, done.reads.later);
     }
+
+pub returns-clause-spent : goal.returns-clause-spent
+returns-clause-spent g c =
+    let es = c.args.entries.now in
+    let all : length es ≤ c.loop-k.k = omega (arith, c.requires.count, ap length c.rows-rows.ensures.value) in
+    c.loop-k.invariant.spent ∙ ap (λ (n : ℕ). lowered_by n (g.D.Flash.arming c.args.flash.now)) (pieces_all es c.loop-k.k all)

@@ -1,11 +1,12 @@
 use Rattle.std.proofs.Common.{◌≡◌, ℕ, ◌+◌, ◌*◌, ◌≤◌, List, take}
 use Rattle.std.specs.Prelude.{IsTrue, Ok}
-use Rattle.flash_core.specs.Counts.{Spends, StaysUnarmed}
+use Rattle.flash_core.specs.Counts.{Spends, StaysUnarmed, lowered_by}
 use Rattle.flash_core.specs.May.{Keeps}
 use Rattle.fwu_formats.specs.Layout.{slot_total}
 use Rattle.fip_tables.specs.Files.{Tells}
 use Rattle.flash_format.specs.Cleared.{LeavesNoMore}
 use Rattle.flash_format.specs.Places.{Erased, AllStand}
+use Rattle.flash_format.specs.Takes.{pieces_in}
 use Rattle.flash_format.proofs.bank.write_bank.Given as goal
 
 abbrev pub invariant-loop-k : goal.invariant-loop-k
@@ -17,6 +18,7 @@ invariant-loop-k g l = record {
   rest : IsTrue g.D.Flash.tells → Erased (4096 * (8 + slot_total (take l.k l.layout.rows))) (4096 * (8 + slot_total l.layout.rows)) (g.D.Flash.told l.flash).now;
   front : IsTrue g.D.Flash.tells → (file : List ℕ) → Tells (g.H.Files.contents l.fn.files) l.name file → AllStand l.k l.layout file l.entries (g.D.Flash.told l.flash).now;
   costs : Spends {T = Unit {0}} (Ok tt) (g.D.Flash.counts l.fn.flash) (g.D.Flash.counts l.flash);
+  spent : g.D.Flash.arming l.flash ≡ lowered_by (pieces_in (take l.k l.entries)) (g.D.Flash.arming l.fn.flash);
   unarmed : StaysUnarmed {T = Unit {0}} (Ok tt) (g.D.Flash.arming l.fn.flash) (g.D.Flash.arming l.flash) (g.D.Flash.counts l.fn.flash) (g.D.Flash.counts l.flash);
   same : g.H.Files.contents l.files ≡ g.H.Files.contents l.fn.files;
   unwritten : g.H.Files.writes l.files ≡ g.H.Files.writes l.fn.files;

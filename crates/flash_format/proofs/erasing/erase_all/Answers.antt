@@ -1,7 +1,8 @@
-use Rattle.std.proofs.Common.{◌*◌, inl, inr, arith}
+use Rattle.std.proofs.Common.{◌-◌, ◌*◌, inl, inr, arith}
 use Rattle.std.specs.Prelude.{IsTrue}
 use Rattle.std.proofs.lemmas.Bool.{cases_lt}
 use Rattle.flash_core.proofs.Calls.{keeps_joined}
+use Rattle.flash_core.proofs.Spent.{spent_then}
 use Rattle.flash_format.specs.Places.{Erased}
 use Rattle.flash_format.proofs.Clearing.{only_then}
 use Rattle.flash_format.proofs.Ordered.{bare_fresh, bare_stays}
@@ -41,3 +42,6 @@ pub returns-clause-bare : goal.returns-clause-bare
 returns-clause-bare g c = on_ok_from _ c.erase_behind.result (λ tells.
     let m = g.D.Flash.told c.erase_layout.new.flash in
     bare_stays 4096 (4096 * c.args.count) m (g.D.Flash.told c.erase_behind.new.flash) (omega arith) (c.erase_behind.ensures.keeps tells) (bare_fresh m (c.in_ok-erase_layout.ensures.erased tells) (c.in_ok-erase_layout.ensures.clean tells)))
+
+pub returns-clause-spent : goal.returns-clause-spent
+returns-clause-spent g c = spent_then c.erase_behind.result 1 (c.args.count - 1) c.args.count _ _ _ (omega (arith, c.requires.some)) c.in_ok-erase_layout.ensures.spent c.erase_behind.ensures.spent

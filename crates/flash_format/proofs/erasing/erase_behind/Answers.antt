@@ -1,4 +1,4 @@
-use Rattle.std.proofs.Common.{◌+◌, ◌*◌, ◌∙◌, sym, subst, arith}
+use Rattle.std.proofs.Common.{◌+◌, ◌-◌, ◌*◌, ◌∙◌, sym, subst, arith}
 use Rattle.std.specs.Prelude.{Ok}
 use Rattle.base_core.specs.Block.{blank}
 use Rattle.base_core.proofs.Blocks.{length-blank}
@@ -6,6 +6,7 @@ use Rattle.flash_core.specs.Told.{Told}
 use Rattle.flash_core.specs.May.{Keeps}
 use Rattle.flash_core.proofs.Calls.{keeps_wider}
 use Rattle.flash_core.proofs.Costs.{spends_then}
+use Rattle.flash_core.proofs.Spent.{spent_both, spent_one}
 use Rattle.flash_format.specs.Cleared.{OnlyErased}
 use Rattle.flash_format.specs.Places.{Erased}
 use Rattle.flash_format.proofs.Clearing.{only_erase}
@@ -54,7 +55,8 @@ loop-block-preserved g c =
           let size = (g.met.D.Flash.sound c.loop-block.flash tells).size in
           let many = (g.met.D.Flash.sizes c.loop-block.flash).0 in
           subst (OnlyErased s) (sym (c.erase.ensures.content tells)) (only_erase b m (omega (arith, size, many)) (omega (arith, size, c.loop-block.invariant.same_size)) c.erase.result s (c.loop-block.invariant.only tells));
-      costs = spends_then (Ok tt) (Ok tt) _ _ _ c.loop-block.invariant.costs c.in_ok-erase.ensures.counts;
+      costs = spends_then tt (Ok tt) _ _ _ c.loop-block.invariant.costs c.in_ok-erase.ensures.counts;
+      spent = spent_both (b - 1) 1 (b + 1 - 1) _ _ _ (omega (arith, c.loop-block.auto.block)) c.loop-block.invariant.spent (spent_one _ _ c.in_ok-erase.ensures.arming);
       unarmed = unarmed_then _ _ _ _ (g.D.Flash.counts c.args.flash.now) (g.D.Flash.counts c.loop-block.flash) (g.D.Flash.counts c.erase.new.self) c.loop-block.invariant.unarmed
           (unarmed_spent c.erase.result _ _ _ _ c.erase.ensures.arming c.erase.ensures.reached);
     }

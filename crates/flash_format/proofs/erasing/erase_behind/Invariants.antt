@@ -1,6 +1,6 @@
-use Rattle.std.proofs.Common.{◌≡◌, ◌*◌}
+use Rattle.std.proofs.Common.{◌≡◌, ◌-◌, ◌*◌}
 use Rattle.std.specs.Prelude.{IsTrue, Ok}
-use Rattle.flash_core.specs.Counts.{Spends, StaysUnarmed}
+use Rattle.flash_core.specs.Counts.{Spends, StaysUnarmed, lowered_by}
 use Rattle.flash_core.specs.May.{Keeps}
 use Rattle.flash_format.specs.Cleared.{OnlyErased}
 use Rattle.flash_format.specs.Places.{Erased}
@@ -14,5 +14,6 @@ invariant-loop-block g l = record {
   erased : IsTrue g.D.Flash.tells → Erased 4096 (4096 * l.block) (g.D.Flash.told l.flash).now;
   only : IsTrue g.D.Flash.tells → OnlyErased (g.D.Flash.told l.fn.flash) (g.D.Flash.told l.flash);
   costs : Spends {T = Unit {0}} (Ok tt) (g.D.Flash.counts l.fn.flash) (g.D.Flash.counts l.flash);
+  spent : g.D.Flash.arming l.flash ≡ lowered_by (l.block - 1) (g.D.Flash.arming l.fn.flash);
   unarmed : StaysUnarmed {T = Unit {0}} (Ok tt) (g.D.Flash.arming l.fn.flash) (g.D.Flash.arming l.flash) (g.D.Flash.counts l.fn.flash) (g.D.Flash.counts l.flash);
 }

@@ -4,6 +4,7 @@ use Rattle.base_core.proofs.Blocks.{length-blank}
 use Rattle.flash_core.specs.Told.{Told}
 use Rattle.flash_core.specs.May.{Keeps}
 use Rattle.flash_core.proofs.Calls.{keeps_same}
+use Rattle.flash_core.proofs.Spent.{spent_barrier, spent_one}
 use Rattle.flash_format.specs.Cleared.{OnlyErased}
 use Rattle.flash_format.specs.Places.{Erased}
 use Rattle.flash_format.proofs.Clearing.{only_erase, only_same, only_settled}
@@ -57,3 +58,6 @@ returns-clause-only g c = λ tells.
     let many = (g.met.D.Flash.sizes c.args.flash.now).0 in
     let after : OnlyErased s m = subst (OnlyErased s) (sym (c.erase.ensures.content tells)) (only_erase 0 s (omega (arith, size, many)) (omega (arith, size, many)) c.erase.result s (only_same s)) in
     subst (OnlyErased s) (sym (c.barrier.ensures.content tells)) (only_settled c.barrier.result s m after)
+
+pub returns-clause-spent : goal.returns-clause-spent
+returns-clause-spent g c = spent_barrier c.barrier.result 1 _ _ _ (spent_one _ _ c.in_ok-erase.ensures.arming) c.barrier.ensures.arming

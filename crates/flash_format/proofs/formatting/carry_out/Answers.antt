@@ -1,7 +1,10 @@
-use Rattle.std.proofs.Common.{◌≡◌, ℕ, ap, subst, ◌∙◌, arith, Result, Err}
+use Rattle.std.proofs.Common.{◌≡◌, ◌+◌, ℕ, ap, subst, ◌∙◌, arith, Result, Err}
 use Rattle.std.specs.Prelude.{IsTrue, OnOk}
+use Rattle.flash_core.proofs.Spent.{spent_then}
+use Rattle.fwu_formats.specs.Layout.{blocks_needed}
 use Rattle.flash_format.specs.Formatted.{IsBlank}
 use Rattle.flash_format.specs.Places.{Erased}
+use Rattle.flash_format.specs.Takes.{pieces_in, writes_of}
 use Rattle.flash_format.specs.Stops.{flash_result}
 use Rattle.flash_format.specs.declared.stops.FormatStop.{FormatStop}
 use Rattle.flash_format.specs.declared.stops.FormatStop.TheVariants.{ReadFailed}
@@ -38,3 +41,9 @@ returns-clause-ordered g c = λ tells.
     let t = g.D.Flash.told c.finish.new.flash in
     let clean = c.in-Ok.ensures.clean tells in
     in_order_filled (g.V.Verifier.passes c.args.verifier.now) c.args.plan.now.layout (g.D.Flash.told c.args.flash.now) s t clean (c.finish.ensures.keeps tells) (c.in-Ok.ensures.blank tells) (c.finish.ensures.ordered tells clean) (c.finish.ensures.whole tells clean)
+
+pub returns-clause-spent : goal.returns-clause-spent
+returns-clause-spent g c =
+    let L = c.args.plan.now.layout in
+    let pieces = pieces_in c.args.plan.now.entries in
+    spent_then c.finish.result (blocks_needed L + pieces) 3 (writes_of L pieces) _ _ _ (omega arith) c.in-Ok.ensures.spent c.finish.ensures.spent

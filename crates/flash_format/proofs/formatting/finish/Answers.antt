@@ -1,7 +1,8 @@
-use Rattle.std.proofs.Common.{sym, subst, ◌∙◌, arith}
+use Rattle.std.proofs.Common.{sym, ap, subst, ◌∙◌, arith}
 use Rattle.flash_core.specs.Told.{Told, NothingDirty}
 use Rattle.flash_core.specs.May.{Keeps}
 use Rattle.flash_core.proofs.Calls.{keeps_same}
+use Rattle.flash_core.specs.Counts.{lowered_by}
 use Rattle.flash_format.specs.Formatted.{IsWhole}
 use Rattle.flash_format.proofs.Formats.{formatted, refused}
 use Rattle.flash_format.proofs.Ordered.{bare_fresh, bare_unlaid, ordered_before}
@@ -64,3 +65,6 @@ returns-clause-whole g c = λ tells clean.
     let many = (g.met.D.Flash.sizes c.args.flash.now).0 in
     whole_after (g.V.Verifier.passes c.args.verifier.now) c.args.layout.now c.in-Ok.version s t c.rows-rows.ensures.fit (omega (arith, size, many)) (c.requires.erased tells) clean (c.in-Ok.ensures.good tells)
     (subst (λ (m : Told). Keeps 0 12288 m t) same (c.write_records.ensures.keeps tells)) (c.write_records.ensures.ordered tells (subst NothingDirty (sym same) clean))
+
+pub returns-clause-spent : goal.returns-clause-spent
+returns-clause-spent g c = c.in_ok-write_records.ensures.spent ∙ ap (lowered_by 3) c.in-Ok.ensures.arming

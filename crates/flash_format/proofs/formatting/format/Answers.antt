@@ -9,12 +9,14 @@ use Rattle.fip_tables.specs.Files.{Tells}
 use Rattle.flash_format.specs.Formatted.{HoldsImages, IsBlank, IsInOrder, IsRefused}
 use Rattle.flash_format.specs.Places.{AllStand}
 use Rattle.flash_format.specs.Stops.{Finishes}
+use Rattle.flash_format.specs.Takes.{pieces_in}
 use Rattle.flash_format.specs.declared.formatting.Formatted.{Formatted}
 use Rattle.flash_format.specs.declared.stops.FormatStop.{FormatStop}
 use Rattle.flash_format.specs.declared.stops.FormatStop.TheVariants.{Input}
 use Rattle.flash_format.specs.declared.stops.InputFault.TheVariants.{Incomplete}
 use Rattle.flash_format.proofs.Formats.{not_refused}
 use Rattle.flash_format.proofs.Given.{fitted_is, hold_given, finishes_err}
+use Rattle.flash_format.proofs.Taking.{pieces_fit, pieces_told}
 use Rattle.flash_format.proofs.formatting.format.Goals as goal
 
 pub carry_out-requires-clause-inside : goal.carry_out-requires-clause-inside
@@ -116,3 +118,15 @@ returns-clause-ordered g c = λ tells.
     let L : Layout = record { banks = c.args.banks; rows = c.args.rows.now } in
     let t = g.D.Flash.told c.carry_out.new.flash in
     subst (λ (l : Layout). IsInOrder (g.V.Verifier.passes c.args.verifier.now) l (g.D.Flash.told c.args.flash.now) t) (fitted_is L c.blocks-2.result K c.in-Ok.ensures.fits).is (c.carry_out.ensures.ordered tells)
+
+pub returns-clause-spent : goal.returns-clause-spent
+returns-clause-spent g c =
+    let K = c.in-Ok.plan.layout in
+    let es = c.in-Ok.plan.entries in
+    let planned = c.in-Ok.ensures.planned in
+    record {
+      pieces = pieces_in es;
+      few = pieces_fit K.rows es planned.count planned.fit;
+      exact = λ file toc told is. pieces_told file K es toc (c.in-Ok.ensures.toc file told) is;
+      taken = c.in-Ok-carry_out.ensures.spent;
+    }

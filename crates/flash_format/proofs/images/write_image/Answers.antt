@@ -2,6 +2,8 @@ use Rattle.std.proofs.Common.{◌≡◌, ◌+◌, ◌*◌, ◌≤◌, ℕ, inl, 
 use Rattle.std.specs.Prelude.{Ok, Option}
 use Rattle.flash_core.proofs.Calls.{keeps_wider, keeps_then}
 use Rattle.flash_core.proofs.Costs.{spends_then}
+use Rattle.flash_core.proofs.Spent.{spent_both}
+use Rattle.flash_core.specs.Counts.{lowered_by}
 use Rattle.host_io.specs.Contents.{Directory}
 use Rattle.fip_tables.specs.Files.{Tells}
 use Rattle.fwu_formats.specs.Package.{Entry, payload}
@@ -45,9 +47,14 @@ loop-k-preserved g c =
           let piece = done.bytes tells file here in
           let step : 4096 * c.from.result ≡ 4096 * k = omega (arith, c.from.ensures) in
           stands_more first k bytes t.now old (subst (λ (n : ℕ). Stands (4096 * b) 4096 (drop n bytes) t.now) step piece);
-      costs = spends_then (Ok tt) (Ok tt) _ _ _ before.costs done.costs;
+      costs = spends_then tt (Ok tt) _ _ _ before.costs done.costs;
+      spent = spent_both k 1 (k + 1) _ _ _ (omega arith) before.spent done.spent;
       unarmed = unarmed_then _ _ _ _ (g.D.Flash.counts c.args.flash.now) (g.D.Flash.counts c.loop-k.flash) (g.D.Flash.counts c.write_piece.new.flash) before.unarmed done.unarmed;
       same = done.same ∙ before.same;
       unwritten = done.unwritten ∙ before.unwritten;
       later = omega (arith, before.later, done.reads.later);
     }
+
+pub returns-clause-spent : goal.returns-clause-spent
+returns-clause-spent g c =
+    c.loop-k.invariant.spent ∙ ap (λ (n : ℕ). lowered_by n (g.D.Flash.arming c.args.flash.now)) (omega (arith, ap (λ (e : Entry). e.size) c.entry.view_is))

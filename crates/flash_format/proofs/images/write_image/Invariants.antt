@@ -1,6 +1,6 @@
 use Rattle.std.proofs.Common.{◌≡◌, ℕ, ◌+◌, ◌*◌, ◌≤◌, List}
 use Rattle.std.specs.Prelude.{IsTrue, Ok}
-use Rattle.flash_core.specs.Counts.{Spends, StaysUnarmed}
+use Rattle.flash_core.specs.Counts.{Spends, StaysUnarmed, lowered_by}
 use Rattle.flash_core.specs.May.{Keeps}
 use Rattle.fwu_formats.specs.Package.{payload}
 use Rattle.fip_tables.specs.Files.{Tells}
@@ -17,6 +17,7 @@ invariant-loop-k g l = record {
   rest : IsTrue g.D.Flash.tells → Erased (4096 * (l.first + l.k)) (4096 * (l.first + l.slots)) (g.D.Flash.told l.flash).now;
   front : IsTrue g.D.Flash.tells → (file : List ℕ) → Tells (g.H.Files.contents l.fn.files) l.name file → Stands (4096 * l.first) (4096 * l.k) (payload file l.entry) (g.D.Flash.told l.flash).now;
   costs : Spends {T = Unit {0}} (Ok tt) (g.D.Flash.counts l.fn.flash) (g.D.Flash.counts l.flash);
+  spent : g.D.Flash.arming l.flash ≡ lowered_by l.k (g.D.Flash.arming l.fn.flash);
   unarmed : StaysUnarmed {T = Unit {0}} (Ok tt) (g.D.Flash.arming l.fn.flash) (g.D.Flash.arming l.flash) (g.D.Flash.counts l.fn.flash) (g.D.Flash.counts l.flash);
   same : g.H.Files.contents l.files ≡ g.H.Files.contents l.fn.files;
   unwritten : g.H.Files.writes l.files ≡ g.H.Files.writes l.fn.files;

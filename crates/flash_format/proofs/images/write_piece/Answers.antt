@@ -6,6 +6,7 @@ use Rattle.flash_core.specs.Told.{Told}
 use Rattle.flash_core.specs.May.{Keeps}
 use Rattle.flash_core.proofs.Calls.{keeps_same}
 use Rattle.fwu_formats.specs.Package.{payload}
+use Rattle.flash_core.proofs.Spent.{spent_one}
 use Rattle.flash_format.specs.Cleared.{LeavesNoMore}
 use Rattle.flash_format.specs.Places.{Stands}
 use Rattle.flash_format.proofs.Ranges.{keeps_written, erased_range}
@@ -71,3 +72,6 @@ returns-clause-bytes g c = λ tells file told.
     subst (λ (t : Told). Stands at 4096 x t.now) (sym (c.in_ok-program.ensures.content tells))
     (piece_written c.args.block c.in-Ok.size x c.read_piece.new.out s (omega (arith, inside, c.requires.inside)) c.in-Ok.ensures.buffer (omega (arith, c.in-Ok.ensures.some))
     (c.requires.erased tells) c.in-Ok.ensures.erased (c.in-Ok.ensures.bytes file told))
+
+pub returns-clause-spent : goal.returns-clause-spent
+returns-clause-spent g c = spent_one _ _ c.in_ok-program.ensures.arming

@@ -3,6 +3,7 @@ use Rattle.base_core.specs.Block.{block}
 use Rattle.flash_core.specs.Told.{Told}
 use Rattle.flash_core.specs.May.{Keeps}
 use Rattle.flash_core.proofs.Calls.{keeps_same}
+use Rattle.flash_core.proofs.Spent.{spent_barrier, spent_one}
 use Rattle.flash_format.specs.Places.{Stands}
 use Rattle.flash_format.proofs.Ranges.{keeps_written, erased_range}
 use Rattle.flash_format.proofs.Recorded.{on_ok_from, keeps_settled, now_settled, clean_after, stands_put, block_padded, padded_whole, layout_read}
@@ -50,3 +51,6 @@ returns-clause-layout g c = on_ok_from _ c.barrier.result (λ tells.
 
 pub returns-clause-clean : goal.returns-clause-clean
 returns-clause-clean g c = clean_after _ c.barrier.result (g.D.Flash.told c.program.new.self) (g.D.Flash.told c.barrier.new.self) c.barrier.ensures.content
+
+pub returns-clause-spent : goal.returns-clause-spent
+returns-clause-spent g c = spent_barrier c.barrier.result 1 _ _ _ (spent_one _ _ c.in_ok-program.ensures.arming) c.barrier.ensures.arming

@@ -1,6 +1,7 @@
 use Rattle.std.proofs.Common.{arith}
 use Rattle.fwu_formats.specs.Metadata.{first_meta}
 use Rattle.fwu_model.specs.Replica.{in_version}
+use Rattle.flash_core.proofs.Spent.{spent_then}
 use Rattle.flash_format.proofs.Recorded.{on_ok_from, both_stay}
 use Rattle.flash_format.proofs.Ordered.{ordered_before, ordered_after}
 use Rattle.flash_format.proofs.records.write_records.Goals as goal
@@ -27,3 +28,6 @@ returns-clause-ordered g c = λ tells clean.
     let many = (g.met.D.Flash.sizes c.write_replicas.new.flash).0 in
     ordered_after c.args.layout.now (g.D.Flash.told c.write_replicas.new.flash) (g.D.Flash.told c.write_layout.new.flash) (omega (arith, size, many)) (c.in_ok-write_replicas.ensures.clean tells) (c.in_ok-write_replicas.ensures.both tells)
     (c.write_layout.ensures.keeps tells)
+
+pub returns-clause-spent : goal.returns-clause-spent
+returns-clause-spent g c = spent_then c.write_layout.result 2 1 3 _ _ _ (omega arith) c.in_ok-write_replicas.ensures.spent c.write_layout.ensures.spent

@@ -5,6 +5,7 @@ use Rattle.flash_core.specs.Told.{Told}
 use Rattle.flash_core.specs.May.{Keeps}
 use Rattle.flash_core.specs.Replaces.{padded}
 use Rattle.flash_core.proofs.Calls.{keeps_same, now_kept}
+use Rattle.flash_core.proofs.Spent.{spent_barrier, spent_both, spent_one}
 use Rattle.flash_format.specs.Places.{Stands}
 use Rattle.flash_format.proofs.Ranges.{keeps_written, erased_range, erased_stays}
 use Rattle.flash_format.proofs.Recorded.{on_ok_from, keeps_settled, now_settled, clean_after, stands_put, block_padded}
@@ -94,3 +95,7 @@ returns-clause-one g c = on_ok_from _ c.barrier.result (λ tells.
 
 pub returns-clause-clean : goal.returns-clause-clean
 returns-clause-clean g c = clean_after (IsTrue g.D.Flash.tells) c.barrier.result (g.D.Flash.told c.program-2.new.self) (g.D.Flash.told c.barrier.new.self) c.barrier.ensures.content
+
+pub returns-clause-spent : goal.returns-clause-spent
+returns-clause-spent g c =
+    spent_barrier c.barrier.result 2 _ _ _ (spent_both 1 1 2 _ _ _ (omega arith) (spent_one _ _ c.in_ok-program.ensures.arming) (spent_one _ _ c.in_ok-program-2.ensures.arming)) c.barrier.ensures.arming

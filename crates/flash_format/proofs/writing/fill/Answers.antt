@@ -1,12 +1,15 @@
-use Rattle.std.proofs.Common.{◌+◌, ◌*◌, ℕ, List, length, inl, inr, ap, sym, subst, ◌∙◌, arith}
+use Rattle.std.proofs.Common.{◌≡◌, ◌+◌, ◌*◌, ℕ, List, length, inl, inr, ap, sym, subst, ◌∙◌, arith}
 use Rattle.flash_core.specs.Told.{Told, NothingDirty}
 use Rattle.flash_core.specs.May.{Keeps}
 use Rattle.flash_core.proofs.Calls.{keeps_wider, keeps_then, settle-fresh}
 use Rattle.fwu_formats.specs.Layout.{slot_total, blocks_needed}
 use Rattle.fwu_formats.specs.Package.{Entry}
+use Rattle.flash_core.proofs.Spent.{spent_both}
+use Rattle.flash_core.specs.Counts.{lowered_by}
 use Rattle.flash_format.specs.Cleared.{IsBare, OnlyErased}
 use Rattle.flash_format.specs.Formatted.{IsBlank}
 use Rattle.flash_format.specs.Places.{AllStand, Erased}
+use Rattle.flash_format.specs.Takes.{pieces_in}
 use Rattle.flash_format.proofs.Clearing.{only_above, only_settled}
 use Rattle.flash_format.proofs.Ordered.{bare_settled, bare_stays}
 use Rattle.flash_format.proofs.Ranges.{erased_stays}
@@ -142,3 +145,11 @@ returns-clause-first g c = λ tells.
     let n = g.D.Flash.told c.write_bank.new.flash in
     let bare = bare_stays 32768 (4096 * (8 + slot_total c.args.plan.now.layout.rows)) m n (omega arith) (c.write_bank.ensures.keeps tells) (c.in_ok-erase_all.ensures.bare tells) in
     inr (subst IsBare (sym (c.barrier.ensures.content tells)) (bare_settled c.barrier.result n bare))
+
+pub returns-clause-spent : goal.returns-clause-spent
+returns-clause-spent g c =
+    let L = c.args.plan.now.layout in
+    let es = c.args.plan.now.entries in
+    let armed = g.D.Flash.arming c.erase_all.new.flash in
+    let wrote : g.D.Flash.arming c.write_bank.new.flash ≡ lowered_by (pieces_in es) armed = c.in_ok-write_bank.ensures.spent ∙ ap (λ (l : List Entry). lowered_by (pieces_in l) armed) c.as_slice.ensures in
+    c.in_ok-barrier.ensures.arming ∙ spent_both c.blocks-2.result (pieces_in es) (blocks_needed L + pieces_in es) _ _ _ (omega (arith, c.blocks-2.ensures)) c.in_ok-erase_all.ensures.spent wrote

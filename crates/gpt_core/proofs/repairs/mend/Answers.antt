@@ -3,7 +3,7 @@ use Rattle.gpt_core.specs.Table.{Table, header_at, entries_at, blocks_of, number
 use Rattle.gpt_core.specs.Repair.{Spells}
 use Rattle.gpt_core.proofs.Spelling.{spells}
 use Rattle.gpt_core.proofs.Deciding.{inside_copy}
-use Rattle.gpt_core.proofs.Spending.{spent-as}
+use Rattle.flash_core.proofs.Spent.{spent_as}
 use Rattle.gpt_core.proofs.repairs.mend.Goals as goal
 
 pub returns-clause-steps : goal.returns-clause-steps
@@ -39,4 +39,4 @@ pub returns-clause-spent : goal.returns-clause-spent
 returns-clause-spent g c =
     let t = c.args.table.now in
     let size : length c.as_slice.result.now ≡ number_of t * 128 = ap length (c.as_slice.ensures.value ∙ ap (λ (u : Table). u.entries) c.table.view_is) ∙ c.requires.fits.whole in
-    spent-as c.repair_copy.result (2 + 2 * ((length c.as_slice.result.now + 4095) / 4096)) (2 + 2 * blocks_of (number_of t)) _ _ (ap (λ (n : ℕ). 2 + 2 * ((n + 4095) / 4096)) size) c.repair_copy.ensures.spent
+    spent_as c.repair_copy.result (2 + 2 * ((length c.as_slice.result.now + 4095) / 4096)) (2 + 2 * blocks_of (number_of t)) _ _ (ap (λ (n : ℕ). 2 + 2 * ((n + 4095) / 4096)) size) c.repair_copy.ensures.spent

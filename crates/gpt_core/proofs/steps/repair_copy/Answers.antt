@@ -9,7 +9,7 @@ use Rattle.gpt_core.specs.Repair.{Cleared, Filled, Steps}
 use Rattle.gpt_core.proofs.Stepping.{steps_stopped}
 use Rattle.flash_core.proofs.Calls.{keeps_wider, keeps_then}
 use Rattle.gpt_core.proofs.Filling.{empty_stays}
-use Rattle.gpt_core.proofs.Spending.{spent-both, spent-then}
+use Rattle.flash_core.proofs.Spent.{spent_both, spent_then}
 use Rattle.gpt_core.proofs.steps.repair_copy.Goals as goal
 
 pub write_header-requires-clause-empty : goal.write_header-requires-clause-empty
@@ -62,4 +62,4 @@ returns-clause-keeps g c low high a b e f tells =
 pub returns-clause-spent : goal.returns-clause-spent
 returns-clause-spent g c =
     let k = 2 * ((length c.args.entries.now + 4095) / 4096) in
-    spent-then c.write_header.result (1 + k) 1 (2 + k) _ _ _ (omega arith) (spent-both 1 k (1 + k) _ _ _ refl c.in_ok-clear_header.ensures.spent c.in_ok-write_entries.ensures.spent) c.write_header.ensures.spent
+    spent_then c.write_header.result (1 + k) 1 (2 + k) _ _ _ (omega arith) (spent_both 1 k (1 + k) _ _ _ refl c.in_ok-clear_header.ensures.spent c.in_ok-write_entries.ensures.spent) c.write_header.ensures.spent

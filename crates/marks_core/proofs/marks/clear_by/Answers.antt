@@ -1,9 +1,11 @@
-use Rattle.std.proofs.Common.{◌*◌, ◌∙◌, ap, sym, subst}
+use Rattle.std.proofs.Common.{◌*◌, Bool, ◌∙◌, ap, sym, subst}
 use Rattle.std.specs.Prelude.{Ok}
 use Rattle.base_core.specs.Block.{blank}
+use Rattle.flash_core.specs.Counts.{lowered}
 use Rattle.flash_core.specs.Told.{put, halt, settled}
-use Rattle.marks_core.specs.Marks.{Clears}
-use Rattle.marks_core.proofs.Clearing.{was_clear, clear_stopped, cleared}
+use Rattle.fwu_formats.specs.Image.{is_blank}
+use Rattle.marks_core.specs.Marks.{Clears, TakesClear}
+use Rattle.marks_core.proofs.Clearing.{was_clear, clear_stopped, cleared, takes_erase}
 use Rattle.marks_core.proofs.marks.clear_by.Goals as goal
 
 pub returns-then-all_erased-clause-clears : goal.returns-then-all_erased-clause-clears
@@ -30,3 +32,13 @@ returns-clause-clears g c tells =
     subst (Clears c.barrier.result b s) (sym content)
     (cleared b _ _ s (g.met.D.Flash.sound c.args.flash.now tells) c.requires.inside c.barrier.result
     c.read_block.new.out (c.in_ok-read_block.ensures.bytes tells) (sym c.all_erased.ensures ∙ c.if-all_erased.false))
+
+pub returns-then-all_erased-clause-once : goal.returns-then-all_erased-clause-once
+returns-then-all_erased-clause-once g c tells =
+    let clear = sym (ap is_blank (c.in_ok-read_block.ensures.bytes tells)) ∙ sym c.all_erased.ensures ∙ c.if-all_erased.true in
+    subst (λ (b : Bool). TakesClear b (g.D.Flash.arming c.args.flash.now) (g.D.Flash.arming c.read_block.new.flash)) (sym clear) c.in_ok-read_block.ensures.arming
+
+pub returns-clause-once : goal.returns-clause-once
+returns-clause-once g c tells =
+    let unclear = sym (ap is_blank (c.in_ok-read_block.ensures.bytes tells)) ∙ sym c.all_erased.ensures ∙ c.if-all_erased.false in
+    takes_erase c.barrier.result _ _ _ _ unclear (c.in_ok-erase.ensures.arming ∙ ap lowered c.in_ok-read_block.ensures.arming) c.barrier.ensures.arming

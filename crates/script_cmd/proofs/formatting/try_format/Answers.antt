@@ -1,7 +1,7 @@
 use Rattle.std.proofs.Common.{ℕ, None, ap, subst, ◌∙◌}
 use Rattle.script_cmd.specs.Formatting.{Tries}
 use Rattle.script_turns.specs.Powered.{at}
-use Rattle.script_cmd.proofs.ShowFlash.{power-on-guards, power-on-keeps, none-falls}
+use Rattle.script_cmd.proofs.ShowFlash.{power-on-guards, power-on-keeps, none-falls, stops-then}
 use Rattle.script_cmd.proofs.FormatFlash.{stop-cause}
 use Rattle.script_cmd.proofs.formatting.try_format.Goals as goal
 
@@ -36,6 +36,7 @@ returns-clause-tries g c =
       keeps = e.keeps;
       guard = λ tells. (e.keeps tells).guard ∙ power-on-guards (told old) (told mid) (c.power_on.ensures.fresh tells);
       counts = none-falls _ (counts old) (counts mid) (counts new) c.power_on.ensures.counts e.costs;
+      once = stops-then _ (counts old) (counts mid) (counts new) c.power_on.ensures.counts e.costs;
       made = e.costs.made ∙ c.power_on.ensures.made;
       unarmed = (e.unarmed (c.power_on.ensures.arming ∙ c.requires.unarmed)).0;
       stopped = λ stop is. stop-cause _ stop (counts old) (counts mid) (counts new) is c.power_on.ensures.counts e.costs (e.unarmed (c.power_on.ensures.arming ∙ c.requires.unarmed)).1;

@@ -21,7 +21,7 @@ pub loop-block-preserved : goal.loop-block-preserved
 loop-block-preserved g c = record {
   on = c.in_ok-erase.ensures.power;
   size = c.in_ok-erase.ensures.size ∙ c.loop-block.invariant.size;
-  costs = spends_then (Ok tt) (Ok tt) _ _ _ c.loop-block.invariant.costs c.in_ok-erase.ensures.counts;
+  costs = spends_then tt (Ok tt) _ _ _ c.loop-block.invariant.costs c.in_ok-erase.ensures.counts;
   arming =
       spends_then_arming tt (Ok tt) (c.loop-block.block - c.args.first) 1 _ _ _ _ _ _ _ (omega arith) c.loop-block.invariant.costs.cuts c.loop-block.invariant.arming
       (spends_one (Ok tt) _ _ _ _ c.in_ok-erase.ensures.arming c.in_ok-erase.ensures.reached);

@@ -1,7 +1,8 @@
 use Rattle.std.proofs.Common.{◌≡◌, ◌++◌, ◌≤◌, ℕ, length, take, drop, Ok, Err, sym, ap, subst, ◌∙◌, arith}
 use Rattle.std.proofs.lemmas.List.{length-take-le, take-append-le, take_all}
 use Rattle.fwu_formats.specs.Package.{Entry, payload}
-use Rattle.slot_writer.specs.Writes.{lowered_by, writes_to_append}
+use Rattle.flash_core.specs.Counts.{lowered_by}
+use Rattle.slot_writer.specs.Writes.{writes_to_append}
 use Rattle.agent_kept.specs.Kept.{part_at, size_of}
 use Rattle.agent_calls.specs.Shown.{device, fields, moment}
 use Rattle.update_client.specs.declared.stops.SendStop.{SendStop}

@@ -128,7 +128,7 @@ returns-in-Err-begin-clause-unarmed g c =
     (g.D.Flash.counts (device agent)) (g.D.Flash.counts (device c.begin.new.self))) flash c.in-Err-begin.ensures.unarmed
 
 pub returns-in-Ok-install-clause-costs : goal.returns-in-Ok-install-clause-costs
-returns-in-Ok-install-clause-costs g c = spends_then (Ok tt) (Ok tt) _ _ _ c.in-Ok-begin.ensures.costs c.in-Ok-install.ensures.spent.costs
+returns-in-Ok-install-clause-costs g c = spends_then tt (Ok tt) _ _ _ c.in-Ok-begin.ensures.costs c.in-Ok-install.ensures.spent.costs
 
 pub returns-in-Ok-install-clause-power : goal.returns-in-Ok-install-clause-power
 returns-in-Ok-install-clause-power g c = λ here. c.in-Ok-install.ensures.spent.power
@@ -140,7 +140,7 @@ pub returns-in-Ok-install-clause-unarmed : goal.returns-in-Ok-install-clause-una
 returns-in-Ok-install-clause-unarmed g c = unarmed-then (Ok tt) _ _ _ _ _ _ c.in-Ok-begin.ensures.costs.cuts c.in-Ok-begin.ensures.unarmed c.in-Ok-install.ensures.spent.unarmed
 
 pub returns-in-Err-install-clause-costs : goal.returns-in-Err-install-clause-costs
-returns-in-Err-install-clause-costs g c = spends_then (Ok tt) (flash_of {T = Sent} (Err c.in-Err-install.stop)) _ _ _ c.in-Ok-begin.ensures.costs c.in-Err-install.ensures.spent.costs
+returns-in-Err-install-clause-costs g c = spends_then tt (flash_of {T = Sent} (Err c.in-Err-install.stop)) _ _ _ c.in-Ok-begin.ensures.costs c.in-Err-install.ensures.spent.costs
 
 pub returns-in-Err-install-clause-power : goal.returns-in-Err-install-clause-power
 returns-in-Err-install-clause-power g c = λ here. c.in-Err-install.ensures.spent.power
