@@ -16,6 +16,8 @@ mod packages;
 #[cfg(test)]
 mod pieces;
 #[cfg(test)]
+mod real_files;
+#[cfg(test)]
 mod rows;
 #[cfg(test)]
 mod runs;

@@ -98,26 +98,24 @@ fn image_of(rt: &impl Abort, alloc: Global, flash: MemoryFlash) -> Vec<u8> {
     flash.bytes().to_vec(alloc).expect(rt, "memory")
 }
 
-/// The program with these words, this script and these files, on a flash with these bytes.
-fn run_with(
+/// The program with these words and this script, over these files, on a flash with these bytes.
+pub fn run_over<H: Files>(
     rt: &impl Abort,
     alloc: Global,
     words: &str,
     script: &str,
-    files: &[Named],
+    files: &mut H,
     image: &[u8],
     trouble: &Trouble,
 ) -> Ran {
     let words = words_of(rt, alloc, words);
-    let copies = files.to_vec(alloc).expect(rt, "memory");
-    let mut files = MemoryFiles::new(alloc, copies, only(rt, alloc, trouble.files));
     let mut source = source_of(rt, alloc, script, trouble.source);
     let mut sink = MemorySink::new(alloc, Vec::new(alloc), only(rt, alloc, trouble.sink));
     let flash = flash_of(rt, alloc, image, trouble);
     let done = end_on(
         alloc,
         words.as_slice(),
-        &mut files,
+        files,
         &mut source,
         &mut sink,
         flash,
@@ -127,6 +125,21 @@ fn run_with(
         printed: sink.bytes().to_vec(alloc).expect(rt, "memory"),
         image: image_of(rt, alloc, done.flash),
     }
+}
+
+/// The program with these words, this script and these files in memory, on a flash with these bytes.
+fn run_with(
+    rt: &impl Abort,
+    alloc: Global,
+    words: &str,
+    script: &str,
+    files: &[Named],
+    image: &[u8],
+    trouble: &Trouble,
+) -> Ran {
+    let copies = files.to_vec(alloc).expect(rt, "memory");
+    let mut files = MemoryFiles::new(alloc, copies, only(rt, alloc, trouble.files));
+    run_over(rt, alloc, words, script, &mut files, image, trouble)
 }
 
 /// A boot of a flash with these bytes.

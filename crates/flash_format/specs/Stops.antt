@@ -18,6 +18,11 @@ flash_result (Err (Input fault)) = Ok tt
 flash_result (Err ReadFailed) = Ok tt
 flash_result (Err (Flash stop)) = Err stop
 
+-- how many calls of the files failed, by a result that tells it
+abbrev pub unread_in : {T : Type 0} → Result T FormatStop → ℕ
+unread_in (Err ReadFailed) = 1
+unread_in other = 0
+
 -- No fault of the files falls, and the file could not be read only where they rose, or told files lack the name.
 pub record ReadsBy {T : Type 0} (told : Option Directory) (name : List ℕ) (before now : ℕ)
     (result : Result T FormatStop) : Type 0 where

@@ -23,13 +23,13 @@ pieces_by (Some e) = pieces_of e.size
 abbrev pub pieces_for : List ImageRow → Toc → ℕ
 pieces_for rows toc = sum_by (λ (row : ImageRow). pieces_by (entry_of toc row.guid)) rows
 
--- an erase of each block up to the last bank's end, a program of each piece of an image, of both replicas and of the layout
-abbrev pub writes_of : Layout → ℕ → ℕ
-writes_of L pieces = blocks_needed L + pieces + 3
+-- an erase of each block up to the last bank's end, a program of each piece of an image, and of so many records
+abbrev pub writes_of : Layout → ℕ → ℕ → ℕ
+writes_of L pieces records = blocks_needed L + pieces + records
 
 -- On any device and any files: the images have no more pieces than a bank has blocks; those of a file that is told are known.
-pub record Takes (told : Option Directory) (name : List ℕ) (L : Layout) (armed arming : Option Arming) : Type 0 where
+pub record Takes (told : Option Directory) (name : List ℕ) (L : Layout) (records : ℕ) (armed arming : Option Arming) : Type 0 where
   pub pieces : ℕ
   pub few : pieces ≤ slot_total L.rows
   pub exact : (file : List ℕ) (toc : Toc) → Tells told name file → toc_of file ≡ Ok toc → pieces ≡ pieces_for L.rows toc
-  pub taken : arming ≡ lowered_by (writes_of L pieces) armed
+  pub taken : arming ≡ lowered_by (writes_of L pieces records) armed

@@ -7,7 +7,7 @@ ghost use Rattle.fip_tables.specs.Files.{Lacks, Tells};
 ghost use Rattle.flash_format.specs.Choosing.{no_entry, no_row};
 ghost use Rattle.flash_format.specs.Cleared.{LeavesNoMore};
 ghost use Rattle.flash_format.specs.Places.{Erased, AllStand};
-ghost use Rattle.flash_format.specs.Stops.{flash_result, ReadsBy, RefusesNothing};
+ghost use Rattle.flash_format.specs.Stops.{flash_result, ReadsBy, RefusesNothing, unread_in};
 ghost use Rattle.flash_format.specs.Takes.{pieces_in};
 
 use crate::images::write_image;
@@ -53,6 +53,7 @@ pub fn write_bank<D: Flash, H: Files>(
         (D.counts flash.old) (D.counts flash.new) }
     ensures same { H.contents files.new ≡ H.contents files.old }
     ensures unwritten { H.writes files.new ≡ H.writes files.old }
+    ensures once { H.faults files.new ≤ H.faults files.old + unread_in result }
     ensures reads { ReadsBy (H.contents files.old) name.now (H.faults files.old)
         (H.faults files.new) result }
     ensures stops { RefusesNothing result }

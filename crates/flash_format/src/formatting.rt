@@ -1,5 +1,5 @@
 //! Formatting a flash.
-ghost use Rattle.std.specs.Prelude.{◌≡◌, ◌⊎◌, ◌*◌, ◌≤◌, ℕ, List, Ok, Err, IsErr, IfOk, IfErr, OnOk, length, is_ok, IsTrue};
+ghost use Rattle.std.specs.Prelude.{◌≡◌, ◌+◌, ◌⊎◌, ◌*◌, ◌≤◌, ℕ, List, Ok, Err, false, IsErr, IfOk, IfErr, OnOk, length, is_ok, IsTrue};
 ghost use Rattle.flash_core.specs.Counts.{Spends, StaysUnarmed, lowered_by};
 ghost use Rattle.flash_core.specs.May.{Keeps};
 ghost use Rattle.flash_core.specs.Told.{NothingDirty};
@@ -10,6 +10,7 @@ ghost use Rattle.fwu_model.specs.Answer.{images_of};
 ghost use Rattle.fwu_formats.specs.Manifest.{is_complete, manifest_part};
 ghost use Rattle.meta_layout.specs.Rows.{fitted};
 ghost use Rattle.fip_tables.specs.Files.{Lacks, Tells};
+ghost use Rattle.image_check.specs.Law.{may_start};
 ghost use Rattle.image_check.specs.Passed.{HasPassed};
 ghost use Rattle.image_check.specs.declared.bank.Verdict.TheVariants.{Good};
 ghost use Rattle.image_check.specs.declared.bank.Verdict.{Verdict};
@@ -17,7 +18,7 @@ ghost use Rattle.flash_format.specs.Choosing.{refusal};
 ghost use Rattle.flash_format.specs.Formatted.{HoldsImages, IsBlank, IsFormatted, IsInOrder, IsOrdered, IsRefused, IsWhole};
 ghost use Rattle.flash_format.specs.Places.{AllStand, Erased};
 ghost use Rattle.flash_format.specs.Planned.{IsPlanned};
-ghost use Rattle.flash_format.specs.Stops.{flash_result, Answers, Finishes, IsEarly, IsOfLayout, LayoutBy, ReadsBy, RefusesBank};
+ghost use Rattle.flash_format.specs.Stops.{flash_result, Answers, Finishes, IsEarly, IsOfLayout, LayoutBy, ReadsBy, RefusesBank, unread_in};
 ghost use Rattle.flash_format.specs.declared.stops.FormatStop.TheVariants.{Input as InputRefused, ReadFailed as FileFailed};
 ghost use Rattle.flash_format.specs.declared.stops.InputFault.TheVariants.{Incomplete as BankRefused};
 ghost use Rattle.flash_format.specs.Takes.{Takes, pieces_in, writes_of};
@@ -68,6 +69,10 @@ fn finish<D: Flash, V: Verifier>(
     ensures size { D.blocks flash.new ≡ D.blocks flash.old }
     ensures costs { Spends (flash_result result) (D.counts flash.old) (D.counts flash.new) }
     ensures spent { OnOk result (D.arming flash.new ≡ lowered_by 3 (D.arming flash.old)) }
+    ensures worn { (found : Verdict) → result ≡ Err (InputRefused (BankRefused found)) →
+        D.arming flash.new ≡ D.arming flash.old }
+    ensures bad { (found : Verdict) → result ≡ Err (InputRefused (BankRefused found)) →
+        may_start found ≡ false }
     ensures unarmed { StaysUnarmed (flash_result result) (D.arming flash.old) (D.arming flash.new)
         (D.counts flash.old) (D.counts flash.new) }
     ensures stops { RefusesBank result }
@@ -116,12 +121,17 @@ fn carry_out<D: Flash, H: Files, V: Verifier>(
     ensures size { D.blocks flash.new ≡ D.blocks flash.old }
     ensures costs { Spends (flash_result result) (D.counts flash.old) (D.counts flash.new) }
     ensures spent { OnOk result (D.arming flash.new
-        ≡ lowered_by (writes_of plan.now.layout (pieces_in plan.now.entries)) (D.arming flash.old)) }
+        ≡ lowered_by (writes_of plan.now.layout (pieces_in plan.now.entries) 3) (D.arming flash.old)) }
+    ensures worn { (found : Verdict) → result ≡ Err (InputRefused (BankRefused found)) → D.arming flash.new
+        ≡ lowered_by (writes_of plan.now.layout (pieces_in plan.now.entries) 0) (D.arming flash.old) }
+    ensures bad { (found : Verdict) → result ≡ Err (InputRefused (BankRefused found)) →
+        may_start found ≡ false }
     ensures unarmed { StaysUnarmed (flash_result result) (D.arming flash.old) (D.arming flash.new)
         (D.counts flash.old) (D.counts flash.new) }
     ensures stops { IsEarly result → ⊥ }
     ensures same { H.contents files.new ≡ H.contents files.old }
     ensures unwritten { H.writes files.new ≡ H.writes files.old }
+    ensures once { H.faults files.new ≤ H.faults files.old + unread_in result }
     ensures reads { ReadsBy (H.contents files.old) name.now (H.faults files.old)
         (H.faults files.new) result }
 {
@@ -205,13 +215,21 @@ pub fn format<D: Flash, H: Files, V: Verifier>(
     ensures power { D.on flash.new ≡ is_ok (flash_result result) }
     ensures size { D.blocks flash.new ≡ D.blocks flash.old }
     ensures costs { Spends (flash_result result) (D.counts flash.old) (D.counts flash.new) }
-    // On every device: each block is erased once, and each piece of an image, each replica and the layout are programmed once.
+    // On every device: each block is erased once, and each piece of an image, each replica and the layout are programmed once; where
+    // what is in the bank is refused, neither replica and no layout. And no verdict is refused by which the bank may start.
     ensures spent { IfOk result (λ done.
-        Takes (H.contents files.old) name.now done.layout (D.arming flash.old) (D.arming flash.new)) }
+        Takes (H.contents files.old) name.now done.layout 3 (D.arming flash.old) (D.arming flash.new)) }
+    ensures worn { (found : Verdict) → result ≡ Err (InputRefused (BankRefused found)) →
+        Takes (H.contents files.old) name.now (record { banks = banks; rows = rows.now }) 0
+        (D.arming flash.old) (D.arming flash.new) }
+    ensures bad { (found : Verdict) → result ≡ Err (InputRefused (BankRefused found)) →
+        may_start found ≡ false }
     ensures unarmed { StaysUnarmed (flash_result result) (D.arming flash.old) (D.arming flash.new)
         (D.counts flash.old) (D.counts flash.new) }
     ensures same { H.contents files.new ≡ H.contents files.old }
     ensures unwritten { H.writes files.new ≡ H.writes files.old }
+    // On any files: no call of them failed but the one that is told.
+    ensures once { H.faults files.new ≤ H.faults files.old + unread_in result }
     ensures reads { ReadsBy (H.contents files.old) name.now (H.faults files.old)
         (H.faults files.new) result }
 {

@@ -8,7 +8,7 @@ ghost use Rattle.fwu_formats.specs.Package.{payload};
 ghost use Rattle.fip_tables.specs.Files.{Lacks, Tells};
 ghost use Rattle.flash_format.specs.Cleared.{LeavesNoMore};
 ghost use Rattle.flash_format.specs.Places.{Erased, Stands};
-ghost use Rattle.flash_format.specs.Stops.{flash_result, ReadsBy, RefusesNothing};
+ghost use Rattle.flash_format.specs.Stops.{flash_result, ReadsBy, RefusesNothing, unread_in};
 ghost use Rattle.flash_format.specs.Takes.{pieces_of};
 
 use crate::stops::FormatStop;
@@ -80,6 +80,7 @@ fn write_piece<D: Flash, H: Files>(
         (D.counts flash.old) (D.counts flash.new) }
     ensures same { H.contents files.new ≡ H.contents files.old }
     ensures unwritten { H.writes files.new ≡ H.writes files.old }
+    ensures once { H.faults files.new ≤ H.faults files.old + unread_in result }
     ensures reads { ReadsBy (H.contents files.old) name.now (H.faults files.old)
         (H.faults files.new) result }
     ensures stops { RefusesNothing result }
@@ -128,6 +129,7 @@ pub fn write_image<D: Flash, H: Files>(
         (D.counts flash.old) (D.counts flash.new) }
     ensures same { H.contents files.new ≡ H.contents files.old }
     ensures unwritten { H.writes files.new ≡ H.writes files.old }
+    ensures once { H.faults files.new ≤ H.faults files.old + unread_in result }
     ensures reads { ReadsBy (H.contents files.old) name.now (H.faults files.old)
         (H.faults files.new) result }
     ensures stops { RefusesNothing result }

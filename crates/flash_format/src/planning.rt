@@ -1,11 +1,11 @@
 //! What is to be written: the layout, and the entries of its images. It is found before the flash is touched.
-ghost use Rattle.std.specs.Prelude.{◌≡◌, ◌⊎◌, ℕ, List, Ok, Err, IfOk, IfErr};
+ghost use Rattle.std.specs.Prelude.{◌≡◌, ◌≤◌, ◌+◌, ◌⊎◌, ℕ, List, Ok, Err, IfOk, IfErr};
 ghost use Rattle.fwu_formats.specs.Package.{toc_of};
 ghost use Rattle.meta_layout.specs.Rows.{fitted};
 ghost use Rattle.fip_tables.specs.Files.{Lacks, Tells};
 ghost use Rattle.flash_format.specs.Choosing.{refusal, refusal_by};
 ghost use Rattle.flash_format.specs.Planned.{IsPlanned, HasToc};
-ghost use Rattle.flash_format.specs.Stops.{Answers, IsOfLayout, LayoutBy, ReadsBy, StopsEarly};
+ghost use Rattle.flash_format.specs.Stops.{Answers, IsOfLayout, LayoutBy, ReadsBy, StopsEarly, unread_in};
 ghost use Rattle.flash_format.specs.declared.stops.FormatStop.TheVariants.{ReadFailed as FileFailed};
 
 use crate::choosing::choose;
@@ -29,6 +29,7 @@ fn plan_of<H: Files>(files: &mut H, name: &str, layout: Layout) -> Result<Plan, 
     ensures stops { IfErr result StopsEarly }
     ensures same { H.contents files.new ≡ H.contents files.old }
     ensures unwritten { H.writes files.new ≡ H.writes files.old }
+    ensures once { H.faults files.new ≤ H.faults files.old + unread_in result }
     ensures reads { ReadsBy (H.contents files.old) name.now (H.faults files.old)
         (H.faults files.new) result }
 {
@@ -65,6 +66,7 @@ pub fn plan<H: Files>(
     ensures stops { IfErr result StopsEarly }
     ensures same { H.contents files.new ≡ H.contents files.old }
     ensures unwritten { H.writes files.new ≡ H.writes files.old }
+    ensures once { H.faults files.new ≤ H.faults files.old + unread_in result }
     ensures reads { ReadsBy (H.contents files.old) name.now (H.faults files.old)
         (H.faults files.new) result }
 {

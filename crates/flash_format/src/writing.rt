@@ -14,7 +14,7 @@ ghost use Rattle.flash_format.specs.Cleared.{IsBare, OnlyErased};
 ghost use Rattle.flash_format.specs.Formatted.{IsBlank};
 ghost use Rattle.flash_format.specs.Places.{AllStand, Erased};
 ghost use Rattle.flash_format.specs.Planned.{IsPlanned};
-ghost use Rattle.flash_format.specs.Stops.{flash_result, ReadsBy, RefusesBank, RefusesNothing};
+ghost use Rattle.flash_format.specs.Stops.{flash_result, ReadsBy, RefusesBank, RefusesNothing, unread_in};
 ghost use Rattle.flash_format.specs.declared.stops.FormatStop.TheVariants.{Input as InputRefused};
 ghost use Rattle.flash_format.specs.declared.stops.InputFault.TheVariants.{Incomplete as BankRefused};
 ghost use Rattle.flash_format.specs.Takes.{pieces_in};
@@ -64,6 +64,7 @@ pub fn fill<D: Flash, H: Files>(
         (D.counts flash.old) (D.counts flash.new) }
     ensures same { H.contents files.new ≡ H.contents files.old }
     ensures unwritten { H.writes files.new ≡ H.writes files.old }
+    ensures once { H.faults files.new ≤ H.faults files.old + unread_in result }
     ensures reads { ReadsBy (H.contents files.old) name.now (H.faults files.old)
         (H.faults files.new) result }
     ensures stops { RefusesNothing result }
@@ -96,7 +97,7 @@ pub fn check_bank<D: Flash, V: Verifier>(
     ensures power { D.on flash.new ≡ is_ok (flash_result result) }
     ensures size { D.blocks flash.new ≡ D.blocks flash.old }
     ensures costs { Spends (flash_result result) (D.counts flash.old) (D.counts flash.new) }
-    ensures arming { OnOk result (D.arming flash.new ≡ D.arming flash.old) }
+    ensures arming { OnOk (flash_result result) (D.arming flash.new ≡ D.arming flash.old) }
     ensures unarmed { StaysUnarmed (flash_result result) (D.arming flash.old) (D.arming flash.new)
         (D.counts flash.old) (D.counts flash.new) }
     ensures stops { RefusesBank result }

@@ -395,6 +395,20 @@ fn ranges<R: std::rt::Files>(rt: &impl Abort, alloc: Global, files: &mut HostFil
     are_bytes(rt, list.as_slice(), b"old ");
     let list = onto(rt, alloc, files, (name, 2), Ok(()));
     is_added(rt, list.as_slice());
+    gives(rt, files, (name, 69_996), &[1, 1, 1, 2]);
+    adds_the_end(rt, alloc, files, name);
+}
+
+// The last two bytes, behind the first piece of 65,536.
+fn adds_the_end<R: std::rt::Files>(
+    rt: &impl Abort,
+    alloc: Global,
+    files: &mut HostFiles<R>,
+    name: &str,
+) {
+    let mut list = old(rt, alloc, 2);
+    same(rt, files.read_onto(name, 69_998, 2, &mut list), Ok(()));
+    are_bytes(rt, list.as_slice(), b"old \x01\x02");
 }
 
 fn long_ranges<R: std::rt::Files + Drop>(

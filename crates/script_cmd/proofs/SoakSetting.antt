@@ -230,6 +230,7 @@ module _ (passes : List ℕ → Bool) (tells : Bool) (one all : Directory) where
     once = turned.once;
     unread = λ is. unread-with c was are agree (turned.unread is);
     later = turned.later;
+    unread_once = turned.unread_once;
     reads_none = turned.reads_none;
     replies = replies-with c old t new agree turned.replies;
     takes = turned.takes;

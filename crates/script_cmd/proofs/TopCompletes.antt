@@ -64,7 +64,7 @@ module _ (g : Given) (before after : Counts) (status : ℕ) (taken takes : Optio
   pub show-completes : (tells : Bool) (old new : Moment) (told : Note) → old.counts ≡ before → new.counts ≡ after → Showed tells g old new status told taken takes was are
       → IsTrue tells → NothingDirty old.told → HasMetadata old.told.now → IsGranted g before after was are → (status ≡ 0) ⊎ (status ≡ 9)
   show-completes tells old new told first last (show.starved is quiet same none) knows clean has grants = inr is
-  show-completes tells old new told first last (show.found good planned line finds once prints) knows clean has grants =
+  show-completes tells old new told first last (show.found good planned line finds once power prints) knows clean has grants =
       found (IsTrue tells × NothingDirty old.told) old.told.now planned told line (knows, clean) has grants
       (subst (λ (x : Counts). Finds (IsTrue tells × NothingDirty old.told) old.told.now x after planned told line) first
       (subst (λ (x : Counts). Finds (IsTrue tells × NothingDirty old.told) old.told.now old.counts x planned told line) last finds)) prints

@@ -176,6 +176,7 @@ tries-from passes tells told name L blocks old new first was are r later t = rec
   once = t.once;
   made = t.made;
   unarmed = t.unarmed;
+  power = t.power;
   stopped = t.stopped;
 }
 

@@ -51,7 +51,7 @@ module _ (tells : Bool) (g : Given) (old new : Moment) (status : ℕ) (noted : N
   lists : Showed tells g old new status noted taken takes was are → RefusesBadList g old new status was are
   lists (starved nine quiet same none) = starved-list g old new status was are same nine
   lists (list_refused same refused) = refused-list g old new status was are ask.show noted taken takes same refused
-  lists (found good planned line finds once prints) = good-list-kept g old new status was are good
+  lists (found good planned line finds once power prints) = good-list-kept g old new status was are good
 
   pub showed-by : Showed tells g old new status noted taken takes was are → (IsTrue tells → NothingDirty old.told → new.told ≡ old.told) → (IsTrue tells → new.told.guard ≡ old.told.guard) → journal ≡ []
       → NoneFalls old.counts new.counts → new.counts.made ≡ old.counts.made → new.armed ≡ None → ShowedBy tells g old new status noted journal taken takes was are
@@ -103,4 +103,4 @@ module _ (tells : Bool) (told files : Option Directory) (name : List ℕ) (scrip
         refuses (Some ask.show) told files name script first was are refused.0 noted refused.1 good later source refused.2,
         at-sink refused.1 refused.0 refused.3,
       )
-      go (found listed planned line finds once prints) = found good planned line finds once (at-sink line planned prints)
+      go (found listed planned line finds once power prints) = found good planned line finds once power (at-sink line planned prints)

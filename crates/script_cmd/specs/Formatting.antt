@@ -1,5 +1,5 @@
 -- What the command `format` does, tells and prints.
-use Rattle.std.specs.Prelude.{◌≡◌, ◌⊎◌, ◌+◌, ◌*◌, ◌≤◌, ◌||◌, ◌==◌, ℕ, ◌++◌, ◌∷◌, [], Bool, List, Option, None, Result, Ok, Err, IfOk, IsErr, IsTrue, IsFalse, codes, decimal, length}
+use Rattle.std.specs.Prelude.{◌≡◌, ◌⊎◌, ◌+◌, ◌*◌, ◌≤◌, ◌||◌, ◌==◌, ℕ, ◌++◌, ◌∷◌, [], Bool, List, Option, None, Result, Ok, Err, IfOk, IsErr, IsTrue, IsFalse, is_ok, codes, decimal, length}
 use Rattle.flash_core.specs.Counts.{all_stops, stops_in}
 use Rattle.flash_core.specs.May.{Keeps}
 use Rattle.flash_core.specs.Told.{Told, NothingDirty}
@@ -136,6 +136,8 @@ pub record Tries (passes : List ℕ → Bool) (tells : Bool) (told : Option Dire
   pub once : all_stops new.counts ≤ all_stops old.counts + stops_in (flash_result r)
   pub made : new.counts.made ≡ old.counts.made
   pub unarmed : new.armed ≡ None
+  -- power is on unless the flash stopped it
+  pub power : new.power ≡ is_ok (flash_result r)
   pub stopped : (stop : FlashStop) → r ≡ Err (Flash stop) → HasCause old.counts new.counts
 
 -- ---- what the command did

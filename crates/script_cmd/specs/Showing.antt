@@ -1,5 +1,5 @@
 -- What the command `show` tells and prints.
-use Rattle.std.specs.Prelude.{if◌then◌else◌, ◌==◌, ◌≡◌, ◌⊎◌, ℕ, ◌+◌, ◌≤◌, ◌++◌, ◌∷◌, [], Bool, List, Option, Some, None, Ok, Err, IfSome, IsSome, IsTrue, codes}
+use Rattle.std.specs.Prelude.{if◌then◌else◌, not, ◌==◌, ◌≡◌, ◌⊎◌, ℕ, ◌+◌, ◌≤◌, ◌++◌, ◌∷◌, [], Bool, List, Option, Some, None, Ok, Err, IfSome, IsSome, IsTrue, codes}
 use Rattle.flash_core.specs.Counts.{Rose, all_stops}
 use Rattle.flash_core.specs.Told.{NothingDirty}
 use Rattle.flash_core.specs.declared.flash.Counts.{Counts}
@@ -79,6 +79,7 @@ pub data Showed (tells : Bool) (g : Given) (old new : Moment) (status : ℕ) (no
   found : HasGoodList g.list g.files → (planned : ℕ) (line : List ℕ)
       → Finds (IsTrue tells × NothingDirty old.told) old.told.now old.counts new.counts planned noted line
       → all_stops new.counts ≤ all_stops old.counts + stops_shown planned
+      → new.power ≡ not (planned == 5)
       → Prints line planned status taken_before taken_after faults_before.sink faults_after.sink
       → Showed tells g old new status noted taken_before taken_after faults_before faults_after
 

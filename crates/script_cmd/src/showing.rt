@@ -1,5 +1,5 @@
 //! The command `show`.
-ghost use Rattle.std.specs.Prelude.{◌≡◌, ◌+◌, ◌≤◌, ◌++◌, [], None, length, IsTrue, IsFalse};
+ghost use Rattle.std.specs.Prelude.{not, ◌==◌, ◌≡◌, ◌+◌, ◌≤◌, ◌++◌, [], None, length, IsTrue, IsFalse};
 ghost use Rattle.flash_core.specs.Counts.{all_stops};
 ghost use Rattle.flash_core.specs.Told.{NothingDirty};
 ghost use Rattle.early_boot.specs.Numbers.{numbers as read};
@@ -66,7 +66,7 @@ fn find<D: Flash>(flash: &mut D, text: &mut Vec<u8>) -> Found
         + stops_shown result.status }
     ensures made { (D.counts flash.new).made ≡ (D.counts flash.old).made }
     ensures unarmed { D.arming flash.new ≡ None }
-    ensures power { result.status ≡ 0 → IsTrue (D.on flash.new) }
+    ensures power { D.on flash.new ≡ not (result.status == 5) }
     ensures size { D.blocks flash.new ≡ D.blocks flash.old }
 {
     flash.power_on();

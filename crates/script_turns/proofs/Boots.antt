@@ -388,6 +388,7 @@ module _ (passes : List ℕ → Bool) (tells : Bool) (files : Option Directory) 
         once = once-then old.counts mid.counts new.counts waiting e ended.costs;
         unread = λ is. absurd (reads-none e is);
         later = omega arith;
+        unread_once = omega arith;
         reads_none = λ none. refl;
         replies = (
           ended.leaves,

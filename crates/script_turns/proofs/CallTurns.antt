@@ -151,6 +151,7 @@ module _ (passes : List ℕ → Bool) (tells : Bool) (files : Option Directory) 
     once = omega (arith, costs.once);
     unread = λ e. absurd (no-stop r reply.ReadFault none refl e);
     later = omega arith;
+    unread_once = omega arith;
     reads_none = λ sends. refl;
     replies = replies-of passes tells files c f _ _ r agents refl answers;
     takes = record { by_call = takes; unread = λ e. absurd (no-stop r reply.ReadFault none refl e) };
@@ -240,6 +241,7 @@ module _ (passes : List ℕ → Bool) (tells : Bool) (files : Option Directory) 
     once = once-by why was are costs;
     unread = λ e. absurd (reads-none why e);
     later = omega arith;
+    unread_once = omega arith;
     reads_none = λ sends. refl;
     replies = replies-of passes tells files c f _ _ (stopped_reply why) agents refl (flash-stops why);
     takes = record { by_call = takes; unread = λ e. absurd (reads-none why e) };

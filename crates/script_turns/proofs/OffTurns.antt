@@ -59,6 +59,7 @@ module _ (passes : List ℕ → Bool) (tells : Bool) (files : Option Directory) 
     once = omega arith;
     unread = λ e. absurd cc;
     later = omega arith;
+    unread_once = omega arith;
     reads_none = λ e. refl;
     replies = leaves.replies;
     takes = record { by_call = leaves.takes; unread = λ e. absurd cc };

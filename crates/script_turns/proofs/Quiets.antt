@@ -105,6 +105,7 @@ quiet-turns passes tells files what r old new faults quiet replied = record {
   once = omega (arith, quiet.once);
   unread = λ e. absurd (stays r reply.ReadFault quiet.no_stop refl e);
   later = omega arith;
+  unread_once = omega arith;
   reads_none = λ none. refl;
   replies = replied;
   takes = record { by_call = quiet.takes; unread = λ e. absurd (stays r reply.ReadFault quiet.no_stop refl e) };

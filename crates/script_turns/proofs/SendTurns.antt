@@ -42,7 +42,7 @@ use Rattle.update_client.specs.declared.stops.Sent.{Sent}
 use Rattle.update_client.specs.declared.stops.SendStop.{SendStop}
 use Rattle.update_client.specs.declared.stops.SendStop.TheVariants.{MissingImage, ImageTooLarge, Begin, End, ReadFailed, Lost, Fault, Gone}
 use Rattle.update_client.specs.Halts.{flash_of}
-use Rattle.update_client.specs.Pieces.{ReadsBy}
+use Rattle.update_client.specs.Pieces.{ReadsBy, unread_in}
 use Rattle.update_client.specs.Sends.{IsEarly, Sends, SendsBy, send_answer}
 use Rattle.update_client.specs.Takes.{Takes as TakesLeast}
 use Rattle.script_turns.specs.declared.powered.Powered.{Powered}
@@ -50,7 +50,7 @@ use Rattle.script_turns.specs.Powered.{Moment, at, device, kept_at, moment_of, s
 use Rattle.script_turns.specs.Replies.{power_after}
 use Rattle.script_turns.specs.Sending.{AnswersSend, IsTableOf, SendSays, is_answered, on_sent, sent_reply}
 use Rattle.script_turns.specs.Sending as said
-use Rattle.script_turns.specs.Takes.{SendTakes, stop_told}
+use Rattle.script_turns.specs.Takes.{SendTakes, stop_told, unread_told}
 use Rattle.script_turns.specs.Turning.{NoneFalls, Turns, quiet_turn}
 
 -- the turn of a sending
@@ -197,10 +197,10 @@ module _ (passes : List ℕ → Bool) (tells : Bool) (files : Option Directory) 
   nothing-falls = record { faults = omega arith; cuts = omega arith; reached = omega arith; chances = omega arith }
 
   -- it is answered by its first fault
-  pub bad-table : (r : Reply) → IsFalse (is_stop r) → power_after power r ≡ power → IsTableOf files name (Err r)
+  pub bad-table : (r : Reply) → are ≤ was → IsFalse (is_stop r) → power_after power r ≡ power → IsTableOf files name (Err r)
       → SendSays passes tells files name request (Some f) t r (Some f) t → (Lacks files name → ⊥) → SendTakes r here here
       → Turns passes tells files (send_call name request) (quiet_turn (send_call name request) r) here here was are
-  bad-table r no_stop keeps table says there early = record {
+  bad-table r none no_stop keeps table says there early = record {
     call_is = refl;
     unnumbered = λ no. refl;
     counts = nothing-falls;
@@ -211,6 +211,7 @@ module _ (passes : List ℕ → Bool) (tells : Bool) (files : Option Directory) 
     once = omega arith;
     unread = λ e. absurd (let stop = ap is_stop e in cc);
     later = later;
+    unread_once = omega (arith, none);
     reads_none = λ e. absurd cc;
     replies = says;
     takes = record { by_call = early; unread = λ e. absurd (let stop = ap is_stop e in cc) };
@@ -227,9 +228,9 @@ module _ (passes : List ℕ → Bool) (tells : Bool) (files : Option Directory) 
   }
 
   -- it cannot be read
-  pub unread-table : Rose was are ⊎ LacksFile files name
+  pub unread-table : are ≤ was + 1 → Rose was are ⊎ LacksFile files name
       → Turns passes tells files (send_call name request) (quiet_turn (send_call name request) reply.ReadFault) here (at None t cs armed power) was are
-  unread-table cause = record {
+  unread-table once cause = record {
     call_is = refl;
     unnumbered = λ no. refl;
     counts = nothing-falls;
@@ -240,6 +241,7 @@ module _ (passes : List ℕ → Bool) (tells : Bool) (files : Option Directory) 
     once = omega arith;
     unread = λ e. cause;
     later = later;
+    unread_once = omega (arith, once);
     reads_none = λ e. absurd cc;
     replies = tt;
     takes = record { by_call = tt; unread = λ e none. record { told = refl; counts = refl; armed = refl; power = refl } };
@@ -379,6 +381,18 @@ module _ (passes : List ℕ → Bool) (tells : Bool) (files : Option Directory) 
   told-stops (Err Fault) = omega arith
   told-stops (Err Gone) = omega arith
 
+  -- and a failure of the files
+  told-unread : (result : Result Sent SendStop) → unread_in result ≤ unread_told (sent_reply result)
+  told-unread (Ok sent) = omega arith
+  told-unread (Err (MissingImage guid)) = omega arith
+  told-unread (Err (ImageTooLarge guid)) = omega arith
+  told-unread (Err (Begin st)) = omega arith
+  told-unread (Err (End st)) = omega arith
+  told-unread (Err ReadFailed) = omega arith
+  told-unread (Err Lost) = omega arith
+  told-unread (Err Fault) = omega arith
+  told-unread (Err Gone) = omega arith
+
   -- whether the device has power
   powers : (result : Result Sent SendStop) → is_ok (flash_of result) ≡ power_after true (sent_reply result)
   powers (Ok sent) = refl
@@ -422,6 +436,7 @@ module _ (passes : List ℕ → Bool) (tells : Bool) (files : Option Directory) 
     once = omega (arith, spent.once, told-stops result);
     unread = λ e. inl (reads.failed (unread-sent result e));
     later = reads.later;
+    unread_once = omega (arith, reads.once, told-unread result);
     reads_none = λ e. absurd cc;
     replies = says table result there sends stays;
     takes = record { by_call = takes; unread = λ e none. absurd (none (reads.failed (unread-sent result e))) };
@@ -468,9 +483,9 @@ rose-from a b c le (inl rose) = inl (omega arith)
 rose-from a b c le (inr full) = inr full
 
 -- a sending behind a reading of the file
-pub sends-later : {passes : List ℕ → Bool} {tells : Bool} {files : Option Directory} {name : List ℕ} {request : ℕ} {t : Turn} {old new : Moment} (was mid are : ℕ) → was ≤ mid
+pub sends-later : {passes : List ℕ → Bool} {tells : Bool} {files : Option Directory} {name : List ℕ} {request : ℕ} {t : Turn} {old new : Moment} (was mid are : ℕ) → was ≤ mid → mid ≤ was
     → Turns passes tells files (send_call name request) t old new mid are → Turns passes tells files (send_call name request) t old new was are
-sends-later {files = files} {name = name} was mid are le turns = record {
+sends-later {files = files} {name = name} was mid are le none turns = record {
   call_is = turns.call_is;
   unnumbered = turns.unnumbered;
   counts = turns.counts;
@@ -481,6 +496,7 @@ sends-later {files = files} {name = name} was mid are le turns = record {
   once = turns.once;
   unread = λ e. earlier (turns.unread e);
   later = omega (arith, turns.later);
+  unread_once = omega (arith, none, turns.unread_once);
   reads_none = λ e. absurd cc;
   replies = turns.replies;
   takes = record { by_call = turns.takes.by_call; unread = λ e none. turns.takes.unread e (λ rose. none (rose-from was mid are le rose)) };

@@ -1,5 +1,5 @@
 -- The table that a file is sent by.
-use Rattle.std.specs.Prelude.{◌≡◌, ◌⊎◌, ◌≤◌, ℕ, List, Option, Result, Ok, Err}
+use Rattle.std.specs.Prelude.{◌≡◌, ◌⊎◌, ◌+◌, ◌≤◌, ℕ, List, Option, Result, Ok, Err}
 use Rattle.base_core.specs.Counts.{Rose}
 use Rattle.host_io.specs.Contents.{Directory}
 use Rattle.fwu_formats.specs.Package.{Toc}
@@ -16,8 +16,15 @@ IsAnswer found (Err (Package f)) = found ≡ Err (reply.BadPackage f)
 IsAnswer found (Err (Capsule f)) = found ≡ Err (reply.BadCapsule f)
 IsAnswer found (Err ReadFailed) = Unit {0}
 
--- a reading fails only where the files' faults rose, or told files lack the name
+-- how many calls of the files failed, by a result that tells it
+abbrev pub unread_in : {T : Type 0} → Result T TableStop → ℕ
+unread_in (Err ReadFailed) = 1
+unread_in other = 0
+
+-- a reading fails only where the files' faults rose, or told files lack the name, and no call of the files failed but the one that
+-- is told
 pub record HasTableCause {T : Type 0} (files : Option Directory) (name : List ℕ) (before now : ℕ)
     (result : Result T TableStop) : Type 0 where
   pub later : before ≤ now
+  pub once : now ≤ before + unread_in result
   pub failed : result ≡ Err ReadFailed → Rose before now ⊎ Lacks files name

@@ -25,6 +25,11 @@ stop_told reply.Lost = Err flash_stop.Lost
 stop_told reply.Fault = Err flash_stop.Failed
 stop_told other = Ok tt
 
+-- how many calls of the files failed, by a turn with this reply
+abbrev pub unread_told : Reply → ℕ
+unread_told reply.ReadFault = 1
+unread_told other = 0
+
 -- where no loss was armed, none is, and none was reached
 abbrev pub StaysFree : Reply → Moment → Moment → Type 0
 StaysFree r old new = StaysUnarmed (stop_told r) old.armed new.armed old.counts new.counts

@@ -22,7 +22,7 @@ use Rattle.script_turns.specs.Booted.{BootsFrom}
 pub use Rattle.script_turns.specs.Arms.{Arms, NoneFalls}
 pub use Rattle.script_turns.specs.Boots.{IsOnAfter, PowersOn, GetsPower, numbers_of_end, reply_of_end}
 use Rattle.script_turns.specs.Replies.{Replies, power_after}
-use Rattle.script_turns.specs.Takes.{TakesTurn, stop_told}
+use Rattle.script_turns.specs.Takes.{TakesTurn, stop_told, unread_told}
 
 -- a `cut` makes one arming, and no other call makes any; the count stands still at the greatest number
 abbrev pub Makes : Call → ℕ → ℕ → Type 0
@@ -46,8 +46,10 @@ pub record Turns (passes : List ℕ → Bool) (tells : Bool) (files : Option Dir
   -- and none is counted but the one that is told: no call of the flash that failed or lost power was passed over
   pub once : all_stops new.counts ≤ all_stops old.counts + stops_in (stop_told t.reply)
   pub unread : t.reply ≡ reply.ReadFault → FileNotRead files was are c
-  -- only `send` reads a file
+  -- no call of the files failed but the one that is told
   pub later : was ≤ are
+  pub unread_once : are ≤ was + unread_told t.reply
+  -- only `send` reads a file
   pub reads_none : IsFalse (is_send c) → are ≡ was
   -- on any device: the reply, what the agent keeps, and what an armed loss counts
   pub replies : Replies passes tells files c old t new

@@ -108,8 +108,7 @@ module _ (told : Option Directory) (name : List ℕ) (entries : List Entry) (req
         (finishes E s boot n (request == 0) sent.images (layout ∙ sym two.stays.layout) verifier sent.count two.shows);
   }
 
-  -- a read failed, and the staging was cancelled
-  pub uninstalled : SendsImages told name entries request (Err ReadFailed) old mid
+  uninstalled : SendsImages told name entries request (Err ReadFailed) old mid
       → ((v : List ℕ → Bool) → MeetsAs success (Ok tt) v call.Cancel mid new)
       → InstallsImages told name entries request passes (Err ReadFailed) old new
   uninstalled sent cancels = record {
@@ -124,12 +123,13 @@ module _ (told : Option Directory) (name : List ℕ) (entries : List Entry) (req
         goes-then E (Ok tt) old mid new s [] [] there (On boot None no_handles) still.goes last;
   }
 
-  -- a read failed, and the cancel would be refused or stopped: that can't be
-  pub uncancelled : (halt : Stop) (was now : Bool) → IsFalse was → GoesBy {T = Unit {0}} (Err halt) was now
-      → (IsStopped {T = Unit {0}} (Err halt) → ⊥) → SendsImages told name entries request (Err ReadFailed) old mid
-      → ((v : List ℕ → Bool) → MeetsAs success (Err halt) v call.Cancel mid new)
-      → InstallsImages told name entries request passes (Err (stopped_as halt)) old new
-  uncancelled halt was now here goes still sent meets = record {
+  -- a read failed, and the staging was cancelled: within a staging that is neither refused nor stopped
+  pub uncancelled : (result : Result (Unit {0}) Stop) (was now : Bool) → IsFalse was → GoesBy result was now
+      → (IsStopped result → ⊥) → SendsImages told name entries request (Err ReadFailed) old mid
+      → ((v : List ℕ → Bool) → MeetsAs success result v call.Cancel mid new)
+      → InstallsImages told name entries request passes (Err ReadFailed) old new
+  uncancelled (Ok x) was now here goes still sent meets = uninstalled sent meets
+  uncancelled (Err halt) was now here goes still sent meets = record {
     images = told_value told name (λ file. map (payload file) entries);
     read = λ file tells. told-is told name (λ file. map (payload file) entries) file tells;
     goes = λ E s boot layout verifier are shows.

@@ -36,7 +36,8 @@ pub call-spent : {T : Type 0} (result : Result T Stop) (was now on : Bool) (bloc
 call-spent result was now on blocks is armed arming old new here goes power size costs unarmed =
     record { gone_is = gone-by result was now here goes; power = power here; size = size; costs = costs; unarmed = unarmed }
 
-unstopped : {T : Type 0} (result : Result T Stop) → (IsStopped result → ⊥) → flash_result result ≡ Ok tt
+-- a call that the flash did not stop
+pub unstopped : {T : Type 0} (result : Result T Stop) → (IsStopped result → ⊥) → flash_result result ≡ Ok tt
 unstopped (Ok x) never = refl
 unstopped (Err (stop.Status st)) never = refl
 unstopped (Err stop.Lost) never = absurd (never tt)

@@ -46,9 +46,15 @@ pub record WritesImage (told : Option Directory) (name : List ℕ) (e : Entry) (
       → e.size ≤ slot_bytes E.layout (length done) → Shows old s (within boot images bit done [])
       → Halts result E old new s boot (within boot images bit done bytes)
 
--- a read fails only where the files' faults rose
+-- how many calls of the files failed, by a result that tells it
+abbrev pub unread_in : {T : Type 0} → Result T SendStop → ℕ
+unread_in (Err ReadFailed) = 1
+unread_in other = 0
+
+-- a read fails only where the files' faults rose, and no call of the files failed but the one that is told
 pub record ReadsBy {T : Type 0} (before now : ℕ) (result : Result T SendStop) : Type 0 where
   pub later : before ≤ now
+  pub once : now ≤ before + unread_in result
   pub failed : result ≡ Err ReadFailed → Rose before now
 
 -- an image was opened, written and committed: the next one of a sending

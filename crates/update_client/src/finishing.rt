@@ -73,10 +73,9 @@ pub fn install<D: Flash, H: Files, V: Verifier>(
             if !is_unread(&stop) {
                 return Err(stop);
             }
-            match agent.cancel() {
-                Ok(()) => Err(SendStop::ReadFailed),
-                Err(stop) => Err(stopped(stop)),
-            }
+            // within a staging this is neither refused nor stopped
+            let _cancelled = agent.cancel();
+            Err(SendStop::ReadFailed)
         }
     }
 }

@@ -110,6 +110,7 @@ loop-k-preserved g c =
       same = done.same ∙ before.same;
       unwritten = done.unwritten ∙ before.unwritten;
       later = omega (arith, before.later, done.reads.later);
+      none = omega (arith, before.none, done.once);
     }
 
 pub returns-clause-spent : goal.returns-clause-spent

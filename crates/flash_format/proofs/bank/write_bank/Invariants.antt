@@ -23,4 +23,5 @@ invariant-loop-k g l = record {
   same : g.H.Files.contents l.files ≡ g.H.Files.contents l.fn.files;
   unwritten : g.H.Files.writes l.files ≡ g.H.Files.writes l.fn.files;
   later : g.H.Files.faults l.fn.files ≤ g.H.Files.faults l.files;
+  none : g.H.Files.faults l.files ≤ g.H.Files.faults l.fn.files;
 }

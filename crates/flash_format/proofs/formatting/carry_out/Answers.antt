@@ -1,5 +1,6 @@
 use Rattle.std.proofs.Common.{◌≡◌, ◌+◌, ℕ, ap, subst, ◌∙◌, arith, Result, Err}
 use Rattle.std.specs.Prelude.{IsTrue, OnOk}
+use Rattle.flash_core.specs.Counts.{lowered_by}
 use Rattle.flash_core.proofs.Spent.{spent_then}
 use Rattle.fwu_formats.specs.Layout.{blocks_needed}
 use Rattle.flash_format.specs.Formatted.{IsBlank}
@@ -46,4 +47,11 @@ pub returns-clause-spent : goal.returns-clause-spent
 returns-clause-spent g c =
     let L = c.args.plan.now.layout in
     let pieces = pieces_in c.args.plan.now.entries in
-    spent_then c.finish.result (blocks_needed L + pieces) 3 (writes_of L pieces) _ _ _ (omega arith) c.in-Ok.ensures.spent c.finish.ensures.spent
+    spent_then c.finish.result (blocks_needed L + pieces) 3 (writes_of L pieces 3) _ _ _ (omega arith) c.in-Ok.ensures.spent c.finish.ensures.spent
+
+pub returns-clause-worn : goal.returns-clause-worn
+returns-clause-worn g c = λ found is.
+    let L = c.args.plan.now.layout in
+    let pieces = pieces_in c.args.plan.now.entries in
+    let same : blocks_needed L + pieces ≡ writes_of L pieces 0 = omega arith in
+    c.finish.ensures.worn found is ∙ c.in-Ok.ensures.spent ∙ ap (λ (n : ℕ). lowered_by n (g.D.Flash.arming c.args.flash.now)) same

@@ -1,9 +1,12 @@
-use Rattle.std.proofs.Common.{sym, ap, subst, ◌∙◌, arith}
+use Rattle.std.proofs.Common.{sym, ap, subst, ◌∙◌, arith, ◌≡◌, ℕ, Result}
+use Rattle.std.specs.Prelude.{OnOk}
 use Rattle.flash_core.specs.Told.{Told, NothingDirty}
 use Rattle.flash_core.specs.May.{Keeps}
 use Rattle.flash_core.proofs.Calls.{keeps_same}
 use Rattle.flash_core.specs.Counts.{lowered_by}
 use Rattle.flash_format.specs.Formatted.{IsWhole}
+use Rattle.flash_format.specs.Stops.{flash_result}
+use Rattle.flash_format.specs.declared.stops.FormatStop.{FormatStop}
 use Rattle.flash_format.proofs.Formats.{formatted, refused}
 use Rattle.flash_format.proofs.Ordered.{bare_fresh, bare_unlaid, ordered_before}
 use Rattle.flash_format.proofs.Whole.{whole_after, whole_before}
@@ -68,3 +71,7 @@ returns-clause-whole g c = λ tells clean.
 
 pub returns-clause-spent : goal.returns-clause-spent
 returns-clause-spent g c = c.in_ok-write_records.ensures.spent ∙ ap (lowered_by 3) c.in-Ok.ensures.arming
+
+pub returns-in-Err-clause-worn : goal.returns-in-Err-clause-worn
+returns-in-Err-clause-worn g c = λ found is.
+    subst (λ (r : Result ℕ FormatStop). OnOk (flash_result r) (g.D.Flash.arming c.check_bank.new.flash ≡ g.D.Flash.arming c.args.flash.now)) is c.in-Err.ensures.arming

@@ -9,7 +9,7 @@ use Rattle.fip_tables.specs.Files.{Tells}
 use Rattle.flash_format.specs.Formatted.{HoldsImages, IsBlank, IsInOrder, IsRefused}
 use Rattle.flash_format.specs.Places.{AllStand}
 use Rattle.flash_format.specs.Stops.{Finishes}
-use Rattle.flash_format.specs.Takes.{pieces_in}
+use Rattle.flash_format.specs.Takes.{Takes, pieces_in}
 use Rattle.flash_format.specs.declared.formatting.Formatted.{Formatted}
 use Rattle.flash_format.specs.declared.stops.FormatStop.{FormatStop}
 use Rattle.flash_format.specs.declared.stops.FormatStop.TheVariants.{Input}
@@ -130,3 +130,24 @@ returns-clause-spent g c =
       exact = λ file toc told is. pieces_told file K es toc (c.in-Ok.ensures.toc file told) is;
       taken = c.in-Ok-carry_out.ensures.spent;
     }
+
+pub returns-in-Err-carry_out-clause-worn : goal.returns-in-Err-carry_out-clause-worn
+returns-in-Err-carry_out-clause-worn g c = λ found is.
+    let K = c.in-Ok.plan.layout in
+    let L : Layout = record { banks = c.args.banks; rows = c.args.rows.now } in
+    let es = c.in-Ok.plan.entries in
+    let planned = c.in-Ok.ensures.planned in
+    let stop : c.in-Err-carry_out.stop ≡ Input (Incomplete found) = cc in
+    subst (λ (l : Layout). Takes (g.H.Files.contents c.args.files.now) c.args.name.now l 0 (g.D.Flash.arming c.args.flash.now) (g.D.Flash.arming c.carry_out.new.flash))
+    (fitted_is L c.blocks-2.result K c.in-Ok.ensures.fits).is
+    (record {
+      pieces = pieces_in es;
+      few = pieces_fit K.rows es planned.count planned.fit;
+      exact = λ file toc told has. pieces_told file K es toc (c.in-Ok.ensures.toc file told) has;
+      taken = c.carry_out.ensures.worn found (c.in-Err-carry_out.is ∙ ap Err stop);
+    })
+
+pub returns-in-Err-carry_out-clause-bad : goal.returns-in-Err-carry_out-clause-bad
+returns-in-Err-carry_out-clause-bad g c = λ found is.
+    let stop : c.in-Err-carry_out.stop ≡ Input (Incomplete found) = cc in
+    c.carry_out.ensures.bad found (c.in-Err-carry_out.is ∙ ap Err stop)

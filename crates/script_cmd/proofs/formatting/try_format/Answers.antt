@@ -39,5 +39,6 @@ returns-clause-tries g c =
       once = stops-then _ (counts old) (counts mid) (counts new) c.power_on.ensures.counts e.costs;
       made = e.costs.made ∙ c.power_on.ensures.made;
       unarmed = (e.unarmed (c.power_on.ensures.arming ∙ c.requires.unarmed)).0;
+      power = e.power;
       stopped = λ stop is. stop-cause _ stop (counts old) (counts mid) (counts new) is c.power_on.ensures.counts e.costs (e.unarmed (c.power_on.ensures.arming ∙ c.requires.unarmed)).1;
     })

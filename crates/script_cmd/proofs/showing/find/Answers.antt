@@ -1,4 +1,4 @@
-use Rattle.std.proofs.Common.{ℕ, List, Err, sym, ap, subst, ◌∙◌, ◌++◌, IsTrue}
+use Rattle.std.proofs.Common.{ℕ, ◌==◌, not, List, Err, sym, ap, subst, ◌∙◌, ◌++◌, IsTrue}
 use Rattle.flash_core.specs.Told.{Told, NothingDirty}
 use Rattle.fwu_model.specs.declared.kinds.Note.TheVariants as note
 use Rattle.fwu_model.specs.declared.kinds.NoBoot.TheVariants as no_boot
@@ -103,3 +103,10 @@ returns-in-Err-Flash-clause-guard g c tells =
 
 pub returns-in-Err-Flash-clause-unarmed : goal.returns-in-Err-Flash-clause-unarmed
 returns-in-Err-Flash-clause-unarmed g c = kept-none {T = Unit {0}} (Err c.in-Err-Flash.field-0-0) (g.D.Flash.arming c.power_on.new.self) _ (c.power_on.ensures.arming ∙ c.requires.unarmed) (rw c.in-Err-Flash.field-0-is at c.in-Err-Flash.ensures.arming)
+
+pub returns-in-Err-Layout-clause-power : goal.returns-in-Err-Layout-clause-power
+returns-in-Err-Layout-clause-power g c = (rw c.in-Err-Layout.field-0-is at c.in-Err-Layout.ensures.power) ∙ sym (ap (λ (n : ℕ). not (n == 5)) c.not_found.ensures.status)
+
+pub returns-in-Err-Metadata-clause-power : goal.returns-in-Err-Metadata-clause-power
+returns-in-Err-Metadata-clause-power g c =
+    (rw c.in-Err-Metadata.field-0-is at c.in-Err-Metadata.ensures.power) ∙ sym (ap (λ (n : ℕ). not (n == 5)) c.not_found-in-Err-Metadata.ensures.status)

@@ -1,4 +1,4 @@
-use Rattle.std.proofs.Common.{◌≡◌, ◌⊎◌, inl, inr, ℕ, List, Some, Result, Err, Option, refl, sym, subst, ◌∙◌}
+use Rattle.std.proofs.Common.{◌≡◌, ◌⊎◌, inl, inr, ℕ, ◌+◌, ◌≤◌, List, Some, Result, Ok, Err, Option, refl, sym, ap, subst, ◌∙◌, arith}
 use Rattle.std.specs.Prelude.{string_bytes}
 use Rattle.base_core.specs.Counts.{Rose}
 use Rattle.host_io.specs.Contents.{Directory}
@@ -11,7 +11,7 @@ use Rattle.agent_calls.specs.Shown.{device as agent_device, fields}
 use Rattle.fwu_journal.specs.Shown.{turn}
 use Rattle.script_turns.specs.Calls.{moment_live}
 use Rattle.script_turns.specs.Powered.{moment_of}
-use Rattle.script_turns.specs.Tables.{IsAnswer}
+use Rattle.script_turns.specs.Tables.{IsAnswer, unread_in}
 use Rattle.script_turns.specs.Turning.{Turns, quiet_turn}
 use Rattle.script_turns.specs.declared.tables.TableStop.{TableStop}
 use Rattle.script_turns.specs.declared.tables.TableStop.TheVariants as stop
@@ -36,9 +36,19 @@ unread-by : (files : Option Directory) (name other : List ℕ) (was are : ℕ) �
 unread-by files name other was are same (inl rose) = inl rose
 unread-by files name other was are same (inr lacks) = inr (lacks-file files other (subst (λ (n : List ℕ). Lacks files n) same lacks))
 
+-- no call of the files failed where the table is bad, and one at most in any case
+none-failed : {result : Result Toc TableStop} (given : Result Toc TableStop) (was are : ℕ) → result ≡ given → are ≤ was + unread_in result → unread_in given ≡ 0 → are ≤ was
+none-failed given was are is once none = omega (arith, once, ap (λ (r : Result Toc TableStop). unread_in r) is, none)
+
+one-failed : (result : Result Toc TableStop) (was are : ℕ) → are ≤ was + unread_in result → are ≤ was + 1
+one-failed (Ok toc) was are once = omega (arith, once)
+one-failed (Err (stop.Package f)) was are once = omega (arith, once)
+one-failed (Err (stop.Capsule f)) was are once = omega (arith, once)
+one-failed (Err stop.ReadFailed) was are once = once
+
 pub returns-in-Ok-clause-turns : goal.returns-in-Ok-clause-turns
 returns-in-Ok-clause-turns g c =
-    sends-later (g.H.Files.faults c.args.files.now) (g.H.Files.faults c.read_table.new.files) (g.H.Files.faults c.send_by.new.files) c.read_table.ensures.cause.later
+    sends-later (g.H.Files.faults c.args.files.now) (g.H.Files.faults c.read_table.new.files) (g.H.Files.faults c.send_by.new.files) c.read_table.ensures.cause.later (omega (arith, c.in-Ok.ensures.cause.once))
     (subst (λ (files : Option Directory). Turns (g.V.Verifier.passes c.args.verifier.now) g.D.Flash.tells files (send_call (string_bytes c.args.name) c.args.request) (turn c.send_by.result.turn) (moment_live c.args.live)
     (moment_of c.send_by.result.powered) (g.H.Files.faults c.read_table.new.files) (g.H.Files.faults c.send_by.new.files)) c.read_table.ensures.same c.send_by.ensures.turns)
 
@@ -52,7 +62,7 @@ returns-in-Err-Package-clause-turns g c =
     turns-as _ (quiet_turn (send_call (string_bytes c.args.name) c.args.request) (reply.BadPackage fault)) (moment_live c.args.live) (moment_live c.args.live) _ _
     c.answered.ensures.turn refl
     (moment-as c.answered.result.powered (Some (fields agent)) (agent_device agent) c.answered.ensures.on c.answered.ensures.device)
-    (bad-table _ _ _ _ _ _ _ _ _ _ _ _ c.read_table.ensures.cause.later (reply.BadPackage fault) refl refl table (table, refl)
+    (bad-table _ _ _ _ _ _ _ _ _ _ _ _ c.read_table.ensures.cause.later (reply.BadPackage fault) (none-failed (Err (stop.Package fault)) _ _ is c.read_table.ensures.cause.once refl) refl refl table (table, refl)
     (is-there files c.as_str.result.now (string_bytes c.args.name) c.read_table.result (stop.Package fault) c.as_str.ensures.value is (λ e. cc) c.read_table.ensures.missing)
     (record { told = refl; counts = refl; armed = refl; power = refl }))
 
@@ -67,7 +77,7 @@ returns-in-Err-Capsule-clause-turns g c =
     turns-as _ (quiet_turn (send_call (string_bytes c.args.name) c.args.request) (reply.BadCapsule fault)) (moment_live c.args.live) (moment_live c.args.live) _ _
     turned.ensures.turn refl
     (moment-as turned.result.powered (Some (fields agent)) (agent_device agent) turned.ensures.on turned.ensures.device)
-    (bad-table _ _ _ _ _ _ _ _ _ _ _ _ c.read_table.ensures.cause.later (reply.BadCapsule fault) refl refl table (table, refl)
+    (bad-table _ _ _ _ _ _ _ _ _ _ _ _ c.read_table.ensures.cause.later (reply.BadCapsule fault) (none-failed (Err (stop.Capsule fault)) _ _ is c.read_table.ensures.cause.once refl) refl refl table (table, refl)
     (is-there files c.as_str.result.now (string_bytes c.args.name) c.read_table.result (stop.Capsule fault) c.as_str.ensures.value is (λ e. cc) c.read_table.ensures.missing)
     (record { told = refl; counts = refl; armed = refl; power = refl }))
 
@@ -78,5 +88,5 @@ returns-in-Err-ReadFailed-clause-turns g c =
     turns-as _ (quiet_turn (send_call (string_bytes c.args.name) c.args.request) reply.ReadFault) (moment_live c.args.live) (moment_live c.args.live) _ _
     c.stopped.ensures.turn refl
     (moment-as c.stopped.result.powered _ (agent_device agent) c.stopped.ensures.on c.stopped.ensures.device)
-    (unread-table _ _ _ _ _ _ _ _ _ _ _ _ c.read_table.ensures.cause.later
+    (unread-table _ _ _ _ _ _ _ _ _ _ _ _ c.read_table.ensures.cause.later (one-failed c.read_table.result _ _ c.read_table.ensures.cause.once)
     (unread-by (g.H.Files.contents c.args.files.now) c.as_str.result.now (string_bytes c.args.name) _ _ c.as_str.ensures.value (c.read_table.ensures.cause.failed is)))

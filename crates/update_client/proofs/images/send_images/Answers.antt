@@ -20,6 +20,7 @@ loop-k-init g c = record {
   same = refl;
   unwritten = refl;
   later = omega arith;
+  none = omega arith;
 }
 
 pub loop-k-preserved : goal.loop-k-preserved
@@ -47,6 +48,7 @@ loop-k-preserved g c =
       same = c.in-Ok.ensures.same ∙ before.same;
       unwritten = c.in-Ok.ensures.unwritten ∙ before.unwritten;
       later = omega (arith, before.later, c.in-Ok.ensures.reads.later);
+      none = omega (arith, before.none, c.in-Ok.ensures.reads.once);
     }
 
 pub returns-in-Err-clause-sent : goal.returns-in-Err-clause-sent

@@ -23,6 +23,7 @@ loop-at-init g c = record {
   same = refl;
   unwritten = refl;
   later = omega arith;
+  none = omega arith;
 }
 
 pub loop-at-preserved : goal.loop-at-preserved
@@ -39,6 +40,7 @@ loop-at-preserved g c =
       same = c.in-Ok.ensures.same ∙ before.same;
       unwritten = c.in-Ok.ensures.unwritten ∙ before.unwritten;
       later = omega (arith, before.later, c.in-Ok.ensures.reads.later);
+      none = omega (arith, before.none, c.in-Ok.ensures.reads.once);
     }
 
 pub returns-in-Err-clause-wrote : goal.returns-in-Err-clause-wrote

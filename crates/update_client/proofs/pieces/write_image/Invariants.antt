@@ -18,6 +18,7 @@ invariant-loop-at g l = record {
   same : g.H.Files.contents l.files ≡ g.H.Files.contents l.fn.files;
   unwritten : g.H.Files.writes l.files ≡ g.H.Files.writes l.fn.files;
   later : g.H.Files.faults l.fn.files ≤ g.H.Files.faults l.files;
+  none : g.H.Files.faults l.files ≤ g.H.Files.faults l.fn.files;
 }
 
 abbrev pub decreases-loop-at : goal.decreases-loop-at
