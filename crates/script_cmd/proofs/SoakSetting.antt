@@ -24,7 +24,7 @@ use Rattle.agent_machine.specs.Fields.{Fields}
 use Rattle.agent_machine.specs.Moment as agent
 use Rattle.script_turns.specs.Powered.{IsAt, Moment, Shows, kept_at}
 use Rattle.script_turns.specs.Replies.{Replies}
-use Rattle.script_turns.specs.Sending.{AnswersSend, IsTableOf, SendSays, SendsBy}
+use Rattle.script_turns.specs.Sending.{AnswersSend, IsTableOf, LacksSent, SendSays, SendsBy}
 use Rattle.script_turns.specs.Turning.{Turns}
 use Rattle.script_cmd.specs.Soaking.{AgreeFor}
 
@@ -207,6 +207,10 @@ module _ (passes : List ℕ → Bool) (tells : Bool) (one all : Directory) where
   says-with name request (Some f) before r None now same says = says
   says-with name request (Some f) before r (Some g) now same says = answers-with name request r (kept_at tells f before) (kept_at tells g now) same says
 
+  lacks-with : (c : Call) → AgreeFor one all c → LacksSent (Some all) c → LacksSent (Some one) c
+  lacks-with (call.Send name request) agree lacks = agree.0 ∙ lacks
+  lacks-with other agree lacks = absurd lacks
+
   replies-with : (c : Call) (old : Moment) (t : Turn) (new : Moment) → AgreeFor one all c → Replies passes tells (Some one) c old t new → Replies passes tells (Some all) c old t new
   replies-with (call.Send name request) old t new agree says = says-with name request old.on old.told t.reply new.on new.told agree.0 says
   replies-with call.Boot old t new agree says = says
@@ -229,6 +233,7 @@ module _ (passes : List ℕ → Bool) (tells : Bool) (one all : Directory) where
     failed = turned.failed;
     once = turned.once;
     unread = λ is. unread-with c was are agree (turned.unread is);
+    lacking = λ lacks some. turned.lacking (lacks-with c agree lacks) some;
     later = turned.later;
     unread_once = turned.unread_once;
     reads_none = turned.reads_none;

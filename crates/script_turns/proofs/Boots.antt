@@ -387,6 +387,7 @@ module _ (passes : List ℕ → Bool) (tells : Bool) (files : Option Directory) 
         failed = failed-then old.counts mid.counts new.counts waiting e ended.costs;
         once = once-then old.counts mid.counts new.counts waiting e ended.costs;
         unread = λ is. absurd (reads-none e is);
+        lacking = λ lacks some. absurd lacks;
         later = omega arith;
         unread_once = omega arith;
         reads_none = λ none. refl;

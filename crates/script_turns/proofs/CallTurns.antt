@@ -31,6 +31,7 @@ use Rattle.script_turns.specs.Replies.{AnswersCall, CallSays, GoesBackBy, IsDeci
 use Rattle.script_turns.specs.Takes.{TakesOn, stop_told}
 use Rattle.script_turns.specs.Calls.{is_agents, on_by, reply_by}
 use Rattle.script_turns.specs.Turning.{Makes, Turns, quiet_turn}
+use Rattle.script_turns.proofs.Quiets.{lacks-none}
 
 -- ---- the calls of the agent
 
@@ -150,6 +151,7 @@ module _ (passes : List ℕ → Bool) (tells : Bool) (files : Option Directory) 
     failed = λ e. absurd (no-stop r reply.Fault none refl e);
     once = omega (arith, costs.once);
     unread = λ e. absurd (no-stop r reply.ReadFault none refl e);
+    lacking = λ lacks some. absurd (lacks-none files c (never-sends c agents) lacks);
     later = omega arith;
     unread_once = omega arith;
     reads_none = λ sends. refl;
@@ -240,6 +242,7 @@ module _ (passes : List ℕ → Bool) (tells : Bool) (files : Option Directory) 
     failed = failed-by why was are costs;
     once = once-by why was are costs;
     unread = λ e. absurd (reads-none why e);
+    lacking = λ lacks some. absurd (lacks-none files c (never-sends c agents) lacks);
     later = omega arith;
     unread_once = omega arith;
     reads_none = λ sends. refl;

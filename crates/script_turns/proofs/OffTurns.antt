@@ -58,6 +58,7 @@ module _ (passes : List ℕ → Bool) (tells : Bool) (files : Option Directory) 
     failed = λ e. absurd cc;
     once = omega arith;
     unread = λ e. absurd cc;
+    lacking = λ lacks some. absurd cc;
     later = omega arith;
     unread_once = omega arith;
     reads_none = λ e. refl;

@@ -13,13 +13,14 @@ use Rattle.fwu_model.specs.Call as call
 use Rattle.fwu_model.specs.Reply.{Reply, Turn}
 use Rattle.fwu_model.specs.Reply as reply
 use Rattle.fwu_model.specs.Answer.{Answer, answer, answered}
-use Rattle.fwu_model.specs.Run.{Condition, Step, Answered, Idle, is_boot, is_off, is_stop, moved_on}
+use Rattle.fwu_model.specs.Run.{Condition, Step, Answered, Idle, is_boot, is_off, is_send, is_stop, moved_on}
 use Rattle.fwu_model.specs.MoveMetas.{meta_in}
 use Rattle.fwu_model.specs.Headline.{IsCut}
 use Rattle.agent_machine.specs.Fields.{Fields}
 use Rattle.agent_machine.specs.Moment as agent
 use Rattle.script_turns.specs.Powered.{Moment, SameDevice, IsAt, IsSafe, kept_at, numbers_kept}
 use Rattle.script_turns.specs.Replies.{Replies, power_after, show_reply}
+use Rattle.script_turns.specs.Sending.{LacksSent}
 use Rattle.script_turns.specs.Takes.{Takes, TakesBy}
 use Rattle.script_turns.specs.Turning.{Arms, Makes, NoneFalls, Turns, quiet_turn}
 
@@ -31,6 +32,7 @@ AnswersBy what r (Some f) t = (E : Setting) (s : State) (x : Session) → agent.
 -- The call is no boot, the reply no stop, and what is kept and told stays.
 pub record IsQuiet (tells : Bool) (what : Call) (r : Reply) (old new : Moment) : Type 0 where
   pub no_boot : IsFalse (is_boot what)
+  pub no_send : IsFalse (is_send what)
   pub no_stop : IsFalse (is_stop r)
   pub on_is : new.on ≡ old.on
   pub same : IsTrue tells → new.told ≡ old.told
@@ -42,6 +44,11 @@ pub record IsQuiet (tells : Bool) (what : Call) (r : Reply) (old new : Moment) :
   pub keeps_power : power_after old.power r ≡ old.power
   pub takes : Takes what old r new
   pub answers : AnswersBy what r old.on old.told
+
+-- only what is sent can be lacking
+pub lacks-none : (files : Option Directory) (c : Call) → IsFalse (is_send c) → LacksSent files c → ⊥
+lacks-none files (call.Send name request) never lacks = absurd cc
+lacks-none files other never lacks = lacks
 
 stays : (r other : Reply) → IsFalse (is_stop r) → IsTrue (is_stop other) → r ≢ other
 stays r other no_stop stop is = let e = ap is_stop is in cc
@@ -104,6 +111,7 @@ quiet-turns passes tells files what r old new faults quiet replied = record {
   failed = λ e. absurd (stays r reply.Fault quiet.no_stop refl e);
   once = omega (arith, quiet.once);
   unread = λ e. absurd (stays r reply.ReadFault quiet.no_stop refl e);
+  lacking = λ lacks some. absurd (lacks-none files what quiet.no_send lacks);
   later = omega arith;
   unread_once = omega arith;
   reads_none = λ none. refl;
@@ -172,6 +180,7 @@ pub show-turns : (passes : List ℕ → Bool) (tells : Bool) (files : Option Dir
     → Turns passes tells files call.Show (quiet_turn call.Show (show_reply m.on)) m m faults faults
 show-turns passes tells files m faults = quiet-turns passes tells files call.Show (show_reply m.on) m m faults (record {
   no_boot = refl;
+  no_send = refl;
   no_stop = show-goes-on m.on;
   on_is = refl;
   same = λ test. refl;
@@ -204,6 +213,7 @@ pub cut-turns : (passes : List ℕ → Bool) (tells : Bool) (files : Option Dire
     → Turns passes tells files (call.Cut n k) (quiet_turn (call.Cut n k) reply.CutOk) old new faults faults
 cut-turns passes tells files n k old new faults arms = quiet-turns passes tells files (call.Cut n k) reply.CutOk old new faults (record {
   no_boot = refl;
+  no_send = refl;
   no_stop = refl;
   on_is = arms.on_is;
   same = arms.same;

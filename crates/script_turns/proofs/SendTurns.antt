@@ -210,6 +210,7 @@ module _ (passes : List ℕ → Bool) (tells : Bool) (files : Option Directory) 
     failed = λ e. absurd (let stop = ap is_stop e in cc);
     once = omega arith;
     unread = λ e. absurd (let stop = ap is_stop e in cc);
+    lacking = λ lacks some. absurd (there lacks);
     later = later;
     unread_once = omega (arith, none);
     reads_none = λ e. absurd cc;
@@ -240,6 +241,7 @@ module _ (passes : List ℕ → Bool) (tells : Bool) (files : Option Directory) 
     failed = λ e. absurd cc;
     once = omega arith;
     unread = λ e. cause;
+    lacking = λ lacks some. refl;
     later = later;
     unread_once = omega (arith, once);
     reads_none = λ e. absurd cc;
@@ -435,6 +437,7 @@ module _ (passes : List ℕ → Bool) (tells : Bool) (files : Option Directory) 
     failed = λ e. spent.failed (failed-sent result e);
     once = omega (arith, spent.once, told-stops result);
     unread = λ e. inl (reads.failed (unread-sent result e));
+    lacking = λ lacks some. absurd (lacks_none lacks);
     later = reads.later;
     unread_once = omega (arith, reads.once, told-unread result);
     reads_none = λ e. absurd cc;
@@ -495,6 +498,7 @@ sends-later {files = files} {name = name} was mid are le none turns = record {
   failed = turns.failed;
   once = turns.once;
   unread = λ e. earlier (turns.unread e);
+  lacking = turns.lacking;
   later = omega (arith, turns.later);
   unread_once = omega (arith, none, turns.unread_once);
   reads_none = λ e. absurd cc;

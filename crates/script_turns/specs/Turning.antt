@@ -1,5 +1,5 @@
 -- What one turn of a run does.
-use Rattle.std.specs.Prelude.{◌≡◌, ◌⊎◌, ℕ, ◌+◌, ◌≤◌, min, Bool, List, Option, Some, None, IsTrue, IsFalse, ⊤}
+use Rattle.std.specs.Prelude.{◌≡◌, ◌⊎◌, ℕ, ◌+◌, ◌≤◌, min, Bool, List, Option, Some, None, IsSome, IsTrue, IsFalse, ⊤}
 use Rattle.flash_core.specs.Counts.{Rose, all_stops, stops_in}
 use Rattle.flash_core.specs.Told.{Told, NothingDirty}
 use Rattle.host_io.specs.Contents.{Directory}
@@ -22,6 +22,7 @@ use Rattle.script_turns.specs.Booted.{BootsFrom}
 pub use Rattle.script_turns.specs.Arms.{Arms, NoneFalls}
 pub use Rattle.script_turns.specs.Boots.{IsOnAfter, PowersOn, GetsPower, numbers_of_end, reply_of_end}
 use Rattle.script_turns.specs.Replies.{Replies, power_after}
+use Rattle.script_turns.specs.Sending.{LacksSent}
 use Rattle.script_turns.specs.Takes.{TakesTurn, stop_told, unread_told}
 
 -- a `cut` makes one arming, and no other call makes any; the count stands still at the greatest number
@@ -46,6 +47,8 @@ pub record Turns (passes : List ℕ → Bool) (tells : Bool) (files : Option Dir
   -- and none is counted but the one that is told: no call of the flash that failed or lost power was passed over
   pub once : all_stops new.counts ≤ all_stops old.counts + stops_in (stop_told t.reply)
   pub unread : t.reply ≡ reply.ReadFault → FileNotRead files was are c
+  -- and a file that told files lack is not read, where a bank is on
+  pub lacking : LacksSent files c → IsSome old.on → t.reply ≡ reply.ReadFault
   -- no call of the files failed but the one that is told
   pub later : was ≤ are
   pub unread_once : are ≤ was + unread_told t.reply
