@@ -43,7 +43,7 @@ module _ (shown after : Shown) (chosen : Chosen) (n : Numbers) (read : n ≡ num
   abbrev counted : Counting
   counted = counting_of (state_at shown.meta.meta shown.meta.meta.active) shown.counter chosen.version
 
-  counting-is : counting_in (mended shown) chosen ≡ counting_told (started_as after chosen) n
+  pub counting-is : counting_in (mended shown) chosen ≡ counting_told (started_as after chosen) n
   counting-is =
       swapped (chosen.bank == shown.meta.meta.active) counted counting.Nothing
       ∙ ap (λ (r : MetaRead). cond (not (chosen.bank == r.meta.active)) counting.Nothing counted) (sym later.meta)

@@ -115,3 +115,24 @@ pub record CountsLater (before later : Shown) : Type 0 where
   pub meta : later.meta ≡ before.meta
   pub which : later.which ≡ before.which
   pub few : later.trials ≤ trial_limit
+
+-- the counter then, for a package of version v
+abbrev pub counter_by : Counting → ℕ → ℕ → ℕ
+counter_by counting.Nothing counter v = counter
+counter_by counting.Trial counter v = counter
+counter_by counting.Raise counter v = v
+
+-- The trials stay, but where one more start on trial is counted: then they are what is counted anew.
+abbrev pub TrialsStay : Counting → ℕ → ℕ → Type 0
+TrialsStay counting.Nothing before later = later ≡ before
+TrialsStay counting.Trial before later = later ≤ trial_limit
+TrialsStay counting.Raise before later = later ≡ before
+
+-- The counts that are shown once a start was counted as this, with a package of version v.
+pub record CountedAs (what : Counting) (v : ℕ) (before later : Shown) : Type 0 where
+  pub counter : later.counter ≡ counter_by what before.counter v
+  pub trials : TrialsStay what before.trials later.trials
+
+-- the same of what was chosen
+abbrev pub CountsChosen : Shown → Shown → Chosen → Type 0
+CountsChosen before later chosen = CountedAs (counting_in before chosen) chosen.version before later

@@ -1,5 +1,5 @@
 -- The lowest bad image.
-use Rattle.std.proofs.Common.{◌≡◌, ℕ, zero, suc, ◌+◌, ◌≤◌, ◌<◌, ◌*◌, Bool, true, false, List, length, get_or, take, drop, Some, None, refl, sym, ap, ◌∙◌, arith, inl, inr, Option}
+use Rattle.std.proofs.Common.{◌≡◌, ℕ, zero, suc, ◌+◌, ◌≤◌, ◌<◌, ◌*◌, Bool, true, false, List, length, get_or, take, drop, Some, None, refl, sym, ap, ◌∙◌, subst, arith, inl, inr, Option}
 use Rattle.std.proofs.lemmas.Bool.{cases_eq, cases_lt}
 use Rattle.std.specs.Prelude.{IsTrue}
 use Rattle.base_core.specs.Bytes.{same_bytes}
@@ -11,15 +11,17 @@ use Rattle.flash_core.specs.Told.{Told}
 use Rattle.flash_core.specs.declared.flash.Arming.{Arming}
 use Rattle.flash_core.specs.declared.flash.Counts.{Counts}
 use Rattle.fwu_formats.specs.Layout.{ImageRow, slot_total}
+use Rattle.image_check.specs.Passed.{HasImage}
 use Rattle.image_check.specs.Verdict.{lowest_bad}
 use Rattle.image_check.proofs.Stays.{Stays}
 
 -- the images of the first rows are good, and the last of them begins at this block
 pub record HasPassed (tells : Bool) (old new : Told) (on : Bool) (before blocks : ℕ) (spent last : Counts) (armed arming : Option Arming)
-    (rows : List ImageRow) (first block k : ℕ) (good : ℕ → Bool) : Type 0 where
+    (rows : List ImageRow) (first block k : ℕ) (good : ℕ → Bool) (manifest : List ℕ) : Type 0 where
   pub stays : Stays tells old new on before blocks spent last armed arming
   pub place : block ≡ first + slot_total (take k rows)
   pub all_good : IsTrue tells → (i : ℕ) → i < k → good i ≡ true
+  pub images : (i : ℕ) → i < k → HasImage (row_at manifest i)
 
 pub none_bad : (good : ℕ → Bool) (k n : ℕ) → ((i : ℕ) → k ≤ i → i < k + n → good i ≡ true) → None ≡ lowest_bad good k n
 none_bad good k zero each = refl
@@ -54,4 +56,12 @@ pub passed_more : (good : ℕ → Bool) (k : ℕ) → ((i : ℕ) → i < k → g
 passed_more good k before here i below = elim (cases_lt i k) [
   | inl under ↦ before i under
   | inr over ↦ let at : i ≡ k = omega arith in ap good at ∙ here
+]
+
+-- and one more image
+pub images_more : (manifest : List ℕ) (k : ℕ) → ((i : ℕ) → i < k → HasImage (row_at manifest i)) → HasImage (row_at manifest k)
+    → (i : ℕ) → i < k + 1 → HasImage (row_at manifest i)
+images_more manifest k before here i below = elim (cases_lt i k) [
+  | inl under ↦ before i under
+  | inr over ↦ let at : i ≡ k = omega arith in subst (λ (j : ℕ). HasImage (row_at manifest j)) (sym at) here
 ]

@@ -1,16 +1,58 @@
--- What a good verdict has on every device.
-use Rattle.std.specs.Prelude.{◌≡◌, ◌≤◌, ⊤, Ok, ℕ, Bool, List, IsTrue}
+-- What a verdict has on every device: what was read that gives it.
+use Rattle.std.specs.Prelude.{◌≡◌, ◌-◌, ◌≤◌, ◌<◌, ⊤, ℕ, Bool, List, length, is_ok, IsTrue, IsFalse, Option, Some, None}
+use Rattle.sha2.specs.Sha256.{sha256}
 use Rattle.fwu_formats.specs.Layout.{ImageRow}
-use Rattle.fwu_formats.specs.Manifest.{manifest_of}
-use Rattle.manifest_core.specs.Shown.{version_of}
+use Rattle.fwu_formats.specs.Manifest.{Row, manifest_of, manifest_part, manifest_size, row_at, is_complete, is_image_of, version}
 use Rattle.image_check.specs.declared.bank.Verdict.{Verdict}
 use Rattle.image_check.specs.declared.bank.Verdict.TheVariants as verdict
 
--- some manifest passes, and the version is not below the counter
+-- ---- of the images
+
+-- some bytes of this length have this digest
+abbrev pub IsDigestOf : ℕ → List ℕ → Type 0
+IsDigestOf count digest = (bytes : List ℕ) × (length bytes ≡ count) × (digest ≡ sha256 bytes)
+
+-- some image is what the row says
+abbrev pub HasImage : Row → Type 0
+HasImage row = (bytes : List ℕ) × IsTrue (is_image_of row bytes)
+
+-- Where none is bad, there is an image for each row of the manifest, and else the bad one is of a row.
+abbrev pub HasImages : List ℕ → ℕ → Option ℕ → Type 0
+HasImages manifest count None = (k : ℕ) → k < count → HasImage (row_at manifest k)
+HasImages manifest count (Some image) = (1 ≤ image) × (image ≤ count)
+
+-- ---- of the bank
+
+-- the bytes are a manifest of these rows, and nothing more
+pub record IsManifest (rows : List ImageRow) (manifest : List ℕ) : Type 0 where
+  pub size : length manifest ≡ manifest_size (length rows - 1)
+  pub reads : IsTrue (is_ok (manifest_of rows manifest))
+
+-- some complete package of this version has a manifest that passes
+pub record HasPackage (passes : List ℕ → Bool) (rows : List ImageRow) (v : ℕ) : Type 0 where
+  pub parts : List (List ℕ)
+  pub complete : IsTrue (is_complete rows parts)
+  pub version_is : version parts ≡ v
+  pub passed : IsTrue (passes (manifest_part parts))
+
+-- some manifest is refused by the verifier
+pub record HasRefused (passes : List ℕ → Bool) (rows : List ImageRow) : Type 0 where
+  pub manifest : List ℕ
+  pub is_manifest : IsManifest rows manifest
+  pub refused : IsFalse (passes manifest)
+
+-- some manifest passes, and this image is one of its rows
+pub record HasRow (passes : List ℕ → Bool) (rows : List ImageRow) (image : ℕ) : Type 0 where
+  pub manifest : List ℕ
+  pub is_manifest : IsManifest rows manifest
+  pub passed : IsTrue (passes manifest)
+  pub after_it : 1 ≤ image
+  pub within : image ≤ length rows - 1
+
+-- A bank is good, or below the counter, only by a complete package that passes, of this version.
 abbrev pub HasPassed : (List ℕ → Bool) → List ImageRow → ℕ → Verdict → Type 0
-HasPassed passes rows counter (verdict.Good v) =
-    (counter ≤ v) × (manifest : List ℕ) × (version_of (manifest_of rows manifest) ≡ Ok v) × IsTrue (passes manifest)
+HasPassed passes rows counter (verdict.Good v) = (counter ≤ v) × HasPackage passes rows v
 HasPassed passes rows counter verdict.BadManifest = ⊤
-HasPassed passes rows counter verdict.NotAccepted = ⊤
-HasPassed passes rows counter (verdict.BadImage i) = ⊤
-HasPassed passes rows counter (verdict.BelowCounter v c) = ⊤
+HasPassed passes rows counter verdict.NotAccepted = HasRefused passes rows
+HasPassed passes rows counter (verdict.BadImage image) = HasRow passes rows image
+HasPassed passes rows counter (verdict.BelowCounter v c) = (v < c) × (c ≡ counter) × HasPackage passes rows v

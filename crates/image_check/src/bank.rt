@@ -1,11 +1,10 @@
 //! The verdict on a bank.
-ghost use Rattle.std.specs.Prelude.{◌≡◌, ◌+◌, ◌-◌, ◌<◌, ◌≤◌, Ok, ℕ, Bool, List, length, is_ok, IsTrue, IfOk};
+ghost use Rattle.std.specs.Prelude.{◌≡◌, ◌+◌, ◌-◌, ◌<◌, ◌≤◌, ℕ, Bool, List, length, is_ok, IsTrue, IfOk};
 ghost use Rattle.flash_core.specs.Counts.{Spends, ReachesNone, arming_kept};
 ghost use Rattle.fwu_formats.specs.Layout.{slot_total, blocks_needed};
 ghost use Rattle.fwu_formats.specs.Manifest as model;
 ghost use Rattle.fwu_formats.specs.Layout.{ImageRow as Row};
-ghost use Rattle.manifest_core.specs.Shown.{version_of};
-ghost use Rattle.image_check.specs.Passed.{HasPassed};
+ghost use Rattle.image_check.specs.Passed.{HasPackage, HasPassed};
 ghost use Rattle.image_check.specs.Found.{found, front_of};
 ghost use Rattle.image_check.specs.Verdict.{by_counter, verdict_on};
 
@@ -30,9 +29,8 @@ pub enum Verdict {
 
 fn of_counter(version: u32, counter: u32) -> Verdict
     ensures verdict { result ≡ by_counter counter version }
-    ensures passed { (passes : List ℕ → Bool) (rows : List Row) (manifest : List ℕ)
-        → version_of (model.manifest_of rows manifest) ≡ Ok version → IsTrue (passes manifest)
-        → HasPassed passes rows counter result }
+    ensures passed { (passes : List ℕ → Bool) (rows : List Row)
+        → HasPackage passes rows version → HasPassed passes rows counter result }
 {
     if version < counter {
         Verdict::BelowCounter { version, counter }
@@ -130,7 +128,7 @@ pub fn check<D: Flash, V: Verifier>(
     requires bank { bank < layout.now.banks }
     ensures verdict { IfOk result (λ verdict. IsTrue D.tells →
         verdict ≡ verdict_on (V.passes verifier.now) counter layout.now (D.told flash.old).now bank) }
-    // on every device: what is good is of a version that some manifest has which passes
+    // on every device: what is good, or below the counter, is so by some complete package, read from it, that passes
     ensures passed { IfOk result (HasPassed (V.passes verifier.now) layout.now.rows counter) }
     ensures content { IsTrue D.tells → D.told flash.new ≡ D.told flash.old }
     ensures power { D.on flash.new ≡ is_ok result }

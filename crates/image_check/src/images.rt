@@ -6,6 +6,7 @@ ghost use Rattle.flash_core.specs.Counts.{Spends, ReachesNone, arming_kept};
 ghost use Rattle.fwu_formats.specs.Layout.{slot_total};
 ghost use Rattle.fwu_formats.specs.Manifest as model;
 ghost use Rattle.image_check.specs.Found.{is_good, FitSlots};
+ghost use Rattle.image_check.specs.Passed.{HasImage, HasImages, IsDigestOf};
 ghost use Rattle.image_check.specs.Verdict.{lowest_bad};
 
 use base_core::ImageRow;
@@ -25,6 +26,7 @@ fn digest_of<D: Flash>(
     requires inside { at + count ≤ 4096 * D.blocks flash.old }
     ensures digest { IfOk result (λ digest. IsTrue D.tells →
         digest ≡ sha256 (take count (drop at (D.told flash.old).now))) }
+    ensures some { IfOk result (IsDigestOf count) }
     ensures content { IsTrue D.tells → D.told flash.new ≡ D.told flash.old }
     ensures power { D.on flash.new ≡ is_ok result }
     ensures size { D.blocks flash.new ≡ D.blocks flash.old }
@@ -66,6 +68,7 @@ fn is_image_good<D: Flash>(
     ensures good { IfOk result (λ good. IsTrue D.tells →
         good ≡ same_bytes (sha256 (take (model.row_at manifest.now k).size (drop (4096 * block)
         (D.told flash.old).now))) (model.row_at manifest.now k).digest) }
+    ensures some { IfOk result (λ good. IsTrue good → HasImage (model.row_at manifest.now k)) }
     ensures content { IsTrue D.tells → D.told flash.new ≡ D.told flash.old }
     ensures power { D.on flash.new ≡ is_ok result }
     ensures size { D.blocks flash.new ≡ D.blocks flash.old }
@@ -95,6 +98,8 @@ pub fn first_bad<D: Flash>(
     requires inside { first + slot_total rows.now ≤ D.blocks flash.old }
     ensures bad { IfOk result (λ bad. IsTrue D.tells →
         bad ≡ lowest_bad (is_good (D.told flash.old).now rows.now first manifest.now) 0 (length rows.now - 1)) }
+    // on every device: what was read of each image has the digest of its row
+    ensures some { IfOk result (HasImages manifest.now (length rows.now - 1)) }
     ensures content { IsTrue D.tells → D.told flash.new ≡ D.told flash.old }
     ensures power { D.on flash.new ≡ is_ok result }
     ensures size { D.blocks flash.new ≡ D.blocks flash.old }

@@ -15,7 +15,7 @@ use Rattle.early_boot.proofs.Choices.{starts_by_numbers, unshown_started, stoppe
 use Rattle.early_boot.specs.Mending.{mended}
 use Rattle.early_boot.specs.Numbers.{numbers}
 use Rattle.early_boot.specs.Starting.{Boots, TakesMendingAndStart, chosen_of}
-use Rattle.early_boot.specs.CountingStarts.{CountsLater}
+use Rattle.early_boot.specs.CountingStarts.{CountsChosen, CountsLater}
 use Rattle.early_boot.specs.Started.{Started, started, started_as}
 use Rattle.early_boot.specs.Ends.{Ended, booted, device_of, no_bank}
 use Rattle.early_boot.specs.EndsBy.{BootEnds, IdleEnd, TakesByBytes, stopped_with, unshown_end}
@@ -122,9 +122,10 @@ returns-in-Ok-Some-clause-started g c =
     let shown = c.in-Ok.shown in
     let n = numbers c.numbers_in-numbers.result in
     let later = subst (λ (o : Option (Shown × Chosen)). IfSome o (λ (start : Shown × Chosen). CountsLater (mended shown) start.0)) c.in-Ok-Some.field-0-is c.in-Ok-Some.ensures.later in
+    let counted = subst (λ (o : Option (Shown × Chosen)). IfSome o (λ (start : Shown × Chosen). CountsChosen (mended shown) start.0 start.1)) c.in-Ok-Some.field-0-is c.in-Ok-Some.ensures.counted in
     let may = subst (λ (o : Option (Shown × Chosen)). IfSome o (λ (start : Shown × Chosen). MayBeChosen shown shown.trials start.1)) c.in-Ok-Some.field-0-is c.in-Ok-Some.ensures.may in
     subst (λ (b : Started). StartsByNumbers b n) (sym c.of.ensures.started)
-    (starts_by_numbers shown c.in-Ok-Some.after c.in-Ok-Some.chosen n c.numbers_in-numbers.ensures later may)
+    (starts_by_numbers shown c.in-Ok-Some.after c.in-Ok-Some.chosen n c.numbers_in-numbers.ensures later counted may)
 
 pub returns-in-Err-clause-started : goal.returns-in-Err-clause-started
 returns-in-Err-clause-started g c = subst StartedBy (sym c.unshown.ensures.ended) (unshown_started c.in-Err.why)

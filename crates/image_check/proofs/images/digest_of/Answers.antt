@@ -1,7 +1,7 @@
 use Rattle.std.proofs.Common.{◌≡◌, ◌+◌, ◌∙◌, ap, arith, length, length-take, take, ℕ}
 use Rattle.std.specs.Prelude.{slice_range}
 use Rattle.flash_core.specs.Told.{Told}
-use Rattle.image_check.proofs.Stays.{piece_held, stays_then}
+use Rattle.image_check.proofs.Stays.{piece_held, some_held, stays_then}
 use Rattle.image_check.proofs.images.digest_of.Goals as goal
 
 pub loop-done-preserved : goal.loop-done-preserved
@@ -21,4 +21,5 @@ loop-done-preserved g c =
           ∙ ap (λ (t : Told). slice_range t.now at (at + c.min-size.result)) (stays.content tells) in
           piece_held c.loop-done.hasher _ (g.D.Flash.told c.args.flash.now).now c.read.new.out c.args.at c.loop-done.done c.min-size.result
           (c.loop-done.invariant.holds tells) size told c.update.ensures;
+      some = some_held c.loop-done.hasher _ c.read.new.out c.loop-done.done c.min-size.result c.loop-done.invariant.some size c.update.ensures;
     }

@@ -2,7 +2,7 @@ use Rattle.std.proofs.Common.{◌≡◌, ◌+◌, ◌-◌, ◌<◌, ◌∙◌, s
 use Rattle.image_check.specs.Found.{is_good}
 use Rattle.image_check.proofs.Sums.{no_row, total_more, total_more_le}
 use Rattle.image_check.proofs.Stays.{stays_then}
-use Rattle.image_check.proofs.Lowest.{none_bad, one_bad, passed_more, seen_good}
+use Rattle.image_check.proofs.Lowest.{images_more, none_bad, one_bad, passed_more, seen_good}
 use Rattle.image_check.proofs.images.first_bad.Goals as goal
 
 pub overflow_add-block : goal.overflow_add-block
@@ -45,9 +45,13 @@ loop-k-preserved g c =
       all_good = λ tells.
           let here = seen_good c.args.rows.now _ c.args.first c.loop-k.block c.loop-k.k c.args.manifest.now _ _ _ within place (stays.content tells) (c.in_ok-is_image_good.ensures.good tells) in
           passed_more good c.loop-k.k (c.loop-k.invariant.all_good tells) (sym here ∙ c.if-not-branch.false);
+      images = images_more c.args.manifest.now c.loop-k.k c.loop-k.invariant.images (c.in_ok-is_image_good.ensures.some c.if-not-branch.false);
     }
 
 pub returns-clause-bad : goal.returns-clause-bad
 returns-clause-bad g c = λ tells.
     let good = is_good (g.D.Flash.told c.args.flash.now).now c.args.rows.now c.args.first c.args.manifest.now in
     none_bad good 0 (length c.args.rows.now - 1) (λ i low high. c.loop-k.invariant.all_good tells i (omega arith))
+
+pub returns-clause-some : goal.returns-clause-some
+returns-clause-some g c = λ k below. c.loop-k.invariant.images k (omega (arith, below))
