@@ -113,6 +113,7 @@ impl<D: Flash> Agent<D> {
         requires may { MayKeep D.tells (fields self.old) plan.now }
         ensures carried { CarriedOut plan.now [] (moment self.old) (moment self.new) }
         ensures device { device self.new ≡ device self.old }
+        ensures rests { (fields self.new).rests ≡ (fields self.old).rests }
         ensures here { IsFalse (gone self.new) }
     {
         settle(&mut self.meta, &mut self.session, &Decision::Do(*plan), &[]);

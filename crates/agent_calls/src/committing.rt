@@ -41,6 +41,7 @@ impl<D: Flash> Agent<D> {
         ensures goes { GoesBy result (gone self.old) (gone self.new) }
         ensures unrefused { IsRefused result → ⊥ }
         ensures known { IsErrOf result Stop.Gone → ⊥ }
+        ensures rests { (fields self.new).rests ≡ (fields self.old).rests }
         ensures ends { IsTrue D.tells → let f = fields self.old in
             Finishes (flash_result result) (start f.layout (target f) image)
             (size_of (part_at f.session image)) (rest_of f image)
@@ -114,6 +115,8 @@ impl<D: Flash> Agent<D> {
         // and nothing is done on the device where it writes none
         ensures still { ((image : ℕ) → IsWriter (fields self.old) handle image → ⊥) →
             device self.new ≡ device self.old }
+        // on any device: the bytes stay that are kept of the other images
+        ensures rests { (fields self.new).rests ≡ (fields self.old).rests }
         ensures unarmed { StaysUnarmed (flash_result result)
             (D.arming (device self.old)) (D.arming (device self.new))
             (D.counts (device self.old)) (D.counts (device self.new)) }

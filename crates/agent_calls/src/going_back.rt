@@ -194,7 +194,7 @@ impl<D: Flash> Agent<D> {
         // On any device: the agent keeps that metadata, and the session as it was.
         ensures keeps { OnOk result ((fields self.new).meta ≡ meta_back (fields self.old)) }
         ensures session { OnOk result ((fields self.new).session ≡ (fields self.old).session) }
-        // On any device: where it goes back, some manifest passed, of a version that is not below the
+        // On any device: where it goes back, some package passed, of a version that is not below the
         // counter.
         ensures passed { OnOk result (SomePassed (V.passes verifier.now)
             (fields self.old).layout.rows (fields self.old).counter) }

@@ -55,6 +55,8 @@ impl<D: Flash> Agent<D> {
         ensures refused { IsRefused result → self.new ≡ self.old }
         ensures answers { IsStopped result → ⊥ }
         ensures still { device self.new ≡ device self.old }
+        // on any device: the bytes stay that are kept of the images
+        ensures rests { (fields self.new).rests ≡ (fields self.old).rests }
         ensures power { IsFalse (gone self.old) →
             D.on (device self.new) ≡ is_ok (flash_result result) }
         ensures size { D.blocks (device self.new) ≡ D.blocks (device self.old) }

@@ -148,6 +148,8 @@ impl<D: Flash> Agent<D> {
         ensures beyond { (image : Option ℕ) (at total : ℕ) →
             handle_kept (fields self.old).session (h - 1) ≡ handle.Reads image at total →
             drop (total - at) out.new ≡ drop (total - at) out.old }
+        // on any device: the bytes stay that are kept of the staged images
+        ensures rests { (fields self.new).rests ≡ (fields self.old).rests }
         ensures content { IsTrue D.tells → D.told (device self.new) ≡ D.told (device self.old) }
         ensures arming { D.arming (device self.new)
             ≡ arming_kept (flash_result result) (D.arming (device self.old)) }

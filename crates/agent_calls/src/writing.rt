@@ -47,6 +47,8 @@ impl<D: Flash> Agent<D> {
         ensures keeps { OnOk result (let size = size_of (part_at (fields self.old).session image) in
             take ((size + length bytes.now) % 16) (rest_of (fields self.new) image)
             ≡ kept_of size (rest_of (fields self.old) image) bytes.now) }
+        ensures others { (other : ℕ) → (other ≡ image → ⊥) →
+            rest_of (fields self.new) other ≡ rest_of (fields self.old) other }
         ensures grows { OnOk result (AppendsPart (fields self.old).session image bytes.now
             (fields self.new).session) }
         ensures still { let size = size_of (part_at (kept self.old.session) image) in
@@ -125,6 +127,11 @@ impl<D: Flash> Agent<D> {
             let size = size_of (part_at (fields self.old).session image) in
             take ((size + length bytes.now) % 16) (rest_of (fields self.new) image)
             ≡ kept_of size (rest_of (fields self.old) image) bytes.now) }
+        // on any device, at any exit: what is kept of another image stays
+        ensures others { (image : ℕ) →
+            handle_kept (fields self.old).session (handle - 1) ≡ handle_kinds.Writes image →
+            (other : ℕ) → (other ≡ image → ⊥) →
+            rest_of (fields self.new) other ≡ rest_of (fields self.old) other }
         ensures grows { OnOk result ((image : ℕ) →
             handle_kept (fields self.old).session (handle - 1) ≡ handle_kinds.Writes image →
             AppendsPart (fields self.old).session image bytes.now (fields self.new).session) }

@@ -73,6 +73,8 @@ fn finish<D: Flash, V: Verifier>(
         D.arming flash.new ≡ D.arming flash.old }
     ensures bad { (found : Verdict) → result ≡ Err (InputRefused (BankRefused found)) →
         may_start found ≡ false }
+    ensures seen { (found : Verdict) → result ≡ Err (InputRefused (BankRefused found)) →
+        HasPassed (V.passes verifier.now) layout.now.rows 0 found }
     ensures unarmed { StaysUnarmed (flash_result result) (D.arming flash.old) (D.arming flash.new)
         (D.counts flash.old) (D.counts flash.new) }
     ensures stops { RefusesBank result }
@@ -126,6 +128,8 @@ fn carry_out<D: Flash, H: Files, V: Verifier>(
         ≡ lowered_by (writes_of plan.now.layout (pieces_in plan.now.entries) 0) (D.arming flash.old) }
     ensures bad { (found : Verdict) → result ≡ Err (InputRefused (BankRefused found)) →
         may_start found ≡ false }
+    ensures seen { (found : Verdict) → result ≡ Err (InputRefused (BankRefused found)) →
+        HasPassed (V.passes verifier.now) plan.now.layout.rows 0 found }
     ensures unarmed { StaysUnarmed (flash_result result) (D.arming flash.old) (D.arming flash.new)
         (D.counts flash.old) (D.counts flash.new) }
     ensures stops { IsEarly result → ⊥ }
@@ -182,7 +186,7 @@ pub fn format<D: Flash, H: Files, V: Verifier>(
     // Formatted: what the flash shows, and that it is sound.
     ensures given { IfOk result (λ done. fitted (record { banks = banks; rows = rows.now })
         (D.blocks flash.old) ≡ Ok done.layout) }
-    // On any device the version is that of some manifest which passes.
+    // On any device the version is that of some complete package whose manifest passes.
     ensures passed { IfOk result (λ done. HasPassed (V.passes verifier.now) done.layout.rows 0 (Good done.version)) }
     ensures formatted { IfOk result (λ done. IsTrue D.tells →
         IsFormatted (V.passes verifier.now) done.layout done.version (D.told flash.new)) }
@@ -216,14 +220,18 @@ pub fn format<D: Flash, H: Files, V: Verifier>(
     ensures size { D.blocks flash.new ≡ D.blocks flash.old }
     ensures costs { Spends (flash_result result) (D.counts flash.old) (D.counts flash.new) }
     // On every device: each block is erased once, and each piece of an image, each replica and the layout are programmed once; where
-    // what is in the bank is refused, neither replica and no layout. And no verdict is refused by which the bank may start.
+    // what is in the bank is refused, neither replica and no layout.
     ensures spent { IfOk result (λ done.
         Takes (H.contents files.old) name.now done.layout 3 (D.arming flash.old) (D.arming flash.new)) }
     ensures worn { (found : Verdict) → result ≡ Err (InputRefused (BankRefused found)) →
         Takes (H.contents files.old) name.now (record { banks = banks; rows = rows.now }) 0
         (D.arming flash.old) (D.arming flash.new) }
+    // No verdict is refused by which the bank may start, and none without what was read that gives it: a manifest that the verifier
+    // refuses, or one that passes.
     ensures bad { (found : Verdict) → result ≡ Err (InputRefused (BankRefused found)) →
         may_start found ≡ false }
+    ensures seen { (found : Verdict) → result ≡ Err (InputRefused (BankRefused found)) →
+        HasPassed (V.passes verifier.now) rows.now 0 found }
     ensures unarmed { StaysUnarmed (flash_result result) (D.arming flash.old) (D.arming flash.new)
         (D.counts flash.old) (D.counts flash.new) }
     ensures same { H.contents files.new ≡ H.contents files.old }

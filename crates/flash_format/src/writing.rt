@@ -90,6 +90,8 @@ pub fn check_bank<D: Flash, V: Verifier>(
     ensures passed { IfOk result (λ version. HasPassed (V.passes verifier.now) layout.now.rows 0 (Good version)) }
     ensures bad { (found : Found) → result ≡ Err (InputRefused (BankRefused found)) →
         may_start found ≡ false }
+    ensures seen { (found : Found) → result ≡ Err (InputRefused (BankRefused found)) →
+        HasPassed (V.passes verifier.now) layout.now.rows 0 found }
     ensures found { (found : Found) → result ≡ Err (InputRefused (BankRefused found)) →
         IsTrue D.tells →
         verdict_on (V.passes verifier.now) 0 layout.now (D.told flash.old).now 0 ≡ found }

@@ -87,7 +87,7 @@ GoesBackBy reply.Success s x new = IsTrue (may_try s x) × agent.Shows new (afte
 GoesBackBy (reply.Refused st) s x new = (st ≡ status.Denied) × agent.Shows new s x
 GoesBackBy other s x new = ⊥
 
--- Where it goes back, some manifest passed, of a version that is not below the counter that the agent keeps.
+-- Where it goes back, some package passed, of a version that is not below the counter that the agent keeps.
 abbrev pub PermitsBack : (List ℕ → Bool) → Reply → Fields → Type 0
 PermitsBack passes reply.Success f = SomePassed passes f.layout.rows f.counter
 PermitsBack passes other f = ⊤

@@ -6,6 +6,7 @@ use Rattle.fwu_formats.specs.Layout.{Layout, blocks_needed, fits_layout}
 use Rattle.fwu_model.specs.Answer.{images_of}
 use Rattle.fwu_formats.specs.Package.{Toc, toc_of}
 use Rattle.fip_tables.specs.Files.{Tells}
+use Rattle.image_check.specs.Passed.{HasPassed}
 use Rattle.flash_format.specs.Formatted.{HoldsImages, IsBlank, IsInOrder, IsRefused}
 use Rattle.flash_format.specs.Places.{AllStand}
 use Rattle.flash_format.specs.Stops.{Finishes}
@@ -151,3 +152,11 @@ pub returns-in-Err-carry_out-clause-bad : goal.returns-in-Err-carry_out-clause-b
 returns-in-Err-carry_out-clause-bad g c = λ found is.
     let stop : c.in-Err-carry_out.stop ≡ Input (Incomplete found) = cc in
     c.carry_out.ensures.bad found (c.in-Err-carry_out.is ∙ ap Err stop)
+
+pub returns-in-Err-carry_out-clause-seen : goal.returns-in-Err-carry_out-clause-seen
+returns-in-Err-carry_out-clause-seen g c = λ found is.
+    let K = c.in-Ok.plan.layout in
+    let L : Layout = record { banks = c.args.banks; rows = c.args.rows.now } in
+    let stop : c.in-Err-carry_out.stop ≡ Input (Incomplete found) = cc in
+    subst (λ (l : Layout). HasPassed (g.V.Verifier.passes c.args.verifier.now) l.rows 0 found) (fitted_is L c.blocks-2.result K c.in-Ok.ensures.fits).is
+    (c.carry_out.ensures.seen found (c.in-Err-carry_out.is ∙ ap Err stop))

@@ -1,4 +1,4 @@
-use Rattle.std.proofs.Common.{◌≡◌, ℕ, ◌+◌, ◌≤◌, List, length, set, Ok, Err, refl, sym, ap, ◌∙◌, subst, arith}
+use Rattle.std.proofs.Common.{◌≡◌, ℕ, ◌+◌, ◌≤◌, List, [], length, set, get_or-set_other, Ok, Err, refl, sym, ap, ◌∙◌, subst, arith}
 use Rattle.fwu_formats.specs.Layout.{ImageRow, start, slot_bytes}
 use Rattle.slot_writer.specs.Writes.{SpendsArming, writes_to_append}
 use Rattle.agent_kept.specs.Kept.{kept, part_at, size_of, slot_of}
@@ -144,3 +144,9 @@ returns-in-Ok-clause-keeps g c =
     let a = c.args.self.now in
     left-kept (fields a) (a.fitting c.requires.here) c.args.image c.size-size.result c.args.bytes.now c.append.new.rest c.requires.plan.0
     c.size-size.ensures c.in-Ok.ensures.kept
+
+pub returns-in-Ok-clause-others : goal.returns-in-Ok-clause-others
+returns-in-Ok-clause-others g c other apart = get_or-set_other (fields c.args.self.now).rests c.args.image other c.append.new.rest [] apart
+
+pub returns-in-Err-clause-others : goal.returns-in-Err-clause-others
+returns-in-Err-clause-others g c other apart = get_or-set_other (fields c.args.self.now).rests c.args.image other c.append.new.rest [] apart

@@ -100,3 +100,10 @@ returns-in-Write-clause-grows g c =
     on_ok_weaker c.write_image.result (λ grows image writes.
     let is : c.in-Write.image ≡ image = writes-same c.in-Write.image image (sym own.1 ∙ writes) in
     subst (λ (i : ℕ). AppendsPart f.session i c.args.bytes.now (fields c.write_image.new.self).session) is grows) c.write_image.ensures.grows
+
+pub returns-in-Write-clause-others : goal.returns-in-Write-clause-others
+returns-in-Write-clause-others g c image writes other apart =
+    let f : Fields = fields c.args.self.now in
+    let own = subst (IsPlanFor f.session f.meta.meta (request.Write c.args.handle (length c.args.bytes.now))) c.in-Write.is c.in-Ok.ensures.asked in
+    let is : c.in-Write.image ≡ image = writes-same c.in-Write.image image (sym own.1 ∙ writes) in
+    c.write_image.ensures.others other (λ same. apart (same ∙ is))
