@@ -157,9 +157,10 @@ fn carry_out<D: Flash, H: Files, V: Verifier>(
 /// formatted whole.
 ///
 /// A loss of power up to that barrier leaves the blocks behind block 0 as one before the call might have: where nothing was dirty
-/// then, as they were. Where block 0 isn't guarded any bytes may stand in it, the old layout among them. After a later loss there
-/// is no layout, or there are both replicas. Until the images are written, a loss leaves of each of the first eight blocks that is
-/// guarded no more than one before the call might have: where nothing was dirty then, the block as it was or without a seal.
+/// then, as they were. Where block 0 isn't guarded any bytes may stand in it, the old layout among them. A later loss leaves no
+/// layout, and of each of the first eight blocks that is guarded no more than one before the call might have: where nothing was
+/// dirty then, the block as it was or without a seal. Or it leaves blocks 3 to 7 and the other banks erased, and a layout only with
+/// both replicas.
 pub fn format<D: Flash, H: Files, V: Verifier>(
     flash: &mut D,
     rows: &[ImageRow],

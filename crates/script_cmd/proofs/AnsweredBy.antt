@@ -307,7 +307,7 @@ module _ {H I : Type 0} {passes : List ℕ → Bool} {tells : Bool} {blocks : �
             table-with-list passes tells blocks journal status said old new taken takes (Some plain) mid_told told name (script_asked (plainly (Some plain)) left) was mid are same good later at_source at_sink (a.by_table plain over);
         shows = λ words. shows-with-list tells mid_told told name left old new status (noted said) journal taken takes was mid are good later at_source at_sink (a.shows words);
         formats = λ banks rows file words.
-            formats-with-list passes tells mid_told told name left file (record { banks = banks; rows = rows }) blocks old new status said journal taken takes was mid are same good later at_source at_sink unarmed (a.formats banks rows file words);
+            formats-with-list passes tells mid_told told name left file (record { banks = banks; rows = rows }) blocks old new status said journal taken takes was mid are same good counted at_source at_sink unarmed (a.formats banks rows file words);
         soaks = λ seed rounds words. soaks-with-list tells mid_told told name left seed rounds blocks journal status said old new taken takes was mid are good later at_source at_sink (a.soaks seed rounds words);
         read_to_end = a.read_to_end;
         read_to_end_by_table = a.read_to_end_by_table;

@@ -140,54 +140,17 @@ formatted-as passes tells g blocks old new status said journal taken takes was a
     (subst (λ (l : List ℕ). Formats passes tells g l (record { banks = b; rows = rs }) blocks old new status said taken takes was are) same-file formats)) in
     by-formats passes tells g file (record { banks = banks; rows = rows }) blocks old new status said journal taken takes was are unarmed none here
 
--- a file's cause, from before
-reads-from : (told : Option Directory) (name : List ℕ) (first was are : ℕ) (r : Result Formatted FormatStop) → first ≤ was → ReadsBy told name was are r → ReadsBy told name first are r
-reads-from told name first was are r later reads = record {
-  later = omega (arith, later, reads.later);
-  failed = λ is. by (reads.failed is);
-}
-  where
-    by : Rose was are ⊎ Lacks told name → Rose first are ⊎ Lacks told name
-    by (inl rose) = inl (rose-from first was are later rose)
-    by (inr lacks) = inr lacks
-
-tries-from : (passes : List ℕ → Bool) (tells : Bool) (told : Option Directory) (name : List ℕ) (L : Layout) (blocks : ℕ) (old new : Moment) (first was are : ℕ) (r : Result Formatted FormatStop) → first ≤ was
-    → Tries passes tells told name L blocks old new was are r → Tries passes tells told name L blocks old new first are r
-tries-from passes tells told name L blocks old new first was are r later t = record {
-  mid = t.mid;
-  fresh = t.fresh;
-  layout = t.layout;
-  answers = t.answers;
-  untouched = t.untouched;
-  missing = t.missing;
-  failed = t.failed;
-  reads = reads-from told name first was are r later t.reads;
-  given = t.given;
-  formatted = t.formatted;
-  refused = t.refused;
-  images = t.images;
-  blank = t.blank;
-  deserved = t.deserved;
-  clean = t.clean;
-  ordered = t.ordered;
-  keeps = t.keeps;
-  guard = t.guard;
-  counts = t.counts;
-  once = t.once;
-  made = t.made;
-  unarmed = t.unarmed;
-  power = t.power;
-  stopped = t.stopped;
-}
-
 module _ (passes : List ℕ → Bool) (tells : Bool) (told files : Option Directory) (name : List ℕ) (script : Option (List ℕ)) (file : List ℕ) (L : Layout) (blocks : ℕ) (old new : Moment) (status : ℕ) (said : Note) (journal : List Turn) (taken takes : Option (List ℕ)) (first was are : Faults) where
   -- what is formatted without a list is formatted behind one that was read and is one
-  pub formats-with-list : told ≡ files → HasGoodList (Some name) files → first.files ≤ was.files → first.source ≡ was.source → first.sink ≡ was.sink → old.armed ≡ None
+  pub formats-with-list : told ≡ files → HasGoodList (Some name) files → was.files ≡ first.files → first.source ≡ was.source → first.sink ≡ was.sink → old.armed ≡ None
       → FormattedBy passes tells (record { list = None; files = told; script = script }) file L blocks old new status said journal taken takes was are
       → FormattedBy passes tells (record { list = Some name; files = files; script = script }) file L blocks old new status said journal taken takes first are
-  formats-with-list same good later source sink unarmed by =
+  formats-with-list same good counted source sink unarmed by =
       by-formats passes tells (record { list = Some name; files = files; script = script }) file L blocks old new status said journal taken takes first are unarmed by.no_turns (go by.formats)
     where
+      later : first.files ≤ was.files
+      later = omega (arith, counted)
+
       at-sink : (line : List ℕ) (planned : ℕ) → Prints line planned status taken takes was.sink are.sink → Prints line planned status taken takes first.sink are.sink
       at-sink line planned p = subst (λ (n : ℕ). Prints line planned status taken takes n are.sink) (sym sink) p
 
@@ -196,7 +159,7 @@ module _ (passes : List ℕ → Bool) (tells : Bool) (told files : Option Direct
       go (starved nine is kept none) = starved nine is kept none
       go (tried listed r t prints is) =
           tried good r
-          (tries-from passes tells files file L blocks old new first.files was.files are.files r later
+          (subst (λ (n : ℕ). Tries passes tells files file L blocks old new n are.files r) counted
           (subst (λ (d : Option Directory). Tries passes tells d file L blocks old new was.files are.files r) same t))
           (at-sink (format_text r) (format_status r) prints) is
       go (list_refused kept quiet refused) =

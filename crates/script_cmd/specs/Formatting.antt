@@ -1,5 +1,5 @@
 -- What the command `format` does, tells and prints.
-use Rattle.std.specs.Prelude.{◌≡◌, ◌⊎◌, ◌+◌, ◌*◌, ◌≤◌, ◌||◌, ◌==◌, ℕ, ◌++◌, ◌∷◌, [], Bool, List, Option, None, Result, Ok, Err, IfOk, IsErr, IsTrue, IsFalse, is_ok, codes, decimal, length}
+use Rattle.std.specs.Prelude.{◌≡◌, ◌⊎◌, ◌+◌, ◌*◌, ◌≤◌, ◌||◌, ◌==◌, ℕ, ◌++◌, ◌∷◌, [], false, Bool, List, Option, None, Result, Ok, Err, IfOk, IsErr, IsTrue, IsFalse, is_ok, codes, decimal, length}
 use Rattle.flash_core.specs.Counts.{all_stops, stops_in}
 use Rattle.flash_core.specs.May.{Keeps}
 use Rattle.flash_core.specs.Told.{Told, NothingDirty}
@@ -18,11 +18,13 @@ use Rattle.fwu_model.specs.Text.{format_line, no_boot_text}
 use Rattle.fwu_model.specs.declared.kinds.NoBoot.TheVariants as no_boot
 use Rattle.meta_layout.specs.Rows.{fitted}
 use Rattle.fip_tables.specs.Files.{Lacks, Tells}
+use Rattle.image_check.specs.Law.{may_start}
+use Rattle.image_check.specs.Passed.{HasPassed}
 use Rattle.image_check.specs.declared.bank.Verdict.{Verdict}
 use Rattle.image_check.specs.declared.bank.Verdict.TheVariants as verdict
 use Rattle.flash_format.specs.Choosing.{refusal}
 use Rattle.flash_format.specs.Formatted.{HoldsImages, IsBlank, IsFormatted, IsInOrder, IsRefused}
-use Rattle.flash_format.specs.Stops.{Answers, Finishes, IsEarly, IsOfLayout, LayoutBy, ReadsBy, flash_result}
+use Rattle.flash_format.specs.Stops.{Answers, Finishes, IsEarly, IsOfLayout, LayoutBy, ReadsBy, flash_result, unread_in}
 use Rattle.flash_format.specs.declared.formatting.Formatted.{Formatted}
 use Rattle.flash_format.specs.declared.stops.FormatStop.{FormatStop}
 use Rattle.flash_format.specs.declared.stops.FormatStop.TheVariants.{Input, ReadFailed, Flash}
@@ -109,12 +111,18 @@ pub record Tries (passes : List ℕ → Bool) (tells : Bool) (told : Option Dire
   pub failed : r ≡ Err ReadFailed → IsTrue tells → (new.told ≡ mid)
       ⊎ IsErr (layout_seen new.told.now)
   pub reads : ReadsBy told name faults_before faults_after r
+  -- no call of the files failed but the one that is told
+  pub unread_once : faults_after ≤ faults_before + unread_in r
   -- formatted
   pub given : IfOk r (λ done. fitted L blocks ≡ Ok done.layout)
+  -- on every device: some complete package of the version that is told has a manifest that passes
+  pub passed : IfOk r (λ done. HasPassed passes done.layout.rows 0 (verdict.Good done.version))
   pub formatted : IfOk r (λ done. IsTrue tells → IsFormatted passes done.layout done.version new.told)
   -- refused for what is in bank 0
   pub refused : (found : Verdict) → r ≡ Err (Input (fault.Incomplete found)) → IsTrue tells
       → IsRefused passes L found new.told.now
+  -- on every device: for no verdict by which the bank may start, and for none without what was read that gives it
+  pub bad : (found : Verdict) → r ≡ Err (Input (fault.Incomplete found)) → (may_start found ≡ false) × HasPassed passes L.rows 0 found
   pub images : Finishes r (IsTrue tells → (file : List ℕ) (toc : Toc) → Tells told name file → toc_of file ≡ Ok toc
       → HoldsImages L (images_of L.rows file toc) new.told.now)
   -- blocks 3 to 7 and the banks behind bank 0 are erased: no old mark, record of the counter or package is left

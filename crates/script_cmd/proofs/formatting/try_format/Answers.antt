@@ -25,9 +25,12 @@ returns-clause-tries g c =
       missing = λ lacks. let m = e.missing lacks in (m.0, ap told m.1);
       failed = e.failed;
       reads = e.reads;
+      unread_once = e.once;
       given = e.given;
+      passed = e.passed;
       formatted = e.formatted;
       refused = e.refused;
+      bad = λ found is. (e.bad found is, e.seen found is);
       images = e.images;
       blank = e.blank;
       deserved = e.deserved;
