@@ -144,7 +144,7 @@ FitsEach f passes r bytes = (E : Setting) (s : State) → IsSettingOf f passes E
 -- ---- a refusal
 
 stays-same : (m : Moment) → Stays m m
-stays-same m = record { tells = refl; layout = refl; boot = refl; guard = λ told. refl }
+stays-same m = record { tells = refl; layout = refl; boot = refl; counter = refl; lengths = refl; guard = λ told. refl }
 
 -- an answer without moves, on a flash that stays
 pub leaves-nothing : (m : Moment) (passes : List ℕ → Bool) (c : Call)

@@ -76,14 +76,14 @@ module _ (f : Fields) (tells : Bool) (s t : Told) (number image : ℕ) (bit : Bo
 
     pub commit-leaves : (passes : List ℕ → Bool) (h req most : ℕ)
         → Decides passes f.meta f.counter f.session f.boot (request.Commit h req most) (Do (plan.Commit number (Some image) bit)) → (g : Fields)
-        → g.layout ≡ f.layout → g.boot ≡ f.boot
+        → g.layout ≡ f.layout → g.boot ≡ f.boot → g.counter ≡ f.counter → g.lengths ≡ f.lengths
         → Leaves result passes (call.Commit h req) old (record { tells = tells; told = t; fields = g })
-    commit-leaves passes h req most decides g layout boot =
+    commit-leaves passes h req most decides g layout boot counter lengths =
         leaves-by old (record { tells = tells; told = t; fields = g }) fitting sound knows passes (request.Commit h req most) []
         (λ E st setting speaks. tt) (plan.Commit number (Some image) bit) decides result
         (λ told E setting ready. does-nothing result E (state_in f s.now) t ((stays told).ready E setting.layout ready.calm ready.guarded))
         (λ told rest. guarded-by result ((stays told).rests rest))
-        (record { tells = refl; layout = layout; boot = boot; guard = λ told. (finishes told).keeps.guard })
+        (record { tells = refl; layout = layout; boot = boot; counter = counter; lengths = lengths; guard = λ told. (finishes told).keeps.guard })
 
   -- ---- when done
 
@@ -140,4 +140,4 @@ module _ (f : Fields) (tells : Bool) (s t : Told) (number image : ℕ) (bit : Bo
           })
           (λ value r. r ≡ Success) tt
           (λ E st x setting shows. ap (λ (y : Session). (planned_in E st y [] (plan.Commit number (Some image) bit)).reply) shows.means)
-          (commit-leaves (Ok tt) finishes passes h req most decides g refl refl)
+          (commit-leaves (Ok tt) finishes passes h req most decides g refl refl refl refl)

@@ -135,7 +135,7 @@ module _ (f : Fields) (k : Kept) (meta : MetaRead) (passes : List ℕ → Bool) 
     end-leaves =
         leaves-by old new fitting sound knows passes request.End [] (λ E st setting speaks. tt) plan.End decides result
         (λ told E setting ready. subst (λ (ms : List Move). Does result E state ms t) (sym moves-are) (does-told E setting told ready)) guarded-told
-        (record { tells = refl; layout = refl; boot = refl; guard = λ told. ended-guard result f.layout meta.meta s t (ended told) })
+        (record { tells = refl; layout = refl; boot = refl; counter = refl; lengths = refl; guard = λ told. ended-guard result f.layout meta.meta s t (ended told) })
 
   -- ---- when done
 

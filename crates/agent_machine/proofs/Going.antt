@@ -21,6 +21,8 @@ stays-then a b c ab bc = record {
   tells = bc.tells ∙ ab.tells;
   layout = bc.layout ∙ ab.layout;
   boot = bc.boot ∙ ab.boot;
+  counter = bc.counter ∙ ab.counter;
+  lengths = bc.lengths ∙ ab.lengths;
   guard = λ told. bc.guard (subst IsTrue (sym ab.tells) told) ∙ ab.guard told;
 }
 
@@ -51,7 +53,7 @@ goes-nothing E a s x shows = record {
   shows = shows;
   does = λ tells ready. does-nothing {T = Unit {0}} (Ok tt) E s a.told ready;
   guarded = λ tells rest. rest;
-  stays = record { tells = refl; layout = refl; boot = refl; guard = λ told. refl };
+  stays = record { tells = refl; layout = refl; boot = refl; counter = refl; lengths = refl; guard = λ told. refl };
 }
 
 -- ---- one call

@@ -77,6 +77,8 @@ module _ (old new : Moment) (fitting : Fitting old.fields) (sound : SessionSound
         tells = out.tells;
         layout = out.beside.layout;
         boot = out.beside.boot;
+        counter = out.beside.counter;
+        lengths = out.beside.lengths;
         guard = λ tells. ap (λ (t : Told). t.guard) told;
       })
 

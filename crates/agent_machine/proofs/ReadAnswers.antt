@@ -153,5 +153,7 @@ module _ (old : Moment) (fitting : Fitting old.fields) (sound : SessionSound old
             tells = carried.tells;
             layout = carried.beside.layout;
             boot = carried.beside.boot;
+            counter = carried.beside.counter;
+            lengths = carried.beside.lengths;
             guard = λ is. ap (λ (t : Told). t.guard) (told is);
           }))

@@ -187,7 +187,7 @@ module _ (tells : Bool) (f : Fields) (fitting : Fitting f) (sound : SessionSound
     does = λ E x y setting shows is ready. does-idle result E x (answer E x y call.Previous).moves t err
         (subst (λ (u : Told). IsCalm E u x) (sym (same is)) ready.calm);
     guarded = λ is rest. by result err (subst IsAtRest (sym (same is)) rest);
-    stays = record { tells = refl; layout = refl; boot = refl; guard = λ is. ap (λ (u : Told). u.guard) (same is) };
+    stays = record { tells = refl; layout = refl; boot = refl; counter = refl; lengths = refl; guard = λ is. ap (λ (u : Told). u.guard) (same is) };
   }
     where
       by : (r : Result (Unit {0}) FlashStop) → IsErr r → IsAtRest t → GuardedBy r t
@@ -273,6 +273,8 @@ module _ (tells : Bool) (f : Fields) (fitting : Fitting f) (sound : SessionSound
         tells = carries.stays.tells;
         layout = carries.stays.layout;
         boot = carries.stays.boot;
+        counter = carries.stays.counter;
+        lengths = carries.stays.lengths;
         guard = λ is. carries.stays.guard is ∙ ap (λ (u : Told). u.guard) (same is);
       };
     }

@@ -90,7 +90,7 @@ module _ (tells : Bool) (f : Fields) (s t : Told) (same : IsTrue tells → t ≡
         subst (λ (ms : List Move). Does {T = Unit {0}} (Ok tt) E x ms t) (sym (none E x y setting shows is))
         (does-nothing {T = Unit {0}} (Ok tt) E x t (subst (λ (u : Told). IsReady E u x) (sym (same is)) ready));
     guarded = λ is rest. subst IsAtRest (sym (same is)) rest;
-    stays = record { tells = refl; layout = refl; boot = refl; guard = λ is. ap (λ (u : Told). u.guard) (same is) };
+    stays = record { tells = refl; layout = refl; boot = refl; counter = refl; lengths = refl; guard = λ is. ap (λ (u : Told). u.guard) (same is) };
   }
 
   pub refused-answers : (passes : List ℕ → Bool) (c : Call) (st : Status) (E : Setting) (x : State) (y : Session) → Shows old x y

@@ -152,7 +152,7 @@ module _ (tells : Bool) (f : Fields) (s t : Told) (result : Done) (p : Plan) (k 
           (subst (λ (z : State). Does result E z (planned_from E z shows.staged) t) (sym here)
           (parts.does E shows.staged same is (subst (λ (z : State). MayBeDone E z p) here may) (subst (IsReady E s) here ready)));
       guarded = parts.guarded;
-      stays = record { tells = refl; layout = refl; boot = refl; guard = parts.guard };
+      stays = record { tells = refl; layout = refl; boot = refl; counter = refl; lengths = refl; guard = parts.guard };
     }
 
 -- ---- each plan

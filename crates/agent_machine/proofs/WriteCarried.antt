@@ -69,7 +69,7 @@ module _ (old new : Moment) (image first size number at n : ℕ) (left bytes : L
             (λ tells E setting ready. does-nothing result E (state_in f old.told.now) new.told
             ((write-stays tells).ready E setting.layout ready.calm ready.guarded))
             (λ tells rest. guards result new.told ((write-stays tells).rests rest))
-            (record { tells = tells-same; layout = beside.layout; boot = beside.boot; guard = λ is. (appends is).keeps.guard })
+            (record { tells = tells-same; layout = beside.layout; boot = beside.boot; counter = beside.counter; lengths = beside.lengths; guard = λ is. (appends is).keeps.guard })
 
 -- ---- when done
 

@@ -56,6 +56,9 @@ pub record Stays (old new : Moment) : Type 0 where
   pub tells : new.tells ≡ old.tells
   pub layout : new.fields.layout ≡ old.fields.layout
   pub boot : new.fields.boot ≡ old.fields.boot
+  -- the counter, and the lengths of the images of the bank that was started
+  pub counter : new.fields.counter ≡ old.fields.counter
+  pub lengths : new.fields.lengths ≡ old.fields.lengths
   -- where the content is told, the same blocks are guarded
   pub guard : IsTrue old.tells → new.told.guard ≡ old.told.guard
 

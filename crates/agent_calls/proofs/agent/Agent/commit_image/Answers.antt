@@ -123,7 +123,7 @@ returns-in-Err-clause-meets g c passes h req most decides =
     (λ told. finishes-at (Err c.in-Err.stop) f c.args.image c.start-first.result c.size-size.result
     (rest_of f c.args.image) s t
     (first-at (fields c.args.self.now) c.args.image c.target-bank.result c.start-first.result c.target-bank.ensures.value c.start-first.ensures)
-    c.size-size.ensures (c.in-Err.ensures.finishes told)) passes h req most decides f refl refl))
+    c.size-size.ensures (c.in-Err.ensures.finishes told)) passes h req most decides f refl refl refl refl))
 
 -- the image was ended, by the fields
 pub returns-in-Ok-clause-ends : goal.returns-in-Ok-clause-ends

@@ -68,6 +68,8 @@ returns-in-Err-Lost-clause-meets g c here passes =
       tells = refl;
       layout = ap (λ (x : Fields). x.layout) same;
       boot = ap (λ (x : Fields). x.boot) same;
+      counter = ap (λ (x : Fields). x.counter) same;
+      lengths = ap (λ (x : Fields). x.lengths) same;
       guard = λ told. ap (λ (t : Told). t.guard) (c.read_part.ensures.content told);
     })
 
@@ -83,6 +85,8 @@ returns-in-Err-Failed-clause-meets g c here passes =
       tells = refl;
       layout = ap (λ (x : Fields). x.layout) same;
       boot = ap (λ (x : Fields). x.boot) same;
+      counter = ap (λ (x : Fields). x.counter) same;
+      lengths = ap (λ (x : Fields). x.lengths) same;
       guard = λ told. ap (λ (t : Told). t.guard) (c.read_part.ensures.content told);
     })
 
