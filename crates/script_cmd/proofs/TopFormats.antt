@@ -1,10 +1,9 @@
 -- The command `format`, by the words and behind a list.
 use Rattle.std.proofs.Common.{◌≡◌, ◌≤◌, ◌||◌, ◌==◌, ℕ, Bool, List, [], Option, Some, None, Result, Ok, Err, refl, sym, ap, subst, ◌∙◌, ◌⊎◌, inl, inr, arith, IsTrue, IsFalse}
 use Rattle.std.proofs.lemmas.Bool.{false≢true}
-use Rattle.base_core.specs.Counts.{Rose}
 use Rattle.fip_tables.specs.Files.{Lacks}
 use Rattle.flash_format.specs.Formatted.{IsBlank}
-use Rattle.flash_format.specs.Stops.{IsOfLayout, LayoutBy, ReadsBy}
+use Rattle.flash_format.specs.Stops.{IsOfLayout, LayoutBy}
 use Rattle.flash_format.specs.declared.stops.FormatStop.TheVariants.{Input, ReadFailed, Flash}
 use Rattle.meta_layout.specs.Rows.{fitted}
 use Rattle.flash_format.specs.declared.formatting.Formatted.{Formatted}
@@ -29,7 +28,7 @@ use Rattle.script_cmd.proofs.TopCompletes.{format-completes}
 use Rattle.script_cmd.proofs.PromiseTurns.{by-plan}
 use Rattle.script_cmd.proofs.TopPrints.{not-done}
 use Rattle.script_cmd.proofs.TopShows.{good-list-kept, refused-list, starved-list}
-use Rattle.script_cmd.proofs.TopWays.{refuses, rose-from}
+use Rattle.script_cmd.proofs.TopWays.{refuses}
 
 -- ---- by what it did
 

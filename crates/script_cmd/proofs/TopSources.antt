@@ -1,5 +1,5 @@
 -- What a run takes of the source.
-use Rattle.std.proofs.Common.{◌≡◌, false, inl, inr, ◌≤◌, ◌+◌, ℕ, List, [], ◌++◌, Option, Some, None, length, arith, refl, sym, ap, subst, ◌∙◌, append-nil}
+use Rattle.std.proofs.Common.{◌≡◌, false, inl, inr, ◌≤◌, ℕ, List, [], ◌++◌, Option, Some, None, length, arith, refl, sym, ap, subst, ◌∙◌, append-nil}
 use Rattle.std.proofs.lemmas.Bool.{false≢true}
 use Rattle.std.specs.Io.KnownBytes.{Consumes, Keeps}
 use Rattle.std.proofs.KnownBytes.{Consumes-nil, Consumes-trans}
