@@ -10,6 +10,7 @@ pub mod PromiseComplete
 pub mod PromiseReplies
 pub mod PromiseAll
 pub mod OutcomeLemmas
+pub mod Permitted
 pub mod RunTurns
 mod RunCalls
 mod RunEnds

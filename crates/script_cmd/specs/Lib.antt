@@ -9,6 +9,7 @@ pub mod Showing
 pub mod Formatting
 pub mod Promises
 pub mod Outcomes
+pub mod Permitted
 pub mod ByTable
 pub mod WaysByTable
 pub mod PromisesByTable

@@ -1,6 +1,7 @@
 //! Laws of the ways that a run may end, and of wrong outcomes that none is promised:
 //! functions that do nothing, whose contract is the law.
 ghost use Rattle.script_cmd.specs.Outcomes.{BadListIsNone, ListIsSome, MissingListIsNone, NoMetadataIsNone, NothingFollowsTheSink, NothingIsArmed, NothingIsPassedOver, NothingIsTouched, UsageLineIsOfUsage, UsageReadsNoSource};
+ghost use Rattle.script_cmd.specs.Permitted.{BootsArePermitted};
 ghost use Rattle.script_cmd.specs.Promises.{WaysAreComplete, WaysBoot, WaysBootFirst, WaysEnd, WaysGuard, WaysKeepTheHeadline, WaysLeaveTheDevice, WaysReply, WaysWrite};
 
 /// Whichever way a run ends, what the sink took is the lines of its turns, or one line where nothing ran.
@@ -67,6 +68,12 @@ pub fn nothing_is_armed()
 /// A run ends at the line that the sink didn't take.
 pub fn nothing_follows_the_sink()
     ensures { NothingFollowsTheSink }
+{}
+
+/// Each boot that is answered, on any device, is of a version that some complete package has whose manifest passes, and that is not
+/// below the counter which the boot read.
+pub fn boots_are_permitted()
+    ensures { BootsArePermitted }
 {}
 
 /// A first boot answers that there is no metadata only where the bytes have none.
