@@ -21,8 +21,8 @@ pub enum PackFault {
     /// The alignment is no power of two from 1 to 4096.
     #[error("the alignment is no power of two from 1 to 4096")]
     BadAlign,
-    /// The package would have more than 67,108,864 bytes.
-    #[error("the package would have more than 67,108,864 bytes")]
+    /// The package, or the capsule, would have more than 67,108,864 bytes.
+    #[error("what is made would have more than 67,108,864 bytes")]
     TooLarge,
 }
 

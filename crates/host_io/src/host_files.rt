@@ -33,7 +33,8 @@ fn read_piece<F: Read>(file: &mut F, piece: &mut [u8], out: &mut Vec<u8>) -> io:
 }
 
 /// The files of the system. They tell nothing of their contents. Each error is a fault, and so are
-/// a name that no file has or a folder has, and a range outside the file.
+/// a name that no file has, or that a folder, a pipe or a device has, whose size says nothing of what
+/// it would give, and a range outside the file.
 #[derive(Debug, Drop)]
 pub struct HostFiles<R> {
     rt: R,
@@ -74,11 +75,12 @@ impl<R: std::rt::Files> HostFiles<R> {
         Failed
     }
 
-    // The file, at this place. A place behind its end is an error.
+    // The file, at this place. What is no regular file, and a place behind its end, is an error.
     fn open_at(&self, name: &str, at: u64) -> io::Result<R::File> {
         let mut file = fs::open(&self.rt, name)?;
-        if at > file.metadata()?.len() {
-            return Err(io::Error::from(io::ErrorKind::UnexpectedEof));
+        let found = file.metadata()?;
+        if !found.is_file() || at > found.len() {
+            return Err(io::Error::from(io::ErrorKind::InvalidInput));
         }
         file.seek(SeekFrom::Start(at))?;
         Ok(file)
@@ -130,7 +132,7 @@ impl<R: std::rt::Files> Files for HostFiles<R> {
         ensures inner { self.new.inner ≡ self.old.inner }
     {
         match fs::metadata(&self.rt, name) {
-            Ok(found) if !found.is_dir() => Ok(Some(found.len())),
+            Ok(found) if found.is_file() => Ok(Some(found.len())),
             _ => Err(self.fail()),
         }
     }

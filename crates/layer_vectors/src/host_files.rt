@@ -312,11 +312,20 @@ fn refuses<H: Files>(rt: &impl Abort, files: &mut H, name: &str, other: &str) {
     stores(rt, files, other, b"x", Err(WriteStop::Failed));
 }
 
-// Each call on a file that isn't there fails.
-fn is_missing<R: std::rt::Files>(rt: &impl Abort, files: &mut HostFiles<R>, name: &str) {
+// Each call on what is no file fails, for an empty range too.
+fn is_no_file<R: std::rt::Files>(
+    rt: &impl Abort,
+    alloc: Global,
+    files: &mut HostFiles<R>,
+    name: &str,
+    other: &str,
+) {
     reads(rt, files, (name, 0), &mut [0; 4], Err(Failed));
     reads(rt, files, (name, 0), &mut [], Err(Failed));
-    refuses(rt, files, name, "host_io_none/file");
+    let mut list = old(rt, alloc, 0);
+    same(rt, files.read_onto(name, 0, 0, &mut list), Err(Failed));
+    are_bytes(rt, list.as_slice(), b"old ");
+    refuses(rt, files, name, other);
 }
 
 // A range outside a file fails.
@@ -327,35 +336,40 @@ fn is_short<R: std::rt::Files>(rt: &impl Abort, files: &mut HostFiles<R>, name: 
     reads(rt, files, (name, 6), &mut [], Err(Failed));
 }
 
-fn short_files<R: std::rt::Files + Drop>(rt: &(impl std::rt::Files + Abort), runtime: R) {
+fn short_files<R: std::rt::Files + Drop>(
+    rt: &(impl std::rt::Files + Abort),
+    alloc: Global,
+    runtime: R,
+) {
     let name = "host_io_short.tmp";
     let mut files = HostFiles::new(runtime);
     is_short(rt, &mut files, name);
     removed(rt, name);
-    is_missing(rt, &mut files, name);
+    is_no_file(rt, alloc, &mut files, name, "host_io_none/file");
 }
 
 #[test]
 fn short_and_missing_files(rt: HostRuntime) {
-    short_files(&rt, &rt);
+    short_files(&rt, rt.alloc(), &rt);
 }
 
-// Each call on a folder fails.
-fn is_folder<R: std::rt::Files>(rt: &impl Abort, files: &mut HostFiles<R>, name: &str) {
-    reads(rt, files, (name, 0), &mut [0; 4], Err(Failed));
-    refuses(rt, files, name, name);
-}
-
-fn one_folder<R: std::rt::Files + Drop>(rt: &(impl std::rt::Files + Abort), runtime: R) {
+// A folder, and a device whose size would be 0.
+fn no_files<R: std::rt::Files + Drop>(
+    rt: &(impl std::rt::Files + Abort),
+    alloc: Global,
+    runtime: R,
+) {
     let name = "host_io_folder.tmp";
+    let mut files = HostFiles::new(runtime);
     fs::create_dir(rt, name).expect(rt, "made");
-    is_folder(rt, &mut HostFiles::new(runtime), name);
+    is_no_file(rt, alloc, &mut files, name, name);
     fs::remove_dir(rt, name).expect(rt, "removed");
+    is_no_file(rt, alloc, &mut files, "/dev/null", "host_io_none/file");
 }
 
 #[test]
-fn folders(rt: HostRuntime) {
-    one_folder(&rt, &rt);
+fn folders_and_devices(rt: HostRuntime) {
+    no_files(&rt, rt.alloc(), &rt);
 }
 
 // A file of 70,000 bytes, of which the last is 2 and the others are 1.
