@@ -48,7 +48,7 @@ const LISTS: [(&str, &str); 2] = [
     ),
     (
         "39fb16e45f5ec40af556a3d5cd140cce1087047c11fb5343fb07f195fedf813a\n6d807d1bea783d90ce1f9ee1bf8667e94ddc31fa6f5474f8a891bcc89d56fb9a\n",
-        "BOOT1\nsend SUCCESS images=3 skipped=0\nboot bank=1 version=2 trials=0 counter=2\n",
+        "BOOT1\nsend SUCCESS images=3 skipped=0\nboot bank=1 version=2 trials=1 counter=1\n",
     ),
 ];
 
@@ -59,6 +59,6 @@ fn a_list_says_which_packages_are_installed(rt: HostRuntime) {
         let mut bench = Bench::new(&rt, alloc, TWO_BANKS);
         bench.words = "--allow list run";
         add_file(&rt, alloc, &mut bench.files, "list", list.as_bytes());
-        bench.prints(&rt, alloc, "boot\nsend p2.fip now\nboot\n", 0, lines);
+        bench.prints(&rt, alloc, "boot\nsend p2.fip trial\nboot\n", 0, lines);
     }
 }

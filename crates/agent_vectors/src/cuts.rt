@@ -34,7 +34,7 @@ const STAGING: [Sweep; 2] = [
     Sweep {
         script: STAGE,
         back: false,
-        operations: 13,
+        operations: 40,
         front: "BOOT1\n",
         ends: &[
             (1, 0, OLD),
@@ -276,11 +276,11 @@ fn a_boot_after_a_lost_end_repairs_the_other_replica(rt: HostRuntime) {
     }
 }
 
-// Scripts of whole updates, each with its erases and programs, and the last lines that may come after a loss at any of them.
-const UPDATES: [(&str, u64, &[&str]); 4] = [
+// Scripts of whole updates, the last one with a loss of its own besides, and the last lines that may come after a loss at any erase
+// or program.
+const UPDATES: [(&str, &[&str]); 4] = [
     (
         "boot\nsend p2.fip trial\nboot\nshow\nboot\n",
-        14,
         &[
             "BOOT1\n",
             "boot bank=1 version=2 trials=1 counter=1\n",
@@ -289,21 +289,18 @@ const UPDATES: [(&str, u64, &[&str]); 4] = [
         ],
     ),
     (
-        "boot\nsend p2.fip trial\nboot\naccept manifest\naccept tb-fw\naccept tb-fw\naccept nt-fw\nboot\nprevious\nboot\n",
-        27,
+        "boot\nsend p2.fip trial\nboot\nshow\naccept manifest\naccept tb-fw\naccept tb-fw\naccept nt-fw\nboot\nprevious\nboot\n",
         &["BOOT1\n", "boot bank=1 version=2 trials=0 counter=2\n"],
     ),
     (
         "boot\nsend p2.fip trial\nTIMES 4 boot\nbegin\nprevious\nboot\nboot\n",
-        19,
         &[
             "BOOT1\n",
             "boot bank=0 version=1 trials=3 counter=1 fallback\n",
         ],
     ),
     (
-        "boot\nsend p5.fip now\nboot\nboot\n",
-        14,
+        "boot\nsend p5.fip now\ncut 3 8\nboot\nboot\nboot\n",
         &["BOOT1\n", "boot bank=1 version=5 trials=0 counter=5\n"],
     ),
 ];
@@ -353,8 +350,9 @@ fn each_return(
 fn a_whole_update_survives_each_loss(rt: HostRuntime) {
     let alloc = rt.alloc();
     let bench = Bench::new(&rt, alloc, TWO_BANKS);
-    for (script, operations, lines) in &UPDATES {
-        for op in 1..operations.saturating_add(1) {
+    for (script, lines) in &UPDATES {
+        // None of them makes more than 40 operations.
+        for op in 1..41 {
             each_return(&rt, alloc, &bench, script, op, lines);
         }
     }

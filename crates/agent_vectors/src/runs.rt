@@ -16,6 +16,8 @@ use std::process::Abort;
 pub struct Ran {
     pub status: u8,
     pub printed: Vec<u8>,
+    /// How many calls of the flash failed.
+    pub faults: u64,
     pub image: Vec<u8>,
 }
 
@@ -123,6 +125,7 @@ pub fn run_over<H: Files>(
     Ran {
         status: done.status,
         printed: sink.bytes().to_vec(alloc).expect(rt, "memory"),
+        faults: done.flash.counts().faults,
         image: image_of(rt, alloc, done.flash),
     }
 }

@@ -40,7 +40,7 @@ const HEADERS: [(usize, Change, CapsuleFault); 22] = [
 
 // The same of its item, whose place is the number at 36, and whose version, type, sizes of image and vendor's code stand at 44, 48,
 // 68 and 72.
-const ITEMS: [(usize, Change, CapsuleFault); 15] = [
+const ITEMS: [(usize, Change, CapsuleFault); 18] = [
     (89, &[(24, 44)], CapsuleFault::BadItem(0)),
     (89, &[(24, 88)], CapsuleFault::BadItem(0)),
     (89, &[(36, 15)], CapsuleFault::BadItem(0)),
@@ -61,6 +61,10 @@ const ITEMS: [(usize, Change, CapsuleFault); 15] = [
         CapsuleFault::BadItem(0),
     ),
     (89, &NIL, CapsuleFault::BadItem(0)),
+    // The capsule ends within the item's head: behind 31 of 32 bytes of version 1, and behind 32 and 39 of 40 of version 2.
+    (75, &[(24, 75), (44, 1), (68, 0)], CapsuleFault::BadItem(0)),
+    (76, &[(24, 76), (68, 0)], CapsuleFault::BadItem(0)),
+    (83, &[(24, 83), (68, 0)], CapsuleFault::BadItem(0)),
 ];
 
 const NIL: [(usize, u8); 16] = [
@@ -83,7 +87,7 @@ const NIL: [(usize, u8); 16] = [
 ];
 
 // What is changed in the capsule, and where its image stands then, and how many bytes that has.
-const TAKEN: [(Change, u64, u64); 7] = [
+const TAKEN: [(Change, u64, u64); 9] = [
     (&[], 84, 5),
     // The flags, the index and the number behind the sizes are passed over.
     (&[(20, 0xff), (64, 9), (65, 9), (76, 9)], 84, 5),
@@ -92,6 +96,9 @@ const TAKEN: [(Change, u64, u64); 7] = [
     (&[(68, 4), (72, 1)], 84, 4),
     (&[(68, 0)], 84, 0),
     (&[(68, 0), (72, 5)], 84, 0),
+    // The capsule ends with the item's head, of version 1 and of version 2.
+    (&[(24, 76), (44, 1), (68, 0)], 76, 0),
+    (&[(24, 84), (68, 0)], 84, 0),
 ];
 
 fn change(bytes: &mut Vec<u8>, changes: Change) {
@@ -141,20 +148,23 @@ fn a_name_that_is_missing(rt: HostRuntime) {
     holds(&rt, found == Err(CapsuleStop::ReadFailed), "b.cap");
 }
 
-// Adds the heads of so many items without images, whose types are sixteen times 1, 2 and so on.
-fn add_items(rt: &impl Abort, bytes: &mut Vec<u8>, count: u8) {
+// Adds the heads of so many items with images of this size, whose types are sixteen times 1, 2 and so on.
+fn add_items(rt: &impl Abort, bytes: &mut Vec<u8>, count: u8, size: u32) {
     for i in 0..count {
         add(rt, bytes, &[2, 0, 0, 0]);
         add(rt, bytes, &[i.wrapping_add(1); 16]);
-        add(rt, bytes, &[0; 20]);
+        add(rt, bytes, &[0; 4]);
+        add(rt, bytes, &size.to_le_bytes());
+        add(rt, bytes, &[0; 12]);
     }
 }
 
-// A capsule of so many of these items.
-fn many(rt: &impl Abort, alloc: Global, count: u8) -> Vec<u8> {
+/// A capsule of so many of these items. Each image begins behind its own head, so they overlap, and the last one ends the capsule.
+pub fn many(rt: &impl Abort, alloc: Global, count: u8, size: u32) -> Vec<u8> {
     let items = u32::from(count);
+    let end = size.wrapping_add(36 + 48 * items);
     let mut bytes = front(rt, alloc, HELLO_CAPSULE, 24);
-    add(rt, &mut bytes, &(36 + 48 * items).to_le_bytes());
+    add(rt, &mut bytes, &end.to_le_bytes());
     add(rt, &mut bytes, &[1, 0, 0, 0, 0, 0, count, 0]);
     for i in 0..items {
         add(
@@ -163,7 +173,8 @@ fn many(rt: &impl Abort, alloc: Global, count: u8) -> Vec<u8> {
             &u64::from(8 + 8 * items + 40 * i).to_le_bytes(),
         );
     }
-    add_items(rt, &mut bytes, count);
+    add_items(rt, &mut bytes, count, size);
+    bytes.resize(end as usize, 0).expect(rt, "memory");
     bytes
 }
 
@@ -231,7 +242,7 @@ const SEVERAL: [(u8, Change, Result<usize, CapsuleStop>); 6] = [
 
 // The capsule of so many items with these changes, as the file `m.cap`.
 fn many_changed(rt: &impl Abort, alloc: Global, count: u8, changes: Change) -> MemoryFiles {
-    let mut bytes = many(rt, alloc, count);
+    let mut bytes = many(rt, alloc, count, 0);
     change(&mut bytes, changes);
     one_file(rt, alloc, "m.cap", bytes, 0)
 }
@@ -284,12 +295,35 @@ fn capsule(
     make_capsule(alloc, &parts)
 }
 
+// How many bytes a capsule has whose one part has so many.
+fn size_with(rt: &impl Abort, alloc: Global, count: usize) -> Result<usize, PackStop> {
+    let bytes = vec![in alloc; 0; count].expect(rt, "memory");
+    let part = Part {
+        guid: guid(),
+        flags: 0,
+        bytes,
+    };
+    let mut parts = Vec::new(alloc);
+    parts.push(part).expect(rt, "memory");
+    let parts = Parts {
+        serial: 9,
+        flags: 8,
+        parts,
+    };
+    match make_capsule(alloc, &parts) {
+        Ok(made) => Ok(made.len()),
+        Err(stop) => Err(stop),
+    }
+}
+
 #[test]
 fn capsules_of_parts(rt: HostRuntime) {
     let alloc = rt.alloc();
     let made = capsule(&rt, alloc, guid(), &[]).expect(&rt, "a capsule");
     let hello = front(&rt, alloc, HELLO_CAPSULE, 89);
     holds(&rt, made == hello, "the capsule of hello");
+    let size = size_with(&rt, alloc, 67_108_780);
+    holds(&rt, size == Ok(67_108_864), "the longest capsule");
 }
 
 // Whether no capsule of these types is made, for this fault.
@@ -310,6 +344,13 @@ fn parts_of_no_capsule(rt: HostRuntime) {
     holds(&rt, is_so, "twice");
     let is_so = is_refused(&rt, alloc, Guid::nil(), &[], PackFault::NilGuid(0));
     holds(&rt, is_so, "nil");
+    let is_so = is_refused(&rt, alloc, guid(), &[guid(); 63], PackFault::Duplicate(1));
+    holds(&rt, is_so, "64 of a type");
+    let is_so = is_refused(&rt, alloc, guid(), &[guid(); 64], PackFault::TooMany);
+    holds(&rt, is_so, "65 of a type");
+    let size = size_with(&rt, alloc, 67_108_781);
+    let is_so = size == Err(PackStop::Fault(PackFault::TooLarge));
+    holds(&rt, is_so, "a capsule that is too long");
 }
 
 // Whether the first entry of the capsule has its image there.

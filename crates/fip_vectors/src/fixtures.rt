@@ -1,7 +1,7 @@
 //! Packages, words, and a run of the tool.
 
 use fip_tool::fip_top;
-use host_io::{Files, MemoryFiles, MemorySink, MemorySource};
+use host_io::{Files, MemoryFiles, MemorySink, MemorySource, Source};
 use std::alloc::Global;
 use std::process::Abort;
 
@@ -42,6 +42,15 @@ pub fn words(rt: &impl Abort, alloc: Global, line: &str) -> Vec<String> {
 pub fn front(rt: &impl Abort, alloc: Global, digits: &str, count: usize) -> Vec<u8> {
     let mut bytes = hex::decode(alloc, digits).expect(rt, "digits");
     bytes.truncate(count);
+    bytes
+}
+
+/// The package of `hello` whose entry says the greatest offset and the greatest size.
+pub fn far(rt: &impl Abort, alloc: Global) -> Vec<u8> {
+    let mut bytes = front(rt, alloc, HELLO, 101);
+    if let Some(place) = bytes.as_mut_slice().get_mut(32..48) {
+        place.fill(0xff);
+    }
     bytes
 }
 
@@ -104,11 +113,11 @@ pub struct Answer {
 }
 
 // The status of these words. What the tool promises is left out, so that goals stay small.
-fn end<H: Files>(
+fn end<H: Files, I: Source + Drop>(
     alloc: Global,
     words: Vec<String>,
     files: &mut H,
-    source: MemorySource,
+    source: I,
     sink: &mut MemorySink,
 ) -> u8 {
     let mut source = source;
@@ -116,12 +125,12 @@ fn end<H: Files>(
 }
 
 /// How a line of words ends over files, with a source, and with a sink of which the call of this number fails.
-pub fn ended_with<H: Files>(
+pub fn ended_with<H: Files, I: Source + Drop>(
     rt: &impl Abort,
     alloc: Global,
     line: &str,
     files: &mut H,
-    source: MemorySource,
+    source: I,
     fails: u64,
 ) -> Answer {
     let mut sink = MemorySink::new(alloc, Vec::new(alloc), only(rt, alloc, fails));

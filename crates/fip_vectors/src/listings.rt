@@ -1,7 +1,8 @@
-//! Packages that are listed: the tool over a file and a source in memory.
+//! Packages that are listed: the tool over a file and a source in memory, and over a source that is longer than one may be.
+ghost use Rattle.std.specs.Prelude.{◌≡◌, false, refl, None};
 
-use crate::fixtures::{HELLO, ended_with, ends, front, one_file, only};
-use host_io::MemorySource;
+use crate::fixtures::{EMPTY, HELLO, ended_with, ends, front, one_file, only};
+use host_io::{Failed, MemorySource, Source};
 use std::alloc::Global;
 use std::process::Abort;
 
@@ -57,9 +58,59 @@ const LISTINGS: [Listing; 14] = [
     ("info b.fip", [101, 101], [0, 0, 1], 3, ""),
 ];
 
+// A source that gives the same piece again and again, so many bytes in all.
+#[derive(Drop)]
+struct Repeated {
+    piece: Vec<u8>,
+    count: usize,
+}
+
+impl Source for Repeated {
+    ghost tells = { false };
+
+    ghost steady = { λ _. refl };
+
+    ghost left = { λ _. None };
+
+    ghost faults = { λ _. 0 };
+
+    fn read(&mut self, out: &mut [u8]) -> Result<usize, Failed> {
+        let given = out.len().min(self.piece.len()).min(self.count);
+        out[..given].copy_from_slice(&self.piece[..given]);
+        self.count -= given;
+        Ok(given)
+    }
+}
+
+// How many bytes the source gives at a time.
+const PIECE: usize = 4096;
+
+// How many bytes the source gives, of which the first are a package without entries, and the status and the text that the command
+// ends with.
+const LONG: [(usize, u8, &str); 2] = [
+    (
+        4_294_967_296,
+        0,
+        "serial=12345678 flags=0 entries=0 size=4294967296\n",
+    ),
+    (4_294_967_297, 7, "too-long\n"),
+];
+
+fn long_ends_so(rt: &impl Abort, alloc: Global, count: usize, status: u8, text: &str) {
+    let mut piece = front(rt, alloc, EMPTY, 56);
+    piece.resize(PIECE, 0).expect(rt, "memory");
+    let source = Repeated { piece, count };
+    let mut files = one_file(rt, alloc, "a.fip", Vec::new(alloc), 0);
+    let answer = ended_with(rt, alloc, "info -", &mut files, source, 0);
+    ends(rt, &answer, "info -", status, text);
+}
+
 #[test]
 fn packages_are_listed(rt: HostRuntime) {
     for listing in &LISTINGS {
         ends_so(&rt, rt.alloc(), listing);
+    }
+    for (count, status, text) in &LONG {
+        long_ends_so(&rt, rt.alloc(), *count, *status, text);
     }
 }

@@ -1,18 +1,19 @@
 //! Refusals by size come before a payload is read: each command is refused although its next call on the files would fail, and the
 //! call before that is needed.
 
+use crate::capsules::many;
 use crate::fixtures::{add, add_file, ended, ends, files_of};
 use host_io::MemoryFiles;
 use std::alloc::Global;
 use std::process::Abort;
 
-// How many entries the package has, each with all of its bytes as the payload.
+// How many entries the package has, each with all of its bytes as the payload, and how many items the capsule.
 const ENTRIES: u8 = 64;
 
 // Where the payloads of the package end, in bytes. All of them together are more than 64 MiB.
 const END: usize = 1_100_000;
 
-// One byte more than an image may have.
+// One byte more than an image may have. The images of the capsule have so many, and all of them together more than 64 MiB.
 const LONG: usize = 1_048_577;
 
 // Adds an entry of this number.
@@ -41,6 +42,8 @@ fn overlapping(rt: &impl Abort, alloc: Global) -> Vec<u8> {
 fn files(rt: &impl Abort, alloc: Global, fails: u64) -> MemoryFiles {
     let mut files = Vec::new(alloc);
     add_file(rt, alloc, &mut files, "p.fip", overlapping(rt, alloc));
+    let capsule = many(rt, alloc, ENTRIES, LONG as u32);
+    add_file(rt, alloc, &mut files, "c.cap", capsule);
     let long = vec![in alloc; 0; LONG].expect(rt, "memory");
     add_file(rt, alloc, &mut files, "long.bin", long);
     let hello = Vec::from_slice(alloc, b"hello").expect(rt, "memory");
@@ -49,8 +52,9 @@ fn files(rt: &impl Abort, alloc: Global, fails: u64) -> MemoryFiles {
 }
 
 // A command, the number of its first call that would read a payload, and what it prints before that, with status 6. The table
-// of the package takes a size, a header, 64 entries and the marker, and a size once more.
-const CASES: [(&str, u64, &str); 6] = [
+// of the package takes a size, a header, 64 entries and the marker, and a size once more. That of the capsule takes a size, two
+// headers, and the place and the head of each of 64 items.
+const CASES: [(&str, u64, &str); 7] = [
     (
         "manifest m.bin 1 tb-fw,7,h.bin nt-fw,9,long.bin",
         3,
@@ -68,6 +72,7 @@ const CASES: [(&str, u64, &str); 6] = [
         "pack too-large\n",
     ),
     ("capsule p.fip z.cap", 69, "pack too-large\n"),
+    ("package c.cap z.fip", 132, "pack too-large\n"),
     (
         "update --align 5 p.fip z.fip 01010101-0101-0101-0101-010101010101=h.bin",
         70,

@@ -2,7 +2,7 @@
 
 ghost use Rattle.std.specs.Prelude.{◌<◌};
 
-use crate::fixtures::{EMPTY, HELLO, add, front, holds, holds_at, one_file};
+use crate::fixtures::{EMPTY, HELLO, add, far, front, holds, holds_at, one_file};
 use base_core::Guid;
 use fip_tables::{
     Entry, Frame, Outline, PackStop, Part, Parts, StreamToc, Toc, TocStop, pack, payload_at,
@@ -169,10 +169,7 @@ fn too_many_entries(rt: HostRuntime) {
 
 #[test]
 fn end_beyond_64_bits(rt: HostRuntime) {
-    let mut bytes = front(&rt, rt.alloc(), HELLO, 101);
-    if let Some(place) = bytes.as_mut_slice().get_mut(32..48) {
-        place.fill(0xff);
-    }
+    let bytes = far(&rt, rt.alloc());
     let fault = fault_of(bytes.as_slice(), 101);
     holds(
         &rt,

@@ -5,9 +5,10 @@ ghost use Rattle.flash_devices.specs.Memory.{is_on, arming_of};
 use flash_core::Flash;
 use flash_devices::{Cut, MemoryFlash};
 use host_io::{MemoryFiles, MemorySink, MemorySource, Sink};
-use script_cmd::{Done, Note, fwu_top};
+use script_cmd::{Done, Note, fwu_top, fwu_top_with};
 use std::alloc::Global;
 use std::process::Abort;
+use verify_core::Verifier;
 
 /// What a run left, on a flash that power came back to.
 #[derive(Drop)]
@@ -102,6 +103,31 @@ pub fn end_on<D: Flash, O: Sink>(
 {
     let mut files = MemoryFiles::new(alloc, files, Vec::new(alloc));
     fwu_top(alloc, words.as_slice(), &mut files, source, sink, flash)
+}
+
+/// The same by a verifier that is handed in.
+pub fn end_by<D: Flash, O: Sink, V: Verifier>(
+    alloc: Global,
+    words: Vec<String>,
+    files: Vec<Named>,
+    source: &mut MemorySource,
+    sink: &mut O,
+    flash: D,
+    verifier: &V,
+) -> Done<D>
+    requires off { IsFalse (D.on flash) }
+    requires unarmed { D.arming flash ≡ None }
+{
+    let mut files = MemoryFiles::new(alloc, files, Vec::new(alloc));
+    fwu_top_with(
+        alloc,
+        words.as_slice(),
+        &mut files,
+        source,
+        sink,
+        flash,
+        verifier,
+    )
 }
 
 // The bytes of a flash once it has power.

@@ -6,6 +6,8 @@ use crate::flashes::{
 };
 use crate::runs::{NOTHING, Ran, Trouble, ends, holds, one_file, run, run_with};
 use flash_devices::Cut;
+use fwu_model::NoBoot;
+use script_cmd::Note;
 use std::alloc::Global;
 use std::process::Abort;
 
@@ -266,11 +268,24 @@ fn cuts_at_every_operation(rt: HostRuntime) {
     }
 }
 
-// Lists, by which a boot ends with this status and this line.
-const LISTS: [(&str, u8, &str); 3] = [
-    (LIST, 0, "boot bank=0 version=1 trials=0 counter=1\n"),
-    ("", 6, "boot no-bank active=0 previous=0\n"),
-    ("00\n", 13, "bad-list 1\n"),
+// Lists, by which a boot ends with this status, this line and this note.
+const LISTS: [(&str, u8, &str, Note); 3] = [
+    (
+        LIST,
+        0,
+        "boot bank=0 version=1 trials=0 counter=1\n",
+        Note::Nothing,
+    ),
+    (
+        "",
+        6,
+        "boot no-bank active=0 previous=0\n",
+        Note::Boot(NoBoot::Bank {
+            active: 0,
+            previous: 0,
+        }),
+    ),
+    ("00\n", 13, "bad-list 1\n", Note::BadList(1)),
 ];
 
 // A boot by a list of these lines.
@@ -284,8 +299,10 @@ fn boot_by_list(rt: &impl Abort, alloc: Global, list: &str) -> Ran {
 #[test]
 fn a_list_says_which_manifests_pass(rt: HostRuntime) {
     let alloc = rt.alloc();
-    for (list, status, line) in &LISTS {
-        ends(&rt, &boot_by_list(&rt, alloc, list), *status, line);
+    for (list, status, line, note) in &LISTS {
+        let ran = boot_by_list(&rt, alloc, list);
+        ends(&rt, &ran, *status, line);
+        holds(&rt, ran.note == *note, line);
     }
 }
 

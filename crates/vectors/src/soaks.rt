@@ -1,6 +1,10 @@
 //! Soaks from a number. The number of the turns comes from Python's arithmetic, by the draws and the calls of each round.
 use crate::flashes::blank;
-use crate::runs::{NOTHING, Ran, ends, holds, one_file, run, run_with};
+use crate::runs::{NOTHING, Ran, Trouble, ends, holds, one_file, run, run_with};
+use flash_devices::Cut;
+use flash_format::InputFault;
+use fwu_formats::LayoutFault;
+use script_cmd::Note;
 use std::alloc::Global;
 use std::process::Abort;
 
@@ -9,26 +13,127 @@ fn soaked(rt: &impl Abort, alloc: Global, words: &str, blocks: u32) -> Ran {
     run(rt, alloc, words, "", blank(rt, alloc, blocks))
 }
 
+const NO_ROUND: &str =
+    "soak rounds=0 turns=1 boots=1 losses=0 fallbacks=0 sends=0 bank=0 version=1 counter=1\n";
+
 const ONE_ROUND: &str =
     "soak rounds=1 turns=4 boots=2 losses=1 fallbacks=0 sends=0 bank=0 version=1 counter=1\n";
 
-// Words on a blank flash of so many blocks, the status and the line.
-const SOAKS: [(&str, u32, u8, &str); 3] = [
-    (
-        "soak 1 0",
-        64,
-        0,
-        "soak rounds=0 turns=1 boots=1 losses=0 fallbacks=0 sends=0 bank=0 version=1 counter=1\n",
-    ),
-    ("soak 1 1", 64, 0, ONE_ROUND),
-    ("soak 1 1", 21, 7, "soak too-small\n"),
+// What a boot prints on a flash that was formatted, and on one without a layout.
+const BOOT1: &str = "boot bank=0 version=1 trials=0 counter=1\n";
+
+const NO_LAYOUT: &str = "boot bad-layout 2\n";
+
+// The words of a soak on a blank flash of so many blocks, what fails, how it ends, and what a boot prints on the flash that is
+// left.
+#[derive(Clone, Copy)]
+struct Case {
+    words: &'static str,
+    blocks: u32,
+    trouble: Trouble,
+    status: u8,
+    line: &'static str,
+    note: Note,
+    left: &'static str,
+}
+
+const SOAKS: [Case; 7] = [
+    Case {
+        words: "soak 1 0",
+        blocks: 64,
+        trouble: NOTHING,
+        status: 0,
+        line: NO_ROUND,
+        note: Note::Nothing,
+        left: BOOT1,
+    },
+    Case {
+        words: "soak 1 1",
+        blocks: 64,
+        trouble: NOTHING,
+        status: 0,
+        line: ONE_ROUND,
+        note: Note::Nothing,
+        left: BOOT1,
+    },
+    Case {
+        words: "soak 1 1",
+        blocks: 21,
+        trouble: NOTHING,
+        status: 7,
+        line: "soak too-small\n",
+        note: Note::Input(InputFault::Layout(LayoutFault::BeyondFlash)),
+        left: NO_LAYOUT,
+    },
+    // The flash fails, or power is lost, while it is formatted.
+    Case {
+        words: "soak 1 1",
+        blocks: 64,
+        trouble: Trouble {
+            flash: 1,
+            ..NOTHING
+        },
+        status: 5,
+        line: "flash-fault\n",
+        note: Note::Nothing,
+        left: NO_LAYOUT,
+    },
+    Case {
+        words: "soak 1 1",
+        blocks: 64,
+        trouble: Trouble {
+            cut: Cut {
+                op: 1,
+                landed: 0,
+                back: false,
+            },
+            ..NOTHING
+        },
+        status: 5,
+        line: "flash-fault\n",
+        note: Note::Nothing,
+        left: NO_LAYOUT,
+    },
+    // It fails in a turn: a flash that boots was formatted before.
+    Case {
+        words: "soak 1 1",
+        blocks: 64,
+        trouble: Trouble {
+            flash: 50,
+            ..NOTHING
+        },
+        status: 5,
+        line: "flash-fault\n",
+        note: Note::Nothing,
+        left: BOOT1,
+    },
+    Case {
+        words: "soak 1 1",
+        blocks: 64,
+        trouble: Trouble { sink: 1, ..NOTHING },
+        status: 3,
+        line: "",
+        note: Note::Nothing,
+        left: BOOT1,
+    },
 ];
+
+// The program ends as the case says, and leaves such a flash.
+fn ends_as(rt: &impl Abort, alloc: Global, case: &Case) {
+    let image = blank(rt, alloc, case.blocks);
+    let files = Vec::new(alloc);
+    let ran = run_with(rt, alloc, case.words, "", files, image, &case.trouble);
+    ends(rt, &ran, case.status, case.line);
+    holds(rt, ran.note == case.note, case.words);
+    let booted = run(rt, alloc, "boot", "", ran.image);
+    let is_left = booted.printed.as_slice() == case.left.as_bytes();
+    holds(rt, is_left, case.words);
+}
 
 #[test]
 fn soaks_of_seed_one(rt: HostRuntime) {
-    for (words, blocks, status, line) in &SOAKS {
-        let ran = soaked(&rt, rt.alloc(), words, *blocks);
-        ends(&rt, &ran, *status, line);
+    for case in &SOAKS {
+        ends_as(&rt, rt.alloc(), case);
     }
 }
 

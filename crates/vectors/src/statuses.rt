@@ -125,9 +125,9 @@ fn a_blank_flash_boots_no_bank(rt: HostRuntime) {
     holds(&rt, ran.note == wanted, "boot");
 }
 
-// The program ends with this status and line at a source of so many line ends.
-fn ends_at_lines(rt: &impl Abort, alloc: Global, lines: usize, status: u8, line: &str) {
-    let script = vec![in alloc; b'\n'; lines].expect(rt, "memory");
+// The program ends with this status and line at a source of so many times this byte.
+fn ends_at(rt: &impl Abort, alloc: Global, byte: u8, count: usize, status: u8, line: &str) {
+    let script = vec![in alloc; byte; count].expect(rt, "memory");
     let mut source = MemorySource::new(script, Vec::new(alloc));
     let flash = flash_of(rt, alloc, two_banks(rt, alloc), &NOTHING);
     let files = Vec::new(alloc);
@@ -136,9 +136,11 @@ fn ends_at_lines(rt: &impl Abort, alloc: Global, lines: usize, status: u8, line:
 }
 
 #[test]
-fn a_script_has_at_most_65536_lines(rt: HostRuntime) {
-    ends_at_lines(&rt, rt.alloc(), 65536, 0, "");
-    ends_at_lines(&rt, rt.alloc(), 65537, 8, "too-long\n");
+fn a_script_has_at_most_65536_lines_and_4194304_bytes(rt: HostRuntime) {
+    ends_at(&rt, rt.alloc(), b'\n', 65_536, 0, "");
+    ends_at(&rt, rt.alloc(), b'\n', 65_537, 8, "too-long\n");
+    ends_at(&rt, rt.alloc(), b'#', 4_194_304, 0, "");
+    ends_at(&rt, rt.alloc(), b'#', 4_194_305, 8, "too-long\n");
 }
 
 // How many bytes of the source are left once the program with these words ended.
