@@ -113,6 +113,7 @@ def refused(title, words, line):
     said = child.stdout.read().decode()
     _, status, usage = os.wait4(child.pid, 0)
     assert (os.waitstatus_to_exitcode(status), said) == (6, line), (title, status, said)
+    assert usage.ru_maxrss <= 100 << 10, (title, usage.ru_maxrss)
     print(f"{title}: {said.strip()}; {usage.ru_utime + usage.ru_stime:.3f} s, {usage.ru_maxrss / 1024:.0f} MiB")
 
 

@@ -141,7 +141,7 @@ sweep_fwu() {
         head -c $((22 * 4096)) /dev/zero | tr '\0' '\377' >flash.img
         "$bin/fwu" flash.img format manifest:1,tb-fw:2,nt-fw:4 p1.fip
     ) >"$work/made"
-    printf 'boot\nsend p2.fip trial\nboot\n' >"$work/script"
+    printf 'boot\nsend p2.fip trial\nboot\nshow\n' >"$work/script"
     named=flash.img
     sweep "$bin/fwu" flash.img run
 }
