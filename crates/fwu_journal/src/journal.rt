@@ -12,7 +12,7 @@ use std::alloc::{AllocError, Global};
 /// What a call was answered.
 #[derive(Debug, PartialEq, Eq, Drop)]
 pub enum Reply {
-    /// The flash is without power.
+    /// No bank is on: none was booted since power came, or power is off.
     Off,
     /// Power was lost.
     Lost,

@@ -1,7 +1,7 @@
 //! Laws of the definitions: functions that do nothing, whose contract is the law.
 ghost use Rattle.script_text.specs.Law.{CallsHaveLines, CutsAreArmable, LongStaysLong};
 
-/// Every cut of a script names a program from 1 on, and at most a block's bytes.
+/// Every cut of a script names an erase or a program from 1 on, and at most a block's bytes.
 pub fn cuts_are_armable()
     ensures { CutsAreArmable }
 {}

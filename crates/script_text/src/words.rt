@@ -119,7 +119,7 @@ pub fn send_of(alloc: Global, name: &[u8], request: &[u8]) -> Result<Option<Call
     }
 }
 
-/// `cut` with the number of a program, from 1, and the number of its bytes that land.
+/// `cut` with the number of an erase or a program, from 1, and the number of its bytes that land.
 pub fn cut_of(program: &[u8], landed: &[u8]) -> Option<Call>
     ensures call { option_map shown result
         ≡ both call.Cut (option_and_then at_least_one (number_of program.now))
