@@ -23,13 +23,21 @@ use std::{env, io};
 /// How many blocks the flash in memory has.
 const BLANK_BLOCKS: u32 = 64;
 
-/// The root folder, opened once for each standard stream. Where a stream is closed, the system gives its place to the next file
-/// that is opened: to this one, which can be neither read nor written, and not to the flash, into which lines would be written.
-fn hold_standard_streams<R: Files>(rt: &R) -> [Option<R::File>; 3] {
+/// The root folder, which can be neither read nor written, or where it can't be opened, the flash's own file, which can't be written so.
+fn hold_stream<R: Files>(rt: &R, flash: &str) -> Option<R::File> {
+    match fs::open(rt, "/") {
+        Ok(folder) => Some(folder),
+        Err(_) => fs::open(rt, flash).ok(),
+    }
+}
+
+/// A file for each standard stream. Where a stream is closed, the system gives its place to the next file that is opened: to one of
+/// these, and not to the flash that is written, into which lines would go. A flash that can't be opened so can't be used either.
+fn hold_standard_streams<R: Files>(rt: &R, flash: &str) -> [Option<R::File>; 3] {
     [
-        fs::open(rt, "/").ok(),
-        fs::open(rt, "/").ok(),
-        fs::open(rt, "/").ok(),
+        hold_stream(rt, flash),
+        hold_stream(rt, flash),
+        hold_stream(rt, flash),
     ]
 }
 
@@ -61,7 +69,7 @@ fn words_of<R: Env + AllocGlobal>(rt: &R) -> io::Result<Vec<String>> {
 }
 
 /// The words that stand for none.
-fn run_on_blank(alloc: Global) -> Result<Vec<String>, AllocError> {
+fn words_for_none(alloc: Global) -> Result<Vec<String>, AllocError> {
     let mut words = Vec::new(alloc);
     words.push(String::from_str(alloc, "-")?)?;
     words.push(String::from_str(alloc, "run")?)?;
@@ -95,6 +103,7 @@ fn run<R: Files + AllocGlobal, I: Source, O: Sink>(
     let Some((name, asked)) = words.split_first() else {
         return refuse_flash(sink);
     };
+    let _streams = hold_standard_streams(rt, name.as_str());
     if name.as_str() == "-" {
         return run_on_memory(rt, asked, source, sink);
     }
@@ -107,15 +116,30 @@ fn run<R: Files + AllocGlobal, I: Source, O: Sink>(
     }
 }
 
+/// Answers words of which one isn't UTF-8: FLASH is looked at before the words behind it.
+fn refuse_words<R: Env + Files, O: Sink>(rt: &R, sink: &mut O) -> u8 {
+    let mut bytes = [0; 4096];
+    let Ok(length) = rt.arg(1, &mut bytes) else {
+        return put_usage(sink);
+    };
+    let Ok(name) = str::from_utf8(&bytes[..length]) else {
+        return put_usage(sink);
+    };
+    let _streams = hold_standard_streams(rt, name);
+    if name != "-" && open_flash(rt, name).is_none() {
+        return refuse_flash(sink);
+    }
+    put_usage(sink)
+}
+
 fn main(rt: HostRuntime) -> ExitCode {
-    let _streams = hold_standard_streams(&rt);
     let mut sink = StdSink::new(io::writer(&rt));
     let mut source = StdSource::new(rt.stdin());
     let words = match words_of(&rt) {
-        Ok(words) if words.is_empty() => run_on_blank(rt.alloc()),
+        Ok(words) if words.is_empty() => words_for_none(rt.alloc()),
         Ok(words) => Ok(words),
         Err(error) if error.kind() == io::ErrorKind::OutOfMemory => Err(AllocError),
-        Err(_) => return ExitCode::from(put_usage(&mut sink)),
+        Err(_) => return ExitCode::from(refuse_words(&rt, &mut sink)),
     };
     match words {
         Ok(words) => ExitCode::from(run(&rt, words.as_slice(), &mut source, &mut sink)),
