@@ -20,6 +20,8 @@ NAMES = {
     "tb-fw": "5ff9ec0b-4d22-3e4d-a544-c39d81c73f0a",
     "nt-fw": "d6d0eea7-fcea-d54b-9782-9934f234b6e4",
 }
+ROWS = [("manifest", 1), ("tb-fw", 2), ("nt-fw", 4)]
+INVALID, VALID, ACCEPTED = 0xFF, 0xFE, 0xFC
 
 
 def guid(name):
@@ -39,17 +41,46 @@ def layout(rows, banks):
     return sealed(body)
 
 
+def image_entries(rows, bits):
+    text = b""
+    for i, (name, _) in enumerate(rows):
+        text += guid(name) + bytes(16)
+        for bank in bits:
+            text += guid(name) + struct.pack("<II", bank[i], 0)
+    return text
+
+
 def metadata(rows, active, previous, states, bits):
     banks = len(states)
     entry = 32 + 24 * banks
     body = struct.pack("<IIIIHH", 2, active, previous, 40 + entry * len(rows), 0x20, 0)
     body += bytes(states) + b"\xff" * (4 - banks)
     body += struct.pack("<IBBHHH", 0, banks, 0, len(rows), entry, 24)
-    for i, (name, _) in enumerate(rows):
-        body += guid(name) + bytes(16)
-        for bank in range(banks):
-            body += guid(name) + struct.pack("<II", bits[bank][i], 0)
-    return sealed(body)
+    return sealed(body + image_entries(rows, bits))
+
+
+def metadata_1(rows, active, previous, bits):
+    """Metadata of version 1."""
+    return sealed(struct.pack("<III", 1, active, previous) + image_entries(rows, bits))
+
+
+def first_bits(rows, banks):
+    return [[1] * len(rows)] + [[0] * len(rows)] * (banks - 1)
+
+
+def first_metadata(rows, banks):
+    """Bank 0 is active and accepted, the others are invalid."""
+    return metadata(rows, 0, 0, [ACCEPTED] + [INVALID] * (banks - 1), first_bits(rows, banks))
+
+
+def first_metadata_1(rows, banks):
+    """The same in version 1."""
+    return metadata_1(rows, 0, 0, first_bits(rows, banks))
+
+
+def record(value):
+    """A record of the counter."""
+    return sealed(struct.pack("<IIII", 0x43555746, value, 0, 32) + bytes(12))
 
 
 def manifest(security, rows):
@@ -70,7 +101,7 @@ def flash(rows, images, versions, security, counter):
 
     put(0, layout(rows, 2))
     for replica in (1, 2):
-        put(replica, metadata(rows, 0, 0, [0xFC, 0xFF], [[1] * len(rows), [0] * len(rows)]))
+        put(replica, first_metadata(rows, 2))
     for mark in range(counter):
         image[BLOCK * 4 + 16 * mark : BLOCK * 4 + 16 * mark + 16] = bytes(16)
     contents = [(name, version, data) for (name, _), version, data in zip(rows[1:], versions, images)]
@@ -82,8 +113,7 @@ def flash(rows, images, versions, security, counter):
 
 
 def small():
-    rows = [("manifest", 1), ("tb-fw", 2), ("nt-fw", 4)]
-    return flash(rows, [b"abc", b"hello"], [7, 9], 1, 1)
+    return flash(ROWS, [b"abc", b"hello"], [7, 9], 1, 1)
 
 
 def large(count):

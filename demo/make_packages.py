@@ -7,6 +7,7 @@
 import os
 import struct
 import sys
+import textwrap
 import uuid
 
 from make_flash import guid, manifest
@@ -32,14 +33,14 @@ def table(places):
     return text + bytes(16) + struct.pack("<QQQ", places[-1], 0, 0)
 
 
-def package(parts):
-    """A package of these names and payloads, one behind the other."""
+def package(parts, align=1):
+    """A package of these names and payloads, one behind the other, each from a multiple of the alignment on."""
     at = 16 + 40 * (len(parts) + 1)
-    places = []
+    places, body = [], bytes(-at % align)
     for name, data in parts:
-        places.append((name, at, len(data)))
-        at += len(data)
-    return table(places + [at]) + b"".join(data for _, data in parts)
+        places.append((name, at + len(body), len(data)))
+        body += data + bytes(-len(data) % align)
+    return table(places + [at + len(body)]) + body
 
 
 def of_three(security, tb_fw=b"abc", nt_fw=b"hello", text=None):
@@ -52,8 +53,11 @@ def in_capsules(name):
     return uuid.UUID(bytes=guid(name)).bytes_le
 
 
-def capsule_header(header, size):
-    return uuid.UUID("6dcbd5ed-e82d-4c44-bda1-7194199ad92a").bytes_le + struct.pack("<III", header, 0, size)
+CAPSULE_TYPE = uuid.UUID("6dcbd5ed-e82d-4c44-bda1-7194199ad92a").bytes_le
+
+
+def capsule_header(header, flags, size):
+    return CAPSULE_TYPE + struct.pack("<III", header, flags, size)
 
 
 def item(name, data, version=2, index=1, vendor=b""):
@@ -64,7 +68,7 @@ def item(name, data, version=2, index=1, vendor=b""):
     return text + data + vendor
 
 
-def capsule(items, drivers=(), header=28, gap=0):
+def capsule(items, drivers=(), header=28, gap=0, flags=0):
     """A capsule of these items, with gaps before each of them."""
     at = 8 + 8 * (len(drivers) + len(items))
     places, body = [], b""
@@ -73,7 +77,7 @@ def capsule(items, drivers=(), header=28, gap=0):
         places.append(at + len(body) - len(text))
     text = struct.pack("<IHH", 1, len(drivers), len(items))
     text += b"".join(struct.pack("<Q", place) for place in places) + body
-    return capsule_header(header, header + len(text)) + bytes(header - 28) + text
+    return capsule_header(header, flags, header + len(text)) + bytes(header - 28) + text
 
 
 PARTS_2 = [("manifest", manifest_of(2)), ("tb-fw", b"abc"), ("nt-fw", b"hello")]
@@ -81,7 +85,8 @@ PARTS_2 = [("manifest", manifest_of(2)), ("tb-fw", b"abc"), ("nt-fw", b"hello")]
 # As this program writes them.
 CAPSULE_2 = capsule([item(name, data, index=n + 1) for n, (name, data) in enumerate(PARTS_2)])
 
-# A driver, items of each version in another order with gaps and vendor's code, one of a type that the layout lacks, and bytes behind.
+# A driver, items of each version in another order with gaps and vendor's code, one of a type that the layout lacks, and bytes
+# behind.
 OTHER_CAPSULE_2 = (
     capsule(
         [
@@ -118,9 +123,28 @@ FILES = {
     "other.cap": OTHER_CAPSULE_2,
 }
 
+FRONT = 16 + 40 * 4  # the header and the table of a package of three
 
-def constant(comment, name, data):
-    print(f"/// {comment}\npub const {name}: &str =\n    \"{data.hex()}\";\n")
+# The constants of crates/agent_vectors/src/packages.rt, each with its comment.
+CONSTANTS = {
+    "TABLE": ("The header and the table of a package of a manifest, `abc` and `hello`, which follow.", FILES["p2.fip"][:FRONT]),
+    **{
+        f"MANIFEST_{number}": (f"The manifest of the images `abc` and `hello`, of security version {number}.", manifest_of(number))
+        for number in (0, 1, 2, 5)
+    },
+    "LONG_TABLE": ("The same of `abc` and the long image, of version 2.", FILES["long.fip"][:FRONT]),
+    "LONG_MANIFEST": ("Their manifest.", manifest_of(2, nt_fw=pattern(LONG))),
+    "EMPTY_TABLE": ("The same of an image of no bytes and `hello`, of version 2.", FILES["empty.fip"][:FRONT]),
+    "EMPTY_MANIFEST": ("Their manifest.", manifest_of(2, tb_fw=b"")),
+    "ALONE": ("A package of `hello` as tb-fw alone.", FILES["a.fip"]),
+    "EXTRA": ("A package of version 2, its images in another order and among others.", EXTRA),
+    "CAPSULE": ("A capsule of version 2.", CAPSULE_2),
+    "OTHER_CAPSULE": (
+        "Another one: a driver, items of each version in another order, with gaps and vendor's code, one of a type that the layout "
+        "lacks, and bytes behind.",
+        OTHER_CAPSULE_2,
+    ),
+}
 
 
 def main(words):
@@ -129,22 +153,10 @@ def main(words):
             with open(os.path.join(words[0], name), "wb") as file:
                 file.write(data)
         return
-    constant("The header and the table of a package of a manifest, `abc` and `hello`, which follow.", "TABLE", FILES["p2.fip"][:176])
-    for security in (0, 1, 2, 5):
-        text = f"The manifest of the images `abc` and `hello`, of security version {security}."
-        constant(text, f"MANIFEST_{security}", manifest_of(security))
-    constant("The same of `abc` and the long image, of version 2.", "LONG_TABLE", FILES["long.fip"][:176])
-    constant("Their manifest.", "LONG_MANIFEST", manifest_of(2, nt_fw=pattern(LONG)))
-    constant("The same of an image of no bytes and `hello`, of version 2.", "EMPTY_TABLE", FILES["empty.fip"][:176])
-    constant("Their manifest.", "EMPTY_MANIFEST", manifest_of(2, tb_fw=b""))
-    constant("A package of `hello` as tb-fw alone.", "ALONE", FILES["a.fip"])
-    constant("A package of version 2, its images in another order and among others.", "EXTRA", EXTRA)
-    constant("A capsule of version 2.", "CAPSULE", CAPSULE_2)
-    constant(
-        "Another one: a driver, items of each version in another order, with gaps and vendor's code, one of a type that the layout lacks, and bytes behind.",
-        "OTHER_CAPSULE",
-        OTHER_CAPSULE_2,
-    )
+    for name, (comment, data) in CONSTANTS.items():
+        for line in textwrap.wrap(comment, 96):
+            print("///", line)
+        print(f"pub const {name}: &str =\n    \"{data.hex()}\";\n")
 
 
 if __name__ == "__main__":

@@ -15,11 +15,9 @@ import uuid
 import zlib
 
 import make_packages
-from make_flash import BLOCK, flash, guid, metadata, sealed, small
+from make_flash import BLOCK, ROWS, first_metadata_1, flash, guid, record, small
 from make_packages import manifest_of
 from make_table import device
-
-ROWS = [("manifest", 1), ("tb-fw", 2), ("nt-fw", 4)]
 
 # The bytes of the layout and of metadata of version 2, by which their checksums go.
 LAYOUT_SIZE = 104
@@ -66,8 +64,7 @@ def on_trial():
 
 def of_version_1():
     """Metadata of version 1 in both replicas."""
-    entries = metadata(ROWS, 0, 0, [0xFC, 0xFF], [[1] * 3, [0] * 3])[40:]
-    text = sealed(struct.pack("<III", 1, 0, 0) + entries)
+    text = first_metadata_1(ROWS, 2)
     text += b"\xff" * (METADATA_SIZE - len(text))
     return put(MARKED, BLOCK, text, 2 * BLOCK, text)
 
@@ -76,10 +73,6 @@ def manifest_of_form_1(version):
     """A manifest of form 1, of any version."""
     text = put(manifest_of(1)[:-32], 8, word(version))
     return text + hashlib.sha256(text).digest()
-
-
-def record(value):
-    return sealed(struct.pack("<IIII", 0x43555746, value, 0, 32) + bytes(12))
 
 
 FLASHES = {

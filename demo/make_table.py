@@ -29,12 +29,25 @@ def entries_of(rows, number=4):
     return text + bytes(128 * number - len(text))
 
 
-def header(own, other, place, entries, number=4, revision=0x10000, size=92, zero=0, entry_size=128, name=b"EFI PART"):
+def header(
+    own,
+    other,
+    place,
+    entries,
+    number=4,
+    revision=0x10000,
+    size=92,
+    zero=0,
+    entry_size=128,
+    name=b"EFI PART",
+    first=3,
+    last=BLOCKS - 3,
+):
     def fields(checksum):
         return (
             name
             + struct.pack("<IIII", revision, size, checksum, zero)
-            + struct.pack("<QQQQ", own, other, 3, BLOCKS - 3)
+            + struct.pack("<QQQQ", own, other, first, last)
             + DISK
             + struct.pack("<QIII", place, number, entry_size, zlib.crc32(entries))
         )
@@ -81,9 +94,10 @@ CASES = {
 }
 
 
-def device(flash):
+def device(flash, table=CASES["valid"]):
+    """The flash behind a table, its blocks at their places by the valid one."""
     image = bytearray(b"\xff" * BLOCK * BLOCKS)
-    primary, backup, entries = CASES["valid"]
+    primary, backup, entries = table
     image[BLOCK : BLOCK + 92] = primary
     image[BLOCK * 2 : BLOCK * 2 + len(entries)] = entries
     image[BLOCK * 38 : BLOCK * 38 + len(entries)] = entries

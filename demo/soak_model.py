@@ -18,12 +18,10 @@ import struct
 import sys
 from dataclasses import dataclass
 
-from make_flash import BLOCK, flash, manifest, metadata, sealed
+from make_flash import ACCEPTED, BLOCK, INVALID, ROWS, VALID, flash, manifest, metadata, record
 
-ROWS = [("manifest", 1), ("tb-fw", 2), ("nt-fw", 4)]
 STARTS = (0, 1, 3)  # where the images of a bank begin, in blocks
 BANKS = (8, 15)
-INVALID, VALID, ACCEPTED = 0xFF, 0xFE, 0xFC
 GRANULE = 16
 TRIALS, MARKS, RECORDS = 3, 4, (5, 6)
 
@@ -90,10 +88,6 @@ def read_meta(block):
     bits = [[number_at(block, 40 + 80 * image + 32 + 24 * bank + 16) for image in range(3)] for bank in (0, 1)]
     meta = Meta(number_at(block, 8), number_at(block, 12), list(block[24:26]), bits)
     return meta if meta.active < 2 and block.startswith(meta.text()) else None
-
-
-def record(value):
-    return sealed(struct.pack("<IIII", 0x43555746, value, 0, 32) + bytes(12))
 
 
 def read_record(block):
@@ -221,6 +215,17 @@ class Flash:
         self.store()
 
 
+@dataclass
+class Round:
+    """What a round draws."""
+
+    sizes: tuple
+    security: int
+    is_trial: bool
+    cut: tuple  # at which erase or program, and after how many bytes of it, or none
+    ending: int
+
+
 class Draws:
     def __init__(self, seed):
         self.register = seed
@@ -232,10 +237,24 @@ class Draws:
     def sizes(self):
         return self.draw(8193), self.draw(16385)
 
+    def round(self, number):
+        sizes = self.sizes()
+        security = min(223, 1 + number // 8) - self.draw(2)
+        is_trial = self.draw(4) != 0
+        operation = self.draw(32)
+        cut = (operation, self.draw(4097)) if operation else None
+        return Round(sizes, security, is_trial, cut, self.draw(4))
+
 
 def images_of(number, sizes):
     """The images of a package behind its manifest."""
     return [bytes((7 * j + i + number) % 256 for j in range(size)) for i, size in enumerate(sizes, 1)]
+
+
+def all_images(number, sizes, security):
+    """The images of a package, its manifest first."""
+    images = images_of(number, sizes)
+    return [manifest(security, [(name, number, data) for (name, _), data in zip(ROWS[1:], images)])] + images
 
 
 class Soak:
@@ -275,9 +294,7 @@ class Soak:
         self.flash.device.armed = (operation, count)
 
     def send(self, number, sizes, security, is_trial):
-        images = images_of(number, sizes)
-        rows = [(name, number, data) for (name, _), data in zip(ROWS[1:], images)]
-        images = [manifest(security, rows)] + images
+        images = all_images(number, sizes, security)
         if self.turn(lambda: self.flash.send(images, security, is_trial)):
             self.sends += 1
 
@@ -291,17 +308,12 @@ class Soak:
             self.boot()
 
     def round(self, number):
-        draw = self.draws.draw
-        sizes = self.draws.sizes()
-        security = min(223, 1 + number // 8) - draw(2)
-        is_trial = draw(4) != 0
-        operation = draw(32)
-        if operation:
-            self.cut(operation, draw(4097))
-        ending = draw(4)
-        self.send(number, sizes, security, is_trial)
+        drawn = self.draws.round(number)
+        if drawn.cut:
+            self.cut(*drawn.cut)
+        self.send(number, drawn.sizes, drawn.security, drawn.is_trial)
         self.boot()
-        self.end_round(ending)
+        self.end_round(drawn.ending)
 
     def line(self, rounds):
         counts = f"turns={self.turns} boots={self.boots} losses={self.losses} fallbacks={self.fallbacks} sends={self.sends}"
@@ -309,13 +321,16 @@ class Soak:
         return f"soak rounds={rounds} {counts} bank={bank} version={version} counter={counter}"
 
 
-def main(words):
-    seed, rounds = (int(word) for word in words)
+def line_of(seed, rounds):
     soak = Soak(seed)
     soak.boot()
     for number in range(1, rounds + 1):
         soak.round(number)
-    print(soak.line(rounds))
+    return soak.line(rounds)
+
+
+def main(words):
+    print(line_of(*(int(word) for word in words)))
 
 
 if __name__ == "__main__":

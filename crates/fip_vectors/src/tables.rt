@@ -1,4 +1,5 @@
-//! Tables of worked packages, whose bytes are written out by hand.
+//! Tables of worked packages, whose bytes are written out by hand; demo/check_vectors.py makes them
+//! again.
 
 ghost use Rattle.std.specs.Prelude.{◌<◌};
 

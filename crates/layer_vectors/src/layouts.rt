@@ -13,7 +13,8 @@ use meta_layout::{
 use std::alloc::Global;
 use std::process::Abort;
 
-/// The first 32 bytes of the block of the layout below, with a checksum that zlib computed.
+/// The first 32 bytes of the block of the layout below, with a checksum that zlib computed:
+/// demo/check_vectors.py makes them again, and the other bytes of blocks.
 const LAYOUT_HEAD: [u8; 32] = [
     0xe9, 0xce, 0xf4, 0xcb, 0x46, 0x57, 0x55, 0x4c, 2, 0, 0, 0, 3, 0, 0, 0, 104, 0, 0, 0, 0, 0, 0,
     0, 0, 0, 0, 0, 0, 0, 0, 0,

@@ -1,5 +1,6 @@
 //! Draws, rounds, calls and packages, against values from elsewhere: the numbers of the C standard's
-//! example of `rand`, and rounds and packages as Python draws and makes them.
+//! example of `rand`, and rounds and packages as Python draws and makes them: demo/check_vectors.py
+//! makes them again.
 
 use crate::fixtures::same;
 use base_core::Guid;
