@@ -103,7 +103,6 @@ fn run<R: Files + AllocGlobal, I: Source, O: Sink>(
     let Some((name, asked)) = words.split_first() else {
         return refuse_flash(sink);
     };
-    let _streams = hold_standard_streams(rt, name.as_str());
     if name.as_str() == "-" {
         return run_on_memory(rt, asked, source, sink);
     }
@@ -116,30 +115,33 @@ fn run<R: Files + AllocGlobal, I: Source, O: Sink>(
     }
 }
 
-/// Answers words of which one isn't UTF-8: FLASH is looked at before the words behind it.
-fn refuse_words<R: Env + Files, O: Sink>(rt: &R, sink: &mut O) -> u8 {
-    let mut bytes = [0; 4096];
-    let Ok(length) = rt.arg(1, &mut bytes) else {
-        return put_usage(sink);
-    };
-    let Ok(name) = str::from_utf8(&bytes[..length]) else {
-        return put_usage(sink);
-    };
-    let _streams = hold_standard_streams(rt, name);
-    if name != "-" && open_flash(rt, name).is_none() {
+/// The word that names the flash. Where there is none, or none that is UTF-8 and fits, it is the flash in memory.
+fn flash_named<'a, R: Env>(rt: &R, bytes: &'a mut [u8]) -> &'a str {
+    match rt.arg(1, bytes) {
+        Ok(length) => str::from_utf8(&bytes[..length]).unwrap_or("-"),
+        Err(_) => "-",
+    }
+}
+
+/// Answers words of which one isn't UTF-8: a flash that can't be used is told before the words behind it are looked at.
+fn refuse_words<R: Files, O: Sink>(rt: &R, flash: &str, sink: &mut O) -> u8 {
+    if flash != "-" && open_flash(rt, flash).is_none() {
         return refuse_flash(sink);
     }
     put_usage(sink)
 }
 
 fn main(rt: HostRuntime) -> ExitCode {
+    let mut bytes = [0; 4096];
+    let flash = flash_named(&rt, &mut bytes);
+    let _streams = hold_standard_streams(&rt, flash);
     let mut sink = StdSink::new(io::writer(&rt));
     let mut source = StdSource::new(rt.stdin());
     let words = match words_of(&rt) {
         Ok(words) if words.is_empty() => words_for_none(rt.alloc()),
         Ok(words) => Ok(words),
         Err(error) if error.kind() == io::ErrorKind::OutOfMemory => Err(AllocError),
-        Err(_) => return ExitCode::from(refuse_words(&rt, &mut sink)),
+        Err(_) => return ExitCode::from(refuse_words(&rt, flash, &mut sink)),
     };
     match words {
         Ok(words) => ExitCode::from(run(&rt, words.as_slice(), &mut source, &mut sink)),
