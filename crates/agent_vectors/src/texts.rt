@@ -76,7 +76,7 @@ fn digits(rt: &impl Abort, alloc: Global, range: &str) -> String {
     hex::encode(alloc, bytes.as_slice()).expect(rt, "memory")
 }
 
-// A line without its end. Behind its words up to a mark stand bytes of the long image.
+// A line and its end. Behind its words up to a mark stand bytes of the long image.
 fn put_line(rt: &impl Abort, alloc: Global, text: &mut String, line: &str) {
     match line.split_once("LONG ") {
         Some((front, range)) => {
@@ -85,16 +85,14 @@ fn put_line(rt: &impl Abort, alloc: Global, text: &mut String, line: &str) {
         }
         None => put(rt, text, line),
     }
+    put(rt, text, "\n");
 }
 
 // The text with the bytes of the long image in digits.
 fn with_digits(rt: &impl Abort, alloc: Global, text: &str) -> String {
     let mut full = String::new(alloc);
-    let mut end = "";
-    for line in text.split('\n') {
-        put(rt, &mut full, end);
+    for line in text.lines() {
         put_line(rt, alloc, &mut full, line);
-        end = "\n";
     }
     full
 }
