@@ -1,5 +1,5 @@
-//! The program `fip`: it lists, makes, changes and unpacks firmware image packages, turns them into UEFI capsules and back, and makes
-//! manifests.
+//! The program `fip`: it lists, makes, changes and unpacks firmware image packages, turns them into UEFI capsules and back, and
+//! makes manifests.
 //!
 //! Its words are those of `fip_top`, whose status is the program's. Without any word it lists the package that it reads from the
 //! standard input, as `info -` does. Each line goes to the standard output.

@@ -23,7 +23,7 @@ use std::{env, io};
 /// How many blocks the flash in memory has.
 const BLANK_BLOCKS: u32 = 64;
 
-/// The root folder, which can be neither read nor written, or where it can't be opened, the flash's own file, which can't be written so.
+/// The root folder, which can be neither read nor written; where it can't be opened, the flash's own file, to be read alone.
 fn hold_stream<R: Files>(rt: &R, flash: &str) -> Option<R::File> {
     match fs::open(rt, "/") {
         Ok(folder) => Some(folder),
