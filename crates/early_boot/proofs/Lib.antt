@@ -12,3 +12,4 @@ pub mod Ended
 pub mod Taken
 pub mod Known
 pub mod Whole
+pub mod Numbered

@@ -31,7 +31,7 @@ bank_fits bank banks total blocks below fits =
     omega (arith, one, up, fits)
 
 -- the first slot has a block
-first-slot : (rows : List ImageRow) (d : ImageRow) → IsTrue (list_all is_row rows) → 0 < length rows → 1 ≤ (get_or rows 0 d).slots
+pub first-slot : (rows : List ImageRow) (d : ImageRow) → IsTrue (list_all is_row rows) → 0 < length rows → 1 ≤ (get_or rows 0 d).slots
 first-slot [] d h some = absurd (omega (arith, some))
 first-slot (r ∷ rows) d h some =
     let row = (and_parts (is_row r) _ h).0 in

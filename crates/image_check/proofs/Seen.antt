@@ -10,7 +10,8 @@ use Rattle.fwu_formats.specs.Manifest.{Manifest, manifest_of, manifest_at, manif
 use Rattle.fwu_formats.specs.declared.kinds.ManifestFault.{ManifestFault}
 use Rattle.manifest_core.specs.Shown.{version_of}
 use Rattle.manifest_core.proofs.Passed.{manifest_passed}
-use Rattle.image_check.specs.Passed.{HasImage, HasImages, HasPackage, IsManifest}
+use Rattle.image_check.specs.Found.{FitSlots}
+use Rattle.image_check.specs.Passed.{HasImage, HasImages, HasPackage, HasPackageBy, IsManifest}
 
 -- the images that the rows from k on have
 record Collected (manifest : List ℕ) (k n : ℕ) : Type 0 where
@@ -41,8 +42,8 @@ module _ (rows : List ImageRow) (manifest : List ℕ) (some : 1 ≤ length rows)
       by-cases (Ok m) e = refl
       by-cases (Err f) e = absurd cc
 
-  module _ (passes : List ℕ → Bool) (v : ℕ) (passed : IsTrue (passes manifest)) (each : HasImages manifest (length rows - 1) None) where
-    of-manifest : (r : Result Manifest ManifestFault) → manifest_of rows manifest ≡ r → version_of r ≡ Ok v → HasPackage passes rows v
+  module _ (passes : List ℕ → Bool) (v : ℕ) (passed : IsTrue (passes manifest)) (sizes : FitSlots rows manifest) (each : HasImages manifest (length rows - 1) None) where
+    of-manifest : (r : Result Manifest ManifestFault) → manifest_of rows manifest ≡ r → version_of r ≡ Ok v → HasPackageBy passes rows manifest v
     unfolding is_complete version
     of-manifest (Err f) h e = absurd cc
     of-manifest (Ok m) h e =
@@ -54,12 +55,17 @@ module _ (rows : List ImageRow) (manifest : List ℕ) (some : 1 ≤ length rows)
         let sized : eqb (length manifest) (manifest_size (length rows - 1)) ≡ true = eq-eqb _ _ size in
         let security : m.security ≡ v = cc in
         record {
-          parts = manifest ∷ all.images;
+          others = all.images;
           complete = rw (long, ok, sized) (ap (λ (n : ℕ). all_paired is_image_of (listed n (row_at manifest)) all.images) read.count ∙ all.paired);
+          sizes = sizes;
           version_is = ap (λ (k : Manifest). k.security) is ∙ security;
           passed = passed;
         }
 
     -- the manifest and the images are a complete package
-    pub package-read : version_of (manifest_of rows manifest) ≡ Ok v → HasPackage passes rows v
+    pub package-read : version_of (manifest_of rows manifest) ≡ Ok v → HasPackageBy passes rows manifest v
     package-read e = of-manifest (manifest_of rows manifest) refl e
+
+-- such a package is one
+pub package-by : (passes : List ℕ → Bool) (rows : List ImageRow) (manifest : List ℕ) (v : ℕ) → HasPackageBy passes rows manifest v → HasPackage passes rows v
+package-by passes rows manifest v by = record { parts = manifest ∷ by.others; complete = by.complete; version_is = by.version_is; passed = by.passed }

@@ -1,8 +1,9 @@
 -- What a verdict has on every device: what was read that gives it.
-use Rattle.std.specs.Prelude.{◌≡◌, ◌-◌, ◌≤◌, ◌<◌, ⊤, ℕ, Bool, List, length, is_ok, IsTrue, IsFalse, Option, Some, None}
+use Rattle.std.specs.Prelude.{◌≡◌, ◌-◌, ◌≤◌, ◌<◌, ⊤, ℕ, Bool, List, ◌∷◌, length, is_ok, IsTrue, IsFalse, Option, Some, None}
 use Rattle.sha2.specs.Sha256.{sha256}
 use Rattle.fwu_formats.specs.Layout.{ImageRow}
 use Rattle.fwu_formats.specs.Manifest.{Row, manifest_of, manifest_part, manifest_size, row_at, is_complete, is_image_of, version}
+use Rattle.image_check.specs.Found.{FitSlots}
 use Rattle.image_check.specs.declared.bank.Verdict.{Verdict}
 use Rattle.image_check.specs.declared.bank.Verdict.TheVariants as verdict
 
@@ -35,6 +36,14 @@ pub record HasPackage (passes : List ℕ → Bool) (rows : List ImageRow) (v : �
   pub version_is : version parts ≡ v
   pub passed : IsTrue (passes (manifest_part parts))
 
+-- and some complete package of this version has this very manifest, by which each image fits its slot
+pub record HasPackageBy (passes : List ℕ → Bool) (rows : List ImageRow) (manifest : List ℕ) (v : ℕ) : Type 0 where
+  pub others : List (List ℕ)
+  pub complete : IsTrue (is_complete rows (manifest ∷ others))
+  pub sizes : FitSlots rows manifest
+  pub version_is : version (manifest ∷ others) ≡ v
+  pub passed : IsTrue (passes manifest)
+
 -- some manifest is refused by the verifier
 pub record HasRefused (passes : List ℕ → Bool) (rows : List ImageRow) : Type 0 where
   pub manifest : List ℕ
@@ -56,3 +65,11 @@ HasPassed passes rows counter verdict.BadManifest = ⊤
 HasPassed passes rows counter verdict.NotAccepted = HasRefused passes rows
 HasPassed passes rows counter (verdict.BadImage image) = HasRow passes rows image
 HasPassed passes rows counter (verdict.BelowCounter v c) = (v < c) × (c ≡ counter) × HasPackage passes rows v
+
+-- And it is good by this manifest.
+abbrev pub IsGoodBy : (List ℕ → Bool) → List ImageRow → List ℕ → Verdict → Type 0
+IsGoodBy passes rows manifest (verdict.Good v) = HasPackageBy passes rows manifest v
+IsGoodBy passes rows manifest verdict.BadManifest = ⊤
+IsGoodBy passes rows manifest verdict.NotAccepted = ⊤
+IsGoodBy passes rows manifest (verdict.BadImage image) = ⊤
+IsGoodBy passes rows manifest (verdict.BelowCounter v c) = ⊤

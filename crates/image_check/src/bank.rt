@@ -1,10 +1,10 @@
 //! The verdict on a bank.
-ghost use Rattle.std.specs.Prelude.{◌≡◌, ◌+◌, ◌-◌, ◌<◌, ◌≤◌, ℕ, Bool, List, length, is_ok, IsTrue, IfOk};
+ghost use Rattle.std.specs.Prelude.{◌≡◌, ◌+◌, ◌-◌, ◌<◌, ◌≤◌, ℕ, Bool, List, length, take, is_ok, IsTrue, IfOk};
 ghost use Rattle.flash_core.specs.Counts.{Spends, ReachesNone, arming_kept};
-ghost use Rattle.fwu_formats.specs.Layout.{slot_total, blocks_needed};
+ghost use Rattle.fwu_formats.specs.Layout.{slot_total, blocks_needed, start};
 ghost use Rattle.fwu_formats.specs.Manifest as model;
 ghost use Rattle.fwu_formats.specs.Layout.{ImageRow as Row};
-ghost use Rattle.image_check.specs.Passed.{HasPackage, HasPassed};
+ghost use Rattle.image_check.specs.Passed.{HasPackage, HasPackageBy, HasPassed, IsGoodBy};
 ghost use Rattle.image_check.specs.Found.{found, front_of};
 ghost use Rattle.image_check.specs.Verdict.{by_counter, verdict_on};
 
@@ -31,6 +31,8 @@ fn of_counter(version: u32, counter: u32) -> Verdict
     ensures verdict { result ≡ by_counter counter version }
     ensures passed { (passes : List ℕ → Bool) (rows : List Row)
         → HasPackage passes rows version → HasPassed passes rows counter result }
+    ensures good { (passes : List ℕ → Bool) (rows : List Row) (manifest : List ℕ)
+        → HasPackageBy passes rows manifest version → IsGoodBy passes rows manifest result }
 {
     if version < counter {
         Verdict::BelowCounter { version, counter }
@@ -58,6 +60,7 @@ fn check_manifest<D: Flash, V: Verifier>(
     ensures verdict { IfOk result (λ verdict. IsTrue D.tells →
         verdict ≡ found (V.passes verifier.now) counter (D.told flash.old).now rows.now first manifest.now) }
     ensures passed { IfOk result (HasPassed (V.passes verifier.now) rows.now counter) }
+    ensures good { IfOk result (IsGoodBy (V.passes verifier.now) rows.now manifest.now) }
     ensures content { IsTrue D.tells → D.told flash.new ≡ D.told flash.old }
     ensures power { D.on flash.new ≡ is_ok result }
     ensures size { D.blocks flash.new ≡ D.blocks flash.old }
@@ -78,16 +81,18 @@ fn check_manifest<D: Flash, V: Verifier>(
     }
 }
 
-/// The verdict on a bank that begins at this block.
+/// The verdict on a bank that begins at this block, with its manifest at the front of a buffer.
 fn check_at<D: Flash, V: Verifier>(
     flash: &mut D,
     rows: &[ImageRow],
     first: u32,
     counter: u32,
+    front: &mut [u8],
     buf: &mut [u8],
     verifier: &V,
 ) -> Result<Verdict, FlashStop>
     requires on { IsTrue (D.on flash.old) }
+    requires front { 888 ≤ length front.old }
     requires room { 0 < length buf.old }
     requires some { 1 ≤ length rows.now }
     requires few { length rows.now ≤ 16 }
@@ -97,6 +102,11 @@ fn check_at<D: Flash, V: Verifier>(
         verdict ≡ found (V.passes verifier.now) counter (D.told flash.old).now rows.now first
         (front_of (D.told flash.old).now rows.now first)) }
     ensures passed { IfOk result (HasPassed (V.passes verifier.now) rows.now counter) }
+    ensures good { let manifest = take (model.manifest_size (length rows.now - 1)) front.new in
+        IfOk result (IsGoodBy (V.passes verifier.now) rows.now manifest) }
+    ensures manifest { let manifest = take (model.manifest_size (length rows.now - 1)) front.new in
+        IfOk result (λ verdict. IsTrue D.tells → manifest ≡ front_of (D.told flash.old).now rows.now first) }
+    ensures front { length front.new ≡ length front.old }
     ensures content { IsTrue D.tells → D.told flash.new ≡ D.told flash.old }
     ensures power { D.on flash.new ≡ is_ok result }
     ensures size { D.blocks flash.new ≡ D.blocks flash.old }
@@ -104,10 +114,47 @@ fn check_at<D: Flash, V: Verifier>(
     ensures reached { ReachesNone result (D.counts flash.old) (D.counts flash.new) }
     ensures arming { D.arming flash.new ≡ arming_kept result (D.arming flash.old) }
 {
-    let mut front = [0; 888];
     let manifest = &mut front[..manifest_size(rows)];
     flash.read(4096 * first, manifest)?;
     check_manifest(flash, rows, first, manifest, counter, buf, verifier)
+}
+
+/// The verdict on a bank as `check` gives it, and what was read of the bank's manifest, by which it is: that is left at the front of
+/// `front`, which has room for the largest, of 888 bytes.
+pub fn check_keeping_manifest<D: Flash, V: Verifier>(
+    flash: &mut D,
+    layout: &Layout,
+    bank: u32,
+    counter: u32,
+    front: &mut [u8],
+    buf: &mut [u8],
+    verifier: &V,
+) -> Result<Verdict, FlashStop>
+    requires on { IsTrue (D.on flash.old) }
+    requires front { 888 ≤ length front.old }
+    requires room { 4096 ≤ length buf.old }
+    requires fits { blocks_needed layout.now ≤ D.blocks flash.old }
+    requires bank { bank < layout.now.banks }
+    ensures verdict { IfOk result (λ verdict. IsTrue D.tells →
+        verdict ≡ verdict_on (V.passes verifier.now) counter layout.now (D.told flash.old).now bank) }
+    ensures passed { IfOk result (HasPassed (V.passes verifier.now) layout.now.rows counter) }
+    // On every device a bank that is good is so by the manifest that is kept.
+    ensures good { let manifest = take (model.manifest_size (length layout.now.rows - 1)) front.new in
+        IfOk result (IsGoodBy (V.passes verifier.now) layout.now.rows manifest) }
+    ensures manifest { let manifest = take (model.manifest_size (length layout.now.rows - 1)) front.new in
+        IfOk result (λ verdict. IsTrue D.tells →
+        manifest ≡ front_of (D.told flash.old).now layout.now.rows (start layout.now bank 0)) }
+    ensures front { length front.new ≡ length front.old }
+    ensures content { IsTrue D.tells → D.told flash.new ≡ D.told flash.old }
+    ensures power { D.on flash.new ≡ is_ok result }
+    ensures size { D.blocks flash.new ≡ D.blocks flash.old }
+    ensures costs { Spends result (D.counts flash.old) (D.counts flash.new) }
+    ensures reached { ReachesNone result (D.counts flash.old) (D.counts flash.new) }
+    ensures arming { D.arming flash.new ≡ arming_kept result (D.arming flash.old) }
+{
+    let rows = layout.rows();
+    let first = layout.start(bank, 0);
+    check_at(flash, rows, first, counter, front, buf, verifier)
 }
 
 /// The verdict on a bank, by what the flash holds. The bank's manifest stands at the front of the slot of image 0, and
@@ -137,7 +184,6 @@ pub fn check<D: Flash, V: Verifier>(
     ensures reached { ReachesNone result (D.counts flash.old) (D.counts flash.new) }
     ensures arming { D.arming flash.new ≡ arming_kept result (D.arming flash.old) }
 {
-    let rows = layout.rows();
-    let first = layout.start(bank, 0);
-    check_at(flash, rows, first, counter, buf, verifier)
+    let mut front = [0; 888];
+    check_keeping_manifest(flash, layout, bank, counter, &mut front, buf, verifier)
 }

@@ -5,5 +5,5 @@ mod bank;
 mod images;
 mod laws;
 
-pub use bank::{Verdict, check};
+pub use bank::{Verdict, check, check_keeping_manifest};
 pub use laws::good_is_permitted;

@@ -24,10 +24,11 @@ module _ (passes : List ℕ → Bool) (t : Turn) (bank version trials counter : 
       let same : b.version ≡ version = cc in
       record {
         rows = b.layout.rows;
-        some = subst (λ (v : ℕ). HasPackage passes b.layout.rows v) same permitted.1;
+        some = subst (λ (v : ℕ). HasPackage passes b.layout.rows v) same
+            (record { parts = permitted.parts; complete = permitted.complete; version_is = permitted.version_is; passed = permitted.passed });
         numbers = n;
         told = told;
-        enough = subst (λ (v : ℕ). n.counter ≤ v) same permitted.0;
+        enough = subst (λ (v : ℕ). n.counter ≤ v) same permitted.enough;
       }
   by-end (bad_layout f) said told permitted = let both = sym said ∙ is in absurd cc
   by-end no_metadata said told permitted = let both = sym said ∙ is in absurd cc

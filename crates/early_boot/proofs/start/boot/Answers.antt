@@ -1,19 +1,18 @@
-use Rattle.std.proofs.Common.{ℕ, Option, Some, None, Ok, Err, sym, ap, subst, ◌∙◌, IsTrue}
+use Rattle.std.proofs.Common.{ℕ, Option, Some, None, Ok, Err, sym, ap, subst, ◌∙◌, IsTrue, arith}
 use Rattle.std.specs.Prelude.{IfSome}
 use Rattle.flash_core.specs.declared.flash.Arming.{Arming}
 use Rattle.flash_core.specs.Told.{Told}
 use Rattle.early_boot.specs.declared.choosing.Chosen.{Chosen}
 use Rattle.early_boot.specs.declared.showing.Shown.{Shown}
 use Rattle.early_boot.specs.Showing.{Shows, state_shown}
-use Rattle.early_boot.specs.Choosing.{boot_setting, chosen_in, IsPermitted, MayBeChosen}
+use Rattle.early_boot.specs.Choosing.{boot_setting, chosen_in, IsPermitted, MayBeChosen, MayStart}
 use Rattle.fwu_formats.specs.Layout.{Layout}
 use Rattle.fwu_model.specs.State.{Numbers}
-use Rattle.image_check.specs.Passed.{HasPassed}
-use Rattle.image_check.specs.declared.bank.Verdict.TheVariants as verdict
 use Rattle.early_boot.specs.EndsBy.{StartedBy, StartsByNumbers, StartsPermitted}
 use Rattle.early_boot.proofs.Choices.{starts_by_numbers, unshown_started, stopped_started, unshown_permitted, stopped_permitted}
 use Rattle.early_boot.specs.Mending.{mended}
-use Rattle.early_boot.specs.Numbers.{numbers}
+use Rattle.early_boot.specs.Numbers.{AreNumbers, numbers}
+use Rattle.early_boot.proofs.Numbered.{numbers-are}
 use Rattle.early_boot.specs.Starting.{Boots, TakesMendingAndStart, chosen_of}
 use Rattle.early_boot.specs.CountingStarts.{CountsChosen, CountsLater}
 use Rattle.early_boot.specs.Started.{Started, started, started_as}
@@ -125,13 +124,21 @@ returns-in-Ok-Some-clause-started g c =
     let counted = subst (λ (o : Option (Shown × Chosen)). IfSome o (λ (start : Shown × Chosen). CountsChosen (mended shown) start.0 start.1)) c.in-Ok-Some.field-0-is c.in-Ok-Some.ensures.counted in
     let may = subst (λ (o : Option (Shown × Chosen)). IfSome o (λ (start : Shown × Chosen). MayBeChosen shown shown.trials start.1)) c.in-Ok-Some.field-0-is c.in-Ok-Some.ensures.may in
     subst (λ (b : Started). StartsByNumbers b n) (sym c.of.ensures.started)
-    (starts_by_numbers shown c.in-Ok-Some.after c.in-Ok-Some.chosen n c.numbers_in-numbers.ensures later counted may)
+    (starts_by_numbers shown c.in-Ok-Some.after c.in-Ok-Some.chosen n c.numbers_in-numbers.ensures later counted
+    (numbers-are shown c.in-Ok.ensures.fit c.in-Ok.ensures.fits c.in-Ok.ensures.few c.in-Ok.ensures.form c.in-Ok.ensures.none) may)
 
 pub returns-in-Err-clause-started : goal.returns-in-Err-clause-started
 returns-in-Err-clause-started g c = subst StartedBy (sym c.unshown.ensures.ended) (unshown_started c.in-Err.why)
 
 pub returns-in-Err-mend_and_start-clause-started : goal.returns-in-Err-mend_and_start-clause-started
-returns-in-Err-mend_and_start-clause-started g c = subst StartedBy (sym c.stopped_with.ensures.ended) (stopped_started c.in-Err-mend_and_start.stop _)
+returns-in-Err-mend_and_start-clause-started g c =
+    let are = numbers-are c.in-Ok.shown c.in-Ok.ensures.fit c.in-Ok.ensures.fits c.in-Ok.ensures.few c.in-Ok.ensures.form c.in-Ok.ensures.none in
+    subst StartedBy (sym c.stopped_with.ensures.ended) (stopped_started c.in-Err-mend_and_start.stop _ (subst AreNumbers (sym c.numbers_in-numbers.ensures) are))
+
+pub returns-in-Ok-None-clause-started : goal.returns-in-Ok-None-clause-started
+returns-in-Ok-None-clause-started g c =
+    let are = numbers-are c.in-Ok.shown c.in-Ok.ensures.fit c.in-Ok.ensures.fits c.in-Ok.ensures.few c.in-Ok.ensures.form c.in-Ok.ensures.none in
+    (omega (arith, c.active.ensures, are.active, are.most), omega (arith, c.previous.ensures, are.previous, are.most))
 
 pub returns-in-Ok-Some-clause-permitted : goal.returns-in-Ok-Some-clause-permitted
 returns-in-Ok-Some-clause-permitted g c =
@@ -140,9 +147,10 @@ returns-in-Ok-Some-clause-permitted g c =
     let n = numbers c.numbers_in-numbers.result in
     let later = subst (λ (o : Option (Shown × Chosen)). IfSome o (λ (start : Shown × Chosen). CountsLater (mended shown) start.0)) c.in-Ok-Some.field-0-is c.in-Ok-Some.ensures.later in
     let permitted = subst (λ (o : Option (Shown × Chosen)). IfSome o (λ (start : Shown × Chosen). IsPermitted passes shown start.1)) c.in-Ok-Some.field-0-is c.in-Ok-Some.ensures.permitted in
+    let chosen = c.in-Ok-Some.chosen in
     subst (λ (b : Started). StartsPermitted passes (booted b n)) (sym c.of.ensures.started)
-    (subst (λ (L : Layout). HasPassed passes L.rows n.counter (verdict.Good c.in-Ok-Some.chosen.version)) (sym later.layout)
-    (subst (λ (m : Numbers). HasPassed passes shown.layout.rows m.counter (verdict.Good c.in-Ok-Some.chosen.version)) (sym c.numbers_in-numbers.ensures) permitted))
+    (subst (λ (L : Layout). MayStart passes L.rows n.counter chosen.version chosen.lengths) (sym later.layout)
+    (subst (λ (m : Numbers). MayStart passes shown.layout.rows m.counter chosen.version chosen.lengths) (sym c.numbers_in-numbers.ensures) permitted))
 
 pub returns-in-Err-clause-permitted : goal.returns-in-Err-clause-permitted
 returns-in-Err-clause-permitted g c = subst (StartsPermitted (g.V.Verifier.passes c.args.verifier.now)) (sym c.unshown.ensures.ended) (unshown_permitted _ c.in-Err.why)

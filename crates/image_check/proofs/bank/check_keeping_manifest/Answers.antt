@@ -6,7 +6,7 @@ use Rattle.image_check.specs.declared.bank.Verdict.{Verdict}
 use Rattle.image_check.specs.Found.{found, front_of}
 use Rattle.image_check.specs.Verdict.{verdict_on}
 use Rattle.image_check.proofs.OfBank.{bank_fits, found_is, some_blocks}
-use Rattle.image_check.proofs.bank.check.Goals as goal
+use Rattle.image_check.proofs.bank.check_keeping_manifest.Goals as goal
 
 pub check_at-requires-clause-block : goal.check_at-requires-clause-block
 check_at-requires-clause-block g c =

@@ -1,0 +1,39 @@
+-- The numbers of what is shown, on any device.
+use Rattle.std.proofs.Common.{◌≡◌, ◌⊎◌, ◌≤◌, inl, inr, refl, sym, subst, ◌∙◌, arith}
+use Rattle.std.specs.Prelude.{IsTrue}
+use Rattle.fwu_formats.specs.Layout.{fits_layout}
+use Rattle.fwu_formats.specs.Metadata.{fits_meta}
+use Rattle.fwu_formats.specs.Places.{trial_limit}
+use Rattle.fwu_formats.proofs.SealLaws.{limits}
+use Rattle.meta_layout.proofs.Fits.{meta-fits}
+use Rattle.replicas.specs.declared.which.Which.{Which}
+use Rattle.replicas.specs.declared.which.Which.TheVariants.{Same, RepairZero, RepairOne, MigrateZero, MigrateOne}
+use Rattle.replicas.specs.Which.{form_of}
+use Rattle.early_boot.specs.Numbers.{AreNumbers, numbers_shown}
+use Rattle.early_boot.specs.Showing.{CountsNone}
+use Rattle.early_boot.specs.declared.showing.Shown.{Shown}
+
+one-or-two : (which : Which) → (form_of which ≡ 1) ⊎ (form_of which ≡ 2)
+one-or-two Same = inr refl
+one-or-two RepairZero = inr refl
+one-or-two RepairOne = inr refl
+one-or-two MigrateZero = inl refl
+one-or-two MigrateOne = inl refl
+
+pub numbers-are : (shown : Shown) → IsTrue (fits_layout shown.layout) → IsTrue (fits_meta shown.layout shown.meta.meta) → shown.trials ≤ trial_limit → shown.meta.form ≡ form_of shown.which → CountsNone shown → AreNumbers (numbers_shown shown)
+numbers-are shown layout meta few form none =
+    let fit = meta-fits shown.layout shown.meta.meta meta in
+    let limit = limits shown.layout layout in
+    record {
+      form = elim (one-or-two shown.which) [
+        | inl one ↦ inl (form ∙ one)
+        | inr two ↦ inr (form ∙ two)
+      ];
+      fewest = omega (arith, fit.states, limit.fewest_banks);
+      most = omega (arith, fit.states, limit.most_banks);
+      bits = fit.bits ∙ sym fit.states;
+      active = omega (arith, fit.states, fit.active);
+      previous = omega (arith, fit.states, fit.previous);
+      few = few;
+      none = none;
+    }
