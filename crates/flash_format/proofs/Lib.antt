@@ -13,3 +13,4 @@ pub mod Formats
 pub mod Whole
 pub mod Given
 pub mod Taking
+pub mod Answered

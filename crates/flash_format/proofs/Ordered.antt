@@ -6,15 +6,16 @@ use Rattle.flash_core.specs.Told.{Told, NothingDirty, settled}
 use Rattle.flash_core.specs.May.{Keeps, Leaves, May}
 use Rattle.flash_core.proofs.Calls.{block_kept, block_quiet, keeps_same, quiet_fresh, quiet_kept}
 use Rattle.fwu_formats.specs.Image.{layout_seen}
-use Rattle.fwu_formats.specs.Layout.{Layout, blocks_needed, slot_total}
+use Rattle.fwu_formats.specs.Layout.{Layout, blocks_needed, slot_total, start}
+use Rattle.fwu_formats.specs.Package.{Entry}
 use Rattle.fwu_formats.specs.Metadata.{meta_read, first_meta}
 use Rattle.fwu_model.specs.Replica.{BothHold, in_version}
 use Rattle.flash_format.specs.Cleared.{IsBare, OnlyErased}
-use Rattle.flash_format.specs.Formatted.{IsBlank, IsInOrder, IsOrdered, IsWhole, bared, begun, filled}
-use Rattle.flash_format.specs.Places.{Erased}
+use Rattle.flash_format.specs.Formatted.{IsBlank, IsInOrder, IsOrdered, IsUnlaid, IsWhole, bared, begun, filled}
+use Rattle.flash_format.specs.Places.{AllStand, Erased}
 use Rattle.flash_format.proofs.Ranges.{erased_stays}
 use Rattle.flash_format.proofs.Recorded.{keeps_settled}
-use Rattle.flash_format.proofs.Showing.{block_blank, unlaid_by}
+use Rattle.flash_format.proofs.Showing.{block_blank, unlaid, unlaid_by}
 
 -- ---- block 0 is bare
 
@@ -33,6 +34,9 @@ bare_settled result t bare = bare_stays 4096 4096 t (settled result t) (omega ar
 
 pub bare_unlaid : (t : Told) (image : List ℕ) → 4096 ≤ length t.now → IsBare t → May t image → IsErr (layout_seen image)
 bare_unlaid t image room bare may = unlaid_by image (block_quiet 0 t image (omega arith) bare.quiet may.leaves ∙ block_blank 0 t.now (omega arith) bare.erased)
+
+pub bare_is_unlaid : (t : Told) → 4096 ≤ length t.now → IsBare t → IsUnlaid t
+bare_is_unlaid t room bare = record { now = unlaid t.now room bare.erased; left = λ image may. bare_unlaid t image room bare may }
 
 -- ---- up to the images
 
@@ -60,6 +64,12 @@ blank_stays L s t keeps blank = record {
   front = erased_stays 12288 32768 0 12288 s t (inr (omega arith)) keeps blank.front;
   banks = erased_stays (4096 * (8 + slot_total L.rows)) (4096 * blocks_needed L) 0 12288 s t (inr (omega arith)) keeps blank.banks;
 }
+
+-- and so do the images
+pub images_stay : (count : ℕ) (L : Layout) (file : List ℕ) (entries : List Entry) (s t : Told) → Keeps 0 12288 s t → AllStand count L file entries s.now → AllStand count L file entries t.now
+images_stay count L file entries s t keeps stand k below i within =
+    let place : 12288 ≤ 4096 * start L 0 k + i = omega arith in
+    keeps.now (4096 * start L 0 k + i) (inr place) ∙ stand k below i within
 
 -- and a loss leaves it so
 blank_left : (L : Layout) (s t : Told) (image : List ℕ) → NothingDirty s → Keeps 0 12288 s t → IsBlank L s.now → Leaves t image → IsBlank L image

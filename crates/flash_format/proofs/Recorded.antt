@@ -1,7 +1,7 @@
 -- Blocks that were erased and then written at their front.
 use Rattle.std.proofs.Common.{◌≡◌, ◌⊎◌, inl, inr, ℕ, ◌+◌, ◌-◌, ◌*◌, ◌/◌, ◌<◌, ◌≤◌, List, ◌++◌, length, get_or, replicate, Some, Result, Ok, Err, refl, sym, ap, subst, ◌∙◌, arith, IsTrue, append_assoc}
 use Rattle.std.specs.Prelude.{OnOk, ◌%◌}
-use Rattle.std.proofs.lemmas.List.{get_or_default, get_or_past, append-nil}
+use Rattle.std.proofs.lemmas.List.{get_or_default, get_or_past, append-nil, length-append, length-replicate}
 use Rattle.std.proofs.lemmas.Bool.{cases_lt}
 use Rattle.base_core.specs.Block.{blank, block}
 use Rattle.base_core.specs.Bytes.{overwritten}
@@ -72,6 +72,13 @@ block_padded b bytes image inside short stands = stands_whole (4096 * b) 4096 by
 pub padded_whole : (bytes : List ℕ) → length bytes ≡ 4096 → padded bytes ≡ bytes
 unfolding blank
 padded_whole bytes whole = let none : 4096 - length bytes ≡ 0 = omega arith in ap (λ (n : ℕ). bytes ++ replicate n 255) none ∙ append-nil bytes
+
+-- a block of bytes that ends with erased ones
+pub padded_front : (bytes front : List ℕ) (n : ℕ) → length bytes ≡ 4096 → bytes ≡ front ++ replicate n 255 → bytes ≡ padded front
+unfolding blank
+padded_front bytes front n whole is =
+    let rest : n ≡ 4096 - length front = omega (arith, whole, ap length is, length-append front (replicate n 255), length-replicate {A = ℕ} n 255) in
+    is ∙ ap (λ (k : ℕ). front ++ replicate k 255) rest
 
 -- ---- what is read
 

@@ -1,10 +1,11 @@
 -- What a flash shows that was formatted, and what one holds whose package was refused.
 use Rattle.std.specs.Prelude.{◌≡◌, ◌⊎◌, ◌+◌, ◌-◌, ◌*◌, ◌<◌, ℕ, Bool, true, false, List, [], ◌∷◌, ◌++◌, length, replicate, Some, None, Ok, IsErr, IsTrue, slice_index_or}
-use Rattle.base_core.specs.Block.{blank}
+use Rattle.base_core.specs.Block.{blank, block}
 use Rattle.flash_core.specs.Told.{Told, NothingDirty, fresh}
 use Rattle.flash_core.specs.May.{Keeps, May}
-use Rattle.fwu_formats.specs.Layout.{Layout, blocks_needed, slot_bytes, slot_total}
-use Rattle.fwu_formats.specs.Metadata.{first_meta}
+use Rattle.flash_core.specs.Replaces.{padded}
+use Rattle.fwu_formats.specs.Layout.{Layout, blocks_needed, layout_bytes, slot_bytes, slot_total}
+use Rattle.fwu_formats.specs.Metadata.{first_meta, replica_bytes}
 use Rattle.fwu_formats.specs.Manifest.{is_complete, manifest_part, version}
 use Rattle.fwu_formats.specs.Image.{layout_seen, package_in, slot}
 use Rattle.fwu_model.specs.Replica.{BothHold, in_version}
@@ -44,6 +45,17 @@ pub record IsFormatted (passes : List ℕ → Bool) (L : Layout) (v : ℕ) (t : 
   pub version_is : version installed ≡ v
   pub shows : seen t.now ≡ Some (first_state L installed)
   pub sound : (E : Setting) → E.layout ≡ L → E.passes ≡ passes → SoundFlash E t.now
+
+-- the layout and the first metadata stand in their one spelling, with erased bytes behind them
+pub record IsSpelled (L : Layout) (image : List ℕ) : Type 0 where
+  pub layout : block 0 image ≡ padded (layout_bytes L)
+  pub zero : block 1 image ≡ padded (replica_bytes L (first_meta L))
+  pub one : block 2 image ≡ padded (replica_bytes L (first_meta L))
+
+-- the flash has no layout, and no loss leaves one
+pub record IsUnlaid (t : Told) : Type 0 where
+  pub now : IsErr (layout_seen t.now)
+  pub left : (image : List ℕ) → May t image → IsErr (layout_seen image)
 
 -- The images stand in the slots of bank 0, with erased bytes behind them. Where they are a complete package, it is the one that
 -- bank 0 holds. (Where an image has more bytes than its row says, the package in bank 0 has the first of them,

@@ -1,11 +1,13 @@
 -- Why a step stopped.
-use Rattle.std.specs.Prelude.{◌≡◌, ◌⊎◌, ◌≤◌, ⊤, ℕ, List, Option, Some, None, Result, Ok, Err}
+use Rattle.std.specs.Prelude.{◌≡◌, ◌⊎◌, ◌<◌, ◌≤◌, ◌^◌, ⊤, ℕ, List, Option, Some, None, Result, Ok, Err, length}
 use Rattle.base_core.specs.Counts.{Rose}
 use Rattle.host_io.specs.Contents.{Directory}
 use Rattle.fip_tables.specs.Files.{Lacks}
 use Rattle.flash_core.specs.declared.flash.FlashStop.{FlashStop}
 use Rattle.fwu_formats.specs.declared.kinds.LayoutFault.{LayoutFault}
 use Rattle.fwu_formats.specs.Layout.{Layout}
+use Rattle.fwu_formats.specs.Package.{toc_of}
+use Rattle.flash_format.specs.Choosing.{refusal_by}
 use Rattle.flash_format.specs.declared.stops.InputFault.{InputFault}
 use Rattle.flash_format.specs.declared.stops.InputFault.TheVariants.{Layout as BadLayout, Package, Missing, TooLarge, Incomplete}
 use Rattle.flash_format.specs.declared.stops.FormatStop.{FormatStop}
@@ -61,6 +63,13 @@ IsEarly (Err (Flash stop)) = ⊥
 abbrev pub Answers : {T : Type 0} → Option InputFault → Result T FormatStop → Type 0
 Answers (Some fault) result = (result ≡ Err (Input fault)) ⊎ (result ≡ Err ReadFailed)
 Answers None result = IsEarly result → ⊥
+
+-- On any files: some bytes give this answer, on a flash that the layout fits or doesn't. So what is refused is so by bytes that
+-- have that fault, and what isn't is a package with each image.
+pub record IsOfBytes {T : Type 0} (fits : Result Layout LayoutFault) (result : Result T FormatStop) : Type 0 where
+  pub bytes : List ℕ
+  pub short : length bytes < 2 ^ 64
+  pub answer : Answers (refusal_by fits (toc_of bytes)) result
 
 abbrev pub IsOfLayout : {T : Type 0} → Result T FormatStop → Type 0
 IsOfLayout (Ok x) = ⊥

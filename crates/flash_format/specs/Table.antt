@@ -1,6 +1,6 @@
 -- The table that was read of a file.
-use Rattle.std.specs.Prelude.{◌≡◌, ⊤, Result, Ok, Err}
-use Rattle.fwu_formats.specs.Package.{Toc}
+use Rattle.std.specs.Prelude.{◌≡◌, ◌<◌, ◌^◌, ⊤, ℕ, List, Result, Ok, Err, length}
+use Rattle.fwu_formats.specs.Package.{Toc, toc_of}
 use Rattle.fwu_formats.specs.declared.kinds.FipFault.{FipFault}
 use Rattle.flash_format.specs.declared.stops.FormatStop.{FormatStop}
 use Rattle.flash_format.specs.declared.stops.FormatStop.TheVariants.{Input, ReadFailed, Flash}
@@ -13,6 +13,12 @@ IsTable answer (Err (Input (Package fault))) = answer ≡ Err fault
 IsTable answer (Err (Input other)) = ⊥
 IsTable answer (Err ReadFailed) = ⊤
 IsTable answer (Err (Flash stop)) = ⊥
+
+-- on any files: it is the answer of some bytes
+pub record IsTableOfBytes (result : Result Toc FormatStop) : Type 0 where
+  pub bytes : List ℕ
+  pub short : length bytes < 2 ^ 64
+  pub table : IsTable (toc_of bytes) result
 
 -- a file that is no package, or could not be read, and nothing else, stops the reading
 abbrev pub StopsTable : Result Toc FormatStop → Type 0

@@ -1,10 +1,9 @@
 //! Formatting a flash.
-ghost use Rattle.std.specs.Prelude.{◌≡◌, ◌+◌, ◌⊎◌, ◌*◌, ◌≤◌, ℕ, List, Ok, Err, false, IsErr, IfOk, IfErr, OnOk, length, is_ok, IsTrue};
+ghost use Rattle.std.specs.Prelude.{◌≡◌, ◌+◌, ◌⊎◌, ◌*◌, ◌≤◌, ℕ, List, Ok, Err, false, IfOk, IfErr, OnOk, length, is_ok, IsTrue};
 ghost use Rattle.flash_core.specs.Counts.{Spends, StaysUnarmed, lowered_by};
 ghost use Rattle.flash_core.specs.May.{Keeps};
 ghost use Rattle.flash_core.specs.Told.{NothingDirty};
 ghost use Rattle.fwu_formats.specs.Layout.{blocks_needed};
-ghost use Rattle.fwu_formats.specs.Image.{layout_seen};
 ghost use Rattle.fwu_formats.specs.Package.{Toc, toc_of};
 ghost use Rattle.fwu_model.specs.Answer.{images_of};
 ghost use Rattle.fwu_formats.specs.Manifest.{is_complete, manifest_part};
@@ -15,10 +14,10 @@ ghost use Rattle.image_check.specs.Passed.{HasPassed};
 ghost use Rattle.image_check.specs.declared.bank.Verdict.TheVariants.{Good};
 ghost use Rattle.image_check.specs.declared.bank.Verdict.{Verdict};
 ghost use Rattle.flash_format.specs.Choosing.{refusal};
-ghost use Rattle.flash_format.specs.Formatted.{HoldsImages, IsBlank, IsFormatted, IsInOrder, IsOrdered, IsRefused, IsWhole};
+ghost use Rattle.flash_format.specs.Formatted.{HoldsImages, IsBlank, IsFormatted, IsInOrder, IsOrdered, IsRefused, IsSpelled, IsUnlaid, IsWhole};
 ghost use Rattle.flash_format.specs.Places.{AllStand, Erased};
 ghost use Rattle.flash_format.specs.Planned.{IsPlanned};
-ghost use Rattle.flash_format.specs.Stops.{flash_result, Answers, Finishes, IsEarly, IsOfLayout, LayoutBy, ReadsBy, RefusesBank, unread_in};
+ghost use Rattle.flash_format.specs.Stops.{flash_result, Answers, Finishes, IsEarly, IsOfBytes, IsOfLayout, LayoutBy, ReadsBy, RefusesBank, unread_in};
 ghost use Rattle.flash_format.specs.declared.stops.FormatStop.TheVariants.{Input as InputRefused, ReadFailed as FileFailed};
 ghost use Rattle.flash_format.specs.declared.stops.InputFault.TheVariants.{Incomplete as BankRefused};
 ghost use Rattle.flash_format.specs.Takes.{Takes, pieces_in, writes_of};
@@ -55,6 +54,7 @@ fn finish<D: Flash, V: Verifier>(
     ensures passed { IfOk result (λ version. HasPassed (V.passes verifier.now) layout.now.rows 0 (Good version)) }
     ensures formatted { IfOk result (λ version. IsTrue D.tells →
         IsFormatted (V.passes verifier.now) layout.now version (D.told flash.new)) }
+    ensures spelled { OnOk result (IsTrue D.tells → IsSpelled layout.now (D.told flash.new).now) }
     ensures refused { (found : Verdict) → result ≡ Err (InputRefused (BankRefused found)) →
         IsTrue D.tells → IsRefused (V.passes verifier.now) layout.now found (D.told flash.new).now }
     ensures clean { Finishes result (IsTrue D.tells → NothingDirty (D.told flash.old)
@@ -103,6 +103,7 @@ fn carry_out<D: Flash, H: Files, V: Verifier>(
     ensures passed { IfOk result (λ version. HasPassed (V.passes verifier.now) plan.now.layout.rows 0 (Good version)) }
     ensures formatted { IfOk result (λ version. IsTrue D.tells →
         IsFormatted (V.passes verifier.now) plan.now.layout version (D.told flash.new)) }
+    ensures spelled { OnOk result (IsTrue D.tells → IsSpelled plan.now.layout (D.told flash.new).now) }
     ensures refused { (found : Verdict) → result ≡ Err (InputRefused (BankRefused found)) →
         IsTrue D.tells →
         IsRefused (V.passes verifier.now) plan.now.layout found (D.told flash.new).now }
@@ -112,8 +113,7 @@ fn carry_out<D: Flash, H: Files, V: Verifier>(
     ensures blank { Finishes result (IsTrue D.tells →
         IsBlank plan.now.layout (D.told flash.new).now) }
     ensures clean { Finishes result (IsTrue D.tells → NothingDirty (D.told flash.new)) }
-    ensures failed { result ≡ Err FileFailed → IsTrue D.tells →
-        IsErr (layout_seen (D.told flash.new).now) }
+    ensures failed { result ≡ Err FileFailed → IsTrue D.tells → IsUnlaid (D.told flash.new) }
     ensures keeps { IsTrue D.tells →
         Keeps 0 (4096 * blocks_needed plan.now.layout) (D.told flash.old) (D.told flash.new) }
     // At any exit block 0 goes first and the layout comes last, whatever a loss leaves.
@@ -177,10 +177,12 @@ pub fn format<D: Flash, H: Files, V: Verifier>(
     ensures answers { (file : List ℕ) → Tells (H.contents files.old) name.now file →
         Answers (refusal (record { banks = banks; rows = rows.now })
         (D.blocks flash.old) file) result }
+    // And on any files by some bytes: a refusal is one that they have, and what isn't refused is a package with each image.
+    ensures some { IsOfBytes (fitted (record { banks = banks; rows = rows.now }) (D.blocks flash.old)) result }
     ensures untouched { IsEarly result → flash.new ≡ flash.old }
-    // A file that could not be read: the flash is as it was, or has no layout.
+    // A file that could not be read: the flash is as it was, or has no layout, whatever a loss leaves.
     ensures failed { result ≡ Err FileFailed → IsTrue D.tells →
-        (D.told flash.new ≡ D.told flash.old) ⊎ IsErr (layout_seen (D.told flash.new).now) }
+        (D.told flash.new ≡ D.told flash.old) ⊎ IsUnlaid (D.told flash.new) }
     // A name that told files lack gives a file that could not be read, unless there is no layout; and nothing was done.
     ensures missing { Lacks (H.contents files.old) name.now
         → (IsOfLayout result ⊎ (result ≡ Err FileFailed)) × (flash.new ≡ flash.old) }
@@ -191,6 +193,7 @@ pub fn format<D: Flash, H: Files, V: Verifier>(
     ensures passed { IfOk result (λ done. HasPassed (V.passes verifier.now) done.layout.rows 0 (Good done.version)) }
     ensures formatted { IfOk result (λ done. IsTrue D.tells →
         IsFormatted (V.passes verifier.now) done.layout done.version (D.told flash.new)) }
+    ensures spelled { IfOk result (λ done. IsTrue D.tells → IsSpelled done.layout (D.told flash.new).now) }
     // Refused: the flash has no layout, and what it is refused for is the verdict on what bank 0 holds.
     ensures refused { (found : Verdict) → result ≡ Err (InputRefused (BankRefused found)) →
         IsTrue D.tells

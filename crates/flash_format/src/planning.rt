@@ -5,7 +5,7 @@ ghost use Rattle.meta_layout.specs.Rows.{fitted};
 ghost use Rattle.fip_tables.specs.Files.{Lacks, Tells};
 ghost use Rattle.flash_format.specs.Choosing.{refusal, refusal_by};
 ghost use Rattle.flash_format.specs.Planned.{IsPlanned, HasToc};
-ghost use Rattle.flash_format.specs.Stops.{Answers, IsOfLayout, LayoutBy, ReadsBy, StopsEarly, unread_in};
+ghost use Rattle.flash_format.specs.Stops.{Answers, IsOfBytes, IsOfLayout, LayoutBy, ReadsBy, StopsEarly, unread_in};
 ghost use Rattle.flash_format.specs.declared.stops.FormatStop.TheVariants.{ReadFailed as FileFailed};
 
 use crate::choosing::choose;
@@ -24,6 +24,7 @@ fn plan_of<H: Files>(files: &mut H, name: &str, layout: Layout) -> Result<Plan, 
         Tells (H.contents files.old) name.now file → HasToc file plan.layout plan.entries) }
     ensures answers { (file : List ℕ) → Tells (H.contents files.old) name.now file →
         Answers (refusal_by (Ok layout) (toc_of file)) result }
+    ensures some { IsOfBytes (Ok layout) result }
     ensures missing { Lacks (H.contents files.old) name.now → result ≡ Err FileFailed }
     ensures other { IsOfLayout result → ⊥ }
     ensures stops { IfErr result StopsEarly }
@@ -60,6 +61,7 @@ pub fn plan<H: Files>(
         Tells (H.contents files.old) name.now file → HasToc file plan.layout plan.entries) }
     ensures answers { (file : List ℕ) → Tells (H.contents files.old) name.now file →
         Answers (refusal (record { banks = banks; rows = rows.now }) blocks file) result }
+    ensures some { IsOfBytes (fitted (record { banks = banks; rows = rows.now }) blocks) result }
     ensures layout { LayoutBy (fitted (record { banks = banks; rows = rows.now }) blocks) result }
     ensures missing { Lacks (H.contents files.old) name.now → IsOfLayout result ⊎
         (result ≡ Err FileFailed) }

@@ -5,11 +5,11 @@ ghost use Rattle.flash_core.specs.Counts.{Spends, StaysUnarmed, lowered_by};
 ghost use Rattle.flash_core.specs.May.{Keeps};
 ghost use Rattle.flash_core.specs.Told.{NothingDirty};
 ghost use Rattle.flash_core.specs.Replaces.{padded};
-ghost use Rattle.fwu_formats.specs.Layout.{blocks_needed, fits_layout};
-ghost use Rattle.fwu_formats.specs.Metadata.{first_meta};
+ghost use Rattle.fwu_formats.specs.Layout.{blocks_needed, fits_layout, layout_bytes};
+ghost use Rattle.fwu_formats.specs.Metadata.{first_meta, replica_bytes};
 ghost use Rattle.fwu_formats.specs.Image.{layout_seen};
 ghost use Rattle.fwu_model.specs.Replica.{BothHold, in_version};
-ghost use Rattle.flash_format.specs.Formatted.{IsOrdered};
+ghost use Rattle.flash_format.specs.Formatted.{IsOrdered, IsSpelled};
 ghost use Rattle.flash_format.specs.Places.{Erased};
 
 use flash_core::{Flash, FlashStop};
@@ -48,6 +48,10 @@ fn write_replicas<D: Flash>(flash: &mut D, layout: &Layout) -> Result<(), FlashS
     ensures keeps { IsTrue D.tells → Keeps 4096 12288 (D.told flash.old) (D.told flash.new) }
     ensures both { OnOk result (IsTrue D.tells →
         BothHold layout.now (in_version 2 (first_meta layout.now)) (D.told flash.new).now) }
+    ensures zero { OnOk result (IsTrue D.tells →
+        block 1 (D.told flash.new).now ≡ padded (replica_bytes layout.now (first_meta layout.now))) }
+    ensures one { OnOk result (IsTrue D.tells →
+        block 2 (D.told flash.new).now ≡ padded (replica_bytes layout.now (first_meta layout.now))) }
     ensures clean { OnOk result (IsTrue D.tells → NothingDirty (D.told flash.new)) }
     ensures power { D.on flash.new ≡ is_ok result }
     ensures size { D.blocks flash.new ≡ D.blocks flash.old }
@@ -73,6 +77,8 @@ fn write_layout<D: Flash>(flash: &mut D, layout: &Layout) -> Result<(), FlashSto
     ensures keeps { IsTrue D.tells → Keeps 0 4096 (D.told flash.old) (D.told flash.new) }
     ensures layout { OnOk result (IsTrue D.tells →
         layout_seen (D.told flash.new).now ≡ Ok layout.now) }
+    ensures spelled { OnOk result (IsTrue D.tells →
+        block 0 (D.told flash.new).now ≡ padded (layout_bytes layout.now)) }
     ensures clean { OnOk result (IsTrue D.tells → NothingDirty (D.told flash.new)) }
     ensures power { D.on flash.new ≡ is_ok result }
     ensures size { D.blocks flash.new ≡ D.blocks flash.old }
@@ -98,6 +104,7 @@ pub fn write_records<D: Flash>(flash: &mut D, layout: &Layout) -> Result<(), Fla
         BothHold layout.now (in_version 2 (first_meta layout.now)) (D.told flash.new).now) }
     ensures layout { OnOk result (IsTrue D.tells →
         layout_seen (D.told flash.new).now ≡ Ok layout.now) }
+    ensures spelled { OnOk result (IsTrue D.tells → IsSpelled layout.now (D.told flash.new).now) }
     ensures clean { OnOk result (IsTrue D.tells → NothingDirty (D.told flash.new)) }
     // Whatever a loss leaves, no layout is there before both replicas are.
     ensures ordered { IsTrue D.tells → NothingDirty (D.told flash.old) →

@@ -3,7 +3,7 @@ ghost use Rattle.std.specs.Prelude.{◌≡◌, ◌≤◌, ◌+◌, ◌^◌, ◌<
 ghost use Rattle.fwu_formats.specs.Package.{toc_of};
 ghost use Rattle.fip_tables.specs.Files.{Lacks, Tells};
 ghost use Rattle.flash_format.specs.Stops.{flash_result, ReadsBy, unread_in};
-ghost use Rattle.flash_format.specs.Table.{IsTable, StopsTable};
+ghost use Rattle.flash_format.specs.Table.{IsTable, IsTableOfBytes, StopsTable};
 ghost use Rattle.flash_format.specs.declared.stops.FormatStop.TheVariants.{ReadFailed as FileFailed};
 
 use crate::stops::{FormatStop, InputFault};
@@ -15,6 +15,7 @@ use host_io::Files;
 pub fn read_table<H: Files>(files: &mut H, name: &str) -> Result<Toc, FormatStop>
     ensures told { (file : List ℕ) → Tells (H.contents files.old) name.now file →
         IsTable (toc_of file) result }
+    ensures some { IsTableOfBytes result }
     ensures stops { StopsTable result }
     // A name that told files lack is no package that is refused.
     ensures missing { Lacks (H.contents files.old) name.now → result ≡ Err FileFailed }

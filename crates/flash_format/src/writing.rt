@@ -49,6 +49,8 @@ pub fn fill<D: Flash, H: Files>(
         IsBare (D.told flash.new) }
     ensures erased { OnOk (flash_result result) (IsTrue D.tells →
         Erased 0 32768 (D.told flash.new).now) }
+    // A file that could not be read leaves it bare too.
+    ensures bare { OnOk (flash_result result) (IsTrue D.tells → IsBare (D.told flash.new)) }
     ensures blank { OnOk result (IsTrue D.tells → IsBlank plan.now.layout (D.told flash.new).now) }
     ensures clean { OnOk result (IsTrue D.tells → NothingDirty (D.told flash.new)) }
     ensures bytes { OnOk result (IsTrue D.tells → (file : List ℕ) →

@@ -1,5 +1,5 @@
 -- What the command `format` does, tells and prints.
-use Rattle.std.specs.Prelude.{◌≡◌, ◌⊎◌, ◌+◌, ◌*◌, ◌≤◌, ◌||◌, ◌==◌, ℕ, ◌++◌, ◌∷◌, [], false, Bool, List, Option, None, Result, Ok, Err, IfOk, IsErr, IsTrue, IsFalse, is_ok, codes, decimal, length}
+use Rattle.std.specs.Prelude.{◌≡◌, ◌⊎◌, ◌+◌, ◌*◌, ◌≤◌, ◌||◌, ◌==◌, ℕ, ◌++◌, ◌∷◌, [], false, Bool, List, Option, None, Result, Ok, Err, IfOk, IsTrue, IsFalse, is_ok, codes, decimal, length}
 use Rattle.flash_core.specs.Counts.{all_stops, stops_in}
 use Rattle.flash_core.specs.May.{Keeps}
 use Rattle.flash_core.specs.Told.{Told, NothingDirty}
@@ -7,7 +7,6 @@ use Rattle.flash_core.specs.declared.flash.FlashStop.{FlashStop}
 use Rattle.base_core.specs.Guid.{guid_text}
 use Rattle.host_io.specs.Contents.{Directory}
 use Rattle.fwu_formats.specs.Layout.{Layout, blocks_needed}
-use Rattle.fwu_formats.specs.Image.{layout_seen}
 use Rattle.fwu_formats.specs.Package.{Toc, toc_of}
 use Rattle.fwu_model.specs.Answer.{images_of}
 use Rattle.fwu_formats.specs.Manifest.{is_complete, manifest_part}
@@ -23,8 +22,8 @@ use Rattle.image_check.specs.Passed.{HasPassed}
 use Rattle.image_check.specs.declared.bank.Verdict.{Verdict}
 use Rattle.image_check.specs.declared.bank.Verdict.TheVariants as verdict
 use Rattle.flash_format.specs.Choosing.{refusal}
-use Rattle.flash_format.specs.Formatted.{HoldsImages, IsBlank, IsFormatted, IsInOrder, IsRefused}
-use Rattle.flash_format.specs.Stops.{Answers, Finishes, IsEarly, IsOfLayout, LayoutBy, ReadsBy, flash_result, unread_in}
+use Rattle.flash_format.specs.Formatted.{HoldsImages, IsBlank, IsFormatted, IsInOrder, IsRefused, IsSpelled, IsUnlaid}
+use Rattle.flash_format.specs.Stops.{Answers, Finishes, IsEarly, IsOfBytes, IsOfLayout, LayoutBy, ReadsBy, flash_result, unread_in}
 use Rattle.flash_format.specs.declared.formatting.Formatted.{Formatted}
 use Rattle.flash_format.specs.declared.stops.FormatStop.{FormatStop}
 use Rattle.flash_format.specs.declared.stops.FormatStop.TheVariants.{Input, ReadFailed, Flash}
@@ -104,12 +103,13 @@ pub record Tries (passes : List ℕ → Bool) (tells : Bool) (told : Option Dire
   -- what is refused before the flash is touched, exactly
   pub layout : LayoutBy (fitted L blocks) r
   pub answers : (file : List ℕ) → Tells told name file → Answers (refusal L blocks file) r
+  -- and on any files by some bytes: a refusal is one that they have, and what isn't refused is a package with each image
+  pub some : IsOfBytes (fitted L blocks) r
   pub untouched : IsEarly r → new.told ≡ mid
   -- a name that told files lack, and nothing was touched
   pub missing : Lacks told name → (IsOfLayout r ⊎ (r ≡ Err ReadFailed)) × (new.told ≡ mid)
-  -- a file that could not be read, and why
-  pub failed : r ≡ Err ReadFailed → IsTrue tells → (new.told ≡ mid)
-      ⊎ IsErr (layout_seen new.told.now)
+  -- a file that could not be read, and why: nothing was touched, or there is no layout, whatever a loss leaves
+  pub failed : r ≡ Err ReadFailed → IsTrue tells → (new.told ≡ mid) ⊎ IsUnlaid new.told
   pub reads : ReadsBy told name faults_before faults_after r
   -- no call of the files failed but the one that is told
   pub unread_once : faults_after ≤ faults_before + unread_in r
@@ -118,6 +118,7 @@ pub record Tries (passes : List ℕ → Bool) (tells : Bool) (told : Option Dire
   -- on every device: some complete package of the version that is told has a manifest that passes
   pub passed : IfOk r (λ done. HasPassed passes done.layout.rows 0 (verdict.Good done.version))
   pub formatted : IfOk r (λ done. IsTrue tells → IsFormatted passes done.layout done.version new.told)
+  pub spelled : IfOk r (λ done. IsTrue tells → IsSpelled done.layout new.told.now)
   -- refused for what is in bank 0
   pub refused : (found : Verdict) → r ≡ Err (Input (fault.Incomplete found)) → IsTrue tells
       → IsRefused passes L found new.told.now

@@ -1,17 +1,18 @@
-use Rattle.std.proofs.Common.{◌≡◌, ◌+◌, ℕ, ap, subst, ◌∙◌, arith, Result, Err}
+use Rattle.std.proofs.Common.{◌≡◌, ◌+◌, ℕ, List, length, ap, subst, ◌∙◌, arith, Result, Err}
 use Rattle.std.specs.Prelude.{IsTrue, OnOk}
 use Rattle.flash_core.specs.Counts.{lowered_by}
 use Rattle.flash_core.proofs.Spent.{spent_then}
 use Rattle.fwu_formats.specs.Layout.{blocks_needed}
+use Rattle.flash_format.specs.Cleared.{IsBare}
+use Rattle.fip_tables.specs.Files.{Tells}
 use Rattle.flash_format.specs.Formatted.{IsBlank}
-use Rattle.flash_format.specs.Places.{Erased}
+use Rattle.flash_format.specs.Places.{AllStand}
 use Rattle.flash_format.specs.Takes.{pieces_in, writes_of}
 use Rattle.flash_format.specs.Stops.{flash_result}
 use Rattle.flash_format.specs.declared.stops.FormatStop.{FormatStop}
 use Rattle.flash_format.specs.declared.stops.FormatStop.TheVariants.{ReadFailed}
 use Rattle.flash_format.proofs.Given.{finishes_from}
-use Rattle.flash_format.proofs.Ordered.{blank_stays, in_order_before, in_order_filled}
-use Rattle.flash_format.proofs.Showing.{unlaid}
+use Rattle.flash_format.proofs.Ordered.{bare_is_unlaid, blank_stays, images_stay, in_order_before, in_order_filled}
 use Rattle.flash_format.proofs.formatting.carry_out.Goals as goal
 
 pub returns-in-Err-clause-failed : goal.returns-in-Err-clause-failed
@@ -20,8 +21,17 @@ returns-in-Err-clause-failed g c = λ is tells.
     let size = (g.met.D.Flash.sound c.fill.new.flash tells).size in
     let many = (g.met.D.Flash.sizes c.fill.new.flash).0 in
     let stop : c.in-Err.stop ≡ ReadFailed = cc in
-    let erased = subst (λ (r : Result (Unit {0}) FormatStop). OnOk (flash_result r) (IsTrue g.D.Flash.tells → Erased 0 32768 t.now)) (c.in-Err.is ∙ ap Err stop) c.fill.ensures.erased in
-    unlaid t.now (omega (arith, size, many)) (λ i above below. erased tells i above (omega (arith, below)))
+    let bare = subst (λ (r : Result (Unit {0}) FormatStop). OnOk (flash_result r) (IsTrue g.D.Flash.tells → IsBare t)) (c.in-Err.is ∙ ap Err stop) c.fill.ensures.bare in
+    bare_is_unlaid t (omega (arith, size, many)) (bare tells)
+
+pub returns-clause-bytes : goal.returns-clause-bytes
+returns-clause-bytes g c =
+    let L = c.args.plan.now.layout in
+    let count = length L.rows in
+    let entries = c.args.plan.now.entries in
+    let t = g.D.Flash.told c.finish.new.flash in
+    let A : Type 0 = IsTrue g.D.Flash.tells → (file : List ℕ) → Tells (g.H.Files.contents c.args.files.now) c.args.name.now file → AllStand count L file entries t.now in
+    finishes_from ℕ c.finish.result A (λ tells file told. images_stay count L file entries (g.D.Flash.told c.fill.new.flash) t (c.finish.ensures.keeps tells) (c.in-Ok.ensures.bytes tells file told))
 
 pub returns-clause-blank : goal.returns-clause-blank
 returns-clause-blank g c =

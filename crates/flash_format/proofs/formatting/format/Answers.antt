@@ -9,12 +9,16 @@ use Rattle.fip_tables.specs.Files.{Tells}
 use Rattle.image_check.specs.Passed.{HasPassed}
 use Rattle.flash_format.specs.Formatted.{HoldsImages, IsBlank, IsInOrder, IsRefused}
 use Rattle.flash_format.specs.Places.{AllStand}
-use Rattle.flash_format.specs.Stops.{Finishes}
+use Rattle.flash_format.specs.Choosing.{refusal}
+use Rattle.flash_format.specs.Stops.{Answers, Finishes, IsEarly, IsOfBytes}
+use Rattle.flash_format.specs.declared.plan.Plan.{Plan}
+use Rattle.meta_layout.specs.Rows.{fitted}
 use Rattle.flash_format.specs.Takes.{Takes, pieces_in}
 use Rattle.flash_format.specs.declared.formatting.Formatted.{Formatted}
 use Rattle.flash_format.specs.declared.stops.FormatStop.{FormatStop}
 use Rattle.flash_format.specs.declared.stops.FormatStop.TheVariants.{Input}
 use Rattle.flash_format.specs.declared.stops.InputFault.TheVariants.{Incomplete}
+use Rattle.flash_format.proofs.Answered.{answers_stop, early_of, of_done, of_stop}
 use Rattle.flash_format.proofs.Formats.{not_refused}
 use Rattle.flash_format.proofs.Given.{fitted_is, hold_given, finishes_err}
 use Rattle.flash_format.proofs.Taking.{pieces_fit, pieces_told}
@@ -160,3 +164,33 @@ returns-in-Err-carry_out-clause-seen g c = λ found is.
     let stop : c.in-Err-carry_out.stop ≡ Input (Incomplete found) = cc in
     subst (λ (l : Layout). HasPassed (g.V.Verifier.passes c.args.verifier.now) l.rows 0 found) (fitted_is L c.blocks-2.result K c.in-Ok.ensures.fits).is
     (c.carry_out.ensures.seen found (c.in-Err-carry_out.is ∙ ap Err stop))
+
+pub returns-in-Err-clause-answers : goal.returns-in-Err-clause-answers
+returns-in-Err-clause-answers g c = λ file told.
+    let L : Layout = record { banks = c.args.banks; rows = c.args.rows.now } in
+    let answers = subst (λ (r : Result Plan FormatStop). Answers (refusal L c.blocks-2.result file) r) c.in-Err.is (c.plan.ensures.answers file told) in
+    subst (λ (n : ℕ). Answers {T = Formatted} (refusal L n file) (Err c.in-Err.stop)) c.blocks-2.ensures (answers_stop Plan Formatted c.in-Err.stop (refusal L c.blocks-2.result file) answers)
+
+pub returns-in-Err-clause-some : goal.returns-in-Err-clause-some
+returns-in-Err-clause-some g c =
+    let L : Layout = record { banks = c.args.banks; rows = c.args.rows.now } in
+    let fits = fitted L c.blocks-2.result in
+    subst (λ (n : ℕ). IsOfBytes {T = Formatted} (fitted L n) (Err c.in-Err.stop)) c.blocks-2.ensures
+    (of_stop Plan Formatted fits c.in-Err.stop (subst (IsOfBytes fits) c.in-Err.is c.plan.ensures.some))
+
+pub returns-in-Err-carry_out-clause-some : goal.returns-in-Err-carry_out-clause-some
+returns-in-Err-carry_out-clause-some g c =
+    let L : Layout = record { banks = c.args.banks; rows = c.args.rows.now } in
+    let fits = fitted L c.blocks-2.result in
+    let stop = c.in-Err-carry_out.stop in
+    subst (λ (n : ℕ). IsOfBytes {T = Formatted} (fitted L n) (Err stop)) c.blocks-2.ensures
+    (of_done Plan Formatted fits c.in-Ok.plan (Err stop) (subst (IsOfBytes fits) c.in-Ok.is c.plan.ensures.some)
+    (λ early. subst (λ (r : Result ℕ FormatStop). IsEarly r → ⊥) c.in-Err-carry_out.is c.carry_out.ensures.stops (early_of Formatted ℕ stop early)))
+
+pub returns-clause-some : goal.returns-clause-some
+returns-clause-some g c =
+    let L : Layout = record { banks = c.args.banks; rows = c.args.rows.now } in
+    let fits = fitted L c.blocks-2.result in
+    let done : Formatted = record { layout = c.in-Ok.plan.layout; version = c.in-Ok-carry_out.version } in
+    subst (λ (n : ℕ). IsOfBytes {T = Formatted} (fitted L n) (Ok done)) c.blocks-2.ensures
+    (of_done Plan Formatted fits c.in-Ok.plan (Ok done) (subst (IsOfBytes fits) c.in-Ok.is c.plan.ensures.some) (λ early. early))

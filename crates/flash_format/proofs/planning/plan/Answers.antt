@@ -3,10 +3,11 @@ use Rattle.fwu_formats.specs.Layout.{Layout}
 use Rattle.fwu_formats.specs.Package.{toc_of}
 use Rattle.fwu_formats.specs.declared.kinds.LayoutFault.{LayoutFault}
 use Rattle.flash_format.specs.Choosing.{refusal, refusal_by}
-use Rattle.flash_format.specs.Stops.{Answers}
+use Rattle.flash_format.specs.Stops.{Answers, IsOfBytes}
 use Rattle.flash_format.specs.declared.plan.Plan.{Plan}
 use Rattle.flash_format.specs.declared.stops.FormatStop.TheVariants.{Input}
 use Rattle.flash_format.specs.declared.stops.InputFault.TheVariants.{Layout as BadLayout}
+use Rattle.flash_format.proofs.Answered.{of_fault}
 use Rattle.flash_format.proofs.planning.plan.Goals as goal
 
 pub returns-in-Ok-clause-answers : goal.returns-in-Ok-clause-answers
@@ -18,3 +19,11 @@ pub returns-in-Err-clause-answers : goal.returns-in-Err-clause-answers
 unfolding refusal
 returns-in-Err-clause-answers g c = λ file told.
     subst (λ (r : Result Layout LayoutFault). Answers {T = Plan} (refusal_by r (toc_of file)) (Err (Input (BadLayout c.in-Err.fault)))) (sym (sym c.make.ensures ∙ c.in-Err.is)) (inl refl)
+
+pub returns-in-Ok-clause-some : goal.returns-in-Ok-clause-some
+returns-in-Ok-clause-some g c =
+    subst (λ (r : Result Layout LayoutFault). IsOfBytes r c.plan_of.result) (sym (sym c.make.ensures ∙ c.in-Ok.is)) c.plan_of.ensures.some
+
+pub returns-in-Err-clause-some : goal.returns-in-Err-clause-some
+returns-in-Err-clause-some g c =
+    subst (λ (r : Result Layout LayoutFault). IsOfBytes {T = Plan} r (Err (Input (BadLayout c.in-Err.fault)))) (sym (sym c.make.ensures ∙ c.in-Err.is)) (of_fault Plan c.in-Err.fault)

@@ -6,7 +6,8 @@ use Rattle.flash_core.proofs.Calls.{keeps_same}
 use Rattle.flash_core.proofs.Spent.{spent_barrier, spent_one}
 use Rattle.flash_format.specs.Places.{Stands}
 use Rattle.flash_format.proofs.Ranges.{keeps_written, erased_range}
-use Rattle.flash_format.proofs.Recorded.{on_ok_from, keeps_settled, now_settled, clean_after, stands_put, block_padded, padded_whole, layout_read}
+use Rattle.fwu_formats.specs.Layout.{layout_bytes}
+use Rattle.flash_format.proofs.Recorded.{on_ok_from, keeps_settled, now_settled, clean_after, stands_put, block_padded, padded_front, padded_whole, layout_read}
 use Rattle.flash_format.proofs.records.write_layout.Goals as goal
 
 pub program-requires-clause-blank : goal.program-requires-clause-blank
@@ -54,3 +55,18 @@ returns-clause-clean g c = clean_after _ c.barrier.result (g.D.Flash.told c.prog
 
 pub returns-clause-spent : goal.returns-clause-spent
 returns-clause-spent g c = spent_barrier c.barrier.result 1 _ _ _ (spent_one _ _ c.in_ok-program.ensures.arming) c.barrier.ensures.arming
+
+pub returns-clause-spelled : goal.returns-clause-spelled
+returns-clause-spelled g c = on_ok_from _ c.barrier.result (λ tells.
+    let s = g.D.Flash.told c.args.flash.now in
+    let m = g.D.Flash.told c.program.new.self in
+    let t = g.D.Flash.told c.barrier.new.self in
+    let bytes = c.write.new.out in
+    let size = (g.met.D.Flash.sound c.args.flash.now tells).size in
+    let many = (g.met.D.Flash.sizes c.args.flash.now).0 in
+    let whole : length bytes ≡ 4096 = omega (arith, c.write.auto.out) in
+    let same : length m.now ≡ length s.now = (g.met.D.Flash.sound c.program.new.self tells).size ∙ ap (λ (n : ℕ). 4096 * n) c.in_ok-program.ensures.size ∙ sym size in
+    let stands : Stands 0 4096 bytes m.now = subst (λ (u : Told). Stands 0 4096 bytes u.now) (sym (c.in_ok-program.ensures.content tells)) (stands_put 0 bytes s (omega (arith, size, many)) (omega (arith, whole)) (λ i above below. c.requires.erased tells i above below)) in
+    let there = block_padded 0 bytes m.now (omega (arith, size, many, same)) (omega (arith, whole)) stands ∙ padded_whole bytes whole in
+    let now : t.now ≡ m.now = ap (λ (u : Told). u.now) (c.barrier.ensures.content tells) ∙ now_settled c.barrier.result m in
+    ap (block 0) now ∙ there ∙ padded_front bytes (layout_bytes c.args.layout.now) _ whole c.write.ensures.spelled)

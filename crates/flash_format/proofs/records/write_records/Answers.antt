@@ -1,8 +1,13 @@
-use Rattle.std.proofs.Common.{arith}
+use Rattle.std.proofs.Common.{◌≡◌, inr, ◌∙◌, arith, IsTrue}
+use Rattle.base_core.specs.Block.{block}
+use Rattle.flash_core.specs.Replaces.{padded}
+use Rattle.flash_core.proofs.Calls.{now_kept}
+use Rattle.fwu_formats.specs.Layout.{layout_bytes}
 use Rattle.fwu_formats.specs.Metadata.{first_meta}
 use Rattle.fwu_model.specs.Replica.{in_version}
 use Rattle.flash_core.proofs.Spent.{spent_then}
-use Rattle.flash_format.proofs.Recorded.{on_ok_from, both_stay}
+use Rattle.flash_format.specs.Formatted.{IsSpelled}
+use Rattle.flash_format.proofs.Recorded.{on_ok_from, on_ok_map, both_stay}
 use Rattle.flash_format.proofs.Ordered.{ordered_before, ordered_after}
 use Rattle.flash_format.proofs.records.write_records.Goals as goal
 
@@ -31,3 +36,20 @@ returns-clause-ordered g c = λ tells clean.
 
 pub returns-clause-spent : goal.returns-clause-spent
 returns-clause-spent g c = spent_then c.write_layout.result 2 1 3 _ _ _ (omega arith) c.in_ok-write_replicas.ensures.spent c.write_layout.ensures.spent
+
+pub returns-clause-spelled : goal.returns-clause-spelled
+returns-clause-spelled g c =
+    let L = c.args.layout.now in
+    let s = g.D.Flash.told c.write_replicas.new.flash in
+    let t = g.D.Flash.told c.write_layout.new.flash in
+    on_ok_map (IsTrue g.D.Flash.tells → block 0 t.now ≡ padded (layout_bytes L)) (IsTrue g.D.Flash.tells → IsSpelled L t.now) c.write_layout.result
+    (λ first tells.
+    let size = (g.met.D.Flash.sound c.write_replicas.new.flash tells).size in
+    let many = (g.met.D.Flash.sizes c.write_replicas.new.flash).0 in
+    let keeps = c.write_layout.ensures.keeps tells in
+    record {
+      layout = first tells;
+      zero = now_kept 1 0 4096 s t (omega (arith, size, many)) (inr (omega arith)) keeps ∙ c.in_ok-write_replicas.ensures.zero tells;
+      one = now_kept 2 0 4096 s t (omega (arith, size, many)) (inr (omega arith)) keeps ∙ c.in_ok-write_replicas.ensures.one tells;
+    })
+    c.write_layout.ensures.spelled

@@ -1,4 +1,5 @@
 use Rattle.std.proofs.Common.{◌≡◌, ◌+◌, ◌*◌, ℕ, List, length, inl, inr, ap, sym, subst, ◌∙◌, arith}
+use Rattle.std.specs.Prelude.{IsTrue}
 use Rattle.flash_core.specs.Told.{Told, NothingDirty}
 use Rattle.flash_core.specs.May.{Keeps}
 use Rattle.flash_core.proofs.Calls.{keeps_wider, keeps_then, settle-fresh}
@@ -14,7 +15,7 @@ use Rattle.flash_format.proofs.Clearing.{only_above, only_settled}
 use Rattle.flash_format.proofs.Ordered.{bare_settled, bare_stays}
 use Rattle.flash_format.proofs.Ranges.{erased_stays}
 use Rattle.flash_format.proofs.Plans.{bank_within}
-use Rattle.flash_format.proofs.Recorded.{keeps_settled, now_settled}
+use Rattle.flash_format.proofs.Recorded.{on_ok_from, keeps_settled, now_settled}
 use Rattle.flash_format.proofs.writing.fill.Goals as goal
 
 pub write_bank-requires-clause-erased : goal.write_bank-requires-clause-erased
@@ -153,3 +154,18 @@ returns-clause-spent g c =
     let armed = g.D.Flash.arming c.erase_all.new.flash in
     let wrote : g.D.Flash.arming c.write_bank.new.flash ≡ lowered_by (pieces_in es) armed = c.in_ok-write_bank.ensures.spent ∙ ap (λ (l : List Entry). lowered_by (pieces_in l) armed) c.as_slice.ensures in
     c.in_ok-barrier.ensures.arming ∙ spent_both c.blocks-2.result (pieces_in es) (blocks_needed L + pieces_in es) _ _ _ (omega (arith, c.blocks-2.ensures)) c.in_ok-erase_all.ensures.spent wrote
+
+pub returns-in_err-write_bank-clause-bare : goal.returns-in_err-write_bank-clause-bare
+returns-in_err-write_bank-clause-bare g c =
+    let m = g.D.Flash.told c.erase_all.new.flash in
+    let n = g.D.Flash.told c.write_bank.new.flash in
+    let bare : IsTrue g.D.Flash.tells → IsBare n = λ tells.
+        bare_stays 32768 (4096 * (8 + slot_total c.args.plan.now.layout.rows)) m n (omega arith) (c.write_bank.ensures.keeps tells) (c.in_ok-erase_all.ensures.bare tells) in
+    on_ok_from (IsTrue g.D.Flash.tells → IsBare n) _ bare
+
+pub returns-clause-bare : goal.returns-clause-bare
+returns-clause-bare g c = λ tells.
+    let m = g.D.Flash.told c.erase_all.new.flash in
+    let n = g.D.Flash.told c.write_bank.new.flash in
+    let bare = bare_stays 32768 (4096 * (8 + slot_total c.args.plan.now.layout.rows)) m n (omega arith) (c.write_bank.ensures.keeps tells) (c.in_ok-erase_all.ensures.bare tells) in
+    subst IsBare (sym (c.barrier.ensures.content tells)) (bare_settled c.barrier.result n bare)

@@ -21,6 +21,7 @@ returns-clause-tries g c =
       fresh = λ tells clean. power-on-keeps (told old) (told mid) clean (c.power_on.ensures.fresh tells) (c.power_on.ensures.leaves tells);
       layout = e.layout;
       answers = e.answers;
+      some = e.some;
       untouched = λ early. ap told (e.untouched early);
       missing = λ lacks. let m = e.missing lacks in (m.0, ap told m.1);
       failed = e.failed;
@@ -29,6 +30,7 @@ returns-clause-tries g c =
       given = e.given;
       passed = e.passed;
       formatted = e.formatted;
+      spelled = e.spelled;
       refused = e.refused;
       bad = λ found is. (e.bad found is, e.seen found is);
       images = e.images;
