@@ -11,7 +11,7 @@ use Rattle.flash_core.specs.declared.flash.Counts.{Counts}
 use Rattle.flash_core.specs.declared.flash.Flash.{Ghosts}
 use Rattle.flash_core.specs.declared.flash.FlashStop.{FlashStop}
 use Rattle.flash_core.specs.declared.flash.FlashStop.TheVariants as flash_stop
-use Rattle.flash_core.specs.Counts.{Spends, stops_in}
+use Rattle.flash_core.specs.Counts.{Spends, StaysUnarmed, stops_in}
 use Rattle.flash_core.specs.May.{Guards}
 use Rattle.flash_core.specs.Told.{Told}
 use Rattle.fwu_formats.specs.Layout.{Layout}
@@ -50,7 +50,7 @@ use Rattle.script_turns.specs.Powered.{Moment, at, device, kept_at, moment_of, s
 use Rattle.script_turns.specs.Replies.{power_after}
 use Rattle.script_turns.specs.Sending.{AnswersSend, IsTableOf, SendSays, is_answered, on_sent, sent_reply}
 use Rattle.script_turns.specs.Sending as said
-use Rattle.script_turns.specs.Takes.{SendTakes, stop_told, unread_told}
+use Rattle.script_turns.specs.Takes.{SendTakes, StaysFree, TakesSending, stop_told, unread_told}
 use Rattle.script_turns.specs.Turning.{NoneFalls, Turns, quiet_turn}
 
 -- the turn of a sending
@@ -187,6 +187,10 @@ module _ (E : Setting) (from : Condition) (name : List ℕ) (request : ℕ) (r :
     record { guard = keeps-guards t u guard is.guard; shows = (refl, leaves) },
   )
 
+-- nothing was done
+pub stays-free : (armed : Option Arming) (cs : Counts) → StaysUnarmed {T = Unit {0}} (Ok tt) armed armed cs cs
+stays-free armed cs none = (none, record { same = refl; lost = λ is. absurd cc })
+
 -- ---- a file without a table
 
 module _ (passes : List ℕ → Bool) (tells : Bool) (files : Option Directory) (name : List ℕ) (request : ℕ) (f : Fields) (t : Told) (cs : Counts) (armed : Option Arming) (power : Bool) (was are : ℕ) (later : was ≤ are) where
@@ -198,7 +202,7 @@ module _ (passes : List ℕ → Bool) (tells : Bool) (files : Option Directory) 
 
   -- it is answered by its first fault
   pub bad-table : (r : Reply) → are ≤ was → IsFalse (is_stop r) → power_after power r ≡ power → IsTableOf files name (Err r)
-      → SendSays passes tells files name request (Some f) t r (Some f) t → (Lacks files name → ⊥) → SendTakes r here here
+      → SendSays passes tells files name request (Some f) t r (Some f) t → (Lacks files name → ⊥) → TakesSending r here here
       → Turns passes tells files (send_call name request) (quiet_turn (send_call name request) r) here here was are
   bad-table r none no_stop keeps table says there early = record {
     call_is = refl;
@@ -246,7 +250,7 @@ module _ (passes : List ℕ → Bool) (tells : Bool) (files : Option Directory) 
     unread_once = omega (arith, once);
     reads_none = λ e. absurd cc;
     replies = tt;
-    takes = record { by_call = tt; unread = λ e none. record { told = refl; counts = refl; armed = refl; power = refl } };
+    takes = record { by_call = record { spent = tt; unarmed = stays-free armed cs }; unread = λ e none. record { told = refl; counts = refl; armed = refl; power = refl } };
     power = refl;
     guard = λ e. refl;
     step = λ e E from passes_are told is no_chance.
@@ -421,11 +425,23 @@ module _ (passes : List ℕ → Bool) (tells : Bool) (files : Option Directory) 
   sent-takes (Err Fault) power least powered same takes = tt
   sent-takes (Err Gone) power least powered same takes = tt
 
+  pub sent-free : (result : Result Sent SendStop) (power : Bool) → StaysUnarmed (flash_of result) armed arming cs ds
+      → StaysFree (sent_reply result) (at (Some f) t cs armed true) (at (on_sent result g) u ds arming power)
+  sent-free (Ok sent) power free = free
+  sent-free (Err (MissingImage guid)) power free = free
+  sent-free (Err (ImageTooLarge guid)) power free = free
+  sent-free (Err (Begin st)) power free = free
+  sent-free (Err (End st)) power free = free
+  sent-free (Err ReadFailed) power free = free
+  sent-free (Err Lost) power free = free
+  sent-free (Err Fault) power free = free
+  sent-free (Err Gone) power free = free
+
   -- the turn of a sending that ended, on a device that has power
   pub sent-turn : (result : Result Sent SendStop) (power : Bool) → power ≡ is_ok (flash_of result) → (result ≡ Err Gone → ⊥) → IsTableOf files name (Ok toc) → (Lacks files name → ⊥)
       → Sends files name toc request passes result old new → ∥ agent.Showing old ∥₁ → (IsTrue tells → agent.Showing old)
       → Spends (flash_of result) cs ds → ReadsBy was are result
-      → SendTakes (sent_reply result) (at (Some f) t cs armed true) (at (on_sent result g) u ds arming power)
+      → TakesSending (sent_reply result) (at (Some f) t cs armed true) (at (on_sent result g) u ds arming power)
       → Turns passes tells files (send_call name request) (quiet_turn (send_call name request) (sent_reply result)) (at (Some f) t cs armed true) (at (on_sent result g) u ds arming power) was are
   sent-turn result power powered there table lacks_none sends some showing spent reads takes = record {
     call_is = refl;

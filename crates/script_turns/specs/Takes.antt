@@ -83,6 +83,10 @@ SendTakes (reply.TooLarge guid) old new = SameDevice old new
 SendTakes (reply.BeginRefused st) old new = SameDevice old new
 SendTakes other old new = ⊤
 
+pub record TakesSending (r : Reply) (old new : Moment) : Type 0 where
+  pub spent : SendTakes r old new
+  pub unarmed : StaysFree r old new
+
 -- A boot comes as much nearer an armed loss as an end with this reply does: by the repair of the metadata, and by what the start of
 -- a bank is counted as. A loss that is armed stays so while power comes back.
 pub record BootsBy (r : Reply) (old new : Moment) : Type 0 where
@@ -104,7 +108,7 @@ TakesOn call.End f old r new = SwitchesBy r old new
 TakesOn call.Cancel f old r new = SameDevice old new
 TakesOn (call.Accepts guid) f old r new = StoresBy r f new.on old new
 TakesOn call.Previous f old r new = StoresBy r f new.on old new
-TakesOn (call.Send name request) f old r new = SendTakes r old new
+TakesOn (call.Send name request) f old r new = TakesSending r old new
 TakesOn call.Boot f old r new = BootsBy r old new
 TakesOn (call.Cut n k) f old r new = ⊤
 TakesOn call.Show f old r new = SameDevice old new

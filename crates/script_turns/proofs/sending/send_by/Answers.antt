@@ -5,7 +5,7 @@ use Rattle.agent_calls.specs.Shown.{device as agent_device, fields, moment}
 use Rattle.update_client.specs.Sends.{Sends}
 use Rattle.script_turns.specs.Calls.{moment_live}
 use Rattle.script_turns.specs.Sending.{on_sent}
-use Rattle.script_turns.proofs.SendTurns.{moment-as, sent-takes, sent-turn, shows-known, turns-as, with-power}
+use Rattle.script_turns.proofs.SendTurns.{moment-as, sent-free, sent-takes, sent-turn, shows-known, turns-as, with-power}
 use Rattle.script_turns.proofs.sending.send_by.Goals as goal
 
 pub returns-clause-turns : goal.returns-clause-turns
@@ -24,7 +24,10 @@ returns-clause-turns g c =
     (shows-some (fields agent) (agent.fitting here) g.D.Flash.tells (g.D.Flash.told agent.flash) (agent.knows here) (agent.some here))
     (λ test. shows-known (fields agent) (agent.fitting here) (g.D.Flash.told agent.flash) g.D.Flash.tells (agent.knows here test))
     sent.ensures.costs sent.ensures.reads
-    (sent-takes (g.V.Verifier.passes c.args.verifier.now) g.D.Flash.tells (g.H.Files.contents c.args.files.now) c.as_str.result.now c.args.request (fields agent) (fields new) _ _ _ _ _ _ 0 0 c.args.toc.now sent.result _ _ (sent.ensures.power here)
+    (record {
+    spent = sent-takes (g.V.Verifier.passes c.args.verifier.now) g.D.Flash.tells (g.H.Files.contents c.args.files.now) c.as_str.result.now c.args.request (fields agent) (fields new) _ _ _ _ _ _ 0 0 c.args.toc.now sent.result _ _ (sent.ensures.power here)
     (λ early. let same = sent.ensures.untouched early in
     (ap (λ (a : Agent _ g.D.Flash). g.D.Flash.told (agent_device a)) same, ap (λ (a : Agent _ g.D.Flash). g.D.Flash.counts (agent_device a)) same, ap (λ (a : Agent _ g.D.Flash). g.D.Flash.arming (agent_device a)) same))
-    sent.ensures.spent))
+    sent.ensures.spent;
+    unarmed = sent-free (g.V.Verifier.passes c.args.verifier.now) g.D.Flash.tells (g.H.Files.contents c.args.files.now) c.as_str.result.now c.args.request (fields agent) (fields new) _ _ _ _ _ _ 0 0 c.args.toc.now sent.result _ sent.ensures.unarmed;
+    }))

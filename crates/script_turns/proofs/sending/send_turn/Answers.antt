@@ -15,7 +15,7 @@ use Rattle.script_turns.specs.Tables.{IsAnswer, unread_in}
 use Rattle.script_turns.specs.Turning.{Turns, quiet_turn}
 use Rattle.script_turns.specs.declared.tables.TableStop.{TableStop}
 use Rattle.script_turns.specs.declared.tables.TableStop.TheVariants as stop
-use Rattle.script_turns.proofs.SendTurns.{bad-table, lacks-file, moment-as, send_call, sends-later, turns-as, unread-table}
+use Rattle.script_turns.proofs.SendTurns.{bad-table, lacks-file, moment-as, send_call, sends-later, stays-free, turns-as, unread-table}
 use Rattle.script_turns.proofs.sending.send_turn.Goals as goal
 
 -- what a reading of the table says of the file
@@ -64,7 +64,7 @@ returns-in-Err-Package-clause-turns g c =
     (moment-as c.answered.result.powered (Some (fields agent)) (agent_device agent) c.answered.ensures.on c.answered.ensures.device)
     (bad-table _ _ _ _ _ _ _ _ _ _ _ _ c.read_table.ensures.cause.later (reply.BadPackage fault) (none-failed (Err (stop.Package fault)) _ _ is c.read_table.ensures.cause.once refl) refl refl table (table, refl)
     (is-there files c.as_str.result.now (string_bytes c.args.name) c.read_table.result (stop.Package fault) c.as_str.ensures.value is (λ e. cc) c.read_table.ensures.missing)
-    (record { told = refl; counts = refl; armed = refl; power = refl }))
+    (record { spent = record { told = refl; counts = refl; armed = refl; power = refl }; unarmed = stays-free _ _ }))
 
 pub returns-in-Err-Capsule-clause-turns : goal.returns-in-Err-Capsule-clause-turns
 returns-in-Err-Capsule-clause-turns g c =
@@ -79,7 +79,7 @@ returns-in-Err-Capsule-clause-turns g c =
     (moment-as turned.result.powered (Some (fields agent)) (agent_device agent) turned.ensures.on turned.ensures.device)
     (bad-table _ _ _ _ _ _ _ _ _ _ _ _ c.read_table.ensures.cause.later (reply.BadCapsule fault) (none-failed (Err (stop.Capsule fault)) _ _ is c.read_table.ensures.cause.once refl) refl refl table (table, refl)
     (is-there files c.as_str.result.now (string_bytes c.args.name) c.read_table.result (stop.Capsule fault) c.as_str.ensures.value is (λ e. cc) c.read_table.ensures.missing)
-    (record { told = refl; counts = refl; armed = refl; power = refl }))
+    (record { spent = record { told = refl; counts = refl; armed = refl; power = refl }; unarmed = stays-free _ _ }))
 
 pub returns-in-Err-ReadFailed-clause-turns : goal.returns-in-Err-ReadFailed-clause-turns
 returns-in-Err-ReadFailed-clause-turns g c =
