@@ -1,5 +1,5 @@
 -- The numbers of what is shown, on any device.
-use Rattle.std.proofs.Common.{◌≡◌, ◌⊎◌, ◌≤◌, inl, inr, refl, sym, subst, ◌∙◌, arith}
+use Rattle.std.proofs.Common.{◌≡◌, ◌⊎◌, ◌≤◌, inl, inr, refl, sym, ◌∙◌, arith}
 use Rattle.std.specs.Prelude.{IsTrue}
 use Rattle.fwu_formats.specs.Layout.{fits_layout}
 use Rattle.fwu_formats.specs.Metadata.{fits_meta}

@@ -1,5 +1,5 @@
 -- On any files, each answer is that of some bytes.
-use Rattle.std.proofs.Common.{◌≡◌, ◌<◌, ◌^◌, ℕ, List, [], length, Option, Some, None, Result, Ok, Err, inl, inr, refl, sym, subst, arith}
+use Rattle.std.proofs.Common.{◌≡◌, List, [], Option, Some, None, Result, Ok, Err, inl, inr, refl, sym, subst, arith}
 use Rattle.fwu_formats.specs.Layout.{Layout}
 use Rattle.fwu_formats.specs.Package.{Entry, Toc, toc_of}
 use Rattle.fwu_formats.specs.declared.kinds.FipFault.{FipFault}

@@ -6,9 +6,9 @@ ghost use Rattle.std.proofs.Common.{lit≤};
 ghost use Rattle.std.proofs.lemmas.Bool.{false≢true};
 ghost use Rattle.flash_core.specs.Told.{fresh};
 
-use crate::fixtures::{MANIFEST, image_rows, same};
+use crate::fixtures::{MANIFEST, are_bytes, image_rows, same};
 use flash_core::{Arming, Counts, Flash, FlashStop};
-use image_check::{Verdict, check};
+use image_check::{Verdict, check, check_keeping_manifest};
 use meta_layout::Layout;
 use std::process::Abort;
 use verify_core::{AnyManifest, Verifier};
@@ -172,4 +172,38 @@ fn verdicts(rt: HostRuntime) {
     gives(&rt, (1, 8), &no, Some(Verdict::NotAccepted));
     gives(&rt, (2, 8), &no, Some(Verdict::BadManifest));
     let NoManifest = no;
+}
+
+// What a verdict leaves in the buffer for the manifest.
+fn kept_of(bank: u32) -> Option<[u8; 888]> {
+    let layout = Layout::make(&image_rows(), 3, 14).ok()?;
+    if layout.blocks() > 14 || bank >= layout.banks() {
+        return None;
+    }
+    let mut rom = Rom::new();
+    let mut front = [0xAA; 888];
+    let mut buf = [0; 4096];
+    let result = check_keeping_manifest(
+        &mut rom,
+        &layout,
+        bank,
+        7,
+        &mut front,
+        &mut buf,
+        &AnyManifest,
+    );
+    let Rom {
+        on: _,
+        arming: _,
+        counts: _,
+    } = rom;
+    result.ok()?;
+    Some(front)
+}
+
+#[test]
+fn what_is_read_of_a_manifest_is_kept(rt: HostRuntime) {
+    let front = kept_of(0).unwrap_or([0; 888]);
+    are_bytes(&rt, &front[..104], &MANIFEST);
+    are_bytes(&rt, &front[104..], &[0xAA; 784]);
 }

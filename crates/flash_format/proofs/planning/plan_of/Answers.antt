@@ -1,4 +1,4 @@
-use Rattle.std.proofs.Common.{◌≡◌, List, Result, Ok, Err, Some, subst}
+use Rattle.std.proofs.Common.{◌≡◌, List, Some, subst}
 use Rattle.fwu_formats.specs.Layout.{ImageRow}
 use Rattle.fwu_model.specs.Answer.{first_image_fault}
 use Rattle.flash_format.specs.Choosing.{AreChosen, refused_image}

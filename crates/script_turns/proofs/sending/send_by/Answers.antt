@@ -1,4 +1,4 @@
-use Rattle.std.proofs.Common.{ℕ, List, ap, subst}
+use Rattle.std.proofs.Common.{ℕ, List, true, ap, subst}
 use Rattle.agent_machine.proofs.Showing.{shows-some}
 use Rattle.agent_calls.specs.declared.agent.Agent.{Agent}
 use Rattle.agent_calls.specs.Shown.{device as agent_device, fields, moment}
@@ -29,5 +29,5 @@ returns-clause-turns g c =
     (λ early. let same = sent.ensures.untouched early in
     (ap (λ (a : Agent _ g.D.Flash). g.D.Flash.told (agent_device a)) same, ap (λ (a : Agent _ g.D.Flash). g.D.Flash.counts (agent_device a)) same, ap (λ (a : Agent _ g.D.Flash). g.D.Flash.arming (agent_device a)) same))
     sent.ensures.spent;
-    unarmed = sent-free (g.V.Verifier.passes c.args.verifier.now) g.D.Flash.tells (g.H.Files.contents c.args.files.now) c.as_str.result.now c.args.request (fields agent) (fields new) _ _ _ _ _ _ 0 0 c.args.toc.now sent.result _ sent.ensures.unarmed;
+    unarmed = sent-free (g.V.Verifier.passes c.args.verifier.now) g.D.Flash.tells (g.H.Files.contents c.args.files.now) c.as_str.result.now c.args.request (fields agent) (fields new) (g.D.Flash.told (agent_device agent)) (g.D.Flash.told (agent_device new)) _ _ _ _ 0 0 c.args.toc.now sent.result true sent.ensures.unarmed;
     }))
