@@ -1,5 +1,5 @@
 -- The numbers of what is shown, on any device.
-use Rattle.std.proofs.Common.{◌≡◌, ◌⊎◌, ◌≤◌, inl, inr, refl, sym, ◌∙◌, arith}
+use Rattle.std.proofs.Common.{length, ◌≡◌, ◌⊎◌, ◌≤◌, inl, inr, refl, sym, ◌∙◌, arith}
 use Rattle.std.specs.Prelude.{IsTrue}
 use Rattle.fwu_formats.specs.Layout.{fits_layout}
 use Rattle.fwu_formats.specs.Metadata.{fits_meta}
@@ -31,6 +31,10 @@ numbers-are shown layout meta few form none =
       ];
       fewest = omega (arith, fit.states, limit.fewest_banks);
       most = omega (arith, fit.states, limit.most_banks);
+      images = length shown.layout.rows;
+      fewest_images = limit.fewest_images;
+      most_images = limit.most_images;
+      rows = fit.rows;
       bits = fit.bits ∙ sym fit.states;
       active = omega (arith, fit.states, fit.active);
       previous = omega (arith, fit.states, fit.previous);

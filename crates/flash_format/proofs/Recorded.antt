@@ -1,21 +1,23 @@
 -- Blocks that were erased and then written at their front.
 use Rattle.std.proofs.Common.{◌≡◌, ◌⊎◌, inl, inr, ℕ, ◌+◌, ◌-◌, ◌*◌, ◌/◌, ◌<◌, ◌≤◌, List, ◌++◌, length, get_or, replicate, Some, Result, Ok, Err, refl, sym, ap, subst, ◌∙◌, arith, IsTrue, append_assoc}
-use Rattle.std.specs.Prelude.{OnOk, ◌%◌}
+use Rattle.std.specs.Prelude.{IsErr, OnOk, ◌%◌}
 use Rattle.std.proofs.lemmas.List.{get_or_default, get_or_past, append-nil, length-append, length-replicate}
 use Rattle.std.proofs.lemmas.Bool.{cases_lt}
 use Rattle.base_core.specs.Block.{blank, block}
 use Rattle.base_core.specs.Bytes.{overwritten}
-use Rattle.base_core.proofs.Images.{overwritten_inside, overwritten_above}
-use Rattle.flash_core.specs.Told.{Told, put, settled, NothingDirty}
+use Rattle.base_core.proofs.Images.{length-overwritten, overwritten_inside, overwritten_above}
+use Rattle.flash_core.specs.Told.{Told, put, settled, written, NothingDirty}
 use Rattle.flash_core.specs.May.{Keeps}
 use Rattle.flash_core.specs.Replaces.{padded}
-use Rattle.flash_core.proofs.Calls.{now-put, now-settle, keeps_settle, settle-fresh, now_kept}
+use Rattle.flash_core.proofs.Calls.{now-halt, now-put, now-settle, keeps_settle, settle-fresh, now_kept}
 use Rattle.fwu_formats.specs.Layout.{Layout, fits_layout, layout_of, blocks_needed}
 use Rattle.fwu_formats.specs.Metadata.{Meta, MetaRead, meta_of, meta_read, if_read, meta_bytes, meta_size, replica_bytes, fits_meta}
 use Rattle.fwu_formats.specs.Image.{layout_seen}
 use Rattle.fwu_model.specs.Replica.{BothHold, in_version}
 use Rattle.fwu_formats.proofs.MetaWritten.{meta-read}
+use Rattle.flash_format.specs.Formatted.{HasAtMost}
 use Rattle.flash_format.specs.Places.{Erased, Stands}
+use Rattle.flash_format.proofs.Showing.{unlaid}
 use Rattle.flash_format.proofs.Ranges.{stands_whole}
 
 -- ---- results
@@ -97,6 +99,16 @@ pub layout_read : (L : Layout) (bytes image : List ℕ) (blocks : ℕ) → lengt
 layout_read L bytes image blocks size enough is reads =
     let n : length image / 4096 ≡ blocks = omega (arith, size) in
     ap (λ (l : List ℕ). layout_of l (length image / 4096)) is ∙ reads (length image / 4096) (omega (arith, n, enough))
+
+-- a program of the layout over block 0, which is erased, whatever its result
+pub at_most_written : {T E : Type 0} (result : Result T E) (L : Layout) (bytes : List ℕ) (blocks : ℕ) (s : Told) → length s.now ≡ 4096 * blocks → 8 ≤ blocks → blocks_needed L ≤ blocks → Erased 0 4096 s.now → length bytes ≡ 4096
+    → ((n : ℕ) → blocks_needed L ≤ n → layout_of bytes n ≡ Ok L) → HasAtMost L (written result 0 bytes s).now
+at_most_written (Err e) L bytes blocks s size many enough erased whole reads = inl (subst (λ (image : List ℕ). IsErr (layout_seen image)) (sym (now-halt 0 bytes s)) (unlaid s.now (omega (arith, size, many)) erased))
+at_most_written (Ok x) L bytes blocks s size many enough erased whole reads =
+    let stands : Stands 0 4096 bytes (put 0 bytes s).now = stands_put 0 bytes s (omega (arith, size, many)) (omega (arith, whole)) (λ i above below. erased i above below) in
+    let same : length (put 0 bytes s).now ≡ length s.now = ap length (now-put 0 bytes s) ∙ length-overwritten 0 bytes s.now (omega (arith, size, many, whole)) in
+    let there = block_padded 0 bytes (put 0 bytes s).now (omega (arith, size, many, same)) (omega (arith, whole)) stands ∙ padded_whole bytes whole in
+    inr (layout_read L bytes (put 0 bytes s).now blocks (same ∙ size) enough there reads)
 
 -- the replicas stay where block 0 is written
 pub both_stay : (L : Layout) (r : MetaRead) (s t : Told) → 12288 ≤ length s.now → Keeps 0 4096 s t → BothHold L r s.now → BothHold L r t.now

@@ -78,6 +78,10 @@ pub record IsBlank (L : Layout) (image : List ℕ) : Type 0 where
   pub front : Erased 12288 32768 image
   pub banks : Erased (4096 * (8 + slot_total L.rows)) (4096 * blocks_needed L) image
 
+-- the image has this layout, or none
+abbrev pub HasAtMost : Layout → List ℕ → Type 0
+HasAtMost L image = IsErr (layout_seen image) ⊎ (layout_seen image ≡ Ok L)
+
 -- each image that the next power-on may leave has no layout, or both replicas
 abbrev pub IsOrdered : Layout → Told → Type 0
 IsOrdered L t = (image : List ℕ) → May t image → IsErr (layout_seen image) ⊎ BothHold L (in_version 2 (first_meta L)) image
@@ -94,5 +98,6 @@ pub data IsInOrder (passes : List ℕ → Bool) (L : Layout) (s t : Told) : Type
   -- no loss leaves a layout, and the first eight blocks were erased at most
   bared : OnlyErased s t → ((image : List ℕ) → May t image → IsErr (layout_seen image)) → IsInOrder passes L s t
   -- each loss leaves blocks 3 to 7 and the banks behind bank 0 erased, a layout only with both replicas, and this one only on a
-  -- flash that is formatted whole
-  filled : ((image : List ℕ) → May t image → IsBlank L image) → IsOrdered L t → IsWhole passes L t → IsInOrder passes L s t
+  -- flash that is formatted whole; and no other layout is there
+  filled : ((image : List ℕ) → May t image → IsBlank L image) → IsOrdered L t → IsWhole passes L t → HasAtMost L t.now
+      → IsInOrder passes L s t

@@ -14,7 +14,7 @@ ghost use Rattle.image_check.specs.Passed.{HasPassed};
 ghost use Rattle.image_check.specs.declared.bank.Verdict.TheVariants.{Good};
 ghost use Rattle.image_check.specs.declared.bank.Verdict.{Verdict};
 ghost use Rattle.flash_format.specs.Choosing.{refusal};
-ghost use Rattle.flash_format.specs.Formatted.{HoldsImages, IsBlank, IsFormatted, IsInOrder, IsOrdered, IsRefused, IsSpelled, IsUnlaid, IsWhole};
+ghost use Rattle.flash_format.specs.Formatted.{HasAtMost, HoldsImages, IsBlank, IsFormatted, IsInOrder, IsOrdered, IsRefused, IsSpelled, IsUnlaid, IsWhole};
 ghost use Rattle.flash_format.specs.Places.{AllStand, Erased};
 ghost use Rattle.flash_format.specs.Planned.{IsPlanned};
 ghost use Rattle.flash_format.specs.Stops.{flash_result, Answers, Finishes, IsEarly, IsOfBytes, IsOfLayout, LayoutBy, ReadsBy, RefusesBank, unread_in};
@@ -55,6 +55,7 @@ fn finish<D: Flash, V: Verifier>(
     ensures formatted { IfOk result (λ version. IsTrue D.tells →
         IsFormatted (V.passes verifier.now) layout.now version (D.told flash.new)) }
     ensures spelled { OnOk result (IsTrue D.tells → IsSpelled layout.now (D.told flash.new).now) }
+    ensures at_most { IsTrue D.tells → HasAtMost layout.now (D.told flash.new).now }
     ensures refused { (found : Verdict) → result ≡ Err (InputRefused (BankRefused found)) →
         IsTrue D.tells → IsRefused (V.passes verifier.now) layout.now found (D.told flash.new).now }
     ensures clean { Finishes result (IsTrue D.tells → NothingDirty (D.told flash.old)
@@ -223,8 +224,8 @@ pub fn format<D: Flash, H: Files, V: Verifier>(
     ensures power { D.on flash.new ≡ is_ok (flash_result result) }
     ensures size { D.blocks flash.new ≡ D.blocks flash.old }
     ensures costs { Spends (flash_result result) (D.counts flash.old) (D.counts flash.new) }
-    // On every device: each block is erased once, and each piece of an image, each replica and the layout are programmed once; where
-    // what is in the bank is refused, neither replica and no layout.
+    // On every device, in total: an erase for each block up to the last bank's end, and a program for each piece of an image, for each
+    // replica and for the layout; where what is in the bank is refused, none for replicas and layout.
     ensures spent { IfOk result (λ done.
         Takes (H.contents files.old) name.now done.layout 3 (D.arming flash.old) (D.arming flash.new)) }
     ensures worn { (found : Verdict) → result ≡ Err (InputRefused (BankRefused found)) →

@@ -9,7 +9,7 @@ ghost use Rattle.fwu_formats.specs.Layout.{blocks_needed, fits_layout, layout_by
 ghost use Rattle.fwu_formats.specs.Metadata.{first_meta, replica_bytes};
 ghost use Rattle.fwu_formats.specs.Image.{layout_seen};
 ghost use Rattle.fwu_model.specs.Replica.{BothHold, in_version};
-ghost use Rattle.flash_format.specs.Formatted.{IsOrdered, IsSpelled};
+ghost use Rattle.flash_format.specs.Formatted.{HasAtMost, IsOrdered, IsSpelled};
 ghost use Rattle.flash_format.specs.Places.{Erased};
 
 use flash_core::{Flash, FlashStop};
@@ -79,6 +79,7 @@ fn write_layout<D: Flash>(flash: &mut D, layout: &Layout) -> Result<(), FlashSto
         layout_seen (D.told flash.new).now ≡ Ok layout.now) }
     ensures spelled { OnOk result (IsTrue D.tells →
         block 0 (D.told flash.new).now ≡ padded (layout_bytes layout.now)) }
+    ensures seen { IsTrue D.tells → HasAtMost layout.now (D.told flash.new).now }
     ensures clean { OnOk result (IsTrue D.tells → NothingDirty (D.told flash.new)) }
     ensures power { D.on flash.new ≡ is_ok result }
     ensures size { D.blocks flash.new ≡ D.blocks flash.old }
@@ -105,6 +106,8 @@ pub fn write_records<D: Flash>(flash: &mut D, layout: &Layout) -> Result<(), Fla
     ensures layout { OnOk result (IsTrue D.tells →
         layout_seen (D.told flash.new).now ≡ Ok layout.now) }
     ensures spelled { OnOk result (IsTrue D.tells → IsSpelled layout.now (D.told flash.new).now) }
+    // At any exit no other layout is there.
+    ensures seen { IsTrue D.tells → HasAtMost layout.now (D.told flash.new).now }
     ensures clean { OnOk result (IsTrue D.tells → NothingDirty (D.told flash.new)) }
     // Whatever a loss leaves, no layout is there before both replicas are.
     ensures ordered { IsTrue D.tells → NothingDirty (D.told flash.old) →

@@ -1,5 +1,5 @@
 -- What a verdict has on every device: what was read that gives it.
-use Rattle.std.specs.Prelude.{◌≡◌, ◌-◌, ◌≤◌, ◌<◌, ⊤, ℕ, Bool, List, ◌∷◌, length, is_ok, IsTrue, IsFalse, Option, Some, None}
+use Rattle.std.specs.Prelude.{◌≡◌, ◌+◌, ◌-◌, ◌≤◌, ◌<◌, ⊤, ℕ, Bool, List, ◌∷◌, length, is_ok, IsTrue, IsFalse, Option, Some, None}
 use Rattle.sha2.specs.Sha256.{sha256}
 use Rattle.fwu_formats.specs.Layout.{ImageRow}
 use Rattle.fwu_formats.specs.Manifest.{Row, manifest_of, manifest_part, manifest_size, row_at, is_complete, is_image_of, version}
@@ -17,10 +17,11 @@ IsDigestOf count digest = (bytes : List ℕ) × (length bytes ≡ count) × (dig
 abbrev pub HasImage : Row → Type 0
 HasImage row = (bytes : List ℕ) × IsTrue (is_image_of row bytes)
 
--- Where none is bad, there is an image for each row of the manifest, and else the bad one is of a row.
+-- Where none is bad, there is an image for each row of the manifest, and else the bad one is of a row, and there is one for each
+-- row before it.
 abbrev pub HasImages : List ℕ → ℕ → Option ℕ → Type 0
 HasImages manifest count None = (k : ℕ) → k < count → HasImage (row_at manifest k)
-HasImages manifest count (Some image) = (1 ≤ image) × (image ≤ count)
+HasImages manifest count (Some image) = (1 ≤ image) × (image ≤ count) × ((k : ℕ) → k + 1 < image → HasImage (row_at manifest k))
 
 -- ---- of the bank
 
@@ -66,10 +67,11 @@ HasPassed passes rows counter verdict.NotAccepted = HasRefused passes rows
 HasPassed passes rows counter (verdict.BadImage image) = HasRow passes rows image
 HasPassed passes rows counter (verdict.BelowCounter v c) = (v < c) × (c ≡ counter) × HasPackage passes rows v
 
--- And it is good by this manifest.
-abbrev pub IsGoodBy : (List ℕ → Bool) → List ImageRow → List ℕ → Verdict → Type 0
-IsGoodBy passes rows manifest (verdict.Good v) = HasPackageBy passes rows manifest v
-IsGoodBy passes rows manifest verdict.BadManifest = ⊤
-IsGoodBy passes rows manifest verdict.NotAccepted = ⊤
-IsGoodBy passes rows manifest (verdict.BadImage image) = ⊤
-IsGoodBy passes rows manifest (verdict.BelowCounter v c) = ⊤
+-- And it is so by this manifest.
+abbrev pub IsVerdictBy : (List ℕ → Bool) → List ImageRow → List ℕ → Verdict → Type 0
+IsVerdictBy passes rows manifest (verdict.Good v) = HasPackageBy passes rows manifest v
+IsVerdictBy passes rows manifest verdict.BadManifest = IsFalse (is_ok (manifest_of rows manifest))
+IsVerdictBy passes rows manifest verdict.NotAccepted = IsManifest rows manifest × IsFalse (passes manifest)
+IsVerdictBy passes rows manifest (verdict.BadImage image) =
+    IsManifest rows manifest × IsTrue (passes manifest) × HasImages manifest (length rows - 1) (Some image)
+IsVerdictBy passes rows manifest (verdict.BelowCounter v c) = HasPackageBy passes rows manifest v

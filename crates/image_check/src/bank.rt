@@ -4,7 +4,7 @@ ghost use Rattle.flash_core.specs.Counts.{Spends, ReachesNone, arming_kept};
 ghost use Rattle.fwu_formats.specs.Layout.{slot_total, blocks_needed, start};
 ghost use Rattle.fwu_formats.specs.Manifest as model;
 ghost use Rattle.fwu_formats.specs.Layout.{ImageRow as Row};
-ghost use Rattle.image_check.specs.Passed.{HasPackage, HasPackageBy, HasPassed, IsGoodBy};
+ghost use Rattle.image_check.specs.Passed.{HasPackage, HasPackageBy, HasPassed, IsVerdictBy};
 ghost use Rattle.image_check.specs.Found.{found, front_of};
 ghost use Rattle.image_check.specs.Verdict.{by_counter, verdict_on};
 
@@ -31,8 +31,8 @@ fn of_counter(version: u32, counter: u32) -> Verdict
     ensures verdict { result ≡ by_counter counter version }
     ensures passed { (passes : List ℕ → Bool) (rows : List Row)
         → HasPackage passes rows version → HasPassed passes rows counter result }
-    ensures good { (passes : List ℕ → Bool) (rows : List Row) (manifest : List ℕ)
-        → HasPackageBy passes rows manifest version → IsGoodBy passes rows manifest result }
+    ensures by_manifest { (passes : List ℕ → Bool) (rows : List Row) (manifest : List ℕ)
+        → HasPackageBy passes rows manifest version → IsVerdictBy passes rows manifest result }
 {
     if version < counter {
         Verdict::BelowCounter { version, counter }
@@ -60,7 +60,7 @@ fn check_manifest<D: Flash, V: Verifier>(
     ensures verdict { IfOk result (λ verdict. IsTrue D.tells →
         verdict ≡ found (V.passes verifier.now) counter (D.told flash.old).now rows.now first manifest.now) }
     ensures passed { IfOk result (HasPassed (V.passes verifier.now) rows.now counter) }
-    ensures good { IfOk result (IsGoodBy (V.passes verifier.now) rows.now manifest.now) }
+    ensures by_manifest { IfOk result (IsVerdictBy (V.passes verifier.now) rows.now manifest.now) }
     ensures content { IsTrue D.tells → D.told flash.new ≡ D.told flash.old }
     ensures power { D.on flash.new ≡ is_ok result }
     ensures size { D.blocks flash.new ≡ D.blocks flash.old }
@@ -102,8 +102,8 @@ fn check_at<D: Flash, V: Verifier>(
         verdict ≡ found (V.passes verifier.now) counter (D.told flash.old).now rows.now first
         (front_of (D.told flash.old).now rows.now first)) }
     ensures passed { IfOk result (HasPassed (V.passes verifier.now) rows.now counter) }
-    ensures good { let manifest = take (model.manifest_size (length rows.now - 1)) front.new in
-        IfOk result (IsGoodBy (V.passes verifier.now) rows.now manifest) }
+    ensures by_manifest { let manifest = take (model.manifest_size (length rows.now - 1)) front.new in
+        IfOk result (IsVerdictBy (V.passes verifier.now) rows.now manifest) }
     ensures manifest { let manifest = take (model.manifest_size (length rows.now - 1)) front.new in
         IfOk result (λ verdict. IsTrue D.tells → manifest ≡ front_of (D.told flash.old).now rows.now first) }
     ensures front { length front.new ≡ length front.old }
@@ -138,9 +138,9 @@ pub fn check_keeping_manifest<D: Flash, V: Verifier>(
     ensures verdict { IfOk result (λ verdict. IsTrue D.tells →
         verdict ≡ verdict_on (V.passes verifier.now) counter layout.now (D.told flash.old).now bank) }
     ensures passed { IfOk result (HasPassed (V.passes verifier.now) layout.now.rows counter) }
-    // On every device a bank that is good is so by the manifest that is kept.
-    ensures good { let manifest = take (model.manifest_size (length layout.now.rows - 1)) front.new in
-        IfOk result (IsGoodBy (V.passes verifier.now) layout.now.rows manifest) }
+    // On every device the verdict is by the manifest that is kept: it is none, it is refused or passes, and so each image.
+    ensures by_manifest { let manifest = take (model.manifest_size (length layout.now.rows - 1)) front.new in
+        IfOk result (IsVerdictBy (V.passes verifier.now) layout.now.rows manifest) }
     ensures manifest { let manifest = take (model.manifest_size (length layout.now.rows - 1)) front.new in
         IfOk result (λ verdict. IsTrue D.tells →
         manifest ≡ front_of (D.told flash.old).now layout.now.rows (start layout.now bank 0)) }

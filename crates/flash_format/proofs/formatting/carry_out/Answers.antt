@@ -51,7 +51,7 @@ returns-clause-ordered g c = λ tells.
     let s = g.D.Flash.told c.fill.new.flash in
     let t = g.D.Flash.told c.finish.new.flash in
     let clean = c.in-Ok.ensures.clean tells in
-    in_order_filled (g.V.Verifier.passes c.args.verifier.now) c.args.plan.now.layout (g.D.Flash.told c.args.flash.now) s t clean (c.finish.ensures.keeps tells) (c.in-Ok.ensures.blank tells) (c.finish.ensures.ordered tells clean) (c.finish.ensures.whole tells clean)
+    in_order_filled (g.V.Verifier.passes c.args.verifier.now) c.args.plan.now.layout (g.D.Flash.told c.args.flash.now) s t clean (c.finish.ensures.keeps tells) (c.in-Ok.ensures.blank tells) (c.finish.ensures.ordered tells clean) (c.finish.ensures.whole tells clean) (c.finish.ensures.at_most tells)
 
 pub returns-clause-spent : goal.returns-clause-spent
 returns-clause-spent g c =

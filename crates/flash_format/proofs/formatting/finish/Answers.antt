@@ -1,14 +1,15 @@
-use Rattle.std.proofs.Common.{sym, ap, subst, ◌∙◌, arith, ◌≡◌, ℕ, Result}
+use Rattle.std.proofs.Common.{inl, sym, ap, subst, ◌∙◌, arith, ◌≡◌, ℕ, Result}
 use Rattle.std.specs.Prelude.{OnOk}
 use Rattle.flash_core.specs.Told.{Told, NothingDirty}
 use Rattle.flash_core.specs.May.{Keeps}
 use Rattle.flash_core.proofs.Calls.{keeps_same}
 use Rattle.flash_core.specs.Counts.{lowered_by}
-use Rattle.flash_format.specs.Formatted.{IsWhole}
+use Rattle.flash_format.specs.Formatted.{HasAtMost, IsWhole}
 use Rattle.flash_format.specs.Stops.{flash_result}
 use Rattle.flash_format.specs.declared.stops.FormatStop.{FormatStop}
 use Rattle.flash_format.proofs.Formats.{formatted, refused}
 use Rattle.flash_format.proofs.Ordered.{bare_fresh, bare_unlaid, ordered_before}
+use Rattle.flash_format.proofs.Showing.{unlaid}
 use Rattle.flash_format.proofs.Whole.{whole_after, whole_before}
 use Rattle.flash_format.proofs.formatting.finish.Goals as goal
 
@@ -75,3 +76,10 @@ returns-clause-spent g c = c.in_ok-write_records.ensures.spent ∙ ap (lowered_b
 pub returns-in-Err-clause-worn : goal.returns-in-Err-clause-worn
 returns-in-Err-clause-worn g c = λ found is.
     subst (λ (r : Result ℕ FormatStop). OnOk (flash_result r) (g.D.Flash.arming c.check_bank.new.flash ≡ g.D.Flash.arming c.args.flash.now)) is c.in-Err.ensures.arming
+
+pub returns-in-Err-clause-at_most : goal.returns-in-Err-clause-at_most
+returns-in-Err-clause-at_most g c = λ tells.
+    let s = g.D.Flash.told c.args.flash.now in
+    let size = (g.met.D.Flash.sound c.args.flash.now tells).size in
+    let many = (g.met.D.Flash.sizes c.args.flash.now).0 in
+    subst (λ (u : Told). HasAtMost c.args.layout.now u.now) (sym (c.check_bank.ensures.content tells)) (inl (unlaid s.now (omega (arith, size, many)) (λ i above below. c.requires.erased tells i above (omega (arith, below)))))

@@ -7,7 +7,8 @@ use Rattle.flash_core.proofs.Spent.{spent_barrier, spent_one}
 use Rattle.flash_format.specs.Places.{Stands}
 use Rattle.flash_format.proofs.Ranges.{keeps_written, erased_range}
 use Rattle.fwu_formats.specs.Layout.{layout_bytes}
-use Rattle.flash_format.proofs.Recorded.{on_ok_from, keeps_settled, now_settled, clean_after, stands_put, block_padded, padded_front, padded_whole, layout_read}
+use Rattle.flash_format.specs.Formatted.{HasAtMost}
+use Rattle.flash_format.proofs.Recorded.{at_most_written, on_ok_from, keeps_settled, now_settled, clean_after, stands_put, block_padded, padded_front, padded_whole, layout_read}
 use Rattle.flash_format.proofs.records.write_layout.Goals as goal
 
 pub program-requires-clause-blank : goal.program-requires-clause-blank
@@ -70,3 +71,27 @@ returns-clause-spelled g c = on_ok_from _ c.barrier.result (λ tells.
     let there = block_padded 0 bytes m.now (omega (arith, size, many, same)) (omega (arith, whole)) stands ∙ padded_whole bytes whole in
     let now : t.now ≡ m.now = ap (λ (u : Told). u.now) (c.barrier.ensures.content tells) ∙ now_settled c.barrier.result m in
     ap (block 0) now ∙ there ∙ padded_front bytes (layout_bytes c.args.layout.now) _ whole c.write.ensures.spelled)
+
+pub returns-in_err-program-clause-seen : goal.returns-in_err-program-clause-seen
+returns-in_err-program-clause-seen g c = λ tells.
+    let L = c.args.layout.now in
+    let s = g.D.Flash.told c.args.flash.now in
+    let size = (g.met.D.Flash.sound c.args.flash.now tells).size in
+    let many = (g.met.D.Flash.sizes c.args.flash.now).0 in
+    let whole : length c.write.new.out ≡ 4096 = omega (arith, c.write.auto.out) in
+    let there = at_most_written c.program.result L c.write.new.out _ s size (omega (arith, many)) c.requires.inside (c.requires.erased tells) whole c.write.ensures.read_again in
+    let wrote = subst (λ (u : Told). HasAtMost L u.now) (sym (c.program.ensures.content tells)) there in
+    wrote
+
+pub returns-clause-seen : goal.returns-clause-seen
+returns-clause-seen g c = λ tells.
+    let L = c.args.layout.now in
+    let s = g.D.Flash.told c.args.flash.now in
+    let size = (g.met.D.Flash.sound c.args.flash.now tells).size in
+    let many = (g.met.D.Flash.sizes c.args.flash.now).0 in
+    let whole : length c.write.new.out ≡ 4096 = omega (arith, c.write.auto.out) in
+    let there = at_most_written c.program.result L c.write.new.out _ s size (omega (arith, many)) c.requires.inside (c.requires.erased tells) whole c.write.ensures.read_again in
+    let wrote = subst (λ (u : Told). HasAtMost L u.now) (sym (c.program.ensures.content tells)) there in
+    let m = g.D.Flash.told c.program.new.self in
+    let now = ap (λ (u : Told). u.now) (c.barrier.ensures.content tells) ∙ now_settled c.barrier.result m in
+    subst (HasAtMost L) (sym now) wrote

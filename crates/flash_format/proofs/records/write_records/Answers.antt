@@ -1,4 +1,4 @@
-use Rattle.std.proofs.Common.{◌≡◌, inr, ◌∙◌, arith, IsTrue}
+use Rattle.std.proofs.Common.{◌≡◌, inl, inr, ◌∙◌, arith, IsTrue}
 use Rattle.base_core.specs.Block.{block}
 use Rattle.flash_core.specs.Replaces.{padded}
 use Rattle.flash_core.proofs.Calls.{now_kept}
@@ -7,7 +7,9 @@ use Rattle.fwu_formats.specs.Metadata.{first_meta}
 use Rattle.fwu_model.specs.Replica.{in_version}
 use Rattle.flash_core.proofs.Spent.{spent_then}
 use Rattle.flash_format.specs.Formatted.{IsSpelled}
+use Rattle.flash_format.proofs.Ranges.{erased_stays}
 use Rattle.flash_format.proofs.Recorded.{on_ok_from, on_ok_map, both_stay}
+use Rattle.flash_format.proofs.Showing.{unlaid}
 use Rattle.flash_format.proofs.Ordered.{ordered_before, ordered_after}
 use Rattle.flash_format.proofs.records.write_records.Goals as goal
 
@@ -53,3 +55,11 @@ returns-clause-spelled g c =
       one = now_kept 2 0 4096 s t (omega (arith, size, many)) (inr (omega arith)) keeps ∙ c.in_ok-write_replicas.ensures.one tells;
     })
     c.write_layout.ensures.spelled
+
+pub returns-in_err-write_replicas-clause-seen : goal.returns-in_err-write_replicas-clause-seen
+returns-in_err-write_replicas-clause-seen g c = λ tells.
+    let s = g.D.Flash.told c.args.flash.now in
+    let t = g.D.Flash.told c.write_replicas.new.flash in
+    let size = (g.met.D.Flash.sound c.write_replicas.new.flash tells).size in
+    let many = (g.met.D.Flash.sizes c.write_replicas.new.flash).0 in
+    inl (unlaid t.now (omega (arith, size, many)) (erased_stays 0 4096 4096 12288 s t (inl (omega arith)) (c.write_replicas.ensures.keeps tells) (λ i above below. c.requires.erased tells i above (omega (arith, below)))))

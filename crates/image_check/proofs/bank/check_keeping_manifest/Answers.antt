@@ -1,5 +1,7 @@
-use Rattle.std.proofs.Common.{◌≡◌, ◌+◌, ◌*◌, ◌∙◌, ap, arith, List}
-use Rattle.std.specs.Prelude.{IsTrue}
+use Rattle.std.proofs.Common.{◌≡◌, ◌+◌, ◌-◌, ◌*◌, ◌∙◌, ap, subst, take, length, ℕ, arith, List}
+use Rattle.fwu_formats.specs.Manifest.{manifest_size}
+use Rattle.image_check.specs.Passed.{IsVerdictBy}
+use Rattle.std.specs.Prelude.{IsTrue, IfOk}
 use Rattle.std.proofs.lemmas.Result.{IfOk-weaker}
 use Rattle.fwu_formats.specs.Layout.{ImageRow, slot_total}
 use Rattle.image_check.specs.declared.bank.Verdict.{Verdict}
@@ -33,3 +35,8 @@ returns-clause-verdict g c =
     ∙ ap (λ (r : List ImageRow). found passes c.args.counter image r first (front_of image r first)) c.rows-rows.ensures.value
     ∙ found_is passes c.args.counter image L c.args.bank first c.rows-rows.ensures.fit at (omega (arith, bank, at, size)))
     c.check_at.ensures.verdict
+
+pub returns-clause-by_manifest : goal.returns-clause-by_manifest
+returns-clause-by_manifest g c =
+    let passes = g.V.Verifier.passes c.args.verifier.now in
+    subst (λ (r : List ImageRow). IfOk c.check_at.result (IsVerdictBy passes r (take (manifest_size (length r - 1)) c.check_at.new.front))) c.rows-rows.ensures.value c.check_at.ensures.by_manifest

@@ -55,3 +55,8 @@ returns-clause-bad g c = λ tells.
 
 pub returns-clause-some : goal.returns-clause-some
 returns-clause-some g c = λ k below. c.loop-k.invariant.images k (omega (arith, below))
+
+pub returns-then-not-branch-clause-some : goal.returns-then-not-branch-clause-some
+returns-then-not-branch-clause-some g c =
+    let within : c.loop-k.k < length c.args.rows.now = omega arith in
+    (omega arith, omega arith, λ k below. c.loop-k.invariant.images k (omega (arith, below)))
