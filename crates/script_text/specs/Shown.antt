@@ -1,10 +1,12 @@
 -- The values of the code as those of the model.
-use Rattle.std.specs.Prelude.{◌≡◌, ◌≤◌, ℕ, ◌==◌, Bool, true, List, [], ◌∷◌, Result, Err, length, string_bytes}
+use Rattle.std.specs.Prelude.{◌≡◌, ◌≤◌, ℕ, ◌==◌, Bool, true, List, [], ◌∷◌, Option, Some, None, Result, Err, length, string_bytes}
 use Rattle.fwu_model.specs.Call as model
 use Rattle.fwu_model.specs.Script.{room_limit}
 use Rattle.fwu_model.specs.declared.kinds.Op.TheVariants as op
 use Rattle.script_text.specs.declared.call.Call.{Call}
 use Rattle.script_text.specs.declared.call.Call.TheVariants as variant
+use Rattle.script_text.specs.declared.line.Line.{Line}
+use Rattle.script_text.specs.declared.line.Line.TheVariants as line
 use Rattle.script_text.specs.declared.script.ScriptFault.{ScriptFault}
 use Rattle.script_text.specs.declared.script.ScriptFault.TheVariants.{BadLine, NoMemory}
 
@@ -29,6 +31,17 @@ shown variant.Show = model.Show
 abbrev pub HasBuffer : Call → Type 0
 HasBuffer (variant.Read handle room out) = (length out.items ≡ room) × (room ≤ room_limit)
 HasBuffer _ = Unit {0}
+
+-- what a line has, or that it is no line of a script
+abbrev pub line_shown : Line → Option (Option model.Call)
+line_shown line.Nothing = Some None
+line_shown (line.Call call) = Some (Some (shown call))
+line_shown line.Bad = None
+
+abbrev pub LineHasBuffer : Line → Type 0
+LineHasBuffer line.Nothing = Unit {0}
+LineHasBuffer (line.Call call) = HasBuffer call
+LineHasBuffer line.Bad = Unit {0}
 
 -- this line is the first bad one, or memory was wanting
 abbrev pub IsFaultOf : Result (List model.Call) ℕ → ScriptFault → Type 0

@@ -2,7 +2,7 @@
 ghost use Rattle.std.specs.Prelude.{◌≡◌, ◌==◌, ◌∷◌, [], IfOk, IfSome, option_map};
 ghost use Rattle.std.specs.List.{slice_split};
 ghost use Rattle.fwu_model.specs.Script.{call_of_three, call_of_words, line_of, simple_call};
-ghost use Rattle.script_text.specs.Shown.{HasBuffer, is_nothing, shown};
+ghost use Rattle.script_text.specs.Shown.{HasBuffer, LineHasBuffer, is_nothing, line_shown, shown};
 
 use crate::call::Call;
 use crate::split::split;
@@ -10,6 +10,14 @@ use crate::words::{accept_of, commit_of, cut_of, open_of, read_of, send_of, writ
 use base_core::NoMemory;
 use std::alloc::Global;
 use words_core::is_word;
+
+/// What a line has: nothing, or a call; or it is no line of a script.
+#[derive(Drop)]
+pub enum Line {
+    Nothing,
+    Call(Call),
+    Bad,
+}
 
 /// The call of one word.
 fn call_of_word(word: &[u8]) -> Option<Call>
@@ -111,16 +119,16 @@ fn is_nothing(line: &[u8]) -> bool
     }
 }
 
-/// What a line has, nothing or a call; or no line of a script.
-pub fn read_line(alloc: Global, line: &[u8]) -> Result<Option<Option<Call>>, NoMemory>
-    ensures line { IfOk result (λ found. option_map (option_map shown) found ≡ line_of line.now) }
-    ensures buffer { IfOk result (λ found. IfSome found (λ call. IfSome call HasBuffer)) }
+/// What a line of a script has.
+pub fn read_line(alloc: Global, line: &[u8]) -> Result<Line, NoMemory>
+    ensures line { IfOk result (λ found. line_shown found ≡ line_of line.now) }
+    ensures buffer { IfOk result LineHasBuffer }
 {
     if is_nothing(line) {
-        return Ok(Some(None));
+        return Ok(Line::Nothing);
     }
     match call_in(alloc, line)? {
-        Some(call) => Ok(Some(Some(call))),
-        None => Ok(None),
+        Some(call) => Ok(Line::Call(call)),
+        None => Ok(Line::Bad),
     }
 }

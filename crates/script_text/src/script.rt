@@ -7,7 +7,7 @@ ghost use Rattle.script_text.specs.Armable.{IsArmable};
 ghost use Rattle.script_text.specs.Shown.{HasBuffer, IsFaultOf, shown};
 
 use crate::call::Call;
-use crate::line::read_line;
+use crate::line::{Line, read_line};
 use crate::split::split;
 use std::alloc::{AllocError, Global};
 use std::marker::Model;
@@ -109,11 +109,11 @@ pub fn read_script(alloc: Global, bytes: &[u8]) -> Result<Script, ScriptFault>
     let mut number = 1u32;
     while !rest.is_empty() {
         let (line, behind) = split_line(rest);
-        let Ok(read) = read_line(alloc, line) else {
-            return Err(ScriptFault::NoMemory);
-        };
-        let Some(call) = read else {
-            return Err(ScriptFault::BadLine(number));
+        let call = match read_line(alloc, line) {
+            Ok(Line::Nothing) => None,
+            Ok(Line::Call(call)) => Some(call),
+            Ok(Line::Bad) => return Err(ScriptFault::BadLine(number)),
+            Err(_) => return Err(ScriptFault::NoMemory),
         };
         if push_call(&mut calls, call).is_err() {
             return Err(ScriptFault::NoMemory);
