@@ -25,11 +25,11 @@ parts_of k = listed (length k.rows) (part_at k)
 abbrev pub manifest_kept : Kept → List ℕ
 manifest_kept k = take (manifest_size (length k.rows - 1)) k.front
 
--- all are committed, the first is a manifest that passes and is not below the counter, and each other one is what its row says
 -- the images behind the manifest are what its rows say
 abbrev pub are_rows_kept : Kept → List ℕ → Bool
 are_rows_kept k manifest = all_paired is_part_of (manifest_at manifest).rows (drop 1 (parts_of k))
 
+-- all are committed, the first is a manifest that passes and is not below the counter, and each other one is what its row says
 unfoldable pub is_installable : (List ℕ → Bool) → ℕ → Kept → Bool
 is_installable passes counter k =
     list_all is_part_committed (parts_of k)

@@ -4,7 +4,7 @@ use crate::runs::{Bench, NOTHING, TWO_BANKS, all_leave, all_print};
 use std::alloc::Global;
 use std::process::Abort;
 
-// Where the long image stands, in bank 1: behind ten blocks and a bank of seven.
+// Where the long image stands, in bank 1: behind the first eight blocks, bank 0 of seven, and three blocks of other images.
 const SLOT: usize = 18 * 4096;
 
 const SEND: &str = "boot\nsend long.fip now\nboot\n";
