@@ -224,8 +224,8 @@ pub fn format<D: Flash, H: Files, V: Verifier>(
     ensures power { D.on flash.new ≡ is_ok (flash_result result) }
     ensures size { D.blocks flash.new ≡ D.blocks flash.old }
     ensures costs { Spends (flash_result result) (D.counts flash.old) (D.counts flash.new) }
-    // On every device, in total: an erase for each block up to the last bank's end, and a program for each piece of an image, for each
-    // replica and for the layout; where what is in the bank is refused, none for replicas and layout.
+    // On every device, in total: an erase for each block up to the last bank's end, and a program for each piece of an image, for
+    // each replica and for the layout; where what is in the bank is refused, none for replicas and layout.
     ensures spent { IfOk result (λ done.
         Takes (H.contents files.old) name.now done.layout 3 (D.arming flash.old) (D.arming flash.new)) }
     ensures worn { (found : Verdict) → result ≡ Err (InputRefused (BankRefused found)) →

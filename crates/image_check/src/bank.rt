@@ -119,8 +119,8 @@ fn check_at<D: Flash, V: Verifier>(
     check_manifest(flash, rows, first, manifest, counter, buf, verifier)
 }
 
-/// The verdict on a bank as `check` gives it, and what was read of the bank's manifest, by which it is: that is left at the front of
-/// `front`, which has room for the largest, of 888 bytes.
+/// The verdict on a bank as `check` gives it, and what was read of the bank's manifest, by which it is: that is left at the front
+/// of `front`, which has room for the largest, of 888 bytes.
 pub fn check_keeping_manifest<D: Flash, V: Verifier>(
     flash: &mut D,
     layout: &Layout,

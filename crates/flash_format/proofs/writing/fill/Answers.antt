@@ -160,7 +160,7 @@ returns-in_err-write_bank-clause-bare g c =
     let m = g.D.Flash.told c.erase_all.new.flash in
     let n = g.D.Flash.told c.write_bank.new.flash in
     let bare : IsTrue g.D.Flash.tells → IsBare n = λ tells.
-        bare_stays 32768 (4096 * (8 + slot_total c.args.plan.now.layout.rows)) m n (omega arith) (c.write_bank.ensures.keeps tells) (c.in_ok-erase_all.ensures.bare tells) in
+    bare_stays 32768 (4096 * (8 + slot_total c.args.plan.now.layout.rows)) m n (omega arith) (c.write_bank.ensures.keeps tells) (c.in_ok-erase_all.ensures.bare tells) in
     on_ok_from (IsTrue g.D.Flash.tells → IsBare n) _ bare
 
 pub returns-clause-bare : goal.returns-clause-bare
