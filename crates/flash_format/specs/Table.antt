@@ -14,7 +14,7 @@ IsTable answer (Err (Input other)) = ⊥
 IsTable answer (Err ReadFailed) = ⊤
 IsTable answer (Err (Flash stop)) = ⊥
 
--- on any files: it is the answer of some bytes
+-- on any files: it is the answer of some bytes, unless the file could not be read
 pub record IsTableOfBytes (result : Result Toc FormatStop) : Type 0 where
   pub bytes : List ℕ
   pub short : length bytes < 2 ^ 64

@@ -178,7 +178,8 @@ pub fn format<D: Flash, H: Files, V: Verifier>(
     ensures answers { (file : List ℕ) → Tells (H.contents files.old) name.now file →
         Answers (refusal (record { banks = banks; rows = rows.now })
         (D.blocks flash.old) file) result }
-    // And on any files by some bytes: a refusal is one that they have, and what isn't refused is a package with each image.
+    // And on any files by some bytes, unless the file could not be read: a refusal before the flash is touched is one that they
+    // have, and else they are a package with each image.
     ensures some { IsOfBytes (fitted (record { banks = banks; rows = rows.now }) (D.blocks flash.old)) result }
     ensures untouched { IsEarly result → flash.new ≡ flash.old }
     // A file that could not be read: the flash is as it was, or has no layout, whatever a loss leaves.
@@ -213,7 +214,7 @@ pub fn format<D: Flash, H: Files, V: Verifier>(
     // Either way nothing is dirty, so that a loss leaves just what is there.
     ensures clean { Finishes result (IsTrue D.tells → NothingDirty (D.told flash.new)) }
     // At any exit, whatever a loss leaves: block 0 alone was touched, or a layout stands only with both replicas, and the one that
-    // was asked for only on a flash that is formatted whole.
+    // was asked for only on a flash that is formatted whole; and until a loss no other layout is there.
     ensures ordered { IsTrue D.tells →
         IsInOrder (V.passes verifier.now) (record { banks = banks; rows = rows.now })
         (D.told flash.old) (D.told flash.new) }

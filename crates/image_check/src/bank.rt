@@ -138,7 +138,8 @@ pub fn check_keeping_manifest<D: Flash, V: Verifier>(
     ensures verdict { IfOk result (λ verdict. IsTrue D.tells →
         verdict ≡ verdict_on (V.passes verifier.now) counter layout.now (D.told flash.old).now bank) }
     ensures passed { IfOk result (HasPassed (V.passes verifier.now) layout.now.rows counter) }
-    // On every device the verdict is by the manifest that is kept: it is none, it is refused or passes, and so each image.
+    // On every device the verdict is by the manifest that is kept: it is none, or it is refused, or it passes, with an image for
+    // each row or for each before the bad one.
     ensures by_manifest { let manifest = take (model.manifest_size (length layout.now.rows - 1)) front.new in
         IfOk result (IsVerdictBy (V.passes verifier.now) layout.now.rows manifest) }
     ensures manifest { let manifest = take (model.manifest_size (length layout.now.rows - 1)) front.new in
@@ -175,7 +176,7 @@ pub fn check<D: Flash, V: Verifier>(
     requires bank { bank < layout.now.banks }
     ensures verdict { IfOk result (λ verdict. IsTrue D.tells →
         verdict ≡ verdict_on (V.passes verifier.now) counter layout.now (D.told flash.old).now bank) }
-    // on every device: what is good, or below the counter, is so by some complete package, read from it, that passes
+    // on every device: what is good, or below the counter, is so by some complete package that passes
     ensures passed { IfOk result (HasPassed (V.passes verifier.now) layout.now.rows counter) }
     ensures content { IsTrue D.tells → D.told flash.new ≡ D.told flash.old }
     ensures power { D.on flash.new ≡ is_ok result }

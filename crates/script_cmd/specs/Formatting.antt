@@ -103,7 +103,8 @@ pub record Tries (passes : List ℕ → Bool) (tells : Bool) (told : Option Dire
   -- what is refused before the flash is touched, exactly
   pub layout : LayoutBy (fitted L blocks) r
   pub answers : (file : List ℕ) → Tells told name file → Answers (refusal L blocks file) r
-  -- and on any files by some bytes: a refusal is one that they have, and what isn't refused is a package with each image
+  -- and on any files by some bytes, unless the file could not be read: a refusal before the flash is touched is one that they have,
+  -- and else they are a package with each image
   pub some : IsOfBytes (fitted L blocks) r
   pub untouched : IsEarly r → new.told ≡ mid
   -- a name that told files lack, and nothing was touched
@@ -133,7 +134,7 @@ pub record Tries (passes : List ℕ → Bool) (tells : Bool) (told : Option Dire
       → IsTrue (is_complete L.rows (images_of L.rows file toc))
       → IsTrue (passes (manifest_part (images_of L.rows file toc))) → ⊥
   -- either way nothing is dirty; and whatever the end, and whatever a loss leaves, block 0 alone was touched, or a layout stands
-  -- only with both replicas, and the one that was asked for only on a flash that is formatted whole
+  -- only with both replicas, and the one that was asked for only on a flash that is formatted whole; and until a loss no other is
   pub clean : Finishes r (IsTrue tells → NothingDirty new.told)
   pub ordered : IsTrue tells → IsInOrder passes L mid new.told
   -- nothing changes beyond the last bank

@@ -62,8 +62,9 @@ GetsPower tells (Some f) old new = SameDevice old new
 -- The flash had power, and its boot ended so. On any device a boot that found no layout or no metadata wrote nothing, and one that
 -- started a bank wrote no more than the repair and the count of the start; and what was started may be, by the numbers at entry,
 -- with the counter and the trials that they make, and is of a version that some complete package has whose manifest passes, not
--- below the counter. Where the content is told, the end is that of the bytes, sound or not, and so are what was written and how
--- much nearer an armed loss came.
+-- below the counter, with images of the lengths that are told. These numbers, also those of a stop, are numbers of a flash. Where
+-- the content is told, the end is that of the bytes, sound or not, and so are what was written and how much nearer an armed loss
+-- came.
 pub record BootsAs (passes : List ℕ → Bool) (tells : Bool) (old : Moment) (t : Turn) (new : Moment) : Type 0 where
   pub mid : Moment
   pub has : GetsPower tells old.on old mid

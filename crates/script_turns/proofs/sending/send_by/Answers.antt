@@ -25,9 +25,9 @@ returns-clause-turns g c =
     (λ test. shows-known (fields agent) (agent.fitting here) (g.D.Flash.told agent.flash) g.D.Flash.tells (agent.knows here test))
     sent.ensures.costs sent.ensures.reads
     (record {
-    spent = sent-takes (g.V.Verifier.passes c.args.verifier.now) g.D.Flash.tells (g.H.Files.contents c.args.files.now) c.as_str.result.now c.args.request (fields agent) (fields new) _ _ _ _ _ _ 0 0 c.args.toc.now sent.result _ _ (sent.ensures.power here)
-    (λ early. let same = sent.ensures.untouched early in
-    (ap (λ (a : Agent _ g.D.Flash). g.D.Flash.told (agent_device a)) same, ap (λ (a : Agent _ g.D.Flash). g.D.Flash.counts (agent_device a)) same, ap (λ (a : Agent _ g.D.Flash). g.D.Flash.arming (agent_device a)) same))
-    sent.ensures.spent;
-    unarmed = sent-free (g.V.Verifier.passes c.args.verifier.now) g.D.Flash.tells (g.H.Files.contents c.args.files.now) c.as_str.result.now c.args.request (fields agent) (fields new) (g.D.Flash.told (agent_device agent)) (g.D.Flash.told (agent_device new)) _ _ _ _ 0 0 c.args.toc.now sent.result true sent.ensures.unarmed;
+      spent = sent-takes (g.V.Verifier.passes c.args.verifier.now) g.D.Flash.tells (g.H.Files.contents c.args.files.now) c.as_str.result.now c.args.request (fields agent) (fields new) _ _ _ _ _ _ 0 0 c.args.toc.now sent.result _ _ (sent.ensures.power here)
+          (λ early. let same = sent.ensures.untouched early in
+          (ap (λ (a : Agent _ g.D.Flash). g.D.Flash.told (agent_device a)) same, ap (λ (a : Agent _ g.D.Flash). g.D.Flash.counts (agent_device a)) same, ap (λ (a : Agent _ g.D.Flash). g.D.Flash.arming (agent_device a)) same))
+          sent.ensures.spent;
+      unarmed = sent-free (g.V.Verifier.passes c.args.verifier.now) g.D.Flash.tells (g.H.Files.contents c.args.files.now) c.as_str.result.now c.args.request (fields agent) (fields new) (g.D.Flash.told (agent_device agent)) (g.D.Flash.told (agent_device new)) _ _ _ _ 0 0 c.args.toc.now sent.result true sent.ensures.unarmed;
     }))
