@@ -15,7 +15,7 @@ use Rattle.fip_tables.proofs.Filled.{entry-size}
 use Rattle.fip_tables.proofs.Told.{range_is}
 use Rattle.fip_tables.proofs.Zeros.{zeros-decide}
 use Rattle.fip_words.specs.Order.{part_view}
-use Rattle.fip_words.specs.declared.values.Part.{Part as Word}
+use Rattle.fip_words.specs.declared.values.FileWord.{FileWord}
 use Rattle.fip_tool.specs.Payloads.{HasEntry, IsThere, outline_of, part_told}
 use Rattle.fip_tool.specs.Steps.{Gives}
 use Rattle.fip_tool.specs.Tool.{after, fit_value, nothing, pack_value, part_in, parts_in, size_in, there, unless_fault, new_bytes, updated_part}
@@ -28,7 +28,7 @@ use Rattle.fip_tool.proofs.Tables.{gives-err, sized, tells}
 -- ---- a named file
 
 -- the payload that a file of so many bytes is
-pub payload-made : (told : Directory) (x : Word) (p : Payload) (n : ℕ) → size_in told x.file.now ≡ Ok n → p.guid ≡ x.guid → p.flags ≡ 0 → p.size ≡ n → p.file.now ≡ x.file.now → p.at ≡ 0
+pub payload-made : (told : Directory) (x : FileWord) (p : Payload) (n : ℕ) → size_in told x.file.now ≡ Ok n → p.guid ≡ x.guid → p.flags ≡ 0 → p.size ≡ n → p.file.now ≡ x.file.now → p.at ≡ 0
     → there (part_in told (part_view x)) ≡ Ok (part_told told p)
 payload-made told x p n e guid flags size file at =
     let s = sized told x.file.now n e in
@@ -42,7 +42,7 @@ payload-made told x p n e guid flags size file at =
     ∙ ap (λ (k : ℕ). Ok (part p.guid k (part_told told p).bytes)) (sym flags)
 
 -- a file that is not there
-pub payload-stopped : (told : Directory) (x : Word) (s : Stop) → size_in told x.file.now ≡ Err s → there (part_in told (part_view x)) ≡ Err s
+pub payload-stopped : (told : Directory) (x : FileWord) (s : Stop) → size_in told x.file.now ≡ Err s → there (part_in told (part_view x)) ≡ Err s
 unfolding size_in
 payload-stopped told x s e = go (told x.file.now) refl e
   where
@@ -62,7 +62,7 @@ one-more-there P ps p all here = All-append P ps (p ∷ []) all (λ k d lt. at k
     at zero d lt = here
     at (suc k) d lt = absurd (omega (arith, lt))
 
-pub more-payloads : (told : Directory) (all : List Word) (i : ℕ) (x : Word) → i < length all → x ≡ get_or all i x → (ps : List Payload) (p : Payload)
+pub more-payloads : (told : Directory) (all : List FileWord) (i : ℕ) (x : FileWord) → i < length all → x ≡ get_or all i x → (ps : List Payload) (p : Payload)
     → parts_in told (map part_view (take i all)) ≡ Ok (map (part_told told) ps) → there (part_in told (part_view x)) ≡ Ok (part_told told p)
     → parts_in told (map part_view (take (i + 1) all)) ≡ Ok (map (part_told told) (ps ++ (p ∷ [])))
 more-payloads told all i x lt is ps p e h =

@@ -6,7 +6,7 @@ use Rattle.host_io.specs.Contents.{Directory}
 use Rattle.fwu_formats.specs.Package.{Part, packed}
 use Rattle.fip_words.specs.Order.{part_view}
 use Rattle.fip_words.specs.Values.{NamedFile, each}
-use Rattle.fip_words.specs.declared.values.Part.{Part as Word}
+use Rattle.fip_words.specs.declared.values.FileWord.{FileWord}
 use Rattle.fip_tables.specs.Packing.{pack_fault}
 use Rattle.fip_tables.specs.declared.faults.PackFault.{PackFault}
 use Rattle.fip_tool.specs.Steps.{Gives}
@@ -74,20 +74,20 @@ parts-stopped told xs x ys s e = go (part_in told x) refl e
         ap (λ (a : Option (List Part)). there a) (each-stops (part_in told) xs x ys is) ∙ ap (λ (t : Stop). Err t) same
     go (Some q) is h = cc
 
-module _ (told : Directory) (all : List Word) (i : ℕ) (x : Word) (within : i < length all) (is : x ≡ get_or all i x) where
+module _ (told : Directory) (all : List FileWord) (i : ℕ) (x : FileWord) (within : i < length all) (is : x ≡ get_or all i x) where
   pub stopped-at : (s : Stop) → there (part_in told (part_view x)) ≡ Err s → parts_in told (map part_view all) ≡ Err s
   stopped-at s e =
       let split : all ≡ take i all ++ (x ∷ drop (suc i) all) =
-      sym (take-append-drop i all) ∙ ap (λ (l : List Word). take i all ++ l) (drop-cons all i x within ∙ ap (λ (y : Word). y ∷ drop (suc i) all) (sym is)) in
-      ap (λ (l : List Word). parts_in told (map part_view l)) split
+      sym (take-append-drop i all) ∙ ap (λ (l : List FileWord). take i all ++ l) (drop-cons all i x within ∙ ap (λ (y : FileWord). y ∷ drop (suc i) all) (sym is)) in
+      ap (λ (l : List FileWord). parts_in told (map part_view l)) split
       ∙ ap (parts_in told) (map-append part_view (take i all) (x ∷ drop (suc i) all))
       ∙ parts-stopped told (map part_view (take i all)) (part_view x) (map part_view (drop (suc i) all)) s e
 
   pub more-at : (ps : List Part) (p : Part) → parts_in told (map part_view (take i all)) ≡ Ok ps → there (part_in told (part_view x)) ≡ Ok p
       → parts_in told (map part_view (take (i + 1) all)) ≡ Ok (ps ++ (p ∷ []))
   more-at ps p e h =
-      let split : take (i + 1) all ≡ take i all ++ (x ∷ []) = take_more all i x within ∙ ap (λ (y : Word). take i all ++ (y ∷ [])) (sym is) in
-      ap (λ (l : List Word). parts_in told (map part_view l)) split
+      let split : take (i + 1) all ≡ take i all ++ (x ∷ []) = take_more all i x within ∙ ap (λ (y : FileWord). take i all ++ (y ∷ [])) (sym is) in
+      ap (λ (l : List FileWord). parts_in told (map part_view l)) split
       ∙ ap (parts_in told) (map-append part_view (take i all) (x ∷ []))
       ∙ parts-more told (map part_view (take i all)) (part_view x) ps p e h
 

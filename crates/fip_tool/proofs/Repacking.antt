@@ -13,7 +13,7 @@ use Rattle.fwu_formats.specs.declared.kinds.FipFault.TheVariants as fault
 use Rattle.fip_tables.specs.Files.{Lacks, Tells}
 use Rattle.fip_words.specs.Order.{part_view}
 use Rattle.fip_words.specs.Values.{NamedFile}
-use Rattle.fip_words.specs.declared.values.Part.{Part as Word}
+use Rattle.fip_words.specs.declared.values.FileWord.{FileWord}
 use Rattle.fip_tool.specs.Tool.{after, chosen, first_missing, is_named, kept_part, pack_value, package_in, parts_in, remove_value, sized_table, table_of, there, unless_missing, unpack_value, update_value, updated_part}
 use Rattle.fip_tool.specs.Steps.{Gives}
 use Rattle.fip_tool.specs.declared.stops.Stop.{Stop}
@@ -162,21 +162,21 @@ unfolding unpack_value
 unpack-err told name guids s e = stopped told name guids (λ p. Ok (p.0, chosen guids p.1.entries)) s e
 
 -- the types of the named files
-pub types-are : (words : List Word) → map (λ q. q.guid) (map part_view words) ≡ map (λ (w : Word). w.guid) words
+pub types-are : (words : List FileWord) → map (λ q. q.guid) (map part_view words) ≡ map (λ (w : FileWord). w.guid) words
 types-are [] = refl
 types-are (w ∷ words) = ap (λ (l : List (List ℕ)). w.guid ∷ l) (types-are words)
 
 abbrev updating : Directory → ℕ → List NamedFile → List ℕ × Toc → Result (ℕ × List ℕ) Stop
 updating told a parts p = after (parts_in told parts) (λ fresh. pack_value p.1.serial p.1.flags (map (updated_part p.0 fresh) p.1.entries) a)
 
-pub update-of : (told : Directory) (a : ℕ) (name : List ℕ) (words : List Word) (guids : List (List ℕ)) (toc : Toc) (o : IsOpened told name guids toc) → guids ≡ map (λ (w : Word). w.guid) words
+pub update-of : (told : Directory) (a : ℕ) (name : List ℕ) (words : List FileWord) (guids : List (List ℕ)) (toc : Toc) (o : IsOpened told name guids toc) → guids ≡ map (λ (w : FileWord). w.guid) words
     → update_value told a name (map part_view words) ≡ after (parts_in told (map part_view words)) (λ fresh. pack_value toc.serial toc.flags (map (updated_part o.bytes fresh) toc.entries) a)
 unfolding update_value
 update-of told a name words guids toc o e =
     ap (λ (g : List (List ℕ)). made_with g (updating told a (map part_view words)) (package_in told name)) (types-are words ∙ sym e)
     ∙ going-on told name guids toc (updating told a (map part_view words)) o
 
-pub update-err : (told : Directory) (a : ℕ) (name : List ℕ) (words : List Word) (guids : List (List ℕ)) (s : Stop) → guids ≡ map (λ (w : Word). w.guid) words → table_with told name guids ≡ Err s
+pub update-err : (told : Directory) (a : ℕ) (name : List ℕ) (words : List FileWord) (guids : List (List ℕ)) (s : Stop) → guids ≡ map (λ (w : FileWord). w.guid) words → table_with told name guids ≡ Err s
     → update_value told a name (map part_view words) ≡ Err s
 unfolding update_value
 update-err told a name words guids s is e =

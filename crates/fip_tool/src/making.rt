@@ -19,7 +19,7 @@ use crate::stops::Stop;
 use crate::writing::put_made;
 use base_core::Guid;
 use fip_tables::{Entry, Toc};
-use fip_words::Part as NamedFile;
+use fip_words::FileWord;
 use host_io::{Files, Sink};
 use std::alloc::{AllocError, Global};
 
@@ -30,7 +30,7 @@ fn created<H: Files>(
     alloc: Global,
     files: &mut H,
     align: u32,
-    named: &[NamedFile<'_>],
+    named: &[FileWord<'_>],
 ) -> Result<(u64, Vec<u8>), Stop>
     ensures told { (told : Directory) → H.contents files.old ≡ Some told
         → Gives (λ m. (m.0, m.1.items)) (Rose (H.faults files.old) (H.faults files.new))
@@ -96,7 +96,7 @@ fn kept_entries(alloc: Global, entries: &[Entry], guids: &[Guid]) -> Result<Vec<
 }
 
 // The types of named files.
-fn types_of(alloc: Global, named: &[NamedFile]) -> Result<Vec<Guid>, AllocError>
+fn types_of(alloc: Global, named: &[FileWord]) -> Result<Vec<Guid>, AllocError>
     ensures { IfOk result (λ v. v.items ≡ map (λ p. p.guid) named.now) }
 {
     named.iter().map(|one| one.guid).collect(alloc)
@@ -171,7 +171,7 @@ fn replaced<H: Files>(
     align: u32,
     from: &str,
     toc: &Toc,
-    named: &[NamedFile<'_>],
+    named: &[FileWord<'_>],
 ) -> Result<(u64, Vec<u8>), Stop>
     requires stored { (bytes : List ℕ) → Tells (H.contents files.old) from.now bytes
         → All (λ e. e.offset + e.size ≤ length bytes) toc.now.entries }
@@ -202,7 +202,7 @@ fn updated<H: Files>(
     files: &mut H,
     align: u32,
     from: &str,
-    named: &[NamedFile<'_>],
+    named: &[FileWord<'_>],
 ) -> Result<(u64, Vec<u8>), Stop>
     ensures told { (told : Directory) → H.contents files.old ≡ Some told
         → Gives (λ m. (m.0, m.1.items)) (Rose (H.faults files.old) (H.faults files.new))
@@ -230,7 +230,7 @@ pub fn run_create<H: Files, O: Sink>(
     sink: &mut O,
     align: u32,
     out: &str,
-    named: &[NamedFile<'_>],
+    named: &[FileWord<'_>],
 ) -> Result<(), Stop>
     ensures told { (told : Directory) → H.contents files.old ≡ Some told
         → Did (outcome_by (packs out.now) (create_value told align (map part_view named.now))) told
@@ -297,7 +297,7 @@ pub fn run_update<H: Files, O: Sink>(
     align: u32,
     from: &str,
     out: &str,
-    named: &[NamedFile<'_>],
+    named: &[FileWord<'_>],
 ) -> Result<(), Stop>
     ensures told { (told : Directory) → H.contents files.old ≡ Some told
         → Did (outcome_by (packs out.now)

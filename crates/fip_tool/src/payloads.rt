@@ -12,7 +12,7 @@ use crate::stops::Stop;
 use crate::table::size_of;
 use base_core::{Guid, NoMemory};
 use fip_tables::{Entry, Outline};
-use fip_words::Part as NamedFile;
+use fip_words::FileWord;
 use host_io::Files;
 use std::alloc::Global;
 
@@ -41,7 +41,7 @@ impl<'a> Payload<'a> {
 }
 
 // The payload that a named file is, whole.
-fn payload_of_file<'a, H: Files>(files: &mut H, named: &NamedFile<'a>) -> Result<Payload<'a>, Stop>
+fn payload_of_file<'a, H: Files>(files: &mut H, named: &FileWord<'a>) -> Result<Payload<'a>, Stop>
     ensures told { (told : Directory) → H.contents files.old ≡ Some told
         → Gives (part_told told) (Rose (H.faults files.old) (H.faults files.new))
         (there (part_in told (part_view named.now))) result }
@@ -66,7 +66,7 @@ fn payload_of_file<'a, H: Files>(files: &mut H, named: &NamedFile<'a>) -> Result
 pub fn payloads_of_files<'a, H: Files>(
     alloc: Global,
     files: &mut H,
-    named: &[NamedFile<'a>],
+    named: &[FileWord<'a>],
 ) -> Result<Vec<Payload<'a>>, Stop>
     ensures told { (told : Directory) → H.contents files.old ≡ Some told
         → Gives (λ v. map (part_told told) v.items) (Rose (H.faults files.old) (H.faults files.new))

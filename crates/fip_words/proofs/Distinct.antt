@@ -1,12 +1,12 @@
 -- What is read, where no type is named twice.
 use Rattle.std.proofs.Common.{◌≡◌, ℕ, List, [], ◌∷◌, Some, None, true, false, map, refl, ap}
 use Rattle.fwu_formats.specs.Layout.{are_distinct}
-use Rattle.fip_words.specs.declared.values.Part.{Part}
+use Rattle.fip_words.specs.declared.values.FileWord.{FileWord}
 use Rattle.fip_words.specs.declared.values.ImageWord.{ImageWord}
 use Rattle.fip_words.specs.Order.{part_view, image_view}
 use Rattle.fip_words.specs.Values.{NamedFile, NamedImage, each, part_of, parts_of, row_of, rows_of}
 
-types-of_parts : (ps : List Part) → map (λ (p : NamedFile). p.guid) (map part_view ps) ≡ map (λ (p : Part). p.guid) ps
+types-of_parts : (ps : List FileWord) → map (λ (p : NamedFile). p.guid) (map part_view ps) ≡ map (λ (p : FileWord). p.guid) ps
 types-of_parts [] = refl
 types-of_parts (p ∷ ps) = ap (λ (gs : List (List ℕ)). p.guid ∷ gs) (types-of_parts ps)
 
@@ -14,13 +14,13 @@ types-of_rows : (rs : List ImageWord) → map (λ (r : NamedImage). r.guid) (map
 types-of_rows [] = refl
 types-of_rows (r ∷ rs) = ap (λ (gs : List (List ℕ)). r.guid ∷ gs) (types-of_rows rs)
 
-pub parts-distinct : (texts : List (List ℕ)) (ps : List Part) (gs : List (List ℕ)) → each part_of texts ≡ Some (map part_view ps)
-    → gs ≡ map (λ (p : Part). p.guid) ps → are_distinct gs ≡ true → parts_of texts ≡ Some (map part_view ps)
+pub parts-distinct : (texts : List (List ℕ)) (ps : List FileWord) (gs : List (List ℕ)) → each part_of texts ≡ Some (map part_view ps)
+    → gs ≡ map (λ (p : FileWord). p.guid) ps → are_distinct gs ≡ true → parts_of texts ≡ Some (map part_view ps)
 unfolding parts_of
 parts-distinct texts ps gs read types differ = rw (read, types-of_parts ps, ← types, differ) refl
 
-pub parts-repeated : (texts : List (List ℕ)) (ps : List Part) (gs : List (List ℕ)) → each part_of texts ≡ Some (map part_view ps)
-    → gs ≡ map (λ (p : Part). p.guid) ps → are_distinct gs ≡ false → parts_of texts ≡ None
+pub parts-repeated : (texts : List (List ℕ)) (ps : List FileWord) (gs : List (List ℕ)) → each part_of texts ≡ Some (map part_view ps)
+    → gs ≡ map (λ (p : FileWord). p.guid) ps → are_distinct gs ≡ false → parts_of texts ≡ None
 unfolding parts_of
 parts-repeated texts ps gs read types same = rw (read, types-of_parts ps, ← types, same) refl
 

@@ -6,7 +6,7 @@ use Rattle.clap_words.specs.Words.{reads}
 pub use Rattle.clap_words.specs.Answers.{file_in, values_of}
 use Rattle.fip_words.specs.Commands.{fip_app}
 use Rattle.fip_words.specs.Values.{NamedFile, NamedImage, align_of, number_read, is_unpacked, names_of, parts_of, rows_of}
-use Rattle.fip_words.specs.declared.values.Part.{Part}
+use Rattle.fip_words.specs.declared.values.FileWord.{FileWord}
 use Rattle.fip_words.specs.declared.values.ImageWord.{ImageWord}
 use Rattle.fip_words.specs.declared.order.FipOrder.{FipOrder}
 use Rattle.fip_words.specs.declared.order.FipOrder.TheVariants.{Info, InfoOfSource, Create, Update, Remove, Unpack, Manifest, Capsule, Package}
@@ -23,7 +23,7 @@ pub data Asked : Type 0 where
   capsule : List ℕ → List ℕ → Asked
   repackage : ℕ → List ℕ → List ℕ → Asked
 
-abbrev pub part_view : Part → NamedFile
+abbrev pub part_view : FileWord → NamedFile
 part_view p = record { guid = p.guid; file = p.file.now }
 
 abbrev pub image_view : ImageWord → NamedImage

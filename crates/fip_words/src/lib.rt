@@ -9,4 +9,4 @@ mod values;
 pub use clap_words::UsageStop;
 pub use laws::{plain_words_are_taken, refusals_are_of_clap, unpacked_files};
 pub use order::{FipOrder, fip_order};
-pub use values::{ImageWord, Part};
+pub use values::{FileWord, ImageWord};

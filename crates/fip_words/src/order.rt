@@ -6,7 +6,7 @@ ghost use Rattle.fip_words.specs.Order.{align_in, asked, capsule_of, create_of, 
 ghost use Rattle.fip_words.specs.Values as value;
 
 use crate::commands::fip_command;
-use crate::values::{ImageWord, Part, align_value, is_unpacked_file, names, parts, rows};
+use crate::values::{FileWord, ImageWord, align_value, is_unpacked_file, names, parts, rows};
 use base_core::Guid;
 use clap::ArgMatches;
 use clap_words::{UsageStop, given, given_all, given_file, matches, read_number};
@@ -26,14 +26,14 @@ pub enum FipOrder<'a> {
     Create {
         align: u32,
         out: &'a str,
-        parts: Vec<Part<'a>>,
+        parts: Vec<FileWord<'a>>,
     },
     /// Replaces payloads in place.
     Update {
         align: u32,
         from: &'a str,
         out: &'a str,
-        parts: Vec<Part<'a>>,
+        parts: Vec<FileWord<'a>>,
     },
     /// Drops entries.
     Remove {
@@ -88,7 +88,7 @@ fn given_number<'a>(found: &ArgMatches<'a>, id: &str) -> Result<u32, UsageStop>
     }
 }
 
-fn given_parts<'a>(alloc: Global, found: &ArgMatches<'a>) -> Result<Vec<Part<'a>>, UsageStop>
+fn given_parts<'a>(alloc: Global, found: &ArgMatches<'a>) -> Result<Vec<FileWord<'a>>, UsageStop>
     ensures { Answers (λ v. map part_view v.items) result
         (value.parts_of (values_of (codes "parts") (rows_of (found_of found.now)))) }
 {

@@ -15,7 +15,7 @@ use words_core::{guid_spelled, is_word};
 
 /// A payload's type, and the file that it comes from.
 #[derive(Clone, Copy, Debug, PartialEq, Eq)]
-pub struct Part<'a> {
+pub struct FileWord<'a> {
     pub guid: Guid,
     pub file: &'a str,
 }
@@ -43,13 +43,13 @@ fn split_at_comma<'a>(text: &'a str) -> Option<(&'a str, &'a str)>
 }
 
 #[tactic(auto, unfolding(crate::specs::Values::part_of))]
-fn read_part<'a>(text: &'a str) -> Option<Part<'a>>
+fn read_part<'a>(text: &'a str) -> Option<FileWord<'a>>
     ensures { option_map part_view result ≡ part_of text.entry.now }
 {
     let (name, file) = split_at_equals(text)?;
     let guid = read_name(name)?;
     let file = file_value(file)?;
-    Some(Part { guid, file })
+    Some(FileWord { guid, file })
 }
 
 #[tactic(auto, unfolding(crate::specs::Values::version_of))]
@@ -76,7 +76,7 @@ fn read_row<'a>(text: &'a str) -> Option<ImageWord<'a>>
     })
 }
 
-fn each_part<'a>(alloc: Global, texts: &[&'a str]) -> Result<Vec<Part<'a>>, UsageStop>
+fn each_part<'a>(alloc: Global, texts: &[&'a str]) -> Result<Vec<FileWord<'a>>, UsageStop>
     ensures { Answers (λ v. map part_view v.items) result (each part_of (map (λ s. s.now) texts.now)) }
 {
     let mut parts = Vec::new(alloc);
@@ -138,7 +138,7 @@ fn differ(guids: &[Guid]) -> bool
     true
 }
 
-fn types_of_parts(alloc: Global, parts: &[Part]) -> Result<Vec<Guid>, AllocError>
+fn types_of_parts(alloc: Global, parts: &[FileWord]) -> Result<Vec<Guid>, AllocError>
     ensures { IfOk result (λ v. v.items ≡ map (λ p. p.guid) parts.now) }
 {
     parts.iter().map(|part| part.guid).collect(alloc)
@@ -152,7 +152,7 @@ fn types_of_rows(alloc: Global, rows: &[ImageWord]) -> Result<Vec<Guid>, AllocEr
 
 /// The parts that the words are. `Usage` comes exactly where one is no part, or a type is named twice.
 #[tactic(auto, unfolding(crate::specs::Values::parts_of))]
-pub fn parts<'a>(alloc: Global, texts: &[&'a str]) -> Result<Vec<Part<'a>>, UsageStop>
+pub fn parts<'a>(alloc: Global, texts: &[&'a str]) -> Result<Vec<FileWord<'a>>, UsageStop>
     ensures { Answers (λ v. map part_view v.items) result (parts_of (map (λ s. s.now) texts.now)) }
 {
     let parts = each_part(alloc, texts)?;

@@ -4,7 +4,7 @@ use Rattle.fip_words.specs.Order.{create, part_view}
 use Rattle.std.specs.Prelude.{IfOk}
 use Rattle.std.specs.Global.{Global}
 use Rattle.host_io.specs.declared.writes.Writes.{Writes}
-use Rattle.fip_words.specs.declared.values.Part.{Part}
+use Rattle.fip_words.specs.declared.values.FileWord.{FileWord}
 use Rattle.fip_tool.specs.Lines.{packed_line}
 use Rattle.fip_tool.specs.Said.{IsPackedLine, IsTexts}
 use Rattle.fip_tool.specs.Tool.{create_value}
@@ -16,7 +16,7 @@ use Rattle.fip_tool.proofs.WroteLemmas.{wrote-as}
 use Rattle.fip_tool.proofs.making.run_create.Goals as goal
 
 -- the line is of all named files, with some size
-texts-are : (align : ℕ) (out : List ℕ) (made : Result (ℕ × Vec ℕ Global) Stop) (named : List Part) → IfOk made (λ m. m.0 ≡ length named) → (texts : List (List ℕ)) → IsPackedLine made texts → IsTexts (create align out (map part_view named)) texts
+texts-are : (align : ℕ) (out : List ℕ) (made : Result (ℕ × Vec ℕ Global) Stop) (named : List FileWord) → IfOk made (λ m. m.0 ≡ length named) → (texts : List (List ℕ)) → IsPackedLine made texts → IsTexts (create align out (map part_view named)) texts
 texts-are align out made named count texts t = let p = packed-texts made (λ n. n ≡ length named) count texts t in (p.2, p.3 ∙ ap (λ (n : ℕ). packed_line n p.2 ∷ []) (p.1 ∙ sym (length-map named part_view)))
 
 pub returns-clause-told : goal.returns-clause-told

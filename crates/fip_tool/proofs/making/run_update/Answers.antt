@@ -4,7 +4,7 @@ use Rattle.fip_words.specs.Order.{update, part_view}
 use Rattle.std.specs.Prelude.{IfOk}
 use Rattle.std.specs.Global.{Global}
 use Rattle.host_io.specs.declared.writes.Writes.{Writes}
-use Rattle.fip_words.specs.declared.values.Part.{Part}
+use Rattle.fip_words.specs.declared.values.FileWord.{FileWord}
 use Rattle.fip_tool.specs.Lines.{packed_line}
 use Rattle.fip_tool.specs.Said.{IsPackedLine, IsTexts}
 use Rattle.fip_tool.specs.Tool.{update_value, first_missing}
@@ -16,7 +16,7 @@ use Rattle.fip_tool.proofs.WroteLemmas.{wrote-as}
 use Rattle.fip_tool.proofs.making.run_update.Goals as goal
 
 -- the line is of a package that was read, with some size
-texts-are : (align : ℕ) (from out : List ℕ) (made : Result (ℕ × Vec ℕ Global) Stop) (named : List Part) → IfOk made (λ m. (t : Toc) × (first_missing t (map (λ p. p.guid) (map part_view named)) ≡ None) × (m.0 ≡ length t.entries)) → (texts : List (List ℕ)) → IsPackedLine made texts → IsTexts (update align from out (map part_view named)) texts
+texts-are : (align : ℕ) (from out : List ℕ) (made : Result (ℕ × Vec ℕ Global) Stop) (named : List FileWord) → IfOk made (λ m. (t : Toc) × (first_missing t (map (λ p. p.guid) (map part_view named)) ≡ None) × (m.0 ≡ length t.entries)) → (texts : List (List ℕ)) → IsPackedLine made texts → IsTexts (update align from out (map part_view named)) texts
 texts-are align from out made named count texts t = let p = packed-texts made (λ n. (t : Toc) × (first_missing t (map (λ p. p.guid) (map part_view named)) ≡ None) × (n ≡ length t.entries)) count texts t in (p.1.0, p.2, p.1.1, p.3 ∙ ap (λ (n : ℕ). packed_line n p.2 ∷ []) p.1.2)
 
 pub returns-clause-told : goal.returns-clause-told

@@ -10,7 +10,7 @@ use Rattle.fip_tool.proofs.ReadsBy.{reads-done, reads-starved, reads-stopped}
 use Rattle.fip_tool.proofs.Tables.{gives-err, rose-still}
 use Rattle.fip_tool.specs.Tool.{parts_in}
 use Rattle.fip_words.specs.Order.{part_view}
-use Rattle.fip_words.specs.declared.values.Part.{Part}
+use Rattle.fip_words.specs.declared.values.FileWord.{FileWord}
 use Rattle.fip_tool.proofs.payloads.payloads_of_files.Goals as goal
 
 pub returns-in-Err-clause-told : goal.returns-in-Err-clause-told
@@ -39,7 +39,7 @@ loop-one-preserved g c =
 pub returns-clause-told : goal.returns-clause-told
 returns-clause-told g c = λ told e.
     let all : take c.loop-one.one-index c.args.named.now ≡ c.args.named.now = take_all c.loop-one.one-index c.args.named.now (omega (arith, c.loop-one-test.false)) in
-    ap (λ (l : List Part). parts_in told (map part_view l)) (sym all) ∙ c.loop-one.invariant.so-far told e
+    ap (λ (l : List FileWord). parts_in told (map part_view l)) (sym all) ∙ c.loop-one.invariant.so-far told e
 
 pub returns-clause-reads : goal.returns-clause-reads
 returns-clause-reads g c = reads-done c.loop-one.invariant.same c.loop-one.invariant.quiet
