@@ -5,7 +5,11 @@ use Rattle.std.specs.Prelude.{◌==◌, ◌||◌, IsFalse}
 use Rattle.host_io.specs.Contents.{Directory}
 use Rattle.fip_tool.proofs.SourceFaults.{by-number}
 use Rattle.fip_tool.specs.Ends.{Reported, status_number}
-use Rattle.fip_tool.specs.Steps.{FailsAtMostOnce, FaultsOnce, NoneFailed, ReadsOnly}
+use Rattle.fip_tool.specs.Steps.{FailsAtMostOnce, FaultsOnce, NoneFailed, ReadsOnly, source_failed}
+use Rattle.std.specs.Io.KnownBytes.{Appends}
+use Rattle.std.proofs.KnownBytes.{Appends-trans}
+use Rattle.fip_words.specs.Order.{Asked}
+use Rattle.fip_tool.specs.Said.{IsTextsOf, Says, SinkAlone}
 use Rattle.fip_tool.specs.declared.stops.Stop.{Stop}
 use Rattle.fip_tool.specs.declared.stops.Stop.TheVariants as stop
 
@@ -83,3 +87,33 @@ none-but was text rose stop.NoMemory now status before after is r h o = h
 pub fails-told : (was text : Option (List ℕ)) (rose : Type 0) (s now : Stop) (status before after : ℕ) → status ≡ status_number now → Reported was text rose s now → FaultsOnce {X = Unit {0}} before after (Err s)
     → FailsAtMostOnce status before after
 fails-told was text rose s now status before after is r faults = record { once = faults.once; none = none-but was text rose s now status before after is r faults.quiet }
+
+pub sink-alone : (asked : Option Asked) (was mid text : Option (List ℕ)) (rose late : Type 0) (s now : Stop) (before after : ℕ) → status_number now ≡ 3 → Says (IsTextsOf asked) was mid rose (Err s) → Reported mid text late s now
+    → FaultsOnce {X = Unit {0}} before after (Err s) → SinkAlone asked was text before after
+sink-alone asked was mid text rose late stop.FileFault now before after three says (inl a) faults = let no : ◌≡◌ {A = ℕ} 2 3 = sym (ap status_number a.0) ∙ three in cc
+sink-alone asked was mid text rose late stop.FileFault now before after three says (inr (inl a)) faults = inr (says.0, says.1, a.2, Appends-trans was mid text says.0 _ says.2 a.3)
+sink-alone asked was mid text rose late stop.FileFault now before after three says (inr (inr a)) faults = let no : ◌≡◌ {A = ℕ} 9 3 = sym (ap status_number a.0) ∙ three in cc
+sink-alone asked was mid text rose late stop.SinkFault now before after three says r faults = inl faults.quiet
+sink-alone asked was mid text rose late stop.Usage now before after three says r faults = inl faults.quiet
+sink-alone asked was mid text rose late (stop.NotFip f) now before after three says r faults = inl faults.quiet
+sink-alone asked was mid text rose late (stop.NoSuchEntry guid) now before after three says r faults = inl faults.quiet
+sink-alone asked was mid text rose late (stop.NotPacked f) now before after three says r faults = inl faults.quiet
+sink-alone asked was mid text rose late (stop.NoManifest f) now before after three says r faults = inl faults.quiet
+sink-alone asked was mid text rose late stop.TooLong now before after three says r faults = inl faults.quiet
+sink-alone asked was mid text rose late (stop.NotCapsule f) now before after three says r faults = inl faults.quiet
+sink-alone asked was mid text rose late stop.NoMemory now before after three says r faults = inl faults.quiet
+
+pub source-alone : (asked : Option Asked) (was mid text : Option (List ℕ)) (rose late : Type 0) (s now : Stop) (before after : ℕ) → status_number now ≡ 3 → Says (IsTextsOf asked) was mid rose (Err s) → Reported mid text late s now
+    → after ≡ source_failed s before → SinkAlone asked was text before after
+source-alone asked was mid text rose late stop.FileFault now before after three says (inl a) faults = let no : ◌≡◌ {A = ℕ} 2 3 = sym (ap status_number a.0) ∙ three in cc
+source-alone asked was mid text rose late stop.FileFault now before after three says (inr (inl a)) faults = inr (says.0, says.1, a.2, Appends-trans was mid text says.0 _ says.2 a.3)
+source-alone asked was mid text rose late stop.FileFault now before after three says (inr (inr a)) faults = let no : ◌≡◌ {A = ℕ} 9 3 = sym (ap status_number a.0) ∙ three in cc
+source-alone asked was mid text rose late stop.SinkFault now before after three says r faults = inl faults
+source-alone asked was mid text rose late stop.Usage now before after three says r faults = inl faults
+source-alone asked was mid text rose late (stop.NotFip f) now before after three says r faults = inl faults
+source-alone asked was mid text rose late (stop.NoSuchEntry guid) now before after three says r faults = inl faults
+source-alone asked was mid text rose late (stop.NotPacked f) now before after three says r faults = inl faults
+source-alone asked was mid text rose late (stop.NoManifest f) now before after three says r faults = inl faults
+source-alone asked was mid text rose late stop.TooLong now before after three says r faults = inl faults
+source-alone asked was mid text rose late (stop.NotCapsule f) now before after three says r faults = inl faults
+source-alone asked was mid text rose late stop.NoMemory now before after three says r faults = inl faults

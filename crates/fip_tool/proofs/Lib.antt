@@ -4,6 +4,7 @@ pub mod Did
 pub mod DoneBy
 pub mod Enclosings
 pub mod FileFaults
+pub mod GivenTables
 pub mod Ending
 pub mod ManifestLemmas
 pub mod Packings

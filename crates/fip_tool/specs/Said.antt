@@ -2,7 +2,7 @@
 use Rattle.std.specs.Prelude.{◌≡◌, ◌⊎◌, ◌<◌, ℕ, List, [], ◌∷◌, ◌++◌, Option, Some, None, Result, Ok, Err, filter, length, map, take, drop, not, Vec}
 use Rattle.std.specs.Global.{Global}
 use Rattle.std.specs.Io.KnownBytes.{Appends}
-use Rattle.fwu_formats.specs.Package.{Toc}
+use Rattle.fwu_formats.specs.Package.{Toc, toc_of}
 use Rattle.fip_words.specs.Order.{Asked, info, info_of_source, create, update, remove, unpack, manifest, capsule, repackage}
 use Rattle.fip_tool.specs.Lines.{capsule_line, info_text, manifest_line, packed_line, unpacked_line}
 use Rattle.fip_tool.specs.Ends.{exit_status, stop_line}
@@ -10,9 +10,13 @@ use Rattle.fip_tool.specs.Tool.{chosen, first_missing, is_named}
 use Rattle.fip_tool.specs.declared.stops.Stop.{Stop}
 use Rattle.fip_tool.specs.declared.stops.Stop.TheVariants.{FileFault, SinkFault, NoMemory}
 
--- the listing of some package
+-- some bytes are a package with this table
+abbrev pub IsTable : Toc → Type 0
+IsTable t = (bytes : List ℕ) × (toc_of bytes ≡ Ok t)
+
+-- the listing of some package, with some size
 abbrev pub IsListing : List ℕ → Type 0
-IsListing text = (t : Toc) × (size : ℕ) × (text ≡ info_text t size)
+IsListing text = (t : Toc) × (size : ℕ) × IsTable t × (text ≡ info_text t size)
 
 -- The texts that a command prints, one after the other, when all is done: of some package where one is read, and with some size.
 abbrev pub IsTexts : Asked → List (List ℕ) → Type 0
@@ -80,6 +84,12 @@ SaysAll T was text sink-rose (Err s) = (said : List ℕ) × IsBefore T s said ×
 abbrev pub SaidWith : Option Asked → Option (List ℕ) → Option (List ℕ) → Type 0 → ℕ → Type 0
 SaidWith asked was text sink-rose status =
     (result : Result (Unit {0}) Stop) × (status ≡ exit_status result) × SaysAll (IsTextsOf asked) was text sink-rose result
+
+-- Where the sink failed, no call of this count failed, unless the line that tells so is cut.
+abbrev pub SinkAlone : Option Asked → Option (List ℕ) → Option (List ℕ) → ℕ → ℕ → Type 0
+SinkAlone asked was text before after =
+    (after ≡ before)
+    ⊎ ((said : List ℕ) × IsBegun (IsTextsOf asked) said × (k : ℕ) × Appends was text (said ++ take k (stop_line FileFault)))
 
 -- the line of a package that was made
 abbrev pub IsPackedLine : Result (ℕ × Vec ℕ Global) Stop → List (List ℕ) → Type 0

@@ -8,6 +8,7 @@ ghost use Rattle.fip_tables.specs.Answers.{decided};
 ghost use Rattle.fip_tables.specs.Stream.{Fed};
 ghost use Rattle.fip_tool.specs.Steps.{Gives, ReadsOnly, source_failures};
 ghost use Rattle.fip_tool.specs.Tool.{GivenTo, StopsInTime, after, capsule_in, capsule_stopped_by, given_table, size_in, sized_table, source_limit, stopped_by};
+ghost use Rattle.fip_tool.specs.Said.{IsTable};
 ghost use Rattle.fip_tool.specs.Source.{EndsAs, FedSome};
 ghost use Rattle.fip_tool.specs.declared.stops.Stop.TheVariants as stop;
 
@@ -50,6 +51,7 @@ pub fn read_package<H: Files>(files: &mut H, name: &str) -> Result<(Toc, u64), S
         → Gives (λ t. t) (Rose (H.faults files.old) (H.faults files.new))
         (sized_table told name.now) result }
     ensures ends { IfOk result (λ t. All (λ e. e.offset + e.size < 2 ^ 64) t.0.entries) }
+    ensures table { IfOk result (λ t. IsTable t.0) }
     ensures reads { ReadsOnly (H.contents files.old) (H.contents files.new) (H.faults files.old)
         (H.faults files.new) result }
     ensures unwritten { H.writes files.new ≡ H.writes files.old }

@@ -8,7 +8,7 @@ ghost use Rattle.fip_words.specs.Values.{is_unpacked};
 ghost use Rattle.fip_tool.specs.Converted.{Converts};
 ghost use Rattle.fip_tool.specs.Done.{Done};
 ghost use Rattle.fip_tool.specs.Ends.{Ended, Reported, Told};
-ghost use Rattle.fip_tool.specs.Said.{IsTexts, SaidWith, Says};
+ghost use Rattle.fip_tool.specs.Said.{IsTexts, SaidWith, Says, SinkAlone};
 ghost use Rattle.fip_tool.specs.Steps.{Did, FailsAtMostOnce, FailsOnce, FaultsOnce, line_failures, sink_failed, sink_failures, source_failures};
 ghost use Rattle.fip_tool.specs.Tool.{EndedSource, ReadSource, asks_files, command_outcome, outcome_of};
 ghost use Rattle.fip_tool.specs.Wrote.{WroteWith};
@@ -216,6 +216,12 @@ pub fn fip_top<H: Files, I: Source, O: Sink>(
         ⊎ Rose (I.faults source.old) (I.faults source.new) }
     // A command ends at the first call of the files that fails, whatever files there are.
     ensures file_count { FailsAtMostOnce result (H.faults files.old) (H.faults files.new) }
+    // Where the sink failed no call of the files failed, and none of a source that is listed, unless the line that told so is cut.
+    ensures sink_alone { result ≡ 3 → SinkAlone (asked (map string_bytes words.now))
+        (O.taken sink.old) (O.taken sink.new) (H.faults files.old) (H.faults files.new) }
+    ensures source_alone { asked (map string_bytes words.now) ≡ Some info_of_source → result ≡ 3
+        → SinkAlone (asked (map string_bytes words.now)) (O.taken sink.old) (O.taken sink.new)
+        (I.faults source.old) (I.faults source.new) }
     // What is written, whatever files there are: each file once, with its line behind it, and nothing by a listing or a refusal.
     ensures wrote { WroteWith (asked (map string_bytes words.now)) (O.taken sink.old)
         (O.taken sink.new)

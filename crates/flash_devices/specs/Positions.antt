@@ -1,5 +1,6 @@
 -- What files that are read and written at a position tell of that.
-use Rattle.std.specs.Prelude.{◌≡◌, ℕ, List, Option, Some, IfSome}
+use Rattle.std.specs.Prelude.{◌≡◌, ◌⊎◌, ℕ, List, Option, Some, IfSome}
+use Rattle.std.specs.Io.Seek.{StaysAt}
 use Rattle.std.specs.Io.KnownBytes.{Keeps, Consumes, Appends}
 
 -- After a seek to this place a told position is the place, and told bytes are as before.
@@ -21,3 +22,8 @@ ReadsFrom position bytes remaining at given old new = TakesAt position bytes rem
 -- a write from this place on took these bytes
 abbrev pub WritesFrom : {F : Type 0} → (F → Option ℕ) → (F → Option (List ℕ)) → (F → Option (List ℕ)) → ℕ → List ℕ → F → F → Type 0
 WritesFrom position bytes contents at taken old new = TakesAt position bytes contents Appends at taken old new
+
+-- A call on this place that failed had sought it, or its seek failed and left a told position and told bytes.
+abbrev pub FailsFrom : {F : Type 0} → (F → Option ℕ) → (F → Option (List ℕ)) → ℕ → F → F → Type 0
+FailsFrom {F} position bytes at old new =
+    ((between : F) × IsSought position bytes at old between) ⊎ (StaysAt (position old) (position new) × Keeps (bytes old) (bytes new))

@@ -17,40 +17,51 @@ pub trait ByteFile {
     /// Whether its next call fails, where this is told.
     ghost fails: { Self → Option Bool };
 
+    /// Whether one call, which may have failed, made the second of the first.
+    ghost called: { Self → Self → Type 0 };
+
+    /// Whether a flush that was done made the second of the first.
+    ghost flushed: { Self → Self → Type 0 };
+
     /// How many bytes it has.
     fn size(&mut self) -> io::Result<u64>
         ensures size { IfOk result (λ n. IfSome (size self.old) (λ known. n ≡ known)) }
         ensures length { IfOk result (λ n. IfSome (content self.old) (λ all. n ≡ length all)) }
         ensures same { content self.new ≡ content self.old }
-        ensures fails { FailsAs (fails self.old) (is_err result) };
+        ensures fails { FailsAs (fails self.old) (is_err result) }
+        ensures called { called self.old self.new };
 
     /// Fills the buffer with the bytes from a place on. A range outside the file is an error.
     fn read_at(&mut self, at: u64, out: &mut [u8]) -> io::Result<()>
         ensures bytes { OnOk result (HoldsAt at out.new (content self.old)) }
         ensures same { content self.new ≡ content self.old }
         ensures fails { FailsWithin (fails self.old) (content self.old) at (length out.old)
-            (is_err result) };
+            (is_err result) }
+        ensures called { called self.old self.new };
 
     /// Writes over the bytes from a place on. After an error some of the first were written, or none.
     fn write_at(&mut self, at: u64, bytes: &[u8]) -> io::Result<()>
         ensures writes { Writes result at bytes.now (content self.old) (content self.new) }
         ensures fails { FailsWithin (fails self.old) (content self.old) at (length bytes.now)
-            (is_err result) };
+            (is_err result) }
+        ensures called { called self.old self.new };
 
     /// Hands on to the system what was written.
     fn flush(&mut self) -> io::Result<()>
         ensures same { content self.new ≡ content self.old }
-        ensures fails { FailsAs (fails self.old) (is_err result) };
+        ensures fails { FailsAs (fails self.old) (is_err result) }
+        ensures called { called self.old self.new }
+        ensures flushed { OnOk result (flushed self.old self.new) };
 }
 
 /// Files that are read and written at a position, as those of the system. They tell no bytes, since
 /// what a write leaves isn't told by readers and writers. Each call seeks to its place first, and
 /// then all bytes are read or written.
 impl<F: Read + Write + Seek> ByteFile for F {
-    ghost use Rattle.std.specs.Prelude.{◌≡◌, Option, IfOk, IfSome, IsErr, OnOk, is_err, length};
+    ghost use Rattle.std.specs.Prelude.{◌≡◌, ⊤, Option, IfOk, IfSome, IsErr, OnOk, OnErr, is_err, length};
     ghost use Rattle.std.specs.Io.KnownBytes.{Keeps};
     ghost use Rattle.flash_devices.specs.ByteFiles.{untold, FailsAs, FailsWithin, HoldsAt, Writes};
-    ghost use Rattle.flash_devices.specs.Positions.{ReadsFrom, WritesFrom};
+    ghost use Rattle.flash_devices.specs.Positions.{ReadsFrom, WritesFrom, FailsFrom};
 
     ghost content = { λ _. untold };
 
@@ -58,7 +69,18 @@ impl<F: Read + Write + Seek> ByteFile for F {
 
     ghost fails = { λ _. None };
 
-    fn size(&mut self) -> io::Result<u64> {
+    ghost called = { λ _ _. ⊤ };
+
+    ghost flushed = { λ _ _. ⊤ };
+
+    fn size(&mut self) -> io::Result<u64>
+        ensures size { IfOk result (λ n.
+            IfSome (size_of (F.stream_position self.old) (F.stream_bytes self.old)) (λ known. n ≡ known)) }
+        ensures length { IfOk result (λ n. IfSome untold (λ all. n ≡ length all)) }
+        ensures same { untold ≡ untold }
+        ensures fails { FailsAs None (is_err result) }
+        ensures keeps { Keeps (F.stream_bytes self.old) (F.stream_bytes self.new) }
+    {
         self.seek(SeekFrom::End(0))
     }
 
@@ -67,6 +89,7 @@ impl<F: Read + Write + Seek> ByteFile for F {
         ensures same { untold ≡ untold }
         ensures fails { FailsWithin None untold at (length out.old) (is_err result) }
         ensures reads { OnOk result (ReadsFrom F.stream_position F.stream_bytes F.remaining at out.new self.old self.new) }
+        ensures stops { OnErr result (FailsFrom F.stream_position F.stream_bytes at self.old self.new) }
     {
         self.seek(SeekFrom::Start(at))?;
         self.read_exact(out)
@@ -76,6 +99,7 @@ impl<F: Read + Write + Seek> ByteFile for F {
         ensures writes { Writes result at bytes.now untold untold }
         ensures fails { FailsWithin None untold at (length bytes.now) (is_err result) }
         ensures takes { OnOk result (WritesFrom F.stream_position F.stream_bytes F.contents at bytes.now self.old self.new) }
+        ensures stops { OnErr result (FailsFrom F.stream_position F.stream_bytes at self.old self.new) }
     {
         self.seek(SeekFrom::Start(at))?;
         self.write_all(bytes)

@@ -69,6 +69,10 @@ impl ByteFile for MemoryFile {
 
     ghost fails = { λ f. Some (fails_next f) };
 
+    ghost called = { λ old new. IsCalled old new };
+
+    ghost flushed = { λ old new. IsCalled old new };
+
     fn size(&mut self) -> io::Result<u64>
         ensures size { IfOk result (λ n. n ≡ length (bytes_of self.old)) }
         ensures length { IfOk result (λ n. n ≡ length (bytes_of self.old)) }
@@ -99,6 +103,7 @@ impl ByteFile for MemoryFile {
         ensures fails { FailsWithin (Some (fails_next self.old)) (Some (bytes_of self.old))
             at (length bytes.now) (is_err result) }
         ensures unchanged { OnErr result (bytes_of self.new ≡ bytes_of self.old) }
+        ensures inside { OnOk result (Lies at (length bytes.now) (bytes_of self.old)) }
         ensures called { IsCalled self.old self.new }
     {
         self.call()?;
@@ -111,6 +116,7 @@ impl ByteFile for MemoryFile {
         ensures same { Some (bytes_of self.new) ≡ Some (bytes_of self.old) }
         ensures fails { FailsAs (Some (fails_next self.old)) (is_err result) }
         ensures called { IsCalled self.old self.new }
+        ensures flushed { OnOk result (IsCalled self.old self.new) }
     {
         self.call()
     }

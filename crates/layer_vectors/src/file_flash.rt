@@ -14,7 +14,7 @@ use std::rt::Files;
 
 // A device over a file, on.
 fn switched_on<F: ByteFile + Drop>(rt: &impl Abort, file: F) -> FileFlash<F> {
-    let mut flash = FileFlash::open(file).expect(rt, "a flash");
+    let mut flash = FileFlash::open(file).ok().expect(rt, "a flash");
     power_on(rt, &mut flash);
     flash
 }
@@ -251,15 +251,14 @@ impl Seek for Broken {
     }
 }
 
-// Why a file is no flash.
-fn refused<F: ByteFile + Drop>(file: F) -> Option<FlashOpenFault> {
-    FileFlash::open(file).err()
-}
-
 #[test]
-fn a_file_of_seven_blocks_is_refused(rt: HostRuntime) {
-    let wanted = Some(FlashOpenFault::BadSize(28672));
-    same(&rt, refused(Broken(28672)), wanted);
+fn a_file_of_seven_blocks_is_refused_and_given_back(rt: HostRuntime) {
+    let refused = match FileFlash::open(Broken(28672)) {
+        Ok(_) => None,
+        Err(refused) => Some((refused.fault, refused.file.0)),
+    };
+    let wanted = (FlashOpenFault::BadSize(28672), 28672);
+    same(&rt, refused, Some(wanted));
 }
 
 // A read, an erase and a barrier fail, each after power came back.

@@ -9,7 +9,7 @@ returns-in-Ok-info_text-clause-told g c = λ told e.
     info-made told c.args.name.now (c.in-Ok.toc, c.in-Ok.size) c.in-Ok-info_text.text.items (c.in-Ok.ensures.told told e) c.in-Ok-info_text.ensures
 
 pub returns-in-Ok-info_text-clause-listed : goal.returns-in-Ok-info_text-clause-listed
-returns-in-Ok-info_text-clause-listed g c = (c.in-Ok.toc, c.in-Ok.size, c.in-Ok-info_text.ensures)
+returns-in-Ok-info_text-clause-listed g c = (c.in-Ok.toc, c.in-Ok.size, c.in-Ok.ensures.table, c.in-Ok-info_text.ensures)
 
 pub returns-in-Err-clause-told : goal.returns-in-Err-clause-told
 returns-in-Err-clause-told g c = λ told e.

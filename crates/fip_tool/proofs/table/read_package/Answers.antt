@@ -30,3 +30,6 @@ returns-in-Err-clause-reads g c = reads-stopped refl refl c.in-Err.ensures.reads
 pub returns-in-Err-read_toc-clause-reads : goal.returns-in-Err-read_toc-clause-reads
 returns-in-Err-read_toc-clause-reads g c =
     rw c.stop_of.ensures (reads-no-table c.in-Err-read_toc.stop c.size_of.ensures.reads.same c.in-Err-read_toc.ensures.same c.in-Ok.ensures.reads.quiet c.in-Err-read_toc.ensures.cause)
+
+pub returns-in-Ok-read_toc-clause-table : goal.returns-in-Ok-read_toc-clause-table
+returns-in-Ok-read_toc-clause-table g c = let s = c.in-Ok-read_toc.ensures.some in (s.bytes, s.answer)

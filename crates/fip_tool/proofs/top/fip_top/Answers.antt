@@ -12,7 +12,7 @@ use Rattle.fip_tool.specs.Tool.{no_files}
 use Rattle.fip_tool.specs.declared.stops.Stop.{Stop}
 use Rattle.fip_tool.proofs.SinkFaults.{counted, reported-sink}
 use Rattle.fip_tool.proofs.SourceFaults.{fails-once, none-failed}
-use Rattle.fip_tool.proofs.FileFaults.{fails-done, fails-told}
+use Rattle.fip_tool.proofs.FileFaults.{fails-done, fails-told, sink-alone, source-alone}
 use Rattle.fip_tool.proofs.top.fip_top.Goals as goal
 
 pub returns-in-Ok-clause-told : goal.returns-in-Ok-clause-told
@@ -111,3 +111,11 @@ returns-in-Err-clause-wrote g c =
       reported-later _ _ _ _ _ _ (λ r. rose-from _ _ _ c.run.ensures.later r) c.report.ensures.reported,
       c.status.ensures,
     )
+
+pub returns-in-Err-clause-sink_alone : goal.returns-in-Err-clause-sink_alone
+returns-in-Err-clause-sink_alone g c = λ three.
+    sink-alone (asked (map string_bytes c.args.words.now)) _ _ _ _ _ c.in-Err.stop c.report.result _ _ (sym c.status.ensures ∙ three) c.in-Err.ensures.says c.report.ensures.reported c.in-Err.ensures.file_count
+
+pub returns-in-Err-clause-source_alone : goal.returns-in-Err-clause-source_alone
+returns-in-Err-clause-source_alone g c = λ e three.
+    source-alone (asked (map string_bytes c.args.words.now)) _ _ _ _ _ c.in-Err.stop c.report.result _ _ (sym c.status.ensures ∙ three) c.in-Err.ensures.says c.report.ensures.reported (c.in-Err.ensures.source_count e)
