@@ -7,6 +7,7 @@ ghost use Rattle.agent_machine.specs.Meets.{IsStopped, flash_result};
 
 use agent_machine::Stop;
 use agent_state::{Decision, Plan, Request, Session, decide, settle};
+use base_core::GRANULE_BYTES;
 use flash_core::{Flash, FlashStop};
 use fwu_model::Status;
 use meta_layout::{Layout, Meta};
@@ -24,7 +25,7 @@ pub struct Agent<D: Flash> {
     pub(crate) trials: u32,
     pub(crate) counter: u32,
     pub(crate) lengths: [u32; 16],
-    pub(crate) rests: [[u8; 16]; 16],
+    pub(crate) rests: [[u8; GRANULE_BYTES as usize]; 16],
     pub(crate) gone: bool,
     ghost power: { IsFalse gone → IsTrue (D.on flash) },
     ghost inside: { IsFalse gone → blocks_needed layout ≤ D.blocks flash },

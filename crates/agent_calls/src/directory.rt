@@ -6,7 +6,7 @@ ghost use Rattle.fwu_formats.specs.Manifest as model;
 ghost use Rattle.agent_machine.specs.Fields.{directory_size};
 ghost use Rattle.agent_machine.specs.Directory.{version_by, directory_head, directory_row_by, directory_by};
 
-use base_core::{Guid, le32_at, put_at};
+use base_core::{BLOCK_BYTES, Guid, le32_at, put_at};
 use manifest_core::row_at;
 use meta_layout::{Layout, Meta};
 
@@ -101,7 +101,7 @@ fn put_rows(
             out,
             end,
             &row.guid,
-            4096 * row.slots,
+            BLOCK_BYTES * row.slots,
             lengths[image],
             version,
             bit,

@@ -14,6 +14,7 @@ ghost use Rattle.agent_machine.specs.Meets.{Meets, GoesBy, IsDone, IsRefused, fl
 use crate::agent::{Agent, stopped};
 use agent_machine::Stop;
 use agent_state::{Decision, Plan, Request, decide, settle};
+use base_core::BLOCK_BYTES;
 use flash_core::{Flash, FlashStop};
 use fwu_formats::TRIAL_BLOCK;
 use fwu_model::Status;
@@ -40,7 +41,7 @@ fn clear_and_store<D: Flash>(flash: &mut D, layout: &Layout, meta: &Meta) -> Res
         (D.counts flash.old) (D.counts flash.new) }
     ensures costs { Spends result (D.counts flash.old) (D.counts flash.new) }
 {
-    let mut buf = [0; 4096];
+    let mut buf = [0; BLOCK_BYTES as usize];
     match clear(flash, TRIAL_BLOCK, &mut buf) {
         Ok(()) => store(flash, layout, meta, &mut buf),
         Err(stop) => Err(stop),

@@ -20,6 +20,7 @@ ghost use Rattle.replicas.specs.Stores.{Stores};
 use crate::agent::{Agent, stopped};
 use agent_machine::Stop;
 use agent_state::{Decision, Plan, Request, Session, decide, ruled};
+use base_core::BLOCK_BYTES;
 use flash_core::{Flash, FlashStop};
 use fwu_formats::BankState;
 use fwu_model::Status;
@@ -92,7 +93,7 @@ fn is_bank_good<D: Flash, V: Verifier>(
     ensures arming { D.arming flash.new ≡ arming_kept result (D.arming flash.old) }
     ensures reached { ReachesNone result (D.counts flash.old) (D.counts flash.new) }
 {
-    let mut buf = [0; 4096];
+    let mut buf = [0; BLOCK_BYTES as usize];
     let verdict = check(flash, layout, bank, counter, &mut buf, verifier)?;
     Ok(is_good(verdict))
 }

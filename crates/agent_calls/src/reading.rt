@@ -1,5 +1,6 @@
 //! Reading through a handle.
 ghost use Rattle.std.specs.Prelude.{◌≡◌, ◌+◌, ◌*◌, ◌<◌, ◌≤◌, length, take, drop, is_ok, IsTrue, OnOk, None};
+ghost use Rattle.base_core.specs.Block.{block_bytes};
 ghost use Rattle.flash_core.specs.Counts.{Spends, ReachesNone, arming_kept};
 ghost use Rattle.fwu_formats.specs.Layout.{blocks_needed, slot_bytes, start};
 ghost use Rattle.fwu_formats.specs.Metadata.{fits_meta};
@@ -10,9 +11,10 @@ use crate::agent::Agent;
 use crate::directory::directory_of;
 use agent_machine::Stop;
 use agent_state::{Plan, Request};
+use base_core::BLOCK_BYTES;
 use flash_core::{Flash, FlashStop};
 use fwu_model::Status;
-use manifest_core::manifest_size;
+use manifest_core::{MOST_MANIFEST_BYTES, manifest_size};
 use meta_layout::{Layout, Meta};
 
 /// Fills the buffer with the directory's bytes from a place on. The versions are those of the
@@ -40,9 +42,9 @@ fn read_directory<D: Flash>(
     ensures reached { ReachesNone result (D.counts flash.old) (D.counts flash.new) }
     ensures arming { D.arming flash.new ≡ arming_kept result (D.arming flash.old) }
 {
-    let mut front = [0; 888];
+    let mut front = [0; MOST_MANIFEST_BYTES];
     let manifest = &mut front[..manifest_size(layout.rows())];
-    flash.read(4096 * layout.start(bank, 0), manifest)?;
+    flash.read(BLOCK_BYTES * layout.start(bank, 0), manifest)?;
     let directory = directory_of(layout, meta, bank, lengths, manifest);
     let from = at as usize;
     out.copy_from_slice(&directory[from..from + out.len()]);
@@ -64,7 +66,7 @@ fn read_image<D: Flash>(
     requires image { image < length layout.now.rows }
     requires within { at + length out.old ≤ slot_bytes layout.now image }
     ensures bytes { OnOk result (IsTrue D.tells → out.new ≡ take (length out.old)
-        (drop (4096 * start layout.now bank image + at) (D.told flash.old).now)) }
+        (drop (block_bytes * start layout.now bank image + at) (D.told flash.old).now)) }
     ensures content { IsTrue D.tells → D.told flash.new ≡ D.told flash.old }
     ensures power { D.on flash.new ≡ is_ok result }
     ensures size { D.blocks flash.new ≡ D.blocks flash.old }
@@ -73,7 +75,7 @@ fn read_image<D: Flash>(
     ensures arming { D.arming flash.new ≡ arming_kept result (D.arming flash.old) }
 {
     let _rows = layout.rows();
-    flash.read(4096 * layout.start(bank, image) + at, out)
+    flash.read(BLOCK_BYTES * layout.start(bank, image) + at, out)
 }
 
 impl<D: Flash> Agent<D> {

@@ -10,6 +10,7 @@ ghost use Rattle.agent_calls.specs.Started.{StartsFrom};
 
 use crate::agent::Agent;
 use agent_state::Session;
+use base_core::GRANULE_BYTES;
 use early_boot::Booted;
 use flash_core::Flash;
 
@@ -42,7 +43,7 @@ impl<D: Flash> Agent<D> {
             trials,
             counter,
             lengths,
-            rests: [[0; 16]; 16],
+            rests: [[0; GRANULE_BYTES as usize]; 16],
             gone: false,
         }
     }

@@ -8,6 +8,7 @@ ghost use Rattle.agent_machine.specs.Stored.{StoresIf, TakesIf, is_stored, trial
 use crate::agent::{Agent, stopped};
 use agent_machine::Stop;
 use agent_state::{Decision, Plan, settle};
+use base_core::BLOCK_BYTES;
 use flash_core::{Flash, FlashStop};
 use meta_layout::{Layout, Meta};
 use replicas::store;
@@ -34,7 +35,7 @@ fn store_if<D: Flash>(
     if !stored {
         return Ok(());
     }
-    let mut buf = [0; 4096];
+    let mut buf = [0; BLOCK_BYTES as usize];
     store(flash, layout, meta, &mut buf)
 }
 

@@ -17,7 +17,7 @@ ghost use Rattle.agent_calls.specs.Told.{HasNumbers, state_kept};
 
 use crate::agent::Agent;
 use agent_machine::Stop;
-use base_core::ImageRow;
+use base_core::{BLOCK_BYTES, ImageRow};
 use flash_core::Flash;
 use fwu_formats::BankState;
 use fwu_model::AgentState;
@@ -125,7 +125,7 @@ impl<D: Flash> Agent<D> {
         requires { image < length (fields self.now).layout.rows }
         ensures { result ≡ slot_bytes (fields self.now).layout image }
     {
-        4096 * self.layout.rows()[image as usize].slots
+        BLOCK_BYTES * self.layout.rows()[image as usize].slots
     }
 
     /// Arms a loss of power at the n-th erase or program of the device from here on, after its first k

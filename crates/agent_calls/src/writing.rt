@@ -1,5 +1,6 @@
 //! Bytes go behind those of a staged image.
 ghost use Rattle.std.specs.Prelude.{◌≡◌, ℕ, ◌+◌, ◌-◌, ◌%◌, Bool, List, length, take, is_ok, IsTrue, IsFalse, IsErrOf, OnOk};
+ghost use Rattle.base_core.specs.Block.{granule_bytes};
 ghost use Rattle.flash_core.specs.Counts.{Spends, StaysUnarmed};
 ghost use Rattle.fwu_model.specs.Call as call;
 ghost use Rattle.fwu_model.specs.Reply.{Success};
@@ -45,7 +46,7 @@ impl<D: Flash> Agent<D> {
             (rest_of (fields self.new) image)
             (D.told (device self.old)) (D.told (device self.new)) }
         ensures keeps { OnOk result (let size = size_of (part_at (fields self.old).session image) in
-            take ((size + length bytes.now) % 16) (rest_of (fields self.new) image)
+            take ((size + length bytes.now) % granule_bytes) (rest_of (fields self.new) image)
             ≡ kept_of size (rest_of (fields self.old) image) bytes.now) }
         ensures others { (other : ℕ) → (other ≡ image → ⊥) →
             rest_of (fields self.new) other ≡ rest_of (fields self.old) other }
@@ -125,7 +126,7 @@ impl<D: Flash> Agent<D> {
         ensures keeps { OnOk result ((image : ℕ) →
             handle_kept (fields self.old).session (handle - 1) ≡ handle_kinds.Writes image →
             let size = size_of (part_at (fields self.old).session image) in
-            take ((size + length bytes.now) % 16) (rest_of (fields self.new) image)
+            take ((size + length bytes.now) % granule_bytes) (rest_of (fields self.new) image)
             ≡ kept_of size (rest_of (fields self.old) image) bytes.now) }
         // on any device, at any exit: what is kept of another image stays
         ensures others { (image : ℕ) →

@@ -1,5 +1,6 @@
 -- What a session keeps to, whatever was called: no handle and no image is beyond what the layout has.
 use Rattle.std.specs.Prelude.{◌≡◌, ℕ, ◌*◌, ◌<◌, ◌≤◌, Bool, true, false, List, [], length, Option, slice_index_or}
+use Rattle.base_core.specs.Block.{block_bytes}
 use Rattle.sha2.specs.Sha256.{sha256}
 use Rattle.sha2.specs.Hashers.{Holds256}
 use Rattle.fwu_formats.specs.Layout.{ImageRow}
@@ -30,7 +31,7 @@ CommitsTo (Committed size digest b) new bit = new ≡ Committed size digest b
 
 -- the bytes that an image's slot has room for
 abbrev pub slot_of : List ImageRow → ℕ → ℕ
-slot_of rows image = 4096 * (slice_index_or rows image (record { guid = []; slots = 0 })).slots
+slot_of rows image = block_bytes * (slice_index_or rows image (record { guid = []; slots = 0 })).slots
 
 pub record IsSound (staging : Bool) (rows : List ImageRow) (parts : List Part) (handles : List Handle) : Type 0 where
   pub few : length rows ≤ 16

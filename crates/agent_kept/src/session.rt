@@ -1,10 +1,12 @@
 //! What an agent keeps between its calls.
 ghost use Rattle.std.specs.Prelude.{◌≡◌, ◌+◌, ◌<◌, ◌≤◌, ◌++◌, ℕ, length, take, slice_index_or};
+ghost use Rattle.manifest_core.specs.Sizes.{most_manifest_bytes};
 ghost use Rattle.agent_kept.specs.Sound.{IsSound};
 ghost use Rattle.agent_kept.specs.Fronts.{FrontGrows};
 
 use crate::parts::{Handle, Part};
-use base_core::{Guid, ImageRow};
+use base_core::{BLOCK_BYTES, Guid, ImageRow};
+use manifest_core::MOST_MANIFEST_BYTES;
 use sha2::{Digest, Sha256};
 use std::{array, mem};
 
@@ -18,27 +20,27 @@ pub struct Session {
     rows: [ImageRow; 16],
     staging: bool,
     parts: [Part; 16],
-    front: [u8; 888],
+    front: [u8; MOST_MANIFEST_BYTES],
     handles: [Handle; 32],
     ghost few: { images ≤ 16 },
     ghost sound: { IsSound staging (take images rows) parts handles },
 }
 
 /// Puts bytes behind the first ones.
-fn put_front(front: &mut [u8; 888], at: usize, bytes: &[u8])
-    requires { at + length bytes.now ≤ 888 }
+fn put_front(front: &mut [u8; MOST_MANIFEST_BYTES], at: usize, bytes: &[u8])
+    requires { at + length bytes.now ≤ most_manifest_bytes }
     ensures { take (at + length bytes.now) front.new ≡ take at front.old ++ bytes.now }
 {
     front[at..at + bytes.len()].copy_from_slice(bytes);
 }
 
 /// Keeps bytes behind the first ones, as far as there is room.
-fn keep_front(front: &mut [u8; 888], size: usize, bytes: &[u8])
+fn keep_front(front: &mut [u8; MOST_MANIFEST_BYTES], size: usize, bytes: &[u8])
     requires { size ≤ 1048576 }
     ensures { FrontGrows size bytes.now front.old front.new }
 {
-    let at = size.min(888);
-    let count = bytes.len().min(888 - at);
+    let at = size.min(MOST_MANIFEST_BYTES);
+    let count = bytes.len().min(MOST_MANIFEST_BYTES - at);
     put_front(front, at, &bytes[..count]);
 }
 
@@ -73,7 +75,7 @@ impl Session {
             rows: own,
             staging: false,
             parts: no_parts(),
-            front: [0; 888],
+            front: [0; MOST_MANIFEST_BYTES],
             handles: [Handle::Free; 32],
         }
     }
@@ -101,10 +103,10 @@ impl Session {
         &self.parts[image]
     }
 
-    /// The first 888 bytes of image 0, of which as many count as were written.
+    /// The first bytes of image 0, as many as the largest manifest has, of which as many count as were written.
     pub fn front(&self) -> &[u8]
         ensures value { result.now ≡ (kept self.now).front }
-        ensures size { length result.now ≡ 888 }
+        ensures size { length result.now ≡ most_manifest_bytes }
     {
         &self.front
     }
@@ -233,7 +235,7 @@ impl Session {
         requires { image < length (kept self.now).rows }
         ensures { result ≡ slot_of (kept self.now).rows image }
     {
-        4096 * self.rows[image].slots
+        BLOCK_BYTES * self.rows[image].slots
     }
 
     /// How many bytes were written of an image.

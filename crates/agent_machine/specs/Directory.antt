@@ -1,5 +1,6 @@
 -- The directory, by the numbers that the agent keeps and the manifest of the bank that was started.
 use Rattle.std.specs.Prelude.{ℕ, zero, suc, ◌+◌, ◌-◌, ◌*◌, List, [], ◌++◌, length, take, drop, Option, Some, None, slice_index_or, flat_map}
+use Rattle.base_core.specs.Block.{block_bytes}
 use Rattle.base_core.specs.Bytes.{le, num_at, listed}
 use Rattle.fwu_formats.specs.Layout.{Layout, start, slot_bytes}
 use Rattle.fwu_formats.specs.Metadata.{Meta, bit_at, bit_number}
@@ -33,4 +34,4 @@ manifest_in L now bank = take (manifest_size (length L.rows - 1)) (slot L now ba
 -- so many bytes of the directory, or of an image of a bank, from a place of it on
 abbrev pub piece_of : Layout → Meta → ℕ → List ℕ → List ℕ → Option ℕ → ℕ → ℕ → List ℕ
 piece_of L m bank lengths now None at n = take n (drop at (directory_by L m bank lengths (manifest_in L now bank)))
-piece_of L m bank lengths now (Some image) at n = take n (drop (4096 * start L bank image + at) now)
+piece_of L m bank lengths now (Some image) at n = take n (drop (block_bytes * start L bank image + at) now)

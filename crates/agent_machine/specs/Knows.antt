@@ -1,5 +1,6 @@
 -- What an agent that isn't gone knows of its flash, sound or not.
 use Rattle.std.specs.Prelude.{◌≡◌, ℕ, ◌+◌, ◌*◌, ◌<◌, ◌≤◌, Bool, true, false, List, length, take, map, Option, Some, Ok, IsTrue, IsFalse, is_some}
+use Rattle.base_core.specs.Block.{block_bytes}
 use Rattle.flash_core.specs.Told.{Told}
 use Rattle.flash_core.specs.May.{Quiet}
 use Rattle.sha2.specs.declared.Sha256.{Sha256}
@@ -47,7 +48,7 @@ pub record HasStaged (f : Fields) (t : Told) : Type 0 where
       → IsBlankAhead (start f.layout (target f) image) (done_of size) t.now
   pub sure : (image size : ℕ) (digest : List ℕ) (bit : Bool) → image < length f.layout.rows
       → part_at f.session image ≡ Committed size digest bit
-      → Quiet (4096 * start f.layout (target f) image) (4096 * start f.layout (target f) image + slot_bytes f.layout image) t
+      → let at = block_bytes * start f.layout (target f) image in Quiet at (at + slot_bytes f.layout image) t
 
 pub record Knows (f : Fields) (t : Told) : Type 0 where
   pub layout_is : layout_seen t.now ≡ Ok f.layout

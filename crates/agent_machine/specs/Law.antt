@@ -1,5 +1,6 @@
 -- What writes of the agent leave of what it knows: the words of its lemmas.
 use Rattle.std.specs.Prelude.{◌≡◌, ◌≢◌, ℕ, suc, ◌+◌, ◌-◌, ◌*◌, ◌<◌, Bool, List, [], ◌∷◌, ◌++◌, length, take, Ok, IsTrue, IsFalse, slice_index_or}
+use Rattle.base_core.specs.Block.{block_bytes}
 use Rattle.flash_core.specs.Told.{Told}
 use Rattle.flash_core.specs.May.{Guards, Quiet}
 use Rattle.fwu_formats.specs.Layout.{Layout, start, slot_bytes}
@@ -37,7 +38,7 @@ pub record StaysKnown (f : Fields) (image : ℕ) (s t : Told) : Type 0 where
       → part_at f.session other ≡ Open size hasher → IsBlankAhead (start f.layout (target f) other) (done_of size) t.now
   pub sure : (other size : ℕ) (digest : List ℕ) (bit : Bool) → other ≢ image → other < length f.layout.rows
       → part_at f.session other ≡ Committed size digest bit
-      → Quiet (4096 * start f.layout (target f) other) (4096 * start f.layout (target f) other + slot_bytes f.layout other) t
+      → let at = block_bytes * start f.layout (target f) other in Quiet at (at + slot_bytes f.layout other) t
   -- on a calm flash, and on any flash at rest
   pub ready : (E : Setting) → E.layout ≡ f.layout → IsCalm E s (state_in f s.now) → Guards 1 7 s → IsReady E t (state_in f s.now)
   pub rests : IsAtRest s → IsAtRest t

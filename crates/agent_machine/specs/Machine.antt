@@ -1,5 +1,6 @@
 -- The machine of an agent: the state that its flash shows, and the session that its fields and the flash say together.
 use Rattle.std.specs.Prelude.{ℕ, ◌*◌, List, [], drop, take}
+use Rattle.base_core.specs.Block.{block_bytes}
 use Rattle.fwu_formats.specs.Layout.{start}
 use Rattle.fwu_model.specs.State.{State}
 use Rattle.fwu_model.specs.Session.{Session}
@@ -14,7 +15,7 @@ use Rattle.agent_machine.specs.Fields.{Fields, target, rest_of}
 abbrev pub part_bytes : ℕ → Part → List ℕ → List ℕ → List ℕ
 part_bytes first Nothing rest now = []
 part_bytes first (Open size hasher) rest now = bytes_in first size rest now
-part_bytes first (Committed size digest bit) rest now = take size (drop (4096 * first) now)
+part_bytes first (Committed size digest bit) rest now = take size (drop (block_bytes * first) now)
 
 abbrev pub staged_bytes : Fields → List ℕ → ℕ → List ℕ
 staged_bytes f now image = part_bytes (start f.layout (target f) image) (part_at f.session image) (rest_of f image) now

@@ -1,6 +1,6 @@
 -- What counting a start leaves of a flash.
 use Rattle.std.specs.Prelude.{◌≡◌, ℕ, ◌+◌, ◌*◌, ◌<◌, ◌≤◌, ◌==◌, nat_lt, if◌then◌else◌, List, [], ◌∷◌, replicate, Option, Result, OnOk, IsTrue}
-use Rattle.base_core.specs.Block.{granule}
+use Rattle.base_core.specs.Block.{block_bytes, granule_bytes, granule}
 use Rattle.flash_core.specs.declared.flash.Arming.{Arming}
 use Rattle.flash_core.specs.declared.flash.FlashStop.{FlashStop}
 use Rattle.flash_core.specs.Counts.{lowered}
@@ -33,17 +33,18 @@ use Rattle.early_boot.specs.declared.showing.Shown.{Shown}
 pub record IsOneMore (at : ℕ) (old new : List ℕ) : Type 0 where
   pub below : at < trial_limit
   pub blank : IsTrue (is_blank (granule trial_block at old))
-  pub mark : granule trial_block at new ≡ replicate 16 0
+  pub mark : granule trial_block at new ≡ replicate granule_bytes 0
 
 -- No more than one granule of the block of the trials changes, and when done it is one mark more, and nothing is dirty.
 pub record MarksTrial {T : Type 0} (result : Result T FlashStop) (at : ℕ) (s t : Told) : Type 0 where
-  pub keeps : Keeps (4096 * trial_block + 16 * at) (4096 * trial_block + 16 * at + 16) s t
+  pub keeps : Keeps (block_bytes * trial_block + granule_bytes * at)
+      (block_bytes * trial_block + granule_bytes * at + granule_bytes) s t
   pub one_more : OnOk result (IsOneMore at s.now t.now)
   pub stable : OnOk result (NothingDirty t)
 
 -- One record is written over block 5 or 6, and when done the counter is its value.
 pub record RecordsCounter {T : Type 0} (result : Result T FlashStop) (v : ℕ) (s t : Told) : Type 0 where
-  pub keeps : Keeps (4096 * 5) (4096 * 7) s t
+  pub keeps : Keeps (block_bytes * 5) (block_bytes * 7) s t
   pub record_is : Replaces result (record_place s.now) (padded (record_bytes v)) s t
   pub counter : OnOk result (counter_in t.now ≡ v)
 
@@ -61,7 +62,7 @@ WritesMoves result (m ∷ ms) at s t = WritesMove result m at s t
 -- What a call with these moves leaves of a flash that shows a state: it writes marks and records alone.
 pub record Leads {T : Type 0} (result : Result T FlashStop) (L : Layout) (state : State) (ms : List Move)
     (s t : Told) : Type 0 where
-  pub keeps : Keeps 12288 28672 s t
+  pub keeps : Keeps (block_bytes * 3) (block_bytes * 7) s t
   pub writes : WritesMoves result ms state.trials s t
   -- on any flash: when done, the counter is that of the state after the moves
   pub counter : OnOk result (counter_in t.now ≡ (after state ms).counter)

@@ -1,5 +1,6 @@
 -- What a boot leaves of a flash that shows this: the replicas are repaired, a bank is chosen, and its start is counted.
-use Rattle.std.specs.Prelude.{◌≡◌, ◌⊎◌, ℕ, Bool, List, [], ◌++◌, Option, Some, None, Result, Ok, Err, OnOk}
+use Rattle.std.specs.Prelude.{◌≡◌, ◌⊎◌, ℕ, ◌*◌, Bool, List, [], ◌++◌, Option, Some, None, Result, Ok, Err, OnOk}
+use Rattle.base_core.specs.Block.{block_bytes}
 use Rattle.flash_core.specs.declared.flash.Arming.{Arming}
 use Rattle.flash_core.specs.declared.flash.FlashStop.{FlashStop}
 use Rattle.flash_core.specs.Told.{Told}
@@ -74,8 +75,9 @@ pub record TakesMendingAndStart (shown : Shown) (image : List ℕ) (found : Opti
 
 pub record Boots {T : Type 0} (result : Result T FlashStop) (passes : List ℕ → Bool) (shown : Shown) (s t : Told) : Type 0 where
   -- nothing but the replicas, the marks and the records changes; where none is chosen, nothing but the replicas
-  pub keeps : Keeps 4096 28672 s t
-  pub none : choice (boot_setting passes shown.layout) (state_shown s.now shown) ≡ None → Keeps 4096 12288 s t
+  pub keeps : Keeps (block_bytes * 1) (block_bytes * 7) s t
+  pub none : choice (boot_setting passes shown.layout) (state_shown s.now shown) ≡ None
+      → Keeps (block_bytes * 1) (block_bytes * 3) s t
   -- and of these no more than the repair and the moves of the bank that is chosen
   pub writes : let state = state_shown s.now shown in
       BootWrites result shown.layout shown.meta (count_moves state (choice (boot_setting passes shown.layout) state))

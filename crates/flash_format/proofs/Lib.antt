@@ -14,3 +14,4 @@ pub mod Whole
 pub mod Given
 pub mod Taking
 pub mod Answered
+mod Stopped

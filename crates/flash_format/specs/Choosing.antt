@@ -1,5 +1,6 @@
 -- Which entries of a package are the images of a layout, and what is refused.
 use Rattle.std.specs.Prelude.{◌≡◌, ◌*◌, ◌<◌, ◌≤◌, ℕ, List, [], Option, Some, None, Result, Ok, Err, length, slice_index_or}
+use Rattle.base_core.specs.Block.{block_bytes}
 use Rattle.fwu_formats.specs.Layout.{ImageRow, Layout}
 use Rattle.fwu_formats.specs.Package.{Entry, Toc, toc_of, entry_of}
 use Rattle.fwu_model.specs.Reply.{Reply}
@@ -27,7 +28,7 @@ no_entry = record { guid = []; offset = 0; size = 0; flags = 0 }
 
 -- the entry of an image's type, where its payload fits the slot
 abbrev pub ChoosesOne : ImageRow → Toc → Result Entry InputFault → Type 0
-ChoosesOne row toc (Ok entry) = (entry_of toc row.guid ≡ Some entry) × (entry.size ≤ 4096 * row.slots)
+ChoosesOne row toc (Ok entry) = (entry_of toc row.guid ≡ Some entry) × (entry.size ≤ block_bytes * row.slots)
 ChoosesOne row toc (Err fault) = refused_image (image_fault row (entry_of toc row.guid)) ≡ Some fault
 
 -- the entry of each image's type, in the order of the images, and each payload fits its slot
@@ -35,7 +36,8 @@ pub record AreChosen (rows : List ImageRow) (toc : Toc) (entries : List Entry) :
   pub none : first_image_fault rows toc ≡ None
   pub count : length entries ≡ length rows
   pub each : (k : ℕ) → k < length rows → entry_of toc (slice_index_or rows k no_row).guid ≡ Some (slice_index_or entries k no_entry)
-  pub fit : (k : ℕ) → k < length rows → (slice_index_or entries k no_entry).size ≤ 4096 * (slice_index_or rows k no_row).slots
+  pub fit : (k : ℕ) → k < length rows → (slice_index_or entries k no_entry).size
+      ≤ block_bytes * (slice_index_or rows k no_row).slots
 
 abbrev pub Chooses : List ImageRow → Toc → Result (List Entry) InputFault → Type 0
 Chooses rows toc (Ok entries) = AreChosen rows toc entries

@@ -1,6 +1,6 @@
 -- What a flash shows that was formatted, and what one holds whose package was refused.
 use Rattle.std.specs.Prelude.{◌≡◌, ◌⊎◌, ◌+◌, ◌-◌, ◌*◌, ◌<◌, ℕ, Bool, true, false, List, [], ◌∷◌, ◌++◌, length, replicate, Some, None, Ok, IsErr, IsTrue, slice_index_or}
-use Rattle.base_core.specs.Block.{blank, block}
+use Rattle.base_core.specs.Block.{block_bytes, blank, block}
 use Rattle.flash_core.specs.Told.{Told, NothingDirty, fresh}
 use Rattle.flash_core.specs.May.{Keeps, May}
 use Rattle.flash_core.specs.Replaces.{padded}
@@ -69,14 +69,14 @@ pub record HoldsImages (L : Layout) (images : List (List ℕ)) (image : List ℕ
 pub record IsRefused (passes : List ℕ → Bool) (L : Layout) (found : Verdict) (image : List ℕ) : Type 0 where
   pub blank : IsErr (layout_seen image)
   -- and the first eight blocks are erased
-  pub front : Erased 0 32768 image
+  pub front : Erased 0 (block_bytes * 8) image
   pub found_is : verdict_on passes 0 L image 0 ≡ found
   pub bad : may_start found ≡ false
 
 -- blocks 3 to 7 are erased, and so are the banks behind bank 0
 pub record IsBlank (L : Layout) (image : List ℕ) : Type 0 where
-  pub front : Erased 12288 32768 image
-  pub banks : Erased (4096 * (8 + slot_total L.rows)) (4096 * blocks_needed L) image
+  pub front : Erased (block_bytes * 3) (block_bytes * 8) image
+  pub banks : Erased (block_bytes * (8 + slot_total L.rows)) (block_bytes * blocks_needed L) image
 
 -- the image has this layout, or none
 abbrev pub HasAtMost : Layout → List ℕ → Type 0
@@ -94,7 +94,7 @@ IsWhole passes L t = (image : List ℕ) → May t image → layout_seen image �
 -- What a format that led from s to t did is in order: block 0 is erased first, and the layout is written last.
 pub data IsInOrder (passes : List ℕ → Bool) (L : Layout) (s t : Told) : Type 0 where
   -- from byte 4096 on all is as it was, and block 0 was erased at most
-  begun : OnlyErased s t → Keeps 0 4096 s t → IsInOrder passes L s t
+  begun : OnlyErased s t → Keeps 0 block_bytes s t → IsInOrder passes L s t
   -- no loss leaves a layout, and the first eight blocks were erased at most
   bared : OnlyErased s t → ((image : List ℕ) → May t image → IsErr (layout_seen image)) → IsInOrder passes L s t
   -- each loss leaves blocks 3 to 7 and the banks behind bank 0 erased, a layout only with both replicas, and this one only on a

@@ -1,5 +1,6 @@
 -- What stands at a place of a flash.
 use Rattle.std.specs.Prelude.{◌≡◌, ℕ, ◌+◌, ◌*◌, ◌<◌, ◌≤◌, List, slice_index, slice_index_or}
+use Rattle.base_core.specs.Block.{block_bytes}
 use Rattle.fwu_formats.specs.Layout.{Layout, start, slot_bytes}
 use Rattle.fwu_formats.specs.Package.{Entry, payload}
 use Rattle.flash_format.specs.Choosing.{no_entry}
@@ -15,4 +16,4 @@ Stands at count bytes image = (i : ℕ) → i < count → slice_index image (at 
 -- the first images of a file's package stand in their slots of bank 0, with erased bytes behind them
 abbrev pub AllStand : ℕ → Layout → List ℕ → List Entry → List ℕ → Type 0
 AllStand count L file entries image = (k : ℕ) → k < count
-    → Stands (4096 * start L 0 k) (slot_bytes L k) (payload file (slice_index_or entries k no_entry)) image
+    → Stands (block_bytes * start L 0 k) (slot_bytes L k) (payload file (slice_index_or entries k no_entry)) image

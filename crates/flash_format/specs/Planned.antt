@@ -1,5 +1,6 @@
 -- The entries of a layout's images in a package.
 use Rattle.std.specs.Prelude.{◌≡◌, ◌+◌, ◌*◌, ◌^◌, ◌<◌, ◌≤◌, ℕ, List, Option, Ok, All, length, slice_index_or}
+use Rattle.base_core.specs.Block.{block_bytes}
 use Rattle.host_io.specs.Contents.{Directory}
 use Rattle.fwu_formats.specs.Layout.{Layout}
 use Rattle.fwu_formats.specs.Package.{Entry, Toc, toc_of}
@@ -9,7 +10,8 @@ use Rattle.flash_format.specs.Choosing.{AreChosen, no_entry, no_row}
 -- each payload can be read of the file, and fits its slot
 pub record IsPlanned (told : Option Directory) (name : List ℕ) (L : Layout) (entries : List Entry) : Type 0 where
   pub count : length entries ≡ length L.rows
-  pub fit : (k : ℕ) → k < length L.rows → (slice_index_or entries k no_entry).size ≤ 4096 * (slice_index_or L.rows k no_row).slots
+  pub fit : (k : ℕ) → k < length L.rows → (slice_index_or entries k no_entry).size
+      ≤ block_bytes * (slice_index_or L.rows k no_row).slots
   pub ends : All (λ e. e.offset + e.size < 2 ^ 64) entries
   pub stored : (file : List ℕ) → Tells told name file → All (λ e. e.offset + e.size ≤ length file) entries
   pub there : Lacks told name → ⊥

@@ -1,5 +1,6 @@
 -- How many erases and programs a format takes, as an armed loss counts them.
-use Rattle.std.specs.Prelude.{◌≡◌, ◌+◌, ◌/◌, ◌≤◌, ℕ, List, Option, Some, None, Ok, sum_by}
+use Rattle.std.specs.Prelude.{◌≡◌, ◌+◌, ◌-◌, ◌/◌, ◌≤◌, ℕ, List, Option, Some, None, Ok, sum_by}
+use Rattle.base_core.specs.Block.{block_bytes}
 use Rattle.host_io.specs.Contents.{Directory}
 use Rattle.flash_core.specs.Counts.{lowered_by}
 use Rattle.flash_core.specs.declared.flash.Arming.{Arming}
@@ -9,7 +10,7 @@ use Rattle.fip_tables.specs.Files.{Tells}
 
 -- how many pieces of at most 4096 bytes so many bytes have
 abbrev pub pieces_of : ℕ → ℕ
-pieces_of size = (size + 4095) / 4096
+pieces_of size = (size + (block_bytes - 1)) / block_bytes
 
 abbrev pub pieces_in : List Entry → ℕ
 pieces_in entries = sum_by (λ (e : Entry). pieces_of e.size) entries

@@ -1,5 +1,6 @@
 //! Writing the images of a package into bank 0.
 ghost use Rattle.std.specs.Prelude.{◌≡◌, ◌+◌, ◌*◌, ◌^◌, ◌<◌, ◌≤◌, ℕ, List, All, length, slice_index_or, is_ok, IsTrue, OnOk};
+ghost use Rattle.base_core.specs.Block.{block_bytes};
 ghost use Rattle.flash_core.specs.Counts.{Spends, StaysUnarmed, lowered_by};
 ghost use Rattle.flash_core.specs.May.{Keeps};
 ghost use Rattle.fwu_formats.specs.Layout.{blocks_needed, slot_total};
@@ -28,17 +29,17 @@ pub fn write_bank<D: Flash, H: Files>(
     requires on { IsTrue (D.on flash.old) }
     requires inside { blocks_needed layout.now ≤ D.blocks flash.old }
     requires erased { IsTrue D.tells →
-        Erased 32768 (4096 * (8 + slot_total layout.now.rows)) (D.told flash.old).now }
+        Erased (block_bytes * 8) (block_bytes * (8 + slot_total layout.now.rows)) (D.told flash.old).now }
     requires count { length entries.now ≡ length layout.now.rows }
     requires fit { (k : ℕ) → k < length layout.now.rows →
-        (slice_index_or entries.now k no_entry).size ≤ 4096 * (slice_index_or layout.now.rows k no_row).slots }
+        (slice_index_or entries.now k no_entry).size ≤ block_bytes * (slice_index_or layout.now.rows k no_row).slots }
     requires ends { All (λ e. e.offset + e.size < 2 ^ 64) entries.now }
     requires stored { (file : List ℕ) → Tells (H.contents files.old) name.now file →
         All (λ e. e.offset + e.size ≤ length file) entries.now }
     requires there { Lacks (H.contents files.old) name.now → ⊥ }
 
     ensures keeps { IsTrue D.tells →
-        Keeps 32768 (4096 * (8 + slot_total layout.now.rows)) (D.told flash.old)
+        Keeps (block_bytes * 8) (block_bytes * (8 + slot_total layout.now.rows)) (D.told flash.old)
         (D.told flash.new) }
     ensures left { IsTrue D.tells → LeavesNoMore 8 (D.told flash.old) (D.told flash.new) }
     ensures bytes { OnOk result (IsTrue D.tells → (file : List ℕ) →

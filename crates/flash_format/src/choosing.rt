@@ -4,7 +4,7 @@ ghost use Rattle.fwu_formats.specs.Package.{has_guid};
 ghost use Rattle.flash_format.specs.Choosing.{ChoosesOne, Chooses};
 
 use crate::stops::InputFault;
-use base_core::{Guid, ImageRow};
+use base_core::{BLOCK_BYTES, Guid, ImageRow};
 use fip_tables::{Entries, Entry, Toc};
 
 fn find_entry(entries: &[Entry], guid: &Guid) -> Option<Entry>
@@ -20,7 +20,7 @@ fn choose_one(row: &ImageRow, toc: &Toc) -> Result<Entry, InputFault>
     let Some(entry) = find_entry(toc.entries.as_slice(), &row.guid) else {
         return Err(InputFault::Missing(row.guid));
     };
-    if entry.size > 4096 * u64::from(row.slots) {
+    if entry.size > u64::from(BLOCK_BYTES) * u64::from(row.slots) {
         return Err(InputFault::TooLarge(row.guid));
     }
     Ok(entry)
@@ -33,10 +33,7 @@ pub fn choose(rows: &[ImageRow], toc: &Toc) -> Result<Entries, InputFault>
 {
     let mut entries = Entries::new();
     for k in 0..rows.len() {
-        match choose_one(&rows[k], toc) {
-            Ok(entry) => entries.push(entry),
-            Err(fault) => return Err(fault),
-        }
+        entries.push(choose_one(&rows[k], toc)?);
     }
     Ok(entries)
 }

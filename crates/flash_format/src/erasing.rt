@@ -1,5 +1,6 @@
 //! Erasing the front of a flash.
 ghost use Rattle.std.specs.Prelude.{◌≡◌, ◌⊎◌, ◌-◌, ◌*◌, ◌≤◌, is_ok, IsTrue, OnOk};
+ghost use Rattle.base_core.specs.Block.{block_bytes};
 ghost use Rattle.flash_core.specs.Counts.{Spends, StaysUnarmed, lowered_by};
 ghost use Rattle.flash_core.specs.May.{Keeps};
 ghost use Rattle.flash_core.specs.Told.{NothingDirty};
@@ -12,8 +13,8 @@ use flash_core::{Flash, FlashStop};
 fn erase_layout<D: Flash>(flash: &mut D) -> Result<(), FlashStop>
     requires on { IsTrue (D.on flash.old) }
 
-    ensures keeps { IsTrue D.tells → Keeps 0 4096 (D.told flash.old) (D.told flash.new) }
-    ensures erased { OnOk result (IsTrue D.tells → Erased 0 4096 (D.told flash.new).now) }
+    ensures keeps { IsTrue D.tells → Keeps 0 block_bytes (D.told flash.old) (D.told flash.new) }
+    ensures erased { OnOk result (IsTrue D.tells → Erased 0 block_bytes (D.told flash.new).now) }
     ensures clean { OnOk result (IsTrue D.tells → NothingDirty (D.told flash.new)) }
     ensures only { IsTrue D.tells → OnlyErased (D.told flash.old) (D.told flash.new) }
     ensures power { D.on flash.new ≡ is_ok result }
@@ -34,8 +35,8 @@ fn erase_behind<D: Flash>(flash: &mut D, count: u32) -> Result<(), FlashStop>
     requires inside { count ≤ D.blocks flash.old }
     requires some { 1 ≤ count }
 
-    ensures keeps { IsTrue D.tells → Keeps 4096 (4096 * count) (D.told flash.old) (D.told flash.new) }
-    ensures erased { OnOk result (IsTrue D.tells → Erased 4096 (4096 * count) (D.told flash.new).now) }
+    ensures keeps { IsTrue D.tells → Keeps block_bytes (block_bytes * count) (D.told flash.old) (D.told flash.new) }
+    ensures erased { OnOk result (IsTrue D.tells → Erased block_bytes (block_bytes * count) (D.told flash.new).now) }
     ensures only { IsTrue D.tells → OnlyErased (D.told flash.old) (D.told flash.new) }
     ensures power { D.on flash.new ≡ is_ok result }
     ensures size { D.blocks flash.new ≡ D.blocks flash.old }
@@ -56,11 +57,11 @@ pub fn erase_all<D: Flash>(flash: &mut D, count: u32) -> Result<(), FlashStop>
     requires inside { count ≤ D.blocks flash.old }
     requires some { 1 ≤ count }
 
-    ensures keeps { IsTrue D.tells → Keeps 0 (4096 * count) (D.told flash.old) (D.told flash.new) }
-    ensures erased { OnOk result (IsTrue D.tells → Erased 0 (4096 * count) (D.told flash.new).now) }
+    ensures keeps { IsTrue D.tells → Keeps 0 (block_bytes * count) (D.told flash.old) (D.told flash.new) }
+    ensures erased { OnOk result (IsTrue D.tells → Erased 0 (block_bytes * count) (D.told flash.new).now) }
     ensures only { IsTrue D.tells → OnlyErased (D.told flash.old) (D.told flash.new) }
     // Until block 0 is bare no other block is touched.
-    ensures first { IsTrue D.tells → Keeps 0 4096 (D.told flash.old) (D.told flash.new) ⊎
+    ensures first { IsTrue D.tells → Keeps 0 block_bytes (D.told flash.old) (D.told flash.new) ⊎
         IsBare (D.told flash.new) }
     ensures bare { OnOk result (IsTrue D.tells → IsBare (D.told flash.new)) }
     ensures power { D.on flash.new ≡ is_ok result }

@@ -1,5 +1,6 @@
 //! Formatting a flash.
 ghost use Rattle.std.specs.Prelude.{◌≡◌, ◌+◌, ◌⊎◌, ◌*◌, ◌≤◌, ℕ, List, Ok, Err, false, IfOk, IfErr, OnOk, length, is_ok, IsTrue};
+ghost use Rattle.base_core.specs.Block.{block_bytes};
 ghost use Rattle.flash_core.specs.Counts.{Spends, StaysUnarmed, lowered_by};
 ghost use Rattle.flash_core.specs.May.{Keeps};
 ghost use Rattle.flash_core.specs.Told.{NothingDirty};
@@ -49,7 +50,7 @@ fn finish<D: Flash, V: Verifier>(
 ) -> Result<u32, FormatStop>
     requires on { IsTrue (D.on flash.old) }
     requires inside { blocks_needed layout.now ≤ D.blocks flash.old }
-    requires erased { IsTrue D.tells → Erased 0 32768 (D.told flash.old).now }
+    requires erased { IsTrue D.tells → Erased 0 (block_bytes * 8) (D.told flash.old).now }
 
     ensures passed { IfOk result (λ version. HasPassed (V.passes verifier.now) layout.now.rows 0 (Good version)) }
     ensures formatted { IfOk result (λ version. IsTrue D.tells →
@@ -60,7 +61,7 @@ fn finish<D: Flash, V: Verifier>(
         IsTrue D.tells → IsRefused (V.passes verifier.now) layout.now found (D.told flash.new).now }
     ensures clean { Finishes result (IsTrue D.tells → NothingDirty (D.told flash.old)
         → NothingDirty (D.told flash.new)) }
-    ensures keeps { IsTrue D.tells → Keeps 0 12288 (D.told flash.old) (D.told flash.new) }
+    ensures keeps { IsTrue D.tells → Keeps 0 (block_bytes * 3) (D.told flash.old) (D.told flash.new) }
     // Whatever a loss leaves, no layout is there before both replicas are, and this one only on a flash that is formatted.
     ensures ordered { IsTrue D.tells → NothingDirty (D.told flash.old) →
         IsOrdered layout.now (D.told flash.new) }
@@ -81,10 +82,7 @@ fn finish<D: Flash, V: Verifier>(
     ensures stops { RefusesBank result }
 {
     let _rows = layout.rows();
-    let version = match check_bank(flash, layout, verifier) {
-        Ok(version) => version,
-        Err(stop) => return Err(stop),
-    };
+    let version = check_bank(flash, layout, verifier)?;
     write_records(flash, layout)?;
     Ok(version)
 }
@@ -116,7 +114,7 @@ fn carry_out<D: Flash, H: Files, V: Verifier>(
     ensures clean { Finishes result (IsTrue D.tells → NothingDirty (D.told flash.new)) }
     ensures failed { result ≡ Err FileFailed → IsTrue D.tells → IsUnlaid (D.told flash.new) }
     ensures keeps { IsTrue D.tells →
-        Keeps 0 (4096 * blocks_needed plan.now.layout) (D.told flash.old) (D.told flash.new) }
+        Keeps 0 (block_bytes * blocks_needed plan.now.layout) (D.told flash.old) (D.told flash.new) }
     // At any exit block 0 goes first and the layout comes last, whatever a loss leaves.
     ensures ordered { IsTrue D.tells →
         IsInOrder (V.passes verifier.now) plan.now.layout (D.told flash.old) (D.told flash.new) }
@@ -141,10 +139,7 @@ fn carry_out<D: Flash, H: Files, V: Verifier>(
         (H.faults files.new) result }
 {
     let _rows = plan.layout.rows();
-    match fill(flash, plan, files, name) {
-        Ok(()) => {}
-        Err(stop) => return Err(stop),
-    }
+    fill(flash, plan, files, name)?;
     finish(flash, &plan.layout, verifier)
 }
 
@@ -220,7 +215,7 @@ pub fn format<D: Flash, H: Files, V: Verifier>(
         (D.told flash.old) (D.told flash.new) }
     // Beyond the last bank nothing changes, at any exit.
     ensures keeps { IsTrue D.tells →
-        Keeps 0 (4096 * blocks_needed (record { banks = banks; rows = rows.now }))
+        Keeps 0 (block_bytes * blocks_needed (record { banks = banks; rows = rows.now }))
         (D.told flash.old) (D.told flash.new) }
     ensures power { D.on flash.new ≡ is_ok (flash_result result) }
     ensures size { D.blocks flash.new ≡ D.blocks flash.old }
@@ -247,14 +242,8 @@ pub fn format<D: Flash, H: Files, V: Verifier>(
     ensures reads { ReadsBy (H.contents files.old) name.now (H.faults files.old)
         (H.faults files.new) result }
 {
-    let plan = match plan(rows, banks, flash.blocks(), files, name) {
-        Ok(plan) => plan,
-        Err(stop) => return Err(stop),
-    };
-    let version = match carry_out(flash, &plan, files, name, verifier) {
-        Ok(version) => version,
-        Err(stop) => return Err(stop),
-    };
+    let plan = plan(rows, banks, flash.blocks(), files, name)?;
+    let version = carry_out(flash, &plan, files, name, verifier)?;
     Ok(Formatted {
         layout: plan.layout,
         version,

@@ -1,6 +1,6 @@
 //! Writing an image of a package into its slot.
 ghost use Rattle.std.specs.Prelude.{◌≡◌, ◌+◌, ◌*◌, ◌%◌, ◌^◌, ◌<◌, ◌≤◌, ℕ, List, length, drop, is_ok, IsTrue, IfOk, OnOk};
-ghost use Rattle.base_core.specs.Block.{blank};
+ghost use Rattle.base_core.specs.Block.{block_bytes, granule_bytes, blank};
 ghost use Rattle.flash_core.specs.Counts.{Spends, StaysUnarmed, lowered_by};
 ghost use Rattle.flash_core.specs.May.{Keeps};
 ghost use Rattle.host_io.specs.Causes.{HasCause};
@@ -12,9 +12,13 @@ ghost use Rattle.flash_format.specs.Stops.{flash_result, ReadsBy, RefusesNothing
 ghost use Rattle.flash_format.specs.Takes.{pieces_of};
 
 use crate::stops::FormatStop;
+use base_core::{BLOCK_BYTES, GRANULE_BYTES};
 use fip_tables::{Entry, payload_at};
 use flash_core::Flash;
 use host_io::{Failed, Files};
+
+/// The bytes of an image are written in pieces of a block.
+const PIECE: u64 = BLOCK_BYTES as u64;
 
 /// Reads a payload from a place of it on, to the end of the buffer or of the payload, and leaves the erased bytes behind it.
 /// How many bytes that is, up to a whole granule.
@@ -25,7 +29,7 @@ fn read_piece<H: Files>(
     done: u64,
     out: &mut [u8],
 ) -> Result<usize, Failed>
-    requires erased { out.old ≡ blank 4096 }
+    requires erased { out.old ≡ blank block_bytes }
     requires some { done < entry.now.size }
     requires ends { entry.now.offset + entry.now.size < 2 ^ 64 }
     requires stored { (file : List ℕ) → Tells (H.contents files.old) name.now file →
@@ -33,18 +37,19 @@ fn read_piece<H: Files>(
     requires there { Lacks (H.contents files.old) name.now → ⊥ }
 
     ensures bytes { OnOk result ((file : List ℕ) → Tells (H.contents files.old) name.now file →
-        Stands 0 4096 (drop done (payload file entry.now)) out.new) }
-    ensures granules { IfOk result (λ n. n % 16 ≡ 0) }
-    ensures some { IfOk result (λ n. (0 < n) × (n ≤ 4096)) }
-    ensures erased { IfOk result (λ n. Erased n 4096 out.new) }
-    ensures buffer { length out.new ≡ 4096 }
+        Stands 0 block_bytes (drop done (payload file entry.now)) out.new) }
+    ensures granules { IfOk result (λ n. n % granule_bytes ≡ 0) }
+    ensures some { IfOk result (λ n. (0 < n) × (n ≤ block_bytes)) }
+    ensures erased { IfOk result (λ n. Erased n block_bytes out.new) }
+    ensures buffer { length out.new ≡ block_bytes }
     ensures same { H.contents files.new ≡ H.contents files.old }
     ensures unwritten { H.writes files.new ≡ H.writes files.old }
     ensures cause { HasCause (H.faults files.old) (H.faults files.new) result }
 {
-    let size = (entry.size - done).min(4096) as usize;
+    let size = (entry.size - done).min(PIECE) as usize;
     payload_at(files, name, entry, done, &mut out[..size])?;
-    Ok((size + 15) / 16 * 16)
+    let granule = GRANULE_BYTES as usize;
+    Ok((size + (granule - 1)) / granule * granule)
 }
 
 /// Writes the piece of a payload that begins at a place of it to a block that is erased.
@@ -59,7 +64,7 @@ fn write_piece<D: Flash, H: Files>(
     requires on { IsTrue (D.on flash.old) }
     requires inside { block < D.blocks flash.old }
     requires erased { IsTrue D.tells →
-        Erased (4096 * block) (4096 * block + 4096) (D.told flash.old).now }
+        Erased (block_bytes * block) (block_bytes * block + block_bytes) (D.told flash.old).now }
     requires some { done < entry.now.size }
     requires ends { entry.now.offset + entry.now.size < 2 ^ 64 }
     requires stored { (file : List ℕ) → Tells (H.contents files.old) name.now file →
@@ -67,11 +72,11 @@ fn write_piece<D: Flash, H: Files>(
     requires there { Lacks (H.contents files.old) name.now → ⊥ }
 
     ensures keeps { IsTrue D.tells →
-        Keeps (4096 * block) (4096 * block + 4096) (D.told flash.old) (D.told flash.new) }
+        Keeps (block_bytes * block) (block_bytes * block + block_bytes) (D.told flash.old) (D.told flash.new) }
     ensures left { IsTrue D.tells → LeavesNoMore block (D.told flash.old) (D.told flash.new) }
     ensures bytes { OnOk result (IsTrue D.tells → (file : List ℕ) →
         Tells (H.contents files.old) name.now file
-        → Stands (4096 * block) 4096 (drop done (payload file entry.now)) (D.told flash.new).now) }
+        → Stands (block_bytes * block) block_bytes (drop done (payload file entry.now)) (D.told flash.new).now) }
     ensures power { D.on flash.new ≡ is_ok (flash_result result) }
     ensures size { D.blocks flash.new ≡ D.blocks flash.old }
     ensures costs { Spends (flash_result result) (D.counts flash.old) (D.counts flash.new) }
@@ -85,12 +90,12 @@ fn write_piece<D: Flash, H: Files>(
         (H.faults files.new) result }
     ensures stops { RefusesNothing result }
 {
-    let mut bytes = [0xFF; 4096];
+    let mut bytes = [0xFF; BLOCK_BYTES as usize];
     let size = match read_piece(files, name, entry, done, &mut bytes) {
         Ok(size) => size,
         Err(_) => return Err(FormatStop::ReadFailed),
     };
-    flash.program(4096 * block, &bytes[..size])?;
+    flash.program(BLOCK_BYTES * block, &bytes[..size])?;
     Ok(())
 }
 
@@ -106,19 +111,19 @@ pub fn write_image<D: Flash, H: Files>(
     requires on { IsTrue (D.on flash.old) }
     requires inside { first + slots ≤ D.blocks flash.old }
     requires erased { IsTrue D.tells →
-        Erased (4096 * first) (4096 * (first + slots)) (D.told flash.old).now }
-    requires fits { entry.now.size ≤ 4096 * slots }
+        Erased (block_bytes * first) (block_bytes * (first + slots)) (D.told flash.old).now }
+    requires fits { entry.now.size ≤ block_bytes * slots }
     requires ends { entry.now.offset + entry.now.size < 2 ^ 64 }
     requires stored { (file : List ℕ) → Tells (H.contents files.old) name.now file →
         entry.now.offset + entry.now.size ≤ length file }
     requires there { Lacks (H.contents files.old) name.now → ⊥ }
 
     ensures keeps { IsTrue D.tells →
-        Keeps (4096 * first) (4096 * (first + slots)) (D.told flash.old) (D.told flash.new) }
+        Keeps (block_bytes * first) (block_bytes * (first + slots)) (D.told flash.old) (D.told flash.new) }
     ensures left { IsTrue D.tells → LeavesNoMore first (D.told flash.old) (D.told flash.new) }
     ensures bytes { OnOk result (IsTrue D.tells → (file : List ℕ) →
         Tells (H.contents files.old) name.now file
-        → Stands (4096 * first) (4096 * slots) (payload file entry.now) (D.told flash.new).now) }
+        → Stands (block_bytes * first) (block_bytes * slots) (payload file entry.now) (D.told flash.new).now) }
     ensures power { D.on flash.new ≡ is_ok (flash_result result) }
     ensures size { D.blocks flash.new ≡ D.blocks flash.old }
     ensures costs { Spends (flash_result result) (D.counts flash.old) (D.counts flash.new) }
@@ -134,9 +139,9 @@ pub fn write_image<D: Flash, H: Files>(
         (H.faults files.new) result }
     ensures stops { RefusesNothing result }
 {
-    let pieces = ((entry.size + 4095) / 4096) as u32;
+    let pieces = ((entry.size + (PIECE - 1)) / PIECE) as u32;
     for k in 0..pieces {
-        write_piece(flash, first + k, files, name, entry, 4096 * u64::from(k))?;
+        write_piece(flash, first + k, files, name, entry, PIECE * u64::from(k))?;
     }
     Ok(())
 }

@@ -34,15 +34,10 @@ fn plan_of<H: Files>(files: &mut H, name: &str, layout: Layout) -> Result<Plan, 
     ensures reads { ReadsBy (H.contents files.old) name.now (H.faults files.old)
         (H.faults files.new) result }
 {
-    let toc = match read_table(files, name) {
-        Ok(toc) => toc,
-        Err(stop) => return Err(stop),
-    };
+    let toc = read_table(files, name)?;
     let _rows = layout.rows();
-    match choose(layout.rows(), &toc) {
-        Ok(entries) => Ok(Plan { layout, entries }),
-        Err(fault) => Err(FormatStop::Input(fault)),
-    }
+    let entries = choose(layout.rows(), &toc)?;
+    Ok(Plan { layout, entries })
 }
 
 /// The layout of these rows and banks on a flash of so many blocks, and the entries of its images in a package, or the first

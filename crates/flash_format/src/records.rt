@@ -1,6 +1,6 @@
 //! The metadata and the layout of a flash that is formatted.
-ghost use Rattle.std.specs.Prelude.{◌≡◌, ◌%◌, ◌<◌, ◌≤◌, Ok, length, is_ok, IsTrue, OnOk};
-ghost use Rattle.base_core.specs.Block.{block};
+ghost use Rattle.std.specs.Prelude.{◌≡◌, ◌*◌, ◌%◌, ◌<◌, ◌≤◌, Ok, length, is_ok, IsTrue, OnOk};
+ghost use Rattle.base_core.specs.Block.{block_bytes, granule_bytes, block};
 ghost use Rattle.flash_core.specs.Counts.{Spends, StaysUnarmed, lowered_by};
 ghost use Rattle.flash_core.specs.May.{Keeps};
 ghost use Rattle.flash_core.specs.Told.{NothingDirty};
@@ -12,18 +12,20 @@ ghost use Rattle.fwu_model.specs.Replica.{BothHold, in_version};
 ghost use Rattle.flash_format.specs.Formatted.{HasAtMost, IsOrdered, IsSpelled};
 ghost use Rattle.flash_format.specs.Places.{Erased};
 
+use base_core::BLOCK_BYTES;
 use flash_core::{Flash, FlashStop};
+use fwu_formats::{FIRST_REPLICA, SECOND_REPLICA};
 use meta_layout::{Layout, Meta};
 
 /// Programs bytes to the front of blocks 1 and 2, which are erased, and makes a barrier.
 fn write_twice<D: Flash>(flash: &mut D, bytes: &[u8]) -> Result<(), FlashStop>
     requires on { IsTrue (D.on flash.old) }
-    requires granules { length bytes.now % 16 ≡ 0 }
+    requires granules { length bytes.now % granule_bytes ≡ 0 }
     requires some { 0 < length bytes.now }
-    requires few { length bytes.now ≤ 4096 }
-    requires erased { IsTrue D.tells → Erased 4096 12288 (D.told flash.old).now }
+    requires few { length bytes.now ≤ block_bytes }
+    requires erased { IsTrue D.tells → Erased (block_bytes * 1) (block_bytes * 3) (D.told flash.old).now }
 
-    ensures keeps { IsTrue D.tells → Keeps 4096 12288 (D.told flash.old) (D.told flash.new) }
+    ensures keeps { IsTrue D.tells → Keeps (block_bytes * 1) (block_bytes * 3) (D.told flash.old) (D.told flash.new) }
     ensures zero { OnOk result (IsTrue D.tells →
         block 1 (D.told flash.new).now ≡ padded bytes.now) }
     ensures one { OnOk result (IsTrue D.tells → block 2 (D.told flash.new).now ≡ padded bytes.now) }
@@ -35,17 +37,17 @@ fn write_twice<D: Flash>(flash: &mut D, bytes: &[u8]) -> Result<(), FlashStop>
     ensures unarmed { StaysUnarmed result (D.arming flash.old) (D.arming flash.new)
         (D.counts flash.old) (D.counts flash.new) }
 {
-    flash.program(4096, bytes)?;
-    flash.program(8192, bytes)?;
+    flash.program(BLOCK_BYTES * FIRST_REPLICA, bytes)?;
+    flash.program(BLOCK_BYTES * SECOND_REPLICA, bytes)?;
     flash.barrier()
 }
 
 /// Writes the first metadata of a layout to both replicas, whose blocks are erased.
 fn write_replicas<D: Flash>(flash: &mut D, layout: &Layout) -> Result<(), FlashStop>
     requires on { IsTrue (D.on flash.old) }
-    requires erased { IsTrue D.tells → Erased 4096 12288 (D.told flash.old).now }
+    requires erased { IsTrue D.tells → Erased (block_bytes * 1) (block_bytes * 3) (D.told flash.old).now }
 
-    ensures keeps { IsTrue D.tells → Keeps 4096 12288 (D.told flash.old) (D.told flash.new) }
+    ensures keeps { IsTrue D.tells → Keeps (block_bytes * 1) (block_bytes * 3) (D.told flash.old) (D.told flash.new) }
     ensures both { OnOk result (IsTrue D.tells →
         BothHold layout.now (in_version 2 (first_meta layout.now)) (D.told flash.new).now) }
     ensures zero { OnOk result (IsTrue D.tells →
@@ -60,7 +62,7 @@ fn write_replicas<D: Flash>(flash: &mut D, layout: &Layout) -> Result<(), FlashS
     ensures unarmed { StaysUnarmed result (D.arming flash.old) (D.arming flash.new)
         (D.counts flash.old) (D.counts flash.new) }
 {
-    let mut bytes = [0xFF; 4096];
+    let mut bytes = [0xFF; BLOCK_BYTES as usize];
     let meta = Meta::first(layout);
     let _rows = layout.rows();
     meta.write(layout, &mut bytes);
@@ -72,9 +74,9 @@ fn write_replicas<D: Flash>(flash: &mut D, layout: &Layout) -> Result<(), FlashS
 fn write_layout<D: Flash>(flash: &mut D, layout: &Layout) -> Result<(), FlashStop>
     requires on { IsTrue (D.on flash.old) }
     requires inside { blocks_needed layout.now ≤ D.blocks flash.old }
-    requires erased { IsTrue D.tells → Erased 0 4096 (D.told flash.old).now }
+    requires erased { IsTrue D.tells → Erased 0 block_bytes (D.told flash.old).now }
 
-    ensures keeps { IsTrue D.tells → Keeps 0 4096 (D.told flash.old) (D.told flash.new) }
+    ensures keeps { IsTrue D.tells → Keeps 0 block_bytes (D.told flash.old) (D.told flash.new) }
     ensures layout { OnOk result (IsTrue D.tells →
         layout_seen (D.told flash.new).now ≡ Ok layout.now) }
     ensures spelled { OnOk result (IsTrue D.tells →
@@ -88,7 +90,7 @@ fn write_layout<D: Flash>(flash: &mut D, layout: &Layout) -> Result<(), FlashSto
     ensures unarmed { StaysUnarmed result (D.arming flash.old) (D.arming flash.new)
         (D.counts flash.old) (D.counts flash.new) }
 {
-    let mut bytes = [0xFF; 4096];
+    let mut bytes = [0xFF; BLOCK_BYTES as usize];
     layout.write(&mut bytes);
     flash.program(0, &bytes)?;
     flash.barrier()
@@ -98,9 +100,9 @@ fn write_layout<D: Flash>(flash: &mut D, layout: &Layout) -> Result<(), FlashSto
 pub fn write_records<D: Flash>(flash: &mut D, layout: &Layout) -> Result<(), FlashStop>
     requires on { IsTrue (D.on flash.old) }
     requires inside { blocks_needed layout.now ≤ D.blocks flash.old }
-    requires erased { IsTrue D.tells → Erased 0 12288 (D.told flash.old).now }
+    requires erased { IsTrue D.tells → Erased 0 (block_bytes * 3) (D.told flash.old).now }
 
-    ensures keeps { IsTrue D.tells → Keeps 0 12288 (D.told flash.old) (D.told flash.new) }
+    ensures keeps { IsTrue D.tells → Keeps 0 (block_bytes * 3) (D.told flash.old) (D.told flash.new) }
     ensures both { OnOk result (IsTrue D.tells →
         BothHold layout.now (in_version 2 (first_meta layout.now)) (D.told flash.new).now) }
     ensures layout { OnOk result (IsTrue D.tells →

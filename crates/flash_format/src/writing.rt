@@ -1,5 +1,6 @@
 //! Writing the images of a plan, and testing them.
 ghost use Rattle.std.specs.Prelude.{◌≡◌, ◌⊎◌, ◌+◌, ◌*◌, ◌≤◌, ℕ, List, Ok, Err, true, false, length, is_ok, IsTrue, IfOk, OnOk};
+ghost use Rattle.base_core.specs.Block.{block_bytes};
 ghost use Rattle.flash_core.specs.Counts.{Spends, StaysUnarmed, lowered_by};
 ghost use Rattle.flash_core.specs.May.{Keeps};
 ghost use Rattle.fwu_formats.specs.Layout.{blocks_needed};
@@ -23,6 +24,7 @@ use crate::bank::write_bank;
 use crate::erasing::erase_all;
 use crate::plan::Plan;
 use crate::stops::{FormatStop, InputFault};
+use base_core::BLOCK_BYTES;
 use flash_core::Flash;
 use host_io::Files;
 use image_check::{Verdict, check};
@@ -41,14 +43,14 @@ pub fn fill<D: Flash, H: Files>(
     requires planned { IsPlanned (H.contents files.old) name.now plan.now.layout plan.now.entries }
 
     ensures keeps { IsTrue D.tells →
-        Keeps 0 (4096 * blocks_needed plan.now.layout) (D.told flash.old) (D.told flash.new) }
+        Keeps 0 (block_bytes * blocks_needed plan.now.layout) (D.told flash.old) (D.told flash.new) }
     // Whatever the result, nothing is in the first blocks that wasn't there.
     ensures only { IsTrue D.tells → OnlyErased (D.told flash.old) (D.told flash.new) }
     // Until block 0 is bare no other block is touched.
-    ensures first { IsTrue D.tells → Keeps 0 4096 (D.told flash.old) (D.told flash.new) ⊎
+    ensures first { IsTrue D.tells → Keeps 0 block_bytes (D.told flash.old) (D.told flash.new) ⊎
         IsBare (D.told flash.new) }
     ensures erased { OnOk (flash_result result) (IsTrue D.tells →
-        Erased 0 32768 (D.told flash.new).now) }
+        Erased 0 (block_bytes * 8) (D.told flash.new).now) }
     // A file that could not be read leaves it bare too.
     ensures bare { OnOk (flash_result result) (IsTrue D.tells → IsBare (D.told flash.new)) }
     ensures blank { OnOk result (IsTrue D.tells → IsBlank plan.now.layout (D.told flash.new).now) }
@@ -106,7 +108,7 @@ pub fn check_bank<D: Flash, V: Verifier>(
         (D.counts flash.old) (D.counts flash.new) }
     ensures stops { RefusesBank result }
 {
-    let mut buffer = [0; 4096];
+    let mut buffer = [0; BLOCK_BYTES as usize];
     let _banks = layout.banks();
     match check(flash, layout, 0, 0, &mut buffer, verifier)? {
         Verdict::Good { version } => Ok(version),

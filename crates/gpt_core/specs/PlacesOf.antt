@@ -1,5 +1,6 @@
 -- The places that a table gives: one partition that is the store, and two for the metadata.
 use Rattle.std.specs.Prelude.{if◌then◌else◌, ℕ, ◌+◌, ◌-◌, ◌*◌, ◌&&◌, ◌||◌, nat_le, nat_lt, Bool, List, [], ◌∷◌, ◌++◌, length, map, filter, codes, slice_index, Result, Ok, Err}
+use Rattle.base_core.specs.Block.{fewest_blocks, most_blocks}
 use Rattle.base_core.specs.Bytes.{num_at, part, listed, same_bytes}
 use Rattle.gpt_core.specs.declared.layout.Places.{Places}
 use Rattle.gpt_core.specs.declared.layout.PlaceFault.{PlaceFault}
@@ -48,7 +49,7 @@ unfoldable pub are_large : ℕ → ℕ → Partition → Partition → Partition
 are_large blocks entry_blocks store zero one =
     is_usable blocks entry_blocks store && is_usable blocks entry_blocks zero && is_usable blocks entry_blocks one
     && (are_apart store zero && are_apart store one && are_apart zero one)
-    && (nat_le 8 (size_of store) && nat_le (size_of store) 65536)
+    && (nat_le fewest_blocks (size_of store) && nat_le (size_of store) most_blocks)
 
 abbrev pub placed : ℕ → ℕ → List Partition → List Partition → Result Places PlaceFault
 placed blocks entry_blocks (store ∷ []) (zero ∷ one ∷ []) =

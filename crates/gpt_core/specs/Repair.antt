@@ -1,6 +1,6 @@
 -- What a repair of a table leaves.
 use Rattle.std.specs.Prelude.{◌≡◌, ℕ, ◌+◌, ◌-◌, ◌*◌, List, length, Some, IsTrue, Result, OnOk}
-use Rattle.base_core.specs.Block.{block, blank}
+use Rattle.base_core.specs.Block.{block_bytes, block, blank}
 use Rattle.base_core.specs.Bytes.{part, overwritten}
 use Rattle.flash_core.specs.declared.flash.FlashStop.{FlashStop}
 use Rattle.flash_core.specs.Told.{Told, NothingDirty, is_guarded}
@@ -19,8 +19,8 @@ pub record HeadersGuarded (blocks : ℕ) (s : Told) : Type 0 where
 -- But for the copy that is repaired nothing changes, and where none is nothing at all.
 abbrev pub StaysBeside : ℕ → Table → WhichTable → Told → Told → Type 0
 StaysBeside blocks t Same s u = u ≡ s
-StaysBeside blocks t RepairPrimary s u = Keeps 4096 (4096 * (2 + blocks_of (number_of t))) s u
-StaysBeside blocks t RepairBackup s u = Keeps (4096 * (blocks - 1 - blocks_of (number_of t))) (4096 * blocks) s u
+StaysBeside blocks t RepairPrimary s u = Keeps block_bytes (block_bytes * (2 + blocks_of (number_of t))) s u
+StaysBeside blocks t RepairBackup s u = Keeps (block_bytes * (blocks - 1 - blocks_of (number_of t))) (block_bytes * blocks) s u
 
 -- how many erases and programs a repair of a table with so many blocks of entries takes:
 -- each block of the copy is erased and programmed
@@ -42,7 +42,7 @@ pub record Mends {T : Type 0} (result : Result T FlashStop) (blocks : ℕ) (t : 
 -- nothing is dirty, the header's block of copy w is guarded, the other copy says the table, and it decides
 pub record Ready (w : TableCopy) (blocks : ℕ) (t : Table) (s : Told) : Type 0 where
   pub nothing : NothingDirty s
-  pub size : length s.now ≡ 4096 * blocks
+  pub size : length s.now ≡ block_bytes * blocks
   pub guarded : IsTrue (is_guarded s (header_at w blocks))
   pub says : copy_in (other w) blocks s.now ≡ Some t
   pub decides : DecidesTable blocks t s.now
@@ -50,13 +50,13 @@ pub record Ready (w : TableCopy) (blocks : ℕ) (t : Table) (s : Told) : Type 0 
 -- and the header's block of copy w is erased
 pub record Cleared (w : TableCopy) (blocks : ℕ) (t : Table) (s : Told) : Type 0 where
   pub ready : Ready w blocks t s
-  pub empty : block (header_at w blocks) s.now ≡ blank 4096
+  pub empty : block (header_at w blocks) s.now ≡ blank block_bytes
 
 -- and its entries are those of the table
 pub record Filled (w : TableCopy) (blocks : ℕ) (t : Table) (s : Told) : Type 0 where
   pub cleared : Cleared w blocks t s
-  pub entries : part s.now (4096 * entries_at w blocks (blocks_of (number_of t)))
-      (4096 * entries_at w blocks (blocks_of (number_of t)) + length t.entries)
+  pub entries : part s.now (block_bytes * entries_at w blocks (blocks_of (number_of t)))
+      (block_bytes * entries_at w blocks (blocks_of (number_of t)) + length t.entries)
       ≡ t.entries
 
 -- What a step leaves, at any exit: in each image the table decides; when done, P.
@@ -66,11 +66,12 @@ pub record Steps {T : Type 0} (P : Told → Type 0) (result : Result T FlashStop
 
 -- These bytes are the header of copy w: over an erased block, in front of the table's entries, they make the copy say the table.
 abbrev pub Spells : TableCopy → ℕ → Table → List ℕ → Type 0
-Spells w blocks t bytes = (image : List ℕ) → length image ≡ 4096 * blocks → block (header_at w blocks) image ≡ blank 4096
-    → part image (4096 * entries_at w blocks (blocks_of (number_of t)))
-    (4096 * entries_at w blocks (blocks_of (number_of t)) + length t.entries)
+Spells w blocks t bytes = (image : List ℕ) → length image ≡ block_bytes * blocks
+    → block (header_at w blocks) image ≡ blank block_bytes
+    → part image (block_bytes * entries_at w blocks (blocks_of (number_of t)))
+    (block_bytes * entries_at w blocks (blocks_of (number_of t)) + length t.entries)
     ≡ t.entries
-    → copy_in w blocks (overwritten (4096 * header_at w blocks) bytes image) ≡ Some t
+    → copy_in w blocks (overwritten (block_bytes * header_at w blocks) bytes image) ≡ Some t
 
 -- the copy that these bytes are written for, and the table
 pub record Writing (blocks header first : ℕ) (head entries : List ℕ) (s : Told) : Type 0 where

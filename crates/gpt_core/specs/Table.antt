@@ -3,7 +3,7 @@
 -- header in the last block and its entries in the blocks before that.
 use Rattle.std.specs.Prelude.{if◌then◌else◌, ◌≡◌, ◌≢◌, ℕ, ◌+◌, ◌-◌, ◌*◌, ◌/◌, ◌≤◌, ◌&&◌, ◌==◌, Bool, nat_le, List, ◌++◌, length, Option, Some, None, IsTrue, codes, replicate}
 use Rattle.base_core.specs.Bytes.{num_at, part, le, same_bytes}
-use Rattle.base_core.specs.Block.{block}
+use Rattle.base_core.specs.Block.{block_bytes, block}
 use Rattle.base_core.specs.Crc.{crc}
 use Rattle.base_core.specs.Seal.{has_table_seal}
 use Rattle.gpt_core.specs.declared.table.TableCopy.{TableCopy}
@@ -23,7 +23,7 @@ pub record Table : Type 0 where
 
 -- how many whole blocks so many entries take
 abbrev pub blocks_of : ℕ → ℕ
-blocks_of number = (number * 128 + 4095) / 4096
+blocks_of number = (number * 128 + (block_bytes - 1)) / block_bytes
 
 abbrev pub header_at : TableCopy → ℕ → ℕ
 header_at Primary blocks = 1
@@ -40,12 +40,12 @@ entries_at Backup blocks entry_blocks = blocks - 1 - entry_blocks
 
 -- the first byte of a copy with so many blocks of entries, and the first byte behind it
 abbrev pub copy_from : TableCopy → ℕ → ℕ → ℕ
-copy_from Primary blocks entry_blocks = 4096
-copy_from Backup blocks entry_blocks = 4096 * (blocks - 1 - entry_blocks)
+copy_from Primary blocks entry_blocks = block_bytes
+copy_from Backup blocks entry_blocks = block_bytes * (blocks - 1 - entry_blocks)
 
 abbrev pub copy_to : TableCopy → ℕ → ℕ → ℕ
-copy_to Primary blocks entry_blocks = 4096 * (2 + entry_blocks)
-copy_to Backup blocks entry_blocks = 4096 * blocks
+copy_to Primary blocks entry_blocks = block_bytes * (2 + entry_blocks)
+copy_to Backup blocks entry_blocks = block_bytes * blocks
 
 abbrev pub number_in : List ℕ → ℕ
 number_in header = num_at 4 header 80
@@ -75,7 +75,7 @@ is_header copy blocks header = has_table_seal header && has_fields copy blocks h
 -- the entries that a header speaks of
 unfoldable pub entries_in : TableCopy → ℕ → List ℕ → List ℕ → List ℕ
 entries_in copy blocks header image =
-    let at = 4096 * entries_at copy blocks (blocks_of (number_in header)) in
+    let at = block_bytes * entries_at copy blocks (blocks_of (number_in header)) in
     part image at (at + number_in header * 128)
 
 abbrev pub table_of : List ℕ → List ℕ → Table

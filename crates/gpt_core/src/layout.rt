@@ -1,6 +1,7 @@
 //! Where the blocks of a flash stand in a device.
 
 ghost use Rattle.std.specs.Prelude.{◌≡◌, ◌+◌, ◌*◌, ◌<◌, ◌≤◌};
+ghost use Rattle.base_core.specs.Block.{block_bytes, most_blocks};
 ghost use Rattle.gpt_core.specs.Places.{Fit, behind, byte_behind};
 
 use base_core::BLOCK_BYTES;
@@ -31,8 +32,8 @@ impl Places {
     /// The byte of the device that is this byte of the flash.
     #[tactic(auto, unfolding(crate::specs::Places::byte_behind))]
     pub fn byte(&self, at: u32) -> u32
-        requires fit { Fit 65536 self.now }
-        requires inside { at < 4096 * self.now.store_blocks }
+        requires fit { Fit most_blocks self.now }
+        requires inside { at < block_bytes * self.now.store_blocks }
         ensures { result ≡ byte_behind self.now at }
     {
         BLOCK_BYTES * self.block(at / BLOCK_BYTES) + at % BLOCK_BYTES

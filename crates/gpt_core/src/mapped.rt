@@ -1,6 +1,7 @@
 //! A flash that a device has in partitions.
 
-ghost use Rattle.std.specs.Prelude.{◌≡◌, ◌+◌, ◌%◌, ◌<◌, ◌≤◌, ℕ, Bool, List, IsTrue};
+ghost use Rattle.std.specs.Prelude.{◌≡◌, ◌+◌, ◌*◌, ◌%◌, ◌<◌, ◌≤◌, ℕ, Bool, List, IsTrue};
+ghost use Rattle.base_core.specs.Block.{block_bytes};
 ghost use Rattle.flash_core.specs.Told.{NothingDirty, IsSound, Told, is_guarded};
 ghost use Rattle.flash_core.specs.May.{Guards, May};
 ghost use Rattle.gpt_core.specs.declared.layout.Places.{Places};
@@ -85,9 +86,9 @@ impl<D: Flash, K: Start> Mapped<D, K> {
     /// Reads a range that lies in one block where it meets blocks 0 to 2.
     fn read_piece(&mut self, at: u32, out: &mut [u8]) -> Result<(), FlashStop>
         requires on { IsTrue (D.on (device self.old)) }
-        requires inside { at + length out.old ≤ 4096 * (places_of self.old).store_blocks }
+        requires inside { at + length out.old ≤ block_bytes * (places_of self.old).store_blocks }
         requires some { 0 < length out.old }
-        requires one_block { at < 12288 → at % 4096 + length out.old ≤ 4096 }
+        requires one_block { at < 3 * block_bytes → at % block_bytes + length out.old ≤ block_bytes }
         ensures bytes { OnOk result (IsTrue D.tells
             → out.new ≡ slice_range (through (places_of self.old) (D.told (device self.old)).now) at (at + length out.old)) }
         ensures content { IsTrue D.tells → D.told (device self.new) ≡ D.told (device self.old) }
@@ -105,7 +106,7 @@ impl<D: Flash, K: Start> Mapped<D, K> {
     /// Reads a range, in pieces where it meets blocks 0 to 2.
     fn read_pieces(&mut self, at: u32, out: &mut [u8]) -> Result<(), FlashStop>
         requires on { IsTrue (D.on (device self.old)) }
-        requires inside { at + length out.old ≤ 4096 * (places_of self.old).store_blocks }
+        requires inside { at + length out.old ≤ block_bytes * (places_of self.old).store_blocks }
         ensures bytes { OnOk result (IsTrue D.tells
             → out.new ≡ slice_range (through (places_of self.old) (D.told (device self.old)).now) at (at + length out.old)) }
         ensures content { IsTrue D.tells → D.told (device self.new) ≡ D.told (device self.old) }
@@ -134,7 +135,7 @@ fn piece_of(at: u32, size: usize) -> usize
     requires { 0 < size }
     ensures most { result ≤ size }
     ensures some { 0 < result }
-    ensures one_block { at < 12288 → at % 4096 + result ≤ 4096 }
+    ensures one_block { at < 3 * block_bytes → at % block_bytes + result ≤ block_bytes }
 {
     if at >= 3 * BLOCK_BYTES {
         return size;

@@ -1,6 +1,7 @@
 //! The partitions of a table, and the places that they give.
 
 ghost use Rattle.std.specs.Prelude.{◌≡◌, ◌⊎◌, ◌+◌, ◌*◌, ◌<◌, ◌≤◌, ◌&&◌, ◌||◌, [], ◌∷◌, ◌++◌, cond, Ok, Err, length, nat_le, IfOk, OnOk};
+ghost use Rattle.base_core.specs.Block.{fewest_blocks, most_blocks};
 ghost use Rattle.base_core.specs.Bytes.{num_at, same_bytes};
 ghost use Rattle.gpt_core.specs.Table.{Table as Said, FitsTable, blocks_of, number_of};
 ghost use Rattle.gpt_core.specs.Places.{Fit};
@@ -133,7 +134,7 @@ fn are_all_apart(store: &Partition, zero: &Partition, one: &Partition) -> bool
 
 /// Whether it has 8 to 65,536 blocks.
 fn is_sized(store: &Partition) -> bool
-    ensures { result ≡ (nat_le 8 (size_of store.now) && nat_le (size_of store.now) 65536) }
+    ensures { result ≡ (nat_le fewest_blocks (size_of store.now) && nat_le (size_of store.now) most_blocks) }
 {
     if store.last < store.first {
         return false;
@@ -162,7 +163,7 @@ fn are_large_in(
 /// The places that these partitions are.
 fn places_at(store: &Partition, zero: &Partition, one: &Partition) -> Places
     requires forward { store.now.first ≤ store.now.last }
-    requires small { (store.now.last < 65536) × (zero.now.first < 65536) × (one.now.first < 65536) }
+    requires small { (store.now.last < most_blocks) × (zero.now.first < most_blocks) × (one.now.first < most_blocks) }
     ensures { result ≡
         record { store_first = store.now.first; store_blocks = size_of store.now; replicas = zero.now.first ∷ one.now.first ∷ [] } }
 {
@@ -181,7 +182,7 @@ fn place(
     replicas: &[Partition],
 ) -> Result<Places, PlaceFault>
     requires few { entry_blocks ≤ 4 }
-    requires device { blocks ≤ 65536 }
+    requires device { blocks ≤ most_blocks }
     requires counted { length replicas.now ≤ 128 }
     ensures { result ≡ placed blocks entry_blocks stores.now replicas.now }
 {
@@ -200,7 +201,7 @@ fn place(
 /// The places that a table gives in a device of so many blocks, or the first fault.
 pub fn places(alloc: Global, table: &Table, blocks: u32) -> Result<Places, PlaceFault>
     requires fits { FitsTable blocks table.now }
-    requires device { blocks ≤ 65536 }
+    requires device { blocks ≤ most_blocks }
     ensures places { (result ≡ Err fault.NoMemory) ⊎ (result ≡ places_of blocks table.now) }
     ensures fit { IfOk result (λ places. Fit blocks places) }
 {

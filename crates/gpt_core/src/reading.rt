@@ -2,6 +2,7 @@
 
 ghost use Rattle.std.specs.Prelude.{◌≡◌, ◌+◌, ◌*◌, ◌<◌, ◌≤◌, ℕ, List, None, Some, Option, length, slice_range, is_ok, IsTrue, IsErrOf, IfOk, IfSome};
 ghost use Rattle.std.specs.Option.{ForSome};
+ghost use Rattle.base_core.specs.Block.{block_bytes};
 ghost use Rattle.base_core.specs.Bytes.{same_bytes, num_at};
 ghost use Rattle.flash_core.specs.Counts.{Spends, ReachesNone, arming_kept};
 ghost use Rattle.gpt_core.specs.declared.table.TableCopy.{TableCopy};
@@ -83,7 +84,7 @@ fn read_bytes<D: Flash>(
     size: usize,
 ) -> Result<Vec<u8>, GptStop>
     requires on { IsTrue (D.on flash.old) }
-    requires inside { at + size ≤ 4096 * D.blocks flash.old }
+    requires inside { at + size ≤ block_bytes * D.blocks flash.old }
 
     ensures bytes { IfOk result (λ v. IsTrue D.tells → v.items ≡ slice_range (D.told flash.old).now at (at + size)) }
     ensures long { IfOk result (λ v. length v.items ≡ size) }

@@ -1,6 +1,7 @@
 //! Repairing a table.
 
 ghost use Rattle.std.specs.Prelude.{◌≡◌, ℕ, List, Ok, ◌+◌, ◌-◌, ◌*◌, ◌<◌, ◌≤◌, ◌++◌, Some, length, take, replicate, is_ok, IsTrue, OnOk};
+ghost use Rattle.base_core.specs.Block.{block_bytes};
 ghost use Rattle.base_core.specs.Bytes.{le};
 ghost use Rattle.base_core.specs.Crc.{crc};
 ghost use Rattle.flash_core.specs.Counts.{Spends, StaysUnarmed, lowered_by};
@@ -159,7 +160,7 @@ fn clear(out: &mut [u8])
 /// Spells the block of a copy's header.
 fn spell(copy: TableCopy, blocks: u32, table: &Table, out: &mut [u8])
     requires fits { FitsTable blocks table.now }
-    requires size { length out.old ≡ 4096 }
+    requires size { length out.old ≡ block_bytes }
     ensures { out.new ≡ header_bytes copy blocks table.now }
 {
     let sum = crc32(&header_of(copy, blocks, table, 0));
@@ -177,7 +178,7 @@ fn mend<D: Flash>(
 ) -> Result<(), FlashStop>
     requires on { IsTrue (D.on flash.old) }
     requires fits { FitsTable (D.blocks flash.old) table.now }
-    requires room { 4096 ≤ length buf.old }
+    requires room { block_bytes ≤ length buf.old }
 
     ensures steps { IsTrue D.tells → Ready copy (D.blocks flash.old) table.now (D.told flash.old)
         → Steps (λ u. BothSay (D.blocks flash.old) table.now u.now × NothingDirty u) result
@@ -214,7 +215,7 @@ pub fn repair_table<D: Flash>(
 ) -> Result<(), FlashStop>
     requires on { IsTrue (D.on flash.old) }
     requires fits { FitsTable (D.blocks flash.old) table.now }
-    requires room { 4096 ≤ length buf.old }
+    requires room { block_bytes ≤ length buf.old }
     requires read { IsTrue D.tells → table_in_image (D.blocks flash.old) (D.told flash.old).now ≡ Some (table.now, which) }
 
     ensures mends { IsTrue D.tells → HeadersGuarded (D.blocks flash.old) (D.told flash.old)

@@ -1,7 +1,7 @@
 //! The steps of a repair of a table.
 
-ghost use Rattle.std.specs.Prelude.{◌⊎◌, ◌≡◌, ℕ, ◌+◌, ◌*◌, ◌/◌, ◌%◌, ◌<◌, ◌≤◌, length, is_ok, IsTrue, OnOk, Some};
-ghost use Rattle.base_core.specs.Block.{block, blank};
+ghost use Rattle.std.specs.Prelude.{◌⊎◌, ◌≡◌, ℕ, ◌+◌, ◌-◌, ◌*◌, ◌/◌, ◌%◌, ◌<◌, ◌≤◌, length, is_ok, IsTrue, OnOk, Some};
+ghost use Rattle.base_core.specs.Block.{block_bytes, granule_bytes, block, blank};
 ghost use Rattle.base_core.specs.Bytes.{part, overwritten};
 ghost use Rattle.flash_core.specs.Counts.{Spends, StaysUnarmed, lowered_by};
 ghost use Rattle.flash_core.specs.Told.{Told, NothingDirty};
@@ -20,8 +20,9 @@ pub fn clear_header<D: Flash>(flash: &mut D, header: u32) -> Result<(), FlashSto
     ensures steps { (w : TableCopy) (t : Table) → IsTrue D.tells → header ≡ header_at w (D.blocks flash.old)
         → Ready w (D.blocks flash.old) t (D.told flash.old)
         → Steps (Cleared w (D.blocks flash.old) t) result (D.blocks flash.old) t (D.told flash.new) }
-    ensures keeps { IsTrue D.tells → Keeps (4096 * header) (4096 * header + 4096) (D.told flash.old) (D.told flash.new) }
-    ensures empty { OnOk result (IsTrue D.tells → block header (D.told flash.new).now ≡ blank 4096) }
+    ensures keeps { IsTrue D.tells → Keeps (block_bytes * header) (block_bytes * header + block_bytes)
+        (D.told flash.old) (D.told flash.new) }
+    ensures empty { OnOk result (IsTrue D.tells → block header (D.told flash.new).now ≡ blank block_bytes) }
     ensures power { D.on flash.new ≡ is_ok result }
     ensures size { D.blocks flash.new ≡ D.blocks flash.old }
     ensures costs { Spends result (D.counts flash.old) (D.counts flash.new) }
@@ -36,15 +37,15 @@ pub fn clear_header<D: Flash>(flash: &mut D, header: u32) -> Result<(), FlashSto
 pub fn write_header<D: Flash>(flash: &mut D, b: u32, bytes: &[u8]) -> Result<(), FlashStop>
     requires on { IsTrue (D.on flash.old) }
     requires inside { b < D.blocks flash.old }
-    requires granules { length bytes.now % 16 ≡ 0 }
+    requires granules { length bytes.now % granule_bytes ≡ 0 }
     requires some { 0 < length bytes.now }
-    requires fits { length bytes.now ≤ 4096 }
-    requires empty { IsTrue D.tells → block b (D.told flash.old).now ≡ blank 4096 }
+    requires fits { length bytes.now ≤ block_bytes }
+    requires empty { IsTrue D.tells → block b (D.told flash.old).now ≡ blank block_bytes }
     ensures steps { (w : TableCopy) (t : Table) → IsTrue D.tells → b ≡ header_at w (D.blocks flash.old)
         → Filled w (D.blocks flash.old) t (D.told flash.old)
-        → copy_in w (D.blocks flash.old) (overwritten (4096 * b) bytes.now (D.told flash.old).now) ≡ Some t
+        → copy_in w (D.blocks flash.old) (overwritten (block_bytes * b) bytes.now (D.told flash.old).now) ≡ Some t
         → Steps (λ u. BothSay (D.blocks flash.old) t u.now × NothingDirty u) result (D.blocks flash.old) t (D.told flash.new) }
-    ensures keeps { IsTrue D.tells → Keeps (4096 * b) (4096 * b + 4096) (D.told flash.old) (D.told flash.new) }
+    ensures keeps { IsTrue D.tells → Keeps (block_bytes * b) (block_bytes * b + block_bytes) (D.told flash.old) (D.told flash.new) }
     ensures settled { OnOk result (IsTrue D.tells → NothingDirty (D.told flash.new)) }
     ensures power { D.on flash.new ≡ is_ok result }
     ensures size { D.blocks flash.new ≡ D.blocks flash.old }
@@ -60,12 +61,12 @@ pub fn write_header<D: Flash>(flash: &mut D, b: u32, bytes: &[u8]) -> Result<(),
 fn write_block<D: Flash>(flash: &mut D, b: u32, bytes: &[u8]) -> Result<(), FlashStop>
     requires on { IsTrue (D.on flash.old) }
     requires inside { b < D.blocks flash.old }
-    requires granules { length bytes.now % 16 ≡ 0 }
+    requires granules { length bytes.now % granule_bytes ≡ 0 }
     requires some { 0 < length bytes.now }
-    requires fits { length bytes.now ≤ 4096 }
-    ensures keeps { IsTrue D.tells → Keeps (4096 * b) (4096 * b + 4096) (D.told flash.old) (D.told flash.new) }
+    requires fits { length bytes.now ≤ block_bytes }
+    ensures keeps { IsTrue D.tells → Keeps (block_bytes * b) (block_bytes * b + block_bytes) (D.told flash.old) (D.told flash.new) }
     ensures written { OnOk result (IsTrue D.tells
-        → part (D.told flash.new).now (4096 * b) (4096 * b + length bytes.now) ≡ bytes.now) }
+        → part (D.told flash.new).now (block_bytes * b) (block_bytes * b + length bytes.now) ≡ bytes.now) }
     ensures power { D.on flash.new ≡ is_ok result }
     ensures size { D.blocks flash.new ≡ D.blocks flash.old }
     ensures costs { Spends result (D.counts flash.old) (D.counts flash.new) }
@@ -79,18 +80,19 @@ fn write_block<D: Flash>(flash: &mut D, b: u32, bytes: &[u8]) -> Result<(), Flas
 /// Writes bytes over blocks from one on, each block by itself, rising. Nothing settles them yet.
 fn write_blocks<D: Flash>(flash: &mut D, first: u32, bytes: &[u8]) -> Result<(), FlashStop>
     requires on { IsTrue (D.on flash.old) }
-    requires inside { 4096 * first + length bytes.now ≤ 4096 * D.blocks flash.old }
-    requires granules { length bytes.now % 16 ≡ 0 }
+    requires inside { block_bytes * first + length bytes.now ≤ block_bytes * D.blocks flash.old }
+    requires granules { length bytes.now % granule_bytes ≡ 0 }
     requires some { 0 < length bytes.now }
     ensures keeps { IsTrue D.tells
-        → Keeps (4096 * first) (4096 * first + 4096 * ((length bytes.now + 4095) / 4096)) (D.told flash.old) (D.told flash.new) }
+        → Keeps (block_bytes * first) (block_bytes * first + block_bytes * ((length bytes.now + (block_bytes - 1)) / block_bytes))
+        (D.told flash.old) (D.told flash.new) }
     ensures written { OnOk result (IsTrue D.tells
-        → part (D.told flash.new).now (4096 * first) (4096 * first + length bytes.now) ≡ bytes.now) }
+        → part (D.told flash.new).now (block_bytes * first) (block_bytes * first + length bytes.now) ≡ bytes.now) }
     ensures power { D.on flash.new ≡ is_ok result }
     ensures size { D.blocks flash.new ≡ D.blocks flash.old }
     ensures costs { Spends result (D.counts flash.old) (D.counts flash.new) }
     ensures spent { OnOk result (D.arming flash.new
-        ≡ lowered_by (2 * ((length bytes.now + 4095) / 4096)) (D.arming flash.old)) }
+        ≡ lowered_by (2 * ((length bytes.now + (block_bytes - 1)) / block_bytes)) (D.arming flash.old)) }
     ensures unarmed { StaysUnarmed result (D.arming flash.old) (D.arming flash.new) (D.counts flash.old) (D.counts flash.new) }
 {
     if bytes.len() <= BLOCK_BYTES as usize {
@@ -104,20 +106,21 @@ fn write_blocks<D: Flash>(flash: &mut D, first: u32, bytes: &[u8]) -> Result<(),
 /// Writes the entries of a table, and settles them.
 pub fn write_entries<D: Flash>(flash: &mut D, first: u32, bytes: &[u8]) -> Result<(), FlashStop>
     requires on { IsTrue (D.on flash.old) }
-    requires inside { 4096 * first + length bytes.now ≤ 4096 * D.blocks flash.old }
-    requires granules { length bytes.now % 16 ≡ 0 }
+    requires inside { block_bytes * first + length bytes.now ≤ block_bytes * D.blocks flash.old }
+    requires granules { length bytes.now % granule_bytes ≡ 0 }
     requires some { 0 < length bytes.now }
     ensures steps { (w : TableCopy) (t : Table) → IsTrue D.tells
         → first ≡ entries_at w (D.blocks flash.old) (blocks_of (number_of t)) → bytes.now ≡ t.entries
         → Cleared w (D.blocks flash.old) t (D.told flash.old)
         → Steps (Filled w (D.blocks flash.old) t) result (D.blocks flash.old) t (D.told flash.new) }
     ensures keeps { IsTrue D.tells
-        → Keeps (4096 * first) (4096 * first + 4096 * ((length bytes.now + 4095) / 4096)) (D.told flash.old) (D.told flash.new) }
+        → Keeps (block_bytes * first) (block_bytes * first + block_bytes * ((length bytes.now + (block_bytes - 1)) / block_bytes))
+        (D.told flash.old) (D.told flash.new) }
     ensures power { D.on flash.new ≡ is_ok result }
     ensures size { D.blocks flash.new ≡ D.blocks flash.old }
     ensures costs { Spends result (D.counts flash.old) (D.counts flash.new) }
     ensures spent { OnOk result (D.arming flash.new
-        ≡ lowered_by (2 * ((length bytes.now + 4095) / 4096)) (D.arming flash.old)) }
+        ≡ lowered_by (2 * ((length bytes.now + (block_bytes - 1)) / block_bytes)) (D.arming flash.old)) }
     ensures unarmed { StaysUnarmed result (D.arming flash.old) (D.arming flash.new) (D.counts flash.old) (D.counts flash.new) }
 {
     write_blocks(flash, first, bytes)?;
@@ -135,24 +138,25 @@ pub fn repair_copy<D: Flash>(
 ) -> Result<(), FlashStop>
     requires on { IsTrue (D.on flash.old) }
     requires inside { header < D.blocks flash.old }
-    requires granules { length head.now % 16 ≡ 0 }
+    requires granules { length head.now % granule_bytes ≡ 0 }
     requires some { 0 < length head.now }
-    requires fits { length head.now ≤ 4096 }
-    requires entries_inside { 4096 * first + length entries.now ≤ 4096 * D.blocks flash.old }
-    requires entries_granules { length entries.now % 16 ≡ 0 }
+    requires fits { length head.now ≤ block_bytes }
+    requires entries_inside { block_bytes * first + length entries.now ≤ block_bytes * D.blocks flash.old }
+    requires entries_granules { length entries.now % granule_bytes ≡ 0 }
     requires some_entries { 0 < length entries.now }
-    requires apart { (header < first) ⊎ (first + (length entries.now + 4095) / 4096 ≤ header) }
+    requires apart { (header < first) ⊎ (first + (length entries.now + (block_bytes - 1)) / block_bytes ≤ header) }
     ensures steps { IsTrue D.tells → (x : Writing (D.blocks flash.old) header first head.now entries.now (D.told flash.old))
         → Steps (λ u. BothSay (D.blocks flash.old) x.t u.now × NothingDirty u) result (D.blocks flash.old) x.t (D.told flash.new) }
-    ensures keeps { (low high : ℕ) → low ≤ 4096 * header → 4096 * header + 4096 ≤ high → low ≤ 4096 * first
-        → 4096 * first + 4096 * ((length entries.now + 4095) / 4096) ≤ high
+    ensures keeps { (low high : ℕ) → low ≤ block_bytes * header → block_bytes * header + block_bytes ≤ high
+        → low ≤ block_bytes * first
+        → block_bytes * first + block_bytes * ((length entries.now + (block_bytes - 1)) / block_bytes) ≤ high
         → IsTrue D.tells → Keeps low high (D.told flash.old) (D.told flash.new) }
     ensures settled { OnOk result (IsTrue D.tells → NothingDirty (D.told flash.new)) }
     ensures power { D.on flash.new ≡ is_ok result }
     ensures size { D.blocks flash.new ≡ D.blocks flash.old }
     ensures costs { Spends result (D.counts flash.old) (D.counts flash.new) }
     ensures spent { OnOk result (D.arming flash.new
-        ≡ lowered_by (2 + 2 * ((length entries.now + 4095) / 4096)) (D.arming flash.old)) }
+        ≡ lowered_by (2 + 2 * ((length entries.now + (block_bytes - 1)) / block_bytes)) (D.arming flash.old)) }
     ensures unarmed { StaysUnarmed result (D.arming flash.old) (D.arming flash.new) (D.counts flash.old) (D.counts flash.new) }
 {
     clear_header(flash, header)?;

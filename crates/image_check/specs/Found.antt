@@ -1,5 +1,6 @@
 -- What is found step by step: of an image, of all images, and of a bank that begins at a block.
 use Rattle.std.specs.Prelude.{ℕ, ◌+◌, ◌-◌, ◌*◌, ◌<◌, ◌≤◌, Bool, not, if◌then◌else◌, List, length, take, drop, Option, Result, Ok, Err, slice_index_or}
+use Rattle.base_core.specs.Block.{block_bytes}
 use Rattle.base_core.specs.Bytes.{same_bytes}
 use Rattle.sha2.specs.Sha256.{sha256}
 use Rattle.fwu_formats.specs.Layout.{ImageRow, slot_total}
@@ -17,12 +18,13 @@ place rows first i = first + slot_total (take i rows)
 -- image k + 1 has the digest that row k of the manifest says
 abbrev pub is_good : List ℕ → List ImageRow → ℕ → List ℕ → ℕ → Bool
 is_good image rows first manifest k =
-    same_bytes (sha256 (take (row_at manifest k).size (drop (4096 * place rows first (k + 1)) image))) (row_at manifest k).digest
+    let row = row_at manifest k in
+    same_bytes (sha256 (take row.size (drop (block_bytes * place rows first (k + 1)) image))) row.digest
 
 -- what the manifest says of each image fits its slot
 abbrev pub FitSlots : List ImageRow → List ℕ → Type 0
 FitSlots rows manifest = (k : ℕ) (d : ImageRow) → k + 1 < length rows
-    → (row_at manifest k).size ≤ 4096 * (slice_index_or rows (k + 1) d).slots
+    → (row_at manifest k).size ≤ block_bytes * (slice_index_or rows (k + 1) d).slots
 
 -- by the manifest's version or fault, whether it is accepted, and the lowest bad image
 abbrev pub by_version : Bool → ℕ → Option ℕ → Result ℕ ManifestFault → Verdict
@@ -37,4 +39,4 @@ found passes counter image rows first manifest =
 
 -- the bytes of the manifest at the front of such a bank
 abbrev pub front_of : List ℕ → List ImageRow → ℕ → List ℕ
-front_of image rows first = take (manifest_size (length rows - 1)) (drop (4096 * first) image)
+front_of image rows first = take (manifest_size (length rows - 1)) (drop (block_bytes * first) image)

@@ -1,17 +1,19 @@
 //! The verdict on a bank.
 ghost use Rattle.std.specs.Prelude.{◌≡◌, ◌+◌, ◌-◌, ◌<◌, ◌≤◌, ℕ, Bool, List, length, take, is_ok, IsTrue, IfOk};
+ghost use Rattle.base_core.specs.Block.{block_bytes};
 ghost use Rattle.flash_core.specs.Counts.{Spends, ReachesNone, arming_kept};
 ghost use Rattle.fwu_formats.specs.Layout.{slot_total, blocks_needed, start};
 ghost use Rattle.fwu_formats.specs.Manifest as model;
 ghost use Rattle.fwu_formats.specs.Layout.{ImageRow as Row};
+ghost use Rattle.manifest_core.specs.Sizes.{most_manifest_bytes};
 ghost use Rattle.image_check.specs.Passed.{HasPackage, HasPackageBy, HasPassed, IsVerdictBy};
 ghost use Rattle.image_check.specs.Found.{found, front_of};
 ghost use Rattle.image_check.specs.Verdict.{by_counter, verdict_on};
 
 use crate::images::first_bad;
-use base_core::ImageRow;
+use base_core::{BLOCK_BYTES, ImageRow};
 use flash_core::{Flash, FlashStop};
-use manifest_core::{manifest_size, test};
+use manifest_core::{MOST_MANIFEST_BYTES, manifest_size, test};
 use meta_layout::Layout;
 use verify_core::Verifier;
 
@@ -92,7 +94,7 @@ fn check_at<D: Flash, V: Verifier>(
     verifier: &V,
 ) -> Result<Verdict, FlashStop>
     requires on { IsTrue (D.on flash.old) }
-    requires front { 888 ≤ length front.old }
+    requires front { most_manifest_bytes ≤ length front.old }
     requires room { 0 < length buf.old }
     requires some { 1 ≤ length rows.now }
     requires few { length rows.now ≤ 16 }
@@ -115,12 +117,12 @@ fn check_at<D: Flash, V: Verifier>(
     ensures arming { D.arming flash.new ≡ arming_kept result (D.arming flash.old) }
 {
     let manifest = &mut front[..manifest_size(rows)];
-    flash.read(4096 * first, manifest)?;
+    flash.read(BLOCK_BYTES * first, manifest)?;
     check_manifest(flash, rows, first, manifest, counter, buf, verifier)
 }
 
 /// The verdict on a bank as `check` gives it, and what was read of the bank's manifest, by which it is: that is left at the front
-/// of `front`, which has room for the largest, of 888 bytes.
+/// of `front`, which has room for the largest.
 pub fn check_keeping_manifest<D: Flash, V: Verifier>(
     flash: &mut D,
     layout: &Layout,
@@ -131,8 +133,8 @@ pub fn check_keeping_manifest<D: Flash, V: Verifier>(
     verifier: &V,
 ) -> Result<Verdict, FlashStop>
     requires on { IsTrue (D.on flash.old) }
-    requires front { 888 ≤ length front.old }
-    requires room { 4096 ≤ length buf.old }
+    requires front { most_manifest_bytes ≤ length front.old }
+    requires room { block_bytes ≤ length buf.old }
     requires fits { blocks_needed layout.now ≤ D.blocks flash.old }
     requires bank { bank < layout.now.banks }
     ensures verdict { IfOk result (λ verdict. IsTrue D.tells →
@@ -171,7 +173,7 @@ pub fn check<D: Flash, V: Verifier>(
     verifier: &V,
 ) -> Result<Verdict, FlashStop>
     requires on { IsTrue (D.on flash.old) }
-    requires room { 4096 ≤ length buf.old }
+    requires room { block_bytes ≤ length buf.old }
     requires fits { blocks_needed layout.now ≤ D.blocks flash.old }
     requires bank { bank < layout.now.banks }
     ensures verdict { IfOk result (λ verdict. IsTrue D.tells →
@@ -185,6 +187,6 @@ pub fn check<D: Flash, V: Verifier>(
     ensures reached { ReachesNone result (D.counts flash.old) (D.counts flash.new) }
     ensures arming { D.arming flash.new ≡ arming_kept result (D.arming flash.old) }
 {
-    let mut front = [0; 888];
+    let mut front = [0; MOST_MANIFEST_BYTES];
     check_keeping_manifest(flash, layout, bank, counter, &mut front, buf, verifier)
 }

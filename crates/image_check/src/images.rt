@@ -1,5 +1,6 @@
 //! The images of a bank against the rows of its manifest.
 ghost use Rattle.std.specs.Prelude.{◌≡◌, ◌+◌, ◌-◌, ◌*◌, ◌<◌, ◌≤◌, length, take, drop, is_ok, IsTrue, IfOk};
+ghost use Rattle.base_core.specs.Block.{block_bytes};
 ghost use Rattle.base_core.specs.Bytes.{same_bytes};
 ghost use Rattle.sha2.specs.Sha256.{sha256};
 ghost use Rattle.flash_core.specs.Counts.{Spends, ReachesNone, arming_kept};
@@ -9,7 +10,7 @@ ghost use Rattle.image_check.specs.Found.{is_good, FitSlots};
 ghost use Rattle.image_check.specs.Passed.{HasImage, HasImages, IsDigestOf};
 ghost use Rattle.image_check.specs.Verdict.{lowest_bad};
 
-use base_core::ImageRow;
+use base_core::{BLOCK_BYTES, ImageRow};
 use flash_core::{Flash, FlashStop};
 use manifest_core::row_at;
 use sha2::{Digest, Sha256};
@@ -23,7 +24,7 @@ fn digest_of<D: Flash>(
 ) -> Result<[u8; 32], FlashStop>
     requires on { IsTrue (D.on flash.old) }
     requires room { 0 < length buf.old }
-    requires inside { at + count ≤ 4096 * D.blocks flash.old }
+    requires inside { at + count ≤ block_bytes * D.blocks flash.old }
     ensures digest { IfOk result (λ digest. IsTrue D.tells →
         digest ≡ sha256 (take count (drop at (D.told flash.old).now))) }
     ensures some { IfOk result (IsDigestOf count) }
@@ -64,9 +65,9 @@ fn is_image_good<D: Flash>(
     requires room { 0 < length buf.old }
     requires few { k ≤ 16 }
     requires row { 72 + 56 * k ≤ length manifest.now }
-    requires inside { 4096 * block + (model.row_at manifest.now k).size ≤ 4096 * D.blocks flash.old }
+    requires inside { block_bytes * block + (model.row_at manifest.now k).size ≤ block_bytes * D.blocks flash.old }
     ensures good { IfOk result (λ good. IsTrue D.tells →
-        good ≡ same_bytes (sha256 (take (model.row_at manifest.now k).size (drop (4096 * block)
+        good ≡ same_bytes (sha256 (take (model.row_at manifest.now k).size (drop (block_bytes * block)
         (D.told flash.old).now))) (model.row_at manifest.now k).digest) }
     ensures some { IfOk result (λ good. IsTrue good → HasImage (model.row_at manifest.now k)) }
     ensures content { IsTrue D.tells → D.told flash.new ≡ D.told flash.old }
@@ -77,7 +78,7 @@ fn is_image_good<D: Flash>(
     ensures arming { D.arming flash.new ≡ arming_kept result (D.arming flash.old) }
 {
     let row = row_at(manifest, k);
-    let digest = digest_of(flash, 4096 * block, row.size, buf)?;
+    let digest = digest_of(flash, BLOCK_BYTES * block, row.size, buf)?;
     Ok(is_same(&digest, &row.digest))
 }
 

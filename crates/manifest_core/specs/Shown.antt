@@ -1,5 +1,6 @@
 -- The values of the code as those of the model.
 use Rattle.std.specs.Prelude.{◌≡◌, ℕ, ◌+◌, ◌*◌, Bool, IsTrue, List, length, drop, Result, Ok, Err, nat_le}
+use Rattle.base_core.specs.Block.{block_bytes}
 use Rattle.base_core.specs.Bytes.{same_bytes}
 use Rattle.base_core.specs.declared.rows.ImageRow.{ImageRow}
 use Rattle.fwu_formats.specs.Manifest as model
@@ -23,7 +24,7 @@ is_named i r = same_bytes i.guid r.guid
 
 -- the image fits its slot
 abbrev pub is_within : ImageRow → model.Row → Bool
-is_within i r = nat_le r.size (4096 * i.slots)
+is_within i r = nat_le r.size (block_bytes * i.slots)
 
 -- The manifest has a row for each image but the first, of its type and within its slot: it is neither of a wrong count, nor of a
 -- wrong order, nor too large.

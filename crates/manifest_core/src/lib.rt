@@ -10,6 +10,6 @@ mod reading;
 mod rows;
 mod value;
 
-pub use reading::{manifest_size, test};
+pub use reading::{MOST_MANIFEST_BYTES, manifest_size, test};
 pub use rows::{Row, row_at};
 pub use value::{Manifest, ManifestStop};

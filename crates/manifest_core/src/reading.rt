@@ -1,11 +1,12 @@
 //! The tests of a manifest against the images of a layout, in their order.
 ghost use Rattle.std.specs.Prelude.{◌≡◌, ◌+◌, ◌-◌, ◌*◌, ◌≤◌, ◌==◌, length, take, drop, nat_le, OnOk};
+ghost use Rattle.base_core.specs.Block.{block_bytes};
 ghost use Rattle.base_core.specs.Bytes.{num_at, same_bytes, listed};
 ghost use Rattle.sha2.specs.Sha256.{sha256};
 ghost use Rattle.fwu_formats.specs.Manifest as model;
 ghost use Rattle.manifest_core.specs.Shown.{version_of, is_named, is_within};
 
-use base_core::{Guid, ImageRow, le32_at};
+use base_core::{BLOCK_BYTES, Guid, ImageRow, le32_at};
 use fwu_formats::ManifestFault;
 use sha2::{Digest, Sha256};
 
@@ -13,6 +14,9 @@ pub const MAGIC: u32 = 0x464D_5746;
 
 /// The greatest security version of form 1.
 pub const VERSION_LIMIT: u32 = 223;
+
+/// The bytes of the largest manifest, which has 15 rows.
+pub const MOST_MANIFEST_BYTES: usize = 48 + 56 * 15;
 
 /// The bytes of a manifest of these images, which has a row for each but the first.
 pub fn manifest_size(images: &[ImageRow]) -> usize
@@ -67,9 +71,9 @@ fn is_row_of(bytes: &[u8], j: usize, guid: &Guid) -> bool
 fn fits_blocks(bytes: &[u8], j: usize, slots: u32) -> bool
     requires few { j ≤ 16 }
     requires room { 72 + 56 * j ≤ length bytes.now }
-    ensures { result ≡ nat_le (num_at 4 bytes.now (32 + 56 * j)) (4096 * slots) }
+    ensures { result ≡ nat_le (num_at 4 bytes.now (32 + 56 * j)) (block_bytes * slots) }
 {
-    u64::from(le32_at(bytes, 32 + 56 * j)) <= 4096 * u64::from(slots)
+    u64::from(le32_at(bytes, 32 + 56 * j)) <= u64::from(BLOCK_BYTES) * u64::from(slots)
 }
 
 /// Whether the bytes from n on are the digest of those before.

@@ -1,6 +1,6 @@
 -- What adding a mark and clearing a block leave.
 use Rattle.std.specs.Prelude.{◌≡◌, ◌⊎◌, ℕ, ◌+◌, ◌*◌, ◌<◌, ◌≤◌, Bool, true, false, IsTrue, List, Option, replicate, Result, OnOk}
-use Rattle.base_core.specs.Block.{block, blank, granule}
+use Rattle.base_core.specs.Block.{block_bytes, granule_bytes, block, blank, granule}
 use Rattle.flash_core.specs.Counts.{lowered}
 use Rattle.flash_core.specs.declared.flash.Arming.{Arming}
 use Rattle.flash_core.specs.declared.flash.FlashStop.{FlashStop}
@@ -23,23 +23,24 @@ pub record CountsOnce (image : List ℕ) (b at limit : ℕ) : Type 0 where
 -- what adding a mark leaves, at any exit
 pub record Adds {T : Type 0} (result : Result T FlashStop) (b at : ℕ) (s t : Told) : Type 0 where
   -- but for its granule nothing changes
-  pub keeps : Keeps (4096 * b + 16 * at) (4096 * b + 16 * at + 16) s t
+  pub keeps : Keeps (block_bytes * b + granule_bytes * at) (block_bytes * b + granule_bytes * at + granule_bytes) s t
   -- an image that a power-on may leave has the old count or one more
-  pub either : (limit : ℕ) → IsNext s.now b at limit → Quiet (4096 * b) (4096 * b + 4096) s → (image : List ℕ) → May t image
-      → CountsOnce image b at limit
+  pub either : (limit : ℕ) → IsNext s.now b at limit → Quiet (block_bytes * b) (block_bytes * b + block_bytes) s
+      → (image : List ℕ) → May t image → CountsOnce image b at limit
   -- when done, its granule is zero, the count is one more, and nothing is dirty
-  pub written : OnOk result (granule b at t.now ≡ replicate 16 0)
+  pub written : OnOk result (granule b at t.now ≡ replicate granule_bytes 0)
   pub one_more : (limit : ℕ) → IsNext s.now b at limit → OnOk result (marks t.now b limit ≡ at + 1)
   pub stable : OnOk result (NothingDirty t)
 
 -- what clearing a block leaves, at any exit
 pub record Clears {T : Type 0} (result : Result T FlashStop) (b : ℕ) (s t : Told) : Type 0 where
   -- but for the block nothing changes, and nothing at all where it is blank
-  pub keeps : Keeps (4096 * b) (4096 * b + 4096) s t
-  pub idle : block b s.now ≡ blank 4096 → t ≡ s
+  pub keeps : Keeps (block_bytes * b) (block_bytes * b + block_bytes) s t
+  pub idle : block b s.now ≡ blank block_bytes → t ≡ s
   -- when done, it is blank, and stable where it was so before
-  pub erased : OnOk result (block b t.now ≡ blank 4096)
-  pub quiet : Quiet (4096 * b) (4096 * b + 4096) s → OnOk result (Quiet (4096 * b) (4096 * b + 4096) t)
+  pub erased : OnOk result (block b t.now ≡ blank block_bytes)
+  pub quiet : Quiet (block_bytes * b) (block_bytes * b + block_bytes) s
+      → OnOk result (Quiet (block_bytes * b) (block_bytes * b + block_bytes) t)
 
 -- whether a block of an image is blank
 abbrev pub is_clear : ℕ → List ℕ → Bool

@@ -1,7 +1,7 @@
 -- What raising the counter leaves: one record, in the place of the one that counts less.
-use Rattle.std.specs.Prelude.{◌≡◌, ◌⊎◌, ℕ, nat_lt, if◌then◌else◌, List, Option, Some, None, Result, OnOk}
+use Rattle.std.specs.Prelude.{◌≡◌, ◌⊎◌, ℕ, ◌*◌, nat_lt, if◌then◌else◌, List, Option, Some, None, Result, OnOk}
 use Rattle.base_core.specs.Bytes.{num_at}
-use Rattle.base_core.specs.Block.{block}
+use Rattle.base_core.specs.Block.{block_bytes, block}
 use Rattle.flash_core.specs.declared.flash.FlashStop.{FlashStop}
 use Rattle.flash_core.specs.Told.{Told, NothingDirty}
 use Rattle.flash_core.specs.May.{May, Guards, Keeps, Quiet}
@@ -26,9 +26,9 @@ record_place image = place_for (value_in (block 5 image)) (value_in (block 6 ima
 pub record Raises {T : Type 0} (result : Result T FlashStop) (v : ℕ) (s t : Told) : Type 0 where
   -- one record is written over one block; but for blocks 5 and 6 nothing changes
   pub writes : Replaces result (record_place s.now) (padded (record_bytes v)) s t
-  pub keeps : Keeps 20480 28672 s t
+  pub keeps : Keeps (block_bytes * 5) (block_bytes * 7) s t
   -- each image that a power-on may leave has the old counter or the new
-  pub either : Guards 5 6 s → Quiet 16384 28672 s → (image : List ℕ) → May t image
+  pub either : Guards 5 6 s → Quiet (block_bytes * 4) (block_bytes * 7) s → (image : List ℕ) → May t image
       → (counter_in image ≡ counter_in s.now) ⊎ (counter_in image ≡ v)
   -- when done, the counter is the new one, and nothing is dirty
   pub done : OnOk result (counter_in t.now ≡ v)

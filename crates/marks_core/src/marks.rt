@@ -1,10 +1,11 @@
 //! Marks: granules of 16 bytes that aren't blank. A block of 4096 bytes has 256 of them.
 ghost use Rattle.std.specs.Prelude.{◌≡◌, ◌⊎◌, ◌+◌, ◌*◌, ◌<◌, ◌≤◌, is_ok, IsTrue, IfOk, OnOk, length};
-ghost use Rattle.base_core.specs.Block.{granule};
+ghost use Rattle.base_core.specs.Block.{block_bytes, granule};
 ghost use Rattle.flash_core.specs.Counts.{Spends, ReachesNone, StaysUnarmed, arming_kept, lowered};
 ghost use Rattle.fwu_formats.specs.Image.{is_blank, marks};
 ghost use Rattle.marks_core.specs.Marks.{Adds, Clears, TakesClear, is_clear};
 
+use base_core::{BLOCK_BYTES, GRANULE_BYTES};
 use flash_core::{Flash, FlashStop, read_block};
 
 fn all_erased(bytes: &[u8]) -> bool
@@ -30,9 +31,9 @@ pub fn count<D: Flash>(flash: &mut D, block: u32, limit: u32) -> Result<u32, Fla
     ensures costs { Spends result (D.counts flash.old) (D.counts flash.new) }
     ensures reached { ReachesNone result (D.counts flash.old) (D.counts flash.new) }
 {
-    let mut bytes = [0; 16];
+    let mut bytes = [0; GRANULE_BYTES as usize];
     for place in 0..limit {
-        flash.read(4096 * block + 16 * place, &mut bytes)?;
+        flash.read(BLOCK_BYTES * block + GRANULE_BYTES * place, &mut bytes)?;
         if all_erased(&bytes) {
             return Ok(place);
         }
@@ -56,7 +57,10 @@ pub fn add<D: Flash>(flash: &mut D, block: u32, at: u32) -> Result<(), FlashStop
     ensures unarmed { StaysUnarmed result (D.arming flash.old) (D.arming flash.new)
         (D.counts flash.old) (D.counts flash.new) }
 {
-    flash.program(4096 * block + 16 * at, &[0; 16])?;
+    flash.program(
+        BLOCK_BYTES * block + GRANULE_BYTES * at,
+        &[0; GRANULE_BYTES as usize],
+    )?;
     flash.barrier()
 }
 
@@ -64,7 +68,7 @@ pub fn add<D: Flash>(flash: &mut D, block: u32, at: u32) -> Result<(), FlashStop
 pub fn clear<D: Flash>(flash: &mut D, block: u32, buf: &mut [u8]) -> Result<(), FlashStop>
     requires on { IsTrue (D.on flash.old) }
     requires inside { block < D.blocks flash.old }
-    requires room { 4096 ≤ length buf.old }
+    requires room { block_bytes ≤ length buf.old }
 
     ensures clears { IsTrue D.tells → Clears result block (D.told flash.old) (D.told flash.new) }
     ensures power { D.on flash.new ≡ is_ok result }
@@ -80,13 +84,13 @@ pub fn clear<D: Flash>(flash: &mut D, block: u32, buf: &mut [u8]) -> Result<(), 
         (D.counts flash.old) (D.counts flash.new) }
     ensures buffer { length buf.new ≡ length buf.old }
 {
-    clear_by(flash, block, &mut buf[..4096])
+    clear_by(flash, block, &mut buf[..BLOCK_BYTES as usize])
 }
 
 fn clear_by<D: Flash>(flash: &mut D, block: u32, buf: &mut [u8]) -> Result<(), FlashStop>
     requires on { IsTrue (D.on flash.old) }
     requires inside { block < D.blocks flash.old }
-    requires room { length buf.old ≡ 4096 }
+    requires room { length buf.old ≡ block_bytes }
 
     ensures clears { IsTrue D.tells → Clears result block (D.told flash.old) (D.told flash.new) }
     ensures power { D.on flash.new ≡ is_ok result }

@@ -1,12 +1,13 @@
 //! The anti-rollback counter: marks in block 4, an older form, and records in blocks 5 and 6, an own format.
 ghost use Rattle.std.specs.Prelude.{◌≡◌, ◌<◌, ◌≤◌, length, is_ok, IsTrue, IfOk, OnOk, max, unwrap_or};
-ghost use Rattle.base_core.specs.Block.{block};
+ghost use Rattle.base_core.specs.Block.{block_bytes, block};
 ghost use Rattle.flash_core.specs.Counts.{Spends, ReachesNone, StaysUnarmed, arming_kept, lowered};
 ghost use Rattle.fwu_formats.specs.Counter.{counter_in};
 ghost use Rattle.marks_core.specs.Raises.{value_in, place_for, record_place, Raises};
 
 use crate::marks::count;
 use crate::record::{record_bytes, value_in};
+use base_core::BLOCK_BYTES;
 use flash_core::{Flash, FlashStop, read_block, replace};
 use fwu_formats::{COUNTER_BLOCK, COUNTER_LIMIT, FIRST_RECORD, SECOND_RECORD};
 
@@ -14,7 +15,7 @@ use fwu_formats::{COUNTER_BLOCK, COUNTER_LIMIT, FIRST_RECORD, SECOND_RECORD};
 fn record_at<D: Flash>(flash: &mut D, b: u32, buf: &mut [u8]) -> Result<Option<u32>, FlashStop>
     requires on { IsTrue (D.on flash.old) }
     requires inside { b < D.blocks flash.old }
-    requires room { length buf.old ≡ 4096 }
+    requires room { length buf.old ≡ block_bytes }
 
     ensures value { IfOk result (λ r. IsTrue D.tells →
         r ≡ value_in (block b (D.told flash.old).now)) }
@@ -48,7 +49,7 @@ pub fn counter<D: Flash>(flash: &mut D) -> Result<u32, FlashStop>
     ensures costs { Spends result (D.counts flash.old) (D.counts flash.new) }
     ensures reached { ReachesNone result (D.counts flash.old) (D.counts flash.new) }
 {
-    let mut block = [0; 4096];
+    let mut block = [0; BLOCK_BYTES as usize];
     let marks = count(flash, COUNTER_BLOCK, COUNTER_LIMIT)?;
     let first = record_at(flash, FIRST_RECORD, &mut block)?;
     let second = record_at(flash, SECOND_RECORD, &mut block)?;
@@ -71,7 +72,7 @@ fn place_for(first: Option<u32>, second: Option<u32>) -> u32
 
 fn record_place<D: Flash>(flash: &mut D, buf: &mut [u8]) -> Result<u32, FlashStop>
     requires on { IsTrue (D.on flash.old) }
-    requires room { length buf.old ≡ 4096 }
+    requires room { length buf.old ≡ block_bytes }
 
     ensures place { IfOk result (λ r. IsTrue D.tells → r ≡ record_place (D.told flash.old).now) }
     ensures inside { IfOk result (λ r. (5 ≤ r) × (r ≤ 6)) }
@@ -93,7 +94,7 @@ fn record_place<D: Flash>(flash: &mut D, buf: &mut [u8]) -> Result<u32, FlashSto
 /// The first 4096 bytes of the buffer are used.
 pub fn raise<D: Flash>(flash: &mut D, v: u32, buf: &mut [u8]) -> Result<(), FlashStop>
     requires on { IsTrue (D.on flash.old) }
-    requires room { 4096 ≤ length buf.old }
+    requires room { block_bytes ≤ length buf.old }
     requires above { IsTrue D.tells → counter_in (D.told flash.old).now < v }
 
     ensures raises { IsTrue D.tells → Raises result v (D.told flash.old) (D.told flash.new) }
@@ -106,6 +107,6 @@ pub fn raise<D: Flash>(flash: &mut D, v: u32, buf: &mut [u8]) -> Result<(), Flas
         (D.counts flash.old) (D.counts flash.new) }
     ensures buffer { length buf.new ≡ length buf.old }
 {
-    let place = record_place(flash, &mut buf[..4096])?;
+    let place = record_place(flash, &mut buf[..BLOCK_BYTES as usize])?;
     replace(flash, place, &record_bytes(v))
 }

@@ -1,5 +1,6 @@
 //! The layout block (own format), and where it puts each image of each bank.
 ghost use Rattle.std.specs.Prelude.{◌≡◌, ℕ, ◌+◌, ◌-◌, ◌*◌, ◌<◌, ◌≤◌, ◌++◌, ◌&&◌, ◌==◌, nat_le, length, take, drop, replicate, Ok, IsTrue};
+ghost use Rattle.base_core.specs.Block.{block_bytes};
 ghost use Rattle.base_core.specs.Bytes.{num_at};
 ghost use Rattle.fwu_formats.specs.Layout.{are_zero, fits_layout, blocks_needed, find_image, start, layout_of, layout_size, layout_body, layout_bytes};
 ghost use Rattle.meta_layout.specs.Rows.{has_row_zeros, fitted};
@@ -200,7 +201,7 @@ impl Layout {
 
     /// Writes a whole block: the one spelling of the layout, and 0xFF behind it.
     pub fn write(&self, out: &mut [u8])
-        requires { 4096 ≤ length out.old }
+        requires { block_bytes ≤ length out.old }
         ensures spelled { out.new ≡ layout_bytes self.now ++ replicate (length out.old - layout_size self.now) 0xFF }
         ensures read_again { (blocks : ℕ) → blocks_needed self.now ≤ blocks →
             layout_of out.new blocks ≡ Ok self.now }

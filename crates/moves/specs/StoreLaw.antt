@@ -1,6 +1,6 @@
 -- What stores of metadata, cleared marks and writes in a free bank are to the machine, as laws.
 use Rattle.std.specs.Prelude.{◌≡◌, ℕ, ◌+◌, ◌*◌, ◌<◌, ◌≤◌, Bool, List, [], ◌∷◌, length, take, Some, Ok, IsErr, IsTrue, IsFalse, slice_index_or}
-use Rattle.base_core.specs.Block.{block}
+use Rattle.base_core.specs.Block.{block_bytes, block}
 use Rattle.flash_core.specs.Told.{Told, settle}
 use Rattle.flash_core.specs.May.{Guards, Keeps, Quiet}
 use Rattle.fwu_formats.specs.Layout.{Layout, start}
@@ -54,7 +54,7 @@ pub record StoresDo (result : Done) (E : Setting) (s t : Told) (state : State) :
   -- The update bank holds the package and is quiet, as after a barrier.
   -- Where the new state is valid, so that trials count, the marks are clear.
   pub switch : (p : List (List ℕ)) (bits : List Bool) → IsTrue (is_accepted (bank state state.active).state)
-      → Quiet (4096 * start E.layout (update_bank state) 0) (4096 * start E.layout (update_bank state + 1) 0) s
+      → Quiet (block_bytes * start E.layout (update_bank state) 0) (block_bytes * start E.layout (update_bank state + 1) 0) s
       → package_in E.layout s.now (update_bank state) ≡ Some p
       → length bits ≡ length E.layout.rows → IsTrue (is_complete E.layout.rows p) → IsTrue (is_permitted E state.counter p)
       → (IsTrue (is_valid (state_by bits)) → (marks s.now 3 trial_limit ≡ 0) × IsTrue (is_tidy s.now 3 trial_limit))
@@ -96,7 +96,8 @@ EndsSwitch =
     → IsTrue (is_accepted (bank state state.active).state) → 1 ≤ length L.rows → length bits ≡ length L.rows
     → IsTrue (is_complete L.rows p)
     → ((i : ℕ) → i < length p → take (length (slice_index_or p i [])) (slot L s.now (update_bank state) i) ≡ slice_index_or p i [])
-    → Quiet (4096 * start L (update_bank state) 0) (4096 * start L (update_bank state + 1) 0) s → EndsBy L state p bits s
+    → Quiet (block_bytes * start L (update_bank state) 0) (block_bytes * start L (update_bank state + 1) 0) s
+    → EndsBy L state p bits s
 
 -- a barrier leaves a ready flash ready
 abbrev pub BarriersKeepReady : Type 0
@@ -111,7 +112,7 @@ ClearsDo = (result : Done) (s t : Told) (state : State) → IsTrue (is_accepted 
 abbrev pub StagingKeepsReady : Type 0
 StagingKeepsReady =
     (E : Setting) (s t : Told) (state : State) (u : ℕ) → IsReady E s state → IsTrue (is_invalid (bank state u).state)
-    → Keeps (4096 * start E.layout u 0) (4096 * start E.layout (u + 1) 0) s t
+    → Keeps (block_bytes * start E.layout u 0) (block_bytes * start E.layout (u + 1) 0) s t
     → IsReady E t state
 
 -- ---- on any flash that shows a state
@@ -139,7 +140,7 @@ pub record OthersShowNothing : Type 0 where
   pub clear : (result : Done) (s t : Told) (state : State) → IsTrue (is_accepted (bank state state.active).state)
       → Clears result 3 s t → (L : Layout) → IsShown L s.now state → IsShown L t.now state
   pub staging : (L : Layout) (s t : Told) (state : State) (u : ℕ) → IsTrue (is_invalid (bank state u).state)
-      → Keeps (4096 * start L u 0) (4096 * start L (u + 1) 0) s t → IsShown L s.now state → IsShown L t.now state
+      → Keeps (block_bytes * start L u 0) (block_bytes * start L (u + 1) 0) s t → IsShown L s.now state → IsShown L t.now state
 
 -- a bank whose slots begin with the images of a complete package holds it
 abbrev pub SlotsHold : Type 0
@@ -153,7 +154,7 @@ SlotsHold =
 -- the banks that the metadata calls valid or accepted are quiet
 abbrev pub QuietBy : Layout → Meta → Told → Type 0
 QuietBy L m t = (b : ℕ) → b < L.banks → IsFalse (is_invalid (state_at m b))
-    → Quiet (4096 * start L b 0) (4096 * start L (b + 1) 0) t
+    → Quiet (block_bytes * start L b 0) (block_bytes * start L (b + 1) 0) t
 
 -- a stop harms nothing in use, and an answer leaves the flash at rest
 pub record OthersStayGuarded : Type 0 where
@@ -164,7 +165,8 @@ pub record OthersStayGuarded : Type 0 where
   pub clear : (result : Done) (L : Layout) (s t : Told) → layout_seen s.now ≡ Ok L → IsAtRest s → Clears result 3 s t
       → GuardedBy result t
   pub staging : (L : Layout) (s t : Told) (state : State) (u : ℕ) → IsShown L s.now state → IsAtRest s
-      → IsTrue (is_invalid (bank state u).state) → Keeps (4096 * start L u 0) (4096 * start L (u + 1) 0) s t → IsAtRest t
+      → IsTrue (is_invalid (bank state u).state) → Keeps (block_bytes * start L u 0) (block_bytes * start L (u + 1) 0) s t
+      → IsAtRest t
 
 -- which banks are in use by the metadata of a move: those before, and the one that it switches to
 pub record UsedAfterMoves (L : Layout) (m : Meta) (t : Told) : Type 0 where
@@ -172,8 +174,8 @@ pub record UsedAfterMoves (L : Layout) (m : Meta) (t : Told) : Type 0 where
   pub free : (b : ℕ) → b < L.banks → QuietBy L (meta_after m (Free b)) t
   pub accept : (image : ℕ) → IsFalse (is_invalid (state_at m m.active)) → QuietBy L (meta_after m (Accept image)) t
   pub back : QuietBy L (meta_after m Back) t
-  pub switch : (b : ℕ) (p : List (List ℕ)) (bits : List Bool) → Quiet (4096 * start L b 0) (4096 * start L (b + 1) 0) t
-      → QuietBy L (meta_after m (Switch b p bits)) t
+  pub switch : (b : ℕ) (p : List (List ℕ)) (bits : List Bool)
+      → Quiet (block_bytes * start L b 0) (block_bytes * start L (b + 1) 0) t → QuietBy L (meta_after m (Switch b p bits)) t
 
 -- on any flash at rest
 abbrev pub MovesKeepQuiet : Type 0

@@ -1,6 +1,6 @@
 -- What a repair leaves.
-use Rattle.std.specs.Prelude.{◌≡◌, ◌⊎◌, List, ℕ, Option, Some, Result, OnOk}
-use Rattle.base_core.specs.Block.{block}
+use Rattle.std.specs.Prelude.{◌≡◌, ◌⊎◌, List, ℕ, ◌*◌, Option, Some, Result, OnOk}
+use Rattle.base_core.specs.Block.{block_bytes, block}
 use Rattle.flash_core.specs.declared.flash.Arming.{Arming}
 use Rattle.flash_core.specs.declared.flash.FlashStop.{FlashStop}
 use Rattle.flash_core.specs.Counts.{lowered}
@@ -19,7 +19,7 @@ pub record Rewrites {T : Type 0} (result : Result T FlashStop) (L : Layout) (b :
   -- when done, the block is the new one, to the last byte
   pub written : (meta_read L (block b s.now) ≡ Some r → ⊥) → OnOk result (block b t.now ≡ new)
   -- in each image that a power-on may leave it is the old one, the new one, or has no seal
-  pub either : Guards 1 2 s → Quiet 4096 12288 s → (image : List ℕ) → May t image
+  pub either : Guards 1 2 s → Quiet (block_bytes * 1) (block_bytes * 3) s → (image : List ℕ) → May t image
       → IsOldOrNew (block b s.now) new (block b image)
 
 -- the block of a replica: the metadata's bytes in version 2, 0xFF to a whole granule, and else erased ones
@@ -29,19 +29,20 @@ replica_block L r = padded (replica_bytes L r.meta)
 -- what a repair leaves, at any exit, where this metadata decided
 pub record Repairs {T : Type 0} (result : Result T FlashStop) (L : Layout) (r : MetaRead) (s t : Told) : Type 0 where
   -- but for the replicas nothing changes
-  pub keeps : Keeps 4096 12288 s t
+  pub keeps : Keeps (block_bytes * 1) (block_bytes * 3) s t
   -- a replica that holds it in version 2 stays
   pub idle : BothHold L (in_version 2 r.meta) s.now → t ≡ s
-  pub zero_alone : meta_read L (block 2 s.now) ≡ Some (in_version 2 r.meta) → Keeps 4096 8192 s t
-  pub one_alone : meta_read L (block 1 s.now) ≡ Some (in_version 2 r.meta) → Keeps 8192 12288 s t
+  pub zero_alone : meta_read L (block 2 s.now) ≡ Some (in_version 2 r.meta) → Keeps (block_bytes * 1) (block_bytes * 2) s t
+  pub one_alone : meta_read L (block 1 s.now) ≡ Some (in_version 2 r.meta) → Keeps (block_bytes * 2) (block_bytes * 3) s t
   -- and one that lacks it becomes its bytes, and never another block
   pub zero : Rewrites result L 1 (in_version 2 r.meta) (replica_block L r) s t
   pub one : Rewrites result L 2 (in_version 2 r.meta) (replica_block L r) s t
   -- in each image that a power-on may leave it decides, as it was or in version 2
-  pub stays : Guards 1 2 s → Quiet 4096 12288 s → (image : List ℕ) → May t image → Decides L r (in_version 2 r.meta) image
+  pub stays : Guards 1 2 s → Quiet (block_bytes * 1) (block_bytes * 3) s → (image : List ℕ) → May t image
+      → Decides L r (in_version 2 r.meta) image
   -- when done, both replicas hold it in version 2, and are stable where they were so before
   pub both : OnOk result (BothHold L (in_version 2 r.meta) t.now)
-  pub quiet : Quiet 4096 12288 s → OnOk result (Quiet 4096 12288 t)
+  pub quiet : Quiet (block_bytes * 1) (block_bytes * 3) s → OnOk result (Quiet (block_bytes * 1) (block_bytes * 3) t)
 
 -- ---- on every device, how much nearer an armed loss a repair that is done brings
 

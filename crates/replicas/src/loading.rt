@@ -8,6 +8,7 @@ ghost use Rattle.fwu_formats.specs.Image.{deciding};
 ghost use Rattle.replicas.specs.Which.{HasForm, Finds, Loads, flash_result, form_of};
 
 use crate::which::{ReplicaStop, Which};
+use base_core::BLOCK_BYTES;
 use flash_core::{Flash, FlashStop, read_block};
 use fwu_formats::{FIRST_REPLICA, SECOND_REPLICA};
 use meta_layout::{Layout, Meta};
@@ -32,7 +33,7 @@ pub fn read_replica<D: Flash>(
     ensures costs { Spends result (D.counts flash.old) (D.counts flash.new) }
     ensures reached { ReachesNone result (D.counts flash.old) (D.counts flash.new) }
 {
-    let mut bytes = [0; 4096];
+    let mut bytes = [0; BLOCK_BYTES as usize];
     read_block(flash, b, &mut bytes)?;
     match Meta::read(layout, &bytes) {
         Ok(meta) => Ok(Some(meta)),

@@ -1,6 +1,6 @@
 //! Writing the metadata that decides over the replica that lacks it.
 ghost use Rattle.std.specs.Prelude.{◌≡◌, ◌↔◌, ◌%◌, ◌<◌, ◌≤◌, Some, length, is_ok, IsTrue, IfOk, OnOk};
-ghost use Rattle.base_core.specs.Block.{block};
+ghost use Rattle.base_core.specs.Block.{block_bytes, granule_bytes, block};
 ghost use Rattle.flash_core.specs.Counts.{Spends, ReachesNone, StaysUnarmed, arming_kept};
 ghost use Rattle.fwu_formats.specs.Layout.{fits_layout};
 ghost use Rattle.fwu_formats.specs.Metadata.{fits_meta, meta_read, replica_bytes};
@@ -47,9 +47,9 @@ fn migrate_zero<D: Flash>(
     bytes: &[u8],
 ) -> Result<(), FlashStop>
     requires on { IsTrue (D.on flash.old) }
-    requires granules { length bytes.now % 16 ≡ 0 }
+    requires granules { length bytes.now % granule_bytes ≡ 0 }
     requires some { 0 < length bytes.now }
-    requires fits { length bytes.now ≤ 4096 }
+    requires fits { length bytes.now ≤ block_bytes }
     requires layout { IsTrue (fits_layout layout.now) }
     requires spelled { bytes.now ≡ replica_bytes layout.now meta.now.meta }
     requires of_layout { IsTrue (fits_meta layout.now meta.now.meta) }
@@ -88,7 +88,7 @@ pub fn repair<D: Flash>(
 ) -> Result<(), FlashStop>
     requires on { IsTrue (D.on flash.old) }
     requires fits { IsTrue (fits_meta layout.now meta.now.meta) }
-    requires room { 4096 ≤ length buf.old }
+    requires room { block_bytes ≤ length buf.old }
     requires loaded { IsTrue D.tells → Loads layout.now which meta.now (D.told flash.old).now }
 
     ensures repairs { IsTrue D.tells →

@@ -1,5 +1,6 @@
 //! Writing metadata over both replicas.
 ghost use Rattle.std.specs.Prelude.{◌≡◌, ◌%◌, ◌<◌, ◌≤◌, length, take, is_ok, IsTrue, OnOk};
+ghost use Rattle.base_core.specs.Block.{block_bytes, granule_bytes};
 ghost use Rattle.flash_core.specs.Counts.{Spends, StaysUnarmed, lowered};
 ghost use Rattle.flash_core.specs.Replaces.{padded};
 ghost use Rattle.fwu_formats.specs.Layout.{fits_layout};
@@ -13,9 +14,9 @@ use meta_layout::{Layout, Meta};
 /// Writes bytes over replica 0, then over replica 1.
 pub fn write_both<D: Flash>(flash: &mut D, bytes: &[u8]) -> Result<(), FlashStop>
     requires on { IsTrue (D.on flash.old) }
-    requires granules { length bytes.now % 16 ≡ 0 }
+    requires granules { length bytes.now % granule_bytes ≡ 0 }
     requires some { 0 < length bytes.now }
-    requires fits { length bytes.now ≤ 4096 }
+    requires fits { length bytes.now ≤ block_bytes }
 
     ensures writes { IsTrue D.tells →
         WritesBoth result (padded bytes.now) (D.told flash.old) (D.told flash.new) }
@@ -35,11 +36,11 @@ pub fn write_both<D: Flash>(flash: &mut D, bytes: &[u8]) -> Result<(), FlashStop
 /// Spells metadata in version 2 at the front of a buffer, up to a whole granule. How many bytes that takes.
 pub fn spell(layout: &Layout, meta: &Meta, buf: &mut [u8]) -> usize
     requires fits { IsTrue (fits_meta layout.now meta.now.meta) }
-    requires room { 4096 ≤ length buf.old }
+    requires room { block_bytes ≤ length buf.old }
 
     ensures spelled { take result buf.new ≡ replica_bytes layout.now meta.now.meta }
     ensures layout { IsTrue (fits_layout layout.now) }
-    ensures granules { result % 16 ≡ 0 }
+    ensures granules { result % granule_bytes ≡ 0 }
     ensures some { 0 < result }
     ensures short { result ≤ 2096 }
     ensures buffer { length buf.new ≡ length buf.old }
@@ -60,7 +61,7 @@ pub fn store<D: Flash>(
 ) -> Result<(), FlashStop>
     requires on { IsTrue (D.on flash.old) }
     requires fits { IsTrue (fits_meta layout.now meta.now.meta) }
-    requires room { 4096 ≤ length buf.old }
+    requires room { block_bytes ≤ length buf.old }
 
     ensures stores { IsTrue D.tells →
         Stores result layout.now meta.now.meta (D.told flash.old) (D.told flash.new) }

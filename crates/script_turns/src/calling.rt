@@ -1,5 +1,6 @@
 //! The turns of the agent's calls.
 ghost use Rattle.std.specs.Prelude.{◌≡◌, ◌≤◌, ℕ, Bool, List, Option, Err, length, IsTrue, IsFalse};
+ghost use Rattle.base_core.specs.Block.{block_bytes};
 ghost use Rattle.host_io.specs.Contents.{Directory};
 ghost use Rattle.fwu_model.specs.Call as call;
 ghost use Rattle.fwu_model.specs.Reply as model;
@@ -129,7 +130,7 @@ fn read_turn<D: Flash>(
     out: Vec<u8>,
 ) -> Turned<D>
     requires room { length out.items ≡ room }
-    requires few { room ≤ 4096 }
+    requires few { room ≤ block_bytes }
     ensures turns { (passes : List ℕ → Bool) (files : Option Directory) (faults : ℕ)
         → Turns passes D.tells files (call.Read handle room) (turn result.turn) (moment_live live)
         (moment_of result.powered) faults faults }

@@ -113,9 +113,9 @@ pub fn read_table<H: Files>(files: &mut H, name: &str) -> Result<Toc, TableStop>
     ensures cause { HasTableCause (H.contents files.old) name.now (H.faults files.old)
         (H.faults files.new) result }
 {
-    match is_capsule(files, name) {
-        Ok(true) => capsule_table(files, name),
-        Ok(false) => package_table(files, name),
-        Err(stop) => Err(stop),
+    if is_capsule(files, name)? {
+        capsule_table(files, name)
+    } else {
+        package_table(files, name)
     }
 }

@@ -1,6 +1,7 @@
 -- How many erases and programs writing an image takes, as an armed loss counts them.
 use Rattle.std.specs.Prelude.{if◌then◌else◌, ◌==◌, ◌&&◌, nat_lt, nat_le, ◌≡◌, ℕ, ◌+◌, ◌-◌, ◌*◌, ◌/◌, ◌%◌, ◌<◌, ◌≤◌, Option, None, Result, OnOk, IsErrOf}
 use Rattle.std.specs.Option.{ForSome}
+use Rattle.base_core.specs.Block.{granule_bytes}
 use Rattle.flash_core.specs.declared.flash.Arming.{Arming}
 use Rattle.flash_core.specs.declared.flash.Counts.{Counts}
 use Rattle.flash_core.specs.declared.flash.FlashStop.{FlashStop}
@@ -23,11 +24,12 @@ writes_behind done n = if n == 0 then 0 else (blocks_for (done + n) - blocks_for
 
 -- one program where the kept bytes of an image of this length become a whole granule
 abbrev pub programs_of_kept : ℕ → ℕ → ℕ
-programs_of_kept size n = if nat_lt 0 (size % 16) && nat_le 16 (size % 16 + n) then 1 else 0
+programs_of_kept size n = if nat_lt 0 (size % granule_bytes) && nat_le granule_bytes (size % granule_bytes + n) then 1 else 0
 
 -- one program of all further whole granules, if there are any
 abbrev pub programs_of_whole : ℕ → ℕ → ℕ
-programs_of_whole size n = if nat_lt (16 * ((size + 15) / 16)) (done_of (size + n)) then 1 else 0
+programs_of_whole size n =
+    if nat_lt (granule_bytes * ((size + (granule_bytes - 1)) / granule_bytes)) (done_of (size + n)) then 1 else 0
 
 -- appending so many bytes to an image of this length: an erase of each block that its whole granules reach first, and the programs
 abbrev pub writes_to_append : ℕ → ℕ → ℕ
@@ -36,4 +38,4 @@ writes_to_append size n =
 
 -- ending an image of this length: an erase where the kept bytes begin a block, and one program where some are kept
 abbrev pub writes_to_finish : ℕ → ℕ
-writes_to_finish size = (blocks_for size - blocks_for (done_of size)) + (if nat_lt 0 (size % 16) then 1 else 0)
+writes_to_finish size = (blocks_for size - blocks_for (done_of size)) + (if nat_lt 0 (size % granule_bytes) then 1 else 0)

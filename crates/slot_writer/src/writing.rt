@@ -1,23 +1,22 @@
 //! Writing behind what was written.
 ghost use Rattle.std.specs.Prelude.{◌≡◌, ◌+◌, ◌-◌, ◌*◌, ◌/◌, ◌%◌, ◌<◌, ◌≤◌, ◌++◌, length, take, is_ok, IsTrue, OnOk, replicate, drop};
+ghost use Rattle.base_core.specs.Block.{granule_bytes};
 ghost use Rattle.flash_core.specs.Counts.{Spends};
 ghost use Rattle.slot_writer.specs.Slots.{Appends, Erases, Finishes, IsBlankAhead, Programs, blocks_for, done_of, kept_of};
 ghost use Rattle.slot_writer.specs.Writes.{SpendsArming, writes_behind, writes_to_append, writes_to_finish};
 
+use base_core::{BLOCK_BYTES, GRANULE_BYTES};
 use flash_core::{Flash, FlashStop};
 
-/// What an erase takes, in bytes.
-const BLOCK: u32 = 4096;
-
 /// What a program takes, in bytes.
-const GRANULE: usize = 16;
+const GRANULE: usize = GRANULE_BYTES as usize;
 
 /// How many blocks so many bytes reach.
 fn blocks_for(bytes: u32) -> u32
     requires { bytes ≤ 1048576 }
     ensures { result ≡ blocks_for bytes }
 {
-    (bytes + (BLOCK - 1)) / BLOCK
+    (bytes + (BLOCK_BYTES - 1)) / BLOCK_BYTES
 }
 
 /// Erases the blocks from the first to before the end, rising.
@@ -50,8 +49,8 @@ fn program_behind<D: Flash>(
 ) -> Result<(), FlashStop>
     requires on { IsTrue (D.on flash.old) }
     requires behind { 8 ≤ first }
-    requires granule { done % 16 ≡ 0 }
-    requires granules { length bytes.now % 16 ≡ 0 }
+    requires granule { done % granule_bytes ≡ 0 }
+    requires granules { length bytes.now % granule_bytes ≡ 0 }
     requires size { done + length bytes.now ≤ 1048576 }
     requires inside { first + blocks_for (done + length bytes.now) ≤ D.blocks flash.old }
     requires ahead { IsTrue D.tells → IsBlankAhead first done (D.told flash.old).now }
@@ -70,12 +69,12 @@ fn program_behind<D: Flash>(
     }
     let end = done + bytes.len() as u32;
     erase_blocks(flash, first + blocks_for(done), first + blocks_for(end))?;
-    flash.program(BLOCK * first + done, bytes)
+    flash.program(BLOCK_BYTES * first + done, bytes)
 }
 
 /// Keeps bytes behind those that are kept.
-fn keep(rest: &mut [u8; 16], kept: usize, bytes: &[u8])
-    requires { kept + length bytes.now ≤ 16 }
+fn keep(rest: &mut [u8; GRANULE], kept: usize, bytes: &[u8])
+    requires { kept + length bytes.now ≤ granule_bytes }
     ensures { take (kept + length bytes.now) rest.new ≡ take kept rest.old ++ bytes.now }
 {
     rest[kept..kept + bytes.len()].copy_from_slice(bytes);
@@ -86,12 +85,12 @@ fn append_whole<D: Flash>(
     flash: &mut D,
     first: u32,
     size: u32,
-    rest: &mut [u8; 16],
+    rest: &mut [u8; GRANULE],
     bytes: &[u8],
 ) -> Result<(), FlashStop>
     requires on { IsTrue (D.on flash.old) }
     requires behind { 8 ≤ first }
-    requires granule { size % 16 ≡ 0 }
+    requires granule { size % granule_bytes ≡ 0 }
     requires size { size + length bytes.now ≤ 1048576 }
     requires inside { first + blocks_for (size + length bytes.now) ≤ D.blocks flash.old }
     requires ahead { IsTrue D.tells → IsBlankAhead first size (D.told flash.old).now }
@@ -100,12 +99,12 @@ fn append_whole<D: Flash>(
         Appends result first size rest.old bytes.now rest.new
         (D.told flash.old) (D.told flash.new) }
     ensures kept { OnOk result
-        (take (length bytes.now % 16) rest.new
-        ≡ drop (length bytes.now - length bytes.now % 16) bytes.now) }
-    ensures still { length bytes.now < 16 → flash.new ≡ flash.old }
+        (take (length bytes.now % granule_bytes) rest.new
+        ≡ drop (length bytes.now - length bytes.now % granule_bytes) bytes.now) }
+    ensures still { length bytes.now < granule_bytes → flash.new ≡ flash.old }
     ensures power { D.on flash.new ≡ is_ok result }
     ensures size { D.blocks flash.new ≡ D.blocks flash.old }
-    ensures arming { SpendsArming result (writes_behind size (length bytes.now - length bytes.now % 16))
+    ensures arming { SpendsArming result (writes_behind size (length bytes.now - length bytes.now % granule_bytes))
         (D.arming flash.old) (D.arming flash.new) (D.counts flash.old) (D.counts flash.new) }
     ensures costs { Spends result (D.counts flash.old) (D.counts flash.new) }
 {
@@ -125,7 +124,7 @@ pub fn append<D: Flash>(
     flash: &mut D,
     first: u32,
     size: u32,
-    rest: &mut [u8; 16],
+    rest: &mut [u8; GRANULE],
     bytes: &[u8],
 ) -> Result<(), FlashStop>
     requires on { IsTrue (D.on flash.old) }
@@ -139,7 +138,7 @@ pub fn append<D: Flash>(
         (D.told flash.old) (D.told flash.new) }
     // on every device: the bytes that are kept, and how many erases and programs were made
     ensures kept { OnOk result
-        (take ((size + length bytes.now) % 16) rest.new ≡ kept_of size rest.old bytes.now) }
+        (take ((size + length bytes.now) % granule_bytes) rest.new ≡ kept_of size rest.old bytes.now) }
     // on every device: it is not touched where no granule becomes whole
     ensures still { done_of (size + length bytes.now) ≡ done_of size → flash.new ≡ flash.old }
     ensures arming { SpendsArming result (writes_to_append size (length bytes.now))
@@ -160,23 +159,23 @@ pub fn append<D: Flash>(
     let room = GRANULE - kept;
     keep(rest, kept, &bytes[..room]);
     program_behind(flash, first, done, &*rest)?;
-    append_whole(flash, first, done + GRANULE as u32, rest, &bytes[room..])
+    append_whole(flash, first, done + GRANULE_BYTES, rest, &bytes[room..])
 }
 
 /// The kept bytes with 0xFF behind them.
-fn padded(rest: &[u8; 16], kept: usize) -> [u8; 16]
-    requires { kept ≤ 16 }
-    ensures { result ≡ take kept rest.now ++ replicate (16 - kept) 255 }
+fn padded(rest: &[u8; GRANULE], kept: usize) -> [u8; GRANULE]
+    requires { kept ≤ granule_bytes }
+    ensures { result ≡ take kept rest.now ++ replicate (granule_bytes - kept) 255 }
 {
-    let mut last = [0xFF; 16];
+    let mut last = [0xFF; GRANULE];
     last[..kept].copy_from_slice(&rest[..kept]);
     last
 }
 
 /// How many bytes of whole granules so many kept bytes take: one granule, or none.
 fn granule_for(kept: usize) -> usize
-    requires { kept < 16 }
-    ensures { result ≡ 16 * ((kept + 15) / 16) }
+    requires { kept < granule_bytes }
+    ensures { result ≡ granule_bytes * ((kept + (granule_bytes - 1)) / granule_bytes) }
 {
     if kept == 0 { 0 } else { GRANULE }
 }
@@ -188,7 +187,7 @@ pub fn finish<D: Flash>(
     flash: &mut D,
     first: u32,
     size: u32,
-    rest: &[u8; 16],
+    rest: &[u8; GRANULE],
 ) -> Result<(), FlashStop>
     requires on { IsTrue (D.on flash.old) }
     requires behind { 8 ≤ first }

@@ -13,3 +13,4 @@ pub mod Taking
 mod Spending
 pub mod Writer
 pub mod ImagesTaking
+mod Stopped

@@ -6,7 +6,7 @@ ghost use Rattle.fwu_formats.specs.Package.{has_guid};
 ghost use Rattle.update_client.specs.Choosing.{ChoosesOne, Chooses};
 
 use crate::stops::SendStop;
-use base_core::{Guid, ImageRow};
+use base_core::{BLOCK_BYTES, Guid, ImageRow};
 use fip_tables::{Entries, Entry, Toc};
 
 fn find_entry(entries: &[Entry], guid: &Guid) -> Option<Entry>
@@ -22,7 +22,7 @@ fn choose_one(row: &ImageRow, toc: &Toc) -> Result<Entry, SendStop>
     let Some(entry) = find_entry(toc.entries.as_slice(), &row.guid) else {
         return Err(SendStop::MissingImage(row.guid));
     };
-    if entry.size > 4096 * u64::from(row.slots) {
+    if entry.size > u64::from(BLOCK_BYTES) * u64::from(row.slots) {
         return Err(SendStop::ImageTooLarge(row.guid));
     }
     Ok(entry)
@@ -35,10 +35,7 @@ pub fn choose(rows: &[ImageRow], toc: &Toc) -> Result<Entries, SendStop>
 {
     let mut entries = Entries::new();
     for k in 0..rows.len() {
-        match choose_one(&rows[k], toc) {
-            Ok(entry) => entries.push(entry),
-            Err(fault) => return Err(fault),
-        }
+        entries.push(choose_one(&rows[k], toc)?);
     }
     Ok(entries)
 }

@@ -49,10 +49,7 @@ pub fn send_image<D: Flash, H: Files>(
         Ok(_) => {}
         Err(stop) => return Err(stopped(stop)),
     }
-    match write_image(agent, files, name, entry, buf) {
-        Ok(()) => {}
-        Err(stop) => return Err(stop),
-    }
+    write_image(agent, files, name, entry, buf)?;
     match agent.commit(1, acceptance, 0) {
         Ok(()) => Ok(()),
         Err(stop) => Err(stopped(stop)),
@@ -88,10 +85,7 @@ pub fn send_images<D: Flash, H: Files>(
 {
     for k in 0..entries.len() {
         let entry = entries[k];
-        match send_image(agent, files, name, entry.guid, &entry, acceptance, buf) {
-            Ok(()) => {}
-            Err(stop) => return Err(stop),
-        }
+        send_image(agent, files, name, entry.guid, &entry, acceptance, buf)?;
     }
     Ok(())
 }

@@ -111,10 +111,7 @@ pub fn write_image<D: Flash, H: Files>(
 {
     let mut at = 0;
     while at < entry.size {
-        match write_piece(agent, files, name, entry, at, buf) {
-            Ok(count) => at += count,
-            Err(stop) => return Err(stop),
-        }
+        at += write_piece(agent, files, name, entry, at, buf)?;
     }
     Ok(())
 }

@@ -90,17 +90,14 @@ pub fn send<D: Flash, H: Files, V: Verifier>(
     ensures unwritten { H.writes files.new ≡ H.writes files.old }
     ensures reads { ReadsBy (H.faults files.old) (H.faults files.new) result }
 {
-    let entries = match choose(agent.rows(), toc) {
-        Ok(entries) => entries,
-        Err(stop) => return Err(stop),
-    };
+    let entries = choose(agent.rows(), toc)?;
     let images = agent.rows().len() as u32;
     let skipped = skipped(agent.rows(), toc);
     match agent.begin(0, 0) {
         Ok(()) => {}
         Err(stop) => return Err(unbegun(stop)),
     }
-    match install(
+    install(
         agent,
         files,
         name,
@@ -108,8 +105,6 @@ pub fn send<D: Flash, H: Files, V: Verifier>(
         acceptance,
         buf,
         verifier,
-    ) {
-        Ok(()) => Ok(Sent { images, skipped }),
-        Err(stop) => Err(stop),
-    }
+    )?;
+    Ok(Sent { images, skipped })
 }

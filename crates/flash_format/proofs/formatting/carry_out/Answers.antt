@@ -13,16 +13,18 @@ use Rattle.flash_format.specs.declared.stops.FormatStop.{FormatStop}
 use Rattle.flash_format.specs.declared.stops.FormatStop.TheVariants.{ReadFailed}
 use Rattle.flash_format.proofs.Given.{finishes_from}
 use Rattle.flash_format.proofs.Ordered.{bare_is_unlaid, blank_stays, images_stay, in_order_before, in_order_filled}
+use Rattle.flash_format.proofs.Stopped.{handed-on}
 use Rattle.flash_format.proofs.formatting.carry_out.Goals as goal
 
-pub returns-in-Err-clause-failed : goal.returns-in-Err-clause-failed
-returns-in-Err-clause-failed g c = λ is tells.
+pub returns-in_err-fill-clause-failed : goal.returns-in_err-fill-clause-failed
+returns-in_err-fill-clause-failed g c =
+    rw (handed-on c.from_residual.result c.in_err-fill.field-0.0 c.from_residual.ensures.1) (λ is tells.
     let t = g.D.Flash.told c.fill.new.flash in
     let size = (g.met.D.Flash.sound c.fill.new.flash tells).size in
     let many = (g.met.D.Flash.sizes c.fill.new.flash).0 in
-    let stop : c.in-Err.stop ≡ ReadFailed = cc in
-    let bare = subst (λ (r : Result (Unit {0}) FormatStop). OnOk (flash_result r) (IsTrue g.D.Flash.tells → IsBare t)) (c.in-Err.is ∙ ap Err stop) c.fill.ensures.bare in
-    bare_is_unlaid t (omega (arith, size, many)) (bare tells)
+    let stop : c.in_err-fill.field-0.0 ≡ ReadFailed = cc in
+    let bare = subst (λ (r : Result (Unit {0}) FormatStop). OnOk (flash_result r) (IsTrue g.D.Flash.tells → IsBare t)) (ap Err stop) c.in_err-fill.ensures.bare in
+    bare_is_unlaid t (omega (arith, size, many)) (bare tells))
 
 pub returns-clause-bytes : goal.returns-clause-bytes
 returns-clause-bytes g c =
@@ -31,16 +33,17 @@ returns-clause-bytes g c =
     let entries = c.args.plan.now.entries in
     let t = g.D.Flash.told c.finish.new.flash in
     let A : Type 0 = IsTrue g.D.Flash.tells → (file : List ℕ) → Tells (g.H.Files.contents c.args.files.now) c.args.name.now file → AllStand count L file entries t.now in
-    finishes_from ℕ c.finish.result A (λ tells file told. images_stay count L file entries (g.D.Flash.told c.fill.new.flash) t (c.finish.ensures.keeps tells) (c.in-Ok.ensures.bytes tells file told))
+    finishes_from ℕ c.finish.result A (λ tells file told. images_stay count L file entries (g.D.Flash.told c.fill.new.flash) t (c.finish.ensures.keeps tells) (c.in_ok-fill.ensures.bytes tells file told))
 
 pub returns-clause-blank : goal.returns-clause-blank
 returns-clause-blank g c =
     let L = c.args.plan.now.layout in
     let t = g.D.Flash.told c.finish.new.flash in
-    finishes_from ℕ c.finish.result (IsTrue g.D.Flash.tells → IsBlank L t.now) (λ tells. blank_stays L (g.D.Flash.told c.fill.new.flash) t (c.finish.ensures.keeps tells) (c.in-Ok.ensures.blank tells))
+    finishes_from ℕ c.finish.result (IsTrue g.D.Flash.tells → IsBlank L t.now) (λ tells. blank_stays L (g.D.Flash.told c.fill.new.flash) t (c.finish.ensures.keeps tells) (c.in_ok-fill.ensures.blank tells))
 
-pub returns-in-Err-clause-ordered : goal.returns-in-Err-clause-ordered
-returns-in-Err-clause-ordered g c = λ tells.
+pub returns-in_err-fill-clause-ordered : goal.returns-in_err-fill-clause-ordered
+returns-in_err-fill-clause-ordered g c =
+    λ tells.
     let t = g.D.Flash.told c.fill.new.flash in
     let size = (g.met.D.Flash.sound c.fill.new.flash tells).size in
     let many = (g.met.D.Flash.sizes c.fill.new.flash).0 in
@@ -50,18 +53,18 @@ pub returns-clause-ordered : goal.returns-clause-ordered
 returns-clause-ordered g c = λ tells.
     let s = g.D.Flash.told c.fill.new.flash in
     let t = g.D.Flash.told c.finish.new.flash in
-    let clean = c.in-Ok.ensures.clean tells in
-    in_order_filled (g.V.Verifier.passes c.args.verifier.now) c.args.plan.now.layout (g.D.Flash.told c.args.flash.now) s t clean (c.finish.ensures.keeps tells) (c.in-Ok.ensures.blank tells) (c.finish.ensures.ordered tells clean) (c.finish.ensures.whole tells clean) (c.finish.ensures.at_most tells)
+    let clean = c.in_ok-fill.ensures.clean tells in
+    in_order_filled (g.V.Verifier.passes c.args.verifier.now) c.args.plan.now.layout (g.D.Flash.told c.args.flash.now) s t clean (c.finish.ensures.keeps tells) (c.in_ok-fill.ensures.blank tells) (c.finish.ensures.ordered tells clean) (c.finish.ensures.whole tells clean) (c.finish.ensures.at_most tells)
 
 pub returns-clause-spent : goal.returns-clause-spent
 returns-clause-spent g c =
     let L = c.args.plan.now.layout in
     let pieces = pieces_in c.args.plan.now.entries in
-    spent_then c.finish.result (blocks_needed L + pieces) 3 (writes_of L pieces 3) _ _ _ (omega arith) c.in-Ok.ensures.spent c.finish.ensures.spent
+    spent_then c.finish.result (blocks_needed L + pieces) 3 (writes_of L pieces 3) _ _ _ (omega arith) c.in_ok-fill.ensures.spent c.finish.ensures.spent
 
 pub returns-clause-worn : goal.returns-clause-worn
 returns-clause-worn g c = λ found is.
     let L = c.args.plan.now.layout in
     let pieces = pieces_in c.args.plan.now.entries in
     let same : blocks_needed L + pieces ≡ writes_of L pieces 0 = omega arith in
-    c.finish.ensures.worn found is ∙ c.in-Ok.ensures.spent ∙ ap (λ (n : ℕ). lowered_by n (g.D.Flash.arming c.args.flash.now)) same
+    c.finish.ensures.worn found is ∙ c.in_ok-fill.ensures.spent ∙ ap (λ (n : ℕ). lowered_by n (g.D.Flash.arming c.args.flash.now)) same

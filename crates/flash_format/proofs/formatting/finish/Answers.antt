@@ -11,16 +11,17 @@ use Rattle.flash_format.proofs.Formats.{formatted, refused}
 use Rattle.flash_format.proofs.Ordered.{bare_fresh, bare_unlaid, ordered_before}
 use Rattle.flash_format.proofs.Showing.{unlaid}
 use Rattle.flash_format.proofs.Whole.{whole_after, whole_before}
+use Rattle.flash_format.proofs.Stopped.{handed-on}
 use Rattle.flash_format.proofs.formatting.finish.Goals as goal
 
-pub returns-in-Err-clause-refused : goal.returns-in-Err-clause-refused
-returns-in-Err-clause-refused g c = λ found is tells.
+pub returns-in_err-version-clause-refused : goal.returns-in_err-version-clause-refused
+returns-in_err-version-clause-refused g c =
+    rw (handed-on c.from_residual.result c.in_err-version.field-0.0 c.from_residual.ensures.1) (λ found is tells.
     let s = g.D.Flash.told c.args.flash.now in
     let size = (g.met.D.Flash.sound c.args.flash.now tells).size in
     let many = (g.met.D.Flash.sizes c.args.flash.now).0 in
-    let same = c.in-Err.is ∙ is in
     refused (g.V.Verifier.passes c.args.verifier.now) c.args.layout.now found s (g.D.Flash.told c.check_bank.new.flash) (c.check_bank.ensures.content tells) (omega (arith, size, many)) (c.requires.erased tells)
-    (c.check_bank.ensures.found found same tells) (c.check_bank.ensures.bad found same)
+    (c.in_err-version.ensures.found found is tells) (c.in_err-version.ensures.bad found is))
 
 pub returns-clause-formatted : goal.returns-clause-formatted
 returns-clause-formatted g c = λ tells.
@@ -29,19 +30,21 @@ returns-clause-formatted g c = λ tells.
     let size = (g.met.D.Flash.sound c.args.flash.now tells).size in
     let many = (g.met.D.Flash.sizes c.args.flash.now).0 in
     let keeps = subst (λ (m : Told). Keeps 0 12288 m t) (c.check_bank.ensures.content tells) (c.write_records.ensures.keeps tells) in
-    formatted (g.V.Verifier.passes c.args.verifier.now) c.args.layout.now c.in-Ok.version s t c.rows-rows.ensures.fit (omega (arith, size, many)) (c.requires.erased tells) (c.in-Ok.ensures.good tells) keeps
+    formatted (g.V.Verifier.passes c.args.verifier.now) c.args.layout.now c.in_ok-version.version s t c.rows-rows.ensures.fit (omega (arith, size, many)) (c.requires.erased tells) (c.in_ok-version.ensures.good tells) keeps
     (c.in_ok-write_records.ensures.both tells) (c.in_ok-write_records.ensures.layout tells) (c.in_ok-write_records.ensures.clean tells)
 
-pub returns-in-Err-clause-ordered : goal.returns-in-Err-clause-ordered
-returns-in-Err-clause-ordered g c = λ tells clean.
+pub returns-in_err-version-clause-ordered : goal.returns-in_err-version-clause-ordered
+returns-in_err-version-clause-ordered g c =
+    λ tells clean.
     let s = g.D.Flash.told c.args.flash.now in
     let size = (g.met.D.Flash.sound c.args.flash.now tells).size in
     let many = (g.met.D.Flash.sizes c.args.flash.now).0 in
     let keeps = subst (Keeps 4096 12288 s) (sym (c.check_bank.ensures.content tells)) (keeps_same 4096 12288 s) in
     ordered_before c.args.layout.now 4096 s (g.D.Flash.told c.check_bank.new.flash) (omega arith) (omega (arith, size, many)) (λ i above below. c.requires.erased tells i above (omega (arith, below))) clean keeps
 
-pub returns-in-Err-clause-whole : goal.returns-in-Err-clause-whole
-returns-in-Err-clause-whole g c = λ tells clean.
+pub returns-in_err-version-clause-whole : goal.returns-in_err-version-clause-whole
+returns-in_err-version-clause-whole g c =
+    λ tells clean.
     let L = c.args.layout.now in
     let passes = g.V.Verifier.passes c.args.verifier.now in
     let s = g.D.Flash.told c.args.flash.now in
@@ -57,7 +60,7 @@ returns-in_err-write_records-clause-whole g c = λ tells clean.
     let same = c.check_bank.ensures.content tells in
     let size = (g.met.D.Flash.sound c.args.flash.now tells).size in
     let many = (g.met.D.Flash.sizes c.args.flash.now).0 in
-    whole_after (g.V.Verifier.passes c.args.verifier.now) c.args.layout.now c.in-Ok.version s t c.rows-rows.ensures.fit (omega (arith, size, many)) (c.requires.erased tells) clean (c.in-Ok.ensures.good tells)
+    whole_after (g.V.Verifier.passes c.args.verifier.now) c.args.layout.now c.in_ok-version.version s t c.rows-rows.ensures.fit (omega (arith, size, many)) (c.requires.erased tells) clean (c.in_ok-version.ensures.good tells)
     (subst (λ (m : Told). Keeps 0 12288 m t) same (c.write_records.ensures.keeps tells)) (c.write_records.ensures.ordered tells (subst NothingDirty (sym same) clean))
 
 pub returns-clause-whole : goal.returns-clause-whole
@@ -67,18 +70,20 @@ returns-clause-whole g c = λ tells clean.
     let same = c.check_bank.ensures.content tells in
     let size = (g.met.D.Flash.sound c.args.flash.now tells).size in
     let many = (g.met.D.Flash.sizes c.args.flash.now).0 in
-    whole_after (g.V.Verifier.passes c.args.verifier.now) c.args.layout.now c.in-Ok.version s t c.rows-rows.ensures.fit (omega (arith, size, many)) (c.requires.erased tells) clean (c.in-Ok.ensures.good tells)
+    whole_after (g.V.Verifier.passes c.args.verifier.now) c.args.layout.now c.in_ok-version.version s t c.rows-rows.ensures.fit (omega (arith, size, many)) (c.requires.erased tells) clean (c.in_ok-version.ensures.good tells)
     (subst (λ (m : Told). Keeps 0 12288 m t) same (c.write_records.ensures.keeps tells)) (c.write_records.ensures.ordered tells (subst NothingDirty (sym same) clean))
 
 pub returns-clause-spent : goal.returns-clause-spent
-returns-clause-spent g c = c.in_ok-write_records.ensures.spent ∙ ap (lowered_by 3) c.in-Ok.ensures.arming
+returns-clause-spent g c = c.in_ok-write_records.ensures.spent ∙ ap (lowered_by 3) c.in_ok-version.ensures.arming
 
-pub returns-in-Err-clause-worn : goal.returns-in-Err-clause-worn
-returns-in-Err-clause-worn g c = λ found is.
-    subst (λ (r : Result ℕ FormatStop). OnOk (flash_result r) (g.D.Flash.arming c.check_bank.new.flash ≡ g.D.Flash.arming c.args.flash.now)) is c.in-Err.ensures.arming
+pub returns-in_err-version-clause-worn : goal.returns-in_err-version-clause-worn
+returns-in_err-version-clause-worn g c =
+    rw (handed-on c.from_residual.result c.in_err-version.field-0.0 c.from_residual.ensures.1) (λ found is.
+    subst (λ (r : Result ℕ FormatStop). OnOk (flash_result r) (g.D.Flash.arming c.check_bank.new.flash ≡ g.D.Flash.arming c.args.flash.now)) is c.in_err-version.ensures.arming)
 
-pub returns-in-Err-clause-at_most : goal.returns-in-Err-clause-at_most
-returns-in-Err-clause-at_most g c = λ tells.
+pub returns-in_err-version-clause-at_most : goal.returns-in_err-version-clause-at_most
+returns-in_err-version-clause-at_most g c =
+    λ tells.
     let s = g.D.Flash.told c.args.flash.now in
     let size = (g.met.D.Flash.sound c.args.flash.now tells).size in
     let many = (g.met.D.Flash.sizes c.args.flash.now).0 in

@@ -1,4 +1,4 @@
-use Rattle.std.proofs.Common.{◌≡◌, ◌+◌, ◌-◌, ◌*◌, ◌∙◌, ap, subst, take, length, ℕ, arith, List}
+use Rattle.std.proofs.Common.{◌≡◌, ◌+◌, ◌-◌, ◌*◌, ◌∙◌, ap, subst, take, length, arith, List}
 use Rattle.fwu_formats.specs.Manifest.{manifest_size}
 use Rattle.image_check.specs.Passed.{IsVerdictBy}
 use Rattle.std.specs.Prelude.{IsTrue, IfOk}

@@ -6,16 +6,18 @@ use Rattle.fwu_formats.specs.Package.{Entry, entry_of}
 use Rattle.fwu_model.specs.Answer.{first_image_fault}
 use Rattle.update_client.specs.Choosing.{no_row, no_entry, ChoosesOne, refused_image}
 use Rattle.update_client.proofs.Chosen.{passes_on, stops_here, none_left, last_pushed}
+use Rattle.update_client.proofs.Stopped.{handed-on}
 use Rattle.update_client.proofs.choosing.choose.Goals as goal
 
-pub returns-in-Err : goal.returns-in-Err
-returns-in-Err c =
+pub returns-in_err-choose_one : goal.returns-in_err-choose_one
+returns-in_err-choose_one c =
+    rw (handed-on c.from_residual.result c.in_err-choose_one.field-0.0 c.from_residual.ensures.1) (
     let rows = c.args.rows.now in
     let k = c.loop-k.k in
     let below : k < length rows = omega arith in
-    let here = subst (λ (r : ImageRow). ChoosesOne r c.args.toc.now (Err c.in-Err.fault))
-    (c.index-rows-k.is ∙ get_or_default rows k c.index-rows-k.result no_row below) c.in-Err.ensures in
-    ap refused_image c.loop-k.invariant.rest ∙ stops_here rows c.args.toc.now k below c.in-Err.fault here
+    let here = subst (λ (r : ImageRow). ChoosesOne r c.args.toc.now (Err c.in_err-choose_one.field-0.0))
+    (c.index-rows-k.is ∙ get_or_default rows k c.index-rows-k.result no_row below) c.in_err-choose_one.ensures in
+    ap refused_image c.loop-k.invariant.rest ∙ stops_here rows c.args.toc.now k below c.in_err-choose_one.field-0.0 here)
 
 pub loop-k-preserved : goal.loop-k-preserved
 loop-k-preserved c =
@@ -23,11 +25,11 @@ loop-k-preserved c =
     let toc = c.args.toc.now in
     let k = c.loop-k.k in
     let old = c.loop-k.entries in
-    let entry = c.in-Ok.entry in
+    let entry = c.in_ok-choose_one.field-0 in
     let below : k < length rows = omega arith in
     let before = c.loop-k.invariant in
     let here = subst (λ (r : ImageRow). ChoosesOne r toc (Ok entry)) (c.index-rows-k.is
-    ∙ get_or_default rows k c.index-rows-k.result no_row below) c.in-Ok.ensures in
+    ∙ get_or_default rows k c.index-rows-k.result no_row below) c.in_ok-choose_one.ensures in
     let pushed = c.push.ensures in
     let last : get_or c.push.new.self k no_entry ≡ entry = ap (λ (l : List Entry). get_or l k no_entry) pushed ∙ last_pushed old entry k before.count in
     let other = λ (j : ℕ) (lt : j < k). ap (λ (l : List Entry). get_or l j no_entry) pushed ∙ get_or_append_left old (entry ∷ []) no_entry j

@@ -9,6 +9,7 @@ use Rattle.update_client.specs.Pieces.{SendsImage}
 use Rattle.update_client.specs.Images.{no_entry}
 use Rattle.update_client.specs.Takes.{ImageTakes}
 use Rattle.update_client.proofs.SentImages.{images-none, images-more, images-stopped, images-done}
+use Rattle.update_client.proofs.Stopped.{handed-on}
 use Rattle.update_client.proofs.images.send_images.Goals as goal
 
 pub loop-k-init : goal.loop-k-init
@@ -35,38 +36,39 @@ loop-k-preserved g c =
     (subst (λ (e : Entry). SendsImage (g.H.Files.contents c.loop-k.files) c.args.name.now e.guid e c.args.acceptance (Ok tt) (moment c.loop-k.agent)
     (moment c.send_image.new.agent)) at
     (subst (λ (guid : List ℕ). SendsImage (g.H.Files.contents c.loop-k.files) c.args.name.now guid c.index-entries-k.result c.args.acceptance (Ok tt)
-    (moment c.loop-k.agent) (moment c.send_image.new.agent)) (ap (λ (e : Entry). e.guid) c.entry.view_is) c.in-Ok.ensures.sent)) in
+    (moment c.loop-k.agent) (moment c.send_image.new.agent)) (ap (λ (e : Entry). e.guid) c.entry.view_is) c.in_ok-send_image.ensures.sent)) in
     let takes = subst (λ (e : Entry). ImageTakes e.guid e c.args.acceptance (moment c.loop-k.agent) (g.D.Flash.arming (device c.loop-k.agent))
     (g.D.Flash.arming (device c.send_image.new.agent))) at
     (subst (λ (guid : List ℕ). ImageTakes guid c.index-entries-k.result c.args.acceptance (moment c.loop-k.agent) (g.D.Flash.arming (device c.loop-k.agent))
-    (g.D.Flash.arming (device c.send_image.new.agent))) (ap (λ (e : Entry). e.guid) c.entry.view_is) c.in-Ok.ensures.takes) in
+    (g.D.Flash.arming (device c.send_image.new.agent))) (ap (λ (e : Entry). e.guid) c.entry.view_is) c.in_ok-send_image.ensures.takes) in
     record {
       first = images-more _ _ _ _ k below _ (moment c.loop-k.agent) _ before.first image;
       takes = images-take-more _ _ _ _ k _ (moment c.loop-k.agent) _ _ _ below before.first before.takes takes;
-      spent = spent-then (Ok tt) _ _ _ _ _ _ _ _ _ _ _ _ _ before.spent c.in-Ok.ensures.spent;
-      buffer = c.in-Ok.ensures.buffer ∙ before.buffer;
-      same = c.in-Ok.ensures.same ∙ before.same;
-      unwritten = c.in-Ok.ensures.unwritten ∙ before.unwritten;
-      later = omega (arith, before.later, c.in-Ok.ensures.reads.later);
-      none = omega (arith, before.none, c.in-Ok.ensures.reads.once);
+      spent = spent-then (Ok tt) _ _ _ _ _ _ _ _ _ _ _ _ _ before.spent c.in_ok-send_image.ensures.spent;
+      buffer = c.in_ok-send_image.ensures.buffer ∙ before.buffer;
+      same = c.in_ok-send_image.ensures.same ∙ before.same;
+      unwritten = c.in_ok-send_image.ensures.unwritten ∙ before.unwritten;
+      later = omega (arith, before.later, c.in_ok-send_image.ensures.reads.later);
+      none = omega (arith, before.none, c.in_ok-send_image.ensures.reads.once);
     }
 
-pub returns-in-Err-clause-sent : goal.returns-in-Err-clause-sent
-returns-in-Err-clause-sent g c =
+pub returns-in_err-send_image-clause-sent : goal.returns-in_err-send_image-clause-sent
+returns-in_err-send_image-clause-sent g c =
+    rw (handed-on c.from_residual.result c.in_err-send_image.field-0.0 c.from_residual.ensures.1) (
     let before = c.loop-k.invariant in
     let k = c.loop-k.k in
     let below : k < length c.args.entries.now = omega (arith, c.loop-k-test.true) in
     let at : c.index-entries-k.result ≡ get_or c.args.entries.now k no_entry = c.index-entries-k.is
     ∙ get_or_default c.args.entries.now k c.index-entries-k.result no_entry below in
     let image = subst (λ (d : Option Directory). SendsImage d c.args.name.now (get_or c.args.entries.now k no_entry).guid
-    (get_or c.args.entries.now k no_entry) c.args.acceptance (Err c.in-Err.stop) (moment c.loop-k.agent)
+    (get_or c.args.entries.now k no_entry) c.args.acceptance (Err c.in_err-send_image.field-0.0) (moment c.loop-k.agent)
     (moment c.send_image.new.agent)) before.same
-    (subst (λ (e : Entry). SendsImage (g.H.Files.contents c.loop-k.files) c.args.name.now e.guid e c.args.acceptance (Err c.in-Err.stop)
+    (subst (λ (e : Entry). SendsImage (g.H.Files.contents c.loop-k.files) c.args.name.now e.guid e c.args.acceptance (Err c.in_err-send_image.field-0.0)
     (moment c.loop-k.agent) (moment c.send_image.new.agent)) at
     (subst (λ (guid : List ℕ). SendsImage (g.H.Files.contents c.loop-k.files) c.args.name.now guid c.index-entries-k.result c.args.acceptance
-    (Err c.in-Err.stop) (moment c.loop-k.agent) (moment c.send_image.new.agent))
-    (ap (λ (e : Entry). e.guid) c.entry.view_is) c.in-Err.ensures.sent)) in
-    images-stopped _ _ _ _ k below _ (moment c.loop-k.agent) _ before.first c.in-Err.stop image
+    (Err c.in_err-send_image.field-0.0) (moment c.loop-k.agent) (moment c.send_image.new.agent))
+    (ap (λ (e : Entry). e.guid) c.entry.view_is) c.in_err-send_image.ensures.sent)) in
+    images-stopped _ _ _ _ k below _ (moment c.loop-k.agent) _ before.first c.in_err-send_image.field-0.0 image)
 
 pub returns-clause-sent : goal.returns-clause-sent
 returns-clause-sent g c = images-done _ _ _ _ c.loop-k.k _ _ (omega (arith, c.loop-k-test.false, c.loop-k.auto.k-end)) c.loop-k.invariant.first
@@ -74,5 +76,7 @@ returns-clause-sent g c = images-done _ _ _ _ c.loop-k.k _ _ (omega (arith, c.lo
 pub returns-clause-takes : goal.returns-clause-takes
 returns-clause-takes g c = images-take-all c.args.entries.now c.args.acceptance c.loop-k.k _ _ _ (omega (arith, c.loop-k-test.false)) c.loop-k.invariant.takes
 
-pub returns-in-Err-clause-spent : goal.returns-in-Err-clause-spent
-returns-in-Err-clause-spent g c = spent-then _ _ _ _ _ _ _ _ _ _ _ _ _ _ c.loop-k.invariant.spent c.in-Err.ensures.spent
+pub returns-in_err-send_image-clause-spent : goal.returns-in_err-send_image-clause-spent
+returns-in_err-send_image-clause-spent g c =
+    rw (handed-on c.from_residual.result c.in_err-send_image.field-0.0 c.from_residual.ensures.1)
+    (spent-then _ _ _ _ _ _ _ _ _ _ _ _ _ _ c.loop-k.invariant.spent c.in_err-send_image.ensures.spent)

@@ -6,6 +6,7 @@ use Rattle.fwu_formats.specs.Package.{Entry}
 use Rattle.agent_calls.specs.Shown.{moment}
 use Rattle.update_client.specs.Pieces.{WritesPiece}
 use Rattle.update_client.proofs.WrittenImage.{first-none, first-more, image-stopped, image-done}
+use Rattle.update_client.proofs.Stopped.{handed-on}
 use Rattle.update_client.proofs.pieces.write_image.Goals as goal
 
 pub returns-clause-wrote : goal.returns-clause-wrote
@@ -29,31 +30,34 @@ loop-at-init g c = record {
 pub loop-at-preserved : goal.loop-at-preserved
 loop-at-preserved g c =
     let before = c.loop-at.invariant in
-    let wrote = subst (λ (d : Option Directory). WritesPiece d c.args.name.now c.args.entry.now c.loop-at.at (Ok c.in-Ok.count)
-    (moment c.loop-at.agent) (moment c.write_piece.new.agent)) before.same c.in-Ok.ensures.wrote in
+    let wrote = subst (λ (d : Option Directory). WritesPiece d c.args.name.now c.args.entry.now c.loop-at.at (Ok c.in_ok-at.field-0)
+    (moment c.loop-at.agent) (moment c.write_piece.new.agent)) before.same c.in_ok-at.ensures.wrote in
     record {
       inside = omega (arith, wrote.count.2, ap (λ (e : Entry). e.size) c.entry.view_is);
-      first = first-more _ _ _ _ _ _ _ before.first c.in-Ok.count wrote;
-      takes = first-takes-more _ _ c.args.entry.now _ c.in-Ok.count _ (moment c.loop-at.agent) _ _ _ before.first before.takes c.in-Ok.ensures.takes;
-      spent = spent-then (Ok tt) _ _ _ _ _ _ _ _ _ _ _ _ _ before.spent c.in-Ok.ensures.spent;
-      buffer = c.in-Ok.ensures.buffer ∙ before.buffer;
-      same = c.in-Ok.ensures.same ∙ before.same;
-      unwritten = c.in-Ok.ensures.unwritten ∙ before.unwritten;
-      later = omega (arith, before.later, c.in-Ok.ensures.reads.later);
-      none = omega (arith, before.none, c.in-Ok.ensures.reads.once);
+      first = first-more _ _ _ _ _ _ _ before.first c.in_ok-at.field-0 wrote;
+      takes = first-takes-more _ _ c.args.entry.now _ c.in_ok-at.field-0 _ (moment c.loop-at.agent) _ _ _ before.first before.takes c.in_ok-at.ensures.takes;
+      spent = spent-then (Ok tt) _ _ _ _ _ _ _ _ _ _ _ _ _ before.spent c.in_ok-at.ensures.spent;
+      buffer = c.in_ok-at.ensures.buffer ∙ before.buffer;
+      same = c.in_ok-at.ensures.same ∙ before.same;
+      unwritten = c.in_ok-at.ensures.unwritten ∙ before.unwritten;
+      later = omega (arith, before.later, c.in_ok-at.ensures.reads.later);
+      none = omega (arith, before.none, c.in_ok-at.ensures.reads.once);
     }
 
-pub returns-in-Err-clause-wrote : goal.returns-in-Err-clause-wrote
-returns-in-Err-clause-wrote g c =
+pub returns-in_err-at-clause-wrote : goal.returns-in_err-at-clause-wrote
+returns-in_err-at-clause-wrote g c =
+    rw (handed-on c.from_residual.result c.in_err-at.field-0.0 c.from_residual.ensures.1) (
     let before = c.loop-at.invariant in
-    let wrote = subst (λ (d : Option Directory). WritesPiece d c.args.name.now c.args.entry.now c.loop-at.at (Err c.in-Err.stop)
-    (moment c.loop-at.agent) (moment c.write_piece.new.agent)) before.same c.in-Err.ensures.wrote in
-    image-stopped _ _ _ _ _ _ _ before.first c.in-Err.stop wrote
+    let wrote = subst (λ (d : Option Directory). WritesPiece d c.args.name.now c.args.entry.now c.loop-at.at (Err c.in_err-at.field-0.0)
+    (moment c.loop-at.agent) (moment c.write_piece.new.agent)) before.same c.in_err-at.ensures.wrote in
+    image-stopped _ _ _ _ _ _ _ before.first c.in_err-at.field-0.0 wrote)
 
 pub returns-clause-takes : goal.returns-clause-takes
 returns-clause-takes g c =
     let size = ap (λ (e : Entry). e.size) c.entry.view_is in
     first-takes-all c.args.entry.now _ _ _ _ (omega (arith, c.loop-at-test.false, c.loop-at.invariant.inside, size)) c.loop-at.invariant.takes
 
-pub returns-in-Err-clause-spent : goal.returns-in-Err-clause-spent
-returns-in-Err-clause-spent g c = spent-then _ _ _ _ _ _ _ _ _ _ _ _ _ _ c.loop-at.invariant.spent c.in-Err.ensures.spent
+pub returns-in_err-at-clause-spent : goal.returns-in_err-at-clause-spent
+returns-in_err-at-clause-spent g c =
+    rw (handed-on c.from_residual.result c.in_err-at.field-0.0 c.from_residual.ensures.1)
+    (spent-then _ _ _ _ _ _ _ _ _ _ _ _ _ _ c.loop-at.invariant.spent c.in_err-at.ensures.spent)
