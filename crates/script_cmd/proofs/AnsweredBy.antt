@@ -27,6 +27,7 @@ use Rattle.script_cmd.specs.Ways as way
 use Rattle.script_cmd.specs.WaysByTable.{WayByTable}
 use Rattle.script_cmd.specs.declared.done.Note.{Note}
 use Rattle.script_cmd.specs.declared.done.Note.TheVariants as note
+use Rattle.script_cmd.proofs.Shapes.{device-of, end-of, inputs-of, world-of}
 use Rattle.script_cmd.proofs.SoakTop.{refused-soaks, soaks-with-list}
 use Rattle.script_cmd.proofs.TableWays.{not-over, table-of-boot, table-of-run, table-refused, table-starved, table-with-list}
 use Rattle.script_cmd.proofs.TopFormats.{formats-with-list, none-some, refused-formats, starved-formats}
@@ -40,13 +41,13 @@ pub whichever : (Has : (List ℕ → Bool) → Type 0) (Idle : Type 0) (P : (Lis
 whichever Has Idle P Q (inl (passes, has, p)) goes = goes passes p
 whichever Has Idle P Q (inr (idle, all)) goes = goes passes_any (all passes_any)
 
-module _ {H I : Type 0} {passes : List ℕ → Bool} {tells : Bool} {blocks : ℕ} {told : Option Directory} {left rest : Option (List ℕ)} {journal : List Turn} {status : ℕ} {said : Note} {old new : Moment} {taken takes : Option (List ℕ)} {was are : Faults} {files files_after : H} {source source_after : I} where
-  pub answered-run : (asked : Option Asked) → asked ≡ Some ask.run → Way passes tells (Some ask.run) (record { list = None; files = told; script = left }) journal status (noted said) old new taken takes was are
-      → (status ≡ 0 → IfSome rest (λ r. r ≡ [])) → ReadsInTime left rest → FailsOnce journal status was.source are.source → (IsTrue (sends_none (calls_of journal)) → files_after ≡ files)
-      → (files_after ≡ files → are.files ≡ was.files) → IsFalse (is_beyond said) → Later was are
-      → Answered passes tells blocks asked None told left rest journal status said old new taken takes was are files files_after source source_after
-  answered-run asked is went whole timely once unsent counts quiet later = subst (λ (a : Option Asked). Answered passes tells blocks a None told left rest journal status said old new taken takes was are files files_after source source_after) (sym is) (record {
-    way = λ runs. way-of-run passes tells journal status (noted said) old new taken takes (Some ask.run) told left was are refl went;
+module _ {H I : Type 0} {passes : List ℕ → Bool} {tells : Bool} {blocks : ℕ} {told : Option Directory} {left rest : Option (List ℕ)} {journal : List Turn} {status : ℕ} {said : Note} {old new : Moment} {taken_before taken_after : Option (List ℕ)} {faults_before faults_after : Faults} {files files_after : H} {source source_after : I} where
+  pub answered-run : (asked : Option Asked) → asked ≡ Some ask.run → Way passes tells (Some ask.run) (record { list = None; files = told; script = left }) (end-of journal status (noted said)) (world-of old taken_before faults_before) (world-of new taken_after faults_after)
+      → (status ≡ 0 → IfSome rest (λ r. r ≡ [])) → ReadsInTime left rest → FailsOnce journal status faults_before.source faults_after.source → (IsTrue (sends_none (calls_of journal)) → files_after ≡ files)
+      → (files_after ≡ files → faults_after.files ≡ faults_before.files) → IsFalse (is_beyond said) → Later faults_before faults_after
+      → Answered passes (device-of tells blocks) (inputs-of asked None told left) (end-of journal status said) (world-of old taken_before faults_before) (world-of new taken_after faults_after) rest files files_after source source_after
+  answered-run asked is went whole timely once unsent counts quiet later = subst (λ (a : Option Asked). Answered passes (device-of tells blocks) (inputs-of a None told left) (end-of journal status said) (world-of old taken_before faults_before) (world-of new taken_after faults_after) rest files files_after source source_after) (sym is) (record {
+    way = λ runs. way-of-run passes tells journal status (noted said) old new taken_before taken_after (Some ask.run) told left faults_before faults_after refl went;
     by_table = λ plain over. absurd (not-over (Some ask.run) (Some ask.run) plain refl refl over);
     shows = λ other. absurd cc;
     formats = λ banks rows file other. absurd cc;
@@ -65,13 +66,13 @@ module _ {H I : Type 0} {passes : List ℕ → Bool} {tells : Bool} {blocks : �
     later = later;
   })
 
-  pub answered-run-by-table : (asked : Option Asked) → asked ≡ Some ask.run_partitioned → WayByTable passes tells blocks (Some ask.run) (record { list = None; files = told; script = left }) journal status said old new taken takes was are
-      → (status ≡ 0 → IfSome rest (λ r. r ≡ [])) → ReadsInTime left rest → FailsOnce journal status was.source are.source → (IsTrue (sends_none (calls_of journal)) → files_after ≡ files)
-      → (files_after ≡ files → are.files ≡ was.files) → Later was are
-      → Answered passes tells blocks asked None told left rest journal status said old new taken takes was are files files_after source source_after
-  answered-run-by-table asked is went whole timely once unsent counts later = subst (λ (a : Option Asked). Answered passes tells blocks a None told left rest journal status said old new taken takes was are files files_after source source_after) (sym is) (record {
+  pub answered-run-by-table : (asked : Option Asked) → asked ≡ Some ask.run_partitioned → WayByTable passes (device-of tells blocks) (Some ask.run) (record { list = None; files = told; script = left }) (end-of journal status said) (world-of old taken_before faults_before) (world-of new taken_after faults_after)
+      → (status ≡ 0 → IfSome rest (λ r. r ≡ [])) → ReadsInTime left rest → FailsOnce journal status faults_before.source faults_after.source → (IsTrue (sends_none (calls_of journal)) → files_after ≡ files)
+      → (files_after ≡ files → faults_after.files ≡ faults_before.files) → Later faults_before faults_after
+      → Answered passes (device-of tells blocks) (inputs-of asked None told left) (end-of journal status said) (world-of old taken_before faults_before) (world-of new taken_after faults_after) rest files files_after source source_after
+  answered-run-by-table asked is went whole timely once unsent counts later = subst (λ (a : Option Asked). Answered passes (device-of tells blocks) (inputs-of a None told left) (end-of journal status said) (world-of old taken_before faults_before) (world-of new taken_after faults_after) rest files files_after source source_after) (sym is) (record {
     way = λ runs. absurd runs;
-    by_table = λ plain over. table-of-run passes tells blocks journal status said old new taken takes (Some ask.run_partitioned) plain told left was are refl over went;
+    by_table = λ plain over. table-of-run passes tells blocks journal status said old new taken_before taken_after (Some ask.run_partitioned) plain told left faults_before faults_after refl over went;
     shows = λ other. absurd cc;
     formats = λ banks rows file other. absurd cc;
     soaks = λ seed rounds other. absurd cc;
@@ -90,11 +91,11 @@ module _ {H I : Type 0} {passes : List ℕ → Bool} {tells : Bool} {blocks : �
   })
 
   -- these read neither the source nor a file
-  pub answered-boot : (asked : Option Asked) → asked ≡ Some ask.boot → Way passes tells (Some ask.boot) (record { list = None; files = told; script = Some (codes "boot\n") }) journal status (noted said) old new taken takes was are
-      → files_after ≡ files → are.files ≡ was.files → source_after ≡ source → IsFalse (is_beyond said) → Later was are
-      → Answered passes tells blocks asked None told left rest journal status said old new taken takes was are files files_after source source_after
-  answered-boot asked is went kept counted stays quiet later = subst (λ (a : Option Asked). Answered passes tells blocks a None told left rest journal status said old new taken takes was are files files_after source source_after) (sym is) (record {
-    way = λ runs. way-of-boot passes tells journal status (noted said) old new taken takes (Some ask.boot) told left was are refl went;
+  pub answered-boot : (asked : Option Asked) → asked ≡ Some ask.boot → Way passes tells (Some ask.boot) (record { list = None; files = told; script = Some (codes "boot\n") }) (end-of journal status (noted said)) (world-of old taken_before faults_before) (world-of new taken_after faults_after)
+      → files_after ≡ files → faults_after.files ≡ faults_before.files → source_after ≡ source → IsFalse (is_beyond said) → Later faults_before faults_after
+      → Answered passes (device-of tells blocks) (inputs-of asked None told left) (end-of journal status said) (world-of old taken_before faults_before) (world-of new taken_after faults_after) rest files files_after source source_after
+  answered-boot asked is went kept counted stays quiet later = subst (λ (a : Option Asked). Answered passes (device-of tells blocks) (inputs-of a None told left) (end-of journal status said) (world-of old taken_before faults_before) (world-of new taken_after faults_after) rest files files_after source source_after) (sym is) (record {
+    way = λ runs. way-of-boot passes tells journal status (noted said) old new taken_before taken_after (Some ask.boot) told left faults_before faults_after refl went;
     by_table = λ plain over. absurd (not-over (Some ask.boot) (Some ask.boot) plain refl refl over);
     shows = λ other. absurd cc;
     formats = λ banks rows file other. absurd cc;
@@ -114,12 +115,12 @@ module _ {H I : Type 0} {passes : List ℕ → Bool} {tells : Bool} {blocks : �
   })
 
   pub answered-boot-by-table : (asked : Option Asked) → asked ≡ Some ask.boot_partitioned
-      → WayByTable passes tells blocks (Some ask.boot) (record { list = None; files = told; script = Some (codes "boot\n") }) journal status said old new taken takes was are
-      → files_after ≡ files → are.files ≡ was.files → source_after ≡ source → Later was are
-      → Answered passes tells blocks asked None told left rest journal status said old new taken takes was are files files_after source source_after
-  answered-boot-by-table asked is went kept counted stays later = subst (λ (a : Option Asked). Answered passes tells blocks a None told left rest journal status said old new taken takes was are files files_after source source_after) (sym is) (record {
+      → WayByTable passes (device-of tells blocks) (Some ask.boot) (record { list = None; files = told; script = Some (codes "boot\n") }) (end-of journal status said) (world-of old taken_before faults_before) (world-of new taken_after faults_after)
+      → files_after ≡ files → faults_after.files ≡ faults_before.files → source_after ≡ source → Later faults_before faults_after
+      → Answered passes (device-of tells blocks) (inputs-of asked None told left) (end-of journal status said) (world-of old taken_before faults_before) (world-of new taken_after faults_after) rest files files_after source source_after
+  answered-boot-by-table asked is went kept counted stays later = subst (λ (a : Option Asked). Answered passes (device-of tells blocks) (inputs-of a None told left) (end-of journal status said) (world-of old taken_before faults_before) (world-of new taken_after faults_after) rest files files_after source source_after) (sym is) (record {
     way = λ runs. absurd runs;
-    by_table = λ plain over. table-of-boot passes tells blocks journal status said old new taken takes (Some ask.boot_partitioned) plain told left was are refl over went;
+    by_table = λ plain over. table-of-boot passes tells blocks journal status said old new taken_before taken_after (Some ask.boot_partitioned) plain told left faults_before faults_after refl over went;
     shows = λ other. absurd cc;
     formats = λ banks rows file other. absurd cc;
     soaks = λ seed rounds other. absurd cc;
@@ -137,10 +138,10 @@ module _ {H I : Type 0} {passes : List ℕ → Bool} {tells : Bool} {blocks : �
     later = later;
   })
 
-  pub answered-show : (asked : Option Asked) → asked ≡ Some ask.show → ShowedBy tells (record { list = None; files = told; script = left }) old new status (noted said) journal taken takes was are
-      → (status ≡ 0 → IsTrue new.power) → files_after ≡ files → are.files ≡ was.files → source_after ≡ source → IsFalse (is_beyond said) → Later was are
-      → Answered passes tells blocks asked None told left rest journal status said old new taken takes was are files files_after source source_after
-  answered-show asked is showed on kept counted stays quiet later = subst (λ (a : Option Asked). Answered passes tells blocks a None told left rest journal status said old new taken takes was are files files_after source source_after) (sym is) (record {
+  pub answered-show : (asked : Option Asked) → asked ≡ Some ask.show → ShowedBy tells (record { list = None; files = told; script = left }) (end-of journal status (noted said)) (world-of old taken_before faults_before) (world-of new taken_after faults_after)
+      → (status ≡ 0 → IsTrue new.power) → files_after ≡ files → faults_after.files ≡ faults_before.files → source_after ≡ source → IsFalse (is_beyond said) → Later faults_before faults_after
+      → Answered passes (device-of tells blocks) (inputs-of asked None told left) (end-of journal status said) (world-of old taken_before faults_before) (world-of new taken_after faults_after) rest files files_after source source_after
+  answered-show asked is showed on kept counted stays quiet later = subst (λ (a : Option Asked). Answered passes (device-of tells blocks) (inputs-of a None told left) (end-of journal status said) (world-of old taken_before faults_before) (world-of new taken_after faults_after) rest files files_after source source_after) (sym is) (record {
     way = λ runs. absurd runs;
     by_table = λ plain over. absurd (not-over (Some ask.show) (Some ask.show) plain refl refl over);
     shows = λ same. showed;
@@ -162,10 +163,10 @@ module _ {H I : Type 0} {passes : List ℕ → Bool} {tells : Bool} {blocks : �
 
   pub answered-format : (asked : Option Asked) (b : ℕ) (items : List ImageRow) (f : List ℕ) → asked ≡ Some (ask.format b items f)
       → ((banks : ℕ) (rows : List ImageRow) (file : List ℕ) → Some (ask.format b items f) ≡ Some (ask.format banks rows file)
-      → FormattedBy passes tells (record { list = None; files = told; script = left }) file (record { banks = banks; rows = rows }) blocks old new status said journal taken takes was are)
-      → (status ≡ 0 → IsTrue new.power) → source_after ≡ source → Later was are
-      → Answered passes tells blocks asked None told left rest journal status said old new taken takes was are files files_after source source_after
-  answered-format asked b items f is formatted on stays later = subst (λ (a : Option Asked). Answered passes tells blocks a None told left rest journal status said old new taken takes was are files files_after source source_after) (sym is) (record {
+      → FormattedBy passes (device-of tells blocks) (record { list = None; files = told; script = left }) file (record { banks = banks; rows = rows }) (end-of journal status said) (world-of old taken_before faults_before) (world-of new taken_after faults_after))
+      → (status ≡ 0 → IsTrue new.power) → source_after ≡ source → Later faults_before faults_after
+      → Answered passes (device-of tells blocks) (inputs-of asked None told left) (end-of journal status said) (world-of old taken_before faults_before) (world-of new taken_after faults_after) rest files files_after source source_after
+  answered-format asked b items f is formatted on stays later = subst (λ (a : Option Asked). Answered passes (device-of tells blocks) (inputs-of a None told left) (end-of journal status said) (world-of old taken_before faults_before) (world-of new taken_after faults_after) rest files files_after source source_after) (sym is) (record {
     way = λ runs. absurd runs;
     by_table = λ plain over. absurd (not-over (Some (ask.format b items f)) (Some (ask.format b items f)) plain refl refl over);
     shows = λ other. absurd cc;
@@ -187,10 +188,10 @@ module _ {H I : Type 0} {passes : List ℕ → Bool} {tells : Bool} {blocks : �
 
   pub answered-soak : (asked : Option Asked) (a b : ℕ) → asked ≡ Some (ask.soak a b)
       → ((seed rounds : ℕ) → Some (ask.soak a b) ≡ Some (ask.soak seed rounds)
-      → SoakWay tells (record { list = None; files = told; script = left }) seed rounds blocks journal status said old new taken takes was are)
-      → files_after ≡ files → are.files ≡ was.files → source_after ≡ source → Later was are
-      → Answered passes tells blocks asked None told left rest journal status said old new taken takes was are files files_after source source_after
-  answered-soak asked a b is soaked kept counted stays later = subst (λ (x : Option Asked). Answered passes tells blocks x None told left rest journal status said old new taken takes was are files files_after source source_after) (sym is) (record {
+      → SoakWay (device-of tells blocks) (record { list = None; files = told; script = left }) seed rounds (end-of journal status said) (world-of old taken_before faults_before) (world-of new taken_after faults_after))
+      → files_after ≡ files → faults_after.files ≡ faults_before.files → source_after ≡ source → Later faults_before faults_after
+      → Answered passes (device-of tells blocks) (inputs-of asked None told left) (end-of journal status said) (world-of old taken_before faults_before) (world-of new taken_after faults_after) rest files files_after source source_after
+  answered-soak asked a b is soaked kept counted stays later = subst (λ (x : Option Asked). Answered passes (device-of tells blocks) (inputs-of x None told left) (end-of journal status said) (world-of old taken_before faults_before) (world-of new taken_after faults_after) rest files files_after source source_after) (sym is) (record {
     way = λ runs. absurd runs;
     by_table = λ plain over. absurd (not-over (Some (ask.soak a b)) (Some (ask.soak a b)) plain refl refl over);
     shows = λ other. absurd cc;
@@ -211,22 +212,22 @@ module _ {H I : Type 0} {passes : List ℕ → Bool} {tells : Bool} {blocks : �
   })
 
   -- words that ask for nothing, behind a list or without one
-  pub answered-usage : (asked : Option Asked) (list : Option (List ℕ)) → asked ≡ None → HasGoodList list told → journal ≡ [] → new ≡ old → said ≡ note.Nothing → Prints usage_line 1 status taken takes was.sink are.sink
-      → files_after ≡ files → are.files ≡ was.files → source_after ≡ source → ReadsInTime left rest → are.source ≡ was.source → Later was are
-      → Answered passes tells blocks asked list told left rest journal status said old new taken takes was are files files_after source source_after
+  pub answered-usage : (asked : Option Asked) (list : Option (List ℕ)) → asked ≡ None → HasGoodList list told → journal ≡ [] → new ≡ old → said ≡ note.Nothing → Prints usage_line 1 status taken_before taken_after faults_before.sink faults_after.sink
+      → files_after ≡ files → faults_after.files ≡ faults_before.files → source_after ≡ source → ReadsInTime left rest → faults_after.source ≡ faults_before.source → Later faults_before faults_after
+      → Answered passes (device-of tells blocks) (inputs-of asked list told left) (end-of journal status said) (world-of old taken_before faults_before) (world-of new taken_after faults_after) rest files files_after source source_after
   answered-usage asked list words good none same is prints kept counted stays timely once later = record {
-    way = λ runs. refused-by passes tells journal status (noted said) old new taken takes asked (record { list = list; files = told; script = script_asked (plainly asked) left }) was are 1 usage_line model_note.Nothing none same (ap noted is) (way.usage good words) prints;
+    way = λ runs. refused-by passes tells journal status (noted said) old new taken_before taken_after asked (record { list = list; files = told; script = script_asked (plainly asked) left }) faults_before faults_after 1 usage_line model_note.Nothing none same (ap noted is) (way.usage good words) prints;
     by_table = λ plain over. absurd (not-over asked None plain words refl over);
     shows = λ other. absurd (none-some ask.show asked words other);
     formats = λ banks rows file other. absurd (none-some (ask.format banks rows file) asked words other);
     soaks = λ seed rounds other. absurd (none-some (ask.soak seed rounds) asked words other);
     read_to_end = λ zero other. absurd (none-some ask.run asked words other);
     read_to_end_by_table = λ zero other. absurd (none-some ask.run_partitioned asked words other);
-    power = λ leaves zero. absurd (not-done usage_line 1 status taken takes was.sink are.sink (λ one. absurd (omega arith)) prints zero);
+    power = λ leaves zero. absurd (not-done usage_line 1 status taken_before taken_after faults_before.sink faults_after.sink (λ one. absurd (omega arith)) prints zero);
     source = λ other. stays;
     list_first = λ lacks. stays;
     in_time = λ runs. timely;
-    source_count = λ runs. none-fails journal status was.source are.source once;
+    source_count = λ runs. none-fails journal status faults_before.source faults_after.source once;
     files = λ unlisted other. kept;
     unsent = λ unlisted other unsent. kept;
     list_alone = λ other unsent whole. counted;
@@ -235,15 +236,15 @@ module _ {H I : Type 0} {passes : List ℕ → Bool} {tells : Bool} {blocks : �
   }
 
   -- nothing was done for want of memory, whatever is asked for
-  pub answered-starved : (asked : Option Asked) (list : Option (List ℕ)) → journal ≡ [] → new ≡ old → old.armed ≡ None → status ≡ 9 → said ≡ note.Nothing → takes ≡ taken → (list ≡ None → files_after ≡ files)
-      → source_after ≡ source → ReadsInTime left rest → are.source ≡ was.source → Later was are
-      → Answered passes tells blocks asked list told left rest journal status said old new taken takes was are files files_after source source_after
+  pub answered-starved : (asked : Option Asked) (list : Option (List ℕ)) → journal ≡ [] → new ≡ old → old.armed ≡ None → status ≡ 9 → said ≡ note.Nothing → taken_after ≡ taken_before → (list ≡ None → files_after ≡ files)
+      → source_after ≡ source → ReadsInTime left rest → faults_after.source ≡ faults_before.source → Later faults_before faults_after
+      → Answered passes (device-of tells blocks) (inputs-of asked list told left) (end-of journal status said) (world-of old taken_before faults_before) (world-of new taken_after faults_after) rest files files_after source source_after
   answered-starved asked list none same unarmed nine is stuck kept stays timely once later = record {
     way = λ runs. way.starved none same nine (ap noted is) stuck;
-    by_table = λ plain over. table-starved passes tells blocks journal status said old new taken takes (Some plain) (record { list = list; files = told; script = script_asked (plainly (Some plain)) left }) was are none same nine is stuck;
-    shows = λ words. starved-shows tells (record { list = list; files = told; script = left }) old new status (noted said) journal taken takes was are same unarmed none nine (ap noted is) stuck;
+    by_table = λ plain over. table-starved passes tells blocks journal status said old new taken_before taken_after (Some plain) (record { list = list; files = told; script = script_asked (plainly (Some plain)) left }) faults_before faults_after none same nine is stuck;
+    shows = λ words. starved-shows tells (record { list = list; files = told; script = left }) old new status (noted said) journal taken_before taken_after faults_before faults_after same unarmed none nine (ap noted is) stuck;
     formats = λ banks rows file words.
-        starved-formats passes tells (record { list = list; files = told; script = left }) file (record { banks = banks; rows = rows }) blocks old new status said journal taken takes was are same unarmed none is nine stuck;
+        starved-formats passes tells (record { list = list; files = told; script = left }) file (record { banks = banks; rows = rows }) blocks old new status said journal taken_before taken_after faults_before faults_after same unarmed none is nine stuck;
     soaks = λ seed rounds words. soak.starved none same nine is stuck;
     read_to_end = λ zero words. absurd (omega (arith, zero, nine));
     read_to_end_by_table = λ zero words. absurd (omega (arith, zero, nine));
@@ -251,7 +252,7 @@ module _ {H I : Type 0} {passes : List ℕ → Bool} {tells : Bool} {blocks : �
     source = λ other. stays;
     list_first = λ lacks. stays;
     in_time = λ runs. timely;
-    source_count = λ runs. none-fails journal status was.source are.source once;
+    source_count = λ runs. none-fails journal status faults_before.source faults_after.source once;
     files = λ unlisted other. kept unlisted;
     unsent = λ unlisted other unsent. kept unlisted;
     list_alone = λ other unsent whole. absurd (false≢true (sym whole ∙ ap may_fail_before nine));
@@ -261,32 +262,32 @@ module _ {H I : Type 0} {passes : List ℕ → Bool} {tells : Bool} {blocks : �
 
   -- a list was refused, whatever is asked for
   pub answered-refused : (asked : Option Asked) (name : List ℕ) (planned : ℕ) (line : List ℕ) (met : Note)
-      → ((script : Option (List ℕ)) (a : Option Asked) → Refuses a (record { list = Some name; files = told; script = script }) was are planned (noted met) line) → planned ≢ 0 → IsFalse (is_beyond met)
-      → journal ≡ [] → new ≡ old → old.armed ≡ None → said ≡ met → Prints line planned status taken takes was.sink are.sink → (IsFalse (may_fail_before status) → are.files ≡ was.files)
-      → source_after ≡ source → ReadsInTime left rest → are.source ≡ was.source → Later was are
-      → Answered passes tells blocks asked (Some name) told left rest journal status said old new taken takes was are files files_after source source_after
+      → ((script : Option (List ℕ)) (a : Option Asked) → Refuses a (record { list = Some name; files = told; script = script }) faults_before faults_after planned (noted met) line) → planned ≢ 0 → IsFalse (is_beyond met)
+      → journal ≡ [] → new ≡ old → old.armed ≡ None → said ≡ met → Prints line planned status taken_before taken_after faults_before.sink faults_after.sink → (IsFalse (may_fail_before status) → faults_after.files ≡ faults_before.files)
+      → source_after ≡ source → ReadsInTime left rest → faults_after.source ≡ faults_before.source → Later faults_before faults_after
+      → Answered passes (device-of tells blocks) (inputs-of asked (Some name) told left) (end-of journal status said) (world-of old taken_before faults_before) (world-of new taken_after faults_after) rest files files_after source source_after
   answered-refused asked name planned line met why some beyond none same unarmed is prints counted stays timely once later = record {
     way = λ runs.
-        refused-by passes tells journal status (noted said) old new taken takes asked (record { list = Some name; files = told; script = script_asked (plainly asked) left }) was are planned line (noted met) none same (ap noted is)
+        refused-by passes tells journal status (noted said) old new taken_before taken_after asked (record { list = Some name; files = told; script = script_asked (plainly asked) left }) faults_before faults_after planned line (noted met) none same (ap noted is)
         (why (script_asked (plainly asked) left) asked) prints;
     by_table = λ plain over.
-        table-refused passes tells blocks journal status said old new taken takes (Some plain) (record { list = Some name; files = told; script = script_asked (plainly (Some plain)) left }) was are planned line met none same is some beyond
+        table-refused passes tells blocks journal status said old new taken_before taken_after (Some plain) (record { list = Some name; files = told; script = script_asked (plainly (Some plain)) left }) faults_before faults_after planned line met none same is some beyond
         (why (script_asked (plainly (Some plain)) left) (Some plain)) prints;
     shows = λ words.
-        refused-shows tells (record { list = Some name; files = told; script = left }) old new status (noted said) journal taken takes was are planned line (noted met) same unarmed none (ap noted is) (why left (Some ask.show)) prints;
+        refused-shows tells (record { list = Some name; files = told; script = left }) old new status (noted said) journal taken_before taken_after faults_before faults_after planned line (noted met) same unarmed none (ap noted is) (why left (Some ask.show)) prints;
     formats = λ banks rows file words.
-        refused-formats passes tells (record { list = Some name; files = told; script = left }) file (record { banks = banks; rows = rows }) blocks old new status said journal taken takes was are planned line (noted met) same unarmed none
+        refused-formats passes tells (record { list = Some name; files = told; script = left }) file (record { banks = banks; rows = rows }) blocks old new status said journal taken_before taken_after faults_before faults_after planned line (noted met) same unarmed none
         (ap is_beyond is ∙ beyond) (ap noted is) (why left (Some (ask.format banks rows file))) prints;
     soaks = λ seed rounds words.
-        refused-soaks tells (record { list = Some name; files = told; script = left }) seed rounds blocks journal status said old new taken takes was are planned line (noted met) none same (ap is_beyond is ∙ beyond) (ap noted is)
+        refused-soaks tells (record { list = Some name; files = told; script = left }) seed rounds blocks journal status said old new taken_before taken_after faults_before faults_after planned line (noted met) none same (ap is_beyond is ∙ beyond) (ap noted is)
         (why left (Some (ask.soak seed rounds))) prints;
-    read_to_end = λ zero words. absurd (not-done line planned status taken takes was.sink are.sink some prints zero);
-    read_to_end_by_table = λ zero words. absurd (not-done line planned status taken takes was.sink are.sink some prints zero);
-    power = λ leaves zero. absurd (not-done line planned status taken takes was.sink are.sink some prints zero);
+    read_to_end = λ zero words. absurd (not-done line planned status taken_before taken_after faults_before.sink faults_after.sink some prints zero);
+    read_to_end_by_table = λ zero words. absurd (not-done line planned status taken_before taken_after faults_before.sink faults_after.sink some prints zero);
+    power = λ leaves zero. absurd (not-done line planned status taken_before taken_after faults_before.sink faults_after.sink some prints zero);
     source = λ other. stays;
     list_first = λ lacks. stays;
     in_time = λ runs. timely;
-    source_count = λ runs. none-fails journal status was.source are.source once;
+    source_count = λ runs. none-fails journal status faults_before.source faults_after.source once;
     files = λ unlisted other. absurd cc;
     unsent = λ unlisted other unsent. absurd cc;
     list_alone = λ other unsent whole. counted whole;
@@ -296,26 +297,26 @@ module _ {H I : Type 0} {passes : List ℕ → Bool} {tells : Bool} {blocks : �
 
   -- what is done without a list is done behind one that was read and is one
   pub answered-with-list : (asked : Option Asked) (name : List ℕ) (mid_told : Option Directory) (mid : Faults) (mid_files : H)
-      → Answered passes tells blocks asked None mid_told left rest journal status said old new taken takes mid are mid_files files_after source source_after → mid_told ≡ told → HasGoodList (Some name) told
-      → mid.files ≡ was.files → was.source ≡ mid.source → was.sink ≡ mid.sink → old.armed ≡ None
-      → Answered passes tells blocks asked (Some name) told left rest journal status said old new taken takes was are files files_after source source_after
+      → Answered passes (device-of tells blocks) (inputs-of asked None mid_told left) (end-of journal status said) (world-of old taken_before mid) (world-of new taken_after faults_after) rest mid_files files_after source source_after → mid_told ≡ told → HasGoodList (Some name) told
+      → mid.files ≡ faults_before.files → faults_before.source ≡ mid.source → faults_before.sink ≡ mid.sink → old.armed ≡ None
+      → Answered passes (device-of tells blocks) (inputs-of asked (Some name) told left) (end-of journal status said) (world-of old taken_before faults_before) (world-of new taken_after faults_after) rest files files_after source source_after
   answered-with-list asked name mid_told mid mid_files a same good counted at_source at_sink unarmed =
-      let later : was.files ≤ mid.files = omega arith in
+      let later : faults_before.files ≤ mid.files = omega arith in
       record {
-        way = λ runs. with-list passes tells journal status (noted said) old new taken takes asked mid_told told name (script_asked (plainly asked) left) was mid are same good later at_source at_sink (a.way runs);
+        way = λ runs. with-list passes tells journal status (noted said) old new taken_before taken_after asked mid_told told name (script_asked (plainly asked) left) faults_before mid faults_after same good later at_source at_sink (a.way runs);
         by_table = λ plain over.
-            table-with-list passes tells blocks journal status said old new taken takes (Some plain) mid_told told name (script_asked (plainly (Some plain)) left) was mid are same good later at_source at_sink (a.by_table plain over);
-        shows = λ words. shows-with-list tells mid_told told name left old new status (noted said) journal taken takes was mid are good later at_source at_sink (a.shows words);
+            table-with-list passes tells blocks journal status said old new taken_before taken_after (Some plain) mid_told told name (script_asked (plainly (Some plain)) left) faults_before mid faults_after same good later at_source at_sink (a.by_table plain over);
+        shows = λ words. shows-with-list tells mid_told told name left old new status (noted said) journal taken_before taken_after faults_before mid faults_after good later at_source at_sink (a.shows words);
         formats = λ banks rows file words.
-            formats-with-list passes tells mid_told told name left file (record { banks = banks; rows = rows }) blocks old new status said journal taken takes was mid are same good counted at_source at_sink unarmed (a.formats banks rows file words);
-        soaks = λ seed rounds words. soaks-with-list tells mid_told told name left seed rounds blocks journal status said old new taken takes was mid are good later at_source at_sink (a.soaks seed rounds words);
+            formats-with-list passes tells mid_told told name left file (record { banks = banks; rows = rows }) blocks old new status said journal taken_before taken_after faults_before mid faults_after same good counted at_source at_sink unarmed (a.formats banks rows file words);
+        soaks = λ seed rounds words. soaks-with-list tells mid_told told name left seed rounds blocks journal status said old new taken_before taken_after faults_before mid faults_after good later at_source at_sink (a.soaks seed rounds words);
         read_to_end = a.read_to_end;
         read_to_end_by_table = a.read_to_end_by_table;
         power = a.power;
         source = a.source;
         list_first = λ lacks. absurd (lacks good);
         in_time = a.in_time;
-        source_count = λ runs. subst (λ (n : ℕ). FailsOnce journal status n are.source) (sym at_source) (a.source_count runs);
+        source_count = λ runs. subst (λ (n : ℕ). FailsOnce journal status n faults_after.source) (sym at_source) (a.source_count runs);
         files = λ unlisted other. absurd cc;
         unsent = λ unlisted other unsent. absurd cc;
         list_alone = λ other unsent whole. a.list_alone other unsent whole ∙ counted;
@@ -329,8 +330,8 @@ module _ {H I : Type 0} {passes : List ℕ → Bool} {tells : Bool} {blocks : �
 
   -- by equal words
   pub answered-at : (asked other : Option Asked) (list named : Option (List ℕ)) → asked ≡ other → list ≡ named
-      → Answered passes tells blocks other named told left rest journal status said old new taken takes was are files files_after source source_after
-      → Answered passes tells blocks asked list told left rest journal status said old new taken takes was are files files_after source source_after
+      → Answered passes (device-of tells blocks) (inputs-of other named told left) (end-of journal status said) (world-of old taken_before faults_before) (world-of new taken_after faults_after) rest files files_after source source_after
+      → Answered passes (device-of tells blocks) (inputs-of asked list told left) (end-of journal status said) (world-of old taken_before faults_before) (world-of new taken_after faults_after) rest files files_after source source_after
   answered-at asked other list named words is answered =
-      subst (λ (l : Option (List ℕ)). Answered passes tells blocks asked l told left rest journal status said old new taken takes was are files files_after source source_after) (sym is)
-      (subst (λ (x : Option Asked). Answered passes tells blocks x named told left rest journal status said old new taken takes was are files files_after source source_after) (sym words) answered)
+      subst (λ (l : Option (List ℕ)). Answered passes (device-of tells blocks) (inputs-of asked l told left) (end-of journal status said) (world-of old taken_before faults_before) (world-of new taken_after faults_after) rest files files_after source source_after) (sym is)
+      (subst (λ (x : Option Asked). Answered passes (device-of tells blocks) (inputs-of x named told left) (end-of journal status said) (world-of old taken_before faults_before) (world-of new taken_after faults_after) rest files files_after source source_after) (sym words) answered)

@@ -20,9 +20,9 @@ stop-cause r stop before mid after is idle spends reaches =
     (subst (λ (x : Result Formatted FormatStop). Spends (flash_result x) mid after) is spends)
     (subst (λ (x : Result Formatted FormatStop). ReachesNone (flash_result x) mid after) is reaches)
 
-pub as-planned : (piece other : List ℕ) (planned plan status : ℕ) (old new : Option (List ℕ)) (was are : ℕ) → other ≡ piece → plan ≡ planned → Prints other plan status old new was are → Prints piece planned status old new was are
-as-planned piece other planned plan status old new was are same is p =
-    subst (λ (n : ℕ). Prints piece n status old new was are) is (subst (λ (l : List ℕ). Prints l plan status old new was are) same p)
+pub as-planned : (piece other : List ℕ) (planned plan status : ℕ) (old new : Option (List ℕ)) (faults_before faults_after : ℕ) → other ≡ piece → plan ≡ planned → Prints other plan status old new faults_before faults_after → Prints piece planned status old new faults_before faults_after
+as-planned piece other planned plan status old new faults_before faults_after same is p =
+    subst (λ (n : ℕ). Prints piece n status old new faults_before faults_after) is (subst (λ (l : List ℕ). Prints l plan status old new faults_before faults_after) same p)
 
 -- what was formatted was stopped by no flash
 pub format-done : (r : Result Formatted FormatStop) → format_status r ≡ 0 → IsTrue (is_ok (flash_result r))

@@ -1,4 +1,5 @@
 pub mod ShowFlash
+pub mod Shapes
 pub mod PromiseWords
 pub mod PromiseTurns
 pub mod PromiseWritten

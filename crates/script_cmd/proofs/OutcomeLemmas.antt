@@ -15,17 +15,17 @@ same-name : (x y : List ℕ) → ◌≡◌ {A = Option (List ℕ)} (Some x) (Som
 same-name x y e = cc
 
 pub nothing-is-passed-over : NothingIsPassedOver
-nothing-is-passed-over passes tells bytes calls old new taken takes reads p = sym ((p.holds.ends.does calls reads).all_calls refl)
+nothing-is-passed-over passes tells inputs end old new bytes calls reads p = sym ((p.ends.does calls reads).all_calls refl)
 
 pub nothing-is-touched : NothingIsTouched
-nothing-is-touched passes tells asked source status old new taken takes p = p.holds.device.untouched refl
+nothing-is-touched passes tells inputs end old new p = p.device.untouched refl
 
 pub nothing-is-armed : NothingIsArmed
-nothing-is-armed passes tells asked source journal status old new taken takes p = p.holds.ends.made
+nothing-is-armed passes tells inputs end old new p = p.ends.made
 
 pub nothing-follows-the-sink : NothingFollowsTheSink
-nothing-follows-the-sink passes tells asked source journal old new before takes some p =
-    let w = p.holds.wrote before refl in (
+nothing-follows-the-sink passes tells inputs end old new before some p =
+    let w = p.wrote before refl in (
       w.0,
       w.1,
       elim (w.2.sink_fault refl) [ inl stops ↦ stops | inr alone ↦ absurd (some alone.no_turns) ],
@@ -37,36 +37,36 @@ first [] = 0
 first (b ∷ bytes) = b
 
 -- which begins with `u`
-no-usage : (asked : Option Asked) (g : Given) (was are : Faults) (planned : ℕ) (noted : Note) (line : List ℕ) → Refuses asked g was are planned noted line → first line ≡ 117 → asked ≡ None
-no-usage asked g was are planned noted line (usage good is) e = is
-no-usage asked g was are planned noted line (not_read good run rose) e = let other : ◌≡◌ {A = ℕ} 114 117 = e in absurd (omega arith)
-no-usage asked g was are planned noted line (list_not_read some why) e = let other : ◌≡◌ {A = ℕ} 114 117 = e in absurd (omega arith)
-no-usage asked g was are planned noted line (too_long good run long) e = let other : ◌≡◌ {A = ℕ} 116 117 = e in absurd (omega arith)
-no-usage asked g was are planned noted line (bad_script n good asks short bad) e = let other : ◌≡◌ {A = ℕ} 98 117 = e in absurd (omega arith)
-no-usage asked g was are planned noted line (bad_list n some there bad) e = let other : ◌≡◌ {A = ℕ} 98 117 = e in absurd (omega arith)
+no-usage : (asked : Option Asked) (g : Given) (faults_before faults_after : Faults) (planned : ℕ) (noted : Note) (line : List ℕ) → Refuses asked g faults_before faults_after planned noted line → first line ≡ 117 → asked ≡ None
+no-usage asked g faults_before faults_after planned noted line (usage good is) e = is
+no-usage asked g faults_before faults_after planned noted line (not_read good run rose) e = let other : ◌≡◌ {A = ℕ} 114 117 = e in absurd (omega arith)
+no-usage asked g faults_before faults_after planned noted line (list_not_read some why) e = let other : ◌≡◌ {A = ℕ} 114 117 = e in absurd (omega arith)
+no-usage asked g faults_before faults_after planned noted line (too_long good run long) e = let other : ◌≡◌ {A = ℕ} 116 117 = e in absurd (omega arith)
+no-usage asked g faults_before faults_after planned noted line (bad_script n good asks short bad) e = let other : ◌≡◌ {A = ℕ} 98 117 = e in absurd (omega arith)
+no-usage asked g faults_before faults_after planned noted line (bad_list n some there bad) e = let other : ◌≡◌ {A = ℕ} 98 117 = e in absurd (omega arith)
 
 none-stops : (w : List ℕ) → StopsInLast [] w → ⊥
 none-stops w stops = let len = ap length stops.journal_is in omega (arith, len, length-append stops.earlier (stops.last ∷ []))
 
 pub usage-line-is-of-usage : UsageLineIsOfUsage
-usage-line-is-of-usage passes tells asked source old new before p =
-    let w = p.holds.wrote before refl in
+usage-line-is-of-usage passes tells inputs end old new before p =
+    let w = p.wrote before refl in
     let is : usage_line ≡ w.0 = append_cancel_left before usage_line w.0 (same-name (before ++ usage_line) (before ++ w.0) w.1) in
     elim (w.2.sink_fault refl) [
       | inl stops ↦ absurd (none-stops w.0 stops)
       | inr alone ↦
-          no-usage asked _ p.faults_before p.faults_after alone.planned p.noted alone.line alone.alone
+          no-usage inputs.asked _ old.faults new.faults alone.planned end.noted alone.line alone.alone
           (ap first (sym alone.front.1) ∙ ap (λ (l : List ℕ). first (l ++ alone.front.0)) (sym is))
     ]
 
 pub no-metadata-is-none : NoMetadataIsNone
-no-metadata-is-none passes asked source t turns status old new taken takes clean boots is p =
-    let h = subst (BootsFrom passes old.told.now) is (p.holds.first refl clean t refl boots) in
+no-metadata-is-none passes inputs end old new t turns clean boots is p =
+    let h = subst (BootsFrom passes old.flash.told.now) is (p.first refl clean t refl boots) in
     (h.0, h.1, h.2)
 
 pub usage-reads-no-source : UsageReadsNoSource
-usage-reads-no-source passes tells source old new taken takes p =
-    elim (p.holds.ends.not_read refl refl) [ inl source ↦ absurd (false≢true source.0) | inr list ↦ list ]
+usage-reads-no-source passes tells inputs end old new p =
+    elim (p.ends.not_read refl refl) [ inl source ↦ absurd (false≢true source.0) | inr list ↦ list ]
 
 pub missing-list-is-none : MissingListIsNone
 missing-list-is-none name files passes lacks has =

@@ -56,5 +56,5 @@ module _ (passes : List ℕ → Bool) (tells : Bool) (files : Option Directory) 
   by-journal (u ∷ turns) (suc n) old new was are follows at = by-journal turns n follows.0 new follows.1 are follows.4 at
 
 pub boots-are-permitted : BootsArePermitted
-boots-are-permitted passes tells asked source journal status old new taken takes p n t bank version trials counter fallback at boots is =
-    by-journal passes tells p.files t bank version trials counter fallback boots is journal n old _ _ _ p.holds.replies.follows at
+boots-are-permitted passes tells inputs end old new p n t bank version trials counter fallback at boots is =
+    by-journal passes tells inputs.files t bank version trials counter fallback boots is end.journal n old.flash _ _ _ p.replies.follows at

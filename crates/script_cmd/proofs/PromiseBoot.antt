@@ -184,25 +184,25 @@ module _ (passes : List ℕ → Bool) (tells : Bool) (files : Option Directory) 
 
 -- ---- nothing ran
 
-no-refusal : (asked : Option Asked) (g : Given) (was are : Faults) (planned : ℕ) (noted : Note) (line : List ℕ) → asked ≡ Some ask.boot → g.script ≡ Some (codes "boot\n") → Refuses asked g was are planned noted line
+no-refusal : (asked : Option Asked) (g : Given) (faults_before faults_after : Faults) (planned : ℕ) (noted : Note) (line : List ℕ) → asked ≡ Some ask.boot → g.script ≡ Some (codes "boot\n") → Refuses asked g faults_before faults_after planned noted line
     → IsTrue (may_fail_before planned || (planned == 13))
-no-refusal asked g was are planned noted line boot script (usage good none) = let both = sym boot ∙ none in absurd (cc)
-no-refusal asked g was are planned noted line boot script (not_read good run rose) = refl
-no-refusal asked g was are planned noted line boot script (list_not_read some why) = refl
-no-refusal asked g was are planned noted line boot script (too_long good run long) = let both = sym boot ∙ run in absurd (cc)
-no-refusal asked g was are planned noted line boot script (bad_script n good asks short bad) =
+no-refusal asked g faults_before faults_after planned noted line boot script (usage good none) = let both = sym boot ∙ none in absurd (cc)
+no-refusal asked g faults_before faults_after planned noted line boot script (not_read good run rose) = refl
+no-refusal asked g faults_before faults_after planned noted line boot script (list_not_read some why) = refl
+no-refusal asked g faults_before faults_after planned noted line boot script (too_long good run long) = let both = sym boot ∙ run in absurd (cc)
+no-refusal asked g faults_before faults_after planned noted line boot script (bad_script n good asks short bad) =
     let both = sym boot-is-script ∙ some-at g.script (λ b. script_of b ≡ Err n) (codes "boot\n") bad script in
     absurd (cc)
-no-refusal asked g was are planned noted line boot script (bad_list n some there bad) = refl
+no-refusal asked g faults_before faults_after planned noted line boot script (bad_list n some there bad) = refl
 
 pub ways-boot : WaysBoot
-ways-boot passes tells asked list files source journal status noted old new taken takes was are (starved empty same nine quiet stuck) told clean boot fails faults cuts reached =
+ways-boot passes tells inputs end old new (starved empty same nine quiet stuck) told clean boot fails faults cuts reached =
     absurd (false≢true (sym fails ∙ subst (λ (k : ℕ). IsTrue (may_fail_before k || (k == 13))) (sym nine) refl))
-ways-boot passes tells asked list files source journal status noted old new taken takes was are (refused planned line empty same why prints) told clean boot fails faults cuts reached =
-    let g = given_to asked list files source in
-    absurd (false≢true (sym fails ∙ by-plan line planned status taken takes was.sink are.sink prints (λ k. may_fail_before k || (k == 13)) refl refl
-    (no-refusal asked g was are planned noted line boot (boot-script asked source boot) why)))
-ways-boot passes tells asked list files source journal status noted old new taken takes was are (ran calls on from good asks has before turns ended printed) told clean boot fails faults cuts reached =
-    let is = (some-at (script_asked (plainly asked) source) (λ b. (is_too_long b ≡ false) × (script_of b ≡ Ok calls)) (codes "boot\n") has (boot-script asked source boot)).1 in
+ways-boot passes tells inputs end old new (refused planned line empty same why prints) told clean boot fails faults cuts reached =
+    let g = given_to inputs in
+    absurd (false≢true (sym fails ∙ by-plan line planned end.status old.taken new.taken old.faults.sink new.faults.sink prints (λ k. may_fail_before k || (k == 13)) refl refl
+    (no-refusal inputs.asked g old.faults new.faults planned end.noted line boot (boot-script inputs.asked inputs.source boot) why)))
+ways-boot passes tells inputs end old new (ran calls on from good asks has before turns ended printed) told clean boot fails faults cuts reached =
+    let is = (some-at (script_asked (plainly inputs.asked) inputs.source) (λ b. (is_too_long b ≡ false) × (script_of b ≡ Ok calls)) (codes "boot\n") has (boot-script inputs.asked inputs.source boot)).1 in
     let same : calls ≡ call.Boot ∷ [] = same-calls calls (call.Boot ∷ []) (sym is ∙ boot-is-script) in
-    by-journal passes tells files status noted old from are.files journal (at on new.told new.counts new.armed new.power) turns (subst (λ (c : List Call). Ended c journal status noted) same ended) told clean (whole status fails) faults cuts reached
+    by-journal passes tells inputs.files end.status end.noted old.flash from new.faults.files end.journal (at on new.flash.told new.flash.counts new.flash.armed new.flash.power) turns (subst (λ (c : List Call). Ended c end.journal end.status end.noted) same ended) told clean (whole end.status fails) faults cuts reached

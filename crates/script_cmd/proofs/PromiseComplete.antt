@@ -8,9 +8,9 @@ use Rattle.script_cmd.proofs.PromiseHeadline.{ways-keep-the-headline, sound-star
 use Rattle.script_cmd.proofs.PromiseEnds.{ways-end}
 
 pub ways-are-complete : WaysAreComplete
-ways-are-complete passes tells asked list files source journal status noted old new taken takes was are way told E start calls script given asks script_is served =
-    let sound = sound-start E start old.told files passes old.counts new.counts given in
-    let head = ways-keep-the-headline passes tells asked list files source journal status noted old new taken takes was are way told E start calls given asks in
-    let ends = ways-end passes tells asked (given_to asked list files source) journal status noted old new taken takes was are way in
-    runs-are-complete E start (outcome calls journal status old new) (plainly asked) list files script noted was are sound head served
-    (subst (λ (o : Option (List ℕ)). EndsAs (plainly asked) list files o status noted journal old.counts new.counts was are) script_is ends)
+ways-are-complete passes tells inputs end old new way told E start calls script given asks script_is served =
+    let sound = sound-start E start old.flash.told inputs.files passes old.flash.counts new.flash.counts given in
+    let head = ways-keep-the-headline passes tells inputs end old new way told E start calls given asks in
+    let ends = ways-end passes tells inputs.asked (given_to inputs) end old new way in
+    runs-are-complete E start (outcome calls end.journal end.status old.flash new.flash) (plainly inputs.asked) inputs.list inputs.files script end.noted old.faults new.faults sound head served
+    (subst (λ (o : Option (List ℕ)). EndsAs (plainly inputs.asked) inputs.list inputs.files o end.status end.noted end.journal old.flash.counts new.flash.counts old.faults new.faults) script_is ends)

@@ -20,6 +20,7 @@ use Rattle.host_io.specs.Contents.{Directory}
 use Rattle.fwu_words.specs.Order.{Asked}
 use Rattle.script_cmd.specs.Asking.{plainly}
 use Rattle.script_turns.specs.Powered.{Moment, at}
+use Rattle.script_cmd.specs.Ending.{Ending, World}
 use Rattle.script_cmd.specs.Printed.{Prints, all, front, nothing}
 use Rattle.script_cmd.specs.Running.{Ran, Ended, Printed, status_of_last, note_of_last, last_turn}
 use Rattle.script_cmd.specs.Ways.{Given, HasGoodList, AsksTurns, HasCalls, Refuses, usage, not_read, list_not_read, too_long, bad_script, bad_list, starved, refused, ran}
@@ -48,8 +49,8 @@ false-of : (b : Bool) → IsTrue (not b) → IsFalse b
 false-of false is = refl
 false-of true is = absurd (false≢true is)
 
-module _ (asked : Option Asked) (g : Given) (was are : Faults) where
-  pub why-planned : (planned : ℕ) (noted : Note) (line : List ℕ) → Refuses asked g was are planned noted line → IsTrue (may_end_before planned) × (planned ≢ 0) × (planned ≢ 3)
+module _ (asked : Option Asked) (g : Given) (faults_before faults_after : Faults) where
+  pub why-planned : (planned : ℕ) (noted : Note) (line : List ℕ) → Refuses asked g faults_before faults_after planned noted line → IsTrue (may_end_before planned) × (planned ≢ 0) × (planned ≢ 3)
   why-planned planned noted line (usage good is) = (refl, (λ e. omega arith), (λ e. omega arith))
   why-planned planned noted line (not_read good run rose) = (refl, (λ e. omega arith), (λ e. omega arith))
   why-planned planned noted line (list_not_read some why) = (refl, (λ e. omega arith), (λ e. omega arith))
@@ -57,7 +58,7 @@ module _ (asked : Option Asked) (g : Given) (was are : Faults) where
   why-planned planned noted line (bad_script n good asks short bad) = (refl, (λ e. omega arith), (λ e. omega arith))
   why-planned planned noted line (bad_list n some there bad) = (refl, (λ e. omega arith), (λ e. omega arith))
 
-  why-usage : (planned : ℕ) (noted : Note) (line : List ℕ) → Refuses asked g was are planned noted line → planned ≡ 1 → IsFalse (runs_script (plainly asked))
+  why-usage : (planned : ℕ) (noted : Note) (line : List ℕ) → Refuses asked g faults_before faults_after planned noted line → planned ≡ 1 → IsFalse (runs_script (plainly asked))
   why-usage planned noted line (usage good is) e = asks-none asked is
   why-usage planned noted line (not_read good run rose) e = absurd (omega arith)
   why-usage planned noted line (list_not_read some why) e = absurd (omega arith)
@@ -65,7 +66,7 @@ module _ (asked : Option Asked) (g : Given) (was are : Faults) where
   why-usage planned noted line (bad_script n good asks short bad) e = absurd (omega arith)
   why-usage planned noted line (bad_list n some there bad) e = absurd (omega arith)
 
-  why-not_read : (planned : ℕ) (noted : Note) (line : List ℕ) → Refuses asked g was are planned noted line → planned ≡ 2 → NotRead (plainly asked) g.list g.files was are
+  why-not_read : (planned : ℕ) (noted : Note) (line : List ℕ) → Refuses asked g faults_before faults_after planned noted line → planned ≡ 2 → NotRead (plainly asked) g.list g.files faults_before faults_after
   why-not_read planned noted line (usage good is) e = absurd (omega arith)
   why-not_read planned noted line (not_read good run rose) e = inl (asks-run asked run, rose)
   why-not_read planned noted line (list_not_read some why) e = inr (some, why)
@@ -73,7 +74,7 @@ module _ (asked : Option Asked) (g : Given) (was are : Faults) where
   why-not_read planned noted line (bad_script n good asks short bad) e = absurd (omega arith)
   why-not_read planned noted line (bad_list n some there bad) e = absurd (omega arith)
 
-  why-script : (planned : ℕ) (noted : Note) (line : List ℕ) → Refuses asked g was are planned noted line → planned ≡ 4 → (n : ℕ) × (noted ≡ note.BadLine n) × IsBadScript g.script n
+  why-script : (planned : ℕ) (noted : Note) (line : List ℕ) → Refuses asked g faults_before faults_after planned noted line → planned ≡ 4 → (n : ℕ) × (noted ≡ note.BadLine n) × IsBadScript g.script n
   why-script planned noted line (usage good is) e = absurd (omega arith)
   why-script planned noted line (not_read good run rose) e = absurd (omega arith)
   why-script planned noted line (list_not_read some why) e = absurd (omega arith)
@@ -81,7 +82,7 @@ module _ (asked : Option Asked) (g : Given) (was are : Faults) where
   why-script planned noted line (bad_script n good asks short bad) e = (n, refl, bad)
   why-script planned noted line (bad_list n some there bad) e = absurd (omega arith)
 
-  why-long : (planned : ℕ) (noted : Note) (line : List ℕ) → Refuses asked g was are planned noted line → planned ≡ 8 → IsTrue (reads_source (plainly asked)) × IfSome g.script (λ bytes. IsTrue (is_too_long bytes))
+  why-long : (planned : ℕ) (noted : Note) (line : List ℕ) → Refuses asked g faults_before faults_after planned noted line → planned ≡ 8 → IsTrue (reads_source (plainly asked)) × IfSome g.script (λ bytes. IsTrue (is_too_long bytes))
   why-long planned noted line (usage good is) e = absurd (omega arith)
   why-long planned noted line (not_read good run rose) e = absurd (omega arith)
   why-long planned noted line (list_not_read some why) e = absurd (omega arith)
@@ -89,7 +90,7 @@ module _ (asked : Option Asked) (g : Given) (was are : Faults) where
   why-long planned noted line (bad_script n good asks short bad) e = absurd (omega arith)
   why-long planned noted line (bad_list n some there bad) e = absurd (omega arith)
 
-  why-list : (planned : ℕ) (noted : Note) (line : List ℕ) → Refuses asked g was are planned noted line → planned ≡ 13 → IsSome g.list × (n : ℕ) × (noted ≡ note.BadList n) × IsBadList (list_bytes g.list g.files) n
+  why-list : (planned : ℕ) (noted : Note) (line : List ℕ) → Refuses asked g faults_before faults_after planned noted line → planned ≡ 13 → IsSome g.list × (n : ℕ) × (noted ≡ note.BadList n) × IsBadList (list_bytes g.list g.files) n
   why-list planned noted line (usage good is) e = absurd (omega arith)
   why-list planned noted line (not_read good run rose) e = absurd (omega arith)
   why-list planned noted line (list_not_read some why) e = absurd (omega arith)
@@ -103,9 +104,9 @@ module _ (asked : Option Asked) (g : Given) (was are : Faults) where
   good-list good bytes k is bad = some-at (list_bytes g.list g.files) (λ b. (n : ℕ) → digests_of b ≡ Err n → ⊥) bytes good.good is k bad
 
   abbrev pub OwnList : ℕ → Type 0
-  OwnList planned = (planned ≡ 13) ⊎ ((planned ≡ 2) × Rose was.files are.files)
+  OwnList planned = (planned ≡ 13) ⊎ ((planned ≡ 2) × Rose faults_before.files faults_after.files)
 
-  bad-list : (planned : ℕ) (noted : Note) (line : List ℕ) → Refuses asked g was are planned noted line → (bytes : List ℕ) (k : ℕ) → list_bytes g.list g.files ≡ Some bytes → digests_of bytes ≡ Err k → OwnList planned
+  bad-list : (planned : ℕ) (noted : Note) (line : List ℕ) → Refuses asked g faults_before faults_after planned noted line → (bytes : List ℕ) (k : ℕ) → list_bytes g.list g.files ≡ Some bytes → digests_of bytes ≡ Err k → OwnList planned
   bad-list planned noted line (usage good is) bytes k told e = absurd (good-list good bytes k told e)
   bad-list planned noted line (not_read good run rose) bytes k told e = absurd (good-list good bytes k told e)
   bad-list planned noted line (list_not_read some (inl rose)) bytes k told e = inr (refl, rose)
@@ -114,20 +115,20 @@ module _ (asked : Option Asked) (g : Given) (was are : Faults) where
   bad-list planned noted line (bad_script n good asks short bad) bytes k told e = absurd (good-list good bytes k told e)
   bad-list planned noted line (bad_list n some there bad) bytes k told e = inl refl
 
-  pub bad-status : (planned : ℕ) (noted : Note) (line : List ℕ) (status : ℕ) (taken takes : Option (List ℕ)) (low high : ℕ) → Refuses asked g was are planned noted line → Prints line planned status taken takes low high
-      → (bytes : List ℕ) (k : ℕ) → list_bytes g.list g.files ≡ Some bytes → digests_of bytes ≡ Err k → RefusesList status was are
-  bad-status planned noted line status taken takes low high why prints bytes k told e =
+  pub bad-status : (planned : ℕ) (noted : Note) (line : List ℕ) (status : ℕ) (taken_before taken_after : Option (List ℕ)) (low high : ℕ) → Refuses asked g faults_before faults_after planned noted line → Prints line planned status taken_before taken_after low high
+      → (bytes : List ℕ) (k : ℕ) → list_bytes g.list g.files ≡ Some bytes → digests_of bytes ≡ Err k → RefusesList status faults_before faults_after
+  bad-status planned noted line status taken_before taken_after low high why prints bytes k told e =
       elim (bad-list planned noted line why bytes k told e) [
-        | inl thirteen ↦ inl (by-plan line planned status taken takes low high prints (λ n. (n == 13) || ((n == 3) || (n == 9))) refl refl (subst (λ n. IsTrue ((n == 13) || ((n == 3) || (n == 9)))) (sym thirteen) refl))
+        | inl thirteen ↦ inl (by-plan line planned status taken_before taken_after low high prints (λ n. (n == 13) || ((n == 3) || (n == 9))) refl refl (subst (λ n. IsTrue ((n == 13) || ((n == 3) || (n == 9)))) (sym thirteen) refl))
         | inr two ↦ at-two two.0 two.1 prints
       ]
     where
-      at-two : planned ≡ 2 → Rose was.files are.files → Prints line planned status taken takes low high → RefusesList status was are
+      at-two : planned ≡ 2 → Rose faults_before.files faults_after.files → Prints line planned status taken_before taken_after low high → RefusesList status faults_before faults_after
       at-two two rose (all is appends later) = inr (is ∙ two, rose)
       at-two two rose (front is n appends later rises) = inl (subst (λ n. IsTrue ((n == 13) || ((n == 3) || (n == 9)))) (sym is) refl)
       at-two two rose (nothing is same later) = inl (subst (λ n. IsTrue ((n == 13) || ((n == 3) || (n == 9)))) (sym is) refl)
 
-  pub lacks-list : (planned : ℕ) (noted : Note) (line : List ℕ) → Refuses asked g was are planned noted line → LacksList g.files g.list → IsTrue (may_fail_before planned)
+  pub lacks-list : (planned : ℕ) (noted : Note) (line : List ℕ) → Refuses asked g faults_before faults_after planned noted line → LacksList g.files g.list → IsTrue (may_fail_before planned)
   lacks-list planned noted line (usage good is) lacks = absurd (good.there lacks)
   lacks-list planned noted line (not_read good run rose) lacks = refl
   lacks-list planned noted line (list_not_read some why) lacks = refl
@@ -135,18 +136,18 @@ module _ (asked : Option Asked) (g : Given) (was are : Faults) where
   lacks-list planned noted line (bad_script n good asks short bad) lacks = absurd (good.there lacks)
   lacks-list planned noted line (bad_list n some there bad) lacks = absurd (there lacks)
 
-  alone : (planned : ℕ) (noted : Note) (line : List ℕ) (status : ℕ) (taken takes : Option (List ℕ)) (low high : ℕ) → Refuses asked g was are planned noted line → Prints line planned status taken takes low high
+  alone : (planned : ℕ) (noted : Note) (line : List ℕ) (status : ℕ) (taken_before taken_after : Option (List ℕ)) (low high : ℕ) → Refuses asked g faults_before faults_after planned noted line → Prints line planned status taken_before taken_after low high
       → NotedAlone g.script g.list g.files status noted
-  alone planned noted line status taken takes low high (usage good is) p = noted_alone.Nothing (false-of _ (by-plan line planned status taken takes low high p (λ k. not (has_note k)) refl refl refl))
-  alone planned noted line status taken takes low high (not_read good run rose) p = noted_alone.Nothing (false-of _ (by-plan line planned status taken takes low high p (λ k. not (has_note k)) refl refl refl))
-  alone planned noted line status taken takes low high (list_not_read some why) p = noted_alone.Nothing (false-of _ (by-plan line planned status taken takes low high p (λ k. not (has_note k)) refl refl refl))
-  alone planned noted line status taken takes low high (too_long good run long) p = noted_alone.Nothing (false-of _ (by-plan line planned status taken takes low high p (λ k. not (has_note k)) refl refl refl))
-  alone planned noted line status taken takes low high (bad_script n good asks short bad) p =
-      noted_alone.BadScript n (by-plan line planned status taken takes low high p (λ k. (k == 4) || ((k == 3) || (k == 9))) refl refl refl) bad
-  alone planned noted line status taken takes low high (bad_list n some there bad) p =
-      noted_alone.BadList n (by-plan line planned status taken takes low high p (λ k. (k == 13) || ((k == 3) || (k == 9))) refl refl refl) some bad
+  alone planned noted line status taken_before taken_after low high (usage good is) p = noted_alone.Nothing (false-of _ (by-plan line planned status taken_before taken_after low high p (λ k. not (has_note k)) refl refl refl))
+  alone planned noted line status taken_before taken_after low high (not_read good run rose) p = noted_alone.Nothing (false-of _ (by-plan line planned status taken_before taken_after low high p (λ k. not (has_note k)) refl refl refl))
+  alone planned noted line status taken_before taken_after low high (list_not_read some why) p = noted_alone.Nothing (false-of _ (by-plan line planned status taken_before taken_after low high p (λ k. not (has_note k)) refl refl refl))
+  alone planned noted line status taken_before taken_after low high (too_long good run long) p = noted_alone.Nothing (false-of _ (by-plan line planned status taken_before taken_after low high p (λ k. not (has_note k)) refl refl refl))
+  alone planned noted line status taken_before taken_after low high (bad_script n good asks short bad) p =
+      noted_alone.BadScript n (by-plan line planned status taken_before taken_after low high p (λ k. (k == 4) || ((k == 3) || (k == 9))) refl refl refl) bad
+  alone planned noted line status taken_before taken_after low high (bad_list n some there bad) p =
+      noted_alone.BadList n (by-plan line planned status taken_before taken_after low high p (λ k. (k == 13) || ((k == 3) || (k == 9))) refl refl refl) some bad
 
-  bad-words : (planned : ℕ) (noted : Note) (line : List ℕ) → Refuses asked g was are planned noted line → IsFalse (runs_script (plainly asked)) → IsTrue ((planned == 1) || (may_fail_before planned || (planned == 13)))
+  bad-words : (planned : ℕ) (noted : Note) (line : List ℕ) → Refuses asked g faults_before faults_after planned noted line → IsFalse (runs_script (plainly asked)) → IsTrue ((planned == 1) || (may_fail_before planned || (planned == 13)))
   bad-words planned noted line (usage good is) e = refl
   bad-words planned noted line (not_read good run rose) e = absurd (false≢true (sym e ∙ asks-turns asked (inl run)))
   bad-words planned noted line (list_not_read some why) e = refl
@@ -154,7 +155,7 @@ module _ (asked : Option Asked) (g : Given) (was are : Faults) where
   bad-words planned noted line (bad_script n good asks short bad) e = absurd (false≢true (sym e ∙ asks-turns asked asks))
   bad-words planned noted line (bad_list n some there bad) e = refl
 
-  longer : (planned : ℕ) (noted : Note) (line : List ℕ) → Refuses asked g was are planned noted line → IsTrue (runs_script (plainly asked)) → (bytes : List ℕ) → g.script ≡ Some bytes → IsTrue (is_too_long bytes)
+  longer : (planned : ℕ) (noted : Note) (line : List ℕ) → Refuses asked g faults_before faults_after planned noted line → IsTrue (runs_script (plainly asked)) → (bytes : List ℕ) → g.script ≡ Some bytes → IsTrue (is_too_long bytes)
       → IsTrue ((planned == 8) || (may_fail_before planned || (planned == 13)))
   longer planned noted line (usage good is) runs bytes told e = absurd (false≢true (sym (asks-none asked is) ∙ runs))
   longer planned noted line (not_read good run rose) runs bytes told e = refl
@@ -164,7 +165,7 @@ module _ (asked : Option Asked) (g : Given) (was are : Faults) where
       absurd (false≢true (sym (some-at g.script (λ b. is_too_long b ≡ false) bytes short told) ∙ e))
   longer planned noted line (bad_list n some there bad) runs bytes told e = refl
 
-  no-script : (planned : ℕ) (noted : Note) (line : List ℕ) → Refuses asked g was are planned noted line → IsTrue (runs_script (plainly asked))
+  no-script : (planned : ℕ) (noted : Note) (line : List ℕ) → Refuses asked g faults_before faults_after planned noted line → IsTrue (runs_script (plainly asked))
       → IsTrue ((planned == 4) || ((planned == 8) || (may_fail_before planned || (planned == 13))))
   no-script planned noted line (usage good is) runs = absurd (false≢true (sym (asks-none asked is) ∙ runs))
   no-script planned noted line (not_read good run rose) runs = refl
@@ -176,7 +177,7 @@ module _ (asked : Option Asked) (g : Given) (was are : Faults) where
   -- ---- nothing ran
 
   module _ (status : ℕ) (noted : Note) (counts : Counts) where
-    starved-ends : status ≡ 9 → noted ≡ note.Nothing → EndsAs (plainly asked) g.list g.files g.script status noted [] counts counts was are
+    starved-ends : status ≡ 9 → noted ≡ note.Nothing → EndsAs (plainly asked) g.list g.files g.script status noted [] counts counts faults_before faults_after
     starved-ends nine quiet =
         let holds = λ (f : ℕ → Bool) (h : IsTrue (f 9)). subst (λ (k : ℕ). IsTrue (f k)) (sym nine) h in
         record {
@@ -204,12 +205,12 @@ module _ (asked : Option Asked) (g : Given) (was are : Faults) where
           sink_fault = λ is. absurd (omega arith);
         }
 
-    refused-ends : (planned : ℕ) (line : List ℕ) (taken takes : Option (List ℕ)) → Refuses asked g was are planned noted line → Prints line planned status taken takes was.sink are.sink
-        → EndsAs (plainly asked) g.list g.files g.script status noted [] counts counts was are
-    refused-ends planned line taken takes why prints =
+    refused-ends : (planned : ℕ) (line : List ℕ) (taken_before taken_after : Option (List ℕ)) → Refuses asked g faults_before faults_after planned noted line → Prints line planned status taken_before taken_after faults_before.sink faults_after.sink
+        → EndsAs (plainly asked) g.list g.files g.script status noted [] counts counts faults_before faults_after
+    refused-ends planned line taken_before taken_after why prints =
         let known = why-planned planned noted line why in
-        let holds = by-plan line planned status taken takes was.sink are.sink prints in
-        let plan = printed-plan line planned status taken takes was.sink are.sink prints in
+        let holds = by-plan line planned status taken_before taken_after faults_before.sink faults_after.sink prints in
+        let plan = printed-plan line planned status taken_before taken_after faults_before.sink faults_after.sink prints in
         let same : (k : ℕ) → IsFalse (may_lack k) → status ≡ k → planned ≡ k = λ k lacks is. sym (plan (subst (λ (n : ℕ). IsFalse (may_lack n)) (sym is) lacks)) ∙ is in
         record {
           does = some-from g.script _ (λ bytes told calls reads. record { calls = (calls, refl); all_calls = λ e. absurd (known.1 (same 0 refl e)) });
@@ -221,7 +222,7 @@ module _ (asked : Option Asked) (g : Given) (was are : Faults) where
           ends = λ n t is end. absurd (cc);
           by_last = λ t is. absurd (cc);
           by_none = λ empty. holds may_end_before refl refl known.0;
-          noted_alone = λ empty. alone planned noted line status taken takes was.sink are.sink why prints;
+          noted_alone = λ empty. alone planned noted line status taken_before taken_after faults_before.sink faults_after.sink why prints;
           all_done = λ is. refl;
           not_read = λ is empty. why-not_read planned noted line why (same 2 refl is);
           not_script = λ is. why-script planned noted line why (same 4 refl is);
@@ -229,11 +230,11 @@ module _ (asked : Option Asked) (g : Given) (was are : Faults) where
           usage = λ is. why-usage planned noted line why (same 1 refl is);
           too_long = λ is. why-long planned noted line why (same 8 refl is);
           lacks_list = λ lacks. (refl, holds may_fail_before refl refl (lacks-list planned noted line why lacks));
-          refuses_list = some-from (list_bytes g.list g.files) _ (λ bytes told n bad. (refl, bad-status planned noted line status taken takes was.sink are.sink why prints bytes n told bad));
+          refuses_list = some-from (list_bytes g.list g.files) _ (λ bytes told n bad. (refl, bad-status planned noted line status taken_before taken_after faults_before.sink faults_after.sink why prints bytes n told bad));
           refuses_words = λ words. (refl, holds (λ k. (k == 1) || (may_fail_before k || (k == 13))) refl refl (bad-words planned noted line why words));
           refuses_longer = λ runs. some-from g.script _ (λ bytes told long. (refl, holds (λ k. (k == 8) || (may_fail_before k || (k == 13))) refl refl (longer planned noted line why runs bytes told long)));
           refuses_script = λ runs. some-from g.script _ (λ bytes told n bad. (refl, holds (λ k. (k == 4) || ((k == 8) || (may_fail_before k || (k == 13)))) refl refl (no-script planned noted line why runs)));
-          sink_fault = printed-rose line planned status taken takes was.sink are.sink prints known.2;
+          sink_fault = printed-rose line planned status taken_before taken_after faults_before.sink faults_after.sink prints known.2;
         }
 
 -- ---- turns ran
@@ -248,8 +249,8 @@ all-from : {X : Type 0} (f : X → Bool) (xs : List X) → ((n : ℕ) (x : X) �
 all-from f [] h = refl
 all-from f (x ∷ xs) h = and_from (f x) (list_all f xs) (h 0 x refl) (all-from f xs (λ n y is. h (suc n) y is))
 
-module _ (passes : List ℕ → Bool) (tells : Bool) (asked : Option Asked) (g : Given) (journal : List Turn) (status : ℕ) (noted : Note) (old new : Moment) (taken takes : Option (List ℕ)) (was are : Faults) (calls : List Call) (from : ℕ)
-    (before : was.files ≤ from) (turns : Ran passes tells g.files journal old new from are.files) (ended : Ended calls journal status noted) where
+module _ (passes : List ℕ → Bool) (tells : Bool) (asked : Option Asked) (g : Given) (journal : List Turn) (status : ℕ) (noted : Note) (old new : Moment) (taken_before taken_after : Option (List ℕ)) (faults_before faults_after : Faults) (calls : List Call) (from : ℕ)
+    (before : faults_before.files ≤ from) (turns : Ran passes tells g.files journal old new from faults_after.files) (ended : Ended calls journal status noted) where
   is : IsTrue (is_ran status)
   is = ran-status calls journal status noted ended
 
@@ -288,8 +289,8 @@ module _ (passes : List ℕ → Bool) (tells : Bool) (asked : Option Asked) (g :
         | inr whole ↦ subst (λ (k : ℕ). IsTrue (may_end_before k)) (sym (ended.status_is whole ∙ ap (λ (j : List Turn). status_of_last (last_turn j)) empty)) refl
       ]
 
-  ran-ends : HasGoodList g.list g.files → AsksTurns asked → HasCalls g.script calls → Printed journal status taken takes was.sink are.sink
-      → EndsAs (plainly asked) g.list g.files g.script status noted journal old.counts new.counts was are
+  ran-ends : HasGoodList g.list g.files → AsksTurns asked → HasCalls g.script calls → Printed journal status taken_before taken_after faults_before.sink faults_after.sink
+      → EndsAs (plainly asked) g.list g.files g.script status noted journal old.counts new.counts faults_before faults_after
   ran-ends good asks has printed = record {
     does = some-from g.script _ (λ bytes told others reads.
         let same : calls ≡ others = same-calls calls others (sym (has-calls bytes told).1 ∙ reads) in
@@ -298,7 +299,7 @@ module _ (passes : List ℕ → Bool) (tells : Bool) (asked : Option Asked) (g :
     made = turns.made;
     lost_turns = turns.lost_turns;
     fault_turns = turns.fault_turns;
-    read_faults = λ t within reads. not-read-around g.files was.files from are.files are.files t.call before (omega arith) (turns.unread_turns t within reads);
+    read_faults = λ t within reads. not-read-around g.files faults_before.files from faults_after.files faults_after.files t.call before (omega arith) (turns.unread_turns t within reads);
     ends = turns.ends;
     by_last = last-is;
     by_none = before-first;
@@ -311,7 +312,7 @@ module _ (passes : List ℕ → Bool) (tells : Bool) (asked : Option Asked) (g :
     usage = λ e. absurd (false≢true (ran-at status 1 is e));
     too_long = λ e. absurd (false≢true (ran-at status 8 is e));
     lacks_list = λ lacks. absurd (good.there lacks);
-    refuses_list = some-from (list_bytes g.list g.files) _ (λ bytes told n bad. absurd (good-list asked g was are good bytes n told bad));
+    refuses_list = some-from (list_bytes g.list g.files) _ (λ bytes told n bad. absurd (good-list asked g faults_before faults_after good bytes n told bad));
     refuses_words = λ words. absurd (false≢true (sym words ∙ asks-turns asked asks));
     refuses_longer = λ runs. some-from g.script _ (λ bytes told long. absurd (false≢true (sym (has-calls bytes told).0 ∙ long)));
     refuses_script = λ runs. some-from g.script _ (λ bytes told n bad. let both = sym (has-calls bytes told).1 ∙ bad in absurd (cc));
@@ -323,16 +324,16 @@ module _ (passes : List ℕ → Bool) (tells : Bool) (asked : Option Asked) (g :
 
 -- ---- whichever way
 
-module _ (asked : Option Asked) (g : Given) (journal : List Turn) (status : ℕ) (noted : Note) (old new : Moment) (was are : Faults) where
-  none-ends : journal ≡ [] → new ≡ old → EndsAs (plainly asked) g.list g.files g.script status noted [] old.counts old.counts was are → EndsHold asked g journal status noted old new was are
+module _ (asked : Option Asked) (g : Given) (end : Ending Note) (old new : World) where
+  none-ends : end.journal ≡ [] → new.flash ≡ old.flash → EndsAs (plainly asked) g.list g.files g.script end.status end.noted [] old.flash.counts old.flash.counts old.faults new.faults → EndsHold asked g end old new
   none-ends empty same h =
-      subst (λ (j : List Turn). EndsHold asked g j status noted old new was are) (sym empty)
-      (subst (λ (m : Moment). EndsHold asked g [] status noted old m was are) (sym same) h)
+      subst (λ (j : List Turn). EndsHold asked g (record end { journal = j }) old new) (sym empty)
+      (subst (λ (m : Moment). EndsHold asked g (record end { journal = [] }) old (record new { flash = m })) (sym same) h)
 
 pub ways-end : WaysEnd
-ways-end passes tells asked g journal status noted old new taken takes was are (starved empty same nine quiet stuck) =
-    none-ends asked g journal status noted old new was are empty same (starved-ends asked g was are status noted old.counts nine quiet)
-ways-end passes tells asked g journal status noted old new taken takes was are (refused planned line empty same why prints) =
-    none-ends asked g journal status noted old new was are empty same (refused-ends asked g was are status noted old.counts planned line taken takes why prints)
-ways-end passes tells asked g journal status noted old new taken takes was are (ran calls on from good asks has before turns ended printed) =
-    ran-ends passes tells asked g journal status noted old (at on new.told new.counts new.armed new.power) taken takes was are calls from before turns ended good asks has printed
+ways-end passes tells asked g end old new (starved empty same nine quiet stuck) =
+    none-ends asked g end old new empty same (starved-ends asked g old.faults new.faults end.status end.noted old.flash.counts nine quiet)
+ways-end passes tells asked g end old new (refused planned line empty same why prints) =
+    none-ends asked g end old new empty same (refused-ends asked g old.faults new.faults end.status end.noted old.flash.counts planned line old.taken new.taken why prints)
+ways-end passes tells asked g end old new (ran calls on from good asks has before turns ended printed) =
+    ran-ends passes tells asked g end.journal end.status end.noted old.flash (at on new.flash.told new.flash.counts new.flash.armed new.flash.power) old.taken new.taken old.faults new.faults calls from before turns ended good asks has printed

@@ -25,7 +25,7 @@ safe-guarded false t safe = (safe.1, (λ power. absurd (false≢true power)))
 safe-guarded true t safe = (safe.guarded, (λ power. safe))
 
 pub ways-guard : WaysGuard
-ways-guard passes tells asked g journal status noted old new taken takes was are (starved empty same nine quiet stuck) told clean guards = none-guarded old new same clean guards
-ways-guard passes tells asked g journal status noted old new taken takes was are (refused planned line empty same why prints) told clean guards = none-guarded old new same clean guards
-ways-guard passes tells asked g journal status noted old new taken takes was are (ran calls on from good asks has before turns ended printed) told clean guards =
-    safe-guarded new.power new.told (turns.safe told clean guards)
+ways-guard passes tells asked g end old new (starved empty same nine quiet stuck) told clean guards = none-guarded old.flash new.flash same clean guards
+ways-guard passes tells asked g end old new (refused planned line empty same why prints) told clean guards = none-guarded old.flash new.flash same clean guards
+ways-guard passes tells asked g end old new (ran calls on from good asks has before turns ended printed) told clean guards =
+    safe-guarded new.flash.power new.flash.told (turns.safe told clean guards)

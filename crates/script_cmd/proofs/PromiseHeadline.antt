@@ -17,7 +17,9 @@ use Rattle.fwu_model.specs.Wrote.{may_lack, script_asked}
 use Rattle.fwu_model.specs.Run.{Condition, start_of}
 use Rattle.fwu_model.specs.Contract.{Premises, Asks, ByScript, ByBoot}
 use Rattle.fwu_model.specs.Headline.{LeavesOneOf}
+use Rattle.fwu_model.specs.Causes.{Faults}
 use Rattle.fwu_model.specs.declared.kinds.Note.{Note}
+use Rattle.fwu_model.specs.declared.kinds.Note.TheVariants as note
 use Rattle.fwu_model.proofs.Frame.{calm-stays, start-is-calm}
 use Rattle.fwu_model.proofs.Selects.{runs-select}
 use Rattle.fwu_formats.proofs.Read.{layout-fits}
@@ -27,6 +29,7 @@ use Rattle.script_turns.specs.Powered.{Moment, Shows, at}
 use Rattle.script_cmd.specs.Running.{Ran, Ended, StartsSound}
 use Rattle.script_cmd.specs.Ways.{HasCalls, starved, refused, ran}
 use Rattle.script_cmd.specs.Promises.{given_to, HeadlineHolds, WaysKeepTheHeadline}
+use Rattle.script_cmd.proofs.Shapes.{end-of, inputs-of, world-of}
 use Rattle.script_cmd.proofs.PromiseWords.{boot-is-script, same-calls}
 use Rattle.script_cmd.proofs.PromiseTurns.{printed-plan}
 use Rattle.script_cmd.proofs.PromiseEnds.{why-planned}
@@ -50,10 +53,18 @@ pub left-by : (E : Setting) (c : Condition) (on : Option Fields) (t : Told) → 
 left-by E c None t shows = shows.1
 left-by E c (Some f) t shows = subst (λ (states : List State). LeavesOneOf E states t) (sym shows.one) (calm-stays E t shows.state shows.ready.calm)
 
+abbrev no-faults : Faults
+no-faults = record { files = 0; source = 0; sink = 0 }
+
+-- the headline, of what it speaks of alone
+abbrev HoldsFor : (List ℕ → Bool) → Bool → Option Asked → Option (List ℕ → Option (List ℕ)) → Option (List ℕ) → List Turn → ℕ → Moment → Moment → Type 0
+HoldsFor passes tells asked files source journal status old new =
+    HeadlineHolds passes tells (inputs-of asked None files source) (end-of journal status note.Nothing) (world-of old None no-faults) (world-of new None no-faults)
+
 module _ (passes : List ℕ → Bool) (tells : Bool) (asked : Option Asked) (files : Option (List ℕ → Option (List ℕ))) (source : Option (List ℕ)) (status : ℕ) (old : Moment) where
   -- ---- nothing ran
 
-  none-holds : status ≢ 0 → HeadlineHolds passes tells asked files source [] status old old
+  none-holds : status ≢ 0 → HoldsFor passes tells asked files source [] status old old
   none-holds not_done told E start calls given asks = record {
     calls = (calls, refl);
     all_calls = λ e. absurd (not_done e);
@@ -64,15 +75,15 @@ module _ (passes : List ℕ → Bool) (tells : Bool) (asked : Option Asked) (fil
     selects = runs-select E start [] (start_of start) (fits E old.told given.sound) (sound-start E start old.told files passes old.counts old.counts given) refl;
   }
 
-  none-keeps : (journal : List Turn) (new : Moment) → journal ≡ [] → new ≡ old → status ≢ 0 → HeadlineHolds passes tells asked files source journal status old new
+  none-keeps : (journal : List Turn) (new : Moment) → journal ≡ [] → new ≡ old → status ≢ 0 → HoldsFor passes tells asked files source journal status old new
   none-keeps journal new empty same not_done =
-      subst (λ (j : List Turn). HeadlineHolds passes tells asked files source j status old new) (sym empty)
-      (subst (λ (m : Moment). HeadlineHolds passes tells asked files source [] status old m) (sym same) (none-holds not_done))
+      subst (λ (j : List Turn). HoldsFor passes tells asked files source j status old new) (sym empty)
+      (subst (λ (m : Moment). HoldsFor passes tells asked files source [] status old m) (sym same) (none-holds not_done))
 
   -- ---- turns ran
 
   ran-keeps : (journal : List Turn) (noted : Note) (new : Moment) (mine : List Call) (on : Option Fields) (from to : ℕ) → HasCalls (script_asked (plainly asked) source) mine
-      → Ran passes tells files journal old (at on new.told new.counts new.armed new.power) from to → Ended mine journal status noted → HeadlineHolds passes tells asked files source journal status old new
+      → Ran passes tells files journal old (at on new.told new.counts new.armed new.power) from to → Ended mine journal status noted → HoldsFor passes tells asked files source journal status old new
   ran-keeps journal noted new mine on from to has turns ended told E start calls given asks =
       let same : mine ≡ calls = asked-calls (plainly asked) source calls mine asks has in
       let starts : StartsSound E start passes old = record { clean = given.clean; sound = given.sound; shows = given.shows; guarded = given.guarded; passes_are = sym given.verifier_is } in
@@ -89,12 +100,12 @@ module _ (passes : List ℕ → Bool) (tells : Bool) (asked : Option Asked) (fil
       }
 
 pub ways-keep-the-headline : WaysKeepTheHeadline
-ways-keep-the-headline passes tells asked list files source journal status noted old new taken takes was are (starved empty same nine quiet stuck) =
-    none-keeps passes tells asked files source status old journal new empty same (λ e. omega arith)
-ways-keep-the-headline passes tells asked list files source journal status noted old new taken takes was are (refused planned line empty same why prints) =
-    none-keeps passes tells asked files source status old journal new empty same
+ways-keep-the-headline passes tells inputs end old new (starved empty same nine quiet stuck) =
+    none-keeps passes tells inputs.asked inputs.files inputs.source end.status old.flash end.journal new.flash empty same (λ e. omega arith)
+ways-keep-the-headline passes tells inputs end old new (refused planned line empty same why prints) =
+    none-keeps passes tells inputs.asked inputs.files inputs.source end.status old.flash end.journal new.flash empty same
     (λ e.
-    let whole : IsFalse (may_lack status) = subst (λ (k : ℕ). IsFalse (may_lack k)) (sym e) refl in
-    (why-planned asked (given_to asked list files source) was are planned noted line why).1 (sym (printed-plan line planned status taken takes was.sink are.sink prints whole) ∙ e))
-ways-keep-the-headline passes tells asked list files source journal status noted old new taken takes was are (ran calls on from good asks has before turns ended printed) =
-    ran-keeps passes tells asked files source status old journal noted new calls on from are.files has turns ended
+    let whole : IsFalse (may_lack end.status) = subst (λ (k : ℕ). IsFalse (may_lack k)) (sym e) refl in
+    (why-planned inputs.asked (given_to inputs) old.faults new.faults planned end.noted line why).1 (sym (printed-plan line planned end.status old.taken new.taken old.faults.sink new.faults.sink prints whole) ∙ e))
+ways-keep-the-headline passes tells inputs end old new (ran calls on from good asks has before turns ended printed) =
+    ran-keeps passes tells inputs.asked inputs.files inputs.source end.status old.flash end.journal end.noted new.flash calls on from new.faults.files has turns ended

@@ -2,29 +2,29 @@
 use Rattle.std.proofs.Common.{◌≡◌, ℕ, Bool, List, [], Option, Some, slice_get, refl, sym, ap, subst, ◌∙◌, arith}
 use Rattle.host_io.specs.Contents.{Directory}
 use Rattle.fwu_model.specs.Reply.{Turn}
-use Rattle.fwu_model.specs.Causes.{Faults}
 use Rattle.script_turns.specs.Powered.{Moment, SameDevice}
+use Rattle.script_cmd.specs.Ending.{World}
 use Rattle.script_cmd.specs.Ways.{starved, refused, ran}
 use Rattle.script_cmd.specs.Promises.{LeavesDevice, RepliesHold, WaysBootFirst, WaysLeaveTheDevice, WaysReply}
 
-none-reply : (passes : List ℕ → Bool) (tells : Bool) (files : Option Directory) (journal : List Turn) (old new : Moment) (was are : Faults) → journal ≡ [] → new ≡ old
-    → RepliesHold passes tells files journal old new was are
-none-reply passes tells files journal old new was are empty same =
-    subst (λ (turns : List Turn). RepliesHold passes tells files turns old new was are) (sym empty)
-    (subst (λ (m : Moment). RepliesHold passes tells files [] old m was are) (sym same) (record {
-      on = old.on;
-      from = was.files;
-      to = was.files;
+none-reply : (passes : List ℕ → Bool) (tells : Bool) (files : Option Directory) (journal : List Turn) (old new : World) → journal ≡ [] → new.flash ≡ old.flash
+    → RepliesHold passes tells files journal old new
+none-reply passes tells files journal old new empty same =
+    subst (λ (turns : List Turn). RepliesHold passes tells files turns old new) (sym empty)
+    (subst (λ (m : Moment). RepliesHold passes tells files [] old (record new { flash = m })) (sym same) (record {
+      on = old.flash.on;
+      from = old.faults.files;
+      to = old.faults.files;
       follows = (refl, refl);
       begins = omega arith;
       ends = λ some. absurd (some refl);
     }))
 
 pub ways-reply : WaysReply
-ways-reply passes tells asked g journal status noted old new taken takes was are (starved empty same nine quiet stuck) = none-reply passes tells g.files journal old new was are empty same
-ways-reply passes tells asked g journal status noted old new taken takes was are (refused planned line empty same why prints) = none-reply passes tells g.files journal old new was are empty same
-ways-reply passes tells asked g journal status noted old new taken takes was are (ran calls on from good asks has before turns ended printed) =
-    record { on = on; from = from; to = are.files; follows = turns.follows; begins = before; ends = λ some. refl }
+ways-reply passes tells asked g end old new (starved empty same nine quiet stuck) = none-reply passes tells g.files end.journal old new empty same
+ways-reply passes tells asked g end old new (refused planned line empty same why prints) = none-reply passes tells g.files end.journal old new empty same
+ways-reply passes tells asked g end old new (ran calls on from good asks has before turns ended printed) =
+    record { on = on; from = from; to = new.faults.files; follows = turns.follows; begins = before; ends = λ some. refl }
 
 -- ---- the device
 
@@ -38,9 +38,9 @@ none-leaves tells journal old new empty same =
     (record { untouched = λ none. same-device journal old; power = refl; once = omega arith; guard = λ told. refl }))
 
 pub ways-leave-the-device : WaysLeaveTheDevice
-ways-leave-the-device passes tells asked g journal status noted old new taken takes was are (starved empty same nine quiet stuck) = none-leaves tells journal old new empty same
-ways-leave-the-device passes tells asked g journal status noted old new taken takes was are (refused planned line empty same why prints) = none-leaves tells journal old new empty same
-ways-leave-the-device passes tells asked g journal status noted old new taken takes was are (ran calls on from good asks has before turns ended printed) = record {
+ways-leave-the-device passes tells asked g end old new (starved empty same nine quiet stuck) = none-leaves tells end.journal old.flash new.flash empty same
+ways-leave-the-device passes tells asked g end old new (refused planned line empty same why prints) = none-leaves tells end.journal old.flash new.flash empty same
+ways-leave-the-device passes tells asked g end old new (ran calls on from good asks has before turns ended printed) = record {
   untouched = λ empty.
       let same = turns.untouched empty in
       record { told = ap (λ (m : Moment). m.told) same; counts = ap (λ (m : Moment). m.counts) same; armed = ap (λ (m : Moment). m.armed) same; power = ap (λ (m : Moment). m.power) same };
@@ -55,6 +55,6 @@ no-first : (journal : List Turn) (t : Turn) → journal ≡ [] → slice_get jou
 no-first journal t empty is = let both = sym (ap (λ (j : List Turn). slice_get j 0) empty) ∙ is in cc
 
 pub ways-boot-first : WaysBootFirst
-ways-boot-first passes tells asked g journal status noted old new taken takes was are (starved empty same nine quiet stuck) told clean t is boots = absurd (no-first journal t empty is)
-ways-boot-first passes tells asked g journal status noted old new taken takes was are (refused planned line empty same why prints) told clean t is boots = absurd (no-first journal t empty is)
-ways-boot-first passes tells asked g journal status noted old new taken takes was are (ran calls on from good asks has before turns ended printed) told clean t is boots = turns.first told clean t is boots
+ways-boot-first passes tells asked g end old new (starved empty same nine quiet stuck) told clean t is boots = absurd (no-first end.journal t empty is)
+ways-boot-first passes tells asked g end old new (refused planned line empty same why prints) told clean t is boots = absurd (no-first end.journal t empty is)
+ways-boot-first passes tells asked g end old new (ran calls on from good asks has before turns ended printed) told clean t is boots = turns.first told clean t is boots

@@ -15,12 +15,9 @@ use Rattle.gpt_core.proofs.Stepping.{image_is_now}
 use Rattle.fwu_model.specs.Call.{Call}
 use Rattle.fwu_model.specs.State.{State}
 use Rattle.fwu_model.specs.Sound.{Setting}
-use Rattle.fwu_model.specs.Reply.{Turn}
-use Rattle.fwu_model.specs.Causes.{Faults, IsServed}
+use Rattle.fwu_model.specs.Causes.{IsServed}
 use Rattle.fwu_model.specs.Contract.{Premises}
 use Rattle.fwu_model.specs.Headline.{Headline, made_after}
-use Rattle.host_io.specs.Contents.{Directory}
-use Rattle.fwu_words.specs.Order.{Asked}
 use Rattle.script_cmd.specs.declared.done.Note.{Note}
 use Rattle.script_cmd.specs.Asking.{plainly}
 use Rattle.script_cmd.specs.ByTable.{Starts, StopsMending, Wakes, lacked_by, lacked_in, lacked_of, seen_at}
@@ -28,7 +25,8 @@ use Rattle.script_cmd.specs.Noted.{noted}
 use Rattle.script_turns.specs.Powered.{Moment}
 use Rattle.script_cmd.specs.Promises.{given_to, outcome}
 use Rattle.script_cmd.specs.PromisesByTable.{CompleteByTable, HeadlineByTable, KeepsFlash, KeptByTable, PromisedByTable, RunsByTable, TableGives}
-use Rattle.script_cmd.specs.Ways.{Way}
+use Rattle.script_cmd.specs.Ending.{Device, Ending, World, in_model}
+use Rattle.script_cmd.specs.Ways.{Inputs, Way}
 use Rattle.script_cmd.specs.Ways as way
 use Rattle.script_cmd.specs.WaysByTable.{WayByTable, untouched, starved, lacked, stopped, ran}
 use Rattle.script_cmd.proofs.PromiseAll.{promised}
@@ -48,84 +46,83 @@ same-pair t u w x is = ap (λ (o : Option (Table × WhichTable)). of o) is
 same-places : (p q : Places) → ◌≡◌ {A = Rattle.std.specs.Prelude.Result Places Rattle.gpt_core.specs.declared.layout.PlaceFault.PlaceFault} (Ok p) (Ok q) → p ≡ q
 same-places p q is = cc
 
-module _ (passes : List ℕ → Bool) (tells : Bool) (blocks : ℕ) (asked : Option Asked) (list : Option (List ℕ)) (files : Option Directory) (source : Option (List ℕ))
-    (journal : List Turn) (status : ℕ) (said : Note) (old new : Moment) (taken takes : Option (List ℕ)) (was are : Faults) where
+module _ (passes : List ℕ → Bool) (device : Device) (inputs : Inputs) (end : Ending Note) (old new : World) where
   abbrev Ends : Type 0
-  Ends = WayByTable passes tells blocks asked (given_to asked list files source) journal status said old new taken takes was are
+  Ends = WayByTable passes device inputs.asked (given_to inputs) end old new
 
   abbrev Runs : Type 0
-  Runs = RunsByTable passes tells blocks asked list files source journal status said old new taken takes was are
+  Runs = RunsByTable passes device inputs end old new
 
-  not-begun : (journal ≢ []) ⊎ (status ≡ 0) → journal ≡ [] → status ≢ 0 → ⊥
+  not-begun : (end.journal ≢ []) ⊎ (end.status ≡ 0) → end.journal ≡ [] → end.status ≢ 0 → ⊥
   not-begun (inl some) none other = some none
   not-begun (inr zero_is) none other = other zero_is
 
-  start-seen : (p : Places) (start : Moment) → Starts tells blocks old p start → IsTrue tells → NothingDirty old.told → view_of p start.told ≡ view_of p old.told
+  start-seen : (p : Places) (start : Moment) → Starts device.tells device.blocks old.flash p start → IsTrue device.tells → NothingDirty old.flash.told → view_of p start.told ≡ view_of p old.flash.told
   start-seen p start starts told clean =
-      repair-leaves blocks starts.has.table starts.has.which p starts.woken start.told starts.has.gives (woken-clean old.told starts.woken (starts.wakes told)) (starts.clean told) (starts.beside told)
-      ∙ ap (view_of p) (woken-same old.told starts.woken clean (starts.wakes told))
+      repair-leaves device.blocks starts.has.table starts.has.which p starts.woken start.told starts.has.gives (woken-clean old.flash.told starts.woken (starts.wakes told)) (starts.clean told) (starts.beside told)
+      ∙ ap (view_of p) (woken-same old.flash.told starts.woken clean (starts.wakes told))
 
-  pub runs-by-table : Ends → (journal ≢ []) ⊎ (status ≡ 0) → Runs
+  pub runs-by-table : Ends → (end.journal ≢ []) ⊎ (end.status ≡ 0) → Runs
   runs-by-table (untouched none same other beyond w) began = absurd (not-begun began none other)
   runs-by-table (starved calls reads none looks nine is quiet) began = absurd (not-begun began none (λ zero_is. absurd (omega arith)))
-  runs-by-table (lacked calls why reads none looks lacks is prints) began = absurd (not-begun began none (not-nothing _ 10 status taken takes was.sink are.sink (λ ten. absurd (omega arith)) prints))
-  runs-by-table (stopped calls reads none stops is prints) began = absurd (not-begun began none (not-nothing _ 5 status taken takes was.sink are.sink (λ five. absurd (omega arith)) prints))
+  runs-by-table (lacked calls why reads none looks lacks is prints) began = absurd (not-begun began none (not-nothing _ 10 end.status old.taken new.taken old.faults.sink new.faults.sink (λ ten. absurd (omega arith)) prints))
+  runs-by-table (stopped calls reads none stops is prints) began = absurd (not-begun began none (not-nothing _ 5 end.status old.taken new.taken old.faults.sink new.faults.sink (λ five. absurd (omega arith)) prints))
   runs-by-table (ran calls p start on from reads starts before does beside ended beyond printed) began = record {
     places = p;
     start = start;
     starts = starts;
     beside = beside;
     seen = start-seen p start starts;
-    promises = promised passes tells asked list files source journal status (noted said) (seen_at p start) (seen_at p new) taken takes was are
+    promises = promised passes device.tells inputs (in_model end) (record old { flash = seen_at p start }) (record new { flash = seen_at p new.flash })
         (way.ran calls on from reads.good reads.asks reads.has before does ended printed);
   }
 
   -- the places of the run are those of the table that was handed in
-  module _ (told : IsTrue tells) (clean : NothingDirty old.told) (p q : Places) (start : Moment) (starts : Starts tells blocks old q start) (gives : TableGives blocks old.told.now p) where
+  module _ (told : IsTrue device.tells) (clean : NothingDirty old.flash.told) (p q : Places) (start : Moment) (starts : Starts device.tells device.blocks old.flash q start) (gives : TableGives device.blocks old.flash.told.now p) where
     found-places : q ≡ p
     found-places =
-        let there : table_in_image blocks old.told.now ≡ Some (starts.has.table, starts.has.which) = subst (λ (image : List ℕ). table_in_image blocks image ≡ Some (starts.has.table, starts.has.which)) (woken-now old.told starts.woken clean (starts.wakes told)) (starts.has.decides told) in
+        let there : table_in_image device.blocks old.flash.told.now ≡ Some (starts.has.table, starts.has.which) = subst (λ (image : List ℕ). table_in_image device.blocks image ≡ Some (starts.has.table, starts.has.which)) (woken-now old.flash.told starts.woken clean (starts.wakes told)) (starts.has.decides told) in
         let table = same-pair starts.has.table gives.table starts.has.which gives.which (sym there ∙ gives.decides) in
-        same-places q p (sym starts.has.gives ∙ ap (places_of blocks) table ∙ gives.gives)
+        same-places q p (sym starts.has.gives ∙ ap (places_of device.blocks) table ∙ gives.gives)
 
-    start-premises : (E : Setting) (s : State) → Premises E s (view_of p old.told) files passes old.counts new.counts → Premises E s (view_of q start.told) files passes start.counts new.counts
+    start-premises : (E : Setting) (s : State) → Premises E s (view_of p old.flash.told) inputs.files passes old.flash.counts new.flash.counts → Premises E s (view_of q start.told) inputs.files passes start.counts new.flash.counts
     start-premises E s premises =
-        subst (λ (t : Told). Premises E s t files passes start.counts new.counts) (ap (λ (x : Places). view_of x old.told) (sym found-places) ∙ sym (start-seen q start starts told clean)) (record {
+        subst (λ (t : Told). Premises E s t inputs.files passes start.counts new.flash.counts) (ap (λ (x : Places). view_of x old.flash.told) (sym found-places) ∙ sym (start-seen q start starts told clean)) (record {
           clean = premises.clean;
           sound = premises.sound;
           shows = premises.shows;
           guarded = premises.guarded;
           files_told = premises.files_told;
           verifier_is = premises.verifier_is;
-          no_chance = λ rose. premises.no_chance (rose-before old.counts.chances start.counts.chances new.counts.chances starts.waits.falls.chances rose);
+          no_chance = λ rose. premises.no_chance (rose-before old.flash.counts.chances start.counts.chances new.flash.counts.chances starts.waits.falls.chances rose);
         })
 
   -- the same headline, counted from where the device was handed in
-  headline-from : (E : Setting) (s : State) (calls : List Call) (p : Places) (start : Moment) → start.counts.made ≡ old.counts.made → Headline E s (outcome calls journal status (seen_at p start) (seen_at p new))
-      → Headline E s (outcome calls journal status (seen_at p old) (seen_at p new))
+  headline-from : (E : Setting) (s : State) (calls : List Call) (p : Places) (start : Moment) → start.counts.made ≡ old.flash.counts.made → Headline E s (outcome calls end.journal end.status (seen_at p start) (seen_at p new.flash))
+      → Headline E s (outcome calls end.journal end.status (seen_at p old.flash) (seen_at p new.flash))
   headline-from E s calls p start made holds = record {
     calls = holds.calls;
     all_calls = holds.all_calls;
     last = holds.last;
     run = holds.run;
     left = holds.left;
-    armed = λ none. let by = holds.armed none in record { made = subst (λ (n : ℕ). new.counts.made ≡ made_after n holds.last.cuts) made by.made; last = by.last };
+    armed = λ none. let by = holds.armed none in record { made = subst (λ (n : ℕ). new.flash.counts.made ≡ made_after n holds.last.cuts) made by.made; last = by.last };
     selects = holds.selects;
   }
 
-  headline-by-table : Ends → HeadlineByTable passes tells blocks asked files source journal status old new
+  headline-by-table : Ends → HeadlineByTable passes device inputs end old.flash new.flash
   headline-by-table w told p E s calls clean gives premises asks began =
       let run = runs-by-table w began in
       let found = found-places told clean p run.places run.start run.starts gives in
       let holds = run.promises.headline told E s calls (start-premises told clean p run.places run.start run.starts gives E s premises) asks in
-      subst (λ (x : Places). Headline E s (outcome calls journal status (seen_at x old) (seen_at x new))) found
+      subst (λ (x : Places). Headline E s (outcome calls end.journal end.status (seen_at x old.flash) (seen_at x new.flash))) found
       (headline-from E s calls run.places run.start run.starts.waits.made holds)
 
   -- ---- all is done
 
-  served-from : (calls : List Call) (p q : Places) (start : Moment) (script : List ℕ) → old.counts.faults ≤ start.counts.faults
-      → IsServed (outcome calls journal status (seen_at p old) (seen_at p new)) (plainly asked) list files script was are
-      → IsServed (outcome calls journal status (seen_at q start) (seen_at q new)) (plainly asked) list files script was are
+  served-from : (calls : List Call) (p q : Places) (start : Moment) (script : List ℕ) → old.flash.counts.faults ≤ start.counts.faults
+      → IsServed (outcome calls end.journal end.status (seen_at p old.flash) (seen_at p new.flash)) (plainly inputs.asked) inputs.list inputs.files script old.faults new.faults
+      → IsServed (outcome calls end.journal end.status (seen_at q start) (seen_at q new.flash)) (plainly inputs.asked) inputs.list inputs.files script old.faults new.faults
   served-from calls p q start script later served = record {
     words_are = served.words_are;
     script_is = served.script_is;
@@ -133,78 +130,78 @@ module _ (passes : List ℕ → Bool) (tells : Bool) (blocks : ℕ) (asked : Opt
     list_is = served.list_is;
     list_there = served.list_there;
     files_there = served.files_there;
-    no_fault = λ rose. served.no_fault (rose-before old.counts.faults start.counts.faults new.counts.faults later rose);
+    no_fault = λ rose. served.no_fault (rose-before old.flash.counts.faults start.counts.faults new.flash.counts.faults later rose);
     no_file_fault = served.no_file_fault;
     no_source_fault = served.no_source_fault;
     no_sink_fault = served.no_sink_fault;
   }
 
   -- a way on which nothing was touched, seen through places
-  untouched-seen : (p : Places) → status ≢ 0 → journal ≡ [] → Way passes tells asked (given_to asked list files source) journal status (noted said) old new taken takes was are
-      → Way passes tells asked (given_to asked list files source) journal status (noted said) (seen_at p old) (seen_at p new) taken takes was are
+  untouched-seen : (p : Places) → end.status ≢ 0 → end.journal ≡ [] → Way passes device.tells inputs.asked (given_to inputs) (in_model end) old new
+      → Way passes device.tells inputs.asked (given_to inputs) (in_model end) (record old { flash = seen_at p old.flash }) (record new { flash = seen_at p new.flash })
   untouched-seen p other none (way.starved empty same nine quiet same_bytes) = way.starved empty (ap (seen_at p) same) nine quiet same_bytes
   untouched-seen p other none (way.refused planned line empty same why prints) = way.refused planned line empty (ap (seen_at p) same) why prints
-  untouched-seen p other none (way.ran calls on from good asks has before does ended printed) = absurd (none-ended calls journal status (noted said) none other ended)
+  untouched-seen p other none (way.ran calls on from good asks has before does ended printed) = absurd (none-ended calls end.journal end.status (noted end.noted) none other ended)
 
-  gives-all : (image : List ℕ) (p : Places) → TableGives blocks image p → lacked_in blocks image ≡ None
-  gives-all image p gives = ap (lacked_of blocks) gives.decides ∙ ap lacked_by gives.gives
+  gives-all : (image : List ℕ) (p : Places) → TableGives device.blocks image p → lacked_in device.blocks image ≡ None
+  gives-all image p gives = ap (lacked_of device.blocks) gives.decides ∙ ap lacked_by gives.gives
 
-  complete-by-table : Ends → CompleteByTable passes tells blocks asked list files source journal status old new was are
+  complete-by-table : Ends → CompleteByTable passes device inputs end old new
   complete-by-table (untouched none same other beyond w) told p E s calls script clean gives premises asks is served no_cut =
-      ways-are-complete passes tells asked list files source journal status (noted said) (seen_at p old) (seen_at p new) taken takes was are (untouched-seen p other none w) told E s calls script premises asks is served
+      ways-are-complete passes device.tells inputs (in_model end) (record old { flash = seen_at p old.flash }) (record new { flash = seen_at p new.flash }) (untouched-seen p other none w) told E s calls script premises asks is served
   complete-by-table (starved calls reads none looks nine quiet same) told p E s asked_calls script clean gives premises asks is served no_cut = inr nine
   complete-by-table (lacked calls why reads none looks lacks noted_is prints) told p E s asked_calls script clean gives premises asks is served no_cut =
-      let one = gives-all old.told.now p gives in
-      let other : lacked_in blocks old.told.now ≡ Some why = subst (λ (image : List ℕ). lacked_in blocks image ≡ Some why) (woken-now old.told new.told clean (looks.wakes told)) (lacks told) in
+      let one = gives-all old.flash.told.now p gives in
+      let other : lacked_in device.blocks old.flash.told.now ≡ Some why = subst (λ (image : List ℕ). lacked_in device.blocks image ≡ Some why) (woken-now old.flash.told new.flash.told clean (looks.wakes told)) (lacks told) in
       absurd (cc)
   complete-by-table (stopped calls reads none stops noted_is prints) told p E s asked_calls script clean gives premises asks is served no_cut = absurd (caused stops.cause)
     where
-      caused : Rose old.counts.faults new.counts.faults ⊎ Rose old.counts.cuts new.counts.cuts → ⊥
+      caused : Rose old.flash.counts.faults new.flash.counts.faults ⊎ Rose old.flash.counts.cuts new.flash.counts.cuts → ⊥
       caused (inl fault) = served.no_fault fault
       caused (inr cut) = no_cut none cut
   complete-by-table (ran calls q start on from reads starts before does beside ended beyond printed) told p E s asked_calls script clean gives premises asks is served no_cut =
-      (promised passes tells asked list files source journal status (noted said) (seen_at q start) (seen_at q new) taken takes was are
+      (promised passes device.tells inputs (in_model end) (record old { flash = seen_at q start }) (record new { flash = seen_at q new.flash })
       (way.ran calls on from reads.good reads.asks reads.has before does ended printed)).complete told E s asked_calls script
       (start-premises told clean p q start starts gives E s premises) asks is (served-from asked_calls p q start script starts.waits.falls.faults served)
 
   -- ---- where no turn ran
 
-  module _ (p : Places) (clean : NothingDirty old.told) (gives : TableGives blocks old.told.now p) where
+  module _ (p : Places) (clean : NothingDirty old.flash.told) (gives : TableGives device.blocks old.flash.told.now p) where
     -- on a device with nothing dirty that has the bytes that it had
-    kept-same : (mid : Told) → NothingDirty mid → mid.now ≡ old.told.now → KeepsFlash blocks p gives.table old.told mid
+    kept-same : (mid : Told) → NothingDirty mid → mid.now ≡ old.flash.told.now → KeepsFlash device.blocks p gives.table old.flash.told mid
     kept-same mid mid_clean same = record {
       same = λ image may. ap (through p) (image_is_now mid image mid_clean may ∙ same);
-      decides = λ guarded image may. subst (DecidesTable blocks gives.table) (sym (image_is_now mid image mid_clean may ∙ same)) (gives.which, gives.decides);
+      decides = λ guarded image may. subst (DecidesTable device.blocks gives.table) (sym (image_is_now mid image mid_clean may ∙ same)) (gives.which, gives.decides);
     }
 
-    kept-woken : (mid : Told) → Wakes old.told mid → KeepsFlash blocks p gives.table old.told mid
-    kept-woken mid wakes = kept-same mid (woken-clean old.told mid wakes) (woken-now old.told mid clean wakes)
+    kept-woken : (mid : Told) → Wakes old.flash.told mid → KeepsFlash device.blocks p gives.table old.flash.told mid
+    kept-woken mid wakes = kept-same mid (woken-clean old.flash.told mid wakes) (woken-now old.flash.told mid clean wakes)
 
     -- where the repair of the table was stopped
-    kept-mending : (woken : Told) → Wakes old.told woken → StopsMending blocks woken new.told → KeepsFlash blocks p gives.table old.told new.told
+    kept-mending : (woken : Told) → Wakes old.flash.told woken → StopsMending device.blocks woken new.flash.told → KeepsFlash device.blocks p gives.table old.flash.told new.flash.told
     kept-mending woken wakes stops =
-        let there : table_in_image blocks old.told.now ≡ Some (stops.table, stops.which) = subst (λ (image : List ℕ). table_in_image blocks image ≡ Some (stops.table, stops.which)) (woken-now old.told woken clean wakes) stops.decides in
+        let there : table_in_image device.blocks old.flash.told.now ≡ Some (stops.table, stops.which) = subst (λ (image : List ℕ). table_in_image device.blocks image ≡ Some (stops.table, stops.which)) (woken-now old.flash.told woken clean wakes) stops.decides in
         let table = same-pair stops.table gives.table stops.which gives.which (sym there ∙ gives.decides) in
-        let places : places_of blocks stops.table ≡ Ok p = ap (places_of blocks) table ∙ gives.gives in
+        let places : places_of device.blocks stops.table ≡ Ok p = ap (places_of device.blocks) table ∙ gives.gives in
         record {
-          same = λ image may. repair-keeps blocks stops.table stops.which p woken new.told image places (woken-clean old.told woken wakes) stops.beside may
-              ∙ ap (through p) (woken-now old.told woken clean wakes);
-          decides = λ guarded image may. subst (λ (t : Table). DecidesTable blocks t image) table
-              (stops.stays (subst (HeadersGuarded blocks) (sym (woken-same old.told woken clean wakes)) guarded) image may);
+          same = λ image may. repair-keeps device.blocks stops.table stops.which p woken new.flash.told image places (woken-clean old.flash.told woken wakes) stops.beside may
+              ∙ ap (through p) (woken-now old.flash.told woken clean wakes);
+          decides = λ guarded image may. subst (λ (t : Table). DecidesTable device.blocks t image) table
+              (stops.stays (subst (HeadersGuarded device.blocks) (sym (woken-same old.flash.told woken clean wakes)) guarded) image may);
         }
 
-    kept-stopped : (woken : Told) → Wakes old.told woken → (new.told ≡ woken) ⊎ StopsMending blocks woken new.told → KeepsFlash blocks p gives.table old.told new.told
-    kept-stopped woken wakes (inl same) = subst (KeepsFlash blocks p gives.table old.told) (sym same) (kept-woken woken wakes)
+    kept-stopped : (woken : Told) → Wakes old.flash.told woken → (new.flash.told ≡ woken) ⊎ StopsMending device.blocks woken new.flash.told → KeepsFlash device.blocks p gives.table old.flash.told new.flash.told
+    kept-stopped woken wakes (inl same) = subst (KeepsFlash device.blocks p gives.table old.flash.told) (sym same) (kept-woken woken wakes)
     kept-stopped woken wakes (inr stops) = kept-mending woken wakes stops
 
-  kept-by-table : Ends → KeptByTable tells blocks journal status old new
-  kept-by-table (untouched none same other beyond w) told p clean gives empty some = kept-same p clean gives new.told (subst (λ (m : Moment). NothingDirty m.told) (sym same) clean) (ap (λ (m : Moment). m.told.now) same)
-  kept-by-table (starved calls reads none looks nine quiet same) told p clean gives empty some = kept-woken p clean gives new.told (looks.wakes told)
-  kept-by-table (lacked calls why reads none looks lacks noted_is prints) told p clean gives empty some = kept-woken p clean gives new.told (looks.wakes told)
+  kept-by-table : Ends → KeptByTable device end old.flash new.flash
+  kept-by-table (untouched none same other beyond w) told p clean gives empty some = kept-same p clean gives new.flash.told (subst (λ (m : Moment). NothingDirty m.told) (sym same) clean) (ap (λ (m : Moment). m.told.now) same)
+  kept-by-table (starved calls reads none looks nine quiet same) told p clean gives empty some = kept-woken p clean gives new.flash.told (looks.wakes told)
+  kept-by-table (lacked calls why reads none looks lacks noted_is prints) told p clean gives empty some = kept-woken p clean gives new.flash.told (looks.wakes told)
   kept-by-table (stopped calls reads none stops noted_is prints) told p clean gives empty some = kept-stopped p clean gives stops.woken (stops.wakes told) (stops.left told)
-  kept-by-table (ran calls q start on from reads starts before does beside ended beyond printed) told p clean gives empty some = absurd (none-ended calls journal status (noted said) empty some ended)
+  kept-by-table (ran calls q start on from reads starts before does beside ended beyond printed) told p clean gives empty some = absurd (none-ended calls end.journal end.status (noted end.noted) empty some ended)
 
-  pub promised-by-table : Ends → PromisedByTable passes tells blocks asked list files source journal status said old new taken takes was are
+  pub promised-by-table : Ends → PromisedByTable passes device inputs end old new
   promised-by-table w = record {
     way = w;
     run = runs-by-table w;

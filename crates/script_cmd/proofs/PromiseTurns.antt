@@ -79,22 +79,22 @@ early-not-ran status early is =
 -- ---- what printing makes of a status
 
 -- at no other status than 3 and 9 the line was printed
-pub printed-plan : (piece : List ℕ) (plan status : ℕ) (old new : Option (List ℕ)) (was are : ℕ) → Prints piece plan status old new was are → IsFalse (may_lack status) → status ≡ plan
-printed-plan piece plan status old new was are (all is bytes later) lacks = is
-printed-plan piece plan status old new was are (front is n bytes later rose) lacks = absurd (false≢true (sym (subst (λ (k : ℕ). IsFalse (may_lack k)) is lacks)))
-printed-plan piece plan status old new was are (nothing is same later) lacks = absurd (false≢true (sym (subst (λ (k : ℕ). IsFalse (may_lack k)) is lacks)))
+pub printed-plan : (piece : List ℕ) (plan status : ℕ) (old new : Option (List ℕ)) (faults_before faults_after : ℕ) → Prints piece plan status old new faults_before faults_after → IsFalse (may_lack status) → status ≡ plan
+printed-plan piece plan status old new faults_before faults_after (all is bytes later) lacks = is
+printed-plan piece plan status old new faults_before faults_after (front is n bytes later rose) lacks = absurd (false≢true (sym (subst (λ (k : ℕ). IsFalse (may_lack k)) is lacks)))
+printed-plan piece plan status old new faults_before faults_after (nothing is same later) lacks = absurd (false≢true (sym (subst (λ (k : ℕ). IsFalse (may_lack k)) is lacks)))
 
 -- a status is the planned one, or one that a sink gives: what holds of these holds of it
-pub by-plan : (piece : List ℕ) (plan status : ℕ) (old new : Option (List ℕ)) (was are : ℕ) → Prints piece plan status old new was are
+pub by-plan : (piece : List ℕ) (plan status : ℕ) (old new : Option (List ℕ)) (faults_before faults_after : ℕ) → Prints piece plan status old new faults_before faults_after
     → (f : ℕ → Bool) → IsTrue (f 3) → IsTrue (f 9) → IsTrue (f plan) → IsTrue (f status)
-by-plan piece plan status old new was are (all is bytes later) f three nine h = subst (λ (k : ℕ). IsTrue (f k)) (sym is) h
-by-plan piece plan status old new was are (front is n bytes later rose) f three nine h = subst (λ (k : ℕ). IsTrue (f k)) (sym is) three
-by-plan piece plan status old new was are (nothing is same later) f three nine h = subst (λ (k : ℕ). IsTrue (f k)) (sym is) nine
+by-plan piece plan status old new faults_before faults_after (all is bytes later) f three nine h = subst (λ (k : ℕ). IsTrue (f k)) (sym is) h
+by-plan piece plan status old new faults_before faults_after (front is n bytes later rose) f three nine h = subst (λ (k : ℕ). IsTrue (f k)) (sym is) three
+by-plan piece plan status old new faults_before faults_after (nothing is same later) f three nine h = subst (λ (k : ℕ). IsTrue (f k)) (sym is) nine
 
-pub printed-rose : (piece : List ℕ) (plan status : ℕ) (old new : Option (List ℕ)) (was are : ℕ) → Prints piece plan status old new was are → plan ≢ 3 → status ≡ 3 → Rose was are
-printed-rose piece plan status old new was are (all is bytes later) other three = absurd (other (sym is ∙ three))
-printed-rose piece plan status old new was are (front is n bytes later rose) other three = rose
-printed-rose piece plan status old new was are (nothing is same later) other three = absurd (omega arith)
+pub printed-rose : (piece : List ℕ) (plan status : ℕ) (old new : Option (List ℕ)) (faults_before faults_after : ℕ) → Prints piece plan status old new faults_before faults_after → plan ≢ 3 → status ≡ 3 → Rose faults_before faults_after
+printed-rose piece plan status old new faults_before faults_after (all is bytes later) other three = absurd (other (sym is ∙ three))
+printed-rose piece plan status old new faults_before faults_after (front is n bytes later rose) other three = rose
+printed-rose piece plan status old new faults_before faults_after (nothing is same later) other three = absurd (omega arith)
 
 -- ---- what is said of a value where there is one
 

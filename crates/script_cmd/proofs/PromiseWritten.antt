@@ -12,10 +12,12 @@ use Rattle.fwu_model.specs.Allow.{list_bytes}
 use Rattle.fwu_model.specs.Causes.{Faults}
 use Rattle.fwu_model.specs.Wrote.{Wrote, StopsAlone, may_lack, not_read_line, usage_line, too_long_line, bad_script_line, bad_list_line, IsBadScript, IsBadList}
 use Rattle.fwu_words.specs.Order.{Asked}
+use Rattle.script_cmd.specs.Ending.{World}
 use Rattle.script_cmd.specs.Printed.{Prints, all, front, nothing}
 use Rattle.script_cmd.specs.Running.{Writes}
 use Rattle.script_cmd.specs.Ways.{Given, Refuses, usage, not_read, list_not_read, too_long, bad_script, bad_list, starved, refused, ran}
 use Rattle.script_cmd.specs.Promises.{WroteHolds, WaysWrite}
+use Rattle.script_cmd.proofs.Shapes.{end-of}
 use Rattle.script_cmd.proofs.PromiseTurns.{is_ran, none-ended, ran-at, ran-status, early-not-ran}
 
 appended : (old new : Option (List ℕ)) (piece before : List ℕ) → old ≡ Some before → Appends old new piece → new ≡ Some (before ++ piece)
@@ -74,51 +76,51 @@ module _ (Alone : ℕ → Note → List ℕ → Type 0) (script list : Option (L
       wrote-alone (take n line) (λ e. absurd (omega arith)) (λ e. absurd (omega arith)) (λ e. absurd (omega arith)) (λ e. absurd (omega arith)) (λ e. absurd (omega arith))
       (λ e. omega arith) (λ e. record { no_turns = refl; planned = planned; line = line; alone = alone; front = (drop n line, take-append-drop n line) }) (λ e. absurd (omega arith))
 
-module _ (asked : Option Asked) (g : Given) (was are : Faults) (status : ℕ) where
-  wrote-line : (planned : ℕ) (noted : Note) (line : List ℕ) → Refuses asked g was are planned noted line → status ≡ planned → Wrote (Refuses asked g was are) g.script (list_bytes g.list g.files) status noted [] line
+module _ (asked : Option Asked) (g : Given) (faults_before faults_after : Faults) (status : ℕ) where
+  wrote-line : (planned : ℕ) (noted : Note) (line : List ℕ) → Refuses asked g faults_before faults_after planned noted line → status ≡ planned → Wrote (Refuses asked g faults_before faults_after) g.script (list_bytes g.list g.files) status noted [] line
   wrote-line planned noted line (usage good none) is =
-      wrote-alone (Refuses asked g was are) g.script (list_bytes g.list g.files) status noted line (λ e. refl) (λ e. absurd (omega arith)) (λ e. absurd (omega arith)) (λ e. absurd (omega arith)) (λ e. absurd (omega arith))
+      wrote-alone (Refuses asked g faults_before faults_after) g.script (list_bytes g.list g.files) status noted line (λ e. refl) (λ e. absurd (omega arith)) (λ e. absurd (omega arith)) (λ e. absurd (omega arith)) (λ e. absurd (omega arith))
       (λ e. omega arith) (λ e. absurd (omega arith)) (λ e. absurd (omega arith))
   wrote-line planned noted line (not_read good run rose) is =
-      wrote-alone (Refuses asked g was are) g.script (list_bytes g.list g.files) status noted line (λ e. absurd (omega arith)) (λ e. refl) (λ e. absurd (omega arith)) (λ e. absurd (omega arith)) (λ e. absurd (omega arith))
+      wrote-alone (Refuses asked g faults_before faults_after) g.script (list_bytes g.list g.files) status noted line (λ e. absurd (omega arith)) (λ e. refl) (λ e. absurd (omega arith)) (λ e. absurd (omega arith)) (λ e. absurd (omega arith))
       (λ e. omega arith) (λ e. absurd (omega arith)) (λ e. absurd (omega arith))
   wrote-line planned noted line (list_not_read some why) is =
-      wrote-alone (Refuses asked g was are) g.script (list_bytes g.list g.files) status noted line (λ e. absurd (omega arith)) (λ e. refl) (λ e. absurd (omega arith)) (λ e. absurd (omega arith)) (λ e. absurd (omega arith))
+      wrote-alone (Refuses asked g faults_before faults_after) g.script (list_bytes g.list g.files) status noted line (λ e. absurd (omega arith)) (λ e. refl) (λ e. absurd (omega arith)) (λ e. absurd (omega arith)) (λ e. absurd (omega arith))
       (λ e. omega arith) (λ e. absurd (omega arith)) (λ e. absurd (omega arith))
   wrote-line planned noted line (too_long good run long) is =
-      wrote-alone (Refuses asked g was are) g.script (list_bytes g.list g.files) status noted line (λ e. absurd (omega arith)) (λ e. absurd (omega arith)) (λ e. absurd (omega arith)) (λ e. refl) (λ e. absurd (omega arith))
+      wrote-alone (Refuses asked g faults_before faults_after) g.script (list_bytes g.list g.files) status noted line (λ e. absurd (omega arith)) (λ e. absurd (omega arith)) (λ e. absurd (omega arith)) (λ e. refl) (λ e. absurd (omega arith))
       (λ e. omega arith) (λ e. absurd (omega arith)) (λ e. absurd (omega arith))
   wrote-line planned noted line (bad_script n good asks short bad) is =
-      wrote-alone (Refuses asked g was are) g.script (list_bytes g.list g.files) status noted line (λ e. absurd (omega arith)) (λ e. absurd (omega arith)) (λ e. (n, refl, bad, refl)) (λ e. absurd (omega arith)) (λ e. absurd (omega arith))
+      wrote-alone (Refuses asked g faults_before faults_after) g.script (list_bytes g.list g.files) status noted line (λ e. absurd (omega arith)) (λ e. absurd (omega arith)) (λ e. (n, refl, bad, refl)) (λ e. absurd (omega arith)) (λ e. absurd (omega arith))
       (λ e. omega arith) (λ e. absurd (omega arith)) (λ e. absurd (omega arith))
   wrote-line planned noted line (bad_list n some there bad) is =
-      wrote-alone (Refuses asked g was are) g.script (list_bytes g.list g.files) status noted line (λ e. absurd (omega arith)) (λ e. absurd (omega arith)) (λ e. absurd (omega arith)) (λ e. absurd (omega arith)) (λ e. (n, refl, bad, refl))
+      wrote-alone (Refuses asked g faults_before faults_after) g.script (list_bytes g.list g.files) status noted line (λ e. absurd (omega arith)) (λ e. absurd (omega arith)) (λ e. absurd (omega arith)) (λ e. absurd (omega arith)) (λ e. (n, refl, bad, refl))
       (λ e. omega arith) (λ e. absurd (omega arith)) (λ e. absurd (omega arith))
 
-  stays : (taken takes : Option (List ℕ)) (before : List ℕ) → taken ≡ Some before → takes ≡ taken → takes ≡ Some (before ++ [])
-  stays taken takes before is same = same ∙ is ∙ ap Some (sym (append-nil before))
+  stays : (taken_before taken_after : Option (List ℕ)) (before : List ℕ) → taken_before ≡ Some before → taken_after ≡ taken_before → taken_after ≡ Some (before ++ [])
+  stays taken_before taken_after before is same = same ∙ is ∙ ap Some (sym (append-nil before))
 
-  refused-writes : (planned : ℕ) (noted : Note) (line : List ℕ) (taken takes : Option (List ℕ)) (low high : ℕ) → Refuses asked g was are planned noted line → Prints line planned status taken takes low high
-      → WroteHolds asked g [] status noted taken takes was are
-  refused-writes planned noted line taken takes low high why (all is bytes later) before told =
-      (line, appended taken takes line before told bytes, wrote-line planned noted line why is)
-  refused-writes planned noted line taken takes low high why (front is n bytes later rose) before told =
-      (take n line, appended taken takes (take n line) before told bytes, wrote-front (Refuses asked g was are) g.script (list_bytes g.list g.files) status noted planned line n why is)
-  refused-writes planned noted line taken takes low high why (nothing is same later) before told =
-      ([], stays taken takes before told same, wrote-nothing (Refuses asked g was are) g.script (list_bytes g.list g.files) status noted is)
+refused-writes : (asked : Option Asked) (g : Given) (status planned : ℕ) (noted : Note) (line : List ℕ) (old new : World) → Refuses asked g old.faults new.faults planned noted line
+    → Prints line planned status old.taken new.taken old.faults.sink new.faults.sink → WroteHolds asked g (end-of [] status noted) old new
+refused-writes asked g status planned noted line old new why (all is bytes later) before told =
+    (line, appended old.taken new.taken line before told bytes, wrote-line asked g old.faults new.faults status planned noted line why is)
+refused-writes asked g status planned noted line old new why (front is n bytes later rose) before told =
+    (take n line, appended old.taken new.taken (take n line) before told bytes, wrote-front (Refuses asked g old.faults new.faults) g.script (list_bytes g.list g.files) status noted planned line n why is)
+refused-writes asked g status planned noted line old new why (nothing is same later) before told =
+    ([], stays asked g old.faults new.faults status old.taken new.taken before told same, wrote-nothing (Refuses asked g old.faults new.faults) g.script (list_bytes g.list g.files) status noted is)
 
 pub ways-write : WaysWrite
-ways-write passes tells asked g journal status noted old new taken takes was are (starved empty same nine quiet stuck) before told = (
+ways-write passes tells asked g end old new (starved empty same nine quiet stuck) before told = (
   [],
-  stays asked g was are status taken takes before told stuck,
-  subst (λ (j : List Turn). Wrote (Refuses asked g was are) g.script (list_bytes g.list g.files) status noted j []) (sym empty) (wrote-nothing (Refuses asked g was are) g.script (list_bytes g.list g.files) status noted nine),
+  stays asked g old.faults new.faults end.status old.taken new.taken before told stuck,
+  subst (λ (j : List Turn). Wrote (Refuses asked g old.faults new.faults) g.script (list_bytes g.list g.files) end.status end.noted j []) (sym empty) (wrote-nothing (Refuses asked g old.faults new.faults) g.script (list_bytes g.list g.files) end.status end.noted nine),
 )
-ways-write passes tells asked g journal status noted old new taken takes was are (refused planned line empty same why prints) before told =
-    subst (λ (j : List Turn). WroteHolds asked g j status noted taken takes was are) (sym empty) (refused-writes asked g was are status planned noted line taken takes was.sink are.sink why prints) before told
-ways-write passes tells asked g journal status noted old new taken takes was are (ran calls on from good asks has later turns ended printed) before told =
+ways-write passes tells asked g end old new (refused planned line empty same why prints) before told =
+    subst (λ (j : List Turn). WroteHolds asked g (record end { journal = j }) old new) (sym empty) (refused-writes asked g end.status planned end.noted line old new why prints) before told
+ways-write passes tells asked g end old new (ran calls on from good asks has later turns ended printed) before told =
     let h = printed.bytes before told in (
       h.0,
       h.1,
-      wrote-turns (Refuses asked g was are) g.script (list_bytes g.list g.files) status noted journal h.0 (ran-status calls journal status noted ended)
-          (λ empty two. none-ended calls journal status noted empty (λ zero_is. absurd (omega arith)) ended) h.2,
+      wrote-turns (Refuses asked g old.faults new.faults) g.script (list_bytes g.list g.files) end.status end.noted end.journal h.0 (ran-status calls end.journal end.status end.noted ended)
+          (λ empty two. none-ended calls end.journal end.status end.noted empty (λ zero_is. absurd (omega arith)) ended) h.2,
     )

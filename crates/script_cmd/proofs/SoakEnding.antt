@@ -26,6 +26,7 @@ use Rattle.script_cmd.specs.Printed.{Prints}
 use Rattle.script_cmd.specs.Running.{Ran}
 use Rattle.script_cmd.specs.Soaking.{Stands, goes, starved, ended, first_files, soak_files, stop_line}
 use Rattle.script_cmd.specs.SoakWays.{SoakEnds, all_done, lacking, stopped}
+use Rattle.script_cmd.proofs.Shapes.{end-of}
 
 -- ---- the calls and the files
 
@@ -66,15 +67,15 @@ module _ (tells : Bool) (all : Directory) (calls : List Call) (journal : List Tu
   stands-ran (starved nine quiet front less going) = going.ran
   stands-ran (ended front t is less ran none ends read status_is noted_is text_is) = ran
 
-module _ (tells : Bool) (all : Directory) (rounds : ℕ) (calls : List Call) (journal : List Turn) (old new : Moment) (stand : ℕ) (noted : Note) (text : List ℕ) (status : ℕ) (taken takes : Option (List ℕ)) (was are : ℕ) where
-  pub ends-by : (stand ≡ 0 → Prints (soak_line rounds journal) 0 status taken takes was are) → (stand ≡ 9 → status ≡ 9) → (stand ≡ 9 → takes ≡ taken) → (stand ≡ 9 → was ≤ are)
-      → (stand ≢ 0 → stand ≢ 9 → Prints text stand status taken takes was are)
-      → Stands tells all calls journal old new stand noted text → SoakEnds rounds calls journal status noted taken takes was are
+module _ (tells : Bool) (all : Directory) (rounds : ℕ) (calls : List Call) (journal : List Turn) (old new : Moment) (stand : ℕ) (noted : Note) (text : List ℕ) (status : ℕ) (taken_before taken_after : Option (List ℕ)) (faults_before faults_after : ℕ) where
+  pub ends-by : (stand ≡ 0 → Prints (soak_line rounds journal) 0 status taken_before taken_after faults_before faults_after) → (stand ≡ 9 → status ≡ 9) → (stand ≡ 9 → taken_after ≡ taken_before) → (stand ≡ 9 → faults_before ≤ faults_after)
+      → (stand ≢ 0 → stand ≢ 9 → Prints text stand status taken_before taken_after faults_before faults_after)
+      → Stands tells all calls journal old new stand noted text → SoakEnds rounds calls (end-of journal status noted) taken_before taken_after faults_before faults_after
   ends-by whole nines same later stops (goes zero_is quiet empty going) = all_done going.calls_are going.none quiet (whole zero_is)
   ends-by whole nines same later stops (starved nine quiet front less going) =
       lacking (less.0, ap (λ (cs : List Call). cs ++ less.0) going.calls_are ∙ less.1) going.none quiet (nines nine) (same nine) (later nine)
   ends-by whole nines same later stops (ended front t is less ran none ends read status_is noted_is text_is) =
       stopped less front t is none ends read noted_is
-      (subst (λ (k : ℕ). Prints (stop_line t) k status taken takes was are) status_is
-      (subst (λ (l : List ℕ). Prints l stand status taken takes was are) text_is
+      (subst (λ (k : ℕ). Prints (stop_line t) k status taken_before taken_after faults_before faults_after) status_is
+      (subst (λ (l : List ℕ). Prints l stand status taken_before taken_after faults_before faults_after) text_is
       (stops (λ zero_is. no-zero t.reply ends (sym status_is ∙ zero_is)) (λ nine. no-nine t.reply (sym status_is ∙ nine)))))

@@ -40,6 +40,7 @@ use Rattle.gen_core.specs.Setup.{is_too_small, soak_layout}
 use Rattle.gen_core.proofs.Naming.{rounds-have-packages}
 use Rattle.script_turns.specs.Powered.{Moment, at}
 use Rattle.script_turns.specs.Turning.{NoneFalls}
+use Rattle.script_cmd.specs.Ending.{Device, Ending, World, in_model}
 use Rattle.script_cmd.specs.Formatting.{Formats, IsFormattable, Tries, format_status, format_text}
 use Rattle.script_cmd.specs.Formatting as format
 use Rattle.script_cmd.specs.Noted.{noted}
@@ -128,19 +129,19 @@ module _ (tells : Bool) (seed blocks : ℕ) (old start : Moment) (done : Formatt
 -- ---- statuses
 
 -- a status that is not the planned one, and neither that of the sink nor of memory
-not-plan : (piece : List ℕ) (plan status k : ℕ) (taken takes : Option (List ℕ)) (was are : ℕ) → Prints piece plan status taken takes was are → status ≡ k → (plan ≡ k → ⊥) → IsFalse (may_lack k) → ⊥
-not-plan piece plan status k taken takes was are prints is other whole =
-    other (sym (printed-plan piece plan status taken takes was are prints (ap may_lack is ∙ whole)) ∙ is)
+not-plan : (piece : List ℕ) (plan status k : ℕ) (taken_before taken_after : Option (List ℕ)) (faults_before faults_after : ℕ) → Prints piece plan status taken_before taken_after faults_before faults_after → status ≡ k → (plan ≡ k → ⊥) → IsFalse (may_lack k) → ⊥
+not-plan piece plan status k taken_before taken_after faults_before faults_after prints is other whole =
+    other (sym (printed-plan piece plan status taken_before taken_after faults_before faults_after prints (ap may_lack is ∙ whole)) ∙ is)
 
-at-zero : (piece : List ℕ) (status : ℕ) (taken takes : Option (List ℕ)) (was are : ℕ) → Prints piece 0 status taken takes was are → status ≡ 0 → Appends taken takes piece
-at-zero piece status taken takes was are (all is bytes later) zero_is = bytes
-at-zero piece status taken takes was are (front is k bytes later rose) zero_is = absurd (omega arith)
-at-zero piece status taken takes was are (nothing is same later) zero_is = absurd (omega arith)
+at-zero : (piece : List ℕ) (status : ℕ) (taken_before taken_after : Option (List ℕ)) (faults_before faults_after : ℕ) → Prints piece 0 status taken_before taken_after faults_before faults_after → status ≡ 0 → Appends taken_before taken_after piece
+at-zero piece status taken_before taken_after faults_before faults_after (all is bytes later) zero_is = bytes
+at-zero piece status taken_before taken_after faults_before faults_after (front is k bytes later rose) zero_is = absurd (omega arith)
+at-zero piece status taken_before taken_after faults_before faults_after (nothing is same later) zero_is = absurd (omega arith)
 
-printed : (piece : List ℕ) (status : ℕ) (taken takes : Option (List ℕ)) (was are : ℕ) → (Rose was are → ⊥) → Prints piece 0 status taken takes was are → (status ≡ 0) ⊎ (status ≡ 9)
-printed piece status taken takes was are fails (all is bytes later) = inl is
-printed piece status taken takes was are fails (front is k bytes later rose) = absurd (fails rose)
-printed piece status taken takes was are fails (nothing is same later) = inr is
+printed : (piece : List ℕ) (status : ℕ) (taken_before taken_after : Option (List ℕ)) (faults_before faults_after : ℕ) → (Rose faults_before faults_after → ⊥) → Prints piece 0 status taken_before taken_after faults_before faults_after → (status ≡ 0) ⊎ (status ≡ 9)
+printed piece status taken_before taken_after faults_before faults_after fails (all is bytes later) = inl is
+printed piece status taken_before taken_after faults_before faults_after fails (front is k bytes later rose) = absurd (fails rose)
+printed piece status taken_before taken_after faults_before faults_after fails (nothing is same later) = inr is
 
 stop-other : (stop : FormatStop) → format_status (Err stop) ≡ 0 → ⊥
 stop-other (Input f) is = omega arith
@@ -167,8 +168,8 @@ turn-five r is = absurd (omega arith)
 
 -- ---- a list
 
-module _ (seed n : ℕ) (g : Given) (was are : Faults) where
-  planned-two : (planned : ℕ) (told : model.Note) (line : List ℕ) → Refuses (Some (ask.soak seed n)) g was are planned told line → (planned ≡ 2) ⊎ (planned ≡ 13)
+module _ (seed n : ℕ) (g : Given) (faults_before faults_after : Faults) where
+  planned-two : (planned : ℕ) (told : model.Note) (line : List ℕ) → Refuses (Some (ask.soak seed n)) g faults_before faults_after planned told line → (planned ≡ 2) ⊎ (planned ≡ 13)
   planned-two planned told line (usage good is) = cc
   planned-two planned told line (not_read good is rose) = cc
   planned-two planned told line (list_not_read some why) = inl refl
@@ -181,7 +182,7 @@ module _ (seed n : ℕ) (g : Given) (was are : Faults) where
   other-plan planned k (inl two) no2 no13 is = no2 (sym is ∙ two)
   other-plan planned k (inr thirteen) no2 no13 is = no13 (sym is ∙ thirteen)
 
-  refuses-none : HasSoakList g was are → (planned : ℕ) (told : model.Note) (line : List ℕ) → Refuses (Some (ask.soak seed n)) g was are planned told line → ⊥
+  refuses-none : HasSoakList g faults_before faults_after → (planned : ℕ) (told : model.Note) (line : List ℕ) → Refuses (Some (ask.soak seed n)) g faults_before faults_after planned told line → ⊥
   refuses-none has planned told line (usage good is) = cc
   refuses-none has planned told line (not_read good is rose) = cc
   refuses-none has planned told line (list_not_read some (inl rose)) = has.read rose
@@ -245,97 +246,97 @@ last-in journal before t is = subst (λ (ts : List Turn). Contains ts t) (sym is
 
 -- ---- all
 
-module _ (tells : Bool) (g : Given) (seed n blocks : ℕ) (journal : List Turn) (status : ℕ) (said : Note) (old new : Moment) (taken takes : Option (List ℕ)) (was are : Faults) where
-  lists : SoakWay tells g seed n blocks journal status said old new taken takes was are → RefusesBadList g old new status was are
-  lists (list_refused none same quiet refused) = refused-list g old new status was are (ask.soak seed n) (noted said) taken takes same refused
-  lists (starved none same nine is stuck) = starved-list g old new status was are same nine
-  lists (too_small good small none same is prints) = good-list-kept g old new status was are good
-  lists (not_formatted good large none stop t is prints) = good-list-kept g old new status was are good
-  lists (ran good large done start on t off power turns ends quiet) = good-list-kept g old new status was are good
+module _ (device : Device) (g : Given) (seed n : ℕ) (end : Ending Note) (old new : World) where
+  lists : SoakWay device g seed n end old new → RefusesBadList g old.flash new.flash end.status old.faults new.faults
+  lists (list_refused none same quiet refused) = refused-list g old.flash new.flash end.status old.faults new.faults (ask.soak seed n) (noted end.noted) old.taken new.taken same refused
+  lists (starved none same nine is stuck) = starved-list g old.flash new.flash end.status old.faults new.faults same nine
+  lists (too_small good small none same is prints) = good-list-kept g old.flash new.flash end.status old.faults new.faults good
+  lists (not_formatted good large none stop t is prints) = good-list-kept g old.flash new.flash end.status old.faults new.faults good
+  lists (ran good large done start on t off power turns ends quiet) = good-list-kept g old.flash new.flash end.status old.faults new.faults good
 
-  ends-front : SoakEnds n (soak_calls seed n) journal status (noted said) taken takes was.sink are.sink → IsPrefixOf (calls_of journal) (soak_calls seed n)
-  ends-front (all_done calls none quiet prints) = ([], append-nil (calls_of journal) ∙ calls)
+  ends-front : SoakEnds n (soak_calls seed n) (in_model end) old.taken new.taken old.faults.sink new.faults.sink → IsPrefixOf (calls_of end.journal) (soak_calls seed n)
+  ends-front (all_done calls none quiet prints) = ([], append-nil (calls_of end.journal) ∙ calls)
   ends-front (lacking less none quiet nine stuck later) = less
   ends-front (stopped less before t is none ends read quiet prints) = less
 
-  ends-done : SoakEnds n (soak_calls seed n) journal status (noted said) taken takes was.sink are.sink → status ≡ 0 → (calls_of journal ≡ soak_calls seed n) × Appends taken takes (soak_line n journal)
-  ends-done (all_done calls none quiet prints) zero_is = (calls, at-zero (soak_line n journal) status taken takes was.sink are.sink prints zero_is)
+  ends-done : SoakEnds n (soak_calls seed n) (in_model end) old.taken new.taken old.faults.sink new.faults.sink → end.status ≡ 0 → (calls_of end.journal ≡ soak_calls seed n) × Appends old.taken new.taken (soak_line n end.journal)
+  ends-done (all_done calls none quiet prints) zero_is = (calls, at-zero (soak_line n end.journal) end.status old.taken new.taken old.faults.sink new.faults.sink prints zero_is)
   ends-done (lacking less none quiet nine stuck later) zero_is = absurd (omega arith)
-  ends-done (stopped less before t is none ends read quiet prints) zero_is = absurd (not-done (stop_line t) (status_by t.reply) status taken takes was.sink are.sink (turn-some t.reply ends) prints zero_is)
+  ends-done (stopped less before t is none ends read quiet prints) zero_is = absurd (not-done (stop_line t) (status_by t.reply) end.status old.taken new.taken old.faults.sink new.faults.sink (turn-some t.reply ends) prints zero_is)
 
-  machines : SoakWay tells g seed n blocks journal status said old new taken takes was are → IsTrue tells → Guards 1 7 old.told → (Rose old.counts.chances new.counts.chances → ⊥) → journal ≢ [] → RunsSoak seed n journal status new
+  machines : SoakWay device g seed n end old new → IsTrue device.tells → Guards 1 7 old.flash.told → (Rose old.flash.counts.chances new.flash.counts.chances → ⊥) → end.journal ≢ [] → RunsSoak seed n end.journal end.status new.flash
   machines (list_refused none same quiet refused) told guards no_chance some = absurd (some none)
   machines (starved none same nine is stuck) told guards no_chance some = absurd (some none)
   machines (too_small good small none same is prints) told guards no_chance some = absurd (some none)
   machines (not_formatted good large none stop t is prints) told guards no_chance some = absurd (some none)
   machines (ran good large done start on t off power turns ends quiet) told guards no_chance some =
-      runs-soak tells seed blocks old start done t told n journal on new guards no_chance turns status (ends-front ends) (λ zero_is. (ends-done ends zero_is).0)
+      runs-soak device.tells seed device.blocks old.flash start done t told n end.journal on new.flash guards no_chance turns end.status (ends-front ends) (λ zero_is. (ends-done ends zero_is).0)
 
-  smalls : SoakWay tells g seed n blocks journal status said old new taken takes was are → IsTrue (is_too_small blocks) → (journal ≡ []) × (new ≡ old) × IsTrue ((status == 7) || (may_fail_before status || (status == 13)))
-  smalls (list_refused none same quiet (planned, line, why, prints)) small = (none, same, by-plan line planned status taken takes was.sink are.sink prints (λ k. (k == 7) || (may_fail_before k || (k == 13))) refl refl (by (planned-two seed n g was are planned (noted said) line why)))
+  smalls : SoakWay device g seed n end old new → IsTrue (is_too_small device.blocks) → (end.journal ≡ []) × (new.flash ≡ old.flash) × IsTrue ((end.status == 7) || (may_fail_before end.status || (end.status == 13)))
+  smalls (list_refused none same quiet (planned, line, why, prints)) small = (none, same, by-plan line planned end.status old.taken new.taken old.faults.sink new.faults.sink prints (λ k. (k == 7) || (may_fail_before k || (k == 13))) refl refl (by (planned-two seed n g old.faults new.faults planned (noted end.noted) line why)))
     where
       by : (planned ≡ 2) ⊎ (planned ≡ 13) → IsTrue ((planned == 7) || (may_fail_before planned || (planned == 13)))
       by (inl is) = rw is refl
       by (inr is) = rw is refl
   smalls (starved none same nine is stuck) small = (none, same, subst (λ (k : ℕ). IsTrue ((k == 7) || (may_fail_before k || (k == 13)))) (sym nine) refl)
-  smalls (too_small good small none same is prints) also = (none, same, by-plan too_small_line 7 status taken takes was.sink are.sink prints (λ k. (k == 7) || (may_fail_before k || (k == 13))) refl refl refl)
+  smalls (too_small good small none same is prints) also = (none, same, by-plan too_small_line 7 end.status old.taken new.taken old.faults.sink new.faults.sink prints (λ k. (k == 7) || (may_fail_before k || (k == 13))) refl refl refl)
   smalls (not_formatted good large none stop t is prints) small = absurd (false≢true (sym large ∙ small))
   smalls (ran good large done start on t off power turns ends quiet) small = absurd (false≢true (sym large ∙ small))
 
-  sevens : SoakWay tells g seed n blocks journal status said old new taken takes was are → status ≡ 7 → IsTrue tells → IsTrue (is_too_small blocks)
+  sevens : SoakWay device g seed n end old new → end.status ≡ 7 → IsTrue device.tells → IsTrue (is_too_small device.blocks)
   sevens (list_refused none same quiet (planned, line, why, prints)) seven told =
-      absurd (not-plan line planned status 7 taken takes was.sink are.sink prints seven (other-plan seed n g was are planned 7 (planned-two seed n g was are planned (noted said) line why) (λ e. omega arith) (λ e. omega arith)) refl)
+      absurd (not-plan line planned end.status 7 old.taken new.taken old.faults.sink new.faults.sink prints seven (other-plan seed n g old.faults new.faults planned 7 (planned-two seed n g old.faults new.faults planned (noted end.noted) line why) (λ e. omega arith) (λ e. omega arith)) refl)
   sevens (starved none same nine is stuck) seven told = absurd (omega arith)
   sevens (too_small good small none same is prints) seven told = small
-  sevens (not_formatted good large none (Input f) t is prints) seven told = absurd (no-input tells seed blocks old new f told large t)
-  sevens (not_formatted good large none ReadFailed t is prints) seven told = absurd (not-plan (format_text (Err ReadFailed)) 2 status 7 taken takes was.sink are.sink prints seven (λ e. omega arith) refl)
-  sevens (not_formatted good large none (Flash stop) t is prints) seven told = absurd (not-plan (format_text (Err (Flash stop))) 5 status 7 taken takes was.sink are.sink prints seven (λ e. omega arith) refl)
-  sevens (ran good large done start on t off power turns (all_done calls none quiet prints) beyond) seven told = absurd (not-plan (soak_line n journal) 0 status 7 taken takes was.sink are.sink prints seven (λ e. omega arith) refl)
+  sevens (not_formatted good large none (Input f) t is prints) seven told = absurd (no-input device.tells seed device.blocks old.flash new.flash f told large t)
+  sevens (not_formatted good large none ReadFailed t is prints) seven told = absurd (not-plan (format_text (Err ReadFailed)) 2 end.status 7 old.taken new.taken old.faults.sink new.faults.sink prints seven (λ e. omega arith) refl)
+  sevens (not_formatted good large none (Flash stop) t is prints) seven told = absurd (not-plan (format_text (Err (Flash stop))) 5 end.status 7 old.taken new.taken old.faults.sink new.faults.sink prints seven (λ e. omega arith) refl)
+  sevens (ran good large done start on t off power turns (all_done calls none quiet prints) beyond) seven told = absurd (not-plan (soak_line n end.journal) 0 end.status 7 old.taken new.taken old.faults.sink new.faults.sink prints seven (λ e. omega arith) refl)
   sevens (ran good large done start on t off power turns (lacking less none quiet nine stuck later) beyond) seven told = absurd (omega arith)
   sevens (ran good large done start on t off power turns (stopped less before u is none ends read quiet prints) beyond) seven told =
-      absurd (not-plan (stop_line u) (status_by u.reply) status 7 taken takes was.sink are.sink prints seven (λ e. turn-other u.reply 7 e (λ z. omega arith) (λ z. omega arith) (λ z. omega arith) (λ z. omega arith)) refl)
+      absurd (not-plan (stop_line u) (status_by u.reply) end.status 7 old.taken new.taken old.faults.sink new.faults.sink prints seven (λ e. turn-other u.reply 7 e (λ z. omega arith) (λ z. omega arith) (λ z. omega arith) (λ z. omega arith)) refl)
 
-  fives : SoakWay tells g seed n blocks journal status said old new taken takes was are → status ≡ 5 → Rose old.counts.faults new.counts.faults ⊎ ((journal ≡ []) × Rose old.counts.cuts new.counts.cuts)
+  fives : SoakWay device g seed n end old new → end.status ≡ 5 → Rose old.flash.counts.faults new.flash.counts.faults ⊎ ((end.journal ≡ []) × Rose old.flash.counts.cuts new.flash.counts.cuts)
   fives (list_refused none same quiet (planned, line, why, prints)) five =
-      absurd (not-plan line planned status 5 taken takes was.sink are.sink prints five (other-plan seed n g was are planned 5 (planned-two seed n g was are planned (noted said) line why) (λ e. omega arith) (λ e. omega arith)) refl)
+      absurd (not-plan line planned end.status 5 old.taken new.taken old.faults.sink new.faults.sink prints five (other-plan seed n g old.faults new.faults planned 5 (planned-two seed n g old.faults new.faults planned (noted end.noted) line why) (λ e. omega arith) (λ e. omega arith)) refl)
   fives (starved none same nine is stuck) five = absurd (omega arith)
-  fives (too_small good small none same is prints) five = absurd (not-plan too_small_line 7 status 5 taken takes was.sink are.sink prints five (λ e. omega arith) refl)
-  fives (not_formatted good large none (Input f) t is prints) five = absurd (not-plan (format_text (Err (Input f))) 7 status 5 taken takes was.sink are.sink prints five (λ e. omega arith) refl)
-  fives (not_formatted good large none ReadFailed t is prints) five = absurd (not-plan (format_text (Err ReadFailed)) 2 status 5 taken takes was.sink are.sink prints five (λ e. omega arith) refl)
+  fives (too_small good small none same is prints) five = absurd (not-plan too_small_line 7 end.status 5 old.taken new.taken old.faults.sink new.faults.sink prints five (λ e. omega arith) refl)
+  fives (not_formatted good large none (Input f) t is prints) five = absurd (not-plan (format_text (Err (Input f))) 7 end.status 5 old.taken new.taken old.faults.sink new.faults.sink prints five (λ e. omega arith) refl)
+  fives (not_formatted good large none ReadFailed t is prints) five = absurd (not-plan (format_text (Err ReadFailed)) 2 end.status 5 old.taken new.taken old.faults.sink new.faults.sink prints five (λ e. omega arith) refl)
   fives (not_formatted good large none (Flash stop) t is prints) five = by (t.stopped stop refl)
     where
-      by : HasCause old.counts new.counts → Rose old.counts.faults new.counts.faults ⊎ ((journal ≡ []) × Rose old.counts.cuts new.counts.cuts)
+      by : HasCause old.flash.counts new.flash.counts → Rose old.flash.counts.faults new.flash.counts.faults ⊎ ((end.journal ≡ []) × Rose old.flash.counts.cuts new.flash.counts.cuts)
       by (inl rose) = inl rose
       by (inr cut) = inr (none, cut)
-  fives (ran good large done start on t off power turns (all_done calls none quiet prints) beyond) five = absurd (not-plan (soak_line n journal) 0 status 5 taken takes was.sink are.sink prints five (λ e. omega arith) refl)
+  fives (ran good large done start on t off power turns (all_done calls none quiet prints) beyond) five = absurd (not-plan (soak_line n end.journal) 0 end.status 5 old.taken new.taken old.faults.sink new.faults.sink prints five (λ e. omega arith) refl)
   fives (ran good large done start on t off power turns (lacking less none quiet nine stuck later) beyond) five = absurd (omega arith)
   fives (ran good large done start on t off power turns (stopped less before u is none ends read quiet prints) beyond) five =
-      let by = printed-plan (stop_line u) (status_by u.reply) status taken takes was.sink are.sink prints (ap may_lack five) in
-      inl (rose-before old.counts.faults start.counts.faults new.counts.faults t.counts.faults (turns.fault_turns u (last-in journal before u is) (turn-five u.reply (sym by ∙ five))))
+      let by = printed-plan (stop_line u) (status_by u.reply) end.status old.taken new.taken old.faults.sink new.faults.sink prints (ap may_lack five) in
+      inl (rose-before old.flash.counts.faults start.counts.faults new.flash.counts.faults t.counts.faults (turns.fault_turns u (last-in end.journal before u is) (turn-five u.reply (sym by ∙ five))))
 
-  dones : SoakWay tells g seed n blocks journal status said old new taken takes was are → status ≡ 0 → (calls_of journal ≡ soak_calls seed n) × Appends taken takes (soak_line n journal)
+  dones : SoakWay device g seed n end old new → end.status ≡ 0 → (calls_of end.journal ≡ soak_calls seed n) × Appends old.taken new.taken (soak_line n end.journal)
   dones (list_refused none same quiet (planned, line, why, prints)) zero_is =
-      absurd (not-done line planned status taken takes was.sink are.sink (other-plan seed n g was are planned 0 (planned-two seed n g was are planned (noted said) line why) (λ e. omega arith) (λ e. omega arith)) prints zero_is)
+      absurd (not-done line planned end.status old.taken new.taken old.faults.sink new.faults.sink (other-plan seed n g old.faults new.faults planned 0 (planned-two seed n g old.faults new.faults planned (noted end.noted) line why) (λ e. omega arith) (λ e. omega arith)) prints zero_is)
   dones (starved none same nine is stuck) zero_is = absurd (omega arith)
-  dones (too_small good small none same is prints) zero_is = absurd (not-done too_small_line 7 status taken takes was.sink are.sink (λ e. omega arith) prints zero_is)
-  dones (not_formatted good large none stop t is prints) zero_is = absurd (not-done (format_text (Err stop)) (format_status (Err stop)) status taken takes was.sink are.sink (stop-other stop) prints zero_is)
+  dones (too_small good small none same is prints) zero_is = absurd (not-done too_small_line 7 end.status old.taken new.taken old.faults.sink new.faults.sink (λ e. omega arith) prints zero_is)
+  dones (not_formatted good large none stop t is prints) zero_is = absurd (not-done (format_text (Err stop)) (format_status (Err stop)) end.status old.taken new.taken old.faults.sink new.faults.sink (stop-other stop) prints zero_is)
   dones (ran good large done start on t off power turns ends quiet) zero_is = ends-done ends zero_is
 
   -- where nothing was armed
-  none-made : journal ≡ [] → new.counts.made ≡ old.counts.made → new.counts.made ≡ made_after old.counts.made (cuts_in journal)
-  none-made none same = subst (λ (ts : List Turn). new.counts.made ≡ made_after old.counts.made (cuts_in ts)) (sym none) same
+  none-made : end.journal ≡ [] → new.flash.counts.made ≡ old.flash.counts.made → new.flash.counts.made ≡ made_after old.flash.counts.made (cuts_in end.journal)
+  none-made none same = subst (λ (ts : List Turn). new.flash.counts.made ≡ made_after old.flash.counts.made (cuts_in ts)) (sym none) same
 
-  mades : SoakWay tells g seed n blocks journal status said old new taken takes was are → new.counts.made ≡ made_after old.counts.made (cuts_in journal)
+  mades : SoakWay device g seed n end old new → new.flash.counts.made ≡ made_after old.flash.counts.made (cuts_in end.journal)
   mades (list_refused none same quiet refused) = none-made none (ap (λ (m : Moment). m.counts.made) same)
   mades (starved none same nine is stuck) = none-made none (ap (λ (m : Moment). m.counts.made) same)
   mades (too_small good small none same is prints) = none-made none (ap (λ (m : Moment). m.counts.made) same)
   mades (not_formatted good large none stop t is prints) = none-made none t.made
-  mades (ran good large done start on t off power turns ends quiet) = turns.made ∙ ap (λ (k : ℕ). made_after k (cuts_in journal)) t.made
+  mades (ran good large done start on t off power turns ends quiet) = turns.made ∙ ap (λ (k : ℕ). made_after k (cuts_in end.journal)) t.made
 
-  none-fall : new ≡ old → NoneFalls old.counts new.counts
-  none-fall same = subst (λ (m : Moment). NoneFalls old.counts m.counts) (sym same) (record { faults = omega arith; cuts = omega arith; reached = omega arith; chances = omega arith })
+  none-fall : new.flash ≡ old.flash → NoneFalls old.flash.counts new.flash.counts
+  none-fall same = subst (λ (m : Moment). NoneFalls old.flash.counts m.counts) (sym same) (record { faults = omega arith; cuts = omega arith; reached = omega arith; chances = omega arith })
 
-  falls : SoakWay tells g seed n blocks journal status said old new taken takes was are → NoneFalls old.counts new.counts
+  falls : SoakWay device g seed n end old new → NoneFalls old.flash.counts new.flash.counts
   falls (list_refused none same quiet refused) = none-fall same
   falls (starved none same nine is stuck) = none-fall same
   falls (too_small good small none same is prints) = none-fall same
@@ -347,37 +348,37 @@ module _ (tells : Bool) (g : Given) (seed n blocks : ℕ) (journal : List Turn) 
     chances = let a = t.counts.chances in let b = turns.counts.chances in omega arith;
   }
 
-  guards-stay : SoakWay tells g seed n blocks journal status said old new taken takes was are → IsTrue tells → new.told.guard ≡ old.told.guard
+  guards-stay : SoakWay device g seed n end old new → IsTrue device.tells → new.flash.told.guard ≡ old.flash.told.guard
   guards-stay (list_refused none same quiet refused) told = ap (λ (m : Moment). m.told.guard) same
   guards-stay (starved none same nine is stuck) told = ap (λ (m : Moment). m.told.guard) same
   guards-stay (too_small good small none same is prints) told = ap (λ (m : Moment). m.told.guard) same
   guards-stay (not_formatted good large none stop t is prints) told = t.guard told
   guards-stay (ran good large done start on t off power turns ends quiet) told = turns.guard told ∙ t.guard told
 
-  completes : SoakWay tells g seed n blocks journal status said old new taken takes was are → IsTrue tells → Guards 1 7 old.told → IsFalse (is_too_small blocks) → (Rose old.counts.chances new.counts.chances → ⊥)
-      → (Rose old.counts.faults new.counts.faults → ⊥) → (journal ≡ [] → Rose old.counts.cuts new.counts.cuts → ⊥) → HasSoakList g was are → (Rose was.sink are.sink → ⊥) → (status ≡ 0) ⊎ (status ≡ 9)
-  completes (list_refused none same quiet (planned, line, why, prints)) told guards large no_chance no_fault no_cut has no_sink = absurd (refuses-none seed n g was are has planned (noted said) line why)
+  completes : SoakWay device g seed n end old new → IsTrue device.tells → Guards 1 7 old.flash.told → IsFalse (is_too_small device.blocks) → (Rose old.flash.counts.chances new.flash.counts.chances → ⊥)
+      → (Rose old.flash.counts.faults new.flash.counts.faults → ⊥) → (end.journal ≡ [] → Rose old.flash.counts.cuts new.flash.counts.cuts → ⊥) → HasSoakList g old.faults new.faults → (Rose old.faults.sink new.faults.sink → ⊥) → (end.status ≡ 0) ⊎ (end.status ≡ 9)
+  completes (list_refused none same quiet (planned, line, why, prints)) told guards large no_chance no_fault no_cut has no_sink = absurd (refuses-none seed n g old.faults new.faults has planned (noted end.noted) line why)
   completes (starved none same nine is stuck) told guards large no_chance no_fault no_cut has no_sink = inr nine
   completes (too_small good small none same is prints) told guards large no_chance no_fault no_cut has no_sink = absurd (false≢true (sym large ∙ small))
   completes (not_formatted good room none stop t is prints) told guards large no_chance no_fault no_cut has no_sink =
-      format-completes passes_any (record { list = None; files = Some (first_files seed); script = None }) (file_name 0) soak_layout blocks old new status said taken takes
-      (record { files = 0; source = 0; sink = was.sink }) (record { files = 0; source = 0; sink = are.sink }) tells
-      (format.tried (record { there = λ lacks. lacks; good = tt }) (Err stop) t prints is) told (formattable seed blocks large)
+      format-completes passes_any (record { list = None; files = Some (first_files seed); script = None }) (file_name 0) soak_layout device.blocks old.flash new.flash end.status end.noted old.taken new.taken
+      (record { files = 0; source = 0; sink = old.faults.sink }) (record { files = 0; source = 0; sink = new.faults.sink }) device.tells
+      (format.tried (record { there = λ lacks. lacks; good = tt }) (Err stop) t prints is) told (formattable seed device.blocks large)
       (record { list_there = λ lacks. lacks; list_is = λ k some bad. absurd (cc); no_fault = no_fault; no_cut = no_cut none; no_file_fault = no-rise; no_sink_fault = no_sink })
   completes (ran good room done start on t off power turns (all_done calls none quiet prints) beyond) told guards large no_chance no_fault no_cut has no_sink =
-      printed (soak_line n journal) status taken takes was.sink are.sink no_sink prints
+      printed (soak_line n end.journal) end.status old.taken new.taken old.faults.sink new.faults.sink no_sink prints
   completes (ran good room done start on t off power turns (lacking less none quiet nine stuck later) beyond) told guards large no_chance no_fault no_cut has no_sink = inr nine
   completes (ran good room done start on t off power turns (stopped less before u is none ends read quiet prints) beyond) told guards large no_chance no_fault no_cut has no_sink =
       absurd (no-end u.reply refl ends)
     where
       no-end : (r : Reply) → u.reply ≡ r → IsTrue (ends_run r) → ⊥
-      no-end reply.Fault same ends = no_fault (rose-before old.counts.faults start.counts.faults new.counts.faults t.counts.faults (turns.fault_turns u (last-in journal before u is) same))
+      no-end reply.Fault same ends = no_fault (rose-before old.flash.counts.faults start.counts.faults new.flash.counts.faults t.counts.faults (turns.fault_turns u (last-in end.journal before u is) same))
       no-end reply.ReadFault same ends = read same
       no-end (reply.NotBooted why) same ends =
-          false≢true (sym (ap is_refused_boot (sym same) ∙ no-refused-boot tells seed blocks old start done t told n journal on new guards no_chance turns u (last-in journal before u is)))
+          false≢true (sym (ap is_refused_boot (sym same) ∙ no-refused-boot device.tells seed device.blocks old.flash start done t told n end.journal on new.flash guards no_chance turns u (last-in end.journal before u is)))
       no-end r same ends = false≢true ends
 
-  pub soaked-by : SoakWay tells g seed n blocks journal status said old new taken takes was are → SoakedBy tells g seed n blocks journal status said old new taken takes was are
+  pub soaked-by : SoakWay device g seed n end old new → SoakedBy device g seed n end old new
   soaked-by way = record {
     way = way;
     refuses_list = lists way;

@@ -13,47 +13,48 @@ use Rattle.script_cmd.specs.Printed.{Prints}
 use Rattle.script_cmd.specs.SoakWays.{SoakWay, SoakEnds, list_refused, starved, too_small, not_formatted, ran}
 use Rattle.script_cmd.specs.Ways.{Given, HasGoodList, Refuses}
 use Rattle.script_cmd.specs.declared.done.Note.{Note}
+use Rattle.script_cmd.proofs.Shapes.{device-of, end-of, world-of}
 use Rattle.script_cmd.proofs.TopWays.{refuses}
 
 -- what is asked is one command
-pub soak-as : (tells : Bool) (g : Given) (blocks : ℕ) (journal : List Turn) (status : ℕ) (said : Note) (old new : Moment) (taken takes : Option (List ℕ)) (was are : Faults)
+pub soak-as : (tells : Bool) (g : Given) (blocks : ℕ) (journal : List Turn) (status : ℕ) (said : Note) (old new : Moment) (taken_before taken_after : Option (List ℕ)) (faults_before faults_after : Faults)
     (asked : Option Asked) (a seed b rounds : ℕ) → asked ≡ Some (ask.soak a b) → asked ≡ Some (ask.soak seed rounds)
-    → SoakWay tells g a b blocks journal status said old new taken takes was are → SoakWay tells g seed rounds blocks journal status said old new taken takes was are
-soak-as tells g blocks journal status said old new taken takes was are asked a seed b rounds by is way =
+    → SoakWay (device-of tells blocks) g a b (end-of journal status said) (world-of old taken_before faults_before) (world-of new taken_after faults_after) → SoakWay (device-of tells blocks) g seed rounds (end-of journal status said) (world-of old taken_before faults_before) (world-of new taken_after faults_after)
+soak-as tells g blocks journal status said old new taken_before taken_after faults_before faults_after asked a seed b rounds by is way =
     let same-seed : a ≡ seed = cc in
     let same-rounds : b ≡ rounds = cc in
-    subst (λ (n : ℕ). SoakWay tells g seed n blocks journal status said old new taken takes was are) same-rounds
-    (subst (λ (x : ℕ). SoakWay tells g x b blocks journal status said old new taken takes was are) same-seed way)
+    subst (λ (n : ℕ). SoakWay (device-of tells blocks) g seed n (end-of journal status said) (world-of old taken_before faults_before) (world-of new taken_after faults_after)) same-rounds
+    (subst (λ (x : ℕ). SoakWay (device-of tells blocks) g x b (end-of journal status said) (world-of old taken_before faults_before) (world-of new taken_after faults_after)) same-seed way)
 
-module _ (tells : Bool) (g : Given) (seed n blocks : ℕ) (journal : List Turn) (status : ℕ) (said : Note) (old new : Moment) (taken takes : Option (List ℕ)) (was are : Faults) where
+module _ (tells : Bool) (g : Given) (seed n blocks : ℕ) (journal : List Turn) (status : ℕ) (said : Note) (old new : Moment) (taken_before taken_after : Option (List ℕ)) (faults_before faults_after : Faults) where
   -- a list was refused, and nothing else was done
   pub refused-soaks : (planned : ℕ) (line : List ℕ) (told : model.Note) → journal ≡ [] → new ≡ old → IsFalse (is_beyond said) → noted said ≡ told
-      → Refuses (Some (ask.soak seed n)) g was are planned told line → Prints line planned status taken takes was.sink are.sink
-      → SoakWay tells g seed n blocks journal status said old new taken takes was are
+      → Refuses (Some (ask.soak seed n)) g faults_before faults_after planned told line → Prints line planned status taken_before taken_after faults_before.sink faults_after.sink
+      → SoakWay (device-of tells blocks) g seed n (end-of journal status said) (world-of old taken_before faults_before) (world-of new taken_after faults_after)
   refused-soaks planned line told none same quiet is why prints =
-      list_refused none same quiet (planned, line, subst (λ (x : model.Note). Refuses (Some (ask.soak seed n)) g was are planned x line) (sym is) why, prints)
+      list_refused none same quiet (planned, line, subst (λ (x : model.Note). Refuses (Some (ask.soak seed n)) g faults_before faults_after planned x line) (sym is) why, prints)
 
-module _ (tells : Bool) (told files : Option Directory) (name : List ℕ) (script : Option (List ℕ)) (seed n blocks : ℕ) (journal : List Turn) (status : ℕ) (said : Note) (old new : Moment) (taken takes : Option (List ℕ)) (first was are : Faults) where
+module _ (tells : Bool) (told files : Option Directory) (name : List ℕ) (script : Option (List ℕ)) (seed n blocks : ℕ) (journal : List Turn) (status : ℕ) (said : Note) (old new : Moment) (taken_before taken_after : Option (List ℕ)) (first faults_before faults_after : Faults) where
   -- what is done without a list is done behind one that was read and is one
-  pub soaks-with-list : HasGoodList (Some name) files → first.files ≤ was.files → first.source ≡ was.source → first.sink ≡ was.sink
-      → SoakWay tells (record { list = None; files = told; script = script }) seed n blocks journal status said old new taken takes was are
-      → SoakWay tells (record { list = Some name; files = files; script = script }) seed n blocks journal status said old new taken takes first are
+  pub soaks-with-list : HasGoodList (Some name) files → first.files ≤ faults_before.files → first.source ≡ faults_before.source → first.sink ≡ faults_before.sink
+      → SoakWay (device-of tells blocks) (record { list = None; files = told; script = script }) seed n (end-of journal status said) (world-of old taken_before faults_before) (world-of new taken_after faults_after)
+      → SoakWay (device-of tells blocks) (record { list = Some name; files = files; script = script }) seed n (end-of journal status said) (world-of old taken_before first) (world-of new taken_after faults_after)
   soaks-with-list good later source sink way = go way
     where
-      at-sink : (line : List ℕ) (planned : ℕ) → Prints line planned status taken takes was.sink are.sink → Prints line planned status taken takes first.sink are.sink
-      at-sink line planned p = subst (λ (k : ℕ). Prints line planned status taken takes k are.sink) (sym sink) p
+      at-sink : (line : List ℕ) (planned : ℕ) → Prints line planned status taken_before taken_after faults_before.sink faults_after.sink → Prints line planned status taken_before taken_after first.sink faults_after.sink
+      at-sink line planned p = subst (λ (k : ℕ). Prints line planned status taken_before taken_after k faults_after.sink) (sym sink) p
 
-      go : SoakWay tells (record { list = None; files = told; script = script }) seed n blocks journal status said old new taken takes was are
-          → SoakWay tells (record { list = Some name; files = files; script = script }) seed n blocks journal status said old new taken takes first are
+      go : SoakWay (device-of tells blocks) (record { list = None; files = told; script = script }) seed n (end-of journal status said) (world-of old taken_before faults_before) (world-of new taken_after faults_after)
+          → SoakWay (device-of tells blocks) (record { list = Some name; files = files; script = script }) seed n (end-of journal status said) (world-of old taken_before first) (world-of new taken_after faults_after)
       go (list_refused none same quiet refused) =
           list_refused none same quiet (
             refused.0,
             refused.1,
-            refuses (Some (ask.soak seed n)) told files name script first was are refused.0 (noted said) refused.1 good later source refused.2,
+            refuses (Some (ask.soak seed n)) told files name script first faults_before faults_after refused.0 (noted said) refused.1 good later source refused.2,
             at-sink refused.1 refused.0 refused.3,
           )
       go (starved none same nine quiet stuck) = starved none same nine quiet stuck
       go (too_small listed small none same is prints) = too_small good small none same is (at-sink _ 7 prints)
       go (not_formatted listed large none stop tries is prints) = not_formatted good large none stop tries is (at-sink _ _ prints)
       go (ran listed large done start on tries off power turns ends quiet) =
-          ran good large done start on tries off power turns (subst (λ (k : ℕ). SoakEnds n (soak_calls seed n) journal status (noted said) taken takes k are.sink) (sym sink) ends) quiet
+          ran good large done start on tries off power turns (subst (λ (k : ℕ). SoakEnds n (soak_calls seed n) (end-of journal status (noted said)) taken_before taken_after k faults_after.sink) (sym sink) ends) quiet

@@ -28,30 +28,31 @@ use Rattle.script_cmd.specs.Showing as show
 use Rattle.script_cmd.specs.Formatting.{Formats, IsFormattable, Tries, format_status, format_text}
 use Rattle.script_cmd.specs.Formatting as format
 use Rattle.script_cmd.specs.declared.done.Note.{Note as Said}
+use Rattle.script_cmd.proofs.Shapes.{device-of, world-of}
 
 -- a line whose status was to be 0, at a sink that did not fail
-printed : (line : List ℕ) (status : ℕ) (old new : Option (List ℕ)) (was are : ℕ) → (Rose was are → ⊥) → Prints line 0 status old new was are → (status ≡ 0) ⊎ (status ≡ 9)
-printed line status old new was are fails (all is appends later) = inl is
-printed line status old new was are fails (front is n appends later rose) = absurd (fails rose)
-printed line status old new was are fails (nothing is same later) = inr is
+printed : (line : List ℕ) (status : ℕ) (old new : Option (List ℕ)) (faults_before faults_after : ℕ) → (Rose faults_before faults_after → ⊥) → Prints line 0 status old new faults_before faults_after → (status ≡ 0) ⊎ (status ≡ 9)
+printed line status old new faults_before faults_after fails (all is appends later) = inl is
+printed line status old new faults_before faults_after fails (front is n appends later rose) = absurd (fails rose)
+printed line status old new faults_before faults_after fails (nothing is same later) = inr is
 
 -- no list is refused that is there and has no bad line
-granted : (asked : Asked) (g : Given) (before after : Counts) (was are : Faults) (planned : ℕ) (noted : Note) (line : List ℕ) → (Some asked ≡ Some ask.run → ⊥) → (Some asked ≡ Some ask.boot → ⊥)
-    → IsGranted g before after was are → Refuses (Some asked) g was are planned noted line → ⊥
-granted asked g before after was are planned noted line runs boots has (usage good is) = cc
-granted asked g before after was are planned noted line runs boots has (not_read good is rose) = runs is
-granted asked g before after was are planned noted line runs boots has (list_not_read some (inl rose)) = has.no_file_fault rose
-granted asked g before after was are planned noted line runs boots has (list_not_read some (inr lacks)) = has.list_there lacks
-granted asked g before after was are planned noted line runs boots has (too_long good is long) = runs is
-granted asked g before after was are planned noted line runs boots has (bad_script n good (inl is) short bad) = runs is
-granted asked g before after was are planned noted line runs boots has (bad_script n good (inr is) short bad) = boots is
-granted asked g before after was are planned noted line runs boots has (bad_list n some there bad) = has.list_is n some bad
+granted : (asked : Asked) (g : Given) (before after : Counts) (faults_before faults_after : Faults) (planned : ℕ) (noted : Note) (line : List ℕ) → (Some asked ≡ Some ask.run → ⊥) → (Some asked ≡ Some ask.boot → ⊥)
+    → IsGranted g before after faults_before faults_after → Refuses (Some asked) g faults_before faults_after planned noted line → ⊥
+granted asked g before after faults_before faults_after planned noted line runs boots has (usage good is) = cc
+granted asked g before after faults_before faults_after planned noted line runs boots has (not_read good is rose) = runs is
+granted asked g before after faults_before faults_after planned noted line runs boots has (list_not_read some (inl rose)) = has.no_file_fault rose
+granted asked g before after faults_before faults_after planned noted line runs boots has (list_not_read some (inr lacks)) = has.list_there lacks
+granted asked g before after faults_before faults_after planned noted line runs boots has (too_long good is long) = runs is
+granted asked g before after faults_before faults_after planned noted line runs boots has (bad_script n good (inl is) short bad) = runs is
+granted asked g before after faults_before faults_after planned noted line runs boots has (bad_script n good (inr is) short bad) = boots is
+granted asked g before after faults_before faults_after planned noted line runs boots has (bad_list n some there bad) = has.list_is n some bad
 
-module _ (g : Given) (before after : Counts) (status : ℕ) (taken takes : Option (List ℕ)) (was are : Faults) where
+module _ (g : Given) (before after : Counts) (status : ℕ) (taken_before taken_after : Option (List ℕ)) (faults_before faults_after : Faults) where
   -- a flash with metadata shows its numbers
-  found : (known : Type 0) (image : List ℕ) (planned : ℕ) (told : Note) (line : List ℕ) → known → HasMetadata image → IsGranted g before after was are → Finds known image before after planned told line
-      → Prints line planned status taken takes was.sink are.sink → (status ≡ 0) ⊎ (status ≡ 9)
-  found known image planned told line knows has grants (show.numbers n shows) prints = printed line status taken takes was.sink are.sink grants.no_sink_fault prints
+  found : (known : Type 0) (image : List ℕ) (planned : ℕ) (told : Note) (line : List ℕ) → known → HasMetadata image → IsGranted g before after faults_before faults_after → Finds known image before after planned told line
+      → Prints line planned status taken_before taken_after faults_before.sink faults_after.sink → (status ≡ 0) ⊎ (status ≡ 9)
+  found known image planned told line knows has grants (show.numbers n shows) prints = printed line status taken_before taken_after faults_before.sink faults_after.sink grants.no_sink_fault prints
   found known image planned told line knows has grants (show.none why none) prints = absurd (no why (none knows))
     where
       no : (why : NoBoot) → ShowsNone image why → ⊥
@@ -61,14 +62,14 @@ module _ (g : Given) (before after : Counts) (status : ℕ) (taken takes : Optio
   found known image planned told line knows has grants (show.stopped (inl fault)) prints = absurd (grants.no_fault fault)
   found known image planned told line knows has grants (show.stopped (inr cut)) prints = absurd (grants.no_cut cut)
 
-  pub show-completes : (tells : Bool) (old new : Moment) (told : Note) → old.counts ≡ before → new.counts ≡ after → Showed tells g old new status told taken takes was are
-      → IsTrue tells → NothingDirty old.told → HasMetadata old.told.now → IsGranted g before after was are → (status ≡ 0) ⊎ (status ≡ 9)
+  pub show-completes : (tells : Bool) (old new : Moment) (told : Note) → old.counts ≡ before → new.counts ≡ after → Showed tells g (world-of old taken_before faults_before) (world-of new taken_after faults_after) status told
+      → IsTrue tells → NothingDirty old.told → HasMetadata old.told.now → IsGranted g before after faults_before faults_after → (status ≡ 0) ⊎ (status ≡ 9)
   show-completes tells old new told first last (show.starved is quiet same none) knows clean has grants = inr is
   show-completes tells old new told first last (show.found good planned line finds once power prints) knows clean has grants =
       found (IsTrue tells × NothingDirty old.told) old.told.now planned told line (knows, clean) has grants
       (subst (λ (x : Counts). Finds (IsTrue tells × NothingDirty old.told) old.told.now x after planned told line) first
       (subst (λ (x : Counts). Finds (IsTrue tells × NothingDirty old.told) old.told.now old.counts x planned told line) last finds)) prints
-  show-completes tells old new told first last (show.list_refused same refused) knows clean has grants = absurd (granted ask.show g before after was are refused.0 told refused.1 (λ is. cc) (λ is. cc) grants refused.2)
+  show-completes tells old new told first last (show.list_refused same refused) knows clean has grants = absurd (granted ask.show g before after faults_before faults_after refused.0 told refused.1 (λ is. cc) (λ is. cc) grants refused.2)
 
 -- a name that is told isn't lacking
 there : (told : Option Directory) (name file : List ℕ) → Tells told name file → Lacks told name → ⊥
@@ -78,10 +79,10 @@ there (Some files) name file tells lacks = cc
 not-refused : (r : Result Formatted FormatStop) (asks : Option InputFault) → asks ≡ None → Answers asks r → IsEarly r → ⊥
 not-refused r asks none answers = subst (λ (o : Option InputFault). Answers o r) none answers
 
-module _ (passes : List ℕ → Bool) (g : Given) (name : List ℕ) (L : Layout) (blocks : ℕ) (old new : Moment) (status : ℕ) (said : Said) (taken takes : Option (List ℕ)) (was are : Faults) where
-  tried : (r : Result Formatted FormatStop) → IsFormattable passes g.files name L blocks → IsGranted g old.counts new.counts was are
-      → Tries passes true g.files name L blocks old new was.files are.files r → Prints (format_text r) (format_status r) status taken takes was.sink are.sink → (status ≡ 0) ⊎ (status ≡ 9)
-  tried (Ok done) can grants tries prints = printed (format_text (Ok done)) status taken takes was.sink are.sink grants.no_sink_fault prints
+module _ (passes : List ℕ → Bool) (g : Given) (name : List ℕ) (L : Layout) (blocks : ℕ) (old new : Moment) (status : ℕ) (said : Said) (taken_before taken_after : Option (List ℕ)) (faults_before faults_after : Faults) where
+  tried : (r : Result Formatted FormatStop) → IsFormattable passes g.files name L blocks → IsGranted g old.counts new.counts faults_before faults_after
+      → Tries passes true g.files name L blocks old new faults_before.files faults_after.files r → Prints (format_text r) (format_status r) status taken_before taken_after faults_before.sink faults_after.sink → (status ≡ 0) ⊎ (status ≡ 9)
+  tried (Ok done) can grants tries prints = printed (format_text (Ok done)) status taken_before taken_after faults_before.sink faults_after.sink grants.no_sink_fault prints
   tried (Err (Input (fault.Layout f))) can grants tries prints = absurd (not-refused _ _ can.fits (tries.answers can.file can.is_there) tt)
   tried (Err (Input (fault.Package f))) can grants tries prints = absurd (not-refused _ _ can.fits (tries.answers can.file can.is_there) tt)
   tried (Err (Input (fault.Missing guid))) can grants tries prints = absurd (not-refused _ _ can.fits (tries.answers can.file can.is_there) tt)
@@ -89,7 +90,7 @@ module _ (passes : List ℕ → Bool) (g : Given) (name : List ℕ) (L : Layout)
   tried (Err (Input (fault.Incomplete verdict))) can grants tries prints = absurd (tries.deserved verdict refl refl can.file can.toc can.is_there can.is_package can.complete can.permitted)
   tried (Err ReadFailed) can grants tries prints = absurd (unread (tries.reads.failed refl))
     where
-      unread : Rose was.files are.files ⊎ Lacks g.files name → ⊥
+      unread : Rose faults_before.files faults_after.files ⊎ Lacks g.files name → ⊥
       unread (inl rose) = grants.no_file_fault rose
       unread (inr lacks) = there g.files name can.file can.is_there lacks
   tried (Err (Flash stop)) can grants tries prints = absurd (stopped (tries.stopped stop refl))
@@ -98,12 +99,12 @@ module _ (passes : List ℕ → Bool) (g : Given) (name : List ℕ) (L : Layout)
       stopped (inl fault) = grants.no_fault fault
       stopped (inr cut) = grants.no_cut cut
 
-  by-formats : Formats passes true g name L blocks old new status said taken takes was are → IsFormattable passes g.files name L blocks → IsGranted g old.counts new.counts was are → (status ≡ 0) ⊎ (status ≡ 9)
-  by-formats (format.starved nine is same takes) can grants = inr nine
+  by-formats : Formats passes (device-of true blocks) g name L (world-of old taken_before faults_before) (world-of new taken_after faults_after) status said → IsFormattable passes g.files name L blocks → IsGranted g old.counts new.counts faults_before faults_after → (status ≡ 0) ⊎ (status ≡ 9)
+  by-formats (format.starved nine is same taken_after) can grants = inr nine
   by-formats (format.tried good r tries prints is) can grants = tried r can grants tries prints
   by-formats (format.list_refused same quiet refused) can grants =
-      absurd (granted (ask.format L.banks L.rows name) g old.counts new.counts was are refused.0 (noted said) refused.1 (λ is. cc) (λ is. cc) grants refused.2)
+      absurd (granted (ask.format L.banks L.rows name) g old.counts new.counts faults_before faults_after refused.0 (noted said) refused.1 (λ is. cc) (λ is. cc) grants refused.2)
 
-  pub format-completes : (tells : Bool) → Formats passes tells g name L blocks old new status said taken takes was are → IsTrue tells → IsFormattable passes g.files name L blocks → IsGranted g old.counts new.counts was are
+  pub format-completes : (tells : Bool) → Formats passes (device-of tells blocks) g name L (world-of old taken_before faults_before) (world-of new taken_after faults_after) status said → IsTrue tells → IsFormattable passes g.files name L blocks → IsGranted g old.counts new.counts faults_before faults_after
       → (status ≡ 0) ⊎ (status ≡ 9)
-  format-completes tells formats told = by-formats (subst (λ (x : Bool). Formats passes x g name L blocks old new status said taken takes was are) told formats)
+  format-completes tells formats told = by-formats (subst (λ (x : Bool). Formats passes (device-of x blocks) g name L (world-of old taken_before faults_before) (world-of new taken_after faults_after) status said) told formats)

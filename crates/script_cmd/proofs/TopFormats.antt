@@ -24,6 +24,7 @@ use Rattle.script_cmd.specs.Printed.{Prints}
 use Rattle.script_cmd.specs.Ways.{Given, HasGoodList, Refuses, bad_list, bad_script, list_not_read, not_read, too_long, usage}
 use Rattle.script_cmd.specs.declared.done.Note.{Note}
 use Rattle.script_cmd.specs.declared.done.Note.TheVariants as note
+use Rattle.script_cmd.proofs.Shapes.{device-of, end-of, world-of}
 use Rattle.script_cmd.proofs.TopCompletes.{format-completes}
 use Rattle.script_cmd.proofs.PromiseTurns.{by-plan}
 use Rattle.script_cmd.proofs.TopPrints.{not-done}
@@ -33,36 +34,36 @@ use Rattle.script_cmd.proofs.TopWays.{refuses}
 -- ---- by what it did
 
 -- a command that runs no script is refused for its list alone
-list-planned : (asked : Asked) (g : Given) (was are : Faults) (planned : ℕ) (told : model.Note) (line : List ℕ) → (Some asked ≡ Some ask.run → ⊥) → (Some asked ≡ Some ask.boot → ⊥)
-    → Refuses (Some asked) g was are planned told line → IsTrue (may_fail_before planned || (planned == 13))
-list-planned asked g was are planned told line runs boots (usage good is) = cc
-list-planned asked g was are planned told line runs boots (not_read good is rose) = absurd (runs is)
-list-planned asked g was are planned told line runs boots (list_not_read some why) = refl
-list-planned asked g was are planned told line runs boots (too_long good is long) = absurd (runs is)
-list-planned asked g was are planned told line runs boots (bad_script n good (inl is) short bad) = absurd (runs is)
-list-planned asked g was are planned told line runs boots (bad_script n good (inr is) short bad) = absurd (boots is)
-list-planned asked g was are planned told line runs boots (bad_list n some there bad) = refl
+list-planned : (asked : Asked) (g : Given) (faults_before faults_after : Faults) (planned : ℕ) (told : model.Note) (line : List ℕ) → (Some asked ≡ Some ask.run → ⊥) → (Some asked ≡ Some ask.boot → ⊥)
+    → Refuses (Some asked) g faults_before faults_after planned told line → IsTrue (may_fail_before planned || (planned == 13))
+list-planned asked g faults_before faults_after planned told line runs boots (usage good is) = cc
+list-planned asked g faults_before faults_after planned told line runs boots (not_read good is rose) = absurd (runs is)
+list-planned asked g faults_before faults_after planned told line runs boots (list_not_read some why) = refl
+list-planned asked g faults_before faults_after planned told line runs boots (too_long good is long) = absurd (runs is)
+list-planned asked g faults_before faults_after planned told line runs boots (bad_script n good (inl is) short bad) = absurd (runs is)
+list-planned asked g faults_before faults_after planned told line runs boots (bad_script n good (inr is) short bad) = absurd (boots is)
+list-planned asked g faults_before faults_after planned told line runs boots (bad_list n some there bad) = refl
 
 some-planned : (planned : ℕ) → IsTrue (may_fail_before planned || (planned == 13)) → planned ≡ 0 → ⊥
 some-planned planned is zero = false≢true (subst (λ (k : ℕ). IsTrue (may_fail_before k || (k == 13))) zero is)
 
-module _ (passes : List ℕ → Bool) (tells : Bool) (g : Given) (file : List ℕ) (L : Layout) (blocks : ℕ) (old new : Moment) (status : ℕ) (said : Note) (journal : List Turn) (taken takes : Option (List ℕ)) (was are : Faults) where
-  lists : Formats passes tells g file L blocks old new status said taken takes was are → RefusesBadList g old new status was are
-  lists (starved nine is same none) = starved-list g old new status was are same nine
-  lists (tried good r t prints is) = good-list-kept g old new status was are good
-  lists (list_refused same quiet refused) = refused-list g old new status was are (ask.format L.banks L.rows file) (noted said) taken takes same refused
+module _ (passes : List ℕ → Bool) (tells : Bool) (g : Given) (file : List ℕ) (L : Layout) (blocks : ℕ) (old new : Moment) (status : ℕ) (said : Note) (journal : List Turn) (taken_before taken_after : Option (List ℕ)) (faults_before faults_after : Faults) where
+  lists : Formats passes (device-of tells blocks) g file L (world-of old taken_before faults_before) (world-of new taken_after faults_after) status said → RefusesBadList g old new status faults_before faults_after
+  lists (starved nine is same none) = starved-list g old new status faults_before faults_after same nine
+  lists (tried good r t prints is) = good-list-kept g old new status faults_before faults_after good
+  lists (list_refused same quiet refused) = refused-list g old new status faults_before faults_after (ask.format L.banks L.rows file) (noted said) taken_before taken_after same refused
 
-  made-none : Formats passes tells g file L blocks old new status said taken takes was are → new.counts.made ≡ old.counts.made
+  made-none : Formats passes (device-of tells blocks) g file L (world-of old taken_before faults_before) (world-of new taken_after faults_after) status said → new.counts.made ≡ old.counts.made
   made-none (starved nine is same none) = ap (λ (m : Moment). m.counts.made) same
   made-none (tried good r t prints is) = t.made
   made-none (list_refused same quiet refused) = ap (λ (m : Moment). m.counts.made) same
 
-  arms-none : old.armed ≡ None → Formats passes tells g file L blocks old new status said taken takes was are → new.armed ≡ None
+  arms-none : old.armed ≡ None → Formats passes (device-of tells blocks) g file L (world-of old taken_before faults_before) (world-of new taken_after faults_after) status said → new.armed ≡ None
   arms-none unarmed (starved nine is same none) = ap (λ (m : Moment). m.armed) same ∙ unarmed
   arms-none unarmed (tried good r t prints is) = t.unarmed
   arms-none unarmed (list_refused same quiet refused) = ap (λ (m : Moment). m.armed) same ∙ unarmed
 
-  guards : Formats passes tells g file L blocks old new status said taken takes was are → IsTrue tells → new.told.guard ≡ old.told.guard
+  guards : Formats passes (device-of tells blocks) g file L (world-of old taken_before faults_before) (world-of new taken_after faults_after) status said → IsTrue tells → new.told.guard ≡ old.told.guard
   guards (starved nine is same none) told = ap (λ (m : Moment). m.told.guard) same
   guards (tried good r t prints is) told = t.guard told
   guards (list_refused same quiet refused) told = ap (λ (m : Moment). m.told.guard) same
@@ -72,30 +73,30 @@ module _ (passes : List ℕ → Bool) (tells : Bool) (g : Given) (file : List �
   unread r M fits by (inl layout) = absurd (subst (λ (f : Result Layout LayoutFault). LayoutBy f r) fits by layout)
   unread r M fits by (inr is) = ap format_status is
 
-  lacks-package : Formats passes tells g file L blocks old new status said taken takes was are → Lacks g.files file → (M : Layout) → fitted L blocks ≡ Ok M → IsTrue (may_fail_before status || (status == 13))
+  lacks-package : Formats passes (device-of tells blocks) g file L (world-of old taken_before faults_before) (world-of new taken_after faults_after) status said → Lacks g.files file → (M : Layout) → fitted L blocks ≡ Ok M → IsTrue (may_fail_before status || (status == 13))
   lacks-package (starved nine is same none) lacks M fits = subst (λ (k : ℕ). IsTrue (may_fail_before k || (k == 13))) (sym nine) refl
   lacks-package (tried good r t prints is) lacks M fits =
-      by-plan (format_text r) (format_status r) status taken takes was.sink are.sink prints (λ k. may_fail_before k || (k == 13)) refl refl
+      by-plan (format_text r) (format_status r) status taken_before taken_after faults_before.sink faults_after.sink prints (λ k. may_fail_before k || (k == 13)) refl refl
       (subst (λ (k : ℕ). IsTrue (may_fail_before k || (k == 13))) (sym (unread r M fits t.layout (t.missing lacks).0)) refl)
   lacks-package (list_refused same quiet (planned, line, why, prints)) lacks M fits =
-      by-plan line planned status taken takes was.sink are.sink prints (λ k. may_fail_before k || (k == 13)) refl refl
-      (list-planned (ask.format L.banks L.rows file) g was are planned (noted said) line (λ is. cc) (λ is. cc) why)
+      by-plan line planned status taken_before taken_after faults_before.sink faults_after.sink prints (λ k. may_fail_before k || (k == 13)) refl refl
+      (list-planned (ask.format L.banks L.rows file) g faults_before faults_after planned (noted said) line (λ is. cc) (λ is. cc) why)
 
   -- status 0 is of a flash that was formatted
-  blanks-at : (r : Result Formatted FormatStop) → Tries passes tells g.files file L blocks old new was.files are.files r → Prints (format_text r) (format_status r) status taken takes was.sink are.sink
+  blanks-at : (r : Result Formatted FormatStop) → Tries passes tells g.files file L blocks old new faults_before.files faults_after.files r → Prints (format_text r) (format_status r) status taken_before taken_after faults_before.sink faults_after.sink
       → status ≡ 0 → IsTrue tells → IsBlank L new.told.now
   blanks-at (Ok done) t prints zero told = t.blank told
-  blanks-at (Err (Input f)) t prints zero told = absurd (not-done (format_text (Err (Input f))) 7 status taken takes was.sink are.sink (λ e. omega arith) prints zero)
-  blanks-at (Err ReadFailed) t prints zero told = absurd (not-done (format_text (Err ReadFailed)) 2 status taken takes was.sink are.sink (λ e. omega arith) prints zero)
-  blanks-at (Err (Flash stop)) t prints zero told = absurd (not-done (format_text (Err (Flash stop))) 5 status taken takes was.sink are.sink (λ e. omega arith) prints zero)
+  blanks-at (Err (Input f)) t prints zero told = absurd (not-done (format_text (Err (Input f))) 7 status taken_before taken_after faults_before.sink faults_after.sink (λ e. omega arith) prints zero)
+  blanks-at (Err ReadFailed) t prints zero told = absurd (not-done (format_text (Err ReadFailed)) 2 status taken_before taken_after faults_before.sink faults_after.sink (λ e. omega arith) prints zero)
+  blanks-at (Err (Flash stop)) t prints zero told = absurd (not-done (format_text (Err (Flash stop))) 5 status taken_before taken_after faults_before.sink faults_after.sink (λ e. omega arith) prints zero)
 
-  blanks : Formats passes tells g file L blocks old new status said taken takes was are → status ≡ 0 → IsTrue tells → IsBlank L new.told.now
+  blanks : Formats passes (device-of tells blocks) g file L (world-of old taken_before faults_before) (world-of new taken_after faults_after) status said → status ≡ 0 → IsTrue tells → IsBlank L new.told.now
   blanks (starved nine is same none) zero told = absurd (omega arith)
   blanks (tried good r t prints is) zero told = blanks-at r t prints zero told
   blanks (list_refused same quiet (planned, line, why, prints)) zero told =
-      absurd (not-done line planned status taken takes was.sink are.sink (some-planned planned (list-planned (ask.format L.banks L.rows file) g was are planned (noted said) line (λ is. cc) (λ is. cc) why)) prints zero)
+      absurd (not-done line planned status taken_before taken_after faults_before.sink faults_after.sink (some-planned planned (list-planned (ask.format L.banks L.rows file) g faults_before faults_after planned (noted said) line (λ is. cc) (λ is. cc) why)) prints zero)
 
-  by-formats : old.armed ≡ None → journal ≡ [] → Formats passes tells g file L blocks old new status said taken takes was are → FormattedBy passes tells g file L blocks old new status said journal taken takes was are
+  by-formats : old.armed ≡ None → journal ≡ [] → Formats passes (device-of tells blocks) g file L (world-of old taken_before faults_before) (world-of new taken_after faults_after) status said → FormattedBy passes (device-of tells blocks) g file L (end-of journal status said) (world-of old taken_before faults_before) (world-of new taken_after faults_after)
   by-formats unarmed none formats = record {
     formats = formats;
     refuses_list = lists formats;
@@ -105,66 +106,66 @@ module _ (passes : List ℕ → Bool) (tells : Bool) (g : Given) (file : List �
     made = made-none formats;
     unarmed = arms-none unarmed formats;
     guard = guards formats;
-    complete = format-completes passes g file L blocks old new status said taken takes was are tells formats;
+    complete = format-completes passes g file L blocks old new status said taken_before taken_after faults_before faults_after tells formats;
   }
 
   -- a list was refused, and nothing else was done
   pub refused-formats : (planned : ℕ) (line : List ℕ) (n : model.Note) → new ≡ old → old.armed ≡ None → journal ≡ [] → IsFalse (is_beyond said) → noted said ≡ n
-      → Refuses (Some (ask.format L.banks L.rows file)) g was are planned n line → Prints line planned status taken takes was.sink are.sink
-      → FormattedBy passes tells g file L blocks old new status said journal taken takes was are
+      → Refuses (Some (ask.format L.banks L.rows file)) g faults_before faults_after planned n line → Prints line planned status taken_before taken_after faults_before.sink faults_after.sink
+      → FormattedBy passes (device-of tells blocks) g file L (end-of journal status said) (world-of old taken_before faults_before) (world-of new taken_after faults_after)
   refused-formats planned line n same unarmed none quiet is why prints =
       by-formats unarmed none
       (list_refused same quiet
-      (planned, line, subst (λ (x : model.Note). Refuses (Some (ask.format L.banks L.rows file)) g was are planned x line) (sym is) why, prints))
+      (planned, line, subst (λ (x : model.Note). Refuses (Some (ask.format L.banks L.rows file)) g faults_before faults_after planned x line) (sym is) why, prints))
 
   -- nothing was done for want of memory
-  pub starved-formats : new ≡ old → old.armed ≡ None → journal ≡ [] → said ≡ note.Nothing → status ≡ 9 → takes ≡ taken → FormattedBy passes tells g file L blocks old new status said journal taken takes was are
+  pub starved-formats : new ≡ old → old.armed ≡ None → journal ≡ [] → said ≡ note.Nothing → status ≡ 9 → taken_after ≡ taken_before → FormattedBy passes (device-of tells blocks) g file L (end-of journal status said) (world-of old taken_before faults_before) (world-of new taken_after faults_after)
   starved-formats same unarmed none is nine stuck = by-formats unarmed none (starved nine is same stuck)
 
 pub none-some : {A : Type 0} (x : A) (o : Option A) → o ≡ None → o ≡ Some x → ⊥
 none-some x o none some = cc
 
 -- what is asked is one command
-pub formatted-as : (passes : List ℕ → Bool) (tells : Bool) (g : Given) (blocks : ℕ) (old new : Moment) (status : ℕ) (said : Note) (journal : List Turn) (taken takes : Option (List ℕ)) (was are : Faults)
+pub formatted-as : (passes : List ℕ → Bool) (tells : Bool) (g : Given) (blocks : ℕ) (old new : Moment) (status : ℕ) (said : Note) (journal : List Turn) (taken_before taken_after : Option (List ℕ)) (faults_before faults_after : Faults)
     (asked : Option Asked) (b banks : ℕ) (rs items rows : List ImageRow) (f file : List ℕ) → rs ≡ items → asked ≡ Some (ask.format b items f) → asked ≡ Some (ask.format banks rows file) → old.armed ≡ None → journal ≡ []
-    → Formats passes tells g f (record { banks = b; rows = rs }) blocks old new status said taken takes was are
-    → FormattedBy passes tells g file (record { banks = banks; rows = rows }) blocks old new status said journal taken takes was are
-formatted-as passes tells g blocks old new status said journal taken takes was are asked b banks rs items rows f file slice by is unarmed none formats =
+    → Formats passes (device-of tells blocks) g f (record { banks = b; rows = rs }) (world-of old taken_before faults_before) (world-of new taken_after faults_after) status said
+    → FormattedBy passes (device-of tells blocks) g file (record { banks = banks; rows = rows }) (end-of journal status said) (world-of old taken_before faults_before) (world-of new taken_after faults_after)
+formatted-as passes tells g blocks old new status said journal taken_before taken_after faults_before faults_after asked b banks rs items rows f file slice by is unarmed none formats =
     let same-banks : b ≡ banks = cc in
     let same-rows : rs ≡ rows = cc in
     let same-file : f ≡ file = cc in
-    let here : Formats passes tells g file (record { banks = banks; rows = rows }) blocks old new status said taken takes was are =
-    subst (λ (n : ℕ). Formats passes tells g file (record { banks = n; rows = rows }) blocks old new status said taken takes was are) same-banks
-    (subst (λ (l : List ImageRow). Formats passes tells g file (record { banks = b; rows = l }) blocks old new status said taken takes was are) same-rows
-    (subst (λ (l : List ℕ). Formats passes tells g l (record { banks = b; rows = rs }) blocks old new status said taken takes was are) same-file formats)) in
-    by-formats passes tells g file (record { banks = banks; rows = rows }) blocks old new status said journal taken takes was are unarmed none here
+    let here : Formats passes (device-of tells blocks) g file (record { banks = banks; rows = rows }) (world-of old taken_before faults_before) (world-of new taken_after faults_after) status said =
+    subst (λ (n : ℕ). Formats passes (device-of tells blocks) g file (record { banks = n; rows = rows }) (world-of old taken_before faults_before) (world-of new taken_after faults_after) status said) same-banks
+    (subst (λ (l : List ImageRow). Formats passes (device-of tells blocks) g file (record { banks = b; rows = l }) (world-of old taken_before faults_before) (world-of new taken_after faults_after) status said) same-rows
+    (subst (λ (l : List ℕ). Formats passes (device-of tells blocks) g l (record { banks = b; rows = rs }) (world-of old taken_before faults_before) (world-of new taken_after faults_after) status said) same-file formats)) in
+    by-formats passes tells g file (record { banks = banks; rows = rows }) blocks old new status said journal taken_before taken_after faults_before faults_after unarmed none here
 
-module _ (passes : List ℕ → Bool) (tells : Bool) (told files : Option Directory) (name : List ℕ) (script : Option (List ℕ)) (file : List ℕ) (L : Layout) (blocks : ℕ) (old new : Moment) (status : ℕ) (said : Note) (journal : List Turn) (taken takes : Option (List ℕ)) (first was are : Faults) where
+module _ (passes : List ℕ → Bool) (tells : Bool) (told files : Option Directory) (name : List ℕ) (script : Option (List ℕ)) (file : List ℕ) (L : Layout) (blocks : ℕ) (old new : Moment) (status : ℕ) (said : Note) (journal : List Turn) (taken_before taken_after : Option (List ℕ)) (first faults_before faults_after : Faults) where
   -- what is formatted without a list is formatted behind one that was read and is one
-  pub formats-with-list : told ≡ files → HasGoodList (Some name) files → was.files ≡ first.files → first.source ≡ was.source → first.sink ≡ was.sink → old.armed ≡ None
-      → FormattedBy passes tells (record { list = None; files = told; script = script }) file L blocks old new status said journal taken takes was are
-      → FormattedBy passes tells (record { list = Some name; files = files; script = script }) file L blocks old new status said journal taken takes first are
+  pub formats-with-list : told ≡ files → HasGoodList (Some name) files → faults_before.files ≡ first.files → first.source ≡ faults_before.source → first.sink ≡ faults_before.sink → old.armed ≡ None
+      → FormattedBy passes (device-of tells blocks) (record { list = None; files = told; script = script }) file L (end-of journal status said) (world-of old taken_before faults_before) (world-of new taken_after faults_after)
+      → FormattedBy passes (device-of tells blocks) (record { list = Some name; files = files; script = script }) file L (end-of journal status said) (world-of old taken_before first) (world-of new taken_after faults_after)
   formats-with-list same good counted source sink unarmed by =
-      by-formats passes tells (record { list = Some name; files = files; script = script }) file L blocks old new status said journal taken takes first are unarmed by.no_turns (go by.formats)
+      by-formats passes tells (record { list = Some name; files = files; script = script }) file L blocks old new status said journal taken_before taken_after first faults_after unarmed by.no_turns (go by.formats)
     where
-      later : first.files ≤ was.files
+      later : first.files ≤ faults_before.files
       later = omega (arith, counted)
 
-      at-sink : (line : List ℕ) (planned : ℕ) → Prints line planned status taken takes was.sink are.sink → Prints line planned status taken takes first.sink are.sink
-      at-sink line planned p = subst (λ (n : ℕ). Prints line planned status taken takes n are.sink) (sym sink) p
+      at-sink : (line : List ℕ) (planned : ℕ) → Prints line planned status taken_before taken_after faults_before.sink faults_after.sink → Prints line planned status taken_before taken_after first.sink faults_after.sink
+      at-sink line planned p = subst (λ (n : ℕ). Prints line planned status taken_before taken_after n faults_after.sink) (sym sink) p
 
-      go : Formats passes tells (record { list = None; files = told; script = script }) file L blocks old new status said taken takes was are
-          → Formats passes tells (record { list = Some name; files = files; script = script }) file L blocks old new status said taken takes first are
+      go : Formats passes (device-of tells blocks) (record { list = None; files = told; script = script }) file L (world-of old taken_before faults_before) (world-of new taken_after faults_after) status said
+          → Formats passes (device-of tells blocks) (record { list = Some name; files = files; script = script }) file L (world-of old taken_before first) (world-of new taken_after faults_after) status said
       go (starved nine is kept none) = starved nine is kept none
       go (tried listed r t prints is) =
           tried good r
-          (subst (λ (n : ℕ). Tries passes tells files file L blocks old new n are.files r) counted
-          (subst (λ (d : Option Directory). Tries passes tells d file L blocks old new was.files are.files r) same t))
+          (subst (λ (n : ℕ). Tries passes tells files file L blocks old new n faults_after.files r) counted
+          (subst (λ (d : Option Directory). Tries passes tells d file L blocks old new faults_before.files faults_after.files r) same t))
           (at-sink (format_text r) (format_status r) prints) is
       go (list_refused kept quiet refused) =
           list_refused kept quiet (
             refused.0,
             refused.1,
-            refuses (Some (ask.format L.banks L.rows file)) told files name script first was are refused.0 (noted said) refused.1 good later source refused.2,
+            refuses (Some (ask.format L.banks L.rows file)) told files name script first faults_before faults_after refused.0 (noted said) refused.1 good later source refused.2,
             at-sink refused.1 refused.0 refused.3,
           )

@@ -2,16 +2,16 @@
 use Rattle.std.proofs.Common.{◌≡◌, ◌≤◌, ℕ, List, Option, sym, subst, ◌∙◌}
 use Rattle.script_cmd.specs.Printed.{Prints, all, front, nothing}
 
-pub at-status : (piece : List ℕ) (planned status told : ℕ) (old new : Option (List ℕ)) (was are : ℕ) → told ≡ status → Prints piece planned status old new was are → Prints piece planned told old new was are
-at-status piece planned status told old new was are e p = subst (λ (n : ℕ). Prints piece planned n old new was are) (sym e) p
+pub at-status : (piece : List ℕ) (planned status told : ℕ) (old new : Option (List ℕ)) (faults_before faults_after : ℕ) → told ≡ status → Prints piece planned status old new faults_before faults_after → Prints piece planned told old new faults_before faults_after
+at-status piece planned status told old new faults_before faults_after e p = subst (λ (n : ℕ). Prints piece planned n old new faults_before faults_after) (sym e) p
 
-pub at-piece : (piece other : List ℕ) (planned status : ℕ) (old new : Option (List ℕ)) (was are : ℕ) → other ≡ piece → Prints other planned status old new was are → Prints piece planned status old new was are
-at-piece piece other planned status old new was are e p = subst (λ (l : List ℕ). Prints l planned status old new was are) e p
+pub at-piece : (piece other : List ℕ) (planned status : ℕ) (old new : Option (List ℕ)) (faults_before faults_after : ℕ) → other ≡ piece → Prints other planned status old new faults_before faults_after → Prints piece planned status old new faults_before faults_after
+at-piece piece other planned status old new faults_before faults_after e p = subst (λ (l : List ℕ). Prints l planned status old new faults_before faults_after) e p
 
-pub later : (piece : List ℕ) (planned status : ℕ) (old new : Option (List ℕ)) (was are : ℕ) → Prints piece planned status old new was are → was ≤ are
-later piece planned status old new was are (all _ _ rises) = rises
-later piece planned status old new was are (front _ _ _ rises _) = rises
-later piece planned status old new was are (nothing _ _ rises) = rises
+pub later : (piece : List ℕ) (planned status : ℕ) (old new : Option (List ℕ)) (faults_before faults_after : ℕ) → Prints piece planned status old new faults_before faults_after → faults_before ≤ faults_after
+later piece planned status old new faults_before faults_after (all _ _ rises) = rises
+later piece planned status old new faults_before faults_after (front _ _ _ rises _) = rises
+later piece planned status old new faults_before faults_after (nothing _ _ rises) = rises
 
 ne3 : ◌≡◌ {A = ℕ} 3 0 → ⊥
 ne3 e = cc
@@ -20,13 +20,13 @@ ne9 : ◌≡◌ {A = ℕ} 9 0 → ⊥
 ne9 e = cc
 
 -- a line that is put for another status than 0 gives another
-pub not-done : (piece : List ℕ) (planned status : ℕ) (old new : Option (List ℕ)) (was are : ℕ) → (planned ≡ 0 → ⊥) → Prints piece planned status old new was are → status ≡ 0 → ⊥
-not-done piece planned status old new was are some (all is _ _) e = some (sym is ∙ e)
-not-done piece planned status old new was are some (front is _ _ _ _) e = ne3 (sym is ∙ e)
-not-done piece planned status old new was are some (nothing is _ _) e = ne9 (sym is ∙ e)
+pub not-done : (piece : List ℕ) (planned status : ℕ) (old new : Option (List ℕ)) (faults_before faults_after : ℕ) → (planned ≡ 0 → ⊥) → Prints piece planned status old new faults_before faults_after → status ≡ 0 → ⊥
+not-done piece planned status old new faults_before faults_after some (all is _ _) e = some (sym is ∙ e)
+not-done piece planned status old new faults_before faults_after some (front is _ _ _ _) e = ne3 (sym is ∙ e)
+not-done piece planned status old new faults_before faults_after some (nothing is _ _) e = ne9 (sym is ∙ e)
 
 -- what was put for the status 0 alone is done
-pub done-planned : (piece : List ℕ) (planned status : ℕ) (old new : Option (List ℕ)) (was are : ℕ) → Prints piece planned status old new was are → status ≡ 0 → planned ≡ 0
-done-planned piece planned status old new was are (all is _ _) e = sym is ∙ e
-done-planned piece planned status old new was are (front is _ _ _ _) e = absurd (ne3 (sym is ∙ e))
-done-planned piece planned status old new was are (nothing is _ _) e = absurd (ne9 (sym is ∙ e))
+pub done-planned : (piece : List ℕ) (planned status : ℕ) (old new : Option (List ℕ)) (faults_before faults_after : ℕ) → Prints piece planned status old new faults_before faults_after → status ≡ 0 → planned ≡ 0
+done-planned piece planned status old new faults_before faults_after (all is _ _) e = sym is ∙ e
+done-planned piece planned status old new faults_before faults_after (front is _ _ _ _) e = absurd (ne3 (sym is ∙ e))
+done-planned piece planned status old new faults_before faults_after (nothing is _ _) e = absurd (ne9 (sym is ∙ e))

@@ -5,8 +5,6 @@ use Rattle.flash_core.specs.declared.flash.Arming.{Arming}
 use Rattle.flash_core.specs.declared.flash.Counts.{Counts}
 use Rattle.flash_core.specs.Counts.{Rose}
 use Rattle.flash_core.specs.Told.{Told}
-use Rattle.fwu_model.specs.Call.{Call}
-use Rattle.agent_machine.specs.Fields.{Fields}
 use Rattle.fwu_model.specs.Reply.{Turn}
 use Rattle.fwu_formats.specs.Words.{is_file}
 use Rattle.fwu_model.specs.Script.{is_too_long, script_of}
@@ -21,10 +19,11 @@ use Rattle.fwu_words.specs.Order.{Asked, asked}
 use Rattle.fwu_words.specs.Allow.{NamesList, NamesNone}
 use Rattle.fwu_words.specs.Order as ask
 use Rattle.script_cmd.specs.Asking.{asked_after, asked_with_list, plainly}
+use Rattle.script_cmd.proofs.Shapes.{end-of, world-of}
 use Rattle.script_cmd.proofs.PromiseTurns.{by-plan}
 use Rattle.script_turns.specs.Powered.{Moment, at}
 use Rattle.script_cmd.specs.Printed.{Prints}
-use Rattle.script_cmd.specs.Running.{Ended, Printed, Ran}
+use Rattle.script_cmd.specs.Running.{Printed, Ran}
 use Rattle.script_cmd.specs.Ways.{AsksTurns, ByList, Given, HasGoodList, HasPasses, IsIdle, IsScriptOf, ReadsList, Refuses, StandsIn, Way, may_lack_list, bad_list, bad_script, list_not_read, not_read, ran, refused, starved, too_long, usage}
 
 false_true : false ≡ true → ⊥
@@ -74,75 +73,69 @@ rose-from first before after later (inl less) = inl (omega arith)
 rose-from first before after later (inr most) = inr most
 
 -- a refusal without a list is one behind a list that was read and is one
-pub refuses : (asked : Option Asked) (told files : Option Directory) (name : List ℕ) (script : Option (List ℕ)) (first was are : Faults) (planned : ℕ) (noted : Note) (line : List ℕ)
-    → HasGoodList (Some name) files → first.files ≤ was.files → first.source ≡ was.source
-    → Refuses asked (record { list = None; files = told; script = script }) was are planned noted line
-    → Refuses asked (record { list = Some name; files = files; script = script }) first are planned noted line
-refuses asked told files name script first was are planned noted line good later source (usage listed is) = usage good is
-refuses asked told files name script first was are planned noted line good later source (not_read listed is rose) = not_read good is (subst (λ (n : ℕ). Rose n are.source) (sym source) rose)
-refuses asked told files name script first was are planned noted line good later source (list_not_read some why) = let no : false ≡ true = some in absurd (false_true no)
-refuses asked told files name script first was are planned noted line good later source (too_long listed is long) = too_long good is long
-refuses asked told files name script first was are planned noted line good later source (bad_script n listed asks short bad) = bad_script n good asks short bad
-refuses asked told files name script first was are planned noted line good later source (bad_list n some there bad) = let no : false ≡ true = some in absurd (false_true no)
+pub refuses : (asked : Option Asked) (told files : Option Directory) (name : List ℕ) (script : Option (List ℕ)) (first faults_before faults_after : Faults) (planned : ℕ) (noted : Note) (line : List ℕ)
+    → HasGoodList (Some name) files → first.files ≤ faults_before.files → first.source ≡ faults_before.source
+    → Refuses asked (record { list = None; files = told; script = script }) faults_before faults_after planned noted line
+    → Refuses asked (record { list = Some name; files = files; script = script }) first faults_after planned noted line
+refuses asked told files name script first faults_before faults_after planned noted line good later source (usage listed is) = usage good is
+refuses asked told files name script first faults_before faults_after planned noted line good later source (not_read listed is rose) = not_read good is (subst (λ (n : ℕ). Rose n faults_after.source) (sym source) rose)
+refuses asked told files name script first faults_before faults_after planned noted line good later source (list_not_read some why) = let no : false ≡ true = some in absurd (false_true no)
+refuses asked told files name script first faults_before faults_after planned noted line good later source (too_long listed is long) = too_long good is long
+refuses asked told files name script first faults_before faults_after planned noted line good later source (bad_script n listed asks short bad) = bad_script n good asks short bad
+refuses asked told files name script first faults_before faults_after planned noted line good later source (bad_list n some there bad) = let no : false ≡ true = some in absurd (false_true no)
 
 -- turns with these files are turns with files that are told the same
 pub ran-told : (passes : List ℕ → Bool) (tells : Bool) (files told : Option Directory) (journal : List Turn) (old new : Moment) (from to : ℕ) → files ≡ told → Ran passes tells told journal old new from to
     → Ran passes tells files journal old new from to
 ran-told passes tells files told journal old new from to same did = subst (λ (f : Option Directory). Ran passes tells f journal old new from to) (sym same) did
 
-module _ (passes : List ℕ → Bool) (tells : Bool) (journal : List Turn) (status : ℕ) (noted : Note) (old new : Moment) (taken takes : Option (List ℕ)) where
+module _ (passes : List ℕ → Bool) (tells : Bool) (journal : List Turn) (status : ℕ) (noted : Note) (old new : Moment) (taken_before taken_after : Option (List ℕ)) where
   -- nothing ran, and the line of the cause was put
-  pub refused-by : (asked : Option Asked) (g : Given) (was are : Faults) (planned : ℕ) (line : List ℕ) (told : Note) → journal ≡ [] → new ≡ old → noted ≡ told → Refuses asked g was are planned told line
-      → Prints line planned status taken takes was.sink are.sink → Way passes tells asked g journal status noted old new taken takes was are
-  refused-by asked g was are planned line told none same is why prints = refused planned line none same (subst (λ (n : Note). Refuses asked g was are planned n line) (sym is) why) prints
+  pub refused-by : (asked : Option Asked) (g : Given) (faults_before faults_after : Faults) (planned : ℕ) (line : List ℕ) (told : Note) → journal ≡ [] → new ≡ old → noted ≡ told → Refuses asked g faults_before faults_after planned told line
+      → Prints line planned status taken_before taken_after faults_before.sink faults_after.sink → Way passes tells asked g (end-of journal status noted) (world-of old taken_before faults_before) (world-of new taken_after faults_after)
+  refused-by asked g faults_before faults_after planned line told none same is why prints = refused planned line none same (subst (λ (n : Note). Refuses asked g faults_before faults_after planned n line) (sym is) why) prints
 
-  pub text-refused : (asked : Option Asked) (g : Given) (was are : Faults) (text : List ℕ) (n : ℕ) → HasGoodList g.list g.files → AsksTurns asked → IsScriptOf g.script text → is_too_long text ≡ false → script_of text ≡ Err n
-      → journal ≡ [] → new ≡ old → noted ≡ note.BadLine n → Prints (bad_script_line n) 4 status taken takes was.sink are.sink → Way passes tells asked g journal status noted old new taken takes was are
-  text-refused asked g was are text n listed asks is short bad none same told prints =
-      refused-by asked g was are 4 (bad_script_line n) (note.BadLine n) none same told
+  pub text-refused : (asked : Option Asked) (g : Given) (faults_before faults_after : Faults) (text : List ℕ) (n : ℕ) → HasGoodList g.list g.files → AsksTurns asked → IsScriptOf g.script text → is_too_long text ≡ false → script_of text ≡ Err n
+      → journal ≡ [] → new ≡ old → noted ≡ note.BadLine n → Prints (bad_script_line n) 4 status taken_before taken_after faults_before.sink faults_after.sink → Way passes tells asked g (end-of journal status noted) (world-of old taken_before faults_before) (world-of new taken_after faults_after)
+  text-refused asked g faults_before faults_after text n listed asks is short bad none same told prints =
+      refused-by asked g faults_before faults_after 4 (bad_script_line n) (note.BadLine n) none same told
       (bad_script n listed asks (of-script g.script text (λ b. is_too_long b ≡ false) is short) (of-script g.script text (λ b. script_of b ≡ Err n) is bad))
       prints
 
-  pub text-ran : (asked : Option Asked) (g : Given) (was are : Faults) (text : List ℕ) (calls : List Call) (on : Option Fields) (from : ℕ) → HasGoodList g.list g.files → AsksTurns asked → IsScriptOf g.script text → is_too_long text ≡ false
-      → script_of text ≡ Ok calls → was.files ≤ from → Ran passes tells g.files journal old (at on new.told new.counts new.armed new.power) from are.files → Ended calls journal status noted → Printed journal status taken takes was.sink are.sink
-      → Way passes tells asked g journal status noted old new taken takes was are
-  text-ran asked g was are text calls on from listed asks is short read later does ended printed =
-      ran calls on from listed asks (of-script g.script text (λ b. (is_too_long b ≡ false) × (script_of b ≡ Ok calls)) is (short, read)) later does ended printed
-
   -- a way at equal words
-  pub way-at : (asked other : Option Asked) (list named : Option (List ℕ)) (files : Option Directory) (left : Option (List ℕ)) (was are : Faults) → asked ≡ other → list ≡ named
-      → Way passes tells other (record { list = named; files = files; script = script_asked (plainly other) left }) journal status noted old new taken takes was are
-      → Way passes tells asked (record { list = list; files = files; script = script_asked (plainly asked) left }) journal status noted old new taken takes was are
-  way-at asked other list named files left was are words is way =
-      subst (λ (l : Option (List ℕ)). Way passes tells asked (record { list = l; files = files; script = script_asked (plainly asked) left }) journal status noted old new taken takes was are) (sym is)
-      (subst (λ (a : Option Asked). Way passes tells a (record { list = named; files = files; script = script_asked (plainly a) left }) journal status noted old new taken takes was are) (sym words) way)
+  pub way-at : (asked other : Option Asked) (list named : Option (List ℕ)) (files : Option Directory) (left : Option (List ℕ)) (faults_before faults_after : Faults) → asked ≡ other → list ≡ named
+      → Way passes tells other (record { list = named; files = files; script = script_asked (plainly other) left }) (end-of journal status noted) (world-of old taken_before faults_before) (world-of new taken_after faults_after)
+      → Way passes tells asked (record { list = list; files = files; script = script_asked (plainly asked) left }) (end-of journal status noted) (world-of old taken_before faults_before) (world-of new taken_after faults_after)
+  way-at asked other list named files left faults_before faults_after words is way =
+      subst (λ (l : Option (List ℕ)). Way passes tells asked (record { list = l; files = files; script = script_asked (plainly asked) left }) (end-of journal status noted) (world-of old taken_before faults_before) (world-of new taken_after faults_after)) (sym is)
+      (subst (λ (a : Option Asked). Way passes tells a (record { list = named; files = files; script = script_asked (plainly a) left }) (end-of journal status noted) (world-of old taken_before faults_before) (world-of new taken_after faults_after)) (sym words) way)
 
   -- `run` with the script that the source gives
-  pub way-of-run : (asked : Option Asked) (files : Option Directory) (left : Option (List ℕ)) (was are : Faults) → asked ≡ Some ask.run
-      → Way passes tells (Some ask.run) (record { list = None; files = files; script = left }) journal status noted old new taken takes was are
-      → Way passes tells asked (record { list = None; files = files; script = script_asked (plainly asked) left }) journal status noted old new taken takes was are
-  way-of-run asked files left was are is way = way-at asked (Some ask.run) None None files left was are is refl way
+  pub way-of-run : (asked : Option Asked) (files : Option Directory) (left : Option (List ℕ)) (faults_before faults_after : Faults) → asked ≡ Some ask.run
+      → Way passes tells (Some ask.run) (record { list = None; files = files; script = left }) (end-of journal status noted) (world-of old taken_before faults_before) (world-of new taken_after faults_after)
+      → Way passes tells asked (record { list = None; files = files; script = script_asked (plainly asked) left }) (end-of journal status noted) (world-of old taken_before faults_before) (world-of new taken_after faults_after)
+  way-of-run asked files left faults_before faults_after is way = way-at asked (Some ask.run) None None files left faults_before faults_after is refl way
 
   -- `boot` with a script of its own
-  pub way-of-boot : (asked : Option Asked) (files : Option Directory) (left : Option (List ℕ)) (was are : Faults) → asked ≡ Some ask.boot
-      → Way passes tells (Some ask.boot) (record { list = None; files = files; script = Some (codes "boot\n") }) journal status noted old new taken takes was are
-      → Way passes tells asked (record { list = None; files = files; script = script_asked (plainly asked) left }) journal status noted old new taken takes was are
-  way-of-boot asked files left was are is way = way-at asked (Some ask.boot) None None files left was are is refl way
+  pub way-of-boot : (asked : Option Asked) (files : Option Directory) (left : Option (List ℕ)) (faults_before faults_after : Faults) → asked ≡ Some ask.boot
+      → Way passes tells (Some ask.boot) (record { list = None; files = files; script = Some (codes "boot\n") }) (end-of journal status noted) (world-of old taken_before faults_before) (world-of new taken_after faults_after)
+      → Way passes tells asked (record { list = None; files = files; script = script_asked (plainly asked) left }) (end-of journal status noted) (world-of old taken_before faults_before) (world-of new taken_after faults_after)
+  way-of-boot asked files left faults_before faults_after is way = way-at asked (Some ask.boot) None None files left faults_before faults_after is refl way
 
   -- a way without a list is one behind a list that was read and is one
-  pub with-list : (asked : Option Asked) (told files : Option Directory) (name : List ℕ) (script : Option (List ℕ)) (first was are : Faults) → told ≡ files → HasGoodList (Some name) files
-      → first.files ≤ was.files → first.source ≡ was.source → first.sink ≡ was.sink
-      → Way passes tells asked (record { list = None; files = told; script = script }) journal status noted old new taken takes was are
-      → Way passes tells asked (record { list = Some name; files = files; script = script }) journal status noted old new taken takes first are
-  with-list asked told files name script first was are same_files good later source sink (starved none same nine quiet takes) = starved none same nine quiet takes
-  with-list asked told files name script first was are same_files good later source sink (refused planned line none same why prints) =
+  pub with-list : (asked : Option Asked) (told files : Option Directory) (name : List ℕ) (script : Option (List ℕ)) (first faults_before faults_after : Faults) → told ≡ files → HasGoodList (Some name) files
+      → first.files ≤ faults_before.files → first.source ≡ faults_before.source → first.sink ≡ faults_before.sink
+      → Way passes tells asked (record { list = None; files = told; script = script }) (end-of journal status noted) (world-of old taken_before faults_before) (world-of new taken_after faults_after)
+      → Way passes tells asked (record { list = Some name; files = files; script = script }) (end-of journal status noted) (world-of old taken_before first) (world-of new taken_after faults_after)
+  with-list asked told files name script first faults_before faults_after same_files good later source sink (starved none same nine quiet taken_after) = starved none same nine quiet taken_after
+  with-list asked told files name script first faults_before faults_after same_files good later source sink (refused planned line none same why prints) =
       refused planned line none same
-      (refuses asked told files name script first was are planned noted line good later source why)
-      (subst (λ (n : ℕ). Prints line planned status taken takes n are.sink) (sym sink) prints)
-  with-list asked told files name script first was are same_files good later source sink (ran calls on from listed asks has from_later does ended printed) =
+      (refuses asked told files name script first faults_before faults_after planned noted line good later source why)
+      (subst (λ (n : ℕ). Prints line planned status taken_before taken_after n faults_after.sink) (sym sink) prints)
+  with-list asked told files name script first faults_before faults_after same_files good later source sink (ran calls on from listed asks has from_later does ended printed) =
       ran calls on from good asks has (omega arith)
-      (ran-told passes tells files told journal old (at on new.told new.counts new.armed new.power) from are.files (sym same_files) does)
-      ended (subst (λ (n : ℕ). Printed journal status taken takes n are.sink) (sym sink) printed)
+      (ran-told passes tells files told journal old (at on new.told new.counts new.armed new.power) from faults_after.files (sym same_files) does)
+      ended (subst (λ (n : ℕ). Printed journal status taken_before taken_after n faults_after.sink) (sym sink) printed)
 
 -- ---- whose manifests pass
 
@@ -189,10 +182,10 @@ by-list Has Idle P Q goes (inr (idle, all)) = inr (idle, λ passes. goes passes 
 pub idles : (journal : List Turn) (status : ℕ) (old new : Moment) → journal ≡ [] → new ≡ old → status ≡ 9 → IsIdle journal status old new
 idles journal status old new none same nine = record { no_turns = none; same = same; status_is = subst (λ (n : ℕ). IsTrue (may_lack_list n)) (sym nine) refl }
 
-pub idles-at : (journal : List Turn) (status : ℕ) (old new : Moment) (line : List ℕ) (planned : ℕ) (taken takes : Option (List ℕ)) (was are : ℕ) → journal ≡ [] → new ≡ old → IsTrue (may_lack_list planned)
-    → Prints line planned status taken takes was are → IsIdle journal status old new
-idles-at journal status old new line planned taken takes was are none same lacks prints =
-    record { no_turns = none; same = same; status_is = by-plan line planned status taken takes was are prints may_lack_list refl refl lacks }
+pub idles-at : (journal : List Turn) (status : ℕ) (old new : Moment) (line : List ℕ) (planned : ℕ) (taken_before taken_after : Option (List ℕ)) (faults_before faults_after : ℕ) → journal ≡ [] → new ≡ old → IsTrue (may_lack_list planned)
+    → Prints line planned status taken_before taken_after faults_before faults_after → IsIdle journal status old new
+idles-at journal status old new line planned taken_before taken_after faults_before faults_after none same lacks prints =
+    record { no_turns = none; same = same; status_is = by-plan line planned status taken_before taken_after faults_before faults_after prints may_lack_list refl refl lacks }
 
 -- ---- the words
 

@@ -1,5 +1,6 @@
 -- What the command `format` does, tells and prints.
-use Rattle.std.specs.Prelude.{◌≡◌, ◌⊎◌, ◌+◌, ◌*◌, ◌≤◌, ◌||◌, ◌==◌, ℕ, ◌++◌, ◌∷◌, [], false, Bool, List, Option, None, Result, Ok, Err, IfOk, IsTrue, IsFalse, is_ok, codes, decimal, length}
+use Rattle.std.specs.Prelude.{◌≡◌, ◌⊎◌, ◌+◌, ◌*◌, ◌≤◌, ◌||◌, ◌==◌, ℕ, ◌++◌, ◌∷◌, [], false, Bool, List, Option, None}
+use Rattle.std.specs.Prelude.{Result, Ok, Err, IfOk, IsTrue, IsFalse, is_ok, codes, decimal, length}
 use Rattle.flash_core.specs.Counts.{all_stops, stops_in}
 use Rattle.flash_core.specs.May.{Keeps}
 use Rattle.flash_core.specs.Told.{Told, NothingDirty}
@@ -10,8 +11,7 @@ use Rattle.fwu_formats.specs.Layout.{Layout, blocks_needed}
 use Rattle.fwu_formats.specs.Package.{Toc, toc_of}
 use Rattle.fwu_model.specs.Answer.{images_of}
 use Rattle.fwu_formats.specs.Manifest.{is_complete, manifest_part}
-use Rattle.fwu_model.specs.Reply.{Turn}
-use Rattle.fwu_model.specs.Causes.{Faults, may_fail_before}
+use Rattle.fwu_model.specs.Causes.{may_fail_before}
 use Rattle.fwu_formats.specs.FaultText.{fip_fault_text}
 use Rattle.fwu_model.specs.Text.{format_line, no_boot_text}
 use Rattle.fwu_model.specs.declared.kinds.NoBoot.TheVariants as no_boot
@@ -31,6 +31,7 @@ use Rattle.flash_format.specs.declared.stops.InputFault.{InputFault}
 use Rattle.flash_format.specs.declared.stops.InputFault.TheVariants as fault
 use Rattle.fwu_words.specs.Order as ask
 use Rattle.script_turns.specs.Powered.{Moment}
+use Rattle.script_cmd.specs.Ending.{Device, Ending, World}
 use Rattle.script_cmd.specs.Noted.{is_beyond, noted}
 use Rattle.script_cmd.specs.Printed.{Prints}
 use Rattle.script_cmd.specs.Showing.{HasCause, IsGranted, RefusedList, RefusesBadList, flash_fault_line}
@@ -124,7 +125,8 @@ pub record Tries (passes : List ℕ → Bool) (tells : Bool) (told : Option Dire
   pub refused : (found : Verdict) → r ≡ Err (Input (fault.Incomplete found)) → IsTrue tells
       → IsRefused passes L found new.told.now
   -- on every device: for no verdict by which the bank may start, and for none without what was read that gives it
-  pub bad : (found : Verdict) → r ≡ Err (Input (fault.Incomplete found)) → (may_start found ≡ false) × HasPassed passes L.rows 0 found
+  pub bad : (found : Verdict) → r ≡ Err (Input (fault.Incomplete found)) → (may_start found ≡ false)
+      × HasPassed passes L.rows 0 found
   pub images : Finishes r (IsTrue tells → (file : List ℕ) (toc : Toc) → Tells told name file → toc_of file ≡ Ok toc
       → HoldsImages L (images_of L.rows file toc) new.told.now)
   -- blocks 3 to 7 and the banks behind bank 0 are erased: no old mark, record of the counter or package is left
@@ -154,20 +156,18 @@ pub record Tries (passes : List ℕ → Bool) (tells : Bool) (told : Option Dire
 
 -- Nothing was done for want of memory, or since a list of digests was not read or is none; or the flash was formatted or was not,
 -- and the line of that was put into the sink.
-pub data Formats (passes : List ℕ → Bool) (tells : Bool) (g : Given) (name : List ℕ) (L : Layout)
-    (blocks : ℕ) (old new : Moment) (status : ℕ) (told : Note)
-    (taken_before taken_after : Option (List ℕ))
-    (faults_before faults_after : Faults) : Type 0 where
-  starved : status ≡ 9 → told ≡ note.Nothing → new ≡ old → taken_after ≡ taken_before
-      → Formats passes tells g name L blocks old new status told taken_before taken_after faults_before faults_after
+pub data Formats (passes : List ℕ → Bool) (device : Device) (g : Given) (name : List ℕ) (L : Layout)
+    (old new : World) (status : ℕ) (said : Note) : Type 0 where
+  starved : status ≡ 9 → said ≡ note.Nothing → new.flash ≡ old.flash → new.taken ≡ old.taken
+      → Formats passes device g name L old new status said
   tried : HasGoodList g.list g.files → (r : Result Formatted FormatStop)
-      → Tries passes tells g.files name L blocks old new faults_before.files faults_after.files r
-      → Prints (format_text r) (format_status r) status taken_before taken_after faults_before.sink faults_after.sink
-      → told ≡ format_note r
-      → Formats passes tells g name L blocks old new status told taken_before taken_after faults_before faults_after
-  list_refused : new ≡ old → IsFalse (is_beyond told)
-      → RefusedList (ask.format L.banks L.rows name) g status (noted told) taken_before taken_after faults_before faults_after
-      → Formats passes tells g name L blocks old new status told taken_before taken_after faults_before faults_after
+      → Tries passes device.tells g.files name L device.blocks old.flash new.flash old.faults.files new.faults.files r
+      → Prints (format_text r) (format_status r) status old.taken new.taken old.faults.sink new.faults.sink
+      → said ≡ format_note r
+      → Formats passes device g name L old new status said
+  list_refused : new.flash ≡ old.flash → IsFalse (is_beyond said)
+      → RefusedList (ask.format L.banks L.rows name) g status (noted said) old new
+      → Formats passes device g name L old new status said
 
 -- The rows and banks are a layout of the flash, the file is told and is a package,
 -- and its images are a complete package of the layout that passes.
@@ -182,22 +182,20 @@ pub record IsFormattable (passes : List ℕ → Bool) (told : Option Directory) 
   pub permitted : IsTrue (passes (manifest_part (images_of L.rows file toc)))
 
 -- What the command does, and that it makes no turn and arms nothing.
-pub record FormattedBy (passes : List ℕ → Bool) (tells : Bool) (g : Given) (name : List ℕ)
-    (L : Layout) (blocks : ℕ) (old new : Moment) (status : ℕ) (told : Note) (journal : List Turn)
-    (taken_before taken_after : Option (List ℕ))
-    (faults_before faults_after : Faults) : Type 0 where
-  pub formats : Formats passes tells g name L blocks old new status told taken_before taken_after faults_before faults_after
-  pub refuses_list : RefusesBadList g old new status faults_before faults_after
+pub record FormattedBy (passes : List ℕ → Bool) (device : Device) (g : Given) (name : List ℕ) (L : Layout)
+    (ending : Ending Note) (old new : World) : Type 0 where
+  pub formats : Formats passes device g name L old new ending.status ending.noted
+  pub refuses_list : RefusesBadList g old.flash new.flash ending.status old.faults new.faults
   -- a package that told files lack is answered by 2, where there is a layout for it,
   -- or by a failure at the line, or on the way there
-  pub lacking : Lacks g.files name → (M : Layout) → fitted L blocks ≡ Ok M
-      → IsTrue (may_fail_before status || (status == 13))
+  pub lacking : Lacks g.files name → (M : Layout) → fitted L device.blocks ≡ Ok M
+      → IsTrue (may_fail_before ending.status || (ending.status == 13))
   -- done: no old mark, record of the counter or package is left
-  pub blank : status ≡ 0 → IsTrue tells → IsBlank L new.told.now
-  pub no_turns : journal ≡ []
-  pub made : new.counts.made ≡ old.counts.made
-  pub unarmed : new.armed ≡ None
-  pub guard : IsTrue tells → new.told.guard ≡ old.told.guard
+  pub blank : ending.status ≡ 0 → IsTrue device.tells → IsBlank L new.flash.told.now
+  pub no_turns : ending.journal ≡ []
+  pub made : new.flash.counts.made ≡ old.flash.counts.made
+  pub unarmed : new.flash.armed ≡ None
+  pub guard : IsTrue device.tells → new.flash.told.guard ≡ old.flash.told.guard
   -- a flash that tells its content is formatted where all is there and nothing failed, unless memory was wanting
-  pub complete : IsTrue tells → IsFormattable passes g.files name L blocks
-      → IsGranted g old.counts new.counts faults_before faults_after → (status ≡ 0) ⊎ (status ≡ 9)
+  pub complete : IsTrue device.tells → IsFormattable passes g.files name L device.blocks
+      → IsGranted g old.flash.counts new.flash.counts old.faults new.faults → (ending.status ≡ 0) ⊎ (ending.status ≡ 9)

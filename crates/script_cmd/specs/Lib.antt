@@ -4,6 +4,7 @@ pub mod Noted
 pub mod Asking
 pub mod Sourced
 pub mod BootWord
+pub mod Ending
 pub mod Ways
 pub mod Showing
 pub mod Formatting

@@ -13,85 +13,72 @@ use Rattle.fwu_formats.specs.Layout.{Layout}
 use Rattle.fwu_formats.specs.Image.{layout_seen, deciding}
 use Rattle.fwu_model.specs.Script.{script_of}
 use Rattle.fwu_model.specs.Headline.{made_after}
-use Rattle.fwu_model.specs.Causes.{Faults, LacksList, cuts_in}
+use Rattle.fwu_model.specs.Causes.{LacksList, cuts_in}
 use Rattle.fwu_model.specs.Wrote.{StopsInLast, usage_line}
 use Rattle.fwu_words.specs.Order.{Asked}
 use Rattle.fwu_words.specs.Order as ask
 use Rattle.host_io.specs.Contents.{Directory}
-use Rattle.script_turns.specs.Powered.{Moment, SameDevice}
-use Rattle.script_cmd.specs.Ways.{HasPasses}
+use Rattle.script_turns.specs.Powered.{SameDevice}
+use Rattle.script_cmd.specs.Ending.{Ending, World}
+use Rattle.script_cmd.specs.Ways.{HasPasses, Inputs}
 use Rattle.script_cmd.specs.Promises.{Promised}
-
--- what a run was, from a moment to another
-pub record Promise (passes : List ℕ → Bool) (tells : Bool) (asked : Option Asked)
-    (source : Option (List ℕ)) (journal : List Turn) (status : ℕ) (old new : Moment)
-    (taken_before taken_after : Option (List ℕ)) : Type 0 where
-  pub list : Option (List ℕ)
-  pub files : Option Directory
-  pub noted : Note
-  pub faults_before : Faults
-  pub faults_after : Faults
-  pub holds : Promised passes tells asked list files source journal status noted old new
-      taken_before taken_after faults_before faults_after
 
 -- A script with a call isn't passed over: nothing done and status 0 is the end of a script without calls.
 abbrev pub NothingIsPassedOver : Type 0
 NothingIsPassedOver =
-    (passes : List ℕ → Bool) (tells : Bool) (bytes : List ℕ) (calls : List Call) (old new : Moment)
-    (taken_before taken_after : Option (List ℕ))
+    (passes : List ℕ → Bool) (tells : Bool) (inputs : Inputs) (ending : Ending Note) (old new : World)
+    (bytes : List ℕ) (calls : List Call)
     → script_of bytes ≡ Ok calls
-    → Promise passes tells (Some ask.run) (Some bytes) [] 0 old new taken_before taken_after
+    → Promised passes tells (record inputs { asked = Some ask.run; source = Some bytes })
+    (record ending { journal = []; status = 0 }) old new
     → calls ≡ []
 
 -- Usage, a bad script and each other end without a turn leave the device as it was, armed or not.
 abbrev pub NothingIsTouched : Type 0
 NothingIsTouched =
-    (passes : List ℕ → Bool) (tells : Bool) (asked : Option Asked) (source : Option (List ℕ))
-    (status : ℕ) (old new : Moment) (taken_before taken_after : Option (List ℕ))
-    → Promise passes tells asked source [] status old new taken_before taken_after
-    → SameDevice old new
+    (passes : List ℕ → Bool) (tells : Bool) (inputs : Inputs) (ending : Ending Note) (old new : World)
+    → Promised passes tells inputs (record ending { journal = [] }) old new
+    → SameDevice old.flash new.flash
 
 -- The program arms no loss of its own.
 abbrev pub NothingIsArmed : Type 0
 NothingIsArmed =
-    (passes : List ℕ → Bool) (tells : Bool) (asked : Option Asked) (source : Option (List ℕ))
-    (journal : List Turn) (status : ℕ) (old new : Moment)
-    (taken_before taken_after : Option (List ℕ))
-    → Promise passes tells asked source journal status old new taken_before taken_after
-    → new.counts.made ≡ made_after old.counts.made (cuts_in journal)
+    (passes : List ℕ → Bool) (tells : Bool) (inputs : Inputs) (ending : Ending Note) (old new : World)
+    → Promised passes tells inputs ending old new
+    → new.flash.counts.made ≡ made_after old.flash.counts.made (cuts_in ending.journal)
 
 -- Where the sink failed after a turn, it failed at the last turn's line: the lines before are all there.
 abbrev pub NothingFollowsTheSink : Type 0
 NothingFollowsTheSink =
-    (passes : List ℕ → Bool) (tells : Bool) (asked : Option Asked) (source : Option (List ℕ))
-    (journal : List Turn) (old new : Moment) (before : List ℕ) (taken_after : Option (List ℕ))
-    → journal ≢ [] → Promise passes tells asked source journal 3 old new (Some before) taken_after
-    → (w : List ℕ) × (taken_after ≡ Some (before ++ w)) × StopsInLast journal w
+    (passes : List ℕ → Bool) (tells : Bool) (inputs : Inputs) (ending : Ending Note) (old new : World)
+    (before : List ℕ)
+    → ending.journal ≢ []
+    → Promised passes tells inputs (record ending { status = 3 }) (record old { taken = Some before }) new
+    → (w : List ℕ) × (new.taken ≡ Some (before ++ w)) × StopsInLast ending.journal w
 
 -- The line of usage stands for words that ask for nothing, also where the sink failed behind it.
 abbrev pub UsageLineIsOfUsage : Type 0
 UsageLineIsOfUsage =
-    (passes : List ℕ → Bool) (tells : Bool) (asked : Option Asked) (source : Option (List ℕ))
-    (old new : Moment) (before : List ℕ)
-    → Promise passes tells asked source [] 3 old new (Some before) (Some (before ++ usage_line))
-    → asked ≡ None
+    (passes : List ℕ → Bool) (tells : Bool) (inputs : Inputs) (ending : Ending Note) (old new : World)
+    (before : List ℕ)
+    → Promised passes tells inputs (record ending { journal = []; status = 3 })
+    (record old { taken = Some before }) (record new { taken = Some (before ++ usage_line) })
+    → inputs.asked ≡ None
 
 -- A first boot that found no metadata is of a flash that has none, sound or not.
 abbrev pub NoMetadataIsNone : Type 0
 NoMetadataIsNone =
-    (passes : List ℕ → Bool) (asked : Option Asked) (source : Option (List ℕ)) (t : Turn)
-    (turns : List Turn) (status : ℕ) (old new : Moment) (taken_before taken_after : Option (List ℕ))
-    → NothingDirty old.told → t.call ≡ call.Boot → t.reply ≡ reply.NotBooted no_boot.Metadata
-    → Promise passes true asked source (t ∷ turns) status old new taken_before taken_after
-    → (L : Layout) × (layout_seen old.told.now ≡ Ok L) × (deciding L old.told.now ≡ None)
+    (passes : List ℕ → Bool) (inputs : Inputs) (ending : Ending Note) (old new : World) (t : Turn) (turns : List Turn)
+    → NothingDirty old.flash.told → t.call ≡ call.Boot → t.reply ≡ reply.NotBooted no_boot.Metadata
+    → Promised passes true inputs (record ending { journal = t ∷ turns }) old new
+    → (L : Layout) × (layout_seen old.flash.told.now ≡ Ok L) × (deciding L old.flash.told.now ≡ None)
 
 -- Words that ask for nothing read no source: where they are answered by 2, a list was named and not read.
 abbrev pub UsageReadsNoSource : Type 0
 UsageReadsNoSource =
-    (passes : List ℕ → Bool) (tells : Bool) (source : Option (List ℕ)) (old new : Moment)
-    (taken_before taken_after : Option (List ℕ))
-    → (p : Promise passes tells None source [] 2 old new taken_before taken_after) → IsSome p.list
-    × (Rose p.faults_before.files p.faults_after.files ⊎ LacksList p.files p.list)
+    (passes : List ℕ → Bool) (tells : Bool) (inputs : Inputs) (ending : Ending Note) (old new : World)
+    → Promised passes tells (record inputs { asked = None }) (record ending { journal = []; status = 2 }) old new
+    → IsSome inputs.list × (Rose old.faults.files new.faults.files ⊎ LacksList inputs.files inputs.list)
 
 -- ---- lists of digests
 

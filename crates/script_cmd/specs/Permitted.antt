@@ -1,15 +1,16 @@
 -- What each boot of a run that is answered has, on any device, told or not.
-use Rattle.std.specs.Prelude.{◌≡◌, ◌≤◌, ℕ, Bool, List, Option, Some}
+use Rattle.std.specs.Prelude.{◌≡◌, ◌≤◌, ℕ, Bool, List, Some}
 use Rattle.std.specs.List.{slice_get}
 use Rattle.fwu_formats.specs.Layout.{ImageRow}
 use Rattle.fwu_model.specs.Call as call
 use Rattle.fwu_model.specs.Reply.{Turn}
 use Rattle.fwu_model.specs.Reply as reply
 use Rattle.fwu_model.specs.State.{Numbers}
-use Rattle.fwu_words.specs.Order.{Asked}
+use Rattle.fwu_model.specs.declared.kinds.Note.{Note}
 use Rattle.image_check.specs.Passed.{HasPackage}
-use Rattle.script_turns.specs.Powered.{Moment}
-use Rattle.script_cmd.specs.Outcomes.{Promise}
+use Rattle.script_cmd.specs.Ending.{Ending, World}
+use Rattle.script_cmd.specs.Promises.{Promised}
+use Rattle.script_cmd.specs.Ways.{Inputs}
 
 -- Some complete package of some images has this version and a manifest that passes, and it is not below the counter that the boot
 -- read, which its turn tells.
@@ -22,9 +23,8 @@ pub record IsOfPackage (passes : List ℕ → Bool) (t : Turn) (version : ℕ) :
 
 abbrev pub BootsArePermitted : Type 0
 BootsArePermitted =
-    (passes : List ℕ → Bool) (tells : Bool) (asked : Option Asked) (source : Option (List ℕ))
-    (journal : List Turn) (status : ℕ) (old new : Moment) (taken_before taken_after : Option (List ℕ))
-    → Promise passes tells asked source journal status old new taken_before taken_after
-    → (n : ℕ) (t : Turn) (bank version trials counter : ℕ) (fallback : Bool) → slice_get journal n ≡ Some t
+    (passes : List ℕ → Bool) (tells : Bool) (inputs : Inputs) (ending : Ending Note) (old new : World)
+    → Promised passes tells inputs ending old new
+    → (n : ℕ) (t : Turn) (bank version trials counter : ℕ) (fallback : Bool) → slice_get ending.journal n ≡ Some t
     → t.call ≡ call.Boot → t.reply ≡ reply.Booted bank version trials counter fallback
     → IsOfPackage passes t version

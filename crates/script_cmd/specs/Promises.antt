@@ -1,5 +1,6 @@
 -- What `run` or `boot` promises, whichever way it ends.
-use Rattle.std.specs.Prelude.{◌≡◌, ◌≢◌, ◌+◌, ◌≤◌, ◌⊎◌, ℕ, Bool, List, ◌++◌, Option, Some, IsTrue, IsFalse, ◌||◌, ◌==◌, [], slice_get}
+use Rattle.std.specs.Prelude.{◌≡◌, ◌≢◌, ◌+◌, ◌≤◌, ◌⊎◌, ℕ, Bool, List, ◌++◌, Option, Some, IsTrue, IsFalse, ◌||◌, ◌==◌}
+use Rattle.std.specs.Prelude.{[], slice_get}
 use Rattle.flash_core.specs.Counts.{Rose, all_stops}
 use Rattle.flash_core.specs.Told.{NothingDirty}
 use Rattle.flash_core.specs.May.{Guards}
@@ -15,21 +16,22 @@ use Rattle.fwu_model.specs.Calm.{IsAtRest, IsGuarded}
 use Rattle.fwu_model.specs.Contract.{Premises, Asks}
 use Rattle.fwu_model.specs.Headline.{Headline, Outcome}
 use Rattle.fwu_model.specs.Wrote.{Wrote, script_asked}
-use Rattle.fwu_model.specs.Causes.{EndsAs, Faults, IsServed, may_fail_before}
+use Rattle.fwu_model.specs.Causes.{EndsAs, IsServed, may_fail_before}
 use Rattle.fwu_model.specs.declared.kinds.Note.{Note}
 use Rattle.fwu_words.specs.Order.{Asked}
 use Rattle.fwu_words.specs.Order as ask
 use Rattle.script_cmd.specs.Asking.{plainly}
 use Rattle.script_cmd.specs.BootWord.{BootsBy}
+use Rattle.script_cmd.specs.Ending.{Ending, World}
 use Rattle.script_turns.specs.Booted.{BootsFrom}
 use Rattle.script_turns.specs.Powered.{Moment, SameDevice, at}
 use Rattle.script_cmd.specs.Running.{Follows, power_left, stops_of}
-use Rattle.script_cmd.specs.Ways.{Given, Refuses, Way}
+use Rattle.script_cmd.specs.Ways.{Given, Inputs, Refuses, Way}
 
--- what the program was given to read, with what the source tells
-abbrev pub given_to : Option Asked → Option (List ℕ) → Option (List ℕ → Option (List ℕ))
-    → Option (List ℕ) → Given
-given_to asked list files source = record { list = list; files = files; script = script_asked (plainly asked) source }
+-- what the program was given to read, with the script that its words and its source give
+abbrev pub given_to : Inputs → Given
+given_to inputs =
+    record { list = inputs.list; files = inputs.files; script = script_asked (plainly inputs.asked) inputs.source }
 
 -- what it was asked for, and what it left
 abbrev pub outcome : List Call → List Turn → ℕ → Moment → Moment → Outcome
@@ -45,51 +47,49 @@ outcome calls journal status old new =
     }
 
 -- from a sound flash the headline, for the calls that are asked for
-abbrev pub HeadlineHolds : (List ℕ → Bool) → Bool → Option Asked → Option (List ℕ → Option (List ℕ))
-    → Option (List ℕ) → List Turn → ℕ → Moment → Moment → Type 0
-HeadlineHolds passes tells asked files source journal status old new =
+abbrev pub HeadlineHolds : (List ℕ → Bool) → Bool → Inputs → Ending Note → World → World → Type 0
+HeadlineHolds passes tells inputs ending old new =
     IsTrue tells → (E : Setting) (start : State) (calls : List Call)
-    → Premises E start old.told files passes old.counts new.counts
-    → Asks (plainly asked) source calls
-    → Headline E start (outcome calls journal status old new)
+    → Premises E start old.flash.told inputs.files passes old.flash.counts new.flash.counts
+    → Asks (plainly inputs.asked) inputs.source calls
+    → Headline E start (outcome calls ending.journal ending.status old.flash new.flash)
 
 -- what the sink took, where it tells that
-abbrev pub WroteHolds : Option Asked → Given → List Turn → ℕ → Note → Option (List ℕ)
-    → Option (List ℕ) → Faults → Faults → Type 0
-WroteHolds asked g journal status noted taken_before taken_after faults_before faults_after =
-    (before : List ℕ) → taken_before ≡ Some before → (w : List ℕ) ×
-    (taken_after ≡ Some (before ++ w)) × Wrote (Refuses asked g faults_before faults_after) g.script
-    (list_bytes g.list g.files) status noted journal w
+abbrev pub WroteHolds : Option Asked → Given → Ending Note → World → World → Type 0
+WroteHolds asked g ending old new =
+    (before : List ℕ) → old.taken ≡ Some before → (w : List ℕ) ×
+    (new.taken ≡ Some (before ++ w)) × Wrote (Refuses asked g old.faults new.faults) g.script
+    (list_bytes g.list g.files) ending.status ending.noted ending.journal w
 
 -- why it ended as it did
-abbrev pub EndsHold : Option Asked → Given → List Turn → ℕ → Note → Moment → Moment → Faults
-    → Faults → Type 0
-EndsHold asked g journal status noted old new faults_before faults_after =
-    EndsAs (plainly asked) g.list g.files g.script status noted journal old.counts new.counts faults_before faults_after
+abbrev pub EndsHold : Option Asked → Given → Ending Note → World → World → Type 0
+EndsHold asked g ending old new =
+    EndsAs (plainly asked) g.list g.files g.script ending.status ending.noted ending.journal
+    old.flash.counts new.flash.counts old.faults new.faults
 
 -- What each turn did, on any device, one after the other from the device as it was handed in to what is left of it: its reply, what
 -- the agent keeps, what an armed loss counts, and its causes.
 -- The files' faults as the turns began and ended are among those of the run.
 pub record RepliesHold (passes : List ℕ → Bool) (tells : Bool) (files : Option Directory)
-    (journal : List Turn) (old new : Moment) (faults_before faults_after : Faults) : Type 0 where
+    (journal : List Turn) (old new : World) : Type 0 where
   -- what the agent keeps at last, where a bank was started
   pub on : Option Fields
   pub from : ℕ
   pub to : ℕ
-  pub follows : Follows passes tells files journal old (at on new.told new.counts new.armed new.power) from to
-  pub begins : faults_before.files ≤ from
-  pub ends : journal ≢ [] → to ≡ faults_after.files
+  pub follows : Follows passes tells files journal old.flash
+      (at on new.flash.told new.flash.counts new.flash.armed new.flash.power) from to
+  pub begins : old.faults.files ≤ from
+  pub ends : journal ≢ [] → to ≡ new.faults.files
 
 -- The one command `boot`, on any flash with nothing dirty, where no failure and no loss stopped it,
 -- and the list had no bad line, goes by the bytes.
-abbrev pub BootWordHolds : (List ℕ → Bool) → Bool → Option Asked → List Turn → ℕ → Note → Moment
-    → Moment → Type 0
-BootWordHolds passes tells asked journal status noted old new =
+abbrev pub BootWordHolds : (List ℕ → Bool) → Bool → Option Asked → Ending Note → Moment → Moment → Type 0
+BootWordHolds passes tells asked ending old new =
     IsTrue tells → NothingDirty old.told → asked ≡ Some ask.boot
-    → IsFalse (may_fail_before status || (status == 13))
+    → IsFalse (may_fail_before ending.status || (ending.status == 13))
     → (Rose old.counts.faults new.counts.faults → ⊥) → (Rose old.counts.cuts new.counts.cuts → ⊥)
     → (Rose old.counts.reached new.counts.reached → ⊥)
-    → BootsBy passes old.told.now status noted journal
+    → BootsBy passes old.told.now ending.status ending.noted ending.journal
 
 -- What a run does to any device: where no turn ran it is as it was; its power is by the replies; no failure and no loss is counted
 -- but those that its turns tell; and the same blocks are guarded.
@@ -113,126 +113,96 @@ GuardedHolds tells old new =
     × (IsTrue new.power → IsAtRest new.told)
 
 -- from a sound flash all is done, where nothing was lacking and nothing failed, unless memory was wanting
-abbrev pub CompleteHolds : (List ℕ → Bool) → Bool → Option Asked → Option (List ℕ)
-    → Option (List ℕ → Option (List ℕ)) → Option (List ℕ) → List Turn → ℕ → Moment → Moment → Faults
-    → Faults → Type 0
-CompleteHolds passes tells asked list files source journal status old new faults_before faults_after =
+abbrev pub CompleteHolds : (List ℕ → Bool) → Bool → Inputs → Ending Note → World → World → Type 0
+CompleteHolds passes tells inputs ending old new =
     IsTrue tells → (E : Setting) (start : State) (calls : List Call) (script : List ℕ)
-    → Premises E start old.told files passes old.counts new.counts
-    → Asks (plainly asked) source calls
-    → script_asked (plainly asked) source ≡ Some script
-    → IsServed (outcome calls journal status old new) (plainly asked) list files script faults_before faults_after
-    → (status ≡ 0) ⊎ (status ≡ 9)
+    → Premises E start old.flash.told inputs.files passes old.flash.counts new.flash.counts
+    → Asks (plainly inputs.asked) inputs.source calls
+    → script_asked (plainly inputs.asked) inputs.source ≡ Some script
+    → IsServed (outcome calls ending.journal ending.status old.flash new.flash) (plainly inputs.asked)
+    inputs.list inputs.files script old.faults new.faults
+    → (ending.status ≡ 0) ⊎ (ending.status ≡ 9)
 
 -- ---- as laws: each way that it may end promises all of these
 
 abbrev pub WaysWrite : Type 0
 WaysWrite =
-    (passes : List ℕ → Bool) (tells : Bool) (asked : Option Asked) (g : Given) (journal : List Turn)
-    (status : ℕ) (noted : Note) (old new : Moment) (taken_before taken_after : Option (List ℕ))
-    (faults_before faults_after : Faults)
-    → Way passes tells asked g journal status noted old new taken_before taken_after faults_before faults_after
-    → WroteHolds asked g journal status noted taken_before taken_after faults_before faults_after
+    (passes : List ℕ → Bool) (tells : Bool) (asked : Option Asked) (g : Given) (ending : Ending Note) (old new : World)
+    → Way passes tells asked g ending old new
+    → WroteHolds asked g ending old new
 
 abbrev pub WaysEnd : Type 0
 WaysEnd =
-    (passes : List ℕ → Bool) (tells : Bool) (asked : Option Asked) (g : Given) (journal : List Turn)
-    (status : ℕ) (noted : Note) (old new : Moment) (taken_before taken_after : Option (List ℕ))
-    (faults_before faults_after : Faults)
-    → Way passes tells asked g journal status noted old new taken_before taken_after faults_before faults_after
-    → EndsHold asked g journal status noted old new faults_before faults_after
+    (passes : List ℕ → Bool) (tells : Bool) (asked : Option Asked) (g : Given) (ending : Ending Note) (old new : World)
+    → Way passes tells asked g ending old new
+    → EndsHold asked g ending old new
 
 abbrev pub WaysReply : Type 0
 WaysReply =
-    (passes : List ℕ → Bool) (tells : Bool) (asked : Option Asked) (g : Given) (journal : List Turn)
-    (status : ℕ) (noted : Note) (old new : Moment) (taken_before taken_after : Option (List ℕ))
-    (faults_before faults_after : Faults)
-    → Way passes tells asked g journal status noted old new taken_before taken_after faults_before faults_after
-    → RepliesHold passes tells g.files journal old new faults_before faults_after
+    (passes : List ℕ → Bool) (tells : Bool) (asked : Option Asked) (g : Given) (ending : Ending Note) (old new : World)
+    → Way passes tells asked g ending old new
+    → RepliesHold passes tells g.files ending.journal old new
 
 abbrev pub WaysLeaveTheDevice : Type 0
 WaysLeaveTheDevice =
-    (passes : List ℕ → Bool) (tells : Bool) (asked : Option Asked) (g : Given) (journal : List Turn)
-    (status : ℕ) (noted : Note) (old new : Moment) (taken_before taken_after : Option (List ℕ))
-    (faults_before faults_after : Faults)
-    → Way passes tells asked g journal status noted old new taken_before taken_after faults_before faults_after
-    → LeavesDevice tells journal old new
+    (passes : List ℕ → Bool) (tells : Bool) (asked : Option Asked) (g : Given) (ending : Ending Note) (old new : World)
+    → Way passes tells asked g ending old new
+    → LeavesDevice tells ending.journal old.flash new.flash
 
 abbrev pub WaysBootFirst : Type 0
 WaysBootFirst =
-    (passes : List ℕ → Bool) (tells : Bool) (asked : Option Asked) (g : Given) (journal : List Turn)
-    (status : ℕ) (noted : Note) (old new : Moment) (taken_before taken_after : Option (List ℕ))
-    (faults_before faults_after : Faults)
-    → Way passes tells asked g journal status noted old new taken_before taken_after faults_before faults_after
-    → FirstHolds passes tells journal old
+    (passes : List ℕ → Bool) (tells : Bool) (asked : Option Asked) (g : Given) (ending : Ending Note) (old new : World)
+    → Way passes tells asked g ending old new
+    → FirstHolds passes tells ending.journal old.flash
 
 abbrev pub WaysKeepTheHeadline : Type 0
 WaysKeepTheHeadline =
-    (passes : List ℕ → Bool) (tells : Bool) (asked : Option Asked) (list : Option (List ℕ))
-    (files : Option (List ℕ → Option (List ℕ))) (source : Option (List ℕ))
-    (journal : List Turn) (status : ℕ) (noted : Note) (old new : Moment)
-    (taken_before taken_after : Option (List ℕ)) (faults_before faults_after : Faults)
-    → Way passes tells asked (given_to asked list files source) journal status noted old new
-    taken_before taken_after faults_before faults_after
-    → HeadlineHolds passes tells asked files source journal status old new
+    (passes : List ℕ → Bool) (tells : Bool) (inputs : Inputs) (ending : Ending Note) (old new : World)
+    → Way passes tells inputs.asked (given_to inputs) ending old new
+    → HeadlineHolds passes tells inputs ending old new
 
 abbrev pub WaysBoot : Type 0
 WaysBoot =
-    (passes : List ℕ → Bool) (tells : Bool) (asked : Option Asked) (list : Option (List ℕ))
-    (files : Option (List ℕ → Option (List ℕ))) (source : Option (List ℕ))
-    (journal : List Turn) (status : ℕ) (noted : Note) (old new : Moment)
-    (taken_before taken_after : Option (List ℕ)) (faults_before faults_after : Faults)
-    → Way passes tells asked (given_to asked list files source) journal status noted old new
-    taken_before taken_after faults_before faults_after
-    → BootWordHolds passes tells asked journal status noted old new
+    (passes : List ℕ → Bool) (tells : Bool) (inputs : Inputs) (ending : Ending Note) (old new : World)
+    → Way passes tells inputs.asked (given_to inputs) ending old new
+    → BootWordHolds passes tells inputs.asked ending old.flash new.flash
 
 abbrev pub WaysGuard : Type 0
 WaysGuard =
-    (passes : List ℕ → Bool) (tells : Bool) (asked : Option Asked) (g : Given) (journal : List Turn)
-    (status : ℕ) (noted : Note) (old new : Moment) (taken_before taken_after : Option (List ℕ))
-    (faults_before faults_after : Faults)
-    → Way passes tells asked g journal status noted old new taken_before taken_after faults_before faults_after
-    → GuardedHolds tells old new
+    (passes : List ℕ → Bool) (tells : Bool) (asked : Option Asked) (g : Given) (ending : Ending Note) (old new : World)
+    → Way passes tells asked g ending old new
+    → GuardedHolds tells old.flash new.flash
 
 abbrev pub WaysAreComplete : Type 0
 WaysAreComplete =
-    (passes : List ℕ → Bool) (tells : Bool) (asked : Option Asked) (list : Option (List ℕ))
-    (files : Option (List ℕ → Option (List ℕ))) (source : Option (List ℕ))
-    (journal : List Turn) (status : ℕ) (noted : Note) (old new : Moment)
-    (taken_before taken_after : Option (List ℕ)) (faults_before faults_after : Faults)
-    → Way passes tells asked (given_to asked list files source) journal status noted old new
-    taken_before taken_after faults_before faults_after
-    → CompleteHolds passes tells asked list files source journal status old new faults_before faults_after
+    (passes : List ℕ → Bool) (tells : Bool) (inputs : Inputs) (ending : Ending Note) (old new : World)
+    → Way passes tells inputs.asked (given_to inputs) ending old new
+    → CompleteHolds passes tells inputs ending old new
 
 -- ---- in one
 
 -- All that `run` or `boot` promises.
-pub record Promised (passes : List ℕ → Bool) (tells : Bool) (asked : Option Asked)
-    (list : Option (List ℕ)) (files : Option (List ℕ → Option (List ℕ))) (source : Option (List ℕ))
-    (journal : List Turn) (status : ℕ) (noted : Note) (old new : Moment)
-    (taken_before taken_after : Option (List ℕ))
-    (faults_before faults_after : Faults) : Type 0 where
+pub record Promised (passes : List ℕ → Bool) (tells : Bool) (inputs : Inputs) (ending : Ending Note)
+    (old new : World) : Type 0 where
   -- For every device, files, source and sink, told or not: which way it ended.
-  pub way : Way passes tells asked (given_to asked list files source) journal status noted old new
-      taken_before taken_after faults_before faults_after
+  pub way : Way passes tells inputs.asked (given_to inputs) ending old new
   -- From a sound flash: the turns are those of the machine, every image that a loss may leave shows a state that they lead to, and
   -- each boot selects a complete and permitted package.
-  pub headline : HeadlineHolds passes tells asked files source journal status old new
+  pub headline : HeadlineHolds passes tells inputs ending old new
   -- For every device, files and source: the lines of what was done, at every status.
-  pub wrote : WroteHolds asked (given_to asked list files source) journal status noted
-      taken_before taken_after faults_before faults_after
+  pub wrote : WroteHolds inputs.asked (given_to inputs) ending old new
   -- For every device, files, source and sink: which turns and causes ended the run.
-  pub ends : EndsHold asked (given_to asked list files source) journal status noted old new faults_before faults_after
+  pub ends : EndsHold inputs.asked (given_to inputs) ending old new
   -- For every device: each turn's reply is that of each machine that the agent shows; a boot's reply tells whether the flash is on,
   -- and with which numbers; while off all else is answered `off`; and what an armed loss counts of the turn.
-  pub replies : RepliesHold passes tells files journal old new faults_before faults_after
+  pub replies : RepliesHold passes tells inputs.files ending.journal old new
   -- For every device: where no turn ran it is as it was, and its power is by the replies.
-  pub device : LeavesDevice tells journal old new
+  pub device : LeavesDevice tells ending.journal old.flash new.flash
   -- On any flash with nothing dirty, sound or not: a first turn that is a boot goes by the bytes.
-  pub first : FirstHolds passes tells journal old
+  pub first : FirstHolds passes tells ending.journal old.flash
   -- `boot` on any flash with nothing dirty, sound or not, where nothing failed.
-  pub boot_word : BootWordHolds passes tells asked journal status noted old new
+  pub boot_word : BootWordHolds passes tells inputs.asked ending old.flash new.flash
   -- From a flash with nothing dirty, sound or not: no loss may harm what is in use, and with power it is at rest.
-  pub guarded : GuardedHolds tells old new
+  pub guarded : GuardedHolds tells old.flash new.flash
   -- From a sound flash all is done, where nothing was lacking and nothing failed, unless memory was wanting.
-  pub complete : CompleteHolds passes tells asked list files source journal status old new faults_before faults_after
+  pub complete : CompleteHolds passes tells inputs ending old new

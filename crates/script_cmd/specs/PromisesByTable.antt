@@ -1,5 +1,5 @@
 -- What `run --gpt` or `boot --gpt` promises, whichever way it ends.
-use Rattle.std.specs.Prelude.{◌≡◌, ◌≢◌, ◌⊎◌, ℕ, Bool, List, [], Option, Some, Ok, IsTrue}
+use Rattle.std.specs.Prelude.{◌≡◌, ◌≢◌, ◌⊎◌, ℕ, Bool, List, [], Some, Ok, IsTrue}
 use Rattle.flash_core.specs.Counts.{Rose}
 use Rattle.flash_core.specs.Told.{Told, NothingDirty}
 use Rattle.flash_core.specs.May.{May}
@@ -14,36 +14,33 @@ use Rattle.gpt_core.specs.View.{view_of}
 use Rattle.fwu_model.specs.Call.{Call}
 use Rattle.fwu_model.specs.State.{State}
 use Rattle.fwu_model.specs.Sound.{Setting}
-use Rattle.fwu_model.specs.Reply.{Turn}
-use Rattle.fwu_model.specs.Causes.{Faults, IsServed}
+use Rattle.fwu_model.specs.Causes.{IsServed}
 use Rattle.fwu_model.specs.Contract.{Premises, Asks}
 use Rattle.fwu_model.specs.Headline.{Headline}
 use Rattle.fwu_model.specs.Wrote.{script_asked}
-use Rattle.fwu_words.specs.Order.{Asked}
 use Rattle.script_cmd.specs.declared.done.Note.{Note}
 use Rattle.script_cmd.specs.Asking.{plainly}
 use Rattle.script_cmd.specs.ByTable.{Starts, seen_at}
-use Rattle.script_cmd.specs.Noted.{noted}
+use Rattle.script_cmd.specs.Ending.{Device, Ending, World, in_model}
 use Rattle.script_turns.specs.Powered.{Moment}
 use Rattle.script_cmd.specs.Promises.{Promised, given_to, outcome}
+use Rattle.script_cmd.specs.Ways.{Inputs}
 use Rattle.script_cmd.specs.WaysByTable.{WayByTable}
 
 -- A run began on the flash that a device has at the places that its table gives.
-pub record RunsByTable (passes : List ℕ → Bool) (tells : Bool) (blocks : ℕ) (asked : Option Asked)
-    (list : Option (List ℕ)) (files : Option (List ℕ → Option (List ℕ)))
-    (source : Option (List ℕ)) (journal : List Turn) (status : ℕ) (said : Note) (old new : Moment)
-    (taken_before taken_after : Option (List ℕ)) (faults_before faults_after : Faults) : Type 0 where
+pub record RunsByTable (passes : List ℕ → Bool) (device : Device) (inputs : Inputs) (ending : Ending Note)
+    (old new : World) : Type 0 where
   pub places : Places
   pub start : Moment
-  pub starts : Starts tells blocks old places start
+  pub starts : Starts device.tells device.blocks old.flash places start
   -- no turn changed anything besides the three partitions, and nothing there is unsure
-  pub beside : IsTrue tells → Beside places start.told new.told
+  pub beside : IsTrue device.tells → Beside places start.told new.flash.told
   -- where nothing was dirty the flash is at the start what it was when it was handed in
-  pub seen : IsTrue tells → NothingDirty old.told
-      → view_of places start.told ≡ view_of places old.told
+  pub seen : IsTrue device.tells → NothingDirty old.flash.told
+      → view_of places start.told ≡ view_of places old.flash.told
   -- all that a run promises, of the flash at these places
-  pub promises : Promised passes tells asked list files source journal status (noted said)
-      (seen_at places start) (seen_at places new) taken_before taken_after faults_before faults_after
+  pub promises : Promised passes device.tells inputs (in_model ending)
+      (record old { flash = seen_at places start }) (record new { flash = seen_at places new.flash })
 
 -- a valid table gives these places
 pub record TableGives (blocks : ℕ) (image : List ℕ) (p : Places) : Type 0 where
@@ -53,14 +50,13 @@ pub record TableGives (blocks : ℕ) (image : List ℕ) (p : Places) : Type 0 wh
   pub gives : places_of blocks table ≡ Ok p
 
 -- from a sound flash behind a valid table the headline, for the calls that are asked for
-abbrev pub HeadlineByTable : (List ℕ → Bool) → Bool → ℕ → Option Asked
-    → Option (List ℕ → Option (List ℕ)) → Option (List ℕ) → List Turn → ℕ → Moment → Moment → Type 0
-HeadlineByTable passes tells blocks asked files source journal status old new =
-    IsTrue tells → (p : Places) (E : Setting) (start : State) (calls : List Call)
-    → NothingDirty old.told → TableGives blocks old.told.now p
-    → Premises E start (view_of p old.told) files passes old.counts new.counts
-    → Asks (plainly asked) source calls → (journal ≢ []) ⊎ (status ≡ 0)
-    → Headline E start (outcome calls journal status (seen_at p old) (seen_at p new))
+abbrev pub HeadlineByTable : (List ℕ → Bool) → Device → Inputs → Ending Note → Moment → Moment → Type 0
+HeadlineByTable passes device inputs ending old new =
+    IsTrue device.tells → (p : Places) (E : Setting) (start : State) (calls : List Call)
+    → NothingDirty old.told → TableGives device.blocks old.told.now p
+    → Premises E start (view_of p old.told) inputs.files passes old.counts new.counts
+    → Asks (plainly inputs.asked) inputs.source calls → (ending.journal ≢ []) ⊎ (ending.status ≡ 0)
+    → Headline E start (outcome calls ending.journal ending.status (seen_at p old) (seen_at p new))
 
 -- Where no turn ran and not all was done, the flash behind a valid table is the same in each image that a loss may
 -- leave, and where both headers are guarded so is the table that decides.
@@ -69,42 +65,35 @@ pub record KeepsFlash (blocks : ℕ) (p : Places) (table : Table) (old new : Tol
   pub decides : HeadersGuarded blocks old → (image : List ℕ) → May new image
       → DecidesTable blocks table image
 
-abbrev pub KeptByTable : Bool → ℕ → List Turn → ℕ → Moment → Moment → Type 0
-KeptByTable tells blocks journal status old new =
-    IsTrue tells → (p : Places) → NothingDirty old.told → (gives : TableGives blocks old.told.now p)
-    → journal ≡ [] → status ≢ 0 → KeepsFlash blocks p gives.table old.told new.told
+abbrev pub KeptByTable : Device → Ending Note → Moment → Moment → Type 0
+KeptByTable device ending old new =
+    IsTrue device.tells → (p : Places) → NothingDirty old.told → (gives : TableGives device.blocks old.told.now p)
+    → ending.journal ≡ [] → ending.status ≢ 0 → KeepsFlash device.blocks p gives.table old.told new.told
 
 -- From such a flash all is done, where nothing was lacking, nothing failed and no loss came before the first turn,
 -- unless memory was wanting.
-abbrev pub CompleteByTable : (List ℕ → Bool) → Bool → ℕ → Option Asked → Option (List ℕ)
-    → Option (List ℕ → Option (List ℕ)) → Option (List ℕ) → List Turn → ℕ → Moment → Moment → Faults
-    → Faults → Type 0
-CompleteByTable passes tells blocks asked list files source journal status old new faults_before faults_after =
-    IsTrue tells → (p : Places) (E : Setting) (start : State) (calls : List Call) (script : List ℕ)
-    → NothingDirty old.told → TableGives blocks old.told.now p
-    → Premises E start (view_of p old.told) files passes old.counts new.counts
-    → Asks (plainly asked) source calls → script_asked (plainly asked) source ≡ Some script
-    → IsServed (outcome calls journal status (seen_at p old) (seen_at p new)) (plainly asked) list files script
-    faults_before faults_after
-    → (journal ≡ [] → Rose old.counts.cuts new.counts.cuts → ⊥)
-    → (status ≡ 0) ⊎ (status ≡ 9)
+abbrev pub CompleteByTable : (List ℕ → Bool) → Device → Inputs → Ending Note → World → World → Type 0
+CompleteByTable passes device inputs ending old new =
+    IsTrue device.tells → (p : Places) (E : Setting) (start : State) (calls : List Call) (script : List ℕ)
+    → NothingDirty old.flash.told → TableGives device.blocks old.flash.told.now p
+    → Premises E start (view_of p old.flash.told) inputs.files passes old.flash.counts new.flash.counts
+    → Asks (plainly inputs.asked) inputs.source calls → script_asked (plainly inputs.asked) inputs.source ≡ Some script
+    → IsServed (outcome calls ending.journal ending.status (seen_at p old.flash) (seen_at p new.flash))
+    (plainly inputs.asked) inputs.list inputs.files script old.faults new.faults
+    → (ending.journal ≡ [] → Rose old.flash.counts.cuts new.flash.counts.cuts → ⊥)
+    → (ending.status ≡ 0) ⊎ (ending.status ≡ 9)
 
 -- All that `run --gpt` or `boot --gpt` promises.
-pub record PromisedByTable (passes : List ℕ → Bool) (tells : Bool) (blocks : ℕ)
-    (asked : Option Asked) (list : Option (List ℕ)) (files : Option (List ℕ → Option (List ℕ)))
-    (source : Option (List ℕ)) (journal : List Turn) (status : ℕ) (said : Note) (old new : Moment)
-    (taken_before taken_after : Option (List ℕ)) (faults_before faults_after : Faults) : Type 0 where
+pub record PromisedByTable (passes : List ℕ → Bool) (device : Device) (inputs : Inputs) (ending : Ending Note)
+    (old new : World) : Type 0 where
   -- For every device, files, source and sink, told or not: which way it ended.
-  pub way : WayByTable passes tells blocks asked (given_to asked list files source) journal status said old new
-      taken_before taken_after faults_before faults_after
+  pub way : WayByTable passes device inputs.asked (given_to inputs) ending old new
   -- For every device: where a turn ran or all was done, a run began behind the table, and it promises all that one
   -- on a plain flash does.
-  pub run : (journal ≢ []) ⊎ (status ≡ 0)
-      → RunsByTable passes tells blocks asked list files source journal status said old new
-      taken_before taken_after faults_before faults_after
+  pub run : (ending.journal ≢ []) ⊎ (ending.status ≡ 0) → RunsByTable passes device inputs ending old new
   -- Where none began, no loss harms the flash behind a valid table.
-  pub kept : KeptByTable tells blocks journal status old new
+  pub kept : KeptByTable device ending old.flash new.flash
   -- From a sound flash behind a valid table: the turns are those of the machine.
-  pub headline : HeadlineByTable passes tells blocks asked files source journal status old new
+  pub headline : HeadlineByTable passes device inputs ending old.flash new.flash
   -- And all is done.
-  pub complete : CompleteByTable passes tells blocks asked list files source journal status old new faults_before faults_after
+  pub complete : CompleteByTable passes device inputs ending old new

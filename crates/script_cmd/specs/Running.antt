@@ -1,6 +1,7 @@
 -- What a run of a script did so far.
 use Rattle.std.specs.List.{list_all}
-use Rattle.std.specs.Prelude.{not, ◌≡◌, ◌≢◌, ℕ, ◌+◌, ◌≤◌, Bool, List, [], ◌∷◌, ◌++◌, length, map, sum_by, Option, Some, None, IsTrue, IsFalse, Contains, slice_get}
+use Rattle.std.specs.Prelude.{not, ◌≡◌, ◌≢◌, ℕ, ◌+◌, ◌≤◌, Bool, List, [], ◌∷◌, ◌++◌, length, map, sum_by, Option, Some}
+use Rattle.std.specs.Prelude.{None, IsTrue, IsFalse, Contains, slice_get}
 use Rattle.flash_core.specs.Counts.{Rose, all_stops, stops_in}
 use Rattle.flash_core.specs.Told.{NothingDirty}
 use Rattle.flash_core.specs.May.{Guards}
@@ -45,10 +46,10 @@ power_left power (t ∷ turns) = power_left (power_after power t.reply) turns
 -- The turns of a journal, one after the other, from a device and the files' faults to those that they leave.
 -- After each of them an agent that is there fits some machine, on any device.
 abbrev pub Follows : (List ℕ → Bool) → Bool → Option Directory → List Turn → Moment → Moment → ℕ → ℕ → Type 0
-Follows passes tells files [] old new was are = (new ≡ old) × (are ≡ was)
-Follows passes tells files (t ∷ turns) old new was are =
-    (mid : Moment) × (n : ℕ) × Turns passes tells files t.call t old mid was n × Fits tells mid
-    × Follows passes tells files turns mid new n are
+Follows passes tells files [] old new from to = (new ≡ old) × (to ≡ from)
+Follows passes tells files (t ∷ turns) old new from to =
+    (mid : Moment) × (n : ℕ) × Turns passes tells files t.call t old mid from n × Fits tells mid
+    × Follows passes tells files turns mid new n to
 
 -- a flash from which the headline holds: sound, with nothing dirty, and guarded at the front
 pub record StartsSound (E : Setting) (start : State) (passes : List ℕ → Bool)
@@ -69,7 +70,7 @@ pub record RunsTo (E : Setting) (start : State) (journal : List Turn)
 
 -- The turns of the journal were done, from a device that was off and unarmed. The files' faults were some, and are some.
 pub record Ran (passes : List ℕ → Bool) (tells : Bool) (files : Option Directory)
-    (journal : List Turn) (old new : Moment) (was are : ℕ) : Type 0 where
+    (journal : List Turn) (old new : Moment) (from to : ℕ) : Type 0 where
   pub counts : NoneFalls old.counts new.counts
   -- no failure and no loss is counted but those that the turns tell
   pub once : all_stops new.counts ≤ all_stops old.counts + stops_of journal
@@ -79,10 +80,10 @@ pub record Ran (passes : List ℕ → Bool) (tells : Bool) (files : Option Direc
   pub fault_turns : (t : Turn) → Contains journal t → t.reply ≡ reply.Fault
       → Rose old.counts.faults new.counts.faults
   pub unread_turns : (t : Turn) → Contains journal t → t.reply ≡ reply.ReadFault
-      → FileNotRead files was are t.call
-  pub later : was ≤ are
+      → FileNotRead files from to t.call
+  pub later : from ≤ to
   -- what each of them did, on any device
-  pub follows : Follows passes tells files journal old new was are
+  pub follows : Follows passes tells files journal old new from to
   pub power : new.power ≡ power_left old.power journal
   pub guard : IsTrue tells → new.told.guard ≡ old.told.guard
   -- a turn that ends the run is the last
@@ -101,10 +102,10 @@ pub record Ran (passes : List ℕ → Bool) (tells : Bool) (files : Option Direc
 
 -- What one turn leaves: it does the call c, it is kept, and its line was printed with this status.
 pub record Steps (passes : List ℕ → Bool) (tells : Bool) (files : Option Directory) (c : Call)
-    (before after : List Turn) (old new : Moment) (was are : ℕ) (status : ℕ) (noted : Note)
+    (before after : List Turn) (old new : Moment) (from to : ℕ) (status : ℕ) (noted : Note)
     (taken_before taken_after : Option (List ℕ)) (faults_before faults_after : ℕ) : Type 0 where
   pub turn : Turn
-  pub turns : Turns passes tells files c turn old new was are
+  pub turns : Turns passes tells files c turn old new from to
   pub fits : Fits tells new
   pub kept : after ≡ before ++ turn ∷ []
   pub prints : Prints (line turn.call turn.reply) (status_by turn.reply) status taken_before taken_after faults_before faults_after

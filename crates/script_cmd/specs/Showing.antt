@@ -1,5 +1,6 @@
 -- What the command `show` tells and prints.
-use Rattle.std.specs.Prelude.{if◌then◌else◌, not, ◌==◌, ◌≡◌, ◌⊎◌, ℕ, ◌+◌, ◌≤◌, ◌++◌, ◌∷◌, [], Bool, List, Option, Some, None, Ok, Err, IfSome, IsSome, IsTrue, codes}
+use Rattle.std.specs.Prelude.{if◌then◌else◌, not, ◌==◌, ◌≡◌, ◌⊎◌, ℕ, ◌+◌, ◌≤◌, ◌++◌, ◌∷◌, [], Bool, List, Option, Some}
+use Rattle.std.specs.Prelude.{None, Ok, Err, IfSome, IsSome, IsTrue, codes}
 use Rattle.flash_core.specs.Counts.{Rose, all_stops}
 use Rattle.flash_core.specs.Told.{NothingDirty}
 use Rattle.flash_core.specs.declared.flash.Counts.{Counts}
@@ -12,7 +13,7 @@ use Rattle.fwu_model.specs.declared.kinds.NoBoot.TheVariants as no_boot
 use Rattle.fwu_model.specs.declared.kinds.Note.{Note}
 use Rattle.fwu_model.specs.declared.kinds.Note.TheVariants as note
 use Rattle.early_boot.specs.Numbers.{ShowsNumbers}
-use Rattle.fwu_model.specs.Reply.{Turn}
+use Rattle.script_cmd.specs.Ending.{Ending, World}
 use Rattle.script_cmd.specs.Printed.{Prints}
 use Rattle.script_turns.specs.Turning.{NoneFalls}
 use Rattle.script_turns.specs.Powered.{Moment}
@@ -59,29 +60,26 @@ abbrev pub stops_shown : ℕ → ℕ
 stops_shown status = if status == 5 then 1 else 0
 
 -- a list of digests was not read or is none, so nothing was looked at
-abbrev pub RefusedList : Asked → Given → ℕ → Note → Option (List ℕ) → Option (List ℕ) → Faults
-    → Faults → Type 0
-RefusedList asked g status noted taken_before taken_after faults_before faults_after =
-    (planned : ℕ) × (line : List ℕ) × Refuses
-    (Some asked) g faults_before faults_after planned noted line
-    × Prints line planned status taken_before taken_after faults_before.sink faults_after.sink
+abbrev pub RefusedList : Asked → Given → ℕ → Note → World → World → Type 0
+RefusedList asked g status noted old new =
+    (planned : ℕ) × (line : List ℕ) × Refuses (Some asked) g old.faults new.faults planned noted line
+    × Prints line planned status old.taken new.taken old.faults.sink new.faults.sink
 
 -- How it ended: nothing was done for want of memory, or since a list of digests was not read or is none; or by what it found, whose
 -- line was put into the sink.
-pub data Showed (tells : Bool) (g : Given) (old new : Moment) (status : ℕ) (noted : Note)
-    (taken_before taken_after : Option (List ℕ))
-    (faults_before faults_after : Faults) : Type 0 where
-  starved : status ≡ 9 → noted ≡ note.Nothing → new ≡ old → taken_after ≡ taken_before
-      → Showed tells g old new status noted taken_before taken_after faults_before faults_after
-  list_refused : new ≡ old
-      → RefusedList ask.show g status noted taken_before taken_after faults_before faults_after
-      → Showed tells g old new status noted taken_before taken_after faults_before faults_after
+pub data Showed (tells : Bool) (g : Given) (old new : World) (status : ℕ) (noted : Note) : Type 0 where
+  starved : status ≡ 9 → noted ≡ note.Nothing → new.flash ≡ old.flash → new.taken ≡ old.taken
+      → Showed tells g old new status noted
+  list_refused : new.flash ≡ old.flash
+      → RefusedList ask.show g status noted old new
+      → Showed tells g old new status noted
   found : HasGoodList g.list g.files → (planned : ℕ) (line : List ℕ)
-      → Finds (IsTrue tells × NothingDirty old.told) old.told.now old.counts new.counts planned noted line
-      → all_stops new.counts ≤ all_stops old.counts + stops_shown planned
-      → new.power ≡ not (planned == 5)
-      → Prints line planned status taken_before taken_after faults_before.sink faults_after.sink
-      → Showed tells g old new status noted taken_before taken_after faults_before faults_after
+      → Finds (IsTrue tells × NothingDirty old.flash.told) old.flash.told.now old.flash.counts new.flash.counts
+      planned noted line
+      → all_stops new.flash.counts ≤ all_stops old.flash.counts + stops_shown planned
+      → new.flash.power ≡ not (planned == 5)
+      → Prints line planned status old.taken new.taken old.faults.sink new.faults.sink
+      → Showed tells g old new status noted
 
 -- A list that told files lack is answered by 2, and one with a bad line by 13, or 2 where it could not be read; the sink may fail
 -- at that line, or memory be wanting. And nothing was done.
@@ -110,17 +108,15 @@ pub record HasMetadata (image : List ℕ) : Type 0 where
   pub decides : deciding layout image ≡ Option.Some meta
 
 -- What the command answers and leaves: no turn, no count lower, no arming, and the content of a flash with nothing dirty.
-pub record ShowedBy (tells : Bool) (g : Given) (old new : Moment) (status : ℕ) (noted : Note)
-    (journal : List Turn) (taken_before taken_after : Option (List ℕ))
-    (faults_before faults_after : Faults) : Type 0 where
-  pub showed : Showed tells g old new status noted taken_before taken_after faults_before faults_after
-  pub refuses_list : RefusesBadList g old new status faults_before faults_after
-  pub content : IsTrue tells → NothingDirty old.told → new.told ≡ old.told
-  pub guard : IsTrue tells → new.told.guard ≡ old.told.guard
-  pub no_turns : journal ≡ []
-  pub counts : NoneFalls old.counts new.counts
-  pub made : new.counts.made ≡ old.counts.made
-  pub unarmed : new.armed ≡ None
+pub record ShowedBy (tells : Bool) (g : Given) (ending : Ending Note) (old new : World) : Type 0 where
+  pub showed : Showed tells g old new ending.status ending.noted
+  pub refuses_list : RefusesBadList g old.flash new.flash ending.status old.faults new.faults
+  pub content : IsTrue tells → NothingDirty old.flash.told → new.flash.told ≡ old.flash.told
+  pub guard : IsTrue tells → new.flash.told.guard ≡ old.flash.told.guard
+  pub no_turns : ending.journal ≡ []
+  pub counts : NoneFalls old.flash.counts new.flash.counts
+  pub made : new.flash.counts.made ≡ old.flash.counts.made
+  pub unarmed : new.flash.armed ≡ None
   -- the numbers are shown where all is there and nothing failed, unless memory was wanting
-  pub complete : IsTrue tells → NothingDirty old.told → HasMetadata old.told.now
-      → IsGranted g old.counts new.counts faults_before faults_after → (status ≡ 0) ⊎ (status ≡ 9)
+  pub complete : IsTrue tells → NothingDirty old.flash.told → HasMetadata old.flash.told.now
+      → IsGranted g old.flash.counts new.flash.counts old.faults new.faults → (ending.status ≡ 0) ⊎ (ending.status ≡ 9)

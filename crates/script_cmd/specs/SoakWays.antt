@@ -1,5 +1,5 @@
 -- The ways that a soak may end.
-use Rattle.std.specs.Prelude.{◌≡◌, ◌≢◌, ◌≤◌, ℕ, Bool, true, List, [], ◌∷◌, ◌++◌, Option, Some, None, Ok, Err, IsTrue, IsFalse}
+use Rattle.std.specs.Prelude.{◌≡◌, ◌≢◌, ◌≤◌, ℕ, true, List, [], ◌∷◌, ◌++◌, Option, Some, None, Ok, Err, IsTrue, IsFalse}
 use Rattle.std.specs.List.{list_any}
 use Rattle.fwu_formats.specs.Digests.{passes_any}
 use Rattle.fwu_formats.specs.declared.kinds.LayoutFault.TheVariants.{BeyondFlash}
@@ -8,7 +8,7 @@ use Rattle.fwu_model.specs.Reply.{Turn}
 use Rattle.fwu_model.specs.Reply as reply
 use Rattle.fwu_model.specs.Run.{ends_run}
 use Rattle.fwu_model.specs.Headline.{IsPrefixOf}
-use Rattle.fwu_model.specs.Causes.{Faults, status_by, note_by}
+use Rattle.fwu_model.specs.Causes.{status_by, note_by}
 use Rattle.fwu_model.specs.declared.kinds.Note as model
 use Rattle.fwu_model.specs.declared.kinds.Note.TheVariants as model_note
 use Rattle.fwu_words.specs.Order as ask
@@ -21,6 +21,7 @@ use Rattle.gen_core.specs.Line.{soak_line, too_small_line}
 use Rattle.gen_core.specs.Setup.{is_too_small, soak_layout}
 use Rattle.script_turns.specs.Powered.{Moment, at}
 use Rattle.script_cmd.specs.Formatting.{Tries, format_note, format_status, format_text}
+use Rattle.script_cmd.specs.Ending.{Device, Ending, World, in_model}
 use Rattle.script_cmd.specs.Noted.{is_beyond, noted}
 use Rattle.script_cmd.specs.Printed.{Prints}
 use Rattle.script_cmd.specs.Running.{Ran, calls_of}
@@ -37,43 +38,51 @@ EndsNone journal = IsFalse (list_any (λ (t : Turn). ends_run t.reply) journal)
 -- How the turns of a soak of these calls ended, and which line was put into the sink: all calls were done, and the line is that of
 -- the totals; or memory was wanting, for more calls or for the line, and there is none;
 -- or the last turn ended it, and the line is that turn's.
-pub data SoakEnds (rounds : ℕ) (calls : List Call) (journal : List Turn) (status : ℕ) (told : model.Note)
-    (taken_before taken_after : Option (List ℕ)) (faults_before faults_after : ℕ) : Type 0 where
-  all_done : calls_of journal ≡ calls → EndsNone journal → told ≡ model_note.Nothing
-      → Prints (soak_line rounds journal) 0 status taken_before taken_after faults_before faults_after
-      → SoakEnds rounds calls journal status told taken_before taken_after faults_before faults_after
-  lacking : IsPrefixOf (calls_of journal) calls → EndsNone journal → told ≡ model_note.Nothing → status ≡ 9
+pub data SoakEnds (rounds : ℕ) (calls : List Call) (ending : Ending model.Note) (taken_before taken_after : Option (List ℕ))
+    (faults_before faults_after : ℕ) : Type 0 where
+  all_done : calls_of ending.journal ≡ calls → EndsNone ending.journal → ending.noted ≡ model_note.Nothing
+      → Prints (soak_line rounds ending.journal) 0 ending.status taken_before taken_after faults_before faults_after
+      → SoakEnds rounds calls ending taken_before taken_after faults_before faults_after
+  lacking : IsPrefixOf (calls_of ending.journal) calls → EndsNone ending.journal → ending.noted ≡ model_note.Nothing
+      → ending.status ≡ 9
       → taken_after ≡ taken_before
       → faults_before ≤ faults_after
-      → SoakEnds rounds calls journal status told taken_before taken_after faults_before faults_after
-  stopped : IsPrefixOf (calls_of journal) calls → (front : List Turn) (t : Turn) → journal ≡ front ++ t ∷ [] → EndsNone front
-      → IsTrue (ends_run t.reply) → t.reply ≢ reply.ReadFault → told ≡ note_by t.reply
-      → Prints (stop_line t) (status_by t.reply) status taken_before taken_after faults_before faults_after
-      → SoakEnds rounds calls journal status told taken_before taken_after faults_before faults_after
+      → SoakEnds rounds calls ending taken_before taken_after faults_before faults_after
+  stopped : IsPrefixOf (calls_of ending.journal) calls → (front : List Turn) (t : Turn)
+      → ending.journal ≡ front ++ t ∷ [] → EndsNone front
+      → IsTrue (ends_run t.reply) → t.reply ≢ reply.ReadFault → ending.noted ≡ note_by t.reply
+      → Prints (stop_line t) (status_by t.reply) ending.status taken_before taken_after faults_before faults_after
+      → SoakEnds rounds calls ending taken_before taken_after faults_before faults_after
 
 -- Nothing was done, since a list of digests was not read or is none, or for want of memory, or on a flash that is too small; or the
 -- flash was not formatted; or it was, and the turns ran from there on, with the packages of all rounds as files, by any manifest.
-pub data SoakWay (tells : Bool) (g : Given) (seed n blocks : ℕ) (journal : List Turn) (status : ℕ) (said : Note) (old new : Moment)
-    (taken_before taken_after : Option (List ℕ)) (faults_before faults_after : Faults) : Type 0 where
-  list_refused : journal ≡ [] → new ≡ old → IsFalse (is_beyond said)
-      → RefusedList (ask.soak seed n) g status (noted said) taken_before taken_after faults_before faults_after
-      → SoakWay tells g seed n blocks journal status said old new taken_before taken_after faults_before faults_after
-  starved : journal ≡ [] → new ≡ old → status ≡ 9 → said ≡ note.Nothing → taken_after ≡ taken_before
-      → SoakWay tells g seed n blocks journal status said old new taken_before taken_after faults_before faults_after
-  too_small : HasGoodList g.list g.files → IsTrue (is_too_small blocks) → journal ≡ [] → new ≡ old
-      → said ≡ note.Input (fault.Layout BeyondFlash)
-      → Prints too_small_line 7 status taken_before taken_after faults_before.sink faults_after.sink
-      → SoakWay tells g seed n blocks journal status said old new taken_before taken_after faults_before faults_after
-  not_formatted : HasGoodList g.list g.files → IsFalse (is_too_small blocks) → journal ≡ [] → (stop : FormatStop)
-      → Tries passes_any tells (Some (first_files seed)) (file_name 0) soak_layout blocks old new 0 0 (Err stop)
-      → said ≡ format_note (Err stop)
-      → Prints (format_text (Err stop)) (format_status (Err stop)) status
-      taken_before taken_after faults_before.sink faults_after.sink
-      → SoakWay tells g seed n blocks journal status said old new taken_before taken_after faults_before faults_after
-  ran : HasGoodList g.list g.files → IsFalse (is_too_small blocks) → (done : Formatted) (start : Moment) (on : Option Fields)
-      → Tries passes_any tells (Some (first_files seed)) (file_name 0) soak_layout blocks old start 0 0 (Ok done)
+pub data SoakWay (device : Device) (g : Given) (seed rounds : ℕ) (ending : Ending Note) (old new : World) : Type 0 where
+  list_refused : ending.journal ≡ [] → new.flash ≡ old.flash → IsFalse (is_beyond ending.noted)
+      → RefusedList (ask.soak seed rounds) g ending.status (noted ending.noted) old new
+      → SoakWay device g seed rounds ending old new
+  starved : ending.journal ≡ [] → new.flash ≡ old.flash → ending.status ≡ 9 → ending.noted ≡ note.Nothing
+      → new.taken ≡ old.taken
+      → SoakWay device g seed rounds ending old new
+  too_small : HasGoodList g.list g.files → IsTrue (is_too_small device.blocks) → ending.journal ≡ []
+      → new.flash ≡ old.flash
+      → ending.noted ≡ note.Input (fault.Layout BeyondFlash)
+      → Prints too_small_line 7 ending.status old.taken new.taken old.faults.sink new.faults.sink
+      → SoakWay device g seed rounds ending old new
+  not_formatted : HasGoodList g.list g.files → IsFalse (is_too_small device.blocks) → ending.journal ≡ []
+      → (stop : FormatStop)
+      → Tries passes_any device.tells (Some (first_files seed)) (file_name 0) soak_layout device.blocks
+      old.flash new.flash 0 0 (Err stop)
+      → ending.noted ≡ format_note (Err stop)
+      → Prints (format_text (Err stop)) (format_status (Err stop)) ending.status
+      old.taken new.taken old.faults.sink new.faults.sink
+      → SoakWay device g seed rounds ending old new
+  ran : HasGoodList g.list g.files → IsFalse (is_too_small device.blocks)
+      → (done : Formatted) (start : Moment) (on : Option Fields)
+      → Tries passes_any device.tells (Some (first_files seed)) (file_name 0) soak_layout device.blocks
+      old.flash start 0 0 (Ok done)
       → start.on ≡ None → start.power ≡ true
-      → Ran passes_any tells (Some (soak_files seed n)) journal start (at on new.told new.counts new.armed new.power) 0 0
-      → SoakEnds n (soak_calls seed n) journal status (noted said) taken_before taken_after faults_before.sink faults_after.sink
-      → IsFalse (is_beyond said)
-      → SoakWay tells g seed n blocks journal status said old new taken_before taken_after faults_before faults_after
+      → Ran passes_any device.tells (Some (soak_files seed rounds)) ending.journal start
+      (at on new.flash.told new.flash.counts new.flash.armed new.flash.power) 0 0
+      → SoakEnds rounds (soak_calls seed rounds) (in_model ending) old.taken new.taken old.faults.sink new.faults.sink
+      → IsFalse (is_beyond ending.noted)
+      → SoakWay device g seed rounds ending old new

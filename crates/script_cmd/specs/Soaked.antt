@@ -1,5 +1,5 @@
 -- What the command `soak` promises, whichever way it ends.
-use Rattle.std.specs.Prelude.{◌≡◌, ◌≢◌, ◌⊎◌, ℕ, ◌||◌, ◌==◌, Bool, List, [], Option, IsSome, IsTrue, IsFalse}
+use Rattle.std.specs.Prelude.{◌≡◌, ◌≢◌, ◌⊎◌, ℕ, ◌||◌, ◌==◌, List, [], IsSome, IsTrue, IsFalse}
 use Rattle.std.specs.Io.KnownBytes.{Appends}
 use Rattle.flash_core.specs.Counts.{Rose}
 use Rattle.flash_core.specs.May.{Guards}
@@ -18,6 +18,7 @@ use Rattle.gen_core.specs.Rounds.{sizes_of}
 use Rattle.gen_core.specs.Setup.{is_too_small, soak_layout}
 use Rattle.script_turns.specs.Powered.{Moment}
 use Rattle.script_turns.specs.Turning.{NoneFalls}
+use Rattle.script_cmd.specs.Ending.{Device, Ending, World}
 use Rattle.script_cmd.specs.Promises.{outcome}
 use Rattle.script_cmd.specs.Running.{calls_of}
 use Rattle.script_cmd.specs.Showing.{RefusesBadList}
@@ -49,29 +50,34 @@ pub record HasSoakList (g : Given) (faults_before faults_after : Faults) : Type 
   pub read : Rose faults_before.files faults_after.files → ⊥
 
 -- All that `soak` promises.
-pub record SoakedBy (tells : Bool) (g : Given) (seed n blocks : ℕ) (journal : List Turn) (status : ℕ) (said : Note)
-    (old new : Moment) (taken_before taken_after : Option (List ℕ)) (faults_before faults_after : Faults) : Type 0 where
+pub record SoakedBy (device : Device) (g : Given) (seed rounds : ℕ) (ending : Ending Note) (old new : World) : Type 0 where
   -- for every device and sink, told or not: which way it ended
-  pub way : SoakWay tells g seed n blocks journal status said old new taken_before taken_after faults_before faults_after
-  pub refuses_list : RefusesBadList g old new status faults_before faults_after
+  pub way : SoakWay device g seed rounds ending old new
+  pub refuses_list : RefusesBadList g old.flash new.flash ending.status old.faults new.faults
   -- on a told device that guards the blocks at the front, where no torn block was sealed by chance:
   -- a run of the machine, unless nothing ran
-  pub machine : IsTrue tells → Guards 1 7 old.told → (Rose old.counts.chances new.counts.chances → ⊥) → journal ≢ []
-      → RunsSoak seed n journal status new
+  pub machine : IsTrue device.tells → Guards 1 7 old.flash.told
+      → (Rose old.flash.counts.chances new.flash.counts.chances → ⊥) → ending.journal ≢ []
+      → RunsSoak seed rounds ending.journal ending.status new.flash
   -- a flash that is too small is as it was, and this is its status, unless the list, the sink or memory failed
-  pub small : IsTrue (is_too_small blocks)
-      → (journal ≡ []) × (new ≡ old) × IsTrue ((status == 7) || (may_fail_before status || (status == 13)))
-  pub seven : status ≡ 7 → IsTrue tells → IsTrue (is_too_small blocks)
+  pub small : IsTrue (is_too_small device.blocks)
+      → (ending.journal ≡ []) × (new.flash ≡ old.flash)
+      × IsTrue ((ending.status == 7) || (may_fail_before ending.status || (ending.status == 13)))
+  pub seven : ending.status ≡ 7 → IsTrue device.tells → IsTrue (is_too_small device.blocks)
   -- a failure of the flash, or a loss of power while it was formatted
-  pub five : status ≡ 5 → Rose old.counts.faults new.counts.faults ⊎ ((journal ≡ []) × Rose old.counts.cuts new.counts.cuts)
+  pub five : ending.status ≡ 5 → Rose old.flash.counts.faults new.flash.counts.faults
+      ⊎ ((ending.journal ≡ []) × Rose old.flash.counts.cuts new.flash.counts.cuts)
   -- all was done, and the line is that of its totals
-  pub done : status ≡ 0 → (calls_of journal ≡ soak_calls seed n) × Appends taken_before taken_after (soak_line n journal)
+  pub done : ending.status ≡ 0 → (calls_of ending.journal ≡ soak_calls seed rounds)
+      × Appends old.taken new.taken (soak_line rounds ending.journal)
   -- the program arms no loss but by its calls, and no count falls
-  pub made : new.counts.made ≡ made_after old.counts.made (cuts_in journal)
-  pub counts : NoneFalls old.counts new.counts
-  pub guard : IsTrue tells → new.told.guard ≡ old.told.guard
+  pub made : new.flash.counts.made ≡ made_after old.flash.counts.made (cuts_in ending.journal)
+  pub counts : NoneFalls old.flash.counts new.flash.counts
+  pub guard : IsTrue device.tells → new.flash.told.guard ≡ old.flash.told.guard
   -- a flash with room for it does it all, where nothing failed and no loss came while it was formatted, unless memory was wanting
-  pub complete : IsTrue tells → Guards 1 7 old.told → IsFalse (is_too_small blocks)
-      → (Rose old.counts.chances new.counts.chances → ⊥)
-      → (Rose old.counts.faults new.counts.faults → ⊥) → (journal ≡ [] → Rose old.counts.cuts new.counts.cuts → ⊥)
-      → HasSoakList g faults_before faults_after → (Rose faults_before.sink faults_after.sink → ⊥) → (status ≡ 0) ⊎ (status ≡ 9)
+  pub complete : IsTrue device.tells → Guards 1 7 old.flash.told → IsFalse (is_too_small device.blocks)
+      → (Rose old.flash.counts.chances new.flash.counts.chances → ⊥)
+      → (Rose old.flash.counts.faults new.flash.counts.faults → ⊥)
+      → (ending.journal ≡ [] → Rose old.flash.counts.cuts new.flash.counts.cuts → ⊥)
+      → HasSoakList g old.faults new.faults → (Rose old.faults.sink new.faults.sink → ⊥)
+      → (ending.status ≡ 0) ⊎ (ending.status ≡ 9)

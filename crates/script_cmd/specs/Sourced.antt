@@ -9,10 +9,10 @@ use Rattle.script_cmd.specs.declared.reading.SourceStop.{SourceStop}
 use Rattle.script_cmd.specs.declared.reading.SourceStop.TheVariants as stop
 
 -- But for the last read, of at most 4096 bytes, the bytes that were taken are no script that is too long.
-pub record ReadsInTime (was left : Option (List ℕ)) : Type 0 where
+pub record ReadsInTime (left_before left_after : Option (List ℕ)) : Type 0 where
   pub before : List ℕ
   pub last : List ℕ
-  pub taken : Consumes was left (before ++ last)
+  pub taken : Consumes left_before left_after (before ++ last)
   pub short : length last ≤ 4096
   pub within : is_too_long before ≡ false
 
@@ -23,8 +23,8 @@ read_failures (Err stop.Failed) before = raised before
 read_failures (Err stop.TooLong) before = before
 read_failures (Err stop.NoMemory) before = before
 
--- The first call of the source that fails is the last one, and no turn ran then. The line of that may be cut by the sink, or find no
--- memory.
+-- The first call of the source that fails is the last one, and no turn ran then. The line of that may be cut by the sink, or find
+-- no memory.
 pub record FailsOnce (journal : List Turn) (status before after : ℕ) : Type 0 where
   pub once : (after ≡ before) ⊎ (after ≡ raised before)
   pub ran : journal ≢ [] → after ≡ before

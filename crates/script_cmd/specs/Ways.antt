@@ -1,5 +1,6 @@
 -- The ways that `run` or `boot` may end: before the first turn, or by the turns of a script.
-use Rattle.std.specs.Prelude.{◌≡◌, ◌⊎◌, ℕ, ◌≤◌, ⊤, Bool, true, false, ◌||◌, ◌==◌, List, [], Option, Some, None, Ok, Err, IfSome, IsTrue, IsSome}
+use Rattle.std.specs.Prelude.{◌≡◌, ◌⊎◌, ℕ, ◌≤◌, ⊤, Bool, true, false, ◌||◌, ◌==◌, List, [], Option, Some, None, Ok, Err}
+use Rattle.std.specs.Prelude.{IfSome, IsTrue, IsSome}
 use Rattle.flash_core.specs.Counts.{Rose}
 use Rattle.fwu_model.specs.Call.{Call}
 use Rattle.agent_machine.specs.Fields.{Fields}
@@ -14,14 +15,26 @@ use Rattle.fwu_model.specs.declared.kinds.Note.TheVariants as note
 use Rattle.fwu_words.specs.Order.{Asked}
 use Rattle.fwu_words.specs.Order as ask
 use Rattle.script_turns.specs.Powered.{Moment, at}
+use Rattle.script_cmd.specs.Ending.{Ending, World}
 use Rattle.script_cmd.specs.Printed.{Prints}
 use Rattle.script_cmd.specs.Running.{Ran, Ended, Printed}
+
+-- what the program was asked for, and given to read: the list's name, the told files, and what the source tells
+pub record Inputs : Type 0 where
+  pub asked : Option Asked
+  pub list : Option (List ℕ)
+  pub files : Option (List ℕ → Option (List ℕ))
+  pub source : Option (List ℕ)
 
 -- what the program was given to read: the list's name, the told files, and the script that is told
 pub record Given : Type 0 where
   pub list : Option (List ℕ)
   pub files : Option (List ℕ → Option (List ℕ))
   pub script : Option (List ℕ)
+
+-- what the program was given to read, with all that the source tells
+abbrev pub given_all : Inputs → Given
+given_all inputs = record { list = inputs.list; files = inputs.files; script = inputs.source }
 
 -- `run` or `boot` is asked for
 abbrev pub AsksTurns : Option Asked → Type 0
@@ -74,24 +87,22 @@ pub record Later (faults_before faults_after : Faults) : Type 0 where
 
 -- Nothing ran for want of memory; or for a cause, whose line was put into the sink; or the turns of the script ran.
 pub data Way (passes : List ℕ → Bool) (tells : Bool) (asked : Option Asked) (g : Given)
-    (journal : List Turn) (status : ℕ) (noted : Note) (old new : Moment)
-    (taken_before taken_after : Option (List ℕ))
-    (faults_before faults_after : Faults) : Type 0 where
-  starved : journal ≡ [] → new ≡ old → status ≡ 9 → noted ≡ note.Nothing
-      → taken_after ≡ taken_before
-      → Way passes tells asked g journal status noted old new taken_before taken_after faults_before faults_after
-  refused : (planned : ℕ) (line : List ℕ) → journal ≡ [] → new ≡ old
-      → Refuses asked g faults_before faults_after planned noted line
-      → Prints line planned status taken_before taken_after faults_before.sink faults_after.sink
-      → Way passes tells asked g journal status noted old new taken_before taken_after faults_before faults_after
+    (ending : Ending Note) (old new : World) : Type 0 where
+  starved : ending.journal ≡ [] → new.flash ≡ old.flash → ending.status ≡ 9 → ending.noted ≡ note.Nothing
+      → new.taken ≡ old.taken
+      → Way passes tells asked g ending old new
+  refused : (planned : ℕ) (line : List ℕ) → ending.journal ≡ [] → new.flash ≡ old.flash
+      → Refuses asked g old.faults new.faults planned ending.noted line
+      → Prints line planned ending.status old.taken new.taken old.faults.sink new.faults.sink
+      → Way passes tells asked g ending old new
   ran : (calls : List Call) (on : Option Fields) (from : ℕ) → HasGoodList g.list g.files → AsksTurns asked
       → HasCalls g.script calls
-      → faults_before.files ≤ from
-      → Ran passes tells g.files journal old (at on new.told new.counts new.armed new.power)
-      from faults_after.files
-      → Ended calls journal status noted
-      → Printed journal status taken_before taken_after faults_before.sink faults_after.sink
-      → Way passes tells asked g journal status noted old new taken_before taken_after faults_before faults_after
+      → old.faults.files ≤ from
+      → Ran passes tells g.files ending.journal old.flash
+      (at on new.flash.told new.flash.counts new.flash.armed new.flash.power) from new.faults.files
+      → Ended calls ending.journal ending.status ending.noted
+      → Printed ending.journal ending.status old.taken new.taken old.faults.sink new.faults.sink
+      → Way passes tells asked g ending old new
 
 -- ---- by the words
 

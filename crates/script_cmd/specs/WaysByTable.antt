@@ -4,14 +4,13 @@ use Rattle.gpt_core.specs.declared.layout.Places.{Places}
 use Rattle.gpt_core.specs.Beside.{Beside}
 use Rattle.fwu_model.specs.Call.{Call}
 use Rattle.agent_machine.specs.Fields.{Fields}
-use Rattle.fwu_model.specs.Reply.{Turn}
-use Rattle.fwu_model.specs.Causes.{Faults}
 use Rattle.fwu_words.specs.Order.{Asked}
 use Rattle.fwu_words.specs.Order as ask
 use Rattle.script_cmd.specs.declared.done.Note.{Note}
 use Rattle.script_cmd.specs.declared.done.Note.TheVariants as note
 use Rattle.script_cmd.specs.declared.done.NoTable.{NoTable}
 use Rattle.script_cmd.specs.ByTable.{Looks, Starts, StopsBefore, flash_fault_line, lacked_in, no_table_line, seen_at}
+use Rattle.script_cmd.specs.Ending.{Device, Ending, World, in_model}
 use Rattle.script_cmd.specs.Noted.{is_beyond, noted}
 use Rattle.script_turns.specs.Powered.{Moment, at}
 use Rattle.script_cmd.specs.Printed.{Prints}
@@ -38,30 +37,31 @@ pub record ReadsScript (asked : Option Asked) (g : Given) (calls : List Call) : 
 -- It ended before the device was touched, as without a table; or power came and memory was wanting, or the table
 -- gave no flash, or the device stopped, before the first turn; or the turns ran on the flash that the device has at
 -- the table's places.
-pub data WayByTable (passes : List ℕ → Bool) (tells : Bool) (blocks : ℕ) (asked : Option Asked)
-    (g : Given) (journal : List Turn) (status : ℕ) (said : Note) (old new : Moment)
-    (taken_before taken_after : Option (List ℕ)) (faults_before faults_after : Faults) : Type 0 where
-  untouched : journal ≡ [] → new ≡ old → status ≢ 0 → IsFalse (is_beyond said)
-      → Way passes tells asked g journal status (noted said) old new taken_before taken_after faults_before faults_after
-      → WayByTable passes tells blocks asked g journal status said old new taken_before taken_after faults_before faults_after
-  starved : (calls : List Call) → ReadsScript asked g calls → journal ≡ [] → Looks tells old new
-      → status ≡ 9 → said ≡ note.Nothing → taken_after ≡ taken_before
-      → WayByTable passes tells blocks asked g journal status said old new taken_before taken_after faults_before faults_after
-  lacked : (calls : List Call) (why : NoTable) → ReadsScript asked g calls → journal ≡ []
-      → Looks tells old new → (IsTrue tells → lacked_in blocks new.told.now ≡ Some why)
-      → said ≡ note.NoTable why
-      → Prints (no_table_line why) 10 status taken_before taken_after faults_before.sink faults_after.sink
-      → WayByTable passes tells blocks asked g journal status said old new taken_before taken_after faults_before faults_after
-  stopped : (calls : List Call) → ReadsScript asked g calls → journal ≡ []
-      → StopsBefore tells blocks old new → said ≡ note.Nothing
-      → Prints flash_fault_line 5 status taken_before taken_after faults_before.sink faults_after.sink
-      → WayByTable passes tells blocks asked g journal status said old new taken_before taken_after faults_before faults_after
+pub data WayByTable (passes : List ℕ → Bool) (device : Device) (asked : Option Asked) (g : Given)
+    (ending : Ending Note) (old new : World) : Type 0 where
+  untouched : ending.journal ≡ [] → new.flash ≡ old.flash → ending.status ≢ 0 → IsFalse (is_beyond ending.noted)
+      → Way passes device.tells asked g (in_model ending) old new
+      → WayByTable passes device asked g ending old new
+  starved : (calls : List Call) → ReadsScript asked g calls → ending.journal ≡ []
+      → Looks device.tells old.flash new.flash
+      → ending.status ≡ 9 → ending.noted ≡ note.Nothing → new.taken ≡ old.taken
+      → WayByTable passes device asked g ending old new
+  lacked : (calls : List Call) (why : NoTable) → ReadsScript asked g calls → ending.journal ≡ []
+      → Looks device.tells old.flash new.flash
+      → (IsTrue device.tells → lacked_in device.blocks new.flash.told.now ≡ Some why)
+      → ending.noted ≡ note.NoTable why
+      → Prints (no_table_line why) 10 ending.status old.taken new.taken old.faults.sink new.faults.sink
+      → WayByTable passes device asked g ending old new
+  stopped : (calls : List Call) → ReadsScript asked g calls → ending.journal ≡ []
+      → StopsBefore device.tells device.blocks old.flash new.flash → ending.noted ≡ note.Nothing
+      → Prints flash_fault_line 5 ending.status old.taken new.taken old.faults.sink new.faults.sink
+      → WayByTable passes device asked g ending old new
   ran : (calls : List Call) (p : Places) (start : Moment) (on : Option Fields) (from : ℕ)
-      → ReadsScript asked g calls → Starts tells blocks old p start
-      → faults_before.files ≤ from
-      → Ran passes tells g.files journal (seen_at p start)
-      (seen_at p (at on new.told new.counts new.armed new.power)) from faults_after.files
-      → (IsTrue tells → Beside p start.told new.told)
-      → Ended calls journal status (noted said) → IsFalse (is_beyond said)
-      → Printed journal status taken_before taken_after faults_before.sink faults_after.sink
-      → WayByTable passes tells blocks asked g journal status said old new taken_before taken_after faults_before faults_after
+      → ReadsScript asked g calls → Starts device.tells device.blocks old.flash p start
+      → old.faults.files ≤ from
+      → Ran passes device.tells g.files ending.journal (seen_at p start)
+      (seen_at p (at on new.flash.told new.flash.counts new.flash.armed new.flash.power)) from new.faults.files
+      → (IsTrue device.tells → Beside p start.told new.flash.told)
+      → Ended calls ending.journal ending.status (noted ending.noted) → IsFalse (is_beyond ending.noted)
+      → Printed ending.journal ending.status old.taken new.taken old.faults.sink new.faults.sink
+      → WayByTable passes device asked g ending old new

@@ -1,6 +1,6 @@
 //! What the words ask for is done, in one of the ways that it may end.
 ghost use Rattle.std.specs.Prelude.{◌≡◌, ◌≤◌, List, [], Option, Some, None};
-ghost use Rattle.std.specs.Prelude.{Ok, IfSome, map, string_bytes, IsTrue, IsFalse, length, false};
+ghost use Rattle.std.specs.Prelude.{Ok, IfSome, codes, map, string_bytes, IsTrue, IsFalse, length, false};
 ghost use Rattle.fwu_model.specs.Allow.{asks_list, list_name};
 ghost use Rattle.fwu_model.specs.Causes.{Faults};
 ghost use Rattle.fwu_model.specs.Call.{Call};
@@ -14,7 +14,7 @@ ghost use Rattle.script_turns.specs.Powered.{moment};
 ghost use Rattle.script_cmd.specs.Noted.{is_beyond, noted};
 ghost use Rattle.script_cmd.specs.Running.{calls_of, sends_none};
 ghost use Rattle.script_cmd.specs.Sourced.{FailsOnce, ReadsInTime};
-ghost use Rattle.script_cmd.specs.WaysByTable.{WayByTable};
+ghost use Rattle.script_cmd.specs.WaysByTable.{ReadsScript, WayByTable};
 ghost use Rattle.script_cmd.specs.Ways.{AsksTurns, ByList, Given, HasGoodList, HasPasses, IsIdle};
 ghost use Rattle.script_cmd.specs.Ways.{IsScriptOf, ReadsList, Way, faults_of};
 
@@ -32,10 +32,64 @@ use crate::soak_command::soak;
 use flash_core::Flash;
 use fwu_words::{Allow, Order, UsageStop, allow_of, fwu_order};
 use host_io::{Files, Sink, Source};
-use script_text::{ScriptFault, read_script};
+use script_text::{Script, ScriptFault, read_script};
 use script_turns::Powered;
 use std::alloc::Global;
 use verify_core::{AnyManifest, DigestList, ListFault, Verifier};
+
+/// Takes the memory for the turns of a script, and runs it.
+fn run_calls<D: Flash, H: Files, O: Sink, V: Verifier>(
+    alloc: Global,
+    script: Script,
+    files: &mut H,
+    sink: &mut O,
+    flash: D,
+    verifier: &V,
+) -> Done<D>
+    requires off { IsFalse (D.on flash) }
+    requires unarmed { D.arming flash ≡ None }
+    ensures way { (asked : Option Asked) (g : Given) (before after : Faults)
+        → ReadsScript asked g script → g.files ≡ H.contents files.old
+        → before.files ≤ H.faults files.old
+        → Way (V.passes verifier.now) D.tells asked g
+        (record {
+          journal = turns result.journal;
+          status = result.status;
+          noted = noted result.note;
+        })
+        (record {
+          flash = moment D.told D.counts D.arming D.on flash;
+          taken = O.taken sink.old;
+          faults = record before { sink = O.faults sink.old };
+        })
+        (record {
+          flash = moment D.told D.counts D.arming D.on result.flash;
+          taken = O.taken sink.new;
+          faults = record after { files = H.faults files.new; sink = O.faults sink.new };
+        }) }
+    ensures files { IsTrue (sends_none script) → files.new ≡ files.old }
+    ensures unsent { IsTrue (sends_none (calls_of (turns result.journal)))
+        → files.new ≡ files.old }
+    ensures later_files { H.faults files.old ≤ H.faults files.new }
+    ensures same_files { H.contents files.new ≡ H.contents files.old }
+    ensures unwritten { H.writes files.new ≡ H.writes files.old }
+    ensures note { IsFalse (is_beyond result.note) }
+    ensures later { O.faults sink.old ≤ O.faults sink.new }
+    ensures size { D.blocks result.flash ≡ D.blocks flash }
+{
+    match Room::make(alloc, script.len()) {
+        Ok(room) => run_script(
+            alloc,
+            room,
+            script,
+            files,
+            sink,
+            Powered::Off(flash),
+            verifier,
+        ),
+        Err(_) => idle(alloc, 9, Note::Nothing, flash),
+    }
+}
 
 /// Runs a script's text.
 fn run_text<D: Flash, H: Files, O: Sink, V: Verifier>(
@@ -50,14 +104,25 @@ fn run_text<D: Flash, H: Files, O: Sink, V: Verifier>(
     requires unarmed { D.arming flash ≡ None }
     requires within { is_too_long text.now ≡ false }
     requires few { length text.now ≤ 4194304 }
-    ensures way { (asked : Option Asked) (g : Given) (was are : Faults) → HasGoodList g.list g.files
+    ensures way { (asked : Option Asked) (g : Given) (before after : Faults) → HasGoodList g.list g.files
         → AsksTurns asked → IsScriptOf g.script text.now → g.files ≡ H.contents files.old
-        → was.files ≤ H.faults files.old
-        → Way (V.passes verifier.now) D.tells asked g (turns result.journal) result.status
-        (noted result.note) (moment D.told D.counts D.arming D.on flash)
-        (moment D.told D.counts D.arming D.on result.flash) (O.taken sink.old)
-        (O.taken sink.new) (record was { sink = O.faults sink.old })
-        (record are { files = H.faults files.new; sink = O.faults sink.new }) }
+        → before.files ≤ H.faults files.old
+        → Way (V.passes verifier.now) D.tells asked g
+        (record {
+          journal = turns result.journal;
+          status = result.status;
+          noted = noted result.note;
+        })
+        (record {
+          flash = moment D.told D.counts D.arming D.on flash;
+          taken = O.taken sink.old;
+          faults = record before { sink = O.faults sink.old };
+        })
+        (record {
+          flash = moment D.told D.counts D.arming D.on result.flash;
+          taken = O.taken sink.new;
+          faults = record after { files = H.faults files.new; sink = O.faults sink.new };
+        }) }
     ensures files { (calls : List Call) → script_of text.now ≡ Ok calls → IsTrue (sends_none calls)
         → files.new ≡ files.old }
     ensures unsent { IsTrue (sends_none (calls_of (turns result.journal)))
@@ -74,16 +139,45 @@ fn run_text<D: Flash, H: Files, O: Sink, V: Verifier>(
         Err(ScriptFault::BadLine(line)) => return refuse_script(alloc, sink, line, flash),
         Err(ScriptFault::NoMemory) => return idle(alloc, 9, Note::Nothing, flash),
     };
-    match Room::make(alloc, script.len()) {
-        Ok(room) => run_script(
-            alloc,
-            room,
-            script,
-            files,
-            sink,
-            Powered::Off(flash),
-            verifier,
-        ),
+    run_calls(alloc, script, files, sink, flash, verifier)
+}
+
+/// Runs the script of one boot.
+fn run_boot<D: Flash, H: Files, O: Sink, V: Verifier>(
+    alloc: Global,
+    files: &mut H,
+    sink: &mut O,
+    flash: D,
+    verifier: &V,
+) -> Done<D>
+    requires off { IsFalse (D.on flash) }
+    requires unarmed { D.arming flash ≡ None }
+    ensures way { (g : Given) (before after : Faults) → HasGoodList g.list g.files
+        → IsScriptOf g.script (codes "boot\n") → g.files ≡ H.contents files.old
+        → before.files ≤ H.faults files.old
+        → Way (V.passes verifier.now) D.tells (Some ask.boot) g
+        (record {
+          journal = turns result.journal;
+          status = result.status;
+          noted = noted result.note;
+        })
+        (record {
+          flash = moment D.told D.counts D.arming D.on flash;
+          taken = O.taken sink.old;
+          faults = record before { sink = O.faults sink.old };
+        })
+        (record {
+          flash = moment D.told D.counts D.arming D.on result.flash;
+          taken = O.taken sink.new;
+          faults = record after { files = H.faults files.new; sink = O.faults sink.new };
+        }) }
+    ensures files { files.new ≡ files.old }
+    ensures note { IsFalse (is_beyond result.note) }
+    ensures later { O.faults sink.old ≤ O.faults sink.new }
+    ensures size { D.blocks result.flash ≡ D.blocks flash }
+{
+    match Script::boot(alloc) {
+        Ok(script) => run_calls(alloc, script, files, sink, flash, verifier),
         Err(_) => idle(alloc, 9, Note::Nothing, flash),
     }
 }
@@ -99,18 +193,27 @@ fn run_source<D: Flash, H: Files, I: Source, O: Sink, V: Verifier>(
 ) -> Done<D>
     requires off { IsFalse (D.on flash) }
     requires unarmed { D.arming flash ≡ None }
-    ensures way { (g : Given) (was are : Faults) → HasGoodList g.list g.files
-        → g.files ≡ H.contents files.old → was.files ≤ H.faults files.old
-        → Way (V.passes verifier.now) D.tells (Some ask.run)
-        (record g { script = I.left source.old }) (turns result.journal) result.status
-        (noted result.note) (moment D.told D.counts D.arming D.on flash)
-        (moment D.told D.counts D.arming D.on result.flash) (O.taken sink.old)
-        (O.taken sink.new)
-        (record was { source = I.faults source.old; sink = O.faults sink.old })
-        (record are {
-          files = H.faults files.new;
-          source = I.faults source.new;
-          sink = O.faults sink.new;
+    ensures way { (g : Given) (before after : Faults) → HasGoodList g.list g.files
+        → g.files ≡ H.contents files.old → before.files ≤ H.faults files.old
+        → Way (V.passes verifier.now) D.tells (Some ask.run) (record g { script = I.left source.old })
+        (record {
+          journal = turns result.journal;
+          status = result.status;
+          noted = noted result.note;
+        })
+        (record {
+          flash = moment D.told D.counts D.arming D.on flash;
+          taken = O.taken sink.old;
+          faults = record before { source = I.faults source.old; sink = O.faults sink.old };
+        })
+        (record {
+          flash = moment D.told D.counts D.arming D.on result.flash;
+          taken = O.taken sink.new;
+          faults = record after {
+            files = H.faults files.new;
+            source = I.faults source.new;
+            sink = O.faults sink.new;
+          };
         }) }
     ensures note { IsFalse (is_beyond result.note) }
     ensures later_files { H.faults files.old ≤ H.faults files.new }
@@ -134,6 +237,47 @@ fn run_source<D: Flash, H: Files, I: Source, O: Sink, V: Verifier>(
     }
 }
 
+/// Takes the memory for the turns of a script, and runs it on the flash that the device has behind a partition table.
+fn run_calls_by_table<D: Flash, H: Files, O: Sink, V: Verifier>(
+    alloc: Global,
+    script: Script,
+    files: &mut H,
+    sink: &mut O,
+    flash: D,
+    verifier: &V,
+) -> Done<D>
+    requires off { IsFalse (D.on flash) }
+    requires unarmed { D.arming flash ≡ None }
+    ensures way { (asked : Option Asked) (g : Given) (before after : Faults)
+        → ReadsScript asked g script → g.files ≡ H.contents files.old
+        → before.files ≤ H.faults files.old
+        → WayByTable (V.passes verifier.now) (record { tells = D.tells; blocks = D.blocks flash }) asked g
+        (record { journal = turns result.journal; status = result.status; noted = result.note })
+        (record {
+          flash = moment D.told D.counts D.arming D.on flash;
+          taken = O.taken sink.old;
+          faults = record before { sink = O.faults sink.old };
+        })
+        (record {
+          flash = moment D.told D.counts D.arming D.on result.flash;
+          taken = O.taken sink.new;
+          faults = record after { files = H.faults files.new; sink = O.faults sink.new };
+        }) }
+    ensures files { IsTrue (sends_none script) → files.new ≡ files.old }
+    ensures unsent { IsTrue (sends_none (calls_of (turns result.journal)))
+        → files.new ≡ files.old }
+    ensures later_files { H.faults files.old ≤ H.faults files.new }
+    ensures same_files { H.contents files.new ≡ H.contents files.old }
+    ensures unwritten { H.writes files.new ≡ H.writes files.old }
+    ensures later { O.faults sink.old ≤ O.faults sink.new }
+    ensures size { D.blocks result.flash ≡ D.blocks flash }
+{
+    match Room::make(alloc, script.len()) {
+        Ok(room) => run_by_table(alloc, room, script, files, sink, flash, verifier),
+        Err(_) => idle(alloc, 9, Note::Nothing, flash),
+    }
+}
+
 /// Runs a script's text on the flash that the device has behind a partition table.
 fn run_text_by_table<D: Flash, H: Files, O: Sink, V: Verifier>(
     alloc: Global,
@@ -147,15 +291,21 @@ fn run_text_by_table<D: Flash, H: Files, O: Sink, V: Verifier>(
     requires unarmed { D.arming flash ≡ None }
     requires within { is_too_long text.now ≡ false }
     requires few { length text.now ≤ 4194304 }
-    ensures way { (asked : Option Asked) (g : Given) (was are : Faults) → HasGoodList g.list g.files
+    ensures way { (asked : Option Asked) (g : Given) (before after : Faults) → HasGoodList g.list g.files
         → AsksTurns asked → IsScriptOf g.script text.now → g.files ≡ H.contents files.old
-        → was.files ≤ H.faults files.old
-        → WayByTable (V.passes verifier.now) D.tells (D.blocks flash) asked g
-        (turns result.journal) result.status result.note
-        (moment D.told D.counts D.arming D.on flash)
-        (moment D.told D.counts D.arming D.on result.flash) (O.taken sink.old)
-        (O.taken sink.new) (record was { sink = O.faults sink.old })
-        (record are { files = H.faults files.new; sink = O.faults sink.new }) }
+        → before.files ≤ H.faults files.old
+        → WayByTable (V.passes verifier.now) (record { tells = D.tells; blocks = D.blocks flash }) asked g
+        (record { journal = turns result.journal; status = result.status; noted = result.note })
+        (record {
+          flash = moment D.told D.counts D.arming D.on flash;
+          taken = O.taken sink.old;
+          faults = record before { sink = O.faults sink.old };
+        })
+        (record {
+          flash = moment D.told D.counts D.arming D.on result.flash;
+          taken = O.taken sink.new;
+          faults = record after { files = H.faults files.new; sink = O.faults sink.new };
+        }) }
     ensures files { (calls : List Call) → script_of text.now ≡ Ok calls → IsTrue (sends_none calls)
         → files.new ≡ files.old }
     ensures unsent { IsTrue (sends_none (calls_of (turns result.journal)))
@@ -171,8 +321,41 @@ fn run_text_by_table<D: Flash, H: Files, O: Sink, V: Verifier>(
         Err(ScriptFault::BadLine(line)) => return refuse_script(alloc, sink, line, flash),
         Err(ScriptFault::NoMemory) => return idle(alloc, 9, Note::Nothing, flash),
     };
-    match Room::make(alloc, script.len()) {
-        Ok(room) => run_by_table(alloc, room, script, files, sink, flash, verifier),
+    run_calls_by_table(alloc, script, files, sink, flash, verifier)
+}
+
+/// Runs the script of one boot on the flash that the device has behind a partition table.
+fn run_boot_by_table<D: Flash, H: Files, O: Sink, V: Verifier>(
+    alloc: Global,
+    files: &mut H,
+    sink: &mut O,
+    flash: D,
+    verifier: &V,
+) -> Done<D>
+    requires off { IsFalse (D.on flash) }
+    requires unarmed { D.arming flash ≡ None }
+    ensures way { (g : Given) (before after : Faults) → HasGoodList g.list g.files
+        → IsScriptOf g.script (codes "boot\n") → g.files ≡ H.contents files.old
+        → before.files ≤ H.faults files.old
+        → WayByTable (V.passes verifier.now) (record { tells = D.tells; blocks = D.blocks flash })
+        (Some ask.boot) g
+        (record { journal = turns result.journal; status = result.status; noted = result.note })
+        (record {
+          flash = moment D.told D.counts D.arming D.on flash;
+          taken = O.taken sink.old;
+          faults = record before { sink = O.faults sink.old };
+        })
+        (record {
+          flash = moment D.told D.counts D.arming D.on result.flash;
+          taken = O.taken sink.new;
+          faults = record after { files = H.faults files.new; sink = O.faults sink.new };
+        }) }
+    ensures files { files.new ≡ files.old }
+    ensures later { O.faults sink.old ≤ O.faults sink.new }
+    ensures size { D.blocks result.flash ≡ D.blocks flash }
+{
+    match Script::boot(alloc) {
+        Ok(script) => run_calls_by_table(alloc, script, files, sink, flash, verifier),
         Err(_) => idle(alloc, 9, Note::Nothing, flash),
     }
 }
@@ -188,18 +371,24 @@ fn run_source_by_table<D: Flash, H: Files, I: Source, O: Sink, V: Verifier>(
 ) -> Done<D>
     requires off { IsFalse (D.on flash) }
     requires unarmed { D.arming flash ≡ None }
-    ensures way { (g : Given) (was are : Faults) → HasGoodList g.list g.files
-        → g.files ≡ H.contents files.old → was.files ≤ H.faults files.old
-        → WayByTable (V.passes verifier.now) D.tells (D.blocks flash) (Some ask.run)
-        (record g { script = I.left source.old }) (turns result.journal) result.status
-        result.note (moment D.told D.counts D.arming D.on flash)
-        (moment D.told D.counts D.arming D.on result.flash) (O.taken sink.old)
-        (O.taken sink.new)
-        (record was { source = I.faults source.old; sink = O.faults sink.old })
-        (record are {
-          files = H.faults files.new;
-          source = I.faults source.new;
-          sink = O.faults sink.new;
+    ensures way { (g : Given) (before after : Faults) → HasGoodList g.list g.files
+        → g.files ≡ H.contents files.old → before.files ≤ H.faults files.old
+        → WayByTable (V.passes verifier.now) (record { tells = D.tells; blocks = D.blocks flash })
+        (Some ask.run) (record g { script = I.left source.old })
+        (record { journal = turns result.journal; status = result.status; noted = result.note })
+        (record {
+          flash = moment D.told D.counts D.arming D.on flash;
+          taken = O.taken sink.old;
+          faults = record before { source = I.faults source.old; sink = O.faults sink.old };
+        })
+        (record {
+          flash = moment D.told D.counts D.arming D.on result.flash;
+          taken = O.taken sink.new;
+          faults = record after {
+            files = H.faults files.new;
+            source = I.faults source.new;
+            sink = O.faults sink.new;
+          };
         }) }
     ensures later_files { H.faults files.old ≤ H.faults files.new }
     ensures same_files { H.contents files.new ≡ H.contents files.old }
@@ -234,13 +423,24 @@ pub fn answer_with<D: Flash, H: Files, I: Source, O: Sink, V: Verifier>(
 ) -> Done<D>
     requires off { IsFalse (D.on flash) }
     requires unarmed { D.arming flash ≡ None }
-    ensures answers { Answered (V.passes verifier.now) D.tells (D.blocks flash) (asked (map string_bytes words.now)) None
-        (H.contents files.old) (I.left source.old) (I.left source.new) (turns result.journal)
-        result.status result.note (moment D.told D.counts D.arming D.on flash)
-        (moment D.told D.counts D.arming D.on result.flash) (O.taken sink.old)
-        (O.taken sink.new) (faults_of H.faults I.faults O.faults files.old source.old sink.old)
-        (faults_of H.faults I.faults O.faults files.new source.new sink.new) files.old files.new
-        source.old source.new }
+    ensures answers { Answered (V.passes verifier.now) (record { tells = D.tells; blocks = D.blocks flash })
+        (record {
+          asked = asked (map string_bytes words.now);
+          list = None;
+          files = H.contents files.old;
+          source = I.left source.old;
+        })
+        (record { journal = turns result.journal; status = result.status; noted = result.note })
+        (record {
+          flash = moment D.told D.counts D.arming D.on flash;
+          taken = O.taken sink.old;
+          faults = faults_of H.faults I.faults O.faults files.old source.old sink.old;
+        })
+        (record {
+          flash = moment D.told D.counts D.arming D.on result.flash;
+          taken = O.taken sink.new;
+          faults = faults_of H.faults I.faults O.faults files.new source.new sink.new;
+        }) (I.left source.new) files.old files.new source.old source.new }
     ensures same_files { H.contents files.new ≡ H.contents files.old }
     ensures unwritten { H.writes files.new ≡ H.writes files.old }
     ensures size { D.blocks result.flash ≡ D.blocks flash }
@@ -250,10 +450,8 @@ pub fn answer_with<D: Flash, H: Files, I: Source, O: Sink, V: Verifier>(
         Ok(Order::RunPartitioned) => run_source_by_table(
             alloc, files, source, sink, flash, verifier,
         ),
-        Ok(Order::Boot) => run_text(alloc, b"boot\n", files, sink, flash, verifier),
-        Ok(Order::BootPartitioned) => run_text_by_table(
-            alloc, b"boot\n", files, sink, flash, verifier,
-        ),
+        Ok(Order::Boot) => run_boot(alloc, files, sink, flash, verifier),
+        Ok(Order::BootPartitioned) => run_boot_by_table(alloc, files, sink, flash, verifier),
         Ok(Order::Show) => show(alloc, sink, flash),
         Ok(
             Order::Format {
@@ -293,13 +491,24 @@ fn run_listed<D: Flash, H: Files, I: Source, O: Sink>(
         (IsIdle (turns result.journal) result.status
         (moment D.told D.counts D.arming D.on flash)
         (moment D.told D.counts D.arming D.on result.flash))
-        (λ passes. Answered passes D.tells (D.blocks flash) (asked (map string_bytes rest.now)) (Some name.now)
-        (H.contents files.old) (I.left source.old) (I.left source.new) (turns result.journal)
-        result.status result.note (moment D.told D.counts D.arming D.on flash)
-        (moment D.told D.counts D.arming D.on result.flash) (O.taken sink.old)
-        (O.taken sink.new) (faults_of H.faults I.faults O.faults files.old source.old sink.old)
-        (faults_of H.faults I.faults O.faults files.new source.new sink.new) files.old files.new
-        source.old source.new) }
+        (λ passes. Answered passes (record { tells = D.tells; blocks = D.blocks flash })
+        (record {
+          asked = asked (map string_bytes rest.now);
+          list = Some name.now;
+          files = H.contents files.old;
+          source = I.left source.old;
+        })
+        (record { journal = turns result.journal; status = result.status; noted = result.note })
+        (record {
+          flash = moment D.told D.counts D.arming D.on flash;
+          taken = O.taken sink.old;
+          faults = faults_of H.faults I.faults O.faults files.old source.old sink.old;
+        })
+        (record {
+          flash = moment D.told D.counts D.arming D.on result.flash;
+          taken = O.taken sink.new;
+          faults = faults_of H.faults I.faults O.faults files.new source.new sink.new;
+        }) (I.left source.new) files.old files.new source.old source.new) }
     ensures same_files { H.contents files.new ≡ H.contents files.old }
     ensures unwritten { H.writes files.new ≡ H.writes files.old }
     ensures size { D.blocks result.flash ≡ D.blocks flash }
@@ -333,14 +542,24 @@ pub fn answer<D: Flash, H: Files, I: Source, O: Sink>(
         (IsIdle (turns result.journal) result.status
         (moment D.told D.counts D.arming D.on flash)
         (moment D.told D.counts D.arming D.on result.flash))
-        (λ passes. Answered passes D.tells (D.blocks flash)
-        (asked_with_list (map string_bytes words.now)) (list_name (map string_bytes words.now))
-        (H.contents files.old) (I.left source.old) (I.left source.new) (turns result.journal)
-        result.status result.note (moment D.told D.counts D.arming D.on flash)
-        (moment D.told D.counts D.arming D.on result.flash) (O.taken sink.old)
-        (O.taken sink.new) (faults_of H.faults I.faults O.faults files.old source.old sink.old)
-        (faults_of H.faults I.faults O.faults files.new source.new sink.new) files.old files.new
-        source.old source.new) }
+        (λ passes. Answered passes (record { tells = D.tells; blocks = D.blocks flash })
+        (record {
+          asked = asked_with_list (map string_bytes words.now);
+          list = list_name (map string_bytes words.now);
+          files = H.contents files.old;
+          source = I.left source.old;
+        })
+        (record { journal = turns result.journal; status = result.status; noted = result.note })
+        (record {
+          flash = moment D.told D.counts D.arming D.on flash;
+          taken = O.taken sink.old;
+          faults = faults_of H.faults I.faults O.faults files.old source.old sink.old;
+        })
+        (record {
+          flash = moment D.told D.counts D.arming D.on result.flash;
+          taken = O.taken sink.new;
+          faults = faults_of H.faults I.faults O.faults files.new source.new sink.new;
+        }) (I.left source.new) files.old files.new source.old source.new) }
     ensures same_files { H.contents files.new ≡ H.contents files.old }
     ensures unwritten { H.writes files.new ≡ H.writes files.old }
     ensures size { D.blocks result.flash ≡ D.blocks flash }

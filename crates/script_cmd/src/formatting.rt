@@ -85,14 +85,20 @@ pub fn format_flash<D: Flash, H: Files, O: Sink, V: Verifier>(
     requires off { IsFalse (D.on flash) }
     requires unarmed { D.arming flash ≡ None }
     ensures formats { (script : Option (List ℕ)) (source sources : ℕ)
-        → Formats (V.passes verifier.now) D.tells
-        (record { list = None; files = H.contents files.old; script = script }) name.now
-        (record { banks = banks; rows = rows.now }) (D.blocks flash)
-        (moment D.told D.counts D.arming D.on flash)
-        (moment D.told D.counts D.arming D.on result.flash) result.status result.note
-        (O.taken sink.old) (O.taken sink.new)
-        (record { files = H.faults files.old; source = source; sink = O.faults sink.old })
-        (record { files = H.faults files.new; source = sources; sink = O.faults sink.new }) }
+        → Formats (V.passes verifier.now) (record { tells = D.tells; blocks = D.blocks flash })
+        (record { list = None; files = H.contents files.old; script = script })
+        name.now
+        (record { banks = banks; rows = rows.now })
+        (record {
+          flash = moment D.told D.counts D.arming D.on flash;
+          taken = O.taken sink.old;
+          faults = record { files = H.faults files.old; source = source; sink = O.faults sink.old };
+        })
+        (record {
+          flash = moment D.told D.counts D.arming D.on result.flash;
+          taken = O.taken sink.new;
+          faults = record { files = H.faults files.new; source = sources; sink = O.faults sink.new };
+        }) result.status result.note }
     ensures power { result.status ≡ 0 → IsTrue (D.on result.flash) }
     ensures no_turns { turns result.journal ≡ [] }
     ensures same { H.contents files.new ≡ H.contents files.old }

@@ -151,14 +151,21 @@ pub fn run_by_table<D: Flash, H: Files, O: Sink, V: Verifier>(
     requires no_turns { turns room.journal ≡ [] }
     requires turns_fit { HasRoomFor room.journal (length script) }
     requires line_fits { HasRoom room.text LINE_ROOM }
-    ensures way { (asked : Option Asked) (g : Given) (was are : Faults)
+    ensures way { (asked : Option Asked) (g : Given) (before after : Faults)
         → ReadsScript asked g script → g.files ≡ H.contents files.old
-        → was.files ≤ H.faults files.old
-        → WayByTable (V.passes verifier.now) D.tells (D.blocks flash) asked g (turns result.journal)
-        result.status result.note (moment D.told D.counts D.arming D.on flash)
-        (moment D.told D.counts D.arming D.on result.flash) (O.taken sink.old)
-        (O.taken sink.new) (record was { sink = O.faults sink.old })
-        (record are { files = H.faults files.new; sink = O.faults sink.new }) }
+        → before.files ≤ H.faults files.old
+        → WayByTable (V.passes verifier.now) (record { tells = D.tells; blocks = D.blocks flash }) asked g
+        (record { journal = turns result.journal; status = result.status; noted = result.note })
+        (record {
+          flash = moment D.told D.counts D.arming D.on flash;
+          taken = O.taken sink.old;
+          faults = record before { sink = O.faults sink.old };
+        })
+        (record {
+          flash = moment D.told D.counts D.arming D.on result.flash;
+          taken = O.taken sink.new;
+          faults = record after { files = H.faults files.new; sink = O.faults sink.new };
+        }) }
     ensures later { O.faults sink.old ≤ O.faults sink.new }
     ensures later_files { H.faults files.old ≤ H.faults files.new }
     ensures same_files { H.contents files.new ≡ H.contents files.old }

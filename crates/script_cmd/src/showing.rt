@@ -109,11 +109,18 @@ fn not_found(text: &mut Vec<u8>, why: NoBoot) -> Found
 pub fn show<D: Flash, O: Sink>(alloc: Global, sink: &mut O, flash: D) -> Done<D>
     requires off { IsFalse (D.on flash) }
     requires unarmed { D.arming flash ≡ None }
-    ensures showed { (g : Given) (was are : Faults) → HasGoodList g.list g.files
-        → Showed D.tells g (moment D.told D.counts D.arming D.on flash)
-        (moment D.told D.counts D.arming D.on result.flash) result.status (noted result.note)
-        (O.taken sink.old) (O.taken sink.new) (record was { sink = O.faults sink.old })
-        (record are { sink = O.faults sink.new }) }
+    ensures showed { (g : Given) (before after : Faults) → HasGoodList g.list g.files
+        → Showed D.tells g
+        (record {
+          flash = moment D.told D.counts D.arming D.on flash;
+          taken = O.taken sink.old;
+          faults = record before { sink = O.faults sink.old };
+        })
+        (record {
+          flash = moment D.told D.counts D.arming D.on result.flash;
+          taken = O.taken sink.new;
+          faults = record after { sink = O.faults sink.new };
+        }) result.status (noted result.note) }
     ensures note { IsFalse (is_beyond result.note) }
     ensures content { IsTrue D.tells → NothingDirty (D.told flash)
         → D.told result.flash ≡ D.told flash }

@@ -96,8 +96,12 @@ fn finish<D: Flash, O: Sink>(alloc: Global, soaked: Soaked<D>, rounds: u32, sink
         → Stands D.tells all calls (turns soaked.soaking.journal) old
         (moment_of soaked.soaking.powered) soaked.stand.status (noted soaked.stand.note)
         soaked.soaking.text.items
-        → SoakEnds rounds calls (turns result.journal) result.status (noted result.note)
-        (O.taken sink.old) (O.taken sink.new) (O.faults sink.old) (O.faults sink.new) }
+        → SoakEnds rounds calls
+        (record {
+          journal = turns result.journal;
+          status = result.status;
+          noted = noted result.note;
+        }) (O.taken sink.old) (O.taken sink.new) (O.faults sink.old) (O.faults sink.new) }
     ensures journal { result.journal ≡ soaked.soaking.journal }
     ensures note { result.note ≡ soaked.stand.note }
     ensures flash { result.flash ≡ device soaked.soaking.powered }
@@ -134,13 +138,21 @@ fn format_and_soak<D: Flash, O: Sink>(
     requires turn_fits { HasRoomFor room.journal 1 }
     requires no_text { room.text.items ≡ [] }
     requires line_fits { HasRoom room.text LINE_ROOM }
-    ensures way { (seed : ℕ) (g : Given) (was are : Faults) → HasGoodList g.list g.files
+    ensures way { (seed : ℕ) (g : Given) (before after : Faults) → HasGoodList g.list g.files
         → IsFalse (is_too_small (D.blocks flash)) → register ≡ register_after 2 seed
         → file_of (string_bytes first.name) first.bytes.items ≡ first_files seed
-        → SoakWay D.tells g seed rounds (D.blocks flash) (turns result.journal) result.status
-        result.note (moment D.told D.counts D.arming D.on flash)
-        (moment D.told D.counts D.arming D.on result.flash) (O.taken sink.old) (O.taken sink.new)
-        (record was { sink = O.faults sink.old }) (record are { sink = O.faults sink.new }) }
+        → SoakWay (record { tells = D.tells; blocks = D.blocks flash }) g seed rounds
+        (record { journal = turns result.journal; status = result.status; noted = result.note })
+        (record {
+          flash = moment D.told D.counts D.arming D.on flash;
+          taken = O.taken sink.old;
+          faults = record before { sink = O.faults sink.old };
+        })
+        (record {
+          flash = moment D.told D.counts D.arming D.on result.flash;
+          taken = O.taken sink.new;
+          faults = record after { sink = O.faults sink.new };
+        }) }
     ensures later { O.faults sink.old ≤ O.faults sink.new }
     ensures size { D.blocks result.flash ≡ D.blocks flash }
 {
@@ -193,11 +205,19 @@ pub fn soak<D: Flash, O: Sink>(
 ) -> Done<D>
     requires off { IsFalse (D.on flash) }
     requires unarmed { D.arming flash ≡ None }
-    ensures way { (g : Given) (was are : Faults) → HasGoodList g.list g.files
-        → SoakWay D.tells g seed rounds (D.blocks flash) (turns result.journal) result.status
-        result.note (moment D.told D.counts D.arming D.on flash)
-        (moment D.told D.counts D.arming D.on result.flash) (O.taken sink.old) (O.taken sink.new)
-        (record was { sink = O.faults sink.old }) (record are { sink = O.faults sink.new }) }
+    ensures way { (g : Given) (before after : Faults) → HasGoodList g.list g.files
+        → SoakWay (record { tells = D.tells; blocks = D.blocks flash }) g seed rounds
+        (record { journal = turns result.journal; status = result.status; noted = result.note })
+        (record {
+          flash = moment D.told D.counts D.arming D.on flash;
+          taken = O.taken sink.old;
+          faults = record before { sink = O.faults sink.old };
+        })
+        (record {
+          flash = moment D.told D.counts D.arming D.on result.flash;
+          taken = O.taken sink.new;
+          faults = record after { sink = O.faults sink.new };
+        }) }
     ensures later { O.faults sink.old ≤ O.faults sink.new }
     ensures size { D.blocks result.flash ≡ D.blocks flash }
 {

@@ -1,5 +1,7 @@
 //! The turns of a soak, one after the other. No line of a turn is printed, but for one that ends the soak.
-ghost use Rattle.std.specs.Prelude.{◌≡◌, ◌≢◌, ◌≤◌, ◌<◌, ◌+◌, ◌++◌, ◌∷◌, ℕ, [], All, Contains, List, Some, IfOk, IfSome, IsTrue, IsFalse, None, flat_map, length, map, string_bytes, vec_capacity, slice_index_or};
+ghost use Rattle.std.specs.Prelude.{◌≡◌, ◌≢◌, ◌≤◌, ◌<◌, ◌+◌, ◌++◌, ◌∷◌, ℕ, [], All, Contains, List, Some, IfOk, IfSome};
+ghost use Rattle.std.specs.Prelude.{IsTrue, IsFalse, None, flat_map, length, map, string_bytes, vec_capacity};
+ghost use Rattle.std.specs.Prelude.{slice_index_or};
 ghost use Rattle.agent_machine.specs.Fields.{Fields};
 ghost use Rattle.fwu_journal.specs.Room.{HasRoom};
 ghost use Rattle.fwu_journal.specs.Shown.{HasRoomFor, IsShort, turn as shown_turn, turns};

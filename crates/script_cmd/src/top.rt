@@ -49,20 +49,48 @@ pub fn fwu_top_with<D: Flash, H: Files, I: Source, O: Sink, V: Verifier>(
 
     // For the commands `run` and `boot`, and for words that ask for nothing.
     ensures promises { RunsOrNone (asked (map string_bytes words.now))
-        → Promised (V.passes verifier.now) D.tells (asked (map string_bytes words.now)) None
-        (H.contents files.old) (I.left source.old) (turns result.journal) result.status
-        (noted result.note) (moment D.told D.counts D.arming D.on flash)
-        (moment D.told D.counts D.arming D.on result.flash) (O.taken sink.old)
-        (O.taken sink.new) (faults_of H.faults I.faults O.faults files.old source.old sink.old)
-        (faults_of H.faults I.faults O.faults files.new source.new sink.new) }
+        → Promised (V.passes verifier.now) D.tells
+        (record {
+          asked = asked (map string_bytes words.now);
+          list = None;
+          files = H.contents files.old;
+          source = I.left source.old;
+        })
+        (record {
+          journal = turns result.journal;
+          status = result.status;
+          noted = noted result.note;
+        })
+        (record {
+          flash = moment D.told D.counts D.arming D.on flash;
+          taken = O.taken sink.old;
+          faults = faults_of H.faults I.faults O.faults files.old source.old sink.old;
+        })
+        (record {
+          flash = moment D.told D.counts D.arming D.on result.flash;
+          taken = O.taken sink.new;
+          faults = faults_of H.faults I.faults O.faults files.new source.new sink.new;
+        }) }
     // For `run --gpt` and `boot --gpt`, which are `run` and `boot` on the flash behind the partition table.
     ensures by_table { (plain : Asked) → over_table (asked (map string_bytes words.now)) ≡ Some plain
-        → PromisedByTable (V.passes verifier.now) D.tells (D.blocks flash) (Some plain) None
-        (H.contents files.old) (I.left source.old) (turns result.journal) result.status
-        result.note (moment D.told D.counts D.arming D.on flash)
-        (moment D.told D.counts D.arming D.on result.flash) (O.taken sink.old)
-        (O.taken sink.new) (faults_of H.faults I.faults O.faults files.old source.old sink.old)
-        (faults_of H.faults I.faults O.faults files.new source.new sink.new) }
+        → PromisedByTable (V.passes verifier.now) (record { tells = D.tells; blocks = D.blocks flash })
+        (record {
+          asked = Some plain;
+          list = None;
+          files = H.contents files.old;
+          source = I.left source.old;
+        })
+        (record { journal = turns result.journal; status = result.status; noted = result.note })
+        (record {
+          flash = moment D.told D.counts D.arming D.on flash;
+          taken = O.taken sink.old;
+          faults = faults_of H.faults I.faults O.faults files.old source.old sink.old;
+        })
+        (record {
+          flash = moment D.told D.counts D.arming D.on result.flash;
+          taken = O.taken sink.new;
+          faults = faults_of H.faults I.faults O.faults files.new source.new sink.new;
+        }) }
     ensures read_to_end { result.status ≡ 0 → (asked (map string_bytes words.now)) ≡ Some ask.run
         → IfSome (I.left source.new) (λ rest. rest ≡ []) }
     ensures read_to_end_by_table { result.status ≡ 0
@@ -72,37 +100,60 @@ pub fn fwu_top_with<D: Flash, H: Files, I: Source, O: Sink, V: Verifier>(
     ensures shows { (asked (map string_bytes words.now)) ≡ Some ask.show
         → ShowedBy D.tells
         (record { list = None; files = H.contents files.old; script = I.left source.old })
-        (moment D.told D.counts D.arming D.on flash)
-        (moment D.told D.counts D.arming D.on result.flash) result.status (noted result.note)
-        (turns result.journal) (O.taken sink.old) (O.taken sink.new)
-        (faults_of H.faults I.faults O.faults files.old source.old sink.old)
-        (faults_of H.faults I.faults O.faults files.new source.new sink.new) }
+        (record {
+          journal = turns result.journal;
+          status = result.status;
+          noted = noted result.note;
+        })
+        (record {
+          flash = moment D.told D.counts D.arming D.on flash;
+          taken = O.taken sink.old;
+          faults = faults_of H.faults I.faults O.faults files.old source.old sink.old;
+        })
+        (record {
+          flash = moment D.told D.counts D.arming D.on result.flash;
+          taken = O.taken sink.new;
+          faults = faults_of H.faults I.faults O.faults files.new source.new sink.new;
+        }) }
     // For the command `format`: what became of the flash, exactly what is refused, and what was written.
     ensures formats { (banks : ℕ) (rows : List ImageRow) (file : List ℕ)
         → asked (map string_bytes words.now) ≡ Some (ask.format banks rows file)
-        → FormattedBy (V.passes verifier.now) D.tells
-        (record { list = None; files = H.contents files.old; script = I.left source.old }) file
-        (record { banks = banks; rows = rows }) (D.blocks flash)
-        (moment D.told D.counts D.arming D.on flash)
-        (moment D.told D.counts D.arming D.on result.flash) result.status result.note
-        (turns result.journal) (O.taken sink.old) (O.taken sink.new)
-        (faults_of H.faults I.faults O.faults files.old source.old sink.old)
-        (faults_of H.faults I.faults O.faults files.new source.new sink.new) }
+        → FormattedBy (V.passes verifier.now) (record { tells = D.tells; blocks = D.blocks flash })
+        (record { list = None; files = H.contents files.old; script = I.left source.old })
+        file
+        (record { banks = banks; rows = rows })
+        (record { journal = turns result.journal; status = result.status; noted = result.note })
+        (record {
+          flash = moment D.told D.counts D.arming D.on flash;
+          taken = O.taken sink.old;
+          faults = faults_of H.faults I.faults O.faults files.old source.old sink.old;
+        })
+        (record {
+          flash = moment D.told D.counts D.arming D.on result.flash;
+          taken = O.taken sink.new;
+          faults = faults_of H.faults I.faults O.faults files.new source.new sink.new;
+        }) }
     // For the command `soak`: its calls are a run of the machine from the flash as it was formatted, and the line is that of
     // their totals.
     ensures soaks { (seed rounds : ℕ)
         → asked (map string_bytes words.now) ≡ Some (ask.soak seed rounds)
-        → SoakedBy D.tells
+        → SoakedBy (record { tells = D.tells; blocks = D.blocks flash })
         (record {
           list = None;
           files = H.contents files.old;
           script = I.left source.old;
-        }) seed rounds (D.blocks flash) (turns result.journal) result.status result.note
-        (moment D.told D.counts D.arming D.on flash)
-        (moment D.told D.counts D.arming D.on result.flash) (O.taken sink.old)
-        (O.taken sink.new)
-        (faults_of H.faults I.faults O.faults files.old source.old sink.old)
-        (faults_of H.faults I.faults O.faults files.new source.new sink.new) }
+        }) seed rounds
+        (record { journal = turns result.journal; status = result.status; noted = result.note })
+        (record {
+          flash = moment D.told D.counts D.arming D.on flash;
+          taken = O.taken sink.old;
+          faults = faults_of H.faults I.faults O.faults files.old source.old sink.old;
+        })
+        (record {
+          flash = moment D.told D.counts D.arming D.on result.flash;
+          taken = O.taken sink.new;
+          faults = faults_of H.faults I.faults O.faults files.new source.new sink.new;
+        }) }
     // No fault count falls.
     ensures later { Later (faults_of H.faults I.faults O.faults files.old source.old sink.old)
         (faults_of H.faults I.faults O.faults files.new source.new sink.new) }
@@ -158,14 +209,28 @@ pub fn fwu_top<D: Flash, H: Files, I: Source, O: Sink>(
         (IsIdle (turns result.journal) result.status
         (moment D.told D.counts D.arming D.on flash)
         (moment D.told D.counts D.arming D.on result.flash))
-        (λ passes. Promised passes D.tells (asked_with_list (map string_bytes words.now))
-        (list_name (map string_bytes words.now)) (H.contents files.old) (I.left source.old)
-        (turns result.journal) result.status (noted result.note)
-        (moment D.told D.counts D.arming D.on flash)
-        (moment D.told D.counts D.arming D.on result.flash) (O.taken sink.old)
-        (O.taken sink.new)
-        (faults_of H.faults I.faults O.faults files.old source.old sink.old)
-        (faults_of H.faults I.faults O.faults files.new source.new sink.new)) }
+        (λ passes. Promised passes D.tells
+        (record {
+          asked = asked_with_list (map string_bytes words.now);
+          list = list_name (map string_bytes words.now);
+          files = H.contents files.old;
+          source = I.left source.old;
+        })
+        (record {
+          journal = turns result.journal;
+          status = result.status;
+          noted = noted result.note;
+        })
+        (record {
+          flash = moment D.told D.counts D.arming D.on flash;
+          taken = O.taken sink.old;
+          faults = faults_of H.faults I.faults O.faults files.old source.old sink.old;
+        })
+        (record {
+          flash = moment D.told D.counts D.arming D.on result.flash;
+          taken = O.taken sink.new;
+          faults = faults_of H.faults I.faults O.faults files.new source.new sink.new;
+        })) }
     // For `run --gpt` and `boot --gpt`, which are `run` and `boot` on the flash behind the partition table.
     ensures by_table { (plain : Asked)
         → over_table (asked_with_list (map string_bytes words.now)) ≡ Some plain
@@ -175,14 +240,24 @@ pub fn fwu_top<D: Flash, H: Files, I: Source, O: Sink>(
         (IsIdle (turns result.journal) result.status
         (moment D.told D.counts D.arming D.on flash)
         (moment D.told D.counts D.arming D.on result.flash))
-        (λ passes. PromisedByTable passes D.tells (D.blocks flash) (Some plain)
-        (list_name (map string_bytes words.now)) (H.contents files.old) (I.left source.old)
-        (turns result.journal) result.status result.note
-        (moment D.told D.counts D.arming D.on flash)
-        (moment D.told D.counts D.arming D.on result.flash) (O.taken sink.old)
-        (O.taken sink.new)
-        (faults_of H.faults I.faults O.faults files.old source.old sink.old)
-        (faults_of H.faults I.faults O.faults files.new source.new sink.new)) }
+        (λ passes. PromisedByTable passes (record { tells = D.tells; blocks = D.blocks flash })
+        (record {
+          asked = Some plain;
+          list = list_name (map string_bytes words.now);
+          files = H.contents files.old;
+          source = I.left source.old;
+        })
+        (record { journal = turns result.journal; status = result.status; noted = result.note })
+        (record {
+          flash = moment D.told D.counts D.arming D.on flash;
+          taken = O.taken sink.old;
+          faults = faults_of H.faults I.faults O.faults files.old source.old sink.old;
+        })
+        (record {
+          flash = moment D.told D.counts D.arming D.on result.flash;
+          taken = O.taken sink.new;
+          faults = faults_of H.faults I.faults O.faults files.new source.new sink.new;
+        })) }
     ensures read_to_end { result.status ≡ 0
         → (asked_with_list (map string_bytes words.now)) ≡ Some ask.run
         → IfSome (I.left source.new) (λ rest. rest ≡ []) }
@@ -193,15 +268,25 @@ pub fn fwu_top<D: Flash, H: Files, I: Source, O: Sink>(
     ensures shows { (asked_with_list (map string_bytes words.now)) ≡ Some ask.show
         → ShowedBy D.tells
         (record {
-          list = (list_name (map string_bytes words.now));
+          list = list_name (map string_bytes words.now);
           files = H.contents files.old;
           script = I.left source.old;
         })
-        (moment D.told D.counts D.arming D.on flash)
-        (moment D.told D.counts D.arming D.on result.flash) result.status (noted result.note)
-        (turns result.journal) (O.taken sink.old) (O.taken sink.new)
-        (faults_of H.faults I.faults O.faults files.old source.old sink.old)
-        (faults_of H.faults I.faults O.faults files.new source.new sink.new) }
+        (record {
+          journal = turns result.journal;
+          status = result.status;
+          noted = noted result.note;
+        })
+        (record {
+          flash = moment D.told D.counts D.arming D.on flash;
+          taken = O.taken sink.old;
+          faults = faults_of H.faults I.faults O.faults files.old source.old sink.old;
+        })
+        (record {
+          flash = moment D.told D.counts D.arming D.on result.flash;
+          taken = O.taken sink.new;
+          faults = faults_of H.faults I.faults O.faults files.new source.new sink.new;
+        }) }
     // For the command `format`: what became of the flash, exactly what is refused, and what was written.
     ensures formats { (banks : ℕ) (rows : List ImageRow) (file : List ℕ)
         → asked_with_list (map string_bytes words.now) ≡ Some (ask.format banks rows file)
@@ -211,33 +296,44 @@ pub fn fwu_top<D: Flash, H: Files, I: Source, O: Sink>(
         (IsIdle (turns result.journal) result.status
         (moment D.told D.counts D.arming D.on flash)
         (moment D.told D.counts D.arming D.on result.flash))
-        (λ passes. FormattedBy passes D.tells
-        (record {
+        (λ passes. FormattedBy passes (record { tells = D.tells; blocks = D.blocks flash }) (record {
           list = list_name (map string_bytes words.now);
           files = H.contents files.old;
           script = I.left source.old;
         }) file
-        (record { banks = banks; rows = rows }) (D.blocks flash)
-        (moment D.told D.counts D.arming D.on flash)
-        (moment D.told D.counts D.arming D.on result.flash) result.status result.note
-        (turns result.journal) (O.taken sink.old) (O.taken sink.new)
-        (faults_of H.faults I.faults O.faults files.old source.old sink.old)
-        (faults_of H.faults I.faults O.faults files.new source.new sink.new)) }
+        (record { banks = banks; rows = rows })
+        (record { journal = turns result.journal; status = result.status; noted = result.note })
+        (record {
+          flash = moment D.told D.counts D.arming D.on flash;
+          taken = O.taken sink.old;
+          faults = faults_of H.faults I.faults O.faults files.old source.old sink.old;
+        })
+        (record {
+          flash = moment D.told D.counts D.arming D.on result.flash;
+          taken = O.taken sink.new;
+          faults = faults_of H.faults I.faults O.faults files.new source.new sink.new;
+        })) }
     // For the command `soak`: its calls are a run of the machine from the flash as it was formatted, and the line is that of
     // their totals.
     ensures soaks { (seed rounds : ℕ)
         → asked_with_list (map string_bytes words.now) ≡ Some (ask.soak seed rounds)
-        → SoakedBy D.tells
+        → SoakedBy (record { tells = D.tells; blocks = D.blocks flash })
         (record {
           list = list_name (map string_bytes words.now);
           files = H.contents files.old;
           script = I.left source.old;
-        }) seed rounds (D.blocks flash) (turns result.journal) result.status result.note
-        (moment D.told D.counts D.arming D.on flash)
-        (moment D.told D.counts D.arming D.on result.flash) (O.taken sink.old)
-        (O.taken sink.new)
-        (faults_of H.faults I.faults O.faults files.old source.old sink.old)
-        (faults_of H.faults I.faults O.faults files.new source.new sink.new) }
+        }) seed rounds
+        (record { journal = turns result.journal; status = result.status; noted = result.note })
+        (record {
+          flash = moment D.told D.counts D.arming D.on flash;
+          taken = O.taken sink.old;
+          faults = faults_of H.faults I.faults O.faults files.old source.old sink.old;
+        })
+        (record {
+          flash = moment D.told D.counts D.arming D.on result.flash;
+          taken = O.taken sink.new;
+          faults = faults_of H.faults I.faults O.faults files.new source.new sink.new;
+        }) }
     // No fault count falls.
     ensures later { Later (faults_of H.faults I.faults O.faults files.old source.old sink.old)
         (faults_of H.faults I.faults O.faults files.new source.new sink.new) }

@@ -9,6 +9,7 @@ ghost use Rattle.script_text.specs.Shown.{HasBuffer, IsFaultOf, shown};
 use crate::call::Call;
 use crate::line::{Line, read_line};
 use crate::split::split;
+use base_core::NoMemory;
 use std::alloc::{AllocError, Global};
 use std::marker::Model;
 use std::mem;
@@ -44,6 +45,15 @@ impl Model for Script {
 }
 
 impl Script {
+    /// The script of one boot.
+    pub fn boot(alloc: Global) -> Result<Script, NoMemory>
+        ensures { IfOk result (λ script. script ≡ call.Boot ∷ []) }
+    {
+        let mut calls = Vec::new(alloc);
+        push_call(&mut calls, Some(Call::Boot))?;
+        Ok(Script { calls })
+    }
+
     /// The number of calls.
     pub fn len(&self) -> usize
         ensures { result ≡ length self.now }

@@ -1,10 +1,9 @@
 use Rattle.script_cmd.proofs.AnsweredBy.{answered-boot, answered-boot-by-table, answered-format, answered-run, answered-run-by-table, answered-show, answered-soak, answered-starved, answered-usage}
 use Rattle.script_cmd.proofs.TopFormats.{formatted-as}
 use Rattle.script_cmd.proofs.SoakTop.{soak-as}
-use Rattle.std.proofs.Common.{Some, None, ap, inr, refl, arith}
+use Rattle.std.proofs.Common.{Some, None, ap, refl, arith}
 use Rattle.fwu_words.specs.Order as ask
 use Rattle.script_cmd.specs.Ways.{Given}
-use Rattle.script_cmd.proofs.PromiseWords.{boot-is-script, boot-is-short}
 use Rattle.script_cmd.proofs.TopShows.{showed-by}
 use Rattle.script_cmd.proofs.TopSources.{in-time-still}
 use Rattle.script_cmd.proofs.TopPrints.{later}
@@ -27,31 +26,25 @@ returns-in-Ok-RunPartitioned-clause-answers g c =
     (e.way (record { list = None; files = g.H.Files.contents c.args.files.now; script = None }) (record { files = files; source = 0; sink = 0 }) (record { files = files; source = 0; sink = 0 }) no-list-named refl (omega arith))
     e.read_to_end e.in_time e.source_count e.unsent (ap g.H.Files.faults) (record { files = e.later_files; source = e.later_source; sink = e.later_sink })
 
-pub run_text-requires-clause-within : goal.run_text-requires-clause-within
-run_text-requires-clause-within g c = boot-is-short
-
 pub returns-in-Ok-Boot-clause-answers : goal.returns-in-Ok-Boot-clause-answers
 returns-in-Ok-Boot-clause-answers g c =
     let files = g.H.Files.faults c.args.files.now in
     let source = g.I.Source.faults c.args.source.now in
-    let e = c.run_text.ensures in
-    let kept = e.files _ boot-is-script refl in
+    let e = c.run_boot.ensures in
+    let kept = ap g.H.Files.faults e.files in
     answered-boot _ (rw c.in-Ok-Boot.field-0-is at c.in-Ok-Boot.ensures)
-    (e.way (Some ask.boot) _ (record { files = files; source = source; sink = 0 }) (record { files = files; source = source; sink = 0 }) no-list-named (inr refl) refl refl (omega arith))
-    kept (ap g.H.Files.faults kept) refl e.note (record { files = e.later_files; source = omega arith; sink = e.later })
-
-pub run_text_by_table-requires-clause-within : goal.run_text_by_table-requires-clause-within
-run_text_by_table-requires-clause-within g c = boot-is-short
+    (e.way _ (record { files = files; source = source; sink = 0 }) (record { files = files; source = source; sink = 0 }) no-list-named refl refl (omega arith))
+    e.files kept refl e.note (record { files = omega (arith, kept); source = omega arith; sink = e.later })
 
 pub returns-in-Ok-BootPartitioned-clause-answers : goal.returns-in-Ok-BootPartitioned-clause-answers
 returns-in-Ok-BootPartitioned-clause-answers g c =
     let files = g.H.Files.faults c.args.files.now in
     let source = g.I.Source.faults c.args.source.now in
-    let e = c.run_text_by_table.ensures in
-    let kept = e.files _ boot-is-script refl in
+    let e = c.run_boot_by_table.ensures in
+    let kept = ap g.H.Files.faults e.files in
     answered-boot-by-table _ (rw c.in-Ok-BootPartitioned.field-0-is at c.in-Ok-BootPartitioned.ensures)
-    (e.way (Some ask.boot) _ (record { files = files; source = source; sink = 0 }) (record { files = files; source = source; sink = 0 }) no-list-named (inr refl) refl refl (omega arith))
-    kept (ap g.H.Files.faults kept) refl (record { files = e.later_files; source = omega arith; sink = e.later })
+    (e.way _ (record { files = files; source = source; sink = 0 }) (record { files = files; source = source; sink = 0 }) no-list-named refl refl (omega arith))
+    e.files kept refl (record { files = omega (arith, kept); source = omega arith; sink = e.later })
 
 pub returns-in-Ok-Show-clause-answers : goal.returns-in-Ok-Show-clause-answers
 returns-in-Ok-Show-clause-answers g c =

@@ -24,18 +24,13 @@ returns-in-Err-NoMemory-clause-way g c = λ asked given was are listed asks is t
     let e = c.idle.ensures in
     table-starved _ _ _ _ _ _ _ _ _ _ asked given _ _ e.no_turns (same-moment g.D.Flash.told g.D.Flash.counts g.D.Flash.arming g.D.Flash.on _ _ e.flash) e.status e.note refl
 
-pub returns-in-Ok-make-clause-way : goal.returns-in-Ok-make-clause-way
-returns-in-Ok-make-clause-way g c = λ asked given was are listed asks is told later.
-    c.run_by_table.ensures.way asked given was are (record {
+pub returns-clause-way : goal.returns-clause-way
+returns-clause-way g c = λ asked given was are listed asks is told later.
+    c.run_calls_by_table.ensures.way asked given was are (record {
       good = listed;
       asks = asks;
       has = of-script given.script c.args.text.now (λ (b : List ℕ). (is_too_long b ≡ false) × (script_of b ≡ Ok _)) is (c.requires.within, c.in-Ok.ensures.ok);
     }) told later
-
-pub returns-in-Err-clause-way : goal.returns-in-Err-clause-way
-returns-in-Err-clause-way g c = λ asked given was are listed asks is told later.
-    let e = c.idle-in-Err.ensures in
-    table-starved _ _ _ _ _ _ _ _ _ _ asked given _ _ e.no_turns (same-moment g.D.Flash.told g.D.Flash.counts g.D.Flash.arming g.D.Flash.on _ _ e.flash) e.status e.note refl
 
 pub returns-in-Err-BadLine-clause-later : goal.returns-in-Err-BadLine-clause-later
 returns-in-Err-BadLine-clause-later g c = later _ _ _ _ _ _ _ c.refuse_script.ensures.prints

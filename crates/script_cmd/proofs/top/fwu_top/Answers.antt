@@ -6,16 +6,16 @@ use Rattle.script_cmd.proofs.TopWays.{by-list}
 use Rattle.script_cmd.proofs.top.fwu_top.Goals as goal
 
 pub returns-clause-promises : goal.returns-clause-promises
-returns-clause-promises g c runs = by-list _ _ _ _ (λ passes a. promised passes _ _ _ _ _ _ _ _ _ _ _ _ _ _ (a.way runs)) c.answer.ensures.answers
+returns-clause-promises g c runs = by-list _ _ _ _ (λ passes a. promised passes _ _ _ _ _ (a.way runs)) c.answer.ensures.answers
 
 pub returns-clause-by_table : goal.returns-clause-by_table
-returns-clause-by_table g c plain over = by-list _ _ _ _ (λ passes a. promised-by-table passes _ _ _ _ _ _ _ _ _ _ _ _ _ _ _ (a.by_table plain over)) c.answer.ensures.answers
+returns-clause-by_table g c plain over = by-list _ _ _ _ (λ passes a. promised-by-table passes _ _ _ _ _ (a.by_table plain over)) c.answer.ensures.answers
 
 pub returns-clause-formats : goal.returns-clause-formats
 returns-clause-formats g c banks rows file is = by-list _ _ _ _ (λ passes a. a.formats banks rows file is) c.answer.ensures.answers
 
 pub returns-clause-soaks : goal.returns-clause-soaks
-returns-clause-soaks g c seed rounds is = soaked-by _ _ seed rounds _ _ _ _ _ _ _ _ _ _ (whichever _ _ _ _ c.answer.ensures.answers (λ passes a. a.soaks seed rounds is))
+returns-clause-soaks g c seed rounds is = soaked-by _ _ seed rounds _ _ _ (whichever _ _ _ _ c.answer.ensures.answers (λ passes a. a.soaks seed rounds is))
 
 pub returns-clause-read_to_end : goal.returns-clause-read_to_end
 returns-clause-read_to_end g c = whichever _ _ _ _ c.answer.ensures.answers (λ passes a. a.read_to_end)

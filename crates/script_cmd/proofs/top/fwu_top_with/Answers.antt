@@ -5,13 +5,13 @@ use Rattle.script_cmd.proofs.SoakPromise.{soaked-by}
 use Rattle.script_cmd.proofs.top.fwu_top_with.Goals as goal
 
 pub returns-clause-promises : goal.returns-clause-promises
-returns-clause-promises g c runs = promised _ _ _ _ _ _ _ _ _ _ _ _ _ _ _ (c.answer_with.ensures.answers.way runs)
+returns-clause-promises g c runs = promised _ _ _ _ _ _ (c.answer_with.ensures.answers.way runs)
 
 pub returns-clause-by_table : goal.returns-clause-by_table
-returns-clause-by_table g c plain over = promised-by-table _ _ _ _ _ _ _ _ _ _ _ _ _ _ _ _ (c.answer_with.ensures.answers.by_table plain over)
+returns-clause-by_table g c plain over = promised-by-table _ _ _ _ _ _ (c.answer_with.ensures.answers.by_table plain over)
 
 pub returns-clause-soaks : goal.returns-clause-soaks
-returns-clause-soaks g c seed rounds is = soaked-by _ _ seed rounds _ _ _ _ _ _ _ _ _ _ (c.answer_with.ensures.answers.soaks seed rounds is)
+returns-clause-soaks g c seed rounds is = soaked-by _ _ seed rounds _ _ _ (c.answer_with.ensures.answers.soaks seed rounds is)
 
 pub returns-clause-files : goal.returns-clause-files
 returns-clause-files g c = c.answer_with.ensures.answers.files refl
