@@ -2,7 +2,7 @@
 # `fip` beside fiptool (Debian's arm-trusted-firmware-tools), where it is installed, in one run: processor time and peak memory of
 # `create`, `update`, `remove` and `unpack` over three payloads that make a package of nearly 64 MiB, the time of `info`, and the
 # start-up. `capsule` and `package` of that package beside two copies of it through one buffer of its size, by one read and one
-# write: through a buffer of malloc, as fip's are, and by dd, whose buffer begins at a page. And what `fip` takes
+# write: through a buffer of malloc, and by dd, whose buffer begins at a page. And what `fip` takes
 # to refuse by sizes alone: an image of 3 GiB, and a package and a capsule of 60 MiB whose 64 entries or items overlap.
 set -eu
 cd "$(dirname "$0")/.."

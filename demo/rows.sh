@@ -236,6 +236,34 @@ whole 'the bytes of a capsule' a.cap "edd5cb6d2de8444cbda17194199ad92a 1c000000 
     02000000 0becf95f224d4d3ea544c39d81c73f0a 01 000000 05000000 00000000 0000000000000000 68656c6c6f"
 row 'a package of a capsule' 0 'packed entries=1 size=101' fip package a.cap back.fip
 same 'it is the one that the capsule was made of' a.fip back.fip
+
+# limited COMMAND..: no file may have more than 1024 bytes.
+limited() (
+    trap '' XFSZ
+    ulimit -f 2
+    "$@"
+)
+
+cp a.fip both.fip
+chmod 640 both.fip
+row 'a capsule in the place of its package' 0 'capsule items=1 size=89' fip capsule both.fip both.fip
+same 'its bytes' a.cap both.fip
+row 'it has the rights of the old file' 0 640 stat -c %a both.fip
+head -c 3000 /dev/zero >long.bin
+row 'a file that cannot be written' 2 file-fault limited fip create both.fip tb-fw=long.bin
+same 'the old file is there' a.cap both.fip
+row 'and no new one' 1 '' test -e both.fip.new
+ln -s both.fip link.fip
+row 'a package in the place of its capsule, by a link' 0 'packed entries=1 size=101' fip package both.fip link.fip
+same 'its bytes' a.fip both.fip
+row 'the link stays' 0 '' test -L link.fip
+ln both.fip name.fip
+row 'a capsule in the place of its package, by a second name' 0 'capsule items=1 size=89' fip capsule both.fip name.fip
+same 'the bytes by the first name' a.cap both.fip
+: >taken.fip.new
+row 'a file where another stands in the place of the new one' 0 'packed entries=1 size=101' fip package a.cap taken.fip
+same 'its bytes' a.fip taken.fip
+row 'the other one stays' 0 0 stat -c %s taken.fip.new
 head -c 88 a.cap >cut88.cap
 row 'a capsule that is cut' 8 'not-capsule 3' fip package cut88.cap z.fip
 

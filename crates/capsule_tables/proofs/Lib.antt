@@ -7,3 +7,4 @@ pub mod MadeFaults
 pub mod MadeZeros
 pub mod ReadAgain
 pub mod Within
+pub mod Frames

@@ -1,11 +1,10 @@
 -- What the loops keep that make a capsule.
-use Rattle.std.proofs.Common.{◌≡◌, ◌∙◌, ◌≤◌, ◌<◌, ◌+◌, ◌*◌, ◌++◌, ℕ, List, length, get_or, drop, ap, sym, append_assoc}
+use Rattle.std.proofs.Common.{◌≡◌, ◌∙◌, ◌≤◌, ◌<◌, ◌+◌, ◌*◌, ◌++◌, ◌∷◌, [], ℕ, List, length, get_or, drop, ap, sym, append_assoc}
 use Rattle.std.proofs.lemmas.List.{drop_more}
 use Rattle.base_core.specs.Bytes.{le}
 use Rattle.fwu_formats.specs.Package.{Part}
-use Rattle.fip_tables.specs.Packing.{zeroed}
-use Rattle.capsule_tables.specs.Making.{capsule_size, item_bytes, item_head, items_bytes, made_head, places_bytes}
-use Rattle.capsule_tables.proofs.MadeZeros.{same-head, sizes, sizes-cons}
+use Rattle.capsule_tables.specs.Making.{capsule_size, head_gaps, heads_bytes, item_head, made_head, places_bytes}
+use Rattle.capsule_tables.proofs.MadeZeros.{sizes, sizes-cons}
 
 -- so many parts are counted
 pub record IsSized (parts : List Part) (size k : ℕ) : Type 0 where
@@ -13,10 +12,15 @@ pub record IsSized (parts : List Part) (size k : ℕ) : Type 0 where
   pub small : size ≤ 67108864
   pub each : (j : ℕ) (d : Part) → j < k → length (get_or parts j d).bytes ≤ 67108864
 
--- so many items are written, the next one's number is index
-pub record HasItems (old now : List ℕ) (parts : List Part) (index k : ℕ) : Type 0 where
+-- so many heads are written, the next item's number is index
+pub record HasHeads (old now : List ℕ) (parts : List Part) (index k : ℕ) : Type 0 where
   pub number : index ≡ k + 1
-  pub rest : now ++ items_bytes index (drop k parts) ≡ old ++ items_bytes 1 parts
+  pub rest : now ++ heads_bytes index (drop k parts) ≡ old ++ heads_bytes 1 parts
+
+-- so many gaps are found, and before the next head stand so many more bytes
+pub record HasGaps (parts : List Part) (front : ℕ) (gaps : List ℕ) (before k : ℕ) : Type 0 where
+  pub low : before ≤ 67108864
+  pub rest : gaps ++ head_gaps before (drop k parts) ≡ head_gaps front parts
 
 -- so many places are written, the next one is at
 pub record HasPlaces (old now : List ℕ) (parts : List Part) (at k : ℕ) : Type 0 where
@@ -26,19 +30,22 @@ pub record HasPlaces (old now : List ℕ) (parts : List Part) (at k : ℕ) : Typ
 pub next-size : (parts : List Part) (k : ℕ) (d : Part) → k < length parts → sizes (drop k parts) ≡ length (get_or parts k d).bytes + sizes (drop (k + 1) parts)
 next-size parts k d lt = ap sizes (drop_more parts k d lt) ∙ sizes-cons (get_or parts k d) (drop (k + 1) parts)
 
--- an item is its head and its payload
-pub next-item : (now head whole : List ℕ) (parts : List Part) (index k : ℕ) (p : Part) → k < length parts → p ≡ get_or parts k p
-    → head ≡ now ++ item_head index (zeroed p) → whole ≡ head ++ p.bytes
-    → now ++ items_bytes index (drop k parts) ≡ whole ++ items_bytes (index + 1) (drop (k + 1) parts)
-next-item now head whole parts index k p lt is one two =
-    let rest = items_bytes (index + 1) (drop (k + 1) parts) in
-    ap (λ (ps : List Part). now ++ items_bytes index ps) (drop_more parts k p lt)
-    ∙ ap (λ (q : Part). now ++ (item_bytes index q ++ rest)) (sym is)
-    ∙ sym (append_assoc now (item_bytes index p) rest)
-    ∙ ap (λ (xs : List ℕ). xs ++ rest) (sym (append_assoc now (item_head index p) p.bytes))
-    ∙ ap (λ (xs : List ℕ). ((now ++ xs) ++ p.bytes) ++ rest) (sym (same-head index p))
-    ∙ ap (λ (xs : List ℕ). (xs ++ p.bytes) ++ rest) (sym one)
-    ∙ ap (λ (xs : List ℕ). xs ++ rest) (sym two)
+pub next-head : (now more : List ℕ) (parts : List Part) (index k : ℕ) (p : Part) → k < length parts → p ≡ get_or parts k p → more ≡ now ++ item_head index p
+    → now ++ heads_bytes index (drop k parts) ≡ more ++ heads_bytes (index + 1) (drop (k + 1) parts)
+next-head now more parts index k p lt is one =
+    let rest = heads_bytes (index + 1) (drop (k + 1) parts) in
+    ap (λ (ps : List Part). now ++ heads_bytes index ps) (drop_more parts k p lt)
+    ∙ ap (λ (q : Part). now ++ (item_head index q ++ rest)) (sym is)
+    ∙ sym (append_assoc now (item_head index p) rest)
+    ∙ ap (λ (xs : List ℕ). xs ++ rest) (sym one)
+
+pub next-gap : (gaps more : List ℕ) (parts : List Part) (before k : ℕ) (d : Part) → k < length parts → more ≡ gaps ++ (before + 40) ∷ []
+    → gaps ++ head_gaps before (drop k parts) ≡ more ++ head_gaps 0 (drop (k + 1) parts)
+next-gap gaps more parts before k d lt one =
+    let rest = head_gaps 0 (drop (k + 1) parts) in
+    ap (λ (ps : List Part). gaps ++ head_gaps before ps) (drop_more parts k d lt)
+    ∙ sym (append_assoc gaps ((before + 40) ∷ []) rest)
+    ∙ ap (λ (xs : List ℕ). xs ++ rest) (sym one)
 
 pub next-place : (now more : List ℕ) (parts : List Part) (at k : ℕ) (p : Part) → k < length parts → p ≡ get_or parts k p → more ≡ now ++ le 8 at
     → now ++ places_bytes at (drop k parts) ≡ more ++ places_bytes (at + made_head + length p.bytes) (drop (k + 1) parts)

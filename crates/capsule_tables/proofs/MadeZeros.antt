@@ -1,8 +1,8 @@
 -- Parts with zeros in place of their bytes: the same front of a capsule, and the same faults.
-use Rattle.std.proofs.Common.{◌≡◌, ◌∙◌, ◌≤◌, ◌<◌, ◌+◌, ◌*◌, ◌++◌, ◌∷◌, [], ℕ, zero, suc, List, length, map, replicate, get_or, Option, Some, None, ap, refl, arith}
+use Rattle.std.proofs.Common.{◌≡◌, ◌∙◌, ◌≤◌, ◌+◌, ◌*◌, ◌++◌, ◌∷◌, [], ℕ, List, length, map, replicate, Option, Some, None, ap, refl, arith}
 use Rattle.std.proofs.lemmas.List.{length-replicate}
 use Rattle.std.proofs.lemmas.List.Sums.{sum_by-cons}
-use Rattle.std.specs.Prelude.{sum_by, nat_lt, if◌then◌else◌, All}
+use Rattle.std.specs.Prelude.{sum_by, nat_lt, if◌then◌else◌}
 use Rattle.base_core.specs.Bytes.{le}
 use Rattle.fwu_formats.specs.Package.{Part}
 use Rattle.fip_tables.specs.Frame.{AreSixteen}
@@ -13,8 +13,8 @@ use Rattle.fip_tables.proofs.Again.{count-passes}
 use Rattle.fip_tables.proofs.Plans.{outlines-sixteen, sixteen-zeroed}
 use Rattle.fip_tables.proofs.Zeros.{length-zeroed, zeros-share}
 use Rattle.fwu_formats.specs.Capsule.{swapped}
-use Rattle.capsule_tables.specs.Making.{capsule_size, front_bytes, headers_bytes, item_head, made_head, make_fault, places_bytes}
-use Rattle.capsule_tables.proofs.MadeFaults.{parts-pass, size-passes}
+use Rattle.capsule_tables.specs.Making.{capsule_size, front_bytes, head_gaps, headers_bytes, heads_bytes, item_head, made_head, make_fault, places_bytes}
+use Rattle.capsule_tables.proofs.MadeFaults.{parts-pass}
 
 abbrev pub sizes : List Part → ℕ
 sizes ps = sum_by (λ p. length p.bytes) ps
@@ -48,25 +48,22 @@ same-make_fault ps =
     ap (λ (o : Option PackFault). first_of o (if nat_lt package_limit (capsule_size (map zeroed ps)) then Some fault.TooLarge else None)) (zeros-share ps)
     ∙ ap (λ (n : ℕ). first_of (parts_fault ps) (if nat_lt package_limit n then Some fault.TooLarge else None)) (same-size ps)
 
-pub same-head : (index : ℕ) (p : Part) → item_head index (zeroed p) ≡ item_head index p
+same-head : (index : ℕ) (p : Part) → item_head index (zeroed p) ≡ item_head index p
 same-head index p =
     ap (λ (n : ℕ). le 4 2 ++ swapped p.guid ++ (index ∷ 0 ∷ 0 ∷ 0 ∷ []) ++ le 4 n ++ replicate 12 0) (length-replicate {A = ℕ} (length p.bytes) 0)
 
+pub same-heads : (index : ℕ) (ps : List Part) → heads_bytes index (map zeroed ps) ≡ heads_bytes index ps
+same-heads index [] = refl
+same-heads index (p ∷ ps) =
+    ap (λ (xs : List ℕ). xs ++ heads_bytes (index + 1) (map zeroed ps)) (same-head index p)
+    ∙ ap (λ (xs : List ℕ). item_head index p ++ xs) (same-heads (index + 1) ps)
+
+pub same-gaps : (front : ℕ) (ps : List Part) → head_gaps front (map zeroed ps) ≡ head_gaps front ps
+same-gaps front [] = refl
+same-gaps front (p ∷ ps) = ap (λ (gs : List ℕ). (front + made_head) ∷ gs) (same-gaps 0 ps)
+
 pub types-of : (ps : List Part) → AreOutlines (map zeroed ps) → AreSixteen ps
 types-of ps ok = sixteen-zeroed ps (outlines-sixteen (map zeroed ps) ok)
-
--- ---- no payload is longer than all
-
-small-each : (ps : List Part) (n : ℕ) → sizes ps ≤ n → All (λ p. length p.bytes ≤ n) ps
-small-each [] n le = λ k d lt. absurd (omega (arith, lt))
-small-each (p ∷ ps) n le = by (small-each ps n (omega (arith, le, sizes-cons p ps)))
-  where
-    by : All (λ q. length q.bytes ≤ n) ps → (k : ℕ) (d : Part) → k < length (p ∷ ps) → length (get_or (p ∷ ps) k d).bytes ≤ n
-    by more zero d lt = omega (arith, le, sizes-cons p ps)
-    by more (suc k) d lt = more k d (omega (arith, lt))
-
-pub small-parts : (ps : List Part) → make_fault ps ≡ None → All (λ p. length p.bytes ≤ 67108864) ps
-small-parts ps ok = small-each ps 67108864 (omega (arith, size-passes ps ok))
 
 pub few-parts : (ps : List Part) → make_fault ps ≡ None → length ps ≤ 64
 few-parts ps ok = count-passes ps (parts-pass ps ok)

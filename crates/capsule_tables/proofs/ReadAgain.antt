@@ -198,7 +198,7 @@ items-read index at (p ∷ ps) pre rest (suc i) d lt types low is =
     subst (λ (xs : List ℕ). ReadsAs xs (28 + place_of (at + made_head + length p.bytes) ps i) (get_or ps i d)) (sym same)
     (items-read (index + 1) (at + made_head + length p.bytes) ps (pre ++ one) rest i d (omega (arith, lt)) types.1 (omega (arith, low, sizes-cons p ps)) long)
 
-items-length : (index : ℕ) (ps : List Part) → AreSixteen ps → sizes ps < 4294967296 → length (items_bytes index ps) ≡ total ps
+pub items-length : (index : ℕ) (ps : List Part) → AreSixteen ps → sizes ps < 4294967296 → length (items_bytes index ps) ≡ total ps
 items-length index [] types low = refl
 items-length index (p ∷ ps) types low =
     let short : length p.bytes < 4294967296 = omega (arith, low, sizes-cons p ps) in

@@ -24,6 +24,16 @@ abbrev pub items_bytes : ℕ → List Part → List ℕ
 items_bytes index [] = []
 items_bytes index (p ∷ ps) = item_bytes index p ++ items_bytes (index + 1) ps
 
+-- what stands before the images of the items
+abbrev pub heads_bytes : ℕ → List Part → List ℕ
+heads_bytes index [] = []
+heads_bytes index (p ∷ ps) = item_head index p ++ heads_bytes (index + 1) ps
+
+-- how many bytes stand before each image, behind the one before: its head, and before the first so many more
+abbrev pub head_gaps : ℕ → List Part → List ℕ
+head_gaps front [] = []
+head_gaps front (p ∷ ps) = (front + made_head) ∷ head_gaps 0 ps
+
 -- where the items begin, from the payloads' header on, the first at a place
 abbrev pub places_bytes : ℕ → List Part → List ℕ
 places_bytes at [] = []

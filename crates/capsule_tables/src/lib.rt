@@ -15,5 +15,5 @@ pub use faults::CapsuleStop;
 pub use fwu_formats::CapsuleFault;
 pub use guids::FMP_GUID;
 pub use laws::made_is_read;
-pub use making::{add_head, capsule_front, make_capsule};
+pub use making::{capsule_frame, make_capsule};
 pub use read::read_capsule;

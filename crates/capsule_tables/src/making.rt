@@ -1,14 +1,17 @@
 //! Capsules made from payloads.
 
-ghost use Rattle.std.specs.Prelude.{◌≡◌, ◌≤◌, ◌<◌, ◌+◌, ◌*◌, ◌++◌, All, Some, None, Err, IfOk, IfErr, OnOk, length, vec_capacity};
-ghost use Rattle.fip_tables.specs.Packing.{AreOutlines};
+ghost use Rattle.std.specs.Prelude.{◌≡◌, ◌≤◌, ◌<◌, ◌+◌, ◌*◌, ◌++◌, All, List, Some, None, Err, IfOk, IfErr, OnOk, length, map};
+ghost use Rattle.fwu_formats.specs.Package.{Part as Payload};
+ghost use Rattle.host_io.specs.Joined.{joined};
+ghost use Rattle.fip_tables.specs.Frame.{chunks};
+ghost use Rattle.fip_tables.specs.Packing.{AreOutlines, zeroed};
 ghost use Rattle.fip_tables.specs.declared.faults.PackFault.{PackFault};
 ghost use Rattle.fip_tables.specs.declared.faults.PackFault.TheVariants as fault;
 ghost use Rattle.fip_tables.specs.declared.faults.PackStop.TheVariants as stop;
-ghost use Rattle.capsule_tables.specs.Making.{IsMadeOf, capsule_bytes, capsule_size, front_bytes, headers_bytes, item_head, items_bytes, make_fault, places_bytes};
+ghost use Rattle.capsule_tables.specs.Making.{IsMadeOf, capsule_bytes, capsule_size, head_gaps, headers_bytes, heads_bytes, item_head, make_fault, places_bytes};
 
 use crate::guids::{FMP_GUID, swapped};
-use fip_tables::{Outline, PackFault, PackStop, Part, Parts, check_parts, outlines};
+use fip_tables::{Frame, Outline, PackFault, PackStop, Parts, check_parts, outlines};
 use std::alloc::{AllocError, Global};
 
 // The greatest capsule, in bytes.
@@ -38,13 +41,13 @@ fn size_of(parts: &[Outline]) -> Result<u64, PackFault>
     Ok(size)
 }
 
-// A buffer with room for a capsule, that has its two headers.
+// A buffer that has a capsule's two headers, with room for all that stands before the images.
 #[tactic(auto, using(base_core::proofs::Spelled::four_spelled))]
 fn headers(alloc: Global, size: u32, items: u16) -> Result<Vec<u8>, AllocError>
-    ensures bytes { IfOk result (λ v. v.items ≡ headers_bytes size items) }
-    ensures room { IfOk result (λ v. size ≤ vec_capacity v) }
+    ensures { IfOk result (λ v. v.items ≡ headers_bytes size items) }
 {
-    let mut bytes = Vec::with_capacity(alloc, size as usize)?;
+    let room = HEADERS + (PLACE + HEAD) * u64::from(items);
+    let mut bytes = Vec::with_capacity(alloc, room as usize)?;
     bytes.extend_from_slice(&FMP_GUID)?;
     bytes.extend_from_slice(&28u32.to_le_bytes())?;
     bytes.extend_from_slice(&0u32.to_le_bytes())?;
@@ -59,9 +62,8 @@ fn headers(alloc: Global, size: u32, items: u16) -> Result<Vec<u8>, AllocError>
 fn add_places(bytes: &mut Vec<u8>, parts: &[Outline]) -> Result<(), AllocError>
     requires few { length parts.now ≤ 64 }
     requires small { All (λ p. length p.bytes ≤ 67108864) parts.now }
-    ensures added { OnOk result (bytes.new.items ≡ bytes.old.items
+    ensures { OnOk result (bytes.new.items ≡ bytes.old.items
         ++ places_bytes (8 + 8 * length parts.now) parts.now) }
-    ensures capacity { vec_capacity bytes.old ≤ vec_capacity bytes.new }
 {
     let mut at = 8 + PLACE * parts.len() as u64;
     for part in parts {
@@ -71,30 +73,11 @@ fn add_places(bytes: &mut Vec<u8>, parts: &[Outline]) -> Result<(), AllocError>
     Ok(())
 }
 
-/// What stands before the items of a capsule of these parts, which are known by the sizes of their
-/// payloads: both headers, and the places of the items. The buffer has room for the whole capsule.
-/// Behind it go the items in their order, each the bytes that `add_head` adds and its payload.
-pub fn capsule_front(alloc: Global, parts: &[Outline]) -> Result<Vec<u8>, PackStop>
-    ensures front { IfOk result (λ v. v.items ≡ front_bytes parts.now) }
-    ensures room { IfOk result (λ v. capsule_size parts.now ≤ vec_capacity v) }
-    ensures outlines { OnOk result (AreOutlines parts.now) }
-    ensures fits { OnOk result (make_fault parts.now ≡ None) }
-    ensures err { (f : PackFault) → result ≡ Err (stop.Fault f) → make_fault parts.now ≡ Some f }
-{
-    check_parts(parts)?;
-    let size = size_of(parts)?;
-    let mut bytes = headers(alloc, size as u32, parts.len() as u16)?;
-    add_places(&mut bytes, parts)?;
-    Ok(bytes)
-}
-
-/// Adds what stands before the payload of the item of this number, from 1 on: 40 bytes, by which the
-/// item has version 2 (UEFI).
-pub fn add_head(bytes: &mut Vec<u8>, index: u8, part: &Outline) -> Result<(), AllocError>
+// Adds what stands before the image of the item of this number, from 1 on: 40 bytes, by which the item
+// has version 2 (UEFI).
+fn add_head(bytes: &mut Vec<u8>, index: u8, part: &Outline) -> Result<(), AllocError>
     requires { length part.now.bytes < 4294967296 }
-    ensures added { OnOk result (bytes.new.items ≡ bytes.old.items ++ item_head index part.now) }
-    ensures forty { OnOk result (length (item_head index part.now) ≡ 40) }
-    ensures capacity { vec_capacity bytes.old ≤ vec_capacity bytes.new }
+    ensures { OnOk result (bytes.new.items ≡ bytes.old.items ++ item_head index part.now) }
 {
     let guid = swapped(&part.guid);
     bytes.extend_from_slice(&2u32.to_le_bytes())?;
@@ -105,19 +88,57 @@ pub fn add_head(bytes: &mut Vec<u8>, index: u8, part: &Outline) -> Result<(), Al
     Ok(())
 }
 
-// Adds all items, numbered from 1 on.
-fn add_items(bytes: &mut Vec<u8>, parts: &[Part]) -> Result<(), AllocError>
+// Adds what stands before the images of all items, numbered from 1 on.
+fn add_heads(bytes: &mut Vec<u8>, parts: &[Outline]) -> Result<(), AllocError>
     requires few { length parts.now ≤ 64 }
     requires small { All (λ p. length p.bytes ≤ 67108864) parts.now }
-    ensures { OnOk result (bytes.new.items ≡ bytes.old.items ++ items_bytes 1 parts.now) }
+    ensures { OnOk result (bytes.new.items ≡ bytes.old.items ++ heads_bytes 1 parts.now) }
 {
     let mut index = 1;
     for part in parts {
-        add_head(bytes, index, &part.outline())?;
-        bytes.extend_from_slice(part.bytes.as_slice())?;
+        add_head(bytes, index, part)?;
         index += 1;
     }
     Ok(())
+}
+
+// How many bytes stand before each image, where so many stand before the items.
+fn gaps_of(alloc: Global, front: usize, parts: &[Outline]) -> Result<Vec<usize>, AllocError>
+    requires { front ≤ 67108864 }
+    ensures { IfOk result (λ v. v.items ≡ head_gaps front parts.now) }
+{
+    let mut gaps = Vec::with_capacity(alloc, parts.len())?;
+    let mut before = front;
+    for _part in parts {
+        gaps.push(before + HEAD as usize)?;
+        before = 0;
+    }
+    Ok(gaps)
+}
+
+/// What the capsule of these parts has besides their payloads, which are the images of its items in
+/// their order: both headers, the places of the items, and before each image 40 bytes. A capsule has at
+/// most 67,108,864 bytes.
+pub fn capsule_frame(alloc: Global, parts: &[Outline]) -> Result<Frame, PackStop>
+    ensures joined { IfOk result (λ f. (payloads : List Payload) → map zeroed payloads ≡ parts.now
+        → joined f.bytes.items (chunks f.gaps.items payloads) ≡ capsule_bytes payloads) }
+    ensures gaps { IfOk result (λ f. length f.gaps.items ≡ length parts.now) }
+    ensures size { IfOk result (λ f. (payloads : List Payload) → map zeroed payloads ≡ parts.now
+        → f.size ≡ length (capsule_bytes payloads)) }
+    ensures counted { IfOk result (λ f. f.size ≡ capsule_size parts.now) }
+    ensures limit { IfOk result (λ f. f.size ≤ 67108864) }
+    ensures fits { OnOk result (make_fault parts.now ≡ None) }
+    ensures outlines { OnOk result (AreOutlines parts.now) }
+    ensures memory { result ≡ Err stop.NoMemory → make_fault parts.now ≡ None }
+    ensures err { (f : PackFault) → result ≡ Err (stop.Fault f) → make_fault parts.now ≡ Some f }
+{
+    check_parts(parts)?;
+    let size = size_of(parts)?;
+    let mut bytes = headers(alloc, size as u32, parts.len() as u16)?;
+    add_places(&mut bytes, parts)?;
+    let gaps = gaps_of(alloc, bytes.len(), parts)?;
+    add_heads(&mut bytes, parts)?;
+    Ok(Frame { bytes, gaps, size })
 }
 
 /// The capsule of these parts, one item each, in their order: their flags and the package's own
@@ -131,7 +152,6 @@ pub fn make_capsule(alloc: Global, parts: &Parts) -> Result<Vec<u8>, PackStop>
 {
     let payloads = parts.parts.as_slice();
     let all = outlines(alloc, payloads)?;
-    let mut bytes = capsule_front(alloc, all.as_slice())?;
-    add_items(&mut bytes, payloads)?;
-    Ok(bytes)
+    let frame = capsule_frame(alloc, all.as_slice())?;
+    Ok(frame.filled(alloc, payloads)?)
 }

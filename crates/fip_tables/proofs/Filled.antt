@@ -1,185 +1,210 @@
--- Payloads that are put in one after the other.
-use Rattle.std.proofs.Common.{◌≡◌, ◌≤◌, ◌<◌, ◌+◌, ◌-◌, ◌*◌, ℕ, zero, suc, List, [], ◌∷◌, ◌++◌, length, get_or, take, map, replicate, refl, sym, ap, subst, ◌∙◌, arith, length-append, append_assoc, add-one}
-use Rattle.std.specs.Prelude.{Bool, true, false, flat_map, nat_lt}
+-- Payloads that are put into a frame, each behind its gap.
+use Rattle.std.proofs.Common.{◌≡◌, ◌≤◌, ◌<◌, ◌+◌, ◌-◌, ◌*◌, ℕ, List, [], ◌∷◌, ◌++◌, length, get_or, drop, take, map, replicate, refl, sym, ap, subst, ◌∙◌, arith, length-append, append_assoc}
+use Rattle.std.specs.Prelude.{Bool, true, false, flat_map, min, nat_lt}
 use Rattle.std.proofs.lemmas.Bool.{ltb-false, ltb-true}
-use Rattle.std.proofs.lemmas.List.{get_or_default, get_or_past, length-replicate, length-take, take_all}
+use Rattle.std.proofs.lemmas.List.{drop-replicate, drop_all, drop_more, take-replicate, take_all}
+use Rattle.std.proofs.lemmas.List.Sums.{sum_by-cons}
+use Rattle.std.proofs.Math.Seq.{drop-append-add, take-append-add}
 use Rattle.std.specs.Int.{next_multiple_of}
 use Rattle.base_core.specs.Bytes.{le}
 use Rattle.fwu_formats.specs.Package.{Entry, Part, fip_name, packed, packed_entries, payloads, table_bytes}
-use Rattle.fip_tables.specs.Packing.{AreOutlines, part_at, zeroed}
-use Rattle.fip_tables.specs.Frame.{AreInside, AreSixteen, Filling, Fills, IsFrame, entry_bytes, first_payloads, last_end, marker, next_entry, place, table_end, tabled, up_to}
-use Rattle.fip_tables.proofs.Plans.{end-le-last, outlines-sixteen, sixteen-zeroed, table-length, table-spelled}
-use Rattle.fip_tables.proofs.Zeros.{length-zeroed, same-end, same-entries, same-table}
+use Rattle.host_io.specs.Joined.{Chunk, joined}
+use Rattle.fip_tables.specs.Packing.{AreOutlines, zeroed}
+use Rattle.fip_tables.specs.Frame.{AreInOrder, AreSixteen, chunks, entry_bytes, gaps_from, last_end, marker, sizes_of, table_end, tabled, up_to}
+use Rattle.fip_tables.proofs.Plans.{outlines-sixteen, packed-length, sixteen-zeroed, table-length, table-spelled}
+use Rattle.fip_tables.proofs.Zeros.{length-zeroed, same-end, same-entries}
 
--- ---- places
-
--- the place of a part
-abbrev pub place_in : ℕ → ℕ → List Part → ℕ → ℕ
-place_in a end ps i = place (packed_entries a end ps) (last_end a end ps) i
-
-pub place-first : (a end : ℕ) (ps : List Part) → place_in a end ps 0 ≡ next_multiple_of end a
-place-first a end [] = refl
-place-first a end (p ∷ ps) = refl
-
-place-order : (a end : ℕ) (ps : List Part) (i : ℕ) (d : Part) → i < length ps → place_in a end ps i + length (get_or ps i d).bytes ≤ place_in a end ps (suc i)
-place-order a end [] i d lt = absurd (omega (arith, lt))
-place-order a end (p ∷ ps) zero d lt =
-    let next = next_multiple_of end a + length p.bytes in
-    let first : place_in a next ps 0 ≡ next_multiple_of next a = place-first a next ps in
-    omega (arith, first)
-place-order a end (p ∷ ps) (suc i) d lt = place-order a (next_multiple_of end a + length p.bytes) ps i d (omega (arith, lt))
+-- ---- the order of the payloads
 
 pub entries-count : (a end : ℕ) (ps : List Part) → length (packed_entries a end ps) ≡ length ps
 entries-count a end [] = refl
 entries-count a end (p ∷ ps) = omega (arith, entries-count a (next_multiple_of end a + length p.bytes) ps)
 
--- the size of a part's entry
-pub entry-size : (a end : ℕ) (ps : List Part) (i : ℕ) (d : Part) (e : Entry) → i < length ps → (get_or (packed_entries a end ps) i e).size ≡ length (get_or ps i d).bytes
-entry-size a end [] i d e lt = absurd (omega (arith, lt))
-entry-size a end (p ∷ ps) zero d e lt = refl
-entry-size a end (p ∷ ps) (suc i) d e lt = entry-size a (next_multiple_of end a + length p.bytes) ps i d e (omega (arith, lt))
+pub gaps-count : (end : ℕ) (es : List Entry) → length (gaps_from end es) ≡ length es
+gaps-count end [] = refl
+gaps-count end (e ∷ es) = omega (arith, gaps-count (e.offset + e.size) es)
 
--- each payload ends before the package does
-pub packed-inside : (a end : ℕ) (ps : List Part) (i : ℕ) (d : Entry) → i < length (packed_entries a end ps)
-    → (get_or (packed_entries a end ps) i d).offset + (get_or (packed_entries a end ps) i d).size ≤ last_end a end ps
-packed-inside a end [] i d lt = absurd (omega (arith, lt))
-packed-inside a end (p ∷ ps) zero d lt = end-le-last a (next_multiple_of end a + length p.bytes) ps
-packed-inside a end (p ∷ ps) (suc i) d lt = packed-inside a (next_multiple_of end a + length p.bytes) ps i d (omega (arith, lt))
+pub sizes-cons : (e : Entry) (es : List Entry) → sizes_of (e ∷ es) ≡ e.size + sizes_of es
+sizes-cons e es = sum_by-cons (λ (x : Entry). x.size) e es
 
--- ---- the first payloads
+entries-in-order : (a end : ℕ) (ps : List Part) → AreInOrder end (packed_entries a end ps) (last_end a end ps)
+entries-in-order a end [] = omega arith
+entries-in-order a end (p ∷ ps) = (omega arith, entries-in-order a (next_multiple_of end a + length p.bytes) ps)
 
-first-none : (a end : ℕ) (ps : List Part) → first_payloads a end ps 0 ≡ replicate (next_multiple_of end a - end) 0
-first-none a end [] = refl
-first-none a end (p ∷ ps) = refl
+pub order-room : (at : ℕ) (es : List Entry) (size : ℕ) → AreInOrder at es size → at + sizes_of es ≤ size
+order-room at [] size h = omega (arith, h)
+order-room at (e ∷ es) size h = omega (arith, h.0, order-room (e.offset + e.size) es size h.1, sizes-cons e es)
 
-first-all : (a end : ℕ) (ps : List Part) → first_payloads a end ps (length ps) ≡ payloads a end ps
-first-all a end [] = refl
-first-all a end (p ∷ ps) =
-    let pad : List ℕ = replicate (next_multiple_of end a - end) 0 in
-    ap (λ (xs : List ℕ). pad ++ p.bytes ++ xs) (first-all a (next_multiple_of end a + length p.bytes) ps)
+order-ends : (at : ℕ) (es : List Entry) (size big : ℕ) → size ≤ big → AreInOrder at es size → AreInOrder at es big
+order-ends at [] size big le h = omega (arith, le, h)
+order-ends at (e ∷ es) size big le h = (h.0, order-ends (e.offset + e.size) es size big le h.1)
 
--- one more
-first-next : (a end : ℕ) (ps : List Part) (i : ℕ) (d : Part) → i < length ps
-    → first_payloads a end ps (suc i)
-    ≡ first_payloads a end ps i ++ ((get_or ps i d).bytes ++ replicate (place_in a end ps (suc i) - (place_in a end ps i + length (get_or ps i d).bytes)) 0)
-first-next a end [] i d lt = absurd (omega (arith, lt))
-first-next a end (p ∷ ps) zero d lt =
-    let next = next_multiple_of end a + length p.bytes in
-    let pad : List ℕ = replicate (next_multiple_of end a - end) 0 in
-    append_assoc pad p.bytes (first_payloads a next ps 0)
-    ∙ ap (λ (xs : List ℕ). pad ++ (p.bytes ++ xs)) (first-none a next ps ∙ ap (λ (n : ℕ). replicate (n - next) 0) (sym (place-first a next ps)))
-first-next a end (p ∷ ps) (suc i) d lt =
-    let next = next_multiple_of end a + length p.bytes in
-    let pad : List ℕ = replicate (next_multiple_of end a - end) 0 in
-    let more : List ℕ = (get_or ps i d).bytes ++ replicate (place_in a next ps (suc i) - (place_in a next ps i + length (get_or ps i d).bytes)) 0 in
-    ap (λ (xs : List ℕ). (pad ++ p.bytes) ++ xs) (first-next a next ps i d (omega (arith, lt)))
-    ∙ sym (append_assoc (pad ++ p.bytes) (first_payloads a next ps i) more)
+order-begins : (low at : ℕ) (es : List Entry) (size : ℕ) → low ≤ at → AreInOrder at es size → AreInOrder low es size
+order-begins low at [] size le h = omega (arith, le, h)
+order-begins low at (e ∷ es) size le h = (omega (arith, le, h.0), h.1)
 
--- bytes that are not too many go on with zeros
-up-to : (n : ℕ) (bytes : List ℕ) → length bytes ≤ n → up_to n bytes ≡ bytes ++ replicate (n - length bytes) 0
-up-to n bytes le = ap (λ (xs : List ℕ). xs ++ replicate (n - length bytes) 0) (take_all n bytes le)
-
--- ---- a frame
-
--- the header and the table of a package
-abbrev headed : ℕ → ℕ → List Part → ℕ → List ℕ
-headed serial flags parts a = le 4 fip_name ++ le 4 serial ++ le 8 flags ++ table_bytes a (table_end parts) parts
-
--- the next part is put in
-pub frame-fills : (old new : Filling) (b : List ℕ) → old.count < length old.entries → length old.bytes ≡ place old.entries old.size old.count
-    → new.bytes ≡ up_to (place old.entries old.size (old.count + 1)) (old.bytes ++ b) → new.entries ≡ old.entries → new.size ≡ old.size → new.count ≡ old.count + 1 → Fills old new b
-frame-fills old new b lt long bytes entries size count = record {
-  entries = entries;
-  size = size;
-  count = count;
-  filled = λ serial flags parts a h is.
-      let i = old.count in
-      let d : Part = record { guid = []; flags = 0; bytes = [] } in
-      let end = table_end parts in
-      let head : List ℕ = headed serial flags parts a in
-      let before : List ℕ = first_payloads a end parts i in
-      let within : i < length parts = omega (arith, lt, ap length h.entries, entries-count a end parts) in
-      let at : (k : ℕ) → place old.entries old.size k ≡ place_in a end parts k =
-      λ k. ap (λ (es : List Entry). place es old.size k) h.entries ∙ ap (λ (n : ℕ). place (packed_entries a end parts) n k) h.size in
-      let next : place old.entries old.size (i + 1) ≡ place_in a end parts (suc i) = at (i + 1) ∙ ap (place_in a end parts) (add-one i) in
-      let size-is : length (get_or parts i d).bytes ≡ length b = ap length is in
-      let so-far : length (old.bytes ++ b) ≡ place_in a end parts i + length b = omega (arith, length-append old.bytes b, long, at i) in
-      let room : length (old.bytes ++ b) ≤ place_in a end parts (suc i) = omega (arith, so-far, place-order a end parts i d within, size-is) in
-      let zeros : List ℕ = replicate (place_in a end parts (suc i) - (place_in a end parts i + length b)) 0 in
-      let whole : new.bytes ≡ (old.bytes ++ b) ++ zeros =
-      bytes ∙ ap (λ (n : ℕ). up_to n (old.bytes ++ b)) next ∙ up-to (place_in a end parts (suc i)) (old.bytes ++ b) room
-      ∙ ap (λ (n : ℕ). (old.bytes ++ b) ++ replicate (place_in a end parts (suc i) - n) 0) so-far in
-      let more : first_payloads a end parts (suc i) ≡ before ++ (b ++ zeros) =
-      first-next a end parts i d within
-      ∙ ap (λ (xs : List ℕ). before ++ (xs ++ replicate (place_in a end parts (suc i) - (place_in a end parts i + length xs)) 0)) is in record {
-        bytes = whole
-            ∙ append_assoc old.bytes b zeros ∙ ap (λ (xs : List ℕ). xs ++ (b ++ zeros)) h.bytes ∙ append_assoc head before (b ++ zeros)
-            ∙ ap (λ (xs : List ℕ). head ++ xs) (sym more) ∙ ap (λ (n : ℕ). head ++ first_payloads a end parts n) (sym (add-one i) ∙ sym count);
-        entries = entries ∙ h.entries;
-        size = size ∙ h.size;
-        sixteen = h.sixteen;
-      };
-}
-
--- none is in yet
-pub frame-begins : (f : Filling) (serial flags : ℕ) (os : List Part) (a : ℕ) → AreOutlines os → f.count ≡ 0 → f.entries ≡ packed_entries a (table_end os) os → f.size ≡ last_end a (table_end os) os
-    → f.bytes ≡ up_to (place_in a (table_end os) os 0) (tabled serial flags (packed_entries a (table_end os) os) (last_end a (table_end os) os))
-    → (parts : List Part) → map zeroed parts ≡ os → IsFrame f serial flags parts a
-frame-begins f serial flags os a ok none entries size bytes parts same =
+pub planned-in-order : (os : List Part) (a : ℕ) (es : List Entry) (size : ℕ) → es ≡ packed_entries a (table_end os) os → size ≡ last_end a (table_end os) os → size ≤ 67108864
+    → AreInOrder 0 es 67108864
+planned-in-order os a es size entries last small =
     let end = table_end os in
-    let head : List ℕ = headed serial flags os a in
-    let sixteen = outlines-sixteen os ok in
-    let numbers : List ℕ = le 4 fip_name ++ le 4 serial ++ le 8 flags in
-    let spelled : tabled serial flags (packed_entries a end os) (last_end a end os) ≡ head =
-    append_assoc numbers (flat_map entry_bytes (packed_entries a end os)) (entry_bytes (marker (last_end a end os)))
-    ∙ ap (λ (xs : List ℕ). numbers ++ xs) (sym (table-spelled a end os)) in
-    let long : length head ≡ end = omega (arith, length-append numbers (table_bytes a end os), table-length a end os sixteen) in
-    let first : place_in a end os 0 ≡ next_multiple_of end a = place-first a end os in
-    let begun : f.bytes ≡ head ++ first_payloads a end os 0 =
-    bytes ∙ ap (λ (xs : List ℕ). up_to (place_in a end os 0) xs) spelled ∙ ap (λ (n : ℕ). up_to n head) first ∙ up-to (next_multiple_of end a) head (omega (arith, long))
-    ∙ ap (λ (n : ℕ). head ++ replicate (next_multiple_of end a - n) 0) long ∙ ap (λ (xs : List ℕ). head ++ xs) (sym (first-none a end os)) in
-    let ends : table_end os ≡ table_end parts = ap (λ (n : ℕ). 16 + 40 * (n + 1)) (ap length (sym same) ∙ length-zeroed parts) in
-    let other : ℕ → List Part → List ℕ = λ n ps. numbers ++ table_bytes a n ps in record {
-      bytes = begun
-          ∙ ap (λ (xs : List ℕ). head ++ xs) (first-none a end os)
-          ∙ ap (λ (ps : List Part). other end ps ++ replicate (next_multiple_of end a - end) 0) (sym same)
-          ∙ ap (λ (xs : List ℕ). (numbers ++ xs) ++ replicate (next_multiple_of end a - end) 0) (same-table a end parts)
-          ∙ ap (λ (n : ℕ). other n parts ++ replicate (next_multiple_of n a - n) 0) ends
-          ∙ ap (λ (xs : List ℕ). other (table_end parts) parts ++ xs) (sym (first-none a (table_end parts) parts))
-          ∙ ap (λ (n : ℕ). other (table_end parts) parts ++ first_payloads a (table_end parts) parts n) (sym none);
-      entries = entries ∙ ap (packed_entries a end) (sym same) ∙ same-entries a end parts ∙ ap (λ (n : ℕ). packed_entries a n parts) ends;
-      size = size ∙ ap (last_end a end) (sym same) ∙ same-end a end parts ∙ ap (λ (n : ℕ). last_end a n parts) ends;
-      sixteen = sixteen-zeroed parts (subst AreSixteen (sym same) sixteen);
-    }
+    subst (λ (xs : List Entry). AreInOrder 0 xs 67108864) (sym entries)
+    (order-ends 0 (packed_entries a end os) (last_end a end os) 67108864 (omega (arith, last, small))
+    (order-begins 0 end (packed_entries a end os) (last_end a end os) (omega arith) (entries-in-order a end os)))
 
--- all are in
-pub frame-ends : (f : Filling) (bytes : List ℕ) → bytes ≡ f.bytes → f.count ≡ length f.entries → (serial flags : ℕ) (parts : List Part) (a : ℕ) → IsFrame f serial flags parts a → bytes ≡ packed serial flags parts a
-unfolding packed
-frame-ends f bytes is whole serial flags parts a h =
-    let head : List ℕ = headed serial flags parts a in
-    let all : f.count ≡ length parts = omega (arith, whole, ap length h.entries, entries-count a (table_end parts) parts) in
-    is ∙ h.bytes ∙ ap (λ (n : ℕ). head ++ first_payloads a (table_end parts) parts n) all
-    ∙ ap (λ (xs : List ℕ). head ++ xs) (first-all a (table_end parts) parts)
+pub planned-room : (os : List Part) (a : ℕ) (es : List Entry) (size : ℕ) → es ≡ packed_entries a (table_end os) os → size ≡ last_end a (table_end os) os
+    → table_end os + sizes_of es ≤ size
+planned-room os a es size entries last =
+    let end = table_end os in
+    omega (arith, last, ap sizes_of entries, order-room end (packed_entries a end os) (last_end a end os) (entries-in-order a end os))
 
--- the next place lies in the package
-pub place-within : (entries : List Entry) (size i : ℕ) → AreInside entries size → place entries size i ≤ size
-place-within entries size i inside = by (nat_lt i (length entries)) refl
+-- ---- what the loops keep
+
+-- the first gaps are found, and the next one begins at end
+pub record HasGaps (entries : List Entry) (gaps : List ℕ) (end at : ℕ) : Type 0 where
+  pub found : gaps ++ gaps_from end (drop at entries) ≡ gaps_from 0 entries
+  pub order : AreInOrder end (drop at entries) 67108864
+
+pub next-ends : (es : List Entry) (end i : ℕ) (e : Entry) → i < length es → e ≡ get_or es i e → AreInOrder end (drop i es) 67108864 → e.offset + e.size ≤ 67108864
+next-ends es end i e lt is order =
+    let rest = drop (i + 1) es in
+    let split : drop i es ≡ e ∷ rest = drop_more es i e lt ∙ ap (λ (x : Entry). x ∷ rest) (sym is) in
+    let more : AreInOrder end (e ∷ rest) 67108864 = subst (λ (xs : List Entry). AreInOrder end xs 67108864) split order in
+    omega (arith, order-room (e.offset + e.size) rest 67108864 more.1)
+
+-- the first payloads are in, with what is left of the frame
+abbrev pub AreFilled : List ℕ → List ℕ → List Part → List ℕ → List ℕ → ℕ → Type 0
+AreFilled frame gaps parts bytes left i = bytes ++ joined left (chunks (drop i gaps) (drop i parts)) ≡ joined frame (chunks gaps parts)
+
+pub next-filled : (frame gaps : List ℕ) (parts : List Part) (bytes more left rest : List ℕ) (i g : ℕ) (p : Part)
+    → i < length gaps → i < length parts → g ≡ get_or gaps i g → p ≡ get_or parts i p
+    → more ≡ bytes ++ (take g left ++ p.bytes) → rest ≡ drop g left
+    → AreFilled frame gaps parts bytes left i → AreFilled frame gaps parts more rest (i + 1)
+next-filled frame gaps parts bytes more left rest i g p lt below gap is added cut before =
+    let cs = chunks (drop (i + 1) gaps) (drop (i + 1) parts) in
+    let behind = joined (drop g left) cs in
+    let gs : drop i gaps ≡ g ∷ drop (i + 1) gaps = drop_more gaps i g lt ∙ ap (λ (x : ℕ). x ∷ drop (i + 1) gaps) (sym gap) in
+    let ps : drop i parts ≡ p ∷ drop (i + 1) parts = drop_more parts i p below ∙ ap (λ (x : Part). x ∷ drop (i + 1) parts) (sym is) in
+    let here : bytes ++ joined left (chunks (drop i gaps) (drop i parts)) ≡ bytes ++ (take g left ++ (p.bytes ++ behind)) =
+    ap (λ (xs : List ℕ). bytes ++ joined left (chunks xs (drop i parts))) gs ∙ ap (λ (xs : List Part). bytes ++ joined left (chunks (g ∷ drop (i + 1) gaps) xs)) ps in
+    ap (λ (l : List ℕ). more ++ joined l cs) cut
+    ∙ ap (λ (l : List ℕ). l ++ behind) added
+    ∙ append_assoc bytes (take g left ++ p.bytes) behind
+    ∙ ap (λ (l : List ℕ). bytes ++ l) (append_assoc (take g left) p.bytes behind)
+    ∙ sym here ∙ before
+
+chunks-none : (gaps : List ℕ) → chunks gaps [] ≡ []
+chunks-none [] = refl
+chunks-none (g ∷ gs) = refl
+
+filled-without-gaps : (frame gaps : List ℕ) (parts : List Part) (bytes left : List ℕ) (i : ℕ) → length gaps ≤ i
+    → AreFilled frame gaps parts bytes left i → bytes ++ left ≡ joined frame (chunks gaps parts)
+filled-without-gaps frame gaps parts bytes left i le before =
+    ap (λ (xs : List ℕ). bytes ++ joined left (chunks xs (drop i parts))) (sym (drop_all i gaps le)) ∙ before
+
+filled-without-parts : (frame gaps : List ℕ) (parts : List Part) (bytes left : List ℕ) (i : ℕ) → length parts ≤ i
+    → AreFilled frame gaps parts bytes left i → bytes ++ left ≡ joined frame (chunks gaps parts)
+filled-without-parts frame gaps parts bytes left i le before =
+    ap (λ (cs : List Chunk). bytes ++ joined left cs) (sym (chunks-none (drop i gaps)))
+    ∙ ap (λ (ps : List Part). bytes ++ joined left (chunks (drop i gaps) ps)) (sym (drop_all i parts le)) ∙ before
+
+pub all-filled : (frame gaps : List ℕ) (parts : List Part) (bytes left : List ℕ) (i : ℕ) → min (length gaps) (length parts) ≤ i
+    → AreFilled frame gaps parts bytes left i → bytes ++ left ≡ joined frame (chunks gaps parts)
+all-filled frame gaps parts bytes left i le before = by (nat_lt i (length gaps)) refl
   where
-    by : (b : Bool) → nat_lt i (length entries) ≡ b → place entries size i ≤ size
-    by true e = omega (arith, inside i (marker size) (ltb-true i (length entries) e))
-    by false e =
-        let past : get_or entries i (marker size) ≡ marker size = get_or_past entries i (marker size) (ltb-false i (length entries) e) in
-        omega (arith, ap (λ (x : Entry). x.offset) past)
+    by : (b : Bool) → nat_lt i (length gaps) ≡ b → bytes ++ left ≡ joined frame (chunks gaps parts)
+    by true e = filled-without-parts frame gaps parts bytes left i (let lt = ltb-true i (length gaps) e in omega (arith, lt, le)) before
+    by false e = filled-without-gaps frame gaps parts bytes left i (ltb-false i (length gaps) e) before
 
--- the next payload has room
-pub room-for : (f : Filling) (len n cap : ℕ) → f.count < length f.entries → len ≡ place f.entries f.size f.count → f.size ≤ cap → AreInside f.entries f.size → n ≡ (next_entry f).size → len + n ≤ cap
-room-for f len n cap lt long room inside same = omega (arith, long, room, same, inside f.count (marker f.size) lt)
+-- ---- the frame of a package
 
-pub length-up_to : (n : ℕ) (xs : List ℕ) → length (up_to n xs) ≡ n
-length-up_to n xs = omega (arith, length-append (take n xs) (replicate (n - length xs) 0), length-take n xs, length-replicate {A = ℕ} (n - length xs) 0)
+-- bytes that stand before the first payload stand before all
+front-joined : (head rest : List ℕ) (es : List Entry) (ps : List Part) (size : ℕ) → AreInOrder (length head) es size
+    → joined (head ++ rest) (chunks (gaps_from 0 es) ps) ≡ head ++ joined rest (chunks (gaps_from (length head) es) ps)
+front-joined head rest [] ps size h = refl
+front-joined head rest (e ∷ es) [] size h = refl
+front-joined head rest (e ∷ es) (p ∷ ps) size h =
+    let g = e.offset - length head in
+    let cs = chunks (gaps_from (e.offset + e.size) es) ps in
+    let split : e.offset - 0 ≡ length head + g = omega (arith, h.0) in
+    ap (λ (n : ℕ). take n (head ++ rest) ++ (p.bytes ++ joined (drop n (head ++ rest)) cs)) split
+    ∙ ap (λ (l : List ℕ). l ++ (p.bytes ++ joined (drop (length head + g) (head ++ rest)) cs)) (take-append-add head rest g)
+    ∙ ap (λ (l : List ℕ). (head ++ take g rest) ++ (p.bytes ++ joined l cs)) (drop-append-add head rest g)
+    ∙ append_assoc head (take g rest) (p.bytes ++ joined (drop g rest) cs)
 
--- the entry that is read of a list is the next one
-pub entry-read : (f : Filling) (entries slice : List Entry) (i : ℕ) (e : Entry) → slice ≡ entries → entries ≡ f.entries → i ≡ f.count → f.count < length f.entries → e ≡ get_or slice i e → e.size ≡ (next_entry f).size
-entry-read f entries slice i e same whole at lt is =
-    ap (λ (x : Entry). x.size)
-    (is ∙ ap (λ (es : List Entry). get_or es i e) (same ∙ whole) ∙ ap (λ (n : ℕ). get_or f.entries n e) at ∙ get_or_default f.entries f.count e (marker f.size) lt)
+-- zeros with payloads between them
+zeros-joined : (a end zeros : ℕ) (ps : List Part) → end + zeros + sizes_of (packed_entries a end ps) ≡ last_end a end ps
+    → joined (replicate zeros 0) (chunks (gaps_from end (packed_entries a end ps)) ps) ≡ payloads a end ps
+zeros-joined a end zeros [] all = ap (λ (n : ℕ). replicate n 0) (let e : zeros ≡ next_multiple_of end a - end = omega (arith, all) in e)
+zeros-joined a end zeros (p ∷ ps) all =
+    let offset = next_multiple_of end a in
+    let next = offset + length p.bytes in
+    let g = offset - end in
+    let es = packed_entries a next ps in
+    let cs = chunks (gaps_from next es) ps in
+    let e : Entry = record { guid = p.guid; offset = offset; size = length p.bytes; flags = p.flags } in
+    let room = order-room next es (last_end a next ps) (entries-in-order a next ps) in
+    let more : sizes_of (e ∷ es) ≡ length p.bytes + sizes_of es = sizes-cons e es in
+    let enough : g ≤ zeros = omega (arith, all, room, more) in
+    ap (λ (l : List ℕ). l ++ (p.bytes ++ joined (drop g (replicate zeros 0)) cs)) (take-replicate g zeros 0 enough)
+    ∙ ap (λ (l : List ℕ). replicate g 0 ++ (p.bytes ++ joined l cs)) (drop-replicate g zeros 0)
+    ∙ ap (λ (l : List ℕ). replicate g 0 ++ (p.bytes ++ l)) (zeros-joined a next (zeros - g) ps (omega (arith, all, room, more)))
+    ∙ sym (append_assoc (replicate g 0) p.bytes (payloads a next ps))
+
+-- the frame of these parts, by their entries and the package's end
+abbrev framed : ℕ → ℕ → List Entry → ℕ → List ℕ
+framed serial flags es last = up_to (last - sizes_of es) (tabled serial flags es last)
+
+parts-joined : (serial flags : ℕ) (ps : List Part) (a : ℕ) → AreSixteen ps
+    → joined (framed serial flags (packed_entries a (table_end ps) ps) (last_end a (table_end ps) ps)) (chunks (gaps_from 0 (packed_entries a (table_end ps) ps)) ps)
+    ≡ packed serial flags ps a
+unfolding packed
+parts-joined serial flags ps a sixteen =
+    let end = table_end ps in
+    let es = packed_entries a end ps in
+    let last = last_end a end ps in
+    let numbers : List ℕ = le 4 fip_name ++ le 4 serial ++ le 8 flags in
+    let head : List ℕ = numbers ++ table_bytes a end ps in
+    let cs = chunks (gaps_from 0 es) ps in
+    let order = entries-in-order a end ps in
+    let room = order-room end es last order in
+    let spelled : tabled serial flags es last ≡ head =
+    append_assoc numbers (flat_map entry_bytes es) (entry_bytes (marker last)) ∙ ap (λ (xs : List ℕ). numbers ++ xs) (sym (table-spelled a end ps)) in
+    let long : length head ≡ end = omega (arith, length-append numbers (table_bytes a end ps), table-length a end ps sixteen) in
+    let zeros = last - sizes_of es - length head in
+    ap (λ (xs : List ℕ). joined (up_to (last - sizes_of es) xs) cs) spelled
+    ∙ ap (λ (xs : List ℕ). joined (xs ++ replicate zeros 0) cs) (take_all (last - sizes_of es) head (omega (arith, room, long)))
+    ∙ front-joined head (replicate zeros 0) es ps last (subst (λ (n : ℕ). AreInOrder n es last) (sym long) order)
+    ∙ ap (λ (n : ℕ). head ++ joined (replicate zeros 0) (chunks (gaps_from n es) ps)) long
+    ∙ ap (λ (xs : List ℕ). head ++ xs) (zeros-joined a end zeros ps (omega (arith, room, long)))
+
+-- ---- the frame of outlines
+
+ends-alike : (os parts : List Part) → map zeroed parts ≡ os → table_end os ≡ table_end parts
+ends-alike os parts same = ap (λ (n : ℕ). 16 + 40 * (n + 1)) (ap length (sym same) ∙ length-zeroed parts)
+
+entries-alike : (os parts : List Part) (a : ℕ) → map zeroed parts ≡ os → packed_entries a (table_end os) os ≡ packed_entries a (table_end parts) parts
+entries-alike os parts a same =
+    ap (packed_entries a (table_end os)) (sym same) ∙ same-entries a (table_end os) parts ∙ ap (λ (n : ℕ). packed_entries a n parts) (ends-alike os parts same)
+
+last-alike : (os parts : List Part) (a : ℕ) → map zeroed parts ≡ os → last_end a (table_end os) os ≡ last_end a (table_end parts) parts
+last-alike os parts a same =
+    ap (last_end a (table_end os)) (sym same) ∙ same-end a (table_end os) parts ∙ ap (λ (n : ℕ). last_end a n parts) (ends-alike os parts same)
+
+sixteen-of : (os parts : List Part) → AreOutlines os → map zeroed parts ≡ os → AreSixteen parts
+sixteen-of os parts ok same = sixteen-zeroed parts (subst AreSixteen (sym same) (outlines-sixteen os ok))
+
+pub frame-joined : (serial flags : ℕ) (os : List Part) (a : ℕ) (bytes gaps : List ℕ) (es : List Entry) (size : ℕ) → AreOutlines os
+    → es ≡ packed_entries a (table_end os) os → size ≡ last_end a (table_end os) os
+    → bytes ≡ up_to (size - sizes_of es) (tabled serial flags es size) → gaps ≡ gaps_from 0 es
+    → (parts : List Part) → map zeroed parts ≡ os → joined bytes (chunks gaps parts) ≡ packed serial flags parts a
+frame-joined serial flags os a bytes gaps es size ok entries last made found parts same =
+    let all = packed_entries a (table_end parts) parts in
+    ap (λ (xs : List ℕ). joined xs (chunks gaps parts)) made
+    ∙ ap (λ (xs : List ℕ). joined (framed serial flags es size) (chunks xs parts)) found
+    ∙ ap (λ (xs : List Entry). joined (framed serial flags xs size) (chunks (gaps_from 0 xs) parts)) (entries ∙ entries-alike os parts a same)
+    ∙ ap (λ (n : ℕ). joined (framed serial flags all n) (chunks (gaps_from 0 all) parts)) (last ∙ last-alike os parts a same)
+    ∙ parts-joined serial flags parts a (sixteen-of os parts ok same)
+
+pub frame-size : (serial flags : ℕ) (os : List Part) (a size : ℕ) → AreOutlines os → size ≡ last_end a (table_end os) os
+    → (parts : List Part) → map zeroed parts ≡ os → size ≡ length (packed serial flags parts a)
+frame-size serial flags os a size ok last parts same = last ∙ last-alike os parts a same ∙ sym (packed-length serial flags parts a (sixteen-of os parts ok same))

@@ -8,7 +8,7 @@ ghost use Rattle.fip_tables.specs.declared.faults.PackFault.{PackFault};
 ghost use Rattle.fip_tables.specs.declared.faults.PackStop.TheVariants as stop;
 
 use crate::faults::PackStop;
-use crate::frame::Frame;
+use crate::frame::package_frame;
 use crate::outline::Outline;
 use base_core::Guid;
 use std::alloc::{AllocError, Global};
@@ -68,9 +68,6 @@ pub fn pack(alloc: Global, parts: &Parts, align: u32) -> Result<Vec<u8>, PackSto
     ensures err { (f : PackFault) → result ≡ Err (stop.Fault f) → pack_fault parts.now.parts.items align ≡ Some f }
 {
     let all = outlines(alloc, parts.parts.as_slice())?;
-    let mut frame = Frame::new(alloc, parts.serial, parts.flags, all.as_slice(), align)?;
-    for part in parts.parts.as_slice() {
-        frame.put(part.bytes.as_slice());
-    }
-    Ok(frame.into_bytes())
+    let frame = package_frame(alloc, parts.serial, parts.flags, all.as_slice(), align)?;
+    Ok(frame.filled(alloc, parts.parts.as_slice())?)
 }

@@ -10,10 +10,12 @@ use Rattle.fwu_formats.specs.declared.kinds.CapsuleFault.{CapsuleFault}
 use Rattle.capsule_tables.specs.declared.faults.CapsuleStop.{CapsuleStop}
 use Rattle.capsule_tables.specs.declared.faults.CapsuleStop.TheVariants as read_stop
 use Rattle.capsule_tables.proofs.Within.{ends-within}
+use Rattle.fip_tool.specs.Payloads.{HasEntry}
 use Rattle.fip_tool.specs.Steps.{Gives}
 use Rattle.fip_tool.specs.Tool.{after, capsule_in, capsule_stopped_by, capsule_table, capsule_value, enclose_value, kept_part, pack_value, repackage_value, there}
 use Rattle.fip_tool.specs.declared.stops.Stop.{Stop}
 use Rattle.fip_tool.specs.declared.stops.Stop.TheVariants as stop
+use Rattle.fip_tool.proofs.Packings.{entries-there}
 use Rattle.fip_tool.proofs.Repacking.{IsOpened, going-on, stopped, table_with}
 
 -- ---- the table of a capsule in a file
@@ -109,6 +111,10 @@ capsule-there o (Some d) name toc same knows lacks =
     let s = opened-capsule d name toc (knows d (sym same)) in
     let both : ◌≡◌ {A = Option (List ℕ)} (Some s.bytes) None = sym s.is ∙ lacks in
     cc
+
+-- each item's payload is there
+pub has-items : (o p : Option Directory) (name : List ℕ) (toc : Toc) → p ≡ o → ((told : Directory) → o ≡ Some told → table_in told name ≡ Ok toc) → All (HasEntry p name) toc.entries
+has-items o p name toc same knows = entries-there p name toc.entries (capsule-there o p name toc same knows) (capsule-stored o p name toc same knows)
 
 -- ---- what is made of it
 

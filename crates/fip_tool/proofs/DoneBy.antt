@@ -1,6 +1,6 @@
 -- What is done for what the words ask for, from what a command did.
 use Rattle.std.proofs.Common.{◌≡◌, ◌≤◌, inl, inr, ℕ, List, [], Option, Some, None, Result, Err, refl, sym, ap, subst, ◌∙◌, arith}
-use Rattle.std.specs.Prelude.{IsTrue}
+use Rattle.std.specs.Prelude.{IfErr, IsTrue}
 use Rattle.std.proofs.KnownBytes.{Appends-nil, Consumes-nil}
 use Rattle.std.proofs.lemmas.Bool.{false≢true}
 use Rattle.base_core.specs.Counts.{Rose}
@@ -11,7 +11,9 @@ use Rattle.fip_tool.proofs.Did.{are-told}
 use Rattle.fip_tool.proofs.FileFaults.{faults-none}
 use Rattle.fip_tool.proofs.SourceLemmas.{nothing-read}
 use Rattle.fip_tool.proofs.WroteLemmas.{wrote-none}
+use Rattle.fip_tool.proofs.Refusing.{memory-may}
 use Rattle.fip_tool.specs.Done.{Done}
+use Rattle.fip_tool.specs.Refusals.{MayRefuse}
 use Rattle.fip_tool.specs.Said.{IsTexts, Says}
 use Rattle.fip_tool.specs.Steps.{Did, FaultsOnce, sink_failures, source_failures}
 use Rattle.fip_tool.specs.Tool.{ReadSource, asks_files, command_outcome}
@@ -31,14 +33,16 @@ module _ {H I O : Type 0} {contents : H → Option Directory} {file_faults : H �
       → WroteFor (Some one) (taken sink) (taken sink_after) (writes files).done (writes files_after).done result
       → sink_faults sink ≤ sink_faults sink_after
       → sink_faults sink_after ≡ sink_failures result (sink_faults sink)
+      → IfErr result (MayRefuse (Some one))
       → Done contents file_faults writes left source_faults taken sink_faults asked result files files_after source source sink sink_after
-  done-with-files {result = result} {files = files} {files_after = files_after} {source = source} {sink = sink} {sink_after = sink_after} one is asks did says cause usage faults wrote later count =
+  done-with-files {result = result} {files = files} {files_after = files_after} {source = source} {sink = sink} {sink_after = sink_after} one is asks did says cause usage faults wrote later count refusals =
       subst (λ (a : Option Asked). Done contents file_faults writes left source_faults taken sink_faults a result files files_after source source sink sink_after) (sym is) (record {
         told = λ told e other. did told e;
         source = λ same. absurd (false≢true (sym (ap asks_files same) ∙ asks));
         says = says;
         words = λ none. absurd cc;
         usage = λ e. absurd (usage e);
+        refusals = refusals;
         source_stays = λ other. (refl, refl);
         source_count = λ same. absurd (false≢true (sym (ap asks_files same) ∙ asks));
         files_stay = λ stays. absurd (false≢true (sym stays ∙ asks));
@@ -58,14 +62,16 @@ module _ {H I O : Type 0} {contents : H → Option Directory} {file_faults : H �
       → sink_faults sink ≤ sink_faults sink_after
       → source_faults source_after ≡ source_failures result (source_faults source)
       → sink_faults sink_after ≡ sink_failures result (sink_faults sink)
+      → IfErr result (MayRefuse (Some info_of_source))
       → Done contents file_faults writes left source_faults taken sink_faults asked result files files source source_after sink sink_after
-  done-of-source {result = result} {files = files} {source = source} {source_after = source_after} {sink = sink} {sink_after = sink_after} is read says cause usage later source_count sink_count =
+  done-of-source {result = result} {files = files} {source = source} {source_after = source_after} {sink = sink} {sink_after = sink_after} is read says cause usage later source_count sink_count refusals =
       subst (λ (a : Option Asked). Done contents file_faults writes left source_faults taken sink_faults a result files files source source_after sink sink_after) (sym is) (record {
         told = λ told e other. absurd (other refl);
         source = λ same. read;
         says = says;
         words = λ none. absurd cc;
         usage = λ e. absurd (usage e);
+        refusals = refusals;
         source_stays = λ other. absurd (other refl);
         source_count = λ same. source_count;
         files_stay = λ stays. refl;
@@ -84,6 +90,7 @@ module _ {H I O : Type 0} {contents : H → Option Directory} {file_faults : H �
       says = refl;
       words = λ unasked. inl refl;
       usage = λ e. refl;
+      refusals = tt;
       source_stays = λ other. (refl, refl);
       source_count = λ same. absurd cc;
       files_stay = λ stays. refl;
@@ -102,6 +109,7 @@ module _ {H I O : Type 0} {contents : H → Option Directory} {file_faults : H �
       says = ([], inl refl, Appends-nil _);
       words = λ none. inr refl;
       usage = λ e. absurd cc;
+      refusals = memory-may asked;
       source_stays = λ other. (refl, refl);
       source_count = λ same. refl;
       files_stay = λ stays. refl;

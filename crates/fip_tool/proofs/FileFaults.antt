@@ -6,7 +6,6 @@ use Rattle.host_io.specs.Contents.{Directory}
 use Rattle.fip_tool.proofs.SourceFaults.{by-number}
 use Rattle.fip_tool.specs.Ends.{Reported, status_number}
 use Rattle.fip_tool.specs.Steps.{FailsAtMostOnce, FaultsOnce, NoneFailed, ReadsOnly, source_failed}
-use Rattle.std.specs.Io.KnownBytes.{Appends}
 use Rattle.std.proofs.KnownBytes.{Appends-trans}
 use Rattle.fip_words.specs.Order.{Asked}
 use Rattle.fip_tool.specs.Said.{IsTextsOf, Says, SinkAlone}

@@ -10,11 +10,13 @@ pub mod ManifestLemmas
 pub mod Packings
 pub mod PartLemmas
 pub mod ReadsBy
+pub mod Refusing
 pub mod Repacking
 pub mod SinkFaults
 pub mod SourceEnds
 pub mod SourceFaults
 pub mod SourceLemmas
+pub mod Stopped
 pub mod Tables
 pub mod Texts
 pub mod UnpackLemmas
@@ -24,3 +26,4 @@ pub mod UsageEnds
 pub mod Whole
 pub mod WritingLemmas
 pub mod WroteLemmas
+pub mod Makings

@@ -1,18 +1,15 @@
--- Payloads that are read straight to their places in a package.
+-- Payloads of packages that are made.
 use Rattle.std.proofs.Common.{◌≡◌, ◌<◌, ◌≤◌, ◌+◌, ℕ, zero, suc, List, [], ◌∷◌, ◌++◌, Bool, true, false, Option, Some, None, Ok, Err, get_or, length, map, take, drop, replicate, cond, option_map, unwrap_or, arith, refl, sym, ap, subst, ◌∙◌}
 use Rattle.std.specs.Prelude.{find}
 use Rattle.std.specs.List.{All}
-use Rattle.std.proofs.lemmas.List.{get_or-map, length-drop, length-map, length-replicate, length-take-le, map-append, take_all}
-use Rattle.std.proofs.lemmas.List.Elements.{All-append, All-get_or}
+use Rattle.std.proofs.lemmas.List.{length-drop, length-map, length-take-le, map-append, take_all}
+use Rattle.std.proofs.lemmas.List.Elements.{All-append}
 use Rattle.base_core.specs.Bytes.{same_bytes}
 use Rattle.host_io.specs.Contents.{Directory, HasRange}
-use Rattle.fwu_formats.specs.Package.{Entry, Part, packed, packed_entries, payload}
+use Rattle.fwu_formats.specs.Package.{Entry, Part, packed, payload}
 use Rattle.fip_tables.specs.Files.{Lacks, Tells}
-use Rattle.fip_tables.specs.Frame.{Filling, FillsFrom, IsFrame, marker, next_entry, table_end}
-use Rattle.fip_tables.specs.Packing.{pack_fault, part_at, zeroed}
+use Rattle.fip_tables.specs.Packing.{pack_fault, zeroed}
 use Rattle.fip_tables.specs.declared.faults.PackFault.{PackFault}
-use Rattle.fip_tables.proofs.Filled.{entry-size}
-use Rattle.fip_tables.proofs.Told.{range_is}
 use Rattle.fip_tables.proofs.Zeros.{zeros-decide}
 use Rattle.fip_words.specs.Order.{part_view}
 use Rattle.fip_words.specs.declared.values.FileWord.{FileWord}
@@ -23,7 +20,7 @@ use Rattle.fip_tool.specs.declared.payloads.Payload.{Payload}
 use Rattle.fip_tool.specs.declared.stops.Stop.{Stop}
 use Rattle.fip_tool.specs.declared.stops.Stop.TheVariants as stop
 use Rattle.fip_tool.proofs.PartLemmas.{more-at, packs-fault, packs-ok}
-use Rattle.fip_tool.proofs.Tables.{gives-err, sized, tells}
+use Rattle.fip_tool.proofs.Tables.{gives-err, sized}
 
 -- ---- a named file
 
@@ -193,49 +190,7 @@ packing-refused F view late serial flags a ps os s same g = gives-err (nothing {
     so : fit_value os a ≡ Err s → pack_value serial flags ps a ≡ Err s
     so h = go (pack_fault ps a) refl (ap (λ (o : Option PackFault). unless_fault {X = Unit {0}} o tt) (sym same-fault) ∙ h)
 
--- the size of the next payload
-pub next-size : (f : Filling) (a i : ℕ) (ps : List Payload) (p : Payload) → f.entries ≡ packed_entries a (table_end (map outline_of ps)) (map outline_of ps) → f.count ≡ i → i < length ps → p ≡ get_or ps i p → (next_entry f).size ≡ p.size
-next-size f a i ps p entries count lt is =
-    let os = map outline_of ps in
-    let within : i < length os = omega (arith, lt, length-map ps outline_of) in
-    ap (λ (es : List Entry). (get_or es f.count (marker f.size)).size) entries ∙ ap (λ (n : ℕ). (get_or (packed_entries a (table_end os) os) n (marker f.size)).size) count
-    ∙ entry-size a (table_end os) os i (outline_of p) (marker f.size) within
-    ∙ ap (λ (o : Part). length o.bytes) (get_or-map outline_of ps i p (outline_of p) lt) ∙ ap (λ (q : Payload). length (replicate {A = ℕ} q.size 0)) (sym is) ∙ length-replicate {A = ℕ} p.size 0
-
-pub next-there : (f : Filling) (a i : ℕ) (ps : List Payload) (p : Payload) (o start : Option Directory) → f.entries ≡ packed_entries a (table_end (map outline_of ps)) (map outline_of ps) → f.count ≡ i → i < length ps → p ≡ get_or ps i p
-    → o ≡ start → All (IsThere start) ps → HasRange o p.file.now p.at (next_entry f).size
-next-there f a i ps p o start entries count lt is same all =
-    let here : IsThere start p = subst (IsThere start) (sym is) (All-get_or (IsThere start) ps i p lt all) in
-    subst (HasRange o p.file.now p.at) (sym (next-size f a i ps p entries count lt is)) (subst (λ (x : Option Directory). HasRange x p.file.now p.at p.size) (sym same) here)
-
--- a payload that was read is the part's
-pub payload-filled : (told : Directory) (o : Option Directory) (f g : Filling) (serial flags a i : ℕ) (ps : List Payload) (p : Payload) → o ≡ Some told → All (IsThere (Some told)) ps
-    → f.entries ≡ packed_entries a (table_end (map outline_of ps)) (map outline_of ps) → f.count ≡ i → i < length ps → p ≡ get_or ps i p → FillsFrom o p.file.now p.at f g
-    → IsFrame f serial flags (map (part_told told) ps) a → IsFrame g serial flags (map (part_told told) ps) a
-payload-filled told o f g serial flags a i ps p e all entries count lt is r h =
-    r.fills.filled serial flags (map (part_told told) ps) a h (here ∙ sym whole)
-  where
-    d : Part
-    d = record { guid = []; flags = 0; bytes = [] }
-
-    there-is : IsThere (Some told) p
-    there-is = subst (IsThere (Some told)) (sym is) (All-get_or (IsThere (Some told)) ps i p lt all)
-
-    here : (part_at (map (part_told told) ps) f.count).bytes ≡ (part_told told p).bytes
-    here = ap (λ (n : ℕ). (get_or (map (part_told told) ps) n d).bytes) count ∙ ap (λ (x : Part). x.bytes) (get_or-map (part_told told) ps i p d lt) ∙ ap (λ (q : Payload). (part_told told q).bytes) (sym is)
-
-    size : length r.bytes ≡ p.size
-    size = r.size ∙ next-size f a i ps p entries count lt is
-
-    by : (b : Option (List ℕ)) → told p.file.now ≡ b → HasRange (Some told) p.file.now p.at p.size → r.bytes ≡ take p.size (drop p.at (unwrap_or b []))
-    by None none room = absurd (rw none at room)
-    by (Some b) some room =
-        range_is o p.file.now p.at r.bytes b (tells o told p.file.now b e some) r.read ∙ ap (λ (n : ℕ). take n (drop p.at b)) size
-
-    whole : r.bytes ≡ (part_told told p).bytes
-    whole = by (told p.file.now) refl there-is
-
--- all were read
+-- all fit
 pub packing-ends : (told : Directory) (serial flags a n : ℕ) (ps : List Payload) (bytes : List ℕ) → n ≡ length ps → pack_fault (map (part_told told) ps) a ≡ None → bytes ≡ packed serial flags (map (part_told told) ps) a
     → pack_value serial flags (map (part_told told) ps) a ≡ Ok (n, bytes)
 packing-ends told serial flags a n ps bytes count fits is = packs-ok serial flags (map (part_told told) ps) a n bytes fits (count ∙ sym (length-map ps (part_told told))) is

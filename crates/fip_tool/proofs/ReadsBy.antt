@@ -9,7 +9,7 @@ use Rattle.fip_tables.specs.declared.toc.TocStop.TheVariants as toc
 use Rattle.capsule_tables.specs.Answers.{HasReadCause as CapsuleCause}
 use Rattle.capsule_tables.specs.declared.faults.CapsuleStop.{CapsuleStop}
 use Rattle.capsule_tables.specs.declared.faults.CapsuleStop.TheVariants as items
-use Rattle.fip_tool.specs.Steps.{Gives, IsLate, ReadsOnly}
+use Rattle.fip_tool.specs.Steps.{AsksNothing, Gives, IsLate, NoneFailed, ReadsOnly}
 use Rattle.fip_tool.specs.Tool.{capsule_stopped_by, stopped_by}
 use Rattle.fip_tool.specs.declared.stops.Stop.{Stop}
 use Rattle.fip_tool.specs.declared.stops.Stop.TheVariants as stop
@@ -70,6 +70,31 @@ module _ {X : Type 0} {told now : Option Directory} {before after : ℕ} where
     usage = λ e. let is : s ≡ stop.Usage = cc in reads.usage (err-same is);
     sink = λ e. let is : s ≡ stop.SinkFault = cc in reads.sink (err-same is);
   }
+
+  -- a last part that asks for nothing
+  pub reads-asked : (result : Result X Stop) → now ≡ told → after ≡ before → AsksNothing result → ReadsOnly told now before after result
+  reads-asked result same quiet asks = record {
+    same = same;
+    later = omega (arith, quiet);
+    once = omega (arith, quiet);
+    quiet = none result asks;
+    cause = λ e untold. absurd (asks.file e);
+    usage = asks.usage;
+    sink = asks.sink;
+  }
+    where
+      none : (r : Result X Stop) → AsksNothing r → NoneFailed r before after
+      none (Ok x) h = quiet
+      none (Err stop.FileFault) h = tt
+      none (Err stop.Usage) h = quiet
+      none (Err stop.SinkFault) h = quiet
+      none (Err (stop.NotFip f)) h = quiet
+      none (Err (stop.NoSuchEntry guid)) h = quiet
+      none (Err (stop.NotPacked f)) h = quiet
+      none (Err (stop.NoManifest f)) h = quiet
+      none (Err stop.TooLong) h = quiet
+      none (Err (stop.NotCapsule f)) h = quiet
+      none (Err stop.NoMemory) h = quiet
 
   -- a table that was not read, of a file that is there where its contents are told
   module _ {mid : Option Directory} {name : List ℕ} {between : ℕ} where

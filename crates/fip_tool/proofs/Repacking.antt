@@ -14,9 +14,11 @@ use Rattle.fip_tables.specs.Files.{Lacks, Tells}
 use Rattle.fip_words.specs.Order.{part_view}
 use Rattle.fip_words.specs.Values.{NamedFile}
 use Rattle.fip_words.specs.declared.values.FileWord.{FileWord}
+use Rattle.fip_tool.specs.Payloads.{HasEntry}
 use Rattle.fip_tool.specs.Tool.{after, chosen, first_missing, is_named, kept_part, pack_value, package_in, parts_in, remove_value, sized_table, table_of, there, unless_missing, unpack_value, update_value, updated_part}
 use Rattle.fip_tool.specs.Steps.{Gives}
 use Rattle.fip_tool.specs.declared.stops.Stop.{Stop}
+use Rattle.fip_tool.proofs.Packings.{entries-there}
 
 none-found : {X : Type 0} (p : X → Bool) (xs : List X) → position p xs ≡ None → (k : ℕ) (d : X) → k < length xs → p (get_or xs k d) ≡ false
 none-found p xs e = go (nat_lt (position_or_len p xs) (length xs)) refl e
@@ -139,6 +141,10 @@ there-of o (Some d) name guids toc same knows lacks =
     let s = opened d name guids toc (knows d (sym same)) in
     let both : ◌≡◌ {A = Option (List ℕ)} (Some s.bytes) None = sym s.is ∙ lacks in
     cc
+
+-- each entry's payload is there
+pub has-entries : (o p : Option Directory) (name : List ℕ) (guids : List (List ℕ)) (toc : Toc) → p ≡ o → ((told : Directory) → o ≡ Some told → table_with told name guids ≡ Ok toc) → All (HasEntry p name) toc.entries
+has-entries o p name guids toc same knows = entries-there p name toc.entries (there-of o p name guids toc same knows) (stored-of o p name guids toc same knows)
 
 -- ---- what is made of it
 

@@ -2,9 +2,8 @@
 use Rattle.std.proofs.Common.{◌≡◌, ◌≢◌, inl, inr, ◌∙◌, ℕ, List, [], Option, None, Result, Ok, Err, ap, refl, subst, sym}
 use Rattle.std.specs.Prelude.{◌==◌, ◌||◌, IsFalse}
 use Rattle.std.proofs.lemmas.Bool.{false≢true}
-use Rattle.host_io.specs.Calls.{raised}
 use Rattle.fip_tool.proofs.SourceEnds.{reported-two}
-use Rattle.fip_tool.specs.Ends.{Reported, Told, status_number}
+use Rattle.fip_tool.specs.Ends.{Reported, status_number}
 use Rattle.fip_tool.specs.Steps.{FailsOnce, Printed, source_failed, source_failures}
 use Rattle.fip_tool.specs.declared.stops.Stop.{Stop}
 use Rattle.fip_tool.specs.declared.stops.Stop.TheVariants as stop

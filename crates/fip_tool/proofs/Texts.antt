@@ -1,14 +1,15 @@
 -- What was printed, text by text.
 use Rattle.std.proofs.Common.{◌≡◌, ◌≢◌, inl, inr, ◌<◌, ℕ, List, [], ◌∷◌, ◌++◌, Option, Result, Ok, Err, length, take, drop, arith, refl, sym, ap, subst, ◌∙◌, append-nil, append_assoc, length-append}
-use Rattle.std.specs.Prelude.{IfOk, Vec}
-use Rattle.std.specs.Global.{Global}
+use Rattle.std.specs.Prelude.{IfOk}
 use Rattle.std.proofs.Math.Seq.{drop-append_seam, take-append_seam}
 use Rattle.std.specs.Io.KnownBytes.{Appends}
 use Rattle.std.proofs.KnownBytes.{Appends-nil, Appends-trans}
 use Rattle.fip_tool.specs.Ends.{Reported, Told, status_number, stop_line}
-use Rattle.fip_tool.specs.Lines.{capsule_line, packed_line}
-use Rattle.fip_tool.specs.Said.{IsCapsuleLine, IsBefore, IsBegun, IsCut, IsPackedLine, Says, SaysAll, half_of, joined}
+use Rattle.fip_tool.specs.Lines.{made_line}
+use Rattle.fip_tool.specs.Said.{IsBefore, IsBegun, IsCut, IsMadeLine, Says, SaysAll, half_of, joined}
 use Rattle.fip_tool.specs.Steps.{IsLate, Printed}
+use Rattle.fip_tool.specs.declared.made.Format.{Format}
+use Rattle.fip_tool.specs.declared.made.Made.{Made}
 use Rattle.fip_tool.specs.declared.stops.Stop.{Stop}
 use Rattle.fip_tool.specs.declared.stops.Stop.TheVariants as stop
 
@@ -69,16 +70,11 @@ says-as T U was text rose late (Err (stop.NoManifest f)) turns rises h = h
 says-as T U was text rose late (Err stop.TooLong) turns rises h = h
 says-as T U was text rose late (Err (stop.NotCapsule f)) turns rises h = h
 
--- the line of a package that was made
-pub packed-texts : (made : Result (ℕ × Vec ℕ Global) Stop) (P : ℕ → Type 0) → IfOk made (λ m. P m.0) → (texts : List (List ℕ)) → IsPackedLine made texts
-    → (n : ℕ) × P n × (size : ℕ) × (texts ≡ packed_line n size ∷ [])
-packed-texts (Ok m) P h texts t = (m.0, h, length m.1.items, t)
-packed-texts (Err s) P h texts t = absurd t
-
-pub capsule-texts : (made : Result (ℕ × Vec ℕ Global) Stop) (P : ℕ → Type 0) → IfOk made (λ m. P m.0) → (texts : List (List ℕ)) → IsCapsuleLine made texts
-    → (n : ℕ) × P n × (size : ℕ) × (texts ≡ capsule_line n size ∷ [])
-capsule-texts (Ok m) P h texts t = (m.0, h, length m.1.items, t)
-capsule-texts (Err s) P h texts t = absurd t
+-- the line of what was made
+pub made-texts : (format : Format) (made : Result Made Stop) (P : ℕ → Type 0) → IfOk made (λ m. P m.count) → (texts : List (List ℕ)) → IsMadeLine format made texts
+    → (n : ℕ) × P n × (size : ℕ) × (texts ≡ made_line format n size ∷ [])
+made-texts format (Ok m) P h texts t = (m.count, h, m.frame.size, t)
+made-texts format (Err s) P h texts t = absurd t
 
 -- ---- texts one after the other
 

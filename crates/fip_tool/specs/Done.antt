@@ -1,9 +1,10 @@
 -- What is done for what the words ask for, by its result.
-use Rattle.std.specs.Prelude.{◌≡◌, ◌≢◌, ◌≤◌, ◌⊎◌, ℕ, List, Option, Some, None, Result, Err, IsFalse}
+use Rattle.std.specs.Prelude.{◌≡◌, ◌≢◌, ◌≤◌, ◌⊎◌, ℕ, List, Option, Some, None, Result, Err, IfErr, IsFalse}
 use Rattle.base_core.specs.Counts.{Rose}
 use Rattle.fip_words.specs.Order.{Asked, info_of_source}
 use Rattle.host_io.specs.Contents.{Directory}
 use Rattle.host_io.specs.declared.writes.Writes.{Writes}
+use Rattle.fip_tool.specs.Refusals.{MayRefuse}
 use Rattle.fip_tool.specs.Said.{IsTextsOf, Says}
 use Rattle.fip_tool.specs.Steps.{Did, FaultsOnce, sink_failures, source_failures}
 use Rattle.fip_tool.specs.Tool.{ReadSource, asks_files, outcome_of}
@@ -31,6 +32,8 @@ pub record Done {H I O : Type 0} (contents : H → Option Directory) (file_fault
   -- usage is answered exactly where nothing is asked for, or there is no memory to see that
   pub words : asked ≡ None → (result ≡ Err stop.Usage) ⊎ (result ≡ Err stop.NoMemory)
   pub usage : result ≡ Err stop.Usage → asked ≡ None
+  -- each refusal is one of what was asked for
+  pub refusals : IfErr result (MayRefuse asked)
   -- only a listing of the source reads it
   pub source_stays : asked ≢ Some info_of_source
       → (left source_after ≡ left source_before) × (source_faults source_after ≡ source_faults source_before)

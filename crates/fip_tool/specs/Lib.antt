@@ -9,3 +9,4 @@ pub mod Wrote
 pub mod Converted
 pub mod Done
 pub mod Unpacked
+pub mod Refusals

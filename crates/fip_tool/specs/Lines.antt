@@ -5,6 +5,8 @@ use Rattle.base_core.specs.Bytes.{le}
 use Rattle.base_core.specs.Guid.{guid_text}
 use Rattle.fwu_formats.specs.Package.{Entry, Toc}
 use Rattle.fip_words.specs.Values.{bin}
+use Rattle.fip_tool.specs.declared.made.Format.{Format}
+use Rattle.fip_tool.specs.declared.made.Format.TheVariants as format
 
 -- eight hexadecimal digits
 abbrev pub eight_digits : ℕ → List ℕ
@@ -30,6 +32,11 @@ packed_line entries size = codes "packed entries=" ++ decimal entries ++ codes "
 
 unfoldable pub capsule_line : ℕ → ℕ → List ℕ
 capsule_line items size = codes "capsule items=" ++ decimal items ++ codes " size=" ++ decimal size ++ codes "\n"
+
+-- the line of what was made
+abbrev pub made_line : Format → ℕ → ℕ → List ℕ
+made_line format.Package count size = packed_line count size
+made_line format.Capsule count size = capsule_line count size
 
 unfoldable pub manifest_line : ℕ → ℕ → ℕ → List ℕ
 manifest_line rows size security =

@@ -1,8 +1,13 @@
 -- The payloads of a package or a capsule to come, and what told files have of them.
-use Rattle.std.specs.Prelude.{◌≡◌, ℕ, List, [], ◌++◌, Option, length, take, drop, replicate, unwrap_or}
-use Rattle.host_io.specs.Contents.{Directory, HasRange, TellsRange}
-use Rattle.capsule_tables.specs.Making.{item_head}
+use Rattle.std.specs.Prelude.{◌≡◌, ℕ, List, [], Option, Some, length, map, take, drop, replicate, unwrap_or}
+use Rattle.std.specs.List.{All}
+use Rattle.std.specs.List.{zip}
+use Rattle.host_io.specs.Contents.{Directory, HasRange}
+use Rattle.host_io.specs.Joined.{HasPiece, chunk_in, joined}
+use Rattle.host_io.specs.declared.joining.Piece.{Piece}
+use Rattle.fip_tables.specs.declared.frame.Frame.{Frame}
 use Rattle.fwu_formats.specs.Package.{Entry, Part}
+use Rattle.fip_tool.specs.declared.made.Made.{Made}
 use Rattle.fip_tool.specs.declared.payloads.Payload.{Payload}
 
 -- the part that a payload is, by the files
@@ -21,10 +26,29 @@ IsThere told p = HasRange told p.file.now p.at p.size
 abbrev pub HasEntry : Option Directory → List ℕ → Entry → Type 0
 HasEntry told name e = HasRange told name e.offset e.size
 
--- An item of a capsule was added: what stands before its payload, and this, by a file's bytes.
-pub record AddsItem (told : Option Directory) (p : Payload) (index : ℕ) (old new : List ℕ) : Type 0 where
-  pub piece : List ℕ
-  pub size : length piece ≡ p.size
-  pub read : TellsRange told p.file.now p.at piece
-  pub forty : length (item_head index (outline_of p)) ≡ 40
-  pub added : new ≡ (old ++ item_head index (outline_of p)) ++ piece
+-- the piece of a file that a payload is, behind a gap
+abbrev pub piece_of : ℕ → Payload → Piece
+piece_of gap p = record { gap = gap; file = p.file; at = p.at; count = p.size }
+
+-- the payloads as pieces, each behind its gap
+abbrev pub pieces_of : List ℕ → List Payload → List Piece
+pieces_of gaps ps = map (λ x. piece_of x.0 x.1) (zip gaps ps)
+
+-- a frame with these payloads between its bytes
+pub record IsMadeOf (frame : Frame) (ps : List Payload) (m : Made) : Type 0 where
+  pub count : m.count ≡ length ps
+  pub frame_is : m.frame ≡ frame
+  pub pieces : m.pieces.items ≡ pieces_of frame.gaps.items ps
+
+-- the bytes of a file that is to be made, by the files that its pieces are of
+abbrev pub made_bytes : Directory → Made → List ℕ
+made_bytes files m = joined m.frame.bytes.items (map (chunk_in files) m.pieces.items)
+
+-- and how many payloads it has
+abbrev pub made_by : Directory → Made → ℕ × List ℕ
+made_by files m = (m.count, made_bytes files m)
+
+-- Told files have all its pieces, and it will be as long as its frame says.
+pub record IsWhole (told : Option Directory) (m : Made) : Type 0 where
+  pub there : All (HasPiece told) m.pieces.items
+  pub sized : (files : Directory) → told ≡ Some files → m.frame.size ≡ length (made_bytes files m)

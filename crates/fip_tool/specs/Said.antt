@@ -1,12 +1,13 @@
 -- What the tool prints, whatever files there are.
-use Rattle.std.specs.Prelude.{◌≡◌, ◌⊎◌, ◌<◌, ℕ, List, [], ◌∷◌, ◌++◌, Option, Some, None, Result, Ok, Err, filter, length, map, take, drop, not, Vec}
-use Rattle.std.specs.Global.{Global}
+use Rattle.std.specs.Prelude.{◌≡◌, ◌⊎◌, ◌<◌, ℕ, List, [], ◌∷◌, ◌++◌, Option, Some, None, Result, Ok, Err, filter, length, map, take, drop, not}
 use Rattle.std.specs.Io.KnownBytes.{Appends}
 use Rattle.fwu_formats.specs.Package.{Toc, toc_of}
 use Rattle.fip_words.specs.Order.{Asked, info, info_of_source, create, update, remove, unpack, manifest, capsule, repackage}
-use Rattle.fip_tool.specs.Lines.{capsule_line, info_text, manifest_line, packed_line, unpacked_line}
+use Rattle.fip_tool.specs.Lines.{capsule_line, info_text, made_line, manifest_line, packed_line, unpacked_line}
 use Rattle.fip_tool.specs.Ends.{exit_status, stop_line}
 use Rattle.fip_tool.specs.Tool.{chosen, first_missing, is_named}
+use Rattle.fip_tool.specs.declared.made.Format.{Format}
+use Rattle.fip_tool.specs.declared.made.Made.{Made}
 use Rattle.fip_tool.specs.declared.stops.Stop.{Stop}
 use Rattle.fip_tool.specs.declared.stops.Stop.TheVariants.{FileFault, SinkFault, NoMemory}
 
@@ -24,14 +25,15 @@ IsTexts (info file) texts = (text : List ℕ) × IsListing text × (texts ≡ te
 IsTexts info_of_source texts = (text : List ℕ) × IsListing text × (texts ≡ text ∷ [])
 IsTexts (create align out parts) texts = (size : ℕ) × (texts ≡ packed_line (length parts) size ∷ [])
 IsTexts (update align from out parts) texts =
-    (t : Toc) × (size : ℕ) × (first_missing t (map (λ p. p.guid) parts) ≡ None) × (texts ≡ packed_line (length t.entries) size ∷ [])
+    (t : Toc) × IsTable t × (size : ℕ) × (first_missing t (map (λ p. p.guid) parts) ≡ None)
+    × (texts ≡ packed_line (length t.entries) size ∷ [])
 IsTexts (remove align from out names) texts =
-    (t : Toc) × (size : ℕ) × (first_missing t names ≡ None)
+    (t : Toc) × IsTable t × (size : ℕ) × (first_missing t names ≡ None)
     × (texts ≡ packed_line (length (filter (λ e. not (is_named names e)) t.entries)) size ∷ [])
 IsTexts (unpack from prefix names) texts =
-    (t : Toc) × (first_missing t names ≡ None) × (texts ≡ map (unpacked_line prefix) (chosen names t.entries))
+    (t : Toc) × IsTable t × (first_missing t names ≡ None) × (texts ≡ map (unpacked_line prefix) (chosen names t.entries))
 IsTexts (manifest out security rows) texts = (size : ℕ) × (texts ≡ manifest_line (length rows) size security ∷ [])
-IsTexts (capsule from out) texts = (t : Toc) × (size : ℕ) × (texts ≡ capsule_line (length t.entries) size ∷ [])
+IsTexts (capsule from out) texts = (t : Toc) × IsTable t × (size : ℕ) × (texts ≡ capsule_line (length t.entries) size ∷ [])
 IsTexts (repackage align from out) texts = (t : Toc) × (size : ℕ) × (texts ≡ packed_line (length t.entries) size ∷ [])
 
 -- words that ask for nothing have none
@@ -91,12 +93,7 @@ SinkAlone asked was text before after =
     (after ≡ before)
     ⊎ ((said : List ℕ) × IsBegun (IsTextsOf asked) said × (k : ℕ) × Appends was text (said ++ take k (stop_line FileFault)))
 
--- the line of a package that was made
-abbrev pub IsPackedLine : Result (ℕ × Vec ℕ Global) Stop → List (List ℕ) → Type 0
-IsPackedLine (Ok made) texts = texts ≡ packed_line made.0 (length made.1.items) ∷ []
-IsPackedLine (Err s) texts = ⊥
-
--- the line of a capsule that was made
-abbrev pub IsCapsuleLine : Result (ℕ × Vec ℕ Global) Stop → List (List ℕ) → Type 0
-IsCapsuleLine (Ok made) texts = texts ≡ capsule_line made.0 (length made.1.items) ∷ []
-IsCapsuleLine (Err s) texts = ⊥
+-- the line of what was made
+abbrev pub IsMadeLine : Format → Result Made Stop → List (List ℕ) → Type 0
+IsMadeLine format (Ok made) texts = texts ≡ made_line format made.count made.frame.size ∷ []
+IsMadeLine format (Err s) texts = ⊥

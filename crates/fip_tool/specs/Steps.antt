@@ -131,6 +131,12 @@ pub record ReadsOnly {X : Type 0} (told now : Option Directory) (before after : 
   pub usage : result ≡ Err Usage → ⊥
   pub sink : result ≡ Err SinkFault → ⊥
 
+-- a part that asks for nothing outside answers neither that a file failed, nor that the sink did, nor usage
+pub record AsksNothing {X : Type 0} (result : Result X Stop) : Type 0 where
+  pub file : result ≡ Err FileFault → ⊥
+  pub usage : result ≡ Err Usage → ⊥
+  pub sink : result ≡ Err SinkFault → ⊥
+
 -- what the sink took of a text
 abbrev pub Printed : Option (List ℕ) → Option (List ℕ) → Type 0 → List ℕ → Result (Unit {0}) Stop → Type 0
 Printed was text sink-rose piece (Ok done) = Appends was text piece

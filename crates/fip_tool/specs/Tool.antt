@@ -5,6 +5,8 @@ use Rattle.std.specs.Io.KnownBytes.{Consumes, IsAtEnd}
 use Rattle.base_core.specs.Bytes.{same_bytes}
 use Rattle.sha2.specs.Sha256.{sha256}
 use Rattle.host_io.specs.Contents.{Directory}
+use Rattle.host_io.specs.declared.stops.WriteStop.{WriteStop}
+use Rattle.host_io.specs.declared.stops.WriteStop.TheVariants as write_stop
 use Rattle.fwu_formats.specs.Package.{Entry, Part, Toc, has_guid, packed, payload, toc_of}
 use Rattle.fwu_formats.specs.Manifest.{Row, manifest_bytes}
 use Rattle.fwu_formats.specs.declared.kinds.FipFault.{FipFault}
@@ -24,6 +26,8 @@ use Rattle.fip_words.specs.Values.{NamedFile, NamedImage, each}
 use Rattle.fip_tool.specs.Lines.{capsule_line, info_text, manifest_line, packed_line, unpacked_line, unpacked_name}
 use Rattle.fip_tool.specs.Ends.{EndedBy, exit_status}
 use Rattle.fip_tool.specs.Steps.{Did, Outcome, Refuses, Step, Writes, Prints, outcome_by}
+use Rattle.fip_tool.specs.declared.made.Format.{Format}
+use Rattle.fip_tool.specs.declared.made.Format.TheVariants as format
 use Rattle.fip_tool.specs.declared.stops.Stop.{Stop}
 use Rattle.fip_tool.specs.declared.stops.Stop.TheVariants as stop
 
@@ -54,6 +58,11 @@ stopped_by toc.ReadFailed = stop.FileFault
 abbrev pub capsule_stopped_by : CapsuleStop → Stop
 capsule_stopped_by (capsule_stop.Fault f) = stop.NotCapsule f
 capsule_stopped_by capsule_stop.ReadFailed = stop.FileFault
+
+-- the stop of a file that was not written
+abbrev pub unwritten_by : WriteStop → Stop
+unwritten_by write_stop.Failed = stop.FileFault
+unwritten_by write_stop.NoMemory = stop.NoMemory
 
 -- ---- what files give
 
@@ -222,6 +231,11 @@ encloses out made = Writes out made.1 ∷ Prints (capsule_line made.0 (length ma
 
 abbrev pub packs : List ℕ → ℕ × List ℕ → List Step
 packs out made = Writes out made.1 ∷ Prints (packed_line made.0 (length made.1)) ∷ []
+
+-- the steps for a package or a capsule that was made
+abbrev pub puts : Format → List ℕ → ℕ × List ℕ → List Step
+puts format.Package out = packs out
+puts format.Capsule out = encloses out
 
 -- ---- payloads that are written
 

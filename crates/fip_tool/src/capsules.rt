@@ -1,118 +1,108 @@
 //! The commands that turn a package into a capsule, and back: `capsule` and `package`.
-ghost use Rattle.std.specs.Prelude.{◌≡◌, ◌≤◌, ◌+◌, All, IfOk, List, Some, None, Ok, Err, ℕ, length, map};
+ghost use Rattle.std.specs.Prelude.{◌≡◌, ◌≤◌, All, IfErr, IfOk, List, Option, Some, None, Err, ℕ, length, map};
 ghost use Rattle.base_core.specs.Counts.{Rose};
-ghost use Rattle.fip_tables.specs.Files.{Lacks, Tells};
 ghost use Rattle.fwu_formats.specs.Package.{Toc};
 ghost use Rattle.host_io.specs.Contents.{Directory};
 ghost use Rattle.fip_words.specs.Order.{Asked};
-ghost use Rattle.fip_tool.specs.Said.{IsTexts, Says};
-ghost use Rattle.fip_tool.specs.Steps.{Did, FaultsOnce, Gives, ReadsOnly, outcome_by, sink_failures};
+ghost use Rattle.fip_tool.specs.Payloads.{HasEntry, IsWhole, made_by};
+ghost use Rattle.fip_tool.specs.Said.{IsTable, IsTexts, Says};
+ghost use Rattle.fip_tool.specs.Refusals.{IsOfEnclosing, IsOfPackaging, IsOfPacking, MayRefuse};
+ghost use Rattle.fip_tool.specs.Steps.{AsksNothing, Did, FaultsOnce, Gives, ReadsOnly, outcome_by, sink_failures};
 ghost use Rattle.fip_tool.specs.Tool.{capsule_value, enclose_value, encloses, kept_part, pack_value, repackage_value, packs};
 ghost use Rattle.fip_tool.specs.Wrote.{Wrote};
 ghost use Rattle.fip_tool.specs.declared.stops.Stop.TheVariants as stop;
 
 use crate::enclosing::enclosed;
+use crate::made::{Format, Made};
 use crate::making::repacked;
 use crate::named::table_with;
 use crate::payloads::payloads_of_entries;
 use crate::stops::Stop;
 use crate::table::read_enclosed;
-use crate::writing::{put_capsule, put_made};
+use crate::writing::put_made;
 use fip_tables::{Entry, Toc};
 use host_io::{Files, Sink};
 use std::alloc::Global;
 
 // The capsule of a package's entries.
-fn capsule_of_entries<H: Files>(
-    alloc: Global,
-    files: &mut H,
-    from: &str,
-    entries: &[Entry],
-) -> Result<(u64, Vec<u8>), Stop>
-    requires stored { (bytes : List ℕ) → Tells (H.contents files.old) from.now bytes
-        → All (λ e. e.offset + e.size ≤ length bytes) entries.now }
-    requires there { Lacks (H.contents files.old) from.now → ⊥ }
-    ensures told { (told : Directory) (bytes : List ℕ) → H.contents files.old ≡ Some told
-        → told from.now ≡ Some bytes
-        → Gives (λ m. (m.0, m.1.items)) (Rose (H.faults files.old) (H.faults files.new))
-        (enclose_value (map (kept_part bytes) entries.now)) result }
-    ensures count { IfOk result (λ m. m.0 ≡ length entries.now) }
-    ensures reads { ReadsOnly (H.contents files.old) (H.contents files.new) (H.faults files.old)
-        (H.faults files.new) result }
-    ensures unwritten { H.writes files.new ≡ H.writes files.old }
+fn capsule_of_entries<'a>(alloc: Global, from: &'a str, entries: &[Entry]) -> Result<Made<'a>, Stop>
+    ensures told { (told : Directory) (bytes : List ℕ) → told from.now ≡ Some bytes
+        → All (HasEntry (Some told) from.now) entries.now
+        → Gives (made_by told) ⊥ (enclose_value (map (kept_part bytes) entries.now)) result }
+    ensures whole { (told : Option Directory) → All (HasEntry told from.now) entries.now
+        → IfOk result (IsWhole told) }
+    ensures count { IfOk result (λ m. m.count ≡ length entries.now) }
+    ensures asks { AsksNothing result }
+    ensures refusals { IfErr result IsOfPacking }
 {
     let none = Vec::new(alloc);
     let Ok(payloads) = payloads_of_entries(alloc, from, entries, none.as_slice()) else {
         return Err(Stop::NoMemory);
     };
-    enclosed(alloc, files, payloads.as_slice())
+    enclosed(alloc, payloads.as_slice())
 }
 
 // The capsule of a package.
-fn capsule_of_package<H: Files>(
+fn capsule_of_package<'a, H: Files>(
     alloc: Global,
     files: &mut H,
-    from: &str,
-) -> Result<(u64, Vec<u8>), Stop>
+    from: &'a str,
+) -> Result<Made<'a>, Stop>
     ensures told { (told : Directory) → H.contents files.old ≡ Some told
-        → Gives (λ m. (m.0, m.1.items)) (Rose (H.faults files.old) (H.faults files.new))
+        → Gives (made_by told) (Rose (H.faults files.old) (H.faults files.new))
         (capsule_value told from.now) result }
-    ensures count { IfOk result (λ m. (t : Toc) × (m.0 ≡ length t.entries)) }
+    ensures whole { IfOk result (IsWhole (H.contents files.new)) }
+    ensures count { IfOk result (λ m. (t : Toc) × IsTable t × (m.count ≡ length t.entries)) }
     ensures reads { ReadsOnly (H.contents files.old) (H.contents files.new) (H.faults files.old)
         (H.faults files.new) result }
     ensures unwritten { H.writes files.new ≡ H.writes files.old }
+    ensures refusals { IfErr result IsOfEnclosing }
 {
-    match table_with(files, from, &[]) {
-        Ok(toc) => capsule_of_entries(alloc, files, from, toc.entries.as_slice()),
-        Err(stop) => Err(stop),
-    }
+    let toc = table_with(files, from, &[])?;
+    capsule_of_entries(alloc, from, toc.entries.as_slice())
 }
 
 // The package of a capsule's table.
-fn package_of_items<H: Files>(
+fn package_of_items<'a>(
     alloc: Global,
-    files: &mut H,
     align: u32,
-    from: &str,
+    from: &'a str,
     toc: &Toc,
-) -> Result<(u64, Vec<u8>), Stop>
-    requires stored { (bytes : List ℕ) → Tells (H.contents files.old) from.now bytes
-        → All (λ e. e.offset + e.size ≤ length bytes) toc.now.entries }
-    requires there { Lacks (H.contents files.old) from.now → ⊥ }
-    ensures told { (told : Directory) (bytes : List ℕ) → H.contents files.old ≡ Some told
-        → told from.now ≡ Some bytes
-        → Gives (λ m. (m.0, m.1.items)) (Rose (H.faults files.old) (H.faults files.new))
-        (pack_value toc.now.serial toc.now.flags (map (kept_part bytes) toc.now.entries) align)
-        result }
-    ensures count { IfOk result (λ m. m.0 ≡ length toc.now.entries) }
-    ensures reads { ReadsOnly (H.contents files.old) (H.contents files.new) (H.faults files.old)
-        (H.faults files.new) result }
-    ensures unwritten { H.writes files.new ≡ H.writes files.old }
+) -> Result<Made<'a>, Stop>
+    ensures told { (told : Directory) (bytes : List ℕ) → told from.now ≡ Some bytes
+        → All (HasEntry (Some told) from.now) toc.now.entries
+        → Gives (made_by told) ⊥ (pack_value toc.now.serial toc.now.flags
+        (map (kept_part bytes) toc.now.entries) align) result }
+    ensures whole { (told : Option Directory) → All (HasEntry told from.now) toc.now.entries
+        → IfOk result (IsWhole told) }
+    ensures count { IfOk result (λ m. m.count ≡ length toc.now.entries) }
+    ensures asks { AsksNothing result }
+    ensures refusals { IfErr result IsOfPacking }
 {
     let none = Vec::new(alloc);
     let entries = toc.entries.as_slice();
-    repacked(alloc, files, align, from, toc, entries, none.as_slice())
+    repacked(alloc, align, from, toc, entries, none.as_slice())
 }
 
 // The package of a capsule.
-fn package_of_capsule<H: Files>(
+fn package_of_capsule<'a, H: Files>(
     alloc: Global,
     files: &mut H,
     align: u32,
-    from: &str,
-) -> Result<(u64, Vec<u8>), Stop>
+    from: &'a str,
+) -> Result<Made<'a>, Stop>
     ensures told { (told : Directory) → H.contents files.old ≡ Some told
-        → Gives (λ m. (m.0, m.1.items)) (Rose (H.faults files.old) (H.faults files.new))
+        → Gives (made_by told) (Rose (H.faults files.old) (H.faults files.new))
         (repackage_value told align from.now) result }
-    ensures count { IfOk result (λ m. (t : Toc) × (m.0 ≡ length t.entries)) }
+    ensures whole { IfOk result (IsWhole (H.contents files.new)) }
+    ensures count { IfOk result (λ m. (t : Toc) × (m.count ≡ length t.entries)) }
     ensures reads { ReadsOnly (H.contents files.old) (H.contents files.new) (H.faults files.old)
         (H.faults files.new) result }
     ensures unwritten { H.writes files.new ≡ H.writes files.old }
+    ensures refusals { IfErr result IsOfPackaging }
 {
-    match read_enclosed(files, from) {
-        Ok(toc) => package_of_items(alloc, files, align, from, &toc),
-        Err(stop) => Err(stop),
-    }
+    let toc = read_enclosed(files, from)?;
+    package_of_items(alloc, align, from, &toc)
 }
 
 /// Writes the capsule of the package in the file `from` to the file `out`, and prints its line.
@@ -141,9 +131,10 @@ pub fn run_capsule<H: Files, O: Sink>(
     ensures usage { result ≡ Err stop.Usage → ⊥ }
     ensures later { O.faults sink.old ≤ O.faults sink.new }
     ensures sink_count { O.faults sink.new ≡ sink_failures result (O.faults sink.old) }
+    ensures refusals { IfErr result (MayRefuse (Some (Asked.capsule from.now out.now))) }
 {
     let made = capsule_of_package(alloc, files, from);
-    put_capsule(alloc, files, sink, out, made)
+    put_made(alloc, files, sink, Format::Capsule, out, made)
 }
 
 /// Writes the package of the capsule in the file `from` to the file `out`, and prints its line. Its
@@ -174,7 +165,8 @@ pub fn run_package<H: Files, O: Sink>(
     ensures usage { result ≡ Err stop.Usage → ⊥ }
     ensures later { O.faults sink.old ≤ O.faults sink.new }
     ensures sink_count { O.faults sink.new ≡ sink_failures result (O.faults sink.old) }
+    ensures refusals { IfErr result (MayRefuse (Some (Asked.repackage align from.now out.now))) }
 {
     let made = package_of_capsule(alloc, files, align, from);
-    put_made(alloc, files, sink, out, made)
+    put_made(alloc, files, sink, Format::Package, out, made)
 }

@@ -1,7 +1,8 @@
 //! `info`: what a package has.
-ghost use Rattle.std.specs.Prelude.{◌≡◌, ◌≤◌, IfOk, List, Some, Err, ℕ};
+ghost use Rattle.std.specs.Prelude.{◌≡◌, ◌≤◌, IfOk, List, Some, Err, ℕ, IfErr};
 ghost use Rattle.base_core.specs.Counts.{Rose};
 ghost use Rattle.host_io.specs.Contents.{Directory};
+ghost use Rattle.fip_tool.specs.Refusals.{IsOfPackage, IsOfSource};
 ghost use Rattle.fip_tool.specs.Said.{IsListing};
 ghost use Rattle.fip_tool.specs.Steps.{Gives, ReadsOnly, source_failures};
 ghost use Rattle.fip_tool.specs.Tool.{GivenTo, StopsInTime, given_value, info_value};
@@ -22,14 +23,10 @@ pub fn file_info<H: Files>(alloc: Global, files: &mut H, name: &str) -> Result<V
     ensures reads { ReadsOnly (H.contents files.old) (H.contents files.new) (H.faults files.old)
         (H.faults files.new) result }
     ensures unwritten { H.writes files.new ≡ H.writes files.old }
+    ensures refusals { IfErr result IsOfPackage }
 {
-    match read_package(files, name) {
-        Ok((toc, size)) => match info_text(alloc, &toc, size) {
-            Ok(text) => Ok(text),
-            Err(_) => Err(Stop::NoMemory),
-        },
-        Err(stop) => Err(stop),
-    }
+    let (toc, size) = read_package(files, name)?;
+    Ok(info_text(alloc, &toc, size)?)
 }
 
 /// What is printed of the package that the source gives.
@@ -42,12 +39,8 @@ pub fn source_info<I: Source>(alloc: Global, source: &mut I) -> Result<Vec<u8>, 
     ensures sink { result ≡ Err stop.SinkFault → ⊥ }
     ensures later { I.faults source.old ≤ I.faults source.new }
     ensures count { I.faults source.new ≡ source_failures result (I.faults source.old) }
+    ensures refusals { IfErr result IsOfSource }
 {
-    match read_given(source) {
-        Ok((toc, size)) => match info_text(alloc, &toc, size) {
-            Ok(text) => Ok(text),
-            Err(_) => Err(Stop::NoMemory),
-        },
-        Err(stop) => Err(stop),
-    }
+    let (toc, size) = read_given(source)?;
+    Ok(info_text(alloc, &toc, size)?)
 }

@@ -5,6 +5,7 @@ mod capsules;
 mod enclosing;
 mod info;
 mod lines;
+mod made;
 mod making;
 mod manifest;
 mod named;

@@ -1,17 +1,19 @@
 //! The commands that make packages: `create`, `remove` and `update`.
-ghost use Rattle.std.specs.Prelude.{◌≡◌, ◌≤◌, ◌<◌, ◌+◌, ◌^◌, All, IfOk, List, Some, None, Ok, Err, ℕ, filter, length, map, not};
+ghost use Rattle.std.specs.Prelude.{◌≡◌, ◌≤◌, ◌+◌, All, IfErr, IfOk, List, Option, Some, None, Err, ℕ, filter, length, map, not};
 ghost use Rattle.base_core.specs.Counts.{Rose};
 ghost use Rattle.fip_tables.specs.Files.{Lacks, Tells};
 ghost use Rattle.fwu_formats.specs.Package.{Toc};
 ghost use Rattle.host_io.specs.Contents.{Directory};
 ghost use Rattle.fip_words.specs.Order.{Asked, part_view};
-ghost use Rattle.fip_tool.specs.Payloads.{IsThere, part_told};
-ghost use Rattle.fip_tool.specs.Said.{IsTexts, Says};
-ghost use Rattle.fip_tool.specs.Steps.{Did, FaultsOnce, Gives, ReadsOnly, outcome_by, sink_failures};
+ghost use Rattle.fip_tool.specs.Payloads.{HasEntry, IsThere, IsWhole, made_by, part_told};
+ghost use Rattle.fip_tool.specs.Said.{IsTable, IsTexts, Says};
+ghost use Rattle.fip_tool.specs.Refusals.{IsOfPacking, IsOfRepacking, MayRefuse};
+ghost use Rattle.fip_tool.specs.Steps.{AsksNothing, Did, FaultsOnce, Gives, ReadsOnly, outcome_by, sink_failures};
 ghost use Rattle.fip_tool.specs.Tool.{after, create_value, first_missing, is_named, kept_part, pack_value, packs, parts_in, remove_value, update_value, updated_part};
 ghost use Rattle.fip_tool.specs.Wrote.{Wrote};
 ghost use Rattle.fip_tool.specs.declared.stops.Stop.TheVariants as stop;
 
+use crate::made::{Format, Made};
 use crate::named::{is_named, table_with};
 use crate::packing::packed;
 use crate::payloads::{Payload, payloads_of_entries, payloads_of_files};
@@ -25,63 +27,53 @@ use std::alloc::{AllocError, Global};
 
 const NEW_SERIAL: u32 = 0x1234_5678;
 
-// A new package of named files: how many entries, and its bytes.
-fn created<H: Files>(
+// A new package of named files.
+fn created<'a, H: Files>(
     alloc: Global,
     files: &mut H,
     align: u32,
-    named: &[FileWord<'_>],
-) -> Result<(u64, Vec<u8>), Stop>
+    named: &[FileWord<'a>],
+) -> Result<Made<'a>, Stop>
     ensures told { (told : Directory) → H.contents files.old ≡ Some told
-        → Gives (λ m. (m.0, m.1.items)) (Rose (H.faults files.old) (H.faults files.new))
+        → Gives (made_by told) (Rose (H.faults files.old) (H.faults files.new))
         (create_value told align (map part_view named.now)) result }
-    ensures count { IfOk result (λ m. m.0 ≡ length named.now) }
+    ensures whole { IfOk result (IsWhole (H.contents files.new)) }
+    ensures count { IfOk result (λ m. m.count ≡ length named.now) }
     ensures reads { ReadsOnly (H.contents files.old) (H.contents files.new) (H.faults files.old)
         (H.faults files.new) result }
     ensures unwritten { H.writes files.new ≡ H.writes files.old }
+    ensures refusals { IfErr result IsOfPacking }
 {
     match payloads_of_files(alloc, files, named) {
-        Ok(payloads) => packed(alloc, files, NEW_SERIAL, 0, align, payloads.as_slice()),
+        Ok(payloads) => packed(alloc, NEW_SERIAL, 0, align, payloads.as_slice()),
         Err(stop) => Err(stop),
     }
 }
 
 /// A package of these entries of another file, under the serial number and the flags of its table, with
 /// the new payloads where there are some.
-pub fn repacked<H: Files>(
+pub fn repacked<'a>(
     alloc: Global,
-    files: &mut H,
     align: u32,
-    from: &str,
+    from: &'a str,
     toc: &Toc,
     entries: &[Entry],
-    new: &[Payload<'_>],
-) -> Result<(u64, Vec<u8>), Stop>
-    requires stored { (bytes : List ℕ) → Tells (H.contents files.old) from.now bytes
-        → All (λ e. e.offset + e.size ≤ length bytes) entries.now }
-    requires there { Lacks (H.contents files.old) from.now → ⊥ }
-    requires new { All (IsThere (H.contents files.old)) new.now }
-    ensures told { (told : Directory) (bytes : List ℕ) → H.contents files.old ≡ Some told
-        → told from.now ≡ Some bytes
-        → Gives (λ m. (m.0, m.1.items)) (Rose (H.faults files.old) (H.faults files.new))
-        (pack_value toc.now.serial toc.now.flags
+    new: &[Payload<'a>],
+) -> Result<Made<'a>, Stop>
+    ensures told { (told : Directory) (bytes : List ℕ) → told from.now ≡ Some bytes
+        → All (IsThere (Some told)) new.now → All (HasEntry (Some told) from.now) entries.now
+        → Gives (made_by told) ⊥ (pack_value toc.now.serial toc.now.flags
         (map (updated_part bytes (map (part_told told) new.now)) entries.now) align) result }
-    ensures count { IfOk result (λ m. m.0 ≡ length entries.now) }
-    ensures reads { ReadsOnly (H.contents files.old) (H.contents files.new) (H.faults files.old)
-        (H.faults files.new) result }
-    ensures unwritten { H.writes files.new ≡ H.writes files.old }
+    ensures whole { (told : Option Directory) → All (IsThere told) new.now
+        → All (HasEntry told from.now) entries.now → IfOk result (IsWhole told) }
+    ensures count { IfOk result (λ m. m.count ≡ length entries.now) }
+    ensures asks { AsksNothing result }
+    ensures refusals { IfErr result IsOfPacking }
 {
     let Ok(payloads) = payloads_of_entries(alloc, from, entries, new) else {
         return Err(Stop::NoMemory);
     };
-    packed(
-        alloc,
-        files,
-        toc.serial,
-        toc.flags,
-        align,
-        payloads.as_slice(),
-    )
+    packed(alloc, toc.serial, toc.flags, align, payloads.as_slice())
 }
 
 // The entries that are not named.
@@ -103,124 +95,110 @@ fn types_of(alloc: Global, named: &[FileWord]) -> Result<Vec<Guid>, AllocError>
 }
 
 // The package of another's table without the named entries.
-fn without<H: Files>(
+fn without<'a>(
     alloc: Global,
-    files: &mut H,
     align: u32,
-    from: &str,
+    from: &'a str,
     toc: &Toc,
     guids: &[Guid],
-) -> Result<(u64, Vec<u8>), Stop>
-    requires stored { (bytes : List ℕ) → Tells (H.contents files.old) from.now bytes
-        → All (λ e. e.offset + e.size ≤ length bytes) toc.now.entries }
-    requires there { Lacks (H.contents files.old) from.now → ⊥ }
-    ensures told { (told : Directory) (bytes : List ℕ) → H.contents files.old ≡ Some told
-        → told from.now ≡ Some bytes
-        → Gives (λ m. (m.0, m.1.items)) (Rose (H.faults files.old) (H.faults files.new))
-        (pack_value toc.now.serial toc.now.flags
+) -> Result<Made<'a>, Stop>
+    ensures told { (told : Directory) (bytes : List ℕ) → told from.now ≡ Some bytes
+        → All (HasEntry (Some told) from.now) toc.now.entries
+        → Gives (made_by told) ⊥ (pack_value toc.now.serial toc.now.flags
         (map (kept_part bytes) (filter (λ e. not (is_named guids.now e)) toc.now.entries)) align)
         result }
-    ensures count { IfOk result (λ m. m.0 ≡ length
+    ensures whole { (told : Option Directory) → All (HasEntry told from.now) toc.now.entries
+        → IfOk result (IsWhole told) }
+    ensures count { IfOk result (λ m. m.count ≡ length
         (filter (λ e. not (is_named guids.now e)) toc.now.entries)) }
-    ensures reads { ReadsOnly (H.contents files.old) (H.contents files.new) (H.faults files.old)
-        (H.faults files.new) result }
-    ensures unwritten { H.writes files.new ≡ H.writes files.old }
+    ensures asks { AsksNothing result }
+    ensures refusals { IfErr result IsOfPacking }
 {
-    let Ok(kept) = kept_entries(alloc, toc.entries.as_slice(), guids) else {
-        return Err(Stop::NoMemory);
-    };
+    let kept = kept_entries(alloc, toc.entries.as_slice(), guids)?;
     let none = Vec::new(alloc);
-    repacked(
-        alloc,
-        files,
-        align,
-        from,
-        toc,
-        kept.as_slice(),
-        none.as_slice(),
-    )
+    repacked(alloc, align, from, toc, kept.as_slice(), none.as_slice())
 }
 
 // The package without the named entries.
-fn removed<H: Files>(
+fn removed<'a, H: Files>(
     alloc: Global,
     files: &mut H,
     align: u32,
-    from: &str,
+    from: &'a str,
     guids: &[Guid],
-) -> Result<(u64, Vec<u8>), Stop>
+) -> Result<Made<'a>, Stop>
     ensures told { (told : Directory) → H.contents files.old ≡ Some told
-        → Gives (λ m. (m.0, m.1.items)) (Rose (H.faults files.old) (H.faults files.new))
+        → Gives (made_by told) (Rose (H.faults files.old) (H.faults files.new))
         (remove_value told align from.now guids.now) result }
-    ensures count { IfOk result (λ m. (t : Toc) × (first_missing t guids.now ≡ None)
-        × (m.0 ≡ length (filter (λ e. not (is_named guids.now e)) t.entries))) }
+    ensures whole { IfOk result (IsWhole (H.contents files.new)) }
+    ensures count { IfOk result (λ m. (t : Toc) × IsTable t × (first_missing t guids.now ≡ None)
+        × (m.count ≡ length (filter (λ e. not (is_named guids.now e)) t.entries))) }
     ensures reads { ReadsOnly (H.contents files.old) (H.contents files.new) (H.faults files.old)
         (H.faults files.new) result }
     ensures unwritten { H.writes files.new ≡ H.writes files.old }
+    ensures refusals { IfErr result IsOfRepacking }
 {
-    match table_with(files, from, guids) {
-        Ok(toc) => without(alloc, files, align, from, &toc, guids),
-        Err(stop) => Err(stop),
-    }
+    let toc = table_with(files, from, guids)?;
+    without(alloc, align, from, &toc, guids)
 }
 
 // The package of another's table with new payloads.
-fn replaced<H: Files>(
+fn replaced<'a, H: Files>(
     alloc: Global,
     files: &mut H,
     align: u32,
-    from: &str,
+    from: &'a str,
     toc: &Toc,
-    named: &[FileWord<'_>],
-) -> Result<(u64, Vec<u8>), Stop>
+    named: &[FileWord<'a>],
+) -> Result<Made<'a>, Stop>
     requires stored { (bytes : List ℕ) → Tells (H.contents files.old) from.now bytes
         → All (λ e. e.offset + e.size ≤ length bytes) toc.now.entries }
     requires there { Lacks (H.contents files.old) from.now → ⊥ }
     ensures told { (told : Directory) (bytes : List ℕ) → H.contents files.old ≡ Some told
         → told from.now ≡ Some bytes
-        → Gives (λ m. (m.0, m.1.items)) (Rose (H.faults files.old) (H.faults files.new))
+        → Gives (made_by told) (Rose (H.faults files.old) (H.faults files.new))
         (after (parts_in told (map part_view named.now))
         (λ new. pack_value toc.now.serial toc.now.flags
         (map (updated_part bytes new) toc.now.entries) align)) result }
-    ensures count { IfOk result (λ m. m.0 ≡ length toc.now.entries) }
+    ensures whole { IfOk result (IsWhole (H.contents files.new)) }
+    ensures count { IfOk result (λ m. m.count ≡ length toc.now.entries) }
     ensures reads { ReadsOnly (H.contents files.old) (H.contents files.new) (H.faults files.old)
         (H.faults files.new) result }
     ensures unwritten { H.writes files.new ≡ H.writes files.old }
+    ensures refusals { IfErr result IsOfPacking }
 {
     match payloads_of_files(alloc, files, named) {
         Ok(new) => {
             let entries = toc.entries.as_slice();
-            repacked(alloc, files, align, from, toc, entries, new.as_slice())
+            repacked(alloc, align, from, toc, entries, new.as_slice())
         }
         Err(stop) => Err(stop),
     }
 }
 
 // The package with new payloads.
-fn updated<H: Files>(
+fn updated<'a, H: Files>(
     alloc: Global,
     files: &mut H,
     align: u32,
-    from: &str,
-    named: &[FileWord<'_>],
-) -> Result<(u64, Vec<u8>), Stop>
+    from: &'a str,
+    named: &[FileWord<'a>],
+) -> Result<Made<'a>, Stop>
     ensures told { (told : Directory) → H.contents files.old ≡ Some told
-        → Gives (λ m. (m.0, m.1.items)) (Rose (H.faults files.old) (H.faults files.new))
+        → Gives (made_by told) (Rose (H.faults files.old) (H.faults files.new))
         (update_value told align from.now (map part_view named.now)) result }
-    ensures count { IfOk result (λ m. (t : Toc)
+    ensures whole { IfOk result (IsWhole (H.contents files.new)) }
+    ensures count { IfOk result (λ m. (t : Toc) × IsTable t
         × (first_missing t (map (λ p. p.guid) (map part_view named.now)) ≡ None)
-        × (m.0 ≡ length t.entries)) }
+        × (m.count ≡ length t.entries)) }
     ensures reads { ReadsOnly (H.contents files.old) (H.contents files.new) (H.faults files.old)
         (H.faults files.new) result }
     ensures unwritten { H.writes files.new ≡ H.writes files.old }
+    ensures refusals { IfErr result IsOfRepacking }
 {
-    let Ok(types) = types_of(alloc, named) else {
-        return Err(Stop::NoMemory);
-    };
-    match table_with(files, from, types.as_slice()) {
-        Ok(toc) => replaced(alloc, files, align, from, &toc, named),
-        Err(stop) => Err(stop),
-    }
+    let types = types_of(alloc, named)?;
+    let toc = table_with(files, from, types.as_slice())?;
+    replaced(alloc, files, align, from, &toc, named)
 }
 
 /// Writes a new package of named files to the file `out`, and prints its line.
@@ -250,9 +228,11 @@ pub fn run_create<H: Files, O: Sink>(
     ensures usage { result ≡ Err stop.Usage → ⊥ }
     ensures later { O.faults sink.old ≤ O.faults sink.new }
     ensures sink_count { O.faults sink.new ≡ sink_failures result (O.faults sink.old) }
+    ensures refusals { IfErr result
+        (MayRefuse (Some (Asked.create align out.now (map part_view named.now)))) }
 {
     let made = created(alloc, files, align, named);
-    put_made(alloc, files, sink, out, made)
+    put_made(alloc, files, sink, Format::Package, out, made)
 }
 
 /// Writes the package in the file `from` without the named entries to the file `out`, and prints its line.
@@ -283,9 +263,11 @@ pub fn run_remove<H: Files, O: Sink>(
     ensures usage { result ≡ Err stop.Usage → ⊥ }
     ensures later { O.faults sink.old ≤ O.faults sink.new }
     ensures sink_count { O.faults sink.new ≡ sink_failures result (O.faults sink.old) }
+    ensures refusals { IfErr result
+        (MayRefuse (Some (Asked.remove align from.now out.now guids.now))) }
 {
     let made = removed(alloc, files, align, from, guids);
-    put_made(alloc, files, sink, out, made)
+    put_made(alloc, files, sink, Format::Package, out, made)
 }
 
 /// Writes the package in the file `from` with the payloads of named files to the file `out`, and prints its line. The named files
@@ -318,7 +300,9 @@ pub fn run_update<H: Files, O: Sink>(
     ensures usage { result ≡ Err stop.Usage → ⊥ }
     ensures later { O.faults sink.old ≤ O.faults sink.new }
     ensures sink_count { O.faults sink.new ≡ sink_failures result (O.faults sink.old) }
+    ensures refusals { IfErr result
+        (MayRefuse (Some (Asked.update align from.now out.now (map part_view named.now)))) }
 {
     let made = updated(alloc, files, align, from, named);
-    put_made(alloc, files, sink, out, made)
+    put_made(alloc, files, sink, Format::Package, out, made)
 }

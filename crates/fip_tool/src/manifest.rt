@@ -1,13 +1,14 @@
 //! Manifests of images in files.
-ghost use Rattle.std.specs.Prelude.{◌≡◌, ◌≤◌, ◌==◌, ◌||◌, ◌++◌, ◌∷◌, [], Some, Ok, Err, IfOk, IfSome, if◌then◌else◌, length, map, nat_lt, option_and_then, option_map};
+ghost use Rattle.std.specs.Prelude.{◌≡◌, ◌≤◌, ◌==◌, ◌||◌, ◌++◌, ◌∷◌, [], Some, Ok, Err, IfOk, IfSome, if◌then◌else◌, length, map, nat_lt, option_and_then, option_map, IfErr};
 ghost use Rattle.base_core.specs.Counts.{Rose};
 ghost use Rattle.fwu_formats.specs.declared.kinds.ManifestFault.TheVariants as fault;
 ghost use Rattle.fip_words.specs.Order.{Asked, image_view};
 ghost use Rattle.fip_words.specs.Values.{each};
 ghost use Rattle.host_io.specs.Contents.{Directory};
 ghost use Rattle.manifest_core.specs.Shown.{row};
+ghost use Rattle.fip_tool.specs.Refusals.{IsOfManifest, MayRefuse};
 ghost use Rattle.fip_tool.specs.Said.{IsTexts, Says};
-ghost use Rattle.fip_tool.specs.Steps.{Did, FaultsOnce, Gives, ReadsOnly, outcome_by, sink_failures};
+ghost use Rattle.fip_tool.specs.Steps.{Did, FaultsOnce, Gives, ReadsOnly, outcome_by, sink_failures, IsLate};
 ghost use Rattle.fip_tool.specs.Tool.{after, image_in, image_row, is_long, manifest_value, nothing, of_rows, sizes_value, there, unless_long, writes_manifest};
 ghost use Rattle.fip_tool.specs.Wrote.{Wrote};
 ghost use Rattle.fip_tool.specs.declared.stops.Stop.TheVariants as stop;
@@ -17,12 +18,12 @@ use crate::reading::read_file;
 use crate::stops::Stop;
 use crate::table::size_of;
 use crate::writing::write_and_print;
-use base_core::{Guid, NoMemory};
+use base_core::Guid;
 use fip_words::ImageWord;
 use fwu_formats::ManifestFault;
 use host_io::{Files, Sink};
 use manifest_core::{Manifest, ManifestStop, Row};
-use std::alloc::Global;
+use std::alloc::{AllocError, Global};
 
 // The longest image that a manifest may have, in bytes.
 const IMAGE_LIMIT: usize = 1_048_576;
@@ -52,23 +53,20 @@ fn row_of_file<H: Files>(
     ensures reads { ReadsOnly (H.contents files.old) (H.contents files.new) (H.faults files.old)
         (H.faults files.new) result }
     ensures unwritten { H.writes files.new ≡ H.writes files.old }
+    ensures late { IfErr result IsLate }
 {
-    match read_file(alloc, files, named.file) {
-        Ok(image) => Ok(row_of(named.guid, named.version, image.as_slice())),
-        Err(stop) => Err(stop),
-    }
+    let image = read_file(alloc, files, named.file)?;
+    Ok(row_of(named.guid, named.version, image.as_slice()))
 }
 
 // The rows with one more, or nothing where one is wanting.
-fn with_row(rows: Option<Vec<Row>>, more: Option<Row>) -> Result<Option<Vec<Row>>, NoMemory>
+fn with_row(rows: Option<Vec<Row>>, more: Option<Row>) -> Result<Option<Vec<Row>>, AllocError>
     ensures { IfOk result (λ now. option_map (λ v. v.items) now ≡ option_and_then
         (λ rs. option_map (λ r. rs ++ (r ∷ [])) more) (option_map (λ v. v.items) rows)) }
 {
     match (rows, more) {
         (Some(mut rows), Some(more)) => {
-            if rows.push(more).is_err() {
-                return Err(NoMemory);
-            }
+            rows.push(more)?;
             Ok(Some(rows))
         }
         _ => Ok(None),
@@ -89,17 +87,12 @@ fn rows_of_files<H: Files>(
         (H.faults files.new) result }
     ensures unwritten { H.writes files.new ≡ H.writes files.old }
     ensures count { IfOk result (λ rows. IfSome rows (λ v. length v.items ≡ length named.now)) }
+    ensures late { IfErr result IsLate }
 {
     let mut rows = Some(Vec::new(alloc));
     for one in named {
-        let more = match row_of_file(alloc, files, one) {
-            Ok(more) => more,
-            Err(stop) => return Err(stop),
-        };
-        rows = match with_row(rows, more) {
-            Ok(rows) => rows,
-            Err(_) => return Err(Stop::NoMemory),
-        };
+        let more = row_of_file(alloc, files, one)?;
+        rows = with_row(rows, more)?;
     }
     Ok(rows)
 }
@@ -112,6 +105,7 @@ fn manifest_of_rows(alloc: Global, security: u32, rows: Vec<Row>) -> Result<(u64
     ensures count { IfOk result (λ m. m.0 ≡ length rows.items) }
     ensures usage { result ≡ Err stop.Usage → ⊥ }
     ensures sink { result ≡ Err stop.SinkFault → ⊥ }
+    ensures refusals { IfErr result IsOfManifest }
 {
     let count = rows.len() as u64;
     let manifest = match Manifest::of_rows(alloc, security, rows) {
@@ -119,10 +113,7 @@ fn manifest_of_rows(alloc: Global, security: u32, rows: Vec<Row>) -> Result<(u64
         Err(ManifestStop::Fault(fault)) => return Err(Stop::NoManifest(fault)),
         Err(ManifestStop::NoMemory) => return Err(Stop::NoMemory),
     };
-    match manifest.write(alloc) {
-        Ok(bytes) => Ok((count, bytes)),
-        Err(_) => Err(Stop::NoMemory),
-    }
+    Ok((count, manifest.write(alloc)?))
 }
 
 // Why there is no manifest of so many images, of which one is too long.
@@ -131,6 +122,7 @@ fn refusal(count: usize) -> Stop
         else stop.NoManifest fault.TooLarge) }
     ensures usage { result ≡ stop.Usage → ⊥ }
     ensures sink { result ≡ stop.SinkFault → ⊥ }
+    ensures refusals { IsOfManifest result }
 {
     if count == 0 || count > 15 {
         Stop::NoManifest(ManifestFault::BadCount)
@@ -144,6 +136,7 @@ fn check_count(count: usize, is_long: bool) -> Result<(), Stop>
     ensures value { Gives nothing ⊥ (unless_long count is_long) result }
     ensures usage { result ≡ Err stop.Usage → ⊥ }
     ensures sink { result ≡ Err stop.SinkFault → ⊥ }
+    ensures refusals { IfErr result IsOfManifest }
 {
     if count == 0 || count > 15 || is_long {
         return Err(refusal(count));
@@ -159,11 +152,9 @@ fn is_long_file<H: Files>(files: &mut H, named: &ImageWord<'_>) -> Result<bool, 
     ensures reads { ReadsOnly (H.contents files.old) (H.contents files.new) (H.faults files.old)
         (H.faults files.new) result }
     ensures unwritten { H.writes files.new ≡ H.writes files.old }
+    ensures late { IfErr result IsLate }
 {
-    match size_of(files, named.file) {
-        Ok(size) => Ok(size > IMAGE_LIMIT as u64),
-        Err(stop) => Err(stop),
-    }
+    Ok(size_of(files, named.file)? > IMAGE_LIMIT as u64)
 }
 
 // Whether there is a manifest of named images. It asks for the sizes of all files, and reads none.
@@ -174,13 +165,12 @@ fn check_sizes<H: Files>(files: &mut H, named: &[ImageWord<'_>]) -> Result<(), S
     ensures reads { ReadsOnly (H.contents files.old) (H.contents files.new) (H.faults files.old)
         (H.faults files.new) result }
     ensures unwritten { H.writes files.new ≡ H.writes files.old }
+    ensures refusals { IfErr result IsOfManifest }
 {
     let mut is_long = false;
     for one in named {
-        match is_long_file(files, one) {
-            Ok(more) => is_long = is_long || more,
-            Err(stop) => return Err(stop),
-        }
+        let more = is_long_file(files, one)?;
+        is_long = is_long || more;
     }
     check_count(named.len(), is_long)
 }
@@ -200,15 +190,12 @@ pub fn manifest<H: Files>(
     ensures reads { ReadsOnly (H.contents files.old) (H.contents files.new) (H.faults files.old)
         (H.faults files.new) result }
     ensures unwritten { H.writes files.new ≡ H.writes files.old }
+    ensures refusals { IfErr result IsOfManifest }
 {
-    match check_sizes(files, named) {
-        Ok(()) => {}
-        Err(stop) => return Err(stop),
-    }
-    match rows_of_files(alloc, files, named) {
-        Ok(Some(rows)) => manifest_of_rows(alloc, security, rows),
-        Ok(None) => Err(refusal(named.len())),
-        Err(stop) => Err(stop),
+    check_sizes(files, named)?;
+    match rows_of_files(alloc, files, named)? {
+        Some(rows) => manifest_of_rows(alloc, security, rows),
+        None => Err(refusal(named.len())),
     }
 }
 
@@ -240,13 +227,10 @@ pub fn run_manifest<H: Files, O: Sink>(
     ensures usage { result ≡ Err stop.Usage → ⊥ }
     ensures later { O.faults sink.old ≤ O.faults sink.new }
     ensures sink_count { O.faults sink.new ≡ sink_failures result (O.faults sink.old) }
+    ensures refusals { IfErr result
+        (MayRefuse (Some (Asked.manifest out.now security (map image_view named.now)))) }
 {
-    let (rows, bytes) = match manifest(alloc, files, security, named) {
-        Ok(made) => made,
-        Err(stop) => return Err(stop),
-    };
-    let Ok(line) = manifest_line(alloc, rows, bytes.len() as u64, security) else {
-        return Err(Stop::NoMemory);
-    };
+    let (rows, bytes) = manifest(alloc, files, security, named)?;
+    let line = manifest_line(alloc, rows, bytes.len() as u64, security)?;
     write_and_print(files, sink, out, bytes.as_slice(), line.as_slice())
 }

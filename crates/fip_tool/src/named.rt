@@ -1,7 +1,9 @@
 //! The entries of a package that the words name, each by its type.
-ghost use Rattle.std.specs.Prelude.{◌≡◌, ◌<◌, ◌+◌, ◌^◌, All, IfOk, None, Some, Ok};
+ghost use Rattle.std.specs.Prelude.{◌≡◌, ◌<◌, ◌+◌, ◌^◌, All, IfOk, None, Some, Ok, IfErr, length};
 ghost use Rattle.base_core.specs.Counts.{Rose};
 ghost use Rattle.host_io.specs.Contents.{Directory};
+ghost use Rattle.fip_tool.specs.Refusals.{IsOfEntries, IsOfPackage};
+ghost use Rattle.fip_tool.specs.Said.{IsTable};
 ghost use Rattle.fip_tool.specs.Steps.{Gives, ReadsOnly};
 ghost use Rattle.fip_tool.specs.Tool.{after, first_missing, is_named, sized_table, unless_missing};
 
@@ -33,16 +35,17 @@ pub fn table_with<H: Files>(files: &mut H, name: &str, guids: &[Guid]) -> Result
         (after (sized_table told name.now)
         (λ t. unless_missing (first_missing t.0 guids.now) (Ok t.0))) result }
     ensures all { IfOk result (λ t. first_missing t guids.now ≡ None) }
+    ensures table { IfOk result IsTable }
     ensures ends { IfOk result (λ t. All (λ e. e.offset + e.size < 2 ^ 64) t.entries) }
     ensures reads { ReadsOnly (H.contents files.old) (H.contents files.new) (H.faults files.old)
         (H.faults files.new) result }
     ensures unwritten { H.writes files.new ≡ H.writes files.old }
+    ensures refusals { IfErr result IsOfEntries }
+    ensures unnamed { length guids.now ≡ 0 → IfErr result IsOfPackage }
 {
-    match read_package(files, name) {
-        Ok((toc, _)) => match first_missing(&toc, guids) {
-            None => Ok(toc),
-            Some(guid) => Err(Stop::NoSuchEntry(guid)),
-        },
-        Err(stop) => Err(stop),
+    let (toc, _) = read_package(files, name)?;
+    match first_missing(&toc, guids) {
+        None => Ok(toc),
+        Some(guid) => Err(Stop::NoSuchEntry(guid)),
     }
 }

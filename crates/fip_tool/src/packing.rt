@@ -1,19 +1,19 @@
-//! Packages that are made: each payload is read straight to its place.
-ghost use Rattle.std.specs.Prelude.{◌≡◌, All, Err, IfOk, List, Some, length, map};
-ghost use Rattle.base_core.specs.Counts.{Rose};
-ghost use Rattle.fwu_formats.specs.Package.{Part, packed_entries};
-ghost use Rattle.fip_tables.specs.Frame.{IsFrame, table_end};
+//! Packages that are made of payloads, by their sizes: no file is read for them.
+ghost use Rattle.std.specs.Prelude.{◌≡◌, All, Err, IfErr, IfOk, List, Option, Some, length, map};
+ghost use Rattle.fwu_formats.specs.Package.{Part, packed};
+ghost use Rattle.fip_tables.specs.Frame.{chunks};
 ghost use Rattle.fip_tables.specs.Packing.{zeroed};
 ghost use Rattle.host_io.specs.Contents.{Directory};
-ghost use Rattle.fip_tool.specs.Steps.{Gives, ReadsOnly};
-ghost use Rattle.fip_tool.specs.Payloads.{IsThere, outline_of, part_told};
+ghost use Rattle.host_io.specs.Joined.{joined};
+ghost use Rattle.fip_tool.specs.Refusals.{IsOfPacking};
+ghost use Rattle.fip_tool.specs.Steps.{AsksNothing, Gives};
+ghost use Rattle.fip_tool.specs.Payloads.{IsThere, IsWhole, made_by, outline_of, part_told};
 ghost use Rattle.fip_tool.specs.Tool.{fit_value, nothing, pack_value};
-ghost use Rattle.fip_tool.specs.declared.stops.Stop.TheVariants as stop;
 
+use crate::made::Made;
 use crate::payloads::Payload;
 use crate::stops::Stop;
-use fip_tables::{Frame, Outline, PackStop};
-use host_io::Files;
+use fip_tables::{Frame, Outline, PackStop, package_frame};
 use std::alloc::{AllocError, Global};
 
 /// The payloads by their sizes.
@@ -26,7 +26,7 @@ pub fn outlines(alloc: Global, payloads: &[Payload<'_>]) -> Result<Vec<Outline>,
         .collect(alloc)
 }
 
-// A package that has none of its payloads yet.
+// What a package has besides its payloads.
 fn frame_of(
     alloc: Global,
     serial: u32,
@@ -34,54 +34,39 @@ fn frame_of(
     outlines: &[Outline],
     align: u32,
 ) -> Result<Frame, Stop>
-    ensures frame { IfOk result (λ f. (parts : List Part) → map zeroed parts ≡ outlines.now
-        → IsFrame f serial flags parts align) }
-    ensures none_in { IfOk result (λ f. f.count ≡ 0) }
-    ensures entries { IfOk result (λ f. f.entries ≡ packed_entries align
-        (table_end outlines.now) outlines.now) }
+    ensures joined { IfOk result (λ f. (parts : List Part) → map zeroed parts ≡ outlines.now
+        → joined f.bytes.items (chunks f.gaps.items parts) ≡ packed serial flags parts align) }
+    ensures size { IfOk result (λ f. (parts : List Part) → map zeroed parts ≡ outlines.now
+        → f.size ≡ length (packed serial flags parts align)) }
     ensures value { Gives nothing ⊥ (fit_value outlines.now align) result }
-    ensures cause { result ≡ Err stop.FileFault → ⊥ }
-    ensures usage { result ≡ Err stop.Usage → ⊥ }
-    ensures sink { result ≡ Err stop.SinkFault → ⊥ }
+    ensures asks { AsksNothing result }
+    ensures refusals { IfErr result IsOfPacking }
 {
-    match Frame::new(alloc, serial, flags, outlines, align) {
+    match package_frame(alloc, serial, flags, outlines, align) {
         Ok(frame) => Ok(frame),
         Err(PackStop::Fault(fault)) => Err(Stop::NotPacked(fault)),
         Err(PackStop::NoMemory) => Err(Stop::NoMemory),
     }
 }
 
-/// The package of these payloads: how many, and its bytes. Where their sizes fit no package, none of
-/// them is read.
-pub fn packed<H: Files>(
+/// The package of these payloads, where their sizes fit one.
+pub fn packed<'a>(
     alloc: Global,
-    files: &mut H,
     serial: u32,
     flags: u64,
     align: u32,
-    payloads: &[Payload<'_>],
-) -> Result<(u64, Vec<u8>), Stop>
-    requires there { All (IsThere (H.contents files.old)) payloads.now }
-    ensures told { (told : Directory) → H.contents files.old ≡ Some told
-        → Gives (λ m. (m.0, m.1.items)) (Rose (H.faults files.old) (H.faults files.new))
-        (pack_value serial flags (map (part_told told) payloads.now) align) result }
-    ensures count { IfOk result (λ m. m.0 ≡ length payloads.now) }
-    ensures reads { ReadsOnly (H.contents files.old) (H.contents files.new) (H.faults files.old)
-        (H.faults files.new) result }
-    ensures unwritten { H.writes files.new ≡ H.writes files.old }
+    payloads: &[Payload<'a>],
+) -> Result<Made<'a>, Stop>
+    ensures told { (told : Directory) → All (IsThere (Some told)) payloads.now
+        → Gives (made_by told) ⊥ (pack_value serial flags (map (part_told told) payloads.now) align)
+        result }
+    ensures whole { (told : Option Directory) → All (IsThere told) payloads.now
+        → IfOk result (IsWhole told) }
+    ensures count { IfOk result (λ m. m.count ≡ length payloads.now) }
+    ensures asks { AsksNothing result }
+    ensures refusals { IfErr result IsOfPacking }
 {
-    let Ok(outlines) = outlines(alloc, payloads) else {
-        return Err(Stop::NoMemory);
-    };
-    let mut frame = match frame_of(alloc, serial, flags, outlines.as_slice(), align) {
-        Ok(frame) => frame,
-        Err(stop) => return Err(stop),
-    };
-    for payload in payloads {
-        match frame.read(files, payload.file, payload.at) {
-            Ok(()) => {}
-            Err(_) => return Err(Stop::FileFault),
-        }
-    }
-    Ok((payloads.len() as u64, frame.into_bytes()))
+    let outlines = outlines(alloc, payloads)?;
+    let frame = frame_of(alloc, serial, flags, outlines.as_slice(), align)?;
+    Ok(Made::new(alloc, frame, payloads)?)
 }

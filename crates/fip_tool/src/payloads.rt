@@ -1,11 +1,11 @@
 //! The payloads of packages that are made: what each is, and where it is read.
-ghost use Rattle.std.specs.Prelude.{◌≡◌, ◌<◌, ◌≤◌, ◌+◌, ◌^◌, All, IfOk, List, Option, Some, None, ℕ, find, length, map};
+ghost use Rattle.std.specs.Prelude.{◌≡◌, ◌<◌, ◌≤◌, ◌+◌, ◌^◌, All, IfOk, List, Option, Some, None, ℕ, find, length, map, IfErr};
 ghost use Rattle.base_core.specs.Bytes.{same_bytes};
 ghost use Rattle.base_core.specs.Counts.{Rose};
 ghost use Rattle.host_io.specs.Contents.{Directory};
 ghost use Rattle.fip_words.specs.Order.{part_view};
-ghost use Rattle.fip_tool.specs.Steps.{Gives, ReadsOnly};
-ghost use Rattle.fip_tool.specs.Payloads.{HasEntry, IsThere, outline_of, part_told};
+ghost use Rattle.fip_tool.specs.Steps.{Gives, ReadsOnly, IsLate};
+ghost use Rattle.fip_tool.specs.Payloads.{HasEntry, IsThere, outline_of, part_told, piece_of};
 ghost use Rattle.fip_tool.specs.Tool.{part_in, parts_in, there, updated_part};
 
 use crate::stops::Stop;
@@ -13,7 +13,7 @@ use crate::table::size_of;
 use base_core::{Guid, NoMemory};
 use fip_tables::{Entry, Outline};
 use fip_words::FileWord;
-use host_io::Files;
+use host_io::{Files, Piece};
 use std::alloc::Global;
 
 /// A payload of a package to come: its type and its flags, and where it is read, so many bytes from
@@ -38,6 +38,18 @@ impl<'a> Payload<'a> {
             size: self.size,
         }
     }
+
+    /// The piece of a file that it is, behind a gap.
+    pub fn piece(&self, gap: usize) -> Piece<'a>
+        ensures { result ≡ piece_of gap self.now }
+    {
+        Piece {
+            gap,
+            file: self.file,
+            at: self.at,
+            count: self.size,
+        }
+    }
 }
 
 // The payload that a named file is, whole.
@@ -49,17 +61,16 @@ fn payload_of_file<'a, H: Files>(files: &mut H, named: &FileWord<'a>) -> Result<
     ensures reads { ReadsOnly (H.contents files.old) (H.contents files.new) (H.faults files.old)
         (H.faults files.new) result }
     ensures unwritten { H.writes files.new ≡ H.writes files.old }
+    ensures late { IfErr result IsLate }
 {
-    match size_of(files, named.file) {
-        Ok(size) => Ok(Payload {
-            guid: named.guid,
-            flags: 0,
-            size,
-            file: named.file,
-            at: 0,
-        }),
-        Err(stop) => Err(stop),
-    }
+    let size = size_of(files, named.file)?;
+    Ok(Payload {
+        guid: named.guid,
+        flags: 0,
+        size,
+        file: named.file,
+        at: 0,
+    })
 }
 
 /// The payloads that named files are. It asks for the sizes of the files, and reads none of them.
@@ -76,6 +87,7 @@ pub fn payloads_of_files<'a, H: Files>(
     ensures reads { ReadsOnly (H.contents files.old) (H.contents files.new) (H.faults files.old)
         (H.faults files.new) result }
     ensures unwritten { H.writes files.new ≡ H.writes files.old }
+    ensures late { IfErr result IsLate }
 {
     let mut payloads = Vec::new(alloc);
     for one in named {

@@ -31,13 +31,9 @@ fn read_range<H: Files>(
         (H.faults files.new) result }
     ensures unwritten { H.writes files.new ≡ H.writes files.old }
 {
-    let Ok(mut bytes) = Vec::with_capacity(alloc, size as usize) else {
-        return Err(Stop::NoMemory);
-    };
-    match files.read_onto(name, at, size as usize, &mut bytes) {
-        Ok(()) => Ok(bytes),
-        Err(_) => Err(Stop::FileFault),
-    }
+    let mut bytes = Vec::with_capacity(alloc, size as usize)?;
+    files.read_onto(name, at, size as usize, &mut bytes)?;
+    Ok(bytes)
 }
 
 /// The bytes of a file.
@@ -48,11 +44,10 @@ pub fn read_file<H: Files>(alloc: Global, files: &mut H, name: &str) -> Result<V
     ensures reads { ReadsOnly (H.contents files.old) (H.contents files.new) (H.faults files.old)
         (H.faults files.new) result }
     ensures unwritten { H.writes files.new ≡ H.writes files.old }
+    ensures late { IfErr result IsLate }
 {
-    match size_of(files, name) {
-        Ok(size) => read_range(alloc, files, name, 0, size),
-        Err(stop) => Err(stop),
-    }
+    let size = size_of(files, name)?;
+    read_range(alloc, files, name, 0, size)
 }
 
 /// The bytes of a payload.

@@ -1,9 +1,15 @@
 //! Why a command ended before all was done.
 
+ghost use Rattle.std.specs.Prelude.{◌≡◌};
+ghost use Rattle.fip_tool.specs.Tool.{capsule_stopped_by, stopped_by, unwritten_by};
+ghost use Rattle.fip_tool.specs.declared.stops.Stop.TheVariants as stop;
+
 use base_core::{Guid, NoMemory as NoMemoryFound};
-use capsule_tables::CapsuleFault;
-use fip_tables::PackFault;
+use capsule_tables::{CapsuleFault, CapsuleStop};
+use fip_tables::{PackFault, TocStop};
 use fwu_formats::{FipFault, ManifestFault};
+use host_io::{Failed, WriteStop};
+use std::alloc::AllocError;
 use thiserror::Error;
 
 /// Why a command ended before all was done.
@@ -41,18 +47,65 @@ pub enum Stop {
 }
 
 impl From<NoMemoryFound> for Stop {
-    ghost use Rattle.std.specs.Prelude.{◌≡◌};
-    ghost use Rattle.fip_tool.specs.declared.stops.Stop.TheVariants as stop;
-
-    ghost from_gives = { λ found result. result ≡ stop.NoMemory };
+    ghost from_gives = { λ _ stopped. stopped ≡ stop.NoMemory };
 
     fn from(_: NoMemoryFound) -> Stop {
         Stop::NoMemory
     }
 }
 
+impl From<AllocError> for Stop {
+    ghost from_gives = { λ _ stopped. stopped ≡ stop.NoMemory };
+
+    fn from(_: AllocError) -> Stop {
+        Stop::NoMemory
+    }
+}
+
+// Of a file that was not written.
+impl From<WriteStop> for Stop {
+    ghost from_gives = { λ given stopped. stopped ≡ unwritten_by given };
+
+    fn from(given: WriteStop) -> Stop {
+        match given {
+            WriteStop::Failed => Stop::FileFault,
+            WriteStop::NoMemory => Stop::NoMemory,
+        }
+    }
+}
+
+// Of a file that was not read, or of the source.
+impl From<Failed> for Stop {
+    ghost from_gives = { λ _ stopped. stopped ≡ stop.FileFault };
+
+    fn from(_: Failed) -> Stop {
+        Stop::FileFault
+    }
+}
+
+impl From<TocStop> for Stop {
+    ghost from_gives = { λ given stopped. stopped ≡ stopped_by given };
+
+    fn from(given: TocStop) -> Stop {
+        match given {
+            TocStop::Fault(fault) => Stop::NotFip(fault),
+            TocStop::ReadFailed => Stop::FileFault,
+        }
+    }
+}
+
+impl From<CapsuleStop> for Stop {
+    ghost from_gives = { λ given stopped. stopped ≡ capsule_stopped_by given };
+
+    fn from(given: CapsuleStop) -> Stop {
+        match given {
+            CapsuleStop::Fault(fault) => Stop::NotCapsule(fault),
+            CapsuleStop::ReadFailed => Stop::FileFault,
+        }
+    }
+}
+
 impl Stop {
-    ghost use Rattle.std.specs.Prelude.{◌≡◌};
     ghost use Rattle.fip_tool.specs.Ends.{status_number};
 
     /// The exit status.

@@ -1,20 +1,21 @@
 //! The table of contents of a package, from a file or from the source, or of a capsule.
-ghost use Rattle.std.specs.Prelude.{◌≡◌, ◌≤◌, ◌<◌, ◌+◌, ◌^◌, All, IfOk, List, Some, Ok, Err, length, ℕ, ◌++◌};
+ghost use Rattle.std.specs.Prelude.{◌≡◌, ◌≤◌, ◌<◌, ◌+◌, ◌^◌, All, IfOk, List, Some, Ok, Err, length, ℕ, ◌++◌, IfErr};
 ghost use Rattle.std.specs.Io.KnownBytes.{Consumes, IsAtEnd};
 ghost use Rattle.base_core.specs.Counts.{Rose};
 ghost use Rattle.host_io.specs.Contents.{Directory};
 ghost use Rattle.fwu_formats.specs.Package.{toc_of};
 ghost use Rattle.fip_tables.specs.Answers.{decided};
 ghost use Rattle.fip_tables.specs.Stream.{Fed};
-ghost use Rattle.fip_tool.specs.Steps.{Gives, ReadsOnly, source_failures};
-ghost use Rattle.fip_tool.specs.Tool.{GivenTo, StopsInTime, after, capsule_in, capsule_stopped_by, given_table, size_in, sized_table, source_limit, stopped_by};
+ghost use Rattle.fip_tool.specs.Refusals.{IsOfCapsule, IsOfPackage, IsOfSource};
+ghost use Rattle.fip_tool.specs.Steps.{Gives, ReadsOnly, source_failures, IsLate};
+ghost use Rattle.fip_tool.specs.Tool.{GivenTo, StopsInTime, after, capsule_in, given_table, size_in, sized_table, source_limit};
 ghost use Rattle.fip_tool.specs.Said.{IsTable};
 ghost use Rattle.fip_tool.specs.Source.{EndsAs, FedSome};
 ghost use Rattle.fip_tool.specs.declared.stops.Stop.TheVariants as stop;
 
 use crate::stops::Stop;
-use capsule_tables::{CapsuleStop, read_capsule};
-use fip_tables::{StreamToc, Toc, TocStop, read_toc};
+use capsule_tables::read_capsule;
+use fip_tables::{StreamToc, Toc, read_toc};
 use host_io::{Files, Source};
 
 // The most bytes that are read of the source.
@@ -29,19 +30,11 @@ pub fn size_of<H: Files>(files: &mut H, name: &str) -> Result<u64, Stop>
     ensures reads { ReadsOnly (H.contents files.old) (H.contents files.new) (H.faults files.old)
         (H.faults files.new) result }
     ensures unwritten { H.writes files.new ≡ H.writes files.old }
+    ensures late { IfErr result IsLate }
 {
-    match files.size(name) {
-        Ok(Some(size)) => Ok(size),
-        Ok(None) | Err(_) => Err(Stop::FileFault),
-    }
-}
-
-fn stop_of(stop: TocStop) -> Stop
-    ensures { result ≡ stopped_by stop }
-{
-    match stop {
-        TocStop::Fault(fault) => Stop::NotFip(fault),
-        TocStop::ReadFailed => Stop::FileFault,
+    match files.size(name)? {
+        Some(size) => Ok(size),
+        None => Err(Stop::FileFault),
     }
 }
 
@@ -55,24 +48,11 @@ pub fn read_package<H: Files>(files: &mut H, name: &str) -> Result<(Toc, u64), S
     ensures reads { ReadsOnly (H.contents files.old) (H.contents files.new) (H.faults files.old)
         (H.faults files.new) result }
     ensures unwritten { H.writes files.new ≡ H.writes files.old }
+    ensures refusals { IfErr result IsOfPackage }
 {
-    let size = match size_of(files, name) {
-        Ok(size) => size,
-        Err(stop) => return Err(stop),
-    };
-    match read_toc(files, name) {
-        Ok(toc) => Ok((toc, size)),
-        Err(stop) => Err(stop_of(stop)),
-    }
-}
-
-fn capsule_stop_of(stop: CapsuleStop) -> Stop
-    ensures { result ≡ capsule_stopped_by stop }
-{
-    match stop {
-        CapsuleStop::Fault(fault) => Stop::NotCapsule(fault),
-        CapsuleStop::ReadFailed => Stop::FileFault,
-    }
+    let size = size_of(files, name)?;
+    let toc = read_toc(files, name)?;
+    Ok((toc, size))
 }
 
 /// The table of a capsule in a file.
@@ -83,11 +63,9 @@ pub fn read_enclosed<H: Files>(files: &mut H, name: &str) -> Result<Toc, Stop>
     ensures reads { ReadsOnly (H.contents files.old) (H.contents files.new) (H.faults files.old)
         (H.faults files.new) result }
     ensures unwritten { H.writes files.new ≡ H.writes files.old }
+    ensures refusals { IfErr result IsOfCapsule }
 {
-    match read_capsule(files, name) {
-        Ok(toc) => Ok(toc),
-        Err(stop) => Err(capsule_stop_of(stop)),
-    }
+    Ok(read_capsule(files, name)?)
 }
 
 // Feeds what one read of the source gives, and says how many bytes that is.
@@ -101,12 +79,10 @@ fn feed_some<I: Source>(source: &mut I, stream: &mut StreamToc) -> Result<usize,
     ensures sink { result ≡ Err stop.SinkFault → ⊥ }
     ensures later { I.faults source.old ≤ I.faults source.new }
     ensures count { I.faults source.new ≡ source_failures result (I.faults source.old) }
+    ensures refusals { IfErr result IsOfSource }
 {
     let mut buffer = [0u8; 4096];
-    let count = match source.read(&mut buffer) {
-        Ok(count) => count,
-        Err(_) => return Err(Stop::FileFault),
-    };
+    let count = source.read(&mut buffer)?;
     match stream.feed(&buffer[..count]) {
         Ok(()) => Ok(count),
         Err(fault) => Err(Stop::NotFip(fault)),
@@ -122,6 +98,7 @@ fn ended(stream: StreamToc, count: u64) -> Result<(Toc, u64), Stop>
     ensures usage { result ≡ Err stop.Usage → ⊥ }
     ensures sink { result ≡ Err stop.SinkFault → ⊥ }
     ensures fault { result ≡ Err stop.FileFault → ⊥ }
+    ensures refusals { IfErr result IsOfSource }
 {
     match stream.end() {
         Ok(toc) => Ok((toc, count)),
@@ -139,14 +116,12 @@ pub fn read_given<I: Source>(source: &mut I) -> Result<(Toc, u64), Stop>
     ensures sink { result ≡ Err stop.SinkFault → ⊥ }
     ensures later { I.faults source.old ≤ I.faults source.new }
     ensures count { I.faults source.new ≡ source_failures result (I.faults source.old) }
+    ensures refusals { IfErr result IsOfSource }
 {
     let mut stream = StreamToc::new();
     let mut count = 0;
     while count <= SOURCE_LIMIT {
-        let some = match feed_some(source, &mut stream) {
-            Ok(some) => some,
-            Err(stop) => return Err(stop),
-        };
+        let some = feed_some(source, &mut stream)?;
         if some == 0 {
             return ended(stream, count);
         }

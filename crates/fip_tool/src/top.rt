@@ -1,10 +1,11 @@
 //! The tool: it reads its words, does the command, and tells how it ended.
-ghost use Rattle.std.specs.Prelude.{◌==◌, if◌then◌else◌, ◌≡◌, ◌≢◌, ◌≤◌, ◌⊎◌, IsFalse, List, Option, Some, None, Ok, Err, ℕ, false, map, string_bytes};
+ghost use Rattle.std.specs.Prelude.{◌==◌, if◌then◌else◌, ◌≡◌, ◌≢◌, ◌≤◌, ◌⊎◌, IsFalse, List, Option, Some, None, Ok, Err, ℕ, false, map, string_bytes, IfErr};
 ghost use Rattle.base_core.specs.Counts.{Rose};
 ghost use Rattle.host_io.specs.Calls.{raised};
 ghost use Rattle.host_io.specs.Contents.{Directory};
 ghost use Rattle.fip_words.specs.Order.{Asked, asked, info_of_source, view};
 ghost use Rattle.fip_words.specs.Values.{is_unpacked};
+ghost use Rattle.fip_tool.specs.Refusals.{EndsFor, MayRefuse};
 ghost use Rattle.fip_tool.specs.Converted.{Converts};
 ghost use Rattle.fip_tool.specs.Done.{Done};
 ghost use Rattle.fip_tool.specs.Ends.{Ended, Reported, Told};
@@ -48,11 +49,10 @@ fn info<H: Files, O: Sink>(
     ensures usage { result ≡ Err stop.Usage → ⊥ }
     ensures later { O.faults sink.old ≤ O.faults sink.new }
     ensures sink_count { O.faults sink.new ≡ sink_failures result (O.faults sink.old) }
+    ensures refusals { IfErr result (MayRefuse (Some (Asked.info name.now))) }
 {
-    match file_info(alloc, files, name) {
-        Ok(text) => print(sink, text.as_slice()),
-        Err(stop) => Err(stop),
-    }
+    let text = file_info(alloc, files, name)?;
+    print(sink, text.as_slice())
 }
 
 fn info_of_source<I: Source, O: Sink>(
@@ -72,11 +72,10 @@ fn info_of_source<I: Source, O: Sink>(
     ensures later { O.faults sink.old ≤ O.faults sink.new }
     ensures source_count { I.faults source.new ≡ source_failures result (I.faults source.old) }
     ensures sink_count { O.faults sink.new ≡ sink_failures result (O.faults sink.old) }
+    ensures refusals { IfErr result (MayRefuse (Some info_of_source)) }
 {
-    match source_info(alloc, source) {
-        Ok(text) => print(sink, text.as_slice()),
-        Err(stop) => Err(stop),
-    }
+    let text = source_info(alloc, source)?;
+    print(sink, text.as_slice())
 }
 
 // Tells why a command ended, and says why the tool ends then.
@@ -231,6 +230,8 @@ pub fn fip_top<H: Files, I: Source, O: Sink>(
     ensures usage { result ≡ 1 → asked (map string_bytes words.now) ≡ None }
     ensures words { asked (map string_bytes words.now) ≡ None → (result ≡ 1) ⊎ (result ≡ 3)
         ⊎ (result ≡ 9) }
+    // No command answers a refusal of another one, whatever files there are.
+    ensures refusals { EndsFor (asked (map string_bytes words.now)) result }
     // Nothing but a listing of the source reads it.
     ensures source_stays { asked (map string_bytes words.now) ≢ Some info_of_source
         → (I.left source.new ≡ I.left source.old) × (I.faults source.new ≡ I.faults source.old) }

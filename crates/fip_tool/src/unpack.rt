@@ -1,14 +1,15 @@
 //! `unpack`: payloads that are written to files of their own.
-ghost use Rattle.std.specs.Prelude.{◌≡◌, ◌≢◌, ◌≤◌, ◌+◌, ◌++◌, ◌||◌, ◌==◌, All, IfOk, OnOk, List, Some, None, Ok, Err, ℕ, codes, decimal, false, filter, length, map, string_bytes};
+ghost use Rattle.std.specs.Prelude.{◌≡◌, ◌≢◌, ◌≤◌, ◌+◌, ◌++◌, ◌||◌, ◌==◌, All, IfOk, OnOk, List, Some, None, Ok, Err, ℕ, codes, decimal, false, filter, length, map, string_bytes, IfErr};
 ghost use Rattle.base_core.specs.Counts.{Rose};
 ghost use Rattle.base_core.specs.Guid.{guid_text};
 ghost use Rattle.fip_tables.specs.Files.{Lacks, Tells};
 ghost use Rattle.fip_words.specs.Order.{Asked};
 ghost use Rattle.fip_words.specs.Values.{is_unpacked};
 ghost use Rattle.host_io.specs.Contents.{Directory};
+ghost use Rattle.fip_tool.specs.Refusals.{MayRefuse};
 ghost use Rattle.fip_tool.specs.Lines.{unpacked_line, unpacked_name};
 ghost use Rattle.fip_tool.specs.Said.{IsTexts, Says};
-ghost use Rattle.fip_tool.specs.Steps.{Did, FaultsOnce, Makes, outcome_by, sink_failures};
+ghost use Rattle.fip_tool.specs.Steps.{Did, FaultsOnce, Makes, outcome_by, sink_failures, IsLate};
 ghost use Rattle.fip_tool.specs.Tool.{is_named, unpack_steps, unpack_value};
 ghost use Rattle.fip_tool.specs.Wrote.{Wrote};
 ghost use Rattle.fip_tool.specs.Unpacked.{Unpacked};
@@ -70,16 +71,9 @@ fn unpack_entry<H: Files, O: Sink>(
     ensures { Unpacked H.contents H.faults H.writes O.taken O.faults from.now prefix.now entry.now
         result files.old files.new sink.old sink.new }
 {
-    let bytes = match read_payload(alloc, files, from, entry) {
-        Ok(bytes) => bytes,
-        Err(stop) => return Err(stop),
-    };
-    let Ok(name) = file_name(alloc, prefix, &entry.guid) else {
-        return Err(Stop::NoMemory);
-    };
-    let Ok(line) = unpacked_line(alloc, entry, name.as_str()) else {
-        return Err(Stop::NoMemory);
-    };
+    let bytes = read_payload(alloc, files, from, entry)?;
+    let name = file_name(alloc, prefix, &entry.guid)?;
+    let line = unpacked_line(alloc, entry, name.as_str())?;
     write_and_print(
         files,
         sink,
@@ -132,13 +126,11 @@ fn unpack_entries<H: Files, O: Sink>(
     ensures later { H.faults files.old ≤ H.faults files.new }
     ensures later_sink { O.faults sink.old ≤ O.faults sink.new }
     ensures sink_count { O.faults sink.new ≡ sink_failures result (O.faults sink.old) }
+    ensures late { IfErr result IsLate }
 {
     for entry in entries {
         if is_chosen(names, entry) {
-            match unpack_entry(alloc, files, sink, from, prefix, entry) {
-                Ok(()) => {}
-                Err(stop) => return Err(stop),
-            }
+            unpack_entry(alloc, files, sink, from, prefix, entry)?;
         }
     }
     Ok(())
@@ -174,12 +166,10 @@ pub fn run_unpack<H: Files, O: Sink>(
     ensures usage { result ≡ Err stop.Usage → ⊥ }
     ensures later { O.faults sink.old ≤ O.faults sink.new }
     ensures sink_count { O.faults sink.new ≡ sink_failures result (O.faults sink.old) }
+    ensures refusals { IfErr result
+        (MayRefuse (Some (Asked.unpack from.now prefix.now names.now))) }
 {
-    match table_with(files, from, names) {
-        Ok(toc) => {
-            let entries = toc.entries.as_slice();
-            unpack_entries(alloc, files, sink, from, prefix, names, entries)
-        }
-        Err(stop) => Err(stop),
-    }
+    let toc = table_with(files, from, names)?;
+    let entries = toc.entries.as_slice();
+    unpack_entries(alloc, files, sink, from, prefix, names, entries)
 }

@@ -1,15 +1,16 @@
 //! A file that is written, and the line that is printed then.
-ghost use Rattle.std.specs.Prelude.{◌≡◌, ◌⊎◌, ◌≤◌, ◌∷◌, [], List, Some, None, Ok, Result, Err, IfErr, OnOk, ℕ, length};
+ghost use Rattle.std.specs.Prelude.{◌≡◌, ◌⊎◌, ◌≤◌, ◌∷◌, [], List, Some, None, Ok, Result, Err, IfErr, IfOk, OnOk, ℕ, length};
 ghost use Rattle.base_core.specs.Counts.{Rose};
 ghost use Rattle.host_io.specs.Contents.{Directory};
-ghost use Rattle.fip_tool.specs.Said.{IsCapsuleLine, IsPackedLine, Says};
+ghost use Rattle.fip_tool.specs.Said.{IsMadeLine, Says};
 ghost use Rattle.fip_tool.specs.Steps.{Did, FaultsOnce, Gives, IsLate, Makes, Prints, Writes, Written, outcome_by, sink_failures};
-ghost use Rattle.fip_tool.specs.Tool.{encloses, packs};
+ghost use Rattle.fip_tool.specs.Payloads.{IsWhole, made_by, made_bytes};
+ghost use Rattle.fip_tool.specs.Tool.{puts};
 ghost use Rattle.fip_tool.specs.Wrote.{Wrote, written_once};
 ghost use Rattle.fip_tool.specs.declared.stops.Stop.{Stop};
 ghost use Rattle.fip_tool.specs.declared.stops.Stop.TheVariants as stop;
 
-use crate::lines::{capsule_line, packed_line};
+use crate::made::{Format, Made, made_line};
 use crate::printing::print;
 use crate::stops::Stop;
 use host_io::{Files, Sink, WriteStop};
@@ -73,86 +74,104 @@ pub fn write_and_print<H: Files, O: Sink>(
     }
 }
 
-/// Ends a command that makes a package, of so many entries and with these bytes: writes it to the file `out`, and prints its line.
+// Makes a file of its frame and its pieces.
+fn write_made<H: Files>(
+    alloc: Global,
+    files: &mut H,
+    name: &str,
+    made: &Made<'_>,
+) -> Result<(), Stop>
+    requires { IsWhole (H.contents files.old) made.now }
+    ensures told { (told : Directory) → H.contents files.old ≡ Some told
+        → Written told (H.contents files.new)
+        (Rose (H.faults files.old) (H.faults files.new))
+        (Rose (H.writes files.old).failed (H.writes files.new).failed) name.now
+        (made_bytes told made.now) result }
+    ensures file_count { FaultsOnce (H.faults files.old) (H.faults files.new) result }
+    ensures wrote { (H.writes files.new).done ≡ written_once result (H.writes files.old).done }
+    ensures cause { result ≡ Err stop.FileFault → Rose (H.faults files.old) (H.faults files.new) }
+    ensures late { IfErr result IsLate }
+    ensures usage { result ≡ Err stop.Usage → ⊥ }
+    ensures sink { result ≡ Err stop.SinkFault → ⊥ }
+    ensures later { H.faults files.old ≤ H.faults files.new }
+{
+    let frame = made.frame.bytes.as_slice();
+    files.write_joined(alloc, name, frame, made.pieces.as_slice())?;
+    Ok(())
+}
+
+// Makes a file of its frame and its pieces, and prints a line then.
+fn make_and_print<H: Files, O: Sink>(
+    alloc: Global,
+    files: &mut H,
+    sink: &mut O,
+    name: &str,
+    made: &Made<'_>,
+    line: &[u8],
+) -> Result<(), Stop>
+    requires { IsWhole (H.contents files.old) made.now }
+    ensures told { (told : Directory) → H.contents files.old ≡ Some told
+        → Did (Makes (Writes name.now (made_bytes told made.now) ∷ Prints line.now ∷ [])) told
+        (H.contents files.new) (O.taken sink.old) (O.taken sink.new)
+        (Rose (H.faults files.old) (H.faults files.new))
+        (Rose (H.writes files.old).failed (H.writes files.new).failed)
+        (Rose (O.faults sink.old) (O.faults sink.new)) result }
+    ensures file_count { FaultsOnce (H.faults files.old) (H.faults files.new) result }
+    ensures wrote { Wrote (λ texts. texts ≡ line.now ∷ [])
+        (O.taken sink.old) (O.taken sink.new) (H.writes files.old).done (H.writes files.new).done
+        result }
+    ensures cause { result ≡ Err stop.FileFault → Rose (H.faults files.old) (H.faults files.new) }
+    ensures says { Says (λ texts. texts ≡ line.now ∷ []) (O.taken sink.old) (O.taken sink.new)
+        (Rose (O.faults sink.old) (O.faults sink.new)) result }
+    ensures late { IfErr result IsLate }
+    ensures usage { result ≡ Err stop.Usage → ⊥ }
+    ensures later { H.faults files.old ≤ H.faults files.new }
+    ensures later_sink { O.faults sink.old ≤ O.faults sink.new }
+    ensures sink_count { O.faults sink.new ≡ sink_failures result (O.faults sink.old) }
+{
+    write_made(alloc, files, name, made)?;
+    print(sink, line)
+}
+
+/// Ends a command that makes a package or a capsule: writes it to the file `out`, and prints its line.
 pub fn put_made<H: Files, O: Sink>(
     alloc: Global,
     files: &mut H,
     sink: &mut O,
+    format: Format,
     out: &str,
-    made: Result<(u64, Vec<u8>), Stop>,
+    made: Result<Made<'_>, Stop>,
 ) -> Result<(), Stop>
+    requires { IfOk made (IsWhole (H.contents files.old)) }
     ensures told { (told : Directory) (value : Result (ℕ × List ℕ) Stop) (before kept : ℕ)
         → H.contents files.old ≡ Some told
         → before ≤ H.faults files.old → kept ≡ (H.writes files.old).failed
-        → Gives (λ m. (m.0, m.1.items)) (Rose before (H.faults files.old)) value made
-        → Did (outcome_by (packs out.now) value) told (H.contents files.new) (O.taken sink.old)
-        (O.taken sink.new)
+        → Gives (made_by told) (Rose before (H.faults files.old)) value made.entry
+        → Did (outcome_by (puts format out.now) value) told (H.contents files.new)
+        (O.taken sink.old) (O.taken sink.new)
         (Rose before (H.faults files.new)) (Rose kept (H.writes files.new).failed)
         (Rose (O.faults sink.old) (O.faults sink.new)) result }
-    ensures says { (made ≡ Err stop.SinkFault → ⊥) → Says (IsPackedLine made)
+    ensures says { (made.entry ≡ Err stop.SinkFault → ⊥) → Says (IsMadeLine format made.entry)
         (O.taken sink.old) (O.taken sink.new)
         (Rose (O.faults sink.old) (O.faults sink.new)) result }
-    ensures file_count { (before : ℕ) → FaultsOnce before (H.faults files.old) made
+    ensures file_count { (before : ℕ) → FaultsOnce before (H.faults files.old) made.entry
         → FaultsOnce before (H.faults files.new) result }
-    ensures wrote { Wrote (IsPackedLine made)
+    ensures wrote { Wrote (IsMadeLine format made.entry)
         (O.taken sink.old) (O.taken sink.new) (H.writes files.old).done (H.writes files.new).done
         result }
-    ensures cause { result ≡ Err stop.FileFault → (made ≡ Err stop.FileFault)
+    ensures cause { result ≡ Err stop.FileFault → (made.entry ≡ Err stop.FileFault)
         ⊎ Rose (H.faults files.old) (H.faults files.new) }
-    ensures usage { result ≡ Err stop.Usage → made ≡ Err stop.Usage }
+    ensures usage { result ≡ Err stop.Usage → made.entry ≡ Err stop.Usage }
+    ensures refusals { IfErr result (λ s. (made.entry ≡ Err s) ⊎ IsLate s) }
     ensures later { H.faults files.old ≤ H.faults files.new }
     ensures later_sink { O.faults sink.old ≤ O.faults sink.new }
-    ensures sink_count { (made ≡ Err stop.SinkFault → ⊥) → O.faults sink.new ≡ sink_failures result
+    ensures sink_count { (made.entry ≡ Err stop.SinkFault → ⊥) → O.faults sink.new ≡ sink_failures result
         (O.faults sink.old) }
 {
-    let (entries, bytes) = match made {
+    let made = match made {
         Ok(made) => made,
         Err(stop) => return Err(stop),
     };
-    match packed_line(alloc, entries, bytes.len() as u64) {
-        Ok(line) => write_and_print(files, sink, out, bytes.as_slice(), line.as_slice()),
-        Err(_) => Err(Stop::NoMemory),
-    }
-}
-
-/// Ends a command that makes a capsule, of so many items and with these bytes: writes it to the file `out`, and prints its line.
-pub fn put_capsule<H: Files, O: Sink>(
-    alloc: Global,
-    files: &mut H,
-    sink: &mut O,
-    out: &str,
-    made: Result<(u64, Vec<u8>), Stop>,
-) -> Result<(), Stop>
-    ensures told { (told : Directory) (value : Result (ℕ × List ℕ) Stop) (before kept : ℕ)
-        → H.contents files.old ≡ Some told
-        → before ≤ H.faults files.old → kept ≡ (H.writes files.old).failed
-        → Gives (λ m. (m.0, m.1.items)) (Rose before (H.faults files.old)) value made
-        → Did (outcome_by (encloses out.now) value) told (H.contents files.new) (O.taken sink.old)
-        (O.taken sink.new)
-        (Rose before (H.faults files.new)) (Rose kept (H.writes files.new).failed)
-        (Rose (O.faults sink.old) (O.faults sink.new)) result }
-    ensures says { (made ≡ Err stop.SinkFault → ⊥) → Says (IsCapsuleLine made)
-        (O.taken sink.old) (O.taken sink.new)
-        (Rose (O.faults sink.old) (O.faults sink.new)) result }
-    ensures file_count { (before : ℕ) → FaultsOnce before (H.faults files.old) made
-        → FaultsOnce before (H.faults files.new) result }
-    ensures wrote { Wrote (IsCapsuleLine made)
-        (O.taken sink.old) (O.taken sink.new) (H.writes files.old).done (H.writes files.new).done
-        result }
-    ensures cause { result ≡ Err stop.FileFault → (made ≡ Err stop.FileFault)
-        ⊎ Rose (H.faults files.old) (H.faults files.new) }
-    ensures usage { result ≡ Err stop.Usage → made ≡ Err stop.Usage }
-    ensures later { H.faults files.old ≤ H.faults files.new }
-    ensures later_sink { O.faults sink.old ≤ O.faults sink.new }
-    ensures sink_count { (made ≡ Err stop.SinkFault → ⊥) → O.faults sink.new ≡ sink_failures result
-        (O.faults sink.old) }
-{
-    let (items, bytes) = match made {
-        Ok(made) => made,
-        Err(stop) => return Err(stop),
-    };
-    match capsule_line(alloc, items, bytes.len() as u64) {
-        Ok(line) => write_and_print(files, sink, out, bytes.as_slice(), line.as_slice()),
-        Err(_) => Err(Stop::NoMemory),
-    }
+    let line = made_line(alloc, format, made.count, made.frame.size)?;
+    make_and_print(alloc, files, sink, out, &made, line.as_slice())
 }

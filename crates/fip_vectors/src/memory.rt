@@ -5,7 +5,7 @@ ghost use Rattle.host_io.specs.Contents.{bytes_in};
 
 use crate::fixtures::{add_all, files_of, holds_at, words};
 use fip_tool::fip_top;
-use host_io::{Failed, Files, MemoryFiles, MemorySource, Sink, WriteStop};
+use host_io::{Failed, Files, MemoryFiles, MemorySource, Piece, Sink, WriteStop};
 use std::alloc::Global;
 use std::process::Abort;
 
@@ -75,6 +75,20 @@ impl Files for ShortFiles {
         }
         self.writes -= 1;
         self.inner.write_whole(name, bytes)
+    }
+
+    fn write_joined(
+        &mut self,
+        alloc: Global,
+        name: &str,
+        frame: &[u8],
+        pieces: &[Piece<'_>],
+    ) -> Result<(), WriteStop> {
+        if self.writes == 0 {
+            return Err(WriteStop::NoMemory);
+        }
+        self.writes -= 1;
+        self.inner.write_joined(alloc, name, frame, pieces)
     }
 }
 

@@ -6,11 +6,11 @@ ghost use Rattle.std.specs.Prelude.{◌<◌};
 use crate::fixtures::{EMPTY, HELLO, add, far, front, holds, holds_at, one_file};
 use base_core::Guid;
 use fip_tables::{
-    Entry, Frame, Outline, PackStop, Part, Parts, StreamToc, Toc, TocStop, pack, payload_at,
-    read_toc,
+    Entry, Outline, PackStop, Part, Parts, StreamToc, Toc, TocStop, pack, package_frame,
+    payload_at, read_toc,
 };
 use fwu_formats::FipFault;
-use host_io::{Failed, Files, MemoryFiles};
+use host_io::{Failed, Files, MemoryFiles, Piece};
 use std::alloc::Global;
 use std::process::Abort;
 
@@ -198,32 +198,44 @@ fn package_in_a_file(rt: HostRuntime) {
     holds(&rt, &payload == b"hello", "the payload");
 }
 
-// A package of one file.
-fn packed_file<H: Files>(alloc: Global, files: &mut H, name: &str) -> Result<Vec<u8>, PackStop> {
-    let size = match files.size(name) {
-        Ok(Some(size)) => size,
-        Ok(None) | Err(_) => return Ok(Vec::new(alloc)),
+// Makes a package of one file.
+fn pack_file(
+    alloc: Global,
+    files: &mut MemoryFiles,
+    name: &str,
+    out: &str,
+) -> Result<(), PackStop> {
+    let Some(bytes) = files.get(name) else {
+        return Ok(());
     };
+    let size = bytes.len() as u64;
     let outlines = [Outline {
         guid: first_guid(),
         flags: 0,
         size,
     }];
-    let mut frame = match Frame::new(alloc, 0x1234_5678, 0, &outlines, 1) {
-        Ok(frame) => frame,
-        Err(stop) => return Err(stop),
-    };
-    match frame.read(files, name, 0) {
-        Ok(()) => Ok(frame.into_bytes()),
-        Err(_) => Ok(Vec::new(alloc)),
+    let frame = package_frame(alloc, 0x1234_5678, 0, &outlines, 1)?;
+    let pieces = [Piece {
+        gap: frame.gaps[0],
+        file: name,
+        at: 0,
+        count: size,
+    }];
+    match files.write_joined(alloc, out, frame.bytes.as_slice(), &pieces) {
+        Ok(()) | Err(_) => Ok(()),
     }
 }
 
 #[test]
-fn frame_filled_from_a_file(rt: HostRuntime) {
+fn package_made_of_a_file(rt: HostRuntime) {
     let alloc = rt.alloc();
     let hello = Vec::from_slice(alloc, b"hello").expect(&rt, "memory");
     let mut files = one_file(&rt, alloc, "hello", hello, 0);
-    let bytes = packed_file(alloc, &mut files, "hello").expect(&rt, "a package");
-    holds(&rt, bytes == front(&rt, alloc, HELLO, 101), "a package");
+    pack_file(alloc, &mut files, "hello", "a.fip").expect(&rt, "a package");
+    let wanted = front(&rt, alloc, HELLO, 101);
+    holds(
+        &rt,
+        files.get("a.fip") == Some(wanted.as_slice()),
+        "a package",
+    );
 }

@@ -2,3 +2,4 @@ pub mod Pieces
 pub mod Directories
 pub mod Unlisted
 pub mod Ranges
+pub mod Joins

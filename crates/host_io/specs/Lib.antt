@@ -1,4 +1,5 @@
 pub mod Calls
 pub mod Causes
 pub mod Contents
+pub mod Joined
 pub mod Held

@@ -1,13 +1,17 @@
 //! Files by their names.
 
+use crate::joining::Piece;
 use crate::stops::{Failed, WriteStop};
+use std::alloc::Global;
 
 /// Files by their names.
 pub trait Files {
     ghost use Rattle.std.specs.Prelude.{◌≡◌, ◌+◌, ◌≤◌, ℕ, Bool, Option, Err, IfOk, OnOk, OnErr, is_some, length, vec_capacity, vec_len};
     ghost use Rattle.host_io.specs.Calls.{failures, write_failures, writes_after};
     ghost use Rattle.host_io.specs.Causes.{HasCause, HasWriteCause};
+    ghost use Rattle.std.specs.List.{All};
     ghost use Rattle.host_io.specs.Contents.{AddsRange, ChangesOnly, Directory, HasRange, Holds, TellsRange, TellsSize};
+    ghost use Rattle.host_io.specs.Joined.{HasPiece, HoldsJoined};
     ghost use Rattle.host_io.specs.declared.stops.WriteStop.TheVariants as stop;
     ghost use Rattle.host_io.specs.declared.writes.Writes.{Writes};
 
@@ -65,6 +69,27 @@ pub trait Files {
     /// is known of this name, and no other changed. Files that are not told stay so.
     fn write_whole(&mut self, name: &str, bytes: &[u8]) -> Result<(), WriteStop>
         ensures written { OnOk result (Holds (contents self.new) name.now bytes.now) }
+        ensures others { ChangesOnly (contents self.old) (contents self.new) name.now }
+        ensures memory { result ≡ Err stop.NoMemory → contents self.new ≡ contents self.old }
+        ensures cause { HasWriteCause (faults self.old) (faults self.new) result }
+        ensures count { faults self.new ≡ write_failures result (faults self.old) }
+        ensures writes { writes self.new ≡ writes_after result (writes self.old) };
+
+    /// Makes the file anew, of a frame's bytes with pieces of files between them, each behind as many
+    /// more of the frame as it says (or as there are), and last what is left of the frame. The pieces
+    /// are those that the files had before, also where the made file is one of them. After `Failed`
+    /// nothing is known of this name, and no other changed. Want of memory, which may be taken from
+    /// `alloc`, leaves the files as they were. Files that are not told stay so.
+    fn write_joined(
+        &mut self,
+        alloc: Global,
+        name: &str,
+        frame: &[u8],
+        pieces: &[Piece<'_>],
+    ) -> Result<(), WriteStop>
+        requires { All (HasPiece (contents self.old)) pieces.now }
+        ensures written { OnOk result (HoldsJoined (contents self.old) (contents self.new) name.now
+            frame.now pieces.now) }
         ensures others { ChangesOnly (contents self.old) (contents self.new) name.now }
         ensures memory { result ≡ Err stop.NoMemory → contents self.new ≡ contents self.old }
         ensures cause { HasWriteCause (faults self.old) (faults self.new) result }

@@ -1,23 +1,30 @@
 //! The files of the system.
 
-ghost use Rattle.std.specs.Prelude.{◌≡◌, ◌+◌, ◌≤◌, false, refl, None, Err, IsSome, IfOk, OnErr, OnOk, length, take, vec_capacity, vec_len};
+ghost use Rattle.std.specs.Prelude.{◌≡◌, ◌+◌, ◌≤◌, false, refl, None, Err, IsSome, IfOk, OnErr, OnOk, drop, length, take, vec_capacity, vec_len};
 ghost use Rattle.base_core.specs.Counts.{Rose};
 ghost use Rattle.host_io.specs.Calls.{failures, raised, write_failures, writes_after};
 ghost use Rattle.host_io.specs.Causes.{HasCause, HasWriteCause};
 ghost use Rattle.host_io.specs.Contents.{AddsRange};
+ghost use Rattle.host_io.specs.Joined.{AppendsJoined, AppendsPiece, AppendsSome};
 ghost use Rattle.host_io.specs.declared.stops.WriteStop.TheVariants as stop;
 
 use crate::files::Files;
+use crate::joining::Piece;
 use crate::stops::{Failed, WriteStop};
 use crate::writes::Writes;
-use std::fs::OpenFile;
-use std::io::{Read, Seek, SeekFrom};
+use std::alloc::Global;
+use std::fs::{File, Metadata, OpenFile, OpenOptions};
+use std::io::{Read, Seek, SeekFrom, Write};
 use std::marker::Model;
+use std::os::unix::fs::MetadataExt;
 use std::{fs, io};
 
-// How many bytes are read at a time to be added to others: few enough that they are still in the
-// processor's cache when they are copied. That costs less than a first fill of the place with zeros.
-const PIECE: usize = 65536;
+// How many bytes are read at a time to be added to others, or written: few enough that they are still
+// in the processor's cache then. To add them costs less than a first fill of their place with zeros.
+const ROOM: usize = 65536;
+
+// What stands behind the name of a file in that of the new one that is to take its place.
+const FRESH: &str = ".new";
 
 // Fills the piece with the next bytes of the file, and adds them to those that were read.
 fn read_piece<F: Read>(file: &mut F, piece: &mut [u8], out: &mut Vec<u8>) -> io::Result<()>
@@ -30,6 +37,34 @@ fn read_piece<F: Read>(file: &mut F, piece: &mut [u8], out: &mut Vec<u8>) -> io:
     file.read_exact(piece)?;
     out.extend_from_slice(piece)?;
     Ok(())
+}
+
+// Fills the room with the next bytes of the file, and writes them.
+fn copy_piece<F: Read, W: Write>(file: &mut F, room: &mut [u8], into: &mut W) -> io::Result<()>
+    ensures copied { OnOk result (AppendsSome (W.contents into.old) (W.contents into.new)
+        (length room.old)) }
+{
+    file.read_exact(room)?;
+    into.write_all(room)
+}
+
+// How many bytes a file that is made has.
+fn size_of(frame: &[u8], pieces: &[Piece<'_>]) -> usize {
+    let mut size = frame.len();
+    for piece in pieces {
+        size = size.saturating_add(piece.count as usize);
+    }
+    size
+}
+
+// Whether a file is a regular one of no other name, which a new file may replace.
+fn is_alone(found: &Metadata) -> bool {
+    found.is_file() && found.nlink() == 1
+}
+
+// Whether both files belong to the same user and group.
+fn same_owner(one: &Metadata, other: &Metadata) -> bool {
+    one.uid() == other.uid() && one.gid() == other.gid()
 }
 
 /// The files of the system. They tell nothing of their contents. Each error is a fault, and so are
@@ -75,6 +110,25 @@ impl<R: std::rt::Files> HostFiles<R> {
         Failed
     }
 
+    // Counts a write that ended so.
+    fn count_write(&mut self, end: Result<(), WriteStop>) -> Result<(), WriteStop>
+        ensures end { result ≡ end }
+        ensures cause { HasWriteCause self.old.faults self.new.faults result }
+        ensures count { self.new.faults ≡ write_failures result self.old.faults }
+        ensures writes { self.new.writes ≡ writes_after result self.old.writes }
+        ensures inner { self.new.inner ≡ self.old.inner }
+    {
+        match end {
+            Ok(()) => self.writes.pass(),
+            Err(WriteStop::Failed) => {
+                self.fail();
+                self.writes.fail();
+            }
+            Err(WriteStop::NoMemory) => {}
+        }
+        end
+    }
+
     // The file, at this place. What is no regular file, and a place behind its end, is an error.
     fn open_at(&self, name: &str, at: u64) -> io::Result<R::File> {
         let mut file = fs::open(&self.rt, name)?;
@@ -101,14 +155,153 @@ impl<R: std::rt::Files> HostFiles<R> {
         ensures capacity { vec_capacity out.old ≤ vec_capacity out.new }
     {
         let mut file = self.open_at(name, at)?;
-        let mut piece = [0; PIECE];
+        let mut piece = [0; ROOM];
         let mut left = count;
         while left > 0 {
-            let size = left.min(PIECE);
+            let size = left.min(ROOM);
             read_piece(&mut file, &mut piece[..size], out)?;
             left -= size;
         }
         Ok(())
+    }
+
+    // Writes a piece.
+    fn copy<W: Write>(
+        &self,
+        piece: &Piece<'_>,
+        room: &mut [u8; ROOM],
+        into: &mut W,
+    ) -> io::Result<()>
+        ensures copied { OnOk result (AppendsSome (W.contents into.old) (W.contents into.new)
+            piece.now.count) }
+    {
+        let mut file = self.open_at(piece.file, piece.at)?;
+        let mut left = piece.count;
+        while left > 0 {
+            let size = left.min(ROOM as u64);
+            copy_piece(&mut file, &mut room[..size as usize], into)?;
+            left -= size;
+        }
+        Ok(())
+    }
+
+    // Writes the next bytes of the frame, and the piece behind them. Gives what is left of the frame.
+    fn add_piece<'a, W: Write>(
+        &self,
+        frame: &'a [u8],
+        piece: &Piece<'_>,
+        room: &mut [u8; ROOM],
+        into: &mut W,
+    ) -> io::Result<&'a [u8]>
+        ensures added { OnOk result (AppendsPiece (W.contents into.old) (W.contents into.new)
+            frame.now piece.now) }
+        ensures left { IfOk result (λ left. left.now ≡ drop piece.now.gap frame.now) }
+    {
+        let (front, rest) = frame.split_at(piece.gap.min(frame.len()));
+        into.write_all(front)?;
+        self.copy(piece, room, into)?;
+        Ok(rest)
+    }
+
+    // Writes the frame with the pieces between its bytes.
+    fn join<W: Write>(&self, frame: &[u8], pieces: &[Piece<'_>], into: &mut W) -> io::Result<()>
+        ensures joined { OnOk result (AppendsJoined (W.contents into.old) (W.contents into.new)
+            frame.now pieces.now) }
+    {
+        let mut room = [0; ROOM];
+        let mut left = frame;
+        for piece in pieces {
+            left = self.add_piece(left, piece, &mut room, into)?;
+        }
+        into.write_all(left)
+    }
+
+    // Gives a new file the rights of the one that it is to replace, where that has no other name and
+    // both have the same owner and group, and says whether. That the old one can't be written is an
+    // error.
+    fn give_rights(&self, name: &str, file: &R::File, old: &Metadata) -> io::Result<bool> {
+        if !is_alone(old) || !same_owner(&file.metadata()?, old) {
+            return Ok(false);
+        }
+        let _old = OpenOptions::new().write(true).open(&self.rt, name)?;
+        file.set_permissions(old.permissions())?;
+        Ok(true)
+    }
+
+    // Whether a new file may take this name. It has the rights of the old one then.
+    fn prepare(&self, name: &str, file: &R::File) -> io::Result<bool> {
+        match fs::symlink_metadata(&self.rt, name) {
+            Ok(old) => self.give_rights(name, file, &old),
+            Err(e) => Ok(e.kind() == io::ErrorKind::NotFound),
+        }
+    }
+
+    // Fills the new file `fresh`, and gives it the name of the old one, where it may have that.
+    fn complete(
+        &self,
+        name: &str,
+        fresh: &str,
+        file: &mut R::File,
+        frame: &[u8],
+        pieces: &[Piece<'_>],
+    ) -> io::Result<bool> {
+        if !self.prepare(name, file)? {
+            return Ok(false);
+        }
+        self.join(frame, pieces, file)?;
+        Ok(fs::rename(&self.rt, fresh, name).is_ok())
+    }
+
+    // Makes the file by a new one, `fresh`, that takes its place, or says that none can. Where it does
+    // not, the new file is removed, if that can be done.
+    fn replace(
+        &self,
+        name: &str,
+        fresh: &str,
+        frame: &[u8],
+        pieces: &[Piece<'_>],
+    ) -> io::Result<bool> {
+        let Ok(mut file) = File::create_new(&self.rt, fresh) else {
+            return Ok(false);
+        };
+        let replaced = self.complete(name, fresh, &mut file, frame, pieces);
+        if !matches!(replaced, Ok(true)) {
+            let _ = fs::remove_file(&self.rt, fresh);
+        }
+        replaced
+    }
+
+    // Makes the file where it stands, from memory, since it may be among those of the pieces.
+    fn rewrite(
+        &self,
+        alloc: Global,
+        name: &str,
+        frame: &[u8],
+        pieces: &[Piece<'_>],
+    ) -> Result<(), WriteStop> {
+        let mut bytes = Vec::with_capacity(alloc, size_of(frame, pieces))?;
+        let made = self.join(frame, pieces, &mut bytes);
+        match made.and_then(|()| fs::write(&self.rt, name, bytes.as_slice())) {
+            Ok(()) => Ok(()),
+            Err(_) => Err(WriteStop::Failed),
+        }
+    }
+
+    // Makes the file by a new one, or, where none can take its place, where it stands.
+    fn make(
+        &self,
+        alloc: Global,
+        name: &str,
+        frame: &[u8],
+        pieces: &[Piece<'_>],
+    ) -> Result<(), WriteStop> {
+        let mut fresh = String::from_str(alloc, name)?;
+        fresh.push_str(FRESH)?;
+        match self.replace(name, fresh.as_str(), frame, pieces) {
+            Ok(true) => Ok(()),
+            Ok(false) => self.rewrite(alloc, name, frame, pieces),
+            Err(_) => Err(WriteStop::Failed),
+        }
     }
 }
 
@@ -185,15 +378,29 @@ impl<R: std::rt::Files> Files for HostFiles<R> {
         ensures inner { self.new.inner ≡ self.old.inner }
     {
         match fs::write(&self.rt, name, bytes) {
-            Ok(()) => {
-                self.writes.pass();
-                Ok(())
-            }
-            Err(_) => {
-                self.fail();
-                self.writes.fail();
-                Err(WriteStop::Failed)
-            }
+            Ok(()) => self.count_write(Ok(())),
+            Err(_) => self.count_write(Err(WriteStop::Failed)),
         }
+    }
+
+    /// Besides what the trait says: a new file, of this name with `.new` behind it and with the old
+    /// one's rights, takes the name once it is whole. So where this fails the old file is still there;
+    /// one that can't be written is an error. A link, a file of two names or of another user or group,
+    /// what is no regular file, and one beside which no new file can be made or that can't be replaced,
+    /// is written where it stands, once all is read.
+    fn write_joined(
+        &mut self,
+        alloc: Global,
+        name: &str,
+        frame: &[u8],
+        pieces: &[Piece<'_>],
+    ) -> Result<(), WriteStop>
+        ensures cause { HasWriteCause self.old.faults self.new.faults result }
+        ensures count { self.new.faults ≡ write_failures result self.old.faults }
+        ensures writes { self.new.writes ≡ writes_after result self.old.writes }
+        ensures inner { self.new.inner ≡ self.old.inner }
+    {
+        let end = self.make(alloc, name, frame, pieces);
+        self.count_write(end)
     }
 }

@@ -7,6 +7,7 @@
 mod calls;
 mod files;
 mod host_files;
+mod joining;
 mod memory_files;
 mod sink;
 mod source;
@@ -16,6 +17,7 @@ mod writes;
 
 pub use files::Files;
 pub use host_files::HostFiles;
+pub use joining::Piece;
 pub use memory_files::MemoryFiles;
 pub use sink::{MemorySink, Sink, StdSink};
 pub use source::{MemorySource, Source, StdSource};

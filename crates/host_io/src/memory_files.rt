@@ -1,13 +1,16 @@
 //! Files in memory.
 
-ghost use Rattle.std.specs.Prelude.{◌≡◌, ◌≢◌, ◌↔◌, ◌+◌, ◌≤◌, ℕ, true, refl, List, Some, Err, IsErr, IfOk, OnOk, OnErr, length, option_map, vec_capacity, vec_len};
+ghost use Rattle.std.specs.Prelude.{◌≡◌, ◌≢◌, ◌↔◌, ◌+◌, ◌++◌, ◌≤◌, ℕ, true, refl, List, Some, Err, IsErr, IfOk, OnOk, OnErr, drop, length, map, option_map, take, vec_capacity, vec_len};
+ghost use Rattle.std.specs.List.{All};
 ghost use Rattle.host_io.specs.Calls.{IsListed, counted, failures, unused, write_counted, write_failures, writes_after};
 ghost use Rattle.host_io.specs.Causes.{HasCause, HasWriteCause};
 ghost use Rattle.host_io.specs.Contents.{AddsRange, ChangesOnly, HasRange, Holds, TellsRange, TellsSize, bytes_in, pairs_of, place_in};
+ghost use Rattle.host_io.specs.Joined.{HasPiece, HoldsJoined, chunk_in, joined};
 ghost use Rattle.host_io.specs.declared.stops.WriteStop.TheVariants as stop;
 
 use crate::calls::CallCounter;
 use crate::files::Files;
+use crate::joining::Piece;
 use crate::stops::{Failed, WriteStop};
 use crate::writes::Writes;
 use std::alloc::{AllocError, Global};
@@ -58,6 +61,46 @@ fn put_bytes(
         files.push((key, copy))?;
     }
     Ok(())
+}
+
+// Adds the next piece: as many more of the frame as it says, and its bytes. Gives what is left of the frame.
+fn add_piece<'a>(
+    files: &[(String, Vec<u8>)],
+    frame: &'a [u8],
+    piece: &Piece<'_>,
+    bytes: &mut Vec<u8>,
+) -> Result<&'a [u8], AllocError>
+    requires { HasPiece (Some (bytes_in (pairs_of files.now))) piece.now }
+    ensures added { OnOk result (bytes.new.items ≡ bytes.old.items ++ (take piece.now.gap frame.now
+        ++ (chunk_in (bytes_in (pairs_of files.now)) piece.now).bytes)) }
+    ensures left { IfOk result (λ left. left.now ≡ drop piece.now.gap frame.now) }
+{
+    let (front, left) = frame.split_at(piece.gap.min(frame.len()));
+    bytes.extend_from_slice(front)?;
+    if let Some(held) = bytes_of(files, piece.file) {
+        let start = piece.at as usize;
+        bytes.extend_from_slice(&held[start..start + piece.count as usize])?;
+    }
+    Ok(left)
+}
+
+// The frame with the pieces between its bytes.
+fn join(
+    alloc: Global,
+    files: &[(String, Vec<u8>)],
+    frame: &[u8],
+    pieces: &[Piece<'_>],
+) -> Result<Vec<u8>, AllocError>
+    requires { All (HasPiece (Some (bytes_in (pairs_of files.now)))) pieces.now }
+    ensures { IfOk result (λ v. v.items ≡ joined frame.now (map (chunk_in (bytes_in (pairs_of files.now))) pieces.now)) }
+{
+    let mut bytes = Vec::new(alloc);
+    let mut left = frame;
+    for piece in pieces {
+        left = add_piece(files, left, piece, &mut bytes)?;
+    }
+    bytes.extend_from_slice(left)?;
+    Ok(bytes)
 }
 
 /// Files in memory.
@@ -202,6 +245,41 @@ impl Files for MemoryFiles {
             return Err(WriteStop::Failed);
         }
         put_bytes(self.alloc, &mut self.files, name, bytes)?;
+        self.calls.pass();
+        self.writes.pass();
+        Ok(())
+    }
+
+    /// Besides what the trait says, it fails exactly at the listed calls, and then changes nothing. A
+    /// call that finds no memory has no number.
+    fn write_joined(
+        &mut self,
+        _alloc: Global,
+        name: &str,
+        frame: &[u8],
+        pieces: &[Piece<'_>],
+    ) -> Result<(), WriteStop>
+        requires { All (HasPiece (Some (bytes_in self.old.files))) pieces.now }
+        ensures written { OnOk result (HoldsJoined (Some (bytes_in self.old.files))
+            (Some (bytes_in self.new.files)) name.now frame.now pieces.now) }
+        ensures others { ChangesOnly (Some (bytes_in self.old.files))
+            (Some (bytes_in self.new.files)) name.now }
+        ensures memory { result ≡ Err stop.NoMemory →
+            Some (bytes_in self.new.files) ≡ Some (bytes_in self.old.files) }
+        ensures cause { HasWriteCause self.old.calls.faults self.new.calls.faults result }
+        ensures count { self.new.calls.faults ≡ write_failures result self.old.calls.faults }
+        ensures writes { self.new.writes ≡ writes_after result self.old.writes }
+        ensures listed { (result ≡ Err stop.Failed) ↔ IsListed self.old.calls }
+        ensures calls { self.new.calls ≡ write_counted result self.old.calls }
+        ensures unchanged { OnErr result (self.new.files ≡ self.old.files) }
+    {
+        if self.calls.fails_next() {
+            self.calls.fail();
+            self.writes.fail();
+            return Err(WriteStop::Failed);
+        }
+        let bytes = join(self.alloc, self.files.as_slice(), frame, pieces)?;
+        put_bytes(self.alloc, &mut self.files, name, bytes.as_slice())?;
         self.calls.pass();
         self.writes.pass();
         Ok(())

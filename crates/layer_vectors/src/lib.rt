@@ -18,6 +18,8 @@ mod layouts;
 #[cfg(test)]
 mod lists;
 #[cfg(test)]
+mod made_files;
+#[cfg(test)]
 mod manifests;
 #[cfg(test)]
 mod marks;

@@ -1,11 +1,14 @@
 //! One file in memory, none of whose calls fails.
-ghost use Rattle.std.specs.Prelude.{◌≡◌, ◌+◌, ◌≤◌, true, refl, [], ◌∷◌, Some, Err, IfOk, OnOk, OnErr, length, string_bytes, vec_capacity, vec_len};
+ghost use Rattle.std.specs.Prelude.{◌≡◌, ◌+◌, ◌≤◌, true, refl, [], ◌∷◌, Some, Err, IfOk, OnOk, OnErr, length};
+ghost use Rattle.std.specs.Prelude.{string_bytes, vec_capacity, vec_len};
 ghost use Rattle.host_io.specs.Calls.{failures, write_failures, writes_after};
 ghost use Rattle.host_io.specs.Causes.{HasCause, HasWriteCause};
 ghost use Rattle.host_io.specs.Contents.{AddsRange, ChangesOnly, HasRange, Holds, TellsRange, TellsSize, bytes_in};
+ghost use Rattle.host_io.specs.Joined.{HasPiece, HoldsJoined};
 ghost use Rattle.host_io.specs.declared.stops.WriteStop.TheVariants as stop;
 
-use host_io::{Failed, Files, WriteStop};
+use host_io::{Failed, Files, Piece, WriteStop};
+use std::alloc::Global;
 
 /// One file in memory. It is read alone: there is no room for another.
 #[derive(Drop)]
@@ -54,6 +57,16 @@ impl Files for OneFile {
     }
 
     fn write_whole(&mut self, _name: &str, _bytes: &[u8]) -> Result<(), WriteStop> {
+        Err(WriteStop::NoMemory)
+    }
+
+    fn write_joined(
+        &mut self,
+        _alloc: Global,
+        _name: &str,
+        _frame: &[u8],
+        _pieces: &[Piece<'_>],
+    ) -> Result<(), WriteStop> {
         Err(WriteStop::NoMemory)
     }
 }

@@ -7,8 +7,8 @@ use Rattle.fwu_formats.specs.Capsule.{swapped}
 use Rattle.capsule_tables.proofs.Made.{further}
 use Rattle.capsule_tables.proofs.making.add_head.Goals as goal
 
-pub returns-clause-added : goal.returns-clause-added
-returns-clause-added c =
+pub returns : goal.returns
+returns c =
     let v = c.args.bytes.now.items in
     let p : Part = c.args.part.now in
     let index = c.args.index in

@@ -1,4 +1,4 @@
-use Rattle.std.proofs.Common.{◌≡◌, ◌∙◌, ap, subst, sym, Option, Some, Result, IfErr}
+use Rattle.std.proofs.Common.{◌≡◌, ◌∙◌, ap, subst, sym, Some, Result, IfErr}
 use Rattle.std.proofs.lemmas.Result.{err_from_is_err_and}
 use Rattle.fip_tables.proofs.Firsts.{align-fault, shared-fault}
 use Rattle.fip_tables.specs.Packing.{pack_fault}

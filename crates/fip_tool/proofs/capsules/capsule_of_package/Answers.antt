@@ -1,42 +1,53 @@
-use Rattle.std.proofs.Common.{◌∙◌, ◌≤◌, ◌+◌, [], List, Vec, ℕ, ap, length, map, subst, sym, refl}
-use Rattle.std.specs.Global.{Global}
+use Rattle.std.proofs.Common.{◌∙◌, [], List, Some, ap, length, map, subst, sym, refl}
 use Rattle.std.specs.List.{All}
 use Rattle.fwu_formats.specs.Package.{Entry, Toc}
+use Rattle.fip_tool.specs.Payloads.{HasEntry, made_by}
 use Rattle.fip_tool.specs.Tool.{enclose_value, kept_part}
 use Rattle.fip_tool.proofs.Conversions.{capsule-err, capsule-of}
 use Rattle.fip_tool.proofs.PartLemmas.{gives-same}
-use Rattle.fip_tool.proofs.Repacking.{opened, stored-of, there-of}
-use Rattle.fip_tool.proofs.Tables.{gives-err, if-ok-as, rose-from}
-use Rattle.fip_tool.proofs.ReadsBy.{reads-stopped, reads-then}
+use Rattle.fip_tool.proofs.Repacking.{has-entries, opened}
+use Rattle.fip_tool.proofs.Tables.{gives-err, if-ok-as}
+use Rattle.fip_tool.proofs.ReadsBy.{reads-asked, reads-stopped, reads-then}
+use Rattle.fip_tool.proofs.Refusing.{if-err-as, package-of-enclosing, packing-of-enclosing}
+use Rattle.fip_tool.specs.Refusals.{IsOfEnclosing, IsOfPacking}
+use Rattle.fip_tool.proofs.Stopped.{handed-on}
 use Rattle.fip_tool.proofs.capsules.capsule_of_package.Goals as goal
 
-pub capsule_of_entries-requires-clause-stored : goal.capsule_of_entries-requires-clause-stored
-capsule_of_entries-requires-clause-stored g c = λ bytes tells.
-    subst (All (λ (e : Entry). e.offset + e.size ≤ length bytes)) (sym (c.as_slice.ensures ∙ ap (λ (t : Toc). t.entries) c.toc.view_is))
-    (stored-of _ _ c.args.from.now [] c.in-Ok.toc c.table_with.ensures.reads.same (λ told e. c.in-Ok.ensures.told told e) bytes tells)
-
-pub capsule_of_entries-requires-clause-there : goal.capsule_of_entries-requires-clause-there
-capsule_of_entries-requires-clause-there g c = there-of _ _ c.args.from.now [] c.in-Ok.toc c.table_with.ensures.reads.same (λ told e. c.in-Ok.ensures.told told e)
-
-pub returns-in-Ok-clause-told : goal.returns-in-Ok-clause-told
-returns-in-Ok-clause-told g c = λ told e.
-    let o = opened told c.args.from.now [] c.in-Ok.toc (c.in-Ok.ensures.told told e) in
+pub returns-clause-whole : goal.returns-clause-whole
+returns-clause-whole g c =
     let entries = c.as_slice.ensures ∙ ap (λ (t : Toc). t.entries) c.toc.view_is in
-    gives-same (λ (m : ℕ × Vec ℕ Global). (m.0, m.1.items)) _ _ _ _ c.capsule_of_entries.result (λ r. rose-from _ _ _ c.table_with.ensures.reads.later r)
-    (capsule-of told c.args.from.now c.in-Ok.toc o ∙ ap (λ (es : List Entry). enclose_value (map (kept_part o.bytes) es)) (sym entries))
-    (c.capsule_of_entries.ensures.told told o.bytes (c.table_with.ensures.reads.same ∙ e) o.is)
+    c.capsule_of_entries.ensures.whole _ (subst (All (HasEntry (g.H.Files.contents c.table_with.new.files) c.args.from.now)) (sym entries)
+    (has-entries _ _ c.args.from.now [] c.in_ok-toc.toc c.table_with.ensures.reads.same (λ told e. c.in_ok-toc.ensures.told told e)))
 
-pub returns-in-Ok-clause-count : goal.returns-in-Ok-clause-count
-returns-in-Ok-clause-count g c =
+pub returns-clause-told : goal.returns-clause-told
+returns-clause-told g c = λ told e.
+    let o = opened told c.args.from.now [] c.in_ok-toc.toc (c.in_ok-toc.ensures.told told e) in
     let entries = c.as_slice.ensures ∙ ap (λ (t : Toc). t.entries) c.toc.view_is in
-    if-ok-as c.capsule_of_entries.result _ _ (λ m e. (c.in-Ok.toc, e ∙ ap length entries)) c.capsule_of_entries.ensures.count
+    gives-same (made_by told) _ _ _ _ c.capsule_of_entries.result (λ r. absurd r)
+    (capsule-of told c.args.from.now c.in_ok-toc.toc o ∙ ap (λ (es : List Entry). enclose_value (map (kept_part o.bytes) es)) (sym entries))
+    (c.capsule_of_entries.ensures.told told o.bytes o.is (subst (All (HasEntry (Some told) c.args.from.now)) (sym entries)
+    (has-entries _ (Some told) c.args.from.now [] c.in_ok-toc.toc (sym e) (λ d k. c.in_ok-toc.ensures.told d k))))
 
-pub returns-in-Err-clause-told : goal.returns-in-Err-clause-told
-returns-in-Err-clause-told g c = λ told e.
-    gives-err (λ (t : Toc). t) (λ (m : ℕ × Vec ℕ Global). (m.0, m.1.items)) _ _ _ _ c.in-Err.stop (λ r. r) (capsule-err told c.args.from.now _) (c.in-Err.ensures.told told e)
+pub returns-clause-count : goal.returns-clause-count
+returns-clause-count g c =
+    let entries = c.as_slice.ensures ∙ ap (λ (t : Toc). t.entries) c.toc.view_is in
+    if-ok-as c.capsule_of_entries.result _ _ (λ m e. (c.in_ok-toc.toc, c.in_ok-toc.ensures.table, e ∙ ap length entries)) c.capsule_of_entries.ensures.count
 
-pub returns-in-Ok-clause-reads : goal.returns-in-Ok-clause-reads
-returns-in-Ok-clause-reads g c = reads-then c.table_with.ensures.reads.same c.in-Ok.ensures.reads.quiet c.capsule_of_entries.ensures.reads
+pub returns-in_err-toc-clause-told : goal.returns-in_err-toc-clause-told
+returns-in_err-toc-clause-told g c =
+    rw (handed-on c.from_residual.result c.in_err-toc.field-0.0 c.from_residual.ensures.1) (λ told e.
+    gives-err (λ (t : Toc). t) (made_by told) _ _ _ _ c.in_err-toc.field-0.0 (λ r. r) (capsule-err told c.args.from.now _) (c.in_err-toc.ensures.told told e))
 
-pub returns-in-Err-clause-reads : goal.returns-in-Err-clause-reads
-returns-in-Err-clause-reads g c = reads-stopped refl refl c.in-Err.ensures.reads
+pub returns-clause-reads : goal.returns-clause-reads
+returns-clause-reads g c = reads-then c.table_with.ensures.reads.same c.in_ok-toc.ensures.reads.quiet (reads-asked c.capsule_of_entries.result refl refl c.capsule_of_entries.ensures.asks)
+
+pub returns-in_err-toc-clause-reads : goal.returns-in_err-toc-clause-reads
+returns-in_err-toc-clause-reads g c =
+    rw (handed-on c.from_residual.result c.in_err-toc.field-0.0 c.from_residual.ensures.1) (reads-stopped refl refl c.in_err-toc.ensures.reads)
+
+pub returns-clause-refusals : goal.returns-clause-refusals
+returns-clause-refusals g c = if-err-as c.capsule_of_entries.result IsOfPacking IsOfEnclosing packing-of-enclosing c.capsule_of_entries.ensures.refusals
+
+pub returns-in_err-toc-clause-refusals : goal.returns-in_err-toc-clause-refusals
+returns-in_err-toc-clause-refusals g c =
+    rw (handed-on c.from_residual.result c.in_err-toc.field-0.0 c.from_residual.ensures.1) (package-of-enclosing c.in_err-toc.field-0.0 (c.in_err-toc.ensures.unnamed refl))

@@ -2,19 +2,20 @@ use Rattle.std.proofs.Common.{Vec, ℕ}
 use Rattle.std.specs.Global.{Global}
 use Rattle.fip_tool.proofs.SourceLemmas.{text-made, text-stopped}
 use Rattle.fip_tool.proofs.GivenTables.{table-given}
+use Rattle.fip_tool.proofs.Stopped.{handed-on}
 use Rattle.fip_tool.proofs.info.source_info.Goals as goal
 
-pub returns-in-Ok-info_text-clause-given : goal.returns-in-Ok-info_text-clause-given
-returns-in-Ok-info_text-clause-given g c =
-    let given = c.in-Ok.ensures.given in
-    (given.0, given.1, text-made _ _ (Unit {0}) given.0 (c.in-Ok.toc, c.in-Ok.size) c.in-Ok-info_text.text.items given.2 c.in-Ok-info_text.ensures)
+pub returns-clause-given : goal.returns-clause-given
+returns-clause-given g c =
+    let given = c.in_ok-toc.ensures.given in
+    (given.0, given.1, text-made _ _ (Unit {0}) given.0 (c.in_ok-toc.toc, c.in_ok-toc.size) c.in_ok-info_text.field-0.items given.2 c.in_ok-info_text.ensures)
 
-pub returns-in-Ok-info_text-clause-listed : goal.returns-in-Ok-info_text-clause-listed
-returns-in-Ok-info_text-clause-listed g c =
-    let given = c.in-Ok.ensures.given in
-    (c.in-Ok.toc, c.in-Ok.size, (given.0, table-given given.0 c.in-Ok.toc c.in-Ok.size given.2.2), c.in-Ok-info_text.ensures)
+pub returns-clause-listed : goal.returns-clause-listed
+returns-clause-listed g c =
+    let given = c.in_ok-toc.ensures.given in
+    (c.in_ok-toc.toc, c.in_ok-toc.size, (given.0, table-given given.0 c.in_ok-toc.toc c.in_ok-toc.size given.2.2), c.in_ok-info_text.ensures)
 
-pub returns-in-Err-clause-given : goal.returns-in-Err-clause-given
-returns-in-Err-clause-given g c =
-    let given = c.in-Err.ensures.given in
-    (given.0, given.1, text-stopped (λ (text : Vec ℕ Global). text.items) _ _ _ given.0 c.in-Err.stop given.2)
+pub returns-in_err-toc-clause-given : goal.returns-in_err-toc-clause-given
+returns-in_err-toc-clause-given g c =
+    rw (handed-on c.from_residual.result c.in_err-toc.field-0.0 c.from_residual.ensures.1) (let given = c.in_err-toc.ensures.given in
+    (given.0, given.1, text-stopped (λ (text : Vec ℕ Global). text.items) _ _ _ given.0 c.in_err-toc.field-0.0 given.2))

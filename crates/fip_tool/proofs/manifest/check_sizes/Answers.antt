@@ -8,28 +8,31 @@ use Rattle.fip_tool.specs.Tool.{nothing}
 use Rattle.fip_tool.proofs.ManifestLemmas.{gives-same, longs-more-at, longs_value, sizes-of, sizes-stopped-at}
 use Rattle.fip_tool.proofs.Tables.{gives-err, rose-still}
 use Rattle.fip_tool.proofs.ReadsBy.{reads-stopped}
+use Rattle.fip_tool.proofs.Stopped.{handed-on}
+use Rattle.fip_tool.proofs.Refusing.{late-of-manifest}
 use Rattle.fip_tool.proofs.manifest.check_sizes.Goals.{then-is_long, else-is_long}
 use Rattle.fip_tool.proofs.manifest.check_sizes.Goals as goal
 
-pub returns-in-Err-clause-told : goal.returns-in-Err-clause-told
-returns-in-Err-clause-told g c = λ told e.
-    gives-err (λ (long : Bool). long) (nothing {X = Unit {0}}) _ _ _ _ c.in-Err.stop (λ r. rose-still _ _ _ (sym c.loop-one.invariant.quiet) r)
+pub returns-in_err-more-clause-told : goal.returns-in_err-more-clause-told
+returns-in_err-more-clause-told g c =
+    rw (handed-on c.from_residual.result c.in_err-more.field-0.0 c.from_residual.ensures.1) (λ told e.
+    gives-err (λ (long : Bool). long) (nothing {X = Unit {0}}) _ _ _ _ c.in_err-more.field-0.0 (λ r. rose-still _ _ _ (sym c.loop-one.invariant.quiet) r)
     (sizes-stopped-at told c.args.named.now c.loop-one.one-index c.one-item.result c.loop-one-test.true c.one-item.is _)
-    (c.in-Err.ensures.told told (c.loop-one.invariant.same ∙ e))
+    (c.in_err-more.ensures.told told (c.loop-one.invariant.same ∙ e)))
 
 pub loop-one-preserved : goal.loop-one-preserved
 loop-one-preserved g c =
     let more = λ (told : Directory) (e : g.H.Files.contents c.args.files.now ≡ Some told).
-    longs-more-at told c.args.named.now c.loop-one.one-index c.one-item.result c.loop-one-test.true c.one-item.is c.loop-one.is_long c.in-Ok.more (c.loop-one.invariant.so-far told e)
-    (c.in-Ok.ensures.told told (c.loop-one.invariant.same ∙ e)) in record {
+    longs-more-at told c.args.named.now c.loop-one.one-index c.one-item.result c.loop-one-test.true c.one-item.is c.loop-one.is_long c.in_ok-more.more (c.loop-one.invariant.so-far told e)
+    (c.in_ok-more.ensures.told told (c.loop-one.invariant.same ∙ e)) in record {
       same = c.is_long_file.ensures.reads.same ∙ c.loop-one.invariant.same;
-      quiet = c.in-Ok.ensures.reads.quiet ∙ c.loop-one.invariant.quiet;
+      quiet = c.in_ok-more.ensures.reads.quiet ∙ c.loop-one.invariant.quiet;
       unwritten = c.is_long_file.ensures.unwritten ∙ c.loop-one.invariant.unwritten;
       so-far = λ told e.
           more told e
           ∙ elim c.if-is_long.branch [
-            | then-is_long w ↦ ap (λ (b : Bool). Ok (b || c.in-Ok.more)) w.if-is_long.true ∙ ap (λ (b : Bool). Ok b) (sym (w.is_long-is ∙ w.if-is_long.true))
-            | else-is_long w ↦ ap (λ (b : Bool). Ok (b || c.in-Ok.more)) w.if-is_long.false ∙ ap (λ (b : Bool). Ok b) (sym w.is_long-is)
+            | then-is_long w ↦ ap (λ (b : Bool). Ok (b || c.in_ok-more.more)) w.if-is_long.true ∙ ap (λ (b : Bool). Ok b) (sym (w.is_long-is ∙ w.if-is_long.true))
+            | else-is_long w ↦ ap (λ (b : Bool). Ok (b || c.in_ok-more.more)) w.if-is_long.false ∙ ap (λ (b : Bool). Ok b) (sym w.is_long-is)
           ];
     }
 
@@ -40,5 +43,9 @@ returns-clause-told g c = λ told e.
     (sizes-of told c.args.named.now c.loop-one.is_long (ap (λ (l : List ImageWord). longs_value told (map image_view l)) (sym all) ∙ c.loop-one.invariant.so-far told e))
     c.check_count.ensures.value
 
-pub returns-in-Err-clause-reads : goal.returns-in-Err-clause-reads
-returns-in-Err-clause-reads g c = reads-stopped c.loop-one.invariant.same c.loop-one.invariant.quiet c.in-Err.ensures.reads
+pub returns-in_err-more-clause-reads : goal.returns-in_err-more-clause-reads
+returns-in_err-more-clause-reads g c =
+    rw (handed-on c.from_residual.result c.in_err-more.field-0.0 c.from_residual.ensures.1) (reads-stopped c.loop-one.invariant.same c.loop-one.invariant.quiet c.in_err-more.ensures.reads)
+
+pub returns-in_err-more-clause-refusals : goal.returns-in_err-more-clause-refusals
+returns-in_err-more-clause-refusals g c = rw (handed-on c.from_residual.result c.in_err-more.field-0.0 c.from_residual.ensures.1) (late-of-manifest c.in_err-more.field-0.0 c.in_err-more.ensures.late)

@@ -5,18 +5,21 @@ use Rattle.std.specs.Global.{Global}
 use Rattle.fip_tool.proofs.ManifestLemmas.{row-made, row-stopped}
 use Rattle.fip_tool.proofs.Tables.{gives-err}
 use Rattle.fip_tool.proofs.ReadsBy.{reads-done, reads-stopped}
+use Rattle.fip_tool.proofs.Stopped.{handed-on}
 use Rattle.fip_tool.proofs.manifest.row_of_file.Goals as goal
 
-pub returns-in-Ok-clause-told : goal.returns-in-Ok-clause-told
-returns-in-Ok-clause-told g c = λ told e.
-    row-made told (image_view c.args.named.now) c.in-Ok.image.items c.as_slice.result.now (option_map row c.row_of.result) (c.in-Ok.ensures.told told e) c.as_slice.ensures.value c.row_of.ensures
+pub returns-clause-told : goal.returns-clause-told
+returns-clause-told g c = λ told e.
+    row-made told (image_view c.args.named.now) c.in_ok-image.image.items c.as_slice.result.now (option_map row c.row_of.result) (c.in_ok-image.ensures.told told e) c.as_slice.ensures.value c.row_of.ensures
 
-pub returns-in-Err-clause-told : goal.returns-in-Err-clause-told
-returns-in-Err-clause-told g c = λ told e.
-    gives-err (λ (v : Vec ℕ Global). v.items) (option_map row) _ _ _ _ c.in-Err.stop (λ r. r) (row-stopped told (image_view c.args.named.now) _) (c.in-Err.ensures.told told e)
+pub returns-in_err-image-clause-told : goal.returns-in_err-image-clause-told
+returns-in_err-image-clause-told g c =
+    rw (handed-on c.from_residual.result c.in_err-image.field-0.0 c.from_residual.ensures.1) (λ told e.
+    gives-err (λ (v : Vec ℕ Global). v.items) (option_map row) _ _ _ _ c.in_err-image.field-0.0 (λ r. r) (row-stopped told (image_view c.args.named.now) _) (c.in_err-image.ensures.told told e))
 
-pub returns-in-Ok-clause-reads : goal.returns-in-Ok-clause-reads
-returns-in-Ok-clause-reads g c = reads-done c.read_file.ensures.reads.same c.in-Ok.ensures.reads.quiet
+pub returns-clause-reads : goal.returns-clause-reads
+returns-clause-reads g c = reads-done c.read_file.ensures.reads.same c.in_ok-image.ensures.reads.quiet
 
-pub returns-in-Err-clause-reads : goal.returns-in-Err-clause-reads
-returns-in-Err-clause-reads g c = reads-stopped refl refl c.in-Err.ensures.reads
+pub returns-in_err-image-clause-reads : goal.returns-in_err-image-clause-reads
+returns-in_err-image-clause-reads g c =
+    rw (handed-on c.from_residual.result c.in_err-image.field-0.0 c.from_residual.ensures.1) (reads-stopped refl refl c.in_err-image.ensures.reads)

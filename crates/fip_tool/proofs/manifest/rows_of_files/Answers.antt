@@ -9,25 +9,28 @@ use Rattle.manifest_core.specs.declared.rows.Row.{Row as CodeRow}
 use Rattle.fip_tool.proofs.ManifestLemmas.{count-more, rows-more-at, rows_value, seen-more, stopped-at}
 use Rattle.fip_tool.proofs.ReadsBy.{reads-done, reads-starved, reads-stopped}
 use Rattle.fip_tool.proofs.Tables.{gives-err, rose-still}
+use Rattle.fip_tool.proofs.Stopped.{handed-on}
+use Rattle.fip_tool.specs.declared.stops.Stop.TheVariants as stop
 use Rattle.fip_tool.proofs.manifest.rows_of_files.Goals as goal
 
-pub returns-in-Err-clause-told : goal.returns-in-Err-clause-told
-returns-in-Err-clause-told g c = λ told e.
-    gives-err (option_map row) (option_map (λ (v : Vec CodeRow Global). map row v.items)) _ _ _ _ c.in-Err.stop (λ r. rose-still _ _ _ (sym c.loop-one.invariant.quiet) r)
+pub returns-in_err-more-clause-told : goal.returns-in_err-more-clause-told
+returns-in_err-more-clause-told g c =
+    rw (handed-on c.from_residual.result c.in_err-more.field-0.0 c.from_residual.ensures.1) (λ told e.
+    gives-err (option_map row) (option_map (λ (v : Vec CodeRow Global). map row v.items)) _ _ _ _ c.in_err-more.field-0.0 (λ r. rose-still _ _ _ (sym c.loop-one.invariant.quiet) r)
     (stopped-at told c.args.named.now c.loop-one.one-index c.one-item.result c.loop-one-test.true c.one-item.is _)
-    (c.in-Err.ensures.told told (c.loop-one.invariant.same ∙ e))
+    (c.in_err-more.ensures.told told (c.loop-one.invariant.same ∙ e)))
 
 pub loop-one-preserved : goal.loop-one-preserved
 loop-one-preserved g c = record {
   same = c.row_of_file.ensures.reads.same ∙ c.loop-one.invariant.same;
-  quiet = c.in-Ok.ensures.reads.quiet ∙ c.loop-one.invariant.quiet;
+  quiet = c.in_ok-more.ensures.reads.quiet ∙ c.loop-one.invariant.quiet;
   unwritten = c.row_of_file.ensures.unwritten ∙ c.loop-one.invariant.unwritten;
-  count = count-more (λ v. v.items) c.loop-one.rows c.in-Ok-with_row.rows c.in-Ok.more c.loop-one.one-index c.in-Ok-with_row.ensures c.loop-one.invariant.count;
+  count = count-more (λ v. v.items) c.loop-one.rows c.in_ok-rows.rows c.in_ok-more.more c.loop-one.one-index c.in_ok-rows.ensures c.loop-one.invariant.count;
   so-far = λ told e.
       rows-more-at told c.args.named.now c.loop-one.one-index c.one-item.result c.loop-one-test.true c.one-item.is
-      (option_map (λ v. map row v.items) c.loop-one.rows) (option_map row c.in-Ok.more) (c.loop-one.invariant.so-far told e)
-      (c.in-Ok.ensures.told told (c.loop-one.invariant.same ∙ e))
-      ∙ ap (λ (r : Option (List Row)). Ok r) (sym (seen-more (λ v. v.items) c.loop-one.rows c.in-Ok-with_row.rows c.in-Ok.more c.in-Ok-with_row.ensures));
+      (option_map (λ v. map row v.items) c.loop-one.rows) (option_map row c.in_ok-more.more) (c.loop-one.invariant.so-far told e)
+      (c.in_ok-more.ensures.told told (c.loop-one.invariant.same ∙ e))
+      ∙ ap (λ (r : Option (List Row)). Ok r) (sym (seen-more (λ v. v.items) c.loop-one.rows c.in_ok-rows.rows c.in_ok-more.more c.in_ok-rows.ensures));
 }
 
 pub returns-clause-told : goal.returns-clause-told
@@ -38,9 +41,10 @@ returns-clause-told g c = λ told e.
 pub returns-clause-reads : goal.returns-clause-reads
 returns-clause-reads g c = reads-done c.loop-one.invariant.same c.loop-one.invariant.quiet
 
-pub returns-in-Err-clause-reads : goal.returns-in-Err-clause-reads
-returns-in-Err-clause-reads g c = reads-stopped c.loop-one.invariant.same c.loop-one.invariant.quiet c.in-Err.ensures.reads
+pub returns-in_err-more-clause-reads : goal.returns-in_err-more-clause-reads
+returns-in_err-more-clause-reads g c =
+    rw (handed-on c.from_residual.result c.in_err-more.field-0.0 c.from_residual.ensures.1) (reads-stopped c.loop-one.invariant.same c.loop-one.invariant.quiet c.in_err-more.ensures.reads)
 
-pub returns-in-Err-with_row-clause-reads : goal.returns-in-Err-with_row-clause-reads
-returns-in-Err-with_row-clause-reads g c =
-    reads-starved (c.row_of_file.ensures.reads.same ∙ c.loop-one.invariant.same) (c.in-Ok.ensures.reads.quiet ∙ c.loop-one.invariant.quiet)
+pub returns-in_err-rows-clause-reads : goal.returns-in_err-rows-clause-reads
+returns-in_err-rows-clause-reads g c =
+    rw (handed-on c.from_residual-in_err-rows.result stop.NoMemory c.from_residual-in_err-rows.ensures.1) (reads-starved (c.row_of_file.ensures.reads.same ∙ c.loop-one.invariant.same) (c.in_ok-more.ensures.reads.quiet ∙ c.loop-one.invariant.quiet))

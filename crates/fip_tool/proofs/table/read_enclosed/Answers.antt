@@ -1,14 +1,20 @@
 use Rattle.std.proofs.Common.{refl}
 use Rattle.fip_tool.proofs.Conversions.{table-read, table-stopped}
 use Rattle.fip_tool.proofs.ReadsBy.{reads-no-items}
+use Rattle.fip_tool.proofs.Refusing.{items-of-capsule}
+use Rattle.fip_tool.proofs.Stopped.{handed-on}
+use Rattle.fip_tool.specs.Tool.{capsule_stopped_by}
 use Rattle.fip_tool.proofs.table.read_enclosed.Goals as goal
 
-pub returns-in-Ok-clause-told : goal.returns-in-Ok-clause-told
-returns-in-Ok-clause-told g c = λ told e. table-read _ told c.args.name.now e c.in-Ok.toc c.in-Ok.ensures.told c.in-Ok.ensures.missing
+pub returns-clause-told : goal.returns-clause-told
+returns-clause-told g c = λ told e. table-read _ told c.args.name.now e c.in_ok-read_capsule.field-0 c.in_ok-read_capsule.ensures.told c.in_ok-read_capsule.ensures.missing
 
-pub returns-in-Err-clause-told : goal.returns-in-Err-clause-told
-returns-in-Err-clause-told g c = λ told e.
-    rw c.capsule_stop_of.ensures (table-stopped _ told c.args.name.now e c.in-Err.stop _ c.in-Err.ensures.told c.in-Err.ensures.missing c.in-Err.ensures.cause.failed)
+pub returns-in_err-read_capsule-clause-told : goal.returns-in_err-read_capsule-clause-told
+returns-in_err-read_capsule-clause-told g c = λ told e.
+    rw (handed-on c.from_residual.result (capsule_stopped_by c.in_err-read_capsule.field-0.0) c.from_residual.ensures.1) (table-stopped _ told c.args.name.now e c.in_err-read_capsule.field-0.0 _ c.in_err-read_capsule.ensures.told c.in_err-read_capsule.ensures.missing c.in_err-read_capsule.ensures.cause.failed)
 
-pub returns-in-Err-clause-reads : goal.returns-in-Err-clause-reads
-returns-in-Err-clause-reads g c = rw c.capsule_stop_of.ensures (reads-no-items c.in-Err.stop refl c.in-Err.ensures.same refl c.in-Err.ensures.cause)
+pub returns-in_err-read_capsule-clause-reads : goal.returns-in_err-read_capsule-clause-reads
+returns-in_err-read_capsule-clause-reads g c = rw (handed-on c.from_residual.result (capsule_stopped_by c.in_err-read_capsule.field-0.0) c.from_residual.ensures.1) (reads-no-items c.in_err-read_capsule.field-0.0 refl c.in_err-read_capsule.ensures.same refl c.in_err-read_capsule.ensures.cause)
+
+pub returns-in_err-read_capsule-clause-refusals : goal.returns-in_err-read_capsule-clause-refusals
+returns-in_err-read_capsule-clause-refusals g c = rw (handed-on c.from_residual.result (capsule_stopped_by c.in_err-read_capsule.field-0.0) c.from_residual.ensures.1) (items-of-capsule c.in_err-read_capsule.field-0.0)

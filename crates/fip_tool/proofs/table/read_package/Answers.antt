@@ -2,34 +2,45 @@ use Rattle.std.proofs.Common.{◌∙◌, refl}
 use Rattle.fip_tool.proofs.ReadsBy.{reads-no-table, reads-stopped}
 use Rattle.fip_tool.proofs.Repacking.{ends-below}
 use Rattle.fip_tool.proofs.Tables.{gives-err, size-err, sized, table-ok, table-stop, tells}
+use Rattle.fip_tool.proofs.Stopped.{handed-on}
+use Rattle.fip_tool.proofs.Refusing.{late-of-package, toc-of-package}
+use Rattle.fip_tool.specs.Tool.{stopped_by}
 use Rattle.fip_tool.proofs.table.read_package.Goals as goal
 
-pub returns-in-Err-clause-told : goal.returns-in-Err-clause-told
-returns-in-Err-clause-told g c = λ told e.
-    gives-err (λ n. n) (λ t. t) _ _ _ _ c.in-Err.stop (λ r. r) (size-err told c.args.name.now _) (c.in-Err.ensures.told told e)
+pub returns-in_err-size-clause-told : goal.returns-in_err-size-clause-told
+returns-in_err-size-clause-told g c =
+    rw (handed-on c.from_residual.result c.in_err-size.field-0.0 c.from_residual.ensures.1) (λ told e.
+    gives-err (λ n. n) (λ t. t) _ _ _ _ c.in_err-size.field-0.0 (λ r. r) (size-err told c.args.name.now _) (c.in_err-size.ensures.told told e))
 
-pub returns-in-Ok-read_toc-clause-told : goal.returns-in-Ok-read_toc-clause-told
-returns-in-Ok-read_toc-clause-told g c = λ told e.
-    let s = sized told c.args.name.now c.in-Ok.size (c.in-Ok.ensures.told told e) in
-    let is = c.in-Ok-read_toc.ensures.told s.0 (tells _ told c.args.name.now s.0 (c.size_of.ensures.reads.same ∙ e) s.1) in
-    table-ok told c.args.name.now s.0 c.in-Ok.size c.in-Ok-read_toc.toc s.1 s.2 is
+pub returns-clause-told : goal.returns-clause-told
+returns-clause-told g c = λ told e.
+    let s = sized told c.args.name.now c.in_ok-size.size (c.in_ok-size.ensures.told told e) in
+    let is = c.in_ok-toc.ensures.told s.0 (tells _ told c.args.name.now s.0 (c.size_of.ensures.reads.same ∙ e) s.1) in
+    table-ok told c.args.name.now s.0 c.in_ok-size.size c.in_ok-toc.toc s.1 s.2 is
 
-pub returns-in-Err-read_toc-clause-told : goal.returns-in-Err-read_toc-clause-told
-returns-in-Err-read_toc-clause-told g c = λ told e.
-    let s = sized told c.args.name.now c.in-Ok.size (c.in-Ok.ensures.told told e) in
-    rw c.stop_of.ensures
-    (table-stop told c.args.name.now s.0 _ _ _ _ c.in-Err-read_toc.stop c.size_of.ensures.reads.later (c.size_of.ensures.reads.same ∙ e) s.1
-    (c.in-Err-read_toc.ensures.told s.0 (tells _ told c.args.name.now s.0 (c.size_of.ensures.reads.same ∙ e) s.1)) c.in-Err-read_toc.ensures.cause.failed)
+pub returns-in_err-toc-clause-told : goal.returns-in_err-toc-clause-told
+returns-in_err-toc-clause-told g c = λ told e.
+    let s = sized told c.args.name.now c.in_ok-size.size (c.in_ok-size.ensures.told told e) in
+    rw (handed-on c.from_residual-in_err-toc.result (stopped_by c.in_err-toc.field-0.0) c.from_residual-in_err-toc.ensures.1)
+    (table-stop told c.args.name.now s.0 _ _ _ _ c.in_err-toc.field-0.0 c.size_of.ensures.reads.later (c.size_of.ensures.reads.same ∙ e) s.1
+    (c.in_err-toc.ensures.told s.0 (tells _ told c.args.name.now s.0 (c.size_of.ensures.reads.same ∙ e) s.1)) c.in_err-toc.ensures.cause.failed)
 
-pub returns-in-Ok-read_toc-clause-ends : goal.returns-in-Ok-read_toc-clause-ends
-returns-in-Ok-read_toc-clause-ends g c = let s = c.in-Ok-read_toc.ensures.some in ends-below s.bytes c.in-Ok-read_toc.toc s.short s.answer
+pub returns-clause-ends : goal.returns-clause-ends
+returns-clause-ends g c = let s = c.in_ok-toc.ensures.some in ends-below s.bytes c.in_ok-toc.toc s.short s.answer
 
-pub returns-in-Err-clause-reads : goal.returns-in-Err-clause-reads
-returns-in-Err-clause-reads g c = reads-stopped refl refl c.in-Err.ensures.reads
+pub returns-in_err-size-clause-reads : goal.returns-in_err-size-clause-reads
+returns-in_err-size-clause-reads g c =
+    rw (handed-on c.from_residual.result c.in_err-size.field-0.0 c.from_residual.ensures.1) (reads-stopped refl refl c.in_err-size.ensures.reads)
 
-pub returns-in-Err-read_toc-clause-reads : goal.returns-in-Err-read_toc-clause-reads
-returns-in-Err-read_toc-clause-reads g c =
-    rw c.stop_of.ensures (reads-no-table c.in-Err-read_toc.stop c.size_of.ensures.reads.same c.in-Err-read_toc.ensures.same c.in-Ok.ensures.reads.quiet c.in-Err-read_toc.ensures.cause)
+pub returns-in_err-toc-clause-reads : goal.returns-in_err-toc-clause-reads
+returns-in_err-toc-clause-reads g c =
+    rw (handed-on c.from_residual-in_err-toc.result (stopped_by c.in_err-toc.field-0.0) c.from_residual-in_err-toc.ensures.1) (reads-no-table c.in_err-toc.field-0.0 c.size_of.ensures.reads.same c.in_err-toc.ensures.same c.in_ok-size.ensures.reads.quiet c.in_err-toc.ensures.cause)
 
-pub returns-in-Ok-read_toc-clause-table : goal.returns-in-Ok-read_toc-clause-table
-returns-in-Ok-read_toc-clause-table g c = let s = c.in-Ok-read_toc.ensures.some in (s.bytes, s.answer)
+pub returns-clause-table : goal.returns-clause-table
+returns-clause-table g c = let s = c.in_ok-toc.ensures.some in (s.bytes, s.answer)
+
+pub returns-in_err-size-clause-refusals : goal.returns-in_err-size-clause-refusals
+returns-in_err-size-clause-refusals g c = rw (handed-on c.from_residual.result c.in_err-size.field-0.0 c.from_residual.ensures.1) (late-of-package c.in_err-size.field-0.0 c.in_err-size.ensures.late)
+
+pub returns-in_err-toc-clause-refusals : goal.returns-in_err-toc-clause-refusals
+returns-in_err-toc-clause-refusals g c = rw (handed-on c.from_residual-in_err-toc.result (stopped_by c.in_err-toc.field-0.0) c.from_residual-in_err-toc.ensures.1) (toc-of-package c.in_err-toc.field-0.0)

@@ -2,6 +2,7 @@ use Rattle.std.proofs.Common.{◌∙◌, [], Ok, Err, Some, inl, inr, map, refl,
 use Rattle.base_core.specs.Counts.{Rose}
 use Rattle.fip_tool.proofs.Converted.{converted, no-zero}
 use Rattle.fip_tool.proofs.Ending.{ends, reported-later}
+use Rattle.fip_tool.proofs.Refusing.{reported-may}
 use Rattle.fip_tool.proofs.SourceEnds.{reported-read, reported-two}
 use Rattle.fip_tool.proofs.Tables.{rose-from, rose-until}
 use Rattle.fip_tool.proofs.UsageEnds.{no-usage, reported-one, usage-status}
@@ -119,3 +120,10 @@ returns-in-Err-clause-sink_alone g c = λ three.
 pub returns-in-Err-clause-source_alone : goal.returns-in-Err-clause-source_alone
 returns-in-Err-clause-source_alone g c = λ e three.
     source-alone (asked (map string_bytes c.args.words.now)) _ _ _ _ _ c.in-Err.stop c.report.result _ _ (sym c.status.ensures ∙ three) c.in-Err.ensures.says c.report.ensures.reported (c.in-Err.ensures.source_count e)
+
+pub returns-in-Ok-clause-refusals : goal.returns-in-Ok-clause-refusals
+returns-in-Ok-clause-refusals g c = inl refl
+
+pub returns-in-Err-clause-refusals : goal.returns-in-Err-clause-refusals
+returns-in-Err-clause-refusals g c =
+    inr (c.report.result, reported-may (asked (map string_bytes c.args.words.now)) _ _ _ c.in-Err.stop c.report.result c.in-Err.ensures.refusals c.report.ensures.reported, c.status.ensures)

@@ -15,8 +15,9 @@ use Rattle.fip_tool.proofs.UnpackLemmas.{all-done, begins, next-chosen, next-pas
 use Rattle.fip_tool.specs.Steps.{sink_failed}
 use Rattle.fip_tool.specs.Wrote.{raised_by}
 use Rattle.fip_tool.proofs.WroteLemmas.{one-wrote, wrote-behind}
+use Rattle.fip_tool.proofs.Stopped.{handed-on}
 use Rattle.fip_tool.proofs.unpack.unpack_entries.Goals as goal
-use Rattle.fip_tool.proofs.unpack.unpack_entries.Goals.{then-is_chosen+in-Ok, else-is_chosen}
+use Rattle.fip_tool.proofs.unpack.unpack_entries.Goals.{then-is_chosen+in_ok-unpack_entry, else-is_chosen}
 
 pub loop-entry-init : goal.loop-entry-init
 loop-entry-init g c = record {
@@ -39,30 +40,31 @@ unpack_entry-requires-clause-stored g c = λ bytes tells.
 pub unpack_entry-requires-clause-there : goal.unpack_entry-requires-clause-there
 unpack_entry-requires-clause-there g c = there-still c.args.prefix.now c.args.from.now _ _ _ _ _ c.loop-entry.invariant.silent c.requires.there c.loop-entry.invariant.so-far
 
-pub returns-in-Err-clause-told : goal.returns-in-Err-clause-told
-returns-in-Err-clause-told g c = λ told bytes is stored.
+pub returns-in_err-unpack_entry-clause-told : goal.returns-in_err-unpack_entry-clause-told
+returns-in_err-unpack_entry-clause-told g c =
+    rw (handed-on c.from_residual.result c.in_err-unpack_entry.field-0.0 c.from_residual.ensures.1) (λ told bytes is stored.
     let s = c.loop-entry.invariant.so-far told bytes is stored in
     step-stops c.args.prefix.now c.args.from.now bytes (λ e. (length c.args.names.now == 0) || is_named c.args.names.now e) c.args.entries.now c.loop-entry.entry-index told _
-    c.entry-item.result c.loop-entry-test.true (sym c.entry-item.is) _ _ _ _ _ _ _ s _ _ _ c.in-Err.stop
-    (λ r. rose-still _ _ _ (sym c.loop-entry.invariant.quiet) r) (λ r. rose-still _ _ _ (sym c.loop-entry.invariant.unspoiled) r) (λ r. rose-from _ _ _ c.loop-entry.invariant.later_sink r) (sym c.is_chosen.ensures ∙ c.if-is_chosen.true) (c.in-Err.ensures.told s.now bytes s.is s.stored)
+    c.entry-item.result c.loop-entry-test.true (sym c.entry-item.is) _ _ _ _ _ _ _ s _ _ _ c.in_err-unpack_entry.field-0.0
+    (λ r. rose-still _ _ _ (sym c.loop-entry.invariant.quiet) r) (λ r. rose-still _ _ _ (sym c.loop-entry.invariant.unspoiled) r) (λ r. rose-from _ _ _ c.loop-entry.invariant.later_sink r) (sym c.is_chosen.ensures ∙ c.if-is_chosen.true) (c.in_err-unpack_entry.ensures.told s.now bytes s.is s.stored))
 
 pub loop-entry-preserved : goal.loop-entry-preserved
 loop-entry-preserved g c =
     elim c.if-is_chosen.branch [
-      | then-is_chosen+in-Ok w ↦
+      | then-is_chosen+in_ok-unpack_entry w ↦
           rw (w.files-is, w.sink-is) (record {
-            silent = λ e. w.in-Ok.ensures.silent (c.loop-entry.invariant.silent e);
-            quiet = w.in-Ok.ensures.file_count.quiet ∙ c.loop-entry.invariant.quiet;
-            unspoiled = w.in-Ok.ensures.unspoiled ∙ c.loop-entry.invariant.unspoiled;
+            silent = λ e. w.in_ok-unpack_entry.ensures.silent (c.loop-entry.invariant.silent e);
+            quiet = w.in_ok-unpack_entry.ensures.file_count.quiet ∙ c.loop-entry.invariant.quiet;
+            unspoiled = w.in_ok-unpack_entry.ensures.unspoiled ∙ c.loop-entry.invariant.unspoiled;
             wrote =
                 let p = λ (e : Entry). (length c.args.names.now == 0) || is_named c.args.names.now e in
                 let e = c.entry-item.result in
                 let es = c.args.entries.now in
                 let more = next-chosen p es c.loop-entry.entry-index e c.loop-entry-test.true (sym c.entry-item.is) (sym c.is_chosen.ensures ∙ w.if-is_chosen.true) in
                 one-wrote (unpacked_line c.args.prefix.now e) _ _ _ _ _ (length (filter p (take c.loop-entry.entry-index es))) _ c.loop-entry.invariant.wrote
-                (ap length more ∙ length-append (filter p (take c.loop-entry.entry-index es)) (e ∷ [])) w.in-Ok.ensures.wrote;
+                (ap length more ∙ length-append (filter p (take c.loop-entry.entry-index es)) (e ∷ [])) w.in_ok-unpack_entry.ensures.wrote;
             later_sink = omega (arith, c.loop-entry.invariant.later_sink, w.unpack_entry.ensures.later_sink);
-            sink_count = w.in-Ok.ensures.sink_count ∙ c.loop-entry.invariant.sink_count;
+            sink_count = w.in_ok-unpack_entry.ensures.sink_count ∙ c.loop-entry.invariant.sink_count;
             said =
                 let p = λ (e : Entry). (length c.args.names.now == 0) || is_named c.args.names.now e in
                 let e = c.entry-item.result in
@@ -70,12 +72,12 @@ loop-entry-preserved g c =
                 let more = next-chosen p es c.loop-entry.entry-index e c.loop-entry-test.true (sym c.entry-item.is) (sym c.is_chosen.ensures ∙ w.if-is_chosen.true) in
                 said-more (map (unpacked_line c.args.prefix.now) (filter p (take c.loop-entry.entry-index es))) _ (unpacked_line c.args.prefix.now e) _ _ _ (Unit {0}) tt
                 (ap (map (unpacked_line c.args.prefix.now)) more ∙ map-append (unpacked_line c.args.prefix.now) (filter p (take c.loop-entry.entry-index es)) (e ∷ []))
-                c.loop-entry.invariant.said w.in-Ok.ensures.says;
+                c.loop-entry.invariant.said w.in_ok-unpack_entry.ensures.says;
             so-far = λ told bytes is stored.
                 let s = c.loop-entry.invariant.so-far told bytes is stored in
                 step-done c.args.prefix.now c.args.from.now bytes (λ e. (length c.args.names.now == 0) || is_named c.args.names.now e) c.args.entries.now c.loop-entry.entry-index told _
                 c.entry-item.result c.loop-entry-test.true (sym c.entry-item.is) _ _ _ _ (Unit {0}) (Unit {0}) (Unit {0}) s _
-                (sym c.is_chosen.ensures ∙ w.if-is_chosen.true) (w.in-Ok.ensures.other c.requires.other) (w.in-Ok.ensures.told s.now bytes s.is s.stored);
+                (sym c.is_chosen.ensures ∙ w.if-is_chosen.true) (w.in_ok-unpack_entry.ensures.other c.requires.other) (w.in_ok-unpack_entry.ensures.told s.now bytes s.is s.stored);
           })
       | else-is_chosen w ↦
           rw (w.files-is, w.sink-is) (record {
@@ -99,9 +101,9 @@ loop-entry-preserved g c =
           })
     ]
 
-pub returns-in-Err-clause-says : goal.returns-in-Err-clause-says
-returns-in-Err-clause-says g c =
-    let p = λ (e : Entry). (length c.args.names.now == 0) || is_named c.args.names.now e in
+pub returns-in_err-unpack_entry-clause-says : goal.returns-in_err-unpack_entry-clause-says
+returns-in_err-unpack_entry-clause-says g c =
+    rw (handed-on c.from_residual.result c.in_err-unpack_entry.field-0.0 c.from_residual.ensures.1) (let p = λ (e : Entry). (length c.args.names.now == 0) || is_named c.args.names.now e in
     let e = c.entry-item.result in
     let es = c.args.entries.now in
     let i = c.loop-entry.entry-index in
@@ -109,7 +111,7 @@ returns-in-Err-clause-says g c =
     let split = split-chosen p es i e c.loop-entry-test.true (sym c.entry-item.is) (sym c.is_chosen.ensures ∙ c.if-is_chosen.true) in
     says-behind (map line (filter p (take i es))) (line e) (map line (filter p (drop (i + 1) es))) (map line (filter p es))
     (ap (map line) split ∙ map-append line (filter p (take i es)) (e ∷ filter p (drop (i + 1) es)))
-    _ _ _ _ _ (λ r. rose-from _ _ _ c.loop-entry.invariant.later_sink r) c.loop-entry.invariant.said c.in-Err.stop c.in-Err.ensures.late c.in-Err.ensures.says
+    _ _ _ _ _ (λ r. rose-from _ _ _ c.loop-entry.invariant.later_sink r) c.loop-entry.invariant.said c.in_err-unpack_entry.field-0.0 c.in_err-unpack_entry.ensures.late c.in_err-unpack_entry.ensures.says)
 
 pub returns-clause-says : goal.returns-clause-says
 returns-clause-says g c =
@@ -127,27 +129,29 @@ returns-clause-told g c = λ told bytes is stored.
     all-done c.args.prefix.now c.args.from.now bytes (λ e. (length c.args.names.now == 0) || is_named c.args.names.now e) c.args.entries.now c.loop-entry.entry-index told _ _ _ (Unit {0}) (Unit {0}) (Unit {0}) tt far
     (c.loop-entry.invariant.so-far told bytes is stored)
 
-pub returns-in-Err-clause-sink_count : goal.returns-in-Err-clause-sink_count
-returns-in-Err-clause-sink_count g c = c.in-Err.ensures.sink_count ∙ ap (sink_failed c.in-Err.stop) c.loop-entry.invariant.sink_count
+pub returns-in_err-unpack_entry-clause-sink_count : goal.returns-in_err-unpack_entry-clause-sink_count
+returns-in_err-unpack_entry-clause-sink_count g c =
+    rw (handed-on c.from_residual.result c.in_err-unpack_entry.field-0.0 c.from_residual.ensures.1) (c.in_err-unpack_entry.ensures.sink_count ∙ ap (sink_failed c.in_err-unpack_entry.field-0.0) c.loop-entry.invariant.sink_count)
 
-pub returns-in-Err-clause-file_count : goal.returns-in-Err-clause-file_count
-returns-in-Err-clause-file_count g c = faults-then c.loop-entry.invariant.quiet c.in-Err.ensures.file_count
+pub returns-in_err-unpack_entry-clause-file_count : goal.returns-in_err-unpack_entry-clause-file_count
+returns-in_err-unpack_entry-clause-file_count g c =
+    rw (handed-on c.from_residual.result c.in_err-unpack_entry.field-0.0 c.from_residual.ensures.1) (faults-then c.loop-entry.invariant.quiet c.in_err-unpack_entry.ensures.file_count)
 
 pub returns-clause-file_count : goal.returns-clause-file_count
 returns-clause-file_count g c = faults-none c.loop-entry.invariant.quiet
 
-pub returns-in-Err-clause-wrote : goal.returns-in-Err-clause-wrote
-returns-in-Err-clause-wrote g c =
-    let p = λ (e : Entry). (length c.args.names.now == 0) || is_named c.args.names.now e in
+pub returns-in_err-unpack_entry-clause-wrote : goal.returns-in_err-unpack_entry-clause-wrote
+returns-in_err-unpack_entry-clause-wrote g c =
+    rw (handed-on c.from_residual.result c.in_err-unpack_entry.field-0.0 c.from_residual.ensures.1) (let p = λ (e : Entry). (length c.args.names.now == 0) || is_named c.args.names.now e in
     let e = c.entry-item.result in
     let es = c.args.entries.now in
     let i = c.loop-entry.entry-index in
     let line = unpacked_line c.args.prefix.now in
     let split = split-chosen p es i e c.loop-entry-test.true (sym c.entry-item.is) (sym c.is_chosen.ensures ∙ c.if-is_chosen.true) in
     let start = (g.H.Files.writes c.args.files.now).done in
-    wrote-behind (map line (filter p (take i es))) (line e) (map line (filter p (drop (i + 1) es))) (map line (filter p es)) _ _ _ _ start _ _ c.in-Err.stop
+    wrote-behind (map line (filter p (take i es))) (line e) (map line (filter p (drop (i + 1) es))) (map line (filter p es)) _ _ _ _ start _ _ c.in_err-unpack_entry.field-0.0
     (ap (map line) split ∙ map-append line (filter p (take i es)) (e ∷ filter p (drop (i + 1) es))) c.loop-entry.invariant.said
-    (c.loop-entry.invariant.wrote ∙ ap (λ (n : ℕ). raised_by n start) (sym (length-map (filter p (take i es)) line))) c.in-Err.ensures.late c.in-Err.ensures.says c.in-Err.ensures.wrote
+    (c.loop-entry.invariant.wrote ∙ ap (λ (n : ℕ). raised_by n start) (sym (length-map (filter p (take i es)) line))) c.in_err-unpack_entry.ensures.late c.in_err-unpack_entry.ensures.says c.in_err-unpack_entry.ensures.wrote)
 
 pub returns-clause-wrote : goal.returns-clause-wrote
 returns-clause-wrote g c =

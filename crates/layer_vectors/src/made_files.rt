@@ -1,0 +1,206 @@
+//! Files that are made of a frame and of pieces of others, in memory and by the system.
+
+use crate::fixtures::{are_bytes, holds, only, removed, same};
+use host_io::{Files, HostFiles, MemoryFiles, Piece, WriteStop};
+use std::alloc::Global;
+use std::fs;
+use std::process::Abort;
+
+// The bytes that stand in the pieces' file.
+const FROM: &[u8] = b"firmware";
+
+const FROM_NAME: &str = "host_io_from.tmp";
+
+// Three bytes from place 2 on behind the first byte of the frame, and one behind as many as there are.
+const PIECES: [Piece<'static>; 2] = [
+    Piece {
+        gap: 1,
+        file: FROM_NAME,
+        at: 2,
+        count: 3,
+    },
+    Piece {
+        gap: 9,
+        file: FROM_NAME,
+        at: 7,
+        count: 1,
+    },
+];
+
+const MADE: &[u8] = b"<rmw|>e";
+
+// A piece that the file does not have.
+const BEHIND_THE_END: [Piece<'static>; 1] = [Piece {
+    gap: 1,
+    file: FROM_NAME,
+    at: 7,
+    count: 2,
+}];
+
+// The pieces' file in memory. The call of this number fails.
+fn memory_files(rt: &impl Abort, alloc: Global, fails: u64) -> MemoryFiles {
+    let mut files = MemoryFiles::new(alloc, Vec::new(alloc), only(rt, alloc, fails));
+    same(rt, files.write_whole(FROM_NAME, FROM), Ok(()));
+    files
+}
+
+// What becomes of a file of the whole of the pieces' file, behind `<`.
+fn wraps(rt: &impl Abort, alloc: Global, files: &mut MemoryFiles, wanted: Result<(), WriteStop>) {
+    let count = match files.get(FROM_NAME) {
+        Some(bytes) => bytes.len() as u64,
+        None => return holds(rt, false, FROM_NAME),
+    };
+    let pieces = [Piece {
+        gap: 1,
+        file: FROM_NAME,
+        at: 0,
+        count,
+    }];
+    let made = files.write_joined(alloc, FROM_NAME, b"<>", &pieces);
+    same(rt, made, wanted);
+}
+
+// The pieces' file holds this.
+fn is_held(rt: &impl Abort, files: &MemoryFiles, wanted: &[u8]) {
+    match files.get(FROM_NAME) {
+        Some(bytes) => are_bytes(rt, bytes, wanted),
+        None => holds(rt, false, FROM_NAME),
+    }
+}
+
+#[test]
+fn made_in_memory(rt: HostRuntime) {
+    let mut files = memory_files(&rt, rt.alloc(), 2);
+    wraps(&rt, rt.alloc(), &mut files, Err(WriteStop::Failed));
+    is_held(&rt, &files, FROM);
+    wraps(&rt, rt.alloc(), &mut files, Ok(()));
+    is_held(&rt, &files, b"<firmware>");
+}
+
+// What becomes of a file that is made of these pieces, by the system.
+fn makes<R: std::rt::Files>(
+    rt: &impl Abort,
+    alloc: Global,
+    files: &mut HostFiles<R>,
+    name: &str,
+    pieces: &[Piece<'_>],
+    wanted: Result<(), WriteStop>,
+) {
+    let made = files.write_joined(alloc, name, b"<|>", pieces);
+    same(rt, made, wanted);
+}
+
+// The file holds this.
+fn is_there<R: std::rt::Files>(
+    rt: &impl Abort,
+    alloc: Global,
+    files: &mut HostFiles<R>,
+    name: &str,
+    wanted: &[u8],
+) {
+    let count = wanted.len();
+    same(rt, files.size(name), Ok(Some(count as u64)));
+    let mut bytes = Vec::with_capacity(alloc, count).expect(rt, "memory");
+    same(rt, files.read_onto(name, 0, count, &mut bytes), Ok(()));
+    are_bytes(rt, bytes.as_slice(), wanted);
+}
+
+// Nothing of this name is there.
+fn is_gone(rt: &(impl std::rt::Files + Abort), name: &str) {
+    holds(rt, fs::metadata(rt, name).is_err(), name);
+}
+
+fn writes<R: std::rt::Files>(rt: &impl Abort, files: &mut HostFiles<R>, name: &str, bytes: &[u8]) {
+    same(rt, files.write_whole(name, bytes), Ok(()));
+}
+
+// A new file, one that is written over, and one that is made of itself. A piece that is not there leaves the old file.
+fn replaces<R: std::rt::Files>(
+    rt: &(impl std::rt::Files + Abort),
+    alloc: Global,
+    files: &mut HostFiles<R>,
+) {
+    let failed = Err(WriteStop::Failed);
+    makes(
+        rt,
+        alloc,
+        files,
+        "host_io_made.tmp",
+        &BEHIND_THE_END,
+        failed,
+    );
+    is_gone(rt, "host_io_made.tmp");
+    makes(rt, alloc, files, "host_io_made.tmp", &PIECES, Ok(()));
+    makes(
+        rt,
+        alloc,
+        files,
+        "host_io_made.tmp",
+        &BEHIND_THE_END,
+        failed,
+    );
+    is_there(rt, alloc, files, "host_io_made.tmp", MADE);
+    is_gone(rt, "host_io_made.tmp.new");
+    makes(rt, alloc, files, FROM_NAME, &PIECES, Ok(()));
+    is_there(rt, alloc, files, FROM_NAME, MADE);
+}
+
+fn made_files<R: std::rt::Files + Drop>(
+    rt: &(impl std::rt::Files + Abort),
+    alloc: Global,
+    runtime: R,
+) {
+    let mut files = HostFiles::new(runtime);
+    writes(rt, &mut files, FROM_NAME, FROM);
+    replaces(rt, alloc, &mut files);
+    removed(rt, "host_io_made.tmp");
+    removed(rt, FROM_NAME);
+}
+
+#[test]
+fn made_by_the_system(rt: HostRuntime) {
+    made_files(&rt, rt.alloc(), &rt);
+}
+
+// A file of two names, and one whose place for a new file is taken, are written where they stand.
+fn stand<R: std::rt::Files>(
+    rt: &(impl std::rt::Files + Abort),
+    alloc: Global,
+    files: &mut HostFiles<R>,
+) {
+    fs::hard_link(rt, FROM_NAME, "host_io_name.tmp").expect(rt, "a second name");
+    makes(rt, alloc, files, "host_io_name.tmp", &PIECES, Ok(()));
+    is_there(rt, alloc, files, FROM_NAME, MADE);
+    writes(rt, files, FROM_NAME, FROM);
+    writes(rt, files, "host_io_kept.tmp.new", b"another's");
+    makes(rt, alloc, files, "host_io_kept.tmp", &PIECES, Ok(()));
+    is_there(rt, alloc, files, "host_io_kept.tmp", MADE);
+    is_there(rt, alloc, files, "host_io_kept.tmp.new", b"another's");
+    makes(
+        rt,
+        alloc,
+        files,
+        "host_io_none/file",
+        &PIECES,
+        Err(WriteStop::Failed),
+    );
+}
+
+fn standing_files<R: std::rt::Files + Drop>(
+    rt: &(impl std::rt::Files + Abort),
+    alloc: Global,
+    runtime: R,
+) {
+    let mut files = HostFiles::new(runtime);
+    writes(rt, &mut files, FROM_NAME, FROM);
+    stand(rt, alloc, &mut files);
+    removed(rt, "host_io_kept.tmp");
+    removed(rt, "host_io_kept.tmp.new");
+    removed(rt, "host_io_name.tmp");
+    removed(rt, FROM_NAME);
+}
+
+#[test]
+fn made_where_they_stand(rt: HostRuntime) {
+    standing_files(&rt, rt.alloc(), &rt);
+}
