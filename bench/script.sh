@@ -7,7 +7,7 @@ work=$(mktemp -d)
 trap 'rm -rf "$work"' EXIT
 
 (cd crates/fwu_prog && rt run >"$work/build.log" 2>&1) || { cat "$work/build.log"; exit 1; }
-python3 demo/make_flash.py "$work/flash.img"
+python3 checks/model/make_flash.py "$work/flash.img"
 
 python3 - "$work" crates/fwu_prog/out/fwu_prog <<'PY'
 import resource

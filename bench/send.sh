@@ -11,7 +11,7 @@ trap 'rm -rf "$work"' EXIT
 for program in fwu_prog fip_prog; do
     (cd crates/$program && rt run >"$work/build.log" 2>&1) || { cat "$work/build.log"; exit 1; }
 done
-python3 demo/make_flash.py "$work/flash.img" --large 15
+python3 checks/model/make_flash.py "$work/flash.img" --large 15
 
 python3 - "$work" crates/fwu_prog/out/fwu_prog crates/fip_prog/out/fip_prog <<'PY'
 import hashlib

@@ -181,4 +181,9 @@ while [ "$(count told)" -lt "$all" ]; do
 done
 cp "$proved/fwu_prog" bin/fwu
 cp "$proved/fip_prog" bin/fip
+{
+    echo "commit $(git describe --always --dirty 2>/dev/null || echo unknown)"
+    echo "$version"
+    (cd bin && sha256sum fwu fip)
+} >bin/VERSION
 echo "built bin/fwu and bin/fip"

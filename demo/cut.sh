@@ -2,7 +2,7 @@
 # Builds fip and fwu (demo/build.sh, which shows what it proves as it goes), makes packages, formats a flash file, and runs updates
 # on it: power is cut within a boot, within a sending, and within the end of a staging; an update is accepted, and an older one
 # refused. What it prints behind the build is compared with demo/cut.expected. That text comes from no run of the programs, but from
-# what docs says of formats and of the machine, and its last line from demo/soak_model.py. Where they differ the script shows it,
+# what docs says of formats and of the machine, and its last line from checks/model/soak_model.py. Where they differ the script shows it,
 # and ends with 1.
 set -eu
 here=$(cd "$(dirname "$0")/.." && pwd)

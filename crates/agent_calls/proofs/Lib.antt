@@ -1,9 +1,18 @@
 mod Starting
 mod Discovered
 mod NoOther
+mod OwnRows
 pub mod StoredVerdict
 pub mod Listing
 mod Unstored
 mod Makes
 mod Appending
 mod Beyond
+pub mod CopySpending
+pub mod Copies
+pub mod CopyingAll
+pub mod BegunPartly
+mod PlannedPartly
+pub mod Taking
+pub mod Pieces
+pub mod CopyTaking

@@ -61,6 +61,7 @@ module _ (f : Fields) (fitting : Fitting f) where
   pub begin-frees : (flags count : ℕ) (p : Plan) → IsPlanFor f.session m (request.Begin flags count) p
       → frees p ≡ not (is_invalid (state_at m (target f)))
   begin-frees flags count plan.Tell asked = absurd asked
+  begin-frees flags count (plan.BeginPartial store named) asked = absurd asked
   begin-frees flags count (plan.Begin store) asked = asked ∙ ap (λ (b : ℕ). not (is_invalid (state_at m b))) (next-target f fitting)
   begin-frees flags count (plan.Open h image o total) asked = absurd asked
   begin-frees flags count (plan.Write h image at n) asked = absurd asked

@@ -13,6 +13,7 @@ use Rattle.agent_machine.specs.Asks.{IsPlain}
 module _ (k : Kept) (m : Meta) where
   pub cancels : (p : Plan) → IsPlanFor k m request.Cancel p → p ≡ plan.Cancel
   cancels plan.Tell asked = absurd asked
+  cancels (plan.BeginPartial store named) asked = absurd asked
   cancels (plan.Begin store) asked = absurd asked
   cancels (plan.Open number image o total) asked = absurd asked
   cancels (plan.Write number image at n) asked = absurd asked
@@ -26,6 +27,7 @@ module _ (k : Kept) (m : Meta) where
   pub opens : (guid : List ℕ) (o : Op) (size : ℕ) (p : Plan) → IsPlanFor k m (request.Open guid o size) p
       → ((number : ℕ) (image : Option ℕ) (kind : Op) (total : ℕ) → p ≡ plan.Open number image kind total → ⊥) → ⊥
   opens guid o size plan.Tell asked not = asked
+  opens guid o size (plan.BeginPartial store named) asked not = asked
   opens guid o size (plan.Begin store) asked not = asked
   opens guid o size (plan.Open number image kind total) asked not = not number image kind total refl
   opens guid o size (plan.Write number image at n) asked not = asked
@@ -39,6 +41,7 @@ module _ (k : Kept) (m : Meta) where
   pub writes : (h size : ℕ) (p : Plan) → IsPlanFor k m (request.Write h size) p
       → ((number image at n : ℕ) → p ≡ plan.Write number image at n → ⊥) → ⊥
   writes h size plan.Tell asked not = asked
+  writes h size (plan.BeginPartial store named) asked not = asked
   writes h size (plan.Begin store) asked not = asked
   writes h size (plan.Open number image o total) asked not = asked
   writes h size (plan.Write number image at n) asked not = not number image at n refl
@@ -52,6 +55,7 @@ module _ (k : Kept) (m : Meta) where
   pub reads : (h room : ℕ) (p : Plan) → IsPlanFor k m (request.Read h room) p
       → ((number : ℕ) (image : Option ℕ) (at n total : ℕ) → p ≡ plan.Read number image at n total → ⊥) → ⊥
   reads h room plan.Tell asked not = asked
+  reads h room (plan.BeginPartial store named) asked not = asked
   reads h room (plan.Begin store) asked not = asked
   reads h room (plan.Open number image o total) asked not = asked
   reads h room (plan.Write number image at n) asked not = asked
@@ -64,6 +68,7 @@ module _ (k : Kept) (m : Meta) where
 
   pub ends : (p : Plan) → IsPlanFor k m request.End p → (p ≡ plan.End → ⊥) → ⊥
   ends plan.Tell asked not = asked
+  ends (plan.BeginPartial store named) asked not = asked
   ends (plan.Begin store) asked not = asked
   ends (plan.Open number image o total) asked not = asked
   ends (plan.Write number image at n) asked not = asked
@@ -77,6 +82,7 @@ module _ (k : Kept) (m : Meta) where
   pub accepts : (guid : List ℕ) (p : Plan) → IsPlanFor k m (request.Accept guid) p
       → ((image : ℕ) (store : Bool) → p ≡ plan.Accept image store → ⊥) → ⊥
   accepts guid plan.Tell asked not = asked
+  accepts guid (plan.BeginPartial store named) asked not = asked
   accepts guid (plan.Begin store) asked not = asked
   accepts guid (plan.Open number image o total) asked not = asked
   accepts guid (plan.Write number image at n) asked not = asked
@@ -90,6 +96,7 @@ module _ (k : Kept) (m : Meta) where
 pub waits : (m : Meta) (r : Request) → IsPlain r → (b : ℕ) → IsVerdictFor m r b → ⊥
 waits m request.Discover plain b asked = asked
 waits m (request.Begin flags n) plain b asked = asked
+waits m (request.BeginPartial flags list) plain b asked = asked
 waits m (request.Open guid o total) plain b asked = asked
 waits m (request.Write h n) plain b asked = asked
 waits m (request.Read h room) plain b asked = asked

@@ -48,6 +48,7 @@ good-passed passes rows counter (verdict.BelowCounter v least) has may = absurd 
 -- going back is no plan that is made without a verdict
 no-plan : (k : Kept) (m : Meta) (p : Plan) → IsPlanFor k m request.Previous p → ⊥
 no-plan k m plan.Tell asked = asked
+no-plan k m (plan.BeginPartial store named) asked = asked
 no-plan k m (plan.Begin store) asked = asked
 no-plan k m (plan.Open h image o total) asked = asked
 no-plan k m (plan.Write h image at n) asked = asked

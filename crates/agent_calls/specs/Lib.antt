@@ -4,3 +4,7 @@ pub mod Told
 pub mod Asked
 pub mod Metas
 pub mod GoneBack
+pub mod Partly
+pub mod Copies
+pub mod Takes
+pub mod AnswersCall

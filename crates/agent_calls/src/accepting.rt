@@ -1,11 +1,10 @@
 //! An image of the active bank is accepted.
-ghost use Rattle.std.specs.Prelude.{◌≡◌, ℕ, Bool, List, Some, is_ok, IsTrue, IsFalse, IsErrOf, OnOk};
-ghost use Rattle.flash_core.specs.Counts.{Spends, StaysUnarmed};
+ghost use Rattle.std.specs.Prelude.{◌≡◌, ℕ, Bool, List, Some, IsTrue, IsFalse, OnOk};
 ghost use Rattle.fwu_formats.specs.Layout.{find_image};
 ghost use Rattle.fwu_formats.specs.Metadata.{bit_at};
 ghost use Rattle.fwu_model.specs.Call as call;
 ghost use Rattle.fwu_model.specs.Reply.{Success};
-ghost use Rattle.agent_machine.specs.Meets.{Meets, GoesBy, IsDone, IsRefused, flash_result};
+ghost use Rattle.agent_machine.specs.Meets.{Meets, IsDone, IsRefused, flash_result};
 ghost use Rattle.agent_machine.specs.Stored.{TakesStore};
 ghost use Rattle.agent_calls.specs.Metas.{meta_accepted};
 ghost use Rattle.fwu_model.specs.MoveMetas.{meta_after};
@@ -19,7 +18,7 @@ use base_core::Guid;
 use flash_core::Flash;
 
 impl<D: Flash> Agent<D> {
-    ghost use Rattle.agent_calls.specs.Shown.{fields, device, gone, moment};
+    ghost use Rattle.agent_calls.specs.Shown.{AgentGoes, fields, device, gone, moment};
 
     /// Accepts the image of a type in the active bank (DEN0118, fwu_accept_image): its bit is set, and
     /// with the last one the bank is accepted and its trials are over. Metadata is stored for that,
@@ -33,9 +32,11 @@ impl<D: Flash> Agent<D> {
         ensures meets { IsFalse (gone self.old) → (passes : List ℕ → Bool) →
             Meets (λ value reply. reply ≡ Success) result passes (call.Accepts guid)
             (moment self.old) (moment self.new) }
-        ensures goes { GoesBy result (gone self.old) (gone self.new) }
-        ensures untouched { IsErrOf result Stop.Gone → self.new ≡ self.old }
+        ensures goes { AgentGoes result self.old self.new }
         ensures refused { IsRefused result → self.new ≡ self.old }
+        // On any device: what is answered, or stopped by the flash, is of an image that is there.
+        ensures found { IsDone result →
+            (image : ℕ) × (find_image (fields self.old).layout.rows guid ≡ Some image) }
         // On any device: where the bit is set already, the device is not touched.
         ensures still { (image : ℕ) → find_image (fields self.old).layout.rows guid ≡ Some image →
             IsTrue (bit_at (fields self.old).meta.meta (fields self.old).meta.meta.active image) →
@@ -47,21 +48,15 @@ impl<D: Flash> Agent<D> {
             IsFalse (bit_at f.meta.meta f.meta.meta.active image) →
             Stores (flash_result result) f.layout (meta_after f.meta.meta (Accept image))
             (D.told (device self.old)) (D.told (device self.new)) }
-        // On any device: the agent keeps the metadata in which the bit is set, and the session as it was.
-        ensures keeps { (image : ℕ) → find_image (fields self.old).layout.rows guid ≡ Some image →
-            OnOk result ((fields self.new).meta ≡ meta_accepted (fields self.old) image) }
+        // On any device: the agent keeps the metadata in which the bit is set, also where the flash stopped
+        // the store, and the session as it was.
+        ensures keeps { IsDone result → (image : ℕ) →
+            find_image (fields self.old).layout.rows guid ≡ Some image →
+            (fields self.new).meta ≡ meta_accepted (fields self.old) image }
         ensures session { OnOk result ((fields self.new).session ≡ (fields self.old).session) }
-        ensures power { IsFalse (gone self.old) →
-            D.on (device self.new) ≡ is_ok (flash_result result) }
-        ensures size { D.blocks (device self.new) ≡ D.blocks (device self.old) }
-        ensures costs { Spends (flash_result result) (D.counts (device self.old))
-            (D.counts (device self.new)) }
         // On any device: an answer stored the metadata, or has it as it was and wrote nothing.
         ensures spent { OnOk result (TakesStore (fields self.old).meta (fields self.new).meta
             (D.arming (device self.old)) (D.arming (device self.new))) }
-        ensures unarmed { StaysUnarmed (flash_result result)
-            (D.arming (device self.old)) (D.arming (device self.new))
-            (D.counts (device self.old)) (D.counts (device self.new)) }
     {
         if self.gone {
             return Err(Stop::Gone);

@@ -115,6 +115,7 @@ impl<D: Flash> Agent<D> {
         ensures carried { CarriedOut plan.now [] (moment self.old) (moment self.new) }
         ensures device { device self.new ≡ device self.old }
         ensures rests { (fields self.new).rests ≡ (fields self.old).rests }
+        ensures metadata { (fields self.new).meta ≡ (fields self.old).meta }
         ensures here { IsFalse (gone self.new) }
     {
         settle(&mut self.meta, &mut self.session, &Decision::Do(*plan), &[]);

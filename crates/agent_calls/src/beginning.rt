@@ -1,12 +1,15 @@
 //! A staging begins.
-ghost use Rattle.std.specs.Prelude.{◌≡◌, ℕ, Bool, true, List, is_ok, IsTrue, IsFalse, IsErrOf, OnOk};
-ghost use Rattle.flash_core.specs.Counts.{Spends, StaysUnarmed};
+ghost use Rattle.std.specs.Prelude.{◌≡◌, ℕ, Bool, true, List, IsTrue, IsFalse, OnOk};
 ghost use Rattle.fwu_formats.specs.Metadata.{state_at};
-ghost use Rattle.fwu_model.specs.State.{Free, is_invalid};
+ghost use Rattle.fwu_model.specs.State.{Free, State, is_invalid};
+ghost use Rattle.fwu_model.specs.Sound.{Setting};
+ghost use Rattle.fwu_model.specs.Session.{Session};
+ghost use Rattle.fwu_model.specs.Answer.{answer};
 ghost use Rattle.fwu_model.specs.Call as call;
 ghost use Rattle.fwu_model.specs.Reply.{Success};
 ghost use Rattle.agent_machine.specs.Fields.{target};
-ghost use Rattle.agent_machine.specs.Meets.{Meets, GoesBy, IsDone, IsRefused, flash_result};
+ghost use Rattle.agent_machine.specs.Meets.{Meets, IsDone, IsRefused, flash_result, IsStopped};
+ghost use Rattle.agent_machine.specs.Moment.{Shows};
 ghost use Rattle.agent_machine.specs.Stored.{TakesStore, frees};
 ghost use Rattle.agent_calls.specs.Metas.{meta_begun};
 ghost use Rattle.agent_kept.specs.Kept.{Restarts};
@@ -23,28 +26,31 @@ fn frees(plan: &Plan) -> bool
     ensures { result ≡ frees plan.now }
 {
     match *plan {
-        Plan::Begin { store } => store,
+        Plan::Begin { store } | Plan::BeginPartial { store, .. } => store,
         _ => false,
     }
 }
 
 impl<D: Flash> Agent<D> {
-    ghost use Rattle.agent_calls.specs.Shown.{fields, device, gone, moment};
+    ghost use Rattle.agent_calls.specs.Shown.{AgentGoes, fields, device, gone, moment};
 
     /// Begins a staging, or begins it anew (DEN0118, fwu_begin_staging). The update bank is made invalid,
     /// with the bit of each image clear, where it isn't invalid already: metadata is stored for that.
     /// No image is staged then, and all handles are closed. The vendor flags have no meaning.
     ///
     /// DENIED: nothing is staged and the active bank is on trial, or the bank that was started isn't
-    /// the active one. NOT_AVAILABLE: `partial_count` isn't 0, since no update is of some images alone.
-    /// Lost, Fault: the flash stopped the store. Gone: it stopped an earlier call of this agent.
+    /// the active one. NOT_AVAILABLE: `partial_count` isn't 0; an update of some images alone begins with
+    /// `begin_partial`. Lost, Fault: the flash stopped the store. Gone: it stopped an earlier call of this agent.
     pub fn begin(&mut self, vendor_flags: u32, partial_count: u32) -> Result<(), Stop>
         // On any device: an answer or a refusal is that of each machine that the agent shows.
         ensures meets { IsFalse (gone self.old) → (passes : List ℕ → Bool) →
             Meets (λ value reply. reply ≡ Success) result passes (call.Begin partial_count)
             (moment self.old) (moment self.new) }
-        ensures goes { GoesBy result (gone self.old) (gone self.new) }
-        ensures untouched { IsErrOf result Stop.Gone → self.new ≡ self.old }
+        // On any device: the flash stops no begin that a machine refuses.
+        ensures begun { IsStopped result → IsFalse (gone self.old) →
+            (E : Setting) (s : State) (x : Session) → E.layout ≡ (fields self.old).layout →
+            Shows (moment self.old) s x → (answer E s x (call.Begin partial_count)).reply ≡ Success }
+        ensures goes { AgentGoes result self.old self.new }
         ensures refused { IsRefused result → self.new ≡ self.old }
         // On any device: where the update bank is invalid already, the device is not touched.
         ensures still { IsTrue (is_invalid
@@ -56,22 +62,14 @@ impl<D: Flash> Agent<D> {
             IsFalse (is_invalid (state_at f.meta.meta (target f))) →
             Stores (flash_result result) f.layout (meta_after f.meta.meta (Free (target f)))
             (D.told (device self.old)) (D.told (device self.new)) }
-        // On any device: the agent keeps the metadata in which the update bank is invalid, and a package
-        // is staged of which nothing is there.
-        ensures keeps { OnOk result ((fields self.new).meta ≡ meta_begun (fields self.old)) }
+        // On any device: the agent keeps the metadata in which the update bank is invalid, also where the
+        // flash stopped the store, and a package is staged of which nothing is there.
+        ensures keeps { IsDone result → (fields self.new).meta ≡ meta_begun (fields self.old) }
         ensures restarts { OnOk result
             (Restarts true (fields self.old).session (fields self.new).session) }
-        ensures power { IsFalse (gone self.old) →
-            D.on (device self.new) ≡ is_ok (flash_result result) }
-        ensures size { D.blocks (device self.new) ≡ D.blocks (device self.old) }
-        ensures costs { Spends (flash_result result) (D.counts (device self.old))
-            (D.counts (device self.new)) }
         // On any device: an answer stored the metadata, or has it as it was and wrote nothing.
         ensures spent { OnOk result (TakesStore (fields self.old).meta (fields self.new).meta
             (D.arming (device self.old)) (D.arming (device self.new))) }
-        ensures unarmed { StaysUnarmed (flash_result result)
-            (D.arming (device self.old)) (D.arming (device self.new))
-            (D.counts (device self.old)) (D.counts (device self.new)) }
     {
         if self.gone {
             return Err(Stop::Gone);

@@ -1,10 +1,9 @@
 //! A staging is given up.
-ghost use Rattle.std.specs.Prelude.{◌≡◌, ℕ, Bool, List, is_ok, IsFalse, IsErrOf};
-ghost use Rattle.flash_core.specs.Counts.{Spends};
+ghost use Rattle.std.specs.Prelude.{◌≡◌, ℕ, Bool, List, IsFalse};
 ghost use Rattle.fwu_model.specs.Call as call;
 ghost use Rattle.fwu_model.specs.Reply.{Success};
-ghost use Rattle.agent_machine.specs.Meets.{Meets, GoesBy, IsRefused, IsStopped, flash_result};
-ghost use Rattle.agent_calls.specs.Shown.{device, gone, moment};
+ghost use Rattle.agent_machine.specs.Meets.{Meets, IsRefused, IsStopped};
+ghost use Rattle.agent_calls.specs.Shown.{AgentGoes, fields, device, gone, moment};
 
 use crate::agent::Agent;
 use agent_machine::Stop;
@@ -21,15 +20,11 @@ impl<D: Flash> Agent<D> {
         ensures meets { IsFalse (gone self.old) → (passes : List ℕ → Bool) →
             Meets (λ value reply. reply ≡ Success) result passes call.Cancel
             (moment self.old) (moment self.new) }
-        ensures goes { GoesBy result (gone self.old) (gone self.new) }
-        ensures untouched { IsErrOf result Stop.Gone → self.new ≡ self.old }
+        ensures goes { AgentGoes result self.old self.new }
         ensures refused { IsRefused result → self.new ≡ self.old }
         ensures answers { IsStopped result → ⊥ }
         ensures still { device self.new ≡ device self.old }
-        ensures power { IsFalse (gone self.old) → D.on (device self.new) ≡ is_ok (flash_result result) }
-        ensures size { D.blocks (device self.new) ≡ D.blocks (device self.old) }
-        ensures costs { Spends (flash_result result)
-            (D.counts (device self.old)) (D.counts (device self.new)) }
+        ensures metadata { (fields self.new).meta ≡ (fields self.old).meta }
     {
         if self.gone {
             return Err(Stop::Gone);

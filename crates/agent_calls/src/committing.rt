@@ -1,6 +1,5 @@
 //! The commit of a handle.
-ghost use Rattle.std.specs.Prelude.{◌≡◌, ℕ, Some, List, Bool, IsTrue, IsFalse, IsErrOf, is_ok};
-ghost use Rattle.flash_core.specs.Counts.{Spends, StaysUnarmed};
+ghost use Rattle.std.specs.Prelude.{◌≡◌, ℕ, Some, List, Bool, IsTrue, IsFalse, IsErrOf};
 ghost use Rattle.fwu_model.specs.Call as call;
 ghost use Rattle.fwu_model.specs.Reply.{Success};
 ghost use Rattle.fwu_formats.specs.Layout.{start};
@@ -11,7 +10,7 @@ ghost use Rattle.agent_state.specs.Decides.{Decides};
 ghost use Rattle.agent_state.specs.Settles.{IsPlanOf};
 ghost use Rattle.agent_machine.specs.Ends.{IsWriter};
 ghost use Rattle.agent_machine.specs.Fields.{rest_of, target};
-ghost use Rattle.agent_machine.specs.Meets.{Meets, GoesBy, IsRefused, flash_result};
+ghost use Rattle.agent_machine.specs.Meets.{Meets, IsRefused, flash_result};
 
 use crate::agent::{Agent, stopped};
 use agent_kept::Handle;
@@ -22,7 +21,7 @@ use fwu_model::Status;
 use slot_writer::finish;
 
 impl<D: Flash> Agent<D> {
-    ghost use Rattle.agent_calls.specs.Shown.{fields, device, gone, moment};
+    ghost use Rattle.agent_calls.specs.Shown.{AgentGoes, fields, device, gone, moment};
     ghost use Rattle.agent_kept.specs.declared.kinds.Plan.TheVariants as plan;
     ghost use Rattle.agent_kept.specs.declared.kinds.Request.TheVariants as request;
     ghost use Rattle.agent_kept.specs.declared.kinds.Decision.TheVariants as decision;
@@ -38,10 +37,11 @@ impl<D: Flash> Agent<D> {
             (request.Commit h req most) (decision.Do (plan.Commit number (Some image) bit)) →
             Meets (λ value reply. reply ≡ Success) result passes (call.Commit h req)
             (moment self.old) (moment self.new) }
-        ensures goes { GoesBy result (gone self.old) (gone self.new) }
+        ensures goes { AgentGoes result self.old self.new }
         ensures unrefused { IsRefused result → ⊥ }
         ensures known { IsErrOf result Stop.Gone → ⊥ }
         ensures rests { (fields self.new).rests ≡ (fields self.old).rests }
+        ensures metadata { (fields self.new).meta ≡ (fields self.old).meta }
         ensures ends { IsTrue D.tells → let f = fields self.old in
             Finishes (flash_result result) (start f.layout (target f) image)
             (size_of (part_at f.session image)) (rest_of f image)
@@ -49,10 +49,6 @@ impl<D: Flash> Agent<D> {
         ensures spent { SpendsArming (flash_result result)
             (writes_to_finish (size_of (part_at (kept self.old.session) image)))
             (D.arming (device self.old)) (D.arming (device self.new))
-            (D.counts (device self.old)) (D.counts (device self.new)) }
-        ensures power { D.on (device self.new) ≡ is_ok (flash_result result) }
-        ensures size { D.blocks (device self.new) ≡ D.blocks (device self.old) }
-        ensures costs { Spends (flash_result result)
             (D.counts (device self.old)) (D.counts (device self.new)) }
     {
         let _images = self.layout.rows().len();
@@ -95,8 +91,7 @@ impl<D: Flash> Agent<D> {
         ensures meets { IsFalse (gone self.old) → (passes : List ℕ → Bool) →
             Meets (λ value reply. reply ≡ Success) result passes (call.Commit handle acceptance_req)
             (moment self.old) (moment self.new) }
-        ensures goes { GoesBy result (gone self.old) (gone self.new) }
-        ensures untouched { IsErrOf result Stop.Gone → self.new ≡ self.old }
+        ensures goes { AgentGoes result self.old self.new }
         ensures refused { IsRefused result → self.new ≡ self.old }
         // on any flash that tells its content, sound or not: the image that the handle wrote is ended,
         // 0xFF behind it up to the block's end, and nothing else changes
@@ -115,16 +110,9 @@ impl<D: Flash> Agent<D> {
         // and nothing is done on the device where it writes none
         ensures still { ((image : ℕ) → IsWriter (fields self.old) handle image → ⊥) →
             device self.new ≡ device self.old }
-        // on any device: the bytes stay that are kept of the other images
+        // on any device, at any exit: the bytes stay that are kept of the images, and so does the metadata
         ensures rests { (fields self.new).rests ≡ (fields self.old).rests }
-        ensures unarmed { StaysUnarmed (flash_result result)
-            (D.arming (device self.old)) (D.arming (device self.new))
-            (D.counts (device self.old)) (D.counts (device self.new)) }
-        ensures power { IsFalse (gone self.old) →
-            D.on (device self.new) ≡ is_ok (flash_result result) }
-        ensures size { D.blocks (device self.new) ≡ D.blocks (device self.old) }
-        ensures costs { Spends (flash_result result)
-            (D.counts (device self.old)) (D.counts (device self.new)) }
+        ensures metadata { (fields self.new).meta ≡ (fields self.old).meta }
     {
         if self.gone {
             return Err(Stop::Gone);

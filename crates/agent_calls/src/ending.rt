@@ -9,7 +9,7 @@ ghost use Rattle.agent_calls.specs.Metas.{meta_ended};
 ghost use Rattle.agent_state.specs.Decides.{Decides};
 ghost use Rattle.marks_core.specs.Marks.{is_clear};
 ghost use Rattle.agent_machine.specs.Ends.{ClearsAndStores, TakesSwitch, TakesSwitchBy};
-ghost use Rattle.agent_machine.specs.Meets.{Meets, GoesBy, IsDone, IsRefused, flash_result};
+ghost use Rattle.agent_machine.specs.Meets.{Meets, IsDone, IsRefused, flash_result};
 
 use crate::agent::{Agent, stopped};
 use agent_machine::Stop;
@@ -49,7 +49,7 @@ fn clear_and_store<D: Flash>(flash: &mut D, layout: &Layout, meta: &Meta) -> Res
 }
 
 impl<D: Flash> Agent<D> {
-    ghost use Rattle.agent_calls.specs.Shown.{fields, device, gone, moment};
+    ghost use Rattle.agent_calls.specs.Shown.{AgentGoes, fields, device, gone, moment};
     ghost use Rattle.agent_kept.specs.declared.kinds.Plan.TheVariants as plan;
     ghost use Rattle.agent_kept.specs.declared.kinds.Request.TheVariants as request;
     ghost use Rattle.agent_kept.specs.declared.kinds.Decision.TheVariants as decision;
@@ -99,7 +99,7 @@ impl<D: Flash> Agent<D> {
             request.End (decision.Do plan.End) →
             Meets (λ value reply. reply ≡ Success) result passes call.End
             (moment self.old) (moment self.new) }
-        ensures goes { GoesBy result (gone self.old) (gone self.new) }
+        ensures goes { AgentGoes result self.old self.new }
         ensures unrefused { IsRefused result → ⊥ }
         ensures known { IsErrOf result Stop.Gone → ⊥ }
         ensures ends { IsTrue D.tells → ClearsAndStores (flash_result result)
@@ -113,13 +113,6 @@ impl<D: Flash> Agent<D> {
         ensures once { IsTrue D.tells → OnOk result
             (TakesSwitchBy (is_clear 3 (D.told (device self.old)).now)
             (D.arming (device self.old)) (D.arming (device self.new))) }
-        ensures unarmed { StaysUnarmed (flash_result result)
-            (D.arming (device self.old)) (D.arming (device self.new))
-            (D.counts (device self.old)) (D.counts (device self.new)) }
-        ensures power { D.on (device self.new) ≡ is_ok (flash_result result) }
-        ensures size { D.blocks (device self.new) ≡ D.blocks (device self.old) }
-        ensures costs { Spends (flash_result result)
-            (D.counts (device self.old)) (D.counts (device self.new)) }
     {
         settle(
             &mut self.meta,
@@ -153,8 +146,7 @@ impl<D: Flash> Agent<D> {
             passes ≡ V.passes verifier.now →
             Meets (λ value reply. reply ≡ Success) result passes call.End
             (moment self.old) (moment self.new) }
-        ensures goes { GoesBy result (gone self.old) (gone self.new) }
-        ensures untouched { IsErrOf result Stop.Gone → self.new ≡ self.old }
+        ensures goes { AgentGoes result self.old self.new }
         ensures refused { IsRefused result → self.new ≡ self.old }
         // on any flash that tells its content, sound or not: the trial marks are cleared, whatever the
         // bits are, and then both replicas are written, and nothing else
@@ -173,14 +165,6 @@ impl<D: Flash> Agent<D> {
         ensures once { IsTrue D.tells → OnOk result
             (TakesSwitchBy (is_clear 3 (D.told (device self.old)).now)
             (D.arming (device self.old)) (D.arming (device self.new))) }
-        ensures unarmed { StaysUnarmed (flash_result result)
-            (D.arming (device self.old)) (D.arming (device self.new))
-            (D.counts (device self.old)) (D.counts (device self.new)) }
-        ensures power { IsFalse (gone self.old) →
-            D.on (device self.new) ≡ is_ok (flash_result result) }
-        ensures size { D.blocks (device self.new) ≡ D.blocks (device self.old) }
-        ensures costs { Spends (flash_result result)
-            (D.counts (device self.old)) (D.counts (device self.new)) }
     {
         if self.gone {
             return Err(Stop::Gone);

@@ -1,6 +1,6 @@
 //! Going back to the previous bank.
-ghost use Rattle.std.specs.Prelude.{◌≡◌, ◌<◌, ◌≤◌, ◌&&◌, ℕ, Bool, false, List, length, is_ok, IfOk, IsTrue, IsFalse, IsErrOf, OnOk};
-ghost use Rattle.flash_core.specs.Counts.{Spends, ReachesNone, StaysUnarmed, arming_kept};
+ghost use Rattle.flash_core.specs.Calls.{Reads};
+ghost use Rattle.std.specs.Prelude.{◌≡◌, ◌⊎◌, ◌<◌, ◌≤◌, ◌&&◌, ℕ, Bool, false, List, length, IfOk, IsTrue, IsFalse, OnOk};
 ghost use Rattle.fwu_formats.specs.Layout.{blocks_needed};
 ghost use Rattle.fwu_model.specs.MoveMetas.{meta_after};
 ghost use Rattle.fwu_model.specs.State.{Back, is_valid, is_accepted};
@@ -11,7 +11,7 @@ ghost use Rattle.agent_kept.specs.Kept.{kept};
 ghost use Rattle.agent_state.specs.Asked.{IsFor};
 ghost use Rattle.agent_state.specs.Decides.{Decides};
 ghost use Rattle.agent_state.specs.Ruled.{ruled_as};
-ghost use Rattle.agent_machine.specs.Meets.{MeetsPrevious, GoesBy, IsDone, IsRefused, flash_result};
+ghost use Rattle.agent_machine.specs.Meets.{MeetsPrevious, IsDone, IsRefused, flash_result};
 ghost use Rattle.agent_machine.specs.Stored.{TakesStore, is_to_do, may_try_kept};
 ghost use Rattle.agent_calls.specs.GoneBack.{SomePassed};
 ghost use Rattle.agent_calls.specs.Metas.{meta_back};
@@ -86,12 +86,7 @@ fn is_bank_good<D: Flash, V: Verifier>(
         (verdict_on (V.passes verifier.now) counter layout.now (D.told flash.old).now bank)) }
     ensures passed { IfOk result (λ good. IsTrue good →
         SomePassed (V.passes verifier.now) layout.now.rows counter) }
-    ensures content { IsTrue D.tells → D.told flash.new ≡ D.told flash.old }
-    ensures power { D.on flash.new ≡ is_ok result }
-    ensures size { D.blocks flash.new ≡ D.blocks flash.old }
-    ensures costs { Spends result (D.counts flash.old) (D.counts flash.new) }
-    ensures arming { D.arming flash.new ≡ arming_kept result (D.arming flash.old) }
-    ensures reached { ReachesNone result (D.counts flash.old) (D.counts flash.new) }
+    ensures reads { Reads D.Flash result flash.old flash.new }
 {
     let mut buf = [0; BLOCK_BYTES as usize];
     let verdict = check(flash, layout, bank, counter, &mut buf, verifier)?;
@@ -109,7 +104,7 @@ fn goes_back(decision: &Decision, good: bool) -> bool
 }
 
 impl<D: Flash> Agent<D> {
-    ghost use Rattle.agent_calls.specs.Shown.{fields, device, gone, moment};
+    ghost use Rattle.agent_calls.specs.Shown.{AgentGoes, fields, device, gone, moment};
 
     /// Goes back by a decision, where the session and the numbers of the banks allow it and the verdict on
     /// the previous bank is good.
@@ -121,14 +116,15 @@ impl<D: Flash> Agent<D> {
             decision.now }
         ensures meets { MeetsPrevious result (V.passes verifier.now)
             (moment self.old) (moment self.new) }
-        ensures goes { GoesBy result (gone self.old) (gone self.new) }
-        ensures refused { IsRefused result → fields self.new ≡ fields self.old }
+        ensures goes { AgentGoes result self.old self.new }
         ensures still { let f = fields self.old in
             may_try_kept f.meta.meta f.session f.boot ≡ false → device self.new ≡ device self.old }
         ensures stores { IsDone result → IsTrue D.tells → let f = fields self.old in
             Stores (flash_result result) f.layout (meta_after f.meta.meta Back)
             (D.told (device self.old)) (D.told (device self.new)) }
         ensures keeps { OnOk result ((fields self.new).meta ≡ meta_back (fields self.old)) }
+        ensures either { IsDone result → ((fields self.new).meta ≡ (fields self.old).meta)
+            ⊎ ((fields self.new).meta ≡ meta_back (fields self.old)) }
         ensures session { OnOk result ((fields self.new).session ≡ (fields self.old).session) }
         ensures passed { OnOk result (SomePassed (V.passes verifier.now)
             (fields self.old).layout.rows (fields self.old).counter) }
@@ -136,16 +132,9 @@ impl<D: Flash> Agent<D> {
             D.told (device self.new) ≡ D.told (device self.old) }
         ensures arming { IsRefused result →
             D.arming (device self.new) ≡ D.arming (device self.old) }
-        ensures power { D.on (device self.new) ≡ is_ok (flash_result result) }
-        ensures size { D.blocks (device self.new) ≡ D.blocks (device self.old) }
-        ensures costs { Spends (flash_result result) (D.counts (device self.old))
-            (D.counts (device self.new)) }
         // On any device: an answer stored the metadata, or has it as it was and wrote nothing.
         ensures spent { OnOk result (TakesStore (fields self.old).meta (fields self.new).meta
             (D.arming (device self.old)) (D.arming (device self.new))) }
-        ensures unarmed { StaysUnarmed (flash_result result)
-            (D.arming (device self.old)) (D.arming (device self.new))
-            (D.counts (device self.old)) (D.counts (device self.new)) }
     {
         // the decision that waits for a verdict doesn't say so by itself
         if !may_try(&self.meta, &self.session, self.boot) {
@@ -180,9 +169,7 @@ impl<D: Flash> Agent<D> {
         ensures meets { IsFalse (gone self.old) → (passes : List ℕ → Bool) →
             passes ≡ V.passes verifier.now →
             MeetsPrevious result passes (moment self.old) (moment self.new) }
-        ensures goes { GoesBy result (gone self.old) (gone self.new) }
-        ensures untouched { IsErrOf result Stop.Gone → self.new ≡ self.old }
-        ensures refused { IsRefused result → fields self.new ≡ fields self.old }
+        ensures goes { AgentGoes result self.old self.new }
         // On any device: what the session and the numbers of the banks refuse is refused without a
         // look at the device.
         ensures still { let f = fields self.old in
@@ -194,6 +181,9 @@ impl<D: Flash> Agent<D> {
             (D.told (device self.old)) (D.told (device self.new)) }
         // On any device: the agent keeps that metadata, and the session as it was.
         ensures keeps { OnOk result ((fields self.new).meta ≡ meta_back (fields self.old)) }
+        // Where the flash stopped it, the agent keeps that metadata, or the old.
+        ensures either { IsDone result → ((fields self.new).meta ≡ (fields self.old).meta)
+            ⊎ ((fields self.new).meta ≡ meta_back (fields self.old)) }
         ensures session { OnOk result ((fields self.new).session ≡ (fields self.old).session) }
         // On any device: where it goes back, some package passed, of a version that is not below the
         // counter.
@@ -203,17 +193,9 @@ impl<D: Flash> Agent<D> {
             D.told (device self.new) ≡ D.told (device self.old) }
         ensures arming { IsRefused result →
             D.arming (device self.new) ≡ D.arming (device self.old) }
-        ensures power { IsFalse (gone self.old) →
-            D.on (device self.new) ≡ is_ok (flash_result result) }
-        ensures size { D.blocks (device self.new) ≡ D.blocks (device self.old) }
-        ensures costs { Spends (flash_result result) (D.counts (device self.old))
-            (D.counts (device self.new)) }
         // On any device: an answer stored the metadata, or has it as it was and wrote nothing.
         ensures spent { OnOk result (TakesStore (fields self.old).meta (fields self.new).meta
             (D.arming (device self.old)) (D.arming (device self.new))) }
-        ensures unarmed { StaysUnarmed (flash_result result)
-            (D.arming (device self.old)) (D.arming (device self.new))
-            (D.counts (device self.old)) (D.counts (device self.new)) }
     {
         if self.gone {
             return Err(Stop::Gone);

@@ -7,6 +7,7 @@ mod agent;
 mod beginning;
 mod cancelling;
 mod committing;
+mod copying;
 mod directory;
 mod ending;
 mod going_back;

@@ -7,14 +7,13 @@ use flash_core::Flash;
 use fwu_model::{Op, Status};
 
 impl<D: Flash> Agent<D> {
-    ghost use Rattle.std.specs.Prelude.{◌≡◌, ℕ, List, [], Bool, is_ok, IsErrOf, IsTrue, IsFalse};
-    ghost use Rattle.flash_core.specs.Counts.{Spends};
+    ghost use Rattle.std.specs.Prelude.{◌≡◌, ℕ, List, [], Bool, IsTrue, IsFalse};
     ghost use Rattle.fwu_formats.specs.Layout.{find_image};
     ghost use Rattle.fwu_model.specs.Reply as reply;
     ghost use Rattle.agent_kept.specs.Plans.{call_of};
     ghost use Rattle.agent_machine.specs.Fields.{total_of, IsThere};
-    ghost use Rattle.agent_machine.specs.Meets.{Meets, GoesBy, IsStopped, IsRefused, flash_result};
-    ghost use Rattle.agent_calls.specs.Shown.{fields, device, gone, moment};
+    ghost use Rattle.agent_machine.specs.Meets.{Meets, IsStopped, IsRefused};
+    ghost use Rattle.agent_calls.specs.Shown.{AgentGoes, fields, device, gone, moment};
 
     /// The image of a type.
     fn find(&self, guid: &Guid) -> Option<u32>
@@ -50,18 +49,13 @@ impl<D: Flash> Agent<D> {
         ensures meets { IsFalse (gone self.old) → (passes : List ℕ → Bool) →
             Meets (λ h r. r ≡ reply.Opened h) result passes (call_of (Request.Open guid op 0) [])
             (moment self.old) (moment self.new) }
-        ensures goes { GoesBy result (gone self.old) (gone self.new) }
-        ensures untouched { IsErrOf result Stop.Gone → self.new ≡ self.old }
+        ensures goes { AgentGoes result self.old self.new }
         ensures refused { IsRefused result → self.new ≡ self.old }
         ensures answers { IsStopped result → ⊥ }
         ensures still { device self.new ≡ device self.old }
-        // on any device: the bytes stay that are kept of the images
+        // on any device: the bytes stay that are kept of the images, and so does the metadata
         ensures rests { (fields self.new).rests ≡ (fields self.old).rests }
-        ensures power { IsFalse (gone self.old) →
-            D.on (device self.new) ≡ is_ok (flash_result result) }
-        ensures size { D.blocks (device self.new) ≡ D.blocks (device self.old) }
-        ensures costs { Spends (flash_result result)
-            (D.counts (device self.old)) (D.counts (device self.new)) }
+        ensures metadata { (fields self.new).meta ≡ (fields self.old).meta }
     {
         if self.gone {
             return Err(Stop::Gone);

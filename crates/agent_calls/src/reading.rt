@@ -1,7 +1,8 @@
 //! Reading through a handle.
-ghost use Rattle.std.specs.Prelude.{◌≡◌, ◌+◌, ◌*◌, ◌<◌, ◌≤◌, length, take, drop, is_ok, IsTrue, OnOk, None};
+ghost use Rattle.flash_core.specs.Calls.{Reads};
+ghost use Rattle.std.specs.Prelude.{◌≡◌, ◌+◌, ◌*◌, ◌<◌, ◌≤◌, length, take, drop, IsTrue, OnOk, None};
 ghost use Rattle.base_core.specs.Block.{block_bytes};
-ghost use Rattle.flash_core.specs.Counts.{Spends, ReachesNone, arming_kept};
+ghost use Rattle.flash_core.specs.Counts.{ReachesNone, arming_kept};
 ghost use Rattle.fwu_formats.specs.Layout.{blocks_needed, slot_bytes, start};
 ghost use Rattle.fwu_formats.specs.Metadata.{fits_meta};
 ghost use Rattle.agent_machine.specs.Fields.{directory_size};
@@ -35,12 +36,7 @@ fn read_directory<D: Flash>(
     requires within { at + length out.old ≤ directory_size (length layout.now.rows) }
     ensures bytes { OnOk result (IsTrue D.tells → out.new ≡ piece_of layout.now meta.now.meta bank
         lengths.now (D.told flash.old).now None at (length out.old)) }
-    ensures content { IsTrue D.tells → D.told flash.new ≡ D.told flash.old }
-    ensures power { D.on flash.new ≡ is_ok result }
-    ensures size { D.blocks flash.new ≡ D.blocks flash.old }
-    ensures costs { Spends result (D.counts flash.old) (D.counts flash.new) }
-    ensures reached { ReachesNone result (D.counts flash.old) (D.counts flash.new) }
-    ensures arming { D.arming flash.new ≡ arming_kept result (D.arming flash.old) }
+    ensures reads { Reads D.Flash result flash.old flash.new }
 {
     let mut front = [0; MOST_MANIFEST_BYTES];
     let manifest = &mut front[..manifest_size(layout.rows())];
@@ -67,12 +63,7 @@ fn read_image<D: Flash>(
     requires within { at + length out.old ≤ slot_bytes layout.now image }
     ensures bytes { OnOk result (IsTrue D.tells → out.new ≡ take (length out.old)
         (drop (block_bytes * start layout.now bank image + at) (D.told flash.old).now)) }
-    ensures content { IsTrue D.tells → D.told flash.new ≡ D.told flash.old }
-    ensures power { D.on flash.new ≡ is_ok result }
-    ensures size { D.blocks flash.new ≡ D.blocks flash.old }
-    ensures costs { Spends result (D.counts flash.old) (D.counts flash.new) }
-    ensures reached { ReachesNone result (D.counts flash.old) (D.counts flash.new) }
-    ensures arming { D.arming flash.new ≡ arming_kept result (D.arming flash.old) }
+    ensures reads { Reads D.Flash result flash.old flash.new }
 {
     let _rows = layout.rows();
     flash.read(BLOCK_BYTES * layout.start(bank, image) + at, out)
@@ -84,12 +75,17 @@ impl<D: Flash> Agent<D> {
     ghost use Rattle.agent_kept.specs.declared.parts.Handle.TheVariants as handle;
     ghost use Rattle.agent_kept.specs.Kept.{handle_kept};
     ghost use Rattle.agent_machine.specs.Fields.{total_of, IsThere};
-    ghost use Rattle.agent_machine.specs.Meets.{Meets, GoesBy, IsGot, IsRefused, flash_result};
-    ghost use Rattle.agent_calls.specs.Shown.{fields, device, gone, moment};
+    ghost use Rattle.agent_machine.specs.Meets.{Meets, IsGot, IsRefused, flash_result};
+    ghost use Rattle.agent_calls.specs.Shown.{AgentGoes, fields, device, gone, moment};
 
     /// Fills the buffer with bytes of the directory, or of an image of the bank that was started,
     /// from a place on. A stop of the flash makes the agent gone.
-    fn read_part(&mut self, image: Option<u32>, at: u32, out: &mut [u8]) -> Result<(), FlashStop>
+    pub(crate) fn read_part(
+        &mut self,
+        image: Option<u32>,
+        at: u32,
+        out: &mut [u8],
+    ) -> Result<(), FlashStop>
         requires here { IsFalse (gone self.old) }
         requires there { IsThere (fields self.old) image }
         requires within { at + length out.old ≤ total_of (fields self.old) image }
@@ -98,14 +94,7 @@ impl<D: Flash> Agent<D> {
             image at (length out.old)) }
         ensures fields { fields self.new ≡ fields self.old }
         ensures gone { gone self.new ≡ is_err result }
-        ensures content { IsTrue D.tells → D.told (device self.new) ≡ D.told (device self.old) }
-        ensures power { D.on (device self.new) ≡ is_ok result }
-        ensures size { D.blocks (device self.new) ≡ D.blocks (device self.old) }
-        ensures costs { Spends result (D.counts (device self.old)) (D.counts (device self.new)) }
-        ensures reached { ReachesNone result
-            (D.counts (device self.old)) (D.counts (device self.new)) }
-        ensures arming { D.arming (device self.new)
-            ≡ arming_kept result (D.arming (device self.old)) }
+        ensures reads { Reads D.Flash result (device self.old) (device self.new) }
     {
         let result = match image {
             None => read_directory(
@@ -138,8 +127,7 @@ impl<D: Flash> Agent<D> {
         ensures meets { IsFalse (gone self.old) → (passes : List ℕ → Bool) →
             Meets (IsGot D.tells out.new) result passes (call.Read h (length out.old))
             (moment self.old) (moment self.new) }
-        ensures goes { GoesBy result (gone self.old) (gone self.new) }
-        ensures untouched { IsErrOf result Stop.Gone → self.new ≡ self.old }
+        ensures goes { AgentGoes result self.old self.new }
         ensures refused { IsRefused result → self.new ≡ self.old }
         ensures long { length out.new ≡ length out.old }
         ensures room { IfOk result (λ got. got.0 ≤ length out.old) }
@@ -150,17 +138,14 @@ impl<D: Flash> Agent<D> {
         ensures beyond { (image : Option ℕ) (at total : ℕ) →
             handle_kept (fields self.old).session (h - 1) ≡ handle.Reads image at total →
             drop (total - at) out.new ≡ drop (total - at) out.old }
-        // on any device: the bytes stay that are kept of the staged images
+        // on any device, at any exit: the bytes stay that are kept of the staged images, and so does the
+        // metadata
         ensures rests { (fields self.new).rests ≡ (fields self.old).rests }
+        ensures metadata { (fields self.new).meta ≡ (fields self.old).meta }
         ensures content { IsTrue D.tells → D.told (device self.new) ≡ D.told (device self.old) }
         ensures arming { D.arming (device self.new)
             ≡ arming_kept (flash_result result) (D.arming (device self.old)) }
         ensures reached { ReachesNone (flash_result result)
-            (D.counts (device self.old)) (D.counts (device self.new)) }
-        ensures power { IsFalse (gone self.old) →
-            D.on (device self.new) ≡ is_ok (flash_result result) }
-        ensures size { D.blocks (device self.new) ≡ D.blocks (device self.old) }
-        ensures costs { Spends (flash_result result)
             (D.counts (device self.old)) (D.counts (device self.new)) }
     {
         if self.gone {

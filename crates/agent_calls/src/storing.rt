@@ -1,6 +1,6 @@
 //! Carrying out a plan that may store metadata.
-ghost use Rattle.std.specs.Prelude.{◌≡◌, ◌<◌, false, [], is_ok, length, IsTrue, IsFalse, OnOk};
-ghost use Rattle.flash_core.specs.Counts.{Spends, StaysUnarmed};
+ghost use Rattle.flash_core.specs.Calls.{Goes};
+ghost use Rattle.std.specs.Prelude.{◌≡◌, ◌<◌, false, [], length, IsTrue, IsFalse, OnOk};
 ghost use Rattle.fwu_formats.specs.Metadata.{fits_meta};
 ghost use Rattle.agent_machine.specs.Meets.{flash_result};
 ghost use Rattle.agent_machine.specs.Stored.{StoresIf, TakesIf, is_stored, trials_planned};
@@ -24,13 +24,9 @@ fn store_if<D: Flash>(
     requires fits { IsTrue (fits_meta layout.now meta.now.meta) }
     ensures stores { IsTrue D.tells → StoresIf stored result layout.now meta.now.meta
         (D.told flash.old) (D.told flash.new) }
-    ensures power { D.on flash.new ≡ is_ok result }
-    ensures size { D.blocks flash.new ≡ D.blocks flash.old }
-    ensures costs { Spends result (D.counts flash.old) (D.counts flash.new) }
+    ensures goes { Goes D.Flash result flash.old flash.new }
     ensures spent { OnOk result (TakesIf stored (D.arming flash.old) (D.arming flash.new)) }
     ensures still { stored ≡ false → flash.new ≡ flash.old }
-    ensures unarmed { StaysUnarmed result (D.arming flash.old) (D.arming flash.new)
-        (D.counts flash.old) (D.counts flash.new) }
 {
     if !stored {
         return Ok(());
@@ -44,7 +40,8 @@ fn is_stored(plan: &Plan) -> bool
     ensures { result ≡ is_stored plan.now }
 {
     match *plan {
-        Plan::Begin { store } | Plan::Accept { store, .. } => store,
+        Plan::Begin { store } | Plan::BeginPartial { store, .. } | Plan::Accept { store, .. } =>
+            store,
         Plan::Back => true,
         _ => false,
     }
@@ -70,8 +67,8 @@ fn trials_after(plan: &Plan, meta: &Meta, trials: u32) -> u32
 }
 
 impl<D: Flash> Agent<D> {
-    ghost use Rattle.agent_calls.specs.Shown.{fields, device, gone, moment};
-    ghost use Rattle.agent_machine.specs.Meets.{GoesBy, IsRefused};
+    ghost use Rattle.agent_calls.specs.Shown.{AgentGoes, fields, device, gone, moment};
+    ghost use Rattle.agent_machine.specs.Meets.{IsRefused};
     ghost use Rattle.agent_machine.specs.Stored.{MayCarryOut, CarriesOut, TakesStore};
     ghost use Rattle.agent_state.specs.Settles.{Changes, meta_planned};
 
@@ -92,17 +89,10 @@ impl<D: Flash> Agent<D> {
             (meta_planned f.session f.meta.meta plan)
             (D.told (device self.old)) (D.told (device self.new)) }
         ensures still { is_stored plan ≡ false → device self.new ≡ device self.old }
-        ensures goes { GoesBy result (gone self.old) (gone self.new) }
-        ensures power { D.on (device self.new) ≡ is_ok (flash_result result) }
-        ensures size { D.blocks (device self.new) ≡ D.blocks (device self.old) }
-        ensures costs { Spends (flash_result result) (D.counts (device self.old))
-            (D.counts (device self.new)) }
+        ensures goes { AgentGoes result self.old self.new }
         // On any device: an answer stored the metadata, or has it as it was and wrote nothing.
         ensures spent { OnOk result (TakesStore (fields self.old).meta (fields self.new).meta
             (D.arming (device self.old)) (D.arming (device self.new))) }
-        ensures unarmed { StaysUnarmed (flash_result result)
-            (D.arming (device self.old)) (D.arming (device self.new))
-            (D.counts (device self.old)) (D.counts (device self.new)) }
     {
         // where the store is stopped, what is kept counts no more: the agent is gone
         settle(&mut self.meta, &mut self.session, &Decision::Do(plan), &[]);

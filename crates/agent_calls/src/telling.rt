@@ -2,17 +2,18 @@
 ghost use Rattle.std.specs.Prelude.{◌≡◌, ℕ, ◌+◌, ◌<◌, ◌≤◌, min, Bool, List, Some, length, IsTrue, IsFalse, IsOk, IfOk};
 ghost use Rattle.flash_core.specs.Counts.{Idles};
 ghost use Rattle.fwu_formats.specs.Layout.{fits_layout, slot_bytes};
+ghost use Rattle.fwu_formats.specs.Metadata.{fits_meta};
 ghost use Rattle.fwu_model.specs.Call as call;
 ghost use Rattle.fwu_model.specs.Reply as reply;
 ghost use Rattle.fwu_model.specs.State.{State, is_valid};
-ghost use Rattle.agent_machine.specs.Meets.{Meets, GoesBy};
+ghost use Rattle.agent_machine.specs.Meets.{Meets};
 ghost use Rattle.flash_core.specs.May.{Guards};
 ghost use Rattle.fwu_model.specs.Session.{Session};
 ghost use Rattle.fwu_model.specs.Sound.{Setting};
 ghost use Rattle.fwu_model.specs.Calm.{IsCalm};
 ghost use Rattle.moves.specs.Moved.{IsReady, IsShown};
 ghost use Rattle.agent_machine.specs.Moment.{Showing, Shows};
-ghost use Rattle.agent_calls.specs.Shown.{fields, device, gone, moment};
+ghost use Rattle.agent_calls.specs.Shown.{AgentGoes, fields, device, gone, moment};
 ghost use Rattle.agent_calls.specs.Told.{HasNumbers, state_kept};
 
 use crate::agent::Agent;
@@ -68,7 +69,7 @@ impl<D: Flash> Agent<D> {
         ensures meets { IsFalse (gone self.now) → (passes : List ℕ → Bool) →
             Meets (λ told answer. answer ≡ reply.Discovered told.state) result passes call.Discover
             (moment self.now) (moment self.now) }
-        ensures goes { GoesBy result (gone self.now) (gone self.now) }
+        ensures goes { AgentGoes result self.now self.now }
         ensures answers { IsFalse (gone self.now) → IsOk result }
         ensures numbers { IfOk result HasNumbers }
     {
@@ -83,9 +84,18 @@ impl<D: Flash> Agent<D> {
         })
     }
 
+    /// Whether the flash stopped an earlier call of this agent, so that each further one answers `Gone`.
+    pub fn is_gone(&self) -> bool
+        ensures { result ≡ gone self.now }
+    {
+        self.gone
+    }
+
     /// The metadata of the agent, with the version in which the replicas have it.
     pub fn metadata(&self) -> &Meta
-        ensures { result.now ≡ (fields self.now).meta }
+        ensures value { result.now ≡ (fields self.now).meta }
+        ensures fits { IsFalse (gone self.now) →
+            IsTrue (fits_meta (fields self.now).layout (fields self.now).meta.meta) }
     {
         &self.meta
     }
@@ -101,7 +111,8 @@ impl<D: Flash> Agent<D> {
 
     /// The number of the bank that was started.
     pub fn boot_index(&self) -> u32
-        ensures { result ≡ (fields self.now).boot }
+        ensures value { result ≡ (fields self.now).boot }
+        ensures below { IsFalse (gone self.now) → result < (fields self.now).layout.banks }
     {
         self.boot
     }

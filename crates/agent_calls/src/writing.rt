@@ -1,7 +1,6 @@
 //! Bytes go behind those of a staged image.
-ghost use Rattle.std.specs.Prelude.{◌≡◌, ℕ, ◌+◌, ◌-◌, ◌%◌, Bool, List, length, take, is_ok, IsTrue, IsFalse, IsErrOf, OnOk};
+ghost use Rattle.std.specs.Prelude.{◌≡◌, ℕ, ◌+◌, ◌-◌, ◌%◌, Bool, List, length, take, IsTrue, IsFalse, OnOk};
 ghost use Rattle.base_core.specs.Block.{granule_bytes};
-ghost use Rattle.flash_core.specs.Counts.{Spends, StaysUnarmed};
 ghost use Rattle.fwu_model.specs.Call as call;
 ghost use Rattle.fwu_model.specs.Reply.{Success};
 ghost use Rattle.fwu_formats.specs.Layout.{start};
@@ -15,8 +14,8 @@ ghost use Rattle.agent_kept.specs.Kept.{AppendsPart, kept, part_at, handle_kept,
 ghost use Rattle.agent_state.specs.Decides.{Decides};
 ghost use Rattle.agent_state.specs.Settles.{IsPlanOf};
 ghost use Rattle.agent_machine.specs.Fields.{rest_of, target};
-ghost use Rattle.agent_machine.specs.Meets.{Meets, GoesBy, IsRefused, IsStopped, IsDone, flash_result};
-ghost use Rattle.agent_calls.specs.Shown.{fields, device, gone, moment};
+ghost use Rattle.agent_machine.specs.Meets.{Meets, IsRefused, IsStopped, IsDone, flash_result};
+ghost use Rattle.agent_calls.specs.Shown.{AgentGoes, fields, device, gone, moment};
 
 use crate::agent::{Agent, stopped};
 use agent_machine::Stop;
@@ -38,8 +37,9 @@ impl<D: Flash> Agent<D> {
             (decision.Do (plan.Write number image at (length bytes.now))) →
             Meets (λ value reply. reply ≡ Success) result passes (call.Write h bytes.now)
             (moment self.old) (moment self.new) }
-        ensures goes { GoesBy result (gone self.old) (gone self.new) }
+        ensures goes { AgentGoes result self.old self.new }
         ensures done { IsDone result }
+        ensures metadata { (fields self.new).meta ≡ (fields self.old).meta }
         ensures appends { IsTrue D.tells → let f = fields self.old in
             Appends (flash_result result) (start f.layout (target f) image)
             (size_of (part_at f.session image)) (rest_of f image) bytes.now
@@ -58,10 +58,6 @@ impl<D: Flash> Agent<D> {
         ensures spent { SpendsArming (flash_result result)
             (writes_to_append (size_of (part_at (kept self.old.session) image)) (length bytes.now))
             (D.arming (device self.old)) (D.arming (device self.new))
-            (D.counts (device self.old)) (D.counts (device self.new)) }
-        ensures power { D.on (device self.new) ≡ is_ok (flash_result result) }
-        ensures size { D.blocks (device self.new) ≡ D.blocks (device self.old) }
-        ensures costs { Spends (flash_result result)
             (D.counts (device self.old)) (D.counts (device self.new)) }
     {
         let _images = self.layout.rows().len();
@@ -110,9 +106,11 @@ impl<D: Flash> Agent<D> {
         ensures meets { IsFalse (gone self.old) → (passes : List ℕ → Bool) →
             Meets (λ value reply. reply ≡ Success) result passes (call.Write handle bytes.now)
             (moment self.old) (moment self.new) }
-        ensures goes { GoesBy result (gone self.old) (gone self.new) }
-        ensures untouched { IsErrOf result Stop.Gone → self.new ≡ self.old }
+        ensures goes { AgentGoes result self.old self.new }
         ensures refused { IsRefused result → self.new ≡ self.old }
+        // on any device: what is answered, or stopped by the flash, is of a handle that writes
+        ensures writes { IsDone result → (image : ℕ)
+            × (handle_kept (fields self.old).session (handle - 1) ≡ handle_kinds.Writes image) }
         // on any flash that tells its content, sound or not: the bytes stand behind those that the image
         // has, the block that they end in is blank behind them, and nothing else changes
         ensures appends { IsDone result → IsTrue D.tells → (image : ℕ) →
@@ -128,7 +126,9 @@ impl<D: Flash> Agent<D> {
             let size = size_of (part_at (fields self.old).session image) in
             take ((size + length bytes.now) % granule_bytes) (rest_of (fields self.new) image)
             ≡ kept_of size (rest_of (fields self.old) image) bytes.now) }
-        // on any device, at any exit: what is kept of another image stays
+        // on any device, at any exit: the metadata that is kept stays, and so does what is kept of another
+        // image
+        ensures metadata { (fields self.new).meta ≡ (fields self.old).meta }
         ensures others { (image : ℕ) →
             handle_kept (fields self.old).session (handle - 1) ≡ handle_kinds.Writes image →
             (other : ℕ) → (other ≡ image → ⊥) →
@@ -148,13 +148,6 @@ impl<D: Flash> Agent<D> {
             SpendsArming (flash_result result)
             (writes_to_append (size_of (part_at (fields self.old).session image)) (length bytes.now))
             (D.arming (device self.old)) (D.arming (device self.new))
-            (D.counts (device self.old)) (D.counts (device self.new)) }
-        ensures unarmed { StaysUnarmed (flash_result result)
-            (D.arming (device self.old)) (D.arming (device self.new))
-            (D.counts (device self.old)) (D.counts (device self.new)) }
-        ensures power { IsFalse (gone self.old) → D.on (device self.new) ≡ is_ok (flash_result result) }
-        ensures size { D.blocks (device self.new) ≡ D.blocks (device self.old) }
-        ensures costs { Spends (flash_result result)
             (D.counts (device self.old)) (D.counts (device self.new)) }
     {
         if self.gone {

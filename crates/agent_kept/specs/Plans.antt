@@ -12,7 +12,7 @@ use Rattle.fwu_model.specs.Session as session
 use Rattle.fwu_model.specs.Call.{Call}
 use Rattle.fwu_model.specs.Call as call
 use Rattle.fwu_model.specs.Reply as reply
-use Rattle.fwu_model.specs.Answer.{Answer, answer, answered, refused, agent_state, with_appended, with_committed, content, staged_package, staged_bits, may_go_back}
+use Rattle.fwu_model.specs.Answer.{Answer, answer, answered, refused, agent_state, with_appended, with_committed, content, copied_parts, image_held, staged_package, staged_bits, may_go_back}
 use Rattle.agent_kept.specs.declared.kinds.Request.{Request}
 use Rattle.agent_kept.specs.declared.kinds.Request.TheVariants as request
 use Rattle.agent_kept.specs.declared.kinds.Plan.{Plan}
@@ -26,6 +26,7 @@ use Rattle.fwu_model.specs.MoveMetas.{meta_in}
 abbrev pub call_of : Request → List ℕ → Call
 call_of request.Discover bytes = call.Discover
 call_of (request.Begin flags n) bytes = call.Begin n
+call_of (request.BeginPartial flags list) bytes = call.BeginPartial list.now
 call_of (request.Open guid op.Read total) bytes = call.OpenRead guid
 call_of (request.Open guid op.Write total) bytes = call.OpenWrite guid
 call_of (request.Write h n) bytes = call.Write h bytes
@@ -69,6 +70,10 @@ unfoldable pub planned : Setting → State → ℕ → Option (List Staged) → 
 planned E s boot staging handles bytes plan.Tell = answered (reply.Discovered (agent_state s staging)) [] (On boot staging handles)
 planned E s boot staging handles bytes (plan.Begin store) =
     answered reply.Success (if store then Free (update_bank s) ∷ [] else []) (On boot (nothing_staged E) no_handles)
+-- the images that are named alone are left to be staged
+planned E s boot staging handles bytes (plan.BeginPartial store named) =
+    answered reply.Success (if store then Free (update_bank s) ∷ [] else [])
+    (On boot (Some (copied_parts (take (length E.layout.rows) named) (image_held s s.active))) no_handles)
 planned E s boot staging handles bytes (plan.Open h image o total) =
     answered (reply.Opened h) [] (On boot (opened_staging staging image o) (slice_set handles (h - 1) (opened_handle image o)))
 planned E s boot staging handles bytes (plan.Write h image at n) =
@@ -103,8 +108,18 @@ DecidesAs E s session c bytes (decision.ByVerdict b) = (b ≡ s.previous)
     × (answer E s session c ≡ by_verdict session (may_go_back E s (bank s b).held))
 
 -- The machine that a decision speaks of: its setting and state have the metadata and the counter that are given, and what is kept
--- of the session fits the bytes of the staged images and the lengths of what is read.
+-- of the session fits the bytes of the staged images.
 pub record Speaks (E : Setting) (s : State) (passes : List ℕ → Bool) (m : MetaRead) (counter : ℕ) (k : Kept) (boot : ℕ)
+    (staged : ℕ → List ℕ) : Type 0 where
+  pub rows : k.rows ≡ E.layout.rows
+  pub banks : length s.banks ≡ E.layout.banks
+  pub verifier : E.passes ≡ passes
+  pub meta : m.meta ≡ meta_in s
+  pub counter_is : counter ≡ s.counter
+  pub kept : IsKept k staged
+
+-- The same, and each reader has the total of what it reads: this a settled decision keeps.
+pub record SpeaksWhole (E : Setting) (s : State) (passes : List ℕ → Bool) (m : MetaRead) (counter : ℕ) (k : Kept) (boot : ℕ)
     (staged : ℕ → List ℕ) : Type 0 where
   pub rows : k.rows ≡ E.layout.rows
   pub banks : length s.banks ≡ E.layout.banks
@@ -114,8 +129,21 @@ pub record Speaks (E : Setting) (s : State) (passes : List ℕ → Bool) (m : Me
   pub kept : IsKept k staged
   pub totals : HasTotals E s boot k
 
--- the request fits the call: a write has the length of its bytes, and an open for reading the length of what is read
-abbrev pub FitsRequest : Setting → State → ℕ → Request → List ℕ → Type 0
-FitsRequest E s boot (request.Write h n) bytes = n ≡ length bytes
-FitsRequest E s boot (request.Open guid op.Read total) bytes = total ≡ length (content E s boot (find_image E.layout.rows guid))
-FitsRequest E s boot other bytes = Unit {0}
+abbrev pub loosely : (E : Setting) (s : State) (passes : List ℕ → Bool) (m : MetaRead) (counter : ℕ) (k : Kept) (boot : ℕ) (staged : ℕ → List ℕ)
+    → SpeaksWhole E s passes m counter k boot staged → Speaks E s passes m counter k boot staged
+loosely E s passes m counter k boot staged sp = record {
+  rows = sp.rows;
+  banks = sp.banks;
+  verifier = sp.verifier;
+  meta = sp.meta;
+  counter_is = sp.counter_is;
+  kept = sp.kept;
+}
+
+-- the request fits the call: a write has the length of its bytes, an open for reading the length of what is read,
+-- and of a read each reader has the total of what it reads
+abbrev pub FitsRequest : Setting → State → ℕ → Kept → Request → List ℕ → Type 0
+FitsRequest E s boot k (request.Write h n) bytes = n ≡ length bytes
+FitsRequest E s boot k (request.Open guid op.Read total) bytes = total ≡ length (content E s boot (find_image E.layout.rows guid))
+FitsRequest E s boot k (request.Read h room) bytes = HasTotals E s boot k
+FitsRequest E s boot k other bytes = Unit {0}

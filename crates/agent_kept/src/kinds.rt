@@ -5,11 +5,16 @@ use fwu_model::{Op, Status};
 /// A call of the agent. A write has the length of its bytes, and an open for reading the length of
 /// what is read, both in bytes. The vendor flags and the atomic length have no meaning.
 #[derive(Clone, Copy, Debug, PartialEq, Eq)]
-pub enum Request {
+pub enum Request<'a> {
     Discover,
     Begin {
         vendor_flags: u32,
         partial_count: u32,
+    },
+    /// An update of the images of these types alone.
+    BeginPartial {
+        vendor_flags: u32,
+        list: &'a [Guid],
     },
     Open {
         guid: Guid,
@@ -45,6 +50,11 @@ pub enum Plan {
     /// Metadata is stored, where the update bank was in use.
     Begin {
         store: bool,
+    },
+    /// The same, and then each image of the layout that isn't named is copied from the active bank.
+    BeginPartial {
+        store: bool,
+        named: [bool; 16],
     },
     Open {
         handle: u32,

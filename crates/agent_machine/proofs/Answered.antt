@@ -34,15 +34,19 @@ use Rattle.agent_kept.specs.declared.kinds.Plan.{Plan}
 use Rattle.agent_kept.specs.declared.kinds.Plan.TheVariants as plan
 use Rattle.agent_kept.specs.declared.kinds.Decision.TheVariants as decision
 use Rattle.agent_kept.specs.Kept.{Kept, IsKept, HasTotals, size_of, part_at, handle_kept, part_meant, handles_meant, staging_meant, session_meant}
-use Rattle.agent_kept.specs.Plans.{call_of, planned, planned_in, Speaks, FitsRequest}
+use Rattle.agent_kept.specs.Plans.{call_of, planned, planned_in, SpeaksWhole, loosely, FitsRequest}
 use Rattle.agent_state.specs.Decides.{Decides}
 use Rattle.agent_state.specs.Settles.{SettlesIn, staged_after}
+use Rattle.agent_machine.specs.Deciding.{KeepsOldOrNew}
+use Rattle.agent_machine.proofs.Deciding.{decides-same}
 use Rattle.agent_machine.specs.declared.stop.Stop.{Stop}
 use Rattle.agent_machine.specs.declared.stop.Stop.TheVariants as stop
 use Rattle.agent_machine.specs.Fields.{Fields, directory_size, total_of}
 pub use Rattle.agent_machine.specs.Fields.{IsThere}
 use Rattle.agent_machine.specs.Machine.{state_in, session_in, staged_bytes}
 use Rattle.agent_machine.specs.Knows.{Fitting, SessionSound, Knows}
+use Rattle.agent_machine.specs.Beside.{IsSpared, KeepsSpared}
+use Rattle.agent_machine.proofs.Beside.{spared-same}
 use Rattle.agent_machine.specs.Moment.{Moment, SpeaksOf, Shows}
 pub use Rattle.agent_machine.specs.Carries.{MeansSame, planned_moves, SameBeside, state_before, staging_before, CarriedOut}
 use Rattle.agent_machine.specs.Meets.{IsSettingOf, IsStopped, Stays, Leaves, Meets, GoesBy, flash_result}
@@ -126,7 +130,7 @@ module _ (f : Fields) (fitting : Fitting f) (sound : SessionSound f) where
   }
 
   pub shown-speaks : (E : Setting) (s : State) (passes : List ℕ → Bool) (staged : ℕ → List ℕ) → IsSettingOf f passes E → SpeaksOf f s
-      → IsKept f.session staged → Speaks E s passes f.meta f.counter f.session f.boot staged
+      → IsKept f.session staged → SpeaksWhole E s passes f.meta f.counter f.session f.boot staged
   shown-speaks E s passes staged setting speaks kept = record {
     rows = fitting.rows ∙ ap (λ (L : Layout). L.rows) (sym setting.layout);
     banks = speaks.banks ∙ ap (λ (L : Layout). L.banks) (sym setting.layout);
@@ -139,7 +143,7 @@ module _ (f : Fields) (fitting : Fitting f) (sound : SessionSound f) where
 
 -- the request fits the call, in each machine that is shown
 abbrev pub FitsEach : Fields → (List ℕ → Bool) → Request → List ℕ → Type 0
-FitsEach f passes r bytes = (E : Setting) (s : State) → IsSettingOf f passes E → SpeaksOf f s → FitsRequest E s f.boot r bytes
+FitsEach f passes r bytes = (E : Setting) (s : State) → IsSettingOf f passes E → SpeaksOf f s → FitsRequest E s f.boot f.session r bytes
 
 -- ---- a refusal
 
@@ -153,6 +157,8 @@ leaves-nothing m passes c none = record {
   does = λ E s x setting shows tells ready. subst (λ (ms : List Move). Does {T = Unit {0}} (Ok tt) E s ms m.told) (sym (none E s x setting shows))
       (does-nothing {T = Unit {0}} (Ok tt) E s m.told ready);
   guarded = λ tells rest. rest;
+  keeps = λ tells. spared-same (IsSpared m.fields) m.told;
+  decides = λ tells. decides-same m.fields.layout m.fields.meta m.fields.meta m.told m.told refl;
   stays = stays-same m;
 }
 
@@ -168,7 +174,7 @@ module _ (m : Moment) (fitting : Fitting m.fields) (sound : SessionSound m.field
     pub refused-is : (E : Setting) (s : State) (x : Session) → IsSettingOf f passes E → Shows m s x → answer E s x c ≡ refused st x
     refused-is E s x setting shows =
         subst (λ (y : Session). answer E s y c ≡ refused st y) (sym shows.means)
-        (decides E s shows.staged bytes (shown-speaks f fitting sound E s passes shows.staged setting shows.speaks shows.kept)
+        (decides E s shows.staged bytes (loosely E s passes f.meta f.counter f.session f.boot shows.staged (shown-speaks f fitting sound E s passes shows.staged setting shows.speaks shows.kept))
         (fits E s setting shows.speaks))
 
     -- what is refused changes nothing
@@ -218,6 +224,7 @@ pub planned-moves : (E : Setting) (s : State) (boot : ℕ) (stg : Option (List S
     → (planned E s boot stg hs bytes p).moves ≡ planned_moves s stg p
 unfolding planned
 planned-moves E s boot stg hs bytes plan.Tell = refl
+planned-moves E s boot stg hs bytes (plan.BeginPartial store named) = refl
 planned-moves E s boot stg hs bytes (plan.Begin store) = refl
 planned-moves E s boot stg hs bytes (plan.Open h image o total) = refl
 planned-moves E s boot stg hs bytes (plan.Write h image at n) = refl
@@ -231,6 +238,8 @@ planned-moves E s boot stg hs bytes plan.Back = refl
 -- no plan changes the version
 pub planned-form : (s : State) (stg : Option (List Staged)) (p : Plan) → (after s (planned_moves s stg p)).form ≡ s.form
 planned-form s stg plan.Tell = refl
+planned-form s stg (plan.BeginPartial true named) = refl
+planned-form s stg (plan.BeginPartial false named) = refl
 planned-form s stg (plan.Begin true) = refl
 planned-form s stg (plan.Begin false) = refl
 planned-form s stg (plan.Open h image o total) = refl
@@ -266,7 +275,7 @@ module _ (old new : Moment) (fitting : Fitting old.fields) (sound : SessionSound
   pub planned-is : (E : Setting) (s : State) (x : Session) → IsSettingOf was passes E → Shows old s x → answer E s x call ≡ planned_in E s x bytes p
   planned-is E s x setting shows =
       subst (λ (y : Session). answer E s y call ≡ planned_in E s y bytes p) (sym shows.means)
-      (decides E s shows.staged bytes (shown-speaks was fitting sound E s passes shows.staged setting shows.speaks shows.kept)
+      (decides E s shows.staged bytes (loosely E s passes was.meta was.counter was.session was.boot shows.staged (shown-speaks was fitting sound E s passes shows.staged setting shows.speaks shows.kept))
       (fits E s setting shows.speaks))
 
   -- the moves of the answer, where the device tells its content
@@ -281,14 +290,18 @@ module _ (old new : Moment) (fitting : Fitting old.fields) (sound : SessionSound
   pub leaves-by : (result : Result (Unit {0}) FlashStop)
       → (IsTrue old.tells → (E : Setting) → IsSettingOf was passes E → IsReady E old.told (state_before old)
       → Does result E (state_before old) (planned_moves (state_before old) (staging_before old) p) new.told)
-      → (IsTrue old.tells → IsAtRest old.told → GuardedBy result new.told) → Stays old new → Leaves result passes call old new
-  leaves-by result does guarded stays = record {
+      → (IsTrue old.tells → IsAtRest old.told → GuardedBy result new.told) → (IsTrue old.tells → KeepsSpared was old.told new.told)
+      → (IsTrue old.tells → KeepsOldOrNew was.layout was.meta is.meta old.told new.told) → Stays old new
+      → Leaves result passes call old new
+  leaves-by result does guarded keeps decides stays = record {
     does = λ E s x setting shows tells ready.
         let here = (shows.told tells).0 in
         subst (λ (ms : List Move). Does result E s ms new.told) (sym (moves-told E s x setting shows tells))
         (subst (λ (y : State). Does result E y (planned_moves (state_before old) (staging_before old) p) new.told) (sym here)
         (does tells E setting (subst (λ (y : State). IsReady E old.told y) here ready)));
     guarded = guarded;
+    keeps = keeps;
+    decides = decides;
     stays = stays;
   }
 

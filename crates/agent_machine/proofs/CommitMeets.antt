@@ -25,6 +25,7 @@ use Rattle.agent_kept.specs.Plans.{planned, planned_in}
 use Rattle.agent_kept.proofs.After.{kept-committed}
 use Rattle.agent_state.specs.Decides.{Decides}
 use Rattle.agent_state.specs.Settles.{IsPlanOf, Settles}
+use Rattle.agent_machine.proofs.Deciding.{decides-kept}
 use Rattle.agent_machine.specs.Fields.{Fields, target, rest_of, with_session}
 use Rattle.agent_machine.specs.Machine.{state_in}
 use Rattle.agent_machine.specs.Moment.{Moment}
@@ -32,7 +33,7 @@ use Rattle.agent_machine.specs.Knows.{Fitting, SessionSound, Knows, SomeStaged}
 use Rattle.agent_machine.specs.Law.{StaysKnown}
 use Rattle.agent_machine.specs.Meets.{Leaves, Meets}
 use Rattle.agent_machine.proofs.Answered.{leaves-by, done-meets}
-use Rattle.agent_machine.proofs.Committing.{slot-room, finish-stays, committed-means, committed-state, committed-knows}
+use Rattle.agent_machine.proofs.Committing.{slot-room, finish-spares, finish-stays, committed-means, committed-state, committed-knows}
 use Rattle.agent_machine.proofs.Room.{ReadsWell, set-readers, old-readers, free-well, fitting-again, staged-before}
 
 -- ---- an image is committed
@@ -83,6 +84,8 @@ module _ (f : Fields) (tells : Bool) (s t : Told) (number image : ℕ) (bit : Bo
         (λ E st setting speaks. tt) (plan.Commit number (Some image) bit) decides result
         (λ told E setting ready. does-nothing result E (state_in f s.now) t ((stays told).ready E setting.layout ready.calm ready.guarded))
         (λ told rest. guarded-by result ((stays told).rests rest))
+        (λ told. finish-spares result f image size s t (fitting.active fits.2) (slot-room f fitting sound image image-there) (finishes told))
+        (λ told. decides-kept f.layout f.meta _ _ s t (omega arith) (finishes told).keeps g.meta)
         (record { tells = refl; layout = layout; boot = boot; counter = counter; lengths = lengths; guard = λ told. (finishes told).keeps.guard })
 
   -- ---- when done

@@ -14,6 +14,8 @@ use Rattle.agent_kept.specs.declared.parts.Part.{Part}
 use Rattle.agent_kept.specs.declared.parts.Part.TheVariants.{Nothing, Open, Committed}
 use Rattle.agent_kept.specs.Kept.{Kept, IsKept, CommitsPart, CommitsTo, part_at, part_meant, size_of, slot_of}
 use Rattle.agent_kept.proofs.After.{kept-committed}
+use Rattle.agent_machine.specs.Beside.{KeepsSpared}
+use Rattle.agent_machine.proofs.Beside.{slot-spares}
 use Rattle.agent_machine.specs.Fields.{Fields, target, rest_of, with_session}
 use Rattle.agent_machine.specs.Machine.{state_in, staged_bytes, part_bytes}
 use Rattle.agent_machine.specs.Knows.{Fitting, SessionSound, Knows}
@@ -111,5 +113,14 @@ pub finish-stays : {T : Type 0} (result : Result T FlashStop) (f : Fields) (imag
 finish-stays result f image size s t fitting sound knows invalid within room fits finishes =
     let first : ℕ = start f.layout (target f) image in
     stays-known f image s t fitting sound knows invalid within room
+    (keeps_wider (4096 * first + done_of size) (4096 * (first + blocks_for size)) (4096 * first) (4096 * first + slot_bytes f.layout image) s t
+    (omega arith) (omega (arith, fits)) finishes.keeps)
+
+-- nor does anything change beside the update bank
+pub finish-spares : {T : Type 0} (result : Result T FlashStop) (f : Fields) (image size : ℕ) (s t : Told) → f.boot ≡ f.meta.meta.active
+    → size ≤ slot_bytes f.layout image → Finishes result (start f.layout (target f) image) size (rest_of f image) s t → KeepsSpared f s t
+finish-spares result f image size s t active fits finishes =
+    let first : ℕ = start f.layout (target f) image in
+    slot-spares f image s t active
     (keeps_wider (4096 * first + done_of size) (4096 * (first + blocks_for size)) (4096 * first) (4096 * first + slot_bytes f.layout image) s t
     (omega arith) (omega (arith, fits)) finishes.keeps)

@@ -22,10 +22,13 @@ use Rattle.agent_kept.specs.declared.kinds.Plan.TheVariants as plan
 use Rattle.agent_kept.specs.declared.kinds.Decision.TheVariants.{Do}
 use Rattle.agent_kept.specs.declared.kinds.Request.TheVariants as request
 use Rattle.agent_kept.specs.Kept.{Kept, Restarts, parts_meant, staging_meant, handles_meant}
-use Rattle.agent_kept.specs.Plans.{planned, planned_in, package_staged, bits_staged}
+use Rattle.agent_kept.specs.Plans.{loosely, planned, planned_in, package_staged, bits_staged}
 use Rattle.agent_kept.proofs.Meant.{staging-on}
 use Rattle.agent_state.specs.Decides.{Decides, next_bank}
 use Rattle.agent_state.specs.Settles.{Settles, bits_kept}
+use Rattle.fwu_model.specs.Replica.{in_version}
+use Rattle.agent_machine.proofs.Deciding.{decides-ends}
+use Rattle.agent_machine.proofs.Beside.{ends-spare}
 use Rattle.agent_machine.specs.Carries.{planned_moves}
 use Rattle.agent_machine.specs.Fields.{Fields}
 use Rattle.agent_machine.specs.Machine.{state_in, staged_bytes}
@@ -92,8 +95,8 @@ module _ (f : Fields) (k : Kept) (meta : MetaRead) (passes : List ℕ → Bool) 
       (subst (λ (o : Option (List Staged)). answer plain state (On f.boot o (handles_meant f.session)) call.End ≡ planned plain state f.boot o
       (handles_meant f.session) [] plan.End) on
       (decides plain state staged []
-      (shown-speaks f fitting sound plain state passes staged (record { layout = refl; verifier = refl })
-      (known-speaks f fitting s known) known.staged.kept) tt))
+      (loosely plain state passes f.meta f.counter f.session f.boot staged (shown-speaks f fitting sound plain state passes staged (record { layout = refl; verifier = refl })
+      (known-speaks f fitting s known) known.staged.kept)) tt))
 
   ends : Knows f s → EndsBy f.layout state p bits s
   ends known = ends-meet f passes s fitting known (slot-room f fitting sound) some staging (may known)
@@ -131,10 +134,15 @@ module _ (f : Fields) (k : Kept) (meta : MetaRead) (passes : List ℕ → Bool) 
           | inr (err, clears) ↦ clear-guarded result f.layout s t known.layout_is rest clears
         ]
 
+    version : Knows f s → meta ≡ in_version 2 meta.meta
+    version known = ap (λ (n : ℕ). record { form = n; meta = meta.meta }) (ap (λ (r : MetaRead). r.form) is ∙ known.version)
+
     pub end-leaves : Leaves result passes call.End old new
     end-leaves =
         leaves-by old new fitting sound knows passes request.End [] (λ E st setting speaks. tt) plan.End decides result
         (λ told E setting ready. subst (λ (ms : List Move). Does result E state ms t) (sym moves-are) (does-told E setting told ready)) guarded-told
+        (λ told. ends-spare f result f.layout meta.meta s t (ended told))
+        (λ told. decides-ends result f.layout f.meta meta meta.meta s t (version (knows told)) (ended told))
         (record { tells = refl; layout = refl; boot = refl; counter = refl; lengths = refl; guard = λ told. ended-guard result f.layout meta.meta s t (ended told) })
 
   -- ---- when done

@@ -11,6 +11,8 @@ use Rattle.fwu_model.specs.Call.{Call}
 use Rattle.fwu_model.specs.Reply.{Reply, Refused}
 use Rattle.fwu_model.specs.Answer.{answer}
 use Rattle.moves.proofs.Composed.{after-append, does-then, does-stopped, does-nothing}
+use Rattle.agent_machine.specs.Beside.{IsSparedByAll}
+use Rattle.agent_machine.proofs.Beside.{spared-further, spared-once, spared-same}
 use Rattle.agent_machine.specs.declared.stop.Stop.TheVariants as stop
 use Rattle.agent_machine.specs.Moment.{Moment, Shows}
 use Rattle.agent_machine.specs.Meets.{Leaves, Meets, Stays}
@@ -34,6 +36,8 @@ goes-then E result a b c s ms ns y z first second = record {
   does = λ tells ready. does-then tt result E s ms ns b.told c.told (first.does tells ready)
       (λ next. second.does (subst IsTrue (sym first.stays.tells) tells) next);
   guarded = λ tells rest. second.guarded (subst IsTrue (sym first.stays.tells) tells) (first.guarded tells rest);
+  keeps = λ tells. spared-further a.fields b.fields a.told b.told c.told first.stays.layout first.stays.boot (first.keeps tells)
+      (second.keeps (subst IsTrue (sym first.stays.tells) tells));
   stays = stays-then a b c first.stays second.stays;
 }
 
@@ -44,6 +48,7 @@ goes-stopped E result a b s ms ns y z err goes = record {
   shows = IfOk-from_err result (λ _. Shows b (after s (ms ++ ns)) z) err;
   does = λ tells ready. does-stopped result result E s ms ns b.told err (goes.does tells ready);
   guarded = goes.guarded;
+  keeps = goes.keeps;
   stays = goes.stays;
 }
 
@@ -53,6 +58,7 @@ goes-nothing E a s x shows = record {
   shows = shows;
   does = λ tells ready. does-nothing {T = Unit {0}} (Ok tt) E s a.told ready;
   guarded = λ tells rest. rest;
+  keeps = λ tells. spared-same (IsSparedByAll a.fields.layout a.fields.boot) a.told;
   stays = record { tells = refl; layout = refl; boot = refl; counter = refl; lengths = refl; guard = λ told. refl };
 }
 
@@ -65,6 +71,7 @@ module _ (E : Setting) (c : Call) (old new : Moment) (layout : E.layout ≡ old.
     shows = next;
     does = λ tells ready. leaves.does E s x (record { layout = layout; verifier = refl }) shows tells ready;
     guarded = leaves.guarded;
+    keeps = λ tells. spared-once old.fields old.told new.told (leaves.keeps tells);
     stays = leaves.stays;
   }
 
@@ -97,6 +104,7 @@ all-go E [] [] old new s x shows Done = record {
   does = λ tells ready. does-nothing {T = Unit {0}} (Ok tt) E s old.told
       ready;
   guarded = λ tells rest. rest;
+  keeps = λ tells. spared-same (IsSparedByAll old.fields.layout old.fields.boot) old.told;
   layout = refl;
 }
 all-go E (c ∷ cs) (r ∷ rs) old new s x shows (Then {mid = mid} met calls) =
@@ -111,6 +119,8 @@ all-go E (c ∷ cs) (r ∷ rs) old new s x shows (Then {mid = mid} met calls) =
       does = λ tells ready. does-then {T = Unit {0}} tt (Ok tt) E s a.moves (moves_of E (after s a.moves) a.next cs) mid.told new.told
           (goes.does tells ready) (λ next. rest.does (subst IsTrue (sym goes.stays.tells) tells) next);
       guarded = λ tells rests. rest.guarded (subst IsTrue (sym goes.stays.tells) tells) (goes.guarded tells rests);
+      keeps = λ tells. spared-further old.fields mid.fields old.told mid.told new.told goes.stays.layout goes.stays.boot (goes.keeps tells)
+          (rest.keeps (subst IsTrue (sym goes.stays.tells) tells));
       layout = rest.layout ∙ met.layout;
     }
 all-go E [] (r ∷ rs) old new s x shows calls = elim calls [ ]

@@ -1,4 +1,6 @@
 pub mod Known
+pub mod Beside
+pub mod Deciding
 pub mod Staging
 pub mod Answered
 pub mod Verdicts
@@ -30,3 +32,8 @@ pub mod Directory
 pub mod Reading
 pub mod Opens
 pub mod ReadAnswers
+pub mod CallGoing
+pub mod Filling
+pub mod Taking
+pub mod Writer
+pub mod Spending

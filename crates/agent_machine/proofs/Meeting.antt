@@ -16,6 +16,9 @@ use Rattle.agent_kept.specs.declared.kinds.Decision.TheVariants as decision
 use Rattle.agent_kept.specs.Kept.{handles_meant, staging_meant}
 use Rattle.agent_kept.specs.Plans.{call_of, planned, planned_in}
 use Rattle.agent_state.specs.Decides.{Decides}
+use Rattle.agent_machine.proofs.Deciding.{decides-same}
+use Rattle.agent_machine.specs.Beside.{IsSpared}
+use Rattle.agent_machine.proofs.Beside.{spared-told}
 use Rattle.agent_machine.specs.Asks.{IsQuiet}
 use Rattle.agent_machine.specs.Carries.{CarriedOut, planned_moves, state_before, staging_before}
 use Rattle.agent_machine.specs.Knows.{Fitting, SessionSound, Knows}
@@ -29,6 +32,7 @@ use Rattle.agent_machine.proofs.Quietly.{quiet-moves}
 -- whose reply is success, and no more
 abbrev pub SaysSuccess : Plan → Type 0
 SaysSuccess plan.Tell = ⊥
+SaysSuccess (plan.BeginPartial store named) = Unit {0}
 SaysSuccess (plan.Begin store) = Unit {0}
 SaysSuccess (plan.Open h image o total) = ⊥
 SaysSuccess (plan.Write h image at n) = Unit {0}
@@ -43,6 +47,7 @@ success-planned : (E : Setting) (s : State) (boot : ℕ) (stg : Option (List Sta
     → (planned E s boot stg hs bytes p).reply ≡ Success
 unfolding planned
 success-planned E s boot stg hs bytes plan.Tell e = absurd e
+success-planned E s boot stg hs bytes (plan.BeginPartial store named) e = refl
 success-planned E s boot stg hs bytes (plan.Begin store) e = refl
 success-planned E s boot stg hs bytes (plan.Open h image o total) e = absurd e
 success-planned E s boot stg hs bytes (plan.Write h image at n) e = refl
@@ -73,7 +78,8 @@ module _ (old new : Moment) (fitting : Fitting old.fields) (sound : SessionSound
       subst (λ (t : Told). Does {T = Unit {0}} (Ok tt) E (state_before old) (planned_moves (state_before old) (staging_before old) p) t) (sym told)
       (subst (λ (ms : List Move). Does {T = Unit {0}} (Ok tt) E (state_before old) ms old.told)
       (sym (quiet-moves (state_before old) (staging_before old) p quiet)) (does-nothing {T = Unit {0}} (Ok tt) E (state_before old) old.told ready)))
-      (λ tells rest. subst IsAtRest (sym told) rest) (record {
+      (λ tells rest. subst IsAtRest (sym told) rest) (λ tells. spared-told (IsSpared old.fields) old.told new.told told)
+      (λ tells. decides-same old.fields.layout old.fields.meta new.fields.meta old.told new.told told) (record {
         tells = out.tells;
         layout = out.beside.layout;
         boot = out.beside.boot;

@@ -18,9 +18,10 @@ use Rattle.agent_kept.specs.declared.parts.Handle.{Handle}
 use Rattle.agent_kept.specs.declared.parts.Handle.TheVariants.{Free, Reads, Writes}
 use Rattle.agent_kept.specs.declared.kinds.Plan.{Plan}
 use Rattle.agent_kept.specs.declared.kinds.Plan.TheVariants as plan
+use Rattle.agent_kept.specs.declared.kinds.Decision.TheVariants as decision
 use Rattle.agent_kept.specs.Kept.{Kept, IsKept, HasNothing, OpensPart, IsNew, size_of, part_at, part_meant, handle_kept, staging_meant, with_handle}
 use Rattle.agent_kept.proofs.Sounds.{frees}
-use Rattle.agent_state.specs.Settles.{IsPlanOf, Changes, HasTotal, Settles, meta_planned, staged_after, with_bytes}
+use Rattle.agent_state.specs.Settles.{IsPlanOf, Changes, HasTotal, Settles, SettlesBy, meta_planned, staged_after, with_bytes}
 use Rattle.agent_machine.specs.Asks.{IsQuiet}
 use Rattle.agent_machine.specs.Fields.{Fields, IsThere, target, total_of, rest_of, with_session}
 use Rattle.agent_machine.specs.Machine.{state_in, staged_bytes, part_bytes}
@@ -130,6 +131,7 @@ module _ (f : Fields) (k : Kept) (t : Told) (fitting : Fitting f) (knows : Knows
 
   still : (p : Plan) → IsQuiet p → Changes f.session bytes p k → Still p
   still plan.Tell quiet changes = same-still plan.Tell (λ i. of-kept i changes) (λ i. refl)
+  still (plan.BeginPartial store named) quiet changes = absurd quiet
   still (plan.Begin true) quiet changes = absurd quiet
   still (plan.Begin false) quiet changes = empty-still (plan.Begin false) changes.nothing
   still (plan.Open number image op.Read total) quiet changes = open-reads image changes
@@ -168,6 +170,7 @@ module _ (f : Fields) (k : Kept) (t : Told) (fitting : Fitting f) (knows : Knows
 -- the images stay
 pub rows-after : (k : Kept) (bytes : List ℕ) (p : Plan) (new : Kept) → Changes k bytes p new → new.rows ≡ k.rows
 rows-after k bytes plan.Tell new c = ap (λ (x : Kept). x.rows) c
+rows-after k bytes (plan.BeginPartial store named) new c = c.rows
 rows-after k bytes (plan.Begin store) new c = c.rows
 rows-after k bytes (plan.Open number image op.Read total) new c = ap (λ (x : Kept). x.rows) c
 rows-after k bytes (plan.Open number None op.Write total) new c = absurd c
@@ -211,6 +214,7 @@ module _ (f : Fields) (k : Kept) (bytes : List ℕ) (fitting : Fitting f) where
 
   stays-fit : (tells : Bool) (p : Plan) → IsQuiet p → IsPlanOf f.session p → MayKeep tells f p → Changes f.session bytes p k → StaysFit
   stays-fit tells plan.Tell quiet of may changes = same-fit changes
+  stays-fit tells (plan.BeginPartial store named) quiet of may changes = absurd quiet
   stays-fit tells (plan.Begin true) quiet of may changes = absurd quiet
   stays-fit tells (plan.Begin false) quiet of may changes = record {
     may = λ is. (may.0, may.1);
@@ -263,6 +267,7 @@ module _ (f : Fields) (k : Kept) (bytes : List ℕ) (fitting : Fitting f) where
       → (f.session.staging ≡ true → IsTrue (is_accepted (state_at f.meta.meta f.meta.meta.active)))
       → k.staging ≡ true → IsTrue (is_accepted (state_at f.meta.meta f.meta.meta.active))
   quiet-accepted tells plan.Tell quiet of may c told was is = was (sym (ap (λ (x : Kept). x.staging) c) ∙ is)
+  quiet-accepted tells (plan.BeginPartial store named) quiet of may c told was is = absurd quiet
   quiet-accepted tells (plan.Begin store) quiet of may c told was is = may.2 told
   quiet-accepted tells (plan.Open number image op.Read total) quiet of may c told was is = was (sym (ap (λ (x : Kept). x.staging) c) ∙ is)
   quiet-accepted tells (plan.Open number None op.Write total) quiet of may c told was is = absurd c
@@ -280,6 +285,7 @@ module _ (f : Fields) (k : Kept) (bytes : List ℕ) (fitting : Fitting f) where
 
 pub quiet-meta : (k : Kept) (m : Meta) (p : Plan) → IsQuiet p → meta_planned k m p ≡ m
 quiet-meta k m plan.Tell quiet = refl
+quiet-meta k m (plan.BeginPartial store named) quiet = absurd quiet
 quiet-meta k m (plan.Begin true) quiet = absurd quiet
 quiet-meta k m (plan.Begin false) quiet = refl
 quiet-meta k m (plan.Open number image o total) quiet = refl
@@ -294,6 +300,7 @@ quiet-meta k m plan.Back quiet = absurd quiet
 
 pub quiet-moves : (s : State) (stg : Option (List Staged)) (p : Plan) → IsQuiet p → planned_moves s stg p ≡ []
 quiet-moves s stg plan.Tell quiet = refl
+quiet-moves s stg (plan.BeginPartial store named) quiet = absurd quiet
 quiet-moves s stg (plan.Begin true) quiet = absurd quiet
 quiet-moves s stg (plan.Begin false) quiet = refl
 quiet-moves s stg (plan.Open number image o total) quiet = refl
@@ -310,6 +317,7 @@ quiet-moves s stg plan.Back quiet = absurd quiet
 pub keeps-total : (tells : Bool) (f : Fields) → Fitting f → (p : Plan) → MayKeep tells f p → (E : Setting) (s : State) → E.layout ≡ f.layout → SpeaksOf f s
     → HasTotal E s f.boot p
 keeps-total tells f fitting plan.Tell may E s same speaks = tt
+keeps-total tells f fitting (plan.BeginPartial store named) may E s same speaks = tt
 keeps-total tells f fitting (plan.Begin store) may E s same speaks = tt
 keeps-total tells f fitting (plan.Open number image op.Read total) may E s same speaks = may.0
     ∙ sym (content-total f E s fitting.layout same speaks image may.1)
@@ -322,10 +330,19 @@ keeps-total tells f fitting plan.Cancel may E s same speaks = tt
 keeps-total tells f fitting (plan.Accept image store) may E s same speaks = tt
 keeps-total tells f fitting plan.Back may E s same speaks = tt
 
+-- settling such a plan is as it says
+quiet-settles : (k : Kept) (m : MetaRead) (bytes : List ℕ) (p : Plan) (new_meta : MetaRead) (new : Kept) → IsQuiet p
+    → SettlesBy k m bytes (decision.Do p) new_meta new → Settles k m bytes p new_meta new
+quiet-settles k m bytes (plan.BeginPartial store named) new_meta new quiet settles = absurd quiet
+quiet-settles k m bytes other new_meta new quiet settles = settles
+
 module _ (tells : Bool) (t : Told) (f : Fields) (k : Kept) (new_meta : MetaRead) (bytes : List ℕ) (p : Plan) (fitting : Fitting f) (sound : SessionSound f)
     (knows : IsTrue tells → Knows f t) (quiet : IsQuiet p) (of : IsPlanOf f.session p) (may : MayKeep tells f p)
     (changes : Changes f.session bytes p k) (meta : new_meta ≡ record f.meta { meta = meta_planned f.session f.meta.meta p })
-    (settles : Settles f.session f.meta bytes p new_meta k) where
+    (settled : SettlesBy f.session f.meta bytes (decision.Do p) new_meta k) where
+  settles : Settles f.session f.meta bytes p new_meta k
+  settles = quiet-settles f.session f.meta bytes p new_meta k quiet settled
+
   abbrev after_it : Fields
   after_it = record (with_session f k f.rests) { meta = new_meta }
 

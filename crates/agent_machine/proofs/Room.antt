@@ -17,6 +17,8 @@ use Rattle.slot_writer.specs.Slots.{Appends, blocks_for, done_of}
 use Rattle.agent_kept.specs.declared.parts.Handle.{Handle}
 use Rattle.agent_kept.specs.declared.parts.Handle.TheVariants.{Free, Reads, Writes}
 use Rattle.agent_kept.specs.Kept.{Kept, HasNothing, handle_kept, slot_of}
+use Rattle.agent_machine.specs.Beside.{KeepsSpared}
+use Rattle.agent_machine.proofs.Beside.{slot-spares}
 use Rattle.agent_machine.specs.Fields.{Fields, total_of, target, with_session}
 use Rattle.agent_machine.specs.Knows.{Fitting, SessionSound, Knows}
 use Rattle.agent_machine.specs.Law.{StaysKnown}
@@ -118,5 +120,14 @@ pub appends-stay : {T : Type 0} (result : Result T FlashStop) (f : Fields) (imag
     → Appends result first size rest bytes left s t → StaysKnown f image s t
 appends-stay result f image first size rest bytes left s t fitting sound knows invalid within room at fits appends =
     stays-known f image s t fitting sound knows invalid within room
+    (keeps_wider (4096 * first + done_of size) (4096 * (first + blocks_for (done_of (size + length bytes)))) (4096 * start f.layout (target f) image)
+    (4096 * start f.layout (target f) image + slot_bytes f.layout image) s t (omega (arith, at)) (omega (arith, at, fits)) appends.keeps)
+
+-- nor does anything change beside the update bank
+pub appends-spare : {T : Type 0} (result : Result T FlashStop) (f : Fields) (image first size : ℕ) (rest bytes left : List ℕ) (s t : Told)
+    → f.boot ≡ f.meta.meta.active → first ≡ start f.layout (target f) image → size + length bytes ≤ slot_bytes f.layout image
+    → Appends result first size rest bytes left s t → KeepsSpared f s t
+appends-spare result f image first size rest bytes left s t active at fits appends =
+    slot-spares f image s t active
     (keeps_wider (4096 * first + done_of size) (4096 * (first + blocks_for (done_of (size + length bytes)))) (4096 * start f.layout (target f) image)
     (4096 * start f.layout (target f) image + slot_bytes f.layout image) s t (omega (arith, at)) (omega (arith, at, fits)) appends.keeps)

@@ -30,6 +30,7 @@ not-refused : (E : Setting) (s : State) (boot : ℕ) (stg : Option (List Staged)
     → planned E s boot stg hs [] p ≡ refused st y → ⊥
 unfolding planned
 not-refused E s boot stg hs plan.Tell st y e = absurd (let r = ap (λ (a : Answer). a.reply) e in cc)
+not-refused E s boot stg hs (plan.BeginPartial store named) st y e = absurd (let r = ap (λ (a : Answer). a.reply) e in cc)
 not-refused E s boot stg hs (plan.Begin store) st y e = absurd (let r = ap (λ (a : Answer). a.reply) e in cc)
 not-refused E s boot stg hs (plan.Open h image o total) st y e = absurd (let r = ap (λ (a : Answer). a.reply) e in cc)
 not-refused E s boot stg hs (plan.Write h image at n) st y e = absurd (let r = ap (λ (a : Answer). a.reply) e in cc)
@@ -49,6 +50,7 @@ module _ (E : Setting) (s : State) (boot : ℕ) (stg : Option (List Staged)) (hs
   begin-moves-are : (p : Plan) → begin_moves s ≡ (planned E s boot stg hs [] p).moves → begin_moves s ≡ cond (frees p) (Free (update_bank s) ∷ []) []
   unfolding planned
   begin-moves-are plan.Tell e = e
+  begin-moves-are (plan.BeginPartial store named) e = e
   begin-moves-are (plan.Begin store) e = e
   begin-moves-are (plan.Open h image o total) e = e
   begin-moves-are (plan.Write h image at n) e = e
@@ -175,6 +177,8 @@ module _ (E : Setting) (s : State) (boot : ℕ) (stg : Option (List Staged)) (hs
   other-moves : (image : ℕ) (p : Plan) → is_accept p ≡ false → accept_moves s image ≡ (planned E s boot stg hs [] p).moves → accept_moves s image ≡ []
   unfolding planned
   other-moves image plan.Tell not e = e
+  other-moves image (plan.BeginPartial true named) not e = absurd (no-accept _ image (Free (update_bank s)) [] (λ i h. absurd cc) e)
+  other-moves image (plan.BeginPartial false named) not e = e
   other-moves image (plan.Begin true) not e = absurd (no-accept _ image (Free (update_bank s)) [] (λ i h. absurd cc) e)
   other-moves image (plan.Begin false) not e = e
   other-moves image (plan.Open h target o total) not e = e

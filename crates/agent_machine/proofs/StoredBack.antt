@@ -34,6 +34,10 @@ use Rattle.agent_state.specs.Decides.{Decides, has_other_kept}
 use Rattle.agent_state.specs.Ruled.{ruled_as}
 use Rattle.agent_state.proofs.Machine.{leave-is, other-is, is-idle}
 use Rattle.agent_state.proofs.Replies.{accepting, previous-staging}
+use Rattle.agent_machine.specs.Deciding.{KeepsOldOrNew}
+use Rattle.agent_machine.proofs.Deciding.{decides-same}
+use Rattle.agent_machine.specs.Beside.{IsSpared, KeepsSpared}
+use Rattle.agent_machine.proofs.Beside.{spared-told}
 use Rattle.agent_machine.specs.declared.stop.Stop.{Stop}
 use Rattle.agent_machine.specs.declared.stop.Stop.TheVariants as stop
 use Rattle.agent_machine.specs.Fields.{Fields}
@@ -187,6 +191,8 @@ module _ (tells : Bool) (f : Fields) (fitting : Fitting f) (sound : SessionSound
     does = λ E x y setting shows is ready. does-idle result E x (answer E x y call.Previous).moves t err
         (subst (λ (u : Told). IsCalm E u x) (sym (same is)) ready.calm);
     guarded = λ is rest. by result err (subst IsAtRest (sym (same is)) rest);
+    keeps = λ is. spared-told (IsSpared f) s t (same is);
+    decides = λ is. decides-same f.layout f.meta f.meta s t (same is);
     stays = record { tells = refl; layout = refl; boot = refl; counter = refl; lengths = refl; guard = λ is. ap (λ (u : Told). u.guard) (same is) };
   }
     where
@@ -269,6 +275,8 @@ module _ (tells : Bool) (f : Fields) (fitting : Fitting f) (sound : SessionSound
       does = λ E x y layout shows may_be is ready. carries.does E x y layout (shows-still tells f s t same x y shows) may_be is
           (subst (λ (u : Told). IsReady E u x) (sym (same is)) ready);
       guarded = λ is rest. carries.guarded is (subst IsAtRest (sym (same is)) rest);
+      keeps = λ is. subst (λ (u : Told). KeepsSpared f u new.told) (same is) (carries.keeps is);
+      decides = λ is. subst (λ (u : Told). KeepsOldOrNew f.layout f.meta new.fields.meta u new.told) (same is) (carries.decides is);
       stays = record {
         tells = carries.stays.tells;
         layout = carries.stays.layout;

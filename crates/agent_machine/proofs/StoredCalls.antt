@@ -20,7 +20,7 @@ use Rattle.agent_kept.specs.declared.kinds.Plan.TheVariants as plan
 use Rattle.agent_kept.specs.declared.kinds.Decision.{Decision}
 use Rattle.agent_kept.specs.declared.kinds.Decision.TheVariants as decision
 use Rattle.agent_kept.specs.Kept.{Kept, session_meant, staging_meant, handles_meant, parts_meant}
-use Rattle.agent_kept.specs.Plans.{call_of, planned, planned_in, FitsRequest, DecidesAs}
+use Rattle.agent_kept.specs.Plans.{call_of, planned, planned_in, loosely, FitsRequest, DecidesAs}
 use Rattle.agent_state.specs.Decides.{Decides, cannot_begin_kept}
 use Rattle.agent_state.proofs.Machine.{state-is, active-is, cannot-is}
 use Rattle.agent_machine.specs.Fields.{Fields, target}
@@ -37,7 +37,7 @@ use Rattle.agent_machine.proofs.StoredShows.{target-is}
 -- ---- what a decision says of each machine that is shown
 
 module _ (m : Moment) (fitting : Fitting m.fields) (sound : SessionSound m.fields) (passes : List ℕ → Bool) (r : Request)
-    (fits : (E : Setting) (s : State) → FitsRequest E s m.fields.boot r []) where
+    (fits : (E : Setting) (s : State) → FitsRequest E s m.fields.boot m.fields.session r []) where
   abbrev f : Fields
   f = m.fields
 
@@ -48,7 +48,7 @@ module _ (m : Moment) (fitting : Fitting m.fields) (sound : SessionSound m.field
       → DecidesAs E s x (call_of r []) [] d
   decided-of d decides E s x setting shows =
       subst (λ (y : Session). DecidesAs E s y (call_of r []) [] d) (sym shows.means)
-      (decides E s shows.staged [] (shown-speaks f fitting sound E s passes shows.staged setting shows.speaks shows.kept) (fits E s))
+      (decides E s shows.staged [] (loosely E s passes f.meta f.counter f.session f.boot shows.staged (shown-speaks f fitting sound E s passes shows.staged setting shows.speaks shows.kept)) (fits E s))
 
   pub refused-of : (st : Status) → Decided (decision.Refused st) → (E : Setting) (s : State) (x : Session) → IsSettingOf f passes E → Shows m s x
       → answer E s x (call_of r []) ≡ refused st x

@@ -16,9 +16,12 @@ use Rattle.agent_kept.specs.declared.kinds.Plan.{Plan}
 use Rattle.agent_kept.specs.declared.kinds.Plan.TheVariants as plan
 use Rattle.agent_kept.specs.Kept.{Kept, session_meant}
 use Rattle.agent_kept.specs.Plans.{planned, planned_in}
+use Rattle.agent_machine.proofs.Deciding.{decides-same}
 use Rattle.agent_machine.specs.declared.stop.Stop.{Stop}
 use Rattle.agent_machine.specs.declared.stop.Stop.TheVariants as stop
+use Rattle.agent_machine.specs.Beside.{IsSpared}
 use Rattle.agent_machine.specs.Fields.{Fields}
+use Rattle.agent_machine.proofs.Beside.{spared-told}
 use Rattle.agent_machine.specs.Machine.{state_in, session_in}
 use Rattle.agent_machine.specs.Moment.{Moment, Shows}
 use Rattle.agent_machine.specs.Meets.{Answers, GoesBack, IsRefused, IsSettingOf, Leaves, Meets, MeetsPrevious, flash_result, may_try}
@@ -59,6 +62,8 @@ module _ (result : Result (Unit {0}) Stop) (passes : List ℕ → Bool) (c : Cal
     leaves = record {
       does = λ E s x setting shows tells ready. does-carried E s x setting shows (by E s x setting shows) tells ready;
       guarded = carried.guarded;
+      keeps = carried.keeps;
+      decides = carried.decides;
       stays = carried.stays;
     };
   }
@@ -90,6 +95,8 @@ module _ (tells : Bool) (f : Fields) (s t : Told) (same : IsTrue tells → t ≡
         subst (λ (ms : List Move). Does {T = Unit {0}} (Ok tt) E x ms t) (sym (none E x y setting shows is))
         (does-nothing {T = Unit {0}} (Ok tt) E x t (subst (λ (u : Told). IsReady E u x) (sym (same is)) ready));
     guarded = λ is rest. subst IsAtRest (sym (same is)) rest;
+    keeps = λ is. spared-told (IsSpared f) s t (same is);
+    decides = λ is. decides-same f.layout f.meta f.meta s t (same is);
     stays = record { tells = refl; layout = refl; boot = refl; counter = refl; lengths = refl; guard = λ is. ap (λ (u : Told). u.guard) (same is) };
   }
 
@@ -170,6 +177,8 @@ module _ (result : Result (Unit {0}) Stop) (passes : List ℕ → Bool) (old new
       does = λ E s x setting shows tells ready. does-carried result passes Previous plan.Back old new carried answered_it E s x setting shows
           (by E s x setting shows tells) tells ready;
       guarded = carried.guarded;
+      keeps = carried.keeps;
+      decides = carried.decides;
       stays = carried.stays;
     };
   }

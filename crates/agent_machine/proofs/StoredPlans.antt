@@ -7,9 +7,10 @@ use Rattle.meta_layout.proofs.Fits.{meta-fits}
 use Rattle.moves.specs.Law.{Done}
 use Rattle.agent_kept.specs.declared.kinds.Plan.{Plan}
 use Rattle.agent_kept.specs.declared.kinds.Plan.TheVariants as plan
+use Rattle.agent_kept.specs.declared.kinds.Decision.TheVariants as decision
 use Rattle.agent_kept.specs.Kept.{Kept}
 use Rattle.agent_state.specs.Decides.{IsMetaOf}
-use Rattle.agent_state.specs.Settles.{Changes, Settles, meta_planned}
+use Rattle.agent_state.specs.Settles.{Changes, Settles, SettlesBy, meta_planned}
 use Rattle.agent_machine.specs.Fields.{Fields}
 use Rattle.agent_machine.specs.Knows.{Fitting, Knows, SessionSound, SomeStaged}
 use Rattle.agent_machine.specs.Stored.{CarriesOut, MayCarryOut, StoresIf, is_stored, trials_planned}
@@ -21,6 +22,7 @@ use Rattle.agent_machine.proofs.StoredShows.{Parts, SpeaksWell, carried, begun-p
 module _ (f : Fields) (fitting : Fitting f) where
   pub planned-fitting : (p : Plan) (k : Kept) → MayCarryOut f p → Changes f.session [] p k → Fitting (after_plan f p k)
   planned-fitting plan.Tell k may changes = absurd may
+  planned-fitting (plan.BeginPartial store named) k may changes = absurd may
   planned-fitting (plan.Begin store) k may changes = begun-fitting f fitting store k may changes
   planned-fitting (plan.Open h image o total) k may changes = absurd may
   planned-fitting (plan.Write h image at n) k may changes = absurd may
@@ -34,6 +36,7 @@ module _ (f : Fields) (fitting : Fitting f) where
 
   pub planned-some : (p : Plan) (k : Kept) → MayCarryOut f p → Changes f.session [] p k → ∥ SomeStaged f.session ∥₁ → ∥ SomeStaged k ∥₁
   planned-some plan.Tell k may changes some = absurd may
+  planned-some (plan.BeginPartial store named) k may changes some = absurd may
   planned-some (plan.Begin store) k may changes some = ∣ record { staged = λ _. []; kept = kept-nothing k (λ _. []) changes.nothing } ∣₁
   planned-some (plan.Open h image o total) k may changes some = absurd may
   planned-some (plan.Write h image at n) k may changes some = absurd may
@@ -48,6 +51,7 @@ module _ (f : Fields) (fitting : Fitting f) where
     pub planned-known : (p : Plan) (k : Kept) → Knows f s → MayCarryOut f p → Changes f.session [] p k
         → StoresIf {T = Unit {0}} (is_stored p) (Ok tt) f.layout (meta_planned f.session f.meta.meta p) s t → Knows (after_plan f p k) t
     planned-known plan.Tell k knows may changes stores = absurd may
+    planned-known (plan.BeginPartial store named) k knows may changes stores = absurd may
     planned-known (plan.Begin true) k knows may changes stores = begun-known f s t fitting knows k may changes stores
     planned-known (plan.Begin false) k knows may changes stores = restarted-known f s t fitting knows k may changes stores.1
     planned-known (plan.Open h image o total) k knows may changes stores = absurd may
@@ -72,6 +76,7 @@ module _ (f : Fields) (fitting : Fitting f) where
 
       planned-parts : (p : Plan) (k : Kept) → MayCarryOut f p → Changes f.session [] p k → Settled p k → Stored p → Parts tells f s t result p k
       planned-parts plan.Tell k may changes settles stores = absurd may
+      planned-parts (plan.BeginPartial store named) k may changes settles stores = absurd may
       planned-parts (plan.Begin true) k may changes settles stores = begun-parts tells f s t result fitting knows k may changes settles stores
       planned-parts (plan.Begin false) k may changes settles stores = restarted-parts tells f s t result fitting knows k changes settles stores
       planned-parts (plan.Open h image o total) k may changes settles stores = absurd may
@@ -95,6 +100,12 @@ module _ (f : Fields) (fitting : Fitting f) where
       planned-carried p k speaks may changes settles stores = carried tells f s t result p k speaks (planned-parts p k may changes settles stores)
 
 -- ---- by what a plan was settled on
+
+-- settling such a plan is as it says
+planned-settles : (f : Fields) (p : Plan) (m : MetaRead) (k : Kept) → MayCarryOut f p → SettlesBy f.session f.meta [] (decision.Do p) m k
+    → Settles f.session f.meta [] p m k
+planned-settles f (plan.BeginPartial store named) m k may settles = absurd may
+planned-settles f other m k may settles = settles
 
 -- the metadata fits what is kept
 pub is-meta-of : (f : Fields) → Fitting f → IsMetaOf f.session f.meta.meta
@@ -128,7 +139,7 @@ module _ (f : Fields) (fitting : Fitting f) (p : Plan) (k : Kept) (m : MetaRead)
     pub after-known : Knows f s → StoresIf {T = Unit {0}} stored (Ok tt) f.layout m.meta s t → Knows g t
     after-known knows stores = subst (λ (x : Fields). Knows x t) fields-are (planned-known f fitting s t p k knows may changes (stores-planned (Ok tt) stores))
 
-    pub after-carried : (tells : Bool) (result : Done) → SessionSound f → (IsTrue tells → Knows f s) → Settles f.session f.meta [] p m k
+    pub after-carried : (tells : Bool) (result : Done) → SessionSound f → (IsTrue tells → Knows f s) → SettlesBy f.session f.meta [] (decision.Do p) m k
         → (IsTrue tells → StoresIf stored result f.layout m.meta s t)
         → CarriesOut result p (record { tells = tells; told = s; fields = f }) (record { tells = tells; told = t; fields = g })
     after-carried tells result sound knows settles stores =
@@ -136,4 +147,4 @@ module _ (f : Fields) (fitting : Fitting f) (p : Plan) (k : Kept) (m : MetaRead)
         (planned-carried f fitting s t tells result knows p k
         (λ E x y same shows. shown-speaks f fitting sound E x E.passes shows.staged
         (record { layout = same; verifier = refl }) shows.speaks shows.kept) may changes
-        (subst (λ (x : MetaRead). Settles f.session f.meta [] p x k) m-is settles) (λ is. stores-planned result (stores is)))
+        (subst (λ (x : MetaRead). Settles f.session f.meta [] p x k) m-is (planned-settles f p m k may settles)) (λ is. stores-planned result (stores is)))

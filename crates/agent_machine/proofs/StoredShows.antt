@@ -19,12 +19,17 @@ use Rattle.replicas.specs.Stores.{Stores}
 use Rattle.agent_kept.specs.declared.kinds.Plan.{Plan}
 use Rattle.agent_kept.specs.declared.kinds.Plan.TheVariants as plan
 use Rattle.agent_kept.specs.Kept.{Kept, Restarts, session_meant, handles_meant}
-use Rattle.agent_kept.specs.Plans.{Speaks, planned, planned_in}
+use Rattle.agent_kept.specs.Plans.{SpeaksWhole, planned, planned_in}
 use Rattle.agent_kept.proofs.Sounds.{restarts-staging}
 use Rattle.agent_state.specs.Decides.{next_bank}
 use Rattle.agent_state.specs.Settles.{HasTotal, Settles, staged_after}
 use Rattle.agent_state.proofs.Machine.{next-is, active-is, bits-is, is-idle}
 use Rattle.agent_state.proofs.Moved.{held-accepted}
+use Rattle.fwu_model.specs.Replica.{in_version}
+use Rattle.agent_machine.specs.Deciding.{KeepsOldOrNew}
+use Rattle.agent_machine.proofs.Deciding.{decides-same, decides-stores}
+use Rattle.agent_machine.specs.Beside.{IsSpared, KeepsSpared}
+use Rattle.agent_machine.proofs.Beside.{spared-told, stores-spare}
 use Rattle.agent_machine.specs.Fields.{Fields, target}
 use Rattle.agent_machine.specs.Machine.{state_in, staged_bytes}
 use Rattle.agent_machine.specs.Knows.{Fitting, Knows}
@@ -101,7 +106,7 @@ module _ (tells : Bool) (f : Fields) (s t : Told) (result : Done) (p : Plan) (k 
 
   abbrev pub SpeaksWell : Type 0
   SpeaksWell = (E : Setting) (x : State) (y : Session) → E.layout ≡ f.layout →
-      (shows : Shows old x y) → Speaks E x E.passes f.meta f.counter f.session f.boot shows.staged
+      (shows : Shows old x y) → SpeaksWhole E x E.passes f.meta f.counter f.session f.boot shows.staged
 
   -- what the moves of the plan are from a state
   abbrev pub planned_from : Setting → State → (ℕ → List ℕ) → List Move
@@ -120,6 +125,8 @@ module _ (tells : Bool) (f : Fields) (s t : Told) (result : Done) (p : Plan) (k 
         → IsReady E s (state_in f s.now) → Does result E (state_in f s.now) (planned_from E (state_in f s.now) staged) t
     pub guarded : IsTrue tells → IsAtRest s → GuardedBy result t
     pub guard : IsTrue tells → t.guard ≡ s.guard
+    pub keeps : IsTrue tells → KeepsSpared f s t
+    pub decides : IsTrue tells → KeepsOldOrNew f.layout f.meta (after_plan f p k).meta s t
 
   module _ (speaks : SpeaksWell) (parts : Parts) where
     shows-next : (E : Setting) (x : State) (y : Session) → E.layout ≡ f.layout → Shows old x y → IsTrue (is_ok result)
@@ -152,6 +159,8 @@ module _ (tells : Bool) (f : Fields) (s t : Told) (result : Done) (p : Plan) (k 
           (subst (λ (z : State). Does result E z (planned_from E z shows.staged) t) (sym here)
           (parts.does E shows.staged same is (subst (λ (z : State). MayBeDone E z p) here may) (subst (IsReady E s) here ready)));
       guarded = parts.guarded;
+      keeps = parts.keeps;
+      decides = parts.decides;
       stays = record { tells = refl; layout = refl; boot = refl; counter = refl; lengths = refl; guard = parts.guard };
     }
 
@@ -168,6 +177,10 @@ done-is (Err stop) h = absurd cc
 module _ (tells : Bool) (f : Fields) (s t : Told) (result : Done) (fitting : Fitting f) (knows : IsTrue tells → Knows f s) where
   abbrev m : Meta
   m = f.meta.meta
+
+  -- metadata keeps its version, which is 2
+  version : IsTrue tells → (new : Meta) → record f.meta { meta = new } ≡ in_version 2 new
+  version is new = ap (λ (n : ℕ). record { form = n; meta = new }) (knows is).version
 
   -- the bank that the state frees
   freed-bank : IsTrue tells → update_bank (state_in f s.now) ≡ target f
@@ -199,6 +212,8 @@ module _ (tells : Bool) (f : Fields) (s t : Told) (result : Done) (fitting : Fit
         ((begun-stores may is (stores is)).does E same tt ready.calm ready.guarded);
     guarded = λ is rest. (begun-stores may is (stores is)).guarded rest;
     guard = λ is. (stores is).writes.keeps.guard;
+    keeps = λ is. stores-spare f result f.layout (meta_after m (Free (next_bank m))) s t (stores is);
+    decides = λ is. decides-stores result f.layout f.meta _ (meta_after m (Free (next_bank m))) s t (version is (meta_after m (Free (next_bank m)))) (stores is);
   }
 
   -- where nothing is stored
@@ -224,6 +239,8 @@ module _ (tells : Bool) (f : Fields) (s t : Told) (result : Done) (fitting : Fit
     does = λ E staged same is may ready. same-ready E (state_in f s.now) (still is) ready;
     guarded = λ is rest. same-guarded (still is) rest;
     guard = λ is. ap (λ (u : Told). u.guard) (still is).1;
+    keeps = λ is. spared-told (IsSpared f) s t (still is).1;
+    decides = λ is. decides-same f.layout f.meta _ s t (still is).1;
   }
 
   -- ---- accept
@@ -248,6 +265,8 @@ module _ (tells : Bool) (f : Fields) (s t : Told) (result : Done) (fitting : Fit
     does = λ E staged same is may_be ready. (accept-stores image may is (stores is)).does E same tt ready.calm ready.guarded;
     guarded = λ is rest. (accept-stores image may is (stores is)).guarded rest;
     guard = λ is. (stores is).writes.keeps.guard;
+    keeps = λ is. stores-spare f result f.layout (meta_after m (Accept image)) s t (stores is);
+    decides = λ is. decides-stores result f.layout f.meta _ (meta_after m (Accept image)) s t (version is (meta_after m (Accept image))) (stores is);
   }
 
   pub unchanged-parts : (image : ℕ) → MayAccept f image → Settles f.session f.meta [] (plan.Accept image false) f.meta f.session
@@ -262,6 +281,8 @@ module _ (tells : Bool) (f : Fields) (s t : Told) (result : Done) (fitting : Fit
     does = λ E staged same is may_be ready. same-ready E (state_in f s.now) (still is) ready;
     guarded = λ is rest. same-guarded (still is) rest;
     guard = λ is. ap (λ (u : Told). u.guard) (still is).1;
+    keeps = λ is. spared-told (IsSpared f) s t (still is).1;
+    decides = λ is. decides-same f.layout f.meta _ s t (still is).1;
   }
 
   -- ---- previous
@@ -284,4 +305,6 @@ module _ (tells : Bool) (f : Fields) (s t : Told) (result : Done) (fitting : Fit
     does = λ E staged same is may_be ready. (back-stores may is (stores is)).does E same may_be ready.calm ready.guarded;
     guarded = λ is rest. (back-stores may is (stores is)).guarded rest;
     guard = λ is. (stores is).writes.keeps.guard;
+    keeps = λ is. stores-spare f result f.layout (meta_after m Back) s t (stores is);
+    decides = λ is. decides-stores result f.layout f.meta _ (meta_after m Back) s t (version is (meta_after m Back)) (stores is);
   }

@@ -17,6 +17,7 @@ module _ (f : Fields) (armed arming : Option Arming) where
   planned-takes : (p : Plan) → MayCarryOut f p → TakesIf (is_stored p) armed arming
       → TakesStore f.meta (record f.meta { meta = meta_planned f.session f.meta.meta p }) armed arming
   planned-takes plan.Tell may takes = absurd may
+  planned-takes (plan.BeginPartial store named) may takes = absurd may
   planned-takes (plan.Begin true) may takes = inl takes
   planned-takes (plan.Begin false) may takes = inr (refl, takes)
   planned-takes (plan.Open h image o total) may takes = absurd may

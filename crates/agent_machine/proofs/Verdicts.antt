@@ -8,7 +8,7 @@ use Rattle.fwu_model.specs.State.{State}
 use Rattle.fwu_model.specs.Sound.{Setting}
 use Rattle.fwu_model.specs.Session.{On, Staged, Handle}
 use Rattle.fwu_model.specs.Session as session
-use Rattle.fwu_model.specs.Answer.{answer, answer_begin, answer_open_read, answer_open_write, answer_write, answer_read, answer_commit, answer_cancel, answer_accept, content, directory, handle_at}
+use Rattle.fwu_model.specs.Answer.{answer, answer_begin, answer_begin_partial, answer_open_read, answer_open_write, answer_write, answer_read, answer_commit, answer_cancel, answer_accept, content, directory, handle_at}
 use Rattle.agent_kept.specs.declared.kinds.Request.{Request}
 use Rattle.agent_kept.specs.declared.kinds.Request.TheVariants as request
 use Rattle.agent_kept.specs.declared.kinds.Plan.{Plan}
@@ -32,9 +32,10 @@ content-any E passes s boot (Some image) = refl
 answer-any : (E : Setting) (passes : List ℕ → Bool) (s : State) (boot : ℕ) (stg : Option (List Staged)) (hs : List Handle) (r : Request) (bytes : List ℕ)
     → IsPlain r
     → answer (with_verifier E passes) s (On boot stg hs) (call_of r bytes) ≡ answer E s (On boot stg hs) (call_of r bytes)
-unfolding answer answer_begin answer_open_read answer_open_write answer_write answer_read answer_commit answer_cancel answer_accept directory
+unfolding answer answer_begin answer_begin_partial answer_open_read answer_open_write answer_write answer_read answer_commit answer_cancel answer_accept directory
 answer-any E passes s boot stg hs request.Discover bytes plain = refl
 answer-any E passes s boot stg hs (request.Begin flags n) bytes plain = refl
+answer-any E passes s boot stg hs (request.BeginPartial flags list) bytes plain = refl
 answer-any E passes s boot stg hs (request.Open guid op.Read total) bytes plain = refl
 answer-any E passes s boot stg hs (request.Open guid op.Write total) bytes plain = refl
 answer-any E passes s boot stg hs (request.Write h n) bytes plain = refl
@@ -55,6 +56,7 @@ planned-any : (E : Setting) (passes : List ℕ → Bool) (s : State) (boot : ℕ
     → planned (with_verifier E passes) s boot stg hs bytes p ≡ planned E s boot stg hs bytes p
 unfolding planned directory
 planned-any E passes s boot stg hs bytes plan.Tell = refl
+planned-any E passes s boot stg hs bytes (plan.BeginPartial store named) = refl
 planned-any E passes s boot stg hs bytes (plan.Begin store) = refl
 planned-any E passes s boot stg hs bytes (plan.Open h image o total) = refl
 planned-any E passes s boot stg hs bytes (plan.Write h image at n) = refl
@@ -76,20 +78,20 @@ module _ (p q : List ℕ → Bool) (m : MetaRead) (counter : ℕ) (k : Kept) (bo
     meta = sp.meta;
     counter_is = sp.counter_is;
     kept = sp.kept;
-    totals = record {
-      total = λ place image at total is. sp.totals.total place image at total is ∙ sym (ap (λ (l : List ℕ). length l) (content-any E p s boot image));
-      within = sp.totals.within;
-    };
   }
 
-  fits-any : (E : Setting) (s : State) (bytes : List ℕ) (x : Request) → FitsRequest E s boot x bytes → FitsRequest (with_verifier E p) s boot x bytes
+  fits-any : (E : Setting) (s : State) (bytes : List ℕ) (x : Request) → FitsRequest E s boot k x bytes → FitsRequest (with_verifier E p) s boot k x bytes
   fits-any E s bytes request.Discover fits = tt
   fits-any E s bytes (request.Begin flags n) fits = tt
+  fits-any E s bytes (request.BeginPartial flags list) fits = tt
   fits-any E s bytes (request.Open guid op.Read total) fits = fits
       ∙ sym (ap (λ (l : List ℕ). length l) (content-any E p s boot (find_image E.layout.rows guid)))
   fits-any E s bytes (request.Open guid op.Write total) fits = tt
   fits-any E s bytes (request.Write h n) fits = fits
-  fits-any E s bytes (request.Read h room) fits = tt
+  fits-any E s bytes (request.Read h room) fits = record {
+    total = λ place image at total is. fits.total place image at total is ∙ sym (ap (λ (l : List ℕ). length l) (content-any E p s boot image));
+    within = fits.within;
+  }
   fits-any E s bytes (request.Commit h req most) fits = tt
   fits-any E s bytes request.End fits = tt
   fits-any E s bytes request.Cancel fits = tt

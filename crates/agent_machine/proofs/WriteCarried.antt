@@ -20,6 +20,7 @@ use Rattle.agent_kept.specs.Kept.{Kept, IsKept, AppendsPart, part_at, size_of}
 use Rattle.agent_kept.specs.Plans.{call_of}
 use Rattle.agent_state.specs.Decides.{Decides}
 use Rattle.agent_state.specs.Settles.{IsPlanOf, Settles, staged_after}
+use Rattle.agent_machine.proofs.Deciding.{decides-kept}
 use Rattle.agent_machine.specs.Fields.{Fields, target, rest_of, with_session}
 use Rattle.agent_machine.specs.Machine.{state_in, staged_bytes}
 use Rattle.agent_machine.specs.Knows.{Fitting, SessionSound, Knows, SomeStaged}
@@ -31,7 +32,7 @@ use Rattle.fwu_model.specs.Reply.{Success}
 use Rattle.agent_machine.specs.Law.{StaysKnown, WriteMeets}
 use Rattle.agent_machine.proofs.Answered.{FitsEach, leaves-by, done-meets, stopped-meets}
 use Rattle.agent_machine.proofs.Meeting.{success-says}
-use Rattle.agent_machine.proofs.Room.{ReadsWell, fitting-again, old-readers, staged-before, appends-stay}
+use Rattle.agent_machine.proofs.Room.{ReadsWell, fitting-again, old-readers, staged-before, appends-spare, appends-stay}
 use Rattle.agent_machine.proofs.Showing.{some-after, kept-after}
 use Rattle.agent_machine.proofs.Writing.{means-written, write-meets}
 
@@ -69,6 +70,9 @@ module _ (old new : Moment) (image first size number at n : ℕ) (left bytes : L
             (λ tells E setting ready. does-nothing result E (state_in f old.told.now) new.told
             ((write-stays tells).ready E setting.layout ready.calm ready.guarded))
             (λ tells rest. guards result new.told ((write-stays tells).rests rest))
+            (λ tells. appends-spare result f image first size (rest_of f image) bytes left old.told new.told (fitting.active of.1) first-is
+            (omega (arith, size-is, fits)) (appends tells))
+            (λ tells. decides-kept f.layout f.meta _ _ old.told new.told (omega (arith, first-is)) (appends tells).keeps new.fields.meta)
             (record { tells = tells-same; layout = beside.layout; boot = beside.boot; counter = beside.counter; lengths = beside.lengths; guard = λ is. (appends is).keeps.guard })
 
 -- ---- when done

@@ -14,6 +14,7 @@ use Rattle.agent_machine.specs.Fields.{Fields}
 abbrev pub IsPlain : Request → Type 0
 IsPlain request.Discover = Unit {0}
 IsPlain (request.Begin flags n) = Unit {0}
+IsPlain (request.BeginPartial flags list) = Unit {0}
 IsPlain (request.Open guid o total) = Unit {0}
 IsPlain (request.Write h n) = Unit {0}
 IsPlain (request.Read h room) = Unit {0}
@@ -28,6 +29,8 @@ abbrev pub IsQuiet : Plan → Type 0
 IsQuiet plan.Tell = Unit {0}
 IsQuiet (plan.Begin true) = ⊥
 IsQuiet (plan.Begin false) = Unit {0}
+-- images are copied on the flash
+IsQuiet (plan.BeginPartial store named) = ⊥
 IsQuiet (plan.Open h image o total) = Unit {0}
 IsQuiet (plan.Write h image at n) = ⊥
 IsQuiet (plan.Read h image at n total) = Unit {0}

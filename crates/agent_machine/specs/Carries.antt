@@ -22,6 +22,7 @@ MeansSame k staged other = (i : ℕ) → i < length k.rows → part_meant (part_
 abbrev pub planned_moves : State → Option (List Staged) → Plan → List Move
 planned_moves s stg plan.Tell = []
 planned_moves s stg (plan.Begin store) = if store then Free (update_bank s) ∷ [] else []
+planned_moves s stg (plan.BeginPartial store named) = if store then Free (update_bank s) ∷ [] else []
 planned_moves s stg (plan.Open h image o total) = []
 planned_moves s stg (plan.Write h image at n) = []
 planned_moves s stg (plan.Read h image at n total) = []

@@ -7,8 +7,10 @@ use Rattle.fwu_model.specs.Sound.{Setting}
 use Rattle.fwu_model.specs.Call.{Call}
 use Rattle.fwu_model.specs.Reply.{Reply}
 use Rattle.fwu_model.specs.Answer.{answer}
+pub use Rattle.fwu_model.specs.InRow.{replies_of, moves_of, session_of}
 use Rattle.fwu_model.specs.Calm.{IsAtRest}
 use Rattle.moves.specs.Moved.{Does, GuardedBy, IsReady}
+use Rattle.agent_machine.specs.Beside.{KeepsSparedByAll}
 use Rattle.agent_machine.specs.Moment.{Moment, Shows}
 use Rattle.agent_machine.specs.Meets.{Replies, Stays}
 
@@ -18,22 +20,11 @@ pub record Goes (E : Setting) (result : Result (Unit {0}) FlashStop) (old new : 
   pub shows : OnOk result (Shows new (after s ms) y)
   pub does : IsTrue old.tells → IsReady E old.told s → Does result E s ms new.told
   pub guarded : IsTrue old.tells → IsAtRest old.told → GuardedBy result new.told
+  -- on any flash, at any exit
+  pub keeps : IsTrue old.tells → KeepsSparedByAll old.fields old.told new.told
   pub stays : Stays old new
 
 -- ---- a list of calls
-
--- the replies to calls in a row, their moves, and the session after them
-abbrev pub replies_of : Setting → State → Session → List Call → List Reply
-replies_of E s x [] = []
-replies_of E s x (c ∷ cs) = (answer E s x c).reply ∷ replies_of E (after s (answer E s x c).moves) (answer E s x c).next cs
-
-abbrev pub moves_of : Setting → State → Session → List Call → List Move
-moves_of E s x [] = []
-moves_of E s x (c ∷ cs) = (answer E s x c).moves ++ moves_of E (after s (answer E s x c).moves) (answer E s x c).next cs
-
-abbrev pub session_of : Setting → State → Session → List Call → Session
-session_of E s x [] = x
-session_of E s x (c ∷ cs) = session_of E (after s (answer E s x c).moves) (answer E s x c).next cs
 
 -- A call that was answered or refused with this reply, whatever its value was.
 pub record Met (E : Setting) (c : Call) (r : Reply) (old new : Moment) : Type 0 where
@@ -53,6 +44,7 @@ pub record Ran (E : Setting) (cs : List Call) (rs : List Reply) (old new : Momen
   pub shows : Shows new (after s (moves_of E s x cs)) (session_of E s x cs)
   pub does : IsTrue old.tells → IsReady E old.told s → Does {T = Unit {0}} (Ok tt) E s (moves_of E s x cs) new.told
   pub guarded : IsTrue old.tells → IsAtRest old.told → IsAtRest new.told
+  pub keeps : IsTrue old.tells → KeepsSparedByAll old.fields old.told new.told
   pub layout : new.fields.layout ≡ old.fields.layout
 
 -- ---- laws

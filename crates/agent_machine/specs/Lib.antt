@@ -1,4 +1,6 @@
 pub mod Fields
+pub mod Beside
+pub mod Deciding
 pub mod Machine
 pub mod Moment
 pub mod Meets
@@ -10,3 +12,6 @@ pub mod Law
 pub mod Ends
 pub mod Stored
 pub mod Directory
+pub mod CallGoes
+pub mod Filling
+pub mod Takes

@@ -11,9 +11,11 @@ use Rattle.fwu_model.specs.Reply.{Reply, Refused, Got, Success}
 use Rattle.fwu_model.specs.Answer.{answer, may_leave, has_other}
 use Rattle.fwu_model.specs.Calm.{IsAtRest}
 use Rattle.moves.specs.Moved.{Does, GuardedBy, IsReady}
+use Rattle.agent_machine.specs.Deciding.{KeepsOldOrNew}
 use Rattle.agent_machine.specs.declared.stop.Stop.{Stop}
 use Rattle.agent_machine.specs.declared.stop.Stop.TheVariants as stop
 use Rattle.agent_machine.specs.Fields.{Fields}
+use Rattle.agent_machine.specs.Beside.{KeepsSpared}
 use Rattle.agent_machine.specs.Moment.{Moment, Shows}
 
 -- whether the flash stopped it
@@ -87,7 +89,10 @@ pub record Leaves (result : Result (Unit {0}) FlashStop) (passes : List ℕ → 
       → Does result E s (answer E s x c).moves new.told
   -- on any flash at rest: no loss harms what is in use, and an answer leaves it at rest
   pub guarded : IsTrue old.tells → IsAtRest old.told → GuardedBy result new.told
-  -- at any exit
+  -- on any flash, at any exit: nothing changes but the metadata, the marks of the starts on trial, and the update bank
+  pub keeps : IsTrue old.tells → KeepsSpared old.fields old.told new.told
+  -- on any flash at rest: in each image that a loss leaves the metadata decides that the agent had, or the one that it has now
+  pub decides : IsTrue old.tells → KeepsOldOrNew old.fields.layout old.fields.meta new.fields.meta old.told new.told
   pub stays : Stays old new
 
 -- What a call says of an agent that isn't gone: on any device, an answer or a refusal is that of each machine that the agent shows.

@@ -20,6 +20,8 @@ use Rattle.agent_kept.specs.declared.kinds.Plan.TheVariants as plan
 use Rattle.agent_kept.specs.Kept.{Kept}
 use Rattle.agent_kept.specs.Plans.{planned_in}
 use Rattle.agent_state.specs.Decides.{cannot_begin_kept, may_leave_kept, has_other_kept}
+use Rattle.agent_machine.specs.Deciding.{KeepsOldOrNew}
+use Rattle.agent_machine.specs.Beside.{KeepsSpared}
 use Rattle.agent_machine.specs.Fields.{Fields, target}
 use Rattle.agent_machine.specs.Meets.{Stays}
 use Rattle.agent_machine.specs.Moment.{Moment, Shows}
@@ -42,6 +44,7 @@ pub record MayGoBack (f : Fields) : Type 0 where
   pub idle : f.session.staging ≡ false
   pub other : IsTrue (has_other_kept f.meta.meta)
 
+-- a partial begin is carried out as a begin, and then its copies
 abbrev pub MayCarryOut : Fields → Plan → Type 0
 MayCarryOut f (plan.Begin store) = MayBegin f store
 MayCarryOut f (plan.Accept image store) = MayAccept f image
@@ -77,6 +80,7 @@ TakesStore old new armed arming = (arming ≡ stored_arming armed) ⊎ ((new ≡
 -- whether metadata is stored
 abbrev pub is_stored : Plan → Bool
 is_stored (plan.Begin store) = store
+is_stored (plan.BeginPartial store named) = store
 is_stored (plan.Accept image store) = store
 is_stored plan.Back = true
 is_stored other = false
@@ -84,6 +88,7 @@ is_stored other = false
 -- whether the update bank is made invalid
 abbrev pub frees : Plan → Bool
 frees (plan.Begin store) = store
+frees (plan.BeginPartial store named) = store
 frees other = false
 
 -- the trials with the metadata after the plan: none once the bank is accepted with its last image, or another one is active
@@ -114,4 +119,7 @@ pub record CarriesOut (result : Result (Unit {0}) FlashStop) (p : Plan) (old new
       → IsTrue old.tells → IsReady E old.told s → Does result E s (planned_in E s x [] p).moves new.told
   -- on any flash at rest
   pub guarded : IsTrue old.tells → IsAtRest old.told → GuardedBy result new.told
+  -- on any flash
+  pub keeps : IsTrue old.tells → KeepsSpared old.fields old.told new.told
+  pub decides : IsTrue old.tells → KeepsOldOrNew old.fields.layout old.fields.meta new.fields.meta old.told new.told
   pub stays : Stays old new

@@ -1,15 +1,14 @@
 -- Lists by number, and the tests of what is installed.
-use Rattle.std.proofs.Common.{◌≡◌, ◌⊎◌, inl, inr, ℕ, zero, suc, ◌+◌, ◌-◌, ◌<◌, ◌≤◌, min, Bool, true, false, ◌&&◌, ◌==◌, leb, List, length, drop, take, map, Ok, Err, refl, sym, ap, ap₂, ◌∙◌, arith}
+use Rattle.std.proofs.Common.{◌≡◌, inl, inr, ℕ, zero, suc, ◌+◌, ◌-◌, ◌<◌, ◌≤◌, Bool, true, false, ◌&&◌, ◌==◌, leb, List, length, drop, take, map, Ok, Err, refl, sym, ap, ap₂, ◌∙◌, arith}
 use Rattle.std.proofs.lemmas.Bool.{cases_lt}
 use Rattle.std.proofs.lemmas.List.{take-take}
 use Rattle.std.specs.List.{list_all, range_with_len}
 use Rattle.std.specs.Prelude.{is_ok, Result}
 use Rattle.base_core.specs.Bytes.{num_at, listed}
-use Rattle.fwu_formats.specs.Layout.{ImageRow}
-use Rattle.fwu_formats.specs.Manifest.{Row, Manifest, row_at, manifest_at, manifest_of, manifest_size, all_paired}
+use Rattle.fwu_formats.specs.Manifest.{Row, Manifest, row_at, manifest_of, manifest_size, all_paired}
 use Rattle.fwu_formats.specs.declared.kinds.ManifestFault.{ManifestFault}
 use Rattle.manifest_core.specs.Shown.{version_of}
-use Rattle.manifest_core.proofs.Passed.{fault_is, manifest_passed, HasPassed}
+use Rattle.manifest_core.proofs.Passed.{fault_is, manifest_passed}
 use Rattle.agent_kept.specs.declared.parts.Part.{Part}
 use Rattle.agent_kept.specs.Kept.{Kept, part_at, size_of}
 use Rattle.agent_kept.specs.Judged.{is_installable, is_part_committed, is_part_of, manifest_kept, are_rows_kept, parts_of}

@@ -1,15 +1,12 @@
 -- What is kept is what the machine has.
-use Rattle.std.proofs.Common.{◌≡◌, ◌≢◌, ◌⊎◌, inl, inr, ℕ, zero, suc, ◌+◌, ◌-◌, ◌*◌, ◌%◌, ◌<◌, ◌≤◌, min, Bool, true, false, ◌&&◌, ◌||◌, not, ◌==◌, cond, leb, ltb, eqb, List, [], ◌∷◌, length, get_or, set, take, drop, map, replicate, Option, Some, None, refl, sym, ap, ap₂, ◌∙◌, subst, arith, IsTrue}
-use Rattle.std.proofs.lemmas.List.FromFn.{length-map-range_with_len, get_or-map-range_with_len}
+use Rattle.std.proofs.Common.{◌≡◌, ℕ, zero, suc, ◌+◌, ◌-◌, ◌%◌, ◌<◌, Bool, true, false, ◌&&◌, ◌||◌, not, ◌==◌, cond, List, [], length, get_or, Option, Some, None, refl, sym, ap, ap₂, ◌∙◌, arith}
+use Rattle.std.proofs.lemmas.List.FromFn.{get_or-map-range_with_len}
 use Rattle.std.proofs.Math.ListN as listn
 use Rattle.std.proofs.lemmas.List.{length-map}
-use Rattle.base_core.specs.Bytes.{listed}
-use Rattle.fwu_formats.specs.declared.kinds.BankState.{BankState}
-use Rattle.fwu_formats.specs.declared.kinds.BankState.TheVariants.{Invalid, Valid, Accepted}
 use Rattle.fwu_model.specs.declared.kinds.AgentState.TheVariants as agent
 use Rattle.fwu_formats.specs.Layout.{ImageRow, slot_bytes}
 use Rattle.fwu_formats.specs.Metadata.{Meta, MetaRead, state_at}
-use Rattle.fwu_model.specs.State.{State, Bank, bank, no_bank, is_invalid, is_valid, is_accepted, update_bank}
+use Rattle.fwu_model.specs.State.{State, Bank, bank, no_bank, is_valid, is_accepted, update_bank}
 use Rattle.fwu_model.specs.Sound.{Setting}
 use Rattle.fwu_model.specs.Session as session
 use Rattle.fwu_model.specs.Session.{Session, Staged, On, staged_at}
@@ -20,7 +17,7 @@ use Rattle.agent_kept.specs.declared.parts.Handle.{Handle}
 use Rattle.agent_kept.specs.declared.parts.Handle.TheVariants.{Free, Reads, Writes}
 use Rattle.agent_kept.specs.Kept.{Kept, part_at, part_meant, parts_meant, staging_meant, handle_meant, handles_meant, handle_kept, size_of, slot_of, IsKept}
 use Rattle.fwu_model.specs.MoveMetas.{meta_in}
-use Rattle.agent_state.specs.Decides.{next_bank, is_trial_kept, cannot_begin_kept, may_leave_kept, has_other_kept}
+use Rattle.agent_state.specs.Decides.{next_bank, is_trial_kept, cannot_begin_kept, has_other_kept}
 
 -- ---- the metadata
 

@@ -1,16 +1,15 @@
 -- The metadata after a plan is that of the machine's state after its moves, and what is read has the length that it had.
-use Rattle.std.proofs.Common.{◌≡◌, ℕ, ◌+◌, ◌-◌, ◌%◌, ◌<◌, ◌≤◌, Bool, true, false, cond, List, [], ◌∷◌, ◌++◌, length, get_or, set, map, Option, Some, None, refl, sym, ap, ap₂, ◌∙◌, subst, arith, length-set}
+use Rattle.std.proofs.Common.{◌≡◌, ℕ, ◌+◌, Bool, true, false, cond, List, [], ◌∷◌, ◌++◌, length, get_or, set, map, Option, Some, None, refl, sym, ap, ap₂, ◌∙◌, arith}
 use Rattle.std.proofs.Math.ListN as listn
 use Rattle.std.proofs.Math.Seq.{map-set_same}
 use Rattle.std.proofs.lemmas.List.{length-append, map-set}
 use Rattle.std.specs.Prelude.{flat_map}
 use Rattle.base_core.specs.Bytes.{le, listed}
-use Rattle.fwu_formats.proofs.Spell.{length-le}
 use Rattle.fwu_formats.specs.declared.kinds.BankState.{BankState}
 use Rattle.fwu_formats.specs.declared.kinds.BankState.TheVariants.{Invalid, Accepted}
-use Rattle.fwu_formats.specs.Layout.{Layout, slot_bytes}
+use Rattle.fwu_formats.specs.Layout.{slot_bytes}
 use Rattle.fwu_formats.specs.Metadata.{Meta, state_at, bit_number}
-use Rattle.fwu_model.specs.State.{State, Bank, bank, no_bank, Free, Switch, Accept, Back, after_move, freed, with_bit, state_by, all_set}
+use Rattle.fwu_model.specs.State.{State, Bank, bank, no_bank, Free, Switch, Accept, after_move, freed, with_bit, state_by, all_set}
 use Rattle.fwu_model.specs.Sound.{Setting}
 use Rattle.fwu_model.specs.Answer.{content, directory, directory_row, booted_package, version_in, held_package}
 use Rattle.fwu_model.specs.MoveMetas.{meta_in, meta_after, bits_in, accepted_bits}

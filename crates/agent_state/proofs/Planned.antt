@@ -1,5 +1,5 @@
 -- The metadata after a plan is of the layout that it was of.
-use Rattle.std.proofs.Common.{◌≡◌, ℕ, ◌+◌, ◌%◌, ◌<◌, ◌≤◌, Bool, true, false, List, [], length, get_or, set, map, Option, Some, None, refl, sym, ap, ap₂, ◌∙◌, subst, arith, length-set, IsTrue}
+use Rattle.std.proofs.Common.{◌≡◌, ℕ, ◌<◌, Bool, true, false, List, [], length, set, map, Some, None, refl, sym, ap, ◌∙◌, subst, arith, length-set, IsTrue}
 use Rattle.std.proofs.lemmas.List.{length-map}
 use Rattle.fwu_formats.specs.declared.kinds.BankState.TheVariants.{Invalid}
 use Rattle.fwu_model.specs.declared.kinds.Op.TheVariants as op
@@ -9,12 +9,10 @@ use Rattle.fwu_model.specs.State.{Free, Switch, Accept, Back, state_by}
 use Rattle.meta_layout.proofs.Fits.{MetaFits, meta-fits, row-length, fits-active, fits-previous, fits-state, fits-bits}
 use Rattle.agent_kept.specs.declared.kinds.Plan.{Plan}
 use Rattle.agent_kept.specs.declared.kinds.Plan.TheVariants as plan
-use Rattle.agent_kept.specs.declared.kinds.Decision.{Decision}
-use Rattle.agent_kept.specs.declared.kinds.Decision.TheVariants as decision
 use Rattle.agent_kept.specs.Kept.{Kept}
 use Rattle.fwu_model.specs.MoveMetas.{bits_in, accepted_bits, meta_after}
 use Rattle.agent_state.specs.Decides.{next_bank, IsMetaOf}
-use Rattle.agent_state.specs.Settles.{IsPlanOf, Changes, bits_kept, meta_planned}
+use Rattle.agent_state.specs.Settles.{Changes, bits_kept, meta_planned}
 use Rattle.agent_state.proofs.Collected.{bits-count}
 
 module _ (k : Kept) (m : Meta) (fits : IsMetaOf k m) where
@@ -66,6 +64,8 @@ module _ (k : Kept) (m : Meta) (fits : IsMetaOf k m) where
   planned-still plan.Tell = still
   planned-still (plan.Begin true) = freed-still
   planned-still (plan.Begin false) = still
+  planned-still (plan.BeginPartial true named) = freed-still
+  planned-still (plan.BeginPartial false named) = still
   planned-still (plan.Open number image o total) = still
   planned-still (plan.Write number image at n) = still
   planned-still (plan.Read number image at n total) = still
@@ -80,6 +80,7 @@ module _ (k : Kept) (m : Meta) (fits : IsMetaOf k m) where
   rows-stay : (bytes : List ℕ) (p : Plan) (new : Kept) → Changes k bytes p new → new.rows ≡ k.rows
   rows-stay bytes plan.Tell new c = ap (λ (x : Kept). x.rows) c
   rows-stay bytes (plan.Begin store) new c = c.rows
+  rows-stay bytes (plan.BeginPartial store named) new c = c.rows
   rows-stay bytes (plan.Open number image op.Read total) new c = ap (λ (x : Kept). x.rows) c
   rows-stay bytes (plan.Open number None op.Write total) new c = absurd c
   rows-stay bytes (plan.Open number (Some image) op.Write total) new c = c.rows

@@ -1,16 +1,15 @@
 -- What the machine answers, by what is tested.
-use Rattle.std.proofs.Common.{◌≡◌, ◌≢◌, ◌⊎◌, inl, inr, ℕ, zero, suc, ◌+◌, ◌-◌, ◌*◌, ◌%◌, ◌<◌, ◌≤◌, min, Bool, true, false, ◌&&◌, ◌||◌, not, ◌==◌, cond, leb, ltb, eqb, List, [], ◌∷◌, length, get_or, set, take, drop, map, replicate, Option, Some, None, refl, sym, ap, ap₂, ◌∙◌, subst, arith, IsTrue, length-drop}
+use Rattle.std.proofs.Common.{◌≡◌, ◌≢◌, ℕ, ◌+◌, ◌-◌, min, Bool, true, false, ◌&&◌, ◌||◌, not, ◌==◌, cond, leb, ltb, List, [], ◌∷◌, length, get_or, set, take, drop, map, Option, Some, None, refl, sym, ap, ap₂, ◌∙◌, subst, arith, length-drop}
 use Rattle.std.proofs.lemmas.List.{take_min, length-take}
 use Rattle.std.proofs.lemmas.Bool.{ne_eqb}
 use Rattle.std.proofs.lemmas.Bool.{ltb-false}
 use Rattle.std.proofs.lemmas.List.Sums.{prefix_len-le-length}
 use Rattle.std.specs.List.{position, position_or_len, list_any}
 use Rattle.base_core.specs.Bytes.{same_bytes}
-use Rattle.fwu_model.specs.declared.kinds.Status.{Status}
 use Rattle.fwu_model.specs.declared.kinds.Status.TheVariants as status
 use Rattle.fwu_model.specs.declared.kinds.Op.{Op}
 use Rattle.fwu_model.specs.declared.kinds.Op.TheVariants as op
-use Rattle.fwu_formats.specs.Layout.{ImageRow, dir_guid, find_image, slot_bytes}
+use Rattle.fwu_formats.specs.Layout.{dir_guid, find_image}
 use Rattle.fwu_model.specs.State.{State, Move, bank, is_invalid, update_bank}
 use Rattle.fwu_model.specs.State as move
 use Rattle.fwu_model.specs.Sound.{Setting}
@@ -19,10 +18,10 @@ use Rattle.fwu_model.specs.Session.{Session, Staged, On, staged_at, nothing_stag
 use Rattle.fwu_model.specs.Call.{Call}
 use Rattle.fwu_model.specs.Call as call
 use Rattle.fwu_model.specs.Reply as reply
-use Rattle.fwu_model.specs.Answer.{Answer, answer, answered, refused, answer_begin, answer_open_read, answer_open_write, answer_write, answer_read, answer_commit, answer_end, answer_cancel, answer_accept, answer_previous, cannot_begin, is_elsewhere, is_free, is_writer, lowest_free, is_full, opened, open_read, open_image, handle_at, exceeds_slot, content, with_appended, with_committed, may_end, staged_package, staged_bits, accept_moves, accept_image, may_leave, has_other, may_go_back}
+use Rattle.fwu_model.specs.Answer.{answer, answered, refused, answer_begin, answer_open_read, answer_open_write, answer_write, answer_read, answer_commit, answer_end, answer_cancel, answer_accept, answer_previous, cannot_begin, is_elsewhere, is_writer, lowest_free, is_full, opened, open_read, handle_at, exceeds_slot, content, with_committed, may_end, accept_image, may_leave, has_other, may_go_back, answer_begin_partial, names_unknown, are_named, copied_parts, image_held}
 use Rattle.agent_kept.specs.declared.kinds.Request.TheVariants as request
 use Rattle.agent_kept.specs.declared.kinds.Decision.{Decision}
-use Rattle.agent_kept.specs.declared.kinds.Decision.TheVariants.{Refused, Do, ByVerdict}
+use Rattle.agent_kept.specs.declared.kinds.Decision.TheVariants.{Refused, Do}
 use Rattle.agent_kept.specs.declared.kinds.Plan.TheVariants as plan
 use Rattle.agent_kept.specs.declared.parts.Handle.{Handle}
 use Rattle.agent_kept.specs.declared.parts.Handle.TheVariants.{Free, Reads, Writes}
@@ -65,6 +64,24 @@ module _ (E : Setting) (s : State) (boot : ℕ) (stg : Option (List Staged)) (hs
   begin-does n store e z st =
       if-false (cannot_begin s boot stg) _ _ e ∙ if-false (not (n == 0)) _ _ (ap (λ (j : ℕ). not (j == 0)) z)
       ∙ ap (λ (ms : List Move). answered reply.Success ms (On boot (nothing_staged E) no_handles)) (stored (is_invalid (bank s (update_bank s)).state) store _ st)
+
+  -- ---- a partial begin
+
+  pub partly-denied : (types : List (List ℕ)) → cannot_begin s boot stg ≡ true → answer E s here (call.BeginPartial types) ≡ refused status.Denied here
+  unfolding answer answer_begin_partial
+  partly-denied types e = if-true (cannot_begin s boot stg) _ _ e
+
+  pub partly-unknown : (types : List (List ℕ)) → cannot_begin s boot stg ≡ false → names_unknown E.layout.rows types ≡ true → answer E s here (call.BeginPartial types) ≡ refused status.Unknown here
+  unfolding answer answer_begin_partial
+  partly-unknown types e u = if-false (cannot_begin s boot stg) _ _ e ∙ if-true (names_unknown E.layout.rows types) _ _ u
+
+  pub partly-does : (types : List (List ℕ)) (store : Bool) (named : List Bool) → cannot_begin s boot stg ≡ false → names_unknown E.layout.rows types ≡ false → store ≡ not (is_invalid (bank s (update_bank s)).state)
+      → take (length E.layout.rows) named ≡ are_named E.layout.rows types → answer E s here (call.BeginPartial types) ≡ planned E s boot stg hs bytes (plan.BeginPartial store named)
+  unfolding answer answer_begin_partial planned
+  partly-does types store named e u st is =
+      if-false (cannot_begin s boot stg) _ _ e ∙ if-false (names_unknown E.layout.rows types) _ _ u
+      ∙ ap (λ (ms : List Move). answered reply.Success ms (On boot (Some (copied_parts (are_named E.layout.rows types) (image_held s s.active))) no_handles)) (stored (is_invalid (bank s (update_bank s)).state) store _ st)
+      ∙ ap (λ (bs : List Bool). answered reply.Success (cond store (move.Free (update_bank s) ∷ []) []) (On boot (Some (copied_parts bs (image_held s s.active))) no_handles)) (sym is)
 
   -- ---- open
 

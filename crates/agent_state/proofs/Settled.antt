@@ -1,39 +1,44 @@
 -- Settling a plan leaves the machine's session and state.
-use Rattle.std.proofs.Common.{◌≡◌, ◌≢◌, ◌⊎◌, inl, inr, ℕ, ◌+◌, ◌-◌, ◌<◌, ◌≤◌, Bool, true, false, cond, IsTrue, ◌==◌, List, [], ◌∷◌, ◌++◌, length, get_or, set, map, replicate, Option, Some, None, refl, sym, ap, ap₂, ◌∙◌, subst, arith, length-set, get_or-set_same, get_or-set_other, eq-eqb, ne_eqb, eqb-true}
+use Rattle.std.proofs.Common.{◌≡◌, ◌≢◌, inl, inr, ℕ, ◌+◌, ◌-◌, ◌<◌, ◌≤◌, Bool, true, false, cond, List, [], ◌∷◌, ◌++◌, length, get_or, set, map, replicate, Option, Some, None, refl, sym, ap, ap₂, ◌∙◌, subst, arith, length-set, get_or-set_same, get_or-set_other, eq-eqb, ne_eqb}
 use Rattle.std.proofs.lemmas.Bool.{cases_eq, cases_lt}
-use Rattle.std.proofs.lemmas.List.{length-map, map-set, get_or_past}
+use Rattle.std.proofs.lemmas.List.{map-set, get_or_past}
 use Rattle.fwu_model.specs.declared.kinds.Op.TheVariants as op
 use Rattle.fwu_formats.specs.Layout.{ImageRow}
 use Rattle.fwu_formats.specs.Metadata.{Meta, MetaRead}
-use Rattle.fwu_model.specs.State.{State, Bank, bank, update_bank, Move, Free, Switch, Accept, Back, after, after_move}
+use Rattle.fwu_model.specs.State.{State, bank, update_bank, Free, Switch, Accept, Back, after_move}
 use Rattle.fwu_model.specs.Sound.{Setting}
 use Rattle.fwu_model.specs.Session as machine
 use Rattle.fwu_model.specs.Session.{Staged}
-use Rattle.fwu_model.specs.Answer.{content, appended, with_appended, with_committed, staged_bytes, staged_bits, committed_bit}
+use Rattle.fwu_model.specs.Answer.{content, appended, with_appended, with_committed, staged_bytes, committed_bit}
 use Rattle.agent_kept.specs.declared.parts.Part.{Part}
 use Rattle.agent_kept.specs.declared.parts.Part.TheVariants as part
 use Rattle.agent_kept.specs.declared.parts.Handle.{Handle}
 use Rattle.agent_kept.specs.declared.parts.Handle.TheVariants as handle
 use Rattle.agent_kept.specs.declared.kinds.Plan.{Plan}
 use Rattle.agent_kept.specs.declared.kinds.Plan.TheVariants as plan
+use Rattle.agent_kept.specs.declared.kinds.Decision.TheVariants as decision
 use Rattle.agent_kept.specs.Kept.{Kept, IsKept, HasTotals, part_at, handle_kept, part_meant, parts_meant, staging_meant, handle_meant, handles_meant, session_meant, with_handle, is_part_open, IsNew, GrowsPart, CommitsTo, Restarts, OpensPart, AppendsPart, CommitsPart}
 use Rattle.fwu_model.specs.MoveMetas.{meta_in, meta_after}
-use Rattle.agent_kept.specs.Plans.{Speaks, planned, planned_in, with_open, committed_staging, bits_staged, package_staged}
+use Rattle.agent_kept.specs.Plans.{SpeaksWhole, planned, with_open, bits_staged, package_staged}
 use Rattle.agent_kept.proofs.Meant.{part-meant, parts-changed, staging-on, handle-meant}
 use Rattle.agent_kept.proofs.After.{kept-opened, kept-committed, kept-appended, kept-restarted}
 use Rattle.std.specs.List.{range_with_len}
 use Rattle.agent_kept.proofs.Installable.{map-twice}
 use Rattle.agent_kept.proofs.Sounds.{frees, restarts-staging, restarts-idle}
-use Rattle.agent_state.specs.Decides.{next_bank}
-use Rattle.agent_state.specs.Settles.{IsPlanOf, HasBytes, HasTotal, Changes, bit_kept, bits_kept, meta_planned, staged_after, with_bytes, IsNumber, Settles, SettlesIn}
+use Rattle.agent_state.specs.Settles.{IsPlanOf, HasTotal, Changes, bit_kept, bits_kept, meta_planned, with_bytes, SettlesBy, SettlesIn}
 use Rattle.agent_state.proofs.Machine.{next-is}
 use Rattle.agent_state.proofs.Moved.{meta-freed, meta-switched, meta-accepted, content-length, held-accepted}
+
+-- all of what the plan says is settled: a partial begin is settled as a begin
+abbrev pub IsWhole : Plan → Type 0
+IsWhole (plan.BeginPartial store named) = ⊥
+IsWhole other = Unit {0}
 
 -- ---- the same state
 
 -- what is spoken of after a change of what is kept, where the state and the metadata stay
-spoken-still : (E : Setting) (s : State) (passes : List ℕ → Bool) (m : MetaRead) (counter boot : ℕ) (k new : Kept) (staged after_it : ℕ → List ℕ) → Speaks E s passes m counter k boot staged
-    → new.rows ≡ k.rows → IsKept new after_it → HasTotals E s boot new → Speaks E s passes m counter new boot after_it
+spoken-still : (E : Setting) (s : State) (passes : List ℕ → Bool) (m : MetaRead) (counter boot : ℕ) (k new : Kept) (staged after_it : ℕ → List ℕ) → SpeaksWhole E s passes m counter k boot staged
+    → new.rows ≡ k.rows → IsKept new after_it → HasTotals E s boot new → SpeaksWhole E s passes m counter new boot after_it
 spoken-still E s passes m counter boot k new staged after_it sp rows is totals = record {
   rows = rows ∙ sp.rows;
   banks = sp.banks;
@@ -144,12 +149,12 @@ bits-meant k staged on =
     ∙ sym (map-twice committed_bit (λ (i : ℕ). part_meant (part_at k i) (staged i)) (range_with_len 0 (length k.rows)))
     ∙ sym (ap bits_staged (staging-on k staged on))
 
-module _ (E : Setting) (s : State) (passes : List ℕ → Bool) (m : MetaRead) (counter boot : ℕ) (k : Kept) (staged : ℕ → List ℕ) (bytes : List ℕ) (sp : Speaks E s passes m counter k boot staged) (few : length k.rows ≤ 16) where
+module _ (E : Setting) (s : State) (passes : List ℕ → Bool) (m : MetaRead) (counter boot : ℕ) (k : Kept) (staged : ℕ → List ℕ) (bytes : List ℕ) (sp : SpeaksWhole E s passes m counter k boot staged) (few : length k.rows ≤ 16) where
   abbrev SI : Plan → MetaRead → Kept → Type 0
   SI p new_meta new = SettlesIn E s passes counter boot staged bytes p k m new_meta new
 
   -- what is spoken of after a restart
-  spoken-restarted : (staging : Bool) (t : State) (new_meta : MetaRead) (new : Kept) → Restarts staging k new → new_meta.meta ≡ meta_in t → length t.banks ≡ length s.banks → t.counter ≡ s.counter → Speaks E t passes new_meta counter new boot staged
+  spoken-restarted : (staging : Bool) (t : State) (new_meta : MetaRead) (new : Kept) → Restarts staging k new → new_meta.meta ≡ meta_in t → length t.banks ≡ length s.banks → t.counter ≡ s.counter → SpeaksWhole E t passes new_meta counter new boot staged
   spoken-restarted staging t new_meta new restarts meta banks same = record {
     rows = restarts.rows ∙ sp.rows;
     banks = banks ∙ sp.banks;
@@ -181,7 +186,7 @@ module _ (E : Setting) (s : State) (passes : List ℕ → Bool) (m : MetaRead) (
 
   -- another handle, and the rest as it was
   module _ (number : ℕ) (h : Handle) (reads : ReadsWell E s boot h) where
-    spoken-handle : Speaks E s passes m counter (with_handle k number h) boot staged
+    spoken-handle : SpeaksWhole E s passes m counter (with_handle k number h) boot staged
     spoken-handle = spoken-still E s passes m counter boot k (with_handle k number h) staged staged sp refl (kept-handle k number h staged sp.kept) (totals-set E s boot k (with_handle k number h) (number - 1) h refl sp.totals reads)
 
     next-handle : session_meant (with_handle k number h) boot staged ≡ machine.On boot (staging_meant k staged) (set (handles_meant k) (number - 1) (handle_meant h))
@@ -286,7 +291,7 @@ module _ (E : Setting) (s : State) (passes : List ℕ → Bool) (m : MetaRead) (
   }
 
   -- the session stays
-  spoken-moved : (t : State) (new_meta : MetaRead) → new_meta.meta ≡ meta_in t → length t.banks ≡ length s.banks → t.counter ≡ s.counter → (bank t boot).held ≡ (bank s boot).held → Speaks E t passes new_meta counter k boot staged
+  spoken-moved : (t : State) (new_meta : MetaRead) → new_meta.meta ≡ meta_in t → length t.banks ≡ length s.banks → t.counter ≡ s.counter → (bank t boot).held ≡ (bank s boot).held → SpeaksWhole E t passes new_meta counter k boot staged
   spoken-moved t new_meta meta banks same held = record {
     rows = sp.rows;
     banks = banks ∙ sp.banks;
@@ -318,25 +323,34 @@ module _ (E : Setting) (s : State) (passes : List ℕ → Bool) (m : MetaRead) (
   unfolding planned
   tells = record { spoken = sp; next = refl }
 
-  pub settled-in : (p : Plan) (new_meta : MetaRead) (new : Kept) → IsPlanOf k p → HasTotal E s boot p → Changes k bytes p new → new_meta ≡ record m { meta = meta_planned k m.meta p } → SI p new_meta new
-  settled-in plan.Tell new_meta new fits total changes is = subst (λ (r : MetaRead). SI plan.Tell r new) (sym is) (subst (SI plan.Tell m) (sym changes) tells)
-  settled-in (plan.Begin store) new_meta new fits total changes is = begins store new_meta new changes is
-  settled-in (plan.Open number None op.Read size) new_meta new fits total changes is =
+  pub settled-in : (p : Plan) (new_meta : MetaRead) (new : Kept) → IsWhole p → IsPlanOf k p → HasTotal E s boot p → Changes k bytes p new → new_meta ≡ record m { meta = meta_planned k m.meta p } → SI p new_meta new
+  settled-in plan.Tell new_meta new whole fits total changes is = subst (λ (r : MetaRead). SI plan.Tell r new) (sym is) (subst (SI plan.Tell m) (sym changes) tells)
+  settled-in (plan.Begin store) new_meta new whole fits total changes is = begins store new_meta new changes is
+  settled-in (plan.BeginPartial store named) new_meta new whole fits total changes is = absurd whole
+  settled-in (plan.Open number None op.Read size) new_meta new whole fits total changes is =
       subst (λ (r : MetaRead). SI (plan.Open number None op.Read size) r new) (sym is) (subst (SI (plan.Open number None op.Read size) m) (sym changes) (reads-open number None size total))
-  settled-in (plan.Open number (Some image) op.Read size) new_meta new fits total changes is =
+  settled-in (plan.Open number (Some image) op.Read size) new_meta new whole fits total changes is =
       subst (λ (r : MetaRead). SI (plan.Open number (Some image) op.Read size) r new) (sym is) (subst (SI (plan.Open number (Some image) op.Read size) m) (sym changes) (reads-open number (Some image) size total))
-  settled-in (plan.Open number None op.Write size) new_meta new fits total changes is = absurd fits
-  settled-in (plan.Open number (Some image) op.Write size) new_meta new fits total changes is =
+  settled-in (plan.Open number None op.Write size) new_meta new whole fits total changes is = absurd fits
+  settled-in (plan.Open number (Some image) op.Write size) new_meta new whole fits total changes is =
       subst (λ (r : MetaRead). SI (plan.Open number (Some image) op.Write size) r new) (sym is) (opens number image size new fits.1 fits.2 changes)
-  settled-in (plan.Write number image at n) new_meta new fits total changes is =
+  settled-in (plan.Write number image at n) new_meta new whole fits total changes is =
       subst (λ (r : MetaRead). SI (plan.Write number image at n) r new) (sym is) (writes number image at n new fits.0 fits.1 changes)
-  settled-in (plan.Read number image at n size) new_meta new fits total changes is =
+  settled-in (plan.Read number image at n size) new_meta new whole fits total changes is =
       subst (λ (r : MetaRead). SI (plan.Read number image at n size) r new) (sym is) (subst (SI (plan.Read number image at n size) m) (sym changes) (reads-on number image at n size fits.1 fits.2))
-  settled-in (plan.Commit number None bit) new_meta new fits total changes is =
+  settled-in (plan.Commit number None bit) new_meta new whole fits total changes is =
       subst (λ (r : MetaRead). SI (plan.Commit number None bit) r new) (sym is) (subst (SI (plan.Commit number None bit) m) (sym changes) (closes number bit))
-  settled-in (plan.Commit number (Some image) bit) new_meta new fits total changes is =
+  settled-in (plan.Commit number (Some image) bit) new_meta new whole fits total changes is =
       subst (λ (r : MetaRead). SI (plan.Commit number (Some image) bit) r new) (sym is) (commits number image bit new fits.1 fits.2 fits.3 changes)
-  settled-in plan.End new_meta new fits total changes is = ends-staging new_meta new fits changes is
-  settled-in plan.Cancel new_meta new fits total changes is = subst (λ (r : MetaRead). SI plan.Cancel r new) (sym is) (cancels new changes)
-  settled-in (plan.Accept image store) new_meta new fits total changes is = subst (SI (plan.Accept image store) new_meta) (sym changes) (accepts image store new_meta is)
-  settled-in plan.Back new_meta new fits total changes is = subst (SI plan.Back new_meta) (sym changes) (goes-back new_meta is)
+  settled-in plan.End new_meta new whole fits total changes is = ends-staging new_meta new fits changes is
+  settled-in plan.Cancel new_meta new whole fits total changes is = subst (λ (r : MetaRead). SI plan.Cancel r new) (sym is) (cancels new changes)
+  settled-in (plan.Accept image store) new_meta new whole fits total changes is = subst (SI (plan.Accept image store) new_meta) (sym changes) (accepts image store new_meta is)
+  settled-in plan.Back new_meta new whole fits total changes is = subst (SI plan.Back new_meta) (sym changes) (goes-back new_meta is)
+
+-- what settling a plan leaves
+pub settled-by : (k : Kept) (m : MetaRead) (bytes : List ℕ) → length k.rows ≤ 16 → (p : Plan) (new_meta : MetaRead) (new : Kept) → IsPlanOf k p → Changes k bytes p new
+    → new_meta ≡ record m { meta = meta_planned k m.meta p } → SettlesBy k m bytes (decision.Do p) new_meta new
+settled-by k m bytes few (plan.BeginPartial store named) new_meta new fits changes is = λ E s passes counter boot staged sp total.
+    settled-in E s passes m counter boot k staged bytes sp few (plan.Begin store) new_meta new tt tt tt changes is
+settled-by k m bytes few other new_meta new fits changes is = λ E s passes counter boot staged sp total.
+    settled-in E s passes m counter boot k staged bytes sp few other new_meta new tt fits total changes is

@@ -1,8 +1,9 @@
 -- What a decision has of the request: a plan of the request's own kind, with the numbers that the request and what is kept give.
-use Rattle.std.specs.Prelude.{◌≡◌, ℕ, ◌+◌, ◌-◌, not, min, Bool, ◌==◌, Some}
+use Rattle.std.specs.Prelude.{◌≡◌, ℕ, ◌+◌, ◌-◌, not, min, ◌==◌, Some, length, take}
 use Rattle.fwu_formats.specs.Layout.{find_image}
 use Rattle.fwu_formats.specs.Metadata.{Meta, state_at, bit_at}
 use Rattle.fwu_model.specs.State.{is_invalid}
+use Rattle.fwu_model.specs.Answer.{are_named}
 use Rattle.agent_kept.specs.declared.kinds.Request.{Request}
 use Rattle.agent_kept.specs.declared.kinds.Request.TheVariants as request
 use Rattle.agent_kept.specs.declared.kinds.Decision.{Decision}
@@ -18,6 +19,9 @@ abbrev pub IsPlanFor : Kept → Meta → Request → Plan → Type 0
 IsPlanFor k m request.Discover plan.Tell = Unit {0}
 -- the update bank is made invalid where it isn't
 IsPlanFor k m (request.Begin flags count) (plan.Begin store) = store ≡ not (is_invalid (state_at m (next_bank m)))
+-- and each image that the list names
+IsPlanFor k m (request.BeginPartial flags list) (plan.BeginPartial store named) =
+    (store ≡ not (is_invalid (state_at m (next_bank m)))) × (take (length k.rows) named ≡ are_named k.rows list.now)
 -- with the total that came with the request
 IsPlanFor k m (request.Open guid o size) (plan.Open number image p total) =
     (number ≡ lowest_free_kept k + 1) × (image ≡ find_image k.rows guid) × (p ≡ o) × (total ≡ size)

@@ -1,10 +1,10 @@
 -- What each part of a decision promises.
-use Rattle.std.specs.Prelude.{IsTrue, ◌≡◌, ℕ, ◌+◌, ◌%◌, Bool, true, false, ◌&&◌, ◌||◌, not, ◌==◌, if◌then◌else◌, List, length, Option, nat_le}
+use Rattle.std.specs.Prelude.{IsTrue, ℕ, ◌+◌, ◌%◌, Bool, ◌&&◌, ◌||◌, not, ◌==◌, if◌then◌else◌, List, length, Option, nat_le}
 use Rattle.std.specs.List.{position_or_len}
 use Rattle.fwu_model.specs.declared.kinds.Status.TheVariants as status
 use Rattle.fwu_model.specs.declared.kinds.Op.{Op}
 use Rattle.fwu_formats.specs.Metadata.{Meta, MetaRead, state_at, fits_meta}
-use Rattle.fwu_model.specs.State.{State, is_invalid, is_valid, is_accepted}
+use Rattle.fwu_model.specs.State.{State, is_valid, is_accepted}
 use Rattle.fwu_model.specs.Sound.{Setting}
 use Rattle.agent_kept.specs.declared.kinds.Request.{Request}
 use Rattle.agent_kept.specs.declared.kinds.Decision.{Decision}
@@ -22,7 +22,7 @@ IsMetaOf k m = IsTrue (fits_meta (record { banks = length m.states; rows = k.row
 abbrev pub Decides : (List ℕ → Bool) → MetaRead → ℕ → Kept → ℕ → Request → Decision → Type 0
 Decides passes m counter k boot request d =
     (E : Setting) (s : State) (staged : ℕ → List ℕ) (bytes : List ℕ) → Speaks E s passes m counter k boot staged
-    → FitsRequest E s boot request bytes
+    → FitsRequest E s boot k request bytes
     → DecidesAs E s (session_meant k boot staged) (call_of request bytes) bytes d
 
 -- whatever the verifier and the counter are

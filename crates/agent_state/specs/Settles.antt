@@ -1,6 +1,5 @@
 -- What settling a decision leaves of the metadata and of what is kept of a session.
-use Rattle.std.specs.Prelude.{◌≡◌, ℕ, ◌+◌, ◌-◌, ◌<◌, ◌≤◌, Bool, true, false, IsTrue, if◌then◌else◌, ◌==◌, List, [], ◌++◌, length, map, Option, Some, None}
-use Rattle.fwu_model.specs.declared.kinds.Op.{Op}
+use Rattle.std.specs.Prelude.{◌≡◌, ℕ, ◌+◌, ◌-◌, ◌<◌, ◌≤◌, Bool, true, false, if◌then◌else◌, ◌==◌, List, [], ◌++◌, length, map, Some, None}
 use Rattle.fwu_model.specs.declared.kinds.Op.TheVariants as op
 use Rattle.fwu_formats.specs.Metadata.{Meta, MetaRead}
 use Rattle.fwu_model.specs.State.{State, Free, Switch, Accept, Back, after}
@@ -16,7 +15,7 @@ use Rattle.agent_kept.specs.declared.kinds.Decision.TheVariants as decision
 use Rattle.agent_kept.specs.Kept.{Kept, part_at, handle_kept, size_of, slot_of, is_part_open, session_meant, with_handle, Restarts, OpensPart, AppendsPart, CommitsPart}
 use Rattle.agent_kept.specs.Judged.{parts_of}
 use Rattle.fwu_model.specs.MoveMetas.{meta_after}
-use Rattle.agent_kept.specs.Plans.{Speaks, planned_in}
+use Rattle.agent_kept.specs.Plans.{SpeaksWhole, planned_in}
 use Rattle.agent_state.specs.Decides.{next_bank}
 
 -- ---- what a decision is settled on
@@ -29,6 +28,7 @@ IsNumber number = (1 ≤ number) × (number ≤ 32)
 abbrev pub IsPlanOf : Kept → Plan → Type 0
 IsPlanOf k plan.Tell = Unit {0}
 IsPlanOf k (plan.Begin store) = Unit {0}
+IsPlanOf k (plan.BeginPartial store named) = Unit {0}
 IsPlanOf k (plan.Open number image op.Read total) = IsNumber number
 IsPlanOf k (plan.Open number None op.Write total) = ⊥
 IsPlanOf k (plan.Open number (Some image) op.Write total) =
@@ -62,6 +62,8 @@ HasBytes other bytes = Unit {0}
 abbrev pub Changes : Kept → List ℕ → Plan → Kept → Type 0
 Changes k bytes plan.Tell new = new ≡ k
 Changes k bytes (plan.Begin store) new = Restarts true k new
+-- as of a begin: the copies are plans of their own
+Changes k bytes (plan.BeginPartial store named) new = Restarts true k new
 Changes k bytes (plan.Open number image op.Read total) new = new ≡ with_handle k number (handle.Reads image 0 total)
 Changes k bytes (plan.Open number None op.Write total) new = ⊥
 Changes k bytes (plan.Open number (Some image) op.Write total) new = OpensPart k image (number - 1) new
@@ -95,6 +97,7 @@ bits_kept k = map bit_kept (parts_of k)
 abbrev pub meta_planned : Kept → Meta → Plan → Meta
 meta_planned k m plan.Tell = m
 meta_planned k m (plan.Begin store) = if store then meta_after m (Free (next_bank m)) else m
+meta_planned k m (plan.BeginPartial store named) = if store then meta_after m (Free (next_bank m)) else m
 meta_planned k m (plan.Open number image o total) = m
 meta_planned k m (plan.Write number image at n) = m
 meta_planned k m (plan.Read number image at n total) = m
@@ -131,7 +134,7 @@ HasTotal E s boot other = Unit {0}
 -- its state is that after the moves, and the session that is meant is the next one.
 pub record SettlesIn (E : Setting) (s : State) (passes : List ℕ → Bool) (counter boot : ℕ) (staged : ℕ → List ℕ) (bytes : List ℕ)
     (p : Plan) (k : Kept) (m new_meta : MetaRead) (new : Kept) : Type 0 where
-  pub spoken : Speaks E (after s (planned_in E s (session_meant k boot staged) bytes p).moves) passes new_meta counter new boot
+  pub spoken : SpeaksWhole E (after s (planned_in E s (session_meant k boot staged) bytes p).moves) passes new_meta counter new boot
       (staged_after p bytes staged)
   pub next : session_meant new boot (staged_after p bytes staged) ≡ (planned_in E s (session_meant k boot staged) bytes p).next
 
@@ -139,10 +142,12 @@ pub record SettlesIn (E : Setting) (s : State) (passes : List ℕ → Bool) (cou
 abbrev pub Settles : Kept → MetaRead → List ℕ → Plan → MetaRead → Kept → Type 0
 Settles k m bytes p new_meta new =
     (E : Setting) (s : State) (passes : List ℕ → Bool) (counter boot : ℕ) (staged : ℕ → List ℕ)
-    → Speaks E s passes m counter k boot staged → HasTotal E s boot p
+    → SpeaksWhole E s passes m counter k boot staged → HasTotal E s boot p
     → SettlesIn E s passes counter boot staged bytes p k m new_meta new
 
 abbrev pub SettlesBy : Kept → MetaRead → List ℕ → Decision → MetaRead → Kept → Type 0
 SettlesBy k m bytes (decision.Refused st) new_meta new = Unit {0}
+-- A partial begin is settled as a begin. Each image that isn't named is then opened, written and committed, by plans of their own.
+SettlesBy k m bytes (decision.Do (plan.BeginPartial store named)) new_meta new = Settles k m bytes (plan.Begin store) new_meta new
 SettlesBy k m bytes (decision.Do p) new_meta new = Settles k m bytes p new_meta new
 SettlesBy k m bytes (decision.ByVerdict b) new_meta new = Unit {0}

@@ -1,8 +1,9 @@
 //! What is decided of each request.
-ghost use Rattle.std.specs.Prelude.{◌≡◌, ◌+◌, ◌-◌, ◌*◌, ◌%◌, ◌<◌, ◌≤◌, ◌&&◌, ◌||◌, not, ◌==◌, ℕ, Bool, List, Some, None, length, slice_index_or, IsTrue};
+ghost use Rattle.std.specs.Prelude.{◌≡◌, ◌+◌, ◌-◌, ◌*◌, ◌%◌, ◌<◌, ◌≤◌, ◌&&◌, ◌||◌, not, ◌==◌, ℕ, Bool, List, Some, None, length, take, slice_index_or, IsTrue};
 ghost use Rattle.fwu_formats.specs.Metadata.{Meta as MetaValue, MetaRead, fits_meta};
 ghost use Rattle.fwu_model.specs.State.{is_invalid, is_valid, is_accepted};
 ghost use Rattle.fwu_formats.specs.Layout.{find_image, dir_guid};
+ghost use Rattle.fwu_model.specs.Answer.{are_named, names_unknown};
 ghost use Rattle.base_core.specs.Bytes.{same_bytes};
 ghost use Rattle.std.specs.List.{list_any, position, position_or_len};
 ghost use Rattle.agent_kept.specs.Handles.{is_free_kept, is_writer_kept};
@@ -14,7 +15,7 @@ ghost use Rattle.agent_state.specs.Asked.{IsFor};
 
 use crate::judging::may_install;
 use agent_kept::{Decision, HANDLES, Handle, Part, Plan, Request, Session};
-use base_core::Guid;
+use base_core::{Guid, ImageRow};
 use fwu_formats::BankState;
 use fwu_model::{Op, Status};
 use meta_layout::{Meta, directory_guid};
@@ -95,6 +96,56 @@ fn begin(
     }
     let store = !is_invalid(meta.state(update_bank(meta)));
     Decision::Do(Plan::Begin { store })
+}
+
+/// Whether one of the types is no image's.
+fn names_unknown(session: &Session, list: &[Guid]) -> bool
+    ensures { result ≡ names_unknown (kept session.now).rows list.now }
+{
+    list.iter().any(|guid| session.find(guid).is_none())
+}
+
+/// Whether a list names the type of an image.
+fn is_named(list: &[Guid], row: &ImageRow) -> bool
+    ensures { result ≡ list_any (same_bytes row.now.guid) list.now }
+{
+    list.iter().any(|guid| row.guid.is(guid))
+}
+
+/// Of each image, whether a list names it.
+fn named(session: &Session, list: &[Guid]) -> [bool; 16]
+    ensures { take (length (kept session.now).rows) result ≡ are_named (kept session.now).rows list.now }
+{
+    let mut named = [false; 16];
+    for image in 0..session.rows().len() {
+        named[image] = is_named(list, &session.rows()[image]);
+    }
+    named
+}
+
+fn begin_partial(
+    meta: &Meta,
+    session: &Session,
+    boot_index: u32,
+    vendor_flags: u32,
+    list: &[Guid],
+) -> Decision
+    requires active { meta.now.meta.active < length meta.now.meta.states }
+    ensures decides { DecidesByMeta meta.now (kept session.now) boot_index
+        (Request.BeginPartial vendor_flags list.entry) result }
+    ensures plan { IsDecisionOf (kept session.now) result }
+    ensures asked { IsFor (kept session.now) meta.now.meta
+        (Request.BeginPartial vendor_flags list.entry) result }
+{
+    if cannot_begin(meta, session, boot_index) {
+        return Decision::Refused(Status::Denied);
+    }
+    if names_unknown(session, list) {
+        return Decision::Refused(Status::Unknown);
+    }
+    let store = !is_invalid(meta.state(update_bank(meta)));
+    let named = named(session, list);
+    Decision::Do(Plan::BeginPartial { store, named })
 }
 
 /// The place of the lowest free handle.
@@ -380,6 +431,9 @@ pub fn decide<V: Verifier>(
             vendor_flags,
             partial_count,
         } => begin(meta, session, boot_index, *vendor_flags, *partial_count),
+        Request::BeginPartial { vendor_flags, list } => {
+            begin_partial(meta, session, boot_index, *vendor_flags, list)
+        }
         Request::Open { guid, op, total } => open(session, guid, *op, *total),
         Request::Write { handle, length } => write(session, *handle, *length),
         Request::Read { handle, room } => read(session, *handle, *room),

@@ -46,6 +46,19 @@ fn free(meta: &mut Meta, bank: u32)
     meta.set_bits(bank, cleared);
 }
 
+/// The update bank is invalid, its bits clear, where it is to be stored so.
+fn free_if(meta: &mut Meta, store: bool)
+    requires active { meta.old.meta.active < length meta.old.meta.states }
+    requires bits { length meta.old.meta.states ≤ length meta.old.meta.bits }
+    ensures set { meta.new ≡ record meta.old {
+      meta = if store then meta_after meta.old.meta (Free (next_bank meta.old.meta)) else meta.old.meta;
+    } }
+{
+    if store {
+        free(meta, update_bank(meta));
+    }
+}
+
 /// The state of a bank that is switched to with these bits.
 fn state_by(bits: &Bits) -> BankState
     ensures { result ≡ state_by bits.now }
@@ -114,11 +127,7 @@ fn change_meta(meta: &mut Meta, session: &Session, plan: &Plan)
     } }
 {
     match *plan {
-        Plan::Begin { store } => {
-            if store {
-                free(meta, update_bank(meta));
-            }
-        }
+        Plan::Begin { store } | Plan::BeginPartial { store, .. } => free_if(meta, store),
         Plan::End => switch(meta, update_bank(meta), committed_bits(session)),
         Plan::Accept { image, store } => {
             if store {
@@ -169,7 +178,7 @@ fn change_session(session: &mut Session, plan: &Plan, bytes: &[u8])
 {
     match *plan {
         Plan::Tell | Plan::Accept { .. } | Plan::Back => {}
-        Plan::Begin { .. } => session.restart(true),
+        Plan::Begin { .. } | Plan::BeginPartial { .. } => session.restart(true),
         Plan::Open {
             handle,
             image,
@@ -195,7 +204,8 @@ fn change_session(session: &mut Session, plan: &Plan, bytes: &[u8])
 
 /// Makes of the metadata and of what is kept of the session what a decision says that `decide` or
 /// `ruled` gave for them. The bytes are those of a write, else none. A refusal, and a decision that
-/// waits for a verdict, change nothing.
+/// waits for a verdict, change nothing. Of a plan to begin with a part of the images it is what a begin
+/// leaves: each image that isn't named is then opened, written and committed by plans of their own.
 pub fn settle(meta: &mut Meta, session: &mut Session, decision: &Decision, bytes: &[u8])
     requires fits { IsMetaOf (kept session.old) meta.old.meta }
     requires decided { IsDecisionOf (kept session.old) decision.now }

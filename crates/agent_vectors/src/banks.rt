@@ -41,7 +41,7 @@ fn updates_go_round_the_banks(rt: HostRuntime) {
 }
 
 // The SHA-256 of the manifests of version 1 and of version 2, by Python's hashlib, in lists:
-// demo/check_vectors.py makes them again.
+// checks/model/check_vectors.py makes them again.
 const LISTS: [(&str, &str); 2] = [
     (
         "6d807d1bea783d90ce1f9ee1bf8667e94ddc31fa6f5474f8a891bcc89d56fb9a\n",

@@ -91,6 +91,20 @@ const SEND_NOW: &str = "boot\nCUT\nsend p2.fip now\nboot\nshow\nsend p5.fip now\
 const SEND_TRIAL: &str =
     "boot\nCUT\nsend p2.fip trial\nboot\nshow\naccept manifest\naccept tb-fw\naccept nt-fw\nsend p5.fip now\nboot\n";
 
+// What follows a sending that is lost, and then a whole one.
+const AFTER_NOW: &[(u64, u32, &str)] = &[
+    (
+        1,
+        0,
+        "BOOT1\nshow active=0 previous=0 banks=accepted,invalid bits=111,000 trials=0 counter=1\nsend SUCCESS images=3 skipped=0\nboot bank=1 version=5 trials=0 counter=5\n",
+    ),
+    (
+        8,
+        4096,
+        "boot bank=1 version=2 trials=0 counter=2\nshow active=1 previous=0 banks=accepted,accepted bits=111,111 trials=0 counter=2\nsend SUCCESS images=3 skipped=0\nboot bank=0 version=5 trials=0 counter=5\n",
+    ),
+];
+
 // The same operations in one call. The next sending is done.
 const SENDING: [Sweep; 2] = [
     Sweep {
@@ -98,18 +112,7 @@ const SENDING: [Sweep; 2] = [
         back: false,
         operations: 10,
         front: "BOOT1\ncut ok\nsend lost\n",
-        ends: &[
-            (
-                1,
-                0,
-                "BOOT1\nshow active=0 previous=0 banks=accepted,invalid bits=111,000 trials=0 counter=1\nsend SUCCESS images=3 skipped=0\nboot bank=1 version=5 trials=0 counter=5\n",
-            ),
-            (
-                8,
-                4096,
-                "boot bank=1 version=2 trials=0 counter=2\nshow active=1 previous=0 banks=accepted,accepted bits=111,111 trials=0 counter=2\nsend SUCCESS images=3 skipped=0\nboot bank=0 version=5 trials=0 counter=5\n",
-            ),
-        ],
+        ends: AFTER_NOW,
     },
     Sweep {
         script: SEND_TRIAL,
@@ -161,8 +164,13 @@ const AGAIN: Sweep = Sweep {
     ends: &SENDING_AGAIN,
 };
 
-const SENDINGS_AGAIN: [Sweep; 2] = [
+const SENDINGS_AGAIN: [Sweep; 3] = [
     AGAIN,
+    // The same images, of which the manifest alone is sent.
+    Sweep {
+        script: "boot\nsend m5.fip now partial\nboot\nshow\nsend p5.fip now\nboot\n",
+        ..AGAIN
+    },
     Sweep {
         back: true,
         ..AGAIN
@@ -231,6 +239,49 @@ fn a_sending_survives_each_loss(rt: HostRuntime) {
     let alloc = rt.alloc();
     let bench = Bench::new(&rt, alloc, TWO_BANKS);
     for sweep in &SENDING {
+        each_loss(&rt, alloc, &bench, sweep);
+    }
+}
+
+const PARTIAL_NOW: &str = "boot\nCUT\nsend m2.fip now partial\nboot\nshow\nsend p5.fip now\nboot\n";
+
+const PARTIAL_TRIAL: &str =
+    "boot\nCUT\nsend m2.fip trial partial\nboot\nshow\naccept manifest\nsend p5.fip now\nboot\n";
+
+// A manifest alone is sent: first both other images are copied, each by an erase and a program. On trial they are accepted already.
+const PARTIAL: [Sweep; 2] = [
+    Sweep {
+        script: PARTIAL_NOW,
+        back: false,
+        operations: 10,
+        front: "BOOT1\ncut ok\nsend lost\n",
+        ends: AFTER_NOW,
+    },
+    Sweep {
+        script: PARTIAL_TRIAL,
+        back: false,
+        operations: 10,
+        front: "BOOT1\ncut ok\nsend lost\n",
+        ends: &[
+            (
+                1,
+                0,
+                "BOOT1\nshow active=0 previous=0 banks=accepted,invalid bits=111,000 trials=0 counter=1\naccept SUCCESS\nsend SUCCESS images=3 skipped=0\nboot bank=1 version=5 trials=0 counter=5\n",
+            ),
+            (
+                8,
+                4096,
+                "boot bank=1 version=2 trials=1 counter=1\nshow active=1 previous=0 banks=accepted,valid bits=111,011 trials=1 counter=1\naccept SUCCESS\nsend SUCCESS images=3 skipped=0\nboot bank=0 version=5 trials=0 counter=5\n",
+            ),
+        ],
+    },
+];
+
+#[test]
+fn a_partial_sending_survives_each_loss(rt: HostRuntime) {
+    let alloc = rt.alloc();
+    let bench = Bench::new(&rt, alloc, TWO_BANKS);
+    for sweep in &PARTIAL {
         each_loss(&rt, alloc, &bench, sweep);
     }
 }

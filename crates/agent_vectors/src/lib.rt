@@ -14,6 +14,8 @@ mod operations;
 #[cfg(test)]
 mod packages;
 #[cfg(test)]
+mod partial;
+#[cfg(test)]
 mod pieces;
 #[cfg(test)]
 mod real_files;

@@ -4,7 +4,7 @@ use std::alloc::Global;
 use std::process::Abort;
 
 // What comes before a call, the call, its erases and programs, what it answers, and what it does where it is lost.
-const CALLS: [(&str, &str, u32, &str, &str); 36] = [
+const CALLS: [(&str, &str, u32, &str, &str); 40] = [
     // A record of the counter, a mark, and nothing where a fallback starts.
     ("", "boot", 2, "BOOT1", "boot lost"),
     ("boot\n", "boot", 0, "BOOT1", ""),
@@ -38,6 +38,23 @@ const CALLS: [(&str, &str, u32, &str, &str); 36] = [
         "begin SUCCESS",
         "",
     ),
+    // A begin of some images writes the others: an erase and a program each, of a longer one two of each.
+    ("boot\n", "begin manifest", 4, "begin SUCCESS", "begin lost"),
+    (
+        "boot\n",
+        "begin manifest tb-fw nt-fw",
+        0,
+        "begin SUCCESS",
+        "",
+    ),
+    (
+        "boot\nsend long.fip now\nboot\n",
+        "begin manifest",
+        11,
+        "begin SUCCESS",
+        "begin lost",
+    ),
+    ("boot\n", "begin dir", 0, "begin UNKNOWN", ""),
     (
         "boot\nbegin\n",
         "open nt-fw w",

@@ -7,7 +7,7 @@ use std::marker::Model;
 use uuid::Uuid;
 
 /// A UUID: sixteen bytes in the order of its text, which a contract sees as their list.
-#[derive(Clone, Copy, Debug, PartialEq, Eq, PartialOrd, Ord)]
+#[derive(Clone, Copy, Debug, PartialEq, Eq)]
 pub struct Guid {
     bytes: [u8; 16],
 }

@@ -1,12 +1,13 @@
 //! Sealed blocks, in one of three forms.
-ghost use Rattle.std.specs.Prelude.{◌≡◌, ◌+◌, ◌≤◌, length, codes, take, ◌||◌, false};
-ghost use Rattle.std.specs.List.{list_any, range_with_len};
+ghost use Rattle.std.specs.Prelude.{◌≡◌, ◌≤◌, length, codes, take};
+ghost use Rattle.std.specs.List.{list_any};
 ghost use Rattle.base_core.specs.Bytes.{same_bytes};
-ghost use Rattle.base_core.specs.Seal.{has_checksum, has_own_seal, has_v1_seal, has_table_seal, is_sealed, v1_size};
+ghost use Rattle.base_core.specs.Limits.{bank_counts, most_banks};
+ghost use Rattle.base_core.specs.Seal.{has_checksum, has_own_seal, has_v1_seal, has_table_seal, is_sealed, has_v1_checksum};
 
 use crate::checksum::crc32;
 use crate::numbers::{le32_at, put_le32};
-use crate::sizes::BLOCK_BYTES;
+use crate::sizes::{BLOCK_BYTES, FEWEST_BANKS, FEWEST_IMAGES, MOST_BANKS, MOST_IMAGES};
 
 /// Whether the block has so many bytes, and the checksum of those from 4 on in front.
 fn is_checked(block: &[u8], size: usize) -> bool
@@ -29,12 +30,11 @@ fn is_own_sealed(block: &[u8]) -> bool
 
 /// Whether it has the checksum of metadata version 1 of so many banks.
 fn is_v1_of(block: &[u8], banks: usize) -> bool
-    requires { banks ≤ 4 }
-    ensures { result ≡ list_any (λ images. has_checksum block.now (v1_size banks images))
-        (range_with_len 2 15) }
+    requires { banks ≤ most_banks }
+    ensures { result ≡ has_v1_checksum block.now banks }
 {
     let entry = 32 + 24 * banks;
-    for images in 2..17 {
+    for images in FEWEST_IMAGES..MOST_IMAGES + 1 {
         if is_checked(block, 16 + images * entry) {
             return true;
         }
@@ -42,20 +42,16 @@ fn is_v1_of(block: &[u8], banks: usize) -> bool
     false
 }
 
+/// Whether it has that of any number of banks that a layout may have.
 fn is_v1_of_some(block: &[u8]) -> bool
-    ensures { result ≡ list_any (λ banks.
-        list_any (λ images. has_checksum block.now (v1_size banks images)) (range_with_len 2 15)) (range_with_len 2 3) }
+    ensures { result ≡ list_any (has_v1_checksum block.now) bank_counts }
 {
-    let two = is_v1_of(block, 2);
-    let three = is_v1_of(block, 3);
-    let four = is_v1_of(block, 4);
-    any_of_three(two, three, four)
-}
-
-fn any_of_three(first: bool, second: bool, third: bool) -> bool
-    ensures { result ≡ (first || (second || (third || false))) }
-{
-    first || second || third
+    for banks in FEWEST_BANKS..MOST_BANKS + 1 {
+        if is_v1_of(block, banks as usize) {
+            return true;
+        }
+    }
+    false
 }
 
 fn is_v1_sealed(block: &[u8]) -> bool
@@ -70,6 +66,7 @@ fn is_v1_sealed(block: &[u8]) -> bool
     is_v1_of_some(block)
 }
 
+/// Whether a block begins as the header of a GUID partition table does.
 fn begins_table(block: &[u8]) -> bool
     requires { 8 ≤ length block.now }
     ensures { result ≡ same_bytes (take 8 block.now) (codes "EFI PART") }
@@ -77,7 +74,9 @@ fn begins_table(block: &[u8]) -> bool
     &block[..8] == b"EFI PART".as_slice()
 }
 
-fn is_table_sealed(block: &[u8]) -> bool
+/// Whether a block has the seal of such a header: the checksum at 16 is that of the first 92 bytes with this
+/// field zero.
+pub fn is_table_sealed(block: &[u8]) -> bool
     ensures { result ≡ has_table_seal block.now }
 {
     if block.len() < 92 {

@@ -1,10 +1,14 @@
 -- The headers, read range by range.
-use Rattle.std.proofs.Common.{◌≡◌, ◌∙◌, ◌≤◌, ◌<◌, ◌+◌, ℕ, Bool, true, false, cond, not, List, length, take, drop, ap, sym, refl, arith, Result, Ok, Err, ltb, le-ltb}
-use Rattle.std.specs.Prelude.{nat_lt}
+use Rattle.std.proofs.Common.{◌≡◌, ◌∙◌, ◌≤◌, ◌<◌, ◌+◌, ℕ, Bool, true, false, cond, not, List, length, take, drop, ap, sym, refl, arith, Result, Ok, Err, Option, Some, None, ltb, le-ltb}
+use Rattle.std.specs.Prelude.{IfSome, IsErrAnd, nat_lt}
 use Rattle.base_core.specs.Bytes.{num_at, same_bytes}
 use Rattle.fip_tables.proofs.Steps.{is-less, skips, takes}
-use Rattle.fwu_formats.specs.Capsule.{fmp_guid, has_sizes, shape_in, shape_of, swapped}
-use Rattle.capsule_tables.specs.Ranges.{header_read, shape_read}
+use Rattle.fwu_formats.specs.Package.{Entry}
+use Rattle.fwu_formats.specs.Capsule.{Shape, fmp_guid, has_sizes, shape_in, shape_of, swapped}
+use Rattle.capsule_tables.specs.Ranges.{IsOfHeaders, IsRead, header_read, headers_read, item_read, shape_read, then_shape}
+use Rattle.capsule_tables.specs.declared.faults.CapsuleStop.{CapsuleStop}
+use Rattle.capsule_tables.specs.declared.faults.CapsuleStop.TheVariants as stop
+use Rattle.capsule_tables.proofs.Stops.{fault-answers}
 use Rattle.fwu_formats.specs.declared.kinds.CapsuleFault.{CapsuleFault}
 use Rattle.fwu_formats.specs.declared.kinds.CapsuleFault.TheVariants as fault
 use Rattle.capsule_tables.proofs.Windows.{num_in}
@@ -83,3 +87,39 @@ module _ (bytes : List ℕ) (long : 28 ≤ length bytes) where
       let one : header ≡ h = ap (λ (r : ℕ × ℕ). r.0) both.0 in
       let two : end ≡ e = ap (λ (r : ℕ × ℕ). r.1) both.0 in
       shape-is ∙ both.1 ∙ rw (one, two) refl
+
+-- ---- what was read, on any files
+
+module _ (size : ℕ) (head fields : List ℕ) (long : 28 ≤ size) where
+  by_header : headers_read size head fields ≡ then_shape (header_read head size) fields
+  by_header = ap (λ (b : Bool). cond b (Err fault.ShortHeader) (then_shape (header_read head size) fields)) (le-ltb size 28 long)
+
+  -- a fault of the file's header
+  pub of-header : (r : Result Shape CapsuleStop) (f : CapsuleFault) → IsErrAnd r (λ s. s ≡ stop.Fault f) → header_read head size ≡ Err f → IsOfHeaders r
+  of-header r f is found = record {
+    size = size;
+    head = head;
+    fields = fields;
+    answer = fault-answers r f (headers_read size head fields) is (by_header ∙ ap (λ (h : Result (ℕ × ℕ) CapsuleFault). then_shape h fields) found);
+  }
+
+  -- and what the payloads' header says
+  module _ (h e : ℕ) (passes : header_read head size ≡ Ok (h, e)) where
+    by_fields : headers_read size head fields ≡ shape_read h e fields
+    by_fields = by_header ∙ ap (λ (x : Result (ℕ × ℕ) CapsuleFault). then_shape x fields) passes
+
+    pub of-fields : (r : Result Shape CapsuleStop) (f : CapsuleFault) → IsErrAnd r (λ s. s ≡ stop.Fault f) → shape_read h e fields ≡ Err f → IsOfHeaders r
+    of-fields r f is found = record {
+      size = size;
+      head = head;
+      fields = fields;
+      answer = fault-answers r f (headers_read size head fields) is (by_fields ∙ found);
+    }
+
+    pub of-shape : (s : Shape) → shape_read h e fields ≡ Ok s → IsOfHeaders (Ok s)
+    of-shape s found = record { size = size; head = head; fields = fields; answer = by_fields ∙ found }
+
+-- an item that was read
+pub of-item : (s : Shape) (o : Option Entry) (at : ℕ) (head : List ℕ) → o ≡ item_read s at head → IfSome o (IsRead s)
+of-item s None at head is = tt
+of-item s (Some e) at head is = record { at = at; head = head; is = sym is }

@@ -3,17 +3,17 @@ use Rattle.std.proofs.Common.{◌≡◌, ◌∙◌, ◌≤◌, ◌<◌, ◌+◌,
 use Rattle.std.proofs.lemmas.Bool.{and_from, and_parts, or_parts, or_from}
 use Rattle.std.proofs.lemmas.List.Elements.{All-push}
 use Rattle.std.proofs.lemmas.List.FromFn.{map-range_with_len_more}
-use Rattle.std.specs.List.{list_any, range_with_len}
+use Rattle.std.specs.List.{All, list_any, range_with_len}
 use Rattle.base_core.specs.Bytes.{num_at, same_bytes}
-use Rattle.host_io.specs.Contents.{Directory}
-use Rattle.host_io.specs.declared.writes.Writes.{Writes}
+use Rattle.host_io.specs.Reads.{ReadsFile}
+use Rattle.host_io.specs.declared.files.Files.{Ghosts}
 use Rattle.fwu_formats.specs.Layout.{are_distinct}
 use Rattle.fwu_formats.specs.Package.{Entry, has_guid}
 use Rattle.fip_tables.specs.Files.{Tells}
 use Rattle.fip_tables.proofs.Told.{part_of}
 use Rattle.capsule_tables.specs.Answers.{AreEntries}
 use Rattle.fwu_formats.specs.Capsule.{Shape, after_headers, capsule_of, shape_of, table_with, usual_serial, entries_in, entry_in, first_some, is_item, item_at, item_fault, item_place, items_of}
-use Rattle.capsule_tables.specs.Ranges.{good_entry, item_read}
+use Rattle.capsule_tables.specs.Ranges.{IsRead, good_entry, item_read}
 use Rattle.fwu_formats.specs.declared.kinds.CapsuleFault.{CapsuleFault}
 use Rattle.fwu_formats.specs.declared.kinds.CapsuleFault.TheVariants as fault
 use Rattle.capsule_tables.proofs.Windows.{num_in}
@@ -141,14 +141,14 @@ pub none-yet : (end : ℕ) → AreEntries [] end
 none-yet end = record { few = omega arith; inside = λ k d lt. absurd (omega (arith, lt)); distinct = refl }
 
 -- so many items are read
-pub record HasItems (told : Option Directory) (name : List ℕ) (now : Option Directory) (before faults : ℕ) (kept writes : Writes) (entries : List Entry) (s : Shape) (i : ℕ) : Type 0 where
-  pub same : now ≡ told
-  pub quiet : faults ≡ before
-  pub unwritten : writes ≡ kept
+pub record HasItems {H : Type 0} (g : Ghosts H) (name : List ℕ) (old now : H) (entries : List Entry) (s : Shape) (i : ℕ) : Type 0 where
+  pub reads : ReadsFile g name old now
+  pub quiet : g.faults now ≡ g.faults old
   pub count : length entries ≡ i
+  pub some : All (IsRead s) entries
   pub any : AreEntries entries s.end
-  pub entries_are : (bytes : List ℕ) → Tells told name bytes → entries ≡ entries_in bytes s i
-  pub fine_so_far : (bytes : List ℕ) → Tells told name bytes → (k : ℕ) → k < i → item_fault bytes s k ≡ None
+  pub entries_are : (bytes : List ℕ) → Tells (g.contents old) name bytes → entries ≡ entries_in bytes s i
+  pub fine_so_far : (bytes : List ℕ) → Tells (g.contents old) name bytes → (k : ℕ) → k < i → item_fault bytes s k ≡ None
 
 pub further : (bytes : List ℕ) (s : Shape) (i : ℕ) → ((k : ℕ) → k < i → item_fault bytes s k ≡ None) → item_fault bytes s i ≡ None → (k : ℕ) → k < i + 1 → item_fault bytes s k ≡ None
 further bytes s i before here k lt =

@@ -4,10 +4,11 @@ ghost use Rattle.std.specs.Prelude.{◌≡◌, ◌<◌, ◌≤◌, ◌+◌, ◌*
 ghost use Rattle.host_io.specs.Causes.{HasCause};
 ghost use Rattle.host_io.specs.Contents.{TellsSize};
 ghost use Rattle.fwu_formats.specs.Package.{Entry};
+ghost use Rattle.host_io.specs.Reads.{ReadsFile};
 ghost use Rattle.fip_tables.specs.Files.{Tells};
 ghost use Rattle.capsule_tables.specs.Answers.{AreEntries, HasReadCause, IsAnswer};
 ghost use Rattle.fwu_formats.specs.Capsule.{items_of, places_end};
-ghost use Rattle.capsule_tables.specs.Ranges.{good_entry, item_read};
+ghost use Rattle.capsule_tables.specs.Ranges.{IsOfItems, IsRead, good_entry, item_read};
 
 use crate::faults::CapsuleStop;
 use crate::guids::swapped;
@@ -62,10 +63,10 @@ fn read_item<H: Files>(
         × (shape.now.end < 4294967296) }
     ensures told { IfOk result (λ o. (bytes : List ℕ)
         → Tells (H.contents files.old) name.now bytes → o ≡ good_entry bytes shape.now i) }
+    ensures some { IfOk result (λ o. IfSome o (IsRead shape.now)) }
     ensures ends { IfOk result (λ o. IfSome o (λ e. e.offset + e.size ≤ shape.now.end)) }
-    ensures same { H.contents files.new ≡ H.contents files.old }
+    ensures reads { ReadsFile H.Files name.now files.old files.new }
     ensures cause { HasCause (H.faults files.old) (H.faults files.new) result }
-    ensures unwritten { H.writes files.new ≡ H.writes files.old }
 {
     let mut place = [0u8; 8];
     read_range(
@@ -101,11 +102,11 @@ pub fn read_items<H: Files>(
         × (shape.now.end < 4294967296) }
     ensures told { (bytes : List ℕ) → Tells (H.contents files.old) name.now bytes
         → IsAnswer result (items_of bytes shape.now) }
+    ensures some { IsOfItems shape.now result }
     ensures any { IfOk result (λ entries. AreEntries entries shape.now.end) }
-    ensures same { H.contents files.new ≡ H.contents files.old }
+    ensures reads { ReadsFile H.Files name.now files.old files.new }
     ensures cause { HasReadCause (H.contents files.old) name.now (H.faults files.old)
         (H.faults files.new) result }
-    ensures unwritten { H.writes files.new ≡ H.writes files.old }
 {
     let mut entries = Entries::new();
     for i in 0..shape.items {

@@ -1,9 +1,11 @@
 //! Capsules in files.
 
 ghost use Rattle.std.specs.Prelude.{◌≡◌, ◌≤◌, ℕ, List, Err, IfOk};
+ghost use Rattle.host_io.specs.Reads.{ReadsFile};
 ghost use Rattle.fip_tables.specs.Files.{Lacks, Tells};
 ghost use Rattle.capsule_tables.specs.Answers.{HasReadCause, IsAnswer, IsSomeTable};
 ghost use Rattle.fwu_formats.specs.Capsule.{capsule_of};
+ghost use Rattle.capsule_tables.specs.Ranges.{IsOfReads};
 ghost use Rattle.capsule_tables.specs.declared.faults.CapsuleStop.TheVariants as stop;
 
 use crate::faults::CapsuleStop;
@@ -23,13 +25,14 @@ pub fn read_capsule<H: Files>(files: &mut H, name: &str) -> Result<Toc, CapsuleS
     // Where the file's bytes are told, it is their table or their first fault.
     ensures told { (bytes : List ℕ) → Tells (H.contents files.old) name.now bytes
         → IsAnswer result (capsule_of bytes) }
+    // On any files a table and a fault are of what was read: some headers, and of each item some bytes.
+    ensures some { IsOfReads result }
     // Whatever file it is, the entries end below 2 ^ 32 and have different types.
     ensures any { IfOk result IsSomeTable }
     ensures missing { Lacks (H.contents files.old) name.now → result ≡ Err stop.ReadFailed }
-    ensures same { H.contents files.new ≡ H.contents files.old }
+    ensures reads { ReadsFile H.Files name.now files.old files.new }
     ensures cause { HasReadCause (H.contents files.old) name.now (H.faults files.old)
         (H.faults files.new) result }
-    ensures unwritten { H.writes files.new ≡ H.writes files.old }
 {
     let Some(size) = files.size(name)? else {
         return Err(CapsuleStop::ReadFailed);

@@ -3,6 +3,7 @@
 ghost use Rattle.std.specs.Prelude.{◌≡◌, ◌+◌, ◌≤◌, ℕ, List, Some, IfErr, OnOk, length, take, drop};
 ghost use Rattle.host_io.specs.Causes.{HasCause};
 ghost use Rattle.host_io.specs.Contents.{TellsSize};
+ghost use Rattle.host_io.specs.Reads.{ReadsFile};
 ghost use Rattle.fip_tables.specs.Files.{Tells};
 ghost use Rattle.base_core.specs.Bytes.{num_at};
 
@@ -20,9 +21,8 @@ pub fn read_range<H: Files>(
     requires inside { at + length out.old ≤ size }
     ensures bytes { OnOk result ((bytes : List ℕ) → Tells (H.contents files.old) name.now bytes
         → out.new ≡ take (length out.old) (drop at bytes)) }
-    ensures same { H.contents files.new ≡ H.contents files.old }
+    ensures reads { ReadsFile H.Files name.now files.old files.new }
     ensures cause { HasCause (H.faults files.old) (H.faults files.new) result }
-    ensures unwritten { H.writes files.new ≡ H.writes files.old }
 {
     files.read_at(name, at, out)
 }

@@ -17,9 +17,7 @@ use Rattle.early_boot.specs.CountingStarts.{WritesMoves}
 use Rattle.early_boot.specs.Ends.{Ended, booted, bad_layout, no_metadata, no_bank, lost, failed}
 use Rattle.early_boot.specs.EndsBy.{EndsByBytes, HasNumbers, StopsShown}
 use Rattle.early_boot.specs.Law.{Stays, WholeReplicasStay}
-
-same-Ok : {X F : Type 0} (x y : X) → ◌≡◌ {A = Result X F} (Ok x) (Ok y) → x ≡ y
-same-Ok x y e = cc
+use Rattle.base_core.proofs.Results.{same-Ok}
 
 stays-same : (s t : Told) → t ≡ s → Stays 4096 12288 s t
 stays-same s t same = subst (λ (u : Told). Stays 4096 12288 s u) (sym same) (record { now = λ i low high. refl; sure = λ i low high sure. sure })

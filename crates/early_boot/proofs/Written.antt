@@ -1,8 +1,7 @@
 -- What is shown after a boot that started a bank, by what it wrote.
-use Rattle.std.proofs.Common.{◌≡◌, ◌≢◌, ◌⊎◌, inl, inr, ℕ, zero, suc, ◌+◌, ◌*◌, ◌<◌, ◌≤◌, not, eqb, eqb-true, cond, Bool, List, [], ◌∷◌, replicate, Ok, refl, sym, ap, ◌∙◌, arith}
+use Rattle.std.proofs.Common.{◌≡◌, ◌≢◌, ◌⊎◌, inl, inr, ℕ, ◌+◌, ◌*◌, ◌<◌, ◌≤◌, not, eqb, eqb-true, cond, Bool, List, [], ◌∷◌, replicate, Ok, sym, ap, ◌∙◌, arith}
 use Rattle.std.proofs.lemmas.Bool.{cases_lt, cond_both, eqb-false}
 use Rattle.std.proofs.lemmas.Option.{same_Some}
-use Rattle.std.specs.List.{prefix_len, range_with_len}
 use Rattle.base_core.specs.Block.{granule}
 use Rattle.flash_core.specs.Told.{Told}
 use Rattle.flash_core.specs.May.{Keeps}
@@ -22,13 +21,9 @@ use Rattle.early_boot.specs.Starting.{RepairsAndCounts}
 use Rattle.early_boot.specs.CountingStarts.{WritesMoves}
 use Rattle.early_boot.specs.Started.{Started}
 use Rattle.early_boot.specs.EndsBy.{StartsChosen}
+use Rattle.base_core.proofs.Lists.{prefix-same}
 
 -- ---- the granules of the trials
-
--- the same granules make the same number of marks
-prefix-same : (p q : ℕ → Bool) (from n : ℕ) → ((j : ℕ) → from ≤ j → j < from + n → p j ≡ q j) → prefix_len p (range_with_len from n) ≡ prefix_len q (range_with_len from n)
-prefix-same p q from zero h = refl
-prefix-same p q from (suc n) h = rw (h from (omega arith) (omega arith), prefix-same p q (from + 1) n (λ j low high. h j (omega (arith, low)) (omega (arith, high)))) refl
 
 pub marks-by-granules : (x y : List ℕ) (b limit : ℕ) → ((j : ℕ) → j < limit → granule b j x ≡ granule b j y) → marks x b limit ≡ marks y b limit
 unfolding marks

@@ -5,6 +5,7 @@ ghost use Rattle.fwu_formats.specs.Metadata.{fits_meta};
 ghost use Rattle.early_boot.specs.Choosing.{FitSlots, IsCandidate};
 ghost use Rattle.early_boot.specs.Tells.{started_as};
 ghost use Rattle.early_boot.specs.Knows.{KnowsStarted};
+ghost use Rattle.fwu_formats.specs.Places.{trial_limit};
 
 use crate::choosing::Chosen;
 use crate::numbers::Numbers;
@@ -21,7 +22,7 @@ pub struct Booted<D: Flash> {
     chosen: Chosen,
     ghost power: { IsTrue (D.on flash) },
     ghost fits: { IsTrue (fits_meta shown.layout shown.meta.meta) },
-    ghost few: { shown.trials ≤ 3 },
+    ghost few: { shown.trials ≤ trial_limit },
     ghost candidate: { IsCandidate shown.layout chosen },
     ghost inside: { blocks_needed shown.layout ≤ D.blocks flash },
     ghost knows: { IsTrue D.tells → KnowsStarted (started_as shown chosen) (D.told flash) },
@@ -37,7 +38,7 @@ impl<D: Flash> Booted<D> {
     pub(crate) fn of(flash: D, shown: Shown, chosen: Chosen) -> Booted<D>
         requires on { IsTrue (D.on flash) }
         requires fits { IsTrue (fits_meta shown.layout shown.meta.meta) }
-        requires few { shown.trials ≤ 3 }
+        requires few { shown.trials ≤ trial_limit }
         requires candidate { IsCandidate shown.layout chosen }
         requires inside { blocks_needed shown.layout ≤ D.blocks flash }
         requires knows { IsTrue D.tells → KnowsStarted (started_as shown chosen) (D.told flash) }
@@ -107,7 +108,7 @@ impl<D: Flash> Booted<D> {
     /// How often the active bank was started on trial, and 0 where it is not on trial.
     pub fn trials(&self) -> u32
         ensures value { result ≡ (started self.now).trials }
-        ensures few { result ≤ 3 }
+        ensures few { result ≤ trial_limit }
     {
         self.shown.trials
     }
@@ -123,15 +124,7 @@ impl<D: Flash> Booted<D> {
     pub fn numbers(&self) -> Numbers
         ensures { numbers result ≡ started_numbers (started self.now) }
     {
-        Numbers {
-            form: self.shown.meta.form(),
-            active: self.shown.meta.active(),
-            previous: self.shown.meta.previous(),
-            states: *self.shown.meta.states(),
-            bits: *self.shown.meta.bits(),
-            trials: self.shown.trials,
-            counter: self.shown.counter,
-        }
+        Numbers::of(&self.shown.meta, self.shown.trials, self.shown.counter)
     }
 
     /// Whether the previous bank was started in place of the active one.

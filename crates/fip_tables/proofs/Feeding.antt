@@ -1,7 +1,8 @@
 -- What the loop over a file's table keeps.
 use Rattle.std.proofs.Common.{◌≡◌, ◌≤◌, ℕ, List, [], Option, Result, Err, refl, arith}
 use Rattle.host_io.specs.Contents.{Directory}
-use Rattle.host_io.specs.declared.writes.Writes.{Writes}
+use Rattle.host_io.specs.Reads.{ReadsFile}
+use Rattle.host_io.specs.declared.files.Files.{Ghosts}
 use Rattle.fwu_formats.specs.Package.{toc_of}
 use Rattle.fwu_formats.specs.declared.kinds.FipFault.{FipFault}
 use Rattle.fip_tables.specs.declared.toc.TocStop.{TocStop}
@@ -9,13 +10,12 @@ use Rattle.fip_tables.specs.declared.toc.TocStop.TheVariants as stop
 use Rattle.fip_tables.specs.Files.{HasFed, IsAnswer, IsFault, IsOfSome, Tells}
 use Rattle.fip_tables.specs.Stream.{Stream}
 
-pub record IsFeeding (told : Option Directory) (name : List ℕ) (now : Option Directory) (before faults : ℕ) (kept writes : Writes) (stream : Stream) (size at : ℕ) : Type 0 where
-  pub same : now ≡ told
-  pub quiet : faults ≡ before
-  pub unwritten : writes ≡ kept
+pub record IsFeeding {H : Type 0} (g : Ghosts H) (name : List ℕ) (old now : H) (stream : Stream) (size at : ℕ) : Type 0 where
+  pub reads : ReadsFile g name old now
+  pub quiet : g.faults now ≡ g.faults old
   pub inside : at ≤ size
   pub count : stream.count ≡ at
-  pub fed : HasFed told name stream at
+  pub fed : HasFed (g.contents old) name stream at
 
 -- an answer that stopped is that of the file, and of some bytes
 pub stopped-told : {X : Type 0} (told : Option Directory) (name : List ℕ) (s : TocStop) → ((f : FipFault) → ◌≡◌ {A = Result X TocStop} (Err s) (Err (stop.Fault f)) → IsFault told name f)

@@ -11,3 +11,4 @@ pub mod Plans
 pub mod Filled
 pub mod Zeros
 pub mod Again
+pub mod Chosen

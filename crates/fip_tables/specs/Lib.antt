@@ -6,3 +6,4 @@ pub mod Law
 pub mod Packing
 pub mod Again
 pub mod Frame
+pub mod Images

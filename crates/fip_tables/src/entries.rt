@@ -1,6 +1,6 @@
 //! The entries of a table of contents.
 
-ghost use Rattle.std.specs.Prelude.{◌≡◌, ◌+◌, ◌≤◌, ◌<◌, ◌++◌, ◌∷◌, [], Option, Some, None, length, position, nat_lt};
+ghost use Rattle.std.specs.Prelude.{◌≡◌, ◌+◌, ◌≤◌, ◌<◌, ◌++◌, ◌∷◌, [], Option, Some, None, find, length, position, nat_lt};
 ghost use Rattle.std.specs.List.{list_any};
 ghost use Rattle.base_core.specs.Bytes.{same_bytes};
 ghost use Rattle.base_core.specs.Guid.{nil_guid};
@@ -120,6 +120,16 @@ impl Entries {
         ensures { result ≡ list_any (has_guid guid.now) self.now }
     {
         self.as_slice().iter().any(|entry| entry.guid.is(guid))
+    }
+
+    /// The first entry of the type.
+    pub fn find(&self, guid: &Guid) -> Option<Entry>
+        ensures { result ≡ find (has_guid guid.now) self.now }
+    {
+        self.as_slice()
+            .iter()
+            .copied()
+            .find(|entry| entry.guid.is(guid))
     }
 
     /// The first entry whose payload's end lies beyond so many bytes.

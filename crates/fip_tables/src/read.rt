@@ -3,6 +3,7 @@
 ghost use Rattle.std.specs.Prelude.{◌≡◌, ◌≤◌, ◌<◌, ◌+◌, ◌^◌, ℕ, List, Some, Err, IfOk, OnOk, length, take, drop};
 ghost use Rattle.host_io.specs.Causes.{HasCause};
 ghost use Rattle.host_io.specs.Contents.{TellsSize};
+ghost use Rattle.host_io.specs.Reads.{ReadsFile};
 ghost use Rattle.fwu_formats.specs.Package.{payload, toc_of};
 ghost use Rattle.fwu_formats.specs.declared.kinds.FipFault.{FipFault};
 ghost use Rattle.fip_tables.specs.Files.{HasFed, HasFedAll, HasReadCause, IsAnswer, IsFault, IsOfSome, Lacks, Tells};
@@ -37,9 +38,8 @@ fn feed_next<H: Files>(
         → HasFed (H.contents files.old) name.now stream.new (at + count)) }
     ensures fault { (f : FipFault) → result ≡ Err (stop.Fault f) → HasFed (H.contents files.old) name.now stream.old at
         → IsFault (H.contents files.old) name.now f }
-    ensures same { H.contents files.new ≡ H.contents files.old }
+    ensures reads { ReadsFile H.Files name.now files.old files.new }
     ensures cause { HasReadCause (H.contents files.old) name.now (H.faults files.old) (H.faults files.new) result }
-    ensures unwritten { H.writes files.new ≡ H.writes files.old }
 {
     let count = (size - at).min(group_at(at));
     let mut group = [0u8; 40];
@@ -59,9 +59,8 @@ fn feed_table<H: Files>(files: &mut H, name: &str, size: u64) -> Result<StreamTo
     requires known { TellsSize (H.contents files.old) name.now (Some size) }
     ensures fed { IfOk result (λ stream. HasFedAll (H.contents files.old) name.now stream size) }
     ensures fault { (f : FipFault) → result ≡ Err (stop.Fault f) → IsFault (H.contents files.old) name.now f }
-    ensures same { H.contents files.new ≡ H.contents files.old }
+    ensures reads { ReadsFile H.Files name.now files.old files.new }
     ensures cause { HasReadCause (H.contents files.old) name.now (H.faults files.old) (H.faults files.new) result }
-    ensures unwritten { H.writes files.new ≡ H.writes files.old }
 {
     let mut stream = StreamToc::new();
     let mut at = 0;
@@ -83,9 +82,8 @@ pub fn read_toc<H: Files>(files: &mut H, name: &str) -> Result<Toc, TocStop>
     // Whatever file it is, the answer is that of some bytes. So a table has entries that end below 2 ^ 64, of different types.
     ensures some { IsOfSome result }
     ensures missing { Lacks (H.contents files.old) name.now → result ≡ Err stop.ReadFailed }
-    ensures same { H.contents files.new ≡ H.contents files.old }
+    ensures reads { ReadsFile H.Files name.now files.old files.new }
     ensures cause { HasReadCause (H.contents files.old) name.now (H.faults files.old) (H.faults files.new) result }
-    ensures unwritten { H.writes files.new ≡ H.writes files.old }
 {
     let size = match files.size(name) {
         Ok(Some(size)) => size,
@@ -116,9 +114,8 @@ pub fn payload_at<H: Files>(
     requires there { Lacks (H.contents files.old) name.now → ⊥ }
     ensures bytes { OnOk result ((bytes : List ℕ) → Tells (H.contents files.old) name.now bytes
         → out.new ≡ take (length out.old) (drop at (payload bytes entry.now))) }
-    ensures same { H.contents files.new ≡ H.contents files.old }
+    ensures reads { ReadsFile H.Files name.now files.old files.new }
     ensures cause { HasCause (H.faults files.old) (H.faults files.new) result }
-    ensures unwritten { H.writes files.new ≡ H.writes files.old }
 {
     files.read_at(name, entry.offset + at, out)
 }

@@ -27,3 +27,4 @@ pub mod Whole
 pub mod WritingLemmas
 pub mod WroteLemmas
 pub mod Makings
+pub mod NamedFiles

@@ -8,6 +8,7 @@ use Rattle.base_core.specs.Guid.{guid_text}
 use Rattle.fip_tables.specs.Files.{Tells}
 use Rattle.fip_words.specs.Values.{is_unpacked}
 use Rattle.fwu_formats.specs.Package.{Entry, payload}
+use Rattle.host_io.specs.Access.{Access, Asks, Makes}
 use Rattle.host_io.specs.Contents.{Directory}
 use Rattle.host_io.specs.declared.writes.Writes.{Writes}
 use Rattle.fip_tool.specs.Lines.{unpacked_line, unpacked_name}
@@ -32,7 +33,7 @@ on-ok : {A E : Type 0} (r : Result A E) (P : Type 0) → P → OnOk r P
 on-ok (Ok x) P p = p
 on-ok (Err e) P p = tt
 
-module _ {H O : Type 0} {contents : H → Option Directory} {file_faults : H → ℕ} {writes : H → Writes} {taken : O → Option (List ℕ)} {sink_faults : O → ℕ} where
+module _ {H O : Type 0} {contents : H → Option Directory} {file_faults : H → ℕ} {writes : H → Writes} {Spares : H → H → Access → Type 0} {taken : O → Option (List ℕ)} {sink_faults : O → ℕ} where
   -- a stop before the file is written
   module _ {from prefix : List ℕ} {entry : Entry} {files files_after : H} {sink : O} where
     pub unread : (s : Stop)
@@ -40,8 +41,10 @@ module _ {H O : Type 0} {contents : H → Option Directory} {file_faults : H →
         → ReadsOnly {X = Vec ℕ Global} (contents files) (contents files_after) (file_faults files) (file_faults files_after) (Err s) → IsLate s
         → (◌≡◌ {A = Result (Vec ℕ Global) Stop} (Err s) (Err stop.FileFault) → Rose (file_faults files) (file_faults files_after))
         → writes files_after ≡ writes files
-        → Unpacked contents file_faults writes taken sink_faults from prefix entry (Err s) files files_after sink sink
-    unread s gives reads late cause unwritten = record {
+        → ((access : Access) → access ≢ Asks from → ((guid : List ℕ) → access ≢ Makes (unpacked_name prefix guid)) → Spares files files_after access)
+        → Unpacked contents file_faults writes Spares taken sink_faults from prefix entry (Err s) files files_after sink sink
+    unread s gives reads late cause unwritten spares = record {
+      spares = spares;
       told = λ told bytes is stored.
           refused (λ (out : List ℕ). unpack_steps prefix bytes (entry ∷ [])) (λ (v : Vec ℕ Global). v.items) (Ok (payload bytes entry)) told _ _ _ _ _ _ s
           (gives bytes (tells _ told from bytes is stored)) (reads.same ∙ is) refl;
@@ -60,8 +63,9 @@ module _ {H O : Type 0} {contents : H → Option Directory} {file_faults : H →
     }
 
     pub unnamed : contents files_after ≡ contents files → file_faults files_after ≡ file_faults files → writes files_after ≡ writes files
-        → Unpacked contents file_faults writes taken sink_faults from prefix entry (Err stop.NoMemory) files files_after sink sink
-    unnamed same quiet unwritten = unread stop.NoMemory (λ bytes tells. tt) (reads-starved same quiet) tt (λ e. absurd cc) unwritten
+        → ((access : Access) → access ≢ Asks from → ((guid : List ℕ) → access ≢ Makes (unpacked_name prefix guid)) → Spares files files_after access)
+        → Unpacked contents file_faults writes Spares taken sink_faults from prefix entry (Err stop.NoMemory) files files_after sink sink
+    unnamed same quiet unwritten spares = unread stop.NoMemory (λ bytes tells. tt) (reads-starved same quiet) tt (λ e. absurd cc) unwritten spares
 
   -- the file is written, and its line is printed
   pub written-out : {from prefix : List ℕ} {entry : Entry} {result : Result (Unit {0}) Stop} {files files_after : H} {sink sink_after : O}
@@ -81,8 +85,9 @@ module _ {H O : Type 0} {contents : H → Option Directory} {file_faults : H →
       → Says (λ texts. texts ≡ line ∷ []) (taken sink) (taken sink_after) (Rose (sink_faults sink) (sink_faults sink_after)) result
       → IfErr result IsLate → (result ≡ Err stop.Usage → ⊥)
       → file_faults mid ≤ file_faults files_after → sink_faults sink ≤ sink_faults sink_after → sink_faults sink_after ≡ sink_failures result (sink_faults sink)
-      → Unpacked contents file_faults writes taken sink_faults from prefix entry result files files_after sink sink_after
-  written-out {from = from} {prefix = prefix} {entry = entry} {result = result} {files = files} {files_after = files_after} mid guid name shown out line one named seen whole lined differs same quiet clean did faults wrote unspoiled cause silent says late usage then later_sink count =
+      → ((access : Access) → access ≢ Asks from → ((guid : List ℕ) → access ≢ Makes (unpacked_name prefix guid)) → Spares files files_after access)
+      → Unpacked contents file_faults writes Spares taken sink_faults from prefix entry result files files_after sink sink_after
+  written-out {from = from} {prefix = prefix} {entry = entry} {result = result} {files = files} {files_after = files_after} mid guid name shown out line one named seen whole lined differs same quiet clean did faults wrote unspoiled cause silent says late usage then later_sink count spares =
       let shown-is : shown ≡ unpacked_name prefix entry.guid = seen ∙ one in
       let line-of : line ≡ unpacked_line prefix entry = line-is prefix entry shown line shown-is lined in record {
         told = λ told bytes is stored.
@@ -93,6 +98,7 @@ module _ {H O : Type 0} {contents : H → Option Directory} {file_faults : H →
         unspoiled = subst (λ (w : Writes). OnOk result ((writes files_after).failed ≡ w.failed)) clean unspoiled;
         says = says-as (λ texts. texts ≡ line ∷ []) (λ texts. texts ≡ unpacked_line prefix entry ∷ []) _ _ _ _ result (λ texts t. t ∙ ap (λ (l : List ℕ). l ∷ []) line-of) (λ r. r) says;
         late = late;
+        spares = spares;
         cause = λ e. rose-still _ _ _ (sym quiet) (cause e);
         usage = usage;
         file_count = faults-then quiet faults;

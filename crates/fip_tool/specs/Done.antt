@@ -2,8 +2,10 @@
 use Rattle.std.specs.Prelude.{◌≡◌, ◌≢◌, ◌≤◌, ◌⊎◌, ℕ, List, Option, Some, None, Result, Err, IfErr, IsFalse}
 use Rattle.base_core.specs.Counts.{Rose}
 use Rattle.fip_words.specs.Order.{Asked, info_of_source}
+use Rattle.host_io.specs.Access.{Access}
 use Rattle.host_io.specs.Contents.{Directory}
 use Rattle.host_io.specs.declared.writes.Writes.{Writes}
+use Rattle.fip_tool.specs.Names.{IsUnnamed}
 use Rattle.fip_tool.specs.Refusals.{MayRefuse}
 use Rattle.fip_tool.specs.Said.{IsTextsOf, Says}
 use Rattle.fip_tool.specs.Steps.{Did, FaultsOnce, sink_failures, source_failures}
@@ -15,6 +17,7 @@ use Rattle.fip_tool.specs.declared.stops.Stop.TheVariants as stop
 -- What was done, with what is seen of the files, the source and the sink. A status is not told yet, nor a line that says why the
 -- command stopped.
 pub record Done {H I O : Type 0} (contents : H → Option Directory) (file_faults : H → ℕ) (writes : H → Writes)
+    (Spares : H → H → Access → Type 0)
     (left : I → Option (List ℕ)) (source_faults : I → ℕ)
     (taken : O → Option (List ℕ)) (sink_faults : O → ℕ)
     (asked : Option Asked) (result : Result (Unit {0}) Stop)
@@ -40,6 +43,8 @@ pub record Done {H I O : Type 0} (contents : H → Option Directory) (file_fault
   pub source_count : asked ≡ Some info_of_source
       → source_faults source_after ≡ source_failures result (source_faults source_before)
   pub files_stay : IsFalse (asks_files asked) → files_after ≡ files_before
+  -- no access is made that the words don't name
+  pub spares : (access : Access) → IsUnnamed asked access → Spares files_before files_after access
   pub cause : result ≡ Err stop.FileFault → contents files_before ≡ None
       → Rose (file_faults files_before) (file_faults files_after)
       ⊎ Rose (source_faults source_before) (source_faults source_after)

@@ -10,3 +10,5 @@ pub mod Converted
 pub mod Done
 pub mod Unpacked
 pub mod Refusals
+pub mod Complete
+pub mod Names

@@ -5,6 +5,8 @@ use Rattle.std.specs.Io.KnownBytes.{Consumes, IsAtEnd}
 use Rattle.base_core.specs.Bytes.{same_bytes}
 use Rattle.sha2.specs.Sha256.{sha256}
 use Rattle.host_io.specs.Contents.{Directory}
+use Rattle.host_io.specs.declared.stops.ReadStop.{ReadStop}
+use Rattle.host_io.specs.declared.stops.ReadStop.TheVariants as read_stop
 use Rattle.host_io.specs.declared.stops.WriteStop.{WriteStop}
 use Rattle.host_io.specs.declared.stops.WriteStop.TheVariants as write_stop
 use Rattle.fwu_formats.specs.Package.{Entry, Part, Toc, has_guid, packed, payload, toc_of}
@@ -58,6 +60,11 @@ stopped_by toc.ReadFailed = stop.FileFault
 abbrev pub capsule_stopped_by : CapsuleStop → Stop
 capsule_stopped_by (capsule_stop.Fault f) = stop.NotCapsule f
 capsule_stopped_by capsule_stop.ReadFailed = stop.FileFault
+
+-- the stop of a file that was not read whole
+abbrev pub unread_by : ReadStop → Stop
+unread_by read_stop.Failed = stop.FileFault
+unread_by read_stop.NoMemory = stop.NoMemory
 
 -- the stop of a file that was not written
 abbrev pub unwritten_by : WriteStop → Stop

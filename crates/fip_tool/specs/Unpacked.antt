@@ -3,6 +3,7 @@ use Rattle.std.specs.Prelude.{◌≡◌, ◌≢◌, ◌≤◌, ◌∷◌, [], �
 use Rattle.base_core.specs.Counts.{Rose}
 use Rattle.fip_words.specs.Values.{is_unpacked}
 use Rattle.fwu_formats.specs.Package.{Entry}
+use Rattle.host_io.specs.Access.{Access, Asks, Makes}
 use Rattle.host_io.specs.Contents.{Directory}
 use Rattle.host_io.specs.declared.writes.Writes.{Writes}
 use Rattle.fip_tool.specs.Lines.{unpacked_line, unpacked_name}
@@ -15,6 +16,7 @@ use Rattle.fip_tool.specs.declared.stops.Stop.TheVariants as stop
 
 -- What was done for one entry of the package in the file `from`, by its result.
 pub record Unpacked {H O : Type 0} (contents : H → Option Directory) (file_faults : H → ℕ) (writes : H → Writes)
+    (Spares : H → H → Access → Type 0)
     (taken : O → Option (List ℕ)) (sink_faults : O → ℕ) (from prefix : List ℕ) (entry : Entry)
     (result : Result (Unit {0}) Stop) (files files_after : H) (sink sink_after : O) : Type 0 where
   pub told : (told : Directory) (bytes : List ℕ) → contents files ≡ Some told → told from ≡ Some bytes
@@ -28,6 +30,9 @@ pub record Unpacked {H O : Type 0} (contents : H → Option Directory) (file_fau
   pub says : Says (λ texts. texts ≡ unpacked_line prefix entry ∷ []) (taken sink) (taken sink_after)
       (Rose (sink_faults sink) (sink_faults sink_after)) result
   pub late : IfErr result IsLate
+  -- its payload's file is made, and no other than the package asked for
+  pub spares : (access : Access) → access ≢ Asks from → ((guid : List ℕ) → access ≢ Makes (unpacked_name prefix guid))
+      → Spares files files_after access
   pub cause : result ≡ Err stop.FileFault → Rose (file_faults files) (file_faults files_after)
   pub usage : result ≡ Err stop.Usage → ⊥
   pub file_count : FaultsOnce (file_faults files) (file_faults files_after) result

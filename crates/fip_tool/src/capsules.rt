@@ -2,7 +2,10 @@
 ghost use Rattle.std.specs.Prelude.{◌≡◌, ◌≤◌, All, IfErr, IfOk, List, Option, Some, None, Err, ℕ, length, map};
 ghost use Rattle.base_core.specs.Counts.{Rose};
 ghost use Rattle.fwu_formats.specs.Package.{Toc};
+ghost use Rattle.fip_tool.specs.Names.{IsUnnamed};
+ghost use Rattle.host_io.specs.Access.{Access};
 ghost use Rattle.host_io.specs.Contents.{Directory};
+ghost use Rattle.host_io.specs.Reads.{ReadsFile};
 ghost use Rattle.fip_words.specs.Order.{Asked};
 ghost use Rattle.fip_tool.specs.Payloads.{HasEntry, IsWhole, made_by};
 ghost use Rattle.fip_tool.specs.Said.{IsTable, IsTexts, Says};
@@ -55,7 +58,7 @@ fn capsule_of_package<'a, H: Files>(
     ensures count { IfOk result (λ m. (t : Toc) × IsTable t × (m.count ≡ length t.entries)) }
     ensures reads { ReadsOnly (H.contents files.old) (H.contents files.new) (H.faults files.old)
         (H.faults files.new) result }
-    ensures unwritten { H.writes files.new ≡ H.writes files.old }
+    ensures files { ReadsFile H.Files from.now files.old files.new }
     ensures refusals { IfErr result IsOfEnclosing }
 {
     let toc = table_with(files, from, &[])?;
@@ -98,7 +101,7 @@ fn package_of_capsule<'a, H: Files>(
     ensures count { IfOk result (λ m. (t : Toc) × (m.count ≡ length t.entries)) }
     ensures reads { ReadsOnly (H.contents files.old) (H.contents files.new) (H.faults files.old)
         (H.faults files.new) result }
-    ensures unwritten { H.writes files.new ≡ H.writes files.old }
+    ensures files { ReadsFile H.Files from.now files.old files.new }
     ensures refusals { IfErr result IsOfPackaging }
 {
     let toc = read_enclosed(files, from)?;
@@ -132,6 +135,8 @@ pub fn run_capsule<H: Files, O: Sink>(
     ensures later { O.faults sink.old ≤ O.faults sink.new }
     ensures sink_count { O.faults sink.new ≡ sink_failures result (O.faults sink.old) }
     ensures refusals { IfErr result (MayRefuse (Some (Asked.capsule from.now out.now))) }
+    ensures spares { (access : Access) → IsUnnamed (Some (Asked.capsule from.now out.now)) access
+        → H.spares files.old files.new access }
 {
     let made = capsule_of_package(alloc, files, from);
     put_made(alloc, files, sink, Format::Capsule, out, made)
@@ -166,6 +171,8 @@ pub fn run_package<H: Files, O: Sink>(
     ensures later { O.faults sink.old ≤ O.faults sink.new }
     ensures sink_count { O.faults sink.new ≡ sink_failures result (O.faults sink.old) }
     ensures refusals { IfErr result (MayRefuse (Some (Asked.repackage align from.now out.now))) }
+    ensures spares { (access : Access) → IsUnnamed (Some (Asked.repackage align from.now out.now)) access
+        → H.spares files.old files.new access }
 {
     let made = package_of_capsule(alloc, files, align, from);
     put_made(alloc, files, sink, Format::Package, out, made)

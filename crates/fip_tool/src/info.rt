@@ -2,6 +2,7 @@
 ghost use Rattle.std.specs.Prelude.{◌≡◌, ◌≤◌, IfOk, List, Some, Err, ℕ, IfErr};
 ghost use Rattle.base_core.specs.Counts.{Rose};
 ghost use Rattle.host_io.specs.Contents.{Directory};
+ghost use Rattle.host_io.specs.Reads.{ReadsFile};
 ghost use Rattle.fip_tool.specs.Refusals.{IsOfPackage, IsOfSource};
 ghost use Rattle.fip_tool.specs.Said.{IsListing};
 ghost use Rattle.fip_tool.specs.Steps.{Gives, ReadsOnly, source_failures};
@@ -22,7 +23,7 @@ pub fn file_info<H: Files>(alloc: Global, files: &mut H, name: &str) -> Result<V
     ensures listed { IfOk result (λ text. IsListing text.items) }
     ensures reads { ReadsOnly (H.contents files.old) (H.contents files.new) (H.faults files.old)
         (H.faults files.new) result }
-    ensures unwritten { H.writes files.new ≡ H.writes files.old }
+    ensures files { ReadsFile H.Files name.now files.old files.new }
     ensures refusals { IfErr result IsOfPackage }
 {
     let (toc, size) = read_package(files, name)?;

@@ -4,6 +4,7 @@
 mod capsules;
 mod enclosing;
 mod info;
+mod laws;
 mod lines;
 mod made;
 mod making;
@@ -20,5 +21,6 @@ mod top;
 mod unpack;
 mod writing;
 
+pub use laws::commands_are_complete;
 pub use stops::Stop;
 pub use top::fip_top;

@@ -1,9 +1,12 @@
 //! The commands that make packages: `create`, `remove` and `update`.
-ghost use Rattle.std.specs.Prelude.{◌≡◌, ◌≤◌, ◌+◌, All, IfErr, IfOk, List, Option, Some, None, Err, ℕ, filter, length, map, not};
+ghost use Rattle.std.specs.Prelude.{◌≡◌, ◌≢◌, ◌≤◌, ◌+◌, All, IfErr, IfOk, List, Option, Some, None, Err, ℕ, filter, length, map, not};
 ghost use Rattle.base_core.specs.Counts.{Rose};
 ghost use Rattle.fip_tables.specs.Files.{Lacks, Tells};
 ghost use Rattle.fwu_formats.specs.Package.{Toc};
+ghost use Rattle.fip_tool.specs.Names.{IsUnnamed};
 ghost use Rattle.host_io.specs.Contents.{Directory};
+ghost use Rattle.host_io.specs.Access.{Access, Asks};
+ghost use Rattle.host_io.specs.Reads.{ReadsFile, ReadsFiles};
 ghost use Rattle.fip_words.specs.Order.{Asked, part_view};
 ghost use Rattle.fip_tool.specs.Payloads.{HasEntry, IsThere, IsWhole, made_by, part_told};
 ghost use Rattle.fip_tool.specs.Said.{IsTable, IsTexts, Says};
@@ -41,7 +44,8 @@ fn created<'a, H: Files>(
     ensures count { IfOk result (λ m. m.count ≡ length named.now) }
     ensures reads { ReadsOnly (H.contents files.old) (H.contents files.new) (H.faults files.old)
         (H.faults files.new) result }
-    ensures unwritten { H.writes files.new ≡ H.writes files.old }
+    ensures files { ReadsFiles H.Files (λ access. All (λ w. access ≢ Asks w.file.now) named.now)
+        files.old files.new }
     ensures refusals { IfErr result IsOfPacking }
 {
     match payloads_of_files(alloc, files, named) {
@@ -135,7 +139,7 @@ fn removed<'a, H: Files>(
         × (m.count ≡ length (filter (λ e. not (is_named guids.now e)) t.entries))) }
     ensures reads { ReadsOnly (H.contents files.old) (H.contents files.new) (H.faults files.old)
         (H.faults files.new) result }
-    ensures unwritten { H.writes files.new ≡ H.writes files.old }
+    ensures files { ReadsFile H.Files from.now files.old files.new }
     ensures refusals { IfErr result IsOfRepacking }
 {
     let toc = table_with(files, from, guids)?;
@@ -164,7 +168,8 @@ fn replaced<'a, H: Files>(
     ensures count { IfOk result (λ m. m.count ≡ length toc.now.entries) }
     ensures reads { ReadsOnly (H.contents files.old) (H.contents files.new) (H.faults files.old)
         (H.faults files.new) result }
-    ensures unwritten { H.writes files.new ≡ H.writes files.old }
+    ensures files { ReadsFiles H.Files (λ access. All (λ w. access ≢ Asks w.file.now) named.now)
+        files.old files.new }
     ensures refusals { IfErr result IsOfPacking }
 {
     match payloads_of_files(alloc, files, named) {
@@ -193,7 +198,8 @@ fn updated<'a, H: Files>(
         × (m.count ≡ length t.entries)) }
     ensures reads { ReadsOnly (H.contents files.old) (H.contents files.new) (H.faults files.old)
         (H.faults files.new) result }
-    ensures unwritten { H.writes files.new ≡ H.writes files.old }
+    ensures files { ReadsFiles H.Files (λ access. (access ≢ Asks from.now)
+        × All (λ w. access ≢ Asks w.file.now) named.now) files.old files.new }
     ensures refusals { IfErr result IsOfRepacking }
 {
     let types = types_of(alloc, named)?;
@@ -230,6 +236,9 @@ pub fn run_create<H: Files, O: Sink>(
     ensures sink_count { O.faults sink.new ≡ sink_failures result (O.faults sink.old) }
     ensures refusals { IfErr result
         (MayRefuse (Some (Asked.create align out.now (map part_view named.now)))) }
+    ensures spares { (access : Access)
+        → IsUnnamed (Some (Asked.create align out.now (map part_view named.now))) access
+        → H.spares files.old files.new access }
 {
     let made = created(alloc, files, align, named);
     put_made(alloc, files, sink, Format::Package, out, made)
@@ -265,6 +274,8 @@ pub fn run_remove<H: Files, O: Sink>(
     ensures sink_count { O.faults sink.new ≡ sink_failures result (O.faults sink.old) }
     ensures refusals { IfErr result
         (MayRefuse (Some (Asked.remove align from.now out.now guids.now))) }
+    ensures spares { (access : Access) → IsUnnamed (Some (Asked.remove align from.now out.now guids.now)) access
+        → H.spares files.old files.new access }
 {
     let made = removed(alloc, files, align, from, guids);
     put_made(alloc, files, sink, Format::Package, out, made)
@@ -302,6 +313,9 @@ pub fn run_update<H: Files, O: Sink>(
     ensures sink_count { O.faults sink.new ≡ sink_failures result (O.faults sink.old) }
     ensures refusals { IfErr result
         (MayRefuse (Some (Asked.update align from.now out.now (map part_view named.now)))) }
+    ensures spares { (access : Access)
+        → IsUnnamed (Some (Asked.update align from.now out.now (map part_view named.now))) access
+        → H.spares files.old files.new access }
 {
     let made = updated(alloc, files, align, from, named);
     put_made(alloc, files, sink, Format::Package, out, made)

@@ -1,10 +1,13 @@
 //! Manifests of images in files.
-ghost use Rattle.std.specs.Prelude.{◌≡◌, ◌≤◌, ◌==◌, ◌||◌, ◌++◌, ◌∷◌, [], Some, Ok, Err, IfOk, IfSome, if◌then◌else◌, length, map, nat_lt, option_and_then, option_map, IfErr};
+ghost use Rattle.std.specs.Prelude.{◌≡◌, All, ◌≢◌, ◌≤◌, ◌==◌, ◌||◌, ◌++◌, ◌∷◌, [], Some, Ok, Err, IfOk, IfSome, if◌then◌else◌, length, map, nat_lt, option_and_then, option_map, IfErr};
 ghost use Rattle.base_core.specs.Counts.{Rose};
 ghost use Rattle.fwu_formats.specs.declared.kinds.ManifestFault.TheVariants as fault;
 ghost use Rattle.fip_words.specs.Order.{Asked, image_view};
 ghost use Rattle.fip_words.specs.Values.{each};
+ghost use Rattle.fip_tool.specs.Names.{IsUnnamed};
 ghost use Rattle.host_io.specs.Contents.{Directory};
+ghost use Rattle.host_io.specs.Access.{Access, Asks};
+ghost use Rattle.host_io.specs.Reads.{ReadsFile, ReadsFiles};
 ghost use Rattle.manifest_core.specs.Shown.{row};
 ghost use Rattle.fip_tool.specs.Refusals.{IsOfManifest, MayRefuse};
 ghost use Rattle.fip_tool.specs.Said.{IsTexts, Says};
@@ -52,7 +55,7 @@ fn row_of_file<H: Files>(
         (after (there (image_in told (image_view named.now))) (λ i. Ok (image_row i))) result }
     ensures reads { ReadsOnly (H.contents files.old) (H.contents files.new) (H.faults files.old)
         (H.faults files.new) result }
-    ensures unwritten { H.writes files.new ≡ H.writes files.old }
+    ensures files { ReadsFile H.Files named.now.file.now files.old files.new }
     ensures late { IfErr result IsLate }
 {
     let image = read_file(alloc, files, named.file)?;
@@ -85,7 +88,8 @@ fn rows_of_files<H: Files>(
         (λ images. Ok (each image_row images))) result }
     ensures reads { ReadsOnly (H.contents files.old) (H.contents files.new) (H.faults files.old)
         (H.faults files.new) result }
-    ensures unwritten { H.writes files.new ≡ H.writes files.old }
+    ensures files { ReadsFiles H.Files (λ access. All (λ w. access ≢ Asks w.file.now) named.now)
+        files.old files.new }
     ensures count { IfOk result (λ rows. IfSome rows (λ v. length v.items ≡ length named.now)) }
     ensures late { IfErr result IsLate }
 {
@@ -151,7 +155,7 @@ fn is_long_file<H: Files>(files: &mut H, named: &ImageWord<'_>) -> Result<bool, 
         (after (there (image_in told (image_view named.now))) (λ i. Ok (is_long i))) result }
     ensures reads { ReadsOnly (H.contents files.old) (H.contents files.new) (H.faults files.old)
         (H.faults files.new) result }
-    ensures unwritten { H.writes files.new ≡ H.writes files.old }
+    ensures files { ReadsFile H.Files named.now.file.now files.old files.new }
     ensures late { IfErr result IsLate }
 {
     Ok(size_of(files, named.file)? > IMAGE_LIMIT as u64)
@@ -164,7 +168,8 @@ fn check_sizes<H: Files>(files: &mut H, named: &[ImageWord<'_>]) -> Result<(), S
         (sizes_value told (map image_view named.now)) result }
     ensures reads { ReadsOnly (H.contents files.old) (H.contents files.new) (H.faults files.old)
         (H.faults files.new) result }
-    ensures unwritten { H.writes files.new ≡ H.writes files.old }
+    ensures files { ReadsFiles H.Files (λ access. All (λ w. access ≢ Asks w.file.now) named.now)
+        files.old files.new }
     ensures refusals { IfErr result IsOfManifest }
 {
     let mut is_long = false;
@@ -189,7 +194,8 @@ pub fn manifest<H: Files>(
     ensures count { IfOk result (λ m. m.0 ≡ length named.now) }
     ensures reads { ReadsOnly (H.contents files.old) (H.contents files.new) (H.faults files.old)
         (H.faults files.new) result }
-    ensures unwritten { H.writes files.new ≡ H.writes files.old }
+    ensures files { ReadsFiles H.Files (λ access. All (λ w. access ≢ Asks w.file.now) named.now)
+        files.old files.new }
     ensures refusals { IfErr result IsOfManifest }
 {
     check_sizes(files, named)?;
@@ -229,6 +235,9 @@ pub fn run_manifest<H: Files, O: Sink>(
     ensures sink_count { O.faults sink.new ≡ sink_failures result (O.faults sink.old) }
     ensures refusals { IfErr result
         (MayRefuse (Some (Asked.manifest out.now security (map image_view named.now)))) }
+    ensures spares { (access : Access)
+        → IsUnnamed (Some (Asked.manifest out.now security (map image_view named.now))) access
+        → H.spares files.old files.new access }
 {
     let (rows, bytes) = manifest(alloc, files, security, named)?;
     let line = manifest_line(alloc, rows, bytes.len() as u64, security)?;

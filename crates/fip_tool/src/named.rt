@@ -2,6 +2,7 @@
 ghost use Rattle.std.specs.Prelude.{◌≡◌, ◌<◌, ◌+◌, ◌^◌, All, IfOk, None, Some, Ok, IfErr, length};
 ghost use Rattle.base_core.specs.Counts.{Rose};
 ghost use Rattle.host_io.specs.Contents.{Directory};
+ghost use Rattle.host_io.specs.Reads.{ReadsFile};
 ghost use Rattle.fip_tool.specs.Refusals.{IsOfEntries, IsOfPackage};
 ghost use Rattle.fip_tool.specs.Said.{IsTable};
 ghost use Rattle.fip_tool.specs.Steps.{Gives, ReadsOnly};
@@ -39,7 +40,7 @@ pub fn table_with<H: Files>(files: &mut H, name: &str, guids: &[Guid]) -> Result
     ensures ends { IfOk result (λ t. All (λ e. e.offset + e.size < 2 ^ 64) t.entries) }
     ensures reads { ReadsOnly (H.contents files.old) (H.contents files.new) (H.faults files.old)
         (H.faults files.new) result }
-    ensures unwritten { H.writes files.new ≡ H.writes files.old }
+    ensures files { ReadsFile H.Files name.now files.old files.new }
     ensures refusals { IfErr result IsOfEntries }
     ensures unnamed { length guids.now ≡ 0 → IfErr result IsOfPackage }
 {

@@ -1,8 +1,10 @@
 //! The payloads of packages that are made: what each is, and where it is read.
-ghost use Rattle.std.specs.Prelude.{◌≡◌, ◌<◌, ◌≤◌, ◌+◌, ◌^◌, All, IfOk, List, Option, Some, None, ℕ, find, length, map, IfErr};
+ghost use Rattle.std.specs.Prelude.{◌≡◌, ◌≢◌, ◌<◌, ◌≤◌, ◌+◌, ◌^◌, All, IfOk, List, Option, Some, None, ℕ, find, length, map, IfErr};
 ghost use Rattle.base_core.specs.Bytes.{same_bytes};
 ghost use Rattle.base_core.specs.Counts.{Rose};
 ghost use Rattle.host_io.specs.Contents.{Directory};
+ghost use Rattle.host_io.specs.Access.{Asks};
+ghost use Rattle.host_io.specs.Reads.{ReadsFile, ReadsFiles};
 ghost use Rattle.fip_words.specs.Order.{part_view};
 ghost use Rattle.fip_tool.specs.Steps.{Gives, ReadsOnly, IsLate};
 ghost use Rattle.fip_tool.specs.Payloads.{HasEntry, IsThere, outline_of, part_told, piece_of};
@@ -60,7 +62,7 @@ fn payload_of_file<'a, H: Files>(files: &mut H, named: &FileWord<'a>) -> Result<
     ensures there { IfOk result (IsThere (H.contents files.old)) }
     ensures reads { ReadsOnly (H.contents files.old) (H.contents files.new) (H.faults files.old)
         (H.faults files.new) result }
-    ensures unwritten { H.writes files.new ≡ H.writes files.old }
+    ensures files { ReadsFile H.Files named.now.file.now files.old files.new }
     ensures late { IfErr result IsLate }
 {
     let size = size_of(files, named.file)?;
@@ -86,7 +88,8 @@ pub fn payloads_of_files<'a, H: Files>(
     ensures count { IfOk result (λ v. length v.items ≡ length named.now) }
     ensures reads { ReadsOnly (H.contents files.old) (H.contents files.new) (H.faults files.old)
         (H.faults files.new) result }
-    ensures unwritten { H.writes files.new ≡ H.writes files.old }
+    ensures files { ReadsFiles H.Files (λ access. All (λ w. access ≢ Asks w.file.now) named.now)
+        files.old files.new }
     ensures late { IfErr result IsLate }
 {
     let mut payloads = Vec::new(alloc);

@@ -4,14 +4,14 @@ ghost use Rattle.base_core.specs.Counts.{Rose};
 ghost use Rattle.fip_tables.specs.Files.{Lacks, Tells};
 ghost use Rattle.fwu_formats.specs.Package.{payload};
 ghost use Rattle.host_io.specs.Contents.{Directory, HasRange, TellsRange};
+ghost use Rattle.host_io.specs.Reads.{ReadsFile};
 ghost use Rattle.fip_tool.specs.Steps.{Gives, IsLate, ReadsOnly};
 ghost use Rattle.fip_tool.specs.Tool.{file_value};
 ghost use Rattle.fip_tool.specs.declared.stops.Stop.TheVariants as stop;
 
 use crate::stops::Stop;
-use crate::table::size_of;
 use fip_tables::Entry;
-use host_io::Files;
+use host_io::{Files, read_whole};
 use std::alloc::Global;
 
 // The bytes of a range of a file.
@@ -29,7 +29,7 @@ fn read_range<H: Files>(
     ensures late { IfErr result IsLate }
     ensures reads { ReadsOnly (H.contents files.old) (H.contents files.new) (H.faults files.old)
         (H.faults files.new) result }
-    ensures unwritten { H.writes files.new ≡ H.writes files.old }
+    ensures files { ReadsFile H.Files name.now files.old files.new }
 {
     let mut bytes = Vec::with_capacity(alloc, size as usize)?;
     files.read_onto(name, at, size as usize, &mut bytes)?;
@@ -43,11 +43,10 @@ pub fn read_file<H: Files>(alloc: Global, files: &mut H, name: &str) -> Result<V
         (file_value told name.now) result }
     ensures reads { ReadsOnly (H.contents files.old) (H.contents files.new) (H.faults files.old)
         (H.faults files.new) result }
-    ensures unwritten { H.writes files.new ≡ H.writes files.old }
+    ensures files { ReadsFile H.Files name.now files.old files.new }
     ensures late { IfErr result IsLate }
 {
-    let size = size_of(files, name)?;
-    read_range(alloc, files, name, 0, size)
+    Ok(read_whole(alloc, files, name)?)
 }
 
 /// The bytes of a payload.
@@ -67,7 +66,7 @@ pub fn read_payload<H: Files>(
     ensures late { IfErr result IsLate }
     ensures reads { ReadsOnly (H.contents files.old) (H.contents files.new) (H.faults files.old)
         (H.faults files.new) result }
-    ensures unwritten { H.writes files.new ≡ H.writes files.old }
+    ensures files { ReadsFile H.Files name.now files.old files.new }
 {
     read_range(alloc, files, name, entry.offset, entry.size)
 }

@@ -1,14 +1,14 @@
 //! Why a command ended before all was done.
 
 ghost use Rattle.std.specs.Prelude.{◌≡◌};
-ghost use Rattle.fip_tool.specs.Tool.{capsule_stopped_by, stopped_by, unwritten_by};
+ghost use Rattle.fip_tool.specs.Tool.{capsule_stopped_by, stopped_by, unread_by, unwritten_by};
 ghost use Rattle.fip_tool.specs.declared.stops.Stop.TheVariants as stop;
 
 use base_core::{Guid, NoMemory as NoMemoryFound};
 use capsule_tables::{CapsuleFault, CapsuleStop};
 use fip_tables::{PackFault, TocStop};
 use fwu_formats::{FipFault, ManifestFault};
-use host_io::{Failed, WriteStop};
+use host_io::{Failed, ReadStop, WriteStop};
 use std::alloc::AllocError;
 use thiserror::Error;
 
@@ -70,6 +70,18 @@ impl From<WriteStop> for Stop {
         match given {
             WriteStop::Failed => Stop::FileFault,
             WriteStop::NoMemory => Stop::NoMemory,
+        }
+    }
+}
+
+// Of a file that was not read whole.
+impl From<ReadStop> for Stop {
+    ghost from_gives = { λ given stopped. stopped ≡ unread_by given };
+
+    fn from(given: ReadStop) -> Stop {
+        match given {
+            ReadStop::Failed => Stop::FileFault,
+            ReadStop::NoMemory => Stop::NoMemory,
         }
     }
 }

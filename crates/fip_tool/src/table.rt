@@ -3,6 +3,7 @@ ghost use Rattle.std.specs.Prelude.{◌≡◌, ◌≤◌, ◌<◌, ◌+◌, ◌^
 ghost use Rattle.std.specs.Io.KnownBytes.{Consumes, IsAtEnd};
 ghost use Rattle.base_core.specs.Counts.{Rose};
 ghost use Rattle.host_io.specs.Contents.{Directory};
+ghost use Rattle.host_io.specs.Reads.{ReadsFile};
 ghost use Rattle.fwu_formats.specs.Package.{toc_of};
 ghost use Rattle.fip_tables.specs.Answers.{decided};
 ghost use Rattle.fip_tables.specs.Stream.{Fed};
@@ -29,7 +30,7 @@ pub fn size_of<H: Files>(files: &mut H, name: &str) -> Result<u64, Stop>
         (size_in told name.now) result }
     ensures reads { ReadsOnly (H.contents files.old) (H.contents files.new) (H.faults files.old)
         (H.faults files.new) result }
-    ensures unwritten { H.writes files.new ≡ H.writes files.old }
+    ensures files { ReadsFile H.Files name.now files.old files.new }
     ensures late { IfErr result IsLate }
 {
     match files.size(name)? {
@@ -47,7 +48,7 @@ pub fn read_package<H: Files>(files: &mut H, name: &str) -> Result<(Toc, u64), S
     ensures table { IfOk result (λ t. IsTable t.0) }
     ensures reads { ReadsOnly (H.contents files.old) (H.contents files.new) (H.faults files.old)
         (H.faults files.new) result }
-    ensures unwritten { H.writes files.new ≡ H.writes files.old }
+    ensures files { ReadsFile H.Files name.now files.old files.new }
     ensures refusals { IfErr result IsOfPackage }
 {
     let size = size_of(files, name)?;
@@ -62,7 +63,7 @@ pub fn read_enclosed<H: Files>(files: &mut H, name: &str) -> Result<Toc, Stop>
         (after (capsule_in told name.now) (λ p. Ok p.1)) result }
     ensures reads { ReadsOnly (H.contents files.old) (H.contents files.new) (H.faults files.old)
         (H.faults files.new) result }
-    ensures unwritten { H.writes files.new ≡ H.writes files.old }
+    ensures files { ReadsFile H.Files name.now files.old files.new }
     ensures refusals { IfErr result IsOfCapsule }
 {
     Ok(read_capsule(files, name)?)

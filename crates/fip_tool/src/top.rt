@@ -1,8 +1,11 @@
 //! The tool: it reads its words, does the command, and tells how it ended.
 ghost use Rattle.std.specs.Prelude.{◌==◌, if◌then◌else◌, ◌≡◌, ◌≢◌, ◌≤◌, ◌⊎◌, IsFalse, List, Option, Some, None, Ok, Err, ℕ, false, map, string_bytes, IfErr};
 ghost use Rattle.base_core.specs.Counts.{Rose};
+ghost use Rattle.fip_tool.specs.Names.{IsUnnamed};
+ghost use Rattle.host_io.specs.Access.{Access};
 ghost use Rattle.host_io.specs.Calls.{raised};
 ghost use Rattle.host_io.specs.Contents.{Directory};
+ghost use Rattle.host_io.specs.Reads.{ReadsFile};
 ghost use Rattle.fip_words.specs.Order.{Asked, asked, info_of_source, view};
 ghost use Rattle.fip_words.specs.Values.{is_unpacked};
 ghost use Rattle.fip_tool.specs.Refusals.{EndsFor, MayRefuse};
@@ -43,7 +46,7 @@ fn info<H: Files, O: Sink>(
     ensures says { Says (IsTexts (Asked.info name.now)) (O.taken sink.old) (O.taken sink.new)
         (Rose (O.faults sink.old) (O.faults sink.new)) result }
     ensures file_count { FaultsOnce (H.faults files.old) (H.faults files.new) result }
-    ensures unwritten { H.writes files.new ≡ H.writes files.old }
+    ensures files { ReadsFile H.Files name.now files.old files.new }
     ensures cause { result ≡ Err stop.FileFault → H.contents files.old ≡ None
         → Rose (H.faults files.old) (H.faults files.new) }
     ensures usage { result ≡ Err stop.Usage → ⊥ }
@@ -118,7 +121,7 @@ fn command<H: Files, I: Source, O: Sink>(
 ) -> Result<(), Stop>
     requires other { (from prefix : List ℕ) → (names : List (List ℕ))
         → view order.now ≡ Asked.unpack from prefix names → is_unpacked prefix from ≡ false }
-    ensures { Done H.contents H.faults H.writes I.left I.faults O.taken O.faults (Some (view order.now))
+    ensures { Done H.contents H.faults H.writes H.spares I.left I.faults O.taken O.faults (Some (view order.now))
         result files.old files.new source.old source.new sink.old sink.new }
 {
     match order {
@@ -164,7 +167,7 @@ fn run<H: Files, I: Source, O: Sink>(
     source: &mut I,
     sink: &mut O,
 ) -> Result<(), Stop>
-    ensures { Done H.contents H.faults H.writes I.left I.faults O.taken O.faults
+    ensures { Done H.contents H.faults H.writes H.spares I.left I.faults O.taken O.faults
         (asked (map string_bytes words.now)) result files.old files.new source.old source.new
         sink.old sink.new }
 {
@@ -241,6 +244,9 @@ pub fn fip_top<H: Files, I: Source, O: Sink>(
     // Neither usage nor a listing of the source asks for a file, whatever files there are.
     ensures files_stay { IsFalse (asks_files (asked (map string_bytes words.now)))
         → files.new ≡ files.old }
+    // No file is asked for, and none is made, but those that the words name, whatever files there are.
+    ensures spares { (access : Access) → IsUnnamed (asked (map string_bytes words.now)) access
+        → H.spares files.old files.new access }
 {
     match run(alloc, words, files, source, sink) {
         Ok(()) => 0,

@@ -5,6 +5,8 @@ ghost use Rattle.base_core.specs.Guid.{guid_text};
 ghost use Rattle.fip_tables.specs.Files.{Lacks, Tells};
 ghost use Rattle.fip_words.specs.Order.{Asked};
 ghost use Rattle.fip_words.specs.Values.{is_unpacked};
+ghost use Rattle.fip_tool.specs.Names.{IsUnnamed};
+ghost use Rattle.host_io.specs.Access.{Access, Asks, Makes};
 ghost use Rattle.host_io.specs.Contents.{Directory};
 ghost use Rattle.fip_tool.specs.Refusals.{MayRefuse};
 ghost use Rattle.fip_tool.specs.Lines.{unpacked_line, unpacked_name};
@@ -68,7 +70,7 @@ fn unpack_entry<H: Files, O: Sink>(
     requires stored { (bytes : List ℕ) → Tells (H.contents files.old) from.now bytes
         → entry.now.offset + entry.now.size ≤ length bytes }
     requires there { Lacks (H.contents files.old) from.now → ⊥ }
-    ensures { Unpacked H.contents H.faults H.writes O.taken O.faults from.now prefix.now entry.now
+    ensures { Unpacked H.contents H.faults H.writes H.spares O.taken O.faults from.now prefix.now entry.now
         result files.old files.new sink.old sink.new }
 {
     let bytes = read_payload(alloc, files, from, entry)?;
@@ -127,6 +129,9 @@ fn unpack_entries<H: Files, O: Sink>(
     ensures later_sink { O.faults sink.old ≤ O.faults sink.new }
     ensures sink_count { O.faults sink.new ≡ sink_failures result (O.faults sink.old) }
     ensures late { IfErr result IsLate }
+    ensures spares { (access : Access) → access ≢ Asks from.now
+        → ((guid : List ℕ) → access ≢ Makes (unpacked_name prefix.now guid))
+        → H.spares files.old files.new access }
 {
     for entry in entries {
         if is_chosen(names, entry) {
@@ -168,6 +173,8 @@ pub fn run_unpack<H: Files, O: Sink>(
     ensures sink_count { O.faults sink.new ≡ sink_failures result (O.faults sink.old) }
     ensures refusals { IfErr result
         (MayRefuse (Some (Asked.unpack from.now prefix.now names.now))) }
+    ensures spares { (access : Access) → IsUnnamed (Some (Asked.unpack from.now prefix.now names.now)) access
+        → H.spares files.old files.new access }
 {
     let toc = table_with(files, from, names)?;
     let entries = toc.entries.as_slice();

@@ -1,6 +1,7 @@
 //! A file that is written, and the line that is printed then.
-ghost use Rattle.std.specs.Prelude.{◌≡◌, ◌⊎◌, ◌≤◌, ◌∷◌, [], List, Some, None, Ok, Result, Err, IfErr, IfOk, OnOk, ℕ, length};
+ghost use Rattle.std.specs.Prelude.{◌≡◌, ◌≢◌, ◌⊎◌, ◌≤◌, ◌∷◌, [], List, Some, None, Ok, Result, Err, IfErr, IfOk, OnOk, ℕ, length};
 ghost use Rattle.base_core.specs.Counts.{Rose};
+ghost use Rattle.host_io.specs.Access.{Access, Makes};
 ghost use Rattle.host_io.specs.Contents.{Directory};
 ghost use Rattle.fip_tool.specs.Said.{IsMadeLine, Says};
 ghost use Rattle.fip_tool.specs.Steps.{Did, FaultsOnce, Gives, IsLate, Makes, Prints, Writes, Written, outcome_by, sink_failures};
@@ -22,6 +23,7 @@ pub fn write<H: Files>(files: &mut H, name: &str, bytes: &[u8]) -> Result<(), St
         → Written told (H.contents files.new)
         (Rose (H.faults files.old) (H.faults files.new))
         (Rose (H.writes files.old).failed (H.writes files.new).failed) name.now bytes.now result }
+    ensures spares { (access : Access) → access ≢ Makes name.now → H.spares files.old files.new access }
     ensures file_count { FaultsOnce (H.faults files.old) (H.faults files.new) result }
     ensures wrote { (H.writes files.new).done ≡ written_once result (H.writes files.old).done }
     ensures unspoiled { OnOk result ((H.writes files.new).failed ≡ (H.writes files.old).failed) }
@@ -53,6 +55,7 @@ pub fn write_and_print<H: Files, O: Sink>(
         (Rose (H.faults files.old) (H.faults files.new))
         (Rose (H.writes files.old).failed (H.writes files.new).failed)
         (Rose (O.faults sink.old) (O.faults sink.new)) result }
+    ensures spares { (access : Access) → access ≢ Makes name.now → H.spares files.old files.new access }
     ensures file_count { FaultsOnce (H.faults files.old) (H.faults files.new) result }
     ensures wrote { Wrote (λ texts. texts ≡ line.now ∷ [])
         (O.taken sink.old) (O.taken sink.new) (H.writes files.old).done (H.writes files.new).done
@@ -87,6 +90,7 @@ fn write_made<H: Files>(
         (Rose (H.faults files.old) (H.faults files.new))
         (Rose (H.writes files.old).failed (H.writes files.new).failed) name.now
         (made_bytes told made.now) result }
+    ensures spares { (access : Access) → access ≢ Makes name.now → H.spares files.old files.new access }
     ensures file_count { FaultsOnce (H.faults files.old) (H.faults files.new) result }
     ensures wrote { (H.writes files.new).done ≡ written_once result (H.writes files.old).done }
     ensures cause { result ≡ Err stop.FileFault → Rose (H.faults files.old) (H.faults files.new) }
@@ -116,6 +120,7 @@ fn make_and_print<H: Files, O: Sink>(
         (Rose (H.faults files.old) (H.faults files.new))
         (Rose (H.writes files.old).failed (H.writes files.new).failed)
         (Rose (O.faults sink.old) (O.faults sink.new)) result }
+    ensures spares { (access : Access) → access ≢ Makes name.now → H.spares files.old files.new access }
     ensures file_count { FaultsOnce (H.faults files.old) (H.faults files.new) result }
     ensures wrote { Wrote (λ texts. texts ≡ line.now ∷ [])
         (O.taken sink.old) (O.taken sink.new) (H.writes files.old).done (H.writes files.new).done
@@ -154,6 +159,7 @@ pub fn put_made<H: Files, O: Sink>(
     ensures says { (made.entry ≡ Err stop.SinkFault → ⊥) → Says (IsMadeLine format made.entry)
         (O.taken sink.old) (O.taken sink.new)
         (Rose (O.faults sink.old) (O.faults sink.new)) result }
+    ensures spares { (access : Access) → access ≢ Makes out.now → H.spares files.old files.new access }
     ensures file_count { (before : ℕ) → FaultsOnce before (H.faults files.old) made.entry
         → FaultsOnce before (H.faults files.new) result }
     ensures wrote { Wrote (IsMadeLine format made.entry)

@@ -1,6 +1,6 @@
 //! Capsules of worked parts, and hostile ones: each is the capsule of `hello` with some of its
 //! bytes changed, or its front, and the fault is the first one by the order of the tests.
-//! demo/check_vectors.py finds the same ones.
+//! checks/model/check_vectors.py finds the same ones.
 
 use crate::fixtures::{HELLO_CAPSULE, add, front, holds, holds_at, one_file};
 use base_core::Guid;

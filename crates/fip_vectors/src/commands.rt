@@ -1,5 +1,5 @@
 //! The commands that write files, in a row over the same files in memory. The bytes of the packages
-//! are those of the format, made from the layout: demo/check_vectors.py makes them again.
+//! are those of the format, made from the layout: checks/model/check_vectors.py makes them again.
 
 use crate::fixtures::{EMPTY, HELLO, Step, add_all, add_file, all_end, far, files_of, has, holds};
 use host_io::MemoryFiles;

@@ -52,7 +52,7 @@ const HOSTILE: [(usize, Change, &str); 7] = [
     (89, &[(44, 9)], "not-capsule 7\n"),
 ];
 
-// Two items of one type, by hand: the places 24 and 64 from byte 28 on. demo/check_vectors.py makes
+// Two items of one type, by hand: the places 24 and 64 from byte 28 on. checks/model/check_vectors.py makes
 // it again, and the next one.
 const TWICE: &str =
     "edd5cb6d2de8444cbda17194199ad92a1c0000000000000084000000010000000000020018000000000000004000000000000000020000000becf95f224d4d3ea544c39d81c73f0a0100000000000000000000000000000000000000020000000becf95f224d4d3ea544c39d81c73f0a0200000000000000000000000000000000000000";

@@ -11,7 +11,7 @@ pub const HELLO: &str =
 
 /// The capsule of 89 bytes of that package: both headers, the place of its item, the item's 40
 /// bytes, and `hello`. It is written out by hand after the UEFI specification, and
-/// demo/check_vectors.py makes it and both packages again.
+/// checks/model/check_vectors.py makes it and both packages again.
 pub const HELLO_CAPSULE: &str =
     "edd5cb6d2de8444cbda17194199ad92a1c000000000000005900000001000000000001001000000000000000020000000becf95f224d4d3ea544c39d81c73f0a010000000500000000000000000000000000000068656c6c6f";
 

@@ -1,5 +1,5 @@
 //! Packages that are listed: the tool over a file and a source in memory, and over a source that is longer than one may be.
-ghost use Rattle.std.specs.Prelude.{◌≡◌, false, refl, None};
+ghost use Rattle.std.specs.Prelude.{⊤, ◌≡◌, false, refl, None};
 
 use crate::fixtures::{EMPTY, HELLO, ended_with, ends, front, one_file, only};
 use host_io::{Failed, MemorySource, Source};
@@ -73,6 +73,12 @@ impl Source for Repeated {
     ghost left = { λ _. None };
 
     ghost faults = { λ _. 0 };
+
+    ghost reads = { λ _ _ _. ⊤ };
+
+    ghost at_rest = { λ _. tt };
+
+    ghost joins = { λ _ _ _ _ _ _ _. tt };
 
     fn read(&mut self, out: &mut [u8]) -> Result<usize, Failed> {
         let given = out.len().min(self.piece.len()).min(self.count);

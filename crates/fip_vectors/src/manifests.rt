@@ -6,7 +6,7 @@ use std::alloc::Global;
 use std::process::Abort;
 
 // The rows of `abc` as tb-fw of version 7 and of `hello` as nt-fw of version 9, as Python's struct
-// and hashlib make them: demo/check_vectors.py makes them again, and each manifest below.
+// and hashlib make them: checks/model/check_vectors.py makes them again, and each manifest below.
 const ROWS: &str =
     "5ff9ec0b4d223e4da544c39d81c73f0a0300000007000000ba7816bf8f01cfea414140de5dae2223b00361a396177a9cb410ff61f20015add6d0eea7fcead54b97829934f234b6e405000000090000002cf24dba5fb0a30e26e83b2ac5b9e29e1b161e5c1fa7425e73043362938b9824";
 

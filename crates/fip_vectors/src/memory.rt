@@ -1,6 +1,6 @@
 //! Want of memory at each text for the sink, and at each file that is written: the tool ends with 9, and no file changes but those
 //! that its words name.
-ghost use Rattle.std.specs.Prelude.{◌≡◌, false, true, refl, None, Some};
+ghost use Rattle.std.specs.Prelude.{◌≡◌, ⊤, false, true, refl, None, Some};
 ghost use Rattle.host_io.specs.Contents.{bytes_in};
 
 use crate::fixtures::{add_all, files_of, holds_at, words};
@@ -50,6 +50,12 @@ impl Files for ShortFiles {
     ghost faults = { λ f. f.inner.calls.faults };
 
     ghost writes = { λ f. f.inner.writes };
+
+    ghost spares = { λ _ _ _. ⊤ };
+
+    ghost at_rest = { λ _ _. tt };
+
+    ghost joins = { λ _ _ _ _ _ _. tt };
 
     fn size(&mut self, name: &str) -> Result<Option<u64>, Failed> {
         self.inner.size(name)

@@ -1,6 +1,6 @@
 //! The commands over files of the system, in a folder that has no file but those that the words
 //! name: a file that nobody named is never asked for, since that would be a file fault. The
-//! packages, the capsule and the manifest are written out by hand; demo/check_vectors.py makes them
+//! packages, the capsule and the manifest are written out by hand; checks/model/check_vectors.py makes them
 //! again.
 
 use crate::fixtures::{EMPTY, HELLO, HELLO_CAPSULE, Step, all_end, ended_with, ends, front, holds};

@@ -1,4 +1,4 @@
-//! Tables of worked packages, whose bytes are written out by hand; demo/check_vectors.py makes them
+//! Tables of worked packages, whose bytes are written out by hand; checks/model/check_vectors.py makes them
 //! again.
 
 ghost use Rattle.std.specs.Prelude.{◌<◌};

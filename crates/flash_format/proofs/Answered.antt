@@ -4,9 +4,10 @@ use Rattle.fwu_formats.specs.Layout.{Layout}
 use Rattle.fwu_formats.specs.Package.{Entry, Toc, toc_of}
 use Rattle.fwu_formats.specs.declared.kinds.FipFault.{FipFault}
 use Rattle.fwu_formats.specs.declared.kinds.LayoutFault.{LayoutFault}
-use Rattle.fwu_model.specs.Reply.{Reply}
-use Rattle.fwu_model.specs.Answer.{first_image_fault}
-use Rattle.flash_format.specs.Choosing.{AreChosen, refusal_by, refused_image}
+use Rattle.std.specs.Prelude.{option_map}
+use Rattle.fip_tables.specs.Images.{AreImages, images_fault}
+use Rattle.fip_tables.specs.declared.images.ImageFault.{ImageFault}
+use Rattle.flash_format.specs.Choosing.{refusal_by, refused}
 use Rattle.flash_format.specs.Stops.{Answers, IsEarly, IsOfBytes}
 use Rattle.flash_format.specs.Table.{IsTable, IsTableOfBytes}
 use Rattle.flash_format.specs.declared.stops.InputFault.{InputFault}
@@ -35,18 +36,18 @@ of_table T L stop t = record { bytes = t.bytes; short = t.short; answer = by_tab
 
 -- ---- the images
 
-pub of_chosen : (T : Type 0) (L : Layout) (toc : Toc) (entries : List Entry) (x : T) → IsTableOfBytes (Ok toc) → AreChosen L.rows toc entries → IsOfBytes {T = T} (Ok L) (Ok x)
+pub of_chosen : (T : Type 0) (L : Layout) (toc : Toc) (entries : List Entry) (x : T) → IsTableOfBytes (Ok toc) → AreImages L.rows toc entries → IsOfBytes {T = T} (Ok L) (Ok x)
 of_chosen T L toc entries x t chosen = record {
   bytes = t.bytes;
   short = t.short;
-  answer = subst (λ (a : Result Toc FipFault). Answers {T = T} (refusal_by (Ok L) a) (Ok x)) (sym t.table) (subst (λ (o : Option Reply). Answers {T = T} (refused_image o) (Ok x)) (sym chosen.none) (λ early. early));
+  answer = subst (λ (a : Result Toc FipFault). Answers {T = T} (refusal_by (Ok L) a) (Ok x)) (sym t.table) (subst (λ (o : Option ImageFault). Answers {T = T} (option_map refused o) (Ok x)) (sym chosen.none) (λ early. early));
 }
 
-pub of_refused : (T : Type 0) (L : Layout) (toc : Toc) (fault : InputFault) → IsTableOfBytes (Ok toc) → refused_image (first_image_fault L.rows toc) ≡ Some fault → IsOfBytes {T = T} (Ok L) (Err (Input fault))
+pub of_refused : (T : Type 0) (L : Layout) (toc : Toc) (fault : ImageFault) → IsTableOfBytes (Ok toc) → images_fault L.rows toc ≡ Some fault → IsOfBytes {T = T} (Ok L) (Err (Input (refused fault)))
 of_refused T L toc fault t is = record {
   bytes = t.bytes;
   short = t.short;
-  answer = subst (λ (a : Result Toc FipFault). Answers {T = T} (refusal_by (Ok L) a) (Err (Input fault))) (sym t.table) (subst (λ (o : Option InputFault). Answers {T = T} o (Err (Input fault))) (sym is) (inl refl));
+  answer = subst (λ (a : Result Toc FipFault). Answers {T = T} (refusal_by (Ok L) a) (Err (Input (refused fault)))) (sym t.table) (subst (λ (o : Option ImageFault). Answers {T = T} (option_map refused o) (Err (Input (refused fault)))) (sym is) (inl refl));
 }
 
 -- ---- no layout

@@ -24,7 +24,7 @@ use Rattle.image_check.specs.Verdict.{verdict_on}
 use Rattle.image_check.proofs.Permitted.{good, permitted}
 use Rattle.moves.proofs.SamePackages.{package-same}
 use Rattle.moves.proofs.Packages.{package-held}
-use Rattle.flash_format.specs.Choosing.{AreChosen, no_entry, no_row}
+use Rattle.fip_tables.specs.Images.{AreImages, no_entry, no_row}
 use Rattle.flash_format.specs.Formatted.{first_state, HoldsImages, IsFormatted, IsRefused}
 use Rattle.flash_format.specs.Places.{AllStand, Erased}
 use Rattle.flash_format.proofs.Pieces.{length-payload}
@@ -85,7 +85,7 @@ refused passes L found s t same room erased is bad = subst (λ (u : Told). IsRef
 
 -- ---- the images
 
-module _ (L : Layout) (file : List ℕ) (toc : Toc) (entries : List Entry) (chosen : AreChosen L.rows toc entries) (stored : All (λ e. e.offset + e.size ≤ length file) entries) where
+module _ (L : Layout) (file : List ℕ) (toc : Toc) (entries : List Entry) (chosen : AreImages L.rows toc entries) (stored : All (λ e. e.offset + e.size ≤ length file) entries) where
   abbrev images : List (List ℕ)
   images = images_of L.rows file toc
 

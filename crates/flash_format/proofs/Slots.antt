@@ -7,7 +7,7 @@ use Rattle.flash_core.specs.Told.{Told}
 use Rattle.flash_core.specs.May.{Keeps}
 use Rattle.fwu_formats.specs.Layout.{ImageRow, Layout, slot_total, start, slot_bytes}
 use Rattle.fwu_formats.specs.Package.{Entry, payload}
-use Rattle.flash_format.specs.Choosing.{no_row, no_entry}
+use Rattle.fip_tables.specs.Images.{no_row, no_entry}
 use Rattle.flash_format.specs.Places.{Stands, AllStand}
 use Rattle.flash_format.proofs.Ranges.{stands_stays}
 

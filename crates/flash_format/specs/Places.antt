@@ -3,7 +3,7 @@ use Rattle.std.specs.Prelude.{◌≡◌, ℕ, ◌+◌, ◌*◌, ◌<◌, ◌≤�
 use Rattle.base_core.specs.Block.{block_bytes}
 use Rattle.fwu_formats.specs.Layout.{Layout, start, slot_bytes}
 use Rattle.fwu_formats.specs.Package.{Entry, payload}
-use Rattle.flash_format.specs.Choosing.{no_entry}
+use Rattle.fip_tables.specs.Images.{no_entry}
 
 -- the bytes from one place to before another are erased
 abbrev pub Erased : ℕ → ℕ → List ℕ → Type 0

@@ -5,7 +5,7 @@ use Rattle.host_io.specs.Contents.{Directory}
 use Rattle.fwu_formats.specs.Layout.{Layout}
 use Rattle.fwu_formats.specs.Package.{Entry, Toc, toc_of}
 use Rattle.fip_tables.specs.Files.{Lacks, Tells}
-use Rattle.flash_format.specs.Choosing.{AreChosen, no_entry, no_row}
+use Rattle.fip_tables.specs.Images.{AreImages, no_entry, no_row}
 
 -- each payload can be read of the file, and fits its slot
 pub record IsPlanned (told : Option Directory) (name : List ℕ) (L : Layout) (entries : List Entry) : Type 0 where
@@ -20,4 +20,4 @@ pub record IsPlanned (told : Option Directory) (name : List ℕ) (L : Layout) (e
 pub record HasToc (file : List ℕ) (L : Layout) (entries : List Entry) : Type 0 where
   pub toc : Toc
   pub is : toc_of file ≡ Ok toc
-  pub chosen : AreChosen L.rows toc entries
+  pub chosen : AreImages L.rows toc entries

@@ -1,11 +1,13 @@
 //! Writing the images of a package into bank 0.
-ghost use Rattle.std.specs.Prelude.{◌≡◌, ◌+◌, ◌*◌, ◌^◌, ◌<◌, ◌≤◌, ℕ, List, All, length, slice_index_or, is_ok, IsTrue, OnOk};
+ghost use Rattle.std.specs.Prelude.{◌≡◌, ◌+◌, ◌*◌, ◌^◌, ◌<◌, ◌≤◌, ℕ, List, All, length, slice_index_or, IsTrue, OnOk};
 ghost use Rattle.base_core.specs.Block.{block_bytes};
-ghost use Rattle.flash_core.specs.Counts.{Spends, StaysUnarmed, lowered_by};
+ghost use Rattle.flash_core.specs.Calls.{Goes};
+ghost use Rattle.flash_core.specs.Counts.{lowered_by};
 ghost use Rattle.flash_core.specs.May.{Keeps};
 ghost use Rattle.fwu_formats.specs.Layout.{blocks_needed, slot_total};
+ghost use Rattle.host_io.specs.Reads.{ReadsFile};
 ghost use Rattle.fip_tables.specs.Files.{Lacks, Tells};
-ghost use Rattle.flash_format.specs.Choosing.{no_entry, no_row};
+ghost use Rattle.fip_tables.specs.Images.{no_entry, no_row};
 ghost use Rattle.flash_format.specs.Cleared.{LeavesNoMore};
 ghost use Rattle.flash_format.specs.Places.{Erased, AllStand};
 ghost use Rattle.flash_format.specs.Stops.{flash_result, ReadsBy, RefusesNothing, unread_in};
@@ -45,15 +47,10 @@ pub fn write_bank<D: Flash, H: Files>(
     ensures bytes { OnOk result (IsTrue D.tells → (file : List ℕ) →
         Tells (H.contents files.old) name.now file
         → AllStand (length layout.now.rows) layout.now file entries.now (D.told flash.new).now) }
-    ensures power { D.on flash.new ≡ is_ok (flash_result result) }
-    ensures size { D.blocks flash.new ≡ D.blocks flash.old }
-    ensures costs { Spends (flash_result result) (D.counts flash.old) (D.counts flash.new) }
+    ensures goes { Goes D.Flash (flash_result result) flash.old flash.new }
     ensures spent { OnOk result (D.arming flash.new
         ≡ lowered_by (pieces_in entries.now) (D.arming flash.old)) }
-    ensures unarmed { StaysUnarmed (flash_result result) (D.arming flash.old) (D.arming flash.new)
-        (D.counts flash.old) (D.counts flash.new) }
-    ensures same { H.contents files.new ≡ H.contents files.old }
-    ensures unwritten { H.writes files.new ≡ H.writes files.old }
+    ensures files { ReadsFile H.Files name.now files.old files.new }
     ensures once { H.faults files.new ≤ H.faults files.old + unread_in result }
     ensures reads { ReadsBy (H.contents files.old) name.now (H.faults files.old)
         (H.faults files.new) result }

@@ -1,7 +1,8 @@
 //! Erasing the front of a flash.
-ghost use Rattle.std.specs.Prelude.{◌≡◌, ◌⊎◌, ◌-◌, ◌*◌, ◌≤◌, is_ok, IsTrue, OnOk};
+ghost use Rattle.flash_core.specs.Calls.{Goes};
+ghost use Rattle.std.specs.Prelude.{◌≡◌, ◌⊎◌, ◌-◌, ◌*◌, ◌≤◌, IsTrue, OnOk};
 ghost use Rattle.base_core.specs.Block.{block_bytes};
-ghost use Rattle.flash_core.specs.Counts.{Spends, StaysUnarmed, lowered_by};
+ghost use Rattle.flash_core.specs.Counts.{lowered_by};
 ghost use Rattle.flash_core.specs.May.{Keeps};
 ghost use Rattle.flash_core.specs.Told.{NothingDirty};
 ghost use Rattle.flash_format.specs.Cleared.{IsBare, OnlyErased};
@@ -17,13 +18,9 @@ fn erase_layout<D: Flash>(flash: &mut D) -> Result<(), FlashStop>
     ensures erased { OnOk result (IsTrue D.tells → Erased 0 block_bytes (D.told flash.new).now) }
     ensures clean { OnOk result (IsTrue D.tells → NothingDirty (D.told flash.new)) }
     ensures only { IsTrue D.tells → OnlyErased (D.told flash.old) (D.told flash.new) }
-    ensures power { D.on flash.new ≡ is_ok result }
-    ensures size { D.blocks flash.new ≡ D.blocks flash.old }
-    ensures costs { Spends result (D.counts flash.old) (D.counts flash.new) }
+    ensures goes { Goes D.Flash result flash.old flash.new }
     // on every device: one erase
     ensures spent { OnOk result (D.arming flash.new ≡ lowered_by 1 (D.arming flash.old)) }
-    ensures unarmed { StaysUnarmed result (D.arming flash.old) (D.arming flash.new)
-        (D.counts flash.old) (D.counts flash.new) }
 {
     flash.erase(0)?;
     flash.barrier()
@@ -38,12 +35,8 @@ fn erase_behind<D: Flash>(flash: &mut D, count: u32) -> Result<(), FlashStop>
     ensures keeps { IsTrue D.tells → Keeps block_bytes (block_bytes * count) (D.told flash.old) (D.told flash.new) }
     ensures erased { OnOk result (IsTrue D.tells → Erased block_bytes (block_bytes * count) (D.told flash.new).now) }
     ensures only { IsTrue D.tells → OnlyErased (D.told flash.old) (D.told flash.new) }
-    ensures power { D.on flash.new ≡ is_ok result }
-    ensures size { D.blocks flash.new ≡ D.blocks flash.old }
-    ensures costs { Spends result (D.counts flash.old) (D.counts flash.new) }
+    ensures goes { Goes D.Flash result flash.old flash.new }
     ensures spent { OnOk result (D.arming flash.new ≡ lowered_by (count - 1) (D.arming flash.old)) }
-    ensures unarmed { StaysUnarmed result (D.arming flash.old) (D.arming flash.new)
-        (D.counts flash.old) (D.counts flash.new) }
 {
     for block in 1..count {
         flash.erase(block)?;
@@ -64,13 +57,9 @@ pub fn erase_all<D: Flash>(flash: &mut D, count: u32) -> Result<(), FlashStop>
     ensures first { IsTrue D.tells → Keeps 0 block_bytes (D.told flash.old) (D.told flash.new) ⊎
         IsBare (D.told flash.new) }
     ensures bare { OnOk result (IsTrue D.tells → IsBare (D.told flash.new)) }
-    ensures power { D.on flash.new ≡ is_ok result }
-    ensures size { D.blocks flash.new ≡ D.blocks flash.old }
-    ensures costs { Spends result (D.counts flash.old) (D.counts flash.new) }
+    ensures goes { Goes D.Flash result flash.old flash.new }
     // on every device: one erase of each block
     ensures spent { OnOk result (D.arming flash.new ≡ lowered_by count (D.arming flash.old)) }
-    ensures unarmed { StaysUnarmed result (D.arming flash.old) (D.arming flash.new)
-        (D.counts flash.old) (D.counts flash.new) }
 {
     erase_layout(flash)?;
     erase_behind(flash, count)

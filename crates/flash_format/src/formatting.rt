@@ -1,7 +1,8 @@
 //! Formatting a flash.
-ghost use Rattle.std.specs.Prelude.{◌≡◌, ◌+◌, ◌⊎◌, ◌*◌, ◌≤◌, ℕ, List, Ok, Err, false, IfOk, IfErr, OnOk, length, is_ok, IsTrue};
+ghost use Rattle.std.specs.Prelude.{◌≡◌, ◌+◌, ◌⊎◌, ◌*◌, ◌≤◌, ℕ, List, Ok, Err, false, IfOk, IfErr, OnOk, length, IsTrue};
 ghost use Rattle.base_core.specs.Block.{block_bytes};
-ghost use Rattle.flash_core.specs.Counts.{Spends, StaysUnarmed, lowered_by};
+ghost use Rattle.flash_core.specs.Calls.{Goes};
+ghost use Rattle.flash_core.specs.Counts.{lowered_by};
 ghost use Rattle.flash_core.specs.May.{Keeps};
 ghost use Rattle.flash_core.specs.Told.{NothingDirty};
 ghost use Rattle.fwu_formats.specs.Layout.{blocks_needed};
@@ -9,6 +10,7 @@ ghost use Rattle.fwu_formats.specs.Package.{Toc, toc_of};
 ghost use Rattle.fwu_model.specs.Answer.{images_of};
 ghost use Rattle.fwu_formats.specs.Manifest.{is_complete, manifest_part};
 ghost use Rattle.meta_layout.specs.Rows.{fitted};
+ghost use Rattle.host_io.specs.Reads.{ReadsFile};
 ghost use Rattle.fip_tables.specs.Files.{Lacks, Tells};
 ghost use Rattle.image_check.specs.Law.{may_start};
 ghost use Rattle.image_check.specs.Passed.{HasPassed};
@@ -35,7 +37,7 @@ use meta_layout::Layout;
 use verify_core::Verifier;
 
 /// What a flash was formatted with.
-#[derive(Clone, Copy, Debug, PartialEq, Eq)]
+#[derive(Clone, Copy)]
 pub struct Formatted {
     pub layout: Layout,
     /// The security version of the package.
@@ -67,9 +69,7 @@ fn finish<D: Flash, V: Verifier>(
         IsOrdered layout.now (D.told flash.new) }
     ensures whole { IsTrue D.tells → NothingDirty (D.told flash.old) →
         IsWhole (V.passes verifier.now) layout.now (D.told flash.new) }
-    ensures power { D.on flash.new ≡ is_ok (flash_result result) }
-    ensures size { D.blocks flash.new ≡ D.blocks flash.old }
-    ensures costs { Spends (flash_result result) (D.counts flash.old) (D.counts flash.new) }
+    ensures goes { Goes D.Flash (flash_result result) flash.old flash.new }
     ensures spent { OnOk result (D.arming flash.new ≡ lowered_by 3 (D.arming flash.old)) }
     ensures worn { (found : Verdict) → result ≡ Err (InputRefused (BankRefused found)) →
         D.arming flash.new ≡ D.arming flash.old }
@@ -77,8 +77,6 @@ fn finish<D: Flash, V: Verifier>(
         may_start found ≡ false }
     ensures seen { (found : Verdict) → result ≡ Err (InputRefused (BankRefused found)) →
         HasPassed (V.passes verifier.now) layout.now.rows 0 found }
-    ensures unarmed { StaysUnarmed (flash_result result) (D.arming flash.old) (D.arming flash.new)
-        (D.counts flash.old) (D.counts flash.new) }
     ensures stops { RefusesBank result }
 {
     let _rows = layout.rows();
@@ -118,9 +116,7 @@ fn carry_out<D: Flash, H: Files, V: Verifier>(
     // At any exit block 0 goes first and the layout comes last, whatever a loss leaves.
     ensures ordered { IsTrue D.tells →
         IsInOrder (V.passes verifier.now) plan.now.layout (D.told flash.old) (D.told flash.new) }
-    ensures power { D.on flash.new ≡ is_ok (flash_result result) }
-    ensures size { D.blocks flash.new ≡ D.blocks flash.old }
-    ensures costs { Spends (flash_result result) (D.counts flash.old) (D.counts flash.new) }
+    ensures goes { Goes D.Flash (flash_result result) flash.old flash.new }
     ensures spent { OnOk result (D.arming flash.new
         ≡ lowered_by (writes_of plan.now.layout (pieces_in plan.now.entries) 3) (D.arming flash.old)) }
     ensures worn { (found : Verdict) → result ≡ Err (InputRefused (BankRefused found)) → D.arming flash.new
@@ -129,11 +125,8 @@ fn carry_out<D: Flash, H: Files, V: Verifier>(
         may_start found ≡ false }
     ensures seen { (found : Verdict) → result ≡ Err (InputRefused (BankRefused found)) →
         HasPassed (V.passes verifier.now) plan.now.layout.rows 0 found }
-    ensures unarmed { StaysUnarmed (flash_result result) (D.arming flash.old) (D.arming flash.new)
-        (D.counts flash.old) (D.counts flash.new) }
     ensures stops { IsEarly result → ⊥ }
-    ensures same { H.contents files.new ≡ H.contents files.old }
-    ensures unwritten { H.writes files.new ≡ H.writes files.old }
+    ensures files { ReadsFile H.Files name.now files.old files.new }
     ensures once { H.faults files.new ≤ H.faults files.old + unread_in result }
     ensures reads { ReadsBy (H.contents files.old) name.now (H.faults files.old)
         (H.faults files.new) result }
@@ -217,9 +210,7 @@ pub fn format<D: Flash, H: Files, V: Verifier>(
     ensures keeps { IsTrue D.tells →
         Keeps 0 (block_bytes * blocks_needed (record { banks = banks; rows = rows.now }))
         (D.told flash.old) (D.told flash.new) }
-    ensures power { D.on flash.new ≡ is_ok (flash_result result) }
-    ensures size { D.blocks flash.new ≡ D.blocks flash.old }
-    ensures costs { Spends (flash_result result) (D.counts flash.old) (D.counts flash.new) }
+    ensures goes { Goes D.Flash (flash_result result) flash.old flash.new }
     // On every device, in total: an erase for each block up to the last bank's end, and a program for each piece of an image, for
     // each replica and for the layout; where what is in the bank is refused, none for replicas and layout.
     ensures spent { IfOk result (λ done.
@@ -233,10 +224,7 @@ pub fn format<D: Flash, H: Files, V: Verifier>(
         may_start found ≡ false }
     ensures seen { (found : Verdict) → result ≡ Err (InputRefused (BankRefused found)) →
         HasPassed (V.passes verifier.now) rows.now 0 found }
-    ensures unarmed { StaysUnarmed (flash_result result) (D.arming flash.old) (D.arming flash.new)
-        (D.counts flash.old) (D.counts flash.new) }
-    ensures same { H.contents files.new ≡ H.contents files.old }
-    ensures unwritten { H.writes files.new ≡ H.writes files.old }
+    ensures files { ReadsFile H.Files name.now files.old files.new }
     // On any files: no call of them failed but the one that is told.
     ensures once { H.faults files.new ≤ H.faults files.old + unread_in result }
     ensures reads { ReadsBy (H.contents files.old) name.now (H.faults files.old)

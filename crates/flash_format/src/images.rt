@@ -1,10 +1,12 @@
 //! Writing an image of a package into its slot.
-ghost use Rattle.std.specs.Prelude.{◌≡◌, ◌+◌, ◌*◌, ◌%◌, ◌^◌, ◌<◌, ◌≤◌, ℕ, List, length, drop, is_ok, IsTrue, IfOk, OnOk};
+ghost use Rattle.std.specs.Prelude.{◌≡◌, ◌+◌, ◌*◌, ◌%◌, ◌^◌, ◌<◌, ◌≤◌, ℕ, List, length, drop, IsTrue, IfOk, OnOk};
 ghost use Rattle.base_core.specs.Block.{block_bytes, granule_bytes, blank};
-ghost use Rattle.flash_core.specs.Counts.{Spends, StaysUnarmed, lowered_by};
+ghost use Rattle.flash_core.specs.Calls.{Goes};
+ghost use Rattle.flash_core.specs.Counts.{lowered_by};
 ghost use Rattle.flash_core.specs.May.{Keeps};
 ghost use Rattle.host_io.specs.Causes.{HasCause};
 ghost use Rattle.fwu_formats.specs.Package.{payload};
+ghost use Rattle.host_io.specs.Reads.{ReadsFile};
 ghost use Rattle.fip_tables.specs.Files.{Lacks, Tells};
 ghost use Rattle.flash_format.specs.Cleared.{LeavesNoMore};
 ghost use Rattle.flash_format.specs.Places.{Erased, Stands};
@@ -42,8 +44,7 @@ fn read_piece<H: Files>(
     ensures some { IfOk result (λ n. (0 < n) × (n ≤ block_bytes)) }
     ensures erased { IfOk result (λ n. Erased n block_bytes out.new) }
     ensures buffer { length out.new ≡ block_bytes }
-    ensures same { H.contents files.new ≡ H.contents files.old }
-    ensures unwritten { H.writes files.new ≡ H.writes files.old }
+    ensures files { ReadsFile H.Files name.now files.old files.new }
     ensures cause { HasCause (H.faults files.old) (H.faults files.new) result }
 {
     let size = (entry.size - done).min(PIECE) as usize;
@@ -77,14 +78,9 @@ fn write_piece<D: Flash, H: Files>(
     ensures bytes { OnOk result (IsTrue D.tells → (file : List ℕ) →
         Tells (H.contents files.old) name.now file
         → Stands (block_bytes * block) block_bytes (drop done (payload file entry.now)) (D.told flash.new).now) }
-    ensures power { D.on flash.new ≡ is_ok (flash_result result) }
-    ensures size { D.blocks flash.new ≡ D.blocks flash.old }
-    ensures costs { Spends (flash_result result) (D.counts flash.old) (D.counts flash.new) }
+    ensures goes { Goes D.Flash (flash_result result) flash.old flash.new }
     ensures spent { OnOk result (D.arming flash.new ≡ lowered_by 1 (D.arming flash.old)) }
-    ensures unarmed { StaysUnarmed (flash_result result) (D.arming flash.old) (D.arming flash.new)
-        (D.counts flash.old) (D.counts flash.new) }
-    ensures same { H.contents files.new ≡ H.contents files.old }
-    ensures unwritten { H.writes files.new ≡ H.writes files.old }
+    ensures files { ReadsFile H.Files name.now files.old files.new }
     ensures once { H.faults files.new ≤ H.faults files.old + unread_in result }
     ensures reads { ReadsBy (H.contents files.old) name.now (H.faults files.old)
         (H.faults files.new) result }
@@ -124,16 +120,11 @@ pub fn write_image<D: Flash, H: Files>(
     ensures bytes { OnOk result (IsTrue D.tells → (file : List ℕ) →
         Tells (H.contents files.old) name.now file
         → Stands (block_bytes * first) (block_bytes * slots) (payload file entry.now) (D.told flash.new).now) }
-    ensures power { D.on flash.new ≡ is_ok (flash_result result) }
-    ensures size { D.blocks flash.new ≡ D.blocks flash.old }
-    ensures costs { Spends (flash_result result) (D.counts flash.old) (D.counts flash.new) }
+    ensures goes { Goes D.Flash (flash_result result) flash.old flash.new }
     // on every device: one program of each piece
     ensures spent { OnOk result (D.arming flash.new
         ≡ lowered_by (pieces_of entry.now.size) (D.arming flash.old)) }
-    ensures unarmed { StaysUnarmed (flash_result result) (D.arming flash.old) (D.arming flash.new)
-        (D.counts flash.old) (D.counts flash.new) }
-    ensures same { H.contents files.new ≡ H.contents files.old }
-    ensures unwritten { H.writes files.new ≡ H.writes files.old }
+    ensures files { ReadsFile H.Files name.now files.old files.new }
     ensures once { H.faults files.new ≤ H.faults files.old + unread_in result }
     ensures reads { ReadsBy (H.contents files.old) name.now (H.faults files.old)
         (H.faults files.new) result }

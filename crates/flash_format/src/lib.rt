@@ -3,7 +3,6 @@
 #![tactic(auto)]
 
 mod bank;
-mod choosing;
 mod erasing;
 mod formatting;
 mod images;

@@ -2,17 +2,18 @@
 ghost use Rattle.std.specs.Prelude.{◌≡◌, ◌≤◌, ◌+◌, ◌⊎◌, ℕ, List, Ok, Err, IfOk, IfErr};
 ghost use Rattle.fwu_formats.specs.Package.{toc_of};
 ghost use Rattle.meta_layout.specs.Rows.{fitted};
+ghost use Rattle.host_io.specs.Reads.{ReadsFile};
 ghost use Rattle.fip_tables.specs.Files.{Lacks, Tells};
 ghost use Rattle.flash_format.specs.Choosing.{refusal, refusal_by};
 ghost use Rattle.flash_format.specs.Planned.{IsPlanned, HasToc};
 ghost use Rattle.flash_format.specs.Stops.{Answers, IsOfBytes, IsOfLayout, LayoutBy, ReadsBy, StopsEarly, unread_in};
 ghost use Rattle.flash_format.specs.declared.stops.FormatStop.TheVariants.{ReadFailed as FileFailed};
 
-use crate::choosing::choose;
 use crate::plan::Plan;
 use crate::stops::{FormatStop, InputFault};
 use crate::table::read_table;
 use base_core::ImageRow;
+use fip_tables::images_of;
 use host_io::Files;
 use meta_layout::Layout;
 
@@ -28,15 +29,14 @@ fn plan_of<H: Files>(files: &mut H, name: &str, layout: Layout) -> Result<Plan, 
     ensures missing { Lacks (H.contents files.old) name.now → result ≡ Err FileFailed }
     ensures other { IsOfLayout result → ⊥ }
     ensures stops { IfErr result StopsEarly }
-    ensures same { H.contents files.new ≡ H.contents files.old }
-    ensures unwritten { H.writes files.new ≡ H.writes files.old }
+    ensures files { ReadsFile H.Files name.now files.old files.new }
     ensures once { H.faults files.new ≤ H.faults files.old + unread_in result }
     ensures reads { ReadsBy (H.contents files.old) name.now (H.faults files.old)
         (H.faults files.new) result }
 {
     let toc = read_table(files, name)?;
     let _rows = layout.rows();
-    let entries = choose(layout.rows(), &toc)?;
+    let entries = images_of(layout.rows(), &toc)?;
     Ok(Plan { layout, entries })
 }
 
@@ -61,8 +61,7 @@ pub fn plan<H: Files>(
     ensures missing { Lacks (H.contents files.old) name.now → IsOfLayout result ⊎
         (result ≡ Err FileFailed) }
     ensures stops { IfErr result StopsEarly }
-    ensures same { H.contents files.new ≡ H.contents files.old }
-    ensures unwritten { H.writes files.new ≡ H.writes files.old }
+    ensures files { ReadsFile H.Files name.now files.old files.new }
     ensures once { H.faults files.new ≤ H.faults files.old + unread_in result }
     ensures reads { ReadsBy (H.contents files.old) name.now (H.faults files.old)
         (H.faults files.new) result }

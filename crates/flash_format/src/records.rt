@@ -1,7 +1,8 @@
 //! The metadata and the layout of a flash that is formatted.
-ghost use Rattle.std.specs.Prelude.{◌≡◌, ◌*◌, ◌%◌, ◌<◌, ◌≤◌, Ok, length, is_ok, IsTrue, OnOk};
+ghost use Rattle.flash_core.specs.Calls.{Goes};
+ghost use Rattle.std.specs.Prelude.{◌≡◌, ◌*◌, ◌%◌, ◌<◌, ◌≤◌, Ok, length, IsTrue, OnOk};
 ghost use Rattle.base_core.specs.Block.{block_bytes, granule_bytes, block};
-ghost use Rattle.flash_core.specs.Counts.{Spends, StaysUnarmed, lowered_by};
+ghost use Rattle.flash_core.specs.Counts.{lowered_by};
 ghost use Rattle.flash_core.specs.May.{Keeps};
 ghost use Rattle.flash_core.specs.Told.{NothingDirty};
 ghost use Rattle.flash_core.specs.Replaces.{padded};
@@ -30,12 +31,8 @@ fn write_twice<D: Flash>(flash: &mut D, bytes: &[u8]) -> Result<(), FlashStop>
         block 1 (D.told flash.new).now ≡ padded bytes.now) }
     ensures one { OnOk result (IsTrue D.tells → block 2 (D.told flash.new).now ≡ padded bytes.now) }
     ensures clean { OnOk result (IsTrue D.tells → NothingDirty (D.told flash.new)) }
-    ensures power { D.on flash.new ≡ is_ok result }
-    ensures size { D.blocks flash.new ≡ D.blocks flash.old }
-    ensures costs { Spends result (D.counts flash.old) (D.counts flash.new) }
+    ensures goes { Goes D.Flash result flash.old flash.new }
     ensures spent { OnOk result (D.arming flash.new ≡ lowered_by 2 (D.arming flash.old)) }
-    ensures unarmed { StaysUnarmed result (D.arming flash.old) (D.arming flash.new)
-        (D.counts flash.old) (D.counts flash.new) }
 {
     flash.program(BLOCK_BYTES * FIRST_REPLICA, bytes)?;
     flash.program(BLOCK_BYTES * SECOND_REPLICA, bytes)?;
@@ -55,12 +52,8 @@ fn write_replicas<D: Flash>(flash: &mut D, layout: &Layout) -> Result<(), FlashS
     ensures one { OnOk result (IsTrue D.tells →
         block 2 (D.told flash.new).now ≡ padded (replica_bytes layout.now (first_meta layout.now))) }
     ensures clean { OnOk result (IsTrue D.tells → NothingDirty (D.told flash.new)) }
-    ensures power { D.on flash.new ≡ is_ok result }
-    ensures size { D.blocks flash.new ≡ D.blocks flash.old }
-    ensures costs { Spends result (D.counts flash.old) (D.counts flash.new) }
+    ensures goes { Goes D.Flash result flash.old flash.new }
     ensures spent { OnOk result (D.arming flash.new ≡ lowered_by 2 (D.arming flash.old)) }
-    ensures unarmed { StaysUnarmed result (D.arming flash.old) (D.arming flash.new)
-        (D.counts flash.old) (D.counts flash.new) }
 {
     let mut bytes = [0xFF; BLOCK_BYTES as usize];
     let meta = Meta::first(layout);
@@ -83,12 +76,8 @@ fn write_layout<D: Flash>(flash: &mut D, layout: &Layout) -> Result<(), FlashSto
         block 0 (D.told flash.new).now ≡ padded (layout_bytes layout.now)) }
     ensures seen { IsTrue D.tells → HasAtMost layout.now (D.told flash.new).now }
     ensures clean { OnOk result (IsTrue D.tells → NothingDirty (D.told flash.new)) }
-    ensures power { D.on flash.new ≡ is_ok result }
-    ensures size { D.blocks flash.new ≡ D.blocks flash.old }
-    ensures costs { Spends result (D.counts flash.old) (D.counts flash.new) }
+    ensures goes { Goes D.Flash result flash.old flash.new }
     ensures spent { OnOk result (D.arming flash.new ≡ lowered_by 1 (D.arming flash.old)) }
-    ensures unarmed { StaysUnarmed result (D.arming flash.old) (D.arming flash.new)
-        (D.counts flash.old) (D.counts flash.new) }
 {
     let mut bytes = [0xFF; BLOCK_BYTES as usize];
     layout.write(&mut bytes);
@@ -114,13 +103,9 @@ pub fn write_records<D: Flash>(flash: &mut D, layout: &Layout) -> Result<(), Fla
     // Whatever a loss leaves, no layout is there before both replicas are.
     ensures ordered { IsTrue D.tells → NothingDirty (D.told flash.old) →
         IsOrdered layout.now (D.told flash.new) }
-    ensures power { D.on flash.new ≡ is_ok result }
-    ensures size { D.blocks flash.new ≡ D.blocks flash.old }
-    ensures costs { Spends result (D.counts flash.old) (D.counts flash.new) }
+    ensures goes { Goes D.Flash result flash.old flash.new }
     // on every device: one program of each replica, and one of the layout
     ensures spent { OnOk result (D.arming flash.new ≡ lowered_by 3 (D.arming flash.old)) }
-    ensures unarmed { StaysUnarmed result (D.arming flash.old) (D.arming flash.new)
-        (D.counts flash.old) (D.counts flash.new) }
 {
     write_replicas(flash, layout)?;
     write_layout(flash, layout)

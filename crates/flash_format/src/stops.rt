@@ -1,8 +1,10 @@
 //! Why a flash was not formatted.
 ghost use Rattle.std.specs.Prelude.{◌≡◌};
+ghost use Rattle.flash_format.specs.Choosing.{refused};
 ghost use Rattle.flash_format.specs.declared.stops.FormatStop.TheVariants.{Flash as FlashStopped, Input as InputRefused};
 
 use base_core::Guid;
+use fip_tables::ImageFault;
 use flash_core::FlashStop;
 use fwu_formats::{FipFault, LayoutFault};
 use image_check::Verdict;
@@ -54,5 +56,16 @@ impl From<InputFault> for FormatStop {
 
     fn from(fault: InputFault) -> Self {
         FormatStop::Input(fault)
+    }
+}
+
+impl From<ImageFault> for FormatStop {
+    ghost from_gives = { λ fault e. e ≡ InputRefused (refused fault) };
+
+    fn from(fault: ImageFault) -> Self {
+        match fault {
+            ImageFault::Missing(guid) => FormatStop::Input(InputFault::Missing(guid)),
+            ImageFault::TooLarge(guid) => FormatStop::Input(InputFault::TooLarge(guid)),
+        }
     }
 }

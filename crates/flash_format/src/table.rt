@@ -1,6 +1,7 @@
 //! The table of a package in a file.
 ghost use Rattle.std.specs.Prelude.{◌≡◌, ◌≤◌, ◌+◌, ◌^◌, ◌<◌, ℕ, List, Ok, Err, All, IfOk};
 ghost use Rattle.fwu_formats.specs.Package.{toc_of};
+ghost use Rattle.host_io.specs.Reads.{ReadsFile};
 ghost use Rattle.fip_tables.specs.Files.{Lacks, Tells};
 ghost use Rattle.flash_format.specs.Stops.{flash_result, ReadsBy, unread_in};
 ghost use Rattle.flash_format.specs.Table.{IsTable, IsTableOfBytes, StopsTable};
@@ -21,8 +22,7 @@ pub fn read_table<H: Files>(files: &mut H, name: &str) -> Result<Toc, FormatStop
     ensures missing { Lacks (H.contents files.old) name.now → result ≡ Err FileFailed }
     ensures there { IfOk result (λ toc. Lacks (H.contents files.old) name.now → ⊥) }
     ensures ends { IfOk result (λ toc. All (λ e. e.offset + e.size < 2 ^ 64) toc.entries) }
-    ensures same { H.contents files.new ≡ H.contents files.old }
-    ensures unwritten { H.writes files.new ≡ H.writes files.old }
+    ensures files { ReadsFile H.Files name.now files.old files.new }
     ensures once { H.faults files.new ≤ H.faults files.old + unread_in result }
     ensures reads { ReadsBy (H.contents files.old) name.now (H.faults files.old)
         (H.faults files.new) result }

@@ -1,9 +1,11 @@
 //! Writing the images of a plan, and testing them.
-ghost use Rattle.std.specs.Prelude.{◌≡◌, ◌⊎◌, ◌+◌, ◌*◌, ◌≤◌, ℕ, List, Ok, Err, true, false, length, is_ok, IsTrue, IfOk, OnOk};
+ghost use Rattle.std.specs.Prelude.{◌≡◌, ◌⊎◌, ◌+◌, ◌*◌, ◌≤◌, ℕ, List, Ok, Err, true, false, length, IsTrue, IfOk, OnOk};
 ghost use Rattle.base_core.specs.Block.{block_bytes};
-ghost use Rattle.flash_core.specs.Counts.{Spends, StaysUnarmed, lowered_by};
+ghost use Rattle.flash_core.specs.Calls.{Goes};
+ghost use Rattle.flash_core.specs.Counts.{lowered_by};
 ghost use Rattle.flash_core.specs.May.{Keeps};
 ghost use Rattle.fwu_formats.specs.Layout.{blocks_needed};
+ghost use Rattle.host_io.specs.Reads.{ReadsFile};
 ghost use Rattle.fip_tables.specs.Files.{Tells};
 ghost use Rattle.image_check.specs.Law.{may_start};
 ghost use Rattle.image_check.specs.Passed.{HasPassed};
@@ -58,16 +60,11 @@ pub fn fill<D: Flash, H: Files>(
     ensures bytes { OnOk result (IsTrue D.tells → (file : List ℕ) →
         Tells (H.contents files.old) name.now file
         → AllStand (length plan.now.layout.rows) plan.now.layout file plan.now.entries (D.told flash.new).now) }
-    ensures power { D.on flash.new ≡ is_ok (flash_result result) }
-    ensures size { D.blocks flash.new ≡ D.blocks flash.old }
-    ensures costs { Spends (flash_result result) (D.counts flash.old) (D.counts flash.new) }
+    ensures goes { Goes D.Flash (flash_result result) flash.old flash.new }
     // on every device: one erase of each block, and one program of each piece of an image
     ensures spent { OnOk result (D.arming flash.new
         ≡ lowered_by (blocks_needed plan.now.layout + pieces_in plan.now.entries) (D.arming flash.old)) }
-    ensures unarmed { StaysUnarmed (flash_result result) (D.arming flash.old) (D.arming flash.new)
-        (D.counts flash.old) (D.counts flash.new) }
-    ensures same { H.contents files.new ≡ H.contents files.old }
-    ensures unwritten { H.writes files.new ≡ H.writes files.old }
+    ensures files { ReadsFile H.Files name.now files.old files.new }
     ensures once { H.faults files.new ≤ H.faults files.old + unread_in result }
     ensures reads { ReadsBy (H.contents files.old) name.now (H.faults files.old)
         (H.faults files.new) result }
@@ -100,12 +97,8 @@ pub fn check_bank<D: Flash, V: Verifier>(
         IsTrue D.tells →
         verdict_on (V.passes verifier.now) 0 layout.now (D.told flash.old).now 0 ≡ found }
     ensures content { IsTrue D.tells → D.told flash.new ≡ D.told flash.old }
-    ensures power { D.on flash.new ≡ is_ok (flash_result result) }
-    ensures size { D.blocks flash.new ≡ D.blocks flash.old }
-    ensures costs { Spends (flash_result result) (D.counts flash.old) (D.counts flash.new) }
+    ensures goes { Goes D.Flash (flash_result result) flash.old flash.new }
     ensures arming { OnOk (flash_result result) (D.arming flash.new ≡ D.arming flash.old) }
-    ensures unarmed { StaysUnarmed (flash_result result) (D.arming flash.old) (D.arming flash.new)
-        (D.counts flash.old) (D.counts flash.new) }
     ensures stops { RefusesBank result }
 {
     let mut buffer = [0; BLOCK_BYTES as usize];

@@ -14,9 +14,9 @@ use Rattle.fwu_formats.specs.Law.{HaveOneSpelling}
 use Rattle.fwu_formats.specs.declared.kinds.ManifestFault.{ManifestFault}
 use Rattle.fwu_formats.specs.declared.kinds.ManifestFault.TheVariants as fault
 use Rattle.fwu_formats.proofs.SealLaws.{was_not_refused}
-use Rattle.fwu_formats.proofs.Read.{same-Ok}
 use Rattle.fwu_formats.proofs.Spell.{num_front}
 use Rattle.fwu_formats.proofs.OneSpelling.{all-take, flat-map, next, next-num, pieces, layout-one-spelling, meta-one-spelling, record-one-spelling}
+use Rattle.base_core.proofs.Results.{same-Ok}
 
 by-form : (one two above : Bool) → IsTrue (one || (two && above)) → IsFalse (one && above) → ((one ≡ true) × (above ≡ false)) ⊎ ((two ≡ true) × (above ≡ true))
 by-form true two true has high = absurd cc

@@ -1,10 +1,10 @@
 -- What is read has one spelling: the bytes follow from the value.
-use Rattle.std.proofs.Common.{◌≡◌, ℕ, zero, suc, ◌+◌, ◌-◌, ◌*◌, ◌/◌, ◌%◌, ◌<◌, ◌≤◌, ◌⊎◌, inl, inr, Bool, true, false, not, ◌&&◌, ◌||◌, ◌==◌, IsTrue, ltb, leb, leb-true, eqb, eqb-true, ltb-true, ltb-false, List, [], ◌∷◌, ◌++◌, length, get_or, take, drop, drop-cons, map, replicate, Result, Ok, Err, refl, sym, ap, subst, ◌∙◌, arith, length-drop, zero-add, append-nil, append_assoc}
+use Rattle.std.proofs.Common.{◌≡◌, ℕ, zero, suc, ◌+◌, ◌-◌, ◌*◌, ◌/◌, ◌%◌, ◌<◌, ◌≤◌, inl, inr, Bool, false, not, ◌&&◌, ◌||◌, ◌==◌, IsTrue, ltb, leb, leb-true, eqb, eqb-true, ltb-true, ltb-false, List, [], ◌∷◌, ◌++◌, length, get_or, take, drop, drop-cons, map, replicate, Result, Ok, Err, refl, sym, ap, subst, ◌∙◌, arith, length-drop, zero-add, append-nil, append_assoc}
 use Rattle.std.specs.Prelude.{flat_map, nat_lt}
 use Rattle.std.specs.List.{list_all, range_with_len}
-use Rattle.std.proofs.Math.Nat.{suc-mul, mul-le-mul_right}
+use Rattle.std.proofs.Math.Nat.{suc-mul}
 use Rattle.std.proofs.Math.Seq.{take-add}
-use Rattle.std.proofs.lemmas.Bool.{and_parts, and_from, not-false, cond_both, cases_lt}
+use Rattle.std.proofs.lemmas.Bool.{and_parts, and_from, not-false, cond_both, cases_lt, or_cases}
 use Rattle.std.proofs.lemmas.List.{drop-drop, length-take-le, get_or-take, get_or-drop}
 use Rattle.std.proofs.lemmas.List.FromFn.{get_or-map-range_with_len, length-map-range_with_len, map-range_with_len_more}
 use Rattle.base_core.specs.Bytes.{num, le, num_at, part, same_bytes, listed, are_bytes}
@@ -18,7 +18,8 @@ use Rattle.fwu_formats.specs.declared.kinds.BankState.{BankState}
 use Rattle.fwu_formats.specs.declared.kinds.MetaFault.{MetaFault}
 use Rattle.fwu_formats.specs.declared.kinds.MetaFault.TheVariants as fault
 use Rattle.fwu_formats.proofs.SealLaws.{was_not_refused, limits}
-use Rattle.fwu_formats.proofs.Read.{same-Ok}
+use Rattle.base_core.proofs.Results.{same-Ok}
+use Rattle.base_core.proofs.Lists.{piece-within}
 
 -- ---- lists
 
@@ -40,9 +41,6 @@ listed-more f i first before after so next =
 pub map-last : (xs : List BankState) (x : BankState) → map state_byte (xs ++ x ∷ []) ≡ map state_byte xs ++ state_byte x ∷ []
 map-last [] x = refl
 map-last (y ∷ xs) x = ap (λ l. state_byte y ∷ l) (map-last xs x)
-
-piece-within : (image images size : ℕ) → image < images → image * size + size ≤ images * size
-piece-within image images size lt = omega (arith, mul-le-mul_right size lt)
 
 pub all-take : {X : Type 0} (test : X → Bool) (n : ℕ) (xs : List X) → IsTrue (list_all test xs) → IsTrue (list_all test (take n xs))
 all-take test zero xs h = refl
@@ -77,13 +75,9 @@ record IsState (v : ℕ) : Type 0 where
   back : state_byte (state_of_byte v) ≡ v
   small : v < 256
 
-either : (a b : Bool) → IsTrue (a || b) → IsTrue a ⊎ IsTrue b
-either true b h = inl refl
-either false b h = inr h
-
 a-state : (v : ℕ) → IsTrue (is_state_byte v) → IsState v
-a-state v h = elim (either ((v == 0xFF) || (v == 0xFE)) (v == 0xFC) h) [
-  | inl first ↦ elim (either (v == 0xFF) (v == 0xFE) first) [
+a-state v h = elim (or_cases ((v == 0xFF) || (v == 0xFE)) (v == 0xFC) h) [
+  | inl first ↦ elim (or_cases (v == 0xFF) (v == 0xFE) first) [
     | inl is ↦ subst IsState (sym (eqb-true v 0xFF is)) (record { back = refl; small = omega arith })
     | inr is ↦ subst IsState (sym (eqb-true v 0xFE is)) (record { back = refl; small = omega arith })
   ]

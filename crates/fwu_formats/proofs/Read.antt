@@ -18,6 +18,7 @@ use Rattle.fwu_formats.specs.declared.kinds.MetaFault.TheVariants as fault
 use Rattle.fwu_formats.specs.declared.kinds.ManifestFault.{ManifestFault}
 use Rattle.fwu_formats.specs.declared.kinds.LayoutFault.{LayoutFault}
 use Rattle.fwu_formats.proofs.SealLaws.{was_not_refused}
+use Rattle.base_core.proofs.Results.{same-Ok}
 
 -- ---- metadata that was read
 
@@ -26,13 +27,10 @@ pub record IsWholeMeta (L : Layout) (r : MetaRead) : Type 0 where
   pub form : (r.form ≡ 1) ⊎ (r.form ≡ 2)
   pub bits : (b : ℕ) → b < L.banks → length (get_or r.meta.bits b []) ≡ length L.rows
 
-pub same-Ok : {X F : Type 0} (x y : X) → ◌≡◌ {A = Result X F} (Ok x) (Ok y) → x ≡ y
-same-Ok x y e = cc
-
-bits-length : (L : Layout) (from : ℕ) (block : List ℕ) (b : ℕ) → length (bits_from L from block b) ≡ length L.rows
+pub bits-length : (L : Layout) (from : ℕ) (block : List ℕ) (b : ℕ) → length (bits_from L from block b) ≡ length L.rows
 bits-length L from block b = length-map-range_with_len _ 0 (length L.rows)
 
-v1-length : (k : BankState) (bits : List Bool) → length (bits_v1 k bits) ≡ length bits
+pub v1-length : (k : BankState) (bits : List Bool) → length (bits_v1 k bits) ≡ length bits
 v1-length Invalid bits = length-map bits (λ bit. false)
 v1-length Valid bits = refl
 v1-length Accepted bits = refl
@@ -78,7 +76,7 @@ read-is L block r e = by-result (meta_of L block) e
     by-result (Ok k) e = ap Ok (same_Some k r e)
     by-result (Err f) e = absurd cc
 
-first-whole : (a b : Option MetaRead) (r : MetaRead) → first_some a b ≡ Some r → (a ≡ Some r) ⊎ (b ≡ Some r)
+pub first-whole : (a b : Option MetaRead) (r : MetaRead) → first_some a b ≡ Some r → (a ≡ Some r) ⊎ (b ≡ Some r)
 first-whole (Some x) b r e = inl e
 first-whole None b r e = inr e
 

@@ -2,7 +2,7 @@
 use Rattle.std.proofs.Common.{◌≡◌, ℕ, zero, suc, ◌+◌, ◌*◌, ◌<◌, ◌≤◌, Bool, not, ◌||◌, ltb, List, [], ◌∷◌, length, get_or, take, drop, map, Option, Result, Ok, Err, refl, sym, ap, ◌∙◌, arith, length-take, length-drop, get_or-take, get_or-drop, ext_get_or}
 use Rattle.std.proofs.lemmas.List.Sums.{sum_by-cons}
 use Rattle.std.proofs.lemmas.List.FromFn.{length-map-range_with_len, get_or-map-range_with_len}
-use Rattle.std.specs.List.{range_with_len, prefix_len, list_all}
+use Rattle.std.specs.List.{range_with_len, list_all}
 use Rattle.base_core.specs.Bytes.{listed}
 use Rattle.fwu_formats.specs.Layout.{ImageRow, Layout, slot_total}
 use Rattle.fwu_formats.specs.Manifest.{Manifest, manifest_of, manifest_size}
@@ -10,6 +10,7 @@ use Rattle.fwu_formats.specs.Image.{is_blank, first_some, marks, is_tidy, slot, 
 use Rattle.base_core.specs.Block.{block, granule}
 use Rattle.fwu_formats.specs.Counter.{counter_in}
 use Rattle.fwu_formats.specs.declared.kinds.ManifestFault.{ManifestFault}
+use Rattle.base_core.proofs.Lists.{prefix-same}
 
 -- ---- equal parts of two images
 
@@ -48,11 +49,6 @@ granule-same : (xs ys : List ℕ) (b j : ℕ) → length xs ≡ length ys → j 
 unfolding granule
 granule-same xs ys b j len below same = range-same xs ys (4096 * b + 16 * j) 16 len (λ place low high. same place (omega (arith, low)) (omega (arith, high, below)))
 
--- the same below a bound
-prefix-same : (p q : ℕ → Bool) (from n : ℕ) → ((j : ℕ) → from ≤ j → j < from + n → p j ≡ q j) → prefix_len p (range_with_len from n) ≡ prefix_len q (range_with_len from n)
-prefix-same p q from zero h = refl
-prefix-same p q from (suc n) h = rw (h from (omega arith) (omega arith), prefix-same p q (from + 1) n (λ j low high. h j (omega (arith, low)) (omega (arith, high)))) refl
-
 all-same : (p q : ℕ → Bool) (from n : ℕ) → ((j : ℕ) → from ≤ j → j < from + n → p j ≡ q j) → list_all p (range_with_len from n) ≡ list_all q (range_with_len from n)
 all-same p q from zero h = refl
 all-same p q from (suc n) h = rw (h from (omega arith) (omega arith), all-same p q (from + 1) n (λ j low high. h j (omega (arith, low)) (omega (arith, high)))) refl
@@ -76,7 +72,7 @@ module _ (xs ys : List ℕ) (b limit : ℕ) (len : length xs ≡ length ys) (few
 
 -- ---- slots lie in their bank
 
-total-cons : (r : ImageRow) (rows : List ImageRow) → slot_total (r ∷ rows) ≡ r.slots + slot_total rows
+pub total-cons : (r : ImageRow) (rows : List ImageRow) → slot_total (r ∷ rows) ≡ r.slots + slot_total rows
 total-cons r rows = sum_by-cons (λ (x : ImageRow). x.slots) r rows
 
 pub slots-fit : (rows : List ImageRow) (i : ℕ) → slot_total (take i rows) + (get_or rows i (record { guid = []; slots = 0 })).slots ≤ slot_total rows
@@ -87,14 +83,14 @@ slots-fit (r ∷ rows) (suc i) = omega (arith, total-cons r rows, total-cons r (
 
 -- ---- a bank, and the counter
 
-images-same : (L : Layout) (xs ys : List ℕ) (b : ℕ) (m : Manifest) → ((i : ℕ) → slot L xs b i ≡ slot L ys b i) → images_in L xs b m ≡ images_in L ys b m
+pub images-same : (L : Layout) (xs ys : List ℕ) (b : ℕ) (m : Manifest) → ((i : ℕ) → slot L xs b i ≡ slot L ys b i) → images_in L xs b m ≡ images_in L ys b m
 images-same L xs ys b m same =
     let first : take (manifest_size (length m.rows)) (slot L xs b 0) ≡ take (manifest_size (length m.rows)) (slot L ys b 0) = ap (take (manifest_size (length m.rows))) (same 0) in
     let size_of = λ (j : ℕ). (get_or m.rows j (record { guid = []; size = 0; version = 0; digest = [] })).size in
     let rest = map-same (λ (j : ℕ). take (size_of j) (slot L xs b (j + 1))) (λ (j : ℕ). take (size_of j) (slot L ys b (j + 1))) (range_with_len 0 (length m.rows)) (λ j. ap (take (size_of j)) (same (j + 1))) in
     cc
 
-by-same : (L : Layout) (xs ys : List ℕ) (b : ℕ) (r : Result Manifest ManifestFault) → ((i : ℕ) → slot L xs b i ≡ slot L ys b i) → package_by L xs b r ≡ package_by L ys b r
+pub by-same : (L : Layout) (xs ys : List ℕ) (b : ℕ) (r : Result Manifest ManifestFault) → ((i : ℕ) → slot L xs b i ≡ slot L ys b i) → package_by L xs b r ≡ package_by L ys b r
 by-same L xs ys b (Err e) same = refl
 by-same L xs ys b (Ok m) same = ap (if_complete L.rows) (images-same L xs ys b m same)
 

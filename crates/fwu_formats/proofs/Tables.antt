@@ -1,25 +1,26 @@
 -- A package is read exactly where the equations of its table hold.
-use Rattle.std.proofs.Common.{◌≡◌, ◌≢◌, ℕ, zero, suc, ◌+◌, ◌*◌, ◌<◌, ◌≤◌, Bool, true, false, cond, not, ◌==◌, List, [], ◌∷◌, ◌++◌, length, get_or, take, Option, Some, None, Result, Ok, Err, refl, sym, ap, subst, ◌∙◌, arith, inl, inr, IsTrue, IsFalse, ltb, ltb-false, le-ltb, eq-eqb, ne_eqb, eqb-true, length-append, length-take, ext_get_or}
+use Rattle.std.proofs.Common.{◌≡◌, ◌≢◌, ℕ, zero, suc, ◌+◌, ◌*◌, ◌<◌, ◌≤◌, Bool, true, false, cond, not, ◌==◌, List, [], ◌∷◌, ◌++◌, length, get_or, take, Option, Some, None, Result, Ok, Err, refl, sym, ap, subst, ◌∙◌, arith, inl, inr, IsTrue, IsFalse, ltb, ltb-false, le-ltb, eq-eqb, ne_eqb, eqb-true, length-append, length-take, ext_get_or, ◌^◌}
 use Rattle.std.specs.List.{All, AllPairs, list_any, position_or_len}
-use Rattle.std.specs.Prelude.{position}
+use Rattle.std.specs.Prelude.{position, if◌then◌else◌}
 use Rattle.std.proofs.lemmas.Bool.{cases_Bool, cases_lt, cond_both, not-false}
 use Rattle.std.proofs.lemmas.List.Folds.{list_any_at, list_any_none}
 use Rattle.std.proofs.lemmas.List.FromFn.{length-map-range_with_len, get_or-map-range_with_len}
-use Rattle.std.proofs.lemmas.List.Sums.{fails_before_first, position_or_len_is}
+use Rattle.std.proofs.lemmas.List.Sums.{position_or_len_is}
 use Rattle.std.proofs.lemmas.List.{get_or_append_left, get_or-take, take_more}
 use Rattle.std.proofs.Math.Seq.{get_or-append_seam, take-length}
 use Rattle.std.proofs.lemmas.List.Elements.{All-append}
 use Rattle.std.proofs.lemmas.List.Quantifiers.{all_pairs_push}
 use Rattle.base_core.specs.Bytes.{num_at, same_bytes, listed}
-use Rattle.base_core.proofs.Spelled.{same_is}
+use Rattle.base_core.proofs.Spelled.{same_is, same_refl}
 use Rattle.fwu_formats.specs.Layout.{nil_guid}
 use Rattle.fwu_formats.specs.Package.{Entry, Toc, IsTable, fip_name, entry_limit, entry_at, has_guid, entries_from, is_beyond, within, with_entries, toc_of}
 use Rattle.fwu_formats.specs.Law.{TablesAreRead}
 use Rattle.fwu_formats.specs.declared.kinds.FipFault.{FipFault}
 use Rattle.fwu_formats.specs.declared.kinds.FipFault.TheVariants as fault
 use Rattle.fwu_formats.proofs.SealLaws.{was_not_refused}
-use Rattle.fwu_formats.proofs.Read.{same-Ok}
-use Rattle.fwu_formats.proofs.Spell.{same-bytes_refl, not_refused}
+use Rattle.fwu_formats.proofs.Spell.{not_refused}
+use Rattle.base_core.proofs.Results.{same-Ok}
+use Rattle.base_core.proofs.Lists.{none-found}
 
 abbrev no_entry : Entry
 no_entry = record { guid = []; offset = 0; size = 0; flags = 0 }
@@ -42,7 +43,7 @@ fails-at p xs none k d lt =
     ]
 
 differs : (xs ys : List ℕ) → IsFalse (same_bytes xs ys) → xs ≢ ys
-differs xs ys other e = absurd (let h : IsTrue (same_bytes xs xs) = same-bytes_refl xs in let g : IsTrue (same_bytes xs ys) = subst (λ (zs : List ℕ). IsTrue (same_bytes xs zs)) e h in cc)
+differs xs ys other e = absurd (let h : IsTrue (same_bytes xs xs) = same_refl xs in let g : IsTrue (same_bytes xs ys) = subst (λ (zs : List ℕ). IsTrue (same_bytes xs zs)) e h in cc)
 
 is-other : (xs ys : List ℕ) → xs ≢ ys → IsFalse (same_bytes xs ys)
 is-other xs ys ne =
@@ -101,16 +102,8 @@ entries-read bytes front i (suc left) es is are e =
     let read = entries-read bytes (front ++ entry ∷ []) (i + 1) left es (length-append front (entry ∷ []) ∙ ap (λ (k : ℕ). k + 1) is) (more-entries bytes front i is are other b.0) b.1 in
     record { whole = read.whole; few = omega (arith, read.few); marker = read.marker; are = read.are }) a.1
 
-abbrev headed : List ℕ → List Entry → Toc
+abbrev pub headed : List ℕ → List Entry → Toc
 headed bytes es = record { serial = num_at 4 bytes 4; flags = num_at 8 bytes 8; entries = es }
-
--- a search that finds nothing
-none-found : {X : Type 0} (p : X → Bool) (xs : List X) → position p xs ≡ None → All (λ x. p x ≡ false) xs
-none-found p xs e = go (ltb (position_or_len p xs) (length xs)) refl e
-  where
-    go : (b : Bool) → ltb (position_or_len p xs) (length xs) ≡ b → cond b (Some (position_or_len p xs)) None ≡ None → All (λ x. p x ≡ false) xs
-    go true is h = absurd cc
-    go false is h = λ k d lt. fails_before_first p xs k d (let le = ltb-false (position_or_len p xs) (length xs) is in omega (arith, le, lt))
 
 found-none : {X : Type 0} (p : X → Bool) (xs : List X) (d : X) → All (λ x. p x ≡ false) xs → position p xs ≡ None
 found-none p xs d none =
@@ -166,7 +159,7 @@ module _ (bytes : List ℕ) (toc : Toc) (t : IsTable bytes toc) where
   -- the marker ends the table
   ends-here : (i : ℕ) (other : Result (List Entry) FipFault) → i ≡ length es → cond (same_bytes (entry_at bytes i).guid nil_guid) (Ok (take i es)) other ≡ Ok es
   ends-here i other is =
-      let nil : same_bytes (entry_at bytes i).guid nil_guid ≡ true = ap (λ (k : ℕ). same_bytes (entry_at bytes k).guid nil_guid) is ∙ ap (λ (g : List ℕ). same_bytes g nil_guid) t.marker ∙ same-bytes_refl nil_guid in
+      let nil : same_bytes (entry_at bytes i).guid nil_guid ≡ true = ap (λ (k : ℕ). same_bytes (entry_at bytes k).guid nil_guid) is ∙ ap (λ (g : List ℕ). same_bytes g nil_guid) t.marker ∙ same_refl nil_guid in
       let all : take i es ≡ es = ap (λ (k : ℕ). take k es) is ∙ take-length es in
       rw (nil, all) refl
 
@@ -207,3 +200,27 @@ module _ (bytes : List ℕ) (toc : Toc) (t : IsTable bytes toc) where
 
 pub tables-are-read : TablesAreRead
 tables-are-read = record { read = read-there; table = table-of }
+
+-- ---- each payload of a package ends within it
+
+pub ends-within : (bytes : List ℕ) (toc : Toc) → toc_of bytes ≡ Ok toc → All (λ e. e.offset + e.size ≤ length bytes) toc.entries
+unfolding toc_of
+ends-within bytes toc e = go (ltb (length bytes) 16) (not (num_at 4 bytes 0 == fip_name)) (num_at 4 bytes 4 == 0) (entries_from bytes [] 0 entry_limit) e
+  where
+    by : (es : List Entry) (o : Option ℕ) → position (is_beyond bytes) es ≡ o → within bytes (headed bytes es) o ≡ Ok toc → All (λ e. e.offset + e.size ≤ length bytes) toc.entries
+    by es None none h =
+        let same : headed bytes es ≡ toc = cc in
+        subst (λ (t : Toc). All (λ e. e.offset + e.size ≤ length bytes) t.entries) same (λ k d lt. ltb-false (length bytes) _ (none-found (is_beyond bytes) es none k d lt))
+    by es (Some i) some h = cc
+
+    go : (a b c : Bool) (r : Result (List Entry) FipFault)
+        → (if a then Err fault.ShortHeader else if b then Err fault.BadName else if c then Err fault.ZeroSerial else with_entries bytes r) ≡ Ok toc
+        → All (λ e. e.offset + e.size ≤ length bytes) toc.entries
+    go true b c r h = cc
+    go false true c r h = cc
+    go false false true r h = cc
+    go false false false (Err f) h = cc
+    go false false false (Ok es) h = by es (position (is_beyond bytes) es) refl h
+
+pub ends-below : (bytes : List ℕ) (toc : Toc) → length bytes < 2 ^ 64 → toc_of bytes ≡ Ok toc → All (λ e. e.offset + e.size < 2 ^ 64) toc.entries
+ends-below bytes toc short e = λ k d lt. let h = ends-within bytes toc e k d lt in omega (arith, h, short)

@@ -1,6 +1,7 @@
 pub mod Places
 pub mod Layout
 pub mod Metadata
+pub mod States
 pub mod Manifest
 pub mod Package
 pub mod Capsule

@@ -8,6 +8,41 @@ pub enum BankState {
     Accepted,
 }
 
+impl BankState {
+    ghost use Rattle.std.specs.Prelude.{◌≡◌};
+    ghost use Rattle.fwu_formats.specs.States.{is_invalid, is_valid, is_accepted};
+
+    /// Whether the bank is not to be started.
+    pub fn is_invalid(self) -> bool
+        ensures { result ≡ is_invalid self }
+    {
+        match self {
+            BankState::Invalid => true,
+            BankState::Valid | BankState::Accepted => false,
+        }
+    }
+
+    /// Whether the bank is on trial.
+    pub fn is_valid(self) -> bool
+        ensures { result ≡ is_valid self }
+    {
+        match self {
+            BankState::Valid => true,
+            BankState::Invalid | BankState::Accepted => false,
+        }
+    }
+
+    /// Whether the bank is known to work.
+    pub fn is_accepted(self) -> bool
+        ensures { result ≡ is_accepted self }
+    {
+        match self {
+            BankState::Accepted => true,
+            BankState::Invalid | BankState::Valid => false,
+        }
+    }
+}
+
 /// Why a block is no layout, the first fault.
 #[derive(Clone, Copy, Debug, PartialEq, Eq, Error)]
 pub enum LayoutFault {

@@ -21,6 +21,7 @@ reply (kind.Discovered state) = model.Discovered state
 reply (kind.Opened handle) = model.Opened handle
 reply (kind.Got total bytes) = model.Got total bytes.items
 reply (kind.Sent images skipped) = model.Sent images skipped
+reply (kind.SentPartial images skipped copied) = model.SentPartial images skipped copied
 reply (kind.Missing guid) = model.Missing guid
 reply (kind.TooLarge guid) = model.TooLarge guid
 reply (kind.BadPackage f) = model.BadPackage f
@@ -31,6 +32,7 @@ reply (kind.Booted bank version trials counter fallback) = model.Booted bank ver
 reply (kind.NotBooted why) = model.NotBooted why
 reply kind.CutOk = model.CutOk
 reply (kind.Shown n) = model.Shown (numbers n)
+reply kind.NotUnderstood = model.NotUnderstood
 
 -- what bounds the reply's text: a read got no more bytes than one may ask for. All else is short by its type
 abbrev pub IsShort : model.Reply → Type 0

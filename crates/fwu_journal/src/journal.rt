@@ -10,7 +10,7 @@ use script_text::Call;
 use std::alloc::{AllocError, Global};
 
 /// What a call was answered.
-#[derive(Debug, PartialEq, Eq, Drop)]
+#[derive(Drop)]
 pub enum Reply {
     /// No bank is on: none was booted since power came, or power is off.
     Off,
@@ -38,6 +38,14 @@ pub enum Reply {
         /// How many entries of the package are no image of the layout.
         skipped: u32,
     },
+    SentPartial {
+        /// How many images of the package were installed.
+        images: u32,
+        /// How many of its entries are no image of the layout.
+        skipped: u32,
+        /// How many images it lacks, which were copied from the active bank.
+        copied: u32,
+    },
     /// The package lacks the image of this type.
     Missing(Guid),
     /// The package's image of this type passes its slot.
@@ -63,10 +71,12 @@ pub enum Reply {
     /// A loss of power was armed.
     CutOk,
     Shown(Numbers),
+    /// What was asked is no call of the agent.
+    NotUnderstood,
 }
 
 /// A call, its reply, and of a boot the numbers that the flash held as the turn began, where the boot told them.
-#[derive(Debug, Drop)]
+#[derive(Drop)]
 pub struct Turn {
     pub call: Call,
     pub reply: Reply,
@@ -74,7 +84,7 @@ pub struct Turn {
 }
 
 /// The turns of a run, in their order.
-#[derive(Debug, Drop)]
+#[derive(Drop)]
 pub struct Journal {
     turns: Vec<Turn>,
 }

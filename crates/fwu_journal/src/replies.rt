@@ -97,6 +97,16 @@ fn add_sent(text: &mut Vec<u8>, images: u32, skipped: u32)
     add_named(text, b" skipped=", skipped)
 }
 
+/// Adds what a partial `send` answered that installed a package.
+fn add_sent_partial(text: &mut Vec<u8>, images: u32, skipped: u32, copied: u32)
+    requires { HasRoom text.old 62 }
+    ensures grows { Grows text.old text.new (reply_text (model.SentPartial images skipped copied)) }
+    ensures short { length (reply_text (model.SentPartial images skipped copied)) ≤ 62 }
+{
+    add_sent(text, images, skipped);
+    add_named(text, b" copied=", copied)
+}
+
 /// Adds what a `send` answered whose file is no package.
 fn add_bad_package(text: &mut Vec<u8>, fault: FipFault)
     requires { HasRoom text.old 32 }
@@ -135,6 +145,11 @@ pub fn add_reply(text: &mut Vec<u8>, next: &Reply)
         Reply::Opened(handle) => add_named(text, b"SUCCESS handle=", *handle),
         Reply::Got { total, bytes } => add_got(text, *total, bytes.as_slice()),
         Reply::Sent { images, skipped } => add_sent(text, *images, *skipped),
+        Reply::SentPartial {
+            images,
+            skipped,
+            copied,
+        } => add_sent_partial(text, *images, *skipped, *copied),
         Reply::Missing(guid) => add_guid(text, b"missing ", guid),
         Reply::TooLarge(guid) => add_guid(text, b"too-large ", guid),
         Reply::BadPackage(fault) => add_bad_package(text, *fault),
@@ -151,5 +166,6 @@ pub fn add_reply(text: &mut Vec<u8>, next: &Reply)
         Reply::NotBooted(why) => add_no_boot(text, *why),
         Reply::CutOk => add(text, b"ok"),
         Reply::Shown(numbers) => add_numbers(text, numbers),
+        Reply::NotUnderstood => add(text, b"NOT_UNDERSTOOD"),
     }
 }

@@ -21,7 +21,7 @@ pub fn add_call(text: &mut Vec<u8>, call: &Call)
 {
     match call {
         Call::Discover => add(text, b"discover"),
-        Call::Begin => add(text, b"begin"),
+        Call::Begin { .. } | Call::BeginPartial { .. } => add(text, b"begin"),
         Call::Open { .. } => add(text, b"open"),
         Call::Write { .. } => add(text, b"write"),
         Call::Read { .. } => add(text, b"read"),
@@ -30,10 +30,11 @@ pub fn add_call(text: &mut Vec<u8>, call: &Call)
         Call::Cancel => add(text, b"cancel"),
         Call::Accept { .. } => add(text, b"accept"),
         Call::Previous => add(text, b"previous"),
-        Call::Send { .. } => add(text, b"send"),
+        Call::Send { .. } | Call::SendPartial { .. } => add(text, b"send"),
         Call::Boot => add(text, b"boot"),
         Call::Cut { .. } => add(text, b"cut"),
         Call::Show => add(text, b"show"),
+        Call::NoCall => add(text, b"no-call"),
     }
 }
 

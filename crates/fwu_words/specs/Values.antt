@@ -1,17 +1,18 @@
 -- The values on the command line of `fwu`.
 use Rattle.std.specs.Prelude.{ℕ, ◌==◌, ◌&&◌, List, Option, Some, None, if◌then◌else◌, nat_le, option_and_then}
 use Rattle.std.specs.List.{slice_split}
+use Rattle.base_core.specs.Limits.{fewest_banks, most_banks}
 use Rattle.fwu_formats.specs.Layout.{ImageRow}
 pub use Rattle.clap_words.specs.Values.{each}
 unfoldable pub use Rattle.clap_words.specs.Values.{file_named, name_of, number_read, split_of}
 
 -- the numbers of banks that a flash may have
 abbrev pub if_banks : ℕ → Option ℕ
-if_banks n = if nat_le 2 n && nat_le n 4 then Some n else None
+if_banks n = if nat_le fewest_banks n && nat_le n most_banks then Some n else None
 
--- the number of banks, 2 where none is given
+-- the number of banks, and the fewest where none is given
 abbrev pub banks_of : Option (List ℕ) → Option ℕ
-banks_of None = Some 2
+banks_of None = Some fewest_banks
 banks_of (Some text) = option_and_then if_banks (number_read text)
 
 -- NAME:SLOTS

@@ -5,7 +5,7 @@ ghost use Rattle.fwu_words.specs.Allow.{Begins};
 use words_core::{is_file_name, is_word};
 
 /// Whether words begin with `--allow FILE`.
-#[derive(Clone, Copy, Debug, PartialEq, Eq)]
+#[derive(Clone, Copy)]
 pub enum Allow<'a> {
     /// They begin with another word, or there is none.
     No,

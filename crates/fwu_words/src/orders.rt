@@ -13,7 +13,7 @@ use std::alloc::Global;
 use words_core::is_word;
 
 /// What the words of `fwu` ask for. Files are named as they stand in the words.
-#[derive(Debug, PartialEq, Eq, Drop)]
+#[derive(Drop)]
 pub enum Order<'a> {
     /// Carries out the calls of a script.
     Run,

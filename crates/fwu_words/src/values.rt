@@ -5,7 +5,7 @@ ghost use Rattle.clap_words.specs.Answers.{Answers};
 ghost use Rattle.clap_words.specs.Values.{each, split_of};
 ghost use Rattle.fwu_words.specs.Values.{banks_of, row_of, rows_of};
 
-use base_core::ImageRow;
+use base_core::{FEWEST_BANKS, ImageRow, MOST_BANKS};
 use clap_words::{UsageStop, read_name, read_number};
 use std::alloc::{AllocError, Global};
 
@@ -14,10 +14,10 @@ pub fn banks_value(text: Option<&str>) -> Option<u32>
     ensures { result ≡ banks_of (option_map (λ s. s.now) text.entry) }
 {
     let Some(text) = text else {
-        return Some(2);
+        return Some(FEWEST_BANKS);
     };
     let banks = read_number(text)?;
-    if 2 <= banks && banks <= 4 {
+    if FEWEST_BANKS <= banks && banks <= MOST_BANKS {
         Some(banks)
     } else {
         None

@@ -1,5 +1,5 @@
 -- The images of a package that is made from a number are complete, and it installs them.
-use Rattle.std.proofs.Common.{◌≡◌, ℕ, suc, ◌+◌, ◌-◌, ◌*◌, ◌<◌, ◌≤◌, not, ◌&&◌, ◌==◌, List, [], ◌∷◌, length, get_or, take, drop, map, None, Ok, is_ok, Result, refl, sym, ap, subst, ◌∙◌, arith, IsTrue, leb, ltb, eq-eqb, append-nil}
+use Rattle.std.proofs.Common.{◌≡◌, ℕ, suc, ◌+◌, ◌-◌, ◌*◌, ◌<◌, ◌≤◌, not, ◌&&◌, ◌==◌, List, [], ◌∷◌, length, get_or, take, drop, map, None, Ok, is_ok, refl, sym, ap, subst, ◌∙◌, arith, IsTrue, leb, ltb, eq-eqb, append-nil}
 use Rattle.std.proofs.lemmas.Bool.{and_from, and_parts, le-leb, lt-ltb}
 use Rattle.std.proofs.lemmas.List.{length-map}
 use Rattle.std.proofs.Math.Seq.{take-length}
@@ -13,7 +13,6 @@ use Rattle.fwu_formats.specs.Package.{Part, packed}
 use Rattle.fwu_formats.specs.declared.kinds.ManifestFault.{ManifestFault}
 use Rattle.fwu_formats.proofs.ManifestWritten.{written-is-read}
 use Rattle.fwu_formats.proofs.SealLaws.{was_not_refused}
-use Rattle.fwu_formats.proofs.Spell.{same-bytes_refl}
 use Rattle.fwu_formats.proofs.Tables.{tables-are-read}
 use Rattle.fip_tables.specs.Packing.{pack_fault}
 use Rattle.fip_tables.proofs.Again.{passed-is-read}
@@ -22,6 +21,8 @@ use Rattle.gen_core.specs.Law.{GeneratedAreComplete, Installs}
 use Rattle.gen_core.proofs.Making.{AreImages, FitSizes, guids_of, images-are, row-limits, sizes-fit}
 use Rattle.gen_core.proofs.Packing.{FitRows, fit-guids, fit-length, generated-fit, have-fields, manifest-length, parts-pass}
 use Rattle.gen_core.proofs.Installing.{entries-fit, images-found, none-missing, none-skipped}
+use Rattle.base_core.proofs.Spelled.{same_refl}
+use Rattle.base_core.proofs.Results.{same-Ok}
 
 -- ---- the manifest says what the images are
 
@@ -51,7 +52,7 @@ rows-in-order number [] (p ∷ ps) fit = absurd fit
 rows-in-order number (r ∷ rs) [] fit = absurd fit
 rows-in-order number (r ∷ rs) (p ∷ ps) fit =
     and_from (same_bytes r.guid p.guid) (all_paired (λ i q. same_bytes i.guid q.guid) rs (map (row_of number) ps))
-    (subst (λ (g : List ℕ). IsTrue (same_bytes r.guid g)) (sym fit.0.guid) (same-bytes_refl r.guid)) (rows-in-order number rs ps fit.1)
+    (subst (λ (g : List ℕ). IsTrue (same_bytes r.guid g)) (sym fit.0.guid) (same_refl r.guid)) (rows-in-order number rs ps fit.1)
 
 rows-within : (number : ℕ) (rs : List ImageRow) (ps : List Part) → FitRows rs ps
     → IsTrue (all_paired (λ i r. leb r.size (4096 * i.slots)) rs (map (row_of number) ps))
@@ -67,7 +68,7 @@ images-are-said number [] = refl
 images-are-said number (p ∷ ps) =
     and_from (is_image_of (row_of number p) p.bytes) (all_paired is_image_of (map (row_of number) ps) (map (λ q. q.bytes) ps))
     (and_from (length p.bytes == length p.bytes) (same_bytes (sha256 p.bytes) (sha256 p.bytes)) (eq-eqb (length p.bytes) (length p.bytes) refl)
-    (same-bytes_refl (sha256 p.bytes)))
+    (same_refl (sha256 p.bytes)))
     (images-are-said number ps)
 
 -- ---- the manifest is read again
@@ -89,10 +90,7 @@ says rows bytes m e len =
     let h = was_not_refused (not (all_paired (λ (i : ImageRow) (r : Row). leb r.size (4096 * i.slots)) others read.rows)) _ _ m g.1 in
     let i = was_not_refused (not (same_bytes (drop (16 + 56 * count) (take (manifest_size count) bytes))
     (sha256 (take (16 + 56 * count) bytes)))) _ _ m h.1 in
-    ap manifest_at (sym (ap (λ (n : ℕ). take n bytes) (sym len) ∙ take-length bytes)) ∙ same-ok {F = ManifestFault} read m i.1
-  where
-    same-ok : {X F : Type 0} (x y : X) → ◌≡◌ {A = Result X F} (Ok x) (Ok y) → x ≡ y
-    same-ok x y e = cc
+    ap manifest_at (sym (ap (λ (n : ℕ). take n bytes) (sym len) ∙ take-length bytes)) ∙ same-Ok {F = ManifestFault} read m i.1
 
 module _ (r : ImageRow) (rows : List ImageRow) (sizes : List ℕ) (number security : ℕ) (images : AreImages (r ∷ rows)) (fit : FitSizes (r ∷ rows) sizes)
     (low : number < 4294967296) (least : security ≤ 223) where

@@ -8,10 +8,10 @@ use Rattle.std.specs.List.{list_any, position_or_len}
 use Rattle.base_core.specs.Bytes.{same_bytes}
 use Rattle.fwu_formats.specs.Layout.{ImageRow, are_distinct, find_image}
 use Rattle.fwu_formats.specs.Package.{Entry, Part, Toc, entry_of, has_guid, payload}
-use Rattle.fwu_formats.proofs.Spell.{same-bytes_refl}
 use Rattle.fwu_model.specs.Answer.{first_image_fault, images_of, payload_of, skipped}
 use Rattle.gen_core.proofs.Making.{guids_of}
 use Rattle.gen_core.proofs.Packing.{FitRows}
+use Rattle.base_core.proofs.Spelled.{same_refl}
 
 -- ---- each image finds its own entry
 
@@ -37,7 +37,7 @@ own-entries (e ∷ es) (r ∷ rs) same h =
     let both = and_parts (not (list_any (same_bytes r.guid) (guids_of rs))) (are_distinct (guids_of rs)) h in
     let none : IsFalse (list_any (same_bytes e.guid) (guids_of rs)) = subst (λ (g : List ℕ). IsFalse (list_any (same_bytes g) (guids_of rs))) (sym guid)
     (not-true _ both.0) in
-    let test : IsTrue (same_bytes e.guid r.guid) = subst (λ (g : List ℕ). IsTrue (same_bytes e.guid g)) guid (same-bytes_refl e.guid) in
+    let test : IsTrue (same_bytes e.guid r.guid) = subst (λ (g : List ℕ). IsTrue (same_bytes e.guid g)) guid (same_refl e.guid) in
     let first : find (has_guid r.guid) (e ∷ es) ≡ Some e = cond-true (same_bytes e.guid r.guid) (Some e) (find (has_guid r.guid) es) test in
     let others : map (λ x. find (has_guid x.guid) (e ∷ es)) rs ≡ map Some es = pass-over e es rs none ∙ own-entries es rs rest both.1 in
     cc
@@ -130,7 +130,7 @@ skips-none whole (r ∷ rs) [] same among = absurd cc
 skips-none whole (r ∷ rs) (e ∷ es) same among =
     let guid : e.guid ≡ r.guid = cc in
     let rest : map (λ x. x.guid) es ≡ guids_of rs = cc in
-    let own : IsTrue (same_bytes r.guid e.guid) = subst (λ (g : List ℕ). IsTrue (same_bytes r.guid g)) (sym guid) (same-bytes_refl r.guid) in
+    let own : IsTrue (same_bytes r.guid e.guid) = subst (λ (g : List ℕ). IsTrue (same_bytes r.guid g)) (sym guid) (same_refl r.guid) in
     let found = is-found whole e.guid (among e.guid (or_left (same_bytes r.guid e.guid) (list_any (λ x. same_bytes x.guid e.guid) rs) own)) in
     let others = skips-none whole rs es rest (λ g h. among g (or_right (same_bytes r.guid g) (list_any (λ x. same_bytes x.guid g) rs) h)) in
     let count = λ (x : Entry). zero_or_one (not (is_some (find_image whole x.guid))) in

@@ -4,7 +4,6 @@ use Rattle.std.specs.Prelude.{decimal}
 use Rattle.std.proofs.lemmas.Bool.{cases_Bool, cond-true, cond-false}
 use Rattle.std.proofs.lemmas.Fmt.{decimal_injective}
 use Rattle.base_core.specs.Bytes.{same_bytes}
-use Rattle.fwu_formats.proofs.Spell.{same-bytes_refl}
 use Rattle.fwu_model.proofs.Staging.{same-is}
 use Rattle.gen_core.specs.Calls.{file_name, packages_of, round_package}
 use Rattle.gen_core.specs.Draws.{draw, drawn, register_after}
@@ -15,6 +14,7 @@ use Rattle.gen_core.specs.Setup.{soak_layout}
 use Rattle.gen_core.specs.declared.rounds.Round.{Round}
 use Rattle.gen_core.proofs.Making.{soak-images, soak-sizes_fit}
 use Rattle.gen_core.proofs.Completing.{generated-are-complete}
+use Rattle.base_core.proofs.Spelled.{same_refl}
 
 -- ---- names
 
@@ -39,7 +39,7 @@ named x first (suc n) zero d low lt =
     let r = round_of x first in
     let name : file_name r.number ≡ file_name (first + 0) = ap file_name (number-is x first ∙ sym (add-zero first)) in
     cond-true (same_bytes (file_name (first + 0)) (file_name r.number)) _ _
-    (subst (λ (t : List ℕ). IsTrue (same_bytes (file_name (first + 0)) t)) (sym name) (same-bytes_refl (file_name (first + 0))))
+    (subst (λ (t : List ℕ). IsTrue (same_bytes (file_name (first + 0)) t)) (sym name) (same_refl (file_name (first + 0))))
 named x first (suc n) (suc k) d low lt =
     let r = round_of x first in
     let next : first + suc k ≡ first + 1 + k = omega arith in

@@ -1,5 +1,5 @@
 -- Nothing keeps the parts of a package that is made from a number from being packed.
-use Rattle.std.proofs.Common.{◌≡◌, ℕ, zero, suc, ◌+◌, ◌*◌, ◌<◌, ◌≤◌, Bool, true, false, not, ◌&&◌, ◌==◌, List, [], ◌∷◌, ◌++◌, length, map, None, refl, sym, ap, subst, ◌∙◌, arith, IsTrue, IsFalse, ltb, leb-true, eq-eqb, length-append}
+use Rattle.std.proofs.Common.{◌≡◌, ℕ, zero, suc, ◌+◌, ◌*◌, ◌<◌, ◌≤◌, true, false, not, ◌==◌, List, [], ◌∷◌, ◌++◌, length, map, None, refl, sym, ap, subst, ◌∙◌, arith, IsTrue, IsFalse, ltb, leb-true, eq-eqb, length-append}
 use Rattle.std.proofs.lemmas.Bool.{and_from, and_parts, or_from, or_parts, lt-ltb, not-true}
 use lib.Count.{ones}
 use Rattle.std.specs.Prelude.{flat_map}
@@ -18,6 +18,7 @@ use Rattle.fip_tables.proofs.Firsts.{no-fault, none-repeats, none-shared, positi
 use Rattle.fip_tables.proofs.Plans.{packed-length}
 use Rattle.gen_core.specs.Generated.{image_parts, row_of, manifest_for, generated_parts}
 use Rattle.gen_core.proofs.Making.{AreImages, FitSizes, guids_of, is_within, row-limits, image-length, image_parts-length}
+use Rattle.base_core.proofs.Spelled.{same_sym}
 
 -- ---- parts of images
 
@@ -122,17 +123,10 @@ generated-fit (r ∷ rows) sizes number security images fit =
 
 -- ---- no fault
 
-same-sym : (xs ys : List ℕ) → same_bytes xs ys ≡ same_bytes ys xs
-same-sym [] [] = refl
-same-sym [] (y ∷ ys) = refl
-same-sym (x ∷ xs) [] = refl
-same-sym (x ∷ xs) (y ∷ ys) = ap (λ (b : Bool). b && same_bytes xs ys) (let e : (x == y) ≡ (y == x) = grind arith in e)
-    ∙ ap (λ (b : Bool). (y == x) && b) (same-sym xs ys)
-
 other-type : (g : List ℕ) (ps : List Part) (k : ℕ) → IsFalse (list_any (same_bytes g) (map (λ p. p.guid) ps)) → k < length ps
     → same_bytes (part_at ps k).guid g ≡ false
 other-type g [] k none lt = absurd (omega (arith, lt))
-other-type g (p ∷ ps) zero none lt = same-sym p.guid g ∙ (or_parts (same_bytes g p.guid) (list_any (same_bytes g) (map (λ q. q.guid) ps)) none).0
+other-type g (p ∷ ps) zero none lt = same_sym p.guid g ∙ (or_parts (same_bytes g p.guid) (list_any (same_bytes g) (map (λ q. q.guid) ps)) none).0
 other-type g (p ∷ ps) (suc k) none lt = other-type g ps k (or_parts (same_bytes g p.guid) (list_any (same_bytes g) (map (λ q. q.guid) ps)) none).1
     (omega (arith, lt))
 

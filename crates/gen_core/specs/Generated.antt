@@ -4,6 +4,7 @@ use Rattle.std.specs.List.{list_all}
 use Rattle.sha2.specs.Sha256.{sha256}
 use Rattle.base_core.specs.Block.{block_bytes}
 use Rattle.base_core.specs.Bytes.{listed}
+use Rattle.base_core.specs.Limits.{fewest_images, most_images}
 use Rattle.fwu_formats.specs.Layout.{ImageRow, is_row, are_distinct}
 use Rattle.fwu_formats.specs.Manifest.{Row, Manifest, manifest_bytes, all_paired}
 use Rattle.fwu_formats.specs.Package.{Part, packed}
@@ -12,7 +13,8 @@ use Rattle.fwu_formats.specs.Package.{Part, packed}
 
 -- the images of a layout: 2 to 16 of them, of different types
 unfoldable pub are_images : List ImageRow → Bool
-are_images rows = nat_le 2 (length rows) && nat_le (length rows) 16 && list_all is_row rows && are_distinct (map (λ r. r.guid) rows)
+are_images rows = nat_le fewest_images (length rows) && nat_le (length rows) most_images
+    && list_all is_row rows && are_distinct (map (λ r. r.guid) rows)
 
 -- a size in bytes for each image but the first, within its slot
 unfoldable pub fit_sizes : List ImageRow → List ℕ → Bool

@@ -19,6 +19,7 @@ is_lost other = false
 -- a package that was sent and installed
 abbrev pub is_sent : Reply → Bool
 is_sent (reply.Sent images skipped) = true
+is_sent (reply.SentPartial images skipped copied) = true
 is_sent other = false
 
 abbrev pub count_of : (Reply → Bool) → List Turn → ℕ

@@ -1,6 +1,6 @@
 //! Packages that are made from a number.
 ghost use Rattle.std.specs.Prelude.{◌≡◌, ◌+◌, ◌*◌, ◌%◌, ◌<◌, ◌≤◌, ◌∷◌, All, IfOk, OnOk, IsTrue, length, map};
-ghost use Rattle.fwu_formats.specs.Manifest.{manifest_bytes};
+ghost use Rattle.fwu_formats.specs.Manifest.{manifest_bytes, most_rows};
 ghost use Rattle.gen_core.specs.Generated.{are_images, fit_sizes, generated, generated_images, image_bytes, image_parts, manifest_for, parts_from, row_of};
 ghost use Rattle.gen_core.specs.Law.{Installs};
 ghost use Rattle.manifest_core.specs.Shown.{row};
@@ -39,7 +39,7 @@ fn images(
     number: u32,
 ) -> Result<Vec<Part>, AllocError>
     requires count { length rows.now ≡ length sizes.now }
-    requires few { length sizes.now ≤ 15 }
+    requires few { length sizes.now ≤ most_rows }
     requires small { All (λ size. size ≤ 1048576) sizes.now }
     ensures made { IfOk result (λ parts. parts.items ≡ image_parts number 1 rows.now sizes.now) }
     ensures count { IfOk result (λ parts. length parts.items ≡ length sizes.now) }
@@ -71,7 +71,7 @@ fn manifest_rows(alloc: Global, images: &[Part], number: u32) -> Result<Vec<Row>
 /// The bytes of the manifest of these images.
 fn manifest(alloc: Global, images: &[Part], number: u32, security: u32) -> Result<Vec<u8>, NoMemory>
     requires some { 1 ≤ length images.now }
-    requires few { length images.now ≤ 15 }
+    requires few { length images.now ≤ most_rows }
     requires small { All (λ p. length p.bytes ≤ 1048576) images.now }
     ensures { IfOk result (λ bytes.
         bytes.items ≡ manifest_bytes (manifest_for number security images.now)) }
@@ -102,7 +102,7 @@ fn parts(
 ) -> Result<Vec<Part>, NoMemory>
     requires count { length rows.now ≡ length sizes.now }
     requires some { 1 ≤ length sizes.now }
-    requires few { length sizes.now ≤ 15 }
+    requires few { length sizes.now ≤ most_rows }
     requires small { All (λ size. size ≤ 1048576) sizes.now }
     ensures { IfOk result (λ parts.
         parts.items ≡ parts_from first rows.now sizes.now number security) }

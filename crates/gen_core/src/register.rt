@@ -6,7 +6,7 @@ use std::marker::Model;
 
 /// A linear congruential generator of 32 bits, with the constants of the C standard's example of
 /// `rand`.
-#[derive(Clone, Copy, Debug, PartialEq, Eq)]
+#[derive(Clone, Copy)]
 pub struct Lcg {
     register: u32,
 }

@@ -1,9 +1,7 @@
 -- The header that is written reads back as this copy of the table.
-use Rattle.std.proofs.Common.{◌≡◌, ◌⊎◌, inl, inr, ℕ, zero, suc, ◌+◌, ◌*◌, ◌/◌, ◌%◌, ◌<◌, ◌≤◌, List, ◌++◌, length, get_or, take, drop, replicate, refl, sym, ap, ◌∙◌, arith, subst, append_assoc, length-append, le-leb, eq-eqb}
+use Rattle.std.proofs.Common.{◌≡◌, ◌⊎◌, inl, inr, ℕ, ◌+◌, ◌*◌, ◌<◌, ◌≤◌, List, ◌++◌, length, get_or, take, drop, replicate, refl, sym, ap, ◌∙◌, arith, subst, append_assoc, length-append, le-leb, eq-eqb}
 use Rattle.std.proofs.lemmas.Bool.{and_from}
-use Rattle.std.proofs.lemmas.List.{drop-drop, drop_all, append-nil, length-replicate, length-take-le, drop-replicate}
-use Rattle.std.proofs.Math.Seq.{take-append_seam, drop-append_seam}
-use Rattle.std.proofs.Math.Nat.{mod-add-div}
+use Rattle.std.proofs.lemmas.List.{drop-drop, drop_all, append-nil, length-replicate, drop-replicate}
 use Rattle.std.specs.Prelude.{IsTrue, codes}
 use Rattle.base_core.specs.Block.{block}
 use Rattle.base_core.specs.Bytes.{num, le, num_at, part, overwritten, same_bytes}
@@ -17,38 +15,12 @@ use Rattle.gpt_core.specs.declared.table.TableCopy.TheVariants.{Primary, Backup}
 use Rattle.gpt_core.specs.Table.{Table, FitsTable, blocks_of, number_of, number_in, header_at, other, entries_at, has_start, has_places, has_fields, is_roomy, is_header, entries_in, table_of, header_lead, header_places, header_back, header_with, header_bytes}
 use Rattle.gpt_core.specs.Repair.{Spells}
 use Rattle.gpt_core.proofs.Copies.{valid_from, range-same, header_within, entries_within, within_image}
+use Rattle.base_core.proofs.Spelled.{num-le4, num-le8, crc-below}
+use Rattle.base_core.proofs.Lists.{take-front, drop-front}
 
 -- ---- numbers
 
--- how many numbers n bytes have
-abbrev numbers : ℕ → ℕ
-numbers zero = 1
-numbers (suc n) = 256 * numbers n
-
-num-le : (n v : ℕ) → v < numbers n → num (le n v) ≡ v
-num-le zero v lt = omega (arith, lt)
-num-le (suc n) v lt =
-    let whole : v % 256 + 256 * (v / 256) ≡ v = mod-add-div v 256 in
-    let rest : num (le n (v / 256)) ≡ v / 256 = num-le n (v / 256) (omega (arith, lt, whole)) in
-    ap (λ (k : ℕ). v % 256 + 256 * k) rest ∙ whole
-
-four : (v : ℕ) → v < 4294967296 → num (le 4 v) ≡ v
-four v lt = num-le 4 v lt
-
-eight : (v : ℕ) → v < 18446744073709551616 → num (le 8 v) ≡ v
-eight v lt = num-le 8 v lt
-
-crc-below : (bytes : List ℕ) → crc bytes < 4294967296
-unfolding crc
-crc-below bytes = omega arith
-
 -- ---- pieces one after another
-
-seam : (k : ℕ) (front l : List ℕ) → length front ≡ k → drop k (front ++ l) ≡ l
-seam k front l is = ap (λ (n : ℕ). drop n (front ++ l)) (sym is) ∙ drop-append_seam front l
-
-front : (k : ℕ) (xs l : List ℕ) → length xs ≡ k → take k (xs ++ l) ≡ xs
-front k xs l is = ap (λ (n : ℕ). take n (xs ++ l)) (sym is) ∙ take-append_seam xs l
 
 fifth : (a s m d b z : List ℕ) → ((((a ++ s) ++ m) ++ d) ++ b) ++ z ≡ ((a ++ s) ++ m) ++ (d ++ (b ++ z))
 fifth a s m d b z = simp append_assoc
@@ -65,10 +37,10 @@ joined a o m d b = simp append_assoc
 summed_of : (a s m d b o z : List ℕ) → length a ≡ 16 → length s ≡ 4 → length (m ++ (d ++ b)) ≡ 72
     → (take 16 (((((a ++ s) ++ m) ++ d) ++ b) ++ z) ++ o) ++ take 72 (drop 20 (((((a ++ s) ++ m) ++ d) ++ b) ++ z)) ≡ (((a ++ o) ++ m) ++ d) ++ b
 summed_of a s m d b o z la ls lr =
-    let one : take 16 (((((a ++ s) ++ m) ++ d) ++ b) ++ z) ≡ a = ap (take 16) (first a s m d b z) ∙ front 16 a (s ++ (m ++ (d ++ (b ++ z)))) la in
+    let one : take 16 (((((a ++ s) ++ m) ++ d) ++ b) ++ z) ≡ a = ap (take 16) (first a s m d b z) ∙ take-front 16 a (s ++ (m ++ (d ++ (b ++ z)))) la in
     let lead : length (a ++ s) ≡ 20 = length-append a s ∙ omega (arith, la, ls) in
     let two : take 72 (drop 20 (((((a ++ s) ++ m) ++ d) ++ b) ++ z)) ≡ m ++ (d ++ b) =
-    ap (λ (l : List ℕ). take 72 (drop 20 l)) (third a s m d b z) ∙ ap (take 72) (seam 20 (a ++ s) ((m ++ (d ++ b)) ++ z) lead) ∙ front 72 (m ++ (d ++ b)) z lr in
+    ap (λ (l : List ℕ). take 72 (drop 20 l)) (third a s m d b z) ∙ ap (take 72) (drop-front 20 (a ++ s) ((m ++ (d ++ b)) ++ z) lead) ∙ take-front 72 (m ++ (d ++ b)) z lr in
     rw (one, two) (joined a o m d b)
 
 -- ---- the fields
@@ -104,64 +76,64 @@ module _ (w : TableCopy) (blocks : ℕ) (t : Table) (sum : ℕ) (z : List ℕ) (
       ∙ omega (arith, length-append ((header_lead ++ le 4 sum) ++ header_places w blocks t) t.disk, disk, length-front, length-back)
 
   from-disk : drop 56 head ≡ t.disk ++ (back ++ z)
-  from-disk = ap (drop 56) (fifth header_lead (le 4 sum) (header_places w blocks t) t.disk back z) ∙ seam 56 ((header_lead ++ le 4 sum) ++ header_places w blocks t) (t.disk ++ (back ++ z)) length-front
+  from-disk = ap (drop 56) (fifth header_lead (le 4 sum) (header_places w blocks t) t.disk back z) ∙ drop-front 56 ((header_lead ++ le 4 sum) ++ header_places w blocks t) (t.disk ++ (back ++ z)) length-front
 
   behind-disk : drop 72 head ≡ back ++ z
-  behind-disk = sym (drop-drop 16 56 head) ∙ ap (drop 16) from-disk ∙ seam 16 t.disk (back ++ z) disk
+  behind-disk = sym (drop-drop 16 56 head) ∙ ap (drop 16) from-disk ∙ drop-front 16 t.disk (back ++ z) disk
 
   pub disk-is : part head 56 72 ≡ t.disk
-  disk-is = ap (take 16) from-disk ∙ front 16 t.disk (back ++ z) disk
+  disk-is = ap (take 16) from-disk ∙ take-front 16 t.disk (back ++ z) disk
 
   behind : (k n : ℕ) → num_at n head (72 + k) ≡ num_at n (back ++ z) k
   behind k n = ap (λ (l : List ℕ). num (take n l)) (sym (drop-drop k 72 head) ∙ ap (drop k) behind-disk)
 
   pub revision-is : num_at 4 head 8 ≡ 65536
   unfolding header_lead
-  revision-is = four 65536 (omega arith)
+  revision-is = num-le4 65536 (omega arith)
 
   pub size-is : num_at 4 head 12 ≡ 92
   unfolding header_lead
-  size-is = four 92 (omega arith)
+  size-is = num-le4 92 (omega arith)
 
   pub sum-is : sum < 4294967296 → num_at 4 head 16 ≡ sum
   unfolding header_lead
-  sum-is low = four sum low
+  sum-is low = num-le4 sum low
 
   pub zero-is : num_at 4 head 20 ≡ 0
   unfolding header_lead header_places
-  zero-is = four 0 (omega arith)
+  zero-is = num-le4 0 (omega arith)
 
   pub own-is : header_at w blocks < 18446744073709551616 → num_at 8 head 24 ≡ header_at w blocks
   unfolding header_lead header_places
-  own-is low = eight (header_at w blocks) low
+  own-is low = num-le8 (header_at w blocks) low
 
   pub other-is : header_at (other w) blocks < 18446744073709551616 → num_at 8 head 32 ≡ header_at (other w) blocks
   unfolding header_lead header_places
-  other-is low = eight (header_at (other w) blocks) low
+  other-is low = num-le8 (header_at (other w) blocks) low
 
   pub first-is : t.first < 18446744073709551616 → num_at 8 head 40 ≡ t.first
   unfolding header_lead header_places
-  first-is low = eight t.first low
+  first-is low = num-le8 t.first low
 
   pub last-is : t.last < 18446744073709551616 → num_at 8 head 48 ≡ t.last
   unfolding header_lead header_places
-  last-is low = eight t.last low
+  last-is low = num-le8 t.last low
 
   pub place-is : entries_at w blocks (blocks_of (number_of t)) < 18446744073709551616 → num_at 8 head 72 ≡ entries_at w blocks (blocks_of (number_of t))
   unfolding header_back
-  place-is low = behind 0 8 ∙ eight (entries_at w blocks (blocks_of (number_of t))) low
+  place-is low = behind 0 8 ∙ num-le8 (entries_at w blocks (blocks_of (number_of t))) low
 
   pub number-is : number_of t < 4294967296 → num_at 4 head 80 ≡ number_of t
   unfolding header_back
-  number-is low = behind 8 4 ∙ four (number_of t) low
+  number-is low = behind 8 4 ∙ num-le4 (number_of t) low
 
   pub entry-is : num_at 4 head 84 ≡ 128
   unfolding header_back
-  entry-is = behind 12 4 ∙ four 128 (omega arith)
+  entry-is = behind 12 4 ∙ num-le4 128 (omega arith)
 
   pub check-is : num_at 4 head 88 ≡ crc t.entries
   unfolding header_back
-  check-is = behind 16 4 ∙ four (crc t.entries) (crc-below t.entries)
+  check-is = behind 16 4 ∙ num-le4 (crc t.entries) (crc-below t.entries)
 
   -- the bytes that the checksum is of
   pub summed : part head 0 16 ++ replicate 4 0 ++ part head 20 92 ≡ header_with w blocks t 0
@@ -231,7 +203,7 @@ module _ (w : TableCopy) (blocks : ℕ) (t : Table) (is : FitsTable blocks t) (f
   header : IsTrue (is_header w blocks bytes)
   header = and_from _ _ (and_from _ _ seal fields) roomy
 
-  -- THE LAW of the header: over an erased block, in front of the entries, it makes the copy say the table.
+  -- THE LAW of the header: over an erased block, in take-front of the entries, it makes the copy say the table.
   pub spells : t.first < 18446744073709551616 → t.last < 18446744073709551616 → Spells w blocks t bytes
   unfolding entries_in
   spells low_first low_last image size empty stands =
@@ -279,12 +251,6 @@ module _ (w : TableCopy) (blocks : ℕ) (t : Table) (is : FitsTable blocks t) (f
       clear Backup i low high = inl (omega (arith, low, high, is.apart))
 
 -- ---- writing it
-
-pub put_front : (at : ℕ) (bytes image : List ℕ) → at + length bytes ≤ length image → take (at + length bytes) (overwritten at bytes image) ≡ take at image ++ bytes
-unfolding overwritten
-put_front at bytes image fits =
-    let n : length (take at image ++ bytes) ≡ at + length bytes = length-append (take at image) bytes ∙ ap (λ (k : ℕ). k + length bytes) (length-take-le at image (omega (arith, fits))) in
-    front (at + length bytes) (take at image ++ bytes) (drop (at + length bytes) image) n
 
 five : (f a b c d e : List ℕ) → ((((f ++ a) ++ b) ++ c) ++ d) ++ e ≡ f ++ ((((a ++ b) ++ c) ++ d) ++ e)
 five f a b c d e = simp append_assoc

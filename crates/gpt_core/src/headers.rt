@@ -1,12 +1,10 @@
 //! Headers of a table: whether a block is one, and where a copy stands.
 
-ghost use Rattle.std.specs.Prelude.{◌≡◌, ◌+◌, ◌≤◌, ◌&&◌, ◌==◌, length, codes, take};
-ghost use Rattle.base_core.specs.Bytes.{num_at, same_bytes};
-ghost use Rattle.base_core.specs.Seal.{has_table_seal};
+ghost use Rattle.std.specs.Prelude.{◌≡◌, ◌+◌, ◌≤◌, length};
 ghost use Rattle.gpt_core.specs.Table.{blocks_of, number_in, header_at, entries_at, other, has_start, has_places, has_fields, is_roomy, is_header};
 
 use crate::table::TableCopy;
-use base_core::{BLOCK_BYTES, crc32, le32_at, le64_at, put_le32};
+use base_core::{BLOCK_BYTES, is_table_sealed, le32_at, le64_at};
 
 /// The revision of a header, 1.0.
 pub const REVISION: u32 = 0x0001_0000;
@@ -61,38 +59,6 @@ pub fn entries_place(copy: TableCopy, blocks: u32, entry_blocks: u32) -> u32
     }
 }
 
-/// Whether a block begins as a header does.
-fn begins_table(block: &[u8]) -> bool
-    requires { 8 ≤ length block.now }
-    ensures { result ≡ same_bytes (take 8 block.now) (codes "EFI PART") }
-{
-    &block[..8] == b"EFI PART".as_slice()
-}
-
-/// Whether a block has the seal of a header: the checksum at 16 is that of the first 92 bytes with this
-/// field zero.
-fn is_table_sealed(block: &[u8]) -> bool
-    ensures { result ≡ has_table_seal block.now }
-{
-    if block.len() < 92 {
-        return false;
-    }
-    if !begins_table(block) {
-        return false;
-    }
-    let mut header = [0; 92];
-    header.copy_from_slice(&block[..92]);
-    put_le32(&mut header, 16, 0);
-    le32_at(block, 16) == crc32(&header)
-}
-
-/// The conjunction of three, as one goal of a proof.
-pub fn all_three(first: bool, second: bool, third: bool) -> bool
-    ensures { result ≡ (first && second && third) }
-{
-    first && second && third
-}
-
 /// Whether its revision and size are those of the format, and the field that is zero.
 fn is_start(header: &[u8]) -> bool
     requires { 92 ≤ length header.now }
@@ -131,7 +97,7 @@ fn are_fields(copy: TableCopy, blocks: u32, entry_blocks: u32, header: &[u8]) ->
     let start = is_start(header);
     let places = are_places(copy, blocks, entry_blocks, header);
     let entry = le32_at(header, 84);
-    all_three(start, places, entry == ENTRY_SIZE)
+    start && places && entry == ENTRY_SIZE
 }
 
 /// Whether with so many entries the blocks of both copies are apart.

@@ -9,14 +9,14 @@ ghost use Rattle.gpt_core.specs.PlacesOf.{in_text_order, store_type, metadata_ty
 ghost use Rattle.gpt_core.specs.declared.layout.PlaceFault.{PlaceFault};
 ghost use Rattle.gpt_core.specs.declared.layout.PlaceFault.TheVariants as fault;
 
-use crate::headers::{all_three, blocks_for};
+use crate::headers::blocks_for;
 use crate::layout::{PlaceFault, Places};
 use crate::reading::{Table, is_same_list};
 use base_core::{NoMemory, le64_at};
 use std::alloc::Global;
 
 /// A partition: its type, and its first and last block.
-#[derive(Clone, Copy, Debug, PartialEq, Eq)]
+#[derive(Clone, Copy)]
 pub struct Partition {
     pub kind: [u8; 16],
     pub first: u64,
@@ -115,10 +115,9 @@ fn are_usable(
     ensures { result ≡ (is_usable blocks entry_blocks store.now
         && is_usable blocks entry_blocks zero.now && is_usable blocks entry_blocks one.now) }
 {
-    let first = is_usable_in(blocks, entry_blocks, store);
-    let second = is_usable_in(blocks, entry_blocks, zero);
-    let third = is_usable_in(blocks, entry_blocks, one);
-    all_three(first, second, third)
+    is_usable_in(blocks, entry_blocks, store)
+        && is_usable_in(blocks, entry_blocks, zero)
+        && is_usable_in(blocks, entry_blocks, one)
 }
 
 /// Whether no two of the three have a block in common.
@@ -126,10 +125,7 @@ fn are_all_apart(store: &Partition, zero: &Partition, one: &Partition) -> bool
     ensures { result ≡ (are_apart store.now zero.now
         && are_apart store.now one.now && are_apart zero.now one.now) }
 {
-    let first = are_apart_from(store, zero);
-    let second = are_apart_from(store, one);
-    let third = are_apart_from(zero, one);
-    all_three(first, second, third)
+    are_apart_from(store, zero) && are_apart_from(store, one) && are_apart_from(zero, one)
 }
 
 /// Whether it has 8 to 65,536 blocks.
@@ -154,10 +150,9 @@ fn are_large_in(
     requires { entry_blocks ≤ 4 }
     ensures { result ≡ are_large blocks entry_blocks store.now zero.now one.now }
 {
-    let usable = are_usable(blocks, entry_blocks, store, zero, one);
-    let apart = are_all_apart(store, zero, one);
-    let sized = is_sized(store);
-    all_three(usable, apart, sized)
+    are_usable(blocks, entry_blocks, store, zero, one)
+        && are_all_apart(store, zero, one)
+        && is_sized(store)
 }
 
 /// The places that these partitions are.

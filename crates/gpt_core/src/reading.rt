@@ -1,10 +1,10 @@
 //! Reading the table of a device.
 
-ghost use Rattle.std.specs.Prelude.{◌≡◌, ◌+◌, ◌*◌, ◌<◌, ◌≤◌, ℕ, List, None, Some, Option, length, slice_range, is_ok, IsTrue, IsErrOf, IfOk, IfSome};
+ghost use Rattle.flash_core.specs.Calls.{Reads};
+ghost use Rattle.std.specs.Prelude.{◌≡◌, ◌+◌, ◌*◌, ◌<◌, ◌≤◌, ℕ, List, None, Some, Option, length, slice_range, IsTrue, IsErrOf, IfOk, IfSome};
 ghost use Rattle.std.specs.Option.{ForSome};
 ghost use Rattle.base_core.specs.Block.{block_bytes};
 ghost use Rattle.base_core.specs.Bytes.{same_bytes, num_at};
-ghost use Rattle.flash_core.specs.Counts.{Spends, ReachesNone, arming_kept};
 ghost use Rattle.gpt_core.specs.declared.table.TableCopy.{TableCopy};
 ghost use Rattle.gpt_core.specs.Table.{Table as Said, IsCopy, FitsTable, blocks_of, number_in, number_of, header_at, entries_at, is_header, entries_in, table_of, checked, copy_in, same_table, deciding, table_in_image};
 ghost use Rattle.gpt_core.specs.Reading.{flash_result};
@@ -18,7 +18,7 @@ use std::marker::Model;
 use thiserror::Error;
 
 /// A table: the disk's GUID, its first and last usable block, and its entries of 128 bytes, one after the other.
-#[derive(Debug, Drop)]
+#[derive(Drop)]
 pub struct Table {
     pub disk: [u8; 16],
     pub first: u64,
@@ -89,12 +89,7 @@ fn read_bytes<D: Flash>(
     ensures bytes { IfOk result (λ v. IsTrue D.tells → v.items ≡ slice_range (D.told flash.old).now at (at + size)) }
     ensures long { IfOk result (λ v. length v.items ≡ size) }
     ensures some { IsErrOf result GptStop.NoTable → ⊥ }
-    ensures content { IsTrue D.tells → D.told flash.new ≡ D.told flash.old }
-    ensures power { D.on flash.new ≡ is_ok (flash_result result) }
-    ensures size { D.blocks flash.new ≡ D.blocks flash.old }
-    ensures arming { D.arming flash.new ≡ arming_kept (flash_result result) (D.arming flash.old) }
-    ensures costs { Spends (flash_result result) (D.counts flash.old) (D.counts flash.new) }
-    ensures reached { ReachesNone (flash_result result) (D.counts flash.old) (D.counts flash.new) }
+    ensures reads { Reads D.Flash (flash_result result) flash.old flash.new }
 {
     let Ok(mut bytes) = zeros(alloc, size) else {
         return Err(GptStop::NoMemory);
@@ -118,12 +113,7 @@ fn read_entries<D: Flash>(
         → v.items ≡ entries_in copy (D.blocks flash.old) header.now (D.told flash.old).now) }
     ensures count { IfOk result (λ v. length v.items ≡ number_in header.now * 128) }
     ensures some { IsErrOf result GptStop.NoTable → ⊥ }
-    ensures content { IsTrue D.tells → D.told flash.new ≡ D.told flash.old }
-    ensures power { D.on flash.new ≡ is_ok (flash_result result) }
-    ensures size { D.blocks flash.new ≡ D.blocks flash.old }
-    ensures arming { D.arming flash.new ≡ arming_kept (flash_result result) (D.arming flash.old) }
-    ensures costs { Spends (flash_result result) (D.counts flash.old) (D.counts flash.new) }
-    ensures reached { ReachesNone (flash_result result) (D.counts flash.old) (D.counts flash.new) }
+    ensures reads { Reads D.Flash (flash_result result) flash.old flash.new }
 {
     let blocks = flash.blocks();
     let number = le32_at(header, 80);
@@ -174,12 +164,7 @@ fn read_copy<D: Flash>(
     ensures value { IfOk result (λ r. IsTrue D.tells → r ≡ copy_in copy (D.blocks flash.old) (D.told flash.old).now) }
     ensures fits { IfOk result (λ r. ForSome r (FitsTable (D.blocks flash.old))) }
     ensures some { IsErrOf result GptStop.NoTable → ⊥ }
-    ensures content { IsTrue D.tells → D.told flash.new ≡ D.told flash.old }
-    ensures power { D.on flash.new ≡ is_ok (flash_result result) }
-    ensures size { D.blocks flash.new ≡ D.blocks flash.old }
-    ensures arming { D.arming flash.new ≡ arming_kept (flash_result result) (D.arming flash.old) }
-    ensures costs { Spends (flash_result result) (D.counts flash.old) (D.counts flash.new) }
-    ensures reached { ReachesNone (flash_result result) (D.counts flash.old) (D.counts flash.new) }
+    ensures reads { Reads D.Flash (flash_result result) flash.old flash.new }
 {
     let blocks = flash.blocks();
     let mut header = [0; BLOCK_BYTES as usize];
@@ -238,12 +223,7 @@ pub fn read_table<D: Flash>(alloc: Global, flash: &mut D) -> Result<(Table, Whic
     ensures none { IsErrOf result GptStop.NoTable → IsTrue D.tells
         → table_in_image (D.blocks flash.old) (D.told flash.old).now ≡ None }
     ensures fits { IfOk result (λ r. FitsTable (D.blocks flash.old) r.0) }
-    ensures content { IsTrue D.tells → D.told flash.new ≡ D.told flash.old }
-    ensures power { D.on flash.new ≡ is_ok (flash_result result) }
-    ensures size { D.blocks flash.new ≡ D.blocks flash.old }
-    ensures arming { D.arming flash.new ≡ arming_kept (flash_result result) (D.arming flash.old) }
-    ensures costs { Spends (flash_result result) (D.counts flash.old) (D.counts flash.new) }
-    ensures reached { ReachesNone (flash_result result) (D.counts flash.old) (D.counts flash.new) }
+    ensures reads { Reads D.Flash (flash_result result) flash.old flash.new }
 {
     let primary = read_copy(alloc, flash, TableCopy::Primary)?;
     let backup = read_copy(alloc, flash, TableCopy::Backup)?;

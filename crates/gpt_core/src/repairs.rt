@@ -1,10 +1,11 @@
 //! Repairing a table.
 
-ghost use Rattle.std.specs.Prelude.{◌≡◌, ℕ, List, Ok, ◌+◌, ◌-◌, ◌*◌, ◌<◌, ◌≤◌, ◌++◌, Some, length, take, replicate, is_ok, IsTrue, OnOk};
+ghost use Rattle.flash_core.specs.Calls.{Goes};
+ghost use Rattle.std.specs.Prelude.{◌≡◌, ℕ, List, Ok, ◌+◌, ◌-◌, ◌*◌, ◌<◌, ◌≤◌, ◌++◌, Some, length, take, replicate, IsTrue, OnOk};
 ghost use Rattle.base_core.specs.Block.{block_bytes};
 ghost use Rattle.base_core.specs.Bytes.{le};
 ghost use Rattle.base_core.specs.Crc.{crc};
-ghost use Rattle.flash_core.specs.Counts.{Spends, StaysUnarmed, lowered_by};
+ghost use Rattle.flash_core.specs.Counts.{lowered_by};
 ghost use Rattle.flash_core.specs.May.{Keeps, May};
 ghost use Rattle.flash_core.specs.Told.{Told, NothingDirty, is_guarded};
 ghost use Rattle.gpt_core.specs.declared.layout.Places.{Places};
@@ -188,12 +189,9 @@ fn mend<D: Flash>(
         (copy_to copy (D.blocks flash.old) (blocks_of (number_of table.now)))
         (D.told flash.old) (D.told flash.new) }
     ensures settled { OnOk result (IsTrue D.tells → NothingDirty (D.told flash.new)) }
-    ensures power { D.on flash.new ≡ is_ok result }
-    ensures size { D.blocks flash.new ≡ D.blocks flash.old }
-    ensures costs { Spends result (D.counts flash.old) (D.counts flash.new) }
+    ensures goes { Goes D.Flash result flash.old flash.new }
     ensures spent { OnOk result (D.arming flash.new
         ≡ lowered_by (2 + 2 * blocks_of (number_of table.now)) (D.arming flash.old)) }
-    ensures unarmed { StaysUnarmed result (D.arming flash.old) (D.arming flash.new) (D.counts flash.old) (D.counts flash.new) }
     ensures buffer { length buf.new ≡ length buf.old }
 {
     let blocks = flash.blocks();
@@ -225,13 +223,10 @@ pub fn repair_table<D: Flash>(
     // When done nothing is dirty, whatever is guarded.
     ensures settled { OnOk result (IsTrue D.tells → NothingDirty (D.told flash.old)
         → NothingDirty (D.told flash.new)) }
-    ensures power { D.on flash.new ≡ is_ok result }
-    ensures size { D.blocks flash.new ≡ D.blocks flash.old }
-    ensures costs { Spends result (D.counts flash.old) (D.counts flash.new) }
+    ensures goes { Goes D.Flash result flash.old flash.new }
     // When done, as many erases and programs were done as the copy that is repaired asks for.
     ensures spent { OnOk result (D.arming flash.new
         ≡ lowered_by (writes_of which (blocks_of (number_of table.now))) (D.arming flash.old)) }
-    ensures unarmed { StaysUnarmed result (D.arming flash.old) (D.arming flash.new) (D.counts flash.old) (D.counts flash.new) }
     ensures buffer { length buf.new ≡ length buf.old }
 {
     match which {

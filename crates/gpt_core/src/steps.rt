@@ -1,9 +1,10 @@
 //! The steps of a repair of a table.
 
-ghost use Rattle.std.specs.Prelude.{◌⊎◌, ◌≡◌, ℕ, ◌+◌, ◌-◌, ◌*◌, ◌/◌, ◌%◌, ◌<◌, ◌≤◌, length, is_ok, IsTrue, OnOk, Some};
+ghost use Rattle.flash_core.specs.Calls.{Goes};
+ghost use Rattle.std.specs.Prelude.{◌⊎◌, ◌≡◌, ℕ, ◌+◌, ◌-◌, ◌*◌, ◌/◌, ◌%◌, ◌<◌, ◌≤◌, length, IsTrue, OnOk, Some};
 ghost use Rattle.base_core.specs.Block.{block_bytes, granule_bytes, block, blank};
 ghost use Rattle.base_core.specs.Bytes.{part, overwritten};
-ghost use Rattle.flash_core.specs.Counts.{Spends, StaysUnarmed, lowered_by};
+ghost use Rattle.flash_core.specs.Counts.{lowered_by};
 ghost use Rattle.flash_core.specs.Told.{Told, NothingDirty};
 ghost use Rattle.flash_core.specs.May.{Keeps};
 ghost use Rattle.gpt_core.specs.declared.table.TableCopy.{TableCopy};
@@ -23,11 +24,8 @@ pub fn clear_header<D: Flash>(flash: &mut D, header: u32) -> Result<(), FlashSto
     ensures keeps { IsTrue D.tells → Keeps (block_bytes * header) (block_bytes * header + block_bytes)
         (D.told flash.old) (D.told flash.new) }
     ensures empty { OnOk result (IsTrue D.tells → block header (D.told flash.new).now ≡ blank block_bytes) }
-    ensures power { D.on flash.new ≡ is_ok result }
-    ensures size { D.blocks flash.new ≡ D.blocks flash.old }
-    ensures costs { Spends result (D.counts flash.old) (D.counts flash.new) }
+    ensures goes { Goes D.Flash result flash.old flash.new }
     ensures spent { OnOk result (D.arming flash.new ≡ lowered_by 1 (D.arming flash.old)) }
-    ensures unarmed { StaysUnarmed result (D.arming flash.old) (D.arming flash.new) (D.counts flash.old) (D.counts flash.new) }
 {
     flash.erase(header)?;
     flash.barrier()
@@ -47,11 +45,8 @@ pub fn write_header<D: Flash>(flash: &mut D, b: u32, bytes: &[u8]) -> Result<(),
         → Steps (λ u. BothSay (D.blocks flash.old) t u.now × NothingDirty u) result (D.blocks flash.old) t (D.told flash.new) }
     ensures keeps { IsTrue D.tells → Keeps (block_bytes * b) (block_bytes * b + block_bytes) (D.told flash.old) (D.told flash.new) }
     ensures settled { OnOk result (IsTrue D.tells → NothingDirty (D.told flash.new)) }
-    ensures power { D.on flash.new ≡ is_ok result }
-    ensures size { D.blocks flash.new ≡ D.blocks flash.old }
-    ensures costs { Spends result (D.counts flash.old) (D.counts flash.new) }
+    ensures goes { Goes D.Flash result flash.old flash.new }
     ensures spent { OnOk result (D.arming flash.new ≡ lowered_by 1 (D.arming flash.old)) }
-    ensures unarmed { StaysUnarmed result (D.arming flash.old) (D.arming flash.new) (D.counts flash.old) (D.counts flash.new) }
 {
     flash.program(BLOCK_BYTES * b, bytes)?;
     flash.barrier()
@@ -67,11 +62,8 @@ fn write_block<D: Flash>(flash: &mut D, b: u32, bytes: &[u8]) -> Result<(), Flas
     ensures keeps { IsTrue D.tells → Keeps (block_bytes * b) (block_bytes * b + block_bytes) (D.told flash.old) (D.told flash.new) }
     ensures written { OnOk result (IsTrue D.tells
         → part (D.told flash.new).now (block_bytes * b) (block_bytes * b + length bytes.now) ≡ bytes.now) }
-    ensures power { D.on flash.new ≡ is_ok result }
-    ensures size { D.blocks flash.new ≡ D.blocks flash.old }
-    ensures costs { Spends result (D.counts flash.old) (D.counts flash.new) }
+    ensures goes { Goes D.Flash result flash.old flash.new }
     ensures spent { OnOk result (D.arming flash.new ≡ lowered_by 2 (D.arming flash.old)) }
-    ensures unarmed { StaysUnarmed result (D.arming flash.old) (D.arming flash.new) (D.counts flash.old) (D.counts flash.new) }
 {
     flash.erase(b)?;
     flash.program(BLOCK_BYTES * b, bytes)
@@ -88,12 +80,9 @@ fn write_blocks<D: Flash>(flash: &mut D, first: u32, bytes: &[u8]) -> Result<(),
         (D.told flash.old) (D.told flash.new) }
     ensures written { OnOk result (IsTrue D.tells
         → part (D.told flash.new).now (block_bytes * first) (block_bytes * first + length bytes.now) ≡ bytes.now) }
-    ensures power { D.on flash.new ≡ is_ok result }
-    ensures size { D.blocks flash.new ≡ D.blocks flash.old }
-    ensures costs { Spends result (D.counts flash.old) (D.counts flash.new) }
+    ensures goes { Goes D.Flash result flash.old flash.new }
     ensures spent { OnOk result (D.arming flash.new
         ≡ lowered_by (2 * ((length bytes.now + (block_bytes - 1)) / block_bytes)) (D.arming flash.old)) }
-    ensures unarmed { StaysUnarmed result (D.arming flash.old) (D.arming flash.new) (D.counts flash.old) (D.counts flash.new) }
 {
     if bytes.len() <= BLOCK_BYTES as usize {
         return write_block(flash, first, bytes);
@@ -116,12 +105,9 @@ pub fn write_entries<D: Flash>(flash: &mut D, first: u32, bytes: &[u8]) -> Resul
     ensures keeps { IsTrue D.tells
         → Keeps (block_bytes * first) (block_bytes * first + block_bytes * ((length bytes.now + (block_bytes - 1)) / block_bytes))
         (D.told flash.old) (D.told flash.new) }
-    ensures power { D.on flash.new ≡ is_ok result }
-    ensures size { D.blocks flash.new ≡ D.blocks flash.old }
-    ensures costs { Spends result (D.counts flash.old) (D.counts flash.new) }
+    ensures goes { Goes D.Flash result flash.old flash.new }
     ensures spent { OnOk result (D.arming flash.new
         ≡ lowered_by (2 * ((length bytes.now + (block_bytes - 1)) / block_bytes)) (D.arming flash.old)) }
-    ensures unarmed { StaysUnarmed result (D.arming flash.old) (D.arming flash.new) (D.counts flash.old) (D.counts flash.new) }
 {
     write_blocks(flash, first, bytes)?;
     flash.barrier()
@@ -152,12 +138,9 @@ pub fn repair_copy<D: Flash>(
         → block_bytes * first + block_bytes * ((length entries.now + (block_bytes - 1)) / block_bytes) ≤ high
         → IsTrue D.tells → Keeps low high (D.told flash.old) (D.told flash.new) }
     ensures settled { OnOk result (IsTrue D.tells → NothingDirty (D.told flash.new)) }
-    ensures power { D.on flash.new ≡ is_ok result }
-    ensures size { D.blocks flash.new ≡ D.blocks flash.old }
-    ensures costs { Spends result (D.counts flash.old) (D.counts flash.new) }
+    ensures goes { Goes D.Flash result flash.old flash.new }
     ensures spent { OnOk result (D.arming flash.new
         ≡ lowered_by (2 + 2 * ((length entries.now + (block_bytes - 1)) / block_bytes)) (D.arming flash.old)) }
-    ensures unarmed { StaysUnarmed result (D.arming flash.old) (D.arming flash.new) (D.counts flash.old) (D.counts flash.new) }
 {
     clear_header(flash, header)?;
     write_entries(flash, first, entries)?;

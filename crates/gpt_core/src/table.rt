@@ -1,7 +1,7 @@
 //! The copies of a table.
 
 /// A copy of the table.
-#[derive(Clone, Copy, Debug, PartialEq, Eq)]
+#[derive(Clone, Copy)]
 pub enum TableCopy {
     Primary,
     Backup,

@@ -1,5 +1,5 @@
 //! A device of 40 blocks with a table of four entries, as Python's struct, uuid and zlib make it:
-//! demo/check_vectors.py makes it again.
+//! checks/model/check_vectors.py makes it again.
 
 ghost use Rattle.std.specs.Prelude.{◌≡◌, ◌+◌, ◌≤◌, length, IfOk, IsTrue, IsFalse};
 ghost use Rattle.flash_devices.specs.Memory.{is_on, block_count};

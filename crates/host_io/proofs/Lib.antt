@@ -3,3 +3,4 @@ pub mod Directories
 pub mod Unlisted
 pub mod Ranges
 pub mod Joins
+pub mod Reading

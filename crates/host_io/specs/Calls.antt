@@ -1,5 +1,5 @@
 -- The calls of an object in memory. They have the numbers 1, 2 and so on, up to the greatest u64.
-use Rattle.std.specs.Prelude.{ℕ, ◌+◌, min, List, Contains, Result, Ok, Err}
+use Rattle.std.specs.Prelude.{ℕ, ◌+◌, min, List, Contains, Option, Some, None, Result, Ok, Err}
 use Rattle.host_io.specs.declared.stops.WriteStop.{WriteStop}
 use Rattle.host_io.specs.declared.writes.Writes.{Writes}
 use Rattle.host_io.specs.declared.stops.WriteStop.TheVariants.{Failed, NoMemory}
@@ -31,6 +31,11 @@ passed calls = record calls { made = raised calls.made }
 -- the calls after one that failed
 abbrev pub failed : Calls → Calls
 failed calls = record calls { made = raised calls.made; faults = raised calls.faults }
+
+-- what a read with this result gave: so many bytes, or it failed
+abbrev pub gave : {E : Type 0} → Result ℕ E → Option ℕ
+gave (Ok count) = Some count
+gave (Err _) = None
 
 -- how many calls have failed after one with this result
 abbrev pub failures : {T E : Type 0} → Result T E → ℕ → ℕ

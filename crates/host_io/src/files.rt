@@ -6,7 +6,8 @@ use std::alloc::Global;
 
 /// Files by their names.
 pub trait Files {
-    ghost use Rattle.std.specs.Prelude.{◌≡◌, ◌+◌, ◌≤◌, ℕ, Bool, Option, Err, IfOk, OnOk, OnErr, is_some, length, vec_capacity, vec_len};
+    ghost use Rattle.std.specs.Prelude.{◌≡◌, ◌≢◌, ◌+◌, ◌≤◌, ℕ, Bool, Option, Err, IfOk, OnOk, OnErr, is_some, length, vec_capacity, vec_len};
+    ghost use Rattle.host_io.specs.Access.{Access, Asks, Makes};
     ghost use Rattle.host_io.specs.Calls.{failures, write_failures, writes_after};
     ghost use Rattle.host_io.specs.Causes.{HasCause, HasWriteCause};
     ghost use Rattle.std.specs.List.{All};
@@ -27,6 +28,12 @@ pub trait Files {
     /// How many files were written whole, and how many writes failed.
     ghost writes: { Self → Writes };
 
+    /// No call from the first to the second makes this access. It is nothing at run time, and an
+    /// implementation need say no more than that it fits the two laws below; so code over files of any
+    /// type is held to what each call says of it. The pieces that a file is made of are no access of
+    /// their own: who names one has to know that it is there.
+    ghost spares: { Self → Self → Access → Type 0 };
+
     /// How many bytes the file has. `None` says that no file has the name; files that are not told
     /// answer `Failed` there.
     fn size(&mut self, name: &str) -> Result<Option<u64>, Failed>
@@ -34,7 +41,8 @@ pub trait Files {
         ensures same { contents self.new ≡ contents self.old }
         ensures cause { HasCause (faults self.old) (faults self.new) result }
         ensures count { faults self.new ≡ failures result (faults self.old) }
-        ensures unwritten { writes self.new ≡ writes self.old };
+        ensures unwritten { writes self.new ≡ writes self.old }
+        ensures spares { (access : Access) → access ≢ Asks name.now → spares self.old self.new access };
 
     /// Fills `out` with the bytes of the file from place `at` on.
     fn read_at(&mut self, name: &str, at: u64, out: &mut [u8]) -> Result<(), Failed>
@@ -43,7 +51,8 @@ pub trait Files {
         ensures same { contents self.new ≡ contents self.old }
         ensures cause { HasCause (faults self.old) (faults self.new) result }
         ensures count { faults self.new ≡ failures result (faults self.old) }
-        ensures unwritten { writes self.new ≡ writes self.old };
+        ensures unwritten { writes self.new ≡ writes self.old }
+        ensures spares { (access : Access) → access ≢ Asks name.now → spares self.old self.new access };
 
     /// Adds `count` bytes of the file, from place `at` on, at the end of `out`, which has the room for
     /// them, so that no memory is taken. After `Failed` it is as it was.
@@ -63,7 +72,8 @@ pub trait Files {
         ensures same { contents self.new ≡ contents self.old }
         ensures cause { HasCause (faults self.old) (faults self.new) result }
         ensures count { faults self.new ≡ failures result (faults self.old) }
-        ensures unwritten { writes self.new ≡ writes self.old };
+        ensures unwritten { writes self.new ≡ writes self.old }
+        ensures spares { (access : Access) → access ≢ Asks name.now → spares self.old self.new access };
 
     /// Makes the file anew, of these bytes, or writes over all of an old one. After `Failed` nothing
     /// is known of this name, and no other changed. Files that are not told stay so.
@@ -73,7 +83,8 @@ pub trait Files {
         ensures memory { result ≡ Err stop.NoMemory → contents self.new ≡ contents self.old }
         ensures cause { HasWriteCause (faults self.old) (faults self.new) result }
         ensures count { faults self.new ≡ write_failures result (faults self.old) }
-        ensures writes { writes self.new ≡ writes_after result (writes self.old) };
+        ensures writes { writes self.new ≡ writes_after result (writes self.old) }
+        ensures spares { (access : Access) → access ≢ Makes name.now → spares self.old self.new access };
 
     /// Makes the file anew, of a frame's bytes with pieces of files between them, each behind as many
     /// more of the frame as it says (or as there are), and last what is left of the frame. The pieces
@@ -94,8 +105,15 @@ pub trait Files {
         ensures memory { result ≡ Err stop.NoMemory → contents self.new ≡ contents self.old }
         ensures cause { HasWriteCause (faults self.old) (faults self.new) result }
         ensures count { faults self.new ≡ write_failures result (faults self.old) }
-        ensures writes { writes self.new ≡ writes_after result (writes self.old) };
+        ensures writes { writes self.new ≡ writes_after result (writes self.old) }
+        ensures spares { (access : Access) → access ≢ Makes name.now → spares self.old self.new access };
 
     /// The contents are told at each time, or never.
     ghost steady: { (f : Self) → is_some (contents f) ≡ tells };
+
+    /// Where no call is made each access is spared.
+    ghost at_rest: { (f : Self) (access : Access) → spares f f access };
+
+    /// Where calls are made one after the other, an access that all of them spare.
+    ghost joins: { (f g h : Self) (access : Access) → spares f g access → spares g h access → spares f h access };
 }

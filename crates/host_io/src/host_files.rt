@@ -1,6 +1,6 @@
 //! The files of the system.
 
-ghost use Rattle.std.specs.Prelude.{◌≡◌, ◌+◌, ◌≤◌, false, refl, None, Err, IsSome, IfOk, OnErr, OnOk, drop, length, take, vec_capacity, vec_len};
+ghost use Rattle.std.specs.Prelude.{◌≡◌, ⊤, ◌+◌, ◌≤◌, false, refl, None, Err, IsSome, IfOk, OnErr, OnOk, drop, length, take, vec_capacity, vec_len};
 ghost use Rattle.base_core.specs.Counts.{Rose};
 ghost use Rattle.host_io.specs.Calls.{failures, raised, write_failures, writes_after};
 ghost use Rattle.host_io.specs.Causes.{HasCause, HasWriteCause};
@@ -23,8 +23,9 @@ use std::{fs, io};
 // in the processor's cache then. To add them costs less than a first fill of their place with zeros.
 const ROOM: usize = 65536;
 
-// What stands behind the name of a file in that of the new one that is to take its place.
-const FRESH: &str = ".new";
+// What may stand behind the name of a file in that of the new one that is to take its place. The first
+// is taken that no file has; what a killed run leaves is never written over.
+const FRESH: [&str; 4] = [".new", ".new1", ".new2", ".new3"];
 
 // Fills the piece with the next bytes of the file, and adds them to those that were read.
 fn read_piece<F: Read>(file: &mut F, piece: &mut [u8], out: &mut Vec<u8>) -> io::Result<()>
@@ -216,27 +217,37 @@ impl<R: std::rt::Files> HostFiles<R> {
         into.write_all(left)
     }
 
-    // Gives a new file the rights of the one that it is to replace, where that has no other name and
-    // both have the same owner and group, and says whether. That the old one can't be written is an
+    // Gives a new file the rights of the one that it is to replace, where both have the same owner and
+    // group and may have the same rights, and says whether. That the old one can't be written is an
     // error.
     fn give_rights(&self, name: &str, file: &R::File, old: &Metadata) -> io::Result<bool> {
-        if !is_alone(old) || !same_owner(&file.metadata()?, old) {
+        let found = file.metadata()?;
+        if !same_owner(&found, old) {
             return Ok(false);
         }
         let _old = OpenOptions::new().write(true).open(&self.rt, name)?;
-        file.set_permissions(old.permissions())?;
-        Ok(true)
+        Ok(found.mode() == old.mode() || file.set_permissions(old.permissions()).is_ok())
     }
 
-    // Whether a new file may take this name. It has the rights of the old one then.
+    // Whether a new file may take this name: no file has it, or one that may be replaced.
+    fn is_replaceable(&self, name: &str) -> bool {
+        match fs::symlink_metadata(&self.rt, name) {
+            Ok(old) => is_alone(&old),
+            Err(e) => e.kind() == io::ErrorKind::NotFound,
+        }
+    }
+
+    // Whether the new file may take this name. It has the rights of the old one then.
     fn prepare(&self, name: &str, file: &R::File) -> io::Result<bool> {
         match fs::symlink_metadata(&self.rt, name) {
-            Ok(old) => self.give_rights(name, file, &old),
+            Ok(old) if is_alone(&old) => self.give_rights(name, file, &old),
+            Ok(_) => Ok(false),
             Err(e) => Ok(e.kind() == io::ErrorKind::NotFound),
         }
     }
 
-    // Fills the new file `fresh`, and gives it the name of the old one, where it may have that.
+    // Fills the new file `fresh`, and gives it the name of the old one, where it may have that. An error
+    // that the system tells only when the file is on the disk comes before the old file goes.
     fn complete(
         &self,
         name: &str,
@@ -249,6 +260,7 @@ impl<R: std::rt::Files> HostFiles<R> {
             return Ok(false);
         }
         self.join(frame, pieces, file)?;
+        file.sync_data()?;
         Ok(fs::rename(&self.rt, fresh, name).is_ok())
     }
 
@@ -258,13 +270,11 @@ impl<R: std::rt::Files> HostFiles<R> {
         &self,
         name: &str,
         fresh: &str,
+        file: &mut R::File,
         frame: &[u8],
         pieces: &[Piece<'_>],
     ) -> io::Result<bool> {
-        let Ok(mut file) = File::create_new(&self.rt, fresh) else {
-            return Ok(false);
-        };
-        let replaced = self.complete(name, fresh, &mut file, frame, pieces);
+        let replaced = self.complete(name, fresh, file, frame, pieces);
         if !matches!(replaced, Ok(true)) {
             let _ = fs::remove_file(&self.rt, fresh);
         }
@@ -287,6 +297,44 @@ impl<R: std::rt::Files> HostFiles<R> {
         }
     }
 
+    // A new file beside one of this name, and its own name, or none where none can be made.
+    fn fresh_file(
+        &self,
+        alloc: Global,
+        name: &str,
+    ) -> Result<Option<(String, R::File)>, WriteStop> {
+        for behind in FRESH {
+            let mut fresh = String::from_str(alloc, name)?;
+            fresh.push_str(behind)?;
+            match File::create_new(&self.rt, fresh.as_str()) {
+                Ok(file) => return Ok(Some((fresh, file))),
+                Err(e) if e.kind() == io::ErrorKind::AlreadyExists => {}
+                Err(_) => return Ok(None),
+            }
+        }
+        Ok(None)
+    }
+
+    // Makes the file by a new one, or says that none can take its place.
+    fn make_beside(
+        &self,
+        alloc: Global,
+        name: &str,
+        frame: &[u8],
+        pieces: &[Piece<'_>],
+    ) -> Result<bool, WriteStop> {
+        if !self.is_replaceable(name) {
+            return Ok(false);
+        }
+        let Some((fresh, mut file)) = self.fresh_file(alloc, name)? else {
+            return Ok(false);
+        };
+        match self.replace(name, fresh.as_str(), &mut file, frame, pieces) {
+            Ok(replaced) => Ok(replaced),
+            Err(_) => Err(WriteStop::Failed),
+        }
+    }
+
     // Makes the file by a new one, or, where none can take its place, where it stands.
     fn make(
         &self,
@@ -295,13 +343,10 @@ impl<R: std::rt::Files> HostFiles<R> {
         frame: &[u8],
         pieces: &[Piece<'_>],
     ) -> Result<(), WriteStop> {
-        let mut fresh = String::from_str(alloc, name)?;
-        fresh.push_str(FRESH)?;
-        match self.replace(name, fresh.as_str(), frame, pieces) {
-            Ok(true) => Ok(()),
-            Ok(false) => self.rewrite(alloc, name, frame, pieces),
-            Err(_) => Err(WriteStop::Failed),
+        if self.make_beside(alloc, name, frame, pieces)? {
+            return Ok(());
         }
+        self.rewrite(alloc, name, frame, pieces)
     }
 }
 
@@ -315,6 +360,12 @@ impl<R: std::rt::Files> Files for HostFiles<R> {
     ghost faults = { λ f. f.faults };
 
     ghost writes = { λ f. f.writes };
+
+    ghost spares = { λ _ _ _. ⊤ };
+
+    ghost at_rest = { λ _ _. tt };
+
+    ghost joins = { λ _ _ _ _ _ _. tt };
 
     /// Besides what the trait says, `Ok` always holds a size.
     fn size(&mut self, name: &str) -> Result<Option<u64>, Failed>

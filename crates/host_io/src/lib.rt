@@ -13,6 +13,7 @@ mod sink;
 mod source;
 mod steady;
 mod stops;
+mod whole;
 mod writes;
 
 pub use files::Files;
@@ -22,5 +23,6 @@ pub use memory_files::MemoryFiles;
 pub use sink::{MemorySink, Sink, StdSink};
 pub use source::{MemorySource, Source, StdSource};
 pub use steady::{SteadyRead, SteadyWrite};
-pub use stops::{Failed, WriteStop};
+pub use stops::{Failed, ReadStop, WriteStop};
+pub use whole::read_whole;
 pub use writes::Writes;

@@ -1,6 +1,6 @@
 //! Files in memory.
 
-ghost use Rattle.std.specs.Prelude.{◌≡◌, ◌≢◌, ◌↔◌, ◌+◌, ◌++◌, ◌≤◌, ℕ, true, refl, List, Some, Err, IsErr, IfOk, OnOk, OnErr, drop, length, map, option_map, take, vec_capacity, vec_len};
+ghost use Rattle.std.specs.Prelude.{◌≡◌, ⊤, ◌≢◌, ◌↔◌, ◌+◌, ◌++◌, ◌≤◌, ℕ, true, refl, List, Some, Err, IsErr, IfOk, OnOk, OnErr, drop, length, map, option_map, take, vec_capacity, vec_len};
 ghost use Rattle.std.specs.List.{All};
 ghost use Rattle.host_io.specs.Calls.{IsListed, counted, failures, unused, write_counted, write_failures, writes_after};
 ghost use Rattle.host_io.specs.Causes.{HasCause, HasWriteCause};
@@ -161,6 +161,12 @@ impl Files for MemoryFiles {
     ghost faults = { λ m. m.calls.faults };
 
     ghost writes = { λ m. m.writes };
+
+    ghost spares = { λ _ _ _. ⊤ };
+
+    ghost at_rest = { λ _ _. tt };
+
+    ghost joins = { λ _ _ _ _ _ _. tt };
 
     /// Besides what the trait says, it fails exactly at the listed calls.
     fn size(&mut self, name: &str) -> Result<Option<u64>, Failed>

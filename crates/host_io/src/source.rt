@@ -1,9 +1,9 @@
 //! Bytes that come in pieces.
 
-ghost use Rattle.std.specs.Prelude.{◌≡◌, ◌↔◌, ◌≤◌, ℕ, Bool, true, refl, List, Option, Some, IsErr, drop, is_some, length};
+ghost use Rattle.std.specs.Prelude.{◌≡◌, ◌↔◌, ◌≤◌, ◌++◌, ◌∷◌, [], ⊤, ℕ, Bool, true, refl, List, Option, Some, IsErr, drop, is_some, length};
 ghost use Rattle.std.specs.Io.{ReadsAtMost};
 ghost use Rattle.std.specs.Io.KnownBytes.{ReadConsumes};
-ghost use Rattle.host_io.specs.Calls.{IsListed, counted, failures, unused};
+ghost use Rattle.host_io.specs.Calls.{IsListed, counted, failures, gave, unused};
 ghost use Rattle.host_io.specs.Causes.{HasCause};
 
 use crate::calls::CallCounter;
@@ -23,16 +23,28 @@ pub trait Source {
     /// How many calls failed.
     ghost faults: { Self → ℕ };
 
+    /// Exactly these reads lead from the first to the second: of each how many bytes it gave, or that it
+    /// failed. It is nothing at run time, and an implementation need say no more than that it fits the two
+    /// laws below; so code over a source of any type is held to what each read says of it.
+    ghost reads: { Self → Self → List (Option ℕ) → Type 0 };
+
     /// Reads some bytes to the front of `out`, and gives their number. Zero, for a room that is not
     /// empty, is the end. A call that fails reads nothing.
     fn read(&mut self, out: &mut [u8]) -> Result<usize, Failed>
         ensures bound { ReadsAtMost result out.new }
         ensures bytes { ReadConsumes (left self.old) (left self.new) result out.new }
         ensures cause { HasCause (faults self.old) (faults self.new) result }
-        ensures count { faults self.new ≡ failures result (faults self.old) };
+        ensures count { faults self.new ≡ failures result (faults self.old) }
+        ensures made { reads self.old self.new (gave result ∷ []) };
 
     /// The bytes that are left are told at each time, or never.
     ghost steady: { (s : Self) → is_some (left s) ≡ tells };
+
+    /// Where no read is made there is none.
+    ghost at_rest: { (s : Self) → reads s s [] };
+
+    /// Reads that are made one after the other.
+    ghost joins: { (s t u : Self) (first next : List (Option ℕ)) → reads s t first → reads t u next → reads s u (first ++ next) };
 }
 
 /// A source in memory.
@@ -75,6 +87,12 @@ impl Source for MemorySource {
     ghost left = { λ s. Some s.left };
 
     ghost faults = { λ s. s.calls.faults };
+
+    ghost reads = { λ _ _ _. ⊤ };
+
+    ghost at_rest = { λ _. tt };
+
+    ghost joins = { λ _ _ _ _ _ _ _. tt };
 
     /// Besides what the trait says, it fails exactly at the listed calls.
     fn read(&mut self, out: &mut [u8]) -> Result<usize, Failed>
@@ -127,6 +145,12 @@ impl<R: SteadyRead> Source for StdSource<R> {
     ghost left = { λ s. R.remaining s.inner };
 
     ghost faults = { λ s. s.faults };
+
+    ghost reads = { λ _ _ _. ⊤ };
+
+    ghost at_rest = { λ _. tt };
+
+    ghost joins = { λ _ _ _ _ _ _ _. tt };
 
     fn read(&mut self, out: &mut [u8]) -> Result<usize, Failed> {
         match self.reader.read(out) {

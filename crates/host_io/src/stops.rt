@@ -1,6 +1,7 @@
 //! Why a call stops.
 
 ghost use Rattle.std.specs.Prelude.{◌≡◌};
+ghost use Rattle.host_io.specs.declared.stops.ReadStop.TheVariants as read_stop;
 ghost use Rattle.host_io.specs.declared.stops.WriteStop.TheVariants as stop;
 
 use base_core::NoMemory;
@@ -11,6 +12,33 @@ use thiserror::Error;
 #[derive(Clone, Copy, Debug, PartialEq, Eq, Error)]
 #[error("a call on the outside failed")]
 pub struct Failed;
+
+/// Why a file was not read whole.
+#[derive(Clone, Copy, Debug, PartialEq, Eq, Error)]
+pub enum ReadStop {
+    /// The file is not there, or the outside failed, and the object counted a fault.
+    #[error("the file could not be read")]
+    Failed,
+    /// There is no memory for its bytes.
+    #[error("no memory for what was to be read")]
+    NoMemory,
+}
+
+impl From<Failed> for ReadStop {
+    ghost from_gives = { λ _ stopped. stopped ≡ read_stop.Failed };
+
+    fn from(_: Failed) -> ReadStop {
+        ReadStop::Failed
+    }
+}
+
+impl From<AllocError> for ReadStop {
+    ghost from_gives = { λ _ stopped. stopped ≡ read_stop.NoMemory };
+
+    fn from(_: AllocError) -> ReadStop {
+        ReadStop::NoMemory
+    }
+}
 
 /// Why a write stopped.
 #[derive(Clone, Copy, Debug, PartialEq, Eq, Error)]

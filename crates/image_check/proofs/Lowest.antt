@@ -1,5 +1,5 @@
 -- The lowest bad image.
-use Rattle.std.proofs.Common.{◌≡◌, ℕ, zero, suc, ◌+◌, ◌≤◌, ◌<◌, ◌*◌, Bool, true, false, List, length, get_or, take, drop, Some, None, refl, sym, ap, ◌∙◌, subst, arith, inl, inr, Option}
+use Rattle.std.proofs.Common.{◌≡◌, ℕ, zero, suc, ◌+◌, ◌≤◌, ◌<◌, ◌*◌, Bool, true, false, List, length, get_or, take, drop, Some, None, refl, sym, ap, ◌∙◌, subst, arith, inl, inr, Ok}
 use Rattle.std.proofs.lemmas.Bool.{cases_eq, cases_lt}
 use Rattle.std.specs.Prelude.{IsTrue}
 use Rattle.base_core.specs.Bytes.{same_bytes}
@@ -8,19 +8,18 @@ use Rattle.fwu_formats.specs.Manifest.{row_at}
 use Rattle.image_check.specs.Found.{is_good}
 use Rattle.image_check.proofs.Sums.{total_more}
 use Rattle.flash_core.specs.Told.{Told}
-use Rattle.flash_core.specs.declared.flash.Arming.{Arming}
-use Rattle.flash_core.specs.declared.flash.Counts.{Counts}
+use Rattle.flash_core.specs.declared.flash.Flash.{Ghosts}
 use Rattle.fwu_formats.specs.Layout.{ImageRow, slot_total}
 use Rattle.image_check.specs.Passed.{HasImage}
 use Rattle.image_check.specs.Verdict.{lowest_bad}
-use Rattle.image_check.proofs.Stays.{Stays}
+use Rattle.flash_core.specs.Calls.{Reads}
 
--- the images of the first rows are good, and the last of them begins at this block
-pub record HasPassed (tells : Bool) (old new : Told) (on : Bool) (before blocks : ℕ) (spent last : Counts) (armed arming : Option Arming)
-    (rows : List ImageRow) (first block k : ℕ) (good : ℕ → Bool) (manifest : List ℕ) : Type 0 where
-  pub stays : Stays tells old new on before blocks spent last armed arming
+-- the images of the first rows are good, the last of them begins at this block, and nothing but reads was done
+pub record HasPassed {D : Type 0} (g : Ghosts D) (old new : D) (rows : List ImageRow) (first block k : ℕ) (good : ℕ → Bool)
+    (manifest : List ℕ) : Type 0 where
+  pub reads : Reads {X = Unit {0}} g (Ok tt) old new
   pub place : block ≡ first + slot_total (take k rows)
-  pub all_good : IsTrue tells → (i : ℕ) → i < k → good i ≡ true
+  pub all_good : IsTrue g.tells → (i : ℕ) → i < k → good i ≡ true
   pub images : (i : ℕ) → i < k → HasImage (row_at manifest i)
 
 pub none_bad : (good : ℕ → Bool) (k n : ℕ) → ((i : ℕ) → k ≤ i → i < k + n → good i ≡ true) → None ≡ lowest_bad good k n

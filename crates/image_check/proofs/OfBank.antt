@@ -9,7 +9,7 @@ use Rattle.std.specs.Prelude.{IsTrue}
 use Rattle.std.specs.List.{list_all}
 use Rattle.base_core.specs.Bytes.{num_at, same_bytes}
 use Rattle.sha2.specs.Sha256.{sha256}
-use Rattle.fwu_formats.specs.Layout.{Layout, ImageRow, slot_total, fits_layout, is_row}
+use Rattle.fwu_formats.specs.Layout.{Layout, ImageRow, slot_total, fits_layout, is_row, no_row}
 use Rattle.fwu_formats.specs.Manifest.{Row, Manifest, manifest_of, manifest_at, manifest_size, row_at, is_image_of}
 use Rattle.fwu_formats.specs.Image.{slot, images_in}
 use Rattle.fwu_formats.specs.declared.kinds.ManifestFault.{ManifestFault}
@@ -20,7 +20,7 @@ use Rattle.manifest_core.proofs.InTurn.{of_front}
 use Rattle.manifest_core.proofs.Passed.{manifest_passed, sizes_fit}
 use Rattle.image_check.specs.Found.{is_good, place, by_version, found, front_of}
 use Rattle.image_check.specs.Verdict.{lowest_bad, by_manifest, has_image, verdict_on}
-use Rattle.image_check.proofs.Sums.{no_row, total_more_le}
+use Rattle.image_check.proofs.Sums.{total_more_le}
 use Rattle.image_check.proofs.Lowest.{same_bad}
 
 -- a bank's blocks are among those of all banks
@@ -39,7 +39,7 @@ first-slot (r ∷ rows) d h some =
     leb-true 1 r.slots (and_parts _ (leb 1 r.slots) most.0).1
 
 -- what stands past the end of a manifest's rows
-abbrev none_said : Row
+abbrev pub none_said : Row
 none_said = record { guid = []; size = 0; version = 0; digest = [] }
 
 -- the front of an image's slot is the image

@@ -7,7 +7,7 @@ use Rattle.std.proofs.lemmas.Option.{same_Some}
 use Rattle.std.specs.Prelude.{IsTrue, not, if◌then◌else◌}
 use Rattle.base_core.specs.Bytes.{num_at, listed}
 use Rattle.fwu_formats.specs.Layout.{Layout, fits_layout}
-use Rattle.fwu_formats.specs.Manifest.{Row, Manifest, manifest_of, manifest_at, manifest_size, row_at, all_paired, is_image_of, is_complete, version, manifest_part}
+use Rattle.fwu_formats.specs.Manifest.{Manifest, manifest_of, manifest_at, manifest_size, row_at, all_paired, is_image_of, is_complete, version, manifest_part}
 use Rattle.fwu_formats.specs.Image.{slot, images_in, package_by, package_in}
 use Rattle.fwu_model.specs.Sound.{Setting, is_permitted, holds_permitted}
 use Rattle.fwu_formats.specs.declared.kinds.ManifestFault.{ManifestFault}
@@ -19,6 +19,7 @@ use Rattle.image_check.specs.declared.bank.Verdict.TheVariants as verdict
 use Rattle.image_check.specs.Verdict.{lowest_bad, by_images, by_manifest, has_image, verdict_on}
 use Rattle.image_check.specs.Law.{GoodIsHeld, GoodIsPermitted, PermittedIsGood, may_start}
 use Rattle.image_check.specs.declared.bank.Verdict.{Verdict}
+use Rattle.image_check.proofs.OfBank.{none_said}
 
 -- ---- a package is complete where no image is bad
 
@@ -35,9 +36,6 @@ paired-lowest test dx dy good k (x ∷ xs) (y ∷ ys) same each =
     let here : good k ≡ test x y = ap good at ∙ each 0 (omega arith) in
     let rest = paired-lowest test dx dy good (k + 1) xs ys (omega (arith, same)) (λ j h. ap good (omega arith) ∙ each (suc j) (omega arith)) in
     rw here (first-test (test x y) _ (k + 1) _ rest)
-
-abbrev none_said : Row
-none_said = record { guid = []; size = 0; version = 0; digest = [] }
 
 module _ (L : Layout) (image : List ℕ) (bank : ℕ) (fits : IsTrue (fits_layout L)) (m : Manifest) (h : manifest_of L.rows (slot L image bank 0) ≡ Ok m) where
   abbrev pub front : List ℕ

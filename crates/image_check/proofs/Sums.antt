@@ -1,11 +1,7 @@
 -- The blocks of images in order.
-use Rattle.std.proofs.Common.{◌≡◌, ℕ, ◌+◌, ◌<◌, ◌≤◌, List, [], length, get_or, take}
+use Rattle.std.proofs.Common.{◌≡◌, ℕ, ◌+◌, ◌<◌, ◌≤◌, List, length, get_or, take}
 use Rattle.std.proofs.lemmas.List.Sums.{sum_by_more, sum_by_more_le}
 use Rattle.fwu_formats.specs.Layout.{ImageRow, slot_total}
-
--- what stands past the end of the rows
-abbrev pub no_row : ImageRow
-no_row = record { guid = []; slots = 0 }
 
 module _ (rows : List ImageRow) (k : ℕ) (d : ImageRow) (within : k < length rows) where
   pub total_more : slot_total (take (k + 1) rows) ≡ slot_total (take k rows) + (get_or rows k d).slots

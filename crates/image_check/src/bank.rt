@@ -1,7 +1,7 @@
 //! The verdict on a bank.
-ghost use Rattle.std.specs.Prelude.{◌≡◌, ◌+◌, ◌-◌, ◌<◌, ◌≤◌, ℕ, Bool, List, length, take, is_ok, IsTrue, IfOk};
+ghost use Rattle.std.specs.Prelude.{◌≡◌, ◌+◌, ◌-◌, ◌<◌, ◌≤◌, ℕ, Bool, List, length, take, IsTrue, IfOk};
 ghost use Rattle.base_core.specs.Block.{block_bytes};
-ghost use Rattle.flash_core.specs.Counts.{Spends, ReachesNone, arming_kept};
+ghost use Rattle.flash_core.specs.Calls.{Reads};
 ghost use Rattle.fwu_formats.specs.Layout.{slot_total, blocks_needed, start};
 ghost use Rattle.fwu_formats.specs.Manifest as model;
 ghost use Rattle.fwu_formats.specs.Layout.{ImageRow as Row};
@@ -9,6 +9,7 @@ ghost use Rattle.manifest_core.specs.Sizes.{most_manifest_bytes};
 ghost use Rattle.image_check.specs.Passed.{HasPackage, HasPackageBy, HasPassed, IsVerdictBy};
 ghost use Rattle.image_check.specs.Found.{found, front_of};
 ghost use Rattle.image_check.specs.Verdict.{by_counter, verdict_on};
+ghost use Rattle.base_core.specs.Limits.{most_images};
 
 use crate::images::first_bad;
 use base_core::{BLOCK_BYTES, ImageRow};
@@ -56,19 +57,14 @@ fn check_manifest<D: Flash, V: Verifier>(
     requires on { IsTrue (D.on flash.old) }
     requires room { 0 < length buf.old }
     requires some { 1 ≤ length rows.now }
-    requires few { length rows.now ≤ 16 }
+    requires few { length rows.now ≤ most_images }
     requires manifest { length manifest.now ≡ model.manifest_size (length rows.now - 1) }
     requires inside { first + slot_total rows.now ≤ D.blocks flash.old }
     ensures verdict { IfOk result (λ verdict. IsTrue D.tells →
         verdict ≡ found (V.passes verifier.now) counter (D.told flash.old).now rows.now first manifest.now) }
     ensures passed { IfOk result (HasPassed (V.passes verifier.now) rows.now counter) }
     ensures by_manifest { IfOk result (IsVerdictBy (V.passes verifier.now) rows.now manifest.now) }
-    ensures content { IsTrue D.tells → D.told flash.new ≡ D.told flash.old }
-    ensures power { D.on flash.new ≡ is_ok result }
-    ensures size { D.blocks flash.new ≡ D.blocks flash.old }
-    ensures costs { Spends result (D.counts flash.old) (D.counts flash.new) }
-    ensures reached { ReachesNone result (D.counts flash.old) (D.counts flash.new) }
-    ensures arming { D.arming flash.new ≡ arming_kept result (D.arming flash.old) }
+    ensures reads { Reads D.Flash result flash.old flash.new }
 {
     let version = match test(manifest, rows) {
         Ok(version) => version,
@@ -97,7 +93,7 @@ fn check_at<D: Flash, V: Verifier>(
     requires front { most_manifest_bytes ≤ length front.old }
     requires room { 0 < length buf.old }
     requires some { 1 ≤ length rows.now }
-    requires few { length rows.now ≤ 16 }
+    requires few { length rows.now ≤ most_images }
     requires block { first < D.blocks flash.old }
     requires inside { first + slot_total rows.now ≤ D.blocks flash.old }
     ensures verdict { IfOk result (λ verdict. IsTrue D.tells →
@@ -109,12 +105,7 @@ fn check_at<D: Flash, V: Verifier>(
     ensures manifest { let manifest = take (model.manifest_size (length rows.now - 1)) front.new in
         IfOk result (λ verdict. IsTrue D.tells → manifest ≡ front_of (D.told flash.old).now rows.now first) }
     ensures front { length front.new ≡ length front.old }
-    ensures content { IsTrue D.tells → D.told flash.new ≡ D.told flash.old }
-    ensures power { D.on flash.new ≡ is_ok result }
-    ensures size { D.blocks flash.new ≡ D.blocks flash.old }
-    ensures costs { Spends result (D.counts flash.old) (D.counts flash.new) }
-    ensures reached { ReachesNone result (D.counts flash.old) (D.counts flash.new) }
-    ensures arming { D.arming flash.new ≡ arming_kept result (D.arming flash.old) }
+    ensures reads { Reads D.Flash result flash.old flash.new }
 {
     let manifest = &mut front[..manifest_size(rows)];
     flash.read(BLOCK_BYTES * first, manifest)?;
@@ -148,12 +139,7 @@ pub fn check_keeping_manifest<D: Flash, V: Verifier>(
         IfOk result (λ verdict. IsTrue D.tells →
         manifest ≡ front_of (D.told flash.old).now layout.now.rows (start layout.now bank 0)) }
     ensures front { length front.new ≡ length front.old }
-    ensures content { IsTrue D.tells → D.told flash.new ≡ D.told flash.old }
-    ensures power { D.on flash.new ≡ is_ok result }
-    ensures size { D.blocks flash.new ≡ D.blocks flash.old }
-    ensures costs { Spends result (D.counts flash.old) (D.counts flash.new) }
-    ensures reached { ReachesNone result (D.counts flash.old) (D.counts flash.new) }
-    ensures arming { D.arming flash.new ≡ arming_kept result (D.arming flash.old) }
+    ensures reads { Reads D.Flash result flash.old flash.new }
 {
     let rows = layout.rows();
     let first = layout.start(bank, 0);
@@ -180,12 +166,7 @@ pub fn check<D: Flash, V: Verifier>(
         verdict ≡ verdict_on (V.passes verifier.now) counter layout.now (D.told flash.old).now bank) }
     // on every device: what is good, or below the counter, is so by some complete package that passes
     ensures passed { IfOk result (HasPassed (V.passes verifier.now) layout.now.rows counter) }
-    ensures content { IsTrue D.tells → D.told flash.new ≡ D.told flash.old }
-    ensures power { D.on flash.new ≡ is_ok result }
-    ensures size { D.blocks flash.new ≡ D.blocks flash.old }
-    ensures costs { Spends result (D.counts flash.old) (D.counts flash.new) }
-    ensures reached { ReachesNone result (D.counts flash.old) (D.counts flash.new) }
-    ensures arming { D.arming flash.new ≡ arming_kept result (D.arming flash.old) }
+    ensures reads { Reads D.Flash result flash.old flash.new }
 {
     let mut front = [0; MOST_MANIFEST_BYTES];
     check_keeping_manifest(flash, layout, bank, counter, &mut front, buf, verifier)

@@ -1,15 +1,17 @@
 //! The images of a bank against the rows of its manifest.
-ghost use Rattle.std.specs.Prelude.{◌≡◌, ◌+◌, ◌-◌, ◌*◌, ◌<◌, ◌≤◌, length, take, drop, is_ok, IsTrue, IfOk};
+ghost use Rattle.std.specs.Prelude.{◌≡◌, ◌+◌, ◌-◌, ◌*◌, ◌<◌, ◌≤◌, length, take, drop, IsTrue, IfOk};
 ghost use Rattle.base_core.specs.Block.{block_bytes};
 ghost use Rattle.base_core.specs.Bytes.{same_bytes};
 ghost use Rattle.sha2.specs.Sha256.{sha256};
-ghost use Rattle.flash_core.specs.Counts.{Spends, ReachesNone, arming_kept};
+ghost use Rattle.flash_core.specs.Calls.{Reads};
 ghost use Rattle.fwu_formats.specs.Layout.{slot_total};
 ghost use Rattle.fwu_formats.specs.Manifest as model;
 ghost use Rattle.image_check.specs.Found.{is_good, FitSlots};
 ghost use Rattle.image_check.specs.Passed.{HasImage, HasImages, IsDigestOf};
 ghost use Rattle.image_check.specs.Verdict.{lowest_bad};
+ghost use Rattle.base_core.specs.Limits.{most_images};
 
+use crate::side::{good_of_turn, starts};
 use base_core::{BLOCK_BYTES, ImageRow};
 use flash_core::{Flash, FlashStop};
 use manifest_core::row_at;
@@ -28,12 +30,7 @@ fn digest_of<D: Flash>(
     ensures digest { IfOk result (λ digest. IsTrue D.tells →
         digest ≡ sha256 (take count (drop at (D.told flash.old).now))) }
     ensures some { IfOk result (IsDigestOf count) }
-    ensures content { IsTrue D.tells → D.told flash.new ≡ D.told flash.old }
-    ensures power { D.on flash.new ≡ is_ok result }
-    ensures size { D.blocks flash.new ≡ D.blocks flash.old }
-    ensures costs { Spends result (D.counts flash.old) (D.counts flash.new) }
-    ensures reached { ReachesNone result (D.counts flash.old) (D.counts flash.new) }
-    ensures arming { D.arming flash.new ≡ arming_kept result (D.arming flash.old) }
+    ensures reads { Reads D.Flash result flash.old flash.new }
 {
     let mut hasher = Sha256::new();
     let mut done = 0u32;
@@ -47,14 +44,14 @@ fn digest_of<D: Flash>(
     Ok(hasher.finalize())
 }
 
-fn is_same(bytes: &[u8], other: &[u8]) -> bool
+pub(crate) fn is_same(bytes: &[u8], other: &[u8]) -> bool
     ensures { result ≡ same_bytes bytes.now other.now }
 {
     bytes == other
 }
 
 /// Whether the image that begins at this block has the digest of row k.
-fn is_image_good<D: Flash>(
+pub(crate) fn is_image_good<D: Flash>(
     flash: &mut D,
     block: u32,
     manifest: &[u8],
@@ -63,19 +60,14 @@ fn is_image_good<D: Flash>(
 ) -> Result<bool, FlashStop>
     requires on { IsTrue (D.on flash.old) }
     requires room { 0 < length buf.old }
-    requires few { k ≤ 16 }
-    requires row { 72 + 56 * k ≤ length manifest.now }
+    requires few { k ≤ most_images }
+    requires row { model.field_place model.row_size k ≤ length manifest.now }
     requires inside { block_bytes * block + (model.row_at manifest.now k).size ≤ block_bytes * D.blocks flash.old }
     ensures good { IfOk result (λ good. IsTrue D.tells →
         good ≡ same_bytes (sha256 (take (model.row_at manifest.now k).size (drop (block_bytes * block)
         (D.told flash.old).now))) (model.row_at manifest.now k).digest) }
     ensures some { IfOk result (λ good. IsTrue good → HasImage (model.row_at manifest.now k)) }
-    ensures content { IsTrue D.tells → D.told flash.new ≡ D.told flash.old }
-    ensures power { D.on flash.new ≡ is_ok result }
-    ensures size { D.blocks flash.new ≡ D.blocks flash.old }
-    ensures costs { Spends result (D.counts flash.old) (D.counts flash.new) }
-    ensures reached { ReachesNone result (D.counts flash.old) (D.counts flash.new) }
-    ensures arming { D.arming flash.new ≡ arming_kept result (D.arming flash.old) }
+    ensures reads { Reads D.Flash result flash.old flash.new }
 {
     let row = row_at(manifest, k);
     let digest = digest_of(flash, BLOCK_BYTES * block, row.size, buf)?;
@@ -93,7 +85,7 @@ pub fn first_bad<D: Flash>(
     requires on { IsTrue (D.on flash.old) }
     requires room { 0 < length buf.old }
     requires some { 1 ≤ length rows.now }
-    requires few { length rows.now ≤ 16 }
+    requires few { length rows.now ≤ most_images }
     requires manifest { model.manifest_size (length rows.now - 1) ≤ length manifest.now }
     requires sizes { FitSlots rows.now manifest.now }
     requires inside { first + slot_total rows.now ≤ D.blocks flash.old }
@@ -101,15 +93,21 @@ pub fn first_bad<D: Flash>(
         bad ≡ lowest_bad (is_good (D.told flash.old).now rows.now first manifest.now) 0 (length rows.now - 1)) }
     // on every device: what was read of each image has the digest of its row
     ensures some { IfOk result (HasImages manifest.now (length rows.now - 1)) }
-    ensures content { IsTrue D.tells → D.told flash.new ≡ D.told flash.old }
-    ensures power { D.on flash.new ≡ is_ok result }
-    ensures size { D.blocks flash.new ≡ D.blocks flash.old }
-    ensures costs { Spends result (D.counts flash.old) (D.counts flash.new) }
-    ensures reached { ReachesNone result (D.counts flash.old) (D.counts flash.new) }
-    ensures arming { D.arming flash.new ≡ arming_kept result (D.arming flash.old) }
+    ensures reads { Reads D.Flash result flash.old flash.new }
 {
+    let count = rows.len() - 1;
     let mut block = first;
-    for k in 0..rows.len() - 1 {
+    for turn in 0..(count + 1) / 4 {
+        let k = 4 * turn;
+        let many = (count - k).min(4);
+        let starts = starts(rows, first, block, k, many);
+        let good = good_of_turn(flash, &starts, many as u32, manifest, k as u32, buf)?;
+        if good < many as u32 {
+            return Ok(Some(k as u32 + good + 1));
+        }
+        block = starts[3];
+    }
+    for k in ((count + 1) / 4 * 4).min(count)..count {
         block += rows[k].slots;
         if !is_image_good(flash, block, manifest, k as u32, buf)? {
             return Ok(Some(k as u32 + 1));

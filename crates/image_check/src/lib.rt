@@ -4,6 +4,7 @@
 mod bank;
 mod images;
 mod laws;
+mod side;
 
 pub use bank::{Verdict, check, check_keeping_manifest};
 pub use laws::good_is_permitted;

@@ -12,14 +12,14 @@ use std::process::Abort;
 use std::rt::Files;
 
 /// Bytes 4 to 40 of the first metadata of two banks, written out by hand from the format;
-/// demo/check_vectors.py makes them again.
+/// checks/model/check_vectors.py makes them again.
 pub const METADATA: [u8; 36] = [
     2, 0, 0, 0, 0, 0, 0, 0, 0, 0, 0, 0, 0x18, 1, 0, 0, 0x20, 0, 0, 0, 0xFC, 0xFF, 0xFF, 0xFF, 0, 0,
     0, 0, 2, 0, 3, 0, 0x50, 0, 0x18, 0,
 ];
 
 /// A manifest of one image, "abc" of the type `image_type`, of version 9, with security version 7,
-/// as Python's struct and hashlib make it: demo/check_vectors.py makes it again.
+/// as Python's struct and hashlib make it: checks/model/check_vectors.py makes it again.
 pub const MANIFEST: [u8; 104] = [
     0x46, 0x57, 0x4D, 0x46, 0x01, 0x00, 0x00, 0x00, 0x07, 0x00, 0x00, 0x00, 0x01, 0x00, 0x00, 0x00,
     0x01, 0x02, 0x03, 0x04, 0x05, 0x06, 0x07, 0x08, 0x09, 0x0A, 0x0B, 0x0C, 0x0D, 0x0E, 0x0F, 0x10,

@@ -102,6 +102,8 @@ fn boots_of_nothing_have_their_lines(rt: HostRuntime) {
 fn other_calls_have_their_lines(rt: HostRuntime) {
     let alloc = rt.alloc();
     has_line(&rt, alloc, Call::Show, Reply::Off, "show off\n");
+    let none = Reply::NotUnderstood;
+    has_line(&rt, alloc, Call::NoCall, none, "no-call NOT_UNDERSTOOD\n");
     let cut = Call::Cut { n: 1, k: 0 };
     has_line(&rt, alloc, cut, Reply::CutOk, "cut ok\n");
     let shown = Reply::Shown(two_banks());
@@ -116,7 +118,8 @@ fn calls_of_the_agent_have_their_lines(rt: HostRuntime) {
     let told = "discover 1.0 staging 0,16,17,18,19,20,21,22,23,24\n";
     has_line(&rt, alloc, Call::Discover, staging, told);
     let refused = Reply::Refused(Status::NotAvailable);
-    has_line(&rt, alloc, Call::Begin, refused, "begin NOT_AVAILABLE\n");
+    let begin = Call::Begin { partial_count: 1 };
+    has_line(&rt, alloc, begin, refused, "begin NOT_AVAILABLE\n");
     has_line(&rt, alloc, Call::End, Reply::Success, "end SUCCESS\n");
     has_line(&rt, alloc, Call::Previous, Reply::Off, "previous off\n");
     let open = Call::Open {
@@ -171,6 +174,27 @@ fn sendings_have_their_lines(rt: HostRuntime) {
     let end = Reply::EndRefused(Status::AuthFail);
     sends(&rt, alloc, end, "send end AUTH_FAIL\n");
     sends(&rt, alloc, Reply::ReadFault, "send read-fault\n");
+}
+
+#[test]
+fn partial_calls_have_their_lines(rt: HostRuntime) {
+    let alloc = rt.alloc();
+    let begin = Call::BeginPartial {
+        types: Vec::from_array(alloc, [Guid::nil()]).expect(&rt, "memory"),
+    };
+    let unknown = Reply::Refused(Status::Unknown);
+    has_line(&rt, alloc, begin, unknown, "begin UNKNOWN\n");
+    let send = Call::SendPartial {
+        name: String::new(alloc),
+        request: 0,
+    };
+    let sent = Reply::SentPartial {
+        images: 1,
+        skipped: 0,
+        copied: 2,
+    };
+    let line = "send SUCCESS images=1 skipped=0 copied=2\n";
+    has_line(&rt, alloc, send, sent, line);
 }
 
 #[test]

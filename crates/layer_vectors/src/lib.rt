@@ -10,6 +10,8 @@ mod fixtures;
 #[cfg(test)]
 mod formats;
 #[cfg(test)]
+mod hashes;
+#[cfg(test)]
 mod host_files;
 #[cfg(test)]
 mod journal_lines;
@@ -33,6 +35,8 @@ mod slot_pieces;
 mod soak_rounds;
 #[cfg(test)]
 mod stored_metadata;
+#[cfg(test)]
+mod turns;
 #[cfg(test)]
 mod values;
 #[cfg(test)]

@@ -3,7 +3,8 @@
 use crate::fixtures::{are_bytes, holds, only, removed, same};
 use host_io::{Files, HostFiles, MemoryFiles, Piece, WriteStop};
 use std::alloc::Global;
-use std::fs;
+use std::fs::{self, Permissions};
+use std::os::unix::fs::{PermissionsExt, symlink};
 use std::process::Abort;
 
 // The bytes that stand in the pieces' file.
@@ -203,4 +204,46 @@ fn standing_files<R: std::rt::Files + Drop>(
 #[test]
 fn made_where_they_stand(rt: HostRuntime) {
     standing_files(&rt, rt.alloc(), &rt);
+}
+
+// The rights of a file.
+fn rights(rt: &(impl std::rt::Files + Abort), name: &str) -> u32 {
+    let found = fs::metadata(rt, name).expect(rt, "a file");
+    found.permissions().mode() & 0o777
+}
+
+// A link stays, and what it names is written; a new file has the rights of the old one.
+fn keeps<R: std::rt::Files>(
+    rt: &(impl std::rt::Files + Abort),
+    alloc: Global,
+    files: &mut HostFiles<R>,
+) {
+    symlink(rt, FROM_NAME, "host_io_link.tmp").expect(rt, "a link");
+    makes(rt, alloc, files, "host_io_link.tmp", &PIECES, Ok(()));
+    let link = fs::symlink_metadata(rt, "host_io_link.tmp").expect(rt, "a link");
+    holds(rt, link.is_symlink(), "a link");
+    is_there(rt, alloc, files, FROM_NAME, MADE);
+    writes(rt, files, FROM_NAME, FROM);
+    writes(rt, files, "host_io_old.tmp", b"old");
+    fs::set_permissions(rt, "host_io_old.tmp", Permissions::from_mode(0o640)).expect(rt, "rights");
+    makes(rt, alloc, files, "host_io_old.tmp", &PIECES, Ok(()));
+    same(rt, rights(rt, "host_io_old.tmp"), 0o640);
+}
+
+fn kept_files<R: std::rt::Files + Drop>(
+    rt: &(impl std::rt::Files + Abort),
+    alloc: Global,
+    runtime: R,
+) {
+    let mut files = HostFiles::new(runtime);
+    writes(rt, &mut files, FROM_NAME, FROM);
+    keeps(rt, alloc, &mut files);
+    removed(rt, "host_io_link.tmp");
+    removed(rt, "host_io_old.tmp");
+    removed(rt, FROM_NAME);
+}
+
+#[test]
+fn made_with_links_and_rights(rt: HostRuntime) {
+    kept_files(&rt, rt.alloc(), &rt);
 }

@@ -21,7 +21,7 @@ const WIDE: [u8; 104] = [
 ];
 
 // A manifest of "abc" as the boot firmware, of version 7, and of "hello" as the normal firmware, of
-// version 9, with security version 1, as Python's struct and hashlib make it: demo/check_vectors.py
+// version 9, with security version 1, as Python's struct and hashlib make it: checks/model/check_vectors.py
 // makes both again.
 const BOTH: [u8; 160] = [
     0x46, 0x57, 0x4D, 0x46, 0x01, 0x00, 0x00, 0x00, 0x01, 0x00, 0x00, 0x00, 0x02, 0x00, 0x00, 0x00,

@@ -50,7 +50,7 @@ fn marks_are_counted_cleared_and_added(rt: HostRuntime) {
     has_marks(&rt, &mut flash, Ok(1));
 }
 
-// A record of 70000, made by Python's struct and zlib.crc32: demo/check_vectors.py makes it again.
+// A record of 70000, made by Python's struct and zlib.crc32: checks/model/check_vectors.py makes it again.
 const RECORD: [u8; 32] = [
     78, 81, 7, 214, 70, 87, 85, 67, 112, 17, 1, 0, 0, 0, 0, 0, 32, 0, 0, 0, 0, 0, 0, 0, 0, 0, 0, 0,
     0, 0, 0, 0,

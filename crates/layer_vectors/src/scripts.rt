@@ -7,6 +7,9 @@ use script_text::{Call, Script, ScriptFault, TextLimit, is_too_long, read_script
 use std::alloc::Global;
 use std::process::Abort;
 
+const SIXTEEN_TYPES: &str =
+    "begin tb-fw tb-fw tb-fw tb-fw tb-fw tb-fw tb-fw tb-fw tb-fw tb-fw tb-fw tb-fw tb-fw tb-fw tb-fw tb-fw";
+
 fn read(alloc: Global, text: &[u8]) -> Result<Script, ScriptFault> {
     if is_too_long(text) {
         return Err(ScriptFault::NoMemory);
@@ -123,6 +126,23 @@ fn sends(call: &Call, wanted: &str, how: u32) -> bool {
     }
 }
 
+// Whether it is a partial begin that names so many types, each of them this one.
+fn begins(call: &Call, wanted: &Guid, count: usize) -> bool {
+    match call {
+        Call::BeginPartial { types } => {
+            types.len() == count && types.iter().all(|guid| guid.is(wanted))
+        }
+        _ => false,
+    }
+}
+
+fn sends_partly(call: &Call, wanted: &str, how: u32) -> bool {
+    match call {
+        Call::SendPartial { name, request } => name.as_str() == wanted && *request == how,
+        _ => false,
+    }
+}
+
 #[test]
 fn calls_with_types_have_their_values(rt: HostRuntime) {
     let alloc = rt.alloc();
@@ -163,11 +183,44 @@ fn commits_and_sendings_have_their_values(rt: HostRuntime) {
     holds(&rt, sends(&send, "p2.fip", 1), "send");
 }
 
+#[test]
+fn partial_calls_have_their_values(rt: HostRuntime) {
+    let alloc = rt.alloc();
+    let tb = Guid::read("5ff9ec0b-4d22-3e4d-a544-c39d81c73f0a").expect(&rt, "a type");
+    let one = call_of(&rt, alloc, "begin tb-fw");
+    holds(&rt, begins(&one, &tb, 1), "one type");
+    let most = call_of(&rt, alloc, SIXTEEN_TYPES);
+    holds(&rt, begins(&most, &tb, 16), "16 types");
+    let now = call_of(&rt, alloc, "send p2.fip now partial");
+    holds(&rt, sends_partly(&now, "p2.fip", 0), "send now");
+    let trial = call_of(&rt, alloc, "send p2.fip trial partial");
+    holds(&rt, sends_partly(&trial, "p2.fip", 1), "send trial");
+}
+
+#[test]
+fn bad_partial_calls_are_found(rt: HostRuntime) {
+    let lines = [
+        "begin ",
+        "begin tb-fw ",
+        "begin  tb-fw",
+        "begin tb",
+        "begin tb-fw 1 nt-fw",
+        "begin tb-fw tb-fw tb-fw tb-fw tb-fw tb-fw tb-fw tb-fw tb-fw tb-fw tb-fw tb-fw tb-fw tb-fw tb-fw tb-fw tb-fw",
+        "Begin tb-fw",
+        "send p2.fip partial",
+        "send p2.fip partial now",
+        "send p2.fip now whole",
+        "send p2.fip now partial partial",
+        "commit 1 now partial",
+    ];
+    are_bad(&rt, rt.alloc(), &lines);
+}
+
 // Whether a call is the one of its place: discover, begin, end, cancel and previous.
 fn is_word(call: &Call, place: u32) -> bool {
     match call {
         Call::Discover => place == 0,
-        Call::Begin => place == 1,
+        Call::Begin { partial_count } => place == 1 && *partial_count == 0,
         Call::End => place == 2,
         Call::Cancel => place == 3,
         Call::Previous => place == 4,

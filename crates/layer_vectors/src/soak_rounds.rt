@@ -1,5 +1,5 @@
 //! Draws, rounds, calls and packages, against values from elsewhere: the numbers of the C standard's
-//! example of `rand`, and rounds and packages as Python draws and makes them: demo/check_vectors.py
+//! example of `rand`, and rounds and packages as Python draws and makes them: checks/model/check_vectors.py
 //! makes them again.
 
 use crate::fixtures::same;

@@ -13,6 +13,7 @@ use Rattle.manifest_core.specs.declared.rows.Row.{Row as SpecRow}
 use Rattle.std.proofs.lemmas.List.FromFn.{length-map-range_with_len}
 use Rattle.fwu_formats.proofs.Spell.{num_front}
 use Rattle.manifest_core.proofs.InTurn.{outcome, by_tests}
+use Rattle.base_core.proofs.Results.{same-Ok}
 
 -- what is left of the tests where all passed
 record Outcome {X : Type 0} (short count room : Bool) (x y : X) : Type 0 where
@@ -20,9 +21,6 @@ record Outcome {X : Type 0} (short count room : Bool) (x y : X) : Type 0 where
   counted : count ≡ true
   fits : room ≡ true
   is : x ≡ y
-
-same-Ok : {X F : Type 0} (x y : X) → ◌≡◌ {A = Result X F} (Ok x) (Ok y) → x ≡ y
-same-Ok x y e = cc
 
 outcome-parts : {X : Type 0} (short magic form passes count order room digest : Bool) (x y : X)
     → outcome short magic form passes count order room digest x ≡ Ok y → Outcome short count room x y

@@ -8,8 +8,13 @@
 
 mod reading;
 mod rows;
+mod sizes;
 mod value;
 
-pub use reading::{MOST_MANIFEST_BYTES, manifest_size, test};
+pub use reading::test;
 pub use rows::{Row, row_at};
+pub use sizes::{
+    DIGEST_BYTES, MANIFEST_HEAD, MOST_MANIFEST_BYTES, MOST_ROWS, ROW_BYTES, manifest_size,
+    row_place,
+};
 pub use value::{Manifest, ManifestStop};

@@ -1,11 +1,13 @@
 //! The tests of a manifest against the images of a layout, in their order.
-ghost use Rattle.std.specs.Prelude.{◌≡◌, ◌+◌, ◌-◌, ◌*◌, ◌≤◌, ◌==◌, length, take, drop, nat_le, OnOk};
+ghost use Rattle.std.specs.Prelude.{◌≡◌, ◌-◌, ◌*◌, ◌≤◌, ◌==◌, length, take, drop, nat_le, OnOk};
 ghost use Rattle.base_core.specs.Block.{block_bytes};
 ghost use Rattle.base_core.specs.Bytes.{num_at, same_bytes, listed};
+ghost use Rattle.base_core.specs.Limits.{most_images};
 ghost use Rattle.sha2.specs.Sha256.{sha256};
 ghost use Rattle.fwu_formats.specs.Manifest as model;
 ghost use Rattle.manifest_core.specs.Shown.{version_of, is_named, is_within};
 
+use crate::sizes::{manifest_size, row_place};
 use base_core::{BLOCK_BYTES, Guid, ImageRow, le32_at};
 use fwu_formats::ManifestFault;
 use sha2::{Digest, Sha256};
@@ -14,18 +16,6 @@ pub const MAGIC: u32 = 0x464D_5746;
 
 /// The greatest security version of form 1.
 pub const VERSION_LIMIT: u32 = 223;
-
-/// The bytes of the largest manifest, which has 15 rows.
-pub const MOST_MANIFEST_BYTES: usize = 48 + 56 * 15;
-
-/// The bytes of a manifest of these images, which has a row for each but the first.
-pub fn manifest_size(images: &[ImageRow]) -> usize
-    requires some { 1 ≤ length images.now }
-    requires few { length images.now ≤ 16 }
-    ensures { result ≡ model.manifest_size (length images.now - 1) }
-{
-    48 + 56 * (images.len() - 1)
-}
 
 fn has_magic(bytes: &[u8]) -> bool
     requires { 4 ≤ length bytes.now }
@@ -60,20 +50,20 @@ fn has_count(bytes: &[u8], count: usize) -> bool
 
 /// Whether row j is of this type.
 fn is_row_of(bytes: &[u8], j: usize, guid: &Guid) -> bool
-    requires few { j ≤ 16 }
-    requires room { 72 + 56 * j ≤ length bytes.now }
-    ensures { result ≡ same_bytes guid.now (take 16 (drop (16 + 56 * j) bytes.now)) }
+    requires few { j ≤ most_images }
+    requires room { model.field_place model.row_size j ≤ length bytes.now }
+    ensures { result ≡ same_bytes guid.now (take 16 (drop (model.row_place j) bytes.now)) }
 {
-    guid.is(&Guid::at(bytes, 16 + 56 * j))
+    guid.is(&Guid::at(bytes, row_place(j)))
 }
 
 /// Whether what row j says fits in so many blocks.
 fn fits_blocks(bytes: &[u8], j: usize, slots: u32) -> bool
-    requires few { j ≤ 16 }
-    requires room { 72 + 56 * j ≤ length bytes.now }
-    ensures { result ≡ nat_le (num_at 4 bytes.now (32 + 56 * j)) (block_bytes * slots) }
+    requires few { j ≤ most_images }
+    requires room { model.field_place model.row_size j ≤ length bytes.now }
+    ensures { result ≡ nat_le (num_at 4 bytes.now (model.field_place 16 j)) (block_bytes * slots) }
 {
-    u64::from(le32_at(bytes, 32 + 56 * j)) <= u64::from(BLOCK_BYTES) * u64::from(slots)
+    u64::from(le32_at(bytes, row_place(j) + 16)) <= u64::from(BLOCK_BYTES) * u64::from(slots)
 }
 
 /// Whether the bytes from n on are the digest of those before.
@@ -87,8 +77,8 @@ fn is_digested(bytes: &[u8], n: usize) -> bool
 
 /// Whether the rows are of the types of these images, in order.
 fn is_in_order(bytes: &[u8], images: &[ImageRow]) -> bool
-    requires few { length images.now ≤ 16 }
-    requires room { 16 + 56 * length images.now ≤ length bytes.now }
+    requires few { length images.now ≤ most_images }
+    requires room { model.row_place (length images.now) ≤ length bytes.now }
     ensures { result ≡ model.all_paired is_named images.now (listed (length images.now)
         (model.row_at bytes.now)) }
 {
@@ -102,8 +92,8 @@ fn is_in_order(bytes: &[u8], images: &[ImageRow]) -> bool
 
 /// Whether the images that the rows tell of fit their slots.
 fn fits_slots(bytes: &[u8], images: &[ImageRow]) -> bool
-    requires few { length images.now ≤ 16 }
-    requires room { 16 + 56 * length images.now ≤ length bytes.now }
+    requires few { length images.now ≤ most_images }
+    requires room { model.row_place (length images.now) ≤ length bytes.now }
     ensures { result ≡ model.all_paired is_within images.now (listed (length images.now)
         (model.row_at bytes.now)) }
 {
@@ -118,7 +108,7 @@ fn fits_slots(bytes: &[u8], images: &[ImageRow]) -> bool
 /// The security version or the first fault of bytes that have a manifest's length.
 fn test_whole(whole: &[u8], rows: &[ImageRow]) -> Result<u32, ManifestFault>
     requires some { 1 ≤ length rows.now }
-    requires few { length rows.now ≤ 16 }
+    requires few { length rows.now ≤ most_images }
     requires size { length whole.now ≡ model.manifest_size (length rows.now - 1) }
     ensures { result ≡ version_of (model.manifest_of rows.now whole.now) }
 {
@@ -141,7 +131,7 @@ fn test_whole(whole: &[u8], rows: &[ImageRow]) -> Result<u32, ManifestFault>
     if !fits_slots(whole, others) {
         return Err(ManifestFault::TooLarge);
     }
-    if !is_digested(whole, 16 + 56 * others.len()) {
+    if !is_digested(whole, row_place(others.len())) {
         return Err(ManifestFault::BadDigest);
     }
     Ok(le32_at(whole, 8))
@@ -155,7 +145,7 @@ fn test_whole(whole: &[u8], rows: &[ImageRow]) -> Result<u32, ManifestFault>
 /// digest. It takes no memory.
 pub fn test(bytes: &[u8], rows: &[ImageRow]) -> Result<u32, ManifestFault>
     requires some { 1 ≤ length rows.now }
-    requires few { length rows.now ≤ 16 }
+    requires few { length rows.now ≤ most_images }
     ensures is { result ≡ version_of (model.manifest_of rows.now bytes.now) }
     // A manifest's rows can be read with `row_at`.
     ensures room { OnOk result (model.manifest_size (length rows.now - 1) ≤ length bytes.now) }

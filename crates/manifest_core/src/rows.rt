@@ -1,9 +1,11 @@
 //! What a manifest says of one image.
-ghost use Rattle.std.specs.Prelude.{◌≡◌, ◌+◌, ◌*◌, ◌≤◌, length, take, drop};
+ghost use Rattle.std.specs.Prelude.{◌≡◌, ◌+◌, ◌≤◌, length, take, drop};
 ghost use Rattle.sha2.specs.Sha256.{sha256};
+ghost use Rattle.base_core.specs.Limits.{most_images};
 ghost use Rattle.fwu_formats.specs.Manifest as model;
 ghost use Rattle.manifest_core.specs.Shown.{row};
 
+use crate::sizes::{DIGEST_BYTES, row_place};
 use base_core::{Guid, le32_at};
 use sha2::{Digest, Sha256};
 
@@ -13,7 +15,7 @@ pub struct Row {
     pub guid: Guid,
     pub size: u32,
     pub version: u32,
-    pub digest: [u8; 32],
+    pub digest: [u8; DIGEST_BYTES],
 }
 
 impl Row {
@@ -31,22 +33,22 @@ impl Row {
     }
 }
 
-fn digest_at(bytes: &[u8], at: usize) -> [u8; 32]
-    requires { at + 32 ≤ length bytes.now }
-    ensures { result ≡ take 32 (drop at bytes.now) }
+fn digest_at(bytes: &[u8], at: usize) -> [u8; DIGEST_BYTES]
+    requires { at + model.digest_size ≤ length bytes.now }
+    ensures { result ≡ take model.digest_size (drop at bytes.now) }
 {
-    let mut digest = [0; 32];
-    digest.copy_from_slice(&bytes[at..at + 32]);
+    let mut digest = [0; DIGEST_BYTES];
+    digest.copy_from_slice(&bytes[at..at + DIGEST_BYTES]);
     digest
 }
 
 /// Row j of a manifest, from 0: the row of image j + 1.
 pub fn row_at(bytes: &[u8], j: u32) -> Row
-    requires few { j ≤ 16 }
-    requires room { 72 + 56 * j ≤ length bytes.now }
+    requires few { j ≤ most_images }
+    requires room { model.field_place model.row_size j ≤ length bytes.now }
     ensures { row result ≡ model.row_at bytes.now j }
 {
-    let at = 16 + 56 * j as usize;
+    let at = row_place(j as usize);
     Row {
         guid: Guid::at(bytes, at),
         size: le32_at(bytes, at + 16),

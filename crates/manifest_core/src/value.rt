@@ -2,12 +2,14 @@
 ghost use Rattle.std.specs.Prelude.{◌≡◌, ◌↔◌, ◌+◌, ◌-◌, ◌*◌, ◌≤◌, length, map, flat_map, IsTrue, IsOk, IfOk, IfErr, OnOk, Ok, List, ℕ, ◌++◌};
 ghost use Rattle.std.specs.List.{list_all};
 ghost use Rattle.base_core.specs.Bytes.{le, listed};
+ghost use Rattle.base_core.specs.Limits.{fewest_images, most_images};
 ghost use Rattle.base_core.specs.declared.rows.ImageRow.{ImageRow as SpecRow};
 ghost use Rattle.fwu_formats.specs.Manifest as model;
 ghost use Rattle.manifest_core.specs.Shown.{row, IsStopOf, Suits};
 
-use super::reading::{MAGIC, VERSION_LIMIT, manifest_size, test};
+use super::reading::{MAGIC, VERSION_LIMIT, test};
 use super::rows::{Row, row_at};
+use super::sizes::{MOST_ROWS, manifest_size};
 use base_core::{ImageRow, NoMemory};
 use fwu_formats::ManifestFault;
 use sha2::{Digest, Sha256};
@@ -25,7 +27,7 @@ pub enum ManifestStop {
 }
 
 /// A manifest: its security version, and 1 to 15 rows, one for each image but the first.
-#[derive(Debug, Drop)]
+#[derive(Drop)]
 pub struct Manifest {
     security: u32,
     rows: Vec<Row>,
@@ -40,13 +42,13 @@ impl Model for Manifest {
 
     ghost view = { λ m. record { security = m.security; rows = map row m.rows.items } };
 
-    ghost invariant = { λ m. (1 ≤ length m.rows.items) × (length m.rows.items ≤ 15) };
+    ghost invariant = { λ m. (1 ≤ length m.rows.items) × (length m.rows.items ≤ model.most_rows) };
 }
 
 /// The first rows of a manifest.
 fn read_rows(alloc: Global, bytes: &[u8], count: usize) -> Result<Vec<Row>, AllocError>
-    requires few { count ≤ 16 }
-    requires room { 16 + 56 * count ≤ length bytes.now }
+    requires few { count ≤ most_images }
+    requires room { model.row_place count ≤ length bytes.now }
     ensures { IfOk result (λ rows. map row rows.items ≡ listed count (model.row_at bytes.now)) }
 {
     let mut rows = Vec::new(alloc);
@@ -59,8 +61,8 @@ fn read_rows(alloc: Global, bytes: &[u8], count: usize) -> Result<Vec<Row>, Allo
 impl Manifest {
     /// The manifest at the front of the bytes, or the first fault against the images of a layout, as `test` says.
     pub fn read(alloc: Global, bytes: &[u8], rows: &[ImageRow]) -> Result<Manifest, ManifestStop>
-        requires some { 2 ≤ length rows.now }
-        requires few { length rows.now ≤ 16 }
+        requires some { fewest_images ≤ length rows.now }
+        requires few { length rows.now ≤ most_images }
         ensures ok { IfOk result (λ m. model.manifest_of rows.now bytes.now ≡ Ok m) }
         ensures fault { IfErr result (λ stop. IsStopOf (model.manifest_of rows.now bytes.now) stop) }
     {
@@ -79,10 +81,10 @@ impl Manifest {
     pub fn of_rows(_alloc: Global, security: u32, rows: Vec<Row>) -> Result<Manifest, ManifestStop>
         ensures ok { IfOk result (λ m. m ≡
             record { security = security; rows = map row rows.items }) }
-        ensures count { IsOk result ↔ ((1 ≤ length rows.items) × (length rows.items ≤ 15)) }
+        ensures count { IsOk result ↔ ((1 ≤ length rows.items) × (length rows.items ≤ model.most_rows)) }
         ensures fault { IfErr result (λ stop. stop ≡ ManifestStop.Fault ManifestFault.BadCount) }
     {
-        if rows.len() < 1 || rows.len() > 15 {
+        if rows.len() < 1 || rows.len() > MOST_ROWS {
             return Err(ManifestStop::Fault(ManifestFault::BadCount));
         }
         Ok(Manifest { security, rows })
@@ -99,7 +101,7 @@ impl Manifest {
     pub fn rows(&self) -> &[Row]
         ensures rows { map row result.now ≡ self.now.rows }
         ensures some { 1 ≤ length self.now.rows }
-        ensures few { length self.now.rows ≤ 15 }
+        ensures few { length self.now.rows ≤ model.most_rows }
     {
         self.rows.as_slice()
     }

@@ -1,7 +1,8 @@
 //! Marks: granules of 16 bytes that aren't blank. A block of 4096 bytes has 256 of them.
-ghost use Rattle.std.specs.Prelude.{◌≡◌, ◌⊎◌, ◌+◌, ◌*◌, ◌<◌, ◌≤◌, is_ok, IsTrue, IfOk, OnOk, length};
+ghost use Rattle.std.specs.Prelude.{◌≡◌, ◌⊎◌, ◌+◌, ◌*◌, ◌<◌, ◌≤◌, IsTrue, IfOk, OnOk, length};
 ghost use Rattle.base_core.specs.Block.{block_bytes, granule};
-ghost use Rattle.flash_core.specs.Counts.{Spends, ReachesNone, StaysUnarmed, arming_kept, lowered};
+ghost use Rattle.flash_core.specs.Counts.{lowered};
+ghost use Rattle.flash_core.specs.Calls.{Goes, Reads};
 ghost use Rattle.fwu_formats.specs.Image.{is_blank, marks};
 ghost use Rattle.marks_core.specs.Marks.{Adds, Clears, TakesClear, is_clear};
 
@@ -24,12 +25,7 @@ pub fn count<D: Flash>(flash: &mut D, block: u32, limit: u32) -> Result<u32, Fla
     ensures marks { IfOk result (λ n. IsTrue D.tells →
         n ≡ marks (D.told flash.old).now block limit) }
     ensures within { IfOk result (λ n. n ≤ limit) }
-    ensures content { IsTrue D.tells → D.told flash.new ≡ D.told flash.old }
-    ensures power { D.on flash.new ≡ is_ok result }
-    ensures size { D.blocks flash.new ≡ D.blocks flash.old }
-    ensures arming { D.arming flash.new ≡ arming_kept result (D.arming flash.old) }
-    ensures costs { Spends result (D.counts flash.old) (D.counts flash.new) }
-    ensures reached { ReachesNone result (D.counts flash.old) (D.counts flash.new) }
+    ensures reads { Reads D.Flash result flash.old flash.new }
 {
     let mut bytes = [0; GRANULE_BYTES as usize];
     for place in 0..limit {
@@ -49,13 +45,9 @@ pub fn add<D: Flash>(flash: &mut D, block: u32, at: u32) -> Result<(), FlashStop
     requires blank { IsTrue D.tells → IsTrue (is_blank (granule block at (D.told flash.old).now)) }
 
     ensures adds { IsTrue D.tells → Adds result block at (D.told flash.old) (D.told flash.new) }
-    ensures power { D.on flash.new ≡ is_ok result }
-    ensures size { D.blocks flash.new ≡ D.blocks flash.old }
-    ensures costs { Spends result (D.counts flash.old) (D.counts flash.new) }
+    ensures goes { Goes D.Flash result flash.old flash.new }
     // on every device: one program
     ensures spent { OnOk result (D.arming flash.new ≡ lowered (D.arming flash.old)) }
-    ensures unarmed { StaysUnarmed result (D.arming flash.old) (D.arming flash.new)
-        (D.counts flash.old) (D.counts flash.new) }
 {
     flash.program(
         BLOCK_BYTES * block + GRANULE_BYTES * at,
@@ -71,17 +63,13 @@ pub fn clear<D: Flash>(flash: &mut D, block: u32, buf: &mut [u8]) -> Result<(), 
     requires room { block_bytes ≤ length buf.old }
 
     ensures clears { IsTrue D.tells → Clears result block (D.told flash.old) (D.told flash.new) }
-    ensures power { D.on flash.new ≡ is_ok result }
-    ensures size { D.blocks flash.new ≡ D.blocks flash.old }
-    ensures costs { Spends result (D.counts flash.old) (D.counts flash.new) }
+    ensures goes { Goes D.Flash result flash.old flash.new }
     // on every device: one erase, or none
     ensures spent { OnOk result ((D.arming flash.new ≡ D.arming flash.old)
         ⊎ (D.arming flash.new ≡ lowered (D.arming flash.old))) }
     // where the content is told, by the bytes
     ensures once { IsTrue D.tells → OnOk result
         (TakesClear (is_clear block (D.told flash.old).now) (D.arming flash.old) (D.arming flash.new)) }
-    ensures unarmed { StaysUnarmed result (D.arming flash.old) (D.arming flash.new)
-        (D.counts flash.old) (D.counts flash.new) }
     ensures buffer { length buf.new ≡ length buf.old }
 {
     clear_by(flash, block, &mut buf[..BLOCK_BYTES as usize])
@@ -93,17 +81,13 @@ fn clear_by<D: Flash>(flash: &mut D, block: u32, buf: &mut [u8]) -> Result<(), F
     requires room { length buf.old ≡ block_bytes }
 
     ensures clears { IsTrue D.tells → Clears result block (D.told flash.old) (D.told flash.new) }
-    ensures power { D.on flash.new ≡ is_ok result }
-    ensures size { D.blocks flash.new ≡ D.blocks flash.old }
-    ensures costs { Spends result (D.counts flash.old) (D.counts flash.new) }
+    ensures goes { Goes D.Flash result flash.old flash.new }
     // on every device: one erase, or none
     ensures spent { OnOk result ((D.arming flash.new ≡ D.arming flash.old)
         ⊎ (D.arming flash.new ≡ lowered (D.arming flash.old))) }
     // where the content is told, by the bytes
     ensures once { IsTrue D.tells → OnOk result
         (TakesClear (is_clear block (D.told flash.old).now) (D.arming flash.old) (D.arming flash.new)) }
-    ensures unarmed { StaysUnarmed result (D.arming flash.old) (D.arming flash.new)
-        (D.counts flash.old) (D.counts flash.new) }
     ensures buffer { length buf.new ≡ length buf.old }
 {
     read_block(flash, block, buf)?;

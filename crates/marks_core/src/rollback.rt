@@ -1,7 +1,8 @@
 //! The anti-rollback counter: marks in block 4, an older form, and records in blocks 5 and 6, an own format.
-ghost use Rattle.std.specs.Prelude.{◌≡◌, ◌<◌, ◌≤◌, length, is_ok, IsTrue, IfOk, OnOk, max, unwrap_or};
+ghost use Rattle.std.specs.Prelude.{◌≡◌, ◌<◌, ◌≤◌, length, IsTrue, IfOk, OnOk, max, unwrap_or};
 ghost use Rattle.base_core.specs.Block.{block_bytes, block};
-ghost use Rattle.flash_core.specs.Counts.{Spends, ReachesNone, StaysUnarmed, arming_kept, lowered};
+ghost use Rattle.flash_core.specs.Counts.{lowered};
+ghost use Rattle.flash_core.specs.Calls.{Goes, Reads};
 ghost use Rattle.fwu_formats.specs.Counter.{counter_in};
 ghost use Rattle.marks_core.specs.Raises.{value_in, place_for, record_place, Raises};
 
@@ -19,12 +20,7 @@ fn record_at<D: Flash>(flash: &mut D, b: u32, buf: &mut [u8]) -> Result<Option<u
 
     ensures value { IfOk result (λ r. IsTrue D.tells →
         r ≡ value_in (block b (D.told flash.old).now)) }
-    ensures content { IsTrue D.tells → D.told flash.new ≡ D.told flash.old }
-    ensures power { D.on flash.new ≡ is_ok result }
-    ensures size { D.blocks flash.new ≡ D.blocks flash.old }
-    ensures arming { D.arming flash.new ≡ arming_kept result (D.arming flash.old) }
-    ensures costs { Spends result (D.counts flash.old) (D.counts flash.new) }
-    ensures reached { ReachesNone result (D.counts flash.old) (D.counts flash.new) }
+    ensures reads { Reads D.Flash result flash.old flash.new }
     ensures buffer { length buf.new ≡ length buf.old }
 {
     read_block(flash, b, buf)?;
@@ -42,12 +38,7 @@ pub fn counter<D: Flash>(flash: &mut D) -> Result<u32, FlashStop>
     requires { IsTrue (D.on flash.old) }
 
     ensures counter { IfOk result (λ n. IsTrue D.tells → n ≡ counter_in (D.told flash.old).now) }
-    ensures content { IsTrue D.tells → D.told flash.new ≡ D.told flash.old }
-    ensures power { D.on flash.new ≡ is_ok result }
-    ensures size { D.blocks flash.new ≡ D.blocks flash.old }
-    ensures arming { D.arming flash.new ≡ arming_kept result (D.arming flash.old) }
-    ensures costs { Spends result (D.counts flash.old) (D.counts flash.new) }
-    ensures reached { ReachesNone result (D.counts flash.old) (D.counts flash.new) }
+    ensures reads { Reads D.Flash result flash.old flash.new }
 {
     let mut block = [0; BLOCK_BYTES as usize];
     let marks = count(flash, COUNTER_BLOCK, COUNTER_LIMIT)?;
@@ -76,12 +67,7 @@ fn record_place<D: Flash>(flash: &mut D, buf: &mut [u8]) -> Result<u32, FlashSto
 
     ensures place { IfOk result (λ r. IsTrue D.tells → r ≡ record_place (D.told flash.old).now) }
     ensures inside { IfOk result (λ r. (5 ≤ r) × (r ≤ 6)) }
-    ensures content { IsTrue D.tells → D.told flash.new ≡ D.told flash.old }
-    ensures power { D.on flash.new ≡ is_ok result }
-    ensures size { D.blocks flash.new ≡ D.blocks flash.old }
-    ensures arming { D.arming flash.new ≡ arming_kept result (D.arming flash.old) }
-    ensures costs { Spends result (D.counts flash.old) (D.counts flash.new) }
-    ensures reached { ReachesNone result (D.counts flash.old) (D.counts flash.new) }
+    ensures reads { Reads D.Flash result flash.old flash.new }
     ensures buffer { length buf.new ≡ length buf.old }
 {
     let first = record_at(flash, FIRST_RECORD, buf)?;
@@ -98,13 +84,9 @@ pub fn raise<D: Flash>(flash: &mut D, v: u32, buf: &mut [u8]) -> Result<(), Flas
     requires above { IsTrue D.tells → counter_in (D.told flash.old).now < v }
 
     ensures raises { IsTrue D.tells → Raises result v (D.told flash.old) (D.told flash.new) }
-    ensures power { D.on flash.new ≡ is_ok result }
-    ensures size { D.blocks flash.new ≡ D.blocks flash.old }
-    ensures costs { Spends result (D.counts flash.old) (D.counts flash.new) }
+    ensures goes { Goes D.Flash result flash.old flash.new }
     // on every device: one erase and one program
     ensures spent { OnOk result (D.arming flash.new ≡ lowered (lowered (D.arming flash.old))) }
-    ensures unarmed { StaysUnarmed result (D.arming flash.old) (D.arming flash.new)
-        (D.counts flash.old) (D.counts flash.new) }
     ensures buffer { length buf.new ≡ length buf.old }
 {
     let place = record_place(flash, &mut buf[..BLOCK_BYTES as usize])?;

@@ -1,20 +1,21 @@
 -- Metadata that is of a layout: its parts, what is read, and what stays when a part is set.
-use Rattle.std.proofs.Common.{◌≡◌, ℕ, zero, suc, ◌+◌, ◌<◌, Bool, false, not, ◌==◌, IsTrue, eq-eqb, eqb-true, List, [], ◌∷◌, length, get_or, set, map, Result, Ok, Err, refl, sym, subst, ◌∙◌, arith, ltb}
+use Rattle.std.proofs.Common.{◌≡◌, ℕ, zero, suc, ◌+◌, ◌<◌, Bool, not, ◌==◌, IsTrue, eq-eqb, eqb-true, List, [], ◌∷◌, length, get_or, set, map, Result, Ok, Err, refl, sym, subst, ◌∙◌, arith, ltb}
 use Rattle.std.specs.Prelude.{IfOk}
 use Rattle.std.specs.List.{list_all, range_with_len}
 use Rattle.std.proofs.lemmas.Bool.{and_parts, and_from, lt-ltb, ltb-true, not-false, cond_both}
-use Rattle.std.proofs.lemmas.List.{length-set, length-map}
+use Rattle.std.proofs.lemmas.List.{length-set}
 use Rattle.std.proofs.lemmas.List.FromFn.{length-map-range_with_len}
 use Rattle.base_core.specs.Bytes.{num_at, part}
 use Rattle.base_core.specs.Crc.{crc}
 use Rattle.fwu_formats.specs.Layout.{Layout}
 use Rattle.fwu_formats.specs.Metadata.{Meta, MetaRead, fits_meta, meta_of, read_v2, read_v1, meta_at, meta_at_v1, meta_size, meta_size_v1, fits_v2, fits_v1, has_fields, header_fields, has_indices, has_states, has_entries, bits_from, bits_v1, state_at_v1, state_of_byte}
 use Rattle.fwu_formats.specs.declared.kinds.BankState.{BankState}
-use Rattle.fwu_formats.specs.declared.kinds.BankState.TheVariants.{Invalid, Valid, Accepted}
 use Rattle.fwu_formats.specs.declared.kinds.MetaFault.{MetaFault}
 use Rattle.fwu_formats.specs.declared.kinds.MetaFault.TheVariants as fault
 use Rattle.fwu_formats.proofs.SealLaws.{was_not_refused}
 use Rattle.fwu_formats.proofs.OneSpelling.{all-at}
+use Rattle.base_core.proofs.Results.{same-Ok}
+use Rattle.fwu_formats.proofs.Read.{bits-length, v1-length}
 
 -- the parts of the condition
 pub record MetaFits (L : Layout) (m : Meta) : Type 0 where
@@ -91,17 +92,6 @@ module _ (L : Layout) (m : Meta) (fits : IsTrue (fits_meta L m)) where
       })
 
 -- ---- what is read is of the layout
-
-pub same-Ok : {X F : Type 0} (x y : X) → ◌≡◌ {A = Result X F} (Ok x) (Ok y) → x ≡ y
-same-Ok x y e = cc
-
-bits-length : (L : Layout) (from : ℕ) (block : List ℕ) (bank : ℕ) → length (bits_from L from block bank) ≡ length L.rows
-bits-length L from block bank = length-map-range_with_len _ 0 (length L.rows)
-
-v1-length : (k : BankState) (bits : List Bool) → length (bits_v1 k bits) ≡ length bits
-v1-length Invalid bits = length-map bits (λ bit. false)
-v1-length Valid bits = refl
-v1-length Accepted bits = refl
 
 indices-fit : (L : Layout) (block : List ℕ) → IsTrue (has_indices L block) → (num_at 4 block 8 < L.banks) × (num_at 4 block 12 < L.banks)
 indices-fit L block h = let both = and_parts (ltb (num_at 4 block 8) L.banks) (ltb (num_at 4 block 12) L.banks) h in (ltb-true _ _ both.0, ltb-true _ _ both.1)

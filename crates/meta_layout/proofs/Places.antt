@@ -12,9 +12,6 @@ use Rattle.meta_layout.specs.Entries.{has_entry_at}
 pub near : (image size : ℕ) → image ≤ 16 → size ≤ 128 → image * size ≤ 2048
 near image size i s = omega (arith, mul-le-mul_right size i, mul-le-mul_left 16 s)
 
-pub within : (image images size : ℕ) → image < images → image * size + size ≤ images * size
-within image images size lt = omega (arith, mul-le-mul_right size lt)
-
 pub entry-is : (L : Layout) (from : ℕ) (block : List ℕ) (image : ℕ) (row : ImageRow) (rows : List ImageRow) (at banks : ℕ)
     → row ≡ get_or rows image row → rows ≡ L.rows → image < length rows → at ≡ entry_place L from image → banks ≡ L.banks
     → has_entry_at row.guid block at banks ≡ has_entry L from block image

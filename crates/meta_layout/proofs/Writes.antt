@@ -1,7 +1,7 @@
 -- Bytes that are written one after another.
 use Rattle.std.proofs.Common.{◌%◌, IsTrue, map, ◌≡◌, ℕ, ◌+◌, ◌-◌, ◌≤◌, ◌<◌, List, [], ◌∷◌, ◌++◌, length, get_or, take, drop, replicate, refl, sym, ap, ◌∙◌, arith, append_assoc, append-nil, length-append}
 use Rattle.std.proofs.Math.Seq.{take-append-add}
-use Rattle.std.proofs.lemmas.List.{take-replicate, length-replicate, take_all, drop-replicate, get_or_default, length-drop, drop_all, drop-take, drop-append-le, length-take-le, take_at, drop_at, take_more}
+use Rattle.std.proofs.lemmas.List.{take-replicate, length-replicate, take_all, drop-replicate, get_or_default, length-drop, drop_all, drop-take, drop-append-le, length-take-le, drop_at, take_more}
 use Rattle.std.specs.Prelude.{flat_map}
 use Rattle.fwu_formats.specs.Metadata.{Meta, meta_size, entry_size, state_byte, fits_meta, entry_bytes}
 use Rattle.fwu_formats.specs.declared.kinds.BankState.{BankState}
@@ -12,12 +12,7 @@ use Rattle.base_core.specs.Bytes.{overwritten, le, part, listed}
 use Rattle.base_core.specs.Crc.{crc}
 use Rattle.fwu_formats.specs.Layout.{ImageRow, Layout, nil_guid, row_bytes, layout_magic, layout_size, layout_body}
 use Rattle.fwu_formats.proofs.OneSpelling.{map-last}
-
-pub front : (at : ℕ) (bytes image : List ℕ) → at + length bytes ≤ length image → take (at + length bytes) (overwritten at bytes image) ≡ take at image ++ bytes
-unfolding overwritten
-front at bytes image fits =
-    let n : length (take at image ++ bytes) ≡ at + length bytes = length-append (take at image) bytes ∙ ap (λ k. k + length bytes) (length-take-le at image (omega arith)) in
-    take_at (take at image ++ bytes) (drop (at + length bytes) image) (at + length bytes) n
+pub use Rattle.base_core.proofs.Images.{put_front as front}
 
 pub three : (first a b c : List ℕ) → ((first ++ a) ++ b) ++ c ≡ first ++ ((a ++ b) ++ c)
 three first a b c = simp append_assoc

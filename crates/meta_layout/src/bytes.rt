@@ -1,5 +1,5 @@
-//! Short numbers in a block, its checksum, and tests joined.
-ghost use Rattle.std.specs.Prelude.{◌≡◌, ◌+◌, ◌≤◌, ◌==◌, ◌&&◌, length};
+//! Short numbers in a block, and its checksum.
+ghost use Rattle.std.specs.Prelude.{◌≡◌, ◌+◌, ◌≤◌, ◌==◌, length};
 ghost use Rattle.base_core.specs.Bytes.{num_at, part};
 ghost use Rattle.base_core.specs.Crc.{crc};
 
@@ -28,18 +28,4 @@ pub fn is_checked(block: &[u8], size: usize) -> bool
     ensures { result ≡ (num_at 4 block.now 0 == crc (part block.now 4 size)) }
 {
     le32_at(block, 0) == crc32(&block[4..size])
-}
-
-/// The conjunction, as one goal of a proof.
-pub fn both(one: bool, other: bool) -> bool
-    ensures { result ≡ (one && other) }
-{
-    one && other
-}
-
-/// The conjunction of four.
-pub fn all_four(first: bool, second: bool, third: bool, fourth: bool) -> bool
-    ensures { result ≡ (first && second && third && fourth) }
-{
-    first && second && third && fourth
 }

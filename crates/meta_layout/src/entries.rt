@@ -1,6 +1,7 @@
 //! The entries of images in a metadata block: their places, and whether they are as they must be.
 ghost use Rattle.std.specs.Prelude.{◌≡◌, ◌+◌, ◌*◌, ◌<◌, ◌≤◌, ◌&&◌, ◌==◌, nat_lt, length, drop, take};
 ghost use Rattle.std.specs.List.{list_all, range_with_len};
+ghost use Rattle.base_core.specs.Limits.{most_banks};
 ghost use Rattle.base_core.specs.Bytes.{num_at};
 ghost use Rattle.fwu_formats.specs.Metadata.{entry_size, entry_place, has_bank_entry, has_entries};
 ghost use Rattle.meta_layout.specs.Entries.{has_bank_entries, has_entry_at};
@@ -15,7 +16,7 @@ pub fn entry_at(layout: &Layout, from: usize, image: usize) -> usize
     ensures place { result ≡ entry_place layout.now from image }
     ensures room { result + entry_size layout.now ≤ from + length layout.now.rows * entry_size layout.now }
 {
-    let _rows = layout.rows();
+    layout.fits();
     let size = 32 + 24 * layout.banks() as usize;
     let before = image * size;
     from + before
@@ -33,7 +34,7 @@ fn is_bank_entry(guid: &Guid, block: &[u8], at: usize) -> bool
 }
 
 fn are_bank_entries(guid: &Guid, block: &[u8], at: usize, banks: usize) -> bool
-    requires few { banks ≤ 4 }
+    requires few { banks ≤ most_banks }
     requires room { at + 32 + 24 * banks ≤ length block.now }
     ensures { result ≡ has_bank_entries guid.now block.now at banks }
 {
@@ -46,7 +47,7 @@ fn are_bank_entries(guid: &Guid, block: &[u8], at: usize, banks: usize) -> bool
 }
 
 fn is_entry(guid: &Guid, block: &[u8], at: usize, banks: usize) -> bool
-    requires few { banks ≤ 4 }
+    requires few { banks ≤ most_banks }
     requires room { at + 32 + 24 * banks ≤ length block.now }
     ensures { result ≡ has_entry_at guid.now block.now at banks }
 {

@@ -2,11 +2,12 @@
 ghost use Rattle.std.specs.Prelude.{◌≡◌, ◌+◌, ◌*◌, ◌<◌, ◌≤◌, ◌&&◌, ◌||◌, ◌==◌, nat_lt, length, drop, take, IsTrue};
 ghost use Rattle.std.specs.List.{list_all};
 ghost use Rattle.base_core.specs.Bytes.{num_at, part, listed};
+ghost use Rattle.base_core.specs.Limits.{most_banks};
 ghost use Rattle.fwu_formats.specs.Layout.{fits_layout};
 ghost use Rattle.fwu_formats.specs.Metadata.{entry_size, meta_size, meta_size_v1, header_fields, has_fields, has_indices, has_states, is_state_byte, state_of_byte, bits_from, fits_v2, fits_v1};
 ghost use Rattle.meta_layout.specs.Entries.{bit_from, state_from};
 
-use crate::bytes::{all_four, both, byte_at, le16_at};
+use crate::bytes::{byte_at, le16_at};
 use crate::entries::{are_entries, entry_at};
 use crate::layout::Layout;
 use crate::lists::{BankBits, Bits, States};
@@ -56,7 +57,7 @@ fn is_header(layout: &Layout, block: &[u8]) -> bool
     let images = layout.rows().len();
     let start = is_header_start(block, banks);
     let end = is_header_end(block, images, 32 + 24 * banks as usize);
-    both(start, end)
+    start && end
 }
 
 fn are_indices(layout: &Layout, block: &[u8]) -> bool
@@ -94,7 +95,7 @@ fn are_states(layout: &Layout, block: &[u8]) -> bool
     let banks = layout.banks() as usize;
     let used = are_state_bytes(&block[24..24 + banks]);
     let unused = are_blank(&block[24 + banks..28]);
-    both(used, unused)
+    used && unused
 }
 
 /// Whether all fields beside size and checksum are as they must be in version 2.
@@ -106,7 +107,7 @@ pub fn fits_version_two(layout: &Layout, block: &[u8]) -> bool
     let indices = are_indices(layout, block);
     let states = are_states(layout, block);
     let entries = are_entries(layout, 0x28, block);
-    all_four(header, indices, states, entries)
+    header && indices && states && entries
 }
 
 /// The same in version 1.
@@ -116,7 +117,7 @@ pub fn fits_version_one(layout: &Layout, block: &[u8]) -> bool
 {
     let indices = are_indices(layout, block);
     let entries = are_entries(layout, 0x10, block);
-    both(indices, entries)
+    indices && entries
 }
 
 /// A bank's bits, if the first entry begins at a place.
@@ -127,7 +128,7 @@ pub fn bits_at(layout: &Layout, from: usize, block: &[u8], bank: usize) -> Bits
     ensures { result ≡ bits_from layout.now from block.now bank }
 {
     let images = layout.rows().len();
-    let _banks = layout.banks();
+    layout.fits();
     let mut bits = Bits::new();
     for image in 0..images {
         let at = entry_at(layout, from, image);
@@ -162,7 +163,7 @@ fn state_of(byte: u8) -> BankState
 }
 
 pub fn states_at(block: &[u8], banks: usize) -> States
-    requires few { banks ≤ 4 }
+    requires few { banks ≤ most_banks }
     requires room { 40 ≤ length block.now }
     ensures { result ≡ listed banks (state_from block.now) }
 {

@@ -1,5 +1,6 @@
 //! The metadata after a format.
 ghost use Rattle.std.specs.Prelude.{◌≡◌, ◌+◌, ◌-◌, ◌<◌, ◌≤◌, ◌∷◌, true, false, replicate, IsTrue};
+ghost use Rattle.base_core.specs.Limits.{most_banks, most_images};
 ghost use Rattle.fwu_formats.specs.Metadata.{first_meta, fits_meta};
 ghost use Rattle.fwu_formats.specs.declared.kinds.BankState.TheVariants.{Invalid, Accepted};
 
@@ -9,7 +10,7 @@ use crate::meta::Meta;
 use fwu_formats::BankState;
 
 fn same_bits(count: usize, bit: bool) -> Bits
-    requires { count ≤ 16 }
+    requires { count ≤ most_images }
     ensures { result ≡ replicate count bit }
 {
     let mut bits = Bits::new();
@@ -21,7 +22,7 @@ fn same_bits(count: usize, bit: bool) -> Bits
 
 fn first_states(banks: usize) -> States
     requires low { 1 ≤ banks }
-    requires high { banks ≤ 4 }
+    requires high { banks ≤ most_banks }
     ensures { result ≡ Accepted ∷ replicate (banks - 1) Invalid }
 {
     let mut states = States::new();
@@ -34,8 +35,8 @@ fn first_states(banks: usize) -> States
 
 fn first_bits(banks: usize, images: usize) -> BankBits
     requires low { 1 ≤ banks }
-    requires high { banks ≤ 4 }
-    requires few { images ≤ 16 }
+    requires high { banks ≤ most_banks }
+    requires few { images ≤ most_images }
     ensures { result ≡ replicate images true ∷ replicate (banks - 1) (replicate images false) }
 {
     let mut bits = BankBits::new();

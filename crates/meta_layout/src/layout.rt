@@ -2,7 +2,9 @@
 ghost use Rattle.std.specs.Prelude.{◌≡◌, ℕ, ◌+◌, ◌-◌, ◌*◌, ◌<◌, ◌≤◌, ◌++◌, ◌&&◌, ◌==◌, nat_le, length, take, drop, replicate, Ok, IsTrue};
 ghost use Rattle.base_core.specs.Block.{block_bytes};
 ghost use Rattle.base_core.specs.Bytes.{num_at};
+ghost use Rattle.base_core.specs.Limits.{fewest_banks, fewest_images, most_banks, most_images};
 ghost use Rattle.fwu_formats.specs.Layout.{are_zero, fits_layout, blocks_needed, find_image, start, layout_of, layout_size, layout_body, layout_bytes};
+ghost use Rattle.fwu_formats.specs.Places.{first_bank_block};
 ghost use Rattle.meta_layout.specs.Rows.{has_row_zeros, fitted};
 
 use crate::bytes::is_checked;
@@ -11,8 +13,8 @@ use crate::put::{put, put4, seal};
 use crate::rows::{
     are_apart, are_rows, find_row, has_zero_rows, put_rows, rows_in, rows_of, slot_sum,
 };
-use base_core::{Guid, ImageRow, le32_at};
-use fwu_formats::LayoutFault;
+use base_core::{FEWEST_BANKS, FEWEST_IMAGES, Guid, ImageRow, MOST_BANKS, MOST_IMAGES, le32_at};
+use fwu_formats::{FIRST_BANK_BLOCK, LayoutFault};
 use std::marker::Model;
 
 const MAGIC: u32 = 0x4C55_5746;
@@ -21,10 +23,12 @@ const MAGIC: u32 = 0x4C55_5746;
 fn has_size(block: &[u8]) -> bool
     requires { 32 ≤ length block.now }
     ensures { let images = num_at 4 block.now 12 in result ≡
-        (nat_le 2 images && nat_le images 16 && (num_at 4 block.now 16 == 32 + 24 * images)) }
+        (nat_le fewest_images images && nat_le images most_images && (num_at 4 block.now 16 == 32 + 24 * images)) }
 {
-    let images = le32_at(block, 12);
-    2 <= images && images <= 16 && le32_at(block, 16) == 32 + 24 * images
+    let images = le32_at(block, 12) as usize;
+    FEWEST_IMAGES <= images
+        && images <= MOST_IMAGES
+        && le32_at(block, 16) as usize == 32 + 24 * images
 }
 
 /// Whether the bytes from 20 to 32 are zero.
@@ -37,42 +41,37 @@ fn has_zero_gap(block: &[u8]) -> bool
 
 /// Whether the fields of the block that have to be zero are zero.
 fn are_rest_zero(block: &[u8], count: usize) -> bool
-    requires small { count ≤ 16 }
+    requires small { count ≤ most_images }
     requires room { 32 + 24 * count ≤ length block.now }
     ensures { result ≡ (are_zero (take 12 (drop 20 block.now)) && has_row_zeros block.now count) }
 {
     has_zero_gap(block) && has_zero_rows(block, count)
 }
 
-fn is_within(banks: u32, count: usize, fit: bool, apart: bool) -> bool
-    ensures { result ≡ (nat_le 2 banks && nat_le banks 4 && nat_le 2 count && nat_le count 16 && fit && apart) }
-{
-    2 <= banks && banks <= 4 && 2 <= count && count <= 16 && fit && apart
-}
-
 /// Whether these are the banks and the rows of a layout.
+#[tactic(auto, unfolding(fwu_formats::specs::Layout::fits_layout))]
 fn is_layout(banks: u32, rows: &[ImageRow]) -> bool
     ensures { result ≡ fits_layout (record { banks = banks; rows = rows.now }) }
 {
-    let fit = are_rows(rows);
-    let apart = are_apart(rows);
-    is_within(banks, rows.len(), fit, apart)
+    let few_banks = FEWEST_BANKS <= banks && banks <= MOST_BANKS;
+    let few_images = FEWEST_IMAGES <= rows.len() && rows.len() <= MOST_IMAGES;
+    few_banks && few_images && are_rows(rows) && are_apart(rows)
 }
 
 /// The blocks at the front, and those of so many banks.
 fn blocks_for(banks: u32, total: u32) -> u32
-    requires few { banks ≤ 4 }
+    requires few { banks ≤ most_banks }
     requires small { total ≤ 4096 }
-    ensures value { result ≡ 8 + banks * total }
+    ensures value { result ≡ first_bank_block + banks * total }
     ensures bound { result ≤ 16392 }
 {
-    8 + banks * total
+    FIRST_BANK_BLOCK + banks * total
 }
 
 /// What the flash is divided into: 2 to 4 banks, and in each a slot for each of 2 to 16 images of different types.
 /// Blocks have 4096 bytes. Block 0 holds the layout, blocks 1 and 2 the metadata, 3 to 7 marks and records, and the
 /// banks begin at block 8, one after another. Image 0 is the manifest.
-#[derive(Clone, Copy, Debug, PartialEq, Eq)]
+#[derive(Clone, Copy)]
 pub struct Layout {
     banks: u32,
     rows: Rows,
@@ -131,7 +130,7 @@ impl Layout {
     pub fn make(rows: &[ImageRow], banks: u32, blocks: u32) -> Result<Layout, LayoutFault>
         ensures { result ≡ fitted (record { banks = banks; rows = rows.now }) blocks }
     {
-        if rows.len() > 16 {
+        if rows.len() > MOST_IMAGES {
             return Err(LayoutFault::BadField);
         }
         Layout::of_rows(banks, rows_of(rows), blocks)
@@ -153,8 +152,8 @@ impl Layout {
     /// How many banks there are.
     pub fn banks(&self) -> u32
         ensures value { result ≡ self.now.banks }
-        ensures low { 2 ≤ result }
-        ensures high { result ≤ 4 }
+        ensures low { fewest_banks ≤ result }
+        ensures high { result ≤ most_banks }
     {
         self.banks
     }
@@ -162,11 +161,23 @@ impl Layout {
     /// The images, in the order of their slots.
     pub fn rows(&self) -> &[ImageRow]
         ensures value { result.now ≡ self.now.rows }
-        ensures low { 2 ≤ length self.now.rows }
-        ensures high { length self.now.rows ≤ 16 }
+        ensures low { fewest_images ≤ length self.now.rows }
+        ensures high { length self.now.rows ≤ most_images }
         ensures fit { IsTrue (fits_layout self.now) }
     {
         self.rows.as_slice()
+    }
+
+    /// For proofs: a layout is within its limits.
+    pub fn fits(&self)
+        ensures fit { IsTrue (fits_layout self.now) }
+        ensures some_banks { fewest_banks ≤ self.now.banks }
+        ensures few_banks { self.now.banks ≤ most_banks }
+        ensures some_images { fewest_images ≤ length self.now.rows }
+        ensures few_images { length self.now.rows ≤ most_images }
+    {
+        let _banks = self.banks();
+        let _rows = self.rows();
     }
 
     /// The block at which an image of a bank begins.
@@ -175,7 +186,7 @@ impl Layout {
         requires within { image < length self.now.rows }
         ensures { result ≡ start self.now bank image }
     {
-        let _banks = self.banks();
+        self.fits();
         let rows = self.rows();
         let total = slot_sum(rows);
         let before = slot_sum(&rows[..image as usize]);

@@ -1,36 +1,40 @@
 //! Lists of few elements that take no memory: bits, bank states, rows of bits, image rows.
 ghost use Rattle.std.specs.Prelude.{◌≡◌, ◌+◌, ◌<◌, ◌≤◌, ◌++◌, [], ◌∷◌, false, length, map, slice_index_or, slice_set, ◌↔◌, IsTrue};
 ghost use Rattle.std.specs.List.{list_all};
+ghost use Rattle.base_core.specs.Limits.{most_banks, most_images};
 ghost use Rattle.fwu_formats.specs.declared.kinds.BankState.TheVariants.{Invalid};
 
-use base_core::{Guid, ImageRow};
+use base_core::{Guid, ImageRow, MOST_BANKS, MOST_IMAGES};
 use fwu_formats::BankState;
 use std::marker::Model;
 
+const BANKS: usize = MOST_BANKS as usize;
+
 /// A list of at most 16 bits, one for each image. A contract sees the list.
-#[derive(Clone, Copy, Debug, PartialEq, Eq)]
+#[derive(Clone, Copy, PartialEq, Eq)]
 pub struct Bits {
     count: usize,
-    bits: [bool; 16],
+    bits: [bool; MOST_IMAGES],
 }
 
 impl Model for Bits {
     ghost use Rattle.std.specs.Prelude.{◌-◌, ◌++◌, List, Bool, false, length, take, replicate};
     ghost use Rattle.std.proofs.Common.{ap, ◌∙◌};
+    ghost use Rattle.base_core.specs.Limits.{most_images};
     ghost use Rattle.meta_layout.specs.Padded.{IsPadded, length-padded, array-padded};
 
     ghost Value = { List Bool };
 
     ghost view = { λ b. take b.count b.bits };
 
-    ghost invariant = { λ b. IsPadded 16 false b.count b.bits };
+    ghost invariant = { λ b. IsPadded most_images false b.count b.bits };
 
-    ghost inverse = { λ bits. record { count = length bits; bits = bits ++ replicate (16 - length bits) false } };
+    ghost inverse = { λ bits. record { count = length bits; bits = bits ++ replicate (most_images - length bits) false } };
 
     ghost inverse_ok = { λ b is.
-        ap (λ n. record { count = n; bits = take b.count b.bits ++ replicate (16 - length (take b.count b.bits)) false })
-        (length-padded 16 false b.count b.bits is)
-        ∙ ap (λ l. record { count = b.count; bits = l }) (array-padded 16 false b.count b.bits is) };
+        ap (λ n. record { count = n; bits = take b.count b.bits ++ replicate (most_images - length (take b.count b.bits)) false })
+        (length-padded most_images false b.count b.bits is)
+        ∙ ap (λ l. record { count = b.count; bits = l }) (array-padded most_images false b.count b.bits is) };
 }
 
 impl Bits {
@@ -40,19 +44,19 @@ impl Bits {
     {
         Bits {
             count: 0,
-            bits: [false; 16],
+            bits: [false; MOST_IMAGES],
         }
     }
 
     pub fn len(&self) -> usize
         ensures value { result ≡ length self.now }
-        ensures few { result ≤ 16 }
+        ensures few { result ≤ most_images }
     {
         self.count
     }
 
     pub fn push(&mut self, bit: bool)
-        requires { length self.old < 16 }
+        requires { length self.old < most_images }
         ensures { self.new ≡ self.old ++ bit ∷ [] }
     {
         self.bits[self.count] = bit;
@@ -86,7 +90,7 @@ impl Bits {
     {
         Bits {
             count: self.count,
-            bits: [false; 16],
+            bits: [false; MOST_IMAGES],
         }
     }
 
@@ -99,10 +103,10 @@ impl Bits {
 }
 
 /// A list of at most 4 bank states. A contract sees the list.
-#[derive(Clone, Copy, Debug, PartialEq, Eq)]
+#[derive(Clone, Copy, PartialEq, Eq)]
 pub struct States {
     count: usize,
-    states: [BankState; 4],
+    states: [BankState; BANKS],
 }
 
 impl Model for States {
@@ -110,20 +114,21 @@ impl Model for States {
     ghost use Rattle.std.proofs.Common.{ap, ◌∙◌};
     ghost use Rattle.fwu_formats.specs.declared.kinds.BankState.{BankState};
     ghost use Rattle.fwu_formats.specs.declared.kinds.BankState.TheVariants.{Invalid};
+    ghost use Rattle.base_core.specs.Limits.{most_banks};
     ghost use Rattle.meta_layout.specs.Padded.{IsPadded, length-padded, array-padded};
 
     ghost Value = { List BankState };
 
     ghost view = { λ s. take s.count s.states };
 
-    ghost invariant = { λ s. IsPadded 4 Invalid s.count s.states };
+    ghost invariant = { λ s. IsPadded most_banks Invalid s.count s.states };
 
-    ghost inverse = { λ states. record { count = length states; states = states ++ replicate (4 - length states) Invalid } };
+    ghost inverse = { λ states. record { count = length states; states = states ++ replicate (most_banks - length states) Invalid } };
 
     ghost inverse_ok = { λ s is.
-        ap (λ n. record { count = n; states = take s.count s.states ++ replicate (4 - length (take s.count s.states)) Invalid })
-        (length-padded 4 Invalid s.count s.states is)
-        ∙ ap (λ l. record { count = s.count; states = l }) (array-padded 4 Invalid s.count s.states is) };
+        ap (λ n. record { count = n; states = take s.count s.states ++ replicate (most_banks - length (take s.count s.states)) Invalid })
+        (length-padded most_banks Invalid s.count s.states is)
+        ∙ ap (λ l. record { count = s.count; states = l }) (array-padded most_banks Invalid s.count s.states is) };
 }
 
 impl States {
@@ -133,13 +138,13 @@ impl States {
     {
         States {
             count: 0,
-            states: [BankState::Invalid; 4],
+            states: [BankState::Invalid; BANKS],
         }
     }
 
     pub fn len(&self) -> usize
         ensures value { result ≡ length self.now }
-        ensures few { result ≤ 4 }
+        ensures few { result ≤ most_banks }
     {
         self.count
     }
@@ -152,7 +157,7 @@ impl States {
     }
 
     pub fn push(&mut self, state: BankState)
-        requires { length self.old < 4 }
+        requires { length self.old < most_banks }
         ensures { self.new ≡ self.old ++ state ∷ [] }
     {
         self.states[self.count] = state;
@@ -175,29 +180,30 @@ impl States {
 }
 
 /// A list of the bits of at most 4 banks. A contract sees the list of lists.
-#[derive(Clone, Copy, Debug, PartialEq, Eq)]
+#[derive(Clone, Copy, PartialEq, Eq)]
 pub struct BankBits {
     count: usize,
-    banks: [Bits; 4],
+    banks: [Bits; BANKS],
 }
 
 impl Model for BankBits {
     ghost use Rattle.std.specs.Prelude.{◌-◌, ◌++◌, List, [], Bool, length, take, replicate};
     ghost use Rattle.std.proofs.Common.{ap, ◌∙◌};
+    ghost use Rattle.base_core.specs.Limits.{most_banks};
     ghost use Rattle.meta_layout.specs.Padded.{IsPadded, length-padded, array-padded};
 
     ghost Value = { List (List Bool) };
 
     ghost view = { λ b. take b.count b.banks };
 
-    ghost invariant = { λ b. IsPadded 4 [] b.count b.banks };
+    ghost invariant = { λ b. IsPadded most_banks [] b.count b.banks };
 
-    ghost inverse = { λ banks. record { count = length banks; banks = banks ++ replicate (4 - length banks) [] } };
+    ghost inverse = { λ banks. record { count = length banks; banks = banks ++ replicate (most_banks - length banks) [] } };
 
     ghost inverse_ok = { λ b is.
-        ap (λ n. record { count = n; banks = take b.count b.banks ++ replicate (4 - length (take b.count b.banks)) [] })
-        (length-padded 4 [] b.count b.banks is)
-        ∙ ap (λ l. record { count = b.count; banks = l }) (array-padded 4 [] b.count b.banks is) };
+        ap (λ n. record { count = n; banks = take b.count b.banks ++ replicate (most_banks - length (take b.count b.banks)) [] })
+        (length-padded most_banks [] b.count b.banks is)
+        ∙ ap (λ l. record { count = b.count; banks = l }) (array-padded most_banks [] b.count b.banks is) };
 }
 
 impl BankBits {
@@ -207,13 +213,13 @@ impl BankBits {
     {
         BankBits {
             count: 0,
-            banks: [Bits::new(); 4],
+            banks: [Bits::new(); BANKS],
         }
     }
 
     pub fn len(&self) -> usize
         ensures value { result ≡ length self.now }
-        ensures few { result ≤ 4 }
+        ensures few { result ≤ most_banks }
     {
         self.count
     }
@@ -226,7 +232,7 @@ impl BankBits {
     }
 
     pub fn push(&mut self, bits: Bits)
-        requires { length self.old < 4 }
+        requires { length self.old < most_banks }
         ensures { self.new ≡ self.old ++ bits ∷ [] }
     {
         self.banks[self.count] = bits;
@@ -264,16 +270,17 @@ impl BankBits {
 }
 
 /// A list of at most 16 image rows. A contract sees the list.
-#[derive(Clone, Copy, Debug, PartialEq, Eq)]
+#[derive(Clone, Copy)]
 pub struct Rows {
     count: usize,
-    rows: [ImageRow; 16],
+    rows: [ImageRow; MOST_IMAGES],
 }
 
 impl Model for Rows {
     ghost use Rattle.std.specs.Prelude.{◌-◌, ◌++◌, List, length, take, replicate};
     ghost use Rattle.std.proofs.Common.{ap, ◌∙◌};
     ghost use Rattle.base_core.specs.declared.rows.ImageRow.{ImageRow};
+    ghost use Rattle.base_core.specs.Limits.{most_images};
     ghost use Rattle.meta_layout.specs.Padded.{IsPadded, length-padded, array-padded};
     ghost use Rattle.meta_layout.specs.Rows.{no_row};
 
@@ -281,14 +288,14 @@ impl Model for Rows {
 
     ghost view = { λ r. take r.count r.rows };
 
-    ghost invariant = { λ r. IsPadded 16 no_row r.count r.rows };
+    ghost invariant = { λ r. IsPadded most_images no_row r.count r.rows };
 
-    ghost inverse = { λ rows. record { count = length rows; rows = rows ++ replicate (16 - length rows) no_row } };
+    ghost inverse = { λ rows. record { count = length rows; rows = rows ++ replicate (most_images - length rows) no_row } };
 
     ghost inverse_ok = { λ r is.
-        ap (λ n. record { count = n; rows = take r.count r.rows ++ replicate (16 - length (take r.count r.rows)) no_row })
-        (length-padded 16 no_row r.count r.rows is)
-        ∙ ap (λ l. record { count = r.count; rows = l }) (array-padded 16 no_row r.count r.rows is) };
+        ap (λ n. record { count = n; rows = take r.count r.rows ++ replicate (most_images - length (take r.count r.rows)) no_row })
+        (length-padded most_images no_row r.count r.rows is)
+        ∙ ap (λ l. record { count = r.count; rows = l }) (array-padded most_images no_row r.count r.rows is) };
 }
 
 impl Rows {
@@ -301,12 +308,12 @@ impl Rows {
         };
         Rows {
             count: 0,
-            rows: [none; 16],
+            rows: [none; MOST_IMAGES],
         }
     }
 
     pub fn push(&mut self, row: ImageRow)
-        requires { length self.old < 16 }
+        requires { length self.old < most_images }
         ensures { self.new ≡ self.old ++ row ∷ [] }
     {
         self.rows[self.count] = row;
@@ -315,7 +322,7 @@ impl Rows {
 
     pub fn as_slice(&self) -> &[ImageRow]
         ensures value { result.now ≡ self.now }
-        ensures few { length self.now ≤ 16 }
+        ensures few { length self.now ≤ most_images }
     {
         &self.rows[..self.count]
     }

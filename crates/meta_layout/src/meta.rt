@@ -3,14 +3,13 @@ ghost use Rattle.std.specs.Prelude.{◌≡◌, ◌<◌, ◌≤◌, ◌==◌, [],
 ghost use Rattle.fwu_formats.specs.Layout.{Layout as LayoutValue};
 ghost use Rattle.fwu_formats.specs.Metadata.{fits_meta, state_at, bit_at};
 
-use crate::bytes::{all_four, both};
 use crate::lists::{BankBits, Bits, States};
 use fwu_formats::BankState;
 use std::marker::Model;
 
 /// The metadata of a firmware store (DEN0118): which bank is active and which was before, the state of each bank, and for
 /// each image in it whether it was accepted; beside it the version, 2 or 1, of the block that it was read from.
-#[derive(Clone, Copy, Debug, PartialEq, Eq)]
+#[derive(Clone, Copy, PartialEq, Eq)]
 pub struct Meta {
     form: u32,
     active: u32,
@@ -120,7 +119,7 @@ impl Meta {
         let previous = are_equal(self.previous(), other.previous());
         let states = self.states().is(other.states());
         let bits = self.bits().is(other.bits());
-        all_four(both(versions, active), previous, states, bits)
+        versions && active && previous && states && bits
     }
 
     /// Makes it that of a block of version 2.

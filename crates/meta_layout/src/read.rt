@@ -52,7 +52,7 @@ fn implied_state_at(layout: &Layout, block: &[u8], bank: usize) -> BankState
     requires room { meta_size layout.now ≤ length block.now }
     ensures { result ≡ state_at_v1 layout.now block.now bank }
 {
-    let _banks = layout.banks();
+    layout.fits();
     let bits = bits_at(layout, 0x10, block, bank);
     implied_state(le32_at(block, 8), le32_at(block, 12), bank as u32, &bits)
 }

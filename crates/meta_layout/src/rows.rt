@@ -1,13 +1,14 @@
 //! The image rows of a layout: their limits, and their bytes in the layout block.
-ghost use Rattle.std.specs.Prelude.{◌≡◌, ◌+◌, ◌*◌, ◌≤◌, ◌++◌, ◌&&◌, not, nat_le, length, take, drop, map, flat_map, IsTrue};
+ghost use Rattle.std.specs.Prelude.{◌≡◌, ◌+◌, ◌*◌, ◌≤◌, ◌++◌, length, take, drop, map, flat_map, IsTrue};
 ghost use Rattle.std.specs.List.{list_all, list_any};
 ghost use Rattle.base_core.specs.Bytes.{same_bytes, listed};
+ghost use Rattle.base_core.specs.Limits.{most_images, most_slots};
 ghost use Rattle.fwu_formats.specs.Layout.{dir_guid, is_row, find_image, slot_total, are_distinct, row_bytes};
 ghost use Rattle.meta_layout.specs.Rows.{row_at, has_row_zeros};
 
 use crate::lists::Rows;
 use crate::put::{put, put4};
-use base_core::{Guid, ImageRow, le32_at};
+use base_core::{Guid, ImageRow, MOST_SLOTS, le32_at};
 
 /// The type of the image directory, 46575544-4952-4543-544f-525900000001 (own format). No image of a layout has it.
 pub fn directory_guid() -> Guid
@@ -31,7 +32,7 @@ fn row_in(block: &[u8], index: usize) -> ImageRow
 
 /// The first rows of a layout block.
 pub fn rows_in(block: &[u8], count: usize) -> Rows
-    requires small { count ≤ 16 }
+    requires small { count ≤ most_images }
     requires room { 32 + 24 * count ≤ length block.now }
     ensures { result ≡ listed count (row_at block.now) }
 {
@@ -44,7 +45,7 @@ pub fn rows_in(block: &[u8], count: usize) -> Rows
 
 /// Whether the last field of each of the first rows is zero.
 pub fn has_zero_rows(block: &[u8], count: usize) -> bool
-    requires small { count ≤ 16 }
+    requires small { count ≤ most_images }
     requires room { 32 + 24 * count ≤ length block.now }
     ensures { result ≡ has_row_zeros block.now count }
 {
@@ -58,7 +59,7 @@ pub fn has_zero_rows(block: &[u8], count: usize) -> bool
 
 /// The same rows in a list.
 pub fn rows_of(given: &[ImageRow]) -> Rows
-    requires { length given.now ≤ 16 }
+    requires { length given.now ≤ most_images }
     ensures { result ≡ given.now }
 {
     let mut rows = Rows::new();
@@ -68,12 +69,6 @@ pub fn rows_of(given: &[ImageRow]) -> Rows
     rows
 }
 
-fn is_within(nil: bool, directory: bool, slots: u32) -> bool
-    ensures { result ≡ (not nil && not directory && nat_le 1 slots && nat_le slots 256) }
-{
-    !nil && !directory && 1 <= slots && slots <= 256
-}
-
 /// Whether a row is within the limits of a layout.
 fn row_fits(row: &ImageRow) -> bool
     ensures { result ≡ is_row row.now }
@@ -81,7 +76,7 @@ fn row_fits(row: &ImageRow) -> bool
     let _bytes = row.guid.bytes();
     let nil = row.guid.is(&Guid::nil());
     let directory = row.guid.is(&directory_guid());
-    is_within(nil, directory, row.slots)
+    !nil && !directory && 1 <= row.slots && row.slots <= MOST_SLOTS
 }
 
 /// Whether each row is within the limits.
@@ -112,10 +107,10 @@ pub fn are_apart(rows: &[ImageRow]) -> bool
 
 /// The blocks of all rows' slots.
 pub fn slot_sum(rows: &[ImageRow]) -> u32
-    requires few { length rows.now ≤ 16 }
+    requires few { length rows.now ≤ most_images }
     requires fit { IsTrue (list_all is_row rows.now) }
     ensures sum { result ≡ slot_total rows.now }
-    ensures bound { result ≤ 256 * length rows.now }
+    ensures bound { result ≤ most_slots * length rows.now }
 {
     let mut total = 0;
     for row in rows {
@@ -143,7 +138,7 @@ fn put_row(out: &mut [u8], at: usize, row: &ImageRow) -> usize
 
 /// Writes the rows' bytes at a place, and gives the place behind them.
 pub fn put_rows(out: &mut [u8], at: usize, rows: &[ImageRow]) -> usize
-    requires few { length rows.now ≤ 16 }
+    requires few { length rows.now ≤ most_images }
     requires room { at + 24 * length rows.now ≤ length out.old }
     ensures next { result ≡ at + 24 * length rows.now }
     ensures front { take result out.new ≡ take at out.old ++ flat_map row_bytes rows.now }

@@ -1,5 +1,6 @@
 //! Metadata blocks written, in version 2 and in version 1.
 ghost use Rattle.std.specs.Prelude.{◌≡◌, ◌+◌, ◌*◌, ◌<◌, ◌≤◌, ◌++◌, ◌-◌, ◌%◌, Ok, IsTrue, length, take, map, replicate, flat_map};
+ghost use Rattle.base_core.specs.Limits.{most_banks, most_images};
 ghost use Rattle.base_core.specs.Bytes.{le, listed};
 ghost use Rattle.fwu_formats.specs.Metadata.{bit_number, state_byte, entry_size, entries_bytes, fits_meta, meta_size, meta_size_v1, meta_body, meta_body_v1, meta_bytes, meta_bytes_v1, meta_of, replica_bytes, IsSayableInV1};
 ghost use Rattle.meta_layout.specs.Entries.{bank_bytes, entry_of, front_bytes, replica_size, HasBits};
@@ -36,8 +37,8 @@ fn put_banks(
     image: usize,
     banks: usize,
 ) -> usize
-    requires few { banks ≤ 4 }
-    requires small { image < 16 }
+    requires few { banks ≤ most_banks }
+    requires small { image < most_images }
     requires room { at + 24 * banks ≤ length out.old }
     requires bits { HasBits meta.now.meta banks image }
     ensures next { result ≡ at + 24 * banks }
@@ -61,8 +62,8 @@ fn put_entry(
     image: usize,
     banks: usize,
 ) -> usize
-    requires few { banks ≤ 4 }
-    requires small { image < 16 }
+    requires few { banks ≤ most_banks }
+    requires small { image < most_images }
     requires room { at + 32 + 24 * banks ≤ length out.old }
     requires bits { HasBits meta.now.meta banks image }
     ensures next { result ≡ at + (32 + 24 * banks) }
@@ -104,7 +105,7 @@ fn byte_of(state: BankState) -> u8
 }
 
 fn put_states(out: &mut [u8], at: usize, meta: &Meta, banks: usize) -> usize
-    requires few { banks ≤ 4 }
+    requires few { banks ≤ most_banks }
     requires room { at + 4 ≤ length out.old }
     requires count { length meta.now.meta.states ≡ banks }
     ensures next { result ≡ at + banks }
@@ -119,7 +120,7 @@ fn put_states(out: &mut [u8], at: usize, meta: &Meta, banks: usize) -> usize
 }
 
 fn put_unused(out: &mut [u8], at: usize, banks: usize) -> usize
-    requires few { banks ≤ 4 }
+    requires few { banks ≤ most_banks }
     requires room { at + 4 ≤ length out.old }
     ensures next { result ≡ at + (4 - banks) }
     ensures front { take result out.new ≡ take at out.old ++ replicate (4 - banks) 0xFF }

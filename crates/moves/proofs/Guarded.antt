@@ -22,7 +22,7 @@ use Rattle.replicas.specs.Repairs.{Repairs}
 use Rattle.moves.specs.Moved.{GuardedBy}
 use Rattle.moves.proofs.Agree.{no_meta, Agrees, QuietUsed, agrees-left, layout-agrees, decides-agrees, shown-as, shown-meta, used-at, used-below, at-used}
 use Rattle.moves.proofs.MetaWrites.{repair-writes, quiet-after}
-use Rattle.moves.proofs.Repaired.{same-layout}
+use Rattle.base_core.proofs.Results.{same-Ok}
 
 -- by the result: guarded at a stop, and at rest with nothing at risk at the front when done
 pub by-result : {T : Type 0} (result : Result T FlashStop) (t : Told) → IsGuarded t → OnOk result (Quiet 0 32768 t) → Guards 1 7 t → GuardedBy result t
@@ -46,7 +46,7 @@ module _ (L : Layout) (s : Told) (layout : layout_seen s.now ≡ Ok L) (rest : I
       layout = λ i low_ high_. keeps.sure i (inl (omega (arith, high_, above))) (rest.guarded.layout i low_ high_);
       banks = λ image K x may is shows b in_use.
           let here = layout-agrees L no_meta low high s.now image (front-agrees image may) above layout in
-          let same : L ≡ K = same-layout L K (sym here ∙ is) in
+          let same : L ≡ K = same-Ok L K (sym here ∙ is) in
           let found = shown-meta L image x (record { layout = here; shows = shows }) in
           subst (λ (l : Layout). Quiet (4096 * start l b 0) (4096 * start l (b + 1) 0) t) same
           (λ i from to. keeps.sure i (inr (omega (arith, le, from))) (used image may found.0 found.1 b (used-below L image found.0 x found.2 b in_use) (used-at L image found.0 x found.2 b in_use) i from to));

@@ -1,5 +1,5 @@
 -- A bank whose slots begin with the images of a complete package holds the package.
-use Rattle.std.proofs.Common.{◌≡◌, cond, ℕ, zero, suc, ◌+◌, ◌-◌, ◌*◌, ◌<◌, ◌≤◌, Bool, not, ◌&&◌, ◌==◌, List, [], ◌∷◌, length, get_or, take, drop, Some, None, Result, Ok, Err, refl, sym, ap, ◌∙◌, arith, IsTrue, ext_get_or, eqb-true, leb, ltb, length-take, length-drop, get_or-drop}
+use Rattle.std.proofs.Common.{◌≡◌, cond, ℕ, zero, suc, ◌+◌, ◌-◌, ◌*◌, ◌<◌, ◌≤◌, Bool, not, ◌&&◌, ◌==◌, List, [], ◌∷◌, length, get_or, take, drop, Some, None, Ok, refl, sym, ap, ◌∙◌, arith, IsTrue, ext_get_or, eqb-true, leb, ltb, length-take, length-drop, get_or-drop}
 use Rattle.std.proofs.lemmas.Bool.{and_parts, not-false, le-ltb}
 use Rattle.std.proofs.lemmas.List.{take-take, drop-take}
 use Rattle.std.proofs.lemmas.List.FromFn.{length-map-range_with_len, get_or-map-range_with_len}
@@ -11,6 +11,7 @@ use Rattle.fwu_formats.specs.Layout.{ImageRow, Layout}
 use Rattle.fwu_formats.specs.Manifest.{Row, Manifest, manifest_of, manifest_at, manifest_size, manifest_magic, manifest_part, has_form, is_version_too_high, all_paired, is_image_of, is_complete}
 use Rattle.fwu_formats.specs.Image.{slot, images_in, if_complete, package_by, package_in}
 use Rattle.fwu_formats.proofs.SealLaws.{was_not_refused}
+use Rattle.base_core.proofs.Results.{ok-is, same-Ok}
 
 -- ---- a manifest is read from its own bytes alone
 
@@ -47,14 +48,7 @@ manifest-says rows xs m e =
     let g = was_not_refused (not (all_paired (λ (i : ImageRow) (r : Row). same_bytes i.guid r.guid) others read.rows)) _ _ m f.1 in
     let h = was_not_refused (not (all_paired (λ (i : ImageRow) (r : Row). leb r.size (4096 * i.slots)) others read.rows)) _ _ m g.1 in
     let i = was_not_refused (not (same_bytes (drop (16 + 56 * count) (take (manifest_size count) xs)) (sha256 (take (16 + 56 * count) xs)))) _ _ m h.1 in
-    (eqb-true _ _ (not-false _ f.0), sym (same-ok {F = ManifestFault} read m i.1))
-  where
-    same-ok : {X F : Type 0} (x y : X) → ◌≡◌ {A = Result X F} (Ok x) (Ok y) → x ≡ y
-    same-ok x y e = cc
-
-ok-is : {X F : Type 0} (r : Result X F) → IsTrue (is_ok r) → (x : X) × (r ≡ Ok x)
-ok-is (Ok x) h = (x, refl)
-ok-is (Err e) h = absurd cc
+    (eqb-true _ _ (not-false _ f.0), sym (same-Ok {F = ManifestFault} read m i.1))
 
 paired-at : (rows : List Row) (images : List (List ℕ)) (d : Row) (j : ℕ) → IsTrue (all_paired is_image_of rows images) → j < length rows → j < length images → length (get_or images j []) ≡ (get_or rows j d).size
 paired-at [] images d j all lt other = absurd (omega (arith, lt))

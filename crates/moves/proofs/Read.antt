@@ -1,20 +1,16 @@
 -- Metadata that decides is of the layout.
-use Rattle.std.proofs.Common.{◌≡◌, ℕ, List, Option, Some, None, inl, inr, ◌⊎◌, IsTrue}
+use Rattle.std.proofs.Common.{◌≡◌, ℕ, List, Some, inl, inr, IsTrue}
 use Rattle.base_core.specs.Block.{block}
 use Rattle.fwu_formats.specs.Layout.{Layout}
 use Rattle.fwu_formats.specs.Metadata.{MetaRead, meta_read, fits_meta}
-use Rattle.fwu_formats.specs.Image.{deciding, first_some}
-use Rattle.fwu_formats.proofs.Read.{read-is}
+use Rattle.fwu_formats.specs.Image.{deciding}
+use Rattle.fwu_formats.proofs.Read.{read-is, first-whole}
 use Rattle.meta_layout.proofs.Fits.{MetaFits, meta-fits, read-fits}
-
-either : (a b : Option MetaRead) (r : MetaRead) → first_some a b ≡ Some r → (a ≡ Some r) ⊎ (b ≡ Some r)
-either (Some x) b r e = inl e
-either None b r e = inr e
 
 pub deciding-of_layout : (L : Layout) (image : List ℕ) (r : MetaRead) → deciding L image ≡ Some r → IsTrue (fits_meta L r.meta)
 unfolding deciding
 deciding-of_layout L image r e =
-    elim (either (meta_read L (block 1 image)) (meta_read L (block 2 image)) r e) [
+    elim (first-whole (meta_read L (block 1 image)) (meta_read L (block 2 image)) r e) [
       | inl zero ↦ read-fits L (block 1 image) r (read-is L (block 1 image) r zero)
       | inr one ↦ read-fits L (block 2 image) r (read-is L (block 2 image) r one)
     ]

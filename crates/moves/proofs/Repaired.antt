@@ -4,7 +4,6 @@ use Rattle.std.specs.Prelude.{Contains}
 use Rattle.flash_core.specs.declared.flash.FlashStop.{FlashStop}
 use Rattle.flash_core.specs.Told.{Told}
 use Rattle.flash_core.specs.May.{Guards}
-use Rattle.fwu_formats.specs.declared.kinds.LayoutFault.{LayoutFault}
 use Rattle.fwu_formats.specs.Layout.{Layout}
 use Rattle.fwu_formats.specs.Metadata.{MetaRead}
 use Rattle.fwu_formats.specs.Image.{layout_seen, marks}
@@ -24,6 +23,7 @@ use Rattle.moves.specs.Moved.{Does, IsShown, ShowsAfter, repair_moves}
 use Rattle.moves.proofs.Agree.{no_meta, front-kept, layout-kept, marks-agree, counter-agrees, agrees-now, meta-tidy, shown-by}
 use Rattle.moves.proofs.Calm.{calm-shown, calm-sound, calm-tidy, calm-used}
 use Rattle.moves.proofs.MetaWrites.{repair-writes, write-each, write-all, write-shows}
+use Rattle.base_core.proofs.Results.{same-Ok}
 
 -- ---- the state after a repair
 
@@ -70,12 +70,9 @@ after-in RepairOne s = (0, omega arith, refl)
 after-in MigrateZero s = (1, omega arith, refl)
 after-in MigrateOne s = (1, omega arith, refl)
 
-pub same-layout : (x y : Layout) → ◌≡◌ {A = Result Layout LayoutFault} (Ok x) (Ok y) → x ≡ y
-same-layout x y e = cc
-
 -- the layout of a calm flash is that of the setting
 pub calm-layout : (E : Setting) (s : Told) (state : State) (L : Layout) → IsCalm E s state → layout_seen s.now ≡ Ok L → E.layout ≡ L
-calm-layout E s state L calm layout = same-layout E.layout L (sym calm.sound.layout ∙ layout)
+calm-layout E s state L calm layout = same-Ok E.layout L (sym calm.sound.layout ∙ layout)
 
 -- ---- a repair
 

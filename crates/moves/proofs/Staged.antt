@@ -19,7 +19,7 @@ use Rattle.fwu_model.specs.Calm.{IsAtRest}
 use Rattle.moves.proofs.Composed.{does-nothing}
 use Rattle.moves.proofs.Agree.{no_meta, Agrees, layout-agrees, decides-agrees, shown-meta, shown-by, used-below, used-at, at-used}
 use Rattle.moves.proofs.Guarded.{rest-used}
-use Rattle.moves.proofs.Repaired.{same-layout}
+use Rattle.base_core.proofs.Results.{same-Ok}
 
 -- banks follow one another
 pub banks-order : (L : Layout) (b c : ℕ) → b < c → 4096 * start L (b + 1) 0 ≤ 4096 * start L c 0
@@ -97,7 +97,7 @@ module _ (L : Layout) (s t : Told) (state : State) (u : ℕ) (shown : IsShown L 
       banks = λ image K x may is shows b in_use.
           let agree = front-sure image may in
           let here = layout-agrees L no_meta 32768 32768 s.now image agree (omega arith) shown.layout in
-          let same : L ≡ K = same-layout L K (sym here ∙ is) in
+          let same : L ≡ K = same-Ok L K (sym here ∙ is) in
           let found = shown-meta L image x (record { layout = here; shows = shows }) in
           let r = found.0 in
           let decided = sym (decides-agrees L no_meta 32768 32768 s.now image agree (omega arith)) ∙ found.1 in

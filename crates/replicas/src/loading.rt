@@ -1,8 +1,8 @@
 //! Reading the metadata that decides.
-ghost use Rattle.std.specs.Prelude.{◌≡◌, ◌<◌, None, is_ok, IsTrue, IsErrOf, IfOk, IfSome, IfNone};
+ghost use Rattle.std.specs.Prelude.{◌≡◌, ◌<◌, None, IsTrue, IsErrOf, IfOk, IfSome, IfNone};
 ghost use Rattle.std.specs.Option.{ForSome};
 ghost use Rattle.base_core.specs.Block.{block};
-ghost use Rattle.flash_core.specs.Counts.{Spends, ReachesNone, arming_kept};
+ghost use Rattle.flash_core.specs.Calls.{Reads};
 ghost use Rattle.fwu_formats.specs.Metadata.{fits_meta, meta_read};
 ghost use Rattle.fwu_formats.specs.Image.{deciding};
 ghost use Rattle.replicas.specs.Which.{HasForm, Finds, Loads, flash_result, form_of};
@@ -26,12 +26,7 @@ pub fn read_replica<D: Flash>(
         r ≡ meta_read layout.now (block b (D.told flash.old).now)) }
     ensures form { IfOk result (λ r. ForSome r HasForm) }
     ensures fits { IfOk result (λ r. ForSome r (λ m. IsTrue (fits_meta layout.now m.meta))) }
-    ensures content { IsTrue D.tells → D.told flash.new ≡ D.told flash.old }
-    ensures power { D.on flash.new ≡ is_ok result }
-    ensures size { D.blocks flash.new ≡ D.blocks flash.old }
-    ensures arming { D.arming flash.new ≡ arming_kept result (D.arming flash.old) }
-    ensures costs { Spends result (D.counts flash.old) (D.counts flash.new) }
-    ensures reached { ReachesNone result (D.counts flash.old) (D.counts flash.new) }
+    ensures reads { Reads D.Flash result flash.old flash.new }
 {
     let mut bytes = [0; BLOCK_BYTES as usize];
     read_block(flash, b, &mut bytes)?;
@@ -79,12 +74,7 @@ pub fn load<D: Flash>(flash: &mut D, layout: &Layout) -> Result<(Meta, Which), R
         deciding layout.now (D.told flash.old).now ≡ None }
     ensures fits { IfOk result (λ r. IsTrue (fits_meta layout.now r.0.meta)) }
     ensures form { IfOk result (λ r. r.0.form ≡ form_of r.1) }
-    ensures content { IsTrue D.tells → D.told flash.new ≡ D.told flash.old }
-    ensures power { D.on flash.new ≡ is_ok (flash_result result) }
-    ensures size { D.blocks flash.new ≡ D.blocks flash.old }
-    ensures arming { D.arming flash.new ≡ arming_kept (flash_result result) (D.arming flash.old) }
-    ensures costs { Spends (flash_result result) (D.counts flash.old) (D.counts flash.new) }
-    ensures reached { ReachesNone (flash_result result) (D.counts flash.old) (D.counts flash.new) }
+    ensures reads { Reads D.Flash (flash_result result) flash.old flash.new }
 {
     let zero = read_replica(flash, layout, FIRST_REPLICA)?;
     let one = read_replica(flash, layout, SECOND_REPLICA)?;

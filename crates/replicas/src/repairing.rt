@@ -1,7 +1,7 @@
 //! Writing the metadata that decides over the replica that lacks it.
-ghost use Rattle.std.specs.Prelude.{◌≡◌, ◌↔◌, ◌%◌, ◌<◌, ◌≤◌, Some, length, is_ok, IsTrue, IfOk, OnOk};
+ghost use Rattle.std.specs.Prelude.{◌≡◌, ◌↔◌, ◌%◌, ◌<◌, ◌≤◌, Some, length, IsTrue, IfOk, OnOk};
 ghost use Rattle.base_core.specs.Block.{block_bytes, granule_bytes, block};
-ghost use Rattle.flash_core.specs.Counts.{Spends, ReachesNone, StaysUnarmed, arming_kept};
+ghost use Rattle.flash_core.specs.Calls.{Goes, Reads};
 ghost use Rattle.fwu_formats.specs.Layout.{fits_layout};
 ghost use Rattle.fwu_formats.specs.Metadata.{fits_meta, meta_read, replica_bytes};
 ghost use Rattle.fwu_model.specs.Replica.{in_version};
@@ -23,12 +23,7 @@ fn holds<D: Flash>(flash: &mut D, layout: &Layout, meta: &Meta) -> Result<bool, 
     ensures held { IfOk result (λ held. IsTrue D.tells → IsTrue held ↔
         (meta_read layout.now (block 2 (D.told flash.old).now) ≡
         Some (in_version 2 meta.now.meta))) }
-    ensures content { IsTrue D.tells → D.told flash.new ≡ D.told flash.old }
-    ensures power { D.on flash.new ≡ is_ok result }
-    ensures size { D.blocks flash.new ≡ D.blocks flash.old }
-    ensures arming { D.arming flash.new ≡ arming_kept result (D.arming flash.old) }
-    ensures costs { Spends result (D.counts flash.old) (D.counts flash.new) }
-    ensures reached { ReachesNone result (D.counts flash.old) (D.counts flash.new) }
+    ensures reads { Reads D.Flash result flash.old flash.new }
 {
     let mut migrated = *meta;
     migrated.migrate();
@@ -58,16 +53,12 @@ fn migrate_zero<D: Flash>(
 
     ensures repairs { IsTrue D.tells →
         Repairs result layout.now meta.now (D.told flash.old) (D.told flash.new) }
-    ensures power { D.on flash.new ≡ is_ok result }
-    ensures size { D.blocks flash.new ≡ D.blocks flash.old }
-    ensures costs { Spends result (D.counts flash.old) (D.counts flash.new) }
+    ensures goes { Goes D.Flash result flash.old flash.new }
     ensures spent { OnOk result (TakesRepair MigrateZero (D.arming flash.old) (D.arming flash.new)) }
     // a replica 1 that holds the metadata in version 2 stays, so that one replica is written
     ensures once { OnOk result (IsTrue D.tells →
         meta_read layout.now (block 2 (D.told flash.old).now) ≡ Some (in_version 2 meta.now.meta) →
         TakesOne (D.arming flash.old) (D.arming flash.new)) }
-    ensures unarmed { StaysUnarmed result (D.arming flash.old) (D.arming flash.new)
-        (D.counts flash.old) (D.counts flash.new) }
 {
     if holds(flash, layout, meta)? {
         return replace(flash, FIRST_REPLICA, bytes);
@@ -95,17 +86,13 @@ pub fn repair<D: Flash>(
         Repairs result layout.now meta.now (D.told flash.old) (D.told flash.new) }
     // on every device: where both replicas hold it in version 2, nothing is called
     ensures none { which ≡ Same → flash.new ≡ flash.old }
-    ensures power { D.on flash.new ≡ is_ok result }
-    ensures size { D.blocks flash.new ≡ D.blocks flash.old }
-    ensures costs { Spends result (D.counts flash.old) (D.counts flash.new) }
+    ensures goes { Goes D.Flash result flash.old flash.new }
     // on every device: as many erases and programs as what is to be done asks for
     ensures spent { OnOk result (TakesRepair which (D.arming flash.old) (D.arming flash.new)) }
     // a replica 1 that holds the metadata in version 2 stays, so that one replica is written
     ensures once { OnOk result (IsTrue D.tells → which ≡ MigrateZero →
         meta_read layout.now (block 2 (D.told flash.old).now) ≡ Some (in_version 2 meta.now.meta) →
         TakesOne (D.arming flash.old) (D.arming flash.new)) }
-    ensures unarmed { StaysUnarmed result (D.arming flash.old) (D.arming flash.new)
-        (D.counts flash.old) (D.counts flash.new) }
     ensures buffer { length buf.new ≡ length buf.old }
 {
     let size = spell(layout, meta, buf);

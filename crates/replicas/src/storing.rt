@@ -1,7 +1,8 @@
 //! Writing metadata over both replicas.
-ghost use Rattle.std.specs.Prelude.{◌≡◌, ◌%◌, ◌<◌, ◌≤◌, length, take, is_ok, IsTrue, OnOk};
+ghost use Rattle.std.specs.Prelude.{◌≡◌, ◌%◌, ◌<◌, ◌≤◌, length, take, IsTrue, OnOk};
 ghost use Rattle.base_core.specs.Block.{block_bytes, granule_bytes};
-ghost use Rattle.flash_core.specs.Counts.{Spends, StaysUnarmed, lowered};
+ghost use Rattle.flash_core.specs.Counts.{lowered};
+ghost use Rattle.flash_core.specs.Calls.{Goes};
 ghost use Rattle.flash_core.specs.Replaces.{padded};
 ghost use Rattle.fwu_formats.specs.Layout.{fits_layout};
 ghost use Rattle.fwu_formats.specs.Metadata.{fits_meta, replica_bytes};
@@ -20,14 +21,10 @@ pub fn write_both<D: Flash>(flash: &mut D, bytes: &[u8]) -> Result<(), FlashStop
 
     ensures writes { IsTrue D.tells →
         WritesBoth result (padded bytes.now) (D.told flash.old) (D.told flash.new) }
-    ensures power { D.on flash.new ≡ is_ok result }
-    ensures size { D.blocks flash.new ≡ D.blocks flash.old }
-    ensures costs { Spends result (D.counts flash.old) (D.counts flash.new) }
+    ensures goes { Goes D.Flash result flash.old flash.new }
     // on every device: two erases and two programs
     ensures spent { OnOk result (D.arming flash.new
         ≡ lowered (lowered (lowered (lowered (D.arming flash.old))))) }
-    ensures unarmed { StaysUnarmed result (D.arming flash.old) (D.arming flash.new)
-        (D.counts flash.old) (D.counts flash.new) }
 {
     replace(flash, FIRST_REPLICA, bytes)?;
     replace(flash, SECOND_REPLICA, bytes)
@@ -45,7 +42,7 @@ pub fn spell(layout: &Layout, meta: &Meta, buf: &mut [u8]) -> usize
     ensures short { result ≤ 2096 }
     ensures buffer { length buf.new ≡ length buf.old }
 {
-    let _rows = layout.rows();
+    layout.fits();
     let size = Meta::replica_size(layout);
     meta.write(layout, buf);
     size
@@ -65,14 +62,10 @@ pub fn store<D: Flash>(
 
     ensures stores { IsTrue D.tells →
         Stores result layout.now meta.now.meta (D.told flash.old) (D.told flash.new) }
-    ensures power { D.on flash.new ≡ is_ok result }
-    ensures size { D.blocks flash.new ≡ D.blocks flash.old }
-    ensures costs { Spends result (D.counts flash.old) (D.counts flash.new) }
+    ensures goes { Goes D.Flash result flash.old flash.new }
     // on every device: two erases and two programs
     ensures spent { OnOk result (D.arming flash.new
         ≡ lowered (lowered (lowered (lowered (D.arming flash.old))))) }
-    ensures unarmed { StaysUnarmed result (D.arming flash.old) (D.arming flash.new)
-        (D.counts flash.old) (D.counts flash.new) }
     ensures buffer { length buf.new ≡ length buf.old }
 {
     let size = spell(layout, meta, buf);

@@ -17,7 +17,7 @@ use Rattle.script_cmd.specs.Asking.{plainly}
 use Rattle.script_cmd.specs.Formatting.{FormattedBy}
 use Rattle.script_cmd.specs.Noted.{is_beyond, noted}
 use Rattle.script_cmd.specs.Printed.{Prints}
-use Rattle.script_cmd.specs.Running.{calls_of, sends_none}
+use Rattle.script_turns.specs.Runs.{calls_of, sends_none}
 use Rattle.script_cmd.specs.Showing.{ShowedBy}
 use Rattle.script_cmd.specs.SoakWays.{SoakWay}
 use Rattle.script_cmd.specs.SoakWays as soak
@@ -236,7 +236,7 @@ module _ {H I : Type 0} {passes : List ℕ → Bool} {tells : Bool} {blocks : �
   }
 
   -- nothing was done for want of memory, whatever is asked for
-  pub answered-starved : (asked : Option Asked) (list : Option (List ℕ)) → journal ≡ [] → new ≡ old → old.armed ≡ None → status ≡ 9 → said ≡ note.Nothing → taken_after ≡ taken_before → (list ≡ None → files_after ≡ files)
+  pub answered-starved : (asked : Option Asked) (list : Option (List ℕ)) → journal ≡ [] → new ≡ old → old.armed ≡ None → status ≡ 9 → said ≡ note.Nothing → (taken_after ≡ taken_before) × (faults_after.sink ≡ faults_before.sink) → (list ≡ None → files_after ≡ files)
       → source_after ≡ source → ReadsInTime left rest → faults_after.source ≡ faults_before.source → Later faults_before faults_after
       → Answered passes (device-of tells blocks) (inputs-of asked list told left) (end-of journal status said) (world-of old taken_before faults_before) (world-of new taken_after faults_after) rest files files_after source source_after
   answered-starved asked list none same unarmed nine is stuck kept stays timely once later = record {

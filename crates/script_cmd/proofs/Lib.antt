@@ -12,7 +12,6 @@ pub mod PromiseReplies
 pub mod PromiseAll
 pub mod OutcomeLemmas
 pub mod Permitted
-pub mod RunTurns
 mod RunCalls
 mod RunEnds
 pub mod TopReads
@@ -35,3 +34,5 @@ pub mod SoakEnding
 pub mod SoakTop
 pub mod SoakPromise
 pub mod AnsweredBy
+mod SinkCounts
+mod Serving

@@ -13,7 +13,7 @@ use Rattle.script_turns.specs.Powered.{Moment}
 use Rattle.script_turns.specs.Boots.{numbers_of_end, reply_of_end}
 use Rattle.script_turns.specs.Replies.{Replies}
 use Rattle.script_turns.specs.Turning.{Turns}
-use Rattle.script_cmd.specs.Running.{Follows}
+use Rattle.script_turns.specs.Runs.{Follows}
 use Rattle.script_cmd.specs.Permitted.{BootsArePermitted, IsOfPackage}
 
 module _ (passes : List ℕ → Bool) (t : Turn) (bank version trials counter : ℕ) (fallback : Bool)

@@ -15,7 +15,6 @@ use Rattle.script_cmd.proofs.PromiseComplete.{ways-are-complete}
 pub promised : (passes : List ℕ → Bool) (tells : Bool) (inputs : Inputs) (end : Ending Note) (old new : World) → Way passes tells inputs.asked (given_to inputs) end old new
     → Promised passes tells inputs end old new
 promised passes tells inputs end old new way = record {
-  way = way;
   headline = ways-keep-the-headline passes tells inputs end old new way;
   wrote = ways-write passes tells inputs.asked (given_to inputs) end old new way;
   ends = ways-end passes tells inputs.asked (given_to inputs) end old new way;

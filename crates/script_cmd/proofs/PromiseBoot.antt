@@ -33,7 +33,8 @@ use Rattle.script_cmd.specs.Asking.{plainly}
 use Rattle.script_turns.specs.Booted.{BootsFrom, ChoseBank, ChoseNone}
 use Rattle.script_cmd.specs.BootWord.{BootsBy}
 use Rattle.script_turns.specs.Powered.{Moment, at}
-use Rattle.script_cmd.specs.Running.{Ran, Ended, status_of_last, note_of_last, last_turn, calls_of}
+use Rattle.script_cmd.specs.Running.{Ended, status_of_last, note_of_last, last_turn}
+use Rattle.script_turns.specs.Runs.{Ran, calls_of}
 use Rattle.script_cmd.specs.Ways.{Given, Refuses, usage, not_read, list_not_read, too_long, bad_script, bad_list, starved, refused, ran}
 use Rattle.script_cmd.specs.Promises.{given_to, WaysBoot}
 use Rattle.script_cmd.proofs.PromiseTurns.{by-plan, some-at}

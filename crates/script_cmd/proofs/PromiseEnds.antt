@@ -22,11 +22,13 @@ use Rattle.script_cmd.specs.Asking.{plainly}
 use Rattle.script_turns.specs.Powered.{Moment, at}
 use Rattle.script_cmd.specs.Ending.{Ending, World}
 use Rattle.script_cmd.specs.Printed.{Prints, all, front, nothing}
-use Rattle.script_cmd.specs.Running.{Ran, Ended, Printed, status_of_last, note_of_last, last_turn}
+use Rattle.script_cmd.specs.Running.{Ended, Printed, status_of_last, note_of_last, last_turn}
+use Rattle.script_turns.specs.Runs.{Ran}
 use Rattle.script_cmd.specs.Ways.{Given, HasGoodList, AsksTurns, HasCalls, Refuses, usage, not_read, list_not_read, too_long, bad_script, bad_list, starved, refused, ran}
 use Rattle.script_cmd.specs.Promises.{EndsHold, WaysEnd}
 use Rattle.script_cmd.proofs.PromiseWords.{asks-none, asks-turns, asks-run, same-calls}
-use Rattle.script_cmd.proofs.RunTurns.{not-read-around}
+use Rattle.script_cmd.proofs.TopPrints.{raised-rose}
+use Rattle.script_turns.proofs.RunTurns.{not-read-around}
 use Rattle.script_cmd.proofs.PromiseTurns.{last-get, is_ran, none-ended, ran-at, ran-status, lack-cases, printed-plan, by-plan, printed-rose, some-from, some-at}
 
 -- ---- no turn
@@ -316,7 +318,7 @@ module _ (passes : List ℕ → Bool) (tells : Bool) (asked : Option Asked) (g :
     refuses_words = λ words. absurd (false≢true (sym words ∙ asks-turns asked asks));
     refuses_longer = λ runs. some-from g.script _ (λ bytes told long. absurd (false≢true (sym (has-calls bytes told).0 ∙ long)));
     refuses_script = λ runs. some-from g.script _ (λ bytes told n bad. let both = sym (has-calls bytes told).1 ∙ bad in absurd (cc));
-    sink_fault = printed.failed;
+    sink_fault = λ three. raised-rose faults_before.sink faults_after.sink (printed.count.failed three);
   }
     where
       has-calls : (bytes : List ℕ) → g.script ≡ Some bytes → (is_too_long bytes ≡ false) × (script_of bytes ≡ Ok calls)

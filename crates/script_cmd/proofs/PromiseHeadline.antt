@@ -26,7 +26,8 @@ use Rattle.fwu_formats.proofs.Read.{layout-fits}
 use Rattle.fwu_words.specs.Order.{Asked}
 use Rattle.script_cmd.specs.Asking.{plainly}
 use Rattle.script_turns.specs.Powered.{Moment, Shows, at}
-use Rattle.script_cmd.specs.Running.{Ran, Ended, StartsSound}
+use Rattle.script_cmd.specs.Running.{Ended}
+use Rattle.script_turns.specs.Runs.{Ran, StartsSound}
 use Rattle.script_cmd.specs.Ways.{HasCalls, starved, refused, ran}
 use Rattle.script_cmd.specs.Promises.{given_to, HeadlineHolds, WaysKeepTheHeadline}
 use Rattle.script_cmd.proofs.Shapes.{end-of, inputs-of, world-of}

@@ -1,8 +1,9 @@
 -- Which replies the turns of a run have, what the first one says, and how the device is left, whichever way the run ended.
-use Rattle.std.proofs.Common.{◌≡◌, ℕ, Bool, List, [], Option, Some, slice_get, refl, sym, ap, subst, ◌∙◌, arith}
+use Rattle.std.proofs.Common.{◌≡◌, ℕ, Bool, List, [], Contains, Option, Some, None, slice_get, refl, sym, ap, subst, ◌∙◌, arith}
 use Rattle.host_io.specs.Contents.{Directory}
 use Rattle.fwu_model.specs.Reply.{Turn}
 use Rattle.script_turns.specs.Powered.{Moment, SameDevice}
+use Rattle.script_turns.specs.Runs.{RunsFree}
 use Rattle.script_cmd.specs.Ending.{World}
 use Rattle.script_cmd.specs.Ways.{starved, refused, ran}
 use Rattle.script_cmd.specs.Promises.{LeavesDevice, RepliesHold, WaysBootFirst, WaysLeaveTheDevice, WaysReply}
@@ -31,11 +32,17 @@ ways-reply passes tells asked g end old new (ran calls on from good asks has bef
 same-device : (journal : List Turn) (old : Moment) → SameDevice old old
 same-device journal old = record { told = refl; counts = refl; armed = refl; power = refl }
 
+free-none : (old : Moment) → old.armed ≡ None → RunsFree [] old old
+free-none old unarmed = record { armed = unarmed; reached = refl; lost = λ t in_it is. absurd (no-turn t in_it) }
+  where
+    no-turn : (t : Turn) → Contains [] t → ⊥
+    no-turn t (k, below, is) = omega arith
+
 none-leaves : (tells : Bool) (journal : List Turn) (old new : Moment) → journal ≡ [] → new ≡ old → LeavesDevice tells journal old new
 none-leaves tells journal old new empty same =
     subst (λ (turns : List Turn). LeavesDevice tells turns old new) (sym empty)
     (subst (λ (m : Moment). LeavesDevice tells [] old m) (sym same)
-    (record { untouched = λ none. same-device journal old; power = refl; once = omega arith; guard = λ told. refl }))
+    (record { untouched = λ none. same-device journal old; power = refl; once = omega arith; guard = λ told. refl; free = λ unarmed none. free-none old unarmed }))
 
 pub ways-leave-the-device : WaysLeaveTheDevice
 ways-leave-the-device passes tells asked g end old new (starved empty same nine quiet stuck) = none-leaves tells end.journal old.flash new.flash empty same
@@ -47,6 +54,9 @@ ways-leave-the-device passes tells asked g end old new (ran calls on from good a
   power = turns.power;
   once = turns.once;
   guard = turns.guard;
+  free = λ unarmed none.
+      let ran_free = turns.free unarmed none in
+      record { armed = ran_free.armed; reached = ran_free.reached; lost = ran_free.lost };
 }
 
 -- ---- the first turn

@@ -33,7 +33,7 @@ use Rattle.script_cmd.proofs.PromiseAll.{promised}
 use Rattle.script_cmd.proofs.PromiseTurns.{none-ended}
 use Rattle.script_cmd.proofs.PromiseComplete.{ways-are-complete}
 use Rattle.script_cmd.proofs.TableOpens.{woken-clean, woken-now, woken-same}
-use Rattle.script_cmd.proofs.RunTurns.{rose-before}
+use Rattle.script_turns.proofs.RunTurns.{rose-before}
 use Rattle.script_cmd.proofs.TableWays.{not-nothing}
 
 same-pair : (t u : Table) (w x : WhichTable) → ◌≡◌ {A = Option (Table × WhichTable)} (Some (t, w)) (Some (u, x)) → t ≡ u
@@ -130,6 +130,7 @@ module _ (passes : List ℕ → Bool) (device : Device) (inputs : Inputs) (end :
     list_is = served.list_is;
     list_there = served.list_there;
     files_there = served.files_there;
+    files_there_over = served.files_there_over;
     no_fault = λ rose. served.no_fault (rose-before old.flash.counts.faults start.counts.faults new.flash.counts.faults later rose);
     no_file_fault = served.no_file_fault;
     no_source_fault = served.no_source_fault;

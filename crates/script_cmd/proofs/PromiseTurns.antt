@@ -10,6 +10,7 @@ use Rattle.fwu_model.specs.Causes.{status_by}
 use Rattle.script_cmd.specs.Printed.{Prints, all, front, nothing}
 use Rattle.script_cmd.specs.Running.{status_of_last, last_turn, Ended}
 use Rattle.fwu_model.specs.Call.{Call}
+use Rattle.script_cmd.proofs.TopPrints.{raised-rose}
 
 -- ---- the last turn
 
@@ -93,7 +94,7 @@ by-plan piece plan status old new faults_before faults_after (nothing is same la
 
 pub printed-rose : (piece : List ℕ) (plan status : ℕ) (old new : Option (List ℕ)) (faults_before faults_after : ℕ) → Prints piece plan status old new faults_before faults_after → plan ≢ 3 → status ≡ 3 → Rose faults_before faults_after
 printed-rose piece plan status old new faults_before faults_after (all is bytes later) other three = absurd (other (sym is ∙ three))
-printed-rose piece plan status old new faults_before faults_after (front is n bytes later rose) other three = rose
+printed-rose piece plan status old new faults_before faults_after (front is n bytes later once) other three = raised-rose faults_before faults_after once
 printed-rose piece plan status old new faults_before faults_after (nothing is same later) other three = absurd (omega arith)
 
 -- ---- what is said of a value where there is one

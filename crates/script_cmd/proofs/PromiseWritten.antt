@@ -112,7 +112,7 @@ refused-writes asked g status planned noted line old new why (nothing is same la
 pub ways-write : WaysWrite
 ways-write passes tells asked g end old new (starved empty same nine quiet stuck) before told = (
   [],
-  stays asked g old.faults new.faults end.status old.taken new.taken before told stuck,
+  stays asked g old.faults new.faults end.status old.taken new.taken before told stuck.0,
   subst (λ (j : List Turn). Wrote (Refuses asked g old.faults new.faults) g.script (list_bytes g.list g.files) end.status end.noted j []) (sym empty) (wrote-nothing (Refuses asked g old.faults new.faults) g.script (list_bytes g.list g.files) end.status end.noted nine),
 )
 ways-write passes tells asked g end old new (refused planned line empty same why prints) before told =

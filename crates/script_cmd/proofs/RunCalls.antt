@@ -6,7 +6,7 @@ use Rattle.std.proofs.lemmas.Option.{same_Some}
 use Rattle.fwu_model.specs.Call.{Call}
 use Rattle.fwu_model.specs.Reply.{Turn}
 use Rattle.fwu_model.specs.Run.{is_send}
-use Rattle.script_cmd.specs.Running.{calls_of, sends_none}
+use Rattle.script_turns.specs.Runs.{calls_of, sends_none}
 
 -- those behind one that was taken stay
 pub left-behind : (calls : List Call) (i : ℕ) (c : Call) (k : ℕ) → i + 1 ≤ k → slice_get (slice_set calls i c) k ≡ slice_get calls k

@@ -9,7 +9,6 @@ use Rattle.std.proofs.Math.Seq.{take-length}
 use Rattle.std.proofs.lemmas.List.Folds.{list_any-append}
 use Rattle.std.proofs.lemmas.Grind.{flat_map-append}
 use Rattle.std.proofs.lemmas.Option.{same_Some, slice_get_within, get_or_from_slice_get}
-use Rattle.flash_core.specs.Counts.{Rose}
 use Rattle.host_io.specs.Contents.{Directory}
 use Rattle.fwu_model.specs.declared.kinds.Note.{Note}
 use Rattle.fwu_model.specs.declared.kinds.Note.TheVariants as note
@@ -21,9 +20,10 @@ use Rattle.fwu_model.specs.Text.{line, text, call_word, reply_text}
 use Rattle.fwu_model.specs.Wrote.{may_lack}
 use Rattle.fwu_model.specs.Causes.{status_by, note_by}
 use Rattle.script_turns.specs.Powered.{Moment}
-use Rattle.script_cmd.specs.Printed.{Prints, all, front, nothing}
-use Rattle.script_cmd.specs.Running.{Ran, Steps, Ended, Writes, Printed, calls_of, last_turn, status_of_last, note_of_last}
-use Rattle.script_cmd.proofs.RunTurns.{ran-none, ran-on, rose-before}
+use Rattle.script_cmd.specs.Printed.{FailsAtThree, Prints, all, front, nothing}
+use Rattle.script_cmd.specs.Running.{Steps, Ended, Writes, Printed, last_turn, status_of_last, note_of_last}
+use Rattle.script_turns.specs.Runs.{Ran, calls_of}
+use Rattle.script_turns.proofs.RunTurns.{ran-none, ran-on}
 
 -- ---- the statuses of replies
 
@@ -76,9 +76,9 @@ appended (Some xs) (Some ys) piece before is appends = ap Some (appends ∙ ap (
 
 module _ (piece : List ℕ) (plan status : ℕ) (old new : Option (List ℕ)) (was are : ℕ) where
   printed-later : Prints piece plan status old new was are → was ≤ are
-  printed-later (all is bytes later) = later
+  printed-later (all is bytes same) = omega (arith, same)
   printed-later (front is n bytes later rose) = later
-  printed-later (nothing is same later) = later
+  printed-later (nothing is same none) = omega (arith, none)
 
   -- at no other status than 3 and 9 the line was printed
   printed-all : Prints piece plan status old new was are → IsFalse (may_lack status) → (status ≡ plan) × Appends old new piece
@@ -86,10 +86,14 @@ module _ (piece : List ℕ) (plan status : ℕ) (old new : Option (List ℕ)) (w
   printed-all (front is n bytes later rose) whole = absurd (lacks-not status 3 is refl whole)
   printed-all (nothing is same later) whole = absurd (lacks-not status 9 is refl whole)
 
-  printed-rose : Prints piece plan status old new was are → IsFalse (may_lack plan) → status ≡ 3 → Rose was are
-  printed-rose (all is bytes later) whole three = absurd (lacks-not plan 3 (sym is ∙ three) refl whole)
-  printed-rose (front is n bytes later rose) whole three = rose
-  printed-rose (nothing is same later) whole three = absurd (omega arith)
+  printed-count : Prints piece plan status old new was are → IsFalse (may_lack plan) → FailsAtThree status was are
+  printed-count (all is bytes same) whole = record { failed = λ three. absurd (lacks-not plan 3 (sym is ∙ three) refl whole); quiet = λ other. same }
+  printed-count (front is n bytes later once) whole = record { failed = λ three. once; quiet = λ other. absurd (other is) }
+  printed-count (nothing is same none) whole = record { failed = λ three. absurd (omega arith); quiet = λ other. none }
+
+-- behind lines that the sink took
+counts-from : (status was am are : ℕ) → am ≡ was → FailsAtThree status am are → FailsAtThree status was are
+counts-from status was am are same = subst (λ (n : ℕ). FailsAtThree status n are) same
 
 -- at the status 0 the run goes on
 pub printed-on : (r : Reply) (piece : List ℕ) (status : ℕ) (old new : Option (List ℕ)) (was are : ℕ) → Prints piece (status_by r) status old new was are → status ≡ 0 → IsFalse (ends_run r)
@@ -175,12 +179,12 @@ module _ (script : List Call) (n : ℕ) (c : Call) (journal : List Turn) (t : Tu
     },
   )
 
-  printed-by : ((before : List ℕ) → taken ≡ Some before → mids ≡ Some (before ++ text journal)) → was ≤ am → Prints (line t.call t.reply) (status_by t.reply) status mids takes am are
+  printed-by : ((before : List ℕ) → taken ≡ Some before → mids ≡ Some (before ++ text journal)) → am ≡ was → Prints (line t.call t.reply) (status_by t.reply) status mids takes am are
       → Printed (journal ++ t ∷ []) status taken takes was are
-  printed-by bytes later prints = record {
+  printed-by bytes same prints = record {
     bytes = λ before is. whole-by before (bytes before is) prints;
     later = let more = printed-later (line t.call t.reply) (status_by t.reply) status mids takes am are prints in omega arith;
-    failed = λ three. rose-before was am are later (printed-rose (line t.call t.reply) (status_by t.reply) status mids takes am are prints (status-whole t.reply) three);
+    count = counts-from status was am are same (printed-count (line t.call t.reply) (status_by t.reply) status mids takes am are prints (status-whole t.reply));
   }
 
 -- ---- going on
@@ -197,7 +201,7 @@ pub record GoesOn (passes : List ℕ → Bool) (tells : Bool) (files : Option Di
   pub calls : calls_of journal ≡ take n script
   pub on : IsFalse (list_any (λ (t : Turn). ends_run t.reply) journal)
   pub bytes : (before : List ℕ) → taken ≡ Some before → takes ≡ Some (before ++ text journal)
-  pub later : was ≤ are
+  pub quiet : are ≡ was
 
 module _ (passes : List ℕ → Bool) (tells : Bool) (files : Option Directory) (script : List Call) (old : Moment) (from : ℕ) (taken : Option (List ℕ)) (was : ℕ) where
   pub goes-none : old.on ≡ None → GoesOn passes tells files script 0 [] old old from from taken taken was was
@@ -207,7 +211,7 @@ module _ (passes : List ℕ → Bool) (tells : Bool) (files : Option Directory) 
     calls = refl;
     on = refl;
     bytes = λ before is. is ∙ ap Some (sym (append-nil before));
-    later = omega arith;
+    quiet = refl;
   }
 
   module _ (n : ℕ) (c : Call) (journal after : List Turn) (mid new : Moment) (through to : ℕ) (status : ℕ) (noted : Note) (mids takes : Option (List ℕ)) (am are : ℕ) where
@@ -222,7 +226,7 @@ module _ (passes : List ℕ → Bool) (tells : Bool) (files : Option Directory) 
           on = on-more journal t goes.on (on-at-zero t.reply (sym printed.0 ∙ zero_is));
           bytes = λ before is. more-bytes script n c journal t status noted taken mids takes was am are (line t.call t.reply) before (goes.bytes before is) printed.1
               ∙ ap (λ (w : List ℕ). Some (before ++ w)) (sym (text-more journal t));
-          later = let first = goes.later in let more = printed-later (line t.call t.reply) (status_by t.reply) status mids takes am are step.prints in omega arith;
+          quiet = (printed-count (line t.call t.reply) (status_by t.reply) status mids takes am are step.prints (status-whole t.reply)).quiet (λ three. absurd (omega (arith, three, zero_is))) ∙ goes.quiet;
         }
 
     pub goes-on : old.on ≡ None → GoesOn passes tells files script n journal old mid from through taken mids was am → slice_get script n ≡ Some c → Steps passes tells files c journal after mid new through to status noted mids takes am are → status ≡ 0
@@ -240,7 +244,7 @@ module _ (passes : List ℕ → Bool) (tells : Bool) (files : Option Directory) 
     pub ends-printed : GoesOn passes tells files script n journal old mid from through taken mids was am → Steps passes tells files c journal after mid new through to status noted mids takes am are → Printed after status taken takes was are
     ends-printed goes step =
         subst (λ (j : List Turn). Printed j status taken takes was are) (sym step.kept)
-        (printed-by script n c journal step.turn status noted taken mids takes was am are goes.bytes goes.later step.prints)
+        (printed-by script n c journal step.turn status noted taken mids takes was am are goes.bytes goes.quiet step.prints)
 
   module _ (journal : List Turn) (new : Moment) (to : ℕ) (takes : Option (List ℕ)) (are : ℕ) where
     pub all-ended : GoesOn passes tells files script (length script) journal old new from to taken takes was are → Ended script journal 0 note.Nothing
@@ -267,6 +271,6 @@ module _ (passes : List ℕ → Bool) (tells : Bool) (files : Option Directory) 
           less = λ nine. absurd (omega arith);
         },
       );
-      later = goes.later;
-      failed = λ three. absurd (omega arith);
+      later = let same = goes.quiet in omega arith;
+      count = record { failed = λ three. absurd (omega arith); quiet = λ other. goes.quiet };
     }

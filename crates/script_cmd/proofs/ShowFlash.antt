@@ -11,6 +11,7 @@ use Rattle.fwu_model.specs.declared.kinds.Note.TheVariants as note
 use Rattle.script_turns.specs.Turning.{NoneFalls}
 use Rattle.fwu_model.specs.declared.kinds.Note.{Note}
 use Rattle.fwu_model.specs.declared.kinds.NoBoot.{NoBoot}
+use Rattle.script_cmd.specs.ByTable.{Wakes}
 use Rattle.script_cmd.specs.Showing as show
 use Rattle.script_cmd.specs.Showing.{Finds, HasCause, ShowsNone, not_shown_line}
 
@@ -69,3 +70,11 @@ not-found known image before after why status noted line s n l none =
     subst (λ (x : ℕ). Finds known image before after x noted line) (sym s)
     (subst (λ (x : Note). Finds known image before after 6 x line) (sym n)
     (subst (λ (x : List ℕ). Finds known image before after 6 (note.Boot why) x) (sym l) (show.none why none)))
+
+-- power comes back, and what is there is read
+pub wakes-on : (old mid new : Told) → new ≡ mid → mid ≡ fresh old.guard mid.now → Leaves old mid.now → Wakes old new
+wakes-on old mid new same is leaves = subst (λ (t : Told). Wakes old t) (sym same) (record { fresh_is = is; leaves = leaves })
+
+-- with nothing dirty that is what was there
+pub wakes-clean : (old new : Told) → NothingDirty old → Wakes old new → new ≡ old
+wakes-clean old new clean wakes = power-on-keeps old new clean wakes.fresh_is wakes.leaves

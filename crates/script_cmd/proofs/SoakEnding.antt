@@ -1,5 +1,5 @@
 -- How a soak ends.
-use Rattle.std.proofs.Common.{◌≡◌, ◌≢◌, ◌≤◌, ◌<◌, ◌+◌, ℕ, List, ◌∷◌, ◌++◌, Bool, get_or, Option, Some, Result, sym, ap, subst, ◌∙◌, arith, IsTrue}
+use Rattle.std.proofs.Common.{◌≡◌, ◌≢◌, ◌<◌, ◌+◌, ℕ, List, ◌∷◌, ◌++◌, Bool, get_or, Option, Some, None, Result, sym, ap, subst, ◌∙◌, arith, IsTrue}
 use Rattle.std.specs.Prelude.{flat_map}
 use Rattle.host_io.specs.Contents.{Directory}
 use Rattle.fwu_formats.specs.Digests.{passes_any}
@@ -21,12 +21,22 @@ use Rattle.gen_core.specs.Rounds.{rounds_from}
 use Rattle.gen_core.specs.Setup.{soak_layout}
 use Rattle.gen_core.specs.declared.rounds.Round.{Round}
 use Rattle.gen_core.proofs.Naming.{rounds-have-packages}
-use Rattle.script_turns.specs.Powered.{Moment}
+use Rattle.flash_core.specs.declared.flash.Flash.{Ghosts}
+use Rattle.agent_machine.specs.Fields.{Fields}
+use Rattle.script_turns.specs.declared.powered.Powered.{Powered}
+use Rattle.script_turns.specs.Powered.{Moment, at, device, moment_of, shown_on}
 use Rattle.script_cmd.specs.Printed.{Prints}
-use Rattle.script_cmd.specs.Running.{Ran}
+use Rattle.script_turns.specs.Runs.{Ran}
 use Rattle.script_cmd.specs.Soaking.{Stands, goes, starved, ended, first_files, soak_files, stop_line}
 use Rattle.script_cmd.specs.SoakWays.{SoakEnds, all_done, lacking, stopped}
 use Rattle.script_cmd.proofs.Shapes.{end-of}
+
+-- a flash on which no bank was started
+pub moment-fresh : {D : Type 0} {F : Ghosts D} (p : Powered D F) (d : D) → shown_on p ≡ None → device p ≡ d
+    → moment_of p ≡ at None (F.told d) (F.counts d) (F.arming d) (F.on d)
+moment-fresh {F = F} p d off is =
+    ap (λ (o : Option Fields). at o (F.told (device p)) (F.counts (device p)) (F.arming (device p)) (F.on (device p))) off
+    ∙ ap (λ (e : _). at None (F.told e) (F.counts e) (F.arming e) (F.on e)) is
 
 -- ---- the calls and the files
 
@@ -68,13 +78,13 @@ module _ (tells : Bool) (all : Directory) (calls : List Call) (journal : List Tu
   stands-ran (ended front t is less ran none ends read status_is noted_is text_is) = ran
 
 module _ (tells : Bool) (all : Directory) (rounds : ℕ) (calls : List Call) (journal : List Turn) (old new : Moment) (stand : ℕ) (noted : Note) (text : List ℕ) (status : ℕ) (taken_before taken_after : Option (List ℕ)) (faults_before faults_after : ℕ) where
-  pub ends-by : (stand ≡ 0 → Prints (soak_line rounds journal) 0 status taken_before taken_after faults_before faults_after) → (stand ≡ 9 → status ≡ 9) → (stand ≡ 9 → taken_after ≡ taken_before) → (stand ≡ 9 → faults_before ≤ faults_after)
+  pub ends-by : (stand ≡ 0 → Prints (soak_line rounds journal) 0 status taken_before taken_after faults_before faults_after) → (stand ≡ 9 → status ≡ 9) → (stand ≡ 9 → taken_after ≡ taken_before) → (stand ≡ 9 → faults_after ≡ faults_before)
       → (stand ≢ 0 → stand ≢ 9 → Prints text stand status taken_before taken_after faults_before faults_after)
       → Stands tells all calls journal old new stand noted text → SoakEnds rounds calls (end-of journal status noted) taken_before taken_after faults_before faults_after
-  ends-by whole nines same later stops (goes zero_is quiet empty going) = all_done going.calls_are going.none quiet (whole zero_is)
-  ends-by whole nines same later stops (starved nine quiet front less going) =
-      lacking (less.0, ap (λ (cs : List Call). cs ++ less.0) going.calls_are ∙ less.1) going.none quiet (nines nine) (same nine) (later nine)
-  ends-by whole nines same later stops (ended front t is less ran none ends read status_is noted_is text_is) =
+  ends-by whole nines same quietly stops (goes zero_is quiet empty going) = all_done going.calls_are going.none quiet (whole zero_is)
+  ends-by whole nines same quietly stops (starved nine quiet front less going) =
+      lacking (less.0, ap (λ (cs : List Call). cs ++ less.0) going.calls_are ∙ less.1) going.none quiet (nines nine) (same nine) (quietly nine)
+  ends-by whole nines same quietly stops (ended front t is less ran none ends read status_is noted_is text_is) =
       stopped less front t is none ends read noted_is
       (subst (λ (k : ℕ). Prints (stop_line t) k status taken_before taken_after faults_before faults_after) status_is
       (subst (λ (l : List ℕ). Prints l stand status taken_before taken_after faults_before faults_after) text_is

@@ -1,6 +1,12 @@
 -- What `soak` promises, whichever way it ended.
 use Rattle.std.proofs.Common.{◌≡◌, ◌≢◌, ◌⊎◌, ◌||◌, ◌==◌, ℕ, Bool, true, false, not, if◌then◌else◌, List, [], ◌∷◌, ◌++◌, Option, Some, None, Result, Ok, Err, refl, sym, ap, subst, ◌∙◌, inl, inr, arith, append-nil, IsTrue, IsFalse, Contains}
-use Rattle.std.specs.Prelude.{nat_lt}
+use Rattle.std.specs.Prelude.{nat_lt, ◌*◌, option_map}
+use Rattle.base_core.specs.Block.{block_bytes}
+use Rattle.fip_tables.specs.Images.{images_fault, image_fault as reader_fault, or_else as reader_or}
+use Rattle.fip_tables.specs.declared.images.ImageFault.{ImageFault}
+use Rattle.fip_tables.specs.declared.images.ImageFault.TheVariants as image
+use Rattle.fwu_formats.specs.Package.{Entry, Toc, entry_of}
+use Rattle.fwu_model.specs.Answer.{first_image_fault, image_fault, or_else as machine_or}
 use Rattle.std.specs.Io.KnownBytes.{Appends}
 use Rattle.std.proofs.lemmas.Bool.{false≢true}
 use Rattle.std.proofs.lemmas.Option.{same_Some}
@@ -8,7 +14,7 @@ use Rattle.std.proofs.lemmas.List.Elements.{Contains-append_right, Contains-get_
 use Rattle.flash_core.specs.Counts.{Rose}
 use Rattle.flash_core.specs.May.{Guards}
 use Rattle.fwu_formats.specs.Digests.{passes_any}
-use Rattle.fwu_formats.specs.Layout.{Layout, fits_layout, blocks_needed}
+use Rattle.fwu_formats.specs.Layout.{ImageRow, Layout, fits_layout, blocks_needed}
 use Rattle.fwu_formats.specs.Manifest.{is_complete, version}
 use Rattle.fwu_formats.specs.declared.kinds.LayoutFault.{LayoutFault}
 use Rattle.fwu_model.specs.Causes.{Faults, cuts_in, may_fail_before, status_by}
@@ -25,7 +31,7 @@ use Rattle.fwu_model.proofs.Selects.{runs-select}
 use Rattle.fwu_words.specs.Order as ask
 use Rattle.agent_machine.specs.Fields.{Fields}
 use Rattle.meta_layout.specs.Rows.{fitted}
-use Rattle.flash_format.specs.Choosing.{refusal}
+use Rattle.flash_format.specs.Choosing.{refusal, refused as refused_input}
 use Rattle.flash_format.specs.Formatted.{HoldsImages, IsFormatted, first_state}
 use Rattle.flash_format.specs.Stops.{Answers, IsEarly}
 use Rattle.flash_format.specs.declared.formatting.Formatted.{Formatted}
@@ -45,7 +51,7 @@ use Rattle.script_cmd.specs.Formatting.{Formats, IsFormattable, Tries, format_st
 use Rattle.script_cmd.specs.Formatting as format
 use Rattle.script_cmd.specs.Noted.{noted}
 use Rattle.script_cmd.specs.Printed.{Prints, all, front, nothing}
-use Rattle.script_cmd.specs.Running.{Ran, RunsTo, calls_of}
+use Rattle.script_turns.specs.Runs.{Ran, RunsTo, calls_of}
 use Rattle.script_cmd.specs.Showing.{HasCause, RefusesBadList}
 use Rattle.script_cmd.specs.Soaked.{HasSoakList, RunsSoak, SoakedBy, first_images, soak_setting}
 use Rattle.script_cmd.specs.Soaking.{first_files, soak_files, stop_line}
@@ -54,10 +60,10 @@ use Rattle.script_cmd.specs.Ways.{Given, Refuses, bad_list, bad_script, list_not
 use Rattle.script_cmd.specs.declared.done.Note.{Note}
 use Rattle.script_cmd.proofs.PromiseHeadline.{fits, left-by}
 use Rattle.script_cmd.proofs.PromiseTurns.{by-plan, printed-plan}
-use Rattle.script_cmd.proofs.RunTurns.{rose-before}
+use Rattle.script_turns.proofs.RunTurns.{rose-before}
 use Rattle.script_cmd.proofs.SoakRounds.{file-there}
 use Rattle.script_cmd.proofs.TopCompletes.{format-completes}
-use Rattle.script_cmd.proofs.TopPrints.{not-done}
+use Rattle.script_cmd.proofs.TopPrints.{not-done, raised-rose}
 use Rattle.script_cmd.proofs.TopShows.{good-list-kept, refused-list, starved-list}
 
 -- ---- what was formatted
@@ -140,7 +146,7 @@ at-zero piece status taken_before taken_after faults_before faults_after (nothin
 
 printed : (piece : List ℕ) (status : ℕ) (taken_before taken_after : Option (List ℕ)) (faults_before faults_after : ℕ) → (Rose faults_before faults_after → ⊥) → Prints piece 0 status taken_before taken_after faults_before faults_after → (status ≡ 0) ⊎ (status ≡ 9)
 printed piece status taken_before taken_after faults_before faults_after fails (all is bytes later) = inl is
-printed piece status taken_before taken_after faults_before faults_after fails (front is k bytes later rose) = absurd (fails rose)
+printed piece status taken_before taken_after faults_before faults_after fails (front is k bytes later once) = absurd (fails (raised-rose faults_before faults_after once))
 printed piece status taken_before taken_after faults_before faults_after fails (nothing is same later) = inr is
 
 stop-other : (stop : FormatStop) → format_status (Err stop) ≡ 0 → ⊥
@@ -207,11 +213,27 @@ fitted-soak : (blocks : ℕ) → IsFalse (is_too_small blocks) → fitted soak_l
 unfolding fitted
 fitted-soak blocks large = either-ok (not (fits_layout soak_layout)) (nat_lt blocks (blocks_needed soak_layout)) _ _ soak_layout (ap not soak-layout-fits) large
 
+-- where no image is at fault to the machine, none is to the reader of packages
+unfaulted-by : (r : ImageRow) (o : Option Entry) (rest : Option Reply) (others : Option ImageFault) → (rest ≡ None → others ≡ None)
+    → machine_or (image_fault r o) rest ≡ None → reader_or (reader_fault r o) others ≡ None
+unfaulted-by r None rest others same is = absurd cc
+unfaulted-by r (Some e) rest others same is = by-size (nat_lt (block_bytes * r.slots) e.size) is
+  where
+    by-size : (large : Bool) → machine_or (if large then Some (reply.TooLarge r.guid) else None) rest ≡ None
+        → reader_or (if large then Some (image.TooLarge r.guid) else None) others ≡ None
+    by-size true is = absurd cc
+    by-size false is = same is
+
+unfaulted : (rows : List ImageRow) (toc : Toc) → first_image_fault rows toc ≡ None → images_fault rows toc ≡ None
+unfolding first_image_fault
+unfaulted [] toc none = refl
+unfaulted (r ∷ rows) toc none = unfaulted-by r (entry_of toc r.guid) (first_image_fault rows toc) (images_fault rows toc) (unfaulted rows toc) none
+
 package-fits : (seed blocks : ℕ) → IsFalse (is_too_small blocks) → refusal soak_layout blocks (first_package seed) ≡ None
 unfolding refusal
 package-fits seed blocks large =
     let i = rounds-have-packages.first seed in
-    rw (fitted-soak blocks large) (rw i.table (rw i.whole refl))
+    rw (fitted-soak blocks large) (rw i.table (ap (λ (o : Option ImageFault). option_map refused_input o) (unfaulted soak_layout.rows i.toc i.whole)))
 
 formattable : (seed blocks : ℕ) → IsFalse (is_too_small blocks) → IsFormattable passes_any (Some (first_files seed)) (file_name 0) soak_layout blocks
 formattable seed blocks large =

@@ -1,5 +1,5 @@
 -- What a turn of a soak does with one file at hand, it does with all packages at hand.
-use Rattle.std.proofs.Common.{◌≡◌, ℕ, Bool, ◌||◌, ◌&&◌, not, ◌==◌, List, [], ◌∷◌, Option, Some, None, Result, Ok, Err, refl, sym, ap, subst, ◌∙◌, inl, inr}
+use Rattle.std.proofs.Common.{◌≡◌, ℕ, Bool, false, ◌||◌, ◌&&◌, not, ◌==◌, List, [], ◌∷◌, Option, Some, None, Result, Ok, Err, refl, sym, ap, subst, ◌∙◌, inl, inr}
 use Rattle.std.specs.Prelude.{if◌then◌else◌, nat_lt}
 use Rattle.std.proofs.lemmas.Option.{same_Some}
 use Rattle.flash_core.specs.Told.{Told}
@@ -25,6 +25,7 @@ use Rattle.agent_machine.specs.Moment as agent
 use Rattle.script_turns.specs.Powered.{IsAt, Moment, Shows, kept_at}
 use Rattle.script_turns.specs.Replies.{Replies}
 use Rattle.script_turns.specs.Sending.{AnswersSend, IsTableOf, LacksSent, SendSays, SendsBy}
+use Rattle.script_turns.specs.Takes.{SendTakes, TakesBy}
 use Rattle.script_turns.specs.Turning.{Turns}
 use Rattle.script_cmd.specs.Soaking.{AgreeFor}
 
@@ -181,6 +182,7 @@ module _ (passes : List ℕ → Bool) (tells : Bool) (one all : Directory) where
   unread-with : (c : Call) (was are : ℕ) → AgreeFor one all c → FileNotRead (Some one) was are c → FileNotRead (Some all) was are c
   unread-with (call.Send name request) was are agree (inl rose) = inl rose
   unread-with (call.Send name request) was are agree (inr lacks) = inr (sym agree.0 ∙ lacks)
+  unread-with (call.SendPartial name request) was are agree none = absurd agree
   unread-with c was are agree none = absurd none
 
   table-with : (name : List ℕ) (found : Result Toc Reply) → one name ≡ all name → IsTableOf (Some one) name found → IsTableOf (Some all) name found
@@ -196,19 +198,39 @@ module _ (passes : List ℕ → Bool) (tells : Bool) (one all : Directory) where
     stays = by.stays;
   }
 
-  answers-with : (name : List ℕ) (request : ℕ) (r : Reply) (old new : agent.Moment) → one name ≡ all name → AnswersSend passes (Some one) name request r old new → AnswersSend passes (Some all) name request r old new
+  answers-with : (name : List ℕ) (request : ℕ) (r : Reply) (old new : agent.Moment) → one name ≡ all name → AnswersSend false passes (Some one) name request r old new → AnswersSend false passes (Some all) name request r old new
   answers-with name request (reply.BadPackage f) old new same (table, stays) = (table-with name (Err (reply.BadPackage f)) same table, stays)
   answers-with name request (reply.BadCapsule f) old new same (table, stays) = (table-with name (Err (reply.BadCapsule f)) same table, stays)
   answers-with name request r old new same by = sends-with name request r old new same by
 
-  says-with : (name : List ℕ) (request : ℕ) (was : Option Fields) (before : Told) (r : Reply) (on : Option Fields) (now : Told) → one name ≡ all name → SendSays passes tells (Some one) name request was before r on now
-      → SendSays passes tells (Some all) name request was before r on now
+  says-with : (name : List ℕ) (request : ℕ) (was : Option Fields) (before : Told) (r : Reply) (on : Option Fields) (now : Told) → one name ≡ all name → SendSays false passes tells (Some one) name request was before r on now
+      → SendSays false passes tells (Some all) name request was before r on now
   says-with name request None before r on now same says = says
   says-with name request (Some f) before r None now same says = says
   says-with name request (Some f) before r (Some g) now same says = answers-with name request r (kept_at tells f before) (kept_at tells g now) same says
 
+  spent-with : (name : List ℕ) (f : Fields) (r : Reply) (old new : Moment) → one name ≡ all name → SendTakes (Some one) name f r old new → SendTakes (Some all) name f r old new
+  spent-with name f (reply.Sent images skipped) old new same by = record { toc = by.toc; table = table-with name (Ok by.toc) same by.table; spent = by.spent }
+  spent-with name f (reply.SentPartial images skipped copied) old new same by = record { toc = by.toc; table = table-with name (Ok by.toc) same by.table; spent = by.spent }
+  spent-with name f (reply.BadPackage g) old new same by = by
+  spent-with name f (reply.BadCapsule g) old new same by = by
+  spent-with name f (reply.Missing guid) old new same by = by
+  spent-with name f (reply.TooLarge guid) old new same by = by
+  spent-with name f (reply.BeginRefused st) old new same by = by
+  spent-with name f r old new same by = tt
+
+  takes-with : (c : Call) (on : Option Fields) (old : Moment) (r : Reply) (new : Moment) → AgreeFor one all c → TakesBy (Some one) c on old r new → TakesBy (Some all) c on old r new
+  takes-with c None old r new agree takes = takes
+  takes-with (call.Send name request) (Some f) old r new agree takes = spent-with name f r old new agree.0 takes
+  takes-with call.Boot (Some f) old r new agree takes = takes
+  takes-with (call.Cut n k) (Some f) old r new agree takes = takes
+  takes-with (call.Accepts guid) (Some f) old r new agree takes = takes
+  takes-with call.Previous (Some f) old r new agree takes = takes
+  takes-with c (Some f) old r new agree takes = absurd agree
+
   lacks-with : (c : Call) → AgreeFor one all c → LacksSent (Some all) c → LacksSent (Some one) c
   lacks-with (call.Send name request) agree lacks = agree.0 ∙ lacks
+  lacks-with (call.SendPartial name request) agree lacks = absurd agree
   lacks-with other agree lacks = absurd lacks
 
   replies-with : (c : Call) (old : Moment) (t : Turn) (new : Moment) → AgreeFor one all c → Replies passes tells (Some one) c old t new → Replies passes tells (Some all) c old t new
@@ -229,6 +251,7 @@ module _ (passes : List ℕ → Bool) (tells : Bool) (one all : Directory) where
     counts = turned.counts;
     made = turned.made;
     armed = turned.armed;
+    free = turned.free;
     lost = turned.lost;
     failed = turned.failed;
     once = turned.once;
@@ -238,7 +261,7 @@ module _ (passes : List ℕ → Bool) (tells : Bool) (one all : Directory) where
     unread_once = turned.unread_once;
     reads_none = turned.reads_none;
     replies = replies-with c old t new agree turned.replies;
-    takes = turned.takes;
+    takes = record { by_call = takes-with c old.on old t.reply new agree turned.takes.by_call; unread = turned.takes.unread };
     power = turned.power;
     guard = turned.guard;
     step = λ told E from passes_are files_are is_at no_chance.
@@ -248,6 +271,9 @@ module _ (passes : List ℕ → Bool) (tells : Bool) (one all : Directory) where
           step-with E one from there.0 t (subst (λ (x : Call). AgreeFor one E.files x) (sym turned.call_is) (agree-back c agree E.files (sym (same_Some all E.files files_are)))) there.1,
           at-with G E.files there.0 new.on new.told there.2,
         );
+    keeps = turned.keeps;
+    spares = turned.spares;
+    decides = turned.decides;
     safe = turned.safe;
     boots = turned.boots;
   }

@@ -1,5 +1,5 @@
 -- The command `soak`, by the words and behind a list.
-use Rattle.std.proofs.Common.{◌≡◌, ◌≤◌, ℕ, Bool, List, [], Option, Some, None, sym, subst, IsFalse}
+use Rattle.std.proofs.Common.{◌≡◌, ◌≤◌, ℕ, Bool, List, [], Option, Some, None, sym, subst, IsFalse, ◌∙◌}
 use Rattle.fwu_model.specs.Reply.{Turn}
 use Rattle.fwu_model.specs.Causes.{Faults}
 use Rattle.fwu_model.specs.declared.kinds.Note as model
@@ -53,7 +53,7 @@ module _ (tells : Bool) (told files : Option Directory) (name : List ℕ) (scrip
             refuses (Some (ask.soak seed n)) told files name script first faults_before faults_after refused.0 (noted said) refused.1 good later source refused.2,
             at-sink refused.1 refused.0 refused.3,
           )
-      go (starved none same nine quiet stuck) = starved none same nine quiet stuck
+      go (starved none same nine quiet stuck) = starved none same nine quiet (stuck.0, stuck.1 ∙ sym sink)
       go (too_small listed small none same is prints) = too_small good small none same is (at-sink _ 7 prints)
       go (not_formatted listed large none stop tries is prints) = not_formatted good large none stop tries is (at-sink _ _ prints)
       go (ran listed large done start on tries off power turns ends quiet) =

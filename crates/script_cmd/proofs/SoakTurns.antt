@@ -23,10 +23,10 @@ use Rattle.fwu_model.specs.declared.kinds.Note.{Note}
 use Rattle.fwu_model.specs.declared.kinds.Note.TheVariants as note
 use Rattle.fwu_formats.specs.Digests.{passes_any}
 use Rattle.script_turns.specs.Powered.{Moment}
-use Rattle.script_cmd.specs.Running.{Ran, calls_of}
+use Rattle.script_turns.specs.Runs.{Ran, calls_of}
 use Rattle.script_cmd.specs.Soaking.{AgreeFor, GoesSoaking, SoakSteps, Stands, goes, starved, ended}
 use Rattle.script_cmd.proofs.RunEnds.{on-at-zero}
-use Rattle.script_cmd.proofs.RunTurns.{ran-none, ran-on}
+use Rattle.script_turns.proofs.RunTurns.{ran-none, ran-on}
 use Rattle.script_cmd.proofs.SoakSetting.{turns-with}
 
 -- another status is of a turn that ends the run

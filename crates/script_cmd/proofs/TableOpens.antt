@@ -12,7 +12,7 @@ use Rattle.gpt_core.specs.Repair.{HeadersGuarded, Mends, StaysBeside}
 use Rattle.gpt_core.specs.Table.{Table, FitsTable, table_in_image}
 use Rattle.script_cmd.specs.ByTable.{Starts, StopsBefore, Waits, Wakes}
 use Rattle.script_turns.specs.Powered.{Moment}
-use Rattle.script_cmd.proofs.RunTurns.{rose-after, rose-before}
+use Rattle.script_turns.proofs.RunTurns.{rose-after, rose-before}
 
 -- ---- power that came
 

@@ -38,7 +38,7 @@ module _ (passes : List ℕ → Bool) (tells : Bool) (blocks : ℕ) (journal : L
       (refused-by passes tells journal status (noted said) old new taken_before taken_after asked g faults_before faults_after planned line (noted told) none same (ap noted is) why prints)
 
   -- nothing was touched for want of memory
-  pub table-starved : (asked : Option Asked) (g : Given) (faults_before faults_after : Faults) → journal ≡ [] → new ≡ old → status ≡ 9 → said ≡ note.Nothing → taken_after ≡ taken_before → WayByTable passes (device-of tells blocks) asked g (end-of journal status said) (world-of old taken_before faults_before) (world-of new taken_after faults_after)
+  pub table-starved : (asked : Option Asked) (g : Given) (faults_before faults_after : Faults) → journal ≡ [] → new ≡ old → status ≡ 9 → said ≡ note.Nothing → (taken_after ≡ taken_before) × (faults_after.sink ≡ faults_before.sink) → WayByTable passes (device-of tells blocks) asked g (end-of journal status said) (world-of old taken_before faults_before) (world-of new taken_after faults_after)
   table-starved asked g faults_before faults_after none same nine is quiet =
       untouched none same (λ zero_is. absurd (omega arith)) (ap is_beyond is) (way.starved none same nine (ap noted is) quiet)
 
@@ -54,7 +54,7 @@ module _ (passes : List ℕ → Bool) (tells : Bool) (blocks : ℕ) (journal : L
   stopped-way asked g faults_before faults_after mid calls reads none stops same is prints = stopped calls reads none (subst (StopsBefore tells blocks old) (sym same) stops) is prints
 
   pub starved-way : (asked : Option Asked) (g : Given) (faults_before faults_after : Faults) (mid : Moment) (calls : List Call) → ReadsScript asked g calls → journal ≡ [] → Looks tells old mid → new ≡ mid → status ≡ 9
-      → said ≡ note.Nothing → taken_after ≡ taken_before → WayByTable passes (device-of tells blocks) asked g (end-of journal status said) (world-of old taken_before faults_before) (world-of new taken_after faults_after)
+      → said ≡ note.Nothing → (taken_after ≡ taken_before) × (faults_after.sink ≡ faults_before.sink) → WayByTable passes (device-of tells blocks) asked g (end-of journal status said) (world-of old taken_before faults_before) (world-of new taken_after faults_after)
   starved-way asked g faults_before faults_after mid calls reads none looks same nine is quiet = starved calls reads none (subst (Looks tells old) (sym same) looks) nine is quiet
 
   -- a way without a list is one behind a list that was read and is one
@@ -65,7 +65,7 @@ module _ (passes : List ℕ → Bool) (tells : Bool) (blocks : ℕ) (journal : L
   table-with-list asked told files name script first faults_before faults_after same_files good later source sink (untouched none same other beyond w) =
       untouched none same other beyond (with-list passes tells journal status (noted said) old new taken_before taken_after asked told files name script first faults_before faults_after same_files good later source sink w)
   table-with-list asked told files name script first faults_before faults_after same_files good later source sink (starved calls reads none looks nine is quiet) =
-      starved calls (record { good = good; asks = reads.asks; has = reads.has }) none looks nine is quiet
+      starved calls (record { good = good; asks = reads.asks; has = reads.has }) none looks nine is (quiet.0, quiet.1 ∙ sym sink)
   table-with-list asked told files name script first faults_before faults_after same_files good later source sink (lacked calls why reads none looks lacks is prints) =
       lacked calls why (record { good = good; asks = reads.asks; has = reads.has }) none looks lacks is (subst (λ (n : ℕ). Prints (no_table_line why) 10 status taken_before taken_after n faults_after.sink) (sym sink) prints)
   table-with-list asked told files name script first faults_before faults_after same_files good later source sink (stopped calls reads none stops is prints) =

@@ -1,7 +1,7 @@
 -- `show` and `format` do all that they are asked for, where nothing is lacking and nothing failed, unless memory was wanting.
-use Rattle.std.proofs.Common.{◌≡◌, ◌⊎◌, inl, inr, ℕ, Bool, true, List, Option, Some, None, Result, Ok, Err, refl, subst, IsTrue}
+use Rattle.std.proofs.Common.{◌≡◌, ◌⊎◌, inl, inr, ℕ, Bool, true, List, Option, Some, None, Result, Ok, Err, refl, sym, subst, IsTrue}
 use Rattle.flash_core.specs.Counts.{Rose}
-use Rattle.flash_core.specs.Told.{NothingDirty}
+use Rattle.flash_core.specs.Told.{Told, NothingDirty}
 use Rattle.flash_core.specs.declared.flash.Counts.{Counts}
 use Rattle.fwu_formats.specs.Layout.{Layout}
 use Rattle.fwu_formats.specs.Image.{deciding}
@@ -29,11 +29,13 @@ use Rattle.script_cmd.specs.Formatting.{Formats, IsFormattable, Tries, format_st
 use Rattle.script_cmd.specs.Formatting as format
 use Rattle.script_cmd.specs.declared.done.Note.{Note as Said}
 use Rattle.script_cmd.proofs.Shapes.{device-of, world-of}
+use Rattle.script_cmd.proofs.ShowFlash.{wakes-clean}
+use Rattle.script_cmd.proofs.TopPrints.{raised-rose}
 
 -- a line whose status was to be 0, at a sink that did not fail
 printed : (line : List ℕ) (status : ℕ) (old new : Option (List ℕ)) (faults_before faults_after : ℕ) → (Rose faults_before faults_after → ⊥) → Prints line 0 status old new faults_before faults_after → (status ≡ 0) ⊎ (status ≡ 9)
 printed line status old new faults_before faults_after fails (all is appends later) = inl is
-printed line status old new faults_before faults_after fails (front is n appends later rose) = absurd (fails rose)
+printed line status old new faults_before faults_after fails (front is n appends later once) = absurd (fails (raised-rose faults_before faults_after once))
 printed line status old new faults_before faults_after fails (nothing is same later) = inr is
 
 -- no list is refused that is there and has no bad line
@@ -52,7 +54,7 @@ module _ (g : Given) (before after : Counts) (status : ℕ) (taken_before taken_
   -- a flash with metadata shows its numbers
   found : (known : Type 0) (image : List ℕ) (planned : ℕ) (told : Note) (line : List ℕ) → known → HasMetadata image → IsGranted g before after faults_before faults_after → Finds known image before after planned told line
       → Prints line planned status taken_before taken_after faults_before.sink faults_after.sink → (status ≡ 0) ⊎ (status ≡ 9)
-  found known image planned told line knows has grants (show.numbers n shows) prints = printed line status taken_before taken_after faults_before.sink faults_after.sink grants.no_sink_fault prints
+  found known image planned told line knows has grants (show.numbers n are shows) prints = printed line status taken_before taken_after faults_before.sink faults_after.sink grants.no_sink_fault prints
   found known image planned told line knows has grants (show.none why none) prints = absurd (no why (none knows))
     where
       no : (why : NoBoot) → ShowsNone image why → ⊥
@@ -65,10 +67,10 @@ module _ (g : Given) (before after : Counts) (status : ℕ) (taken_before taken_
   pub show-completes : (tells : Bool) (old new : Moment) (told : Note) → old.counts ≡ before → new.counts ≡ after → Showed tells g (world-of old taken_before faults_before) (world-of new taken_after faults_after) status told
       → IsTrue tells → NothingDirty old.told → HasMetadata old.told.now → IsGranted g before after faults_before faults_after → (status ≡ 0) ⊎ (status ≡ 9)
   show-completes tells old new told first last (show.starved is quiet same none) knows clean has grants = inr is
-  show-completes tells old new told first last (show.found good planned line finds once power prints) knows clean has grants =
-      found (IsTrue tells × NothingDirty old.told) old.told.now planned told line (knows, clean) has grants
-      (subst (λ (x : Counts). Finds (IsTrue tells × NothingDirty old.told) old.told.now x after planned told line) first
-      (subst (λ (x : Counts). Finds (IsTrue tells × NothingDirty old.told) old.told.now old.counts x planned told line) last finds)) prints
+  show-completes tells old new told first last (show.found good planned line wakes finds once power prints) knows clean has grants =
+      found (IsTrue tells) new.told.now planned told line knows (subst (λ (t : Told). HasMetadata t.now) (sym (wakes-clean old.told new.told clean (wakes knows))) has) grants
+      (subst (λ (x : Counts). Finds (IsTrue tells) new.told.now x after planned told line) first
+      (subst (λ (x : Counts). Finds (IsTrue tells) new.told.now old.counts x planned told line) last finds)) prints
   show-completes tells old new told first last (show.list_refused same refused) knows clean has grants = absurd (granted ask.show g before after faults_before faults_after refused.0 told refused.1 (λ is. cc) (λ is. cc) grants refused.2)
 
 -- a name that is told isn't lacking

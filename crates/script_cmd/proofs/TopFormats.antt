@@ -119,7 +119,7 @@ module _ (passes : List ℕ → Bool) (tells : Bool) (g : Given) (file : List �
       (planned, line, subst (λ (x : model.Note). Refuses (Some (ask.format L.banks L.rows file)) g faults_before faults_after planned x line) (sym is) why, prints))
 
   -- nothing was done for want of memory
-  pub starved-formats : new ≡ old → old.armed ≡ None → journal ≡ [] → said ≡ note.Nothing → status ≡ 9 → taken_after ≡ taken_before → FormattedBy passes (device-of tells blocks) g file L (end-of journal status said) (world-of old taken_before faults_before) (world-of new taken_after faults_after)
+  pub starved-formats : new ≡ old → old.armed ≡ None → journal ≡ [] → said ≡ note.Nothing → status ≡ 9 → (taken_after ≡ taken_before) × (faults_after.sink ≡ faults_before.sink) → FormattedBy passes (device-of tells blocks) g file L (end-of journal status said) (world-of old taken_before faults_before) (world-of new taken_after faults_after)
   starved-formats same unarmed none is nine stuck = by-formats unarmed none (starved nine is same stuck)
 
 pub none-some : {A : Type 0} (x : A) (o : Option A) → o ≡ None → o ≡ Some x → ⊥
@@ -156,7 +156,7 @@ module _ (passes : List ℕ → Bool) (tells : Bool) (told files : Option Direct
 
       go : Formats passes (device-of tells blocks) (record { list = None; files = told; script = script }) file L (world-of old taken_before faults_before) (world-of new taken_after faults_after) status said
           → Formats passes (device-of tells blocks) (record { list = Some name; files = files; script = script }) file L (world-of old taken_before first) (world-of new taken_after faults_after) status said
-      go (starved nine is kept none) = starved nine is kept none
+      go (starved nine is kept none) = starved nine is kept (none.0, none.1 ∙ sym sink)
       go (tried listed r t prints is) =
           tried good r
           (subst (λ (n : ℕ). Tries passes tells files file L blocks old new n faults_after.files r) counted

@@ -1,6 +1,12 @@
 -- Lines that were put into the sink.
-use Rattle.std.proofs.Common.{◌≡◌, ◌≤◌, ℕ, List, Option, sym, subst, ◌∙◌}
-use Rattle.script_cmd.specs.Printed.{Prints, all, front, nothing}
+use Rattle.std.proofs.Common.{◌≡◌, ◌≢◌, ◌≤◌, ℕ, List, Option, sym, subst, ◌∙◌, arith, rules}
+use Rattle.base_core.specs.Counts.{Rose}
+use Rattle.host_io.specs.Calls.{raised}
+use Rattle.script_cmd.specs.Printed.{FailsAtThree, Prints, all, front, nothing}
+
+-- a count that was raised rose
+pub raised-rose : (before after : ℕ) → after ≡ raised before → Rose before after
+raised-rose before after is = search rules
 
 pub at-status : (piece : List ℕ) (planned status told : ℕ) (old new : Option (List ℕ)) (faults_before faults_after : ℕ) → told ≡ status → Prints piece planned status old new faults_before faults_after → Prints piece planned told old new faults_before faults_after
 at-status piece planned status told old new faults_before faults_after e p = subst (λ (n : ℕ). Prints piece planned n old new faults_before faults_after) (sym e) p
@@ -9,9 +15,9 @@ pub at-piece : (piece other : List ℕ) (planned status : ℕ) (old new : Option
 at-piece piece other planned status old new faults_before faults_after e p = subst (λ (l : List ℕ). Prints l planned status old new faults_before faults_after) e p
 
 pub later : (piece : List ℕ) (planned status : ℕ) (old new : Option (List ℕ)) (faults_before faults_after : ℕ) → Prints piece planned status old new faults_before faults_after → faults_before ≤ faults_after
-later piece planned status old new faults_before faults_after (all _ _ rises) = rises
+later piece planned status old new faults_before faults_after (all _ _ same) = omega (arith, same)
 later piece planned status old new faults_before faults_after (front _ _ _ rises _) = rises
-later piece planned status old new faults_before faults_after (nothing _ _ rises) = rises
+later piece planned status old new faults_before faults_after (nothing _ _ same) = omega (arith, same)
 
 ne3 : ◌≡◌ {A = ℕ} 3 0 → ⊥
 ne3 e = cc
@@ -30,3 +36,13 @@ pub done-planned : (piece : List ℕ) (planned status : ℕ) (old new : Option (
 done-planned piece planned status old new faults_before faults_after (all is _ _) e = sym is ∙ e
 done-planned piece planned status old new faults_before faults_after (front is _ _ _ _) e = absurd (ne3 (sym is ∙ e))
 done-planned piece planned status old new faults_before faults_after (nothing is _ _) e = absurd (ne9 (sym is ∙ e))
+
+-- and the sink failed once where it is cut short, and else not at all
+pub counts-line : (piece : List ℕ) (planned status : ℕ) (old new : Option (List ℕ)) (faults_before faults_after : ℕ) → planned ≢ 3 → Prints piece planned status old new faults_before faults_after → FailsAtThree status faults_before faults_after
+counts-line piece planned status old new faults_before faults_after other (all is bytes same) = record { failed = λ three. absurd (other (sym is ∙ three)); quiet = λ some. same }
+counts-line piece planned status old new faults_before faults_after other (front is n bytes later once) = record { failed = λ three. once; quiet = λ some. absurd (some is) }
+counts-line piece planned status old new faults_before faults_after other (nothing is same none) = record { failed = λ three. absurd (omega (arith, is, three)); quiet = λ some. none }
+
+-- nothing was put for want of memory
+pub counts-none : (status faults_before faults_after : ℕ) → status ≡ 9 → faults_after ≡ faults_before → FailsAtThree status faults_before faults_after
+counts-none status faults_before faults_after nine none = record { failed = λ three. absurd (omega (arith, nine, three)); quiet = λ some. none }

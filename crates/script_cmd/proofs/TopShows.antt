@@ -52,7 +52,7 @@ module _ (tells : Bool) (g : Given) (old new : Moment) (status : ℕ) (noted : N
   lists : Showed tells g (world-of old taken_before faults_before) (world-of new taken_after faults_after) status noted → RefusesBadList g old new status faults_before faults_after
   lists (starved nine quiet same none) = starved-list g old new status faults_before faults_after same nine
   lists (list_refused same refused) = refused-list g old new status faults_before faults_after ask.show noted taken_before taken_after same refused
-  lists (found good planned line finds once power prints) = good-list-kept g old new status faults_before faults_after good
+  lists (found good planned line wakes finds once power prints) = good-list-kept g old new status faults_before faults_after good
 
   pub showed-by : Showed tells g (world-of old taken_before faults_before) (world-of new taken_after faults_after) status noted → (IsTrue tells → NothingDirty old.told → new.told ≡ old.told) → (IsTrue tells → new.told.guard ≡ old.told.guard) → journal ≡ []
       → NoneFalls old.counts new.counts → new.counts.made ≡ old.counts.made → new.armed ≡ None → ShowedBy tells g (end-of journal status noted) (world-of old taken_before faults_before) (world-of new taken_after faults_after)
@@ -81,7 +81,7 @@ module _ (tells : Bool) (g : Given) (old new : Moment) (status : ℕ) (noted : N
       idle-shows (list_refused same (planned, line, subst (λ (x : Note). Refuses (Some ask.show) g faults_before faults_after planned x line) (sym is) why, prints)) same unarmed none
 
   -- memory was wanting
-  pub starved-shows : new ≡ old → old.armed ≡ None → journal ≡ [] → status ≡ 9 → noted ≡ note.Nothing → taken_after ≡ taken_before → ShowedBy tells g (end-of journal status noted) (world-of old taken_before faults_before) (world-of new taken_after faults_after)
+  pub starved-shows : new ≡ old → old.armed ≡ None → journal ≡ [] → status ≡ 9 → noted ≡ note.Nothing → (taken_after ≡ taken_before) × (faults_after.sink ≡ faults_before.sink) → ShowedBy tells g (end-of journal status noted) (world-of old taken_before faults_before) (world-of new taken_after faults_after)
   starved-shows same unarmed none nine quiet stuck = idle-shows (starved nine quiet same stuck) same unarmed none
 
 module _ (tells : Bool) (told files : Option Directory) (name : List ℕ) (script : Option (List ℕ)) (old new : Moment) (status : ℕ) (noted : Note) (journal : List Turn) (taken_before taken_after : Option (List ℕ)) (first faults_before faults_after : Faults) where
@@ -97,11 +97,11 @@ module _ (tells : Bool) (told files : Option Directory) (name : List ℕ) (scrip
 
       go : Showed tells (record { list = None; files = told; script = script }) (world-of old taken_before faults_before) (world-of new taken_after faults_after) status noted
           → Showed tells (record { list = Some name; files = files; script = script }) (world-of old taken_before first) (world-of new taken_after faults_after) status noted
-      go (starved nine quiet same none) = starved nine quiet same none
+      go (starved nine quiet same none) = starved nine quiet same (none.0, none.1 ∙ sym sink)
       go (list_refused same refused) = list_refused same (
         refused.0,
         refused.1,
         refuses (Some ask.show) told files name script first faults_before faults_after refused.0 noted refused.1 good later source refused.2,
         at-sink refused.1 refused.0 refused.3,
       )
-      go (found listed planned line finds once power prints) = found good planned line finds once power (at-sink line planned prints)
+      go (found listed planned line wakes finds once power prints) = found good planned line wakes finds once power (at-sink line planned prints)

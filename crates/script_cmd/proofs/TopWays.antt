@@ -23,7 +23,8 @@ use Rattle.script_cmd.proofs.Shapes.{end-of, world-of}
 use Rattle.script_cmd.proofs.PromiseTurns.{by-plan}
 use Rattle.script_turns.specs.Powered.{Moment, at}
 use Rattle.script_cmd.specs.Printed.{Prints}
-use Rattle.script_cmd.specs.Running.{Printed, Ran}
+use Rattle.script_cmd.specs.Running.{Printed}
+use Rattle.script_turns.specs.Runs.{Ran}
 use Rattle.script_cmd.specs.Ways.{AsksTurns, ByList, Given, HasGoodList, HasPasses, IsIdle, IsScriptOf, ReadsList, Refuses, StandsIn, Way, may_lack_list, bad_list, bad_script, list_not_read, not_read, ran, refused, starved, too_long, usage}
 
 false_true : false ≡ true → ⊥
@@ -127,7 +128,7 @@ module _ (passes : List ℕ → Bool) (tells : Bool) (journal : List Turn) (stat
       → first.files ≤ faults_before.files → first.source ≡ faults_before.source → first.sink ≡ faults_before.sink
       → Way passes tells asked (record { list = None; files = told; script = script }) (end-of journal status noted) (world-of old taken_before faults_before) (world-of new taken_after faults_after)
       → Way passes tells asked (record { list = Some name; files = files; script = script }) (end-of journal status noted) (world-of old taken_before first) (world-of new taken_after faults_after)
-  with-list asked told files name script first faults_before faults_after same_files good later source sink (starved none same nine quiet taken_after) = starved none same nine quiet taken_after
+  with-list asked told files name script first faults_before faults_after same_files good later source sink (starved none same nine quiet stuck) = starved none same nine quiet (stuck.0, stuck.1 ∙ sym sink)
   with-list asked told files name script first faults_before faults_after same_files good later source sink (refused planned line none same why prints) =
       refused planned line none same
       (refuses asked told files name script first faults_before faults_after planned noted line good later source why)

@@ -9,11 +9,11 @@ use Rattle.script_cmd.specs.Ending.{Device, Ending, World, in_model}
 use Rattle.script_cmd.specs.Formatting.{FormattedBy}
 use Rattle.script_cmd.specs.Noted.{is_beyond}
 use Rattle.script_cmd.specs.Promises.{given_to}
-use Rattle.script_cmd.specs.Running.{calls_of, sends_none}
+use Rattle.script_turns.specs.Runs.{calls_of, sends_none}
 use Rattle.script_cmd.specs.Showing.{ShowedBy}
 use Rattle.script_cmd.specs.SoakWays.{SoakWay}
 use Rattle.script_cmd.specs.Sourced.{FailsOnce, ReadsInTime}
-use Rattle.script_cmd.specs.Ways.{HasGoodList, Inputs, Later, RunsOrNone, Way, given_all}
+use Rattle.script_cmd.specs.Ways.{ByList, HasGoodList, Inputs, IsIdle, Later, RunsOrNone, Way, given_all}
 use Rattle.script_cmd.specs.WaysByTable.{WayByTable, over_table}
 use Rattle.script_cmd.specs.declared.done.Note.{Note}
 
@@ -50,3 +50,10 @@ pub record Answered {H I : Type 0} (passes : List ℕ → Bool) (device : Device
       → IsFalse (may_fail_before ending.status) → new.faults.files ≡ old.faults.files
   pub note : IsFalse (asks_beyond inputs.asked) → IsFalse (is_beyond ending.noted)
   pub later : Later old.faults new.faults
+
+-- The same by the manifests of a list that was read (`Has` says of which), or nothing was done, and it holds whichever pass.
+abbrev pub AnsweredByList : {H I : Type 0} → (Has : (List ℕ → Bool) → Type 0) → Device → Inputs → Ending Note → World → World
+    → Option (List ℕ) → H → H → I → I → Type 0
+AnsweredByList Has device inputs ending old new rest files_before files_after source_before source_after =
+    ByList Has (IsIdle ending.journal ending.status old.flash new.flash)
+    (λ passes. Answered passes device inputs ending old new rest files_before files_after source_before source_after)

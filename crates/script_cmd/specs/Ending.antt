@@ -1,5 +1,5 @@
 -- How a command ended, and what is compared before and after it.
-use Rattle.std.specs.Prelude.{ℕ, Bool, List, Option}
+use Rattle.std.specs.Prelude.{◌≡◌, ℕ, Bool, List, Option}
 use Rattle.fwu_model.specs.Causes.{Faults}
 use Rattle.fwu_model.specs.Reply.{Turn}
 use Rattle.fwu_model.specs.declared.kinds.Note as model
@@ -17,11 +17,16 @@ pub record Ending (Noted : Type 0) : Type 0 where
 abbrev pub in_model : Ending Note → Ending model.Note
 in_model ending = record { journal = ending.journal; status = ending.status; noted = noted ending.noted }
 
--- What is compared before and after a command: the flash, what the sink took, where it tells that, and what the files, the source and the sink count.
+-- What is compared before and after a command: the flash, what the sink took, where it tells that, and what the files, the source
+-- and the sink count.
 pub record World : Type 0 where
   pub flash : Moment
   pub taken : Option (List ℕ)
   pub faults : Faults
+
+-- nothing was put into the sink
+abbrev pub PutsNone : World → World → Type 0
+PutsNone old new = (new.taken ≡ old.taken) × (new.faults.sink ≡ old.faults.sink)
 
 -- What a device is: whether it tells its contents, and how many blocks it has.
 pub record Device : Type 0 where

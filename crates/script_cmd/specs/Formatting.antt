@@ -31,7 +31,8 @@ use Rattle.flash_format.specs.declared.stops.InputFault.{InputFault}
 use Rattle.flash_format.specs.declared.stops.InputFault.TheVariants as fault
 use Rattle.fwu_words.specs.Order as ask
 use Rattle.script_turns.specs.Powered.{Moment}
-use Rattle.script_cmd.specs.Ending.{Device, Ending, World}
+use Rattle.script_cmd.specs.ByTable.{Wakes}
+use Rattle.script_cmd.specs.Ending.{Device, Ending, PutsNone, World}
 use Rattle.script_cmd.specs.Noted.{is_beyond, noted}
 use Rattle.script_cmd.specs.Printed.{Prints}
 use Rattle.script_cmd.specs.Showing.{HasCause, IsGranted, RefusedList, RefusesBadList, flash_fault_line}
@@ -101,6 +102,8 @@ pub record Tries (passes : List ℕ → Bool) (tells : Bool) (told : Option Dire
   -- what is told after the power came, which is what was told where nothing was dirty
   pub mid : Told
   pub fresh : IsTrue tells → NothingDirty old.told → mid ≡ old.told
+  -- power came, and left this
+  pub woken : IsTrue tells → Wakes old.told mid
   -- what is refused before the flash is touched, exactly
   pub layout : LayoutBy (fitted L blocks) r
   pub answers : (file : List ℕ) → Tells told name file → Answers (refusal L blocks file) r
@@ -158,7 +161,7 @@ pub record Tries (passes : List ℕ → Bool) (tells : Bool) (told : Option Dire
 -- and the line of that was put into the sink.
 pub data Formats (passes : List ℕ → Bool) (device : Device) (g : Given) (name : List ℕ) (L : Layout)
     (old new : World) (status : ℕ) (said : Note) : Type 0 where
-  starved : status ≡ 9 → said ≡ note.Nothing → new.flash ≡ old.flash → new.taken ≡ old.taken
+  starved : status ≡ 9 → said ≡ note.Nothing → new.flash ≡ old.flash → PutsNone old new
       → Formats passes device g name L old new status said
   tried : HasGoodList g.list g.files → (r : Result Formatted FormatStop)
       → Tries passes device.tells g.files name L device.blocks old.flash new.flash old.faults.files new.faults.files r

@@ -15,6 +15,11 @@ pub mod ByTable
 pub mod WaysByTable
 pub mod PromisesByTable
 pub mod Soaking
+pub mod SoakStands
 pub mod SoakWays
 pub mod Soaked
 pub mod Answered
+pub mod Serves
+pub mod Handed
+pub mod Here
+pub mod Done

@@ -1,5 +1,5 @@
 -- What `run` or `boot` promises, whichever way it ends.
-use Rattle.std.specs.Prelude.{◌≡◌, ◌≢◌, ◌+◌, ◌≤◌, ◌⊎◌, ℕ, Bool, List, ◌++◌, Option, Some, IsTrue, IsFalse, ◌||◌, ◌==◌}
+use Rattle.std.specs.Prelude.{◌≡◌, ◌≢◌, ◌+◌, ◌≤◌, ◌⊎◌, ℕ, Bool, List, ◌++◌, Option, Some, None, IsTrue, IsFalse, ◌||◌, ◌==◌}
 use Rattle.std.specs.Prelude.{[], slice_get}
 use Rattle.flash_core.specs.Counts.{Rose, all_stops}
 use Rattle.flash_core.specs.Told.{NothingDirty}
@@ -16,7 +16,7 @@ use Rattle.fwu_model.specs.Calm.{IsAtRest, IsGuarded}
 use Rattle.fwu_model.specs.Contract.{Premises, Asks}
 use Rattle.fwu_model.specs.Headline.{Headline, Outcome}
 use Rattle.fwu_model.specs.Wrote.{Wrote, script_asked}
-use Rattle.fwu_model.specs.Causes.{EndsAs, IsServed, may_fail_before}
+use Rattle.fwu_model.specs.Causes.{EndsAs, IsServed, cuts_in, may_fail_before}
 use Rattle.fwu_model.specs.declared.kinds.Note.{Note}
 use Rattle.fwu_words.specs.Order.{Asked}
 use Rattle.fwu_words.specs.Order as ask
@@ -25,7 +25,7 @@ use Rattle.script_cmd.specs.BootWord.{BootsBy}
 use Rattle.script_cmd.specs.Ending.{Ending, World}
 use Rattle.script_turns.specs.Booted.{BootsFrom}
 use Rattle.script_turns.specs.Powered.{Moment, SameDevice, at}
-use Rattle.script_cmd.specs.Running.{Follows, power_left, stops_of}
+use Rattle.script_turns.specs.Runs.{Follows, RunsFree, power_left, stops_of}
 use Rattle.script_cmd.specs.Ways.{Given, Inputs, Refuses, Way}
 
 -- what the program was given to read, with the script that its words and its source give
@@ -92,12 +92,13 @@ BootWordHolds passes tells asked ending old new =
     → BootsBy passes old.told.now ending.status ending.noted ending.journal
 
 -- What a run does to any device: where no turn ran it is as it was; its power is by the replies; no failure and no loss is counted
--- but those that its turns tell; and the same blocks are guarded.
+-- but those that its turns tell; the same blocks are guarded; and where no turn is a `cut`, no armed loss is reached.
 pub record LeavesDevice (tells : Bool) (journal : List Turn) (old new : Moment) : Type 0 where
   pub untouched : journal ≡ [] → SameDevice old new
   pub power : new.power ≡ power_left old.power journal
   pub once : all_stops new.counts ≤ all_stops old.counts + stops_of journal
   pub guard : IsTrue tells → new.told.guard ≡ old.told.guard
+  pub free : old.armed ≡ None → cuts_in journal ≡ 0 → RunsFree journal old new
 
 -- on any flash with nothing dirty a first turn that is a boot goes by the bytes
 abbrev pub FirstHolds : (List ℕ → Bool) → Bool → List Turn → Moment → Type 0
@@ -184,8 +185,6 @@ WaysAreComplete =
 -- All that `run` or `boot` promises.
 pub record Promised (passes : List ℕ → Bool) (tells : Bool) (inputs : Inputs) (ending : Ending Note)
     (old new : World) : Type 0 where
-  -- For every device, files, source and sink, told or not: which way it ended.
-  pub way : Way passes tells inputs.asked (given_to inputs) ending old new
   -- From a sound flash: the turns are those of the machine, every image that a loss may leave shows a state that they lead to, and
   -- each boot selects a complete and permitted package.
   pub headline : HeadlineHolds passes tells inputs ending old new

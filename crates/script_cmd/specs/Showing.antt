@@ -12,8 +12,9 @@ use Rattle.fwu_model.specs.declared.kinds.NoBoot.{NoBoot}
 use Rattle.fwu_model.specs.declared.kinds.NoBoot.TheVariants as no_boot
 use Rattle.fwu_model.specs.declared.kinds.Note.{Note}
 use Rattle.fwu_model.specs.declared.kinds.Note.TheVariants as note
-use Rattle.early_boot.specs.Numbers.{ShowsNumbers}
-use Rattle.script_cmd.specs.Ending.{Ending, World}
+use Rattle.early_boot.specs.Numbers.{AreNumbers, ShowsNumbers}
+use Rattle.script_cmd.specs.ByTable.{Wakes}
+use Rattle.script_cmd.specs.Ending.{Ending, PutsNone, World}
 use Rattle.script_cmd.specs.Printed.{Prints}
 use Rattle.script_turns.specs.Turning.{NoneFalls}
 use Rattle.script_turns.specs.Powered.{Moment}
@@ -49,7 +50,7 @@ HasCause before after = Rose before.faults after.faults ⊎ Rose before.cuts aft
 -- What `show` found on a flash of which so much is told, with the status, the note and the line of that.
 pub data Finds (known : Type 0) (image : List ℕ) (before after : Counts) : ℕ → Note → List ℕ
     → Type 0 where
-  numbers : (n : Numbers) → (known → ShowsNumbers image n)
+  numbers : (n : Numbers) → AreNumbers n → (known → ShowsNumbers image n)
       → Finds known image before after 0 note.Nothing (shown_line n)
   none : (why : NoBoot) → (known → ShowsNone image why)
       → Finds known image before after 6 (note.Boot why) (not_shown_line why)
@@ -68,14 +69,14 @@ RefusedList asked g status noted old new =
 -- How it ended: nothing was done for want of memory, or since a list of digests was not read or is none; or by what it found, whose
 -- line was put into the sink.
 pub data Showed (tells : Bool) (g : Given) (old new : World) (status : ℕ) (noted : Note) : Type 0 where
-  starved : status ≡ 9 → noted ≡ note.Nothing → new.flash ≡ old.flash → new.taken ≡ old.taken
+  starved : status ≡ 9 → noted ≡ note.Nothing → new.flash ≡ old.flash → PutsNone old new
       → Showed tells g old new status noted
   list_refused : new.flash ≡ old.flash
       → RefusedList ask.show g status noted old new
       → Showed tells g old new status noted
   found : HasGoodList g.list g.files → (planned : ℕ) (line : List ℕ)
-      → Finds (IsTrue tells × NothingDirty old.flash.told) old.flash.told.now old.flash.counts new.flash.counts
-      planned noted line
+      → (IsTrue tells → Wakes old.flash.told new.flash.told)
+      → Finds (IsTrue tells) new.flash.told.now old.flash.counts new.flash.counts planned noted line
       → all_stops new.flash.counts ≤ all_stops old.flash.counts + stops_shown planned
       → new.flash.power ≡ not (planned == 5)
       → Prints line planned status old.taken new.taken old.faults.sink new.faults.sink

@@ -1,5 +1,5 @@
 -- The ways that a soak may end.
-use Rattle.std.specs.Prelude.{◌≡◌, ◌≢◌, ◌≤◌, ℕ, true, List, [], ◌∷◌, ◌++◌, Option, Some, None, Ok, Err, IsTrue, IsFalse}
+use Rattle.std.specs.Prelude.{◌≡◌, ◌≢◌, ℕ, true, List, [], ◌∷◌, ◌++◌, Option, Some, None, Ok, Err, IsTrue, IsFalse}
 use Rattle.std.specs.List.{list_any}
 use Rattle.fwu_formats.specs.Digests.{passes_any}
 use Rattle.fwu_formats.specs.declared.kinds.LayoutFault.TheVariants.{BeyondFlash}
@@ -21,10 +21,10 @@ use Rattle.gen_core.specs.Line.{soak_line, too_small_line}
 use Rattle.gen_core.specs.Setup.{is_too_small, soak_layout}
 use Rattle.script_turns.specs.Powered.{Moment, at}
 use Rattle.script_cmd.specs.Formatting.{Tries, format_note, format_status, format_text}
-use Rattle.script_cmd.specs.Ending.{Device, Ending, World, in_model}
+use Rattle.script_cmd.specs.Ending.{Device, Ending, PutsNone, World, in_model}
 use Rattle.script_cmd.specs.Noted.{is_beyond, noted}
 use Rattle.script_cmd.specs.Printed.{Prints}
-use Rattle.script_cmd.specs.Running.{Ran, calls_of}
+use Rattle.script_turns.specs.Runs.{Ran, calls_of}
 use Rattle.script_cmd.specs.Showing.{RefusedList}
 use Rattle.script_cmd.specs.Soaking.{first_files, soak_files, stop_line}
 use Rattle.script_cmd.specs.Ways.{Given, HasGoodList}
@@ -46,7 +46,7 @@ pub data SoakEnds (rounds : ℕ) (calls : List Call) (ending : Ending model.Note
   lacking : IsPrefixOf (calls_of ending.journal) calls → EndsNone ending.journal → ending.noted ≡ model_note.Nothing
       → ending.status ≡ 9
       → taken_after ≡ taken_before
-      → faults_before ≤ faults_after
+      → faults_after ≡ faults_before
       → SoakEnds rounds calls ending taken_before taken_after faults_before faults_after
   stopped : IsPrefixOf (calls_of ending.journal) calls → (front : List Turn) (t : Turn)
       → ending.journal ≡ front ++ t ∷ [] → EndsNone front
@@ -61,7 +61,7 @@ pub data SoakWay (device : Device) (g : Given) (seed rounds : ℕ) (ending : End
       → RefusedList (ask.soak seed rounds) g ending.status (noted ending.noted) old new
       → SoakWay device g seed rounds ending old new
   starved : ending.journal ≡ [] → new.flash ≡ old.flash → ending.status ≡ 9 → ending.noted ≡ note.Nothing
-      → new.taken ≡ old.taken
+      → PutsNone old new
       → SoakWay device g seed rounds ending old new
   too_small : HasGoodList g.list g.files → IsTrue (is_too_small device.blocks) → ending.journal ≡ []
       → new.flash ≡ old.flash

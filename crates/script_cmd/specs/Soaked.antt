@@ -20,7 +20,7 @@ use Rattle.script_turns.specs.Powered.{Moment}
 use Rattle.script_turns.specs.Turning.{NoneFalls}
 use Rattle.script_cmd.specs.Ending.{Device, Ending, World}
 use Rattle.script_cmd.specs.Promises.{outcome}
-use Rattle.script_cmd.specs.Running.{calls_of}
+use Rattle.script_turns.specs.Runs.{calls_of}
 use Rattle.script_cmd.specs.Showing.{RefusesBadList}
 use Rattle.script_cmd.specs.SoakWays.{SoakWay}
 use Rattle.script_cmd.specs.Soaking.{soak_files}

@@ -20,7 +20,7 @@ use Rattle.gen_core.specs.declared.line.Totals.{Totals}
 use Rattle.gen_core.specs.declared.rounds.Cut.{Cut}
 use Rattle.script_turns.specs.Powered.{Fits, Moment}
 use Rattle.script_turns.specs.Turning.{Turns}
-use Rattle.script_cmd.specs.Running.{Ran, calls_of}
+use Rattle.script_turns.specs.Runs.{Ran, calls_of}
 use Rattle.script_cmd.specs.Showing.{flash_fault_line}
 
 -- ---- the totals, one turn after the other

@@ -14,10 +14,15 @@ use Rattle.fwu_model.specs.declared.kinds.Note.{Note}
 use Rattle.fwu_model.specs.declared.kinds.Note.TheVariants as note
 use Rattle.fwu_words.specs.Order.{Asked}
 use Rattle.fwu_words.specs.Order as ask
-use Rattle.script_turns.specs.Powered.{Moment, at}
-use Rattle.script_cmd.specs.Ending.{Ending, World}
+use Rattle.script_turns.specs.Powered.{Moment, at, moment}
+use Rattle.flash_core.specs.declared.flash.Flash as flash
+use Rattle.host_io.specs.declared.files.Files as files
+use Rattle.host_io.specs.declared.source.Source as source
+use Rattle.host_io.specs.declared.sink.Sink as sink
+use Rattle.script_cmd.specs.Ending.{Device, Ending, PutsNone, World}
 use Rattle.script_cmd.specs.Printed.{Prints}
-use Rattle.script_cmd.specs.Running.{Ran, Ended, Printed}
+use Rattle.script_cmd.specs.Running.{Ended, Printed}
+use Rattle.script_turns.specs.Runs.{Ran}
 
 -- what the program was asked for, and given to read: the list's name, the told files, and what the source tells
 pub record Inputs : Type 0 where
@@ -79,6 +84,33 @@ HasCalls script calls = IfSome script (λ bytes. (is_too_long bytes ≡ false) �
 abbrev pub faults_of : {H I O : Type 0} → (H → ℕ) → (I → ℕ) → (O → ℕ) → H → I → O → Faults
 faults_of files source sink h i o = record { files = files h; source = source i; sink = sink o }
 
+-- what is compared before and after a command
+abbrev pub world : {D H I O : Type 0} → flash.Ghosts D → files.Ghosts H → source.Ghosts I → sink.Ghosts O → D → H → I → O → World
+world d h i o flash files source sink =
+    record {
+      flash = moment d.told d.counts d.arming d.on flash;
+      taken = o.taken sink;
+      faults = faults_of h.faults i.faults o.faults files source sink;
+    }
+
+-- the same of what a command looks at besides the files and the source, with what those count
+abbrev pub moment_world : {D O : Type 0} → flash.Ghosts D → sink.Ghosts O → Faults → D → O → World
+moment_world d o faults flash sink =
+    record {
+      flash = moment d.told d.counts d.arming d.on flash;
+      taken = o.taken sink;
+      faults = record faults { sink = o.faults sink };
+    }
+
+-- what a device is
+abbrev pub device_of : {D : Type 0} → flash.Ghosts D → D → Device
+device_of d flash = record { tells = d.tells; blocks = d.blocks flash }
+
+-- what was asked for, with a list's name or without, and given to read
+abbrev pub inputs_of : {H I : Type 0} → files.Ghosts H → source.Ghosts I → Option Asked → Option (List ℕ) → H → I → Inputs
+inputs_of h i asked list files source =
+    record { asked = asked; list = list; files = h.contents files; source = i.left source }
+
 -- no fault count falls
 pub record Later (faults_before faults_after : Faults) : Type 0 where
   pub files : faults_before.files ≤ faults_after.files
@@ -89,7 +121,7 @@ pub record Later (faults_before faults_after : Faults) : Type 0 where
 pub data Way (passes : List ℕ → Bool) (tells : Bool) (asked : Option Asked) (g : Given)
     (ending : Ending Note) (old new : World) : Type 0 where
   starved : ending.journal ≡ [] → new.flash ≡ old.flash → ending.status ≡ 9 → ending.noted ≡ note.Nothing
-      → new.taken ≡ old.taken
+      → PutsNone old new
       → Way passes tells asked g ending old new
   refused : (planned : ℕ) (line : List ℕ) → ending.journal ≡ [] → new.flash ≡ old.flash
       → Refuses asked g old.faults new.faults planned ending.noted line

@@ -10,11 +10,12 @@ use Rattle.script_cmd.specs.declared.done.Note.{Note}
 use Rattle.script_cmd.specs.declared.done.Note.TheVariants as note
 use Rattle.script_cmd.specs.declared.done.NoTable.{NoTable}
 use Rattle.script_cmd.specs.ByTable.{Looks, Starts, StopsBefore, flash_fault_line, lacked_in, no_table_line, seen_at}
-use Rattle.script_cmd.specs.Ending.{Device, Ending, World, in_model}
+use Rattle.script_cmd.specs.Ending.{Device, Ending, PutsNone, World, in_model}
 use Rattle.script_cmd.specs.Noted.{is_beyond, noted}
 use Rattle.script_turns.specs.Powered.{Moment, at}
 use Rattle.script_cmd.specs.Printed.{Prints}
-use Rattle.script_cmd.specs.Running.{Ended, Printed, Ran}
+use Rattle.script_cmd.specs.Running.{Ended, Printed}
+use Rattle.script_turns.specs.Runs.{Ran}
 use Rattle.script_cmd.specs.Ways.{AsksTurns, Given, HasCalls, HasGoodList, Way}
 
 -- The command that is run on the flash behind the table. None where the words ask for no such command.
@@ -44,7 +45,7 @@ pub data WayByTable (passes : List ℕ → Bool) (device : Device) (asked : Opti
       → WayByTable passes device asked g ending old new
   starved : (calls : List Call) → ReadsScript asked g calls → ending.journal ≡ []
       → Looks device.tells old.flash new.flash
-      → ending.status ≡ 9 → ending.noted ≡ note.Nothing → new.taken ≡ old.taken
+      → ending.status ≡ 9 → ending.noted ≡ note.Nothing → PutsNone old new
       → WayByTable passes device asked g ending old new
   lacked : (calls : List Call) (why : NoTable) → ReadsScript asked g calls → ending.journal ≡ []
       → Looks device.tells old.flash new.flash

@@ -9,14 +9,15 @@ ghost use Rattle.fwu_journal.specs.Shown.{turns};
 ghost use Rattle.fwu_words.specs.Order.{Asked, asked};
 ghost use Rattle.fwu_words.specs.Order as ask;
 ghost use Rattle.script_cmd.specs.Answered.{Answered};
-ghost use Rattle.script_cmd.specs.Asking.{asked_with_list};
-ghost use Rattle.script_turns.specs.Powered.{moment};
-ghost use Rattle.script_cmd.specs.Noted.{is_beyond, noted};
-ghost use Rattle.script_cmd.specs.Running.{calls_of, sends_none};
+ghost use Rattle.script_cmd.specs.Handed.{listed, unlisted};
+ghost use Rattle.script_cmd.specs.Here.{AnswersHere, GoesByTable, GoesWay};
+ghost use Rattle.script_cmd.specs.Done.{ending};
+ghost use Rattle.script_cmd.specs.Noted.{is_beyond};
+ghost use Rattle.script_turns.specs.Runs.{calls_of, sends_none};
 ghost use Rattle.script_cmd.specs.Sourced.{FailsOnce, ReadsInTime};
-ghost use Rattle.script_cmd.specs.WaysByTable.{ReadsScript, WayByTable};
-ghost use Rattle.script_cmd.specs.Ways.{AsksTurns, ByList, Given, HasGoodList, HasPasses, IsIdle};
-ghost use Rattle.script_cmd.specs.Ways.{IsScriptOf, ReadsList, Way, faults_of};
+ghost use Rattle.script_cmd.specs.WaysByTable.{ReadsScript};
+ghost use Rattle.script_cmd.specs.Ways.{AsksTurns, Given, HasGoodList, HasPasses};
+ghost use Rattle.script_cmd.specs.Ways.{IsScriptOf, ReadsList, device_of, inputs_of, world};
 
 use crate::done::{Done, Note};
 use crate::formatting::format_flash;
@@ -51,22 +52,8 @@ fn run_calls<D: Flash, H: Files, O: Sink, V: Verifier>(
     ensures way { (asked : Option Asked) (g : Given) (before after : Faults)
         → ReadsScript asked g script → g.files ≡ H.contents files.old
         → before.files ≤ H.faults files.old
-        → Way (V.passes verifier.now) D.tells asked g
-        (record {
-          journal = turns result.journal;
-          status = result.status;
-          noted = noted result.note;
-        })
-        (record {
-          flash = moment D.told D.counts D.arming D.on flash;
-          taken = O.taken sink.old;
-          faults = record before { sink = O.faults sink.old };
-        })
-        (record {
-          flash = moment D.told D.counts D.arming D.on result.flash;
-          taken = O.taken sink.new;
-          faults = record after { files = H.faults files.new; sink = O.faults sink.new };
-        }) }
+        → GoesWay D.Flash H.Files O.Sink (V.passes verifier.now) asked g before after flash sink.old result
+        files.new sink.new }
     ensures files { IsTrue (sends_none script) → files.new ≡ files.old }
     ensures unsent { IsTrue (sends_none (calls_of (turns result.journal)))
         → files.new ≡ files.old }
@@ -84,7 +71,7 @@ fn run_calls<D: Flash, H: Files, O: Sink, V: Verifier>(
             script,
             files,
             sink,
-            Powered::Off(flash),
+            Powered::off(flash),
             verifier,
         ),
         Err(_) => idle(alloc, 9, Note::Nothing, flash),
@@ -107,22 +94,8 @@ fn run_text<D: Flash, H: Files, O: Sink, V: Verifier>(
     ensures way { (asked : Option Asked) (g : Given) (before after : Faults) → HasGoodList g.list g.files
         → AsksTurns asked → IsScriptOf g.script text.now → g.files ≡ H.contents files.old
         → before.files ≤ H.faults files.old
-        → Way (V.passes verifier.now) D.tells asked g
-        (record {
-          journal = turns result.journal;
-          status = result.status;
-          noted = noted result.note;
-        })
-        (record {
-          flash = moment D.told D.counts D.arming D.on flash;
-          taken = O.taken sink.old;
-          faults = record before { sink = O.faults sink.old };
-        })
-        (record {
-          flash = moment D.told D.counts D.arming D.on result.flash;
-          taken = O.taken sink.new;
-          faults = record after { files = H.faults files.new; sink = O.faults sink.new };
-        }) }
+        → GoesWay D.Flash H.Files O.Sink (V.passes verifier.now) asked g before after flash sink.old result
+        files.new sink.new }
     ensures files { (calls : List Call) → script_of text.now ≡ Ok calls → IsTrue (sends_none calls)
         → files.new ≡ files.old }
     ensures unsent { IsTrue (sends_none (calls_of (turns result.journal)))
@@ -155,22 +128,8 @@ fn run_boot<D: Flash, H: Files, O: Sink, V: Verifier>(
     ensures way { (g : Given) (before after : Faults) → HasGoodList g.list g.files
         → IsScriptOf g.script (codes "boot\n") → g.files ≡ H.contents files.old
         → before.files ≤ H.faults files.old
-        → Way (V.passes verifier.now) D.tells (Some ask.boot) g
-        (record {
-          journal = turns result.journal;
-          status = result.status;
-          noted = noted result.note;
-        })
-        (record {
-          flash = moment D.told D.counts D.arming D.on flash;
-          taken = O.taken sink.old;
-          faults = record before { sink = O.faults sink.old };
-        })
-        (record {
-          flash = moment D.told D.counts D.arming D.on result.flash;
-          taken = O.taken sink.new;
-          faults = record after { files = H.faults files.new; sink = O.faults sink.new };
-        }) }
+        → GoesWay D.Flash H.Files O.Sink (V.passes verifier.now) (Some ask.boot) g before after flash
+        sink.old result files.new sink.new }
     ensures files { files.new ≡ files.old }
     ensures note { IsFalse (is_beyond result.note) }
     ensures later { O.faults sink.old ≤ O.faults sink.new }
@@ -193,28 +152,11 @@ fn run_source<D: Flash, H: Files, I: Source, O: Sink, V: Verifier>(
 ) -> Done<D>
     requires off { IsFalse (D.on flash) }
     requires unarmed { D.arming flash ≡ None }
-    ensures way { (g : Given) (before after : Faults) → HasGoodList g.list g.files
-        → g.files ≡ H.contents files.old → before.files ≤ H.faults files.old
-        → Way (V.passes verifier.now) D.tells (Some ask.run) (record g { script = I.left source.old })
-        (record {
-          journal = turns result.journal;
-          status = result.status;
-          noted = noted result.note;
-        })
-        (record {
-          flash = moment D.told D.counts D.arming D.on flash;
-          taken = O.taken sink.old;
-          faults = record before { source = I.faults source.old; sink = O.faults sink.old };
-        })
-        (record {
-          flash = moment D.told D.counts D.arming D.on result.flash;
-          taken = O.taken sink.new;
-          faults = record after {
-            files = H.faults files.new;
-            source = I.faults source.new;
-            sink = O.faults sink.new;
-          };
-        }) }
+    ensures way { (g : Given) (was are : Faults) → HasGoodList g.list g.files
+        → g.files ≡ H.contents files.old → was.files ≤ H.faults files.old
+        → GoesWay D.Flash H.Files O.Sink (V.passes verifier.now) (Some ask.run)
+        (record g { script = I.left source.old }) (record was { source = I.faults source.old })
+        (record are { source = I.faults source.new }) flash sink.old result files.new sink.new }
     ensures note { IsFalse (is_beyond result.note) }
     ensures later_files { H.faults files.old ≤ H.faults files.new }
     ensures same_files { H.contents files.new ≡ H.contents files.old }
@@ -251,18 +193,8 @@ fn run_calls_by_table<D: Flash, H: Files, O: Sink, V: Verifier>(
     ensures way { (asked : Option Asked) (g : Given) (before after : Faults)
         → ReadsScript asked g script → g.files ≡ H.contents files.old
         → before.files ≤ H.faults files.old
-        → WayByTable (V.passes verifier.now) (record { tells = D.tells; blocks = D.blocks flash }) asked g
-        (record { journal = turns result.journal; status = result.status; noted = result.note })
-        (record {
-          flash = moment D.told D.counts D.arming D.on flash;
-          taken = O.taken sink.old;
-          faults = record before { sink = O.faults sink.old };
-        })
-        (record {
-          flash = moment D.told D.counts D.arming D.on result.flash;
-          taken = O.taken sink.new;
-          faults = record after { files = H.faults files.new; sink = O.faults sink.new };
-        }) }
+        → GoesByTable D.Flash H.Files O.Sink (V.passes verifier.now) asked g before after flash sink.old
+        result files.new sink.new }
     ensures files { IsTrue (sends_none script) → files.new ≡ files.old }
     ensures unsent { IsTrue (sends_none (calls_of (turns result.journal)))
         → files.new ≡ files.old }
@@ -294,18 +226,8 @@ fn run_text_by_table<D: Flash, H: Files, O: Sink, V: Verifier>(
     ensures way { (asked : Option Asked) (g : Given) (before after : Faults) → HasGoodList g.list g.files
         → AsksTurns asked → IsScriptOf g.script text.now → g.files ≡ H.contents files.old
         → before.files ≤ H.faults files.old
-        → WayByTable (V.passes verifier.now) (record { tells = D.tells; blocks = D.blocks flash }) asked g
-        (record { journal = turns result.journal; status = result.status; noted = result.note })
-        (record {
-          flash = moment D.told D.counts D.arming D.on flash;
-          taken = O.taken sink.old;
-          faults = record before { sink = O.faults sink.old };
-        })
-        (record {
-          flash = moment D.told D.counts D.arming D.on result.flash;
-          taken = O.taken sink.new;
-          faults = record after { files = H.faults files.new; sink = O.faults sink.new };
-        }) }
+        → GoesByTable D.Flash H.Files O.Sink (V.passes verifier.now) asked g before after flash sink.old
+        result files.new sink.new }
     ensures files { (calls : List Call) → script_of text.now ≡ Ok calls → IsTrue (sends_none calls)
         → files.new ≡ files.old }
     ensures unsent { IsTrue (sends_none (calls_of (turns result.journal)))
@@ -337,19 +259,8 @@ fn run_boot_by_table<D: Flash, H: Files, O: Sink, V: Verifier>(
     ensures way { (g : Given) (before after : Faults) → HasGoodList g.list g.files
         → IsScriptOf g.script (codes "boot\n") → g.files ≡ H.contents files.old
         → before.files ≤ H.faults files.old
-        → WayByTable (V.passes verifier.now) (record { tells = D.tells; blocks = D.blocks flash })
-        (Some ask.boot) g
-        (record { journal = turns result.journal; status = result.status; noted = result.note })
-        (record {
-          flash = moment D.told D.counts D.arming D.on flash;
-          taken = O.taken sink.old;
-          faults = record before { sink = O.faults sink.old };
-        })
-        (record {
-          flash = moment D.told D.counts D.arming D.on result.flash;
-          taken = O.taken sink.new;
-          faults = record after { files = H.faults files.new; sink = O.faults sink.new };
-        }) }
+        → GoesByTable D.Flash H.Files O.Sink (V.passes verifier.now) (Some ask.boot) g before after flash
+        sink.old result files.new sink.new }
     ensures files { files.new ≡ files.old }
     ensures later { O.faults sink.old ≤ O.faults sink.new }
     ensures size { D.blocks result.flash ≡ D.blocks flash }
@@ -371,25 +282,11 @@ fn run_source_by_table<D: Flash, H: Files, I: Source, O: Sink, V: Verifier>(
 ) -> Done<D>
     requires off { IsFalse (D.on flash) }
     requires unarmed { D.arming flash ≡ None }
-    ensures way { (g : Given) (before after : Faults) → HasGoodList g.list g.files
-        → g.files ≡ H.contents files.old → before.files ≤ H.faults files.old
-        → WayByTable (V.passes verifier.now) (record { tells = D.tells; blocks = D.blocks flash })
-        (Some ask.run) (record g { script = I.left source.old })
-        (record { journal = turns result.journal; status = result.status; noted = result.note })
-        (record {
-          flash = moment D.told D.counts D.arming D.on flash;
-          taken = O.taken sink.old;
-          faults = record before { source = I.faults source.old; sink = O.faults sink.old };
-        })
-        (record {
-          flash = moment D.told D.counts D.arming D.on result.flash;
-          taken = O.taken sink.new;
-          faults = record after {
-            files = H.faults files.new;
-            source = I.faults source.new;
-            sink = O.faults sink.new;
-          };
-        }) }
+    ensures way { (g : Given) (was are : Faults) → HasGoodList g.list g.files
+        → g.files ≡ H.contents files.old → was.files ≤ H.faults files.old
+        → GoesByTable D.Flash H.Files O.Sink (V.passes verifier.now) (Some ask.run)
+        (record g { script = I.left source.old }) (record was { source = I.faults source.old })
+        (record are { source = I.faults source.new }) flash sink.old result files.new sink.new }
     ensures later_files { H.faults files.old ≤ H.faults files.new }
     ensures same_files { H.contents files.new ≡ H.contents files.old }
     ensures unwritten { H.writes files.new ≡ H.writes files.old }
@@ -423,24 +320,12 @@ pub fn answer_with<D: Flash, H: Files, I: Source, O: Sink, V: Verifier>(
 ) -> Done<D>
     requires off { IsFalse (D.on flash) }
     requires unarmed { D.arming flash ≡ None }
-    ensures answers { Answered (V.passes verifier.now) (record { tells = D.tells; blocks = D.blocks flash })
-        (record {
-          asked = asked (map string_bytes words.now);
-          list = None;
-          files = H.contents files.old;
-          source = I.left source.old;
-        })
-        (record { journal = turns result.journal; status = result.status; noted = result.note })
-        (record {
-          flash = moment D.told D.counts D.arming D.on flash;
-          taken = O.taken sink.old;
-          faults = faults_of H.faults I.faults O.faults files.old source.old sink.old;
-        })
-        (record {
-          flash = moment D.told D.counts D.arming D.on result.flash;
-          taken = O.taken sink.new;
-          faults = faults_of H.faults I.faults O.faults files.new source.new sink.new;
-        }) (I.left source.new) files.old files.new source.old source.new }
+    ensures answers { Answered (V.passes verifier.now) (device_of D.Flash flash)
+        (unlisted H.Files I.Source (map string_bytes words.now) files.old source.old)
+        (ending result)
+        (world D.Flash H.Files I.Source O.Sink flash files.old source.old sink.old)
+        (world D.Flash H.Files I.Source O.Sink result.flash files.new source.new sink.new)
+        (I.left source.new) files.old files.new source.old source.new }
     ensures same_files { H.contents files.new ≡ H.contents files.old }
     ensures unwritten { H.writes files.new ≡ H.writes files.old }
     ensures size { D.blocks result.flash ≡ D.blocks flash }
@@ -487,28 +372,9 @@ fn run_listed<D: Flash, H: Files, I: Source, O: Sink>(
 ) -> Done<D>
     requires off { IsFalse (D.on flash) }
     requires unarmed { D.arming flash ≡ None }
-    ensures answers { ByList (ReadsList (Some name.now) (H.contents files.old))
-        (IsIdle (turns result.journal) result.status
-        (moment D.told D.counts D.arming D.on flash)
-        (moment D.told D.counts D.arming D.on result.flash))
-        (λ passes. Answered passes (record { tells = D.tells; blocks = D.blocks flash })
-        (record {
-          asked = asked (map string_bytes rest.now);
-          list = Some name.now;
-          files = H.contents files.old;
-          source = I.left source.old;
-        })
-        (record { journal = turns result.journal; status = result.status; noted = result.note })
-        (record {
-          flash = moment D.told D.counts D.arming D.on flash;
-          taken = O.taken sink.old;
-          faults = faults_of H.faults I.faults O.faults files.old source.old sink.old;
-        })
-        (record {
-          flash = moment D.told D.counts D.arming D.on result.flash;
-          taken = O.taken sink.new;
-          faults = faults_of H.faults I.faults O.faults files.new source.new sink.new;
-        }) (I.left source.new) files.old files.new source.old source.new) }
+    ensures answers { AnswersHere D.Flash H.Files I.Source O.Sink (ReadsList (Some name.now) (H.contents files.old))
+        (inputs_of H.Files I.Source (asked (map string_bytes rest.now)) (Some name.now) files.old source.old)
+        flash files.old source.old sink.old result files.new source.new sink.new }
     ensures same_files { H.contents files.new ≡ H.contents files.old }
     ensures unwritten { H.writes files.new ≡ H.writes files.old }
     ensures size { D.blocks result.flash ≡ D.blocks flash }
@@ -536,30 +402,11 @@ pub fn answer<D: Flash, H: Files, I: Source, O: Sink>(
 ) -> Done<D>
     requires off { IsFalse (D.on flash) }
     requires unarmed { D.arming flash ≡ None }
-    ensures answers { ByList
-        (HasPasses (asks_list (map string_bytes words.now))
-        (list_name (map string_bytes words.now)) (H.contents files.old))
-        (IsIdle (turns result.journal) result.status
-        (moment D.told D.counts D.arming D.on flash)
-        (moment D.told D.counts D.arming D.on result.flash))
-        (λ passes. Answered passes (record { tells = D.tells; blocks = D.blocks flash })
-        (record {
-          asked = asked_with_list (map string_bytes words.now);
-          list = list_name (map string_bytes words.now);
-          files = H.contents files.old;
-          source = I.left source.old;
-        })
-        (record { journal = turns result.journal; status = result.status; noted = result.note })
-        (record {
-          flash = moment D.told D.counts D.arming D.on flash;
-          taken = O.taken sink.old;
-          faults = faults_of H.faults I.faults O.faults files.old source.old sink.old;
-        })
-        (record {
-          flash = moment D.told D.counts D.arming D.on result.flash;
-          taken = O.taken sink.new;
-          faults = faults_of H.faults I.faults O.faults files.new source.new sink.new;
-        }) (I.left source.new) files.old files.new source.old source.new) }
+    ensures answers { AnswersHere D.Flash H.Files I.Source O.Sink
+        (HasPasses (asks_list (map string_bytes words.now)) (list_name (map string_bytes words.now))
+        (H.contents files.old))
+        (listed H.Files I.Source (map string_bytes words.now) files.old source.old)
+        flash files.old source.old sink.old result files.new source.new sink.new }
     ensures same_files { H.contents files.new ≡ H.contents files.old }
     ensures unwritten { H.writes files.new ≡ H.writes files.old }
     ensures size { D.blocks result.flash ≡ D.blocks flash }

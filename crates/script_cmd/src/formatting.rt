@@ -4,6 +4,8 @@ ghost use Rattle.flash_format.specs.Stops.{flash_result};
 ghost use Rattle.fwu_journal.specs.Shown.{turns};
 ghost use Rattle.script_turns.specs.Powered.{moment};
 ghost use Rattle.script_cmd.specs.Formatting.{Formats, Tries, format_note, format_status};
+ghost use Rattle.script_cmd.specs.Here.{without_list, world_at};
+ghost use Rattle.script_cmd.specs.Ways.{device_of};
 
 use crate::done::{Done, Note};
 use crate::format_line::{FORMAT_ROOM, add_format_line};
@@ -84,21 +86,11 @@ pub fn format_flash<D: Flash, H: Files, O: Sink, V: Verifier>(
 ) -> Done<D>
     requires off { IsFalse (D.on flash) }
     requires unarmed { D.arming flash ≡ None }
-    ensures formats { (script : Option (List ℕ)) (source sources : ℕ)
-        → Formats (V.passes verifier.now) (record { tells = D.tells; blocks = D.blocks flash })
-        (record { list = None; files = H.contents files.old; script = script })
-        name.now
-        (record { banks = banks; rows = rows.now })
-        (record {
-          flash = moment D.told D.counts D.arming D.on flash;
-          taken = O.taken sink.old;
-          faults = record { files = H.faults files.old; source = source; sink = O.faults sink.old };
-        })
-        (record {
-          flash = moment D.told D.counts D.arming D.on result.flash;
-          taken = O.taken sink.new;
-          faults = record { files = H.faults files.new; source = sources; sink = O.faults sink.new };
-        }) result.status result.note }
+    ensures formats { (script : Option (List ℕ)) (was are : ℕ)
+        → Formats (V.passes verifier.now) (device_of D.Flash flash)
+        (without_list H.Files script files.old) name.now (record { banks = banks; rows = rows.now })
+        (world_at D.Flash H.Files O.Sink was flash files.old sink.old)
+        (world_at D.Flash H.Files O.Sink are result.flash files.new sink.new) result.status result.note }
     ensures power { result.status ≡ 0 → IsTrue (D.on result.flash) }
     ensures no_turns { turns result.journal ≡ [] }
     ensures same { H.contents files.new ≡ H.contents files.old }

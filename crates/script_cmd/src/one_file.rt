@@ -1,5 +1,5 @@
 //! One file in memory, none of whose calls fails.
-ghost use Rattle.std.specs.Prelude.{◌≡◌, ◌+◌, ◌≤◌, true, refl, [], ◌∷◌, Some, Err, IfOk, OnOk, OnErr, length};
+ghost use Rattle.std.specs.Prelude.{◌≡◌, ◌+◌, ◌≤◌, true, refl, [], ◌∷◌, Some, Err, IfOk, OnOk, OnErr, length, ⊤};
 ghost use Rattle.std.specs.Prelude.{string_bytes, vec_capacity, vec_len};
 ghost use Rattle.host_io.specs.Calls.{failures, write_failures, writes_after};
 ghost use Rattle.host_io.specs.Causes.{HasCause, HasWriteCause};
@@ -27,6 +27,12 @@ impl Files for OneFile {
     ghost faults = { λ _. 0 };
 
     ghost writes = { λ _. record { done = 0; failed = 0 } };
+
+    ghost spares = { λ _ _ _. ⊤ };
+
+    ghost at_rest = { λ _ _. tt };
+
+    ghost joins = { λ _ _ _ _ _ _. tt };
 
     fn size(&mut self, name: &str) -> Result<Option<u64>, Failed> {
         if self.name.as_str() == name {

@@ -11,11 +11,13 @@ ghost use Rattle.gpt_core.specs.Beside.{Beside};
 ghost use Rattle.gpt_core.specs.Mapped.{device, places_of};
 ghost use Rattle.gpt_core.specs.Places.{Fit};
 ghost use Rattle.script_cmd.specs.ByTable.{seen_at};
+ghost use Rattle.script_cmd.specs.Here.{GoesByTable};
 ghost use Rattle.script_cmd.specs.Noted.{is_beyond, noted};
 ghost use Rattle.script_turns.specs.Powered.{at, moment};
-ghost use Rattle.script_cmd.specs.Running.{Ended, Printed, Ran, calls_of, sends_none};
+ghost use Rattle.script_cmd.specs.Running.{Ended, Printed};
+ghost use Rattle.script_turns.specs.Runs.{Ran, calls_of, sends_none};
 ghost use Rattle.script_cmd.specs.Ways.{Given};
-ghost use Rattle.script_cmd.specs.WaysByTable.{ReadsScript, WayByTable};
+ghost use Rattle.script_cmd.specs.WaysByTable.{ReadsScript};
 
 use crate::done::{Done, Note};
 use crate::opening::{Unopened, open};
@@ -94,7 +96,7 @@ fn run_mapped<D: Flash, K: Start, H: Files, O: Sink, V: Verifier>(
     ensures size { D.blocks result.flash ≡ D.blocks flash }
 {
     let mapped = Mapped::<D, K>::new(flash, places);
-    let start = Powered::Fresh(Fresh { flash: mapped });
+    let start = Powered::fresh(Fresh { flash: mapped });
     unmapped(run_script(alloc, room, script, files, sink, start, verifier))
 }
 
@@ -154,18 +156,8 @@ pub fn run_by_table<D: Flash, H: Files, O: Sink, V: Verifier>(
     ensures way { (asked : Option Asked) (g : Given) (before after : Faults)
         → ReadsScript asked g script → g.files ≡ H.contents files.old
         → before.files ≤ H.faults files.old
-        → WayByTable (V.passes verifier.now) (record { tells = D.tells; blocks = D.blocks flash }) asked g
-        (record { journal = turns result.journal; status = result.status; noted = result.note })
-        (record {
-          flash = moment D.told D.counts D.arming D.on flash;
-          taken = O.taken sink.old;
-          faults = record before { sink = O.faults sink.old };
-        })
-        (record {
-          flash = moment D.told D.counts D.arming D.on result.flash;
-          taken = O.taken sink.new;
-          faults = record after { files = H.faults files.new; sink = O.faults sink.new };
-        }) }
+        → GoesByTable D.Flash H.Files O.Sink (V.passes verifier.now) asked g before after flash sink.old
+        result files.new sink.new }
     ensures later { O.faults sink.old ≤ O.faults sink.new }
     ensures later_files { H.faults files.old ≤ H.faults files.new }
     ensures same_files { H.contents files.new ≡ H.contents files.old }

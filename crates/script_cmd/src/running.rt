@@ -11,7 +11,8 @@ ghost use Rattle.fwu_journal.specs.declared.line.TheConstants.{LINE_ROOM};
 ghost use Rattle.script_turns.specs.Powered.{at, device, has_power, moment, moment_of, shown_on};
 ghost use Rattle.script_cmd.specs.Noted.{is_beyond, noted};
 ghost use Rattle.script_cmd.specs.Printed.{Prints};
-ghost use Rattle.script_cmd.specs.Running.{Ended, Printed, Ran, Steps, calls_of, sends_none};
+ghost use Rattle.script_cmd.specs.Running.{Ended, Printed, Steps};
+ghost use Rattle.script_turns.specs.Runs.{Ran, calls_of, sends_none};
 ghost use Rattle.fwu_model.specs.Run.{is_send};
 
 use crate::done::{Done, Note};
@@ -21,7 +22,7 @@ use flash_core::Flash;
 use fwu_journal::{Journal, Reply, Turn, add_line};
 use host_io::{Files, Sink};
 use script_text::{Call, Script};
-use script_turns::{Powered, Turned, turn};
+use script_turns::{Powered, turn};
 use std::alloc::Global;
 use verify_core::Verifier;
 
@@ -38,13 +39,6 @@ struct Running<D: Flash> {
 struct End {
     status: u8,
     note: Note,
-}
-
-/// A run after a turn, and how it ends where it ends by it.
-#[derive(Drop)]
-struct Stepped<D: Flash> {
-    running: Running<D>,
-    end: End,
 }
 
 /// The status after a last turn with this reply.
@@ -89,56 +83,41 @@ fn print_turn<O: Sink>(text: &mut Vec<u8>, next: &Turn, sink: &mut O) -> End
     }
 }
 
-/// Does a call, prints its line, and keeps its turn.
+/// Does a call, prints its line, and keeps its turn. Tells how the run ends, where it ends by it: at the status 0 it goes on.
 fn step<D: Flash, H: Files, O: Sink, V: Verifier>(
     alloc: Global,
-    running: Running<D>,
+    running: &mut Running<D>,
     call: Call,
     files: &mut H,
     sink: &mut O,
     verifier: &V,
-) -> Stepped<D>
-    requires powered { D.on (device running.powered) ≡ has_power running.powered }
+) -> End
+    requires powered { D.on (device running.old.powered) ≡ has_power running.old.powered }
     requires armable { IsArmable (shown call) }
     requires buffer { HasBuffer call }
-    requires turn_fits { HasRoomFor running.journal 1 }
-    requires line_fits { LINE_ROOM ≤ vec_capacity running.text }
+    requires turn_fits { HasRoomFor running.old.journal 1 }
+    requires line_fits { LINE_ROOM ≤ vec_capacity running.old.text }
     ensures steps { Steps (V.passes verifier.now) D.tells (H.contents files.old) (shown call)
-        (turns running.journal) (turns result.running.journal)
-        (moment_of running.powered) (moment_of result.running.powered)
-        (H.faults files.old) (H.faults files.new) result.end.status (noted result.end.note)
+        (turns running.old.journal) (turns running.new.journal)
+        (moment_of running.old.powered) (moment_of running.new.powered)
+        (H.faults files.old) (H.faults files.new) result.status (noted result.note)
         (O.taken sink.old) (O.taken sink.new) (O.faults sink.old) (O.faults sink.new) }
-    ensures note { IsFalse (is_beyond result.end.note) }
+    ensures note { IsFalse (is_beyond result.note) }
     // Where the run goes on.
-    ensures powered { result.end.status ≡ 0
-        → D.on (device result.running.powered) ≡ has_power result.running.powered }
-    ensures turns_fit { (n : ℕ) → HasRoomFor running.journal (n + 1)
-        → HasRoomFor result.running.journal n }
-    ensures line_fits { LINE_ROOM ≤ vec_capacity result.running.text }
-    ensures size { D.blocks (device result.running.powered) ≡ D.blocks (device running.powered) }
+    ensures powered { result.status ≡ 0
+        → D.on (device running.new.powered) ≡ has_power running.new.powered }
+    ensures turns_fit { (n : ℕ) → HasRoomFor running.old.journal (n + 1)
+        → HasRoomFor running.new.journal n }
+    ensures line_fits { LINE_ROOM ≤ vec_capacity running.new.text }
+    ensures size { D.blocks (device running.new.powered) ≡ D.blocks (device running.old.powered) }
     ensures same_files { H.contents files.new ≡ H.contents files.old }
     ensures unwritten { H.writes files.new ≡ H.writes files.old }
     ensures files { IsFalse (is_send (shown call)) → files.new ≡ files.old }
 {
-    let Running {
-        powered,
-        mut journal,
-        mut text,
-    } = running;
-    let Turned {
-        turn: next,
-        powered,
-    } = turn(alloc, powered, call, files, verifier);
-    let end = print_turn(&mut text, &next, sink);
-    journal.add(next);
-    Stepped {
-        running: Running {
-            powered,
-            journal,
-            text,
-        },
-        end,
-    }
+    let next = turn(alloc, &mut running.powered, call, files, verifier);
+    let end = print_turn(&mut running.text, &next, sink);
+    running.journal.add(next);
+    end
 }
 
 /// What is left of a run that ended.
@@ -205,11 +184,7 @@ pub fn run_script<D: Flash, H: Files, O: Sink, V: Verifier>(
     let mut script = script;
     for index in 0..script.len() {
         let call = script.take(index);
-        let Stepped {
-            running: after,
-            end,
-        } = step(alloc, running, call, files, sink, verifier);
-        running = after;
+        let end = step(alloc, &mut running, call, files, sink, verifier);
         if end.status != 0 {
             return done(running, end);
         }

@@ -8,7 +8,8 @@ ghost use Rattle.fwu_journal.specs.Shown.{turns};
 ghost use Rattle.fwu_journal.specs.declared.line.TheConstants.{LINE_ROOM};
 ghost use Rattle.fwu_model.specs.Causes.{Faults};
 ghost use Rattle.script_turns.specs.Powered.{moment};
-ghost use Rattle.script_cmd.specs.Ways.{Given, HasGoodList};
+ghost use Rattle.script_cmd.specs.Ways.{Given, HasGoodList, moment_world};
+ghost use Rattle.script_cmd.specs.ByTable.{Wakes};
 ghost use Rattle.script_cmd.specs.Noted.{is_beyond, noted};
 ghost use Rattle.script_turns.specs.Turning.{NoneFalls};
 ghost use Rattle.script_cmd.specs.Showing.{Finds, Showed, shown_line, not_shown_line, stops_shown};
@@ -55,7 +56,8 @@ fn find<D: Flash>(flash: &mut D, text: &mut Vec<u8>) -> Found
     requires unarmed { D.arming flash.old ≡ None }
     requires room { HasRoom text.old LINE_ROOM }
     requires empty { text.old.items ≡ [] }
-    ensures finds { Finds (IsTrue D.tells × NothingDirty (D.told flash.old)) (D.told flash.old).now
+    ensures woken { IsTrue D.tells → Wakes (D.told flash.old) (D.told flash.new) }
+    ensures finds { Finds (IsTrue D.tells) (D.told flash.new).now
         (D.counts flash.old) (D.counts flash.new) result.status (noted result.note) text.new.items }
     ensures note { IsFalse (is_beyond result.note) }
     ensures content { IsTrue D.tells → NothingDirty (D.told flash.old)
@@ -111,16 +113,8 @@ pub fn show<D: Flash, O: Sink>(alloc: Global, sink: &mut O, flash: D) -> Done<D>
     requires unarmed { D.arming flash ≡ None }
     ensures showed { (g : Given) (before after : Faults) → HasGoodList g.list g.files
         → Showed D.tells g
-        (record {
-          flash = moment D.told D.counts D.arming D.on flash;
-          taken = O.taken sink.old;
-          faults = record before { sink = O.faults sink.old };
-        })
-        (record {
-          flash = moment D.told D.counts D.arming D.on result.flash;
-          taken = O.taken sink.new;
-          faults = record after { sink = O.faults sink.new };
-        }) result.status (noted result.note) }
+        (moment_world D.Flash O.Sink before flash sink.old)
+        (moment_world D.Flash O.Sink after result.flash sink.new) result.status (noted result.note) }
     ensures note { IsFalse (is_beyond result.note) }
     ensures content { IsTrue D.tells → NothingDirty (D.told flash)
         → D.told result.flash ≡ D.told flash }

@@ -13,10 +13,14 @@ ghost use Rattle.gen_core.specs.Rounds.{sizes_of};
 ghost use Rattle.gen_core.specs.Setup.{is_too_small, soak_layout};
 ghost use Rattle.host_io.specs.Contents.{Directory};
 ghost use Rattle.script_turns.specs.Powered.{Moment, device, moment, moment_of};
+ghost use Rattle.script_cmd.specs.Done.{ending};
+ghost use Rattle.script_cmd.specs.Here.{SoaksWay};
+ghost use Rattle.script_cmd.specs.Ending.{in_model};
 ghost use Rattle.script_cmd.specs.Noted.{noted};
 ghost use Rattle.script_cmd.specs.Printed.{Prints};
-ghost use Rattle.script_cmd.specs.SoakWays.{SoakEnds, SoakWay};
-ghost use Rattle.script_cmd.specs.Soaking.{Stands, file_of, first_files};
+ghost use Rattle.script_cmd.specs.SoakWays.{SoakEnds};
+ghost use Rattle.script_cmd.specs.SoakStands.{StandsHere};
+ghost use Rattle.script_cmd.specs.Soaking.{file_of, first_files};
 ghost use Rattle.script_cmd.specs.Ways.{Given, HasGoodList};
 
 use crate::done::{Done, Note};
@@ -93,15 +97,9 @@ fn print_end<O: Sink>(
 /// written.
 fn finish<D: Flash, O: Sink>(alloc: Global, soaked: Soaked<D>, rounds: u32, sink: &mut O) -> Done<D>
     ensures ended { (all : Directory) (calls : List Call) (old : Moment)
-        → Stands D.tells all calls (turns soaked.soaking.journal) old
-        (moment_of soaked.soaking.powered) soaked.stand.status (noted soaked.stand.note)
-        soaked.soaking.text.items
+        → StandsHere all calls old soaked.soaking soaked.stand
         → SoakEnds rounds calls
-        (record {
-          journal = turns result.journal;
-          status = result.status;
-          noted = noted result.note;
-        }) (O.taken sink.old) (O.taken sink.new) (O.faults sink.old) (O.faults sink.new) }
+        (in_model (ending result)) (O.taken sink.old) (O.taken sink.new) (O.faults sink.old) (O.faults sink.new) }
     ensures journal { result.journal ≡ soaked.soaking.journal }
     ensures note { result.note ≡ soaked.stand.note }
     ensures flash { result.flash ≡ device soaked.soaking.powered }
@@ -141,18 +139,7 @@ fn format_and_soak<D: Flash, O: Sink>(
     ensures way { (seed : ℕ) (g : Given) (before after : Faults) → HasGoodList g.list g.files
         → IsFalse (is_too_small (D.blocks flash)) → register ≡ register_after 2 seed
         → file_of (string_bytes first.name) first.bytes.items ≡ first_files seed
-        → SoakWay (record { tells = D.tells; blocks = D.blocks flash }) g seed rounds
-        (record { journal = turns result.journal; status = result.status; noted = result.note })
-        (record {
-          flash = moment D.told D.counts D.arming D.on flash;
-          taken = O.taken sink.old;
-          faults = record before { sink = O.faults sink.old };
-        })
-        (record {
-          flash = moment D.told D.counts D.arming D.on result.flash;
-          taken = O.taken sink.new;
-          faults = record after { sink = O.faults sink.new };
-        }) }
+        → SoaksWay D.Flash O.Sink g seed rounds before after flash sink.old result sink.new }
     ensures later { O.faults sink.old ≤ O.faults sink.new }
     ensures size { D.blocks result.flash ≡ D.blocks flash }
 {
@@ -173,7 +160,7 @@ fn format_and_soak<D: Flash, O: Sink>(
     );
     match ended {
         Ok(_) => {
-            let start = Powered::Fresh(Fresh { flash });
+            let start = Powered::fresh(Fresh { flash });
             let soaked = do_soak(alloc, room, start, &mut first, &mut register, rounds);
             finish(alloc, soaked, rounds, sink)
         }
@@ -206,18 +193,7 @@ pub fn soak<D: Flash, O: Sink>(
     requires off { IsFalse (D.on flash) }
     requires unarmed { D.arming flash ≡ None }
     ensures way { (g : Given) (before after : Faults) → HasGoodList g.list g.files
-        → SoakWay (record { tells = D.tells; blocks = D.blocks flash }) g seed rounds
-        (record { journal = turns result.journal; status = result.status; noted = result.note })
-        (record {
-          flash = moment D.told D.counts D.arming D.on flash;
-          taken = O.taken sink.old;
-          faults = record before { sink = O.faults sink.old };
-        })
-        (record {
-          flash = moment D.told D.counts D.arming D.on result.flash;
-          taken = O.taken sink.new;
-          faults = record after { sink = O.faults sink.new };
-        }) }
+        → SoaksWay D.Flash O.Sink g seed rounds before after flash sink.old result sink.new }
     ensures later { O.faults sink.old ≤ O.faults sink.new }
     ensures size { D.blocks result.flash ≡ D.blocks flash }
 {

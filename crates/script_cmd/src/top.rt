@@ -1,23 +1,9 @@
 //! The program as one call.
-ghost use Rattle.std.specs.Prelude.{◌≡◌, ℕ, Bool, List, [], Some, None, IfSome, map, string_bytes, IsTrue, IsFalse};
-ghost use Rattle.fwu_model.specs.Allow.{asks_list, list_name};
-ghost use Rattle.fwu_formats.specs.Layout.{ImageRow};
-ghost use Rattle.fwu_journal.specs.Shown.{turns};
-ghost use Rattle.fwu_model.specs.Causes.{may_fail_before};
-ghost use Rattle.script_cmd.specs.Running.{calls_of, sends_none};
-ghost use Rattle.fwu_words.specs.Order.{Asked, asked};
-ghost use Rattle.fwu_words.specs.Order as ask;
-ghost use Rattle.script_cmd.specs.Asking.{asked_with_list, asks_beyond, asks_files, asks_package, asks_run, leaves_on};
-ghost use Rattle.script_cmd.specs.Formatting.{FormattedBy};
-ghost use Rattle.script_turns.specs.Powered.{moment};
-ghost use Rattle.script_cmd.specs.Noted.{is_beyond, noted};
-ghost use Rattle.script_cmd.specs.Promises.{Promised};
-ghost use Rattle.script_cmd.specs.PromisesByTable.{PromisedByTable};
-ghost use Rattle.script_cmd.specs.Showing.{ShowedBy};
-ghost use Rattle.script_cmd.specs.Sourced.{FailsOnce, ReadsInTime};
-ghost use Rattle.script_cmd.specs.Soaked.{SoakedBy};
-ghost use Rattle.script_cmd.specs.WaysByTable.{over_table};
-ghost use Rattle.script_cmd.specs.Ways.{ByList, HasGoodList, HasPasses, IsIdle, Later, RunsOrNone, faults_of};
+ghost use Rattle.std.specs.Prelude.{◌≡◌, None, map, string_bytes, IsFalse};
+ghost use Rattle.script_cmd.specs.Done.{ending};
+ghost use Rattle.script_cmd.specs.Handed.{listed, unlisted};
+ghost use Rattle.script_cmd.specs.Serves.{Serves, ServesByList};
+ghost use Rattle.script_cmd.specs.Ways.{device_of, world};
 
 use crate::answering::{answer, answer_with};
 use crate::done::Done;
@@ -47,138 +33,12 @@ pub fn fwu_top_with<D: Flash, H: Files, I: Source, O: Sink, V: Verifier>(
     requires off { IsFalse (D.on flash) }
     requires unarmed { D.arming flash ≡ None }
 
-    // For the commands `run` and `boot`, and for words that ask for nothing.
-    ensures promises { RunsOrNone (asked (map string_bytes words.now))
-        → Promised (V.passes verifier.now) D.tells
-        (record {
-          asked = asked (map string_bytes words.now);
-          list = None;
-          files = H.contents files.old;
-          source = I.left source.old;
-        })
-        (record {
-          journal = turns result.journal;
-          status = result.status;
-          noted = noted result.note;
-        })
-        (record {
-          flash = moment D.told D.counts D.arming D.on flash;
-          taken = O.taken sink.old;
-          faults = faults_of H.faults I.faults O.faults files.old source.old sink.old;
-        })
-        (record {
-          flash = moment D.told D.counts D.arming D.on result.flash;
-          taken = O.taken sink.new;
-          faults = faults_of H.faults I.faults O.faults files.new source.new sink.new;
-        }) }
-    // For `run --gpt` and `boot --gpt`, which are `run` and `boot` on the flash behind the partition table.
-    ensures by_table { (plain : Asked) → over_table (asked (map string_bytes words.now)) ≡ Some plain
-        → PromisedByTable (V.passes verifier.now) (record { tells = D.tells; blocks = D.blocks flash })
-        (record {
-          asked = Some plain;
-          list = None;
-          files = H.contents files.old;
-          source = I.left source.old;
-        })
-        (record { journal = turns result.journal; status = result.status; noted = result.note })
-        (record {
-          flash = moment D.told D.counts D.arming D.on flash;
-          taken = O.taken sink.old;
-          faults = faults_of H.faults I.faults O.faults files.old source.old sink.old;
-        })
-        (record {
-          flash = moment D.told D.counts D.arming D.on result.flash;
-          taken = O.taken sink.new;
-          faults = faults_of H.faults I.faults O.faults files.new source.new sink.new;
-        }) }
-    ensures read_to_end { result.status ≡ 0 → (asked (map string_bytes words.now)) ≡ Some ask.run
-        → IfSome (I.left source.new) (λ rest. rest ≡ []) }
-    ensures read_to_end_by_table { result.status ≡ 0
-        → asked (map string_bytes words.now) ≡ Some ask.run_partitioned
-        → IfSome (I.left source.new) (λ rest. rest ≡ []) }
-    // For the command `show`: what it found and wrote, and that nothing changed and nothing is armed.
-    ensures shows { (asked (map string_bytes words.now)) ≡ Some ask.show
-        → ShowedBy D.tells
-        (record { list = None; files = H.contents files.old; script = I.left source.old })
-        (record {
-          journal = turns result.journal;
-          status = result.status;
-          noted = noted result.note;
-        })
-        (record {
-          flash = moment D.told D.counts D.arming D.on flash;
-          taken = O.taken sink.old;
-          faults = faults_of H.faults I.faults O.faults files.old source.old sink.old;
-        })
-        (record {
-          flash = moment D.told D.counts D.arming D.on result.flash;
-          taken = O.taken sink.new;
-          faults = faults_of H.faults I.faults O.faults files.new source.new sink.new;
-        }) }
-    // For the command `format`: what became of the flash, exactly what is refused, and what was written.
-    ensures formats { (banks : ℕ) (rows : List ImageRow) (file : List ℕ)
-        → asked (map string_bytes words.now) ≡ Some (ask.format banks rows file)
-        → FormattedBy (V.passes verifier.now) (record { tells = D.tells; blocks = D.blocks flash })
-        (record { list = None; files = H.contents files.old; script = I.left source.old })
-        file
-        (record { banks = banks; rows = rows })
-        (record { journal = turns result.journal; status = result.status; noted = result.note })
-        (record {
-          flash = moment D.told D.counts D.arming D.on flash;
-          taken = O.taken sink.old;
-          faults = faults_of H.faults I.faults O.faults files.old source.old sink.old;
-        })
-        (record {
-          flash = moment D.told D.counts D.arming D.on result.flash;
-          taken = O.taken sink.new;
-          faults = faults_of H.faults I.faults O.faults files.new source.new sink.new;
-        }) }
-    // For the command `soak`: its calls are a run of the machine from the flash as it was formatted, and the line is that of
-    // their totals.
-    ensures soaks { (seed rounds : ℕ)
-        → asked (map string_bytes words.now) ≡ Some (ask.soak seed rounds)
-        → SoakedBy (record { tells = D.tells; blocks = D.blocks flash })
-        (record {
-          list = None;
-          files = H.contents files.old;
-          script = I.left source.old;
-        }) seed rounds
-        (record { journal = turns result.journal; status = result.status; noted = result.note })
-        (record {
-          flash = moment D.told D.counts D.arming D.on flash;
-          taken = O.taken sink.old;
-          faults = faults_of H.faults I.faults O.faults files.old source.old sink.old;
-        })
-        (record {
-          flash = moment D.told D.counts D.arming D.on result.flash;
-          taken = O.taken sink.new;
-          faults = faults_of H.faults I.faults O.faults files.new source.new sink.new;
-        }) }
-    // No fault count falls.
-    ensures later { Later (faults_of H.faults I.faults O.faults files.old source.old sink.old)
-        (faults_of H.faults I.faults O.faults files.new source.new sink.new) }
-    // Where `show` or `format` is done the flash is on: no call of it failed behind the last one that was needed.
-    ensures power { IsTrue (leaves_on (asked (map string_bytes words.now))) → result.status ≡ 0
-        → IsTrue (D.on result.flash) }
-    // Only `run` reads the source.
-    ensures source { IsFalse (asks_run (asked (map string_bytes words.now)))
-        → source.new ≡ source.old }
-    // It reads no further than the piece of at most 4096 bytes with which the script is too long,
-    ensures in_time { IsTrue (asks_run (asked (map string_bytes words.now)))
-        → ReadsInTime (I.left source.old) (I.left source.new) }
-    // and no further than the first call that fails, whatever source there is.
-    ensures source_count { IsTrue (asks_run (asked (map string_bytes words.now)))
-        → FailsOnce (turns result.journal) result.status (I.faults source.old)
-        (I.faults source.new) }
-    // Only `run`, `format` and a list read files.
-    ensures files { IsFalse (asks_files (asked (map string_bytes words.now)))
-        → files.new ≡ files.old }
-    // And where no turn is a `send`, only `format` and a list do.
-    ensures unsent { IsFalse (asks_package (asked (map string_bytes words.now)))
-        → IsTrue (sends_none (calls_of (turns result.journal))) → files.new ≡ files.old }
-    // What was given is noted by `format` and `soak` alone, and what a table lacks with `--gpt` alone.
-    ensures note { IsFalse (asks_beyond (asked (map string_bytes words.now)))
-        → IsFalse (is_beyond result.note) }
+    ensures serves { Serves (V.passes verifier.now) (device_of D.Flash flash)
+        (unlisted H.Files I.Source (map string_bytes words.now) files.old source.old)
+        (ending result)
+        (world D.Flash H.Files I.Source O.Sink flash files.old source.old sink.old)
+        (world D.Flash H.Files I.Source O.Sink result.flash files.new source.new sink.new)
+        (I.left source.new) files.old files.new source.old source.new }
     // Files that are told stay as they are, and none is written, whatever files there are.
     ensures same_files { H.contents files.new ≡ H.contents files.old }
     ensures unwritten { H.writes files.new ≡ H.writes files.old }
@@ -201,174 +61,13 @@ pub fn fwu_top<D: Flash, H: Files, I: Source, O: Sink>(
     requires off { IsFalse (D.on flash) }
     requires unarmed { D.arming flash ≡ None }
 
-    // For the commands `run` and `boot`, and for words that ask for nothing.
-    ensures promises { RunsOrNone (asked_with_list (map string_bytes words.now))
-        → ByList
-        (HasPasses (asks_list (map string_bytes words.now))
-        (list_name (map string_bytes words.now)) (H.contents files.old))
-        (IsIdle (turns result.journal) result.status
-        (moment D.told D.counts D.arming D.on flash)
-        (moment D.told D.counts D.arming D.on result.flash))
-        (λ passes. Promised passes D.tells
-        (record {
-          asked = asked_with_list (map string_bytes words.now);
-          list = list_name (map string_bytes words.now);
-          files = H.contents files.old;
-          source = I.left source.old;
-        })
-        (record {
-          journal = turns result.journal;
-          status = result.status;
-          noted = noted result.note;
-        })
-        (record {
-          flash = moment D.told D.counts D.arming D.on flash;
-          taken = O.taken sink.old;
-          faults = faults_of H.faults I.faults O.faults files.old source.old sink.old;
-        })
-        (record {
-          flash = moment D.told D.counts D.arming D.on result.flash;
-          taken = O.taken sink.new;
-          faults = faults_of H.faults I.faults O.faults files.new source.new sink.new;
-        })) }
-    // For `run --gpt` and `boot --gpt`, which are `run` and `boot` on the flash behind the partition table.
-    ensures by_table { (plain : Asked)
-        → over_table (asked_with_list (map string_bytes words.now)) ≡ Some plain
-        → ByList
-        (HasPasses (asks_list (map string_bytes words.now))
-        (list_name (map string_bytes words.now)) (H.contents files.old))
-        (IsIdle (turns result.journal) result.status
-        (moment D.told D.counts D.arming D.on flash)
-        (moment D.told D.counts D.arming D.on result.flash))
-        (λ passes. PromisedByTable passes (record { tells = D.tells; blocks = D.blocks flash })
-        (record {
-          asked = Some plain;
-          list = list_name (map string_bytes words.now);
-          files = H.contents files.old;
-          source = I.left source.old;
-        })
-        (record { journal = turns result.journal; status = result.status; noted = result.note })
-        (record {
-          flash = moment D.told D.counts D.arming D.on flash;
-          taken = O.taken sink.old;
-          faults = faults_of H.faults I.faults O.faults files.old source.old sink.old;
-        })
-        (record {
-          flash = moment D.told D.counts D.arming D.on result.flash;
-          taken = O.taken sink.new;
-          faults = faults_of H.faults I.faults O.faults files.new source.new sink.new;
-        })) }
-    ensures read_to_end { result.status ≡ 0
-        → (asked_with_list (map string_bytes words.now)) ≡ Some ask.run
-        → IfSome (I.left source.new) (λ rest. rest ≡ []) }
-    ensures read_to_end_by_table { result.status ≡ 0
-        → asked_with_list (map string_bytes words.now) ≡ Some ask.run_partitioned
-        → IfSome (I.left source.new) (λ rest. rest ≡ []) }
-    // For the command `show`: what it found and wrote, and that nothing changed and nothing is armed.
-    ensures shows { (asked_with_list (map string_bytes words.now)) ≡ Some ask.show
-        → ShowedBy D.tells
-        (record {
-          list = list_name (map string_bytes words.now);
-          files = H.contents files.old;
-          script = I.left source.old;
-        })
-        (record {
-          journal = turns result.journal;
-          status = result.status;
-          noted = noted result.note;
-        })
-        (record {
-          flash = moment D.told D.counts D.arming D.on flash;
-          taken = O.taken sink.old;
-          faults = faults_of H.faults I.faults O.faults files.old source.old sink.old;
-        })
-        (record {
-          flash = moment D.told D.counts D.arming D.on result.flash;
-          taken = O.taken sink.new;
-          faults = faults_of H.faults I.faults O.faults files.new source.new sink.new;
-        }) }
-    // For the command `format`: what became of the flash, exactly what is refused, and what was written.
-    ensures formats { (banks : ℕ) (rows : List ImageRow) (file : List ℕ)
-        → asked_with_list (map string_bytes words.now) ≡ Some (ask.format banks rows file)
-        → ByList
-        (HasPasses (asks_list (map string_bytes words.now))
-        (list_name (map string_bytes words.now)) (H.contents files.old))
-        (IsIdle (turns result.journal) result.status
-        (moment D.told D.counts D.arming D.on flash)
-        (moment D.told D.counts D.arming D.on result.flash))
-        (λ passes. FormattedBy passes (record { tells = D.tells; blocks = D.blocks flash }) (record {
-          list = list_name (map string_bytes words.now);
-          files = H.contents files.old;
-          script = I.left source.old;
-        }) file
-        (record { banks = banks; rows = rows })
-        (record { journal = turns result.journal; status = result.status; noted = result.note })
-        (record {
-          flash = moment D.told D.counts D.arming D.on flash;
-          taken = O.taken sink.old;
-          faults = faults_of H.faults I.faults O.faults files.old source.old sink.old;
-        })
-        (record {
-          flash = moment D.told D.counts D.arming D.on result.flash;
-          taken = O.taken sink.new;
-          faults = faults_of H.faults I.faults O.faults files.new source.new sink.new;
-        })) }
-    // For the command `soak`: its calls are a run of the machine from the flash as it was formatted, and the line is that of
-    // their totals.
-    ensures soaks { (seed rounds : ℕ)
-        → asked_with_list (map string_bytes words.now) ≡ Some (ask.soak seed rounds)
-        → SoakedBy (record { tells = D.tells; blocks = D.blocks flash })
-        (record {
-          list = list_name (map string_bytes words.now);
-          files = H.contents files.old;
-          script = I.left source.old;
-        }) seed rounds
-        (record { journal = turns result.journal; status = result.status; noted = result.note })
-        (record {
-          flash = moment D.told D.counts D.arming D.on flash;
-          taken = O.taken sink.old;
-          faults = faults_of H.faults I.faults O.faults files.old source.old sink.old;
-        })
-        (record {
-          flash = moment D.told D.counts D.arming D.on result.flash;
-          taken = O.taken sink.new;
-          faults = faults_of H.faults I.faults O.faults files.new source.new sink.new;
-        }) }
-    // No fault count falls.
-    ensures later { Later (faults_of H.faults I.faults O.faults files.old source.old sink.old)
-        (faults_of H.faults I.faults O.faults files.new source.new sink.new) }
-    // Where `show` or `format` is done the flash is on: no call of it failed behind the last one that was needed.
-    ensures power { IsTrue (leaves_on (asked_with_list (map string_bytes words.now))) → result.status ≡ 0
-        → IsTrue (D.on result.flash) }
-    // Only `run` reads the source.
-    ensures source { IsFalse (asks_run (asked_with_list (map string_bytes words.now)))
-        → source.new ≡ source.old }
-    // It reads no further than the piece of at most 4096 bytes with which the script is too long,
-    ensures in_time { IsTrue (asks_run (asked_with_list (map string_bytes words.now)))
-        → ReadsInTime (I.left source.old) (I.left source.new) }
-    // and no further than the first call that fails, whatever source there is.
-    ensures source_count { IsTrue (asks_run (asked_with_list (map string_bytes words.now)))
-        → FailsOnce (turns result.journal) result.status (I.faults source.old)
-        (I.faults source.new) }
-    // Behind a list that told files lack, or that is none, neither does `run`.
-    ensures list_first { (HasGoodList (list_name (map string_bytes words.now)) (H.contents files.old) → ⊥)
-        → source.new ≡ source.old }
-    // Only `run`, `format` and a list read files.
-    ensures files { list_name (map string_bytes words.now) ≡ None
-        → IsFalse (asks_files (asked_with_list (map string_bytes words.now)))
-        → files.new ≡ files.old }
-    // And where no turn is a `send`, only `format` and a list do.
-    ensures unsent { list_name (map string_bytes words.now) ≡ None
-        → IsFalse (asks_package (asked_with_list (map string_bytes words.now)))
-        → IsTrue (sends_none (calls_of (turns result.journal))) → files.new ≡ files.old }
-    // Behind a list that could be read, no other file is asked for then: each call for one may fail, and is counted where it does.
-    ensures list_alone { IsFalse (asks_package (asked_with_list (map string_bytes words.now)))
-        → IsTrue (sends_none (calls_of (turns result.journal)))
-        → IsFalse (may_fail_before result.status)
-        → H.faults files.new ≡ H.faults files.old }
-    // What was given is noted by `format` and `soak` alone, and what a table lacks with `--gpt` alone.
-    ensures note { IsFalse (asks_beyond (asked_with_list (map string_bytes words.now)))
-        → IsFalse (is_beyond result.note) }
+    // By the manifests that the list has; where no list was read nothing was done, and it holds whichever pass.
+    ensures serves { ServesByList (map string_bytes words.now) (device_of D.Flash flash)
+        (listed H.Files I.Source (map string_bytes words.now) files.old source.old)
+        (ending result)
+        (world D.Flash H.Files I.Source O.Sink flash files.old source.old sink.old)
+        (world D.Flash H.Files I.Source O.Sink result.flash files.new source.new sink.new)
+        (I.left source.new) files.old files.new source.old source.new }
     // Files that are told stay as they are, and none is written, whatever files there are.
     ensures same_files { H.contents files.new ≡ H.contents files.old }
     ensures unwritten { H.writes files.new ≡ H.writes files.old }

@@ -43,7 +43,7 @@ fn count(totals: &mut Totals, answer: &Reply)
             totals.counter = *counter;
         }
         Reply::Lost => totals.losses += 1,
-        Reply::Sent { .. } => totals.sends += 1,
+        Reply::Sent { .. } | Reply::SentPartial { .. } => totals.sends += 1,
         _ => {}
     }
 }

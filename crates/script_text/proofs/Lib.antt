@@ -1,3 +1,4 @@
+pub mod Beginning
 pub mod Parts
 pub mod Lines
 pub mod Names
@@ -5,3 +6,4 @@ pub mod Reading
 pub mod Whole
 pub mod Extents
 pub mod Elements
+pub mod Places

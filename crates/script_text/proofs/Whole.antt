@@ -1,5 +1,5 @@
 -- The laws of scripts, line by line.
-use Rattle.std.proofs.Common.{◌≡◌, ℕ, ◌+◌, ◌≤◌, Bool, cond, ◌==◌, nat_le, List, [], ◌∷◌, length, Option, Some, None, Result, Ok, Err, refl, ap, subst, arith, leb-true}
+use Rattle.std.proofs.Common.{◌≡◌, ℕ, ◌+◌, ◌≤◌, Bool, cond, ◌==◌, nat_le, List, [], ◌∷◌, length, Option, Some, None, Result, Ok, Err, refl, ap, subst, arith, leb-true, nat_lt}
 use Rattle.std.specs.Prelude.{codes, decimal, option_map, option_and_then, ◌&&◌}
 use Rattle.std.specs.List.{slice_split, AllByRecursion}
 use Rattle.std.proofs.lemmas.Bool.{cond_both, and_parts, eqb-false}
@@ -9,7 +9,7 @@ use Rattle.base_core.specs.Bytes.{same_bytes}
 use Rattle.fwu_model.specs.Call.{Call}
 use Rattle.fwu_model.specs.Call as call
 use Rattle.fwu_formats.specs.Words.{is_word, digits_value, named, number_of, number_up_to, bytes_of, file_of, request_of, at_least_one}
-use Rattle.fwu_model.specs.Script.{both, open_call, simple_call, call_of_three, call_of_words, line_of, after_line, calls_from, script_lines, script_of}
+use Rattle.fwu_model.specs.Script.{both, open_call, simple_call, call_of_three, call_of_words, line_of, after_line, calls_from, script_lines, script_of, call_of_four, call_of_others, begin_call, names_limit, types_of}
 use Rattle.script_text.specs.Armable.{IsArmable}
 use Rattle.script_text.specs.Law.{CutsAreArmable, CallsHaveLines}
 
@@ -57,12 +57,19 @@ sound_simple w =
     (choice (is_word w (codes "boot")) _ _ tt
     (choice (is_word w (codes "show")) _ _ tt tt))))))
 
-sound_two : (w a : List ℕ) → Sound (call_of_words (w ∷ a ∷ []))
+sound_two : (w a : List ℕ) → Sound (call_of_others (w ∷ a ∷ []))
 sound_two w a = choice (is_word w (codes "accept")) _ _ (accepts (named a)) tt
   where
     accepts : (o : Option (List ℕ)) → Sound (option_map call.Accepts o)
     accepts None = tt
     accepts (Some guid) = tt
+
+sound_begin : (names : List (List ℕ)) → Sound (begin_call names)
+sound_begin names = choice (nat_lt names_limit (length names)) _ _ tt (begins (types_of names))
+  where
+    begins : (o : Option (List (List ℕ))) → Sound (option_map call.BeginPartial o)
+    begins None = tt
+    begins (Some types) = tt
 
 sound_both : {A B : Type 0} (f : A → B → Call) → ((x : A) (y : B) → IsArmable (f x y)) → (o : Option A) (p : Option B) → Sound (both f o p)
 sound_both f each (Some x) (Some y) = each x y
@@ -103,12 +110,21 @@ sound_three w a b =
     (choice (is_word w (codes "send")) _ _ (sound_both call.Send (λ _ _. tt) (file_of a) (request_of b))
     (choice (is_word w (codes "cut")) _ _ (sound_cut (number_of a) (number_of b) (number_fits a)) tt)))))
 
+sound_four : (w a b c : List ℕ) → Sound (call_of_four w a b c)
+sound_four w a b c = choice (is_word w (codes "send") && is_word c (codes "partial")) _ _ (sound_both call.SendPartial (λ _ _. tt) (file_of a) (request_of b)) tt
+
+sound_others : (words : List (List ℕ)) → Sound (call_of_others words)
+sound_others [] = tt
+sound_others (w ∷ []) = sound_simple w
+sound_others (w ∷ a ∷ []) = sound_two w a
+sound_others (w ∷ a ∷ b ∷ []) = sound_three w a b
+sound_others (w ∷ a ∷ b ∷ c ∷ []) = sound_four w a b c
+sound_others (w ∷ a ∷ b ∷ c ∷ d ∷ more) = tt
+
 sound_words : (words : List (List ℕ)) → Sound (call_of_words words)
 sound_words [] = tt
 sound_words (w ∷ []) = sound_simple w
-sound_words (w ∷ a ∷ []) = sound_two w a
-sound_words (w ∷ a ∷ b ∷ []) = sound_three w a b
-sound_words (w ∷ a ∷ b ∷ c ∷ more) = tt
+sound_words (w ∷ a ∷ more) = choice (is_word w (codes "begin")) _ _ (sound_begin (a ∷ more)) (sound_others (w ∷ a ∷ more))
 
 abbrev SoundLine : Option (Option Call) → Type 0
 SoundLine None = Unit {0}

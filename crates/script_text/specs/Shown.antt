@@ -1,5 +1,5 @@
 -- The values of the code as those of the model.
-use Rattle.std.specs.Prelude.{◌≡◌, ◌≤◌, ℕ, ◌==◌, Bool, true, List, [], ◌∷◌, Option, Some, None, Result, Err, length, string_bytes}
+use Rattle.std.specs.Prelude.{◌≡◌, ◌≤◌, ◌<◌, ℕ, ◌==◌, Bool, true, List, [], ◌∷◌, Option, Some, None, Result, Err, length, string_bytes}
 use Rattle.fwu_model.specs.Call as model
 use Rattle.fwu_model.specs.Script.{room_limit}
 use Rattle.fwu_model.specs.declared.kinds.Op.TheVariants as op
@@ -12,7 +12,8 @@ use Rattle.script_text.specs.declared.script.ScriptFault.TheVariants.{BadLine, N
 
 abbrev pub shown : Call → model.Call
 shown variant.Discover = model.Discover
-shown variant.Begin = model.Begin 0
+shown (variant.Begin partial_count) = model.Begin partial_count
+shown (variant.BeginPartial types) = model.BeginPartial types.items
 shown (variant.Open guid op.Read) = model.OpenRead guid
 shown (variant.Open guid op.Write) = model.OpenWrite guid
 shown (variant.Write handle bytes) = model.Write handle bytes.items
@@ -23,13 +24,16 @@ shown variant.Cancel = model.Cancel
 shown (variant.Accept guid) = model.Accepts guid
 shown variant.Previous = model.Previous
 shown (variant.Send name request) = model.Send (string_bytes name) request
+shown (variant.SendPartial name request) = model.SendPartial (string_bytes name) request
 shown variant.Boot = model.Boot
 shown (variant.Cut n k) = model.Cut n k
 shown variant.Show = model.Show
+shown variant.NoCall = model.NoCall
 
--- a read has a buffer of as many bytes as it asks for
+-- a read has a buffer of as many bytes as it asks for, and a partial begin names a type
 abbrev pub HasBuffer : Call → Type 0
 HasBuffer (variant.Read handle room out) = (length out.items ≡ room) × (room ≤ room_limit)
+HasBuffer (variant.BeginPartial types) = 0 < length types.items
 HasBuffer _ = Unit {0}
 
 -- what a line has, or that it is no line of a script

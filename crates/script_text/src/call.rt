@@ -7,8 +7,14 @@ use fwu_model::Op;
 pub enum Call {
     /// `discover`: the agent tells what it offers, and its state.
     Discover,
-    /// `begin`: a staging begins, of no images in particular.
-    Begin,
+    /// `begin`: a staging begins, of all images. A count of some, which no script has, is refused by the agent.
+    Begin {
+        partial_count: u32,
+    },
+    /// `begin TYPE ..`: a staging begins, of the images of these types alone.
+    BeginPartial {
+        types: Vec<Guid>,
+    },
     /// `open TYPE r` or `open TYPE w`: the image of a type is opened, to be read or to be written.
     Open {
         guid: Guid,
@@ -45,6 +51,11 @@ pub enum Call {
         name: String,
         request: u32,
     },
+    /// `send FILE now partial` or `send FILE trial partial`: a file's images are staged over those of the active bank.
+    SendPartial {
+        name: String,
+        request: u32,
+    },
     /// `boot`: power comes back, and the device boots.
     Boot,
     /// `cut N K`: a loss of power is armed at the n-th erase or program from there on, after its first k bytes.
@@ -54,4 +65,6 @@ pub enum Call {
     },
     /// `show`: the state is told.
     Show,
+    /// What a byte stream asks that is no call of the agent. No line of a script has it.
+    NoCall,
 }

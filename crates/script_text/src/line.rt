@@ -1,12 +1,14 @@
 //! The lines of a script, one at a time.
 ghost use Rattle.std.specs.Prelude.{◌≡◌, ◌==◌, ◌∷◌, [], IfOk, IfSome, option_map};
 ghost use Rattle.std.specs.List.{slice_split};
-ghost use Rattle.fwu_model.specs.Script.{call_of_three, call_of_words, line_of, simple_call};
+ghost use Rattle.fwu_model.specs.Script.{call_of_four, call_of_others, call_of_three, call_of_words, line_of, simple_call};
 ghost use Rattle.script_text.specs.Shown.{HasBuffer, LineHasBuffer, is_nothing, line_shown, shown};
 
 use crate::call::Call;
 use crate::split::split;
-use crate::words::{accept_of, commit_of, cut_of, open_of, read_of, send_of, write_of};
+use crate::words::{
+    accept_of, begin_of, commit_of, cut_of, open_of, read_of, send_of, send_partial_of, write_of,
+};
 use base_core::NoMemory;
 use std::alloc::Global;
 use words_core::is_word;
@@ -27,7 +29,7 @@ fn call_of_word(word: &[u8]) -> Option<Call>
     if is_word(word, b"discover") {
         Some(Call::Discover)
     } else if is_word(word, b"begin") {
-        Some(Call::Begin)
+        Some(Call::Begin { partial_count: 0 })
     } else if is_word(word, b"end") {
         Some(Call::End)
     } else if is_word(word, b"cancel") {
@@ -45,7 +47,7 @@ fn call_of_word(word: &[u8]) -> Option<Call>
 
 /// The call of two words.
 fn call_of_two(word: &[u8], name: &[u8]) -> Option<Call>
-    ensures call { option_map shown result ≡ call_of_words (word.now ∷ name.now ∷ []) }
+    ensures call { option_map shown result ≡ call_of_others (word.now ∷ name.now ∷ []) }
     ensures buffer { IfSome result HasBuffer }
 {
     if is_word(word, b"accept") {
@@ -83,17 +85,56 @@ fn call_of_three(
     }
 }
 
+/// The call of four words.
+fn call_of_four(
+    alloc: Global,
+    word: &[u8],
+    first: &[u8],
+    second: &[u8],
+    third: &[u8],
+) -> Result<Option<Call>, NoMemory>
+    ensures call { IfOk result (λ found. option_map shown found
+        ≡ call_of_four word.now first.now second.now third.now) }
+    ensures buffer { IfOk result (λ found. IfSome found HasBuffer) }
+{
+    if is_word(word, b"send") && is_word(third, b"partial") {
+        send_partial_of(alloc, first, second)
+    } else {
+        Ok(None)
+    }
+}
+
+/// The call of two words, and what stands behind them.
+fn call_of_more(
+    alloc: Global,
+    word: &[u8],
+    first: &[u8],
+    others: &[u8],
+) -> Result<Option<Call>, NoMemory>
+    ensures call { IfOk result (λ found. option_map shown found
+        ≡ call_of_others (word.now ∷ first.now ∷ slice_split (λ b. b == 32) others.now)) }
+    ensures buffer { IfOk result (λ found. IfSome found HasBuffer) }
+{
+    match split(others, b' ') {
+        Some((second, third)) => match split(third, b' ') {
+            Some(_) => Ok(None),
+            None => call_of_four(alloc, word, first, second, third),
+        },
+        None => call_of_three(alloc, word, first, others),
+    }
+}
+
 /// The call of a word and those behind it.
 fn call_of_words(alloc: Global, word: &[u8], others: &[u8]) -> Result<Option<Call>, NoMemory>
     ensures call { IfOk result (λ found. option_map shown found
         ≡ call_of_words (word.now ∷ slice_split (λ b. b == 32) others.now)) }
     ensures buffer { IfOk result (λ found. IfSome found HasBuffer) }
 {
+    if is_word(word, b"begin") {
+        return begin_of(alloc, others);
+    }
     match split(others, b' ') {
-        Some((first, second)) => match split(second, b' ') {
-            Some(_) => Ok(None),
-            None => call_of_three(alloc, word, first, second),
-        },
+        Some((first, second)) => call_of_more(alloc, word, first, second),
         None => Ok(call_of_two(word, others)),
     }
 }

@@ -1,13 +1,15 @@
 //! The calls whose words have values.
-ghost use Rattle.std.specs.Prelude.{◌≡◌, IfOk, IfSome, option_map, option_and_then};
+ghost use Rattle.std.specs.Prelude.{◌≡◌, ◌==◌, ◌++◌, [], IfOk, IfSome, is_some, option_map, option_and_then, string_bytes};
+ghost use Rattle.std.specs.List.{cons_option, slice_split};
 ghost use Rattle.base_core.specs.Block.{block_bytes};
 ghost use Rattle.fwu_model.specs.Call as call;
 ghost use Rattle.fwu_formats.specs.Words.{at_least_one, bytes_of, file_of, named, number_of, number_up_to, request_of};
-ghost use Rattle.fwu_model.specs.Script.{both, open_call, room_limit};
+ghost use Rattle.fwu_model.specs.Script.{begin_call, both, open_call, room_limit};
 ghost use Rattle.script_text.specs.Shown.{HasBuffer, shown};
 
 use crate::call::Call;
-use base_core::{BLOCK_BYTES, NoMemory};
+use crate::split::split;
+use base_core::{BLOCK_BYTES, Guid, NoMemory};
 use fwu_model::Op;
 use std::alloc::Global;
 use std::str;
@@ -15,6 +17,9 @@ use words_core::{guid_named, hex_bytes, is_file_name, is_word, number};
 
 /// The most bytes that a read asks for.
 const ROOM_LIMIT: u32 = 4096;
+
+/// The most types that a `begin` names.
+const NAMES_LIMIT: usize = 16;
 
 /// A number that isn't above a limit.
 fn number_up_to(limit: u32, word: &[u8]) -> Option<u32>
@@ -98,25 +103,93 @@ pub fn commit_of(handle: &[u8], request: &[u8]) -> Option<Call>
     Some(Call::Commit { handle, request })
 }
 
+/// The name of a file, where a word is one.
+fn file_named(alloc: Global, name: &[u8]) -> Result<Option<String>, NoMemory>
+    ensures named { IfOk result (λ found. option_map string_bytes found ≡ file_of name.now) }
+{
+    if !is_file_name(name) {
+        return Ok(None);
+    }
+    match str::from_utf8(name) {
+        Ok(text) => {
+            let name = String::from_str(alloc, text)?;
+            Ok(Some(name))
+        }
+        Err(_) => Ok(None),
+    }
+}
+
 /// `send` with the name of a file and `now` or `trial`.
 pub fn send_of(alloc: Global, name: &[u8], request: &[u8]) -> Result<Option<Call>, NoMemory>
     ensures call { IfOk result (λ found. option_map shown found
         ≡ both call.Send (file_of name.now) (request_of request.now)) }
     ensures buffer { IfOk result (λ found. IfSome found HasBuffer) }
 {
-    if !is_file_name(name) {
+    let Some(name) = file_named(alloc, name)? else {
         return Ok(None);
-    }
+    };
     let Some(request) = request_of(request) else {
         return Ok(None);
     };
-    match str::from_utf8(name) {
-        Ok(text) => {
-            let name = String::from_str(alloc, text)?;
-            Ok(Some(Call::Send { name, request }))
+    Ok(Some(Call::Send { name, request }))
+}
+
+/// `send` with the name of a file, `now` or `trial`, and `partial`.
+pub fn send_partial_of(alloc: Global, name: &[u8], request: &[u8]) -> Result<Option<Call>, NoMemory>
+    ensures call { IfOk result (λ found. option_map shown found
+        ≡ both call.SendPartial (file_of name.now) (request_of request.now)) }
+    ensures buffer { IfOk result (λ found. IfSome found HasBuffer) }
+{
+    let Some(name) = file_named(alloc, name)? else {
+        return Ok(None);
+    };
+    let Some(request) = request_of(request) else {
+        return Ok(None);
+    };
+    Ok(Some(Call::SendPartial { name, request }))
+}
+
+/// One type more, where the word is one. Whether it is.
+fn push_type(types: &mut Vec<Guid>, name: &[u8]) -> Result<bool, NoMemory>
+    ensures named { IfOk result (λ is. is ≡ is_some (named name.now)) }
+    ensures pushed { IfOk result (λ is. types.new.items ≡ types.old.items ++ cons_option (named name.now) []) }
+{
+    match guid_named(name) {
+        Some(guid) => {
+            if types.push(guid).is_err() {
+                return Err(NoMemory);
+            }
+            Ok(true)
         }
-        Err(_) => Ok(None),
+        None => Ok(false),
     }
+}
+
+/// `begin` with 1 to 16 types, parted by one space each.
+pub fn begin_of(alloc: Global, names: &[u8]) -> Result<Option<Call>, NoMemory>
+    ensures call { IfOk result (λ found. option_map shown found
+        ≡ begin_call (slice_split (λ b. b == 32) names.now)) }
+    ensures buffer { IfOk result (λ found. IfSome found HasBuffer) }
+{
+    let mut types = Vec::new(alloc);
+    let mut rest = names;
+    for _name in 0..NAMES_LIMIT {
+        match split(rest, b' ') {
+            Some((name, behind)) => {
+                if !push_type(&mut types, name)? {
+                    return Ok(None);
+                }
+                rest = behind;
+            }
+            None => {
+                if !push_type(&mut types, rest)? {
+                    return Ok(None);
+                }
+                return Ok(Some(Call::BeginPartial { types }));
+            }
+        }
+    }
+    Ok(None)
 }
 
 /// `cut` with the number of an erase or a program, from 1, and the number of its bytes that land.

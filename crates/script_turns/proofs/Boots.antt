@@ -32,7 +32,7 @@ use Rattle.early_boot.specs.EndsBy.{BootEnds, EndsByBytes, EndsByMachine, IdleEn
 use Rattle.script_turns.specs.Powered.{Moment, IsAt, IsSafe, kept_at}
 use Rattle.script_turns.specs.Booted.{BootsFrom}
 use Rattle.script_turns.specs.Replies.{LeavesOn, power_after}
-use Rattle.script_turns.specs.Takes.{BootsBy, TakesBy, stop_told}
+use Rattle.script_turns.specs.Takes.{BootsBy, StaysFree, TakesBy, stop_told}
 use Rattle.script_turns.specs.Turning.{NoneFalls, Turns, PowersOn, GetsPower, IsOnAfter, ShowsStarted, boot_turn, reply_of_end}
 
 -- ---- the guard
@@ -266,15 +266,14 @@ reached-had : (tells : Bool) (on : Option Fields) (old mid : Moment) → GetsPow
 reached-had tells None old mid has = has.idles.reached
 reached-had tells (Some f) old mid has = ap (λ (c : Counts). c.reached) has.counts
 
-boots-spent : (e : Ended) (old mid new : Moment) → mid.armed ≡ old.armed → old.counts.cuts ≤ mid.counts.cuts → mid.counts.reached ≡ old.counts.reached
-    → TakesBoot e mid.armed new.armed → StaysUnarmed (stop_of e) mid.armed new.armed mid.counts new.counts → BootsBy (reply_of_end e) old new
-boots-spent e old mid new armed cuts reached spent unarmed = record {
-  end = e;
-  reply_is = refl;
-  spent = subst (λ (a : Option Arming). TakesBoot e a new.armed) armed spent;
-  unarmed = λ none. let free = unarmed (armed ∙ none) in
-      (free.0, subst (λ (x : Result (Unit {0}) FlashStop). ReachesNone x old.counts new.counts) (stop-of-reply e) (reaches-then (stop_of e) old.counts mid.counts new.counts cuts reached free.1));
-}
+boots-spent : (e : Ended) (old mid new : Moment) → mid.armed ≡ old.armed → TakesBoot e mid.armed new.armed → BootsBy (reply_of_end e) old new
+boots-spent e old mid new armed spent = record { end = e; reply_is = refl; spent = subst (λ (a : Option Arming). TakesBoot e a new.armed) armed spent }
+
+boots-free : (e : Ended) (old mid new : Moment) → mid.armed ≡ old.armed → old.counts.cuts ≤ mid.counts.cuts → mid.counts.reached ≡ old.counts.reached
+    → StaysUnarmed (stop_of e) mid.armed new.armed mid.counts new.counts → StaysFree (reply_of_end e) old new
+boots-free e old mid new armed cuts reached unarmed none =
+    let free = unarmed (armed ∙ none) in
+    (free.0, subst (λ (x : Result (Unit {0}) FlashStop). ReachesNone x old.counts new.counts) (stop-of-reply e) (reaches-then (stop_of e) old.counts mid.counts new.counts cuts reached free.1))
 
 -- ---- the flash that boots
 
@@ -383,6 +382,7 @@ module _ (passes : List ℕ → Bool) (tells : Bool) (files : Option Directory) 
         counts = falls-then old.counts mid.counts new.counts waiting e ended.costs;
         made = ended.costs.made ∙ waiting.made;
         armed = tt;
+        free = λ no. boots-free e old mid new (armed-had tells on old mid has) waiting.falls.cuts (reached-had tells on old mid has) ended.unarmed;
         lost = lost-then old.counts mid.counts new.counts waiting e ended.costs;
         failed = failed-then old.counts mid.counts new.counts waiting e ended.costs;
         once = once-then old.counts mid.counts new.counts waiting e ended.costs;
@@ -412,6 +412,9 @@ module _ (passes : List ℕ → Bool) (tells : Bool) (files : Option Directory) 
         power = ended.power_is ∙ power-after-end e old.power;
         guard = λ told. guard told ∙ guard-had tells on old mid told has;
         step = λ told E c passes_are files_are is none. step told E c passes_are (subst (λ (o : Option Fields). IsAt E c o old.told) on_is is) none;
+        keeps = λ told f on no. absurd cc;
+        spares = λ told f on no whole. absurd cc;
+        decides = λ told f on agents. absurd cc;
         safe = λ told safe.
             let rest = rests-had tells on old mid told has power safe in
             subst (λ (b : Bool). IsSafe b new.told) (sym ended.power_is) (safe-after e new.told (same-guards mid.told new.told (guard told) rest.guard) ((ended.ends told).guarded rest));
@@ -420,9 +423,9 @@ module _ (passes : List ℕ → Bool) (tells : Bool) (files : Option Directory) 
       }
     where
       spends : BootsBy (reply_of_end e) old new
-      spends = boots-spent e old mid new (armed-had tells on old mid has) (waits tells on old mid has).falls.cuts (reached-had tells on old mid has) ended.spent ended.unarmed
+      spends = boots-spent e old mid new (armed-had tells on old mid has) ended.spent
 
-      takes : (o : Option Fields) → TakesBy call.Boot o old (reply_of_end e) new
+      takes : (o : Option Fields) → TakesBy files call.Boot o old (reply_of_end e) new
       takes None = spends
       takes (Some f) = spends
 

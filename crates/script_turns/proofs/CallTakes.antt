@@ -1,13 +1,15 @@
 -- What an armed loss counts of a call of the agent, from what the call says.
-use Rattle.std.proofs.Common.{◌≡◌, ℕ, ◌-◌, List, length, Option, Some, Result, Ok, Err, refl, ap}
+use Rattle.std.proofs.Common.{◌≡◌, ℕ, ◌+◌, ◌-◌, List, length, Option, Some, Result, Ok, Err, refl, ap}
 use Rattle.std.specs.Prelude.{OnOk, take}
 use Rattle.flash_core.specs.declared.flash.Flash.{Ghosts}
-use Rattle.flash_core.specs.Counts.{ReachesNone, StaysUnarmed, arming_kept}
+use Rattle.flash_core.specs.Counts.{ReachesNone, arming_kept}
 use Rattle.fwu_model.specs.Reply.{Reply}
 use Rattle.fwu_model.specs.Reply as reply
 use Rattle.slot_writer.specs.Writes.{SpendsArming, writes_to_append, writes_to_finish}
 use Rattle.agent_kept.specs.Kept.{handle_kept, part_at, size_of}
 use Rattle.agent_kept.specs.declared.parts.Handle.TheVariants as handle
+use Rattle.fwu_model.specs.Answer.{are_named}
+use Rattle.agent_calls.specs.Takes.{Takes as TakesWrites, writes_to_begin, writes_to_copy}
 use Rattle.agent_machine.specs.declared.stop.Stop.{Stop}
 use Rattle.agent_machine.specs.declared.stop.Stop.TheVariants as stop
 use Rattle.agent_machine.specs.Fields.{Fields}
@@ -17,7 +19,7 @@ use Rattle.agent_machine.specs.Stored.{TakesStore}
 use Rattle.agent_calls.specs.declared.agent.Agent.{Agent}
 use Rattle.agent_calls.specs.Shown.{device, fields}
 use Rattle.script_turns.specs.Powered.{Moment, SameDevice, at}
-use Rattle.script_turns.specs.Takes.{CommitsBy, ReadsBy, StoresBy, SwitchesBy, WritesBy}
+use Rattle.script_turns.specs.Takes.{BeginsOver, CommitsBy, IsStoredBy, IsSwitchedBy, ReadsBy, WritesBy}
 use Rattle.script_turns.specs.Calls.{on_by, reply_by}
 
 -- the device of an agent, with what is kept
@@ -28,17 +30,23 @@ with {F = F} on a = at on (F.told (device a)) (F.counts (device a)) (F.arming (d
 abbrev pub done_reply : Result (Unit {0}) Stop → Reply
 done_reply result = reply_by (λ value. reply.Success) result
 
--- where no loss was armed
-abbrev Frees : Result (Unit {0}) Stop → Moment → Moment → Type 0
-Frees result old new = StaysUnarmed (flash_result result) old.armed new.armed old.counts new.counts
-
 pub stores-by : (result : Result (Unit {0}) Stop) (f g : Fields) (old new : Moment) → OnOk result (TakesStore f.meta g.meta old.armed new.armed) → (IsRefused result → new.armed ≡ old.armed)
-    → Frees result old new → StoresBy (done_reply result) f (on_by result g) old new
-stores-by (Ok value) f g old new spent refused free = record { spent = spent; unarmed = free }
-stores-by (Err (stop.Status st)) f g old new spent refused free = record { spent = refused tt; unarmed = free }
-stores-by (Err stop.Lost) f g old new spent refused free = record { spent = tt; unarmed = free }
-stores-by (Err stop.Fault) f g old new spent refused free = record { spent = tt; unarmed = free }
-stores-by (Err stop.Gone) f g old new spent refused free = record { spent = tt; unarmed = free }
+    → IsStoredBy (done_reply result) f (on_by result g) old new
+stores-by (Ok value) f g old new spent refused = spent
+stores-by (Err (stop.Status st)) f g old new spent refused = refused tt
+stores-by (Err stop.Lost) f g old new spent refused = tt
+stores-by (Err stop.Fault) f g old new spent refused = tt
+stores-by (Err stop.Gone) f g old new spent refused = tt
+
+-- a partial begin, by what it wrote
+pub begins-by : (result : Result (Unit {0}) Stop) (types : List (List ℕ)) (f : Fields) (old new : Moment)
+    → OnOk result (TakesWrites (writes_to_begin f + writes_to_copy (are_named f.layout.rows types) f.lengths (length f.layout.rows)) old.armed new.armed)
+    → (IsRefused result → new.armed ≡ old.armed) → BeginsOver (done_reply result) types f old new
+begins-by (Ok value) types f old new spent refused = spent
+begins-by (Err (stop.Status st)) types f old new spent refused = refused tt
+begins-by (Err stop.Lost) types f old new spent refused = tt
+begins-by (Err stop.Fault) types f old new spent refused = tt
+begins-by (Err stop.Gone) types f old new spent refused = tt
 
 -- what was written by the image of a handle
 abbrev Appends : Result (Unit {0}) Stop → Fields → ℕ → List ℕ → Moment → Moment → Type 0
@@ -65,13 +73,13 @@ commits-by (Err stop.Lost) f number old new spent still = record { spent = spent
 commits-by (Err stop.Fault) f number old new spent still = record { spent = spent; still = still }
 commits-by (Err stop.Gone) f number old new spent still = record { spent = spent; still = still }
 
-pub switches-by : (result : Result (Unit {0}) Stop) (old new : Moment) → OnOk result (TakesSwitch old.armed new.armed) → (IsRefused result → SameDevice old new) → Frees result old new
-    → SwitchesBy (done_reply result) old new
-switches-by (Ok value) old new spent refused free = record { spent = spent; unarmed = free }
-switches-by (Err (stop.Status st)) old new spent refused free = record { spent = refused tt; unarmed = free }
-switches-by (Err stop.Lost) old new spent refused free = record { spent = tt; unarmed = free }
-switches-by (Err stop.Fault) old new spent refused free = record { spent = tt; unarmed = free }
-switches-by (Err stop.Gone) old new spent refused free = record { spent = tt; unarmed = free }
+pub switches-by : (result : Result (Unit {0}) Stop) (old new : Moment) → OnOk result (TakesSwitch old.armed new.armed) → (IsRefused result → SameDevice old new)
+    → IsSwitchedBy (done_reply result) old new
+switches-by (Ok value) old new spent refused = spent
+switches-by (Err (stop.Status st)) old new spent refused = refused tt
+switches-by (Err stop.Lost) old new spent refused = tt
+switches-by (Err stop.Fault) old new spent refused = tt
+switches-by (Err stop.Gone) old new spent refused = tt
 
 -- what a read tells: the total, and the bytes at the front of its buffer
 abbrev pub got : List ℕ → ℕ × ℕ → Reply
@@ -93,9 +101,13 @@ module _ {D : Type 0} {F : Ghosts D} (a b : Agent D F) where
 
   module _ (result : Result (Unit {0}) Stop) where
     pub takes-store : OnOk result (TakesStore (fields a).meta (fields b).meta (F.arming (device a)) (F.arming (device b))) → (IsRefused result → b ≡ a)
-        → StaysUnarmed (flash_result result) (F.arming (device a)) (F.arming (device b)) (F.counts (device a)) (F.counts (device b))
-        → StoresBy (done_reply result) (fields a) (on_by result (fields b)) (with (Some (fields a)) a) (with (on_by result (fields b)) b)
-    takes-store spent refused free = stores-by result (fields a) (fields b) _ _ spent (λ h. ap (λ (x : Agent D F). F.arming (device x)) (refused h)) free
+        → IsStoredBy (done_reply result) (fields a) (on_by result (fields b)) (with (Some (fields a)) a) (with (on_by result (fields b)) b)
+    takes-store spent refused = stores-by result (fields a) (fields b) _ _ spent (λ h. ap (λ (x : Agent D F). F.arming (device x)) (refused h))
+
+    pub takes-begin : (types : List (List ℕ)) → let f = fields a in
+        OnOk result (TakesWrites (writes_to_begin f + writes_to_copy (are_named f.layout.rows types) f.lengths (length f.layout.rows)) (F.arming (device a)) (F.arming (device b)))
+        → (IsRefused result → b ≡ a) → BeginsOver (done_reply result) types (fields a) (with (Some (fields a)) a) (with (on_by result (fields b)) b)
+    takes-begin types spent refused = begins-by result types (fields a) _ _ spent (λ h. ap (λ (x : Agent D F). F.arming (device x)) (refused h))
 
     pub takes-write : (number : ℕ) (bytes : List ℕ) → (result ≡ Err stop.Gone → ⊥)
         → (IsDone result → (image : ℕ) → handle_kept (fields a).session (number - 1) ≡ handle.Writes image
@@ -112,6 +124,5 @@ module _ {D : Type 0} {F : Ghosts D} (a b : Agent D F) where
     takes-commit number spent still = commits-by result (fields a) number _ _ spent (λ none. same-device _ _ (still none))
 
     pub takes-switch : OnOk result (TakesSwitch (F.arming (device a)) (F.arming (device b))) → (IsRefused result → b ≡ a)
-        → StaysUnarmed (flash_result result) (F.arming (device a)) (F.arming (device b)) (F.counts (device a)) (F.counts (device b))
-        → SwitchesBy (done_reply result) (with (Some (fields a)) a) (with (on_by result (fields b)) b)
-    takes-switch spent refused free = switches-by result _ _ spent (λ h. same-device _ _ (ap device (refused h))) free
+        → IsSwitchedBy (done_reply result) (with (Some (fields a)) a) (with (on_by result (fields b)) b)
+    takes-switch spent refused = switches-by result _ _ spent (λ h. same-device _ _ (ap device (refused h)))

@@ -1,9 +1,9 @@
 -- The turn of a call of the agent, on its device: what each call says, and what its turn left.
-use Rattle.std.proofs.Common.{◌≡◌, ℕ, ◌≤◌, Bool, List, [], length, Option, Some, Result, Ok, Err, refl, sym, ap, subst, ◌∙◌, IsTrue, IsFalse}
+use Rattle.std.proofs.Common.{◌≡◌, ◌⊎◌, inl, inr, ℕ, ◌≤◌, Bool, true, false, List, [], length, Option, Some, Result, Ok, Err, refl, sym, ap, subst, ◌∙◌, IsTrue, IsFalse}
 use Rattle.std.specs.Prelude.{is_ok, IfOk, OnOk}
 use Rattle.std.proofs.lemmas.List.{length-take-le}
 use Rattle.flash_core.specs.declared.flash.Flash.{Ghosts}
-use Rattle.flash_core.specs.Counts.{Spends}
+use Rattle.flash_core.specs.Counts.{Spends, StaysUnarmed}
 use Rattle.host_io.specs.Contents.{Directory}
 use Rattle.fwu_model.specs.declared.kinds.Op.{Op}
 use Rattle.fwu_model.specs.declared.kinds.Op.TheVariants as op
@@ -21,21 +21,24 @@ use Rattle.agent_machine.specs.declared.stop.Stop.{Stop}
 use Rattle.agent_machine.specs.declared.stop.Stop.TheVariants as stop
 use Rattle.agent_machine.specs.Fields.{Fields}
 use Rattle.agent_machine.specs.Moment as agent
-use Rattle.agent_machine.specs.Meets.{Answers, GoesBack, GoesBy, IsGot, Meets, MeetsPrevious, flash_result}
+use Rattle.agent_machine.specs.Meets.{Answers, GoesBack, GoesBy, IsDone, IsGot, IsRefused, IsStopped, Meets, MeetsPrevious, flash_result}
+use Rattle.fwu_formats.specs.Metadata.{MetaRead}
+use Rattle.script_turns.specs.Deciding.{IsMetaAfter}
 use Rattle.agent_calls.specs.declared.agent.Agent.{Agent}
+use Rattle.agent_calls.specs.AnswersCall.{IsPrevious, IsReplyOf}
+use Rattle.agent_calls.specs.Copies.{BeginsPartly}
 use Rattle.agent_calls.specs.GoneBack.{SomePassed}
-use Rattle.agent_calls.specs.Shown.{fields, gone, moment}
-use Rattle.agent_calls.specs.Shown.{device as agent_device}
-use Rattle.script_turns.specs.declared.powered.Powered.{Powered}
+use Rattle.fwu_model.specs.Answer.{are_named}
+use Rattle.agent_calls.specs.Shown.{device, fields, gone, moment}
 use Rattle.script_text.specs.Shown.{shown}
 use Rattle.script_text.specs.declared.call.Call.TheVariants as variant
-use Rattle.script_turns.specs.Powered.{Moment, SameDevice, at, device, has_power, moment_of, shown_on}
-use Rattle.script_turns.specs.Replies.{IsPrevious, IsReplyOf}
+use Rattle.script_turns.specs.Powered.{Moment, SameDevice}
+use Rattle.script_turns.specs.Stage.{on_where}
 use Rattle.script_turns.specs.Takes.{TakesOn}
-use Rattle.script_turns.specs.Calls.{is_agents, is_there, on_by, open_call, reply_by}
+use Rattle.script_turns.specs.Calls.{is_there, moment_where, on_by, open_call, reply_by}
 use Rattle.script_turns.specs.Turning.{Turns, quiet_turn}
-use Rattle.script_turns.proofs.CallTakes.{got, with}
-use Rattle.script_turns.proofs.CallTurns.{Called, GoesBackAs, call-turns}
+use Rattle.script_turns.proofs.CallTakes.{done_reply, got, with}
+use Rattle.script_turns.proofs.CallTurns.{Called, GoesBackAs, begin-turns, call-turns, is_single}
 
 -- ---- an agent that isn't gone
 
@@ -53,11 +56,11 @@ answers-as Says Tells (Err stop.Fault) E s x c new says answers = tt
 answers-as Says Tells (Err stop.Gone) E s x c new says answers = tt
 
 pub called : {T : Type 0} (Says : T → Reply → Type 0) (says : T → Reply) (result : Result T Stop) (passes : List ℕ → Bool) (c : Call) (old new : agent.Moment)
-    → IsTrue (is_agents c) → (IsPrevious c → ⊥) → ((value : T) → IsFalse (is_stop (says value))) → (result ≡ Err stop.Gone → ⊥)
+    → IsTrue (is_single c) → (IsPrevious c → ⊥) → ((value : T) → IsFalse (is_stop (says value))) → (result ≡ Err stop.Gone → ⊥)
     → ((value : T) → result ≡ Ok value → (q : Reply) → Says value q → IsReplyOf old.tells c q (says value))
     → Meets Says result passes c old new → Called says result passes c old new
 called Says says result passes c old new agents other never here same meets = record {
-  agents = agents;
+  single = agents;
   never = never;
   here = here;
   exact = λ E s x setting shows d. answers-as Says (λ value q. IsReplyOf old.tells c q (says value)) result E s x c new same (meets.exact E s x setting shows);
@@ -77,7 +80,7 @@ pub called-previous : (result : Result (Unit {0}) Stop) (passes : List ℕ → B
     → MeetsPrevious result passes old new → OnOk result (SomePassed passes old.fields.layout.rows old.fields.counter)
     → Called (λ value. reply.Success) result passes call.Previous old new
 called-previous result passes old new here meets passed = record {
-  agents = refl;
+  single = refl;
   never = λ value. refl;
   here = here;
   exact = λ E s x setting shows d. meets.exact E s x setting shows d;
@@ -101,7 +104,7 @@ called-read tells result passes handle room out old new told here fits meets =
     (λ value is q says. subst (λ (b : Bool). IsReplyOf b (call.Read handle room) q (got out value)) (sym told) (got-of tells handle room out value q (fits-at result out value fits is) says)) meets
 
 -- what tells nothing but that it was done
-pub called-done : (result : Result (Unit {0}) Stop) (passes : List ℕ → Bool) (c : Call) (old new : agent.Moment) → IsTrue (is_agents c) → (IsPrevious c → ⊥)
+pub called-done : (result : Result (Unit {0}) Stop) (passes : List ℕ → Bool) (c : Call) (old new : agent.Moment) → IsTrue (is_single c) → (IsPrevious c → ⊥)
     → ((q : Reply) → q ≡ reply.Success → IsReplyOf old.tells c q reply.Success) → (result ≡ Err stop.Gone → ⊥)
     → Meets (λ value q. q ≡ reply.Success) result passes c old new → Called (λ value. reply.Success) result passes c old new
 called-done result passes c old new agents other same here meets =
@@ -115,13 +118,31 @@ called-open result passes guid op.Read old new here meets =
 called-open result passes guid op.Write old new here meets =
     called (λ handle q. q ≡ reply.Opened handle) (λ handle. reply.Opened handle) result passes (call.OpenWrite guid) old new refl (λ previous. previous) (λ handle. refl) here (λ handle is q says. says) meets
 
-pub takes-open : (guid : List ℕ) (o : Op) (f : Fields) (old : Moment) (r : Reply) (new : Moment) → SameDevice old new → TakesOn (open_call guid o) f old r new
-takes-open guid op.Read f old r new same = same
-takes-open guid op.Write f old r new same = same
+pub takes-open : (files : Option Directory) (guid : List ℕ) (o : Op) (f : Fields) (old : Moment) (r : Reply) (new : Moment) → SameDevice old new → TakesOn files (open_call guid o) f old r new
+takes-open files guid op.Read f old r new same = same
+takes-open files guid op.Write f old r new same = same
+
+pub meta-open : (guid : List ℕ) (o : Op) (f : Fields) (m : MetaRead) → m ≡ f.meta → IsMetaAfter (open_call guid o) f m
+meta-open guid op.Read f m same = same
+meta-open guid op.Write f m same = same
 
 pub shown-open : (guid : List ℕ) (o : Op) → shown (variant.Open guid o) ≡ open_call guid o
 shown-open guid op.Read = refl
 shown-open guid op.Write = refl
+
+-- ---- the metadata
+
+-- where a call that is refused leaves it as it was
+pub meta-by : {T : Type 0} (result : Result T Stop) (old new : MetaRead) (Next : Type 0) → (result ≡ Err stop.Gone → ⊥) → (IsDone result → Next) → (IsRefused result → new ≡ old) → (new ≡ old) ⊎ Next
+meta-by (Ok value) old new Next here done refused = inr (done tt)
+meta-by (Err (stop.Status st)) old new Next here done refused = inl (refused tt)
+meta-by (Err stop.Lost) old new Next here done refused = inr (done tt)
+meta-by (Err stop.Fault) old new Next here done refused = inr (done tt)
+meta-by (Err stop.Gone) old new Next here done refused = absurd (here refl)
+
+pub meta-either : {A B : Type 0} → A ⊎ (A ⊎ B) → A ⊎ B
+meta-either (inl same) = inl same
+meta-either (inr either) = either
 
 -- ---- what its turn left
 
@@ -132,23 +153,67 @@ on-where-there (Err stop.Lost) here = refl
 on-where-there (Err stop.Fault) here = refl
 on-where-there (Err stop.Gone) here = absurd (here refl)
 
--- An agent that isn't gone, after its call, and the flash that the turn left.
-module _ {D : Type 0} {F : Ghosts D} (a b : Agent D F) (p : Powered D F) (live : IsFalse (gone a)) (left : device p ≡ agent_device b) where
+kept-where-there : {T : Type 0} (result : Result T Stop) (f : Fields) → on_where (is_there result) f ≡ on_by result f
+kept-where-there (Ok value) f = refl
+kept-where-there (Err (stop.Status st)) f = refl
+kept-where-there (Err stop.Lost) f = refl
+kept-where-there (Err stop.Fault) f = refl
+kept-where-there (Err stop.Gone) f = refl
+
+-- a stop ends the agent
+ends : {T : Type 0} (result : Result T Stop) → IsStopped result → IsTrue (is_there result) → ⊥
+ends (Ok value) stopped there = absurd stopped
+ends (Err (stop.Status st)) stopped there = absurd stopped
+ends (Err stop.Lost) stopped there = absurd cc
+ends (Err stop.Fault) stopped there = absurd cc
+ends (Err stop.Gone) stopped there = absurd cc
+
+not-gone : {T : Type 0} (result : Result T Stop) (was now : Bool) → GoesBy result was now → IsFalse was → IsTrue (is_there result) → IsFalse now
+not-gone result was false goes live there = refl
+not-gone result was true goes live there = either (goes.later.0 refl)
+  where
+    either : IsTrue was ⊎ IsStopped result → IsFalse true
+    either (inl gone) = absurd cc
+    either (inr stopped) = absurd (ends result stopped there)
+
+-- An agent that isn't gone, after its call, and whether its turn left it there.
+module _ {D : Type 0} {F : Ghosts D} (a b : Agent D F) (here : Bool) (live : IsFalse (gone a)) where
   pub turns-by : {T : Type 0} (says : T → Reply) (result : Result T Stop) (passes : List ℕ → Bool) (files : Option Directory) (faults : ℕ) (c : Call) (t : Turn)
-      → t ≡ quiet_turn c (reply_by says result) → shown_on p ≡ on_by result (fields b)
-      → F.on (agent_device b) ≡ is_ok (flash_result result) → Spends (flash_result result) (F.counts (agent_device a)) (F.counts (agent_device b))
-      → Called says result passes c (moment a) (moment b) → TakesOn c (fields a) (with (Some (fields a)) a) (reply_by says result) (with (on_by result (fields b)) b)
-      → Turns passes F.tells files c t (with (Some (fields a)) a) (moment_of p) faults faults
-  turns-by says result passes files faults c t turn_is on_is power costs says_it takes =
-      let d = agent_device a in
-      let e = agent_device b in
+      → t ≡ quiet_turn c (reply_by says result) → here ≡ is_there result
+      → F.on (device b) ≡ is_ok (flash_result result) → Spends (flash_result result) (F.counts (device a)) (F.counts (device b))
+      → StaysUnarmed (flash_result result) (F.arming (device a)) (F.arming (device b)) (F.counts (device a)) (F.counts (device b))
+      → IsMetaAfter c (fields a) (fields b).meta
+      → Called says result passes c (moment a) (moment b) → TakesOn files c (fields a) (with (Some (fields a)) a) (reply_by says result) (with (on_by result (fields b)) b)
+      → Turns passes F.tells files c t (moment_where true a) (moment_where here b) faults faults
+  turns-by says result passes files faults c t turn_is here_is power costs free after says_it takes =
+      let d = device a in
+      let e = device b in
       let old = with (Some (fields a)) a in
-      subst (λ (m : D). Turns passes F.tells files c t old (at (shown_on p) (F.told m) (F.counts m) (F.arming m) (F.on m)) faults faults) (sym left)
-      (subst (λ (on : Option Fields). Turns passes F.tells files c t old (with on b) faults faults) (sym on_is)
+      subst (λ (on : Option Fields). Turns passes F.tells files c t old (with on b) faults faults) (sym (ap (λ (there : Bool). on_where there (fields b)) here_is ∙ kept-where-there result (fields b)))
       (subst (λ (q : Turn). Turns passes F.tells files c q old (with (on_by result (fields b)) b) faults faults) (sym turn_is)
-      (call-turns says passes F.tells files faults c (fields a) (fields b) (F.told d) (F.told e) (F.counts d) (F.counts e) (F.arming d) (F.arming e) (F.on d) (F.on e) (a.power live) result says_it power costs takes)))
+      (call-turns says passes F.tells files faults c (fields a) (fields b) (F.told d) (F.told e) (F.counts d) (F.counts e) (F.arming d) (F.arming e) (F.on d) (F.on e) (a.power live) result says_it after power costs free takes))
+
+  -- and a partial begin
+  pub turns-begun : (result : Result (Unit {0}) Stop) (passes : List ℕ → Bool) (files : Option Directory) (faults : ℕ) (types : List (List ℕ)) (t : Turn)
+      → t ≡ quiet_turn (call.BeginPartial types) (done_reply result) → here ≡ is_there result → (result ≡ Err stop.Gone → ⊥)
+      → F.on (device b) ≡ is_ok (flash_result result) → Spends (flash_result result) (F.counts (device a)) (F.counts (device b))
+      → StaysUnarmed (flash_result result) (F.arming (device a)) (F.arming (device b)) (F.counts (device a)) (F.counts (device b))
+      → BeginsPartly types (are_named (fields a).layout.rows types) passes result (moment a) (moment b)
+      → TakesOn files (call.BeginPartial types) (fields a) (with (Some (fields a)) a) (done_reply result) (with (on_by result (fields b)) b)
+      → Turns passes F.tells files (call.BeginPartial types) t (moment_where true a) (moment_where here b) faults faults
+  turns-begun result passes files faults types t turn_is here_is never power costs free begins takes =
+      let d = device a in
+      let e = device b in
+      let old = with (Some (fields a)) a in
+      subst (λ (on : Option Fields). Turns passes F.tells files (call.BeginPartial types) t old (with on b) faults faults) (sym (ap (λ (there : Bool). on_where there (fields b)) here_is ∙ kept-where-there result (fields b)))
+      (subst (λ (q : Turn). Turns passes F.tells files (call.BeginPartial types) q old (with (on_by result (fields b)) b) faults faults) (sym turn_is)
+      (begin-turns passes F.tells files faults types (fields a) (fields b) (F.told d) (F.told e) (F.counts d) (F.counts e) (F.arming d) (F.arming e) (F.on d) (F.on e) (a.power live) result never begins power costs free takes))
 
   -- the device has power exactly where its agent is there
-  pub powered-by : {T : Type 0} (result : Result T Stop) → GoesBy result (gone a) (gone b) → has_power p ≡ is_there result → F.on (agent_device b) ≡ is_ok (flash_result result)
-      → F.on (device p) ≡ has_power p
-  powered-by result goes has power = ap F.on left ∙ power ∙ on-where-there result (never-gone result _ _ goes live) ∙ sym has
+  pub powered-by : {T : Type 0} (result : Result T Stop) → GoesBy result (gone a) (gone b) → here ≡ is_there result → F.on (device b) ≡ is_ok (flash_result result)
+      → F.on (device b) ≡ here
+  powered-by result goes here_is power = power ∙ on-where-there result (never-gone result _ _ goes live) ∙ sym here_is
+
+  -- and an agent that is there isn't gone
+  pub there-by : {T : Type 0} (result : Result T Stop) → GoesBy result (gone a) (gone b) → here ≡ is_there result → IsTrue here → IsFalse (gone b)
+  there-by result goes here_is there = not-gone result _ _ goes live (sym here_is ∙ there)

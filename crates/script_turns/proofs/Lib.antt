@@ -6,3 +6,4 @@ pub mod SendTurns
 pub mod CallTurns
 pub mod CallTakes
 pub mod Called
+pub mod RunTurns

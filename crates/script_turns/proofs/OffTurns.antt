@@ -19,6 +19,7 @@ use Rattle.script_turns.specs.Powered.{Moment, at, IsAt, SameDevice}
 use Rattle.script_turns.specs.Replies.{Replies}
 use Rattle.script_turns.specs.Takes.{Takes}
 use Rattle.script_turns.specs.Turning.{Makes, Turns, quiet_turn}
+use Rattle.script_turns.proofs.Quiets.{stays-free}
 
 module _ (passes : List ℕ → Bool) (tells : Bool) (files : Option Directory) (t : Told) (cs : Counts) (armed : Option Arming) (power : Bool) (was : ℕ) where
   abbrev here : Moment
@@ -29,7 +30,7 @@ module _ (passes : List ℕ → Bool) (tells : Bool) (files : Option Directory) 
     made : Makes c cs.made cs.made
     cut : IsCut (Some (quiet_turn c reply.IsOff)) armed
     replies : Replies passes tells files c here (quiet_turn c reply.IsOff) here
-    takes : Takes c here reply.IsOff here
+    takes : Takes files c here reply.IsOff here
     no_boot : IsFalse (is_boot c)
     numbers : HasNumbers (quiet_turn c reply.IsOff)
     answers : (E : Setting) (s : State) → reply.IsOff ≡ (answer E s Off c).reply
@@ -54,6 +55,7 @@ module _ (passes : List ℕ → Bool) (tells : Bool) (files : Option Directory) 
     counts = record { faults = omega arith; cuts = omega arith; reached = omega arith; chances = omega arith };
     made = leaves.made;
     armed = leaves.cut;
+    free = λ no. stays-free armed cs;
     lost = λ e. absurd cc;
     failed = λ e. absurd cc;
     once = omega arith;
@@ -67,6 +69,9 @@ module _ (passes : List ℕ → Bool) (tells : Bool) (files : Option Directory) 
     power = refl;
     guard = λ e. refl;
     step = λ e E from passes_are told is no_chance. idles c leaves E from is;
+    keeps = λ e f on no. absurd cc;
+    spares = λ e f on no whole. absurd cc;
+    decides = λ e f on agents. absurd cc;
     safe = λ e safe. safe;
     boots = λ e off clean is. let boot = ap is_boot is in let no = leaves.no_boot in absurd cc;
   }
@@ -78,6 +83,7 @@ module _ (passes : List ℕ → Bool) (tells : Bool) (files : Option Directory) 
   unfolding answer
   leaves-off call.Discover asks = record { made = refl; cut = tt; replies = (refl, refl); takes = same-device; no_boot = refl; numbers = refl; answers = λ E s. refl }
   leaves-off (call.Begin n) asks = record { made = refl; cut = tt; replies = (refl, refl); takes = same-device; no_boot = refl; numbers = refl; answers = λ E s. refl }
+  leaves-off (call.BeginPartial types) asks = record { made = refl; cut = tt; replies = (refl, refl); takes = same-device; no_boot = refl; numbers = refl; answers = λ E s. refl }
   leaves-off (call.OpenRead guid) asks = record { made = refl; cut = tt; replies = (refl, refl); takes = same-device; no_boot = refl; numbers = refl; answers = λ E s. refl }
   leaves-off (call.OpenWrite guid) asks = record { made = refl; cut = tt; replies = (refl, refl); takes = same-device; no_boot = refl; numbers = refl; answers = λ E s. refl }
   leaves-off (call.Write handle bytes) asks = record { made = refl; cut = tt; replies = (refl, refl); takes = same-device; no_boot = refl; numbers = refl; answers = λ E s. refl }
@@ -88,9 +94,11 @@ module _ (passes : List ℕ → Bool) (tells : Bool) (files : Option Directory) 
   leaves-off (call.Accepts guid) asks = record { made = refl; cut = tt; replies = (refl, refl); takes = same-device; no_boot = refl; numbers = refl; answers = λ E s. refl }
   leaves-off call.Previous asks = record { made = refl; cut = tt; replies = (refl, refl); takes = same-device; no_boot = refl; numbers = refl; answers = λ E s. refl }
   leaves-off (call.Send name request) asks = record { made = refl; cut = tt; replies = (refl, refl); takes = same-device; no_boot = refl; numbers = refl; answers = λ E s. refl }
+  leaves-off (call.SendPartial name request) asks = record { made = refl; cut = tt; replies = (refl, refl); takes = same-device; no_boot = refl; numbers = refl; answers = λ E s. refl }
   leaves-off call.Boot asks = absurd cc
   leaves-off (call.Cut n k) asks = absurd cc
   leaves-off call.Show asks = absurd cc
+  leaves-off call.NoCall asks = absurd cc
 
   pub off-turn : (c : Call) → IsTrue (needs_bank c) → Turns passes tells files c (quiet_turn c reply.IsOff) here here was was
   off-turn c asks = stays-off c (leaves-off c asks)

@@ -1,9 +1,11 @@
 -- A turn that leaves the flash as it is.
 use Rattle.std.proofs.Common.{◌≡◌, ◌≢◌, Contains, ℕ, ◌≤◌, Bool, true, not, ◌||◌, List, [], ◌∷◌, Option, Some, None, refl, sym, ap, subst, ◌∙◌, arith, IsTrue, IsFalse}
-use Rattle.std.specs.Prelude.{MatchBool, IsSome, IsNone}
+use Rattle.std.specs.Prelude.{MatchBool, IsSome, IsNone, Ok}
 use Rattle.host_io.specs.Contents.{Directory}
 use Rattle.fwu_formats.specs.Metadata.{Meta}
-use Rattle.flash_core.specs.Counts.{all_stops}
+use Rattle.flash_core.specs.declared.flash.Arming.{Arming}
+use Rattle.flash_core.specs.declared.flash.Counts.{Counts}
+use Rattle.flash_core.specs.Counts.{StaysUnarmed, all_stops}
 use Rattle.flash_core.specs.Told.{Told}
 use Rattle.fwu_model.specs.State.{State, Numbers, numbers_of, after}
 use Rattle.fwu_model.specs.Sound.{Setting}
@@ -16,12 +18,15 @@ use Rattle.fwu_model.specs.Answer.{Answer, answer, answered}
 use Rattle.fwu_model.specs.Run.{Condition, Step, Answered, Idle, is_boot, is_off, is_send, is_stop, moved_on}
 use Rattle.fwu_model.specs.MoveMetas.{meta_in}
 use Rattle.fwu_model.specs.Headline.{IsCut}
+use Rattle.fwu_model.specs.Causes.{is_cut}
 use Rattle.agent_machine.specs.Fields.{Fields}
 use Rattle.agent_machine.specs.Moment as agent
+use Rattle.agent_machine.proofs.Beside.{spared-told}
 use Rattle.script_turns.specs.Powered.{Moment, SameDevice, IsAt, IsSafe, kept_at, numbers_kept}
-use Rattle.script_turns.specs.Replies.{Replies, power_after, show_reply}
+use Rattle.script_turns.specs.Replies.{Replies, no_call_reply, power_after, show_reply}
 use Rattle.script_turns.specs.Sending.{LacksSent}
-use Rattle.script_turns.specs.Takes.{Takes, TakesBy}
+use Rattle.script_turns.specs.Calls.{is_agents}
+use Rattle.script_turns.specs.Takes.{StaysFree, Takes, TakesBy}
 use Rattle.script_turns.specs.Turning.{Arms, Makes, NoneFalls, Turns, quiet_turn}
 
 -- What the machine answers to the call, by what the agent keeps: with this reply it does nothing.
@@ -30,9 +35,10 @@ AnswersBy what r None t = (E : Setting) (s : State) → r ≡ (answer E s Off wh
 AnswersBy what r (Some f) t = (E : Setting) (s : State) (x : Session) → agent.Shows (kept_at true f t) s x → answer E s x what ≡ answered r [] x
 
 -- The call is no boot, the reply no stop, and what is kept and told stays.
-pub record IsQuiet (tells : Bool) (what : Call) (r : Reply) (old new : Moment) : Type 0 where
+pub record IsQuiet (tells : Bool) (files : Option Directory) (what : Call) (r : Reply) (old new : Moment) : Type 0 where
   pub no_boot : IsFalse (is_boot what)
   pub no_send : IsFalse (is_send what)
+  pub no_agents : IsFalse (is_agents what)
   pub no_stop : IsFalse (is_stop r)
   pub on_is : new.on ≡ old.on
   pub same : IsTrue tells → new.told ≡ old.told
@@ -40,14 +46,20 @@ pub record IsQuiet (tells : Bool) (what : Call) (r : Reply) (old new : Moment) :
   pub once : all_stops new.counts ≤ all_stops old.counts
   pub made : Makes what old.counts.made new.counts.made
   pub armed : IsCut (Some (quiet_turn what r)) new.armed
+  pub free : IsFalse (is_cut what) → StaysFree r old new
   pub power : new.power ≡ old.power
   pub keeps_power : power_after old.power r ≡ old.power
-  pub takes : Takes what old r new
+  pub takes : Takes files what old r new
   pub answers : AnswersBy what r old.on old.told
+
+-- where nothing is done nothing is armed or reached
+pub stays-free : (armed : Option Arming) (cs : Counts) → StaysUnarmed {T = Unit {0}} (Ok tt) armed armed cs cs
+stays-free armed cs none = (none, record { same = refl; lost = λ is. absurd cc })
 
 -- only what is sent can be lacking
 pub lacks-none : (files : Option Directory) (c : Call) → IsFalse (is_send c) → LacksSent files c → ⊥
 lacks-none files (call.Send name request) never lacks = absurd cc
+lacks-none files (call.SendPartial name request) never lacks = absurd cc
 lacks-none files other never lacks = lacks
 
 stays : (r other : Reply) → IsFalse (is_stop r) → IsTrue (is_stop other) → r ≢ other
@@ -100,13 +112,14 @@ module _ (what : Call) (r : Reply) (no_boot : IsFalse (is_boot what)) (no_stop :
           (subst (λ (session : Session). IsTrue (not (is_off session))) (sym is.shows.shows.means) refl)
 
 pub quiet-turns : (passes : List ℕ → Bool) (tells : Bool) (files : Option Directory) (what : Call) (r : Reply) (old new : Moment) (faults : ℕ)
-    → IsQuiet tells what r old new → Replies passes tells files what old (quiet_turn what r) new → Turns passes tells files what (quiet_turn what r) old new faults faults
+    → IsQuiet tells files what r old new → Replies passes tells files what old (quiet_turn what r) new → Turns passes tells files what (quiet_turn what r) old new faults faults
 quiet-turns passes tells files what r old new faults quiet replied = record {
   call_is = refl;
   unnumbered = λ no. refl;
   counts = quiet.counts;
   made = quiet.made;
   armed = quiet.armed;
+  free = quiet.free;
   lost = λ e. absurd (stays r reply.Lost quiet.no_stop refl e);
   failed = λ e. absurd (stays r reply.Fault quiet.no_stop refl e);
   once = omega (arith, quiet.once);
@@ -122,6 +135,9 @@ quiet-turns passes tells files what r old new faults quiet replied = record {
   step = λ test E c passes_are files_are is none.
       subst (λ (on : Option Fields). Leads E c what r on new.told) (sym quiet.on_is)
       (subst (λ (t : Told). Leads E c what r old.on t) (sym (quiet.same test)) (step what r quiet.no_boot quiet.no_stop E c old.on old.told quiet.answers is));
+  keeps = λ test f on no. spared-told _ old.told new.told (quiet.same test);
+  spares = λ test f on no whole. spared-told _ old.told new.told (quiet.same test);
+  decides = λ test f on agents whole. absurd (let no = quiet.no_agents in cc);
   safe = λ test safe. subst (λ (b : Bool). IsSafe b new.told) (sym quiet.power) (subst (IsSafe old.power) (sym (quiet.same test)) safe);
   boots = λ test off clean is. let e = ap is_boot is in let f = quiet.no_boot in absurd cc;
 }
@@ -172,15 +188,20 @@ show-power (Some f) power = refl
 pub same-device : (m : Moment) → SameDevice m m
 same-device m = record { told = refl; counts = refl; armed = refl; power = refl }
 
-show-takes : (on : Option Fields) (m : Moment) → TakesBy call.Show on m (show_reply on) m
-show-takes None m = same-device m
-show-takes (Some f) m = same-device m
+show-free : (on : Option Fields) (m : Moment) → StaysFree (show_reply on) m m
+show-free None m = stays-free m.armed m.counts
+show-free (Some f) m = stays-free m.armed m.counts
+
+show-takes : (files : Option Directory) (on : Option Fields) (m : Moment) → TakesBy files call.Show on m (show_reply on) m
+show-takes files None m = same-device m
+show-takes files (Some f) m = same-device m
 
 pub show-turns : (passes : List ℕ → Bool) (tells : Bool) (files : Option Directory) (m : Moment) (faults : ℕ)
     → Turns passes tells files call.Show (quiet_turn call.Show (show_reply m.on)) m m faults faults
 show-turns passes tells files m faults = quiet-turns passes tells files call.Show (show_reply m.on) m m faults (record {
   no_boot = refl;
   no_send = refl;
+  no_agents = refl;
   no_stop = show-goes-on m.on;
   on_is = refl;
   same = λ test. refl;
@@ -188,10 +209,62 @@ show-turns passes tells files m faults = quiet-turns passes tells files call.Sho
   once = omega arith;
   made = refl;
   armed = tt;
+  free = λ no. show-free m.on m;
   power = refl;
   keeps_power = show-power m.on m.power;
-  takes = show-takes m.on m;
+  takes = show-takes files m.on m;
   answers = show-answers m.on m.told;
+}) (refl, refl)
+
+-- ---- a request for no call
+
+no_call-on : (E : Setting) (s : State) (x : Session) → IsFalse (is_off x) → answer E s x call.NoCall ≡ answered reply.NotUnderstood [] x
+unfolding answer
+no_call-on E s Off on = absurd cc
+no_call-on E s (On boot staging handles) on = refl
+
+no_call-off : (E : Setting) (s : State) → reply.IsOff ≡ (answer E s Off call.NoCall).reply
+unfolding answer
+no_call-off E s = refl
+
+no_call-answers : (on : Option Fields) (t : Told) → AnswersBy call.NoCall (no_call_reply on) on t
+no_call-answers None t = no_call-off
+no_call-answers (Some f) t = λ E s x shows. no_call-on E s x (subst (λ (y : Session). IsFalse (is_off y)) (sym shows.means) refl)
+
+no_call-goes-on : (on : Option Fields) → IsFalse (is_stop (no_call_reply on))
+no_call-goes-on None = refl
+no_call-goes-on (Some f) = refl
+
+no_call-power : (on : Option Fields) (power : Bool) → power_after power (no_call_reply on) ≡ power
+no_call-power None power = refl
+no_call-power (Some f) power = refl
+
+no_call-free : (on : Option Fields) (m : Moment) → StaysFree (no_call_reply on) m m
+no_call-free None m = stays-free m.armed m.counts
+no_call-free (Some f) m = stays-free m.armed m.counts
+
+no_call-takes : (files : Option Directory) (on : Option Fields) (m : Moment) → TakesBy files call.NoCall on m (no_call_reply on) m
+no_call-takes files None m = same-device m
+no_call-takes files (Some f) m = same-device m
+
+pub no_call-turns : (passes : List ℕ → Bool) (tells : Bool) (files : Option Directory) (m : Moment) (faults : ℕ)
+    → Turns passes tells files call.NoCall (quiet_turn call.NoCall (no_call_reply m.on)) m m faults faults
+no_call-turns passes tells files m faults = quiet-turns passes tells files call.NoCall (no_call_reply m.on) m m faults (record {
+  no_boot = refl;
+  no_send = refl;
+  no_agents = refl;
+  no_stop = no_call-goes-on m.on;
+  on_is = refl;
+  same = λ test. refl;
+  counts = record { faults = omega arith; cuts = omega arith; reached = omega arith; chances = omega arith };
+  once = omega arith;
+  made = refl;
+  armed = tt;
+  free = λ no. no_call-free m.on m;
+  power = refl;
+  keeps_power = no_call-power m.on m.power;
+  takes = no_call-takes files m.on m;
+  answers = no_call-answers m.on m.told;
 }) (refl, refl)
 
 -- ---- `cut`
@@ -205,15 +278,16 @@ cut-answers : (n k : ℕ) (on : Option Fields) (t : Told) → AnswersBy (call.Cu
 cut-answers n k None t = λ E s. sym (ap (λ (a : Answer). a.reply) (cut-on n k E s Off))
 cut-answers n k (Some f) t = λ E s x shows. cut-on n k E s x
 
-cut-takes : (n k : ℕ) (on : Option Fields) (old new : Moment) → TakesBy (call.Cut n k) on old reply.CutOk new
-cut-takes n k None old new = tt
-cut-takes n k (Some f) old new = tt
+cut-takes : (files : Option Directory) (n k : ℕ) (on : Option Fields) (old new : Moment) → TakesBy files (call.Cut n k) on old reply.CutOk new
+cut-takes files n k None old new = tt
+cut-takes files n k (Some f) old new = tt
 
 pub cut-turns : (passes : List ℕ → Bool) (tells : Bool) (files : Option Directory) (n k : ℕ) (old new : Moment) (faults : ℕ) → Arms tells n k old new
     → Turns passes tells files (call.Cut n k) (quiet_turn (call.Cut n k) reply.CutOk) old new faults faults
 cut-turns passes tells files n k old new faults arms = quiet-turns passes tells files (call.Cut n k) reply.CutOk old new faults (record {
   no_boot = refl;
   no_send = refl;
+  no_agents = refl;
   no_stop = refl;
   on_is = arms.on_is;
   same = arms.same;
@@ -221,8 +295,9 @@ cut-turns passes tells files n k old new faults arms = quiet-turns passes tells 
   once = arms.once;
   made = arms.made;
   armed = arms.armed_is;
+  free = λ no. absurd cc;
   power = arms.power_is;
   keeps_power = refl;
-  takes = cut-takes n k old.on old new;
+  takes = cut-takes files n k old.on old new;
   answers = cut-answers n k old.on old.told;
 }) (refl, arms)

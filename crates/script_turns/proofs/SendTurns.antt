@@ -1,8 +1,9 @@
 -- The turn of a sending, by what the sending gave.
-use Rattle.std.proofs.Common.{◌≡◌, ◌⊎◌, inl, inr, ℕ, ◌+◌, ◌≤◌, Bool, true, List, [], ◌∷◌, Option, Some, None, Result, Ok, Err, Contains, refl, sym, ap, subst, ◌∙◌, arith, IsTrue, IsFalse}
+use Rattle.std.proofs.Common.{◌≡◌, ◌⊎◌, inl, inr, ℕ, ◌+◌, ◌≤◌, Bool, true, false, ◌||◌, List, length, get_or, [], ◌∷◌, Option, Some, None, Result, Ok, Err, Contains, refl, sym, ap, subst, ◌∙◌, arith, IsTrue, IsFalse}
 use Rattle.std.proofs.Math.Logic.{∥∥₁_elim}
 use denote.Struct.Props.{props}
-use Rattle.std.specs.Prelude.{OnOk, is_ok, IsErrOf, not, ◌==◌}
+use Rattle.std.specs.Prelude.{◌<◌, OnOk, is_ok, is_some, IsErrOf, not, ◌==◌}
+use Rattle.std.proofs.lemmas.Bool.{false≢true}
 use Rattle.std.specs.List.{list_any}
 use Rattle.base_core.specs.Counts.{Rose}
 use Rattle.host_io.specs.Contents.{Directory}
@@ -14,8 +15,9 @@ use Rattle.flash_core.specs.declared.flash.FlashStop.TheVariants as flash_stop
 use Rattle.flash_core.specs.Counts.{Spends, StaysUnarmed, stops_in}
 use Rattle.flash_core.specs.May.{Guards}
 use Rattle.flash_core.specs.Told.{Told}
-use Rattle.fwu_formats.specs.Layout.{Layout}
-use Rattle.fwu_formats.specs.Package.{Toc}
+use Rattle.fwu_formats.specs.Layout.{ImageRow, Layout}
+use Rattle.fwu_formats.specs.Package.{Entry, Toc, entry_of}
+use Rattle.fwu_formats.proofs.Same.{listed-same}
 use Rattle.fwu_model.specs.State.{State, Move, after}
 use Rattle.fwu_model.specs.Sound.{Setting}
 use Rattle.fwu_model.specs.Session.{Session, Off, On, Staged, Handle}
@@ -23,15 +25,18 @@ use Rattle.fwu_model.specs.Call.{Call}
 use Rattle.fwu_model.specs.Call as call
 use Rattle.fwu_model.specs.Reply.{Reply, Turn}
 use Rattle.fwu_model.specs.Reply as reply
-use Rattle.fwu_model.specs.Answer.{Answer, answer, answered, answer_send, first_image_fault, images_of, send_file, send_unless, skipped, table_in}
+use Rattle.fwu_model.specs.Answer.{Answer, answer, answered, answer_send, answer_send_partial, bits_over, first_image_fault, guid_of, has_image, image_held, images_of, images_over, install_unless, partial_fault, payload_or, send_file, send_file_over, send_unless, sent_over, skipped, table_in}
 use Rattle.fwu_model.specs.Calm.{IsAtRest}
-use Rattle.fwu_model.specs.Causes.{LacksFile}
-use Rattle.fwu_model.specs.Headline.{LeavesOneOf}
-use Rattle.fwu_model.specs.Run.{Condition, Step, Answered, Stopped, is_off, is_stop, moved_on, prefixes, stopped_moves}
+use Rattle.fwu_model.specs.Causes.{FileNotRead, LacksFile}
+use Rattle.fwu_model.specs.Headline.{IsCut, LeavesOneOf}
+use Rattle.fwu_model.specs.Run.{Condition, HasNumbers, Step, Answered, Stopped, asks_state, is_boot, is_off, is_send, is_stop, moved_on, prefixes, stopped_moves}
 use Rattle.moves.specs.Moved.{GuardedBy, IsReady}
 use Rattle.moves.proofs.Composed.{does-idle}
 use Rattle.fip_tables.specs.Files.{Lacks, Tells}
+use Rattle.agent_machine.specs.Beside.{KeepsSparedByAll}
 use Rattle.agent_machine.specs.Fields.{Fields}
+use Rattle.agent_machine.proofs.Beside.{spared-same}
+use Rattle.std.proofs.lemmas.Option.{same_Some}
 use Rattle.agent_machine.specs.Goes.{Goes}
 use Rattle.agent_machine.specs.Meets.{Stays}
 use Rattle.agent_machine.specs.Moment as agent
@@ -43,19 +48,69 @@ use Rattle.update_client.specs.declared.stops.SendStop.{SendStop}
 use Rattle.update_client.specs.declared.stops.SendStop.TheVariants.{MissingImage, ImageTooLarge, Begin, End, ReadFailed, Lost, Fault, Gone}
 use Rattle.update_client.specs.Halts.{flash_of}
 use Rattle.update_client.specs.Pieces.{ReadsBy, unread_in}
-use Rattle.update_client.specs.Sends.{IsEarly, Sends, SendsBy, send_answer}
-use Rattle.update_client.specs.Takes.{Takes as TakesLeast}
-use Rattle.script_turns.specs.declared.powered.Powered.{Powered}
-use Rattle.script_turns.specs.Powered.{Moment, at, device, kept_at, moment_of, shown_on, IsAt, IsSafe}
-use Rattle.script_turns.specs.Replies.{power_after}
-use Rattle.script_turns.specs.Sending.{AnswersSend, IsTableOf, SendSays, is_answered, on_sent, sent_reply}
-use Rattle.script_turns.specs.Sending as said
-use Rattle.script_turns.specs.Takes.{SendTakes, StaysFree, TakesSending, stop_told, unread_told}
-use Rattle.script_turns.specs.Turning.{NoneFalls, Turns, quiet_turn}
+use Rattle.update_client.specs.Choosing.{no_row}
+use Rattle.update_client.specs.Sends.{AnswersBy, IsEarly, Sends, SendsBy, ended, send_answer}
+use Rattle.update_client.specs.Partial.{GoesAs, SendsOver, over_answer}
+use Rattle.update_client.specs.Takes.{SendTakes as TakesSent}
+use Rattle.agent_calls.specs.declared.agent.Agent.{Agent}
+use Rattle.agent_calls.specs.Shown.{fields}
+use Rattle.script_turns.specs.Calls.{is_composed, moment_where}
+use Rattle.script_turns.specs.Stage.{on_where}
+use Rattle.script_turns.specs.Powered.{Moment, at, kept_at, IsAt, IsSafe}
+use Rattle.script_turns.specs.Replies.{Replies, power_after}
+use Rattle.script_turns.specs.Sending.{AnswersSend, IsTableOf, LacksSent, SendSays, SendsAs, done_reply, is_answered, on_sent, send_call, sent_reply}
+use Rattle.script_turns.specs.Takes.{SendTakes, StaysFree, TakesOn, stop_told, unread_told, writes_partly, writes_whole}
+use Rattle.script_turns.specs.Turning.{Makes, NoneFalls, Turns, quiet_turn}
+use Rattle.script_turns.proofs.CallTakes.{with}
+use Rattle.script_turns.proofs.Quiets.{stays-free}
 
--- the turn of a sending
-abbrev pub send_call : List ℕ → ℕ → Call
-send_call name request = call.Send name request
+-- ---- the call
+
+no-boot : (partly : Bool) (name : List ℕ) (request : ℕ) → IsFalse (is_boot (send_call partly name request))
+no-boot false name request = refl
+no-boot true name request = refl
+
+does-send : (partly : Bool) (name : List ℕ) (request : ℕ) → IsTrue (is_send (send_call partly name request))
+does-send false name request = refl
+does-send true name request = refl
+
+always-reads : (partly : Bool) (name : List ℕ) (request : ℕ) → IsFalse (is_send (send_call partly name request)) → ⊥
+always-reads partly name request never = let sends = does-send partly name request in absurd (false≢true (sym never ∙ sends))
+
+makes-none : (partly : Bool) (name : List ℕ) (request before now : ℕ) → now ≡ before → Makes (send_call partly name request) before now
+makes-none false name request before now same = same
+makes-none true name request before now same = same
+
+never-cuts : (partly : Bool) (name : List ℕ) (request : ℕ) (r : Reply) (armed : Option Arming) → IsCut (Some (quiet_turn (send_call partly name request) r)) armed
+never-cuts false name request r armed = tt
+never-cuts true name request r armed = tt
+
+not-read : (partly : Bool) (files : Option Directory) (name : List ℕ) (request was are : ℕ) → Rose was are ⊎ LacksFile files name → FileNotRead files was are (send_call partly name request)
+not-read false files name request was are cause = cause
+not-read true files name request was are cause = cause
+
+why-not-read : (partly : Bool) (files : Option Directory) (name : List ℕ) (request was are : ℕ) → FileNotRead files was are (send_call partly name request) → Rose was are ⊎ LacksFile files name
+why-not-read false files name request was are cause = cause
+why-not-read true files name request was are cause = cause
+
+lacks-sent : (partly : Bool) (files : Option Directory) (name : List ℕ) (request : ℕ) → LacksSent files (send_call partly name request) → Lacks files name
+lacks-sent false files name request lacks = lacks
+lacks-sent true files name request lacks = lacks
+
+replies-as : (partly : Bool) (passes : List ℕ → Bool) (tells : Bool) (files : Option Directory) (name : List ℕ) (request : ℕ) (old new : Moment) (r : Reply)
+    → SendSays partly passes tells files name request old.on old.told r new.on new.told
+    → Replies passes tells files (send_call partly name request) old (quiet_turn (send_call partly name request) r) new
+replies-as false passes tells files name request old new r says = says
+replies-as true passes tells files name request old new r says = says
+
+takes-as : (partly : Bool) (files : Option Directory) (name : List ℕ) (request : ℕ) (f : Fields) (old : Moment) (r : Reply) (new : Moment)
+    → SendTakes files name f r old new → TakesOn files (send_call partly name request) f old r new
+takes-as false files name request f old r new takes = takes
+takes-as true files name request f old r new takes = takes
+
+no-numbers : (partly : Bool) (name : List ℕ) (request : ℕ) (r : Reply) → HasNumbers (quiet_turn (send_call partly name request) r)
+no-numbers false name request r = refl
+no-numbers true name request r = refl
 
 -- ---- what the machine answers
 
@@ -67,66 +122,194 @@ tells-file : (files : Option Directory) (all : Directory) (name file : List ℕ)
 tells-file None all name file is some = absurd cc
 tells-file (Some d) all name file is some = let same : d ≡ all = cc in ap (λ (f : Directory). f name) same ∙ some
 
+-- to a sending of these bytes, where the file is there
+abbrev answer_of : Bool → Setting → State → ℕ → Option (List Staged) → List Handle → ℕ → Option (List ℕ) → Answer
+answer_of false E s boot staging handles request file = answer_send E s boot staging handles request file
+answer_of true E s boot staging handles request file = answer_send_partial E s boot staging handles request file
+
+abbrev answer_by : Bool → Setting → State → ℕ → Option (List Staged) → List Handle → ℕ → List ℕ → Result Toc Reply → Answer
+answer_by false E s boot staging handles request file found = send_file E s boot staging handles request file found
+answer_by true E s boot staging handles request file found = send_file_over E s boot staging handles request file found
+
+-- the images over the same bytes are the same
+over-same : (rows : List ImageRow) (file : List ℕ) (toc : Toc) (bytes others : ℕ → List ℕ)
+    → ((i : ℕ) → i < length rows → has_image toc (get_or rows i no_row) ≡ false → bytes i ≡ others i) → images_over rows file toc bytes ≡ images_over rows file toc others
+unfolding images_over
+over-same rows file toc bytes others same =
+    listed-same (λ i. payload_or file (bytes i) (entry_of toc (guid_of rows i))) (λ i. payload_or file (others i) (entry_of toc (guid_of rows i))) (length rows) []
+    (λ i below. part i below (entry_of toc (guid_of rows i)) refl)
+  where
+    part : (i : ℕ) → i < length rows → (o : Option Entry) → entry_of toc (guid_of rows i) ≡ o → payload_or file (bytes i) o ≡ payload_or file (others i) o
+    part i below (Some e) is = refl
+    part i below None is = same i below (ap (λ (o : Option Entry). is_some o) is)
+
 -- the answer to a sending of a file with this table
-module _ (E : Setting) (files : Option Directory) (name : List ℕ) (request : ℕ) (s : State) (boot : ℕ) (staging : Option (List Staged)) (handles : List Handle) (told : files ≡ Some E.files) (there : Lacks files name → ⊥) where
-  on-answer : answer E s (On boot staging handles) (send_call name request) ≡ answer_send E s boot staging handles request (E.files name)
+module _ (partly : Bool) (E : Setting) (files : Option Directory) (name : List ℕ) (request : ℕ) (s : State) (boot : ℕ) (staging : Option (List Staged)) (handles : List Handle) (told : files ≡ Some E.files) (there : Lacks files name → ⊥) where
+  abbrev machine : Answer
+  machine = answer E s (On boot staging handles) (send_call partly name request)
+
+  on-answer : (kind : Bool) → answer E s (On boot staging handles) (send_call kind name request) ≡ answer_of kind E s boot staging handles request (E.files name)
   unfolding answer
-  on-answer = refl
+  on-answer false = refl
+  on-answer true = refl
 
-  of-file : (file : List ℕ) (found : Result Toc Reply) → table_in file ≡ found → answer_send E s boot staging handles request (Some file) ≡ send_file E s boot staging handles request file found
-  unfolding answer_send
-  of-file file found is = ap (send_file E s boot staging handles request file) is
+  of-file : (kind : Bool) (file : List ℕ) (found : Result Toc Reply) → table_in file ≡ found → answer_of kind E s boot staging handles request (Some file) ≡ answer_by kind E s boot staging handles request file found
+  unfolding answer_send answer_send_partial
+  of-file false file found is = ap (send_file E s boot staging handles request file) is
+  of-file true file found is = ap (send_file_over E s boot staging handles request file) is
 
-  by-file : (P : Answer → Type 0) → ((file : List ℕ) → Tells files name file → P (answer_send E s boot staging handles request (Some file))) → P (answer E s (On boot staging handles) (send_call name request))
-  by-file P holds = subst P (sym on-answer) (go (E.files name) refl)
+  by-file : (P : Answer → Type 0) → ((file : List ℕ) → Tells files name file → P (answer_of partly E s boot staging handles request (Some file))) → P machine
+  by-file P holds = subst P (sym (on-answer partly)) (go (E.files name) refl)
     where
-      go : (o : Option (List ℕ)) → E.files name ≡ o → P (answer_send E s boot staging handles request o)
+      go : (o : Option (List ℕ)) → E.files name ≡ o → P (answer_of partly E s boot staging handles request o)
       go None is = absurd (there (no-lacking files E.files name told is))
       go (Some file) is = holds file (tells-file files E.files name file told is)
 
-  pub sends-as : (toc : Toc) (images : List (List ℕ)) → IsTableOf files name (Ok toc) → ((file : List ℕ) → Tells files name file → images ≡ images_of E.layout.rows file toc)
-      → answer E s (On boot staging handles) (send_call name request) ≡ send_answer E toc images request s (On boot staging handles)
-  sends-as toc images table read = by-file (λ (a : Answer). a ≡ send_answer E toc images request s (On boot staging handles))
-      (λ file tells. of-file file (Ok toc) (table file tells)
+  pub refuses-as : (r : Reply) → IsTableOf files name (Err r) → machine ≡ answered r [] (On boot staging handles)
+  refuses-as r table = by-file (λ (a : Answer). a ≡ answered r [] (On boot staging handles)) (λ file tells. of-file partly file (Err r) (table file tells) ∙ refused partly file)
+    where
+      refused : (kind : Bool) (file : List ℕ) → answer_by kind E s boot staging handles request file (Err r) ≡ answered r [] (On boot staging handles)
+      refused false file = refl
+      refused true file = refl
+
+module _ (E : Setting) (files : Option Directory) (name : List ℕ) (request : ℕ) (s : State) (boot : ℕ) (staging : Option (List Staged)) (handles : List Handle) (told : files ≡ Some E.files) (there : Lacks files name → ⊥) where
+  sends-as : (toc : Toc) (images : List (List ℕ)) → IsTableOf files name (Ok toc) → ((file : List ℕ) → Tells files name file → images ≡ images_of E.layout.rows file toc)
+      → answer E s (On boot staging handles) (send_call false name request) ≡ send_answer E toc images request s (On boot staging handles)
+  sends-as toc images table read = by-file false E files name request s boot staging handles told there (λ (a : Answer). a ≡ send_answer E toc images request s (On boot staging handles))
+      (λ file tells. of-file false E files name request s boot staging handles told there false file (Ok toc) (table file tells)
       ∙ ap (λ (p : List (List ℕ)). send_unless (first_image_fault E.layout.rows toc) E s boot staging handles p request (skipped E.layout.rows toc)) (sym (read file tells)))
 
-  pub refuses-as : (r : Reply) → IsTableOf files name (Err r) → answer E s (On boot staging handles) (send_call name request) ≡ answered r [] (On boot staging handles)
-  refuses-as r table = by-file (λ (a : Answer). a ≡ answered r [] (On boot staging handles)) (λ file tells. of-file file (Err r) (table file tells))
+  sends-over : (toc : Toc) (bytes : ℕ → List ℕ) (images : List (List ℕ)) → IsTableOf files name (Ok toc) → ((file : List ℕ) → Tells files name file → images ≡ images_over E.layout.rows file toc bytes)
+      → ((i : ℕ) → i < length E.layout.rows → has_image toc (get_or E.layout.rows i no_row) ≡ false → bytes i ≡ image_held s s.active i)
+      → answer E s (On boot staging handles) (send_call true name request) ≡ over_answer E toc images request s (On boot staging handles)
+  sends-over toc bytes images table read same = by-file true E files name request s boot staging handles told there (λ (a : Answer). a ≡ over_answer E toc images request s (On boot staging handles))
+      (λ file tells. of-file true E files name request s boot staging handles told there true file (Ok toc) (table file tells)
+      ∙ ap (λ (p : List (List ℕ)). install_unless (partial_fault E.layout.rows toc) E s boot staging handles p (bits_over E.layout.rows toc request) (sent_over E.layout.rows toc))
+      (sym (read file tells ∙ over-same E.layout.rows file toc bytes (image_held s s.active) same)))
 
 -- ---- what a sending says
 
--- no sending changes which blocks are guarded, nor the layout
-stays-by : (result : Result Sent SendStop) (E : Setting) (toc : Toc) (p : List (List ℕ)) (request : ℕ) (old new : agent.Moment) (s : State) (x : Session) → SendsBy result E toc p request old new s x → Stays old new
-stays-by (Ok sent) E toc p request old new s x h = h.1.stays
-stays-by (Err (MissingImage guid)) E toc p request old new s x h = h.1.stays
-stays-by (Err (ImageTooLarge guid)) E toc p request old new s x h = h.1.stays
-stays-by (Err (Begin st)) E toc p request old new s x h = h.1.stays
-stays-by (Err (End st)) E toc p request old new s x h = h.1.stays
-stays-by (Err ReadFailed) E toc p request old new s x h = h.stays
-stays-by (Err Lost) E toc p request old new s x h = h.stays
-stays-by (Err Fault) E toc p request old new s x h = h.stays
-stays-by (Err Gone) E toc p request old new s x h = absurd h
+-- by the machine's answer to it, whole or partial
+abbrev GoesBy : Bool → Result Sent SendStop → Answer → Setting → agent.Moment → agent.Moment → State → Session → Type 0
+GoesBy partly (Ok sent) a E old new s x = AnswersBy (done_reply partly sent) a E old new s
+GoesBy partly (Err (MissingImage guid)) a E old new s x = AnswersBy (reply.Missing guid) a E old new s
+GoesBy partly (Err (ImageTooLarge guid)) a E old new s x = AnswersBy (reply.TooLarge guid) a E old new s
+GoesBy partly (Err (Begin st)) a E old new s x = AnswersBy (reply.BeginRefused st) a E old new s
+GoesBy partly (Err (End st)) a E old new s x = AnswersBy (reply.EndRefused st) a E old new s
+GoesBy partly (Err ReadFailed) a E old new s x = Goes E (Ok tt) old new s (answer E s x (call.Begin 0)).moves (ended x)
+GoesBy partly (Err Lost) a E old new s x = Goes E (Err flash_stop.Lost) old new s a.moves (ended x)
+GoesBy partly (Err Fault) a E old new s x = Goes E (Err flash_stop.Failed) old new s a.moves (ended x)
+GoesBy partly (Err Gone) a E old new s x = ⊥
 
-guarded-by : (result : Result Sent SendStop) (E : Setting) (toc : Toc) (p : List (List ℕ)) (request : ℕ) (old new : agent.Moment) (s : State) (x : Session) → SendsBy result E toc p request old new s x
+goes-whole : (result : Result Sent SendStop) (E : Setting) (toc : Toc) (p : List (List ℕ)) (request : ℕ) (old new : agent.Moment) (s : State) (x : Session) → SendsBy result E toc p request old new s x
+    → GoesBy false result (send_answer E toc p request s x) E old new s x
+goes-whole (Ok sent) E toc p request old new s x h = h
+goes-whole (Err (MissingImage guid)) E toc p request old new s x h = h
+goes-whole (Err (ImageTooLarge guid)) E toc p request old new s x h = h
+goes-whole (Err (Begin st)) E toc p request old new s x h = h
+goes-whole (Err (End st)) E toc p request old new s x h = h
+goes-whole (Err ReadFailed) E toc p request old new s x h = h.1
+goes-whole (Err Lost) E toc p request old new s x h = h.1
+goes-whole (Err Fault) E toc p request old new s x h = h.1
+goes-whole (Err Gone) E toc p request old new s x h = h
+
+goes-over : (result : Result Sent SendStop) (a : Answer) (E : Setting) (old new : agent.Moment) (s : State) (x : Session) → GoesAs result a E old new s x → GoesBy true result a E old new s x
+goes-over (Ok sent) a E old new s x h = h
+goes-over (Err (MissingImage guid)) a E old new s x h = h
+goes-over (Err (ImageTooLarge guid)) a E old new s x h = h
+goes-over (Err (Begin st)) a E old new s x h = h
+goes-over (Err (End st)) a E old new s x h = h
+goes-over (Err ReadFailed) a E old new s x h = h.1
+goes-over (Err Lost) a E old new s x h = h.1
+goes-over (Err Fault) a E old new s x h = h.1
+goes-over (Err Gone) a E old new s x h = h
+
+-- What either kind says of an agent that isn't gone: each machine that the agent shows goes by an answer, which is the machine's own
+-- where the device and the files are told.
+pub record Sending (partly : Bool) (files : Option Directory) (name : List ℕ) (request : ℕ) (passes : List ℕ → Bool) (result : Result Sent SendStop) (old new : agent.Moment) : Type 0 where
+  pub answers : Setting → State → Session → Answer
+  pub goes : (E : Setting) (s : State) (x : Session) → E.layout ≡ old.fields.layout → E.passes ≡ passes → agent.Shows old s x → GoesBy partly result (answers E s x) E old new s x
+  pub own : IsTrue old.tells → (E : Setting) (s : State) (x : Session) → E.layout ≡ old.fields.layout → files ≡ Some E.files → agent.Shows old s x
+      → answer E s x (send_call partly name request) ≡ answers E s x
+  pub says : (r : Reply) → ((E : Setting) (s : State) (x : Session) → E.layout ≡ old.fields.layout → E.passes ≡ passes → agent.Shows old s x
+      → (r ≡ (answers E s x).reply) × agent.Shows new (after s (answers E s x).moves) (answers E s x).next)
+      → Stays old new → SendsAs partly passes files name request r old new
+
+module _ (files : Option Directory) (name : List ℕ) (request : ℕ) (passes : List ℕ → Bool) (result : Result Sent SendStop) (old new : agent.Moment) (toc : Toc)
+    (table : IsTableOf files name (Ok toc)) (there : Lacks files name → ⊥) where
+  pub sending-whole : Sends files name toc request passes result old new → Sending false files name request passes result old new
+  sending-whole sends = record {
+    answers = λ E s x. send_answer E toc sends.images request s x;
+    goes = λ E s x layout passes_are shows. goes-whole result E toc sends.images request old new s x (sends.goes E s x layout passes_are shows);
+    own = λ test E s x layout told shows.
+        subst (λ (y : Session). answer E s y (send_call false name request) ≡ send_answer E toc sends.images request s y) (sym shows.means)
+        (sends-as E files name request s old.fields.boot _ _ told there toc sends.images table
+        (λ file tells. sends.read file tells ∙ ap (λ (l : Layout). images_of l.rows file toc) (sym layout)));
+    says = λ r exact stays. record { toc = toc; images = sends.images; table = table; read = sends.read; exact = exact; stays = stays };
+  }
+
+  pub sending-over : SendsOver files name toc request passes result old new → Sending true files name request passes result old new
+  sending-over sends = record {
+    answers = λ E s x. over_answer E toc sends.images request s x;
+    goes = λ E s x layout passes_are shows. goes-over result (over_answer E toc sends.images request s x) E old new s x (sends.goes E s x layout passes_are shows);
+    own = λ test E s x layout told shows.
+        subst (λ (y : Session). answer E s y (send_call true name request) ≡ over_answer E toc sends.images request s y) (sym shows.means)
+        (sends-over E files name request s old.fields.boot _ _ told there toc sends.bytes sends.images table
+        (λ file tells. sends.read file tells ∙ ap (λ (l : Layout). images_over l.rows file toc sends.bytes) (sym layout))
+        (subst (λ (l : Layout). (i : ℕ) → i < length l.rows → has_image toc (get_or l.rows i no_row) ≡ false → sends.bytes i ≡ image_held s s.active i) (sym layout) (sends.copied test s x shows)));
+    says = λ r exact stays.
+        record { toc = toc; bytes = sends.bytes; copied = sends.copied; images = sends.images; table = table; read = sends.read; exact = exact; stays = stays };
+  }
+
+-- no sending changes which blocks are guarded, nor the layout
+stays-by : (partly : Bool) (result : Result Sent SendStop) (a : Answer) (E : Setting) (old new : agent.Moment) (s : State) (x : Session) → GoesBy partly result a E old new s x → Stays old new
+stays-by partly (Ok sent) a E old new s x h = h.1.stays
+stays-by partly (Err (MissingImage guid)) a E old new s x h = h.1.stays
+stays-by partly (Err (ImageTooLarge guid)) a E old new s x h = h.1.stays
+stays-by partly (Err (Begin st)) a E old new s x h = h.1.stays
+stays-by partly (Err (End st)) a E old new s x h = h.1.stays
+stays-by partly (Err ReadFailed) a E old new s x h = h.stays
+stays-by partly (Err Lost) a E old new s x h = h.stays
+stays-by partly (Err Fault) a E old new s x h = h.stays
+stays-by partly (Err Gone) a E old new s x h = absurd h
+
+guarded-by : (partly : Bool) (result : Result Sent SendStop) (a : Answer) (E : Setting) (old new : agent.Moment) (s : State) (x : Session) → GoesBy partly result a E old new s x
     → IsTrue old.tells → IsAtRest old.told → GuardedBy (flash_of result) new.told
-guarded-by (Ok sent) E toc p request old new s x h = h.1.guarded
-guarded-by (Err (MissingImage guid)) E toc p request old new s x h = h.1.guarded
-guarded-by (Err (ImageTooLarge guid)) E toc p request old new s x h = h.1.guarded
-guarded-by (Err (Begin st)) E toc p request old new s x h = h.1.guarded
-guarded-by (Err (End st)) E toc p request old new s x h = h.1.guarded
-guarded-by (Err ReadFailed) E toc p request old new s x h = h.guarded
-guarded-by (Err Lost) E toc p request old new s x h = h.guarded
-guarded-by (Err Fault) E toc p request old new s x h = h.guarded
-guarded-by (Err Gone) E toc p request old new s x h = absurd h
+guarded-by partly (Ok sent) a E old new s x h = h.1.guarded
+guarded-by partly (Err (MissingImage guid)) a E old new s x h = h.1.guarded
+guarded-by partly (Err (ImageTooLarge guid)) a E old new s x h = h.1.guarded
+guarded-by partly (Err (Begin st)) a E old new s x h = h.1.guarded
+guarded-by partly (Err (End st)) a E old new s x h = h.1.guarded
+guarded-by partly (Err ReadFailed) a E old new s x h = h.guarded
+guarded-by partly (Err Lost) a E old new s x h = h.guarded
+guarded-by partly (Err Fault) a E old new s x h = h.guarded
+guarded-by partly (Err Gone) a E old new s x h = absurd h
+
+keeps-by : (partly : Bool) (result : Result Sent SendStop) (a : Answer) (E : Setting) (old new : agent.Moment) (s : State) (x : Session) → GoesBy partly result a E old new s x
+    → IsTrue old.tells → KeepsSparedByAll old.fields old.told new.told
+keeps-by partly (Ok sent) a E old new s x h = h.1.keeps
+keeps-by partly (Err (MissingImage guid)) a E old new s x h = h.1.keeps
+keeps-by partly (Err (ImageTooLarge guid)) a E old new s x h = h.1.keeps
+keeps-by partly (Err (Begin st)) a E old new s x h = h.1.keeps
+keeps-by partly (Err (End st)) a E old new s x h = h.1.keeps
+keeps-by partly (Err ReadFailed) a E old new s x h = h.keeps
+keeps-by partly (Err Lost) a E old new s x h = h.keeps
+keeps-by partly (Err Fault) a E old new s x h = h.keeps
+keeps-by partly (Err Gone) a E old new s x h = absurd h
+
+-- a sending is a composed call
+always-composed : (partly : Bool) (name : List ℕ) (request : ℕ) → IsFalse (is_composed (send_call partly name request)) → ⊥
+always-composed false name request whole = absurd cc
+always-composed true name request whole = absurd cc
 
 abbrev with_layout : Fields → (List ℕ → Bool) → Setting
 with_layout f passes = record { layout = f.layout; files = λ _. None; passes = passes }
 
-stays-of : (files : Option Directory) (name : List ℕ) (toc : Toc) (request : ℕ) (passes : List ℕ → Bool) (result : Result Sent SendStop) (old new : agent.Moment)
-    → Sends files name toc request passes result old new → agent.Showing old → Stays old new
-stays-of files name toc request passes result old new sends one =
-    stays-by result (with_layout old.fields passes) toc sends.images request old new one.state one.session
-    (sends.goes (with_layout old.fields passes) one.state one.session refl refl one.shows)
+stays-of : (partly : Bool) (files : Option Directory) (name : List ℕ) (request : ℕ) (passes : List ℕ → Bool) (result : Result Sent SendStop) (old new : agent.Moment)
+    → Sending partly files name request passes result old new → agent.Showing old → Stays old new
+stays-of partly files name request passes result old new sends one =
+    let E = with_layout old.fields passes in
+    stays-by partly result (sends.answers E one.state one.session) E old new one.state one.session (sends.goes E one.state one.session refl refl one.shows)
 
 keeps-guards : (t u : Told) → u.guard ≡ t.guard → Guards 1 7 t → Guards 1 7 u
 keeps-guards t u same guards b low high = subst (λ (guard : List ℕ). IsTrue (list_any (λ k. k == b) guard)) (sym same) (guards b low high)
@@ -141,9 +324,9 @@ safe-by (Err stop) t u same rest now = (keeps-guards t u same rest.guard, now)
 abbrev Leads : Setting → Condition → Turn → Option Fields → Told → Type 0
 Leads E from t on u = (next : Condition) × Step E from t next × IsAt E next on u
 
-module _ (E : Setting) (from : Condition) (name : List ℕ) (request : ℕ) (r : Reply) (f : Fields) (t u : Told) (is : IsAt E from (Some f) t) (guard : u.guard ≡ t.guard) where
+module _ (E : Setting) (from : Condition) (partly : Bool) (name : List ℕ) (request : ℕ) (r : Reply) (f : Fields) (t u : Told) (is : IsAt E from (Some f) t) (guard : u.guard ≡ t.guard) where
   abbrev asked : Call
-  asked = send_call name request
+  asked = send_call partly name request
 
   abbrev s : State
   s = is.shows.state
@@ -151,8 +334,9 @@ module _ (E : Setting) (from : Condition) (name : List ℕ) (request : ℕ) (r :
   candidate : Contains from.candidates s
   candidate = subst (λ (states : List State). Contains states s) (sym is.shows.one) (0, omega arith, refl)
 
-  asks : IsTrue (not (is_off from.session))
-  asks = subst (λ (x : Session). IsTrue (not (is_off x))) (sym is.shows.shows.means) refl
+  asks : IsTrue (asks_state from.session asked)
+  asks = subst (λ (b : Bool). IsTrue (b || not (is_off from.session))) (sym (no-boot partly name request))
+      (subst (λ (x : Session). IsTrue (not (is_off x))) (sym is.shows.shows.means) refl)
 
   -- it was answered
   step-answered : (a : Answer) (g : Fields) → answer E s from.session asked ≡ a → IsFalse (is_stop r) → r ≡ a.reply → g.layout ≡ f.layout
@@ -162,7 +346,7 @@ module _ (E : Setting) (from : Condition) (name : List ℕ) (request : ℕ) (r :
     Answered no_stop asks (record {
       state = s;
       found = record { candidate = candidate; numbers = tt };
-      numbers = refl;
+      numbers = no-numbers partly name request r;
       reply_is = replied ∙ sym (ap (λ (b : Answer). b.reply) same);
       next_is = sym (ap (λ (b : Answer). moved_on from asked (after s b.moves ∷ []) b.next) same);
     }),
@@ -180,20 +364,16 @@ module _ (E : Setting) (from : Condition) (name : List ℕ) (request : ℕ) (r :
     Stopped stop asks (record {
       state = s;
       found = record { candidate = candidate; numbers = tt };
-      numbers = refl;
-      reads = λ e. refl;
+      numbers = no-numbers partly name request r;
+      reads = λ e. does-send partly name request;
       next_is = sym (ap (λ (ns : List Move). moved_on from asked (prefixes s ns) Off) same);
     }),
     record { guard = keeps-guards t u guard is.guard; shows = (refl, leaves) },
   )
 
--- nothing was done
-pub stays-free : (armed : Option Arming) (cs : Counts) → StaysUnarmed {T = Unit {0}} (Ok tt) armed armed cs cs
-stays-free armed cs none = (none, record { same = refl; lost = λ is. absurd cc })
-
 -- ---- a file without a table
 
-module _ (passes : List ℕ → Bool) (tells : Bool) (files : Option Directory) (name : List ℕ) (request : ℕ) (f : Fields) (t : Told) (cs : Counts) (armed : Option Arming) (power : Bool) (was are : ℕ) (later : was ≤ are) where
+module _ (partly : Bool) (passes : List ℕ → Bool) (tells : Bool) (files : Option Directory) (name : List ℕ) (request : ℕ) (f : Fields) (t : Told) (cs : Counts) (armed : Option Arming) (power : Bool) (was are : ℕ) (later : was ≤ are) where
   abbrev here : Moment
   here = at (Some f) t cs armed power
 
@@ -202,148 +382,171 @@ module _ (passes : List ℕ → Bool) (tells : Bool) (files : Option Directory) 
 
   -- it is answered by its first fault
   pub bad-table : (r : Reply) → are ≤ was → IsFalse (is_stop r) → power_after power r ≡ power → IsTableOf files name (Err r)
-      → SendSays passes tells files name request (Some f) t r (Some f) t → (Lacks files name → ⊥) → TakesSending r here here
-      → Turns passes tells files (send_call name request) (quiet_turn (send_call name request) r) here here was are
-  bad-table r none no_stop keeps table says there early = record {
+      → SendSays partly passes tells files name request (Some f) t r (Some f) t → (Lacks files name → ⊥) → SendTakes files name f r here here → StaysFree r here here
+      → Turns passes tells files (send_call partly name request) (quiet_turn (send_call partly name request) r) here here was are
+  bad-table r none no_stop keeps table says there early free = record {
     call_is = refl;
     unnumbered = λ no. refl;
     counts = nothing-falls;
-    made = refl;
-    armed = tt;
+    made = makes-none partly name request _ _ refl;
+    armed = never-cuts partly name request r armed;
+    free = λ no. free;
     lost = λ e. absurd (let stop = ap is_stop e in cc);
     failed = λ e. absurd (let stop = ap is_stop e in cc);
     once = omega arith;
     unread = λ e. absurd (let stop = ap is_stop e in cc);
-    lacking = λ lacks some. absurd (there lacks);
+    lacking = λ lacks some. absurd (there (lacks-sent partly files name request lacks));
     later = later;
     unread_once = omega (arith, none);
-    reads_none = λ e. absurd cc;
-    replies = says;
-    takes = record { by_call = early; unread = λ e. absurd (let stop = ap is_stop e in cc) };
+    reads_none = λ e. absurd (always-reads partly name request e);
+    replies = replies-as partly passes tells files name request here here r says;
+    takes = record { by_call = takes-as partly files name request f here r here early; unread = λ e. absurd (let stop = ap is_stop e in cc) };
     power = sym keeps;
     guard = λ e. refl;
     step = λ e E from passes_are told is no_chance.
         let x = is.shows.shows in
-        let same : answer E is.shows.state from.session (send_call name request) ≡ answered r [] from.session =
-        subst (λ (y : Session). answer E is.shows.state y (send_call name request) ≡ answered r [] y) (sym x.means)
-        (refuses-as E files name request is.shows.state f.boot _ _ told there r table) in
-        step-answered E from name request r f t t is refl (answered r [] from.session) f same no_stop refl refl x is.shows.ready;
+        let same : answer E is.shows.state from.session (send_call partly name request) ≡ answered r [] from.session =
+        subst (λ (y : Session). answer E is.shows.state y (send_call partly name request) ≡ answered r [] y) (sym x.means)
+        (refuses-as partly E files name request is.shows.state f.boot _ _ told there r table) in
+        step-answered E from partly name request r f t t is refl (answered r [] from.session) f same no_stop refl refl x is.shows.ready;
+    keeps = λ e h on no. spared-same _ t;
+    spares = λ e h on no whole. absurd (always-composed partly name request whole);
+    decides = λ e h on agents whole. absurd (always-composed partly name request whole);
     safe = λ e safe. safe;
     boots = λ e off. absurd cc;
   }
 
   -- it cannot be read
   pub unread-table : are ≤ was + 1 → Rose was are ⊎ LacksFile files name
-      → Turns passes tells files (send_call name request) (quiet_turn (send_call name request) reply.ReadFault) here (at None t cs armed power) was are
+      → Turns passes tells files (send_call partly name request) (quiet_turn (send_call partly name request) reply.ReadFault) here (at None t cs armed power) was are
   unread-table once cause = record {
     call_is = refl;
     unnumbered = λ no. refl;
     counts = nothing-falls;
-    made = refl;
-    armed = tt;
+    made = makes-none partly name request _ _ refl;
+    armed = never-cuts partly name request reply.ReadFault armed;
+    free = λ no. stays-free armed cs;
     lost = λ e. absurd cc;
     failed = λ e. absurd cc;
     once = omega arith;
-    unread = λ e. cause;
+    unread = λ e. not-read partly files name request was are cause;
     lacking = λ lacks some. refl;
     later = later;
     unread_once = omega (arith, once);
-    reads_none = λ e. absurd cc;
-    replies = tt;
-    takes = record { by_call = record { spent = tt; unarmed = stays-free armed cs }; unread = λ e none. record { told = refl; counts = refl; armed = refl; power = refl } };
+    reads_none = λ e. absurd (always-reads partly name request e);
+    replies = replies-as partly passes tells files name request here (at None t cs armed power) reply.ReadFault tt;
+    takes = record { by_call = takes-as partly files name request f here reply.ReadFault (at None t cs armed power) tt; unread = λ e none. record { told = refl; counts = refl; armed = refl; power = refl } };
     power = refl;
     guard = λ e. refl;
     step = λ e E from passes_are told is no_chance.
-        step-stopped E from name request reply.ReadFault f t t is refl (answer E is.shows.state from.session (call.Begin 0)).moves refl refl
+        step-stopped E from partly name request reply.ReadFault f t t is refl (answer E is.shows.state from.session (call.Begin 0)).moves refl refl
         (does-idle {T = Unit {0}} (Err flash_stop.Lost) E is.shows.state _ t refl is.shows.ready.calm).each;
+    keeps = λ e h on no. spared-same _ t;
+    spares = λ e h on no whole. absurd (always-composed partly name request whole);
+    decides = λ e h on agents whole. absurd (always-composed partly name request whole);
     safe = λ e safe. safe;
     boots = λ e off. absurd cc;
   }
 
 -- ---- a sending
 
-module _ (passes : List ℕ → Bool) (tells : Bool) (files : Option Directory) (name : List ℕ) (request : ℕ) (f g : Fields) (t u : Told) (cs ds : Counts) (armed arming : Option Arming) (was are : ℕ) (toc : Toc) where
+-- the writes of a sending of this kind
+abbrev pub writes_of : Bool → Fields → Toc → ℕ
+writes_of false f toc = writes_whole f toc
+writes_of true f toc = writes_partly f toc
+
+-- one that was done goes on
+done-calm : (partly : Bool) (sent : Sent) → IsFalse (is_stop (done_reply partly sent))
+done-calm false sent = refl
+done-calm true sent = refl
+
+done-told : (partly : Bool) (sent : Sent) → stop_told (done_reply partly sent) ≡ Ok tt
+done-told false sent = refl
+done-told true sent = refl
+
+done-read : (partly : Bool) (sent : Sent) → unread_told (done_reply partly sent) ≡ 0
+done-read false sent = refl
+done-read true sent = refl
+
+done-power : (partly : Bool) (sent : Sent) → true ≡ power_after true (done_reply partly sent)
+done-power false sent = refl
+done-power true sent = refl
+
+module _ (partly : Bool) (passes : List ℕ → Bool) (tells : Bool) (files : Option Directory) (name : List ℕ) (request : ℕ) (f g : Fields) (t u : Told) (cs ds : Counts) (armed arming : Option Arming) (was are : ℕ) where
   abbrev old : agent.Moment
   old = kept_at tells f t
 
   abbrev new : agent.Moment
   new = kept_at tells g u
 
-  module _ (table : IsTableOf files name (Ok toc)) where
+  module _ (result : Result Sent SendStop) (sends : Sending partly files name request passes result old new) (stays : Stays old new) where
     -- what was answered
-    says-answered : (r : Reply) (images : List (List ℕ)) → ((file : List ℕ) → Tells files name file → images ≡ images_of f.layout.rows file toc)
-        → ((E : Setting) (s : State) (x : Session) → E.layout ≡ f.layout → E.passes ≡ passes → agent.Shows old s x
-        → (r ≡ (send_answer E toc images request s x).reply) × Goes E (Ok tt) old new s (send_answer E toc images request s x).moves (send_answer E toc images request s x).next)
-        → Stays old new → said.SendsBy passes files name request r old new
-    says-answered r images read goes stays = record {
-      toc = toc;
-      images = images;
-      table = table;
-      read = read;
-      exact = λ E s x layout passes_are shows. let h = goes E s x layout passes_are shows in (h.0, h.1.shows);
-      stays = stays;
-    }
+    says-answered : (r : Reply)
+        → ((E : Setting) (s : State) (x : Session) → E.layout ≡ f.layout → E.passes ≡ passes → agent.Shows old s x → AnswersBy r (sends.answers E s x) E old new s)
+        → SendsAs partly passes files name request r old new
+    says-answered r goes = sends.says r (λ E s x layout passes_are shows. let h = goes E s x layout passes_are shows in (h.0, h.1.shows)) stays
 
-    says : (result : Result Sent SendStop) → (result ≡ Err Gone → ⊥) → (sends : Sends files name toc request passes result old new) → Stays old new
-        → SendSays passes tells files name request (Some f) t (sent_reply result) (on_sent result g) u
-    says (Ok sent) there sends stays = says-answered (reply.Sent sent.images sent.skipped) sends.images sends.read sends.goes stays
-    says (Err (MissingImage guid)) there sends stays = says-answered (reply.Missing guid) sends.images sends.read sends.goes stays
-    says (Err (ImageTooLarge guid)) there sends stays = says-answered (reply.TooLarge guid) sends.images sends.read sends.goes stays
-    says (Err (Begin st)) there sends stays = says-answered (reply.BeginRefused st) sends.images sends.read sends.goes stays
-    says (Err (End st)) there sends stays = says-answered (reply.EndRefused st) sends.images sends.read sends.goes stays
-    says (Err ReadFailed) there sends stays = tt
-    says (Err Lost) there sends stays = tt
-    says (Err Fault) there sends stays = tt
-    says (Err Gone) there sends stays = absurd (there refl)
+  done-says : (kind : Bool) (sent : Sent) → SendsAs kind passes files name request (done_reply kind sent) old new → AnswersSend kind passes files name request (done_reply kind sent) old new
+  done-says false sent says = says
+  done-says true sent says = says
 
-    module _ (lacks_none : Lacks files name → ⊥) (yes : IsTrue tells) (E : Setting) (from : Condition) (passes_are : E.passes ≡ passes) (told : files ≡ Some E.files) (is : IsAt E from (Some f) t) where
-      abbrev state : State
-      state = is.shows.state
+  says : (result : Result Sent SendStop) → (result ≡ Err Gone → ⊥) → (sends : Sending partly files name request passes result old new) → Stays old new
+      → SendSays partly passes tells files name request (Some f) t (sent_reply partly result) (on_sent result g) u
+  says (Ok sent) there sends stays = done-says partly sent (says-answered (Ok sent) sends stays (done_reply partly sent) sends.goes)
+  says (Err (MissingImage guid)) there sends stays = says-answered (Err (MissingImage guid)) sends stays (reply.Missing guid) sends.goes
+  says (Err (ImageTooLarge guid)) there sends stays = says-answered (Err (ImageTooLarge guid)) sends stays (reply.TooLarge guid) sends.goes
+  says (Err (Begin st)) there sends stays = says-answered (Err (Begin st)) sends stays (reply.BeginRefused st) sends.goes
+  says (Err (End st)) there sends stays = says-answered (Err (End st)) sends stays (reply.EndRefused st) sends.goes
+  says (Err ReadFailed) there sends stays = tt
+  says (Err Lost) there sends stays = tt
+  says (Err Fault) there sends stays = tt
+  says (Err Gone) there sends stays = absurd (there refl)
 
-      shown : agent.Shows old state from.session
-      shown = subst (λ (b : Bool). agent.Shows (kept_at b f t) state from.session) (sym yes) is.shows.shows
+  module _ (yes : IsTrue tells) (E : Setting) (from : Condition) (passes_are : E.passes ≡ passes) (told : files ≡ Some E.files) (is : IsAt E from (Some f) t) where
+    abbrev state : State
+    state = is.shows.state
 
-      answers : (images : List (List ℕ)) → ((file : List ℕ) → Tells files name file → images ≡ images_of f.layout.rows file toc)
-          → answer E state from.session (send_call name request) ≡ send_answer E toc images request state from.session
-      answers images read =
-          subst (λ (x : Session). answer E state x (send_call name request) ≡ send_answer E toc images request state x) (sym is.shows.shows.means)
-          (sends-as E files name request state f.boot _ _ told lacks_none toc images table (λ file tells_it. read file tells_it ∙ ap (λ (l : Layout). images_of l.rows file toc) (sym is.shows.layout)))
+    abbrev what : Call
+    what = send_call partly name request
 
-      leads-answered : (r : Reply) (a : Answer) → answer E state from.session (send_call name request) ≡ a → IsFalse (is_stop r)
-          → (r ≡ a.reply) × Goes E (Ok tt) old new state a.moves a.next → Stays old new → Leads E from (quiet_turn (send_call name request) r) (Some g) u
-      leads-answered r a same no_stop goes stays =
-          step-answered E from name request r f t u is (stays.guard yes) a g same no_stop goes.0 stays.layout
-          (subst (λ (b : Bool). agent.Shows (kept_at b g u) (after state a.moves) a.next) yes goes.1.shows) (goes.1.does yes is.shows.ready).all
+    shown : agent.Shows old state from.session
+    shown = subst (λ (b : Bool). agent.Shows (kept_at b f t) state from.session) (sym yes) is.shows.shows
 
-      leads : (result : Result Sent SendStop) → (result ≡ Err Gone → ⊥) → (sends : Sends files name toc request passes result old new) → Stays old new
-          → Leads E from (quiet_turn (send_call name request) (sent_reply result)) (on_sent result g) u
-      leads (Ok sent) there sends stays =
-          leads-answered _ (send_answer E toc sends.images request state from.session) (answers sends.images sends.read) refl (sends.goes E state from.session is.shows.layout passes_are shown) stays
-      leads (Err (MissingImage guid)) there sends stays =
-          leads-answered _ (send_answer E toc sends.images request state from.session) (answers sends.images sends.read) refl (sends.goes E state from.session is.shows.layout passes_are shown) stays
-      leads (Err (ImageTooLarge guid)) there sends stays =
-          leads-answered _ (send_answer E toc sends.images request state from.session) (answers sends.images sends.read) refl (sends.goes E state from.session is.shows.layout passes_are shown) stays
-      leads (Err (Begin st)) there sends stays =
-          leads-answered _ (send_answer E toc sends.images request state from.session) (answers sends.images sends.read) refl (sends.goes E state from.session is.shows.layout passes_are shown) stays
-      leads (Err (End st)) there sends stays =
-          leads-answered _ (send_answer E toc sends.images request state from.session) (answers sends.images sends.read) refl (sends.goes E state from.session is.shows.layout passes_are shown) stays
-      leads (Err ReadFailed) there sends stays =
-          step-stopped E from name request reply.ReadFault f t u is (stays.guard yes) (answer E state from.session (call.Begin 0)).moves refl refl
-          ((sends.goes E state from.session is.shows.layout passes_are shown).does yes is.shows.ready).each
-      leads (Err Lost) there sends stays =
-          step-stopped E from name request reply.Lost f t u is (stays.guard yes) (send_answer E toc sends.images request state from.session).moves
-          (ap (λ (a : Answer). a.moves) (answers sends.images sends.read)) refl
-          ((sends.goes E state from.session is.shows.layout passes_are shown).does yes is.shows.ready).each
-      leads (Err Fault) there sends stays =
-          step-stopped E from name request reply.Fault f t u is (stays.guard yes) (send_answer E toc sends.images request state from.session).moves
-          (ap (λ (a : Answer). a.moves) (answers sends.images sends.read)) refl
-          ((sends.goes E state from.session is.shows.layout passes_are shown).does yes is.shows.ready).each
-      leads (Err Gone) there sends stays = absurd (there refl)
+    leads-answered : (r : Reply) (a : Answer) → answer E state from.session what ≡ a → IsFalse (is_stop r) → AnswersBy r a E old new state → Stays old new
+        → Leads E from (quiet_turn what r) (Some g) u
+    leads-answered r a same no_stop goes stays =
+        step-answered E from partly name request r f t u is (stays.guard yes) a g same no_stop goes.0 stays.layout
+        (subst (λ (b : Bool). agent.Shows (kept_at b g u) (after state a.moves) a.next) yes goes.1.shows) (goes.1.does yes is.shows.ready).all
+
+    leads : (result : Result Sent SendStop) → (result ≡ Err Gone → ⊥) → (sends : Sending partly files name request passes result old new) → Stays old new
+        → Leads E from (quiet_turn what (sent_reply partly result)) (on_sent result g) u
+    leads (Ok sent) there sends stays =
+        leads-answered (done_reply partly sent) _ (sends.own yes E state from.session is.shows.layout told shown) (done-calm partly sent) (sends.goes E state from.session is.shows.layout passes_are shown) stays
+    leads (Err (MissingImage guid)) there sends stays =
+        leads-answered (reply.Missing guid) _ (sends.own yes E state from.session is.shows.layout told shown) refl (sends.goes E state from.session is.shows.layout passes_are shown) stays
+    leads (Err (ImageTooLarge guid)) there sends stays =
+        leads-answered (reply.TooLarge guid) _ (sends.own yes E state from.session is.shows.layout told shown) refl (sends.goes E state from.session is.shows.layout passes_are shown) stays
+    leads (Err (Begin st)) there sends stays =
+        leads-answered (reply.BeginRefused st) _ (sends.own yes E state from.session is.shows.layout told shown) refl (sends.goes E state from.session is.shows.layout passes_are shown) stays
+    leads (Err (End st)) there sends stays =
+        leads-answered (reply.EndRefused st) _ (sends.own yes E state from.session is.shows.layout told shown) refl (sends.goes E state from.session is.shows.layout passes_are shown) stays
+    leads (Err ReadFailed) there sends stays =
+        step-stopped E from partly name request reply.ReadFault f t u is (stays.guard yes) (answer E state from.session (call.Begin 0)).moves refl refl
+        ((sends.goes E state from.session is.shows.layout passes_are shown).does yes is.shows.ready).each
+    leads (Err Lost) there sends stays =
+        step-stopped E from partly name request reply.Lost f t u is (stays.guard yes) (sends.answers E state from.session).moves
+        (ap (λ (a : Answer). a.moves) (sends.own yes E state from.session is.shows.layout told shown)) refl
+        ((sends.goes E state from.session is.shows.layout passes_are shown).does yes is.shows.ready).each
+    leads (Err Fault) there sends stays =
+        step-stopped E from partly name request reply.Fault f t u is (stays.guard yes) (sends.answers E state from.session).moves
+        (ap (λ (a : Answer). a.moves) (sends.own yes E state from.session is.shows.layout told shown)) refl
+        ((sends.goes E state from.session is.shows.layout passes_are shown).does yes is.shows.ready).each
+    leads (Err Gone) there sends stays = absurd (there refl)
 
   -- ---- the causes of a stop
 
-  lost-sent : (result : Result Sent SendStop) → sent_reply result ≡ reply.Lost → IsErrOf (flash_of result) flash_stop.Lost
-  lost-sent (Ok sent) e = absurd cc
+  lost-sent : (result : Result Sent SendStop) → sent_reply partly result ≡ reply.Lost → IsErrOf (flash_of result) flash_stop.Lost
+  lost-sent (Ok sent) e = absurd (let calm = done-calm partly sent in let stop = ap is_stop e in false≢true (sym calm ∙ stop))
   lost-sent (Err (MissingImage guid)) e = absurd cc
   lost-sent (Err (ImageTooLarge guid)) e = absurd cc
   lost-sent (Err (Begin st)) e = absurd cc
@@ -353,8 +556,8 @@ module _ (passes : List ℕ → Bool) (tells : Bool) (files : Option Directory) 
   lost-sent (Err Fault) e = absurd cc
   lost-sent (Err Gone) e = absurd cc
 
-  failed-sent : (result : Result Sent SendStop) → sent_reply result ≡ reply.Fault → IsErrOf (flash_of result) flash_stop.Failed
-  failed-sent (Ok sent) e = absurd cc
+  failed-sent : (result : Result Sent SendStop) → sent_reply partly result ≡ reply.Fault → IsErrOf (flash_of result) flash_stop.Failed
+  failed-sent (Ok sent) e = absurd (let calm = done-calm partly sent in let stop = ap is_stop e in false≢true (sym calm ∙ stop))
   failed-sent (Err (MissingImage guid)) e = absurd cc
   failed-sent (Err (ImageTooLarge guid)) e = absurd cc
   failed-sent (Err (Begin st)) e = absurd cc
@@ -364,8 +567,8 @@ module _ (passes : List ℕ → Bool) (tells : Bool) (files : Option Directory) 
   failed-sent (Err Fault) e = refl
   failed-sent (Err Gone) e = absurd cc
 
-  unread-sent : (result : Result Sent SendStop) → sent_reply result ≡ reply.ReadFault → result ≡ Err ReadFailed
-  unread-sent (Ok sent) e = absurd cc
+  unread-sent : (result : Result Sent SendStop) → sent_reply partly result ≡ reply.ReadFault → result ≡ Err ReadFailed
+  unread-sent (Ok sent) e = absurd (let calm = done-calm partly sent in let stop = ap is_stop e in false≢true (sym calm ∙ stop))
   unread-sent (Err (MissingImage guid)) e = absurd cc
   unread-sent (Err (ImageTooLarge guid)) e = absurd cc
   unread-sent (Err (Begin st)) e = absurd cc
@@ -376,8 +579,8 @@ module _ (passes : List ℕ → Bool) (tells : Bool) (files : Option Directory) 
   unread-sent (Err Gone) e = absurd cc
 
   -- a stop of the flash is told
-  told-stops : (result : Result Sent SendStop) → stops_in (flash_of result) ≤ stops_in (stop_told (sent_reply result))
-  told-stops (Ok sent) = omega arith
+  told-stops : (result : Result Sent SendStop) → stops_in (flash_of result) ≤ stops_in (stop_told (sent_reply partly result))
+  told-stops (Ok sent) = let none = ap (λ (r : Result (Unit {0}) FlashStop). stops_in r) (done-told partly sent) in omega (arith, none)
   told-stops (Err (MissingImage guid)) = omega arith
   told-stops (Err (ImageTooLarge guid)) = omega arith
   told-stops (Err (Begin st)) = omega arith
@@ -388,8 +591,8 @@ module _ (passes : List ℕ → Bool) (tells : Bool) (files : Option Directory) 
   told-stops (Err Gone) = omega arith
 
   -- and a failure of the files
-  told-unread : (result : Result Sent SendStop) → unread_in result ≤ unread_told (sent_reply result)
-  told-unread (Ok sent) = omega arith
+  told-unread : (result : Result Sent SendStop) → unread_in result ≤ unread_told (sent_reply partly result)
+  told-unread (Ok sent) = omega (arith, done-read partly sent)
   told-unread (Err (MissingImage guid)) = omega arith
   told-unread (Err (ImageTooLarge guid)) = omega arith
   told-unread (Err (Begin st)) = omega arith
@@ -400,8 +603,8 @@ module _ (passes : List ℕ → Bool) (tells : Bool) (files : Option Directory) 
   told-unread (Err Gone) = omega arith
 
   -- whether the device has power
-  powers : (result : Result Sent SendStop) → is_ok (flash_of result) ≡ power_after true (sent_reply result)
-  powers (Ok sent) = refl
+  powers : (result : Result Sent SendStop) → is_ok (flash_of result) ≡ power_after true (sent_reply partly result)
+  powers (Ok sent) = done-power partly sent
   powers (Err (MissingImage guid)) = refl
   powers (Err (ImageTooLarge guid)) = refl
   powers (Err (Begin st)) = refl
@@ -412,22 +615,27 @@ module _ (passes : List ℕ → Bool) (tells : Bool) (files : Option Directory) 
   powers (Err Gone) = refl
 
   -- what was done to the device
-  pub sent-takes : (result : Result Sent SendStop) (power : Bool) (least : ℕ) → power ≡ is_ok (flash_of result)
-      → (IsEarly result → (u ≡ t) × (ds ≡ cs) × (arming ≡ armed)) → OnOk result (TakesLeast (least + 4) armed arming)
-      → SendTakes (sent_reply result) (at (Some f) t cs armed true) (at (on_sent result g) u ds arming power)
-  sent-takes (Ok sent) power least powered same takes = (least + 4, omega arith, takes)
-  sent-takes (Err (MissingImage guid)) power least powered same takes = let d = same tt in record { told = d.0; counts = d.1; armed = d.2; power = powered }
-  sent-takes (Err (ImageTooLarge guid)) power least powered same takes = let d = same tt in record { told = d.0; counts = d.1; armed = d.2; power = powered }
-  sent-takes (Err (Begin st)) power least powered same takes = let d = same tt in record { told = d.0; counts = d.1; armed = d.2; power = powered }
-  sent-takes (Err (End st)) power least powered same takes = tt
-  sent-takes (Err ReadFailed) power least powered same takes = tt
-  sent-takes (Err Lost) power least powered same takes = tt
-  sent-takes (Err Fault) power least powered same takes = tt
-  sent-takes (Err Gone) power least powered same takes = tt
+  done-takes : (kind : Bool) (sent : Sent) (toc : Toc) (from to : Moment) → IsTableOf files name (Ok toc) → TakesSent (writes_of kind f toc) from.armed to.armed
+      → SendTakes files name f (done_reply kind sent) from to
+  done-takes false sent toc from to table takes = record { toc = toc; table = table; spent = takes }
+  done-takes true sent toc from to table takes = record { toc = toc; table = table; spent = takes }
+
+  pub sent-takes : (result : Result Sent SendStop) (power : Bool) (toc : Toc) → power ≡ is_ok (flash_of result)
+      → (IsEarly result → (u ≡ t) × (ds ≡ cs) × (arming ≡ armed)) → IsTableOf files name (Ok toc) → OnOk result (TakesSent (writes_of partly f toc) armed arming)
+      → SendTakes files name f (sent_reply partly result) (at (Some f) t cs armed true) (at (on_sent result g) u ds arming power)
+  sent-takes (Ok sent) power toc powered same table takes = done-takes partly sent toc _ _ table takes
+  sent-takes (Err (MissingImage guid)) power toc powered same table takes = let d = same tt in record { told = d.0; counts = d.1; armed = d.2; power = powered }
+  sent-takes (Err (ImageTooLarge guid)) power toc powered same table takes = let d = same tt in record { told = d.0; counts = d.1; armed = d.2; power = powered }
+  sent-takes (Err (Begin st)) power toc powered same table takes = let d = same tt in record { told = d.0; counts = d.1; armed = d.2; power = powered }
+  sent-takes (Err (End st)) power toc powered same table takes = tt
+  sent-takes (Err ReadFailed) power toc powered same table takes = tt
+  sent-takes (Err Lost) power toc powered same table takes = tt
+  sent-takes (Err Fault) power toc powered same table takes = tt
+  sent-takes (Err Gone) power toc powered same table takes = tt
 
   pub sent-free : (result : Result Sent SendStop) (power : Bool) → StaysUnarmed (flash_of result) armed arming cs ds
-      → StaysFree (sent_reply result) (at (Some f) t cs armed true) (at (on_sent result g) u ds arming power)
-  sent-free (Ok sent) power free = free
+      → StaysFree (sent_reply partly result) (at (Some f) t cs armed true) (at (on_sent result g) u ds arming power)
+  sent-free (Ok sent) power free = subst (λ (told : Result (Unit {0}) FlashStop). StaysUnarmed told armed arming cs ds) (sym (done-told partly sent)) free
   sent-free (Err (MissingImage guid)) power free = free
   sent-free (Err (ImageTooLarge guid)) power free = free
   sent-free (Err (Begin st)) power free = free
@@ -438,49 +646,70 @@ module _ (passes : List ℕ → Bool) (tells : Bool) (files : Option Directory) 
   sent-free (Err Gone) power free = free
 
   -- the turn of a sending that ended, on a device that has power
-  pub sent-turn : (result : Result Sent SendStop) (power : Bool) → power ≡ is_ok (flash_of result) → (result ≡ Err Gone → ⊥) → IsTableOf files name (Ok toc) → (Lacks files name → ⊥)
-      → Sends files name toc request passes result old new → ∥ agent.Showing old ∥₁ → (IsTrue tells → agent.Showing old)
+  pub sent-turn : (result : Result Sent SendStop) (power : Bool) → power ≡ is_ok (flash_of result) → (result ≡ Err Gone → ⊥) → (Lacks files name → ⊥)
+      → Sending partly files name request passes result old new → ∥ agent.Showing old ∥₁ → (IsTrue tells → agent.Showing old)
       → Spends (flash_of result) cs ds → ReadsBy was are result
-      → TakesSending (sent_reply result) (at (Some f) t cs armed true) (at (on_sent result g) u ds arming power)
-      → Turns passes tells files (send_call name request) (quiet_turn (send_call name request) (sent_reply result)) (at (Some f) t cs armed true) (at (on_sent result g) u ds arming power) was are
-  sent-turn result power powered there table lacks_none sends some showing spent reads takes = record {
+      → SendTakes files name f (sent_reply partly result) (at (Some f) t cs armed true) (at (on_sent result g) u ds arming power)
+      → StaysFree (sent_reply partly result) (at (Some f) t cs armed true) (at (on_sent result g) u ds arming power)
+      → Turns passes tells files (send_call partly name request) (quiet_turn (send_call partly name request) (sent_reply partly result)) (at (Some f) t cs armed true) (at (on_sent result g) u ds arming power) was are
+  sent-turn result power powered there lacks_none sends some showing spent reads takes free = record {
     call_is = refl;
     unnumbered = λ no. refl;
     counts = record { faults = spent.faults; cuts = spent.cuts; reached = spent.reached; chances = spent.chances };
-    made = spent.made;
-    armed = tt;
+    made = makes-none partly name request cs.made ds.made spent.made;
+    armed = never-cuts partly name request (sent_reply partly result) arming;
+    free = λ no. free;
     lost = λ e. spent.lost (lost-sent result e);
     failed = λ e. spent.failed (failed-sent result e);
     once = omega (arith, spent.once, told-stops result);
-    unread = λ e. inl (reads.failed (unread-sent result e));
-    lacking = λ lacks some. absurd (lacks_none lacks);
+    unread = λ e. not-read partly files name request was are (inl (reads.failed (unread-sent result e)));
+    lacking = λ lacks some. absurd (lacks_none (lacks-sent partly files name request lacks));
     later = reads.later;
     unread_once = omega (arith, reads.once, told-unread result);
-    reads_none = λ e. absurd cc;
-    replies = says table result there sends stays;
-    takes = record { by_call = takes; unread = λ e none. absurd (none (reads.failed (unread-sent result e))) };
+    reads_none = λ e. absurd (always-reads partly name request e);
+    replies = replies-as partly passes tells files name request _ _ (sent_reply partly result) (says result there sends stays);
+    takes = record { by_call = takes-as partly files name request f _ (sent_reply partly result) _ takes; unread = λ e none. absurd (none (reads.failed (unread-sent result e))) };
     power = powered ∙ powers result;
     guard = stays.guard;
-    step = λ yes E from passes_are told is no_chance. leads table lacks_none yes E from passes_are told is result there sends stays;
+    step = λ yes E from passes_are told is no_chance. leads yes E from passes_are told is result there sends stays;
+    keeps = λ yes h on no.
+        let one = showing yes in
+        subst (λ (fields : Fields). KeepsSparedByAll fields t u) (same_Some f h on)
+        (keeps-by partly result (sends.answers (with_layout f passes) one.state one.session) (with_layout f passes) old new one.state one.session
+        (sends.goes (with_layout f passes) one.state one.session refl refl one.shows) yes);
+    spares = λ e h on no whole. absurd (always-composed partly name request whole);
+    decides = λ e h on agents whole. absurd (always-composed partly name request whole);
     safe = λ yes rest.
         let one = showing yes in
         subst (λ (b : Bool). IsSafe b u) (sym powered) (safe-by (flash_of result) t u (stays.guard yes) rest
-        (guarded-by result (with_layout f passes) toc sends.images request old new one.state one.session
+        (guarded-by partly result (sends.answers (with_layout f passes) one.state one.session) (with_layout f passes) old new one.state one.session
         (sends.goes (with_layout f passes) one.state one.session refl refl one.shows) yes rest));
     boots = λ e off. absurd cc;
   }
     where
       stays : Stays old new
-      stays = ∥∥₁_elim some (hlevel props) (stays-of files name toc request passes result old new sends)
+      stays = ∥∥₁_elim some (hlevel props) (stays-of partly files name request passes result old new sends)
 
 -- ---- what the code has
 
--- what is known of a flash, by what its agent keeps
-pub moment-as : {D : Type 0} {F : Ghosts D} (p : Powered D F) (on : Option Fields) (d : D) → shown_on p ≡ on → device p ≡ d
-    → moment_of p ≡ at on (F.told d) (F.counts d) (F.arming d) (F.on d)
-moment-as {F = F} p on d is same =
-    ap (λ (o : Option Fields). at o (F.told (device p)) (F.counts (device p)) (F.arming (device p)) (F.on (device p))) is
-    ∙ ap (λ (e : _). at on (F.told e) (F.counts e) (F.arming e) (F.on e)) same
+-- what is known of the flash of an agent that is there, or is not
+pub moment-as : {D : Type 0} {F : Ghosts D} (a : Agent D F) (was there : Bool) → was ≡ there → moment_where was a ≡ moment_where there a
+moment-as a was there is = ap (λ (h : Bool). moment_where h a) is
+
+-- after a sending
+pub moment-sent : {D : Type 0} {F : Ghosts D} (a : Agent D F) (there : Bool) (result : Result Sent SendStop) → there ≡ is_answered result → moment_where there a ≡ with (on_sent result (fields a)) a
+moment-sent a there result is = ap (λ (h : Bool). moment_where h a) is ∙ ap (λ (on : Option Fields). with on a) (kept result (fields a))
+  where
+    kept : (sent : Result Sent SendStop) (f : Fields) → on_where (is_answered sent) f ≡ on_sent sent f
+    kept (Ok sent) f = refl
+    kept (Err (MissingImage guid)) f = refl
+    kept (Err (ImageTooLarge guid)) f = refl
+    kept (Err (Begin st)) f = refl
+    kept (Err (End st)) f = refl
+    kept (Err ReadFailed) f = refl
+    kept (Err Lost) f = refl
+    kept (Err Fault) f = refl
+    kept (Err Gone) f = refl
 
 pub with-power : (m : Moment) → IsTrue m.power → m ≡ at m.on m.told m.counts m.armed true
 with-power m power = ap (λ (on : Bool). at m.on m.told m.counts m.armed on) power
@@ -502,27 +731,31 @@ rose-from a b c le (inl rose) = inl (omega arith)
 rose-from a b c le (inr full) = inr full
 
 -- a sending behind a reading of the file
-pub sends-later : {passes : List ℕ → Bool} {tells : Bool} {files : Option Directory} {name : List ℕ} {request : ℕ} {t : Turn} {old new : Moment} (was mid are : ℕ) → was ≤ mid → mid ≤ was
-    → Turns passes tells files (send_call name request) t old new mid are → Turns passes tells files (send_call name request) t old new was are
-sends-later {files = files} {name = name} was mid are le none turns = record {
+pub sends-later : (partly : Bool) (name : List ℕ) (request : ℕ) {passes : List ℕ → Bool} {tells : Bool} {files : Option Directory} {t : Turn} {old new : Moment} (was mid are : ℕ) → was ≤ mid → mid ≤ was
+    → Turns passes tells files (send_call partly name request) t old new mid are → Turns passes tells files (send_call partly name request) t old new was are
+sends-later partly name request {files = files} was mid are le none turns = record {
   call_is = turns.call_is;
   unnumbered = turns.unnumbered;
   counts = turns.counts;
   made = turns.made;
   armed = turns.armed;
+  free = turns.free;
   lost = turns.lost;
   failed = turns.failed;
   once = turns.once;
-  unread = λ e. earlier (turns.unread e);
+  unread = λ e. not-read partly files name request was are (earlier (why-not-read partly files name request mid are (turns.unread e)));
   lacking = turns.lacking;
   later = omega (arith, turns.later);
   unread_once = omega (arith, none, turns.unread_once);
-  reads_none = λ e. absurd cc;
+  reads_none = λ e. absurd (always-reads partly name request e);
   replies = turns.replies;
   takes = record { by_call = turns.takes.by_call; unread = λ e none. turns.takes.unread e (λ rose. none (rose-from was mid are le rose)) };
   power = turns.power;
   guard = turns.guard;
   step = turns.step;
+  keeps = turns.keeps;
+  spares = turns.spares;
+  decides = turns.decides;
   safe = turns.safe;
   boots = turns.boots;
 }

@@ -10,8 +10,9 @@ use Rattle.fwu_model.specs.Reply as reply
 use Rattle.agent_machine.specs.declared.stop.Stop.{Stop}
 use Rattle.agent_machine.specs.declared.stop.Stop.TheVariants as stop
 use Rattle.agent_machine.specs.Fields.{Fields}
+use Rattle.agent_calls.specs.declared.agent.Agent.{Agent}
 use Rattle.agent_calls.specs.Shown.{device, fields}
-use Rattle.script_turns.specs.declared.powered.Live.{Live}
+use Rattle.script_turns.specs.Stage.{on_where}
 use Rattle.script_turns.specs.Powered.{Moment, at}
 
 -- the call of an open
@@ -23,6 +24,7 @@ open_call guid op.Write = call.OpenWrite guid
 abbrev pub is_agents : Call → Bool
 is_agents call.Discover = true
 is_agents (call.Begin n) = true
+is_agents (call.BeginPartial types) = true
 is_agents (call.OpenRead guid) = true
 is_agents (call.OpenWrite guid) = true
 is_agents (call.Write handle bytes) = true
@@ -33,9 +35,18 @@ is_agents call.Cancel = true
 is_agents (call.Accepts guid) = true
 is_agents call.Previous = true
 is_agents (call.Send name request) = false
+is_agents (call.SendPartial name request) = false
 is_agents call.Boot = false
 is_agents (call.Cut n k) = false
 is_agents call.Show = false
+is_agents call.NoCall = false
+
+-- the calls that do several of the agent's moves in a row: a partial begin, which copies images, and the sendings
+abbrev pub is_composed : Call → Bool
+is_composed (call.BeginPartial types) = true
+is_composed (call.Send name request) = true
+is_composed (call.SendPartial name request) = true
+is_composed other = false
 
 -- the reply of a call that was not answered; an agent that is there is never gone
 abbrev pub stop_reply : Stop → Reply
@@ -64,8 +75,7 @@ on_by (Err stop.Lost) f = None
 on_by (Err stop.Fault) f = None
 on_by (Err stop.Gone) f = None
 
--- a flash with its agent
-abbrev pub moment_live : {D : Type 0} {F : Ghosts D} → Live D F → Moment
-moment_live {F = F} live =
-    let d = device live.agent in
-    at (Some (fields live.agent)) (F.told d) (F.counts d) (F.arming d) (F.on d)
+-- the flash of an agent that is there, or is not
+abbrev pub moment_where : {D : Type 0} {F : Ghosts D} → Bool → Agent D F → Moment
+moment_where {F = F} here a =
+    at (on_where here (fields a)) (F.told (device a)) (F.counts (device a)) (F.arming (device a)) (F.on (device a))

@@ -1,3 +1,4 @@
+pub mod Stage
 pub mod Powered
 pub mod Booted
 pub mod Arms
@@ -6,6 +7,8 @@ pub mod Replies
 pub mod Tables
 pub mod Sending
 pub mod Takes
+pub mod Deciding
 pub mod Turning
 pub mod Calls
 pub mod Needs
+pub mod Runs

@@ -1,5 +1,6 @@
 -- The flash of a run between two turns, as the definitions have it.
-use Rattle.std.specs.Prelude.{◌≡◌, Bool, true, false, [], ◌∷◌, Option, Some, None}
+use Rattle.std.specs.Prelude.{◌≡◌, Bool, true, false, [], ◌∷◌, Option, Some, None, IsTrue, is_some}
+use Rattle.std.proofs.lemmas.Bool.{false≢true}
 use Rattle.flash_core.specs.declared.flash.Arming.{Arming}
 use Rattle.flash_core.specs.declared.flash.Flash.{Ghosts}
 use Rattle.flash_core.specs.declared.flash.Counts.{Counts}
@@ -7,33 +8,33 @@ use Rattle.flash_core.specs.Told.{Told}
 use Rattle.flash_core.specs.May.{Guards}
 use Rattle.fwu_model.specs.State.{State, Numbers}
 use Rattle.fwu_model.specs.Sound.{Setting}
-use Rattle.fwu_model.specs.Session.{Off}
+use Rattle.fwu_model.specs.Session.{Session, Off}
 use Rattle.fwu_model.specs.Run.{Condition}
 use Rattle.fwu_model.specs.Headline.{LeavesOneOf}
 use Rattle.fwu_model.specs.Calm.{IsGuarded, IsAtRest}
-use Rattle.moves.specs.Moved.{IsReady}
+use Rattle.fwu_model.specs.Replica.{BothHold}
+use Rattle.moves.specs.Moved.{IsReady, IsShown}
 use Rattle.agent_machine.specs.Fields.{Fields}
 use Rattle.agent_machine.specs.Moment as agent
-use Rattle.agent_calls.specs.Shown as of_agent
 use Rattle.script_turns.specs.declared.powered.Powered.{Powered}
-use Rattle.script_turns.specs.declared.powered.Powered.TheVariants as powered
+use Rattle.script_turns.specs.declared.stage.Stage.{Stage}
+use Rattle.script_turns.specs.Stage as stage
+
+-- what an option has that has something
+abbrev pub the : {T : Type 0} (o : Option T) → IsTrue (is_some o) → T
+the (Some x) there = x
+the None there = absurd (false≢true there)
 
 abbrev pub device : {D : Type 0} {F : Ghosts D} → Powered D F → D
-device (powered.Off flash) = flash
-device (powered.Fresh fresh) = fresh.flash
-device (powered.On live) = of_agent.device live.agent
+device p = stage.device (the p.inside p.there)
 
 -- what the agent keeps, where a bank was started on the flash
 abbrev pub shown_on : {D : Type 0} {F : Ghosts D} → Powered D F → Option Fields
-shown_on (powered.Off flash) = None
-shown_on (powered.Fresh fresh) = None
-shown_on (powered.On live) = Some (of_agent.fields live.agent)
+shown_on p = stage.shown_on (the p.inside p.there)
 
 -- whether it is one that has power
 abbrev pub has_power : {D : Type 0} {F : Ghosts D} → Powered D F → Bool
-has_power (powered.Off flash) = false
-has_power (powered.Fresh fresh) = true
-has_power (powered.On live) = true
+has_power p = stage.has_power (the p.inside p.there)
 
 -- the numbers of the flash, by what its agent keeps
 abbrev pub numbers_kept : Fields → Numbers
@@ -65,9 +66,13 @@ abbrev pub moment : {D : Type 0} → (D → Told) → (D → Counts) → (D → 
     → Moment
 moment told counts arming power flash = at None (told flash) (counts flash) (arming flash) (power flash)
 
+abbrev pub moment_in : {D : Type 0} {F : Ghosts D} → Stage D F → Moment
+moment_in {F = F} s =
+    at (stage.shown_on s) (F.told (stage.device s)) (F.counts (stage.device s)) (F.arming (stage.device s)) (F.on (stage.device s))
+
 -- a flash between two turns
 abbrev pub moment_of : {D : Type 0} {F : Ghosts D} → Powered D F → Moment
-moment_of {F = F} p = at (shown_on p) (F.told (device p)) (F.counts (device p)) (F.arming (device p)) (F.on (device p))
+moment_of p = moment_in (the p.inside p.there)
 
 -- the device is as it was
 pub record SameDevice (old new : Moment) : Type 0 where
@@ -80,9 +85,18 @@ pub record SameDevice (old new : Moment) : Type 0 where
 abbrev pub kept_at : Bool → Fields → Told → agent.Moment
 kept_at tells f t = record { tells = tells; told = t; fields = f }
 
--- what the agent keeps fits some machine, where a bank was started
+-- where the device tells its content, sound or not, the flash shows the state that the agent shows: what was answered stands there
+abbrev pub IsSeen : Bool → Fields → Told → Type 0
+IsSeen tells f t = IsTrue tells → (s : State) (x : Session) → agent.Shows (kept_at tells f t) s x → IsShown f.layout t.now s
+
+-- and both replicas hold the metadata that the agent keeps
+abbrev pub IsHeld : Bool → Fields → Told → Type 0
+IsHeld tells f t = IsTrue tells → BothHold f.layout f.meta t.now
+
+-- what the agent keeps fits some machine, where a bank was started, and the flash shows it, by two replicas
 abbrev pub Fits : Bool → Moment → Type 0
-Fits tells m = (f : Fields) → m.on ≡ Some f → ∥ agent.Showing (kept_at tells f m.told) ∥₁
+Fits tells m = (f : Fields) → m.on ≡ Some f
+    → ∥ agent.Showing (kept_at tells f m.told) ∥₁ × IsSeen tells f m.told × IsHeld tells f m.told
 
 -- ---- the condition of a run, on a flash that tells its content
 

@@ -1,5 +1,5 @@
--- What a turn of `send` says, on any device and of any file.
-use Rattle.std.specs.Prelude.{◌≡◌, ℕ, Bool, true, false, List, Option, Some, None, Result, Ok, Err, ⊤}
+-- What a turn of `send` says, whole or partial, on any device and of any file.
+use Rattle.std.specs.Prelude.{◌≡◌, ◌<◌, ℕ, Bool, true, false, List, length, Option, Some, None, Result, Ok, Err, IsTrue, ⊤, slice_index_or}
 use Rattle.host_io.specs.Contents.{Directory}
 use Rattle.flash_core.specs.Told.{Told}
 use Rattle.fwu_formats.specs.Package.{Toc}
@@ -10,7 +10,7 @@ use Rattle.fwu_model.specs.Call.{Call}
 use Rattle.fwu_model.specs.Call as call
 use Rattle.fwu_model.specs.Reply.{Reply}
 use Rattle.fwu_model.specs.Reply as reply
-use Rattle.fwu_model.specs.Answer.{images_of, table_in}
+use Rattle.fwu_model.specs.Answer.{has_image, image_held, images_of, images_over, table_in}
 use Rattle.fip_tables.specs.Files.{Lacks, Tells}
 use Rattle.agent_machine.specs.Fields.{Fields}
 use Rattle.agent_machine.specs.Moment as agent
@@ -18,8 +18,15 @@ use Rattle.agent_machine.specs.Meets.{Stays}
 use Rattle.update_client.specs.declared.stops.Sent.{Sent}
 use Rattle.update_client.specs.declared.stops.SendStop.{SendStop}
 use Rattle.update_client.specs.declared.stops.SendStop.TheVariants.{MissingImage, ImageTooLarge, Begin, End, ReadFailed, Lost, Fault, Gone}
+use Rattle.update_client.specs.Choosing.{no_row}
 use Rattle.update_client.specs.Sends.{send_answer}
+use Rattle.update_client.specs.Partial.{over_answer}
 use Rattle.script_turns.specs.Powered.{kept_at}
+
+-- a sending of all images, or one over those of the active bank
+abbrev pub send_call : Bool → List ℕ → ℕ → Call
+send_call false name request = call.Send name request
+send_call true name request = call.SendPartial name request
 
 -- the table of the file, where its bytes are told, or what is answered to it
 abbrev pub IsTableOf : Option Directory → List ℕ → Result Toc Reply → Type 0
@@ -28,6 +35,7 @@ IsTableOf files name found = (file : List ℕ) → Tells files name file → tab
 -- told files lack what is to be sent
 abbrev pub LacksSent : Option Directory → Call → Type 0
 LacksSent files (call.Send name request) = Lacks files name
+LacksSent files (call.SendPartial name request) = Lacks files name
 LacksSent files other = ⊥
 
 -- Some table and images were sent, those of the file where it is told; the answer is that of each machine that the agent shows, and
@@ -43,11 +51,35 @@ pub record SendsBy (passes : List ℕ → Bool) (files : Option Directory) (name
       × agent.Shows new (after s (send_answer E toc images request s x).moves) (send_answer E toc images request s x).next
   pub stays : Stays old new
 
+-- Some table and images were sent over some bytes of the images that the table lacks, which are the active bank's where the device
+-- tells. The images are those of the file over these bytes where it is told. The answer is that of each machine that the agent
+-- shows, and it shows the machine after it.
+pub record SendsOverBy (passes : List ℕ → Bool) (files : Option Directory) (name : List ℕ) (request : ℕ) (r : Reply)
+    (old new : agent.Moment) : Type 0 where
+  pub toc : Toc
+  pub bytes : ℕ → List ℕ
+  pub copied : IsTrue old.tells → (s : State) (x : Session) → agent.Shows old s x → (i : ℕ) → i < length old.fields.layout.rows
+      → has_image toc (slice_index_or old.fields.layout.rows i no_row) ≡ false → bytes i ≡ image_held s s.active i
+  pub images : List (List ℕ)
+  pub table : IsTableOf files name (Ok toc)
+  pub read : (file : List ℕ) → Tells files name file → images ≡ images_over old.fields.layout.rows file toc bytes
+  pub exact : (E : Setting) (s : State) (x : Session) → E.layout ≡ old.fields.layout → E.passes ≡ passes → agent.Shows old s x
+      → (r ≡ (over_answer E toc images request s x).reply)
+      × agent.Shows new (after s (over_answer E toc images request s x).moves) (over_answer E toc images request s x).next
+  pub stays : Stays old new
+
+-- by whether it is partial
+abbrev pub SendsAs : Bool → (List ℕ → Bool) → Option Directory → List ℕ → ℕ → Reply → agent.Moment → agent.Moment → Type 0
+SendsAs false passes files name request r old new = SendsBy passes files name request r old new
+SendsAs true passes files name request r old new = SendsOverBy passes files name request r old new
+
 -- A file without a table is answered by its first fault, and the agent is as it was; else what it holds is sent.
-abbrev pub AnswersSend : (List ℕ → Bool) → Option Directory → List ℕ → ℕ → Reply → agent.Moment → agent.Moment → Type 0
-AnswersSend passes files name request (reply.BadPackage f) old new = IsTableOf files name (Err (reply.BadPackage f)) × (new ≡ old)
-AnswersSend passes files name request (reply.BadCapsule f) old new = IsTableOf files name (Err (reply.BadCapsule f)) × (new ≡ old)
-AnswersSend passes files name request r old new = SendsBy passes files name request r old new
+abbrev pub AnswersSend : Bool → (List ℕ → Bool) → Option Directory → List ℕ → ℕ → Reply → agent.Moment → agent.Moment → Type 0
+AnswersSend partial passes files name request (reply.BadPackage f) old new =
+    IsTableOf files name (Err (reply.BadPackage f)) × (new ≡ old)
+AnswersSend partial passes files name request (reply.BadCapsule f) old new =
+    IsTableOf files name (Err (reply.BadCapsule f)) × (new ≡ old)
+AnswersSend partial passes files name request r old new = SendsAs partial passes files name request r old new
 
 -- the flash stopped it, or the file could not be read
 abbrev pub IsSendStop : Reply → Type 0
@@ -57,26 +89,31 @@ IsSendStop reply.ReadFault = ⊤
 IsSendStop other = ⊥
 
 -- While off nothing is sent. Else it is answered, or stopped and nothing is on.
-abbrev pub SendSays : (List ℕ → Bool) → Bool → Option Directory → List ℕ → ℕ → Option Fields → Told → Reply → Option Fields → Told
-    → Type 0
-SendSays passes tells files name request None before r on now = (r ≡ reply.IsOff) × (on ≡ None)
-SendSays passes tells files name request (Some f) before r None now = IsSendStop r
-SendSays passes tells files name request (Some f) before r (Some g) now =
-    AnswersSend passes files name request r (kept_at tells f before) (kept_at tells g now)
+abbrev pub SendSays : Bool → (List ℕ → Bool) → Bool → Option Directory → List ℕ → ℕ → Option Fields → Told → Reply
+    → Option Fields → Told → Type 0
+SendSays partial passes tells files name request None before r on now = (r ≡ reply.IsOff) × (on ≡ None)
+SendSays partial passes tells files name request (Some f) before r None now = IsSendStop r
+SendSays partial passes tells files name request (Some f) before r (Some g) now =
+    AnswersSend partial passes files name request r (kept_at tells f before) (kept_at tells g now)
 
 -- ---- a sending that ended
 
+-- what is told of one that was done: of a partial one also how many images were copied
+abbrev pub done_reply : Bool → Sent → Reply
+done_reply false sent = reply.Sent sent.images sent.skipped
+done_reply true sent = reply.SentPartial sent.images sent.skipped sent.copied
+
 -- the reply; an agent that is there is never gone
-abbrev pub sent_reply : Result Sent SendStop → Reply
-sent_reply (Ok sent) = reply.Sent sent.images sent.skipped
-sent_reply (Err (MissingImage guid)) = reply.Missing guid
-sent_reply (Err (ImageTooLarge guid)) = reply.TooLarge guid
-sent_reply (Err (Begin st)) = reply.BeginRefused st
-sent_reply (Err (End st)) = reply.EndRefused st
-sent_reply (Err ReadFailed) = reply.ReadFault
-sent_reply (Err Lost) = reply.Lost
-sent_reply (Err Fault) = reply.Fault
-sent_reply (Err Gone) = reply.IsOff
+abbrev pub sent_reply : Bool → Result Sent SendStop → Reply
+sent_reply partial (Ok sent) = done_reply partial sent
+sent_reply partial (Err (MissingImage guid)) = reply.Missing guid
+sent_reply partial (Err (ImageTooLarge guid)) = reply.TooLarge guid
+sent_reply partial (Err (Begin st)) = reply.BeginRefused st
+sent_reply partial (Err (End st)) = reply.EndRefused st
+sent_reply partial (Err ReadFailed) = reply.ReadFault
+sent_reply partial (Err Lost) = reply.Lost
+sent_reply partial (Err Fault) = reply.Fault
+sent_reply partial (Err Gone) = reply.IsOff
 
 -- what the agent keeps, where it is there afterwards
 abbrev pub on_sent : Result Sent SendStop → Fields → Option Fields

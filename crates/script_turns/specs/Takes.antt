@@ -1,15 +1,21 @@
 -- What an armed loss counts of a turn, on any device.
-use Rattle.std.specs.Prelude.{◌≡◌, ℕ, ◌-◌, ◌≤◌, List, length, Option, Some, None, Result, Ok, Err, ⊤}
+use Rattle.std.specs.Prelude.{◌≡◌, ℕ, ◌+◌, ◌-◌, List, length, Option, Some, None, Result, Ok, Err, ⊤}
 use Rattle.flash_core.specs.declared.flash.FlashStop.{FlashStop}
 use Rattle.flash_core.specs.declared.flash.FlashStop.TheVariants as flash_stop
 use Rattle.flash_core.specs.Counts.{ReachesNone, Rose, StaysUnarmed, arming_kept}
+use Rattle.base_core.specs.Block.{block_bytes}
+use Rattle.host_io.specs.Contents.{Directory}
+use Rattle.fwu_formats.specs.Package.{Toc}
 use Rattle.slot_writer.specs.Writes.{SpendsArming, writes_to_append, writes_to_finish}
 use Rattle.agent_kept.specs.Kept.{handle_kept, part_at, size_of}
 use Rattle.agent_kept.specs.declared.parts.Handle.TheVariants as handle
 use Rattle.agent_machine.specs.Fields.{Fields}
 use Rattle.agent_machine.specs.Ends.{IsWriter, TakesSwitch}
 use Rattle.agent_machine.specs.Stored.{TakesStore}
-use Rattle.update_client.specs.Takes.{Takes as TakesLeast}
+use Rattle.agent_calls.specs.Takes.{Takes as TakesWrites, writes_to_begin, writes_to_copy}
+use Rattle.update_client.specs.Takes.{SendTakes as TakesSent, writes_sent}
+use Rattle.update_client.specs.Partial.{writes_over}
+use Rattle.fwu_model.specs.Answer.{are_named}
 use Rattle.fwu_model.specs.Call.{Call}
 use Rattle.fwu_model.specs.Call as call
 use Rattle.fwu_model.specs.Reply.{Reply}
@@ -18,6 +24,7 @@ use Rattle.early_boot.specs.Ends.{Ended}
 use Rattle.early_boot.specs.EndsBy.{TakesBoot}
 use Rattle.script_turns.specs.Boots.{reply_of_end}
 use Rattle.script_turns.specs.Powered.{Moment, SameDevice}
+use Rattle.script_turns.specs.Sending.{IsTableOf}
 
 -- how the flash's own calls tell of a turn with this reply
 abbrev pub stop_told : Reply → Result (Unit {0}) FlashStop
@@ -40,9 +47,13 @@ IsStoredBy reply.Success f (Some g) old new = TakesStore f.meta g.meta old.armed
 IsStoredBy (reply.Refused st) f on old new = new.armed ≡ old.armed
 IsStoredBy other f on old new = ⊤
 
-pub record StoresBy (r : Reply) (f : Fields) (on : Option Fields) (old new : Moment) : Type 0 where
-  pub spent : IsStoredBy r f on old new
-  pub unarmed : StaysFree r old new
+-- A partial begin that is done wrote what a begin writes, and each image that is copied, and no other. A refused one did not touch
+-- the arming.
+abbrev pub BeginsOver : Reply → List (List ℕ) → Fields → Moment → Moment → Type 0
+BeginsOver reply.Success types f old new = TakesWrites (writes_to_begin f
+    + writes_to_copy (are_named f.layout.rows types) f.lengths (length f.layout.rows)) old.armed new.armed
+BeginsOver (reply.Refused st) types f old new = new.armed ≡ old.armed
+BeginsOver other types f old new = ⊤
 
 -- what a write through a handle wrote, by the image of the handle; a refused one did nothing
 abbrev pub WritesBy : Reply → Fields → ℕ → List ℕ → Moment → Moment → Type 0
@@ -63,29 +74,36 @@ IsSwitchedBy reply.Success old new = TakesSwitch old.armed new.armed
 IsSwitchedBy (reply.Refused st) old new = SameDevice old new
 IsSwitchedBy other old new = ⊤
 
-pub record SwitchesBy (r : Reply) (old new : Moment) : Type 0 where
-  pub spent : IsSwitchedBy r old new
-  pub unarmed : StaysFree r old new
-
 -- A read writes nothing, and reaches no armed loss. A loss that no arming made clears the arming.
 pub record ReadsBy (r : Reply) (old new : Moment) : Type 0 where
   pub armed : new.armed ≡ arming_kept (stop_told r) old.armed
   pub reached : ReachesNone (stop_told r) old.counts new.counts
 
--- A sending that is done takes at least a store's erases and programs, with an erase of each block that its images reach. What was
--- refused before anything was sent did nothing.
-abbrev pub SendTakes : Reply → Moment → Moment → Type 0
-SendTakes (reply.Sent images skipped) old new = (least : ℕ) × (4 ≤ least) × TakesLeast least old.armed new.armed
-SendTakes (reply.BadPackage f) old new = SameDevice old new
-SendTakes (reply.BadCapsule f) old new = SameDevice old new
-SendTakes (reply.Missing guid) old new = SameDevice old new
-SendTakes (reply.TooLarge guid) old new = SameDevice old new
-SendTakes (reply.BeginRefused st) old new = SameDevice old new
-SendTakes other old new = ⊤
+-- the writes of a sending up to its end: those of its begin, and of its images in pieces of 4096 bytes
+abbrev pub writes_whole : Fields → Toc → ℕ
+writes_whole f toc = writes_to_begin f + writes_sent block_bytes f.layout.rows toc
 
-pub record TakesSending (r : Reply) (old new : Moment) : Type 0 where
-  pub spent : SendTakes r old new
-  pub unarmed : StaysFree r old new
+-- of a partial one with those of the images that are copied
+abbrev pub writes_partly : Fields → Toc → ℕ
+writes_partly f toc = writes_to_begin f + writes_over block_bytes f.layout.rows f.lengths toc
+
+-- by some table, that of the file where it is told: so many, and those of the switch
+pub record SentTakes (files : Option Directory) (name : List ℕ) (writes : Toc → ℕ) (old new : Moment) : Type 0 where
+  pub toc : Toc
+  pub table : IsTableOf files name (Ok toc)
+  pub spent : TakesSent (writes toc) old.armed new.armed
+
+-- A sending that is done takes the erases and programs of its writes and of the switch, and no other. What was refused before
+-- anything was sent did nothing.
+abbrev pub SendTakes : Option Directory → List ℕ → Fields → Reply → Moment → Moment → Type 0
+SendTakes files name f (reply.Sent images skipped) old new = SentTakes files name (writes_whole f) old new
+SendTakes files name f (reply.SentPartial images skipped copied) old new = SentTakes files name (writes_partly f) old new
+SendTakes files name f (reply.BadPackage g) old new = SameDevice old new
+SendTakes files name f (reply.BadCapsule g) old new = SameDevice old new
+SendTakes files name f (reply.Missing guid) old new = SameDevice old new
+SendTakes files name f (reply.TooLarge guid) old new = SameDevice old new
+SendTakes files name f (reply.BeginRefused st) old new = SameDevice old new
+SendTakes files name f other old new = ⊤
 
 -- A boot comes as much nearer an armed loss as an end with this reply does: by the repair of the metadata, and by what the start of
 -- a bank is counted as. A loss that is armed stays so while power comes back.
@@ -93,25 +111,27 @@ pub record BootsBy (r : Reply) (old new : Moment) : Type 0 where
   pub end : Ended
   pub reply_is : r ≡ reply_of_end end
   pub spent : TakesBoot end old.armed new.armed
-  pub unarmed : StaysFree r old new
 
 -- by what the agent kept
-abbrev pub TakesOn : Call → Fields → Moment → Reply → Moment → Type 0
-TakesOn call.Discover f old r new = SameDevice old new
-TakesOn (call.Begin n) f old r new = StoresBy r f new.on old new
-TakesOn (call.OpenRead guid) f old r new = SameDevice old new
-TakesOn (call.OpenWrite guid) f old r new = SameDevice old new
-TakesOn (call.Write number bytes) f old r new = WritesBy r f number bytes old new
-TakesOn (call.Read number room) f old r new = ReadsBy r old new
-TakesOn (call.Commit number request) f old r new = CommitsBy r f number old new
-TakesOn call.End f old r new = SwitchesBy r old new
-TakesOn call.Cancel f old r new = SameDevice old new
-TakesOn (call.Accepts guid) f old r new = StoresBy r f new.on old new
-TakesOn call.Previous f old r new = StoresBy r f new.on old new
-TakesOn (call.Send name request) f old r new = TakesSending r old new
-TakesOn call.Boot f old r new = BootsBy r old new
-TakesOn (call.Cut n k) f old r new = ⊤
-TakesOn call.Show f old r new = SameDevice old new
+abbrev pub TakesOn : Option Directory → Call → Fields → Moment → Reply → Moment → Type 0
+TakesOn files call.Discover f old r new = SameDevice old new
+TakesOn files (call.Begin n) f old r new = IsStoredBy r f new.on old new
+TakesOn files (call.BeginPartial types) f old r new = BeginsOver r types f old new
+TakesOn files (call.OpenRead guid) f old r new = SameDevice old new
+TakesOn files (call.OpenWrite guid) f old r new = SameDevice old new
+TakesOn files (call.Write number bytes) f old r new = WritesBy r f number bytes old new
+TakesOn files (call.Read number room) f old r new = ReadsBy r old new
+TakesOn files (call.Commit number request) f old r new = CommitsBy r f number old new
+TakesOn files call.End f old r new = IsSwitchedBy r old new
+TakesOn files call.Cancel f old r new = SameDevice old new
+TakesOn files (call.Accepts guid) f old r new = IsStoredBy r f new.on old new
+TakesOn files call.Previous f old r new = IsStoredBy r f new.on old new
+TakesOn files (call.Send name request) f old r new = SendTakes files name f r old new
+TakesOn files (call.SendPartial name request) f old r new = SendTakes files name f r old new
+TakesOn files call.Boot f old r new = BootsBy r old new
+TakesOn files (call.Cut n k) f old r new = ⊤
+TakesOn files call.Show f old r new = SameDevice old new
+TakesOn files call.NoCall f old r new = SameDevice old new
 
 -- no flash that is off is touched but by a boot and a `cut`
 abbrev pub TakesOff : Call → Moment → Reply → Moment → Type 0
@@ -119,14 +139,14 @@ TakesOff call.Boot old r new = BootsBy r old new
 TakesOff (call.Cut n k) old r new = ⊤
 TakesOff other old r new = SameDevice old new
 
-abbrev pub TakesBy : Call → Option Fields → Moment → Reply → Moment → Type 0
-TakesBy c None old r new = TakesOff c old r new
-TakesBy c (Some f) old r new = TakesOn c f old r new
+abbrev pub TakesBy : Option Directory → Call → Option Fields → Moment → Reply → Moment → Type 0
+TakesBy files c None old r new = TakesOff c old r new
+TakesBy files c (Some f) old r new = TakesOn files c f old r new
 
-abbrev pub Takes : Call → Moment → Reply → Moment → Type 0
-Takes c old r new = TakesBy c old.on old r new
+abbrev pub Takes : Option Directory → Call → Moment → Reply → Moment → Type 0
+Takes files c old r new = TakesBy files c old.on old r new
 
 -- and a file that is not there, or could not be read before anything was sent, leaves the device as it is
-pub record TakesTurn (c : Call) (old : Moment) (r : Reply) (new : Moment) (was are : ℕ) : Type 0 where
-  pub by_call : Takes c old r new
+pub record TakesTurn (files : Option Directory) (c : Call) (old : Moment) (r : Reply) (new : Moment) (was are : ℕ) : Type 0 where
+  pub by_call : Takes files c old r new
   pub unread : r ≡ reply.ReadFault → (Rose was are → ⊥) → SameDevice old new

@@ -11,19 +11,22 @@ use Rattle.fwu_model.specs.Reply.{Reply, Turn}
 use Rattle.fwu_model.specs.Reply as reply
 use Rattle.fwu_model.specs.Run.{Condition, Step, is_boot, is_send}
 use Rattle.fwu_model.specs.Headline.{IsCut}
-use Rattle.fwu_model.specs.Causes.{FileNotRead, greatest}
+use Rattle.fwu_model.specs.Causes.{FileNotRead, greatest, is_cut}
 use Rattle.moves.specs.Moved.{IsShown}
+use Rattle.agent_machine.specs.Beside.{KeepsSpared, KeepsSparedByAll}
 use Rattle.agent_machine.specs.Fields.{Fields}
 use Rattle.agent_machine.specs.Moment as agent
 use Rattle.early_boot.specs.Started.{started_session}
 use Rattle.early_boot.specs.Ends.{Ended, booted, bad_layout, no_metadata, no_bank, lost, failed}
 use Rattle.script_turns.specs.Powered.{Moment, IsAt, IsSafe, kept_at}
 use Rattle.script_turns.specs.Booted.{BootsFrom}
+use Rattle.script_turns.specs.Calls.{is_agents, is_composed}
+use Rattle.script_turns.specs.Deciding.{DecidesAfter}
 pub use Rattle.script_turns.specs.Arms.{Arms, NoneFalls}
 pub use Rattle.script_turns.specs.Boots.{IsOnAfter, PowersOn, GetsPower, numbers_of_end, reply_of_end}
 use Rattle.script_turns.specs.Replies.{Replies, power_after}
 use Rattle.script_turns.specs.Sending.{LacksSent}
-use Rattle.script_turns.specs.Takes.{TakesTurn, stop_told, unread_told}
+use Rattle.script_turns.specs.Takes.{StaysFree, TakesTurn, stop_told, unread_told}
 
 -- a `cut` makes one arming, and no other call makes any; the count stands still at the greatest number
 abbrev pub Makes : Call → ℕ → ℕ → Type 0
@@ -40,6 +43,8 @@ pub record Turns (passes : List ℕ → Bool) (tells : Bool) (files : Option Dir
   pub counts : NoneFalls old.counts new.counts
   pub made : Makes c old.counts.made new.counts.made
   pub armed : IsCut (Some t) new.armed
+  -- where no loss was armed, none is and none is reached, but by a `cut`
+  pub free : IsFalse (is_cut c) → StaysFree t.reply old new
   -- each stop has its cause
   pub lost : t.reply ≡ reply.Lost → Rose old.counts.cuts new.counts.cuts
       ⊎ Rose old.counts.reached new.counts.reached
@@ -56,7 +61,7 @@ pub record Turns (passes : List ℕ → Bool) (tells : Bool) (files : Option Dir
   pub reads_none : IsFalse (is_send c) → are ≡ was
   -- on any device: the reply, what the agent keeps, and what an armed loss counts
   pub replies : Replies passes tells files c old t new
-  pub takes : TakesTurn c old t.reply new was are
+  pub takes : TakesTurn files c old t.reply new was are
   pub power : new.power ≡ power_after old.power t.reply
   -- no call changes which blocks are guarded
   pub guard : IsTrue tells → new.told.guard ≡ old.told.guard
@@ -64,6 +69,14 @@ pub record Turns (passes : List ℕ → Bool) (tells : Bool) (files : Option Dir
   pub step : IsTrue tells → (E : Setting) (from : Condition) → E.passes ≡ passes → files ≡ Some E.files
       → IsAt E from old.on old.told → (Rose old.counts.chances new.counts.chances → ⊥)
       → (next : Condition) × Step E from t next × IsAt E next new.on new.told
+  -- on any flash, at any exit of a turn that is no boot: nothing changes but the metadata, the marks of the starts on trial, and the
+  -- bank behind the one that was started; and in that one only where the bank that was started is active, or of a composed call
+  pub keeps : IsTrue tells → (f : Fields) → old.on ≡ Some f → IsFalse (is_boot c) → KeepsSparedByAll f old.told new.told
+  pub spares : IsTrue tells → (f : Fields) → old.on ≡ Some f → IsFalse (is_boot c) → IsFalse (is_composed c)
+      → KeepsSpared f old.told new.told
+  -- on any flash, at any exit of a call of the agent that is not composed: which metadata decides in what a loss leaves
+  pub decides : IsTrue tells → (f : Fields) → old.on ≡ Some f → IsTrue (is_agents c) → IsFalse (is_composed c)
+      → DecidesAfter c f old.told new.told
   -- on any flash no loss harms what is in use
   pub safe : IsTrue tells → IsSafe old.power old.told → IsSafe new.power new.told
   -- a boot of a flash that is off and has nothing dirty goes by its bytes, and the other calls leave these

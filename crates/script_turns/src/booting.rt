@@ -9,12 +9,12 @@ ghost use Rattle.early_boot.specs.Started.{device as booted_device};
 ghost use Rattle.early_boot.specs.Ends.{device_of, ended, some_numbers};
 ghost use Rattle.early_boot.specs.Ends.{booted as booted_to};
 ghost use Rattle.fwu_journal.specs.Shown.{IsShort, reply, turn};
-ghost use Rattle.script_turns.specs.Powered.{device, has_power, moment, moment_of, shown_on};
+ghost use Rattle.script_turns.specs.Stage.{device, has_power, shown_on};
+ghost use Rattle.script_turns.specs.Powered.{moment, moment_in};
 ghost use Rattle.script_turns.specs.Replies.{LeavesOn};
 ghost use Rattle.script_turns.specs.Turning.{Turns, GetsPower, IsOnAfter, ShowsStarted, boot_turn, reply_of_end};
 
-use crate::powered::{Live, Powered};
-use crate::turned::Turned;
+use crate::stage::{Live, Stage};
 use agent_calls::Agent;
 use early_boot::{BootEnd, Booted, Numbers, boot};
 use flash_core::Flash;
@@ -22,6 +22,13 @@ use fwu_journal::{Reply, Turn};
 use fwu_model::NoBoot;
 use script_text::Call;
 use verify_core::Verifier;
+
+/// A boot that was done: its turn, and the flash as it left it.
+#[derive(Drop)]
+pub(crate) struct Booting<D: Flash> {
+    pub turn: Turn,
+    pub stage: Stage<D>,
+}
 
 /// What a boot that started a bank tells.
 fn booted_reply<D: Flash>(booted: &Booted<D>) -> Reply
@@ -49,51 +56,51 @@ fn turn_with(answer: Reply, read: Option<Numbers>) -> Turn
 }
 
 /// The turn of a boot that started no bank.
-fn not_booted<D: Flash>(flash: D, answer: Reply, read: Option<Numbers>) -> Turned<D>
+fn not_booted<D: Flash>(flash: D, answer: Reply, read: Option<Numbers>) -> Booting<D>
     ensures turn { turn result.turn ≡ record
         { call = call.Boot; reply = reply answer; numbers = some_numbers numbers read } }
-    ensures on { shown_on result.powered ≡ None }
-    ensures has { has_power result.powered ≡ false }
-    ensures device { device result.powered ≡ flash }
+    ensures on { shown_on result.stage ≡ None }
+    ensures has { has_power result.stage ≡ false }
+    ensures device { device result.stage ≡ flash }
 {
-    Turned {
+    Booting {
         turn: turn_with(answer, read),
-        powered: Powered::Off(flash),
+        stage: Stage::Off(flash),
     }
 }
 
 /// The turn of a boot that started a bank: its agent begins there.
-fn was_booted<D: Flash>(booted: Booted<D>, read: Numbers) -> Turned<D>
+fn was_booted<D: Flash>(booted: Booted<D>, read: Numbers) -> Booting<D>
     ensures turn { turn result.turn ≡ record {
       call = call.Boot;
       reply = started_reply (started booted);
       numbers = Some (numbers read);
     } }
-    ensures on { IsOnAfter (booted_to (started booted) (numbers read)) (shown_on result.powered) }
-    ensures leaves { LeavesOn (started_reply (started booted)) (shown_on result.powered) }
+    ensures on { IsOnAfter (booted_to (started booted) (numbers read)) (shown_on result.stage) }
+    ensures leaves { LeavesOn (started_reply (started booted)) (shown_on result.stage) }
     ensures shows { IsTrue D.tells → ShowsStarted D.tells (booted_to (started booted) (numbers read))
-        (shown_on result.powered) (D.told (device result.powered)) }
-    ensures has { has_power result.powered ≡ is_some (shown_on result.powered) }
-    ensures device { device result.powered ≡ booted_device booted }
+        (shown_on result.stage) (D.told (device result.stage)) }
+    ensures has { has_power result.stage ≡ is_some (shown_on result.stage) }
+    ensures device { device result.stage ≡ booted_device booted }
 {
     let turn = turn_with(booted_reply(&booted), Some(read));
     let agent = Agent::start(booted);
     agent.showing();
-    Turned {
+    Booting {
         turn,
-        powered: Powered::On(Live { agent }),
+        stage: Stage::On(Live { agent, here: true }),
     }
 }
 
 /// The turn of a boot that ended like this.
-fn turned_by<D: Flash>(end: BootEnd<D>) -> Turned<D>
+fn turned_by<D: Flash>(end: BootEnd<D>) -> Booting<D>
     ensures turn { turn result.turn ≡ boot_turn (ended end) }
-    ensures on { IsOnAfter (ended end) (shown_on result.powered) }
-    ensures leaves { LeavesOn (reply_of_end (ended end)) (shown_on result.powered) }
+    ensures on { IsOnAfter (ended end) (shown_on result.stage) }
+    ensures leaves { LeavesOn (reply_of_end (ended end)) (shown_on result.stage) }
     ensures shows { IsTrue D.tells → ShowsStarted D.tells (ended end)
-        (shown_on result.powered) (D.told (device result.powered)) }
-    ensures has { has_power result.powered ≡ is_some (shown_on result.powered) }
-    ensures device { device result.powered ≡ device_of end }
+        (shown_on result.stage) (D.told (device result.stage)) }
+    ensures has { has_power result.stage ≡ is_some (shown_on result.stage) }
+    ensures device { device result.stage ≡ device_of end }
     ensures short { IsShort (turn result.turn).reply }
 {
     match end {
@@ -116,35 +123,45 @@ fn turned_by<D: Flash>(end: BootEnd<D>) -> Turned<D>
     }
 }
 
-/// The flash with power: it comes back where it is off.
-fn with_power<D: Flash>(powered: Powered<D>) -> D
-    requires { D.on (device powered) ≡ has_power powered }
+/// Power comes back to a flash that is off, on which no bank was started.
+fn powered_on<D: Flash>(flash: D) -> D
+    requires { IsFalse (D.on flash) }
     ensures power { IsTrue (D.on result) }
-    ensures has { GetsPower D.tells (shown_on powered) (moment_of powered)
+    ensures has { GetsPower D.tells None (moment D.told D.counts D.arming D.on flash)
         (moment D.told D.counts D.arming D.on result) }
-    ensures size { D.blocks result ≡ D.blocks (device powered) }
+    ensures size { D.blocks result ≡ D.blocks flash }
 {
-    match powered {
-        Powered::Off(flash) => {
-            let mut flash = flash;
-            flash.power_on();
-            flash
-        }
-        Powered::Fresh(fresh) => fresh.flash,
-        Powered::On(live) => live.agent.into_flash(),
+    let mut flash = flash;
+    flash.power_on();
+    flash
+}
+
+/// The flash with power: it comes back where it is off.
+fn with_power<D: Flash>(stage: Stage<D>) -> D
+    requires { D.on (device stage) ≡ has_power stage }
+    ensures power { IsTrue (D.on result) }
+    ensures has { GetsPower D.tells (shown_on stage) (moment_in stage)
+        (moment D.told D.counts D.arming D.on result) }
+    ensures size { D.blocks result ≡ D.blocks (device stage) }
+{
+    match stage {
+        Stage::Off(flash) => powered_on(flash),
+        Stage::Fresh(fresh) => fresh.flash,
+        Stage::On(live) if live.here => live.agent.into_flash(),
+        Stage::On(live) => powered_on(live.agent.into_flash()),
     }
 }
 
 /// The turn of `boot`: power comes back where it is off, and the flash boots as it reads now.
-pub fn boot_turn<D: Flash, V: Verifier>(powered: Powered<D>, verifier: &V) -> Turned<D>
-    requires { D.on (device powered) ≡ has_power powered }
+pub(crate) fn boot_turn<D: Flash, V: Verifier>(stage: Stage<D>, verifier: &V) -> Booting<D>
+    requires { D.on (device stage) ≡ has_power stage }
     ensures turns { (files : Option Directory) (faults : ℕ)
         → Turns (V.passes verifier.now) D.tells files call.Boot (turn result.turn)
-        (moment_of powered) (moment_of result.powered) faults faults }
+        (moment_in stage) (moment_in result.stage) faults faults }
     ensures powered { IsFalse (ends_run (turn result.turn).reply)
-        → D.on (device result.powered) ≡ has_power result.powered }
+        → D.on (device result.stage) ≡ has_power result.stage }
     ensures short { IsShort (turn result.turn).reply }
-    ensures size { D.blocks (device result.powered) ≡ D.blocks (device powered) }
+    ensures size { D.blocks (device result.stage) ≡ D.blocks (device stage) }
 {
-    turned_by(boot(with_power(powered), verifier))
+    turned_by(boot(with_power(stage), verifier))
 }

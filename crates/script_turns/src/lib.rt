@@ -7,10 +7,11 @@ mod calling;
 mod powered;
 mod quiet;
 mod sending;
+mod stage;
 mod tables;
 mod turned;
 mod turning;
 
-pub use powered::{Fresh, Live, Powered};
-pub use turned::Turned;
+pub use powered::Powered;
+pub use stage::{Fresh, Live, Stage};
 pub use turning::turn;

@@ -1,20 +1,21 @@
-//! The turns of `show` and `cut`, which leave what the flash holds.
+//! The turns of `show` and `cut`, and of a request for no call, which leave what the flash holds.
 ghost use Rattle.std.specs.Prelude.{◌≡◌, ◌≤◌, ℕ, Bool, List, Option, min};
 ghost use Rattle.host_io.specs.Contents.{Directory};
 ghost use Rattle.early_boot.specs.Numbers.{numbers};
 ghost use Rattle.agent_calls.specs.Shown.{fields};
 ghost use Rattle.fwu_model.specs.Call as call;
 ghost use Rattle.fwu_journal.specs.Shown.{IsShort, reply, turn};
-ghost use Rattle.script_turns.specs.Powered.{device, has_power, moment_of, numbers_kept, shown_on};
-ghost use Rattle.script_turns.specs.Replies.{show_reply};
+ghost use Rattle.script_turns.specs.Stage.{device, has_power, shown_on};
+ghost use Rattle.script_turns.specs.Powered.{moment_in, numbers_kept};
+ghost use Rattle.script_turns.specs.Replies.{no_call_reply, show_reply};
 ghost use Rattle.script_turns.specs.Turning.{Arms, Turns};
 
-use crate::powered::{Fresh, Live, Powered};
-use crate::turned::{Turned, turn_of};
+use crate::stage::Stage;
+use crate::turned::turn_of;
 use agent_calls::Agent;
 use early_boot::Numbers;
 use flash_core::Flash;
-use fwu_journal::Reply;
+use fwu_journal::{Reply, Turn};
 use script_text::Call;
 
 /// The numbers that the flash of an agent shows.
@@ -34,71 +35,73 @@ fn numbers_of<D: Flash>(agent: &Agent<D>) -> Numbers
 }
 
 /// What `show` answers: the numbers, or `off` where no bank was started.
-fn shown_by<D: Flash>(powered: &Powered<D>) -> Reply
-    ensures value { reply result ≡ show_reply (shown_on powered.now) }
+fn shown_by<D: Flash>(stage: &Stage<D>) -> Reply
+    ensures value { reply result ≡ show_reply (shown_on stage.now) }
     ensures short { IsShort (reply result) }
 {
-    match powered {
-        Powered::On(live) => Reply::Shown(numbers_of(&live.agent)),
-        Powered::Off(_) | Powered::Fresh(_) => Reply::Off,
+    match stage {
+        Stage::On(live) if live.here => Reply::Shown(numbers_of(&live.agent)),
+        Stage::On(_) | Stage::Off(_) | Stage::Fresh(_) => Reply::Off,
     }
 }
 
 /// The turn of `show`: the flash stays as it is.
-pub fn show_turn<D: Flash>(powered: Powered<D>) -> Turned<D>
+pub(crate) fn show_turn<D: Flash>(stage: &Stage<D>) -> Turn
     ensures turns { (passes : List ℕ → Bool) (files : Option Directory) (faults : ℕ)
-        → Turns passes D.tells files call.Show (turn result.turn) (moment_of powered)
-        (moment_of result.powered) faults faults }
-    ensures has { has_power result.powered ≡ has_power powered }
-    ensures device { device result.powered ≡ device powered }
-    ensures short { IsShort (turn result.turn).reply }
+        → Turns passes D.tells files call.Show (turn result) (moment_in stage.now)
+        (moment_in stage.now) faults faults }
+    ensures short { IsShort (turn result).reply }
 {
-    let turn = turn_of(Call::Show, shown_by(&powered));
-    Turned { turn, powered }
+    turn_of(Call::Show, shown_by(stage))
+}
+
+/// What a request for no call is answered: nothing is done, but a bank must have been started.
+fn not_understood<D: Flash>(stage: &Stage<D>) -> Reply
+    ensures value { reply result ≡ no_call_reply (shown_on stage.now) }
+    ensures short { IsShort (reply result) }
+{
+    match stage {
+        Stage::On(live) if live.here => Reply::NotUnderstood,
+        Stage::On(_) | Stage::Off(_) | Stage::Fresh(_) => Reply::Off,
+    }
+}
+
+/// The turn of a request for no call: no agent is asked, and the flash stays as it is.
+pub(crate) fn no_call_turn<D: Flash>(stage: &Stage<D>) -> Turn
+    ensures turns { (passes : List ℕ → Bool) (files : Option Directory) (faults : ℕ)
+        → Turns passes D.tells files call.NoCall (turn result) (moment_in stage.now)
+        (moment_in stage.now) faults faults }
+    ensures short { IsShort (turn result).reply }
+{
+    turn_of(Call::NoCall, not_understood(stage))
 }
 
 /// Arms a loss of power.
-fn arm<D: Flash>(powered: Powered<D>, n: u32, k: u32) -> Powered<D>
+fn arm<D: Flash>(stage: &mut Stage<D>, n: u32, k: u32)
     requires { 1 ≤ n }
-    ensures arms { Arms D.tells n k (moment_of powered) (moment_of result) }
-    ensures has { has_power result ≡ has_power powered }
-    ensures power { D.on (device result) ≡ D.on (device powered) }
-    ensures size { D.blocks (device result) ≡ D.blocks (device powered) }
+    ensures arms { Arms D.tells n k (moment_in stage.old) (moment_in stage.new) }
+    ensures has { has_power stage.new ≡ has_power stage.old }
+    ensures power { D.on (device stage.new) ≡ D.on (device stage.old) }
+    ensures size { D.blocks (device stage.new) ≡ D.blocks (device stage.old) }
 {
-    match powered {
-        Powered::Off(flash) => {
-            let mut flash = flash;
-            flash.arm(n, k);
-            Powered::Off(flash)
-        }
-        Powered::Fresh(fresh) => {
-            let mut flash = fresh.flash;
-            flash.arm(n, k);
-            Powered::Fresh(Fresh { flash })
-        }
-        Powered::On(live) => {
-            let mut agent = live.agent;
-            agent.arm(n, k);
-            agent.showing();
-            Powered::On(Live { agent })
-        }
+    match stage {
+        Stage::Off(flash) => flash.arm(n, k),
+        Stage::Fresh(fresh) => fresh.flash.arm(n, k),
+        Stage::On(live) => live.agent.arm(n, k),
     }
 }
 
 /// The turn of `cut`: a loss of power is armed, with the flash on or off.
-pub fn cut_turn<D: Flash>(powered: Powered<D>, n: u32, k: u32) -> Turned<D>
+pub(crate) fn cut_turn<D: Flash>(stage: &mut Stage<D>, n: u32, k: u32) -> Turn
     requires { 1 ≤ n }
     ensures turns { (passes : List ℕ → Bool) (files : Option Directory) (faults : ℕ)
-        → Turns passes D.tells files (call.Cut n k) (turn result.turn) (moment_of powered)
-        (moment_of result.powered) faults faults }
-    ensures has { has_power result.powered ≡ has_power powered }
-    ensures power { D.on (device result.powered) ≡ D.on (device powered) }
-    ensures short { IsShort (turn result.turn).reply }
-    ensures size { D.blocks (device result.powered) ≡ D.blocks (device powered) }
+        → Turns passes D.tells files (call.Cut n k) (turn result) (moment_in stage.old)
+        (moment_in stage.new) faults faults }
+    ensures has { has_power stage.new ≡ has_power stage.old }
+    ensures power { D.on (device stage.new) ≡ D.on (device stage.old) }
+    ensures short { IsShort (turn result).reply }
+    ensures size { D.blocks (device stage.new) ≡ D.blocks (device stage.old) }
 {
-    let turn = turn_of(Call::Cut { n, k }, Reply::CutOk);
-    Turned {
-        turn,
-        powered: arm(powered, n, k),
-    }
+    arm(stage, n, k);
+    turn_of(Call::Cut { n, k }, Reply::CutOk)
 }

@@ -1,42 +1,68 @@
-//! The turn of `send`.
-ghost use Rattle.std.specs.Prelude.{◌≡◌, ◌+◌, ◌^◌, ◌<◌, ◌≤◌, All, ℕ, List, Ok, string_bytes, length, IsTrue, IsFalse};
-ghost use Rattle.fwu_model.specs.Call as call;
+//! The turn of `send`, whole or partial.
+ghost use Rattle.std.specs.Prelude.{◌≡◌, ◌+◌, ◌^◌, ◌<◌, ◌≤◌, All, ℕ, List, Ok, string_bytes, length, IsTrue, IsFalse, true, false};
 ghost use Rattle.fwu_model.specs.Reply as model;
 ghost use Rattle.fwu_model.specs.Run.{ends_run};
 ghost use Rattle.fip_tables.specs.Files.{Lacks, Tells};
-ghost use Rattle.agent_calls.specs.Shown.{device as agent_device, fields, gone};
+ghost use Rattle.agent_calls.specs.Shown.{device, gone};
 ghost use Rattle.fwu_journal.specs.Shown.{IsShort, reply, turn};
 ghost use Rattle.script_text.specs.Shown.{shown};
-ghost use Rattle.script_turns.specs.Powered.{device, has_power, moment_of, shown_on};
-ghost use Rattle.script_turns.specs.Calls.{moment_live};
-ghost use Rattle.script_turns.specs.Sending.{IsTableOf, is_answered, on_sent, sent_reply};
+ghost use Rattle.script_turns.specs.Calls.{moment_where};
+ghost use Rattle.script_turns.specs.Sending.{IsTableOf, done_reply, is_answered, send_call, sent_reply};
 ghost use Rattle.script_turns.specs.Turning.{Turns, quiet_turn};
 
-use crate::powered::Live;
 use crate::tables::{TableStop, read_table};
-use crate::turned::{Turned, answered, stopped};
+use crate::turned::{AgentTurn, answered, stopped};
 use agent_calls::Agent;
 use fip_tables::Toc;
 use flash_core::Flash;
 use fwu_journal::Reply;
 use host_io::Files;
 use script_text::Call;
-use update_client::{SendStop, Sent, send};
+use update_client::{SendStop, Sent, send, send_partial};
 use verify_core::Verifier;
 
 /// How many bytes each write of a sending has, but for the last one of an image.
 const PIECE: usize = 4096;
 
+/// The call of a sending of all images, or of one over those of the active bank.
+fn send_call(name: String, request: u32, partial: bool) -> Call
+    ensures { shown result ≡ send_call partial (string_bytes name) request }
+{
+    if partial {
+        Call::SendPartial { name, request }
+    } else {
+        Call::Send { name, request }
+    }
+}
+
+/// What is told of a sending that was done: of a partial one also how many images were copied.
+fn done_reply(sent: &Sent, partial: bool) -> Reply
+    ensures value { reply result ≡ done_reply partial sent.now }
+    ensures short { IsShort (reply result) }
+{
+    let Sent {
+        images,
+        skipped,
+        copied,
+    } = *sent;
+    if partial {
+        Reply::SentPartial {
+            images,
+            skipped,
+            copied,
+        }
+    } else {
+        Reply::Sent { images, skipped }
+    }
+}
+
 /// What a sending is answered that was done, refused or stopped.
-fn sent_reply(sent: &Result<Sent, SendStop>) -> Reply
-    ensures value { reply result ≡ sent_reply sent.now }
+fn sent_reply(sent: &Result<Sent, SendStop>, partial: bool) -> Reply
+    ensures value { reply result ≡ sent_reply partial sent.now }
     ensures short { IsShort (reply result) }
 {
     match sent {
-        Ok(sent) => Reply::Sent {
-            images: sent.images,
-            skipped: sent.skipped,
-        },
+        Ok(sent) => done_reply(sent, partial),
         Err(SendStop::MissingImage(guid)) => Reply::Missing(*guid),
         Err(SendStop::ImageTooLarge(guid)) => Reply::TooLarge(*guid),
         Err(SendStop::Begin(status)) => Reply::BeginRefused(*status),
@@ -60,49 +86,48 @@ fn is_answered(sent: &Result<Sent, SendStop>) -> bool
 }
 
 /// The turn of a sending that was done, refused or stopped.
-fn sent_turn<D: Flash>(agent: Agent<D>, call: Call, sent: &Result<Sent, SendStop>) -> Turned<D>
-    requires here { IsTrue (is_answered sent.now) → IsFalse (gone agent) }
-    ensures turn { turn result.turn ≡ quiet_turn (shown call) (sent_reply sent.now) }
-    ensures on { shown_on result.powered ≡ on_sent sent.now (fields agent) }
-    ensures has { has_power result.powered ≡ is_answered sent.now }
-    ensures device { device result.powered ≡ agent_device agent }
+fn sent_turn(call: Call, sent: &Result<Sent, SendStop>, partial: bool) -> AgentTurn
+    ensures turn { turn result.turn ≡ quiet_turn (shown call) (sent_reply partial sent.now) }
+    ensures here { result.here ≡ is_answered sent.now }
     ensures short { IsShort (turn result.turn).reply }
 {
     if is_answered(sent) {
-        answered(agent, call, sent_reply(sent))
+        answered(call, sent_reply(sent, partial))
     } else {
-        stopped(agent, call, sent_reply(sent))
+        stopped(call, sent_reply(sent, partial))
     }
 }
 
 /// Sends what a file holds by its table.
 fn send_by<D: Flash, H: Files, V: Verifier>(
-    live: Live<D>,
+    agent: &mut Agent<D>,
     name: String,
     request: u32,
     toc: &Toc,
     files: &mut H,
     verifier: &V,
-) -> Turned<D>
+) -> AgentTurn
+    requires alive { IsFalse (gone agent.old) }
     requires table { IsTableOf (H.contents files.old) (string_bytes name) (Ok toc.now) }
     requires stored { (file : List ℕ) → Tells (H.contents files.old) (string_bytes name) file
         → All (λ e. e.offset + e.size ≤ length file) toc.now.entries }
     requires ends { All (λ e. e.offset + e.size < 2 ^ 64) toc.now.entries }
     requires there { Lacks (H.contents files.old) (string_bytes name) → ⊥ }
     ensures turns { Turns (V.passes verifier.now) D.tells (H.contents files.old)
-        (call.Send (string_bytes name) request) (turn result.turn) (moment_live live)
-        (moment_of result.powered) (H.faults files.old) (H.faults files.new) }
+        (send_call false (string_bytes name) request) (turn result.turn)
+        (moment_where true agent.old) (moment_where result.here agent.new)
+        (H.faults files.old) (H.faults files.new) }
     ensures powered { IsFalse (ends_run (turn result.turn).reply)
-        → D.on (device result.powered) ≡ has_power result.powered }
-    ensures size { D.blocks (device result.powered) ≡ D.blocks (agent_device live.agent) }
+        → D.on (device agent.new) ≡ result.here }
+    ensures here { IsTrue result.here → IsFalse (gone agent.new) }
+    ensures size { D.blocks (device agent.new) ≡ D.blocks (device agent.old) }
     ensures same { H.contents files.new ≡ H.contents files.old }
     ensures unwritten { H.writes files.new ≡ H.writes files.old }
     ensures short { IsShort (turn result.turn).reply }
 {
-    let mut agent = live.agent;
     let mut piece = [0u8; PIECE];
     let sent = send(
-        &mut agent,
+        agent,
         files,
         name.as_str(),
         toc,
@@ -110,24 +135,68 @@ fn send_by<D: Flash, H: Files, V: Verifier>(
         &mut piece,
         verifier,
     );
-    sent_turn(agent, Call::Send { name, request }, &sent)
+    sent_turn(Call::Send { name, request }, &sent, false)
+}
+
+/// Sends the images that a file has by its table, over those of the active bank.
+fn send_partial_by<D: Flash, H: Files, V: Verifier>(
+    agent: &mut Agent<D>,
+    name: String,
+    request: u32,
+    toc: &Toc,
+    files: &mut H,
+    verifier: &V,
+) -> AgentTurn
+    requires alive { IsFalse (gone agent.old) }
+    requires table { IsTableOf (H.contents files.old) (string_bytes name) (Ok toc.now) }
+    requires stored { (file : List ℕ) → Tells (H.contents files.old) (string_bytes name) file
+        → All (λ e. e.offset + e.size ≤ length file) toc.now.entries }
+    requires ends { All (λ e. e.offset + e.size < 2 ^ 64) toc.now.entries }
+    requires there { Lacks (H.contents files.old) (string_bytes name) → ⊥ }
+    ensures turns { Turns (V.passes verifier.now) D.tells (H.contents files.old)
+        (send_call true (string_bytes name) request) (turn result.turn)
+        (moment_where true agent.old) (moment_where result.here agent.new)
+        (H.faults files.old) (H.faults files.new) }
+    ensures powered { IsFalse (ends_run (turn result.turn).reply)
+        → D.on (device agent.new) ≡ result.here }
+    ensures here { IsTrue result.here → IsFalse (gone agent.new) }
+    ensures size { D.blocks (device agent.new) ≡ D.blocks (device agent.old) }
+    ensures same { H.contents files.new ≡ H.contents files.old }
+    ensures unwritten { H.writes files.new ≡ H.writes files.old }
+    ensures short { IsShort (turn result.turn).reply }
+{
+    let mut piece = [0u8; PIECE];
+    let sent = send_partial(
+        agent,
+        files,
+        name.as_str(),
+        toc,
+        request,
+        &mut piece,
+        verifier,
+    );
+    sent_turn(Call::SendPartial { name, request }, &sent, true)
 }
 
 /// The turn of `send` on a flash whose bank was started: the package or the capsule of this name is sent.
-/// Each write has 4096 bytes.
-pub fn send_turn<D: Flash, H: Files, V: Verifier>(
-    live: Live<D>,
+/// Each write has 4096 bytes. Of a partial one the images that the file lacks are those of the active bank.
+pub(crate) fn send_turn<D: Flash, H: Files, V: Verifier>(
+    agent: &mut Agent<D>,
     name: String,
     request: u32,
+    partial: bool,
     files: &mut H,
     verifier: &V,
-) -> Turned<D>
+) -> AgentTurn
+    requires alive { IsFalse (gone agent.old) }
     ensures turns { Turns (V.passes verifier.now) D.tells (H.contents files.old)
-        (call.Send (string_bytes name) request) (turn result.turn) (moment_live live)
-        (moment_of result.powered) (H.faults files.old) (H.faults files.new) }
+        (send_call partial (string_bytes name) request) (turn result.turn)
+        (moment_where true agent.old) (moment_where result.here agent.new)
+        (H.faults files.old) (H.faults files.new) }
     ensures powered { IsFalse (ends_run (turn result.turn).reply)
-        → D.on (device result.powered) ≡ has_power result.powered }
-    ensures size { D.blocks (device result.powered) ≡ D.blocks (agent_device live.agent) }
+        → D.on (device agent.new) ≡ result.here }
+    ensures here { IsTrue result.here → IsFalse (gone agent.new) }
+    ensures size { D.blocks (device agent.new) ≡ D.blocks (device agent.old) }
     ensures same { H.contents files.new ≡ H.contents files.old }
     ensures unwritten { H.writes files.new ≡ H.writes files.old }
     ensures missing { Lacks (H.contents files.old) (string_bytes name)
@@ -135,21 +204,18 @@ pub fn send_turn<D: Flash, H: Files, V: Verifier>(
     ensures short { IsShort (turn result.turn).reply }
 {
     match read_table(files, name.as_str()) {
-        Ok(toc) => send_by(live, name, request, &toc, files, verifier),
+        Ok(toc) if partial => send_partial_by(agent, name, request, &toc, files, verifier),
+        Ok(toc) => send_by(agent, name, request, &toc, files, verifier),
         Err(TableStop::Package(fault)) => answered(
-            live.agent,
-            Call::Send { name, request },
+            send_call(name, request, partial),
             Reply::BadPackage(fault),
         ),
         Err(TableStop::Capsule(fault)) => answered(
-            live.agent,
-            Call::Send { name, request },
+            send_call(name, request, partial),
             Reply::BadCapsule(fault),
         ),
-        Err(TableStop::ReadFailed) => stopped(
-            live.agent,
-            Call::Send { name, request },
-            Reply::ReadFault,
-        ),
+        Err(TableStop::ReadFailed) => {
+            stopped(send_call(name, request, partial), Reply::ReadFault)
+        }
     }
 }

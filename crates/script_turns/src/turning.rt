@@ -1,69 +1,197 @@
 //! One turn of a run.
-ghost use Rattle.std.specs.Prelude.{◌≡◌, IsSome, IsTrue, IsFalse, None};
+ghost use Rattle.std.specs.Prelude.{◌≡◌, IsSome, IsTrue, IsFalse, ℕ, None, Option, true};
+ghost use Rattle.host_io.specs.Contents.{Directory};
+ghost use Rattle.fwu_model.specs.Call as call;
 ghost use Rattle.fwu_model.specs.Reply as reply;
-ghost use Rattle.fwu_model.specs.Run.{ends_run, is_send};
+ghost use Rattle.fwu_model.specs.Run.{ends_run, is_boot, is_send};
+ghost use Rattle.agent_calls.specs.Shown.{device as agent_device, gone};
 ghost use Rattle.fwu_journal.specs.Shown.{IsShort, turn};
 ghost use Rattle.script_text.specs.Armable.{IsArmable};
 ghost use Rattle.script_text.specs.Shown.{HasBuffer, shown};
+ghost use Rattle.script_turns.specs.Calls.{moment_where};
 ghost use Rattle.script_turns.specs.Needs.{needs_bank};
-ghost use Rattle.script_turns.specs.Powered.{Fits, device, has_power, moment_of, shown_on};
+ghost use Rattle.script_turns.specs.Powered.{Fits, device, has_power, moment_in, moment_of, shown_on};
 ghost use Rattle.script_turns.specs.Sending.{LacksSent};
+ghost use Rattle.script_turns.specs.Stage.{device as flash_of, has_power as is_powered, shown_on as kept_by};
 ghost use Rattle.script_turns.specs.Turning.{Turns};
 
-use crate::booting::boot_turn;
+use crate::booting::{Booting, boot_turn};
 use crate::calling::call_turn;
 use crate::powered::Powered;
-use crate::quiet::{cut_turn, show_turn};
+use crate::quiet::{cut_turn, no_call_turn, show_turn};
 use crate::sending::send_turn;
-use crate::turned::{Turned, turn_of};
+use crate::stage::{Live, Stage};
+use crate::turned::{AgentTurn, turn_of};
+use agent_calls::Agent;
 use flash_core::Flash;
-use fwu_journal::Reply;
+use fwu_journal::{Reply, Turn};
 use host_io::Files;
 use script_text::Call;
 use std::alloc::Global;
+use std::mem;
 use verify_core::Verifier;
 
-/// The turn of a call for which a bank must have been started: where none was, it is answered `off` and nothing is done.
-fn live_turn<D: Flash, H: Files, V: Verifier>(
+/// The turn of a call for an agent that is there.
+fn agent_turn<D: Flash, H: Files, V: Verifier>(
     alloc: Global,
-    powered: Powered<D>,
+    agent: &mut Agent<D>,
     call: Call,
     files: &mut H,
     verifier: &V,
-) -> Turned<D>
+) -> AgentTurn
+    requires alive { IsFalse (gone agent.old) }
     requires asks { IsTrue (needs_bank (shown call)) }
-    requires powered { D.on (device powered) ≡ has_power powered }
     requires buffer { HasBuffer call }
 
     ensures turns { Turns (V.passes verifier.now) D.tells (H.contents files.old) (shown call)
-        (turn result.turn) (moment_of powered) (moment_of result.powered)
+        (turn result.turn) (moment_where true agent.old) (moment_where result.here agent.new)
         (H.faults files.old) (H.faults files.new) }
     ensures powered { IsFalse (ends_run (turn result.turn).reply)
-        → D.on (device result.powered) ≡ has_power result.powered }
-    ensures size { D.blocks (device result.powered) ≡ D.blocks (device powered) }
+        → D.on (agent_device agent.new) ≡ result.here }
+    ensures here { IsTrue result.here → IsFalse (gone agent.new) }
+    ensures size { D.blocks (agent_device agent.new) ≡ D.blocks (agent_device agent.old) }
     ensures same { H.contents files.new ≡ H.contents files.old }
     ensures unwritten { H.writes files.new ≡ H.writes files.old }
     ensures files { IsFalse (is_send (shown call)) → files.new ≡ files.old }
-    ensures idle { shown_on powered ≡ None → files.new ≡ files.old }
     // A file that is not there.
-    ensures missing { LacksSent (H.contents files.old) (shown call) → IsSome (shown_on powered)
+    ensures missing { LacksSent (H.contents files.old) (shown call)
         → (turn result.turn).reply ≡ reply.ReadFault }
     ensures short { IsShort (turn result.turn).reply }
 {
-    match powered {
-        Powered::Off(flash) => Turned {
-            turn: turn_of(call, Reply::Off),
-            powered: Powered::Off(flash),
-        },
-        Powered::Fresh(fresh) => Turned {
-            turn: turn_of(call, Reply::Off),
-            powered: Powered::Fresh(fresh),
-        },
-        Powered::On(live) => match call {
-            Call::Send { name, request } => send_turn(live, name, request, files, verifier),
-            other => call_turn(live, Vec::new(alloc), other, verifier),
-        },
+    match call {
+        Call::Send { name, request } => send_turn(agent, name, request, false, files, verifier),
+        Call::SendPartial { name, request } => {
+            send_turn(agent, name, request, true, files, verifier)
+        }
+        other => call_turn(agent, Vec::new(alloc), other, verifier),
     }
+}
+
+/// The turn of a call for which a bank must have been started, on a flash on which one was: where a turn has ended its agent, it is
+/// answered `off` and nothing is done.
+fn live_turn<D: Flash, H: Files, V: Verifier>(
+    alloc: Global,
+    live: &mut Live<D>,
+    call: Call,
+    files: &mut H,
+    verifier: &V,
+) -> Turn
+    requires asks { IsTrue (needs_bank (shown call)) }
+    requires powered { D.on (agent_device live.old.agent) ≡ live.old.here }
+    requires buffer { HasBuffer call }
+
+    ensures turns { Turns (V.passes verifier.now) D.tells (H.contents files.old) (shown call)
+        (turn result) (moment_where live.old.here live.old.agent)
+        (moment_where live.new.here live.new.agent) (H.faults files.old) (H.faults files.new) }
+    ensures powered { IsFalse (ends_run (turn result).reply)
+        → D.on (agent_device live.new.agent) ≡ live.new.here }
+    ensures size { D.blocks (agent_device live.new.agent)
+        ≡ D.blocks (agent_device live.old.agent) }
+    ensures same { H.contents files.new ≡ H.contents files.old }
+    ensures unwritten { H.writes files.new ≡ H.writes files.old }
+    ensures files { IsFalse (is_send (shown call)) → files.new ≡ files.old }
+    ensures idle { IsFalse live.old.here → files.new ≡ files.old }
+    // A file that is not there.
+    ensures missing { LacksSent (H.contents files.old) (shown call) → IsTrue live.old.here
+        → (turn result).reply ≡ reply.ReadFault }
+    ensures short { IsShort (turn result).reply }
+{
+    if !live.here {
+        return turn_of(call, Reply::Off);
+    }
+    live.here = false;
+    let AgentTurn { turn, here } = agent_turn(alloc, &mut live.agent, call, files, verifier);
+    live.here = here;
+    turn
+}
+
+/// The turn of a call for which a bank must have been started: where none was, it is answered `off` and nothing is done.
+fn bank_turn<D: Flash, H: Files, V: Verifier>(
+    alloc: Global,
+    stage: &mut Stage<D>,
+    call: Call,
+    files: &mut H,
+    verifier: &V,
+) -> Turn
+    requires asks { IsTrue (needs_bank (shown call)) }
+    requires powered { D.on (flash_of stage.old) ≡ is_powered stage.old }
+    requires buffer { HasBuffer call }
+
+    ensures turns { Turns (V.passes verifier.now) D.tells (H.contents files.old) (shown call)
+        (turn result) (moment_in stage.old) (moment_in stage.new)
+        (H.faults files.old) (H.faults files.new) }
+    ensures powered { IsFalse (ends_run (turn result).reply)
+        → D.on (flash_of stage.new) ≡ is_powered stage.new }
+    ensures size { D.blocks (flash_of stage.new) ≡ D.blocks (flash_of stage.old) }
+    ensures same { H.contents files.new ≡ H.contents files.old }
+    ensures unwritten { H.writes files.new ≡ H.writes files.old }
+    ensures files { IsFalse (is_send (shown call)) → files.new ≡ files.old }
+    ensures idle { kept_by stage.old ≡ None → files.new ≡ files.old }
+    // A file that is not there.
+    ensures missing { LacksSent (H.contents files.old) (shown call) → IsSome (kept_by stage.old)
+        → (turn result).reply ≡ reply.ReadFault }
+    ensures short { IsShort (turn result).reply }
+{
+    match stage {
+        Stage::On(live) => live_turn(alloc, live, call, files, verifier),
+        Stage::Off(_) | Stage::Fresh(_) => turn_of(call, Reply::Off),
+    }
+}
+
+/// The turn of a call that isn't a boot.
+fn stage_turn<D: Flash, H: Files, V: Verifier>(
+    alloc: Global,
+    stage: &mut Stage<D>,
+    call: Call,
+    files: &mut H,
+    verifier: &V,
+) -> Turn
+    requires other { IsFalse (is_boot (shown call)) }
+    requires powered { D.on (flash_of stage.old) ≡ is_powered stage.old }
+    requires armable { IsArmable (shown call) }
+    requires buffer { HasBuffer call }
+
+    ensures turns { Turns (V.passes verifier.now) D.tells (H.contents files.old) (shown call)
+        (turn result) (moment_in stage.old) (moment_in stage.new)
+        (H.faults files.old) (H.faults files.new) }
+    ensures powered { IsFalse (ends_run (turn result).reply)
+        → D.on (flash_of stage.new) ≡ is_powered stage.new }
+    ensures size { D.blocks (flash_of stage.new) ≡ D.blocks (flash_of stage.old) }
+    ensures same { H.contents files.new ≡ H.contents files.old }
+    ensures unwritten { H.writes files.new ≡ H.writes files.old }
+    ensures files { IsFalse (is_send (shown call)) → files.new ≡ files.old }
+    ensures idle { kept_by stage.old ≡ None → files.new ≡ files.old }
+    // A file that is not there.
+    ensures missing { LacksSent (H.contents files.old) (shown call) → IsSome (kept_by stage.old)
+        → (turn result).reply ≡ reply.ReadFault }
+    ensures short { IsShort (turn result).reply }
+{
+    match call {
+        Call::Show => show_turn(stage),
+        Call::NoCall => no_call_turn(stage),
+        Call::Cut { n, k } => cut_turn(stage, n, k),
+        other => bank_turn(alloc, stage, other, files, verifier),
+    }
+}
+
+/// The turn of a boot: the stage is out while the flash boots.
+fn boot_in<D: Flash, V: Verifier>(powered: &mut Powered<D>, verifier: &V) -> Turn
+    requires { D.on (device powered.old) ≡ has_power powered.old }
+    ensures turns { (files : Option Directory) (faults : ℕ)
+        → Turns (V.passes verifier.now) D.tells files call.Boot (turn result)
+        (moment_of powered.old) (moment_of powered.new) faults faults }
+    ensures powered { IsFalse (ends_run (turn result).reply)
+        → D.on (device powered.new) ≡ has_power powered.new }
+    ensures short { IsShort (turn result).reply }
+    ensures size { D.blocks (device powered.new) ≡ D.blocks (device powered.old) }
+{
+    let Some(stage) = mem::replace(&mut powered.inside, None) else {
+        unreachable!()
+    };
+    let Booting { turn, stage } = boot_turn(stage, verifier);
+    let before = mem::replace(&mut powered.inside, Some(stage));
+    let None = before else { unreachable!() };
+    turn
 }
 
 /// Does a call. `boot` brings power back where it is off; where it is on, the flash boots again as it reads now. `cut` arms the
@@ -71,37 +199,38 @@ fn live_turn<D: Flash, H: Files, V: Verifier>(
 /// many of them; where no bank was started all these are answered `off`.
 pub fn turn<D: Flash, H: Files, V: Verifier>(
     alloc: Global,
-    powered: Powered<D>,
+    powered: &mut Powered<D>,
     call: Call,
     files: &mut H,
     verifier: &V,
-) -> Turned<D>
-    requires powered { D.on (device powered) ≡ has_power powered }
+) -> Turn
+    requires powered { D.on (device powered.old) ≡ has_power powered.old }
     requires armable { IsArmable (shown call) }
     requires buffer { HasBuffer call }
 
     ensures turns { Turns (V.passes verifier.now) D.tells (H.contents files.old) (shown call)
-        (turn result.turn) (moment_of powered) (moment_of result.powered)
+        (turn result) (moment_of powered.old) (moment_of powered.new)
         (H.faults files.old) (H.faults files.new) }
     // On any device: an agent that is there fits some machine.
-    ensures fits { Fits D.tells (moment_of result.powered) }
+    ensures fits { Fits D.tells (moment_of powered.new) }
     // Where the run goes on.
-    ensures powered { IsFalse (ends_run (turn result.turn).reply)
-        → D.on (device result.powered) ≡ has_power result.powered }
-    ensures size { D.blocks (device result.powered) ≡ D.blocks (device powered) }
+    ensures powered { IsFalse (ends_run (turn result).reply)
+        → D.on (device powered.new) ≡ has_power powered.new }
+    ensures size { D.blocks (device powered.new) ≡ D.blocks (device powered.old) }
     ensures same { H.contents files.new ≡ H.contents files.old }
     ensures unwritten { H.writes files.new ≡ H.writes files.old }
     ensures files { IsFalse (is_send (shown call)) → files.new ≡ files.old }
-    ensures idle { shown_on powered ≡ None → files.new ≡ files.old }
+    ensures idle { shown_on powered.old ≡ None → files.new ≡ files.old }
     // A file that is not there.
-    ensures missing { LacksSent (H.contents files.old) (shown call) → IsSome (shown_on powered)
-        → (turn result.turn).reply ≡ reply.ReadFault }
-    ensures short { IsShort (turn result.turn).reply }
+    ensures missing { LacksSent (H.contents files.old) (shown call)
+        → IsSome (shown_on powered.old) → (turn result).reply ≡ reply.ReadFault }
+    ensures short { IsShort (turn result).reply }
 {
     match call {
-        Call::Boot => boot_turn(powered, verifier),
-        Call::Show => show_turn(powered),
-        Call::Cut { n, k } => cut_turn(powered, n, k),
-        other => live_turn(alloc, powered, other, files, verifier),
+        Call::Boot => boot_in(powered, verifier),
+        other => match &mut powered.inside {
+            Some(stage) => stage_turn(alloc, stage, other, files, verifier),
+            None => unreachable!(),
+        },
     }
 }

@@ -3,17 +3,13 @@ use Rattle.std.proofs.Common.{◌≡◌, inl, inr, ℕ, ◌+◌, ◌-◌, ◌*�
 use Rattle.std.proofs.lemmas.List.{length-take, length-take-le, length-drop, get_or-take, get_or-drop, get_or_default, same_lists, take-append-drop, length-append, length-replicate, get_or-replicate, get_or-append_right, take-take, drop-take, drop-drop, append_assoc, append-nil}
 use Rattle.std.proofs.lemmas.Bool.{cases_lt}
 use Rattle.std.proofs.Math.Seq.{take-append-add, take-append_seam}
-use Rattle.std.proofs.lemmas.Result.{IfOk-from_err}
-use Rattle.std.specs.Prelude.{Result, Ok, Err, IsErr, OnOk}
+use Rattle.std.proofs.lemmas.Result.{IfOk-from_err, on_ok_weaker}
+use Rattle.std.specs.Prelude.{Result, Ok, Err, IsErr}
 use Rattle.flash_core.specs.declared.flash.FlashStop.{FlashStop}
 use Rattle.flash_core.specs.Told.{Told, settle, settled}
 use Rattle.flash_core.specs.May.{Keeps}
 use Rattle.flash_core.proofs.Calls.{keeps_same, keeps_wider, keeps_then, keeps_settle, now-settle, settle-fresh}
 use Rattle.slot_writer.specs.Slots.{Programs, Appends, Finishes, IsBlankAhead, blocks_for, done_of, bytes_in}
-
-pub on_ok : {T E A B : Type 0} (r : Result T E) → (A → B) → OnOk r A → OnOk r B
-on_ok (Ok x) f a = f a
-on_ok (Err e) f a = tt
 
 take-split : (a n : ℕ) (xs : List ℕ) → take (a + n) xs ≡ take a xs ++ take n (drop a xs)
 take-split a n xs = sym (take-append-drop a (take (a + n) xs)) ∙ ap₂ (λ (x y : List ℕ). x ++ y) (take-take a (a + n) xs (omega arith)) (drop-take a n xs)
@@ -62,6 +58,7 @@ module _ (first size whole : ℕ) (rest bytes left : List ℕ) (s t : Told) (gra
         ap₂ (λ (x y : List ℕ). x ++ y) (ap (λ (k : ℕ). take k (drop (4096 * first) t.now)) now_done ∙ there) left_is
         ∙ append_assoc a (take whole bytes) (drop whole bytes) ∙ ap (λ (l : List ℕ). a ++ l) (take-append-drop whole bytes) ∙ ap (λ (l : List ℕ). l ++ bytes) (sym before);
     ahead = λ i above below. programs.ahead i (omega (arith, above, now_done, count)) (subst (λ (k : ℕ). i < 4096 * (first + blocks_for k)) (now_done ∙ ap (λ (k : ℕ). size + k) (sym count)) below);
+    stable = programs.stable;
   }
 
 settled-err : {T E : Type 0} (result : Result T E) (t : Told) → IsErr result → t ≡ settled result t
@@ -76,6 +73,7 @@ stopped-appends given result first done size rest some bytes left s t err from l
   idle = λ same. programs.idle (omega (arith, from, less, same));
   written = IfOk-from_err result _ err;
   ahead = IfOk-from_err result _ err;
+  stable = programs.stable;
 }
 
 -- bytes that fill no granule are kept alone
@@ -90,6 +88,7 @@ kept-appended first size rest bytes left s few kept ahead =
       written =
           ap₂ (λ (i j : ℕ). take i (drop (4096 * first) s.now) ++ take j left) same (omega (arith, few)) ∙ ap (λ (l : List ℕ). a ++ l) kept ∙ sym (append_assoc a (take (size % 16) rest) bytes);
       ahead = subst (λ (k : ℕ). IsBlankAhead first k s.now) (sym same) ahead;
+      stable = refl;
     }
 
 -- a granule is filled, and the other bytes come behind it
@@ -106,7 +105,7 @@ module _ {T : Type 0} (result : Result T FlashStop) (first size room : ℕ) (res
         (keeps_wider (4096 * first + done_of size) (4096 * (first + blocks_for (done_of size + length filled))) (4096 * first + done_of size) (4096 * (first + blocks_for (done_of (size + length bytes)))) s m (omega arith) (omega (arith, sixteen, room_is, enough)) programs.keeps)
         (keeps_wider (4096 * first + done_of (done_of size + 16)) (4096 * (first + blocks_for (done_of (done_of size + 16 + length (drop room bytes))))) (4096 * first + done_of size) (4096 * (first + blocks_for (done_of (size + length bytes)))) m t (omega arith) (omega (arith, all)) appends.keeps);
     idle = λ same. absurd (omega (arith, same, some, room_is, enough));
-    written = on_ok result (λ e.
+    written = on_ok_weaker result (λ e.
         let a = take (done_of size) (drop (4096 * first) s.now) in
         let head = take (size % 16) rest in
         let there : take (done_of size + 16) (drop (4096 * first) m.now) ≡ a ++ filled = front-programmed first (done_of size) 16 filled s m (sym sixteen) (omega (arith, room_is, enough, fits)) programs in
@@ -118,7 +117,8 @@ module _ {T : Type 0} (result : Result T FlashStop) (first size room : ℕ) (res
         ∙ append_assoc a (head ++ take room bytes) (drop room bytes)
         ∙ ap (λ (l : List ℕ). a ++ l) (append_assoc head (take room bytes) (drop room bytes) ∙ ap (λ (l : List ℕ). head ++ l) (take-append-drop room bytes))
         ∙ sym (append_assoc a head bytes)) appends.written;
-    ahead = on_ok result (subst (λ (k : ℕ). IsBlankAhead first (done_of k) t.now) all) appends.ahead;
+    ahead = on_ok_weaker result (subst (λ (k : ℕ). IsBlankAhead first (done_of k) t.now) all) appends.ahead;
+    stable = appends.stable ∙ programs.stable;
   }
 
 pub padded_size : (kept : ℕ) (rest last : List ℕ) → kept ≤ 16 → length rest ≡ 16 → last ≡ take kept rest ++ replicate (16 - kept) 255 → length last ≡ 16

@@ -10,7 +10,7 @@ use Rattle.flash_core.specs.declared.flash.FlashStop.{FlashStop}
 use Rattle.flash_core.specs.Told.{Told, written}
 use Rattle.flash_core.specs.May.{Keeps}
 use Rattle.flash_core.proofs.Images.{overwritten_above, slice_range-overwritten}
-use Rattle.flash_core.proofs.Calls.{keeps_wider, keeps_put, keeps_halt, now-put}
+use Rattle.flash_core.proofs.Calls.{keeps_wider, keeps_put, keeps_halt, now-put, stable-put, stable-halt}
 use Rattle.slot_writer.specs.Slots.{Erases, Programs, IsBlankAhead, blocks_for}
 
 -- so many bytes lie in the blocks that they reach
@@ -34,6 +34,7 @@ module _ (first done low high : ℕ) (bytes : List ℕ) (s m : Told) (low_is : l
     idle = λ none. absurd (omega (arith, none, some));
     written = IfOk-from_err result _ err;
     ahead = IfOk-from_err result _ err;
+    stable = erases.stable;
   }
 
   module _ {T : Type 0} (x : T) (room : 4096 * end ≤ length s.now) (ahead : IsBlankAhead first done s.now) (erases : Erases {T = T} (Ok x) low high s m) where
@@ -67,10 +68,12 @@ module _ (first done low high : ℕ) (bytes : List ℕ) (s m : Told) (low_is : l
       idle = λ none. absurd (omega (arith, none, some));
       written = ap (λ (l : List ℕ). slice_range l at (at + length bytes)) (now-put at bytes m) ∙ slice_range-overwritten at bytes m.now fits;
       ahead = λ i above under. ap (λ (l : List ℕ). get_or l i 0) (now-put at bytes m) ∙ overwritten_above at bytes m.now fits i 0 (omega (arith, above)) ∙ blank_there i (omega (arith, above)) under;
+      stable = stable-put at bytes m ∙ erases.stable;
     }
     programs_written (Err stop) = record {
       keeps = keeps_halt at (4096 * end) s m at bytes (omega arith) (omega (arith, reached (done + length bytes))) wide;
       idle = λ none. absurd (omega (arith, none, some));
       written = tt;
       ahead = tt;
+      stable = stable-halt at bytes m ∙ erases.stable;
     }

@@ -1,5 +1,5 @@
 -- One more erased block.
-use Rattle.std.proofs.Common.{◌≡◌, ◌⊎◌, inl, inr, ℕ, ◌+◌, ◌-◌, ◌*◌, ◌<◌, ◌≤◌, List, length, get_or, ◌∙◌, ap, arith}
+use Rattle.std.proofs.Common.{◌≡◌, refl, ◌⊎◌, inl, inr, ℕ, ◌+◌, ◌-◌, ◌*◌, ◌<◌, ◌≤◌, List, length, get_or, ◌∙◌, ap, arith}
 use Rattle.std.proofs.lemmas.Bool.{cases_lt}
 use Rattle.std.proofs.lemmas.Result.{IfOk-from_err}
 use Rattle.std.specs.Prelude.{Result, Ok, IsErr}
@@ -8,7 +8,7 @@ use Rattle.base_core.proofs.Blocks.{length-blank, get_or-blank}
 use Rattle.flash_core.specs.declared.flash.FlashStop.{FlashStop}
 use Rattle.flash_core.specs.Told.{Told, overwritten, put, halt}
 use Rattle.flash_core.proofs.Images.{overwritten_below, overwritten_inside}
-use Rattle.flash_core.proofs.Calls.{keeps_same, keeps_wider, keeps_put, keeps_halt, now-put}
+use Rattle.flash_core.proofs.Calls.{keeps_same, keeps_wider, keeps_put, keeps_halt, now-put, stable-put, stable-halt}
 use Rattle.slot_writer.specs.Slots.{Erases}
 
 module _ (first end b : ℕ) (s t : Told) (from : first ≤ b) (more : b < end) (room : 4096 * end ≤ length s.now) (T : Type 0) (x : T) (so_far : Erases {T = T} (Ok x) first b s t) where
@@ -17,6 +17,7 @@ module _ (first end b : ℕ) (s t : Told) (from : first ≤ b) (more : b < end) 
     keeps = keeps_halt (4096 * first) (4096 * end) s t (4096 * b) (blank 4096) (omega arith) (omega (arith, length-blank 4096))
         (keeps_wider (4096 * first) (4096 * b) (4096 * first) (4096 * end) s t (omega arith) (omega arith) so_far.keeps);
     erased = IfOk-from_err result _ err;
+    stable = stable-halt (4096 * b) (blank 4096) t ∙ so_far.stable;
   }
 
   pub erase_more : Erases {T = T} (Ok x) first (b + 1) s (put (4096 * b) (blank 4096) t)
@@ -24,6 +25,7 @@ module _ (first end b : ℕ) (s t : Told) (from : first ≤ b) (more : b < end) 
     keeps = keeps_put (4096 * first) (4096 * (b + 1)) s t (4096 * b) (blank 4096) (omega arith) (omega (arith, length-blank 4096)) (omega (arith, length-blank 4096))
         (keeps_wider (4096 * first) (4096 * b) (4096 * first) (4096 * (b + 1)) s t (omega arith) (omega arith) so_far.keeps);
     erased = λ i low high. ap (λ (l : List ℕ). get_or l i 0) (now-put (4096 * b) (blank 4096) t) ∙ at i low high (cases_lt i (4096 * b));
+    stable = stable-put (4096 * b) (blank 4096) t ∙ so_far.stable;
   }
     where
       fits : 4096 * b + length (blank 4096) ≤ length t.now
@@ -34,4 +36,4 @@ module _ (first end b : ℕ) (s t : Told) (from : first ≤ b) (more : b < end) 
       at i low high (inr here) = overwritten_inside (4096 * b) (blank 4096) t.now fits i 0 here (omega (arith, length-blank 4096)) ∙ get_or-blank 4096 (i - 4096 * b) 0 (omega arith)
 
 pub erase_none : (first : ℕ) (T : Type 0) (x : T) (s : Told) → Erases {T = T} (Ok x) first first s s
-erase_none first T x s = record { keeps = keeps_same _ _ s; erased = λ i low high. absurd (omega (arith, low, high)) }
+erase_none first T x s = record { keeps = keeps_same _ _ s; erased = λ i low high. absurd (omega (arith, low, high)); stable = refl }

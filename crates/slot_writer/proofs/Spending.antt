@@ -6,9 +6,9 @@ use Rattle.flash_core.specs.declared.flash.Counts.{Counts}
 use Rattle.flash_core.specs.declared.flash.FlashStop.{FlashStop}
 use Rattle.flash_core.specs.declared.flash.FlashStop.TheVariants.{Lost, Failed}
 use Rattle.flash_core.specs.Counts.{StaysUnarmed, ReachesNone, Fires, IsDue, arming_spent, arming_kept, lowered_by}
-use Rattle.flash_core.proofs.Costs.{rose_earlier}
 use Rattle.flash_core.proofs.Spent.{lowered_then}
 use Rattle.slot_writer.specs.Writes.{SpendsArming}
+use Rattle.base_core.proofs.Counts.{rose_earlier}
 
 -- one erase or program
 pub spends_one : {T : Type 0} (result : Result T FlashStop) (armed arming : Option Arming) (old new : Counts) → arming ≡ arming_spent result armed → Fires result armed old new → SpendsArming result 1 armed arming old new

@@ -26,6 +26,8 @@ IsBlankAhead first done now =
 pub record Erases {T : Type 0} (result : Result T FlashStop) (first end : ℕ) (s t : Told) : Type 0 where
   pub keeps : Keeps (block_bytes * first) (block_bytes * end) s t
   pub erased : OnOk result ((i : ℕ) → block_bytes * first ≤ i → i < block_bytes * end → slice_index t.now i ≡ 255)
+  -- no barrier is made
+  pub stable : t.stable ≡ s.stable
 
 -- what programming bytes behind those that are done leaves, at any exit
 pub record Programs {T : Type 0} (result : Result T FlashStop) (first done : ℕ) (bytes : List ℕ) (s t : Told) : Type 0 where
@@ -34,6 +36,8 @@ pub record Programs {T : Type 0} (result : Result T FlashStop) (first done : ℕ
   pub idle : length bytes ≡ 0 → t ≡ s
   pub written : OnOk result (slice_range t.now (block_bytes * first + done) (block_bytes * first + done + length bytes) ≡ bytes)
   pub ahead : OnOk result (IsBlankAhead first (done + length bytes) t.now)
+  -- no barrier is made
+  pub stable : t.stable ≡ s.stable
 
 -- what is kept of an image of this length once bytes came: those that fill no granule
 abbrev pub kept_of : ℕ → List ℕ → List ℕ → List ℕ
@@ -49,6 +53,8 @@ pub record Appends {T : Type 0} (result : Result T FlashStop) (first size : ℕ)
   -- when done, the bytes stand behind those before
   pub written : OnOk result (bytes_in first (size + length bytes) left t.now ≡ bytes_in first size rest s.now ++ bytes)
   pub ahead : OnOk result (IsBlankAhead first (done_of (size + length bytes)) t.now)
+  -- no barrier is made: what is sure to outlive a loss is what it was
+  pub stable : t.stable ≡ s.stable
 
 -- what ending an image of this length leaves, at any exit
 pub record Finishes {T : Type 0} (result : Result T FlashStop) (first size : ℕ) (rest : List ℕ) (s t : Told) : Type 0 where

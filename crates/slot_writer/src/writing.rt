@@ -1,7 +1,7 @@
 //! Writing behind what was written.
-ghost use Rattle.std.specs.Prelude.{◌≡◌, ◌+◌, ◌-◌, ◌*◌, ◌/◌, ◌%◌, ◌<◌, ◌≤◌, ◌++◌, length, take, is_ok, IsTrue, OnOk, replicate, drop};
+ghost use Rattle.std.specs.Prelude.{◌≡◌, ◌+◌, ◌-◌, ◌*◌, ◌/◌, ◌%◌, ◌<◌, ◌≤◌, ◌++◌, length, take, IsTrue, OnOk, replicate, drop};
 ghost use Rattle.base_core.specs.Block.{granule_bytes};
-ghost use Rattle.flash_core.specs.Counts.{Spends};
+ghost use Rattle.flash_core.specs.Calls.{Goes};
 ghost use Rattle.slot_writer.specs.Slots.{Appends, Erases, Finishes, IsBlankAhead, Programs, blocks_for, done_of, kept_of};
 ghost use Rattle.slot_writer.specs.Writes.{SpendsArming, writes_behind, writes_to_append, writes_to_finish};
 
@@ -27,11 +27,9 @@ fn erase_blocks<D: Flash>(flash: &mut D, first: u32, end: u32) -> Result<(), Fla
 
     ensures erases { IsTrue D.tells →
         Erases result first end (D.told flash.old) (D.told flash.new) }
-    ensures power { D.on flash.new ≡ is_ok result }
-    ensures size { D.blocks flash.new ≡ D.blocks flash.old }
+    ensures goes { Goes D.Flash result flash.old flash.new }
     ensures arming { SpendsArming result (end - first) (D.arming flash.old) (D.arming flash.new)
         (D.counts flash.old) (D.counts flash.new) }
-    ensures costs { Spends result (D.counts flash.old) (D.counts flash.new) }
 {
     for block in first..end {
         flash.erase(block)?;
@@ -58,11 +56,9 @@ fn program_behind<D: Flash>(
     ensures programs { IsTrue D.tells →
         Programs result first done bytes.now (D.told flash.old) (D.told flash.new) }
     ensures still { length bytes.now ≡ 0 → flash.new ≡ flash.old }
-    ensures power { D.on flash.new ≡ is_ok result }
-    ensures size { D.blocks flash.new ≡ D.blocks flash.old }
+    ensures goes { Goes D.Flash result flash.old flash.new }
     ensures arming { SpendsArming result (writes_behind done (length bytes.now))
         (D.arming flash.old) (D.arming flash.new) (D.counts flash.old) (D.counts flash.new) }
-    ensures costs { Spends result (D.counts flash.old) (D.counts flash.new) }
 {
     if bytes.is_empty() {
         return Ok(());
@@ -102,11 +98,9 @@ fn append_whole<D: Flash>(
         (take (length bytes.now % granule_bytes) rest.new
         ≡ drop (length bytes.now - length bytes.now % granule_bytes) bytes.now) }
     ensures still { length bytes.now < granule_bytes → flash.new ≡ flash.old }
-    ensures power { D.on flash.new ≡ is_ok result }
-    ensures size { D.blocks flash.new ≡ D.blocks flash.old }
+    ensures goes { Goes D.Flash result flash.old flash.new }
     ensures arming { SpendsArming result (writes_behind size (length bytes.now - length bytes.now % granule_bytes))
         (D.arming flash.old) (D.arming flash.new) (D.counts flash.old) (D.counts flash.new) }
-    ensures costs { Spends result (D.counts flash.old) (D.counts flash.new) }
 {
     let whole = bytes.len() - bytes.len() % GRANULE;
     program_behind(flash, first, size, &bytes[..whole])?;
@@ -143,9 +137,7 @@ pub fn append<D: Flash>(
     ensures still { done_of (size + length bytes.now) ≡ done_of size → flash.new ≡ flash.old }
     ensures arming { SpendsArming result (writes_to_append size (length bytes.now))
         (D.arming flash.old) (D.arming flash.new) (D.counts flash.old) (D.counts flash.new) }
-    ensures power { D.on flash.new ≡ is_ok result }
-    ensures size { D.blocks flash.new ≡ D.blocks flash.old }
-    ensures costs { Spends result (D.counts flash.old) (D.counts flash.new) }
+    ensures goes { Goes D.Flash result flash.old flash.new }
 {
     let kept = size as usize % GRANULE;
     if kept == 0 {
@@ -200,9 +192,7 @@ pub fn finish<D: Flash>(
     // on every device: how many erases and programs were made
     ensures arming { SpendsArming result (writes_to_finish size)
         (D.arming flash.old) (D.arming flash.new) (D.counts flash.old) (D.counts flash.new) }
-    ensures power { D.on flash.new ≡ is_ok result }
-    ensures size { D.blocks flash.new ≡ D.blocks flash.old }
-    ensures costs { Spends result (D.counts flash.old) (D.counts flash.new) }
+    ensures goes { Goes D.Flash result flash.old flash.new }
 {
     let kept = size as usize % GRANULE;
     let last = padded(rest, kept);

@@ -1,63 +1,102 @@
--- The lowest fault of the images, image by image.
-use Rattle.std.proofs.Common.{◌≡◌, cond, ℕ, ◌+◌, ◌-◌, ◌*◌, ◌<◌, ◌≤◌, Bool, true, false, List, [], ◌∷◌, ◌++◌, length, get_or, drop, Option, Some, None, refl, sym, ap, subst, ◌∙◌, arith, add-one, drop-cons}
-use Rattle.std.proofs.lemmas.Bool.{le-ltb}
-use Rattle.std.proofs.lemmas.List.{get_or-append_right, get_or_default}
-use Rattle.std.proofs.lemmas.Option.{same_Some}
-use Rattle.std.proofs.lemmas.List.Elements.{All-head, All-tail}
-use Rattle.std.specs.List.{All, find}
+-- The faults of images, as the machine tells them, and the entries that were chosen.
+use Rattle.std.proofs.Common.{◌≡◌, cond, ◌*◌, ◌<◌, Bool, true, false, List, [], ◌∷◌, length, get_or, Option, Some, None, refl, sym, ap, subst, ◌∙◌, arith}
+use Rattle.std.proofs.lemmas.List.{get_or_default}
+use Rattle.std.specs.Prelude.{nat_lt, option_map}
+use Rattle.std.specs.List.{All, list_any}
 use Rattle.fwu_formats.specs.Layout.{ImageRow}
-use Rattle.fwu_formats.specs.Package.{Entry, Toc, entry_of, has_guid}
+use Rattle.fwu_formats.specs.Package.{Entry, Toc, entry_of}
 use Rattle.fwu_model.specs.Reply.{Reply}
 use Rattle.fwu_model.specs.Reply as reply
-use Rattle.fwu_model.specs.Answer.{image_fault, or_else, first_image_fault}
+use Rattle.fwu_model.specs.Answer.{first_image_fault, first_size_fault, has_image, partial_fault, size_fault}
+use Rattle.fwu_model.specs.Answer.{image_fault as machine_fault, or_else as machine_else}
+use Rattle.fip_tables.specs.declared.images.ImageFault.{ImageFault}
+use Rattle.fip_tables.specs.declared.images.ImageFault.TheVariants.{Missing, TooLarge}
+use Rattle.fip_tables.specs.Images.{AreImages, image_fault, images_fault, lowest_fault, no_entry, no_row, or_else, present_fault}
+use Rattle.fip_tables.specs.Images.{size_fault as table_fault}
+use Rattle.fip_tables.specs.Images.{ArePresent as AreThere}
+use Rattle.fip_tables.proofs.Chosen.{found_has}
 use Rattle.update_client.specs.declared.stops.SendStop.{SendStop}
-use Rattle.update_client.specs.Choosing.{AreChosen, refused_image, no_row, no_entry}
+use Rattle.update_client.specs.Choosing.{AreChosen, refused_as, refused_image}
+use Rattle.update_client.specs.Partial.{ArePresent}
 
-refused-first : (o other : Option Reply) (f : SendStop) → refused_image o ≡ Some f → refused_image (or_else o other) ≡ Some f
-refused-first None other f is = absurd cc
-refused-first (Some r) other f is = is
+abbrev reply_of : ImageFault → Reply
+reply_of (Missing guid) = reply.Missing guid
+reply_of (TooLarge guid) = reply.TooLarge guid
 
-module _ (rows : List ImageRow) (toc : Toc) (k : ℕ) (below : k < length rows) where
-  abbrev row : ImageRow
-  row = get_or rows k no_row
+-- ---- of all images
 
-  split : first_image_fault (drop k rows) toc ≡ or_else (image_fault row (entry_of toc row.guid)) (first_image_fault (drop (k + 1) rows) toc)
-  unfolding first_image_fault
-  split = ap (λ (l : List ImageRow). first_image_fault l toc) (drop-cons rows k no_row below ∙ ap (λ (n : ℕ). row ∷ drop n rows) (sym (add-one k)))
-
-  -- an image that has no fault
-  pub passes_on : (e : Entry) → entry_of toc row.guid ≡ Some e → e.size ≤ 4096 * row.slots
-      → first_image_fault (drop k rows) toc ≡ first_image_fault (drop (k + 1) rows) toc
-  passes_on e is fits =
-      let none : image_fault row (entry_of toc row.guid) ≡ None = ap (image_fault row) is ∙ ap
-      (λ (b : Bool). cond b (Some (reply.TooLarge row.guid)) None) (le-ltb (4096 * row.slots) e.size fits) in
-      split ∙ ap (λ (o : Option Reply). or_else o (first_image_fault (drop (k + 1) rows) toc)) none
-
-  -- an image that has one
-  pub stops_here : (f : SendStop) → refused_image (image_fault row (entry_of toc row.guid)) ≡ Some f
-      → refused_image (first_image_fault (drop k rows) toc) ≡ Some f
-  stops_here f is = ap refused_image split ∙ refused-first (image_fault row (entry_of toc row.guid)) (first_image_fault (drop (k + 1) rows) toc) f is
-
--- after all images
-pub none_left : (toc : Toc) → first_image_fault [] toc ≡ None
-unfolding first_image_fault
-none_left toc = refl
-
--- the entry that was added last
-pub last_pushed : (es : List Entry) (e : Entry) (k : ℕ) → length es ≡ k → get_or (es ++ e ∷ []) k no_entry ≡ e
-last_pushed es e k is = let none : k - k ≡ 0 = omega arith in get_or-append_right es (e ∷ []) k k no_entry is (omega arith) ∙ ap
-    (λ (n : ℕ). get_or (e ∷ []) n no_entry) none
-
--- what holds of each entry holds of the one that is found
-pub found_has : (P : Entry → Type 0) (guid : List ℕ) (es : List Entry) (e : Entry) → All P es → find (has_guid guid) es ≡ Some e
-    → P e
-found_has P guid [] e all is = absurd cc
-found_has P guid (x ∷ xs) e all is = by-test (has_guid guid x) (find (has_guid guid) xs) (All-head P x xs all)
-    (λ h. found_has P guid xs e (All-tail P x xs all) h) is
+next-fault : (r : ImageRow) (o : Option Entry) (rest : Option Reply) (faults : Option ImageFault) → rest ≡ option_map reply_of faults
+    → machine_else (machine_fault r o) rest ≡ option_map reply_of (or_else (image_fault r o) faults)
+next-fault r None rest faults is = refl
+next-fault r (Some e) rest faults is = by-test (nat_lt (4096 * r.slots) e.size)
   where
-    by-test : (b : Bool) (rest : Option Entry) → P x → (rest ≡ Some e → P e) → cond b (Some x) rest ≡ Some e → P e
-    by-test true rest one others h = subst P (same_Some x e h) one
-    by-test false rest one others h = others h
+    by-test : (b : Bool) → machine_else (cond b (Some (reply.TooLarge r.guid)) None) rest
+        ≡ option_map reply_of (or_else (cond b (Some (TooLarge r.guid)) None) faults)
+    by-test true = refl
+    by-test false = is
+
+same-fault : (rows : List ImageRow) (toc : Toc) → first_image_fault rows toc ≡ option_map reply_of (images_fault rows toc)
+unfolding first_image_fault
+same-fault [] toc = refl
+same-fault (r ∷ rows) toc = next-fault r (entry_of toc r.guid) (first_image_fault rows toc) (images_fault rows toc) (same-fault rows toc)
+
+-- ---- of those that the table has
+
+next-size : (r : ImageRow) (o : Option Entry) (rest : Option Reply) (faults : Option ImageFault) → rest ≡ option_map reply_of faults
+    → machine_else (size_fault r o) rest ≡ option_map reply_of (or_else (table_fault r o) faults)
+next-size r None rest faults is = is
+next-size r (Some e) rest faults is = by-test (nat_lt (4096 * r.slots) e.size)
+  where
+    by-test : (b : Bool) → machine_else (cond b (Some (reply.TooLarge r.guid)) None) rest
+        ≡ option_map reply_of (or_else (cond b (Some (TooLarge r.guid)) None) faults)
+    by-test true = refl
+    by-test false = is
+
+same-size : (rows : List ImageRow) (toc : Toc) → first_size_fault rows toc ≡ option_map reply_of (lowest_fault table_fault rows toc)
+unfolding first_size_fault
+same-size [] toc = refl
+same-size (r ∷ rows) toc = next-size r (entry_of toc r.guid) (first_size_fault rows toc) (lowest_fault table_fault rows toc) (same-size rows toc)
+
+same-partial : (rows : List ImageRow) (toc : Toc) → partial_fault rows toc ≡ option_map reply_of (present_fault rows toc)
+same-partial rows toc = by-test (list_any (has_image toc) rows)
+  where
+    by-test : (b : Bool) → cond b (first_size_fault rows toc) (Some (reply.Missing (get_or rows 0 no_row).guid))
+        ≡ option_map reply_of (cond b (lowest_fault table_fault rows toc) (Some (Missing (get_or rows 0 no_row).guid)))
+    by-test true = same-size rows toc
+    by-test false = refl
+
+-- ---- what is answered
+
+refused-is : (fault : ImageFault) → refused_image (Some (reply_of fault)) ≡ Some (refused_as fault)
+refused-is (Missing guid) = refl
+refused-is (TooLarge guid) = refl
+
+refused-by : (o : Option Reply) (faults : Option ImageFault) (fault : ImageFault) (stop : SendStop) → o ≡ option_map reply_of faults → faults ≡ Some fault
+    → stop ≡ refused_as fault → refused_image o ≡ Some stop
+refused-by o faults fault stop same is said =
+    ap refused_image (same ∙ ap (option_map reply_of) is) ∙ refused-is fault ∙ ap (λ (s : SendStop). Some s) (sym said)
+
+pub all-chosen : (rows : List ImageRow) (toc : Toc) (entries : List Entry) → AreImages rows toc entries → AreChosen rows toc entries
+all-chosen rows toc entries are = record {
+  none = same-fault rows toc ∙ ap (option_map reply_of) are.none;
+  count = are.count;
+  each = are.each;
+  fit = are.fit;
+}
+
+pub all-refused : (rows : List ImageRow) (toc : Toc) (fault : ImageFault) (stop : SendStop) → images_fault rows toc ≡ Some fault → stop ≡ refused_as fault
+    → refused_image (first_image_fault rows toc) ≡ Some stop
+all-refused rows toc fault stop is said = refused-by (first_image_fault rows toc) (images_fault rows toc) fault stop (same-fault rows toc) is said
+
+pub present-chosen : (rows : List ImageRow) (toc : Toc) (entries : List Entry) → AreThere rows toc entries → ArePresent rows toc entries
+present-chosen rows toc entries are = record {
+  none = same-partial rows toc ∙ ap (option_map reply_of) are.none;
+  entries_are = are.entries_are;
+}
+
+pub present-refused : (rows : List ImageRow) (toc : Toc) (fault : ImageFault) (stop : SendStop) → present_fault rows toc ≡ Some fault → stop ≡ refused_as fault
+    → refused_image (partial_fault rows toc) ≡ Some stop
+present-refused rows toc fault stop is said = refused-by (partial_fault rows toc) (present_fault rows toc) fault stop (same-partial rows toc) is said
 
 -- what holds of each entry of a table holds of each that was chosen
 pub chosen_have : (P : Entry → Type 0) (rows : List ImageRow) (toc : Toc) (entries : List Entry) → AreChosen rows toc entries

@@ -1,14 +1,13 @@
 -- What the calls of a sending take of an armed loss.
-use Rattle.std.proofs.Common.{◌≡◌, ℕ, suc, ◌+◌, ◌-◌, ◌<◌, ◌≤◌, Bool, List, [], ◌∷◌, ◌++◌, take, length, get_or, Option, Some, Ok, refl, sym, ap, subst, ◌∙◌, arith}
+use Rattle.std.proofs.Common.{Bool, ◌≡◌, ℕ, suc, ◌+◌, ◌*◌, ◌<◌, ◌≤◌, List, [], ◌∷◌, ◌++◌, take, length, get_or, Option, Some, Ok, refl, sym, ap, subst, ◌∙◌, arith}
 use Rattle.std.proofs.lemmas.List.{take_all}
 use Rattle.std.specs.Prelude.{◌==◌}
 use Rattle.host_io.specs.Contents.{Directory}
 use Rattle.flash_core.specs.declared.flash.Arming.{Arming}
-use Rattle.fwu_formats.specs.Layout.{ImageRow, slot_bytes}
+use Rattle.fwu_formats.specs.Layout.{ImageRow}
 use Rattle.fwu_formats.specs.Package.{Entry, Toc, entry_of}
 use Rattle.fwu_model.specs.Call as call
 use Rattle.fwu_model.specs.Reply as reply
-use Rattle.slot_writer.specs.Slots.{blocks_for, done_of}
 use Rattle.flash_core.specs.Counts.{lowered_by}
 use Rattle.slot_writer.specs.Writes.{writes_to_append, writes_to_finish}
 use Rattle.agent_kept.specs.declared.parts.Handle.TheVariants.{Writes}
@@ -16,12 +15,15 @@ use Rattle.agent_kept.specs.Kept.{part_at, handle_kept, size_of}
 use Rattle.agent_machine.specs.Ends.{IsWriter}
 use Rattle.agent_machine.specs.Moment.{Moment}
 use Rattle.update_client.specs.Pieces.{WritesFirst, WritesImage}
-use Rattle.update_client.specs.Images.{SendsFirst, no_entry}
+use Rattle.update_client.specs.Images.{SendsFirst, no_entry, sent_parts}
 use Rattle.update_client.specs.Choosing.{no_row}
-use Rattle.update_client.specs.Takes.{Takes, PieceTakes, FirstTake, ImageTakes, ImagesTake, InstallTakes, blocks_in, blocks_of, blocks_sent}
-use Rattle.update_client.proofs.Going.{MeetsAs}
-use Rattle.update_client.proofs.Taking.{takes-by, takes-none, takes-then}
-use Rattle.update_client.proofs.Writer.{writer, written}
+use Rattle.update_client.specs.Takes.{PieceTakes, FirstTake, ImageTakes, ImagesTake, writes_in, writes_of_entry, writes_sent}
+use Rattle.agent_calls.specs.Takes.{Takes, piece_at, pieces_of, writes_of_image, writes_of_pieces}
+use Rattle.agent_calls.proofs.Pieces.{Pieces, next-piece, pieces-all, pieces-more, pieces-none}
+use Rattle.agent_calls.proofs.Taking.{takes-none, takes-then}
+use Rattle.agent_machine.proofs.CallGoing.{MeetsAs}
+use Rattle.agent_machine.proofs.Writer.{writer, written}
+use Rattle.update_client.proofs.Staging.{sent-long, sent-other}
 use Rattle.update_client.proofs.WrittenPiece.{image-opened}
 use Rattle.update_client.proofs.SentImages.{take-next}
 
@@ -31,94 +33,113 @@ use Rattle.update_client.proofs.SentImages.{take-next}
 pub piece-takes : (at n : ℕ) (old : Moment) (armed arming : Option Arming)
     → ((image : ℕ) → handle_kept old.fields.session 0 ≡ Writes image
     → arming ≡ lowered_by (writes_to_append (size_of (part_at old.fields.session image)) n) armed) → PieceTakes at n old armed arming
-piece-takes at n old armed arming lowered s boot images bit done before below count shows =
-    let size : size_of (part_at old.fields.session (length done)) ≡ at = written old s boot images bit done before below shows ∙ count in
-    takes-by (blocks_for (done_of (at + n)) - blocks_for (done_of at)) (writes_to_append at n) armed arming (omega arith)
-    (lowered (length done) (writer old s boot images bit done before below shows)
-    ∙ ap (λ (m : ℕ). lowered_by (writes_to_append m n) armed) size)
+piece-takes at n old armed arming lowered s boot parts image before below count shows =
+    let size : size_of (part_at old.fields.session image) ≡ at = written old s boot parts image before below shows ∙ count in
+    lowered image (writer old s boot parts image before below shows)
+    ∙ ap (λ (m : ℕ). lowered_by (writes_to_append m n) armed) size
 
 -- ---- an image, piece by piece
 
-pub first-takes-none : (e : Entry) (m : Moment) (armed : Option Arming) → FirstTake e 0 m armed armed
-first-takes-none e m armed E s boot images bit done layout below room shows = takes-none armed armed refl
+-- its first bytes, which are whole pieces or all
+pub record FirstTaken (size : ℕ) (e : Entry) (at : ℕ) (old : Moment) (armed arming : Option Arming) : Type 0 where
+  pub count : ℕ
+  pub pieces : Pieces size e.size at count
+  pub takes : FirstTake size e count old armed arming
 
-pub first-takes-more : (told : Option Directory) (name : List ℕ) (e : Entry) (at n : ℕ) (old mid : Moment) (a b c : Option Arming)
-    → WritesFirst told name e at old mid → FirstTake e at old a b → PieceTakes at n mid b c → FirstTake e (at + n) old a c
-first-takes-more told name e at n old mid a b c first takes piece E s boot images bit done layout below room shows =
-    let one = first.goes E s boot images bit done layout below room shows in
-    takes-then (blocks_for (done_of at)) (blocks_for (done_of (at + n)) - blocks_for (done_of at)) (blocks_for (done_of (at + n))) a b c (omega arith)
-    (takes E s boot images bit done layout below room shows)
-    (piece s boot images bit done first.bytes below first.count one.shows)
+pub first-taken-none : (size : ℕ) (e : Entry) (m : Moment) (armed : Option Arming) → 0 < size → FirstTaken size e 0 m armed armed
+first-taken-none size e m armed some = record {
+  count = 0;
+  pieces = pieces-none size e.size some;
+  takes = λ E s boot parts image layout below room shows. takes-none armed;
+}
 
-pub first-takes-all : (e : Entry) (at : ℕ) (old : Moment) (a b : Option Arming) → at ≡ e.size → FirstTake e at old a b → FirstTake e e.size old a b
-first-takes-all e at old a b all takes = subst (λ (n : ℕ). FirstTake e n old a b) all takes
+pub first-taken-more : (told : Option Directory) (name : List ℕ) (size : ℕ) (e : Entry) (at n : ℕ) (old mid : Moment) (a b c : Option Arming)
+    → at < e.size → n ≡ piece_at size e.size at
+    → WritesFirst told name e at old mid → FirstTaken size e at old a b → PieceTakes at n mid b c → FirstTaken size e (at + n) old a c
+first-taken-more told name size e at n old mid a b c more is first front piece =
+    let here : at ≡ size * front.count = next-piece size e.size at front.count front.pieces more in
+    let same : writes_to_append at n ≡ writes_to_append (size * front.count) (piece_at size e.size (size * front.count)) =
+    ap (writes_to_append at) is ∙ ap (λ (m : ℕ). writes_to_append m (piece_at size e.size m)) here in
+    record {
+      count = suc front.count;
+      pieces = pieces-more size e.size at front.count front.pieces n more is;
+      takes = λ E s boot parts image layout below room shows.
+          let one = first.goes E s boot parts image layout below room shows in
+          takes-then (writes_of_pieces size e.size front.count) (writes_to_append at n)
+          (writes_of_pieces size e.size (suc front.count)) a b c (ap (λ (w : ℕ). writes_of_pieces size e.size front.count + w) same)
+          (front.takes E s boot parts image layout below room shows)
+          (piece s boot parts image first.bytes below first.count one.shows);
+    }
+
+pub first-taken-all : (size : ℕ) (e : Entry) (at : ℕ) (old : Moment) (a b : Option Arming) → 0 < size → e.size ≤ at
+    → FirstTaken size e at old a b → FirstTake size e (pieces_of size e.size) old a b
+first-taken-all size e at old a b some all front =
+    subst (λ (k : ℕ). FirstTake size e k old a b) (pieces-all size e.size at front.count front.pieces some all) front.takes
 
 -- ---- an image
 
-pub image-takes : (told : Option Directory) (name guid : List ℕ) (e : Entry) (request h : ℕ) (old opened mid : Moment) (a b c : Option Arming)
+pub image-takes : (told : Option Directory) (name : List ℕ) (size : ℕ) (guid : List ℕ) (e : Entry) (h : ℕ) (old opened mid : Moment) (a b c : Option Arming)
     → ((passes : List ℕ → Bool) → MeetsAs {T = ℕ} (λ k. reply.Opened k) (Ok h) passes (call.OpenWrite guid) old opened)
-    → WritesImage told name e (Ok tt) opened mid → FirstTake e e.size opened a b
+    → WritesImage told name e (Ok tt) opened mid → FirstTake size e (pieces_of size e.size) opened a b
     → ((image : ℕ) → IsWriter mid.fields 1 image → c ≡ lowered_by (writes_to_finish (size_of (part_at mid.fields.session image))) b)
-    → ImageTakes guid e request old a c
-image-takes told name guid e request h old opened mid a b c opens wrote takes lowered E s boot images done layout below found room shows =
-    let bit = request == 0 in
-    let one = image-opened guid h old opened opens E s boot images bit done layout below found shows in
+    → ImageTakes size guid e old a c
+image-takes told name size guid e h old opened mid a b c opens wrote takes lowered E s boot parts image layout below found room none shows =
+    let one = image-opened guid h old opened opens E s boot parts image layout below found none shows in
     let there = layout ∙ sym one.stays.layout in
-    let two = wrote.goes E s boot images bit done there below room one.shows in
-    let size : size_of (part_at mid.fields.session (length done)) ≡ e.size = written mid s boot images bit done wrote.bytes below two.shows ∙ wrote.count in
-    let ended : Takes (blocks_for e.size - blocks_for (done_of e.size)) b c =
-    takes-by (blocks_for e.size - blocks_for (done_of e.size)) (writes_to_finish e.size) b c (omega arith)
-    (lowered (length done) (omega arith, writer mid s boot images bit done wrote.bytes below two.shows)
-    ∙ ap (λ (m : ℕ). lowered_by (writes_to_finish m) b) size) in
-    takes-then (blocks_for (done_of e.size)) (blocks_for e.size - blocks_for (done_of e.size)) (blocks_for e.size) a b c (omega arith)
-    (takes E s boot images bit done there below room one.shows) ended
+    let two = wrote.goes E s boot parts image there below room one.shows in
+    let long : size_of (part_at mid.fields.session image) ≡ e.size = written mid s boot parts image wrote.bytes below two.shows ∙ wrote.count in
+    let ended : Takes (writes_to_finish e.size) b c =
+    lowered image (omega arith, writer mid s boot parts image wrote.bytes below two.shows)
+    ∙ ap (λ (m : ℕ). lowered_by (writes_to_finish m) b) long in
+    takes-then (writes_of_pieces size e.size (pieces_of size e.size)) (writes_to_finish e.size) (writes_of_image size e.size) a b c refl
+    (takes E s boot parts image there below room one.shows) ended
 
 -- ---- the images
 
-blocks-append : (l m : List Entry) → blocks_in (l ++ m) ≡ blocks_in l + blocks_in m
-blocks-append [] m = omega arith
-blocks-append (e ∷ l) m = let rest = blocks-append l m in omega (arith, rest)
+writes-append : (size : ℕ) (l m : List Entry) → writes_in size (l ++ m) ≡ writes_in size l + writes_in size m
+writes-append size [] m = omega arith
+writes-append size (e ∷ l) m = let rest = writes-append size l m in omega (arith, rest)
 
-pub images-take-none : (entries : List Entry) (request : ℕ) (m : Moment) (armed : Option Arming) → ImagesTake entries request 0 m armed armed
-images-take-none entries request m armed E s boot n layout are shows = takes-none armed armed refl
+pub images-take-none : (size : ℕ) (entries : List Entry) (m : Moment) (armed : Option Arming) → ImagesTake size entries 0 m armed armed
+images-take-none size entries m armed E s boot parts places layout are shows = takes-none armed
 
-pub images-take-more : (told : Option Directory) (name : List ℕ) (entries : List Entry) (request k : ℕ) (old mid : Moment) (a b c : Option Arming)
-    → k < length entries → SendsFirst told name entries request k old mid → ImagesTake entries request k old a b
-    → ImageTakes (get_or entries k no_entry).guid (get_or entries k no_entry) request mid b c → ImagesTake entries request (k + 1) old a c
-images-take-more told name entries request k old mid a b c below first takes image E s boot n layout are shows =
+pub images-take-more : (told : Option Directory) (name : List ℕ) (size : ℕ) (entries : List Entry) (request k : ℕ) (old mid : Moment) (a b c : Option Arming)
+    → k < length entries → SendsFirst told name entries request k old mid → ImagesTake size entries k old a b
+    → ImageTakes size (get_or entries k no_entry).guid (get_or entries k no_entry) mid b c → ImagesTake size entries (k + 1) old a c
+images-take-more told name size entries request k old mid a b c below first takes image E s boot parts places layout are shows =
     let e = get_or entries k no_entry in
-    let one = first.goes E s boot n layout are shows in
+    let one = first.goes E s boot parts places layout are shows in
     let at : length first.images ≡ k = first.count in
-    let sum : blocks_in (take (k + 1) entries) ≡ blocks_in (take k entries) + blocks_in (e ∷ []) =
-    ap blocks_in (take-next entries k below) ∙ blocks-append (take k entries) (e ∷ []) in
-    takes-then (blocks_in (take k entries)) (blocks_for e.size) (blocks_in (take (k + 1) entries)) a b c (omega (arith, sum))
-    (takes E s boot n layout are shows)
-    (image E s boot n first.images (layout ∙ sym one.stays.layout) (omega (arith, at, below, are.few)) (are.found k below ∙ ap Some (sym at))
-    (subst (λ (i : ℕ). e.size ≤ slot_bytes E.layout i) (sym at) (are.fit k below)) one.shows)
+    let bit = request == 0 in
+    let now = sent_parts parts first.images places bit in
+    let sum : writes_in size (take (k + 1) entries) ≡ writes_in size (take k entries) + writes_in size (e ∷ []) =
+    ap (writes_in size) (take-next entries k below) ∙ writes-append size (take k entries) (e ∷ []) in
+    takes-then (writes_in size (take k entries)) (writes_of_image size e.size) (writes_in size (take (k + 1) entries)) a b c (omega (arith, sum))
+    (takes E s boot parts places layout are shows)
+    (image E s boot now (get_or places k 0) (layout ∙ sym one.stays.layout)
+    (omega (arith, are.below k below, sent-long parts first.images places bit)) (are.found k below) (are.fit k below)
+    (sent-other parts first.images places bit (get_or places k 0) (omega (arith, at, below, are.count))
+    (λ j less. are.apart j k (omega (arith, less, at)) below) ∙ are.empty k below) one.shows)
 
-pub images-take-all : (entries : List Entry) (request k : ℕ) (old : Moment) (a b : Option Arming) → length entries ≤ k
-    → ImagesTake entries request k old a b → ImagesTake entries request (length entries) old a b
-images-take-all entries request k old a b all takes E s boot n layout are shows =
-    subst (λ (l : List Entry). Takes (blocks_in l) a b) (take_all k entries all ∙ sym (take_all (length entries) entries (omega arith)))
-    (takes E s boot n layout are shows)
+pub images-take-all : (size : ℕ) (entries : List Entry) (k : ℕ) (old : Moment) (a b : Option Arming) → length entries ≤ k
+    → ImagesTake size entries k old a b → ImagesTake size entries (length entries) old a b
+images-take-all size entries k old a b all takes E s boot parts places layout are shows =
+    subst (λ (l : List Entry). Takes (writes_in size l) a b) (take_all k entries all ∙ sym (take_all (length entries) entries (omega arith)))
+    (takes E s boot parts places layout are shows)
 
--- ---- all of it
-
-pub install-takes : (entries : List Entry) (request : ℕ) (old : Moment) (a b c : Option Arming)
-    → ImagesTake entries request (length entries) old a b → Takes 4 b c → InstallTakes entries request old a c
-install-takes entries request old a b c images ends E s boot layout are shows =
-    takes-then (blocks_in entries) 4 (blocks_in entries + 4) a b c (omega arith)
-    (subst (λ (l : List Entry). Takes (blocks_in l) a b) (take_all (length entries) entries (omega arith))
-    (images E s boot (length entries) layout are shows)) ends
+-- all of them
+pub images-taken : (size : ℕ) (entries : List Entry) (a b : Option Arming) → Takes (writes_in size (take (length entries) entries)) a b
+    → Takes (writes_in size entries) a b
+images-taken size entries a b takes = subst (λ (l : List Entry). Takes (writes_in size l) a b) (take_all (length entries) entries (omega arith)) takes
 
 -- the entries are those of the types of the images
-pub blocks-chosen : (rows : List ImageRow) (toc : Toc) (entries : List Entry) → length entries ≡ length rows
+pub writes-chosen : (size : ℕ) (rows : List ImageRow) (toc : Toc) (entries : List Entry) → length entries ≡ length rows
     → ((k : ℕ) → k < length rows → entry_of toc (get_or rows k no_row).guid ≡ Some (get_or entries k no_entry))
-    → blocks_in entries ≡ blocks_sent rows toc
-blocks-chosen [] toc [] count each = refl
-blocks-chosen [] toc (e ∷ es) count each = absurd (omega (arith, count))
-blocks-chosen (r ∷ rows) toc [] count each = absurd (omega (arith, count))
-blocks-chosen (r ∷ rows) toc (e ∷ es) count each =
-    let here : blocks_of (entry_of toc r.guid) ≡ blocks_for e.size = ap blocks_of (each 0 (omega arith)) in
-    let rest = blocks-chosen rows toc es (omega (arith, count)) (λ k lt. each (suc k) (omega (arith, lt))) in
+    → writes_in size entries ≡ writes_sent size rows toc
+writes-chosen size [] toc [] count each = refl
+writes-chosen size [] toc (e ∷ es) count each = absurd (omega (arith, count))
+writes-chosen size (r ∷ rows) toc [] count each = absurd (omega (arith, count))
+writes-chosen size (r ∷ rows) toc (e ∷ es) count each =
+    let here : writes_of_entry size (entry_of toc r.guid) ≡ writes_of_image size e.size = ap (writes_of_entry size) (each 0 (omega arith)) in
+    let rest = writes-chosen size rows toc es (omega (arith, count)) (λ k lt. each (suc k) (omega (arith, lt))) in
     omega (arith, here, rest)

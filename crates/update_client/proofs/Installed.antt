@@ -1,5 +1,5 @@
 -- The images sent into a staging, and its end.
-use Rattle.std.proofs.Common.{◌≡◌, ℕ, Bool, true, false, List, [], ◌++◌, length, map, replicate, Option, Some, None, Result, Ok, Err, refl, sym, ap, subst, ◌∙◌}
+use Rattle.std.proofs.Common.{◌≡◌, ℕ, Bool, true, false, List, [], ◌++◌, length, map, Option, Some, None, Result, Ok, Err, refl, sym, ap, subst, ◌∙◌}
 use Rattle.std.specs.Prelude.{IsFalse, IsTrue, ◌==◌}
 use Rattle.flash_core.specs.declared.flash.FlashStop.{FlashStop}
 use Rattle.flash_core.specs.declared.flash.FlashStop.TheVariants as flash_stop
@@ -11,7 +11,8 @@ use Rattle.fwu_model.specs.Session.{Session, On, Staged, Handle, no_handles}
 use Rattle.fwu_model.specs.Call as call
 use Rattle.fwu_model.specs.Reply.{Reply}
 use Rattle.fwu_model.specs.Reply as reply
-use Rattle.fwu_model.specs.Answer.{Answer}
+use Rattle.fwu_model.specs.Answer.{Answer, staged_bits, staged_package}
+use Rattle.std.proofs.lemmas.List.{length-map}
 use Rattle.fip_tables.specs.Files.{Tells}
 use Rattle.agent_machine.specs.declared.stop.Stop.{Stop}
 use Rattle.agent_machine.specs.declared.stop.Stop.TheVariants as stop
@@ -20,16 +21,38 @@ use Rattle.agent_machine.specs.Meets.{GoesBy, IsStopped}
 use Rattle.agent_machine.specs.Goes.{Goes}
 use Rattle.update_client.specs.declared.stops.SendStop.{SendStop}
 use Rattle.update_client.specs.declared.stops.SendStop.TheVariants.{MissingImage, ImageTooLarge, Begin, End, ReadFailed, Lost, Fault, Gone}
-use Rattle.update_client.specs.Staged.{between}
-use Rattle.update_client.specs.Halts.{Halts, is_unread, stopped_as}
-use Rattle.update_client.specs.Images.{SendsImages}
+use Rattle.agent_machine.specs.Filling.{between}
+use Rattle.update_client.specs.Halts.{Halts, is_unread}
+use Rattle.update_client.specs.Images.{SendsImages, sent_parts}
 use Rattle.update_client.specs.Finishes.{Finishes, FinishesBy, InstallsImages, end_moves}
 use Rattle.agent_machine.proofs.Going.{goes-then, goes-stopped}
-use Rattle.update_client.proofs.Going.{MeetsAs, call-goes, call-replies}
+use Rattle.agent_machine.proofs.CallGoing.{MeetsAs, call-goes, call-replies}
 use Rattle.update_client.proofs.Staging.{cancel-answers}
 use Rattle.update_client.proofs.WrittenPiece.{no-success}
 
 -- ---- what told files have
+
+abbrev entries_of : Option (List ℕ) → List Entry → List (List ℕ)
+entries_of None entries = map (λ (e : Entry). []) entries
+entries_of (Some file) entries = map (payload file) entries
+
+-- as many images as entries, which are the file's where that is told
+abbrev pub entry_images : Option Directory → List ℕ → List Entry → List (List ℕ)
+entry_images None name entries = map (λ (e : Entry). []) entries
+entry_images (Some files) name entries = entries_of (files name) entries
+
+pub entry-images-are : (told : Option Directory) (name : List ℕ) (entries : List Entry) (file : List ℕ) → Tells told name file
+    → entry_images told name entries ≡ map (payload file) entries
+entry-images-are None name entries file tells = absurd tells
+entry-images-are (Some files) name entries file tells = ap (λ (o : Option (List ℕ)). entries_of o entries) tells
+
+pub entry-images-long : (told : Option Directory) (name : List ℕ) (entries : List Entry) → length (entry_images told name entries) ≡ length entries
+entry-images-long None name entries = length-map entries (λ (e : Entry). [])
+entry-images-long (Some files) name entries = by-file (files name)
+  where
+    by-file : (o : Option (List ℕ)) → length (entries_of o entries) ≡ length entries
+    by-file None = length-map entries (λ (e : Entry). [])
+    by-file (Some file) = length-map entries (payload file)
 
 abbrev of_file : Option (List ℕ) → (List ℕ → List (List ℕ)) → List (List ℕ)
 of_file None of = []
@@ -75,7 +98,7 @@ pub stopped-at : (e : FlashStop) (E : Setting) (old new : Moment) (s : State) (m
     → Goes E (Err e) old new s ms y → Goes E (Err e) old new s (ms ++ ns) z
 stopped-at e E old new s ms ns y z goes =
     let all = goes-stopped E (Err e) old new s ms ns y y refl goes in
-    record { shows = tt; does = all.does; guarded = all.guarded; stays = all.stays }
+    record { shows = tt; does = all.does; guarded = all.guarded; keeps = all.keeps; stays = all.stays }
 
 -- a cancel within a staging is neither refused nor stopped
 pub no-cancel : (halt : Stop) (E : Setting) (old new : Moment) (s : State) (boot : ℕ) (parts : List Staged) (handles : List Handle) (was now : Bool)
@@ -100,22 +123,24 @@ module _ (told : Option Directory) (name : List ℕ) (entries : List Entry) (req
       → FinishesBy passes result mid new → InstallsImages told name entries request passes result old new
   installed result sent finishes = record {
     images = sent.images;
+    count = sent.count;
     read = sent.read;
-    goes = λ E s boot layout verifier are shows.
-        let n = length entries in
-        let two = sent.goes E s boot n layout are shows in
-        finishes-after result E old mid new s boot (between boot n (request == 0) sent.images) sent.images (replicate n (request == 0)) two
-        (finishes E s boot n (request == 0) sent.images (layout ∙ sym two.stays.layout) verifier sent.count two.shows);
+    goes = λ E s boot parts places layout verifier are whole shows.
+        let now = sent_parts parts sent.images places (request == 0) in
+        let two = sent.goes E s boot parts places layout are shows in
+        finishes-after result E old mid new s boot (between boot now) (staged_package now) (staged_bits now) two
+        (finishes E s boot now (layout ∙ sym two.stays.layout) verifier whole two.shows);
   }
 
   uninstalled : SendsImages told name entries request (Err ReadFailed) old mid
       → ((v : List ℕ → Bool) → MeetsAs success (Ok tt) v call.Cancel mid new)
       → InstallsImages told name entries request passes (Err ReadFailed) old new
   uninstalled sent cancels = record {
-    images = told_value told name (λ file. map (payload file) entries);
-    read = λ file tells. told-is told name (λ file. map (payload file) entries) file tells;
-    goes = λ E s boot layout verifier are shows.
-        let still = sent.goes E s boot (length entries) layout are shows in
+    images = entry_images told name entries;
+    count = entry-images-long told name entries;
+    read = λ file tells. entry-images-are told name entries file tells;
+    goes = λ E s boot parts places layout verifier are whole shows.
+        let still = sent.goes E s boot parts places layout are shows in
         let there = On boot (Some still.parts) still.handles in
         let last = subst (λ (a : Answer). Goes E (Ok tt) mid new s a.moves a.next) (cancel-answers E s boot still.parts still.handles)
         (call-goes E success (Ok tt) call.Cancel mid new s there (layout ∙ sym still.goes.stays.layout) still.goes.shows
@@ -130,10 +155,11 @@ module _ (told : Option Directory) (name : List ℕ) (entries : List Entry) (req
       → InstallsImages told name entries request passes (Err ReadFailed) old new
   uncancelled (Ok x) was now here goes still sent meets = uninstalled sent meets
   uncancelled (Err halt) was now here goes still sent meets = record {
-    images = told_value told name (λ file. map (payload file) entries);
-    read = λ file tells. told-is told name (λ file. map (payload file) entries) file tells;
-    goes = λ E s boot layout verifier are shows.
-        let there = sent.goes E s boot (length entries) layout are shows in
+    images = entry_images told name entries;
+    count = entry-images-long told name entries;
+    read = λ file tells. entry-images-are told name entries file tells;
+    goes = λ E s boot parts places layout verifier are whole shows.
+        let there = sent.goes E s boot parts places layout are shows in
         absurd (no-cancel halt E mid new s boot there.parts there.handles was now
         (layout ∙ sym there.goes.stays.layout) there.goes.shows here goes still meets);
   }
@@ -143,26 +169,26 @@ pub interrupted : (told : Option Directory) (name : List ℕ) (entries : List En
     (halt : SendStop) → is_unread halt ≡ false → SendsImages told name entries request (Err halt) old new
     → InstallsImages told name entries request passes (Err halt) old new
 interrupted told name entries request passes old new halt other sent = record {
-  images = told_value told name (λ file. map (payload file) entries);
-  read = λ file tells. told-is told name (λ file. map (payload file) entries) file tells;
-  goes = λ E s boot layout verifier are shows.
-      by-stop halt E s boot other (told_value told name (λ file. map (payload file) entries))
-      (between boot (length entries) (request == 0) sent.images) (sent.goes E s boot (length entries) layout are shows);
+  images = entry_images told name entries;
+  count = entry-images-long told name entries;
+  read = λ file tells. entry-images-are told name entries file tells;
+  goes = λ E s boot parts places layout verifier are whole shows.
+      by-stop halt E s boot other (staged_package (sent_parts parts (entry_images told name entries) places (request == 0)))
+      (staged_bits (sent_parts parts (entry_images told name entries) places (request == 0)))
+      (between boot (sent_parts parts sent.images places (request == 0))) (sent.goes E s boot parts places layout are shows);
 }
   where
-    by-stop : (halt : SendStop) (E : Setting) (s : State) (boot : ℕ) → is_unread halt ≡ false → (p : List (List ℕ)) (y : Session)
+    by-stop : (halt : SendStop) (E : Setting) (s : State) (boot : ℕ) → is_unread halt ≡ false → (p : List (List ℕ)) (bits : List Bool) (y : Session)
         → Halts {T = Unit {0}} (Err halt) E old new s boot y
-        → Finishes (Err halt) E old new s boot p (replicate (length entries) (request == 0))
-    by-stop Lost E s boot other p y h = stopped-at flash_stop.Lost E old new s [] (end_moves E s p (replicate (length entries) (request == 0))) y
-        (On boot None no_handles) h
-    by-stop Fault E s boot other p y h = stopped-at flash_stop.Failed E old new s [] (end_moves E s p (replicate (length entries) (request == 0))) y
-        (On boot None no_handles) h
-    by-stop ReadFailed E s boot other p y h = absurd cc
-    by-stop (MissingImage g) E s boot other p y h = absurd h
-    by-stop (ImageTooLarge g) E s boot other p y h = absurd h
-    by-stop (Begin st) E s boot other p y h = absurd h
-    by-stop (End st) E s boot other p y h = absurd h
-    by-stop Gone E s boot other p y h = absurd h
+        → Finishes (Err halt) E old new s boot p bits
+    by-stop Lost E s boot other p bits y h = stopped-at flash_stop.Lost E old new s [] (end_moves E s p bits) y (On boot None no_handles) h
+    by-stop Fault E s boot other p bits y h = stopped-at flash_stop.Failed E old new s [] (end_moves E s p bits) y (On boot None no_handles) h
+    by-stop ReadFailed E s boot other p bits y h = absurd cc
+    by-stop (MissingImage g) E s boot other p bits y h = absurd h
+    by-stop (ImageTooLarge g) E s boot other p bits y h = absurd h
+    by-stop (Begin st) E s boot other p bits y h = absurd h
+    by-stop (End st) E s boot other p bits y h = absurd h
+    by-stop Gone E s boot other p bits y h = absurd h
 
 pub unread-is : (halt : SendStop) → is_unread halt ≡ true → halt ≡ ReadFailed
 unread-is ReadFailed is = refl

@@ -1,4 +1,3 @@
-pub mod Going
 pub mod Staging
 pub mod Halting
 pub mod WrittenPiece
@@ -9,8 +8,12 @@ pub mod Chosen
 pub mod OwnImages
 pub mod Installed
 pub mod WholeSending
-pub mod Taking
 mod Spending
-pub mod Writer
 pub mod ImagesTaking
 mod Stopped
+mod Over
+mod Present
+mod Named
+mod WholePartly
+mod InstalledOver
+pub mod Answered

@@ -1,9 +1,11 @@
 -- The entry of each image opens that image, since the types differ.
-use Rattle.std.proofs.Common.{◌≡◌, ◌≢◌, cond, ℕ, ◌*◌, ◌<◌, ◌≤◌, Bool, true, false, List, [], ◌∷◌, length, map, get_or, inl, inr, Option, Some, None, refl, sym, ap, subst, ◌∙◌, arith}
+use Rattle.std.proofs.Common.{◌≡◌, ◌≢◌, cond, ℕ, ◌*◌, ◌<◌, ◌≤◌, Bool, true, false, List, [], ◌∷◌, length, map, replicate, zero, suc, get_or, inl, inr, Option, Some, None, refl, sym, ap, subst, ◌∙◌, arith}
 use Rattle.std.specs.Prelude.{IsTrue, ltb}
-use Rattle.std.specs.List.{position_or_len, find}
+use Rattle.std.specs.List.{position_or_len, find, range_with_len}
 use Rattle.std.proofs.lemmas.Bool.{cases_Bool, lt-ltb}
-use Rattle.std.proofs.lemmas.List.{length-map, get_or-map}
+use Rattle.std.proofs.lemmas.List.{length-map, length-replicate, get_or-map}
+use Rattle.std.proofs.lemmas.List.FromFn.{length-range_with_len, get_or-range_with_len}
+use Rattle.fwu_model.specs.Session.{Nothing}
 use Rattle.std.proofs.lemmas.List.Sums.{position_or_len_is}
 use Rattle.base_core.specs.Bytes.{same_bytes}
 use Rattle.fwu_formats.specs.Layout.{ImageRow, find_image, are_distinct, slot_bytes}
@@ -13,7 +15,7 @@ use Rattle.fwu_model.proofs.Staging.{same-self, same-is, distinct-at}
 use Rattle.update_client.specs.Choosing.{AreChosen, no_row}
 use Rattle.update_client.specs.Images.{AreImages, no_entry}
 
-abbrev guid_in : List ImageRow → ℕ → List ℕ
+abbrev pub guid_in : List ImageRow → ℕ → List ℕ
 guid_in rows k = (get_or rows k no_row).guid
 
 differs : (xs ys : List ℕ) → xs ≢ ys → same_bytes xs ys ≡ false
@@ -39,7 +41,7 @@ own-image rows k distinct lt =
     ap (λ (i : ℕ). cond (ltb i (length rows)) (Some i) None) (own-place rows k distinct lt) ∙ ap (λ (b : Bool). cond b (Some k) None)
     (lt-ltb k (length rows) lt)
 
-found-has : (guid : List ℕ) (es : List Entry) (e : Entry) → find (has_guid guid) es ≡ Some e → e.guid ≡ guid
+pub found-has : (guid : List ℕ) (es : List Entry) (e : Entry) → find (has_guid guid) es ≡ Some e → e.guid ≡ guid
 found-has guid [] e is = absurd cc
 found-has guid (x ∷ xs) e is = by-test (has_guid guid x) (find (has_guid guid) xs) (λ t. same-is x.guid guid t) (found-has guid xs e) is
   where
@@ -53,13 +55,27 @@ found-has guid (x ∷ xs) e is = by-test (has_guid guid x) (find (has_guid guid)
 
 pub are-images : (E : Setting) (toc : Toc) (entries : List Entry) → IsTrue (are_distinct (map (λ r. r.guid) E.layout.rows))
     → ((k : ℕ) → slot_bytes E.layout k ≡ 4096 * (get_or E.layout.rows k no_row).slots)
-    → AreChosen E.layout.rows toc entries → AreImages E entries (length E.layout.rows)
+    → AreChosen E.layout.rows toc entries
+    → AreImages E entries (range_with_len 0 (length E.layout.rows)) (replicate (length E.layout.rows) Nothing)
 are-images E toc entries distinct slots chosen = record {
-  few = omega (arith, chosen.count);
+  count = length-range_with_len 0 (length E.layout.rows) ∙ sym chosen.count;
+  below = λ k lt. omega (arith, place k lt, chosen.count, lt, length-replicate (length E.layout.rows) Nothing);
   found = λ k lt.
-      let below : k < length E.layout.rows = omega (arith, chosen.count, lt) in
-      ap (find_image E.layout.rows) (found-has (guid_in E.layout.rows k) toc.entries (get_or entries k no_entry) (chosen.each k below))
-      ∙ own-image E.layout.rows k distinct below;
-  fit = λ k lt. let below : k < length E.layout.rows = omega (arith, chosen.count, lt) in subst (λ (n : ℕ). (get_or entries k no_entry).size ≤ n)
-      (sym (slots k)) (chosen.fit k below);
+      ap (find_image E.layout.rows) (found-has (guid_in E.layout.rows k) toc.entries (get_or entries k no_entry) (chosen.each k (inside k lt)))
+      ∙ own-image E.layout.rows k distinct (inside k lt) ∙ ap Some (sym (place k lt));
+  fit = λ k lt. subst (λ (i : ℕ). (get_or entries k no_entry).size ≤ slot_bytes E.layout i) (sym (place k lt))
+      (subst (λ (m : ℕ). (get_or entries k no_entry).size ≤ m) (sym (slots k)) (chosen.fit k (inside k lt)));
+  empty = λ k lt. nothing-at (length E.layout.rows) (get_or (range_with_len 0 (length E.layout.rows)) k 0);
+  apart = λ j k less lt e. absurd (omega (arith, e, less, place k lt, place j (omega (arith, less, lt))));
 }
+  where
+    inside : (k : ℕ) → k < length entries → k < length E.layout.rows
+    inside k lt = omega (arith, chosen.count, lt)
+
+    place : (k : ℕ) → k < length entries → get_or (range_with_len 0 (length E.layout.rows)) k 0 ≡ k
+    place k lt = let at = get_or-range_with_len 0 (length E.layout.rows) k 0 (inside k lt) in omega (arith, at)
+
+    nothing-at : (m i : ℕ) → get_or (replicate m Nothing) i Nothing ≡ Nothing
+    nothing-at zero i = refl
+    nothing-at (suc m) zero = refl
+    nothing-at (suc m) (suc i) = nothing-at m i

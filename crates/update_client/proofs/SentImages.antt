@@ -1,19 +1,20 @@
 -- The images, one after another.
-use Rattle.std.proofs.Common.{◌≡◌, ℕ, zero, suc, ◌+◌, ◌<◌, ◌≤◌, List, [], ◌∷◌, ◌++◌, length, take, map, get_or, Option, Some, Result, Ok, Err, refl, sym, ap, subst, ◌∙◌, arith, length-append}
+use Rattle.std.proofs.Common.{◌≡◌, ℕ, zero, suc, ◌+◌, ◌<◌, List, [], ◌∷◌, ◌++◌, length, take, map, get_or, Option, Result, Ok, Err, refl, sym, ap, subst, ◌∙◌, arith, length-append}
 use Rattle.std.proofs.lemmas.List.{map-append, take_all}
 use Rattle.std.specs.Prelude.{◌==◌}
 use Rattle.host_io.specs.Contents.{Directory}
-use Rattle.fwu_formats.specs.Layout.{slot_bytes}
 use Rattle.fwu_formats.specs.Package.{Entry, payload}
 use Rattle.fwu_model.specs.State.{State}
 use Rattle.fwu_model.specs.Sound.{Setting}
 use Rattle.agent_machine.specs.Moment.{Moment, Shows}
 use Rattle.agent_machine.proofs.Going.{goes-nothing}
 use Rattle.update_client.specs.declared.stops.SendStop.{SendStop}
-use Rattle.update_client.specs.Staged.{between}
+use Rattle.fwu_model.specs.Session.{Staged, Nothing}
+use Rattle.agent_machine.specs.Filling.{between, filled}
+use Rattle.update_client.proofs.Staging.{sent-long, sent-next, sent-other}
 use Rattle.update_client.specs.Halts.{Halts}
 use Rattle.update_client.specs.Pieces.{SendsImage}
-use Rattle.update_client.specs.Images.{AreImages, SendsFirst, SendsImages, no_entry}
+use Rattle.update_client.specs.Images.{AreImages, SendsFirst, SendsImages, no_entry, sent_parts}
 use Rattle.update_client.proofs.Halting.{halts-after}
 
 pub take-next : (l : List Entry) (k : ℕ) → k < length l → take (k + 1) l ≡ take k l ++ get_or l k no_entry ∷ []
@@ -28,7 +29,7 @@ images-none told name entries request m = record {
   images = [];
   count = refl;
   read = λ file tells. refl;
-  goes = λ E s boot n layout are shows. goes-nothing E m s (between boot n (request == 0) []) shows;
+  goes = λ E s boot parts places layout are shows. goes-nothing E m s (between boot parts) shows;
 }
 
 module _ (told : Option Directory) (name : List ℕ) (entries : List Entry) (request k : ℕ) (below : k < length entries) (old mid new : Moment)
@@ -36,16 +37,24 @@ module _ (told : Option Directory) (name : List ℕ) (entries : List Entry) (req
   abbrev e : Entry
   e = get_or entries k no_entry
 
-  next : (result : Result (Unit {0}) SendStop) (image : SendsImage told name e.guid e request result mid new) (E : Setting) (s : State) (boot n : ℕ)
-      → E.layout ≡ old.fields.layout → AreImages E entries n → Shows old s (between boot n (request == 0) [])
-      → Halts result E old new s boot (between boot n (request == 0) (first.images ++ image.bytes ∷ []))
-  next result image E s boot n layout are shows =
-      let one = first.goes E s boot n layout are shows in
+  next : (result : Result (Unit {0}) SendStop) (image : SendsImage told name e.guid e request result mid new) (E : Setting) (s : State) (boot : ℕ)
+      (parts : List Staged) (places : List ℕ) → E.layout ≡ old.fields.layout → AreImages E entries places parts → Shows old s (between boot parts)
+      → Halts result E old new s boot (between boot (sent_parts parts (first.images ++ image.bytes ∷ []) places (request == 0)))
+  next result image E s boot parts places layout are shows =
+      let one = first.goes E s boot parts places layout are shows in
+      let bit = request == 0 in
+      let now = sent_parts parts first.images places bit in
       let at : length first.images ≡ k = first.count in
-      halts-after result E old mid new s boot (between boot n (request == 0) first.images)
-      (between boot n (request == 0) (first.images ++ image.bytes ∷ [])) one
-      (image.goes E s boot n first.images (layout ∙ sym one.stays.layout) (omega (arith, at, below, are.few)) (are.found k below ∙ ap Some (sym at))
-      (subst (λ (i : ℕ). e.size ≤ slot_bytes E.layout i) (sym at) (are.fit k below)) one.shows)
+      let few : length first.images < length places = omega (arith, at, below, are.count) in
+      let here : get_or places k 0 ≡ get_or places (length first.images) 0 = ap (λ (i : ℕ). get_or places i 0) (sym at) in
+      let lt : get_or places k 0 < length now = omega (arith, are.below k below, sent-long parts first.images places bit) in
+      let none : get_or now (get_or places k 0) Nothing ≡ Nothing = sent-other parts first.images places bit (get_or places k 0) (omega (arith, few))
+      (λ j less. are.apart j k (omega (arith, less, at)) below) ∙ are.empty k below in
+      halts-after result E old mid new s boot (between boot now)
+      (between boot (sent_parts parts (first.images ++ image.bytes ∷ []) places bit)) one
+      (subst (λ (ps : List Staged). Halts result E mid new s boot (between boot ps))
+      (ap (λ (i : ℕ). filled now i image.bytes bit) here ∙ sent-next parts first.images places bit image.bytes few)
+      (image.goes E s boot now (get_or places k 0) (layout ∙ sym one.stays.layout) lt (are.found k below) (are.fit k below) none one.shows))
 
   pub images-more : SendsImage told name e.guid e request (Ok tt) mid new → SendsFirst told name entries request (k + 1) old new
   images-more image = record {

@@ -13,37 +13,40 @@ use Rattle.fwu_formats.specs.Layout.{Layout, ImageRow, fits_layout, are_distinct
 use Rattle.fwu_formats.specs.Package.{Toc, Entry, entry_of, payload}
 use Rattle.fwu_model.specs.State.{Bank, State, Move, Free, Switch, after, bank, freed, is_invalid, no_bank, state_by, update_bank}
 use Rattle.fwu_model.specs.Sound.{Setting}
-use Rattle.fwu_model.specs.Session.{Session, Off, On, Staged, Handle, no_handles}
+use Rattle.fwu_model.specs.Session.{Session, Off, On, Staged, Handle, no_handles, Nothing}
 use Rattle.fwu_model.specs.Call as call
 use Rattle.fwu_model.specs.Reply.{Reply}
 use Rattle.fwu_model.specs.Reply as reply
 use Rattle.fwu_model.specs.declared.kinds.Status.{Status}
 use Rattle.fwu_model.specs.declared.kinds.Status.TheVariants as status
-use Rattle.fwu_model.specs.Answer.{Answer, answer, answered, refused, may_install, cannot_begin, begin_moves, bits_for, send_unless, first_image_fault, images_of, payload_of, skipped}
+use Rattle.fwu_model.specs.Answer.{staged_bits, Answer, answer, answered, refused, may_install, cannot_begin, begin_moves, bits_for, send_unless, first_image_fault, images_of, payload_of, skipped}
 use Rattle.fip_tables.specs.Files.{Tells}
 use Rattle.agent_machine.specs.declared.stop.Stop.{Stop}
 use Rattle.agent_machine.specs.declared.stop.Stop.TheVariants as stop
 use Rattle.fwu_formats.specs.Metadata.{Meta}
 use Rattle.agent_machine.specs.Fields.{target}
 use Rattle.agent_machine.specs.Moment.{Moment, Shows, Showing}
-use Rattle.agent_machine.specs.Meets.{GoesBy}
+use Rattle.agent_machine.specs.Meets.{GoesBy, IsStopped}
 use Rattle.agent_machine.specs.Goes.{Goes}
 use Rattle.update_client.specs.declared.stops.Sent.{Sent}
 use Rattle.update_client.specs.declared.stops.SendStop.{SendStop}
 use Rattle.update_client.specs.declared.stops.SendStop.TheVariants.{MissingImage, ImageTooLarge, Begin, End, ReadFailed, Lost, Fault, Gone}
-use Rattle.update_client.specs.Staged.{between}
+use Rattle.std.specs.List.{range_with_len}
+use Rattle.agent_machine.specs.Filling.{between}
 use Rattle.update_client.specs.Halts.{unbegun_as}
 use Rattle.update_client.specs.Choosing.{AreChosen, refused_image, no_row, no_entry}
-use Rattle.update_client.specs.Takes.{InstallTakes, Takes, blocks_sent}
-use Rattle.update_client.specs.Images.{AreImages}
+use Rattle.update_client.specs.Takes.{ImagesTake, writes_in, writes_sent}
+use Rattle.agent_calls.specs.Takes.{Takes}
+use Rattle.update_client.specs.Images.{AreImages, sent_parts}
 use Rattle.update_client.specs.Finishes.{Finishes, InstallsImages, end_moves}
-use Rattle.update_client.specs.Sends.{Installs, IsInstalled, IsSwitched, Sends, SendsBy, send_answer}
+use Rattle.update_client.specs.Sends.{Installs, IsBegun, IsInstalled, IsSwitched, Sends, SendsBy, send_answer}
 use Rattle.agent_machine.proofs.Going.{goes-then, goes-nothing}
-use Rattle.update_client.proofs.Going.{MeetsAs, call-goes, call-replies, call-stopped}
-use Rattle.update_client.proofs.Staging.{begin-answers, begun-keeps, begun-may}
+use Rattle.agent_machine.proofs.CallGoing.{MeetsAs, call-goes, call-replies, call-stopped}
+use Rattle.update_client.proofs.Staging.{begin-answers, begun-keeps, begun-may, whole-bits, whole-package, whole-committed}
 use Rattle.update_client.proofs.Installed.{told_value, told-is, stopped-at}
 use Rattle.update_client.proofs.OwnImages.{are-images}
-use Rattle.update_client.proofs.ImagesTaking.{blocks-chosen}
+use Rattle.update_client.proofs.ImagesTaking.{images-taken, writes-chosen}
+use Rattle.agent_calls.proofs.Taking.{takes-as}
 
 abbrev of : Unit {0} → Reply
 of u = reply.Success
@@ -64,9 +67,9 @@ module _ (E : Setting) (toc : Toc) (p : List (List ℕ)) (request : ℕ) (s : St
       (On boot None no_handles)))
 
   -- and what the begin answers
-  abbrev begun_by : Bool → Bool → Answer
-  begun_by cannot bit = cond cannot (refused status.Denied (On boot staging handles))
-      (answered reply.Success (begin_moves s) (between boot (length E.layout.rows) bit []))
+  abbrev begun_by : Bool → Answer
+  begun_by cannot = cond cannot (refused status.Denied (On boot staging handles))
+      (answered reply.Success (begin_moves s) (between boot (replicate (length E.layout.rows) Nothing)))
 
   module _ (none : first_image_fault E.layout.rows toc ≡ None) where
     unless : send_answer E toc p request s (On boot staging handles) ≡ answer_by (cannot_begin s boot staging) (may_install E s p)
@@ -91,7 +94,7 @@ module _ (E : Setting) (toc : Toc) (p : List (List ℕ)) (request : ℕ) (s : St
         → SendsBy (Err (Begin st)) E toc p request old new s (On boot staging handles)
     begin-refused st old new layout shows meets =
         let x = On boot staging handles in
-        let is = begin-answers E s boot staging handles (length E.layout.rows) true refl in
+        let is = begin-answers E s boot staging handles (length E.layout.rows) refl in
         let replied = call-replies E of (Err (stop.Status st)) (call.Begin 0) old new s x layout shows meets (reply.Refused st) refl ∙ ap
         (λ (w : Answer). w.reply) is in
         let goes = subst (λ (w : Answer). Goes E (Ok tt) old new s w.moves w.next) is
@@ -100,7 +103,7 @@ module _ (E : Setting) (toc : Toc) (p : List (List ℕ)) (request : ℕ) (s : St
       where
         by-test : (t : Bool) → (t ≡ true → send_answer E toc p request s (On boot staging handles) ≡ answered (reply.BeginRefused status.Denied) []
             (On boot staging handles))
-            → reply.Refused st ≡ (begun_by t true).reply → Goes E (Ok tt) old new s (begun_by t true).moves (begun_by t true).next
+            → reply.Refused st ≡ (begun_by t).reply → Goes E (Ok tt) old new s (begun_by t).moves (begun_by t).next
             → SendsBy (Err (Begin st)) E toc p request old new s (On boot staging handles)
         by-test true is replied goes =
             let denied : st ≡ status.Denied = cc in (
@@ -111,14 +114,17 @@ module _ (E : Setting) (toc : Toc) (p : List (List ℕ)) (request : ℕ) (s : St
         by-test false is replied goes = absurd cc
 
     -- begin was stopped by the flash
-    begin-stopped : (e : FlashStop) (old new : Moment) (y : Session)
+    begin-stopped : (e : FlashStop) (old new : Moment) (y : Session) → IsBegun E s (On boot staging handles)
         → Goes E (Err e) old new s (answer E s (On boot staging handles) (call.Begin 0)).moves y
-        → Goes E (Err e) old new s (send_answer E toc p request s (On boot staging handles)).moves (On boot None no_handles)
-    begin-stopped e old new y goes =
-        by-test (cannot_begin s boot staging) refl (subst (λ (w : Answer). Goes E (Err e) old new s w.moves y)
-        (begin-answers E s boot staging handles (length E.layout.rows) true refl) goes)
+        → IsBegun E s (On boot staging handles)
+        × Goes E (Err e) old new s (send_answer E toc p request s (On boot staging handles)).moves (On boot None no_handles)
+    begin-stopped e old new y begun goes = (
+      begun,
+      by-test (cannot_begin s boot staging) refl (subst (λ (w : Answer). Goes E (Err e) old new s w.moves y)
+          (begin-answers E s boot staging handles (length E.layout.rows) refl) goes),
+    )
       where
-        by-test : (t : Bool) → cannot_begin s boot staging ≡ t → Goes E (Err e) old new s (begun_by t true).moves y
+        by-test : (t : Bool) → cannot_begin s boot staging ≡ t → Goes E (Err e) old new s (begun_by t).moves y
             → Goes E (Err e) old new s (send_answer E toc p request s (On boot staging handles)).moves (On boot None no_handles)
         by-test true is goes = stopped-at e E old new s [] (send_answer E toc p request s (On boot staging handles)).moves y (On boot None no_handles) goes
         by-test false is goes = subst (λ (ms : List Move). Goes E (Err e) old new s ms (On boot None no_handles)) (sym (begun-moves is))
@@ -126,14 +132,14 @@ module _ (E : Setting) (toc : Toc) (p : List (List ℕ)) (request : ℕ) (s : St
 
     -- begun, and the images were sent into the staging
     module _ (old m1 new : Moment) (can : cannot_begin s boot staging ≡ false)
-        (begun : Goes E (Ok tt) old m1 s (begin_moves s) (between boot (length E.layout.rows) (request == 0) [])) where
+        (begun : Goes E (Ok tt) old m1 s (begin_moves s) (between boot (replicate (length E.layout.rows) Nothing))) where
       abbrev bits : List Bool
       bits = replicate (length E.layout.rows) (request == 0)
 
       whole : (result : Result (Unit {0}) FlashStop) (ms : List Move)
           → Goes E result m1 new (after s (begin_moves s)) ms (On boot None no_handles)
           → Goes E result old new s (begin_moves s ++ ms) (On boot None no_handles)
-      whole result ms last = goes-then E result old m1 new s (begin_moves s) ms (between boot (length E.layout.rows) (request == 0) [])
+      whole result ms last = goes-then E result old m1 new s (begin_moves s) ms (between boot (replicate (length E.layout.rows) Nothing))
           (On boot None no_handles) begun last
 
       same-moves : end_moves E (after s (begin_moves s)) p bits ≡ rest_moves E s p request
@@ -171,19 +177,30 @@ module _ (E : Setting) (toc : Toc) (p : List (List ℕ)) (request : ℕ) (s : St
                 (whole (Ok tt) (end_moves E (after s (begin_moves s)) p bits) last.2)),
           )
 
+      -- so the begin is not refused
+      is-begun : IsBegun E s (On boot staging handles)
+      is-begun = ap (λ (w : Answer). w.reply) (begin-answers E s boot staging handles (length E.layout.rows) refl)
+          ∙ ap (λ (t : Bool). (begun_by t).reply) can
+
       sent-stopped : (e : FlashStop)
           → Goes E (Err e) m1 new (after s (begin_moves s)) (end_moves E (after s (begin_moves s)) p bits) (On boot None no_handles)
-          → Goes E (Err e) old new s (send_answer E toc p request s (On boot staging handles)).moves (On boot None no_handles)
-      sent-stopped e last = subst (λ (ms : List Move). Goes E (Err e) old new s ms (On boot None no_handles)) all-moves
-          (whole (Err e) (end_moves E (after s (begin_moves s)) p bits) last)
+          → IsBegun E s (On boot staging handles)
+          × Goes E (Err e) old new s (send_answer E toc p request s (On boot staging handles)).moves (On boot None no_handles)
+      sent-stopped e last = (
+        is-begun,
+        subst (λ (ms : List Move). Goes E (Err e) old new s ms (On boot None no_handles)) all-moves
+            (whole (Err e) (end_moves E (after s (begin_moves s)) p bits) last),
+      )
 
       sent-unread : Finishes (Err ReadFailed) E m1 new (after s (begin_moves s)) boot p bits
           → SendsBy (Err ReadFailed) E toc p request old new s (On boot staging handles)
       sent-unread last =
           let moves : (answer E s (On boot staging handles) (call.Begin 0)).moves ≡ begin_moves s =
-          ap (λ (w : Answer). w.moves) (begin-answers E s boot staging handles (length E.layout.rows) true refl) ∙ ap
-          (λ (t : Bool). (begun_by t true).moves) can in
-          subst (λ (ms : List Move). Goes E (Ok tt) old new s ms (On boot None no_handles)) (append-nil (begin_moves s) ∙ sym moves) (whole (Ok tt) [] last)
+          ap (λ (w : Answer). w.moves) (begin-answers E s boot staging handles (length E.layout.rows) refl) ∙ ap
+          (λ (t : Bool). (begun_by t).moves) can in (
+            is-begun,
+            subst (λ (ms : List Move). Goes E (Ok tt) old new s ms (On boot None no_handles)) (append-nil (begin_moves s) ∙ sym moves) (whole (Ok tt) [] last),
+          )
 
       sent-halted : (halt : SendStop) → Finishes (Err halt) E m1 new (after s (begin_moves s)) boot p bits
           → SendsBy (Err halt) E toc p request old new s (On boot staging handles)
@@ -197,25 +214,25 @@ module _ (E : Setting) (toc : Toc) (p : List (List ℕ)) (request : ℕ) (s : St
       sent-halted Gone last = absurd last
 
 -- begin, done: it may, and the staging stands with nothing staged
-begin-done : (E : Setting) (old mid : Moment) (s : State) (boot : ℕ) (staging : Option (List Staged)) (handles : List Handle) (bit : Bool)
+begin-done : (E : Setting) (old mid : Moment) (s : State) (boot : ℕ) (staging : Option (List Staged)) (handles : List Handle)
     → E.layout ≡ old.fields.layout → Shows old s (On boot staging handles)
     → MeetsAs of (Ok tt) E.passes (call.Begin 0) old mid
-    → (cannot_begin s boot staging ≡ false) × Goes E (Ok tt) old mid s (begin_moves s) (between boot (length E.layout.rows) bit [])
-begin-done E old mid s boot staging handles bit layout shows meets =
+    → (cannot_begin s boot staging ≡ false) × Goes E (Ok tt) old mid s (begin_moves s) (between boot (replicate (length E.layout.rows) Nothing))
+begin-done E old mid s boot staging handles layout shows meets =
     let x = On boot staging handles in
-    let is = begin-answers E s boot staging handles (length E.layout.rows) bit refl in
+    let is = begin-answers E s boot staging handles (length E.layout.rows) refl in
     by-test (cannot_begin s boot staging) (call-replies E of (Ok tt) (call.Begin 0) old mid s x layout shows meets reply.Success refl ∙ ap
     (λ (a : Answer). a.reply) is)
     (subst (λ (a : Answer). Goes E (Ok tt) old mid s a.moves a.next) is
     (call-goes E of (Ok tt) (call.Begin 0) old mid s x layout shows meets reply.Success refl))
   where
     by-test : (b : Bool) → reply.Success ≡ (cond b (refused status.Denied (On boot staging handles))
-        (answered reply.Success (begin_moves s) (between boot (length E.layout.rows) bit []))).reply
+        (answered reply.Success (begin_moves s) (between boot (replicate (length E.layout.rows) Nothing)))).reply
         → Goes E (Ok tt) old mid s (cond b (refused status.Denied (On boot staging handles))
-        (answered reply.Success (begin_moves s) (between boot (length E.layout.rows) bit []))).moves
+        (answered reply.Success (begin_moves s) (between boot (replicate (length E.layout.rows) Nothing)))).moves
         (cond b (refused status.Denied (On boot staging handles)) (answered reply.Success (begin_moves s)
-        (between boot (length E.layout.rows) bit []))).next
-        → (b ≡ false) × Goes E (Ok tt) old mid s (begin_moves s) (between boot (length E.layout.rows) bit [])
+        (between boot (replicate (length E.layout.rows) Nothing)))).next
+        → (b ≡ false) × Goes E (Ok tt) old mid s (begin_moves s) (between boot (replicate (length E.layout.rows) Nothing))
     by-test true replied goes = absurd cc
     by-test false replied goes = (refl, goes)
 
@@ -303,11 +320,12 @@ module _ (told : Option Directory) (name : List ℕ) (toc : Toc) (request : ℕ)
   -- begin was refused, or stopped by the flash
   pub sends-unbegun : (halt : Stop) (new : Moment) (was now : Bool) → fault ≡ None → IsFalse was
       → GoesBy {T = Unit {0}} (Err halt) was now → ((v : List ℕ → Bool) → MeetsAs of (Err halt) v (call.Begin 0) old new)
+      → (IsStopped {T = Unit {0}} (Err halt) → (E : Setting) (s : State) (x : Session) → E.layout ≡ old.fields.layout → Shows old s x → IsBegun E s x)
       → Sends told name toc request passes (Err (unbegun_as halt)) old new
-  sends-unbegun halt new was now none here goes meets = record {
+  sends-unbegun halt new was now none here goes meets begun = record {
     images = told_images;
     read = λ file tells. told-is told name (λ file. images_of old.fields.layout.rows file toc) file tells;
-    goes = λ E s x layout verifier shows. by-stop halt E s x layout shows goes (meets E.passes);
+    goes = λ E s x layout verifier shows. by-stop halt E s x layout shows goes (meets E.passes) (λ is. begun is E s x layout shows);
   }
     where
       gone-here : IsTrue was → ⊥
@@ -315,17 +333,18 @@ module _ (told : Option Directory) (name : List ℕ) (toc : Toc) (request : ℕ)
 
       by-stop : (halt : Stop) (E : Setting) (s : State) (x : Session) → E.layout ≡ old.fields.layout → Shows old s x
           → GoesBy {T = Unit {0}} (Err halt) was now → MeetsAs of (Err halt) E.passes (call.Begin 0) old new
+          → (IsStopped {T = Unit {0}} (Err halt) → IsBegun E s x)
           → SendsBy (Err (unbegun_as halt)) E toc told_images request old new s x
-      by-stop halt E s Off layout shows goes meets = absurd (never-off old s shows)
-      by-stop (stop.Status st) E s (On boot staging handles) layout shows goes meets =
+      by-stop halt E s Off layout shows goes meets begun = absurd (never-off old s shows)
+      by-stop (stop.Status st) E s (On boot staging handles) layout shows goes meets begun =
           begin-refused E toc told_images request s boot staging handles (fault-in E None layout none) st old new layout shows meets
-      by-stop stop.Lost E s (On boot staging handles) layout shows goes meets =
-          begin-stopped E toc told_images request s boot staging handles (fault-in E None layout none) flash_stop.Lost old new (On boot staging handles)
+      by-stop stop.Lost E s (On boot staging handles) layout shows goes meets begun =
+          begin-stopped E toc told_images request s boot staging handles (fault-in E None layout none) flash_stop.Lost old new (On boot staging handles) (begun tt)
           (call-stopped E of (Err stop.Lost) (call.Begin 0) old new s (On boot staging handles) layout shows meets refl (On boot staging handles))
-      by-stop stop.Fault E s (On boot staging handles) layout shows goes meets =
-          begin-stopped E toc told_images request s boot staging handles (fault-in E None layout none) flash_stop.Failed old new (On boot staging handles)
+      by-stop stop.Fault E s (On boot staging handles) layout shows goes meets begun =
+          begin-stopped E toc told_images request s boot staging handles (fault-in E None layout none) flash_stop.Failed old new (On boot staging handles) (begun tt)
           (call-stopped E of (Err stop.Fault) (call.Begin 0) old new s (On boot staging handles) layout shows meets refl (On boot staging handles))
-      by-stop stop.Gone E s (On boot staging handles) layout shows goes meets = absurd (gone-here (goes.gone.0 refl))
+      by-stop stop.Gone E s (On boot staging handles) layout shows goes meets begun = absurd (gone-here (goes.gone.0 refl))
 
   -- begun, and the images were sent into the staging
   module _ (entries : List Entry) (m1 new : Moment) (fit : IsTrue (fits_layout old.fields.layout))
@@ -338,35 +357,46 @@ module _ (told : Option Directory) (name : List ℕ) (toc : Toc) (request : ℕ)
       chosen-in : AreChosen E.layout.rows toc entries
       chosen-in = subst (λ (L : Layout). AreChosen L.rows toc entries) (sym layout) chosen
 
-      are : AreImages E entries (length entries)
-      are = subst (AreImages E entries) (sym chosen-in.count) (are-images E toc entries
-          (distinct E.layout (subst (λ (L : Layout). IsTrue (fits_layout L)) (sym layout) fit)) (λ k. refl) chosen-in)
+      abbrev n : ℕ
+      n = length E.layout.rows
 
-      -- the staging, as the images of the layout are counted
+      abbrev places : List ℕ
+      places = range_with_len 0 n
+
+      are : AreImages E entries places (replicate n Nothing)
+      are = are-images E toc entries (distinct E.layout (subst (λ (L : Layout). IsTrue (fits_layout L)) (sym layout) fit)) (λ k. refl) chosen-in
+
+      -- the staging has all images of the layout
       finishes-in : (result : Result (Unit {0}) SendStop) (inst : InstallsImages told name entries request passes result m1 new) (s : State)
           (boot : ℕ) → E.passes ≡ passes
-          → Goes E (Ok tt) old m1 s (begin_moves s) (between boot (length E.layout.rows) (request == 0) [])
-          → Finishes result E m1 new (after s (begin_moves s)) boot inst.images (replicate (length E.layout.rows) (request == 0))
+          → Goes E (Ok tt) old m1 s (begin_moves s) (between boot (replicate n Nothing))
+          → Finishes result E m1 new (after s (begin_moves s)) boot inst.images (replicate n (request == 0))
       finishes-in result inst s boot verifier begun =
-          subst (λ (n : ℕ). Finishes result E m1 new (after s (begin_moves s)) boot inst.images (replicate n (request == 0))) chosen-in.count
-          (inst.goes E (after s (begin_moves s)) boot (layout ∙ sym begun.stays.layout) verifier are
-          (subst (λ (n : ℕ). Shows m1 (after s (begin_moves s)) (between boot n (request == 0) [])) (sym chosen-in.count) begun.shows))
+          let bit = request == 0 in
+          let all : length inst.images ≡ n = inst.count ∙ chosen-in.count in
+          let w = after s (begin_moves s) in
+          subst (λ (bits : List Bool). Finishes result E m1 new w boot inst.images bits) (whole-bits n bit inst.images all)
+          (subst (λ (p : List (List ℕ)). Finishes result E m1 new w boot p (staged_bits (sent_parts (replicate n Nothing) inst.images places bit)))
+          (whole-package n bit inst.images all)
+          (inst.goes E w boot (replicate n Nothing) places (layout ∙ sym begun.stays.layout) verifier are (whole-committed n bit inst.images all) begun.shows))
 
     -- what the installing takes of an armed loss, wherever a machine is shown
-    pub sends-take : (armed arming : Option Arming) → InstallTakes entries request m1 armed arming → Showing old
-        → Takes (blocks_sent old.fields.layout.rows toc + 4) armed arming
-    sends-take armed arming installs one = by-session one.state one.session one.shows
+    pub sends-take : (size : ℕ) (armed sent : Option Arming) → ImagesTake size entries (length entries) m1 armed sent → Showing old
+        → Takes (writes_sent size old.fields.layout.rows toc) armed sent
+    sends-take size armed sent images one = by-session one.state one.session one.shows
       where
         E : Setting
         E = record { layout = old.fields.layout; files = λ _. None; passes = passes }
 
-        by-session : (s : State) (x : Session) → Shows old s x → Takes (blocks_sent old.fields.layout.rows toc + 4) armed arming
+        by-session : (s : State) (x : Session) → Shows old s x → Takes (writes_sent size old.fields.layout.rows toc) armed sent
         by-session s Off shows = absurd (never-off old s shows)
         by-session s (On boot staging handles) shows =
-            let begun = (begin-done E old m1 s boot staging handles (request == 0) refl shows (begins passes)).1 in
-            subst (λ (n : ℕ). Takes (n + 4) armed arming) (blocks-chosen old.fields.layout.rows toc entries chosen.count chosen.each)
-            (installs E (after s (begin_moves s)) boot (sym begun.stays.layout) (are E refl)
-            (subst (λ (n : ℕ). Shows m1 (after s (begin_moves s)) (between boot n (request == 0) [])) (sym chosen.count) begun.shows))
+            let begun = (begin-done E old m1 s boot staging handles refl shows (begins passes)).1 in
+            takes-as (writes_in size entries) (writes_sent size old.fields.layout.rows toc) armed sent
+            (writes-chosen size old.fields.layout.rows toc entries chosen.count chosen.each)
+            (images-taken size entries armed sent
+            (images E (after s (begin_moves s)) boot (replicate (length E.layout.rows) Nothing) (range_with_len 0 (length E.layout.rows))
+            (sym begun.stays.layout) (are E refl) begun.shows))
 
     pub sends-done : (sent : Sent) → sent.images ≡ length old.fields.layout.rows
         → sent.skipped ≡ skipped old.fields.layout.rows toc → InstallsImages told name entries request passes (Ok tt) m1 new
@@ -381,7 +411,7 @@ module _ (told : Option Directory) (name : List ℕ) (toc : Toc) (request : ℕ)
             → SendsBy (Ok sent) E toc inst.images request old new s x
         by-session E s Off layout verifier shows = absurd (never-off old s shows)
         by-session E s (On boot staging handles) layout verifier shows =
-            let one = begin-done E old m1 s boot staging handles (request == 0) layout shows (begins E.passes) in
+            let one = begin-done E old m1 s boot staging handles layout shows (begins E.passes) in
             sent-done E toc inst.images request s boot staging handles (fault-in E None layout chosen.none) old m1 new one.0 one.1 sent
             (images ∙ sym (ap (λ (L : Layout). length L.rows) layout)) (others ∙ sym (ap (λ (L : Layout). skipped L.rows toc) layout))
             (finishes-in E layout (Ok tt) inst s boot verifier one.1)
@@ -398,16 +428,16 @@ module _ (told : Option Directory) (name : List ℕ) (toc : Toc) (request : ℕ)
             → SendsBy (Err halt) E toc inst.images request old new s x
         by-session E s Off layout verifier shows = absurd (never-off old s shows)
         by-session E s (On boot staging handles) layout verifier shows =
-            let one = begin-done E old m1 s boot staging handles (request == 0) layout shows (begins E.passes) in
+            let one = begin-done E old m1 s boot staging handles layout shows (begins E.passes) in
             sent-halted E toc inst.images request s boot staging handles (fault-in E None layout chosen.none) old m1 new one.0 one.1 halt
             (finishes-in E layout (Err halt) inst s boot verifier one.1)
 
 -- ---- what is installed
 
 -- the state after the moves of a sending that was done
-pub is-installed : (s : State) (p : List (List ℕ)) (rows : List ImageRow) (accepted : Bool) → 1 ≤ length s.banks
-    → IsInstalled p accepted rows s (after s (begin_moves s ++ Switch (update_bank s) p (replicate (length rows) accepted) ∷ []))
-is-installed s p rows accepted some = by-state (is_invalid (bank s (update_bank s)).state)
+pub is-installed : (s : State) (p : List (List ℕ)) (bits : List Bool) → 1 ≤ length s.banks
+    → IsInstalled p bits s (after s (begin_moves s ++ Switch (update_bank s) p bits ∷ []))
+is-installed s p bits some = by-state (is_invalid (bank s (update_bank s)).state)
   where
     below : update_bank s < length s.banks
     below = mod-lt (s.active + 1) some
@@ -416,25 +446,22 @@ is-installed s p rows accepted some = by-state (is_invalid (bank s (update_bank 
         → get_or (set banks (update_bank s) k) (update_bank s) no_bank ≡ k
     switched banks k same = get_or-set_same banks (update_bank s) k no_bank (omega (arith, below, same))
 
-    by-state : (b : Bool) → IsInstalled p accepted rows s (after s
-        (cond b [] (Free (update_bank s) ∷ []) ++ Switch (update_bank s) p (replicate (length rows) accepted) ∷ []))
+    by-state : (b : Bool) → IsInstalled p bits s (after s (cond b [] (Free (update_bank s) ∷ []) ++ Switch (update_bank s) p bits ∷ []))
     by-state true =
         let here = switched s.banks (record {
-          state = state_by (replicate (length rows) accepted);
-          bits = replicate (length rows) accepted;
-          held =
-              Some p;
+          state = state_by bits;
+          bits = bits;
+          held = Some p;
         }) refl in
-        record { active = refl; previous = refl; held = ap (λ (k : Bank). k.held) here; bits = ap (λ (k : Bank). k.bits) here; trials = refl; counter = refl }
+        record { active = refl; previous = refl; held = ap (λ (k : Bank). k.held) here; accepted = ap (λ (k : Bank). k.bits) here; trials = refl; counter = refl }
     by-state false =
         let banks = set s.banks (update_bank s) (freed (bank s (update_bank s))) in
         let here = switched banks (record {
-          state = state_by (replicate (length rows) accepted);
-          bits = replicate (length rows) accepted;
-          held =
-              Some p;
+          state = state_by bits;
+          bits = bits;
+          held = Some p;
         }) (length-set s.banks (update_bank s) (freed (bank s (update_bank s)))) in
-        record { active = refl; previous = refl; held = ap (λ (k : Bank). k.held) here; bits = ap (λ (k : Bank). k.bits) here; trials = refl; counter = refl }
+        record { active = refl; previous = refl; held = ap (λ (k : Bank). k.held) here; accepted = ap (λ (k : Bank). k.bits) here; trials = refl; counter = refl }
 
 module _ (told : Option Directory) (name : List ℕ) (toc : Toc) (request : ℕ) (passes : List ℕ → Bool) (old new : Moment) (sent : Sent)
     (sends : Sends told name toc request passes (Ok sent) old new)
@@ -461,9 +488,9 @@ module _ (told : Option Directory) (name : List ℕ) (toc : Toc) (request : ℕ)
         shows = done.1.shows;
         images = sends.images;
         read = λ file tells. sends.read file tells ∙ ap (λ (L : Layout). images_of L.rows file toc) (sym layout);
-        installed = subst (λ (L : Layout). IsInstalled sends.images (request == 0) L.rows s (after s a.moves)) (sym layout)
-            (subst (λ (ms : List Move). IsInstalled sends.images (request == 0) old.fields.layout.rows s (after s ms)) (sym moves)
-            (is-installed s sends.images old.fields.layout.rows (request == 0)
+        installed = subst (λ (L : Layout). IsInstalled sends.images (replicate (length L.rows) (request == 0)) s (after s a.moves)) (sym layout)
+            (subst (λ (ms : List Move). IsInstalled sends.images (bits_for E request) s (after s ms)) (sym moves)
+            (is-installed s sends.images (bits_for E request)
             (omega (arith, shows.speaks.banks, (limits old.fields.layout fit).fewest_banks))));
       }
     where
@@ -474,20 +501,27 @@ module _ (told : Option Directory) (name : List ℕ) (toc : Toc) (request : ℕ)
       by-test s boot staging handles false false is = absurd cc
       by-test s boot staging handles false true is = refl
 
+-- a machine that the agent then shows, whose active bank took the update, and whose previous one was active
+pub record Switched (new : Moment) (before : State) : Type 0 where
+  pub now : State
+  pub session : Session
+  pub shows : Shows new now session
+  pub active : now.active ≡ update_bank before
+  pub previous : now.previous ≡ before.active
+
 -- what the agent keeps then
-module _ (told : Option Directory) (name : List ℕ) (toc : Toc) (request : ℕ) (old new : Moment)
-    (installs : (s : State) (x : Session) → Shows old s x → Installs told name toc request new s) where
+module _ (old new : Moment) (switched : (s : State) (x : Session) → Shows old s x → Switched new s) where
   active-is : Showing old → new.fields.meta.meta.active ≡ target old.fields
   active-is one =
-      let done = installs one.state one.session one.shows in
-      ap (λ (m : Meta). m.active) done.shows.speaks.meta ∙ done.installed.active
+      let done = switched one.state one.session one.shows in
+      ap (λ (m : Meta). m.active) done.shows.speaks.meta ∙ done.active
       ∙ ap (λ (a : ℕ). (a + 1) % length one.state.banks) (sym (ap (λ (m : Meta). m.active) one.shows.speaks.meta)) ∙ ap
       (λ (n : ℕ). (old.fields.meta.meta.active + 1) % n) one.shows.speaks.banks
 
   previous-is : Showing old → new.fields.meta.meta.previous ≡ old.fields.meta.meta.active
   previous-is one =
-      let done = installs one.state one.session one.shows in
-      ap (λ (m : Meta). m.previous) done.shows.speaks.meta ∙ done.installed.previous ∙ sym (ap (λ (m : Meta). m.active) one.shows.speaks.meta)
+      let done = switched one.state one.session one.shows in
+      ap (λ (m : Meta). m.previous) done.shows.speaks.meta ∙ done.previous ∙ sym (ap (λ (m : Meta). m.active) one.shows.speaks.meta)
 
   pub switches : ∥ Showing old ∥₁ → IsSwitched old.fields new.fields
   switches some = record {

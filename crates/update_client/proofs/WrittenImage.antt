@@ -10,7 +10,7 @@ use Rattle.agent_machine.proofs.Going.{goes-then, goes-nothing}
 use Rattle.update_client.proofs.Halting.{halts-after}
 use Rattle.update_client.specs.declared.stops.SendStop.{SendStop}
 use Rattle.update_client.specs.declared.stops.SendStop.TheVariants.{MissingImage, ImageTooLarge, Begin, End, ReadFailed, Lost, Fault, Gone}
-use Rattle.update_client.specs.Staged.{within}
+use Rattle.agent_machine.specs.Filling.{within}
 use Rattle.update_client.specs.Halts.{Halts}
 use Rattle.update_client.specs.Pieces.{WritesPiece, WritesFirst, WritesImage}
 
@@ -31,7 +31,7 @@ first-none told name e m = record {
   bytes = [];
   count = refl;
   read = λ file tells. refl;
-  goes = λ E s boot images bit done layout below room shows. goes-nothing E m s (within boot images bit done []) shows;
+  goes = λ E s boot parts image layout below room shows. goes-nothing E m s (within boot parts image []) shows;
 }
 
 -- one more piece
@@ -42,10 +42,10 @@ module _ (told : Option Directory) (name : List ℕ) (e : Entry) (at : ℕ) (old
     count = omega (arith, length-append first.bytes piece.bytes, first.count, piece.count.0);
     read = λ file tells. ap (λ (b : List ℕ). b ++ piece.bytes) (first.read file tells) ∙ ap (λ (b : List ℕ). take at (payload file e) ++ b)
         (piece.read file tells) ∙ take-more at n (payload file e);
-    goes = λ E s boot images bit done layout below room shows.
-        let one = first.goes E s boot images bit done layout below room shows in
-        goes-then E (Ok tt) old mid new s [] [] (within boot images bit done first.bytes) (within boot images bit done (first.bytes ++ piece.bytes)) one
-        (piece.goes E s boot images bit done first.bytes (layout ∙ sym one.stays.layout) below first.count room one.shows);
+    goes = λ E s boot parts image layout below room shows.
+        let one = first.goes E s boot parts image layout below room shows in
+        goes-then E (Ok tt) old mid new s [] [] (within boot parts image first.bytes) (within boot parts image (first.bytes ++ piece.bytes)) one
+        (piece.goes E s boot parts image first.bytes (layout ∙ sym one.stays.layout) below first.count room one.shows);
   }
 
   -- the piece was stopped
@@ -54,12 +54,12 @@ module _ (told : Option Directory) (name : List ℕ) (e : Entry) (at : ℕ) (old
     bytes = first.bytes ++ piece.bytes;
     count = tt;
     read = tt;
-    goes = λ E s boot images bit done layout below room shows.
-        let one = first.goes E s boot images bit done layout below room shows in
-        halts-after {T = Unit {0}} (Err stop) E old mid new s boot (within boot images bit done first.bytes)
-        (within boot images bit done (first.bytes ++ piece.bytes)) one
-        (as-unit stop E mid new s boot (within boot images bit done (first.bytes ++ piece.bytes))
-        (piece.goes E s boot images bit done first.bytes (layout ∙ sym one.stays.layout) below first.count room one.shows));
+    goes = λ E s boot parts image layout below room shows.
+        let one = first.goes E s boot parts image layout below room shows in
+        halts-after {T = Unit {0}} (Err stop) E old mid new s boot (within boot parts image first.bytes)
+        (within boot parts image (first.bytes ++ piece.bytes)) one
+        (as-unit stop E mid new s boot (within boot parts image (first.bytes ++ piece.bytes))
+        (piece.goes E s boot parts image first.bytes (layout ∙ sym one.stays.layout) below first.count room one.shows));
   }
     where
       as-unit : (stop : SendStop) (E : Setting) (mid new : Moment) (s : State) (boot : ℕ) (y : Session)

@@ -1,5 +1,5 @@
 -- A piece that is written, or not.
-use Rattle.std.proofs.Common.{◌≡◌, ◌≢◌, ℕ, ◌+◌, ◌<◌, ◌≤◌, Bool, List, [], ◌∷◌, ◌++◌, length, take, drop, set, Option, Some, Ok, Err, refl, sym, ap, subst, ◌∙◌, arith}
+use Rattle.std.proofs.Common.{◌≡◌, ◌≢◌, ℕ, ◌+◌, ◌<◌, ◌≤◌, Bool, List, [], ◌++◌, length, take, drop, get_or, set, Option, Some, Ok, Err, refl, sym, ap, subst, ◌∙◌, arith}
 use Rattle.std.specs.Prelude.{IsTrue, IsFalse, ◌==◌}
 use Rattle.host_io.specs.Contents.{Directory}
 use Rattle.flash_core.specs.declared.flash.FlashStop.TheVariants as flash_stop
@@ -7,7 +7,7 @@ use Rattle.fwu_formats.specs.Layout.{slot_bytes, find_image}
 use Rattle.fwu_formats.specs.Package.{Entry, payload}
 use Rattle.fwu_model.specs.State.{State}
 use Rattle.fwu_model.specs.Sound.{Setting}
-use Rattle.fwu_model.specs.Session.{Session, Writes, no_handles}
+use Rattle.fwu_model.specs.Session.{Session, Staged, Nothing, Open, Writes, no_handles}
 use Rattle.fwu_model.specs.Call as call
 use Rattle.fwu_model.specs.Call.{Call}
 use Rattle.fwu_model.specs.Reply.{Reply}
@@ -21,13 +21,13 @@ use Rattle.agent_machine.specs.Moment.{Moment, Shows}
 use Rattle.agent_machine.specs.Meets.{GoesBy}
 use Rattle.agent_machine.specs.Goes.{Goes}
 use Rattle.agent_machine.proofs.Going.{goes-nothing, goes-then}
-use Rattle.update_client.proofs.Going.{MeetsAs, call-goes, call-replies, call-stopped}
+use Rattle.agent_machine.proofs.CallGoing.{MeetsAs, call-goes, call-replies, call-stopped}
 use Rattle.update_client.specs.declared.stops.SendStop.{SendStop}
 use Rattle.update_client.specs.declared.stops.SendStop.TheVariants.{ReadFailed}
-use Rattle.update_client.specs.Staged.{between, within, open_parts}
+use Rattle.agent_machine.specs.Filling.{between, filled, within}
 use Rattle.update_client.specs.Halts.{Halts, stopped_as}
 use Rattle.update_client.specs.Pieces.{WritesPiece, WritesImage, SendsImage}
-use Rattle.update_client.proofs.Staging.{open-answers, write-answers, commit-answers}
+use Rattle.agent_machine.proofs.Filling.{open-answers, write-answers, commit-answers}
 use Rattle.update_client.proofs.Halting.{halts-after, other-end}
 
 pub piece-unread : (told : Option Directory) (name : List ℕ) (e : Entry) (at : ℕ) (m : Moment)
@@ -36,12 +36,12 @@ piece-unread told name e at m = record {
   bytes = [];
   count = tt;
   read = tt;
-  goes = λ E s boot images bit done before layout below count room shows.
+  goes = λ E s boot parts image before layout below count room shows.
       record {
-        parts = open_parts images bit done before;
-        handles = set no_handles 0 (Writes (length done));
+        parts = set parts image (Open before);
+        handles = set no_handles 0 (Writes image);
         goes = goes-nothing E m s
-            (within boot images bit done before) shows;
+            (within boot parts image before) shows;
       };
 }
 
@@ -54,10 +54,10 @@ piece-written told name e at n m new bytes count some inside read meets = record
   bytes = bytes;
   count = (count, some, inside);
   read = read;
-  goes = λ E s boot images bit done before layout below size room shows.
-      let x = within boot images bit done before in
-      let fits : length before + length bytes ≤ slot_bytes E.layout (length done) = omega (arith, size, count, inside, room) in
-      subst (λ (w : Answer). Goes E (Ok tt) m new s w.moves w.next) (write-answers E s boot images bit done below before bytes fits)
+  goes = λ E s boot parts image before layout below size room shows.
+      let x = within boot parts image before in
+      let fits : length before + length bytes ≤ slot_bytes E.layout image = omega (arith, size, count, inside, room) in
+      subst (λ (w : Answer). Goes E (Ok tt) m new s w.moves w.next) (write-answers E s boot parts image below before bytes fits)
       (call-goes E (λ _. reply.Success) (Ok tt) (call.Write 1 bytes) m new s x layout shows (meets E.passes) reply.Success refl);
 }
 
@@ -99,11 +99,11 @@ piece-stopped told name e at n m new bytes st was now count inside here goes mee
   bytes = bytes;
   count = tt;
   read = tt;
-  goes = λ E s boot images bit done before layout below size room shows.
-      let fits : length before + length bytes ≤ slot_bytes E.layout (length done) = omega (arith, size, count, inside, room) in
-      call-halts ℕ (λ (_ : Unit {0}). reply.Success) st E (call.Write 1 bytes) m new s (within boot images bit done before)
-      (within boot images bit done (before ++ bytes)) (within boot images bit done (before ++ bytes)) reply.Success boot was now layout shows
-      (write-answers E s boot images bit done below before bytes fits) no-success here goes (meets E.passes);
+  goes = λ E s boot parts image before layout below size room shows.
+      let fits : length before + length bytes ≤ slot_bytes E.layout image = omega (arith, size, count, inside, room) in
+      call-halts ℕ (λ (_ : Unit {0}). reply.Success) st E (call.Write 1 bytes) m new s (within boot parts image before)
+      (within boot parts image (before ++ bytes)) (within boot parts image (before ++ bytes)) reply.Success boot was now layout shows
+      (write-answers E s boot parts image below before bytes fits) no-success here goes (meets E.passes);
 }
 
 -- ---- an image
@@ -111,12 +111,12 @@ piece-stopped told name e at n m new bytes st was now count inside here goes mee
 -- opened
 pub image-opened : (guid : List ℕ) (h : ℕ) (old new : Moment)
     → ((passes : List ℕ → Bool) → MeetsAs {T = ℕ} (λ k. reply.Opened k) (Ok h) passes (call.OpenWrite guid) old new)
-    → (E : Setting) (s : State) (boot images : ℕ) (bit : Bool) (done : List (List ℕ)) → E.layout ≡ old.fields.layout
-    → length done < images → find_image E.layout.rows guid ≡ Some (length done)
-    → Shows old s (between boot images bit done) → Goes E (Ok tt) old new s [] (within boot images bit done [])
-image-opened guid h old new meets E s boot images bit done layout below found shows =
-    call-done (λ (k : ℕ). reply.Opened k) h E (call.OpenWrite guid) old new s (between boot images bit done) (within boot images bit done [])
-    (reply.Opened 1) layout shows (open-answers E s boot images bit done below guid found) (meets E.passes)
+    → (E : Setting) (s : State) (boot : ℕ) (parts : List Staged) (image : ℕ) → E.layout ≡ old.fields.layout
+    → image < length parts → find_image E.layout.rows guid ≡ Some image
+    → get_or parts image Nothing ≡ Nothing → Shows old s (between boot parts) → Goes E (Ok tt) old new s [] (within boot parts image [])
+image-opened guid h old new meets E s boot parts image layout below found none shows =
+    call-done (λ (k : ℕ). reply.Opened k) h E (call.OpenWrite guid) old new s (between boot parts) (within boot parts image [])
+    (reply.Opened 1) layout shows (open-answers E s boot parts image guid found none) (meets E.passes)
 
 pub image-unopened : (told : Option Directory) (name guid : List ℕ) (e : Entry) (request : ℕ) (old new : Moment) (st : Stop) (was now : Bool)
     → IsFalse was → GoesBy {T = ℕ} (Err st) was now
@@ -125,11 +125,11 @@ pub image-unopened : (told : Option Directory) (name guid : List ℕ) (e : Entry
 image-unopened told name guid e request old new st was now here goes meets = record {
   bytes = [];
   read = tt;
-  goes = λ E s boot images done layout below found room shows.
-      call-halts (Unit {0}) (λ (k : ℕ). reply.Opened k) st E (call.OpenWrite guid) old new s (between boot images (request == 0) done)
-      (within boot images (request == 0) done []) (between boot images (request == 0) (done ++ [] ∷ []))
+  goes = λ E s boot parts image layout below found room none shows.
+      call-halts (Unit {0}) (λ (k : ℕ). reply.Opened k) st E (call.OpenWrite guid) old new s (between boot parts)
+      (within boot parts image []) (between boot (filled parts image [] (request == 0)))
       (reply.Opened 1) boot was now layout shows
-      (open-answers E s boot images (request == 0) done below guid found) no-opened here goes (meets E.passes);
+      (open-answers E s boot parts image guid found none) no-opened here goes (meets E.passes);
 }
 
 -- opened, and not written
@@ -139,40 +139,40 @@ pub image-unwritten : (told : Option Directory) (name guid : List ℕ) (e : Entr
 image-unwritten told name guid e request h old mid new stopped meets wrote = record {
   bytes = [];
   read = tt;
-  goes = λ E s boot images done layout below found room shows.
-      let one = image-opened guid h old mid meets E s boot images (request == 0) done layout below found shows in
-      other-end (Unit {0}) (Unit {0}) stopped E old new s boot (within boot images (request == 0) done wrote.bytes)
-      (between boot images (request == 0) (done ++ [] ∷ []))
-      (halts-after {T = Unit {0}} (Err stopped) E old mid new s boot (within boot images (request == 0) done [])
-      (within boot images (request == 0) done wrote.bytes) one
-      (wrote.goes E s boot images (request == 0) done (layout ∙ sym one.stays.layout) below room one.shows));
+  goes = λ E s boot parts image layout below found room none shows.
+      let one = image-opened guid h old mid meets E s boot parts image layout below found none shows in
+      other-end (Unit {0}) (Unit {0}) stopped E old new s boot (within boot parts image wrote.bytes)
+      (between boot (filled parts image [] (request == 0)))
+      (halts-after {T = Unit {0}} (Err stopped) E old mid new s boot (within boot parts image [])
+      (within boot parts image wrote.bytes) one
+      (wrote.goes E s boot parts image (layout ∙ sym one.stays.layout) below room one.shows));
 }
 
 -- opened and written, and committed or not
 module _ (told : Option Directory) (name guid : List ℕ) (e : Entry) (request h : ℕ) (old opened mid new : Moment)
     (opens : (passes : List ℕ → Bool) → MeetsAs {T = ℕ} (λ k. reply.Opened k) (Ok h) passes (call.OpenWrite guid) old opened)
     (wrote : WritesImage told name e (Ok tt) opened mid) where
-  written : (E : Setting) (s : State) (boot images : ℕ) (done : List (List ℕ)) → E.layout ≡ old.fields.layout
-      → length done < images → find_image E.layout.rows guid ≡ Some (length done)
-      → e.size ≤ slot_bytes E.layout (length done) → Shows old s (between boot images (request == 0) done)
-      → Goes E (Ok tt) old mid s [] (within boot images (request == 0) done wrote.bytes)
-  written E s boot images done layout below found room shows =
-      let one = image-opened guid h old opened opens E s boot images (request == 0) done layout below found shows in
-      goes-then E (Ok tt) old opened mid s [] [] (within boot images (request == 0) done []) (within boot images (request == 0) done wrote.bytes) one
-      (wrote.goes E s boot images (request == 0) done (layout ∙ sym one.stays.layout) below room one.shows)
+  written : (E : Setting) (s : State) (boot : ℕ) (parts : List Staged) (image : ℕ) → E.layout ≡ old.fields.layout
+      → image < length parts → find_image E.layout.rows guid ≡ Some image
+      → e.size ≤ slot_bytes E.layout image → get_or parts image Nothing ≡ Nothing → Shows old s (between boot parts)
+      → Goes E (Ok tt) old mid s [] (within boot parts image wrote.bytes)
+  written E s boot parts image layout below found room none shows =
+      let one = image-opened guid h old opened opens E s boot parts image layout below found none shows in
+      goes-then E (Ok tt) old opened mid s [] [] (within boot parts image []) (within boot parts image wrote.bytes) one
+      (wrote.goes E s boot parts image (layout ∙ sym one.stays.layout) below room one.shows)
 
   pub image-sent : ((passes : List ℕ → Bool) → MeetsAs {T = Unit {0}} (λ _. reply.Success) (Ok tt) passes (call.Commit 1 request) mid new)
       → SendsImage told name guid e request (Ok tt) old new
   image-sent commits = record {
     bytes = wrote.bytes;
     read = wrote.read;
-    goes = λ E s boot images done layout below found room shows.
-        let two = written E s boot images done layout below found room shows in
-        goes-then E (Ok tt) old mid new s [] [] (within boot images (request == 0) done wrote.bytes)
-        (between boot images (request == 0) (done ++ wrote.bytes ∷ [])) two
-        (call-done (λ (_ : Unit {0}). reply.Success) tt E (call.Commit 1 request) mid new s (within boot images (request == 0) done wrote.bytes)
-        (between boot images (request == 0) (done ++ wrote.bytes ∷ [])) reply.Success (layout ∙ sym two.stays.layout) two.shows
-        (commit-answers E s boot images (request == 0) done below wrote.bytes request refl) (commits E.passes));
+    goes = λ E s boot parts image layout below found room none shows.
+        let two = written E s boot parts image layout below found room none shows in
+        goes-then E (Ok tt) old mid new s [] [] (within boot parts image wrote.bytes)
+        (between boot (filled parts image wrote.bytes (request == 0))) two
+        (call-done (λ (_ : Unit {0}). reply.Success) tt E (call.Commit 1 request) mid new s (within boot parts image wrote.bytes)
+        (between boot (filled parts image wrote.bytes (request == 0))) reply.Success (layout ∙ sym two.stays.layout) two.shows
+        (commit-answers E s boot parts image below wrote.bytes request) (commits E.passes));
   }
 
   pub image-uncommitted : (st : Stop) (was now : Bool) → IsFalse was → GoesBy {T = Unit {0}} (Err st) was now
@@ -181,12 +181,12 @@ module _ (told : Option Directory) (name guid : List ℕ) (e : Entry) (request h
   image-uncommitted st was now here goes commits = record {
     bytes = wrote.bytes;
     read = tt;
-    goes = λ E s boot images done layout below found room shows.
-        let two = written E s boot images done layout below found room shows in
-        halts-after {T = Unit {0}} (Err (stopped_as st)) E old mid new s boot (within boot images (request == 0) done wrote.bytes)
-        (between boot images (request == 0) (done ++ wrote.bytes ∷ [])) two
+    goes = λ E s boot parts image layout below found room none shows.
+        let two = written E s boot parts image layout below found room none shows in
+        halts-after {T = Unit {0}} (Err (stopped_as st)) E old mid new s boot (within boot parts image wrote.bytes)
+        (between boot (filled parts image wrote.bytes (request == 0))) two
         (call-halts (Unit {0}) (λ (_ : Unit {0}). reply.Success) st E (call.Commit 1 request) mid new s
-        (within boot images (request == 0) done wrote.bytes) (between boot images (request == 0) (done ++ wrote.bytes ∷ []))
-        (between boot images (request == 0) (done ++ wrote.bytes ∷ [])) reply.Success boot was now (layout ∙ sym two.stays.layout) two.shows
-        (commit-answers E s boot images (request == 0) done below wrote.bytes request refl) no-success here goes (commits E.passes));
+        (within boot parts image wrote.bytes) (between boot (filled parts image wrote.bytes (request == 0)))
+        (between boot (filled parts image wrote.bytes (request == 0))) reply.Success boot was now (layout ∙ sym two.stays.layout) two.shows
+        (commit-answers E s boot parts image below wrote.bytes request) no-success here goes (commits E.passes));
   }

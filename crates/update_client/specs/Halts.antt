@@ -1,16 +1,10 @@
 -- How the calls of a sending end, within its staging.
-use Rattle.std.specs.Prelude.{◌≡◌, ℕ, Bool, true, false, not, List, [], Option, Some, Result, Ok, Err, is_ok, ⊤}
-use Rattle.flash_core.specs.Counts.{Spends, StaysUnarmed}
-use Rattle.flash_core.specs.declared.flash.Arming.{Arming}
-use Rattle.flash_core.specs.declared.flash.Counts.{Counts}
+use Rattle.std.specs.Prelude.{ℕ, Bool, true, false, List, [], Some, Result, Ok, Err, ⊤}
 use Rattle.flash_core.specs.declared.flash.FlashStop.{FlashStop}
 use Rattle.flash_core.specs.declared.flash.FlashStop.TheVariants as flash_stop
 use Rattle.fwu_model.specs.State.{State}
 use Rattle.fwu_model.specs.Sound.{Setting}
 use Rattle.fwu_model.specs.Session.{Session, On, Staged, Handle}
-use Rattle.flash_core.specs.declared.flash.Flash.{Ghosts}
-use Rattle.agent_calls.specs.declared.agent.Agent.{Agent}
-use Rattle.agent_calls.specs.Shown.{device, gone}
 use Rattle.agent_machine.specs.declared.stop.Stop.{Stop}
 use Rattle.agent_machine.specs.declared.stop.Stop.TheVariants as stop
 use Rattle.agent_machine.specs.Moment.{Moment}
@@ -61,21 +55,6 @@ Halts (Err ReadFailed) E old new s boot y = StillStaging E old new s boot
 Halts (Err Lost) E old new s boot y = Goes E (Err flash_stop.Lost) old new s [] y
 Halts (Err Fault) E old new s boot y = Goes E (Err flash_stop.Failed) old new s [] y
 Halts (Err other) E old new s boot y = ⊥
-
--- What holds on every device: the agent is gone, and the device off, exactly where that stopped it, which has a cause.
--- Where no loss was armed, none is, and none was reached.
-pub record Spent (result : Result (Unit {0}) FlashStop) (gone on : Bool) (was is : ℕ) (armed arming : Option Arming)
-    (old new : Counts) : Type 0 where
-  pub gone_is : gone ≡ not (is_ok result)
-  pub power : on ≡ is_ok result
-  pub size : is ≡ was
-  pub costs : Spends result old new
-  pub unarmed : StaysUnarmed result armed arming old new
-
-abbrev pub SpentBy : {D : Type 0} {F : Ghosts D} → Result (Unit {0}) FlashStop → Agent D F → Agent D F → Type 0
-SpentBy {F = F} result old new =
-    Spent result (gone new) (F.on (device new)) (F.blocks (device old)) (F.blocks (device new))
-    (F.arming (device old)) (F.arming (device new)) (F.counts (device old)) (F.counts (device new))
 
 -- the stops of calls within a staging, on any device: no image is at fault, and no begin was refused
 abbrev pub StopsWithin : {T : Type 0} → Result T SendStop → Type 0

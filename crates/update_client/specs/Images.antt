@@ -1,25 +1,36 @@
 -- What is sent of all images.
-use Rattle.std.specs.Prelude.{◌≡◌, ◌≤◌, ◌<◌, ◌==◌, ℕ, List, [], length, take, map, Option, Some, Result, Ok, OnOk, slice_index_or}
+use Rattle.std.specs.Prelude.{◌≡◌, ◌≢◌, ◌≤◌, ◌<◌, ◌==◌, ℕ, Bool, List, [], ◌∷◌, length, take, map, Option, Some, Result, Ok, OnOk, slice_index_or}
 use Rattle.host_io.specs.Contents.{Directory}
 use Rattle.fwu_formats.specs.Layout.{slot_bytes, find_image}
 use Rattle.fwu_formats.specs.Package.{Entry, payload}
 use Rattle.fwu_model.specs.State.{State}
 use Rattle.fwu_model.specs.Sound.{Setting}
 use Rattle.fip_tables.specs.Files.{Tells}
+pub use Rattle.fip_tables.specs.Images.{no_entry}
 use Rattle.agent_machine.specs.Moment.{Moment, Shows}
 use Rattle.agent_machine.specs.Goes.{Goes}
 use Rattle.update_client.specs.declared.stops.SendStop.{SendStop}
-use Rattle.update_client.specs.Staged.{between}
+use Rattle.fwu_model.specs.Session.{Staged, Nothing}
+use Rattle.agent_machine.specs.Filling.{between, filled}
 use Rattle.update_client.specs.Halts.{Halts}
 
-abbrev pub no_entry : Entry
-no_entry = record { guid = []; offset = 0; size = 0; flags = 0 }
+-- these bytes of images, each committed where nothing was staged
+abbrev pub sent_parts : List Staged → List (List ℕ) → List ℕ → Bool → List Staged
+sent_parts parts [] places bit = parts
+sent_parts parts (bytes ∷ images) [] bit = parts
+sent_parts parts (bytes ∷ images) (place ∷ places) bit = sent_parts (filled parts place bytes bit) images places bit
 
--- the entries are those of the first images of the layout, in order, and each payload fits its slot
-pub record AreImages (E : Setting) (entries : List Entry) (images : ℕ) : Type 0 where
-  pub few : length entries ≤ images
-  pub found : (k : ℕ) → k < length entries → find_image E.layout.rows (slice_index_or entries k no_entry).guid ≡ Some k
-  pub fit : (k : ℕ) → k < length entries → (slice_index_or entries k no_entry).size ≤ slot_bytes E.layout k
+-- The entries are those of these images of the layout. Nothing is staged of them, no two are the same, and each payload fits
+-- its slot.
+pub record AreImages (E : Setting) (entries : List Entry) (places : List ℕ) (parts : List Staged) : Type 0 where
+  pub count : length places ≡ length entries
+  pub below : (k : ℕ) → k < length entries → slice_index_or places k 0 < length parts
+  pub found : (k : ℕ) → k < length entries
+      → find_image E.layout.rows (slice_index_or entries k no_entry).guid ≡ Some (slice_index_or places k 0)
+  pub fit : (k : ℕ) → k < length entries
+      → (slice_index_or entries k no_entry).size ≤ slot_bytes E.layout (slice_index_or places k 0)
+  pub empty : (k : ℕ) → k < length entries → slice_index_or parts (slice_index_or places k 0) Nothing ≡ Nothing
+  pub apart : (j k : ℕ) → j < k → k < length entries → slice_index_or places j 0 ≢ slice_index_or places k 0
 
 -- the first images were read, written and committed
 pub record SendsFirst (told : Option Directory) (name : List ℕ) (entries : List Entry) (request k : ℕ)
@@ -27,9 +38,9 @@ pub record SendsFirst (told : Option Directory) (name : List ℕ) (entries : Lis
   pub images : List (List ℕ)
   pub count : length images ≡ k
   pub read : (file : List ℕ) → Tells told name file → images ≡ map (payload file) (take k entries)
-  pub goes : (E : Setting) (s : State) (boot n : ℕ) → E.layout ≡ old.fields.layout → AreImages E entries n
-      → Shows old s (between boot n (request == 0) [])
-      → Goes E (Ok tt) old new s [] (between boot n (request == 0) images)
+  pub goes : (E : Setting) (s : State) (boot : ℕ) (parts : List Staged) (places : List ℕ) → E.layout ≡ old.fields.layout
+      → AreImages E entries places parts → Shows old s (between boot parts)
+      → Goes E (Ok tt) old new s [] (between boot (sent_parts parts images places (request == 0)))
 
 -- all were, or that was stopped
 pub record SendsImages (told : Option Directory) (name : List ℕ) (entries : List Entry) (request : ℕ)
@@ -37,6 +48,6 @@ pub record SendsImages (told : Option Directory) (name : List ℕ) (entries : Li
   pub images : List (List ℕ)
   pub count : OnOk result (length images ≡ length entries)
   pub read : OnOk result ((file : List ℕ) → Tells told name file → images ≡ map (payload file) entries)
-  pub goes : (E : Setting) (s : State) (boot n : ℕ) → E.layout ≡ old.fields.layout → AreImages E entries n
-      → Shows old s (between boot n (request == 0) [])
-      → Halts result E old new s boot (between boot n (request == 0) images)
+  pub goes : (E : Setting) (s : State) (boot : ℕ) (parts : List Staged) (places : List ℕ) → E.layout ≡ old.fields.layout
+      → AreImages E entries places parts → Shows old s (between boot parts)
+      → Halts result E old new s boot (between boot (sent_parts parts images places (request == 0)))

@@ -1,17 +1,18 @@
 -- What is written of an image.
-use Rattle.std.specs.Prelude.{◌≡◌, ◌≤◌, ◌<◌, ◌==◌, ℕ, ◌+◌, Bool, List, [], ◌∷◌, ◌++◌, length, take, drop, Option, Some, Result, Ok, Err, OnOk, IfOk}
+use Rattle.std.specs.Prelude.{◌≡◌, ◌≤◌, ◌<◌, ◌==◌, ℕ, ◌+◌, List, [], ◌++◌, length, take, drop, Option, Some, Result, Ok, Err, OnOk, IfOk, slice_index_or}
 use Rattle.base_core.specs.Counts.{Rose}
 use Rattle.host_io.specs.Contents.{Directory}
 use Rattle.fwu_formats.specs.Layout.{slot_bytes, find_image}
 use Rattle.fwu_formats.specs.Package.{Entry, payload}
 use Rattle.fwu_model.specs.State.{State}
 use Rattle.fwu_model.specs.Sound.{Setting}
+use Rattle.fwu_model.specs.Session.{Staged, Nothing}
 use Rattle.fip_tables.specs.Files.{Tells}
 use Rattle.agent_machine.specs.Moment.{Moment, Shows}
 use Rattle.agent_machine.specs.Goes.{Goes}
 use Rattle.update_client.specs.declared.stops.SendStop.{SendStop}
 use Rattle.update_client.specs.declared.stops.SendStop.TheVariants.{ReadFailed}
-use Rattle.update_client.specs.Staged.{between, within}
+use Rattle.agent_machine.specs.Filling.{between, filled, within}
 use Rattle.update_client.specs.Halts.{Halts}
 
 -- a piece of a payload, from a place of it on, was read and written behind what was there
@@ -20,20 +21,20 @@ pub record WritesPiece (told : Option Directory) (name : List ℕ) (e : Entry) (
   pub bytes : List ℕ
   pub count : IfOk result (λ n. (length bytes ≡ n) × (0 < n) × (at + n ≤ e.size))
   pub read : IfOk result (λ n. (file : List ℕ) → Tells told name file → bytes ≡ take n (drop at (payload file e)))
-  pub goes : (E : Setting) (s : State) (boot images : ℕ) (bit : Bool) (done : List (List ℕ)) (before : List ℕ)
-      → E.layout ≡ old.fields.layout → length done < images → length before ≡ at
-      → e.size ≤ slot_bytes E.layout (length done) → Shows old s (within boot images bit done before)
-      → Halts result E old new s boot (within boot images bit done (before ++ bytes))
+  pub goes : (E : Setting) (s : State) (boot : ℕ) (parts : List Staged) (image : ℕ) (before : List ℕ)
+      → E.layout ≡ old.fields.layout → image < length parts → length before ≡ at
+      → e.size ≤ slot_bytes E.layout image → Shows old s (within boot parts image before)
+      → Halts result E old new s boot (within boot parts image (before ++ bytes))
 
 -- the first bytes of a payload were read and written
 pub record WritesFirst (told : Option Directory) (name : List ℕ) (e : Entry) (at : ℕ) (old new : Moment) : Type 0 where
   pub bytes : List ℕ
   pub count : length bytes ≡ at
   pub read : (file : List ℕ) → Tells told name file → bytes ≡ take at (payload file e)
-  pub goes : (E : Setting) (s : State) (boot images : ℕ) (bit : Bool) (done : List (List ℕ)) → E.layout ≡ old.fields.layout
-      → length done < images
-      → e.size ≤ slot_bytes E.layout (length done) → Shows old s (within boot images bit done [])
-      → Goes E (Ok tt) old new s [] (within boot images bit done bytes)
+  pub goes : (E : Setting) (s : State) (boot : ℕ) (parts : List Staged) (image : ℕ) → E.layout ≡ old.fields.layout
+      → image < length parts
+      → e.size ≤ slot_bytes E.layout image → Shows old s (within boot parts image [])
+      → Goes E (Ok tt) old new s [] (within boot parts image bytes)
 
 -- a payload was read and written whole
 pub record WritesImage (told : Option Directory) (name : List ℕ) (e : Entry) (result : Result (Unit {0}) SendStop)
@@ -41,10 +42,10 @@ pub record WritesImage (told : Option Directory) (name : List ℕ) (e : Entry) (
   pub bytes : List ℕ
   pub count : OnOk result (length bytes ≡ e.size)
   pub read : OnOk result ((file : List ℕ) → Tells told name file → bytes ≡ payload file e)
-  pub goes : (E : Setting) (s : State) (boot images : ℕ) (bit : Bool) (done : List (List ℕ)) → E.layout ≡ old.fields.layout
-      → length done < images
-      → e.size ≤ slot_bytes E.layout (length done) → Shows old s (within boot images bit done [])
-      → Halts result E old new s boot (within boot images bit done bytes)
+  pub goes : (E : Setting) (s : State) (boot : ℕ) (parts : List Staged) (image : ℕ) → E.layout ≡ old.fields.layout
+      → image < length parts
+      → e.size ≤ slot_bytes E.layout image → Shows old s (within boot parts image [])
+      → Halts result E old new s boot (within boot parts image bytes)
 
 -- how many calls of the files failed, by a result that tells it
 abbrev pub unread_in : {T : Type 0} → Result T SendStop → ℕ
@@ -57,12 +58,12 @@ pub record ReadsBy {T : Type 0} (before now : ℕ) (result : Result T SendStop) 
   pub once : now ≤ before + unread_in result
   pub failed : result ≡ Err ReadFailed → Rose before now
 
--- an image was opened, written and committed: the next one of a sending
+-- an image of which nothing was staged was opened, written and committed
 pub record SendsImage (told : Option Directory) (name guid : List ℕ) (e : Entry) (request : ℕ) (result : Result (Unit {0}) SendStop)
     (old new : Moment) : Type 0 where
   pub bytes : List ℕ
   pub read : OnOk result ((file : List ℕ) → Tells told name file → bytes ≡ payload file e)
-  pub goes : (E : Setting) (s : State) (boot images : ℕ) (done : List (List ℕ)) → E.layout ≡ old.fields.layout
-      → length done < images → find_image E.layout.rows guid ≡ Some (length done)
-      → e.size ≤ slot_bytes E.layout (length done) → Shows old s (between boot images (request == 0) done)
-      → Halts result E old new s boot (between boot images (request == 0) (done ++ bytes ∷ []))
+  pub goes : (E : Setting) (s : State) (boot : ℕ) (parts : List Staged) (image : ℕ) → E.layout ≡ old.fields.layout
+      → image < length parts → find_image E.layout.rows guid ≡ Some image
+      → e.size ≤ slot_bytes E.layout image → slice_index_or parts image Nothing ≡ Nothing → Shows old s (between boot parts)
+      → Halts result E old new s boot (between boot (filled parts image bytes (request == 0)))

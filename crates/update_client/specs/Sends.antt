@@ -34,8 +34,13 @@ ended (On boot staging handles) = On boot None no_handles
 abbrev pub AnswersBy : Reply → Answer → Setting → Moment → Moment → State → Type 0
 AnswersBy r a E old new s = (r ≡ a.reply) × Goes E (Ok tt) old new s a.moves a.next
 
+-- the machine doesn't refuse a begin
+abbrev pub IsBegun : Setting → State → Session → Type 0
+IsBegun E s x = (answer E s x (call.Begin 0)).reply ≡ reply.Success
+
 -- An answer or a refusal is the machine's, with all its moves; a failed read leaves those of a begin, and no staging; at a stop of
--- the flash each loss leaves a prefix of the moves. An agent that is there is never answered to be gone.
+-- the flash each loss leaves a prefix of the moves. Neither comes where a begin is refused. An agent that is there is never
+-- answered to be gone.
 abbrev pub SendsBy : Result Sent SendStop → Setting → Toc → List (List ℕ) → ℕ → Moment → Moment → State → Session → Type 0
 SendsBy (Ok sent) E toc p request old new s x =
     AnswersBy (reply.Sent sent.images sent.skipped) (send_answer E toc p request s x) E old new s
@@ -46,11 +51,12 @@ SendsBy (Err (ImageTooLarge guid)) E toc p request old new s x =
 SendsBy (Err (Begin st)) E toc p request old new s x =
     AnswersBy (reply.BeginRefused st) (send_answer E toc p request s x) E old new s
 SendsBy (Err (End st)) E toc p request old new s x = AnswersBy (reply.EndRefused st) (send_answer E toc p request s x) E old new s
-SendsBy (Err ReadFailed) E toc p request old new s x = Goes E (Ok tt) old new s (answer E s x (call.Begin 0)).moves (ended x)
+SendsBy (Err ReadFailed) E toc p request old new s x =
+    IsBegun E s x × Goes E (Ok tt) old new s (answer E s x (call.Begin 0)).moves (ended x)
 SendsBy (Err Lost) E toc p request old new s x =
-    Goes E (Err flash_stop.Lost) old new s (send_answer E toc p request s x).moves (ended x)
+    IsBegun E s x × Goes E (Err flash_stop.Lost) old new s (send_answer E toc p request s x).moves (ended x)
 SendsBy (Err Fault) E toc p request old new s x =
-    Goes E (Err flash_stop.Failed) old new s (send_answer E toc p request s x).moves (ended x)
+    IsBegun E s x × Goes E (Err flash_stop.Failed) old new s (send_answer E toc p request s x).moves (ended x)
 SendsBy (Err Gone) E toc p request old new s x = ⊥
 
 -- What a sending says of an agent that isn't gone, on any device: there are images, those of the file where it is told, and each
@@ -64,22 +70,23 @@ pub record Sends (told : Option Directory) (name : List ℕ) (toc : Toc) (reques
 
 -- ---- when done
 
--- how many images the layout has, and how many entries are none of them
+-- how many images the layout has, how many entries are none of them, and that no image was copied
 pub record IsCounted (rows : List ImageRow) (toc : Toc) (sent : Sent) : Type 0 where
   pub images : sent.images ≡ length rows
   pub skipped : sent.skipped ≡ skipped rows toc
+  pub copied : sent.copied ≡ 0
 
--- The bank that took the update is active and holds the images, all of them accepted or none,
+-- The bank that took the update is active and holds the images, each accepted by its bit,
 -- and the bank that was active is the previous one.
-pub record IsInstalled (images : List (List ℕ)) (accepted : Bool) (rows : List ImageRow) (before now : State) : Type 0 where
+pub record IsInstalled (images : List (List ℕ)) (bits : List Bool) (before now : State) : Type 0 where
   pub active : now.active ≡ update_bank before
   pub previous : now.previous ≡ before.active
   pub held : (bank now now.active).held ≡ Some images
-  pub bits : (bank now now.active).bits ≡ replicate (length rows) accepted
+  pub accepted : (bank now now.active).bits ≡ bits
   pub trials : now.trials ≡ 0
   pub counter : now.counter ≡ before.counter
 
--- The machine that the agent shows then has installed the file's images.
+-- The machine that the agent shows then has installed the file's images, all of them accepted or none.
 pub record Installs (told : Option Directory) (name : List ℕ) (toc : Toc) (request : ℕ) (new : Moment)
     (before : State) : Type 0 where
   pub now : State
@@ -87,7 +94,7 @@ pub record Installs (told : Option Directory) (name : List ℕ) (toc : Toc) (req
   pub shows : Shows new now session
   pub images : List (List ℕ)
   pub read : (file : List ℕ) → Tells told name file → images ≡ images_of new.fields.layout.rows file toc
-  pub installed : IsInstalled images (request == 0) new.fields.layout.rows before now
+  pub installed : IsInstalled images (replicate (length new.fields.layout.rows) (request == 0)) before now
 
 -- On any device: what the agent keeps then has the bank active that took the update,
 -- and the one that was active is the previous one.

@@ -1,31 +1,22 @@
 //! The entries of a package that are the images of a layout.
-ghost use Rattle.std.specs.Prelude.{◌≡◌, ◌≤◌, find, length};
+ghost use Rattle.std.specs.Prelude.{◌≡◌, ◌<◌, ◌≤◌, length};
 ghost use Rattle.fwu_formats.specs.Layout.{find_image};
 ghost use Rattle.fwu_model.specs.Answer.{skipped as others_in};
-ghost use Rattle.fwu_formats.specs.Package.{has_guid};
-ghost use Rattle.update_client.specs.Choosing.{ChoosesOne, Chooses};
+ghost use Rattle.update_client.specs.Choosing.{Chooses, refused_as};
+ghost use Rattle.update_client.specs.Partial.{ChoosesPresent};
 
 use crate::stops::SendStop;
-use base_core::{BLOCK_BYTES, Guid, ImageRow};
-use fip_tables::{Entries, Entry, Toc};
+use base_core::{Guid, ImageRow};
+use fip_tables::{Entries, ImageFault, Toc, images_of, present_images_of};
 
-fn find_entry(entries: &[Entry], guid: &Guid) -> Option<Entry>
-    ensures { result ≡ find (has_guid guid.now) entries.now }
+/// The fault of an image, as a stop of a sending.
+fn refused(fault: ImageFault) -> SendStop
+    ensures { result ≡ refused_as fault }
 {
-    entries.iter().copied().find(|entry| entry.guid.is(guid))
-}
-
-/// The entry of an image.
-fn choose_one(row: &ImageRow, toc: &Toc) -> Result<Entry, SendStop>
-    ensures { ChoosesOne row.now toc.now result }
-{
-    let Some(entry) = find_entry(toc.entries.as_slice(), &row.guid) else {
-        return Err(SendStop::MissingImage(row.guid));
-    };
-    if entry.size > u64::from(BLOCK_BYTES) * u64::from(row.slots) {
-        return Err(SendStop::ImageTooLarge(row.guid));
+    match fault {
+        ImageFault::Missing(guid) => SendStop::MissingImage(guid),
+        ImageFault::TooLarge(guid) => SendStop::ImageTooLarge(guid),
     }
-    Ok(entry)
 }
 
 /// The entries of the images, in their order, or the fault of the lowest image that has one.
@@ -33,11 +24,23 @@ pub fn choose(rows: &[ImageRow], toc: &Toc) -> Result<Entries, SendStop>
     requires { length rows.now ≤ 16 }
     ensures { Chooses rows.now toc.now result }
 {
-    let mut entries = Entries::new();
-    for k in 0..rows.len() {
-        entries.push(choose_one(&rows[k], toc)?);
+    match images_of(rows, toc) {
+        Ok(entries) => Ok(entries),
+        Err(fault) => Err(refused(fault)),
     }
-    Ok(entries)
+}
+
+/// The entries of the images that the table has, in their order. Where it has none of them, the first
+/// image is missing; else the fault is the lowest that is too large.
+pub fn choose_present(rows: &[ImageRow], toc: &Toc) -> Result<Entries, SendStop>
+    requires some { 0 < length rows.now }
+    requires few { length rows.now ≤ 16 }
+    ensures { ChoosesPresent rows.now toc.now result }
+{
+    match present_images_of(rows, toc) {
+        Ok(entries) => Ok(entries),
+        Err(fault) => Err(refused(fault)),
+    }
 }
 
 fn find_row(rows: &[ImageRow], guid: &Guid) -> Option<usize>

@@ -1,11 +1,12 @@
 //! Ending a staging.
 ghost use Rattle.std.specs.Prelude.{◌≡◌, All, ◌+◌, ◌^◌, ◌<◌, ◌≤◌, ℕ, List, length, IsFalse, OnOk};
 ghost use Rattle.fip_tables.specs.Files.{Lacks, Tells};
-ghost use Rattle.agent_calls.specs.Shown.{device, gone, moment};
+ghost use Rattle.agent_machine.specs.Ends.{TakesSwitch};
+ghost use Rattle.agent_calls.specs.Shown.{SpentBy, device, gone, moment};
 ghost use Rattle.update_client.specs.Finishes.{FinishesBy, InstallsImages};
 ghost use Rattle.update_client.specs.Pieces.{ReadsBy};
-ghost use Rattle.update_client.specs.Halts.{SpentBy, StopsEnd, StopsWithin, flash_of};
-ghost use Rattle.update_client.specs.Takes.{InstallTakes, Takes};
+ghost use Rattle.update_client.specs.Halts.{StopsEnd, StopsWithin, flash_of};
+ghost use Rattle.update_client.specs.Takes.{InstallTakes};
 
 use crate::images::send_images;
 use crate::pieces::{is_unread, stopped};
@@ -23,7 +24,7 @@ pub fn finish<D: Flash, V: Verifier>(agent: &mut Agent<D>, verifier: &V) -> Resu
     ensures finishes { FinishesBy (V.passes verifier.now) result
         (moment agent.old) (moment agent.new) }
     ensures takes { OnOk result
-        (Takes 4 (D.arming (device agent.old)) (D.arming (device agent.new))) }
+        (TakesSwitch (D.arming (device agent.old)) (D.arming (device agent.new))) }
     ensures stops { StopsEnd result }
     ensures spent { SpentBy (flash_of result) agent.old agent.new }
 {
@@ -58,7 +59,7 @@ pub fn install<D: Flash, H: Files, V: Verifier>(
 
     ensures installs { InstallsImages (H.contents files.old) name.now entries.now acceptance
         (V.passes verifier.now) result (moment agent.old) (moment agent.new) }
-    ensures takes { OnOk result (InstallTakes entries.now acceptance (moment agent.old)
+    ensures takes { OnOk result (InstallTakes (length buf.old) entries.now (moment agent.old)
         (D.arming (device agent.old)) (D.arming (device agent.new))) }
     ensures stops { StopsWithin result }
     ensures spent { SpentBy (flash_of result) agent.old agent.new }

@@ -1,8 +1,8 @@
 //! Sending the images of a package.
 ghost use Rattle.std.specs.Prelude.{◌≡◌, All, ◌+◌, ◌^◌, ◌<◌, ◌≤◌, ℕ, List, length, IsFalse, OnOk};
 ghost use Rattle.fip_tables.specs.Files.{Lacks, Tells};
-ghost use Rattle.agent_calls.specs.Shown.{device, gone, moment};
-ghost use Rattle.update_client.specs.Halts.{SpentBy, StopsWithin, flash_of};
+ghost use Rattle.agent_calls.specs.Shown.{SpentBy, device, gone, moment};
+ghost use Rattle.update_client.specs.Halts.{StopsWithin, flash_of};
 ghost use Rattle.update_client.specs.Images.{SendsImages};
 ghost use Rattle.update_client.specs.Pieces.{ReadsBy, SendsImage};
 ghost use Rattle.update_client.specs.Takes.{ImageTakes, ImagesTake};
@@ -36,7 +36,7 @@ pub fn send_image<D: Flash, H: Files>(
 
     ensures sent { SendsImage (H.contents files.old) name.now guid entry.now acceptance result
         (moment agent.old) (moment agent.new) }
-    ensures takes { OnOk result (ImageTakes guid entry.now acceptance (moment agent.old)
+    ensures takes { OnOk result (ImageTakes (length buf.old) guid entry.now (moment agent.old)
         (D.arming (device agent.old)) (D.arming (device agent.new))) }
     ensures stops { StopsWithin result }
     ensures spent { SpentBy (flash_of result) agent.old agent.new }
@@ -74,7 +74,7 @@ pub fn send_images<D: Flash, H: Files>(
 
     ensures sent { SendsImages (H.contents files.old) name.now entries.now acceptance result
         (moment agent.old) (moment agent.new) }
-    ensures takes { OnOk result (ImagesTake entries.now acceptance (length entries.now)
+    ensures takes { OnOk result (ImagesTake (length buf.old) entries.now (length entries.now)
         (moment agent.old) (D.arming (device agent.old)) (D.arming (device agent.new))) }
     ensures stops { StopsWithin result }
     ensures spent { SpentBy (flash_of result) agent.old agent.new }

@@ -1,8 +1,9 @@
 //! Writing the payload of an image.
 ghost use Rattle.std.specs.Prelude.{◌≡◌, ◌+◌, ◌^◌, ◌<◌, ◌≤◌, ℕ, List, length, IsFalse, IfOk, OnOk};
 ghost use Rattle.fip_tables.specs.Files.{Lacks, Tells};
-ghost use Rattle.agent_calls.specs.Shown.{device, gone, moment};
-ghost use Rattle.update_client.specs.Halts.{SpentBy, StopsWithin, flash_of, stopped_as, unbegun_as, is_unread as was_unread};
+ghost use Rattle.agent_calls.specs.Shown.{SpentBy, device, gone, moment};
+ghost use Rattle.agent_calls.specs.Takes.{piece_at, pieces_of};
+ghost use Rattle.update_client.specs.Halts.{StopsWithin, flash_of, stopped_as, unbegun_as, is_unread as was_unread};
 ghost use Rattle.update_client.specs.Pieces.{ReadsBy, WritesImage, WritesPiece};
 ghost use Rattle.update_client.specs.Takes.{FirstTake, PieceTakes};
 
@@ -63,6 +64,7 @@ fn write_piece<D: Flash, H: Files>(
 
     ensures wrote { WritesPiece (H.contents files.old) name.now entry.now at result
         (moment agent.old) (moment agent.new) }
+    ensures piece { IfOk result (λ n. n ≡ piece_at (length buf.old) entry.now.size at) }
     ensures takes { IfOk result (λ n. PieceTakes at n (moment agent.old)
         (D.arming (device agent.old)) (D.arming (device agent.new))) }
     ensures stops { StopsWithin result }
@@ -100,7 +102,8 @@ pub fn write_image<D: Flash, H: Files>(
 
     ensures wrote { WritesImage (H.contents files.old) name.now entry.now result
         (moment agent.old) (moment agent.new) }
-    ensures takes { OnOk result (FirstTake entry.now entry.now.size (moment agent.old)
+    ensures takes { OnOk result (FirstTake (length buf.old) entry.now
+        (pieces_of (length buf.old) entry.now.size) (moment agent.old)
         (D.arming (device agent.old)) (D.arming (device agent.new))) }
     ensures stops { StopsWithin result }
     ensures spent { SpentBy (flash_of result) agent.old agent.new }

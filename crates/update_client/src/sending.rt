@@ -1,6 +1,6 @@
 //! Sending a package to the agent.
-ghost use Rattle.std.specs.Prelude.{◌≡◌, ◌+◌, ◌^◌, ◌<◌, ◌≤◌, All, ℕ, List, length, is_ok, IsFalse, IfOk, OnOk};
-ghost use Rattle.flash_core.specs.Counts.{Spends, StaysUnarmed};
+ghost use Rattle.std.specs.Prelude.{◌≡◌, ◌+◌, ◌^◌, ◌<◌, ◌≤◌, All, ℕ, List, length, IsFalse, IfOk, OnOk};
+ghost use Rattle.flash_core.specs.Calls.{Goes};
 ghost use Rattle.fwu_model.specs.State.{State};
 ghost use Rattle.fwu_model.specs.Session.{Session};
 ghost use Rattle.agent_machine.specs.Moment.{Shows};
@@ -10,7 +10,8 @@ ghost use Rattle.agent_calls.specs.Shown.{device, fields, gone, moment};
 ghost use Rattle.update_client.specs.Halts.{flash_of};
 ghost use Rattle.update_client.specs.Pieces.{ReadsBy};
 ghost use Rattle.update_client.specs.Sends.{FaultsBy, GoneBy, Installs, IsCounted, IsEarly, IsSwitched, Sends};
-ghost use Rattle.update_client.specs.Takes.{Takes, blocks_sent};
+ghost use Rattle.agent_calls.specs.Takes.{writes_to_begin};
+ghost use Rattle.update_client.specs.Takes.{SendTakes, writes_sent};
 
 use crate::choosing::{choose, skipped};
 use crate::finishing::install;
@@ -73,18 +74,14 @@ pub fn send<D: Flash, H: Files, V: Verifier>(
     // Gone comes exactly on an agent that is gone, where no image is missing or too large.
     ensures gone { GoneBy (first_image_fault (fields agent.old).layout.rows toc.now) result
         (gone agent.old) (gone agent.new) }
-    ensures power { IsFalse (gone agent.old) → D.on (device agent.new) ≡ is_ok (flash_of result) }
-    ensures size { D.blocks (device agent.new) ≡ D.blocks (device agent.old) }
-    ensures costs { Spends (flash_of result)
-        (D.counts (device agent.old)) (D.counts (device agent.new)) }
-    // When done, on every device: at least an erase of each block that an image reaches, and the
-    // two erases and two programs of the store that makes the bank active.
-    ensures spent { OnOk result (Takes (blocks_sent (fields agent.old).layout.rows toc.now + 4)
+    ensures goes { IsFalse (gone agent.old) →
+        Goes D.Flash (flash_of result) (device agent.old) (device agent.new) }
+    // When done, on every device: the erases and programs of the begin, of each image's writes, of
+    // which each has as many bytes as the buffer but the last one of an image, and of its commit, and
+    // those of the end's switch. There is no other.
+    ensures spent { OnOk result (let f = fields agent.old in
+        SendTakes (writes_to_begin f + writes_sent (length buf.old) f.layout.rows toc.now)
         (D.arming (device agent.old)) (D.arming (device agent.new))) }
-    // where nothing was armed, nothing is, and none was reached
-    ensures unarmed { StaysUnarmed (flash_of result)
-        (D.arming (device agent.old)) (D.arming (device agent.new))
-        (D.counts (device agent.old)) (D.counts (device agent.new)) }
     ensures buffer { length buf.new ≡ length buf.old }
     ensures same { H.contents files.new ≡ H.contents files.old }
     ensures unwritten { H.writes files.new ≡ H.writes files.old }
@@ -106,5 +103,9 @@ pub fn send<D: Flash, H: Files, V: Verifier>(
         buf,
         verifier,
     )?;
-    Ok(Sent { images, skipped })
+    Ok(Sent {
+        images,
+        skipped,
+        copied: 0,
+    })
 }

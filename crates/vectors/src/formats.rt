@@ -1,5 +1,5 @@
 //! The command `format`. The package is written from docs/FORMATS.md, as the bytes of flashes are,
-//! and demo/check_vectors.py makes it again.
+//! and checks/model/check_vectors.py makes it again.
 use crate::flashes::{METADATA, METADATA_OF_THREE, blank, put};
 use crate::runs::{NOTHING, Ran, ends, holds, one_file, run, run_with};
 use std::alloc::Global;

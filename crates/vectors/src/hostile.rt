@@ -1,6 +1,6 @@
-//! What a boot answers on flashes with one part changed. The bytes are those of demo/make_flash.py,
+//! What a boot answers on flashes with one part changed. The bytes are those of checks/model/make_flash.py,
 //! with their parts changed and their checksums and digests computed again by Python's zlib and
-//! hashlib, where a case doesn't say otherwise: demo/check_vectors.py makes them again.
+//! hashlib, where a case doesn't say otherwise: checks/model/check_vectors.py makes them again.
 use crate::flashes::{put, two_banks};
 use crate::runs::{ends, run};
 use std::alloc::Global;

@@ -220,8 +220,8 @@ struct Case {
     status: u8,
 }
 
-// Tables with one part changed, in both copies, with their checksums, from demo/make_table.py:
-// demo/check_vectors.py makes them again.
+// Tables with one part changed, in both copies, with their checksums, from checks/model/make_table.py:
+// checks/model/check_vectors.py makes them again.
 const CASES: [Case; 24] = [
     // Revision.
     Case {

@@ -1,5 +1,5 @@
 //! Soaks from a number. The number of the turns comes from Python's arithmetic, by the draws and
-//! the calls of each round: demo/check_vectors.py makes it again, and both lines.
+//! the calls of each round: checks/model/check_vectors.py makes it again, and both lines.
 use crate::flashes::blank;
 use crate::runs::{NOTHING, Ran, Trouble, ends, holds, one_file, run, run_with};
 use flash_devices::Cut;

@@ -143,6 +143,36 @@ fn a_script_has_at_most_65536_lines_and_4194304_bytes(rt: HostRuntime) {
     ends_at(&rt, rt.alloc(), b'#', 4_194_305, 8, "too-long\n");
 }
 
+// 65,536 times this line.
+fn repeated(rt: &impl Abort, alloc: Global, line: &str) -> Vec<u8> {
+    let mut text = Vec::new(alloc);
+    for _ in 0..65_536 {
+        text.extend_from_slice(line.as_bytes()).expect(rt, "memory");
+    }
+    text
+}
+
+// The program does 65,536 calls of this line, and answers each by that one.
+fn does_all(rt: &impl Abort, alloc: Global, line: &str, answer: &str) {
+    let mut source = MemorySource::new(repeated(rt, alloc, line), Vec::new(alloc));
+    let flash = flash_of(rt, alloc, two_banks(rt, alloc), &NOTHING);
+    let files = Vec::new(alloc);
+    let ran = run_on(rt, alloc, "run", files, &mut source, &NOTHING, flash);
+    let printed = repeated(rt, alloc, answer);
+    holds(rt, ran.status == 0, line);
+    holds(rt, ran.printed.as_slice() == printed.as_slice(), line);
+}
+
+// The second script has 4,194,304 bytes.
+#[test]
+fn there_is_memory_for_the_longest_scripts(rt: HostRuntime) {
+    let line = "write 10 0123456789abcdef0123456789abcdef0123456789abcdef012345\n";
+    let longest = repeated(&rt, rt.alloc(), line);
+    holds(&rt, longest.len() == 4_194_304, line);
+    does_all(&rt, rt.alloc(), "show\n", "show off\n");
+    does_all(&rt, rt.alloc(), line, "write off\n");
+}
+
 // How many bytes of the source are left once the program with these words ended.
 fn unread(rt: &impl Abort, alloc: Global, words: &str) -> usize {
     let mut source = source_of(rt, alloc, "boot\n", 0);

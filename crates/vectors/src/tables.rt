@@ -5,8 +5,8 @@ use crate::flashes::{blank, put, two_banks};
 use std::alloc::Global;
 use std::process::Abort;
 
-// The tables of four entries come from demo/make_table.py, which writes them from UEFI's layout by
-// Python's struct, uuid and zlib: demo/check_vectors.py makes them again, and that of 128 below.
+// The tables of four entries come from checks/model/make_table.py, which writes them from UEFI's layout by
+// Python's struct, uuid and zlib: checks/model/check_vectors.py makes them again, and that of 128 below.
 
 /// The header of the primary copy, in block 1.
 pub const PRIMARY: &str =

@@ -1,5 +1,5 @@
 -- The digests of a file, line by line.
-use Rattle.std.proofs.Common.{◌≡◌, ℕ, ◌+◌, ◌<◌, ◌≤◌, Bool, true, false, ◌==◌, List, [], ◌∷◌, ◌++◌, length, take, drop, Option, Some, None, Result, Ok, Err, refl, sym, ap, ◌∙◌, arith, append_assoc, inl, inr, eqb-true}
+use Rattle.std.proofs.Common.{◌≡◌, ℕ, ◌+◌, ◌<◌, ◌≤◌, Bool, false, ◌==◌, List, [], ◌∷◌, ◌++◌, length, take, drop, Option, Some, None, Result, Ok, Err, refl, sym, ap, ◌∙◌, arith, append_assoc, inl, inr}
 use Rattle.std.proofs.lemmas.Bool.{cases_Bool, cases_lt, lt-ltb, le-ltb, ne_eqb}
 use Rattle.std.proofs.lemmas.List.Splits.{slice_split_first, length-slice_split}
 use Rattle.std.specs.List.{slice_split, position, position_or_len, before_first, after_first}
@@ -86,11 +86,3 @@ next_line front n rest end digest e good =
     let later = from_line (n + 1) (drop (end + 1) rest) in
     ap (behind front) (by_line n rest end is.0 is.1 ∙ ap (λ (d : Option (List ℕ)). onto_digests n d later) good)
     ∙ behind_next front n digest later
-
-pub some_left : (b : Bool) (rest : List ℕ) → b ≡ (length rest == 0) → b ≡ false → 0 < length rest
-some_left b [] is h = absurd cc
-some_left b (x ∷ xs) is h = omega arith
-
-pub none_left : (b : Bool) (rest : List ℕ) → b ≡ (length rest == 0) → b ≡ true → rest ≡ []
-none_left b [] is h = refl
-none_left b (x ∷ xs) is h = absurd (omega (arith, eqb-true (length (x ∷ xs)) 0 (sym is ∙ h)))

@@ -22,7 +22,7 @@ pub enum ListFault {
 }
 
 /// The manifests pass whose SHA-256 is listed. A contract sees the list of the digests.
-#[derive(Debug, Drop)]
+#[derive(Drop)]
 pub struct DigestList {
     digests: Vec<[u8; 32]>,
 }

@@ -13,7 +13,7 @@ pub trait Verifier {
 }
 
 /// Each manifest passes.
-#[derive(Clone, Copy, Debug, PartialEq, Eq)]
+#[derive(Clone, Copy)]
 pub struct AnyManifest;
 
 impl Verifier for AnyManifest {
@@ -25,7 +25,7 @@ impl Verifier for AnyManifest {
 }
 
 /// The manifests pass that pass both.
-#[derive(Debug, Drop)]
+#[derive(Drop)]
 pub struct Both<A, B> {
     pub first: A,
     pub second: B,

@@ -1,27 +1,10 @@
-use Rattle.std.proofs.Common.{◌≡◌, ℕ, ◌+◌, ◌-◌, ◌*◌, ◌<◌, ◌≤◌, min, ◌==◌, ◌&&◌, ◌||◌, not, Bool, true, false, cond, leb, List, length, get_or, Option, Some, None, refl, sym, ap, ap₂, ◌∙◌, subst, arith, IsTrue}
-use Rattle.std.proofs.lemmas.Grind.{common_steps}
-use Rattle.std.proofs.lemmas.Bool.{lt-ltb, le-ltb, eqb-true, eq-eqb}
-use Rattle.fwu_model.specs.declared.kinds.Status.TheVariants as status
-use Rattle.fwu_model.specs.declared.kinds.Op.TheVariants as op
-use Rattle.fwu_model.specs.Session.{Staged, On, is_open, is_committed}
-use Rattle.agent_kept.specs.declared.parts.Part.{Part}
-use Rattle.fwu_model.specs.Session as session
-use Rattle.fwu_model.specs.State.{is_invalid, bank, update_bank}
-use Rattle.fwu_formats.specs.Layout.{ImageRow, find_image}
-use Rattle.fwu_formats.specs.Metadata.{state_at}
-use Rattle.fwu_model.specs.Call as call
-use Rattle.agent_kept.specs.declared.kinds.Decision.TheVariants.{Refused, Do, ByVerdict}
+use Rattle.std.proofs.Common.{sym, subst}
+use Rattle.agent_kept.specs.declared.kinds.Decision.TheVariants.{Do}
 use Rattle.agent_kept.specs.declared.kinds.Plan.TheVariants as plan
-use Rattle.agent_kept.specs.declared.parts.Handle.TheVariants.{Free, Reads, Writes}
-use Rattle.agent_kept.specs.Kept.{kept, handles_meant, session_meant, staging_meant, parts_meant, part_meant, handle_meant}
-use Rattle.fwu_model.specs.declared.kinds.Op.{Op}
-use Rattle.agent_kept.specs.declared.kinds.Request.TheVariants as request
-use Rattle.agent_kept.specs.Plans.{DecidesAs, call_of, by_verdict}
-use Rattle.fwu_model.specs.Answer.{answer, may_go_back}
+use Rattle.agent_kept.specs.Kept.{kept, handles_meant, staging_meant}
 use Rattle.meta_layout.proofs.Fits.{meta-fits}
 use Rattle.agent_kept.specs.declared.kinds.Request.{Request}
 use Rattle.agent_state.specs.Decides.{Decides}
-use Rattle.agent_state.proofs.Machine as machine
 use Rattle.agent_state.proofs.Replies as replies
 use Rattle.agent_state.specs.Asked.{IsFor}
 use Rattle.agent_state.proofs.deciding.decide.Goals as goal
@@ -31,6 +14,12 @@ returns-in-Discover-clause-decides g c = subst (λ (r : Request). Decides (g.V.V
 
 pub returns-in-Begin-clause-decides : goal.returns-in-Begin-clause-decides
 returns-in-Begin-clause-decides g c = subst (λ (r : Request). Decides (g.V.Verifier.passes c.args.verifier.now) c.args.meta.now c.args.counter (kept c.args.session.now) c.args.boot_index r c.begin.result) (sym c.in-Begin.is) (c.begin.ensures.decides (g.V.Verifier.passes c.args.verifier.now) c.args.counter)
+
+pub returns-in-BeginPartial-clause-decides : goal.returns-in-BeginPartial-clause-decides
+returns-in-BeginPartial-clause-decides g c = subst (λ (r : Request). Decides (g.V.Verifier.passes c.args.verifier.now) c.args.meta.now c.args.counter (kept c.args.session.now) c.args.boot_index r c.begin_partial.result) (sym c.in-BeginPartial.is) (c.begin_partial.ensures.decides (g.V.Verifier.passes c.args.verifier.now) c.args.counter)
+
+pub begin_partial-requires : goal.begin_partial-requires
+begin_partial-requires g c = record { active = (meta-fits _ c.args.meta.now.meta c.requires.fits).active }
 
 pub returns-in-Open-clause-decides : goal.returns-in-Open-clause-decides
 returns-in-Open-clause-decides g c = subst (λ (r : Request). Decides (g.V.Verifier.passes c.args.verifier.now) c.args.meta.now c.args.counter (kept c.args.session.now) c.args.boot_index r c.open.result) (sym c.in-Open.is) (c.open.ensures.decides c.args.meta.now c.args.boot_index (g.V.Verifier.passes c.args.verifier.now) c.args.counter)

@@ -1,23 +1,13 @@
-use Rattle.std.proofs.Common.{◌≡◌, ℕ, ◌+◌, ◌-◌, ◌*◌, ◌<◌, ◌≤◌, min, ◌==◌, ◌&&◌, ◌||◌, not, Bool, true, false, cond, leb, List, length, get_or, Option, Some, None, refl, sym, ap, ap₂, ◌∙◌, subst, arith, IsTrue}
-use Rattle.std.proofs.lemmas.Grind.{common_steps}
-use Rattle.std.proofs.lemmas.Bool.{lt-ltb, le-ltb, eqb-true, eq-eqb}
+use Rattle.std.proofs.Common.{List, Option, Some, sym, ap, ◌∙◌, subst}
 use Rattle.fwu_model.specs.declared.kinds.Status.TheVariants as status
 use Rattle.fwu_model.specs.declared.kinds.Op.TheVariants as op
 use Rattle.fwu_model.specs.Session.{Staged, On, is_open, is_committed}
 use Rattle.agent_kept.specs.declared.parts.Part.{Part}
-use Rattle.fwu_model.specs.Session as session
-use Rattle.fwu_model.specs.State.{is_invalid, bank, update_bank}
 use Rattle.fwu_formats.specs.Layout.{ImageRow, find_image}
-use Rattle.fwu_formats.specs.Metadata.{state_at}
 use Rattle.fwu_model.specs.Call as call
-use Rattle.agent_kept.specs.declared.kinds.Decision.TheVariants.{Refused, Do, ByVerdict}
-use Rattle.agent_kept.specs.declared.kinds.Plan.TheVariants as plan
-use Rattle.agent_kept.specs.declared.parts.Handle.TheVariants.{Free, Reads, Writes}
-use Rattle.agent_kept.specs.Kept.{kept, handles_meant, session_meant, staging_meant, parts_meant, part_meant, handle_meant}
-use Rattle.fwu_model.specs.declared.kinds.Op.{Op}
-use Rattle.agent_kept.specs.declared.kinds.Request.TheVariants as request
-use Rattle.agent_kept.specs.Plans.{DecidesAs, call_of, by_verdict}
-use Rattle.fwu_model.specs.Answer.{answer, may_go_back}
+use Rattle.agent_kept.specs.declared.kinds.Decision.TheVariants.{Refused}
+use Rattle.agent_kept.specs.Kept.{kept, handles_meant, staging_meant, parts_meant, part_meant}
+use Rattle.agent_kept.specs.Plans.{DecidesAs}
 use Rattle.agent_state.proofs.Machine as machine
 use Rattle.agent_state.proofs.Replies as replies
 use Rattle.agent_state.proofs.Asking.{opened-for}

@@ -1,5 +1,4 @@
-use Rattle.std.proofs.Common.{◌≡◌, ◌≤◌, ℕ, List, length, sym, ap, ◌∙◌, arith}
-use Rattle.fwu_formats.specs.Layout.{ImageRow}
+use Rattle.std.proofs.Common.{length, sym, ap, ◌∙◌, arith}
 use Rattle.agent_kept.specs.Kept.{kept}
 use Rattle.agent_kept.specs.Judged.{is_part_committed}
 use Rattle.agent_state.proofs.Judges.{all-committed, one-open}

@@ -1,4 +1,4 @@
-use Rattle.std.proofs.Common.{◌≡◌, ◌<◌, [], length, get_or, ◌∙◌, sym, subst, arith}
+use Rattle.std.proofs.Common.{◌<◌, length, subst, arith}
 use Rattle.fwu_formats.specs.Layout.{Layout}
 use Rattle.meta_layout.proofs.Fits.{meta-fits, row-length}
 use Rattle.agent_kept.specs.Kept.{kept}
@@ -8,18 +8,10 @@ use Rattle.agent_state.proofs.settling.change_meta.Goals as goal
 pub update_bank-requires : goal.update_bank-requires
 update_bank-requires c = record { active = (meta-fits (record { banks = length c.args.meta.now.meta.states; rows = (kept c.args.session.now).rows }) c.args.meta.now.meta c.requires.fits).active }
 
-pub free-requires-clause-bits : goal.free-requires-clause-bits
-free-requires-clause-bits c =
-    let whole = meta-fits (record { banks = length c.args.meta.now.meta.states; rows = (kept c.args.session.now).rows }) c.args.meta.now.meta c.requires.fits in
-    omega (arith, whole.bits, c.update_bank.ensures.below)
-
-pub update_bank-requires-in-End : goal.update_bank-requires-in-End
-update_bank-requires-in-End c = record { active = (meta-fits (record { banks = length c.args.meta.now.meta.states; rows = (kept c.args.session.now).rows }) c.args.meta.now.meta c.requires.fits).active }
-
 pub switch-requires-clause-bits : goal.switch-requires-clause-bits
 switch-requires-clause-bits c =
     let whole = meta-fits (record { banks = length c.args.meta.now.meta.states; rows = (kept c.args.session.now).rows }) c.args.meta.now.meta c.requires.fits in
-    omega (arith, whole.bits, c.update_bank-in-End.ensures.below)
+    omega (arith, whole.bits, c.update_bank.ensures.below)
 
 pub accept_image-requires-clause-state : goal.accept_image-requires-clause-state
 accept_image-requires-clause-state c = (meta-fits (record { banks = length c.args.meta.now.meta.states; rows = (kept c.args.session.now).rows }) c.args.meta.now.meta c.requires.fits).active
@@ -36,3 +28,11 @@ accept_image-requires-clause-within c =
     let whole = meta-fits L c.args.meta.now.meta c.requires.fits in
     let within : c.in-Accept.image < length k.rows = subst (IsPlanOf k) c.in-Accept.is c.requires.plan in
     omega (arith, within, row-length L c.args.meta.now.meta c.args.meta.now.meta.active whole whole.active)
+
+pub free_if-requires-clause-active : goal.free_if-requires-clause-active
+free_if-requires-clause-active c = (meta-fits (record { banks = length c.args.meta.now.meta.states; rows = (kept c.args.session.now).rows }) c.args.meta.now.meta c.requires.fits).active
+
+pub free_if-requires-clause-bits : goal.free_if-requires-clause-bits
+free_if-requires-clause-bits c =
+    let whole = meta-fits (record { banks = length c.args.meta.now.meta.states; rows = (kept c.args.session.now).rows }) c.args.meta.now.meta c.requires.fits in
+    omega (arith, whole.bits, whole.states)

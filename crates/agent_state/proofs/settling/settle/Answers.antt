@@ -1,19 +1,18 @@
-use Rattle.std.proofs.Common.{◌≡◌, ◌≤◌, List, length, sym, subst, ap, arith}
+use Rattle.std.proofs.Common.{sym, subst, ap}
 use Rattle.agent_kept.specs.declared.kinds.Decision.{Decision}
 use Rattle.agent_kept.specs.Kept.{Kept, kept}
 use Rattle.agent_state.specs.Settles.{IsDecisionOf, SettlesBy}
 use Rattle.fwu_formats.specs.Metadata.{MetaRead}
 use Rattle.agent_state.proofs.Planned.{planned-fits}
-use Rattle.agent_state.proofs.Settled.{settled-in}
+use Rattle.agent_state.proofs.Settled.{settled-by}
 use Rattle.agent_state.proofs.settling.settle.Goals as goal
 
 pub returns-in-Do-clause-settles : goal.returns-in-Do-clause-settles
 returns-in-Do-clause-settles c =
     let k : Kept = kept c.args.session.now in
     subst (λ (d : Decision). SettlesBy k c.args.meta.now c.args.bytes.now d c.change_meta.new.meta (kept c.change_session.new.session)) (sym c.in-Do.is)
-    (λ E s passes counter boot staged sp total.
-    settled-in E s passes c.args.meta.now counter boot k staged c.args.bytes.now sp c.args.session.now.sound.few _ c.change_meta.new.meta (kept c.change_session.new.session)
-    (subst (IsDecisionOf k) c.in-Do.is c.requires.decided) total c.change_session.ensures.changes c.change_meta.ensures.set)
+    (settled-by k c.args.meta.now c.args.bytes.now c.args.session.now.sound.few _ c.change_meta.new.meta (kept c.change_session.new.session)
+    (subst (IsDecisionOf k) c.in-Do.is c.requires.decided) c.change_session.ensures.changes c.change_meta.ensures.set)
 
 pub returns-in-Do-clause-fits : goal.returns-in-Do-clause-fits
 returns-in-Do-clause-fits c =

@@ -31,21 +31,21 @@ returns-in-Err-clause-ends g c tells =
     let new = g.D.Flash.told c.read_shown.new.flash in
     subst (λ (e : Ended). BootEnds passes old e (g.D.Flash.told (device_of c.unshown.result))) (sym c.unshown.ensures.ended)
     (subst (λ (t : Told). BootEnds passes old (unshown_end c.in-Err.why) t) (sym (ap g.D.Flash.told c.unshown.ensures.device))
-    (unshown-ends old new (c.in-Err.ensures.content tells) passes c.in-Err.why (c.in-Err.ensures.nothing tells)))
+    (unshown-ends old new (c.in-Err.ensures.reads.content tells) passes c.in-Err.why (c.in-Err.ensures.nothing tells)))
 
 pub returns-in-Err-clause-idle : goal.returns-in-Err-clause-idle
 returns-in-Err-clause-idle g c =
     let F = c.args.flash in
     subst (λ (e : Ended). IdleEnd e (g.D.Flash.arming F) (g.D.Flash.arming (device_of c.unshown.result)) (g.D.Flash.counts F) (g.D.Flash.counts (device_of c.unshown.result))) (sym c.unshown.ensures.ended)
     (subst (λ d. IdleEnd (unshown_end c.in-Err.why) (g.D.Flash.arming F) (g.D.Flash.arming d) (g.D.Flash.counts F) (g.D.Flash.counts d)) (sym c.unshown.ensures.device)
-    (unshown-idle c.in-Err.why (g.D.Flash.arming F) _ (g.D.Flash.counts F) _ c.in-Err.ensures.arming c.in-Err.ensures.reached))
+    (unshown-idle c.in-Err.why (g.D.Flash.arming F) _ (g.D.Flash.counts F) _ c.in-Err.ensures.reads.arming c.in-Err.ensures.reads.reached))
 
 pub returns-in-Err-mend_and_start-clause-idle : goal.returns-in-Err-mend_and_start-clause-idle
 returns-in-Err-mend_and_start-clause-idle g c =
     let F = c.args.flash in
     let d = device_of c.stopped_with.result in
     subst (λ (e : Ended). IdleEnd e (g.D.Flash.arming F) (g.D.Flash.arming d) (g.D.Flash.counts F) (g.D.Flash.counts d)) (sym c.stopped_with.ensures.ended)
-    (stopped-idle c.in-Err-mend_and_start.stop (numbers c.numbers_in-numbers.result) (g.D.Flash.arming F) (g.D.Flash.arming d) (g.D.Flash.counts F) (g.D.Flash.counts d))
+    (stopped-idle c.in-Err-mend_and_start.stop (numbers c.of-numbers.result) (g.D.Flash.arming F) (g.D.Flash.arming d) (g.D.Flash.counts F) (g.D.Flash.counts d))
 
 pub of-requires-clause-knows : goal.of-requires-clause-knows
 of-requires-clause-knows g c tells =
@@ -55,9 +55,9 @@ of-requires-clause-knows g c tells =
     let shown = c.in-Ok.shown in
     let shows = c.in-Ok.ensures.shows tells in
     let fits = c.in-Ok.ensures.fits in
-    let content = c.in-Ok.ensures.content tells in
-    let n = numbers c.numbers_in-numbers.result in
-    let read = c.numbers_in-numbers.ensures ∙ shown-numbers old.now shown shows fits in
+    let content = c.in-Ok.ensures.reads.content tells in
+    let n = numbers c.of-numbers.result in
+    let read = c.of-numbers.ensures ∙ shown-numbers old.now shown shows fits in
     let ends = subst (λ (u : Told). Boots {T = Option (Shown × Chosen)} (Ok c.in-Ok-Some.field-0) passes shown u new) content (c.in-Ok-Some.ensures.boots tells) in
     let found = sym (ap chosen_of (sym c.in-Ok-Some.field-0-is) ∙ c.in-Ok-Some.ensures.chosen tells ∙ ap (λ (u : Told). chosen_in (boot_setting passes shown.layout) (state_shown u.now shown)) content) in
     let later = subst (λ (o : Option (Shown × Chosen)). IfSome o (λ (start : Shown × Chosen). CountsLater (mended shown) start.0)) c.in-Ok-Some.field-0-is c.in-Ok-Some.ensures.later in
@@ -73,9 +73,9 @@ returns-in-Ok-Some-clause-ends g c tells =
     let shown = c.in-Ok.shown in
     let shows = c.in-Ok.ensures.shows tells in
     let fits = c.in-Ok.ensures.fits in
-    let content = c.in-Ok.ensures.content tells in
-    let n = numbers c.numbers_in-numbers.result in
-    let read = c.numbers_in-numbers.ensures ∙ shown-numbers old.now shown shows fits in
+    let content = c.in-Ok.ensures.reads.content tells in
+    let n = numbers c.of-numbers.result in
+    let read = c.of-numbers.ensures ∙ shown-numbers old.now shown shows fits in
     let ends = subst (λ (u : Told). Boots {T = Option (Shown × Chosen)} (Ok c.in-Ok-Some.field-0) passes shown u new) content (c.in-Ok-Some.ensures.boots tells) in
     let found = sym (ap chosen_of (sym c.in-Ok-Some.field-0-is) ∙ c.in-Ok-Some.ensures.chosen tells ∙ ap (λ (u : Told). chosen_in (boot_setting passes shown.layout) (state_shown u.now shown)) content) in
     let later = subst (λ (o : Option (Shown × Chosen)). IfSome o (λ (start : Shown × Chosen). CountsLater (mended shown) start.0)) c.in-Ok-Some.field-0-is c.in-Ok-Some.ensures.later in
@@ -92,7 +92,7 @@ returns-in-Ok-None-clause-ends g c tells =
     let shown = c.in-Ok.shown in
     let shows = c.in-Ok.ensures.shows tells in
     let fits = c.in-Ok.ensures.fits in
-    let content = c.in-Ok.ensures.content tells in
+    let content = c.in-Ok.ensures.reads.content tells in
     let ends = subst (λ (u : Told). Boots {T = Option (Shown × Chosen)} (Ok c.in-Ok-None.field-0) passes shown u new) content (c.in-Ok-None.ensures.boots tells) in
     let found = sym (ap chosen_of (sym c.in-Ok-None.field-0-is) ∙ c.in-Ok-None.ensures.chosen tells ∙ ap (λ (u : Told). chosen_in (boot_setting passes shown.layout) (state_shown u.now shown)) content) in
     subst (λ (a : ℕ). BootEnds passes old (no_bank a c.previous.result) new) (sym c.active.ensures)
@@ -107,9 +107,9 @@ returns-in-Err-mend_and_start-clause-ends g c tells =
     let shown = c.in-Ok.shown in
     let shows = c.in-Ok.ensures.shows tells in
     let fits = c.in-Ok.ensures.fits in
-    let content = c.in-Ok.ensures.content tells in
-    let n = numbers c.numbers_in-numbers.result in
-    let read = c.numbers_in-numbers.ensures ∙ shown-numbers old.now shown shows fits in
+    let content = c.in-Ok.ensures.reads.content tells in
+    let n = numbers c.of-numbers.result in
+    let read = c.of-numbers.ensures ∙ shown-numbers old.now shown shows fits in
     let stop = c.in-Err-mend_and_start.stop in
     let ends = subst (λ (u : Told). Boots {T = Option (Shown × Chosen)} (Err stop) passes shown u new) content (c.in-Err-mend_and_start.ensures.boots tells) in
     subst (λ (e : Ended). BootEnds passes old e (g.D.Flash.told (device_of c.stopped_with.result))) (sym c.stopped_with.ensures.ended)
@@ -119,12 +119,12 @@ returns-in-Err-mend_and_start-clause-ends g c tells =
 pub returns-in-Ok-Some-clause-started : goal.returns-in-Ok-Some-clause-started
 returns-in-Ok-Some-clause-started g c =
     let shown = c.in-Ok.shown in
-    let n = numbers c.numbers_in-numbers.result in
+    let n = numbers c.of-numbers.result in
     let later = subst (λ (o : Option (Shown × Chosen)). IfSome o (λ (start : Shown × Chosen). CountsLater (mended shown) start.0)) c.in-Ok-Some.field-0-is c.in-Ok-Some.ensures.later in
     let counted = subst (λ (o : Option (Shown × Chosen)). IfSome o (λ (start : Shown × Chosen). CountsChosen (mended shown) start.0 start.1)) c.in-Ok-Some.field-0-is c.in-Ok-Some.ensures.counted in
     let may = subst (λ (o : Option (Shown × Chosen)). IfSome o (λ (start : Shown × Chosen). MayBeChosen shown shown.trials start.1)) c.in-Ok-Some.field-0-is c.in-Ok-Some.ensures.may in
     subst (λ (b : Started). StartsByNumbers b n) (sym c.of.ensures.started)
-    (starts_by_numbers shown c.in-Ok-Some.after c.in-Ok-Some.chosen n c.numbers_in-numbers.ensures later counted
+    (starts_by_numbers shown c.in-Ok-Some.after c.in-Ok-Some.chosen n c.of-numbers.ensures later counted
     (numbers-are shown c.in-Ok.ensures.fit c.in-Ok.ensures.fits c.in-Ok.ensures.few c.in-Ok.ensures.form c.in-Ok.ensures.none) may)
 
 pub returns-in-Err-clause-started : goal.returns-in-Err-clause-started
@@ -133,7 +133,7 @@ returns-in-Err-clause-started g c = subst StartedBy (sym c.unshown.ensures.ended
 pub returns-in-Err-mend_and_start-clause-started : goal.returns-in-Err-mend_and_start-clause-started
 returns-in-Err-mend_and_start-clause-started g c =
     let are = numbers-are c.in-Ok.shown c.in-Ok.ensures.fit c.in-Ok.ensures.fits c.in-Ok.ensures.few c.in-Ok.ensures.form c.in-Ok.ensures.none in
-    subst StartedBy (sym c.stopped_with.ensures.ended) (stopped_started c.in-Err-mend_and_start.stop _ (subst AreNumbers (sym c.numbers_in-numbers.ensures) are))
+    subst StartedBy (sym c.stopped_with.ensures.ended) (stopped_started c.in-Err-mend_and_start.stop _ (subst AreNumbers (sym c.of-numbers.ensures) are))
 
 pub returns-in-Ok-None-clause-started : goal.returns-in-Ok-None-clause-started
 returns-in-Ok-None-clause-started g c =
@@ -144,13 +144,13 @@ pub returns-in-Ok-Some-clause-permitted : goal.returns-in-Ok-Some-clause-permitt
 returns-in-Ok-Some-clause-permitted g c =
     let shown = c.in-Ok.shown in
     let passes = g.V.Verifier.passes c.args.verifier.now in
-    let n = numbers c.numbers_in-numbers.result in
+    let n = numbers c.of-numbers.result in
     let later = subst (λ (o : Option (Shown × Chosen)). IfSome o (λ (start : Shown × Chosen). CountsLater (mended shown) start.0)) c.in-Ok-Some.field-0-is c.in-Ok-Some.ensures.later in
     let permitted = subst (λ (o : Option (Shown × Chosen)). IfSome o (λ (start : Shown × Chosen). IsPermitted passes shown start.1)) c.in-Ok-Some.field-0-is c.in-Ok-Some.ensures.permitted in
     let chosen = c.in-Ok-Some.chosen in
     subst (λ (b : Started). StartsPermitted passes (booted b n)) (sym c.of.ensures.started)
     (subst (λ (L : Layout). MayStart passes L.rows n.counter chosen.version chosen.lengths) (sym later.layout)
-    (subst (λ (m : Numbers). MayStart passes shown.layout.rows m.counter chosen.version chosen.lengths) (sym c.numbers_in-numbers.ensures) permitted))
+    (subst (λ (m : Numbers). MayStart passes shown.layout.rows m.counter chosen.version chosen.lengths) (sym c.of-numbers.ensures) permitted))
 
 pub returns-in-Err-clause-permitted : goal.returns-in-Err-clause-permitted
 returns-in-Err-clause-permitted g c = subst (StartsPermitted (g.V.Verifier.passes c.args.verifier.now)) (sym c.unshown.ensures.ended) (unshown_permitted _ c.in-Err.why)
@@ -162,7 +162,7 @@ returns-in-Err-mend_and_start-clause-permitted g c = subst (StartsPermitted (g.V
 pub returns-in-Ok-Some-clause-once : goal.returns-in-Ok-Some-clause-once
 returns-in-Ok-Some-clause-once g c tells =
     let shown = c.in-Ok.shown in
-    let n = numbers c.numbers_in-numbers.result in
+    let n = numbers c.of-numbers.result in
     let image = (g.D.Flash.told c.args.flash).now in
     let armed = g.D.Flash.arming c.args.flash in
     let read = c.read_shown.new.flash in
@@ -170,11 +170,11 @@ returns-in-Ok-Some-clause-once g c tells =
     let start : Option (Shown × Chosen) = Some (c.in-Ok-Some.after, c.in-Ok-Some.chosen) in
     let later = subst (λ (o : Option (Shown × Chosen)). IfSome o (λ (start : Shown × Chosen). CountsLater (mended shown) start.0)) c.in-Ok-Some.field-0-is c.in-Ok-Some.ensures.later in
     let takes = subst (λ (o : Option (Shown × Chosen)). TakesMendingAndStart shown (g.D.Flash.told read).now o (g.D.Flash.arming read) arming) c.in-Ok-Some.field-0-is (c.in-Ok-Some.ensures.once tells) in
-    let at_entry = subst (λ (u : Told). TakesMendingAndStart shown u.now start (g.D.Flash.arming read) arming) (c.in-Ok.ensures.content tells) takes in
-    let from_entry = subst (λ (a : Option Arming). TakesMendingAndStart shown image start a arming) c.in-Ok.ensures.arming at_entry in
+    let at_entry = subst (λ (u : Told). TakesMendingAndStart shown u.now start (g.D.Flash.arming read) arming) (c.in-Ok.ensures.reads.content tells) takes in
+    let from_entry = subst (λ (a : Option Arming). TakesMendingAndStart shown image start a arming) c.in-Ok.ensures.reads.arming at_entry in
     subst (λ (a : Option Arming). TakesByBytes image (booted (started c.of.result) n) armed a) (sym (ap g.D.Flash.arming c.of.ensures.device))
     (subst (λ (b : Started). TakesByBytes image (booted b n) armed arming) (sym c.of.ensures.started)
-    (start-takes shown c.in-Ok-Some.after c.in-Ok-Some.chosen n c.numbers_in-numbers.ensures later image armed arming (c.in-Ok.ensures.shows tells) from_entry))
+    (start-takes shown c.in-Ok-Some.after c.in-Ok-Some.chosen n c.of-numbers.ensures later image armed arming (c.in-Ok.ensures.shows tells) from_entry))
 
 pub returns-in-Ok-None-clause-once : goal.returns-in-Ok-None-clause-once
 returns-in-Ok-None-clause-once g c tells =
@@ -184,8 +184,8 @@ returns-in-Ok-None-clause-once g c tells =
     let read = c.read_shown.new.flash in
     let arming = g.D.Flash.arming c.mend_and_start.new.flash in
     let takes = subst (λ (o : Option (Shown × Chosen)). TakesMendingAndStart shown (g.D.Flash.told read).now o (g.D.Flash.arming read) arming) c.in-Ok-None.field-0-is (c.in-Ok-None.ensures.once tells) in
-    let at_entry = subst (λ (u : Told). TakesMendingAndStart shown u.now None (g.D.Flash.arming read) arming) (c.in-Ok.ensures.content tells) takes in
-    let from_entry = subst (λ (a : Option Arming). TakesMendingAndStart shown image None a arming) c.in-Ok.ensures.arming at_entry in
+    let at_entry = subst (λ (u : Told). TakesMendingAndStart shown u.now None (g.D.Flash.arming read) arming) (c.in-Ok.ensures.reads.content tells) takes in
+    let from_entry = subst (λ (a : Option Arming). TakesMendingAndStart shown image None a arming) c.in-Ok.ensures.reads.arming at_entry in
     none-takes shown image armed arming (c.in-Ok.ensures.shows tells) from_entry
 
 pub returns-in-Err-clause-once : goal.returns-in-Err-clause-once
@@ -194,7 +194,7 @@ returns-in-Err-clause-once g c tells =
     let armed = g.D.Flash.arming c.args.flash in
     subst (λ (e : Ended). TakesByBytes image e armed (g.D.Flash.arming (device_of c.unshown.result))) (sym c.unshown.ensures.ended)
     (subst (λ (a : Option Arming). TakesByBytes image (unshown_end c.in-Err.why) armed a) (sym (ap g.D.Flash.arming c.unshown.ensures.device))
-    (unshown-takes c.in-Err.why image armed (g.D.Flash.arming c.read_shown.new.flash) c.in-Err.ensures.arming))
+    (unshown-takes c.in-Err.why image armed (g.D.Flash.arming c.read_shown.new.flash) c.in-Err.ensures.reads.arming))
 
 pub returns-in-Err-mend_and_start-clause-once : goal.returns-in-Err-mend_and_start-clause-once
 returns-in-Err-mend_and_start-clause-once g c tells =
@@ -202,4 +202,4 @@ returns-in-Err-mend_and_start-clause-once g c tells =
     let armed = g.D.Flash.arming c.args.flash in
     let arming = g.D.Flash.arming (device_of c.stopped_with.result) in
     subst (λ (e : Ended). TakesByBytes image e armed arming) (sym c.stopped_with.ensures.ended)
-    (stopped-takes c.in-Err-mend_and_start.stop (numbers c.numbers_in-numbers.result) image armed arming)
+    (stopped-takes c.in-Err-mend_and_start.stop (numbers c.of-numbers.result) image armed arming)

@@ -1,5 +1,6 @@
-use Rattle.std.proofs.Common.{◌∙◌, ◌-◌, ◌++◌, subst, arith, ℕ, drop, replicate, length-append, length-drop}
+use Rattle.std.proofs.Common.{rules, ◌∙◌, ◌-◌, ◌++◌, subst, arith, ℕ, drop, replicate, length-append, length-drop}
 use Rattle.std.proofs.lemmas.List.{length-replicate}
+use Rattle.host_io.proofs.Reading.{reads-then}
 use Rattle.fip_tables.specs.Stream.{Fed}
 use Rattle.fip_tables.proofs.Told.{front_and_rest, size_is}
 use Rattle.fip_tables.proofs.read.feed_table.Goals as goal
@@ -17,3 +18,11 @@ returns-then-is_whole-clause-fed g c =
           subst (Fed c.skip.new.self) (front_and_rest h.bytes whole c.loop-at.at (h.front whole told))
           (c.skip.ensures.fed h.bytes (drop c.loop-at.at whole) h.fed (length-drop c.loop-at.at whole ∙ omega (arith, long)));
     }
+
+pub returns-in_err-at-clause-reads : goal.returns-in_err-at-clause-reads
+returns-in_err-at-clause-reads g c = reads-then g.H.Files _ g.met.H.Files.joins _ _ _ c.loop-at.invariant.reads c.feed_next.ensures.reads
+
+pub loop-at-preserved : goal.loop-at-preserved
+loop-at-preserved g c =
+    let reads = reads-then g.H.Files _ g.met.H.Files.joins _ _ _ c.loop-at.invariant.reads c.feed_next.ensures.reads in
+    search (rules, reads)

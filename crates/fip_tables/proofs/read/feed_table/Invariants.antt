@@ -4,8 +4,7 @@ use Rattle.fip_tables.proofs.read.feed_table.Given as goal
 
 abbrev pub invariant-loop-at : goal.invariant-loop-at
 invariant-loop-at g l =
-    IsFeeding (g.H.Files.contents l.fn.files) l.name (g.H.Files.contents l.files) (g.H.Files.faults l.fn.files) (g.H.Files.faults l.files)
-    (g.H.Files.writes l.fn.files) (g.H.Files.writes l.files) l.stream l.size l.at
+    IsFeeding g.H.Files l.name l.fn.files l.files l.stream l.size l.at
 
 abbrev pub decreases-loop-at : goal.decreases-loop-at
 decreases-loop-at g l = l.size - l.at

@@ -23,14 +23,14 @@ texts-are from out made count texts t = let p = made-texts format.Capsule made (
 
 pub returns-clause-told : goal.returns-clause-told
 returns-clause-told g c = λ told e.
-    c.put_made.ensures.told told (capsule_value told c.args.from.now) _ _ (c.capsule_of_package-made.ensures.reads.same ∙ e) c.capsule_of_package-made.ensures.reads.later (failed-same c.capsule_of_package-made.ensures.unwritten)
+    c.put_made.ensures.told told (capsule_value told c.args.from.now) _ _ (c.capsule_of_package-made.ensures.reads.same ∙ e) c.capsule_of_package-made.ensures.reads.later (failed-same c.capsule_of_package-made.ensures.files.unwritten)
     (c.capsule_of_package-made.ensures.told told e)
 
 pub returns-clause-says : goal.returns-clause-says
 returns-clause-says g c = says-as (IsMadeLine format.Capsule c.capsule_of_package-made.result) _ _ _ _ _ c.put_made.result (texts-are c.args.from.now c.args.out.now c.capsule_of_package-made.result c.capsule_of_package-made.ensures.count) (λ r. r) (c.put_made.ensures.says c.capsule_of_package-made.ensures.reads.sink)
 
 pub returns-clause-wrote : goal.returns-clause-wrote
-returns-clause-wrote g c = wrote-as (IsMadeLine format.Capsule c.capsule_of_package-made.result) _ _ _ _ _ _ c.put_made.result (texts-are c.args.from.now c.args.out.now c.capsule_of_package-made.result c.capsule_of_package-made.ensures.count) (ap (λ (w : Writes). w.done) c.capsule_of_package-made.ensures.unwritten) c.put_made.ensures.wrote
+returns-clause-wrote g c = wrote-as (IsMadeLine format.Capsule c.capsule_of_package-made.result) _ _ _ _ _ _ c.put_made.result (texts-are c.args.from.now c.args.out.now c.capsule_of_package-made.result c.capsule_of_package-made.ensures.count) (ap (λ (w : Writes). w.done) c.capsule_of_package-made.ensures.files.unwritten) c.put_made.ensures.wrote
 
 pub returns-clause-file_count : goal.returns-clause-file_count
 returns-clause-file_count g c = c.put_made.ensures.file_count _ (faults-of c.capsule_of_package-made.ensures.reads)
@@ -47,3 +47,6 @@ returns-clause-sink_count g c = c.put_made.ensures.sink_count c.capsule_of_packa
 
 pub returns-clause-refusals : goal.returns-clause-refusals
 returns-clause-refusals g c = made-may c.capsule_of_package-made.result c.put_made.result IsOfEnclosing late-of-enclosing c.capsule_of_package-made.ensures.refusals c.put_made.ensures.refusals
+
+pub returns-clause-spares : goal.returns-clause-spares
+returns-clause-spares g c = λ access other. g.met.H.Files.joins _ _ _ access (c.capsule_of_package-made.ensures.files.spares access other.0) (c.put_made.ensures.spares access other.1)

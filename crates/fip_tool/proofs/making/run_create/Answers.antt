@@ -1,4 +1,8 @@
 use Rattle.std.proofs.Common.{◌≡◌, ◌∙◌, ◌∷◌, [], ℕ, List, Result, ap, length, map, sym}
+use Rattle.std.proofs.Common.{◌≢◌}
+use Rattle.fip_words.specs.Values.{NamedFile}
+use Rattle.fip_tool.proofs.NamedFiles.{of-map}
+use Rattle.host_io.specs.Access.{Asks}
 use Rattle.std.proofs.lemmas.List.{length-map}
 use Rattle.fip_words.specs.Order.{create, part_view}
 use Rattle.std.specs.Prelude.{IfOk}
@@ -24,14 +28,14 @@ texts-are align out made named count texts t = let p = made-texts format.Package
 
 pub returns-clause-told : goal.returns-clause-told
 returns-clause-told g c = λ told e.
-    c.put_made.ensures.told told (create_value told c.args.align (map part_view c.args.named.now)) _ _ (c.created-made.ensures.reads.same ∙ e) c.created-made.ensures.reads.later (failed-same c.created-made.ensures.unwritten)
+    c.put_made.ensures.told told (create_value told c.args.align (map part_view c.args.named.now)) _ _ (c.created-made.ensures.reads.same ∙ e) c.created-made.ensures.reads.later (failed-same c.created-made.ensures.files.unwritten)
     (c.created-made.ensures.told told e)
 
 pub returns-clause-says : goal.returns-clause-says
 returns-clause-says g c = says-as (IsMadeLine format.Package c.created-made.result) _ _ _ _ _ c.put_made.result (texts-are c.args.align c.args.out.now c.created-made.result c.args.named.now c.created-made.ensures.count) (λ r. r) (c.put_made.ensures.says c.created-made.ensures.reads.sink)
 
 pub returns-clause-wrote : goal.returns-clause-wrote
-returns-clause-wrote g c = wrote-as (IsMadeLine format.Package c.created-made.result) _ _ _ _ _ _ c.put_made.result (texts-are c.args.align c.args.out.now c.created-made.result c.args.named.now c.created-made.ensures.count) (ap (λ (w : Writes). w.done) c.created-made.ensures.unwritten) c.put_made.ensures.wrote
+returns-clause-wrote g c = wrote-as (IsMadeLine format.Package c.created-made.result) _ _ _ _ _ _ c.put_made.result (texts-are c.args.align c.args.out.now c.created-made.result c.args.named.now c.created-made.ensures.count) (ap (λ (w : Writes). w.done) c.created-made.ensures.files.unwritten) c.put_made.ensures.wrote
 
 pub returns-clause-file_count : goal.returns-clause-file_count
 returns-clause-file_count g c = c.put_made.ensures.file_count _ (faults-of c.created-made.ensures.reads)
@@ -48,3 +52,8 @@ returns-clause-sink_count g c = c.put_made.ensures.sink_count c.created-made.ens
 
 pub returns-clause-refusals : goal.returns-clause-refusals
 returns-clause-refusals g c = made-may c.created-made.result c.put_made.result IsOfPacking late-of-packing c.created-made.ensures.refusals c.put_made.ensures.refusals
+
+pub returns-clause-spares : goal.returns-clause-spares
+returns-clause-spares g c = λ access other.
+    g.met.H.Files.joins _ _ _ access (c.created-made.ensures.files.spares access (of-map (λ (p : NamedFile). access ≢ Asks p.file) part_view c.args.named.now other.0))
+    (c.put_made.ensures.spares access other.1)

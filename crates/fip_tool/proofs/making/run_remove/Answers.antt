@@ -23,14 +23,14 @@ texts-are align from out made guids count texts t = let p = made-texts format.Pa
 
 pub returns-clause-told : goal.returns-clause-told
 returns-clause-told g c = λ told e.
-    c.put_made.ensures.told told (remove_value told c.args.align c.args.from.now c.args.guids.now) _ _ (c.removed-made.ensures.reads.same ∙ e) c.removed-made.ensures.reads.later (failed-same c.removed-made.ensures.unwritten)
+    c.put_made.ensures.told told (remove_value told c.args.align c.args.from.now c.args.guids.now) _ _ (c.removed-made.ensures.reads.same ∙ e) c.removed-made.ensures.reads.later (failed-same c.removed-made.ensures.files.unwritten)
     (c.removed-made.ensures.told told e)
 
 pub returns-clause-says : goal.returns-clause-says
 returns-clause-says g c = says-as (IsMadeLine format.Package c.removed-made.result) _ _ _ _ _ c.put_made.result (texts-are c.args.align c.args.from.now c.args.out.now c.removed-made.result c.args.guids.now c.removed-made.ensures.count) (λ r. r) (c.put_made.ensures.says c.removed-made.ensures.reads.sink)
 
 pub returns-clause-wrote : goal.returns-clause-wrote
-returns-clause-wrote g c = wrote-as (IsMadeLine format.Package c.removed-made.result) _ _ _ _ _ _ c.put_made.result (texts-are c.args.align c.args.from.now c.args.out.now c.removed-made.result c.args.guids.now c.removed-made.ensures.count) (ap (λ (w : Writes). w.done) c.removed-made.ensures.unwritten) c.put_made.ensures.wrote
+returns-clause-wrote g c = wrote-as (IsMadeLine format.Package c.removed-made.result) _ _ _ _ _ _ c.put_made.result (texts-are c.args.align c.args.from.now c.args.out.now c.removed-made.result c.args.guids.now c.removed-made.ensures.count) (ap (λ (w : Writes). w.done) c.removed-made.ensures.files.unwritten) c.put_made.ensures.wrote
 
 pub returns-clause-file_count : goal.returns-clause-file_count
 returns-clause-file_count g c = c.put_made.ensures.file_count _ (faults-of c.removed-made.ensures.reads)
@@ -47,3 +47,6 @@ returns-clause-sink_count g c = c.put_made.ensures.sink_count c.removed-made.ens
 
 pub returns-clause-refusals : goal.returns-clause-refusals
 returns-clause-refusals g c = made-may c.removed-made.result c.put_made.result IsOfRepacking late-of-repacking c.removed-made.ensures.refusals c.put_made.ensures.refusals
+
+pub returns-clause-spares : goal.returns-clause-spares
+returns-clause-spares g c = λ access other. g.met.H.Files.joins _ _ _ access (c.removed-made.ensures.files.spares access other.0) (c.put_made.ensures.spares access other.1)

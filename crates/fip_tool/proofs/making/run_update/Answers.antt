@@ -1,4 +1,8 @@
 use Rattle.std.proofs.Common.{◌≡◌, ◌∙◌, ◌∷◌, [], ℕ, List, Result, None, ap, length, map}
+use Rattle.std.proofs.Common.{◌≢◌}
+use Rattle.fip_words.specs.Values.{NamedFile}
+use Rattle.fip_tool.proofs.NamedFiles.{of-map}
+use Rattle.host_io.specs.Access.{Asks}
 use Rattle.fwu_formats.specs.Package.{Toc}
 use Rattle.fip_words.specs.Order.{update, part_view}
 use Rattle.std.specs.Prelude.{IfOk}
@@ -24,14 +28,14 @@ texts-are align from out made named count texts t = let p = made-texts format.Pa
 
 pub returns-clause-told : goal.returns-clause-told
 returns-clause-told g c = λ told e.
-    c.put_made.ensures.told told (update_value told c.args.align c.args.from.now (map part_view c.args.named.now)) _ _ (c.updated-made.ensures.reads.same ∙ e) c.updated-made.ensures.reads.later (failed-same c.updated-made.ensures.unwritten)
+    c.put_made.ensures.told told (update_value told c.args.align c.args.from.now (map part_view c.args.named.now)) _ _ (c.updated-made.ensures.reads.same ∙ e) c.updated-made.ensures.reads.later (failed-same c.updated-made.ensures.files.unwritten)
     (c.updated-made.ensures.told told e)
 
 pub returns-clause-says : goal.returns-clause-says
 returns-clause-says g c = says-as (IsMadeLine format.Package c.updated-made.result) _ _ _ _ _ c.put_made.result (texts-are c.args.align c.args.from.now c.args.out.now c.updated-made.result c.args.named.now c.updated-made.ensures.count) (λ r. r) (c.put_made.ensures.says c.updated-made.ensures.reads.sink)
 
 pub returns-clause-wrote : goal.returns-clause-wrote
-returns-clause-wrote g c = wrote-as (IsMadeLine format.Package c.updated-made.result) _ _ _ _ _ _ c.put_made.result (texts-are c.args.align c.args.from.now c.args.out.now c.updated-made.result c.args.named.now c.updated-made.ensures.count) (ap (λ (w : Writes). w.done) c.updated-made.ensures.unwritten) c.put_made.ensures.wrote
+returns-clause-wrote g c = wrote-as (IsMadeLine format.Package c.updated-made.result) _ _ _ _ _ _ c.put_made.result (texts-are c.args.align c.args.from.now c.args.out.now c.updated-made.result c.args.named.now c.updated-made.ensures.count) (ap (λ (w : Writes). w.done) c.updated-made.ensures.files.unwritten) c.put_made.ensures.wrote
 
 pub returns-clause-file_count : goal.returns-clause-file_count
 returns-clause-file_count g c = c.put_made.ensures.file_count _ (faults-of c.updated-made.ensures.reads)
@@ -48,3 +52,8 @@ returns-clause-sink_count g c = c.put_made.ensures.sink_count c.updated-made.ens
 
 pub returns-clause-refusals : goal.returns-clause-refusals
 returns-clause-refusals g c = made-may c.updated-made.result c.put_made.result IsOfRepacking late-of-repacking c.updated-made.ensures.refusals c.put_made.ensures.refusals
+
+pub returns-clause-spares : goal.returns-clause-spares
+returns-clause-spares g c = λ access other.
+    g.met.H.Files.joins _ _ _ access (c.updated-made.ensures.files.spares access (other.0, (of-map (λ (p : NamedFile). access ≢ Asks p.file) part_view c.args.named.now other.1)))
+    (c.put_made.ensures.spares access other.2)

@@ -1,4 +1,5 @@
 use Rattle.std.proofs.Common.{◌∙◌, ap, sym, refl}
+use Rattle.host_io.proofs.Reading.{reads-none, reads-then as reads-after, reads-wider}
 use Rattle.fwu_formats.specs.Package.{Toc}
 use Rattle.fip_tool.specs.Payloads.{made_by}
 use Rattle.fip_tool.proofs.PartLemmas.{gives-same}
@@ -48,3 +49,17 @@ returns-clause-refusals g c = if-err-as c.replaced.result IsOfPacking IsOfRepack
 pub returns-in_err-toc-clause-refusals : goal.returns-in_err-toc-clause-refusals
 returns-in_err-toc-clause-refusals g c =
     rw (handed-on c.from_residual-in_err-toc.result c.in_err-toc.field-0.0 c.from_residual-in_err-toc.ensures.1) (entries-of-repacking c.in_err-toc.field-0.0 c.in_err-toc.ensures.refusals)
+
+pub returns-clause-files : goal.returns-clause-files
+returns-clause-files g c =
+    reads-after g.H.Files _ g.met.H.Files.joins _ _ _
+    (reads-wider g.H.Files _ _ (λ access other. other.0) _ _ c.table_with.ensures.files)
+    (reads-wider g.H.Files _ _ (λ access other. other.1) _ _ c.replaced.ensures.files)
+
+pub returns-in_err-toc-clause-files : goal.returns-in_err-toc-clause-files
+returns-in_err-toc-clause-files g c =
+    (reads-wider g.H.Files _ _ (λ access other. other.0) _ _ c.table_with.ensures.files)
+
+pub returns-in_err-types-clause-files : goal.returns-in_err-types-clause-files
+returns-in_err-types-clause-files g c =
+    reads-none g.H.Files _ g.met.H.Files.at_rest _

@@ -1,4 +1,6 @@
-use Rattle.std.proofs.Common.{◌≡◌, ◌∙◌, Bool, Ok, Some, List, ap, arith, map, sym}
+use Rattle.std.proofs.Common.{subst, ◌≢◌, ◌≡◌, ◌∙◌, Bool, Ok, Some, List, ap, arith, map, sym}
+use Rattle.host_io.specs.Access.{Asks}
+use Rattle.host_io.proofs.Reading.{reads-then as reads-after, reads-wider}
 use Rattle.std.proofs.lemmas.List.{take_all}
 use Rattle.std.specs.Prelude.{◌||◌}
 use Rattle.host_io.specs.Contents.{Directory}
@@ -18,16 +20,17 @@ returns-in_err-more-clause-told g c =
     rw (handed-on c.from_residual.result c.in_err-more.field-0.0 c.from_residual.ensures.1) (λ told e.
     gives-err (λ (long : Bool). long) (nothing {X = Unit {0}}) _ _ _ _ c.in_err-more.field-0.0 (λ r. rose-still _ _ _ (sym c.loop-one.invariant.quiet) r)
     (sizes-stopped-at told c.args.named.now c.loop-one.one-index c.one-item.result c.loop-one-test.true c.one-item.is _)
-    (c.in_err-more.ensures.told told (c.loop-one.invariant.same ∙ e)))
+    (c.in_err-more.ensures.told told (c.loop-one.invariant.files.same ∙ e)))
 
 pub loop-one-preserved : goal.loop-one-preserved
 loop-one-preserved g c =
     let more = λ (told : Directory) (e : g.H.Files.contents c.args.files.now ≡ Some told).
     longs-more-at told c.args.named.now c.loop-one.one-index c.one-item.result c.loop-one-test.true c.one-item.is c.loop-one.is_long c.in_ok-more.more (c.loop-one.invariant.so-far told e)
-    (c.in_ok-more.ensures.told told (c.loop-one.invariant.same ∙ e)) in record {
-      same = c.is_long_file.ensures.reads.same ∙ c.loop-one.invariant.same;
+    (c.in_ok-more.ensures.told told (c.loop-one.invariant.files.same ∙ e)) in record {
+      files = reads-after g.H.Files _ g.met.H.Files.joins _ _ _ c.loop-one.invariant.files
+          (reads-wider g.H.Files _ _ (λ access other. subst (λ (w : ImageWord). access ≢ Asks w.file.now) (sym c.one-item.is)
+          (other c.loop-one.one-index c.one-item.result c.loop-one-test.true)) _ _ c.is_long_file.ensures.files);
       quiet = c.in_ok-more.ensures.reads.quiet ∙ c.loop-one.invariant.quiet;
-      unwritten = c.is_long_file.ensures.unwritten ∙ c.loop-one.invariant.unwritten;
       so-far = λ told e.
           more told e
           ∙ elim c.if-is_long.branch [
@@ -45,7 +48,13 @@ returns-clause-told g c = λ told e.
 
 pub returns-in_err-more-clause-reads : goal.returns-in_err-more-clause-reads
 returns-in_err-more-clause-reads g c =
-    rw (handed-on c.from_residual.result c.in_err-more.field-0.0 c.from_residual.ensures.1) (reads-stopped c.loop-one.invariant.same c.loop-one.invariant.quiet c.in_err-more.ensures.reads)
+    rw (handed-on c.from_residual.result c.in_err-more.field-0.0 c.from_residual.ensures.1) (reads-stopped c.loop-one.invariant.files.same c.loop-one.invariant.quiet c.in_err-more.ensures.reads)
 
 pub returns-in_err-more-clause-refusals : goal.returns-in_err-more-clause-refusals
 returns-in_err-more-clause-refusals g c = rw (handed-on c.from_residual.result c.in_err-more.field-0.0 c.from_residual.ensures.1) (late-of-manifest c.in_err-more.field-0.0 c.in_err-more.ensures.late)
+
+pub returns-in_err-more-clause-files : goal.returns-in_err-more-clause-files
+returns-in_err-more-clause-files g c =
+    reads-after g.H.Files _ g.met.H.Files.joins _ _ _ c.loop-one.invariant.files
+    (reads-wider g.H.Files _ _ (λ access other. subst (λ (w : ImageWord). access ≢ Asks w.file.now) (sym c.one-item.is)
+    (other c.loop-one.one-index c.one-item.result c.loop-one-test.true)) _ _ c.is_long_file.ensures.files)

@@ -1,4 +1,5 @@
 use Rattle.std.proofs.Common.{◌∙◌, Vec, ℕ, map, option_map, refl}
+use Rattle.host_io.proofs.Reading.{reads-then as reads-after}
 use Rattle.std.specs.Global.{Global}
 use Rattle.fip_words.specs.Order.{image_view}
 use Rattle.manifest_core.specs.Shown.{row}
@@ -42,3 +43,15 @@ returns-in_err-rows-clause-reads g c =
 
 pub returns-in_err-rows-clause-refusals : goal.returns-in_err-rows-clause-refusals
 returns-in_err-rows-clause-refusals g c = rw (handed-on c.from_residual-in_err-rows.result c.in_err-rows.field-0.0 c.from_residual-in_err-rows.ensures.1) (late-of-manifest c.in_err-rows.field-0.0 c.in_err-rows.ensures.late)
+
+pub returns-in-Some-clause-files : goal.returns-in-Some-clause-files
+returns-in-Some-clause-files g c =
+    reads-after g.H.Files _ g.met.H.Files.joins _ _ _ c.check_sizes.ensures.files c.rows_of_files.ensures.files
+
+pub returns-in-None-clause-files : goal.returns-in-None-clause-files
+returns-in-None-clause-files g c =
+    reads-after g.H.Files _ g.met.H.Files.joins _ _ _ c.check_sizes.ensures.files c.rows_of_files.ensures.files
+
+pub returns-in_err-rows-clause-files : goal.returns-in_err-rows-clause-files
+returns-in_err-rows-clause-files g c =
+    reads-after g.H.Files _ g.met.H.Files.joins _ _ _ c.check_sizes.ensures.files c.rows_of_files.ensures.files

@@ -1,4 +1,8 @@
 use Rattle.std.proofs.Common.{◌≡◌, ◌∙◌, ◌∷◌, [], ℕ, List, Vec, ap, inl, length, map, refl, rules, sym}
+use Rattle.std.proofs.Common.{◌≢◌}
+use Rattle.fip_words.specs.Values.{NamedImage}
+use Rattle.fip_tool.proofs.NamedFiles.{of-map}
+use Rattle.host_io.specs.Access.{Asks}
 use Rattle.std.proofs.KnownBytes.{Appends-nil}
 use Rattle.std.proofs.lemmas.List.{length-map}
 use Rattle.fip_words.specs.Order as asks
@@ -30,7 +34,7 @@ returns-clause-told g c = λ told e.
     (c.in_ok-rows.ensures.told told e) c.as_slice.ensures.value
     (let long : c.len.result ≡ length c.in_ok-rows.bytes.items = search rules in
     c.as_slice-2.ensures.value ∙ c.in_ok-line.ensures ∙ ap (λ (n : ℕ). manifest_line c.in_ok-rows.rows n c.args.security) long)
-    (λ r. rose-from _ _ _ c.manifest.ensures.reads.later r) (λ r. rose-still _ _ _ (failed-same c.manifest.ensures.unwritten) r)
+    (λ r. rose-from _ _ _ c.manifest.ensures.reads.later r) (λ r. rose-still _ _ _ (failed-same c.manifest.ensures.files.unwritten) r)
     (c.write_and_print.ensures.told told (c.manifest.ensures.reads.same ∙ e))
 
 pub returns-in_err-rows-clause-told : goal.returns-in_err-rows-clause-told
@@ -65,15 +69,15 @@ returns-clause-wrote g c =
     let named = c.in_ok-rows.ensures.count ∙ sym (length-map c.args.named.now image_view) in
     let lined = c.as_slice-2.ensures.value ∙ c.in_ok-line.ensures ∙ ap (λ (n : ℕ). manifest_line n c.len.result c.args.security) named in
     wrote-as (λ texts. texts ≡ c.as_slice-2.result.now ∷ []) (IsTexts (asks.manifest c.args.out.now c.args.security (map image_view c.args.named.now))) _ _ _ _ _ c.write_and_print.result
-    (λ texts t. (c.len.result, t ∙ ap (λ (l : List ℕ). l ∷ []) lined)) (ap (λ (w : Writes). w.done) c.manifest.ensures.unwritten) c.write_and_print.ensures.wrote
+    (λ texts t. (c.len.result, t ∙ ap (λ (l : List ℕ). l ∷ []) lined)) (ap (λ (w : Writes). w.done) c.manifest.ensures.files.unwritten) c.write_and_print.ensures.wrote
 
 pub returns-in_err-rows-clause-wrote : goal.returns-in_err-rows-clause-wrote
 returns-in_err-rows-clause-wrote g c =
-    rw (handed-on c.from_residual.result c.in_err-rows.field-0.0 c.from_residual.ensures.1) (inl (ap (λ (w : Writes). w.done) c.in_err-rows.ensures.unwritten, Appends-nil _))
+    rw (handed-on c.from_residual.result c.in_err-rows.field-0.0 c.from_residual.ensures.1) (inl (ap (λ (w : Writes). w.done) c.in_err-rows.ensures.files.unwritten, Appends-nil _))
 
 pub returns-in_err-line-clause-wrote : goal.returns-in_err-line-clause-wrote
 returns-in_err-line-clause-wrote g c =
-    rw (handed-on c.from_residual-in_err-line.result stop.NoMemory c.from_residual-in_err-line.ensures.1) (inl (ap (λ (w : Writes). w.done) c.manifest.ensures.unwritten, Appends-nil _))
+    rw (handed-on c.from_residual-in_err-line.result stop.NoMemory c.from_residual-in_err-line.ensures.1) (inl (ap (λ (w : Writes). w.done) c.manifest.ensures.files.unwritten, Appends-nil _))
 
 pub returns-clause-file_count : goal.returns-clause-file_count
 returns-clause-file_count g c = faults-then c.in_ok-rows.ensures.reads.quiet c.write_and_print.ensures.file_count
@@ -100,3 +104,14 @@ returns-in_err-rows-clause-sink_count g c =
 
 pub returns-clause-refusals : goal.returns-clause-refusals
 returns-clause-refusals g c = if-err-as c.write_and_print.result IsLate IsOfManifest late-of-manifest c.write_and_print.ensures.late
+
+pub returns-clause-spares : goal.returns-clause-spares
+returns-clause-spares g c = λ access other.
+    g.met.H.Files.joins _ _ _ access (c.manifest.ensures.files.spares access (of-map (λ (r : NamedImage). access ≢ Asks r.file) image_view c.args.named.now other.0))
+    (c.write_and_print.ensures.spares access other.1)
+
+pub returns-in_err-rows-clause-spares : goal.returns-in_err-rows-clause-spares
+returns-in_err-rows-clause-spares g c = λ access other. c.manifest.ensures.files.spares access (of-map (λ (r : NamedImage). access ≢ Asks r.file) image_view c.args.named.now other.0)
+
+pub returns-in_err-line-clause-spares : goal.returns-in_err-line-clause-spares
+returns-in_err-line-clause-spares g c = λ access other. c.manifest.ensures.files.spares access (of-map (λ (r : NamedImage). access ≢ Asks r.file) image_view c.args.named.now other.0)

@@ -1,5 +1,7 @@
-use Rattle.std.proofs.Common.{◌≡◌, All, Some, Ok, length, map, take}
+use Rattle.std.proofs.Common.{◌≡◌, ◌≢◌, All, Some, Ok, length, map, take}
+use Rattle.host_io.specs.Access.{Asks}
 use Rattle.host_io.specs.Contents.{Directory}
+use Rattle.host_io.specs.Reads.{ReadsFiles}
 use Rattle.fip_words.specs.Order.{part_view}
 use Rattle.fip_tool.specs.Payloads.{IsThere, part_told}
 use Rattle.fip_tool.specs.Tool.{parts_in}
@@ -8,9 +10,8 @@ use Rattle.fip_tool.proofs.payloads.payloads_of_files.Given as goal
 -- the files are as they were, and the payloads so far are the first files
 abbrev pub invariant-loop-one : goal.invariant-loop-one
 invariant-loop-one g l = record {
-  same : g.H.Files.contents l.files ≡ g.H.Files.contents l.fn.files;
   quiet : g.H.Files.faults l.files ≡ g.H.Files.faults l.fn.files;
-  unwritten : g.H.Files.writes l.files ≡ g.H.Files.writes l.fn.files;
+  files : ReadsFiles g.H.Files (λ access. All (λ w. access ≢ Asks w.file.now) l.named) l.fn.files l.files;
   count : length l.payloads.items ≡ l.one-index;
   there : All (IsThere (g.H.Files.contents l.fn.files)) l.payloads.items;
   so-far : (told : Directory) → g.H.Files.contents l.fn.files ≡ Some told → parts_in told (map part_view (take l.one-index l.named)) ≡ Ok (map (part_told told) l.payloads.items);

@@ -14,7 +14,7 @@ returns-in_err-read_capsule-clause-told g c = λ told e.
     rw (handed-on c.from_residual.result (capsule_stopped_by c.in_err-read_capsule.field-0.0) c.from_residual.ensures.1) (table-stopped _ told c.args.name.now e c.in_err-read_capsule.field-0.0 _ c.in_err-read_capsule.ensures.told c.in_err-read_capsule.ensures.missing c.in_err-read_capsule.ensures.cause.failed)
 
 pub returns-in_err-read_capsule-clause-reads : goal.returns-in_err-read_capsule-clause-reads
-returns-in_err-read_capsule-clause-reads g c = rw (handed-on c.from_residual.result (capsule_stopped_by c.in_err-read_capsule.field-0.0) c.from_residual.ensures.1) (reads-no-items c.in_err-read_capsule.field-0.0 refl c.in_err-read_capsule.ensures.same refl c.in_err-read_capsule.ensures.cause)
+returns-in_err-read_capsule-clause-reads g c = rw (handed-on c.from_residual.result (capsule_stopped_by c.in_err-read_capsule.field-0.0) c.from_residual.ensures.1) (reads-no-items c.in_err-read_capsule.field-0.0 refl c.in_err-read_capsule.ensures.reads.same refl c.in_err-read_capsule.ensures.cause)
 
 pub returns-in_err-read_capsule-clause-refusals : goal.returns-in_err-read_capsule-clause-refusals
 returns-in_err-read_capsule-clause-refusals g c = rw (handed-on c.from_residual.result (capsule_stopped_by c.in_err-read_capsule.field-0.0) c.from_residual.ensures.1) (items-of-capsule c.in_err-read_capsule.field-0.0)

@@ -1,4 +1,5 @@
 use Rattle.std.proofs.Common.{◌∙◌, refl}
+use Rattle.host_io.proofs.Reading.{reads-then as reads-after}
 use Rattle.fip_tool.proofs.ReadsBy.{reads-no-table, reads-stopped}
 use Rattle.fip_tool.proofs.Repacking.{ends-below}
 use Rattle.fip_tool.proofs.Tables.{gives-err, size-err, sized, table-ok, table-stop, tells}
@@ -34,7 +35,7 @@ returns-in_err-size-clause-reads g c =
 
 pub returns-in_err-toc-clause-reads : goal.returns-in_err-toc-clause-reads
 returns-in_err-toc-clause-reads g c =
-    rw (handed-on c.from_residual-in_err-toc.result (stopped_by c.in_err-toc.field-0.0) c.from_residual-in_err-toc.ensures.1) (reads-no-table c.in_err-toc.field-0.0 c.size_of.ensures.reads.same c.in_err-toc.ensures.same c.in_ok-size.ensures.reads.quiet c.in_err-toc.ensures.cause)
+    rw (handed-on c.from_residual-in_err-toc.result (stopped_by c.in_err-toc.field-0.0) c.from_residual-in_err-toc.ensures.1) (reads-no-table c.in_err-toc.field-0.0 c.size_of.ensures.reads.same c.in_err-toc.ensures.reads.same c.in_ok-size.ensures.reads.quiet c.in_err-toc.ensures.cause)
 
 pub returns-clause-table : goal.returns-clause-table
 returns-clause-table g c = let s = c.in_ok-toc.ensures.some in (s.bytes, s.answer)
@@ -44,3 +45,11 @@ returns-in_err-size-clause-refusals g c = rw (handed-on c.from_residual.result c
 
 pub returns-in_err-toc-clause-refusals : goal.returns-in_err-toc-clause-refusals
 returns-in_err-toc-clause-refusals g c = rw (handed-on c.from_residual-in_err-toc.result (stopped_by c.in_err-toc.field-0.0) c.from_residual-in_err-toc.ensures.1) (toc-of-package c.in_err-toc.field-0.0)
+
+pub returns-clause-files : goal.returns-clause-files
+returns-clause-files g c =
+    reads-after g.H.Files _ g.met.H.Files.joins _ _ _ c.size_of.ensures.files c.read_toc.ensures.reads
+
+pub returns-in_err-toc-clause-files : goal.returns-in_err-toc-clause-files
+returns-in_err-toc-clause-files g c =
+    reads-after g.H.Files _ g.met.H.Files.joins _ _ _ c.size_of.ensures.files c.read_toc.ensures.reads

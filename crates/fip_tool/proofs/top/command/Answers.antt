@@ -11,12 +11,12 @@ run_unpack-requires g c = record { other = c.requires.other c.in-Unpack.from.now
 pub returns-in-Info : goal.returns-in-Info
 returns-in-Info g c =
     let e = c.info.ensures in
-    done-with-files (asks.info c.in-Info.file.now) (ap (λ o. Some (view o)) c.in-Info.is) refl e.told e.says e.cause e.usage e.file_count (ap (λ (w : Writes). w.done) e.unwritten) e.later e.sink_count e.refusals
+    done-with-files (asks.info c.in-Info.file.now) (ap (λ o. Some (view o)) c.in-Info.is) refl e.told e.says e.cause e.usage e.file_count (ap (λ (w : Writes). w.done) e.files.unwritten) e.later e.sink_count e.refusals e.files.spares
 
 pub returns-in-InfoOfSource : goal.returns-in-InfoOfSource
 returns-in-InfoOfSource g c =
     let e = c.info_of_source.ensures in
-    done-of-source (ap (λ o. Some (view o)) c.in-InfoOfSource.is) (e.listed (g.H.Files.contents c.args.files.now)) e.says e.cause e.usage e.later e.source_count e.sink_count e.refusals
+    done-of-source (ap (λ o. Some (view o)) c.in-InfoOfSource.is) (e.listed (g.H.Files.contents c.args.files.now)) e.says e.cause e.usage e.later e.source_count e.sink_count e.refusals (g.met.H.Files.at_rest c.args.files.now)
 
 pub returns-in-Create : goal.returns-in-Create
 returns-in-Create g c =
@@ -24,7 +24,7 @@ returns-in-Create g c =
     let o = c.in-Create in
     done-with-files (asks.create o.align o.out.now (map part_view c.as_slice.result.now))
     (ap (λ o. Some (view o)) o.is ∙ ap (λ parts. Some (asks.create o.align o.out.now (map part_view parts))) (sym c.as_slice.ensures.value)) refl
-    e.told e.says e.cause e.usage e.file_count e.wrote e.later e.sink_count e.refusals
+    e.told e.says e.cause e.usage e.file_count e.wrote e.later e.sink_count e.refusals e.spares
 
 pub returns-in-Update : goal.returns-in-Update
 returns-in-Update g c =
@@ -32,7 +32,7 @@ returns-in-Update g c =
     let o = c.in-Update in
     done-with-files (asks.update o.align o.from.now o.out.now (map part_view c.as_slice-in-Update.result.now))
     (ap (λ o. Some (view o)) o.is ∙ ap (λ parts. Some (asks.update o.align o.from.now o.out.now (map part_view parts))) (sym c.as_slice-in-Update.ensures.value)) refl
-    e.told e.says e.cause e.usage e.file_count e.wrote e.later e.sink_count e.refusals
+    e.told e.says e.cause e.usage e.file_count e.wrote e.later e.sink_count e.refusals e.spares
 
 pub returns-in-Remove : goal.returns-in-Remove
 returns-in-Remove g c =
@@ -40,7 +40,7 @@ returns-in-Remove g c =
     let o = c.in-Remove in
     done-with-files (asks.remove o.align o.from.now o.out.now c.as_slice-in-Remove.result.now)
     (ap (λ o. Some (view o)) o.is ∙ ap (λ names. Some (asks.remove o.align o.from.now o.out.now names)) (sym c.as_slice-in-Remove.ensures.value)) refl
-    e.told e.says e.cause e.usage e.file_count e.wrote e.later e.sink_count e.refusals
+    e.told e.says e.cause e.usage e.file_count e.wrote e.later e.sink_count e.refusals e.spares
 
 pub returns-in-Unpack : goal.returns-in-Unpack
 returns-in-Unpack g c =
@@ -48,7 +48,7 @@ returns-in-Unpack g c =
     let o = c.in-Unpack in
     done-with-files (asks.unpack o.from.now o.prefix.now c.as_slice-in-Unpack.result.now)
     (ap (λ o. Some (view o)) o.is ∙ ap (λ names. Some (asks.unpack o.from.now o.prefix.now names)) (sym c.as_slice-in-Unpack.ensures.value)) refl
-    e.told e.says e.cause e.usage e.file_count e.wrote e.later e.sink_count e.refusals
+    e.told e.says e.cause e.usage e.file_count e.wrote e.later e.sink_count e.refusals e.spares
 
 pub returns-in-Manifest : goal.returns-in-Manifest
 returns-in-Manifest g c =
@@ -56,14 +56,14 @@ returns-in-Manifest g c =
     let o = c.in-Manifest in
     done-with-files (asks.manifest o.out.now o.security (map image_view c.as_slice-in-Manifest.result.now))
     (ap (λ o. Some (view o)) o.is ∙ ap (λ rows. Some (asks.manifest o.out.now o.security (map image_view rows))) (sym c.as_slice-in-Manifest.ensures.value)) refl
-    e.told e.says e.cause e.usage e.file_count e.wrote e.later e.sink_count e.refusals
+    e.told e.says e.cause e.usage e.file_count e.wrote e.later e.sink_count e.refusals e.spares
 
 pub returns-in-Capsule : goal.returns-in-Capsule
 returns-in-Capsule g c =
     let e = c.run_capsule.ensures in
-    done-with-files (asks.capsule c.in-Capsule.from.now c.in-Capsule.out.now) (ap (λ o. Some (view o)) c.in-Capsule.is) refl e.told e.says e.cause e.usage e.file_count e.wrote e.later e.sink_count e.refusals
+    done-with-files (asks.capsule c.in-Capsule.from.now c.in-Capsule.out.now) (ap (λ o. Some (view o)) c.in-Capsule.is) refl e.told e.says e.cause e.usage e.file_count e.wrote e.later e.sink_count e.refusals e.spares
 
 pub returns-in-Package : goal.returns-in-Package
 returns-in-Package g c =
     let e = c.run_package.ensures in
-    done-with-files (asks.repackage c.in-Package.align c.in-Package.from.now c.in-Package.out.now) (ap (λ o. Some (view o)) c.in-Package.is) refl e.told e.says e.cause e.usage e.file_count e.wrote e.later e.sink_count e.refusals
+    done-with-files (asks.repackage c.in-Package.align c.in-Package.from.now c.in-Package.out.now) (ap (λ o. Some (view o)) c.in-Package.is) refl e.told e.says e.cause e.usage e.file_count e.wrote e.later e.sink_count e.refusals e.spares

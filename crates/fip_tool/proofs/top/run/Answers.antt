@@ -10,11 +10,11 @@ command-requires g c = record { other = λ from prefix names e. asked-is-other f
 
 pub returns-in-Ok : goal.returns-in-Ok
 returns-in-Ok g c =
-    subst (λ (a : Option Asked). Done g.H.Files.contents g.H.Files.faults g.H.Files.writes g.I.Source.left g.I.Source.faults g.O.Sink.taken g.O.Sink.faults a c.command.result c.args.files.now c.command.new.files c.args.source.now c.command.new.source c.args.sink.now c.command.new.sink)
+    subst (λ (a : Option Asked). Done g.H.Files.contents g.H.Files.faults g.H.Files.writes g.H.Files.spares g.I.Source.left g.I.Source.faults g.O.Sink.taken g.O.Sink.faults a c.command.result c.args.files.now c.command.new.files c.args.source.now c.command.new.source c.args.sink.now c.command.new.sink)
     (sym c.in-Ok.ensures) c.command.ensures
 
 pub returns-in-Err-Usage : goal.returns-in-Err-Usage
-returns-in-Err-Usage g c = done-usage (rw c.in-Err-Usage.field-0-is at c.in-Err-Usage.ensures)
+returns-in-Err-Usage g c = done-usage (rw c.in-Err-Usage.field-0-is at c.in-Err-Usage.ensures) (g.met.H.Files.at_rest c.args.files.now)
 
 pub returns-in-Err-NoMemory : goal.returns-in-Err-NoMemory
-returns-in-Err-NoMemory g c = done-starved
+returns-in-Err-NoMemory g c = done-starved (g.met.H.Files.at_rest c.args.files.now)

@@ -44,7 +44,7 @@ returns-clause-told g c = λ told is.
     let same = c.as_slice-entries.ensures ∙ ap (λ (t : Toc). t.entries) c.toc.view_is in
     let did = c.unpack_entries.ensures.told told o.bytes (c.table_with.ensures.reads.same ∙ is) o.is in
     made-steps (λ v. unpack_steps c.args.prefix.now v.0 v.1) _ _ told _ _ _ _ _ _ _ _ c.unpack_entries.result (unpack-of told c.args.from.now c.args.names.now c.in_ok-toc.toc o) (λ r. rose-still _ _ _ (sym c.in_ok-toc.ensures.reads.quiet) r)
-    (λ r. rose-still _ _ _ (failed-same c.table_with.ensures.unwritten) r)
+    (λ r. rose-still _ _ _ (failed-same c.table_with.ensures.files.unwritten) r)
     (subst (λ (l : List Entry). Did (Makes (unpack_steps c.args.prefix.now o.bytes l)) told (g.H.Files.contents c.unpack_entries.new.files) (g.O.Sink.taken c.args.sink.now) (g.O.Sink.taken c.unpack_entries.new.sink)
     (Rose (g.H.Files.faults c.table_with.new.files) (g.H.Files.faults c.unpack_entries.new.files)) (Rose (g.H.Files.writes c.table_with.new.files).failed (g.H.Files.writes c.unpack_entries.new.files).failed)
     (Rose (g.O.Sink.faults c.args.sink.now) (g.O.Sink.faults c.unpack_entries.new.sink)) c.unpack_entries.result)
@@ -79,11 +79,17 @@ returns-clause-wrote g c =
     wrote-as (λ texts. texts ≡ map (unpacked_line c.args.prefix.now) (filter (λ e. (length c.args.names.now == 0) || is_named c.args.names.now e) c.as_slice-entries.result.now))
     (IsTexts (unpack c.args.from.now c.args.prefix.now c.args.names.now)) _ _ _ _ _ c.unpack_entries.result
     (λ texts t. (c.in_ok-toc.toc, c.in_ok-toc.ensures.table, c.in_ok-toc.ensures.all, t ∙ ap (map (unpacked_line c.args.prefix.now)) (chosen-filter c.args.names.now c.as_slice-entries.result.now ∙ ap (chosen c.args.names.now) same)))
-    (ap (λ (w : Writes). w.done) c.table_with.ensures.unwritten) c.unpack_entries.ensures.wrote
+    (ap (λ (w : Writes). w.done) c.table_with.ensures.files.unwritten) c.unpack_entries.ensures.wrote
 
 pub returns-in_err-toc-clause-wrote : goal.returns-in_err-toc-clause-wrote
 returns-in_err-toc-clause-wrote g c =
-    rw (handed-on c.from_residual.result c.in_err-toc.field-0.0 c.from_residual.ensures.1) (inl (ap (λ (w : Writes). w.done) c.in_err-toc.ensures.unwritten, Appends-nil _))
+    rw (handed-on c.from_residual.result c.in_err-toc.field-0.0 c.from_residual.ensures.1) (inl (ap (λ (w : Writes). w.done) c.in_err-toc.ensures.files.unwritten, Appends-nil _))
 
 pub returns-clause-refusals : goal.returns-clause-refusals
 returns-clause-refusals g c = if-err-as c.unpack_entries.result IsLate IsOfEntries late-of-entries c.unpack_entries.ensures.late
+
+pub returns-clause-spares : goal.returns-clause-spares
+returns-clause-spares g c = λ access other. g.met.H.Files.joins _ _ _ access (c.table_with.ensures.files.spares access other.0) (c.unpack_entries.ensures.spares access other.0 other.1)
+
+pub returns-in_err-toc-clause-spares : goal.returns-in_err-toc-clause-spares
+returns-in_err-toc-clause-spares g c = λ access other. c.table_with.ensures.files.spares access other.0

@@ -22,6 +22,7 @@ use Rattle.fip_tool.proofs.unpack.unpack_entries.Goals.{then-is_chosen+in_ok-unp
 pub loop-entry-init : goal.loop-entry-init
 loop-entry-init g c = record {
   silent = λ e. e;
+  spares = λ access asked made. g.met.H.Files.at_rest _ access;
   quiet = refl;
   unspoiled = refl;
   wrote = refl;
@@ -54,6 +55,7 @@ loop-entry-preserved g c =
       | then-is_chosen+in_ok-unpack_entry w ↦
           rw (w.files-is, w.sink-is) (record {
             silent = λ e. w.in_ok-unpack_entry.ensures.silent (c.loop-entry.invariant.silent e);
+            spares = λ access asked made. g.met.H.Files.joins _ _ _ access (c.loop-entry.invariant.spares access asked made) (w.in_ok-unpack_entry.ensures.spares access asked made);
             quiet = w.in_ok-unpack_entry.ensures.file_count.quiet ∙ c.loop-entry.invariant.quiet;
             unspoiled = w.in_ok-unpack_entry.ensures.unspoiled ∙ c.loop-entry.invariant.unspoiled;
             wrote =
@@ -82,6 +84,7 @@ loop-entry-preserved g c =
       | else-is_chosen w ↦
           rw (w.files-is, w.sink-is) (record {
             silent = c.loop-entry.invariant.silent;
+            spares = c.loop-entry.invariant.spares;
             quiet = c.loop-entry.invariant.quiet;
             unspoiled = c.loop-entry.invariant.unspoiled;
             wrote =
@@ -164,3 +167,7 @@ returns-clause-wrote g c =
       said = subst (λ (l : List Entry). Appends (g.O.Sink.taken c.args.sink.now) (g.O.Sink.taken c.loop-entry.sink) (joined (map line (filter p l)))) all c.loop-entry.invariant.said;
       count = c.loop-entry.invariant.wrote ∙ ap (λ (l : List Entry). raised_by (length (filter p l)) start) all ∙ ap (λ (n : ℕ). raised_by n start) (sym (length-map (filter p c.args.entries.now) line));
     }
+
+pub returns-in_err-unpack_entry-clause-spares : goal.returns-in_err-unpack_entry-clause-spares
+returns-in_err-unpack_entry-clause-spares g c = λ access asked made.
+    g.met.H.Files.joins _ _ _ access (c.loop-entry.invariant.spares access asked made) (c.in_err-unpack_entry.ensures.spares access asked made)

@@ -1,8 +1,9 @@
-use Rattle.std.proofs.Common.{◌≡◌, ◌≤◌, ℕ, List, None, Some, filter, length, map, take}
+use Rattle.std.proofs.Common.{◌≡◌, ◌≢◌, ◌≤◌, ℕ, List, None, Some, filter, length, map, take}
 use Rattle.std.specs.Prelude.{◌==◌, ◌||◌}
 use Rattle.std.specs.Io.KnownBytes.{Appends}
+use Rattle.host_io.specs.Access.{Access, Asks, Makes}
 use Rattle.host_io.specs.Contents.{Directory}
-use Rattle.fip_tool.specs.Lines.{unpacked_line}
+use Rattle.fip_tool.specs.Lines.{unpacked_line, unpacked_name}
 use Rattle.fip_tool.specs.Said.{joined}
 use Rattle.fip_tool.specs.Tool.{is_named}
 use Rattle.fip_tool.specs.Wrote.{raised_by}
@@ -13,6 +14,7 @@ use Rattle.fip_tool.proofs.unpack.unpack_entries.Given as goal
 abbrev pub invariant-loop-entry : goal.invariant-loop-entry
 invariant-loop-entry g l = record {
   silent : g.H.Files.contents l.fn.files ≡ None → g.H.Files.contents l.files ≡ None;
+  spares : (access : Access) → access ≢ Asks l.from → ((guid : List ℕ) → access ≢ Makes (unpacked_name l.prefix guid)) → g.H.Files.spares l.fn.files l.files access;
   quiet : g.H.Files.faults l.files ≡ g.H.Files.faults l.fn.files;
   unspoiled : (g.H.Files.writes l.files).failed ≡ (g.H.Files.writes l.fn.files).failed;
   wrote : (g.H.Files.writes l.files).done ≡ raised_by (length (filter (λ e. (length l.names == 0) || is_named l.names e) (take l.entry-index l.entries))) (g.H.Files.writes l.fn.files).done;

@@ -7,12 +7,13 @@ use Rattle.flash_core.proofs.Costs.{spends_then}
 use Rattle.flash_core.proofs.Spent.{spent_both}
 use Rattle.flash_core.specs.Counts.{lowered_by}
 use Rattle.host_io.specs.Contents.{Directory}
+use Rattle.host_io.proofs.Reading.{reads-then}
 use Rattle.fip_tables.specs.Files.{Tells}
 use Rattle.fwu_formats.specs.Layout.{ImageRow, slot_total, start, slot_bytes}
 use Rattle.fwu_formats.specs.Package.{Entry, payload}
 use Rattle.fwu_formats.proofs.SealLaws.{limits}
 use Rattle.image_check.proofs.OfBank.{bank_fits}
-use Rattle.flash_format.specs.Choosing.{no_row, no_entry}
+use Rattle.fip_tables.specs.Images.{no_row, no_entry}
 use Rattle.flash_format.specs.Places.{Stands}
 use Rattle.flash_format.specs.Takes.{pieces_in, pieces_of}
 use Rattle.flash_format.proofs.Clearing.{left_then, left_fewer}
@@ -82,15 +83,15 @@ loop-k-preserved g c =
     let before = c.loop-k.invariant in
     let done = c.in_ok-write_image.ensures in
     record {
-      on = done.power;
-      same_size = done.size ∙ before.same_size;
+      on = done.goes.power;
+      same_size = done.goes.size ∙ before.same_size;
       keeps = λ tells. keeps_then 32768 high s m t (before.keeps tells)
           (keeps_wider (4096 * first) (4096 * (first + slots)) 32768 high m t (omega (arith, c.start-first.ensures)) (omega (arith, row, more, c.start-first.ensures)) (done.keeps tells));
       left = λ tells. left_then 8 s m t (before.left tells) (left_fewer 8 first m t (omega (arith, c.start-first.ensures)) (done.left tells));
       rest = λ tells. erased_stays (4096 * (8 + slot_total (take (k + 1) L.rows))) high (4096 * first) (4096 * (first + slots)) m t (inr (omega (arith, row, next, c.start-first.ensures))) (done.keeps tells)
           (λ i above under. before.rest tells i (omega (arith, above, next)) under);
       front = λ tells file told.
-          let here : Tells (g.H.Files.contents c.loop-k.files) c.args.name.now file = subst (λ (x : Option Directory). Tells x c.args.name.now file) (sym before.same) told in
+          let here : Tells (g.H.Files.contents c.loop-k.files) c.args.name.now file = subst (λ (x : Option Directory). Tells x c.args.name.now file) (sym before.files.same) told in
           let at : first ≡ start L 0 k = omega (arith, c.start-first.ensures) in
           let one : k < length c.args.entries.now = omega (arith, below, c.requires.count) in
           let entry = c.index-entries-k.is ∙ get_or_default c.args.entries.now k c.index-entries-k.result no_entry one in
@@ -99,17 +100,15 @@ loop-k-preserved g c =
           let sized = subst (λ (n : ℕ). Stands (4096 * start L 0 k) (4096 * n) (payload file c.index-entries-k.result) t.now) row placed in
           let stands = subst (λ (e : Entry). Stands (4096 * start L 0 k) (slot_bytes L k) (payload file e) t.now) entry sized in
           all_stand_more L k file c.args.entries.now m t below kept (before.front tells file told) stands;
-      costs = spends_then tt (Ok tt) _ _ _ before.costs done.costs;
+      costs = spends_then tt (Ok tt) _ _ _ before.costs done.goes.costs;
       spent =
           let es = c.args.entries.now in
           let one : k < length es = omega (arith, below, c.requires.count) in
           let entry = c.index-entries-k.is ∙ get_or_default es k c.index-entries-k.result no_entry one in
           spent_both (pieces_in (take k es)) (pieces_of c.index-entries-k.result.size) (pieces_in (take (k + 1) es)) _ _ _
           (ap (λ (e : Entry). pieces_in (take k es) + pieces_of e.size) entry ∙ sym (pieces_more es k one)) before.spent done.spent;
-      unarmed = unarmed_then _ _ _ _ (g.D.Flash.counts c.args.flash.now) (g.D.Flash.counts c.loop-k.flash) (g.D.Flash.counts c.write_image.new.flash) before.unarmed done.unarmed;
-      same = done.same ∙ before.same;
-      unwritten = done.unwritten ∙ before.unwritten;
-      later = omega (arith, before.later, done.reads.later);
+      unarmed = unarmed_then _ _ _ _ (g.D.Flash.counts c.args.flash.now) (g.D.Flash.counts c.loop-k.flash) (g.D.Flash.counts c.write_image.new.flash) before.unarmed done.goes.unarmed;
+      files = reads-then g.H.Files _ g.met.H.Files.joins _ _ _ before.files done.files;
       none = omega (arith, before.none, done.once);
     }
 
@@ -118,3 +117,6 @@ returns-clause-spent g c =
     let es = c.args.entries.now in
     let all : length es ≤ c.loop-k.k = omega (arith, c.requires.count, ap length c.rows-rows.ensures.value) in
     c.loop-k.invariant.spent ∙ ap (λ (n : ℕ). lowered_by n (g.D.Flash.arming c.args.flash.now)) (pieces_all es c.loop-k.k all)
+
+pub returns-in_err-write_image-clause-files : goal.returns-in_err-write_image-clause-files
+returns-in_err-write_image-clause-files g c = reads-then g.H.Files _ g.met.H.Files.joins _ _ _ c.loop-k.invariant.files c.write_image.ensures.files

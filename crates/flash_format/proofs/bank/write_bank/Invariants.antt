@@ -3,6 +3,7 @@ use Rattle.std.specs.Prelude.{IsTrue, Ok}
 use Rattle.flash_core.specs.Counts.{Spends, StaysUnarmed, lowered_by}
 use Rattle.flash_core.specs.May.{Keeps}
 use Rattle.fwu_formats.specs.Layout.{slot_total}
+use Rattle.host_io.specs.Reads.{ReadsFile}
 use Rattle.fip_tables.specs.Files.{Tells}
 use Rattle.flash_format.specs.Cleared.{LeavesNoMore}
 use Rattle.flash_format.specs.Places.{Erased, AllStand}
@@ -20,8 +21,6 @@ invariant-loop-k g l = record {
   costs : Spends {T = Unit {0}} (Ok tt) (g.D.Flash.counts l.fn.flash) (g.D.Flash.counts l.flash);
   spent : g.D.Flash.arming l.flash ≡ lowered_by (pieces_in (take l.k l.entries)) (g.D.Flash.arming l.fn.flash);
   unarmed : StaysUnarmed {T = Unit {0}} (Ok tt) (g.D.Flash.arming l.fn.flash) (g.D.Flash.arming l.flash) (g.D.Flash.counts l.fn.flash) (g.D.Flash.counts l.flash);
-  same : g.H.Files.contents l.files ≡ g.H.Files.contents l.fn.files;
-  unwritten : g.H.Files.writes l.files ≡ g.H.Files.writes l.fn.files;
-  later : g.H.Files.faults l.fn.files ≤ g.H.Files.faults l.files;
+  files : ReadsFile g.H.Files l.name l.fn.files l.files;
   none : g.H.Files.faults l.files ≤ g.H.Files.faults l.fn.files;
 }

@@ -5,6 +5,7 @@ use Rattle.flash_core.proofs.Costs.{spends_then}
 use Rattle.flash_core.proofs.Spent.{spent_both}
 use Rattle.flash_core.specs.Counts.{lowered_by}
 use Rattle.host_io.specs.Contents.{Directory}
+use Rattle.host_io.proofs.Reading.{reads-then}
 use Rattle.fip_tables.specs.Files.{Tells}
 use Rattle.fwu_formats.specs.Package.{Entry, payload}
 use Rattle.flash_format.specs.Places.{Stands}
@@ -33,8 +34,8 @@ loop-k-preserved g c =
     let done = c.in_ok-write_piece.ensures in
     let within : k + 1 ≤ c.args.slots = omega (arith, c.loop-k-test.true, c.requires.fits, ap (λ (e : Entry). e.size) c.entry.view_is) in
     record {
-      on = done.power;
-      same_size = done.size ∙ before.same_size;
+      on = done.goes.power;
+      same_size = done.goes.size ∙ before.same_size;
       keeps = λ tells. keeps_then (4096 * first) (4096 * (first + c.args.slots)) s m t (before.keeps tells)
           (keeps_wider (4096 * b) (4096 * b + 4096) (4096 * first) (4096 * (first + c.args.slots)) m t (omega arith) (omega (arith, within)) (done.keeps tells));
       left = λ tells. left_then first s m t (before.left tells) (left_fewer first b m t (omega arith) (done.left tells));
@@ -42,20 +43,21 @@ loop-k-preserved g c =
           (λ i above below. before.rest tells i (omega arith) below);
       front = λ tells file told.
           let bytes = payload file c.args.entry.now in
-          let here : Tells (g.H.Files.contents c.loop-k.files) c.args.name.now file = subst (λ (d : Option Directory). Tells d c.args.name.now file) (sym before.same) told in
+          let here : Tells (g.H.Files.contents c.loop-k.files) c.args.name.now file = subst (λ (d : Option Directory). Tells d c.args.name.now file) (sym before.files.same) told in
           let old = stands_stays (4096 * first) (4096 * k) (4096 * b) (4096 * b + 4096) bytes m t (inl (omega arith)) (done.keeps tells) (before.front tells file told) in
           let piece = done.bytes tells file here in
           let step : 4096 * c.from.result ≡ 4096 * k = omega (arith, c.from.ensures) in
           stands_more first k bytes t.now old (subst (λ (n : ℕ). Stands (4096 * b) 4096 (drop n bytes) t.now) step piece);
-      costs = spends_then tt (Ok tt) _ _ _ before.costs done.costs;
+      costs = spends_then tt (Ok tt) _ _ _ before.costs done.goes.costs;
       spent = spent_both k 1 (k + 1) _ _ _ (omega arith) before.spent done.spent;
-      unarmed = unarmed_then _ _ _ _ (g.D.Flash.counts c.args.flash.now) (g.D.Flash.counts c.loop-k.flash) (g.D.Flash.counts c.write_piece.new.flash) before.unarmed done.unarmed;
-      same = done.same ∙ before.same;
-      unwritten = done.unwritten ∙ before.unwritten;
-      later = omega (arith, before.later, done.reads.later);
+      unarmed = unarmed_then _ _ _ _ (g.D.Flash.counts c.args.flash.now) (g.D.Flash.counts c.loop-k.flash) (g.D.Flash.counts c.write_piece.new.flash) before.unarmed done.goes.unarmed;
+      files = reads-then g.H.Files _ g.met.H.Files.joins _ _ _ before.files done.files;
       none = omega (arith, before.none, done.once);
     }
 
 pub returns-clause-spent : goal.returns-clause-spent
 returns-clause-spent g c =
     c.loop-k.invariant.spent ∙ ap (λ (n : ℕ). lowered_by n (g.D.Flash.arming c.args.flash.now)) (omega (arith, ap (λ (e : Entry). e.size) c.entry.view_is))
+
+pub returns-in_err-write_piece-clause-files : goal.returns-in_err-write_piece-clause-files
+returns-in_err-write_piece-clause-files g c = reads-then g.H.Files _ g.met.H.Files.joins _ _ _ c.loop-k.invariant.files c.write_piece.ensures.files

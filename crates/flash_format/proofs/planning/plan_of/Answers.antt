@@ -1,7 +1,7 @@
 use Rattle.std.proofs.Common.{◌≡◌, List, Some, subst}
 use Rattle.fwu_formats.specs.Layout.{ImageRow}
-use Rattle.fwu_model.specs.Answer.{first_image_fault}
-use Rattle.flash_format.specs.Choosing.{AreChosen, refused_image}
+use Rattle.fip_tables.specs.Images.{AreImages, images_fault}
+use Rattle.flash_format.specs.Choosing.{refused}
 use Rattle.flash_format.specs.declared.plan.Plan.{Plan}
 use Rattle.flash_format.specs.declared.stops.FormatStop.TheVariants.{Input}
 use Rattle.flash_format.proofs.Answered.{of_chosen, of_refused, of_table}
@@ -12,22 +12,22 @@ use Rattle.flash_format.proofs.planning.plan_of.Goals as goal
 pub returns-clause-planned : goal.returns-clause-planned
 returns-clause-planned g c =
     let toc = c.in_ok-toc.toc in
-    let chosen = subst (λ (rows : List ImageRow). AreChosen rows toc c.in_ok-entries.entries) c.rows.ensures.value c.in_ok-entries.ensures in
+    let chosen = subst (λ (rows : List ImageRow). AreImages rows toc c.in_ok-entries.entries) c.rows.ensures.value c.in_ok-entries.ensures in
     planned_from _ c.args.name.now c.args.layout toc c.in_ok-entries.entries chosen c.in_ok-toc.ensures.ends c.in_ok-toc.ensures.told c.in_ok-toc.ensures.there
 
 pub returns-clause-some : goal.returns-clause-some
 returns-clause-some g c =
     let toc = c.in_ok-toc.toc in
-    let chosen = subst (λ (rows : List ImageRow). AreChosen rows toc c.in_ok-entries.entries) c.rows.ensures.value c.in_ok-entries.ensures in
+    let chosen = subst (λ (rows : List ImageRow). AreImages rows toc c.in_ok-entries.entries) c.rows.ensures.value c.in_ok-entries.ensures in
     of_chosen Plan c.args.layout toc c.in_ok-entries.entries _ c.in_ok-toc.ensures.some chosen
 
 pub returns-in_err-entries-clause-some : goal.returns-in_err-entries-clause-some
 returns-in_err-entries-clause-some g c =
     let toc = c.in_ok-toc.toc in
     let fault = c.in_err-entries.field-0.0 in
-    let refused = subst (λ (rows : List ImageRow). refused_image (first_image_fault rows toc) ≡ Some fault) c.rows.ensures.value c.in_err-entries.ensures in
-    rw (handed-on c.from_residual-in_err-entries.result (Input fault) c.from_residual-in_err-entries.ensures.1)
-    (of_refused Plan c.args.layout toc fault c.in_ok-toc.ensures.some refused)
+    let is = subst (λ (rows : List ImageRow). images_fault rows toc ≡ Some fault) c.rows.ensures.value c.in_err-entries.ensures in
+    rw (handed-on c.from_residual-in_err-entries.result (Input (refused fault)) c.from_residual-in_err-entries.ensures.1)
+    (of_refused Plan c.args.layout toc fault c.in_ok-toc.ensures.some is)
 
 pub returns-in_err-toc-clause-some : goal.returns-in_err-toc-clause-some
 returns-in_err-toc-clause-some g c =

@@ -1,12 +1,9 @@
-use Rattle.std.proofs.Common.{◌≡◌, ◌++◌, ◌-◌, List, ℕ, length, length-take, take, drop, sym, subst, ap, ◌∙◌, arith}
+use Rattle.std.proofs.Common.{◌≡◌, ◌-◌, List, ℕ, length, length-take, drop, sym, subst, arith}
 use Rattle.std.specs.Prelude.{IfOk}
 use Rattle.fwu_formats.specs.Manifest as model
-use Rattle.std.proofs.Math.Seq.{take-length, take-append-le}
 use Rattle.image_check.specs.Passed.{IsVerdictBy}
 use Rattle.image_check.proofs.bank.check_at.Goals as goal
-
-take-front : (n : ℕ) (xs ys : List ℕ) → length xs ≡ n → take n (xs ++ ys) ≡ xs
-take-front n xs ys e = take-append-le n xs ys (omega (arith, e)) ∙ ap (λ k. take k xs) (sym e) ∙ take-length xs
+use Rattle.base_core.proofs.Lists.{take-front}
 
 pub returns-clause-by_manifest : goal.returns-clause-by_manifest
 returns-clause-by_manifest g c =

@@ -7,6 +7,6 @@ use Rattle.layer_vectors.proofs.marks.is_first_added.Goals as goal
 
 pub add-requires-clause-blank : goal.add-requires-clause-blank
 add-requires-clause-blank g c told =
-    let same = ap (λ (t : Told). t.now) (c.count.ensures.content told) in
+    let same = ap (λ (t : Told). t.now) (c.count.ensures.reads.content told) in
     let zero = sym c.if-marks-eq0.true ∙ c.in-Ok.ensures.marks told in
     subst (λ image. IsTrue (is_blank (granule 3 0 image))) (sym same) (blank_at_count _ 3 3 0 zero (omega arith))

@@ -1,7 +1,9 @@
-use Rattle.std.proofs.Common.{◌∙◌, sym, refl}
+use Rattle.std.proofs.Common.{◌∙◌, sym, refl, ap, ℕ, drop, take}
 use Rattle.std.proofs.lemmas.List.{take_rest}
 use Rattle.manifest_core.proofs.InTurn.{whole_is}
 use Rattle.manifest_core.proofs.reading.test_whole.Goals as goal
+use Rattle.base_core.specs.Bytes.{same_bytes}
+use Rattle.sha2.specs.Sha256.{sha256}
 
 pub returns-then-not-has_magic : goal.returns-then-not-has_magic
 returns-then-not-has_magic c = whole_is c.args.rows.now _ c.args.whole.now (take_rest c.args.rows.now 1) c.requires.size _ _ _ _ _ _ _
@@ -29,9 +31,9 @@ returns-then-not-fits_slots c = whole_is c.args.rows.now _ c.args.whole.now (tak
 
 pub returns-then-not-is_digested : goal.returns-then-not-is_digested
 returns-then-not-is_digested c = whole_is c.args.rows.now _ c.args.whole.now (take_rest c.args.rows.now 1) c.requires.size _ _ _ _ _ _ _
-    (sym c.if-not-has_magic.false ∙ c.has_magic.ensures) (sym c.if-not-has_form.false ∙ c.has_form.ensures) (sym c.if-is_version_too_high.false ∙ c.is_version_too_high.ensures) (sym c.if-not-has_count.false ∙ c.has_count.ensures) (sym c.if-not-is_in_order.false ∙ c.is_in_order.ensures) (sym c.if-not-fits_slots.false ∙ c.fits_slots.ensures) (sym c.if-not-is_digested.true ∙ c.is_digested.ensures)
+    (sym c.if-not-has_magic.false ∙ c.has_magic.ensures) (sym c.if-not-has_form.false ∙ c.has_form.ensures) (sym c.if-is_version_too_high.false ∙ c.is_version_too_high.ensures) (sym c.if-not-has_count.false ∙ c.has_count.ensures) (sym c.if-not-is_in_order.false ∙ c.is_in_order.ensures) (sym c.if-not-fits_slots.false ∙ c.fits_slots.ensures) (sym c.if-not-is_digested.true ∙ c.is_digested.ensures ∙ ap (λ (n : ℕ). same_bytes (drop n c.args.whole.now) (sha256 (take n c.args.whole.now))) c.row_place.ensures)
 
 pub returns : goal.returns
 returns c =
     rw c.le32_at.ensures (whole_is c.args.rows.now _ c.args.whole.now (take_rest c.args.rows.now 1) c.requires.size _ _ _ _ _ _ _
-    (sym c.if-not-has_magic.false ∙ c.has_magic.ensures) (sym c.if-not-has_form.false ∙ c.has_form.ensures) (sym c.if-is_version_too_high.false ∙ c.is_version_too_high.ensures) (sym c.if-not-has_count.false ∙ c.has_count.ensures) (sym c.if-not-is_in_order.false ∙ c.is_in_order.ensures) (sym c.if-not-fits_slots.false ∙ c.fits_slots.ensures) (sym c.if-not-is_digested.false ∙ c.is_digested.ensures))
+    (sym c.if-not-has_magic.false ∙ c.has_magic.ensures) (sym c.if-not-has_form.false ∙ c.has_form.ensures) (sym c.if-is_version_too_high.false ∙ c.is_version_too_high.ensures) (sym c.if-not-has_count.false ∙ c.has_count.ensures) (sym c.if-not-is_in_order.false ∙ c.is_in_order.ensures) (sym c.if-not-fits_slots.false ∙ c.fits_slots.ensures) (sym c.if-not-is_digested.false ∙ c.is_digested.ensures ∙ ap (λ (n : ℕ). same_bytes (drop n c.args.whole.now) (sha256 (take n c.args.whole.now))) c.row_place.ensures))

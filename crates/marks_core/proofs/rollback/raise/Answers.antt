@@ -11,7 +11,7 @@ pub returns-in_err-place-clause-raises : goal.returns-in_err-place-clause-raises
 returns-in_err-place-clause-raises g c tells =
     let s = g.D.Flash.told c.args.flash.now in
     let room : 32768 ≤ length s.now = omega (arith, (g.met.D.Flash.sizes c.args.flash.now).0, (g.met.D.Flash.sound c.args.flash.now tells).size) in
-    subst (Raises c.from_residual.result c.args.v s) (sym (c.record_place.ensures.content tells))
+    subst (Raises c.from_residual.result c.args.v s) (sym (c.record_place.ensures.reads.content tells))
     (raised c.from_residual.result c.args.v s s room c.ranges.v.fits (c.requires.above tells) (unwritten c.from_residual.result (padded (record_bytes c.args.v)) s room c.from_residual.ensures.0))
 
 pub returns-clause-raises : goal.returns-clause-raises
@@ -20,6 +20,6 @@ returns-clause-raises g c tells =
     let t = g.D.Flash.told c.replace.new.flash in
     let room : 32768 ≤ length s.now = omega (arith, (g.met.D.Flash.sizes c.args.flash.now).0, (g.met.D.Flash.sound c.args.flash.now tells).size) in
     let here = subst (λ b. Replaces c.replace.result b (padded c.record_bytes.result) (g.D.Flash.told c.record_place.new.flash) t) (c.in_ok-place.ensures.place tells) (c.replace.ensures.replaces tells) in
-    let from = subst (λ (m : Told). Replaces c.replace.result (record_place s.now) (padded c.record_bytes.result) m t) (c.in_ok-place.ensures.content tells) here in
+    let from = subst (λ (m : Told). Replaces c.replace.result (record_place s.now) (padded c.record_bytes.result) m t) (c.in_ok-place.ensures.reads.content tells) here in
     let writes = subst (λ (bytes : List ℕ). Replaces c.replace.result (record_place s.now) (padded bytes) s t) c.record_bytes.ensures from in
     raised c.replace.result c.args.v s t room c.ranges.v.fits (c.requires.above tells) writes

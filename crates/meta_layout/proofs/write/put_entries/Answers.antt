@@ -1,10 +1,10 @@
 use Rattle.std.proofs.Common.{◌≡◌, ◌+◌, ◌*◌, ◌<◌, ◌≤◌, ◌++◌, ℕ, List, length, take, ap, sym, subst, ◌∙◌, arith}
 use Rattle.fwu_formats.specs.Layout.{ImageRow}
 use Rattle.fwu_formats.specs.Metadata.{entry_bytes}
-use Rattle.meta_layout.proofs.Places.{within}
 use Rattle.fwu_formats.proofs.OneSpelling.{listed-more}
 use Rattle.meta_layout.proofs.Writes.{has-bits, entry-bytes, listed-all}
 use Rattle.meta_layout.proofs.write.put_entries.Goals as goal
+use Rattle.base_core.proofs.Lists.{piece-within}
 
 pub put_entry-end-requires-clause-bits : goal.put_entry-end-requires-clause-bits
 put_entry-end-requires-clause-bits c =
@@ -19,7 +19,7 @@ put_entry-end-requires-clause-room c =
     let room : c.args.at + length c.args.layout.now.rows * (32 + 24 * c.banks-banks.result) ≤ length c.args.out.now =
     subst (λ (n : ℕ). c.args.at + length c.args.layout.now.rows * (32 + 24 * n) ≤ length c.args.out.now) (sym c.banks-banks.ensures.value) c.requires.room in
     let fits : c.loop-image.image * (32 + 24 * c.banks-banks.result) + (32 + 24 * c.banks-banks.result) ≤ length c.args.layout.now.rows * (32 + 24 * c.banks-banks.result) =
-    within c.loop-image.image (length c.args.layout.now.rows) (32 + 24 * c.banks-banks.result) (omega (arith, rows, below)) in
+    piece-within c.loop-image.image (length c.args.layout.now.rows) (32 + 24 * c.banks-banks.result) (omega (arith, rows, below)) in
     omega (arith, room, fits, c.loop-image.invariant.place, c.loop-image.auto.out)
 
 pub put_entry-end-requires-clause-small : goal.put_entry-end-requires-clause-small

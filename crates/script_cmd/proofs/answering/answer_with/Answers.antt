@@ -89,5 +89,5 @@ returns-in-Err-Usage-clause-answers g c =
 pub returns-in-Err-NoMemory-clause-answers : goal.returns-in-Err-NoMemory-clause-answers
 returns-in-Err-NoMemory-clause-answers g c =
     let e = c.idle.ensures in
-    answered-starved _ None e.no_turns (same-moment g.D.Flash.told g.D.Flash.counts g.D.Flash.arming g.D.Flash.on _ _ e.flash) c.requires.unarmed e.status e.note refl
+    answered-starved _ None e.no_turns (same-moment g.D.Flash.told g.D.Flash.counts g.D.Flash.arming g.D.Flash.on _ _ e.flash) c.requires.unarmed e.status e.note (refl, refl)
     (λ unlisted. refl) refl (in-time-still _) refl (record { files = omega arith; source = omega arith; sink = omega arith })

@@ -21,4 +21,4 @@ returns-in-Ok-clause-files g c = c.run_calls.ensures.files (rw c.in-Ok.ensures r
 pub returns-in-Err-clause-way : goal.returns-in-Err-clause-way
 returns-in-Err-clause-way g c = λ given was are listed is told later.
     let e = c.idle.ensures in
-    starved e.no_turns (same-moment g.D.Flash.told g.D.Flash.counts g.D.Flash.arming g.D.Flash.on _ _ e.flash) e.status (ap noted e.note) refl
+    starved e.no_turns (same-moment g.D.Flash.told g.D.Flash.counts g.D.Flash.arming g.D.Flash.on _ _ e.flash) e.status (ap noted e.note) (refl, refl)

@@ -20,4 +20,4 @@ returns-in-Ok-clause-files g c = c.run_calls_by_table.ensures.files (rw c.in-Ok.
 pub returns-in-Err-clause-way : goal.returns-in-Err-clause-way
 returns-in-Err-clause-way g c = λ given was are listed is told later.
     let e = c.idle.ensures in
-    table-starved _ _ _ _ _ _ _ _ _ _ (Some ask.boot) given _ _ e.no_turns (same-moment g.D.Flash.told g.D.Flash.counts g.D.Flash.arming g.D.Flash.on _ _ e.flash) e.status e.note refl
+    table-starved _ _ _ _ _ _ _ _ _ _ (Some ask.boot) given _ _ e.no_turns (same-moment g.D.Flash.told g.D.Flash.counts g.D.Flash.arming g.D.Flash.on _ _ e.flash) e.status e.note (refl, refl)

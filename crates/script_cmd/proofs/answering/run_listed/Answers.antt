@@ -31,7 +31,7 @@ returns-in-Err-NoMemory-clause-answers g c =
     inr (
       idles _ _ _ _ e.no_turns same e.status,
       λ passes.
-          answered-starved _ _ e.no_turns same c.requires.unarmed e.status e.note refl (λ unlisted. absurd cc) refl (in-time-still _) refl
+          answered-starved _ _ e.no_turns same c.requires.unarmed e.status e.note (refl, refl) (λ unlisted. absurd cc) refl (in-time-still _) refl
           (record { files = c.read_file.ensures.later; source = omega arith; sink = omega arith }),
     )
 
@@ -75,6 +75,6 @@ returns-clause-answers g c =
     inr (
       idles _ _ _ _ e.no_turns same e.status,
       λ passes.
-          answered-starved _ _ e.no_turns same c.requires.unarmed e.status e.note refl (λ unlisted. absurd cc) refl (in-time-still _) refl
+          answered-starved _ _ e.no_turns same c.requires.unarmed e.status e.note (refl, refl) (λ unlisted. absurd cc) refl (in-time-still _) refl
           (record { files = c.read_file.ensures.later; source = omega arith; sink = omega arith }),
     )

@@ -58,4 +58,4 @@ returns-in-Err-TooLong-clause-read_to_end g c zero = absurd (not-done too_long_l
 pub returns-in-Err-NoMemory-clause-way : goal.returns-in-Err-NoMemory-clause-way
 returns-in-Err-NoMemory-clause-way g c = λ given was are listed told later.
     let e = c.idle.ensures in
-    starved e.no_turns (same-moment g.D.Flash.told g.D.Flash.counts g.D.Flash.arming g.D.Flash.on _ _ e.flash) e.status (ap noted e.note) refl
+    starved e.no_turns (same-moment g.D.Flash.told g.D.Flash.counts g.D.Flash.arming g.D.Flash.on _ _ e.flash) e.status (ap noted e.note) (refl, refl)

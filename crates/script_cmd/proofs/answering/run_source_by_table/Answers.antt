@@ -30,7 +30,7 @@ returns-in-Err-TooLong-clause-way g c = λ given was are listed told later.
 pub returns-in-Err-NoMemory-clause-way : goal.returns-in-Err-NoMemory-clause-way
 returns-in-Err-NoMemory-clause-way g c = λ given was are listed told later.
     let e = c.idle.ensures in
-    table-starved _ _ _ _ _ _ _ _ _ _ (Some ask.run) _ _ _ e.no_turns (same-moment g.D.Flash.told g.D.Flash.counts g.D.Flash.arming g.D.Flash.on _ _ e.flash) e.status e.note refl
+    table-starved _ _ _ _ _ _ _ _ _ _ (Some ask.run) _ _ _ e.no_turns (same-moment g.D.Flash.told g.D.Flash.counts g.D.Flash.arming g.D.Flash.on _ _ e.flash) e.status e.note (refl, refl)
 
 pub returns-in-Ok-clause-source_count : goal.returns-in-Ok-clause-source_count
 returns-in-Ok-clause-source_count g c = none-fails _ _ _ _ c.in-Ok.ensures.count

@@ -23,7 +23,7 @@ returns-clause-way g c = λ asked given was are listed asks is told later.
 pub returns-in-Err-NoMemory-clause-way : goal.returns-in-Err-NoMemory-clause-way
 returns-in-Err-NoMemory-clause-way g c = λ asked given was are listed asks is told later.
     let e = c.idle.ensures in
-    starved e.no_turns (same-moment g.D.Flash.told g.D.Flash.counts g.D.Flash.arming g.D.Flash.on _ _ e.flash) e.status (ap noted e.note) refl
+    starved e.no_turns (same-moment g.D.Flash.told g.D.Flash.counts g.D.Flash.arming g.D.Flash.on _ _ e.flash) e.status (ap noted e.note) (refl, refl)
 
 pub returns-in-Err-BadLine-clause-later : goal.returns-in-Err-BadLine-clause-later
 returns-in-Err-BadLine-clause-later g c = later _ _ _ _ _ _ _ c.refuse_script.ensures.prints

@@ -22,7 +22,7 @@ returns-in-Err-BadLine-clause-way g c = λ asked given was are listed asks is to
 pub returns-in-Err-NoMemory-clause-way : goal.returns-in-Err-NoMemory-clause-way
 returns-in-Err-NoMemory-clause-way g c = λ asked given was are listed asks is told later.
     let e = c.idle.ensures in
-    table-starved _ _ _ _ _ _ _ _ _ _ asked given _ _ e.no_turns (same-moment g.D.Flash.told g.D.Flash.counts g.D.Flash.arming g.D.Flash.on _ _ e.flash) e.status e.note refl
+    table-starved _ _ _ _ _ _ _ _ _ _ asked given _ _ e.no_turns (same-moment g.D.Flash.told g.D.Flash.counts g.D.Flash.arming g.D.Flash.on _ _ e.flash) e.status e.note (refl, refl)
 
 pub returns-clause-way : goal.returns-clause-way
 returns-clause-way g c = λ asked given was are listed asks is told later.

@@ -19,6 +19,7 @@ returns-clause-tries g c =
     (record {
       mid = told mid;
       fresh = λ tells clean. power-on-keeps (told old) (told mid) clean (c.power_on.ensures.fresh tells) (c.power_on.ensures.leaves tells);
+      woken = λ tells. record { fresh_is = c.power_on.ensures.fresh tells; leaves = c.power_on.ensures.leaves tells };
       layout = e.layout;
       answers = e.answers;
       some = e.some;
@@ -40,10 +41,10 @@ returns-clause-tries g c =
       ordered = e.ordered;
       keeps = e.keeps;
       guard = λ tells. (e.keeps tells).guard ∙ power-on-guards (told old) (told mid) (c.power_on.ensures.fresh tells);
-      counts = none-falls _ (counts old) (counts mid) (counts new) c.power_on.ensures.counts e.costs;
-      once = stops-then _ (counts old) (counts mid) (counts new) c.power_on.ensures.counts e.costs;
-      made = e.costs.made ∙ c.power_on.ensures.made;
-      unarmed = (e.unarmed (c.power_on.ensures.arming ∙ c.requires.unarmed)).0;
-      power = e.power;
-      stopped = λ stop is. stop-cause _ stop (counts old) (counts mid) (counts new) is c.power_on.ensures.counts e.costs (e.unarmed (c.power_on.ensures.arming ∙ c.requires.unarmed)).1;
+      counts = none-falls _ (counts old) (counts mid) (counts new) c.power_on.ensures.counts e.goes.costs;
+      once = stops-then _ (counts old) (counts mid) (counts new) c.power_on.ensures.counts e.goes.costs;
+      made = e.goes.costs.made ∙ c.power_on.ensures.made;
+      unarmed = (e.goes.unarmed (c.power_on.ensures.arming ∙ c.requires.unarmed)).0;
+      power = e.goes.power;
+      stopped = λ stop is. stop-cause _ stop (counts old) (counts mid) (counts new) is c.power_on.ensures.counts e.goes.costs (e.goes.unarmed (c.power_on.ensures.arming ∙ c.requires.unarmed)).1;
     })

@@ -30,7 +30,7 @@ returns-clause-way g c = λ asked given was are reads told later.
     let e = c.idle.ensures in
     let opens = rw c.in-Err-NoMemory.field-0-is at c.in-Err-NoMemory.ensures.opens in
     starved-way _ _ _ _ _ _ _ _ _ _ asked given _ _ _ c.args.script reads e.no_turns opens
-    (same-moment g.D.Flash.told g.D.Flash.counts g.D.Flash.arming g.D.Flash.on _ _ e.flash) e.status e.note refl
+    (same-moment g.D.Flash.told g.D.Flash.counts g.D.Flash.arming g.D.Flash.on _ _ e.flash) e.status e.note (refl, refl)
 
 pub returns-in-Err-Lacks-clause-later : goal.returns-in-Err-Lacks-clause-later
 returns-in-Err-Lacks-clause-later g c = later _ _ _ _ _ _ _ c.refuse_table.ensures.prints

@@ -3,8 +3,8 @@ use Rattle.flash_core.specs.Told.{NothingDirty}
 use Rattle.gpt_core.proofs.Leaving.{view-clean}
 use Rattle.script_cmd.proofs.partitioned.run_mapped.Goals as goal
 
-pub invariant_of-start : goal.invariant_of-start
-invariant_of-start g c =
+pub invariant_of-fresh : goal.invariant_of-fresh
+invariant_of-fresh g c =
     let m = c.new-mapped.result in
     record {
       is_on = ap g.D.Flash.on c.new-mapped.ensures.device ∙ c.requires.on;

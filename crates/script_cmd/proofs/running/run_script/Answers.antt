@@ -10,7 +10,7 @@ use Rattle.fwu_journal.specs.declared.journal.Journal.{Journal}
 use Rattle.fwu_journal.specs.Shown.{turns}
 use Rattle.script_text.specs.Shown.{shown}
 use Rattle.script_turns.specs.Powered.{at, device, shown_on}
-use Rattle.script_cmd.specs.Running.{Ran, calls_of, sends_none}
+use Rattle.script_turns.specs.Runs.{Ran, calls_of, sends_none}
 use Rattle.script_cmd.proofs.RunCalls.{left-behind, reads-none, sends-more}
 use Rattle.script_cmd.proofs.RunEnds.{GoesOn, goes-none, goes-on, ends-ran, ends-by, ends-printed, all-ended, all-printed, steps-told}
 use Rattle.script_cmd.proofs.running.run_script.Goals as goal
@@ -46,20 +46,20 @@ loop-index-preserved g c =
     let taken_call = shown c.take-call.result in
     let at_call : slice_get c.args.script c.loop-index.index ≡ Some taken_call = sym (was.calls_left c.loop-index.index (omega arith)) ∙ c.take-call.ensures.call in
     record {
-      goes = goes-on _ _ _ _ _ _ _ _ c.loop-index.index taken_call _ _ _ _ _ _ _ _ _ _ _ _ refl was.goes at_call (steps-told _ _ _ _ _ _ _ _ _ _ _ _ _ _ _ _ _ c.loop-index.invariant.same_files c.step-after.ensures.steps) c.if-end-ne0.false;
+      goes = goes-on _ _ _ _ _ _ _ _ c.loop-index.index taken_call _ _ _ _ _ _ _ _ _ _ _ _ refl was.goes at_call (steps-told _ _ _ _ _ _ _ _ _ _ _ _ _ _ _ _ _ c.loop-index.invariant.same_files c.step-end.ensures.steps) c.if-end-ne0.false;
       length_is = ap length c.take-call.ensures.left ∙ length-set c.loop-index.script c.loop-index.index call.Show ∙ was.length_is;
       calls_left = λ k behind. ap (λ (l : List Call). slice_get l k) c.take-call.ensures.left ∙ left-behind c.loop-index.script c.loop-index.index call.Show k behind ∙ was.calls_left k (omega arith);
-      powered = c.step-after.ensures.powered c.if-end-ne0.false;
-      turns_fit = c.step-after.ensures.turns_fit (length c.args.script - (c.loop-index.index + 1)) (omega (arith, was.turns_fit));
-      line_fits = c.step-after.ensures.line_fits;
-      size = c.step-after.ensures.size ∙ was.size;
-      same_files = c.step-after.ensures.same_files ∙ was.same_files;
-      unwritten = c.step-after.ensures.unwritten ∙ was.unwritten;
-      files = λ none. c.step-after.ensures.files (reads-none c.args.script c.loop-index.index taken_call none at_call) ∙ was.files none;
+      powered = c.step-end.ensures.powered c.if-end-ne0.false;
+      turns_fit = c.step-end.ensures.turns_fit (length c.args.script - (c.loop-index.index + 1)) (omega (arith, was.turns_fit));
+      line_fits = c.step-end.ensures.line_fits;
+      size = c.step-end.ensures.size ∙ was.size;
+      same_files = c.step-end.ensures.same_files ∙ was.same_files;
+      unwritten = c.step-end.ensures.unwritten ∙ was.unwritten;
+      files = λ none. c.step-end.ensures.files (reads-none c.args.script c.loop-index.index taken_call none at_call) ∙ was.files none;
       unsent = λ none.
-          let step = c.step-after.ensures.steps in
+          let step = c.step-end.ensures.steps in
           let parts = sends-more (turns c.loop-index.running.journal) _ step.turn step.kept none in
-          c.step-after.ensures.files (subst (λ (x : Call). IsFalse (is_send x)) step.turns.call_is parts.1) ∙ was.unsent parts.0;
+          c.step-end.ensures.files (subst (λ (x : Call). IsFalse (is_send x)) step.turns.call_is parts.1) ∙ was.unsent parts.0;
     }
 
 pub returns-then-end-ne0-clause-ran : goal.returns-then-end-ne0-clause-ran
@@ -69,29 +69,29 @@ returns-then-end-ne0-clause-ran g c =
     let passes = g.V.Verifier.passes c.args.verifier.now in
     let files = g.H.Files.contents c.args.files.now in
     let from = g.H.Files.faults c.args.files.now in
-    let to = g.H.Files.faults c.step-after.new.files in
-    let m = c.step-after.result.running.powered in (
+    let to = g.H.Files.faults c.step-end.new.files in
+    let m = c.step-end.new.running.powered in (
       shown_on m,
       subst (λ (x : g.row.D.Denot). Ran passes g.D.Flash.tells files (turns c.done.result.journal) old (at (shown_on m) (g.D.Flash.told x) (g.D.Flash.counts x) (g.D.Flash.arming x) (g.D.Flash.on x)) from to) (sym c.done.ensures.flash)
           (subst (λ (j : Journal). Ran passes g.D.Flash.tells files (turns j) old (at (shown_on m) (g.D.Flash.told (device m)) (g.D.Flash.counts (device m)) (g.D.Flash.arming (device m)) (g.D.Flash.on (device m))) from to) (sym c.done.ensures.journal)
-          (ends-ran _ _ _ _ _ _ _ _ c.loop-index.index (shown c.take-call.result) _ _ _ _ _ _ _ _ _ _ _ _ refl c.loop-index.invariant.goes (steps-told _ _ _ _ _ _ _ _ _ _ _ _ _ _ _ _ _ c.loop-index.invariant.same_files c.step-after.ensures.steps))),
+          (ends-ran _ _ _ _ _ _ _ _ c.loop-index.index (shown c.take-call.result) _ _ _ _ _ _ _ _ _ _ _ _ refl c.loop-index.invariant.goes (steps-told _ _ _ _ _ _ _ _ _ _ _ _ _ _ _ _ _ c.loop-index.invariant.same_files c.step-end.ensures.steps))),
     )
 
 pub returns-then-end-ne0-clause-ended : goal.returns-then-end-ne0-clause-ended
 returns-then-end-ne0-clause-ended g c =
     let at_call : slice_get c.args.script c.loop-index.index ≡ Some (shown c.take-call.result) = sym (c.loop-index.invariant.calls_left c.loop-index.index (omega arith)) ∙ c.take-call.ensures.call in
     rw c.done.ensures.journal (rw c.done.ensures.status (rw c.done.ensures.note
-    (ends-by _ _ _ _ _ _ _ _ c.loop-index.index (shown c.take-call.result) _ _ _ _ _ _ _ _ _ _ _ _ c.loop-index.invariant.goes at_call (steps-told _ _ _ _ _ _ _ _ _ _ _ _ _ _ _ _ _ c.loop-index.invariant.same_files c.step-after.ensures.steps) c.if-end-ne0.true)))
+    (ends-by _ _ _ _ _ _ _ _ c.loop-index.index (shown c.take-call.result) _ _ _ _ _ _ _ _ _ _ _ _ c.loop-index.invariant.goes at_call (steps-told _ _ _ _ _ _ _ _ _ _ _ _ _ _ _ _ _ c.loop-index.invariant.same_files c.step-end.ensures.steps) c.if-end-ne0.true)))
 
 pub returns-then-end-ne0-clause-printed : goal.returns-then-end-ne0-clause-printed
 returns-then-end-ne0-clause-printed g c =
     rw c.done.ensures.journal (rw c.done.ensures.status
-    (ends-printed _ _ _ _ _ _ _ _ c.loop-index.index (shown c.take-call.result) _ _ _ _ _ _ _ _ _ _ _ _ c.loop-index.invariant.goes (steps-told _ _ _ _ _ _ _ _ _ _ _ _ _ _ _ _ _ c.loop-index.invariant.same_files c.step-after.ensures.steps)))
+    (ends-printed _ _ _ _ _ _ _ _ c.loop-index.index (shown c.take-call.result) _ _ _ _ _ _ _ _ _ _ _ _ c.loop-index.invariant.goes (steps-told _ _ _ _ _ _ _ _ _ _ _ _ _ _ _ _ _ c.loop-index.invariant.same_files c.step-end.ensures.steps)))
 
 pub returns-then-end-ne0-clause-files : goal.returns-then-end-ne0-clause-files
 returns-then-end-ne0-clause-files g c = λ none.
     let at_call : slice_get c.args.script c.loop-index.index ≡ Some (shown c.take-call.result) = sym (c.loop-index.invariant.calls_left c.loop-index.index (omega arith)) ∙ c.take-call.ensures.call in
-    c.step-after.ensures.files (reads-none c.args.script c.loop-index.index (shown c.take-call.result) none at_call) ∙ c.loop-index.invariant.files none
+    c.step-end.ensures.files (reads-none c.args.script c.loop-index.index (shown c.take-call.result) none at_call) ∙ c.loop-index.invariant.files none
 
 pub returns-clause-ended : goal.returns-clause-ended
 returns-clause-ended g c =
@@ -105,10 +105,10 @@ returns-clause-printed g c =
 
 pub returns-then-end-ne0-clause-unsent : goal.returns-then-end-ne0-clause-unsent
 returns-then-end-ne0-clause-unsent g c = λ none.
-    let step = c.step-after.ensures.steps in
+    let step = c.step-end.ensures.steps in
     let still = subst (λ (j : Journal). IsTrue (sends_none (calls_of (turns j)))) c.done.ensures.journal none in
     let parts = sends-more (turns c.loop-index.running.journal) _ step.turn step.kept still in
-    c.step-after.ensures.files (subst (λ (x : Call). IsFalse (is_send x)) step.turns.call_is parts.1) ∙ c.loop-index.invariant.unsent parts.0
+    c.step-end.ensures.files (subst (λ (x : Call). IsFalse (is_send x)) step.turns.call_is parts.1) ∙ c.loop-index.invariant.unsent parts.0
 
 pub returns-clause-unsent : goal.returns-clause-unsent
 returns-clause-unsent g c = λ none. c.loop-index.invariant.unsent (subst (λ (j : Journal). IsTrue (sends_none (calls_of (turns j)))) c.done-2.ensures.journal none)

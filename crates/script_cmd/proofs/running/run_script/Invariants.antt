@@ -3,7 +3,7 @@ use Rattle.std.specs.List.{slice_get}
 use Rattle.fwu_journal.specs.Shown.{HasRoomFor, turns}
 use Rattle.fwu_journal.specs.declared.line.TheConstants.{LINE_ROOM}
 use Rattle.script_turns.specs.Powered.{at, device, has_power, moment_of}
-use Rattle.script_cmd.specs.Running.{calls_of, sends_none}
+use Rattle.script_turns.specs.Runs.{calls_of, sends_none}
 use Rattle.script_cmd.proofs.RunEnds.{GoesOn}
 use Rattle.script_cmd.proofs.running.run_script.Given as goal
 

@@ -1,4 +1,4 @@
-use Rattle.std.proofs.Common.{ℕ, List, ap, subst, arith}
+use Rattle.std.proofs.Common.{ℕ, List, ap, subst}
 use Rattle.script_cmd.specs.Printed.{Prints}
 use Rattle.script_cmd.proofs.SoakEnding.{ends-by}
 use Rattle.script_cmd.proofs.soak_command.finish.Goals as goal
@@ -8,6 +8,6 @@ returns-clause-ended g c all calls old stands =
     let e = c.print_end-status.ensures in
     let text = c.as_slice.ensures.value in
     ends-by _ all c.args.rounds calls _ old _ _ _ _ _ _ _ _ _ e.goes e.starved (λ nine. ap g.O.Sink.taken (e.untouched nine))
-    (λ nine. let same = ap g.O.Sink.faults (e.untouched nine) in omega (arith, same))
+    (λ nine. ap g.O.Sink.faults (e.untouched nine))
     (λ some lives. subst (λ (l : List ℕ). Prints l c.args.soaked.stand.status c.print_end-status.result (g.O.Sink.taken c.args.sink.now) (g.O.Sink.taken c.print_end-status.new.sink) (g.O.Sink.faults c.args.sink.now) (g.O.Sink.faults c.print_end-status.new.sink))
     text (e.stopped some lives)) stands

@@ -5,14 +5,14 @@ use Rattle.fwu_journal.specs.Shown.{turns}
 use Rattle.fwu_journal.specs.declared.journal.Journal.{Journal}
 use Rattle.fwu_model.specs.Call.{Call}
 use Rattle.gen_core.specs.Calls.{soak_calls}
-use Rattle.script_turns.specs.Powered.{at, moment_of, shown_on}
+use Rattle.script_turns.specs.Powered.{Moment, at, moment_of, shown_on}
 use Rattle.script_cmd.specs.Formatting.{format_note, format_status, format_text}
 use Rattle.script_cmd.specs.Noted.{is_beyond, noted}
-use Rattle.script_cmd.specs.Running.{Ran}
+use Rattle.script_turns.specs.Runs.{Ran}
 use Rattle.script_cmd.specs.Soaking.{Stands, file_of, soak_files}
 use Rattle.script_cmd.specs.SoakWays.{not_formatted, ran}
 use Rattle.script_cmd.proofs.FormatFlash.{as-planned}
-use Rattle.script_cmd.proofs.SoakEnding.{soak-calls-are, soak-named, stands-ran, tries-as}
+use Rattle.script_cmd.proofs.SoakEnding.{moment-fresh, soak-calls-are, soak-named, stands-ran, tries-as}
 use Rattle.script_cmd.proofs.soak_command.format_and_soak.Goals as goal
 
 pub returns-in-Ok-ended-clause-way : goal.returns-in-Ok-ended-clause-way
@@ -25,9 +25,11 @@ returns-in-Ok-ended-clause-way g c seed given was are good large register_is fil
     let p = soaked.soaking.powered in
     let n = c.args.rounds in
     let stands : Stands g.D.Flash.tells (soak_files seed n) (soak_calls seed n) (turns soaked.soaking.journal) start (moment_of p) soaked.stand.status (noted soaked.stand.note) soaked.soaking.text.items =
-    subst (λ (cs : List Call). Stands g.D.Flash.tells (soak_files seed n) cs (turns soaked.soaking.journal) start (moment_of p) soaked.stand.status (noted soaked.stand.note) soaked.soaking.text.items)
+    subst (λ (m : Moment). Stands g.D.Flash.tells (soak_files seed n) (soak_calls seed n) (turns soaked.soaking.journal) m (moment_of p) soaked.stand.status (noted soaked.stand.note) soaked.soaking.text.items)
+    (moment-fresh c.fresh-start.result d c.fresh-start.ensures.on c.fresh-start.ensures.device)
+    (subst (λ (cs : List Call). Stands g.D.Flash.tells (soak_files seed n) cs (turns soaked.soaking.journal) (moment_of c.fresh-start.result) (moment_of p) soaked.stand.status (noted soaked.stand.note) soaked.soaking.text.items)
     (soak-calls-are seed c.args.register n register_is)
-    (c.do_soak-soaked.ensures.stands (soak_files seed n) (soak-named seed c.args.register n c.ranges.rounds.fits register_is)) in
+    (c.do_soak-soaked.ensures.stands (soak_files seed n) (soak-named seed c.args.register n c.ranges.rounds.fits register_is))) in
     ran good large c.in-Ok-ended.field-0 start (shown_on p)
     (tries-as g.D.Flash.tells seed (file_of (string_bytes c.args.first.name) c.args.first.bytes.items) c.as_str.result.now c.soak_rows.result _ _ start _ file_is (c.as_str.ensures.value ∙ c.in-Ok.ensures) c.soak_rows.ensures.rows
     c.in-Ok-ended.ensures.tries)

@@ -19,7 +19,7 @@ pub returns-then-stand-ne0-clause-stands : goal.returns-then-stand-ne0-clause-st
 returns-then-stand-ne0-clause-stands g c all done old was agree off =
     calls-end _ (file_of (string_bytes c.args.files.now.name) c.args.files.now.bytes.items) all done c.args.calls.now c.loop-index.index c.index-calls-index.result _ (shown c.in-Ok.call) _ _ _ _ _ _ _ _ c.loop-index-test.true
     c.index-calls-index.is c.in-Ok.ensures.shown (c.loop-index.invariant.going all done old was agree off)
-    (subst (λ (d : Directory). SoakSteps g.D.Flash.tells (Some d) (shown c.in-Ok.call) (turns c.loop-index.soaking.journal) (turns c.step-after.result.soaking.journal) (moment_of c.loop-index.soaking.powered) (moment_of c.step-after.result.soaking.powered) c.step-after.result.stand.status (noted c.step-after.result.stand.note) c.step-after.result.soaking.text.items) c.loop-index.invariant.same c.step-after.ensures.steps)
+    (subst (λ (d : Directory). SoakSteps g.D.Flash.tells (Some d) (shown c.in-Ok.call) (turns c.loop-index.soaking.journal) (turns c.step-stand.new.soaking.journal) (moment_of c.loop-index.soaking.powered) (moment_of c.step-stand.new.soaking.powered) c.step-stand.result.status (noted c.step-stand.result.note) c.step-stand.new.soaking.text.items) c.loop-index.invariant.same c.step-stand.ensures.steps)
     agree off c.if-stand-ne0.true
 
 pub loop-index-preserved : goal.loop-index-preserved
@@ -29,14 +29,14 @@ loop-index-preserved g c =
       going = λ all done old start agree off.
           calls-on _ (file_of (string_bytes c.args.files.now.name) c.args.files.now.bytes.items) all done c.args.calls.now c.loop-index.index c.index-calls-index.result _ (shown c.in-Ok.call) _ _ _ _ _ _ _ _ c.loop-index-test.true
           c.index-calls-index.is c.in-Ok.ensures.shown (was.going all done old start agree off)
-          (subst (λ (d : Directory). SoakSteps g.D.Flash.tells (Some d) (shown c.in-Ok.call) (turns c.loop-index.soaking.journal) (turns c.step-after.result.soaking.journal) (moment_of c.loop-index.soaking.powered) (moment_of c.step-after.result.soaking.powered) c.step-after.result.stand.status (noted c.step-after.result.stand.note) c.step-after.result.soaking.text.items) was.same c.step-after.ensures.steps)
+          (subst (λ (d : Directory). SoakSteps g.D.Flash.tells (Some d) (shown c.in-Ok.call) (turns c.loop-index.soaking.journal) (turns c.step-stand.new.soaking.journal) (moment_of c.loop-index.soaking.powered) (moment_of c.step-stand.new.soaking.powered) c.step-stand.result.status (noted c.step-stand.result.note) c.step-stand.new.soaking.text.items) was.same c.step-stand.ensures.steps)
           agree off c.if-stand-ne0.false;
-      powered = c.step-after.ensures.powered c.if-stand-ne0.false;
-      turns_fit = c.step-after.ensures.turns_fit (length c.args.calls.now - (c.loop-index.index + 1)) (omega (arith, was.turns_fit, c.loop-index-test.true));
-      empty = c.step-after.ensures.steps.no_text c.if-stand-ne0.false;
-      line_fits = c.step-after.ensures.line_fits c.if-stand-ne0.false;
-      same = c.step-after.ensures.same ∙ was.same;
-      size = c.step-after.ensures.size ∙ was.size;
+      powered = c.step-stand.ensures.powered c.if-stand-ne0.false;
+      turns_fit = c.step-stand.ensures.turns_fit (length c.args.calls.now - (c.loop-index.index + 1)) (omega (arith, was.turns_fit, c.loop-index-test.true));
+      empty = c.step-stand.ensures.steps.no_text c.if-stand-ne0.false;
+      line_fits = c.step-stand.ensures.line_fits c.if-stand-ne0.false;
+      same = c.step-stand.ensures.same ∙ was.same;
+      size = c.step-stand.ensures.size ∙ was.size;
     }
 
 pub returns-clause-stands : goal.returns-clause-stands

@@ -6,8 +6,8 @@ use Rattle.gen_core.specs.Setup.{soak_layout}
 use Rattle.script_cmd.proofs.SoakRounds.{drawn-armable, rest-left, round-there, rounds-done, rounds-end, rounds-on}
 use Rattle.script_cmd.proofs.soaking.do_rounds.Goals as goal
 
-pub do_round-after-requires-clause-armable : goal.do_round-after-requires-clause-armable
-do_round-after-requires-clause-armable g c = drawn-armable c.loop-index.register (c.loop-index.index + 1) c.draw-round.result c.draw-round.ensures.drawn
+pub do_round-stand-requires-clause-armable : goal.do_round-stand-requires-clause-armable
+do_round-stand-requires-clause-armable g c = drawn-armable c.loop-index.register (c.loop-index.index + 1) c.draw-round.result c.draw-round.ensures.drawn
 
 pub returns-then-stand-ne0-clause-stands : goal.returns-then-stand-ne0-clause-stands
 returns-then-stand-ne0-clause-stands g c all done old was named off =
@@ -17,7 +17,7 @@ returns-then-stand-ne0-clause-stands g c all done old was named off =
     let r = c.draw-round.result in
     let left = c.loop-index.invariant.left in
     rounds-end x n i c.loop-index.register r c.loop-index-test.true left c.draw-round.ensures.drawn _ all done _ old _ _ _ _
-    (c.do_round-after.ensures.stands all (done ++ flat_map (round_calls soak_layout.rows) (take i (rounds_from x 1 n))) old (c.loop-index.invariant.going all done old was named off)
+    (c.do_round-stand.ensures.stands all (done ++ flat_map (round_calls soak_layout.rows) (take i (rounds_from x 1 n))) old (c.loop-index.invariant.going all done old was named off)
     (round-there x n i c.loop-index.register r c.loop-index-test.true left c.draw-round.ensures.drawn all named) off)
     c.if-stand-ne0.true
 
@@ -31,14 +31,14 @@ loop-index-preserved g c =
     record {
       going = λ all done old start named off.
           rounds-on x n i c.loop-index.register r c.loop-index-test.true was.left c.draw-round.ensures.drawn _ all done _ old _ _ _ _
-          (c.do_round-after.ensures.stands all (done ++ flat_map (round_calls soak_layout.rows) (take i (rounds_from x 1 n))) old (was.going all done old start named off)
+          (c.do_round-stand.ensures.stands all (done ++ flat_map (round_calls soak_layout.rows) (take i (rounds_from x 1 n))) old (was.going all done old start named off)
           (round-there x n i c.loop-index.register r c.loop-index-test.true was.left c.draw-round.ensures.drawn all named) off)
           c.if-stand-ne0.false;
       left = rest-left x n i c.loop-index.register r c.loop-index-test.true was.left c.draw-round.ensures.drawn _ c.draw-round.ensures.moves_on;
-      powered = c.do_round-after.ensures.powered c.if-stand-ne0.false;
-      empty = c.do_round-after.ensures.empty c.if-stand-ne0.false;
-      line_fits = c.do_round-after.ensures.line_fits c.if-stand-ne0.false;
-      size = c.do_round-after.ensures.size ∙ was.size;
+      powered = c.do_round-stand.ensures.powered c.if-stand-ne0.false;
+      empty = c.do_round-stand.ensures.empty c.if-stand-ne0.false;
+      line_fits = c.do_round-stand.ensures.line_fits c.if-stand-ne0.false;
+      size = c.do_round-stand.ensures.size ∙ was.size;
     }
 
 pub returns-clause-stands : goal.returns-clause-stands

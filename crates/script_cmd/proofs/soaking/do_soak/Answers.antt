@@ -17,13 +17,13 @@ returns-then-stand-ne0-clause-stands g c all named =
     let more = flat_map (round_calls soak_layout.rows) (rounds_from c.args.register.now 1 c.args.rounds) in
     steps-end g.D.Flash.tells (file_of (string_bytes c.args.first.now.name) c.args.first.now.bytes.items) all [] call.Boot (turns c.args.room.journal) _ old old _ _ _ _ (call.Boot ∷ more)
     (subst (λ (ts : List Turn). GoesSoaking g.D.Flash.tells all [] ts old old) (sym c.requires.no_turns) (goes-none g.D.Flash.tells all old c.requires.not_booted))
-    c.step-soaking.ensures.steps tt c.requires.not_booted c.if-stand-ne0.true (more, refl)
+    c.step-stand.ensures.steps tt c.requires.not_booted c.if-stand-ne0.true (more, refl)
 
 pub returns-clause-stands : goal.returns-clause-stands
 returns-clause-stands g c all named =
     let old = moment_of c.args.start in
-    c.do_rounds.ensures.stands all (call.Boot ∷ []) old
+    c.do_rounds-stand.ensures.stands all (call.Boot ∷ []) old
     (steps-on g.D.Flash.tells (file_of (string_bytes c.args.first.now.name) c.args.first.now.bytes.items) all [] call.Boot (turns c.args.room.journal) _ old old _ _ _ _
     (subst (λ (ts : List Turn). GoesSoaking g.D.Flash.tells all [] ts old old) (sym c.requires.no_turns) (goes-none g.D.Flash.tells all old c.requires.not_booted))
-    c.step-soaking.ensures.steps tt c.requires.not_booted c.if-stand-ne0.false)
+    c.step-stand.ensures.steps tt c.requires.not_booted c.if-stand-ne0.false)
     named c.requires.not_booted

@@ -1,15 +1,14 @@
-use Rattle.std.proofs.Common.{List, ℕ, ◌==◌, ◌∷◌, ◌∙◌, sym, ap}
+use Rattle.std.proofs.Common.{◌≡◌, Option, ◌==◌, ◌∙◌, sym, subst}
+use Rattle.std.specs.Prelude.{IfOk, option_map}
 use Rattle.std.specs.List.{slice_split}
-use Rattle.fwu_model.specs.Script.{call_of_words}
+use Rattle.fwu_model.specs.Call.{Call}
+use Rattle.script_text.specs.Shown.{shown}
 use Rattle.script_text.proofs.Parts.{some_parts}
-use Rattle.script_text.proofs.Lines.{four_words}
+use Rattle.script_text.proofs.Lines.{begin_words}
 use Rattle.script_text.proofs.line.call_of_words.Goals as goal
 
-pub returns-in-Some-split-clause-call : goal.returns-in-Some-split-clause-call
-returns-in-Some-split-clause-call c =
-    let w = c.args.word.now in
-    let a = c.in-Some.first.now in
-    let third = c.in-Some-split.field-0 in
-    let parts = c.in-Some.ensures.parts ∙ ap (λ (l : List (List ℕ)). a ∷ l) c.in-Some-split.ensures.parts in
-    sym (ap (λ (l : List (List ℕ)). call_of_words (w ∷ l)) parts
-    ∙ four_words w a third.0.now (slice_split (λ b. b == 32) third.1.now) (some_parts (λ b. b == 32) third.1.now))
+pub returns-then-is_word-clause-call : goal.returns-then-is_word-clause-call
+returns-then-is_word-clause-call c =
+    subst (λ (o : Option Call). IfOk c.begin_of.result (λ found. option_map shown found ≡ o))
+    (sym (begin_words c.args.word.now (slice_split (λ b. b == 32) c.args.others.now) (some_parts (λ b. b == 32) c.args.others.now)
+    (sym c.is_word.ensures ∙ c.if-is_word.true))) c.begin_of.ensures.call

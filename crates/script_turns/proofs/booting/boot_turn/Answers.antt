@@ -4,7 +4,7 @@ use Rattle.early_boot.specs.EndsBy.{BootEnds, IdleEnd, TakesBoot, TakesByBytes}
 use Rattle.flash_core.specs.Counts.{Spends, StaysUnarmed}
 use Rattle.fwu_model.specs.Call as call
 use Rattle.fwu_model.specs.Reply.{Turn}
-use Rattle.script_turns.specs.Powered.{moment, moment_of}
+use Rattle.script_turns.specs.Powered.{moment, moment_in}
 use Rattle.script_turns.specs.Turning.{Turns}
 use Rattle.script_turns.proofs.Boots.{boots-turn}
 use Rattle.script_turns.proofs.booting.boot_turn.Goals as goal
@@ -15,9 +15,9 @@ returns-clause-turns g c files faults =
     let passes = g.V.Verifier.passes c.args.verifier.now in
     let e = ended c.boot.result in
     let flash = c.with_power.result in
-    let old = moment_of c.args.powered in
+    let old = moment_in c.args.stage in
     let mid = moment F.told F.counts F.arming F.on flash in
-    let new = moment_of c.turned_by.result.powered in
+    let new = moment_in c.turned_by.result.stage in
     subst (λ (t : Turn). Turns passes F.tells files call.Boot t old new faults faults) (sym c.turned_by.ensures.turn)
     (boots-turn passes F.tells files faults e old mid new c.with_power.ensures.power (record {
       on_is = c.turned_by.ensures.on;

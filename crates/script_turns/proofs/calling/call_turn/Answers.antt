@@ -19,6 +19,9 @@ returns-in-Discover-clause-turns g c = as-called _ _ _ _ _ _ _ (ap shown c.in-Di
 pub returns-in-Begin-clause-turns : goal.returns-in-Begin-clause-turns
 returns-in-Begin-clause-turns g c = as-called _ _ _ _ _ _ _ (ap shown c.in-Begin.is) (c.begin_turn.ensures.turns (g.V.Verifier.passes c.args.verifier.now))
 
+pub returns-in-BeginPartial-clause-turns : goal.returns-in-BeginPartial-clause-turns
+returns-in-BeginPartial-clause-turns g c = as-called _ _ _ _ _ _ _ (ap shown c.in-BeginPartial.is) (c.begin_partial_turn.ensures.turns (g.V.Verifier.passes c.args.verifier.now))
+
 pub returns-in-Open-clause-turns : goal.returns-in-Open-clause-turns
 returns-in-Open-clause-turns g c = as-called _ _ _ _ _ _ _ (ap shown c.in-Open.is ∙ shown-open c.in-Open.guid c.in-Open.op) (c.open_turn.ensures.turns (g.V.Verifier.passes c.args.verifier.now))
 

@@ -1,14 +1,14 @@
 use Rattle.std.proofs.Common.{sym, ap, subst, ◌∙◌}
 use Rattle.fwu_model.specs.Call as call
 use Rattle.fwu_model.specs.Reply.{Reply, Turn}
-use Rattle.script_turns.specs.Powered.{moment_of}
+use Rattle.script_turns.specs.Powered.{moment_in}
 use Rattle.script_turns.specs.Turning.{Turns, quiet_turn}
 use Rattle.script_turns.proofs.Quiets.{show-turns}
 use Rattle.script_turns.proofs.quiet.show_turn.Goals as goal
 
 pub returns-clause-turns : goal.returns-clause-turns
 returns-clause-turns g c passes files faults =
-    let m = moment_of c.args.powered in
+    let m = moment_in c.args.stage.now in
     subst (λ (t : Turn). Turns passes g.D.Flash.tells files call.Show t m m faults faults)
-    (sym (c.turn_of-turn.ensures ∙ ap (λ (r : Reply). quiet_turn call.Show r) c.shown_by.ensures.value))
+    (sym (c.turn_of.ensures ∙ ap (λ (r : Reply). quiet_turn call.Show r) c.shown_by.ensures.value))
     (show-turns passes g.D.Flash.tells files m faults)

@@ -1,4 +1,4 @@
-use Rattle.std.proofs.Common.{◌≡◌, ◌⊎◌, inl, inr, ℕ, ◌+◌, ◌≤◌, List, Some, Result, Ok, Err, Option, refl, sym, ap, subst, ◌∙◌, arith}
+use Rattle.std.proofs.Common.{◌≡◌, ◌⊎◌, inl, inr, ℕ, ◌+◌, ◌≤◌, Bool, true, false, List, Result, Ok, Err, Option, refl, sym, ap, subst, ◌∙◌, arith}
 use Rattle.std.specs.Prelude.{string_bytes}
 use Rattle.base_core.specs.Counts.{Rose}
 use Rattle.host_io.specs.Contents.{Directory}
@@ -6,16 +6,17 @@ use Rattle.fip_tables.specs.Files.{Lacks, Tells}
 use Rattle.fwu_formats.specs.Package.{Toc}
 use Rattle.fwu_model.specs.Answer.{table_in}
 use Rattle.fwu_model.specs.Causes.{LacksFile}
+use Rattle.fwu_model.specs.Call.{Call}
 use Rattle.fwu_model.specs.Reply as reply
-use Rattle.agent_calls.specs.Shown.{device as agent_device, fields}
 use Rattle.fwu_journal.specs.Shown.{turn}
-use Rattle.script_turns.specs.Calls.{moment_live}
-use Rattle.script_turns.specs.Powered.{moment_of}
+use Rattle.script_turns.specs.Calls.{moment_where}
 use Rattle.script_turns.specs.Tables.{IsAnswer, unread_in}
 use Rattle.script_turns.specs.Turning.{Turns, quiet_turn}
 use Rattle.script_turns.specs.declared.tables.TableStop.{TableStop}
 use Rattle.script_turns.specs.declared.tables.TableStop.TheVariants as stop
-use Rattle.script_turns.proofs.SendTurns.{bad-table, lacks-file, moment-as, send_call, sends-later, stays-free, turns-as, unread-table}
+use Rattle.script_turns.specs.Sending.{send_call}
+use Rattle.script_turns.proofs.SendTurns.{bad-table, lacks-file, moment-as, sends-later, turns-as, unread-table}
+use Rattle.script_turns.proofs.Quiets.{stays-free}
 use Rattle.script_turns.proofs.sending.send_turn.Goals as goal
 
 -- what a reading of the table says of the file
@@ -48,45 +49,57 @@ one-failed (Err stop.ReadFailed) was are once = once
 
 pub returns-in-Ok-clause-turns : goal.returns-in-Ok-clause-turns
 returns-in-Ok-clause-turns g c =
-    sends-later (g.H.Files.faults c.args.files.now) (g.H.Files.faults c.read_table.new.files) (g.H.Files.faults c.send_by.new.files) c.read_table.ensures.cause.later (omega (arith, c.in-Ok.ensures.cause.once))
-    (subst (λ (files : Option Directory). Turns (g.V.Verifier.passes c.args.verifier.now) g.D.Flash.tells files (send_call (string_bytes c.args.name) c.args.request) (turn c.send_by.result.turn) (moment_live c.args.live)
-    (moment_of c.send_by.result.powered) (g.H.Files.faults c.read_table.new.files) (g.H.Files.faults c.send_by.new.files)) c.read_table.ensures.same c.send_by.ensures.turns)
+    let name = string_bytes c.args.name in
+    sends-later c.args.partial name c.args.request (g.H.Files.faults c.args.files.now) (g.H.Files.faults c.read_table.new.files) (g.H.Files.faults c.send_partial_by.new.files) c.read_table.ensures.cause.later (omega (arith, c.in-Ok.ensures.cause.once))
+    (subst (λ (kind : Bool). Turns (g.V.Verifier.passes c.args.verifier.now) g.D.Flash.tells (g.H.Files.contents c.args.files.now) (send_call kind name c.args.request) (turn c.send_partial_by.result.turn) (moment_where true c.args.agent.now)
+    (moment_where c.send_partial_by.result.here c.send_partial_by.new.agent) (g.H.Files.faults c.read_table.new.files) (g.H.Files.faults c.send_partial_by.new.files)) (sym c.if-partial.true)
+    (subst (λ (files : Option Directory). Turns (g.V.Verifier.passes c.args.verifier.now) g.D.Flash.tells files (send_call true name c.args.request) (turn c.send_partial_by.result.turn) (moment_where true c.args.agent.now)
+    (moment_where c.send_partial_by.result.here c.send_partial_by.new.agent) (g.H.Files.faults c.read_table.new.files) (g.H.Files.faults c.send_partial_by.new.files)) c.read_table.ensures.same c.send_partial_by.ensures.turns))
+
+pub returns-in-Ok-2-clause-turns : goal.returns-in-Ok-2-clause-turns
+returns-in-Ok-2-clause-turns g c =
+    let name = string_bytes c.args.name in
+    sends-later c.args.partial name c.args.request (g.H.Files.faults c.args.files.now) (g.H.Files.faults c.read_table.new.files) (g.H.Files.faults c.send_by.new.files) c.read_table.ensures.cause.later (omega (arith, c.in-Ok.ensures.cause.once))
+    (subst (λ (kind : Bool). Turns (g.V.Verifier.passes c.args.verifier.now) g.D.Flash.tells (g.H.Files.contents c.args.files.now) (send_call kind name c.args.request) (turn c.send_by.result.turn) (moment_where true c.args.agent.now)
+    (moment_where c.send_by.result.here c.send_by.new.agent) (g.H.Files.faults c.read_table.new.files) (g.H.Files.faults c.send_by.new.files)) (sym c.if-partial.false)
+    (subst (λ (files : Option Directory). Turns (g.V.Verifier.passes c.args.verifier.now) g.D.Flash.tells files (send_call false name c.args.request) (turn c.send_by.result.turn) (moment_where true c.args.agent.now)
+    (moment_where c.send_by.result.here c.send_by.new.agent) (g.H.Files.faults c.read_table.new.files) (g.H.Files.faults c.send_by.new.files)) c.read_table.ensures.same c.send_by.ensures.turns))
 
 pub returns-in-Err-Package-clause-turns : goal.returns-in-Err-Package-clause-turns
 returns-in-Err-Package-clause-turns g c =
-    let agent = c.args.live.agent in
+    let agent = c.args.agent.now in
     let fault = c.in-Err-Package.fault in
     let files = g.H.Files.contents c.args.files.now in
     let is : c.read_table.result ≡ Err (stop.Package fault) = cc in
     let table = table-of files c.as_str.result.now (string_bytes c.args.name) c.read_table.result (Err (stop.Package fault)) c.as_str.ensures.value is c.read_table.ensures.told in
-    turns-as _ (quiet_turn (send_call (string_bytes c.args.name) c.args.request) (reply.BadPackage fault)) (moment_live c.args.live) (moment_live c.args.live) _ _
-    c.answered.ensures.turn refl
-    (moment-as c.answered.result.powered (Some (fields agent)) (agent_device agent) c.answered.ensures.on c.answered.ensures.device)
-    (bad-table _ _ _ _ _ _ _ _ _ _ _ _ c.read_table.ensures.cause.later (reply.BadPackage fault) (none-failed (Err (stop.Package fault)) _ _ is c.read_table.ensures.cause.once refl) refl refl table (table, refl)
+    turns-as _ (quiet_turn (send_call c.args.partial (string_bytes c.args.name) c.args.request) (reply.BadPackage fault)) (moment_where true agent) (moment_where true agent) _ _
+    (c.answered.ensures.turn ∙ ap (λ (x : Call). quiet_turn x (reply.BadPackage fault)) c.send_call.ensures) refl
+    (moment-as agent c.answered.result.here true c.answered.ensures.here)
+    (bad-table c.args.partial _ _ _ _ _ _ _ _ _ _ _ _ c.read_table.ensures.cause.later (reply.BadPackage fault) (none-failed (Err (stop.Package fault)) _ _ is c.read_table.ensures.cause.once refl) refl refl table (table, refl)
     (is-there files c.as_str.result.now (string_bytes c.args.name) c.read_table.result (stop.Package fault) c.as_str.ensures.value is (λ e. cc) c.read_table.ensures.missing)
-    (record { spent = record { told = refl; counts = refl; armed = refl; power = refl }; unarmed = stays-free _ _ }))
+    (record { told = refl; counts = refl; armed = refl; power = refl }) (stays-free _ _))
 
 pub returns-in-Err-Capsule-clause-turns : goal.returns-in-Err-Capsule-clause-turns
 returns-in-Err-Capsule-clause-turns g c =
-    let agent = c.args.live.agent in
+    let agent = c.args.agent.now in
     let fault = c.in-Err-Capsule.fault in
     let files = g.H.Files.contents c.args.files.now in
     let is : c.read_table.result ≡ Err (stop.Capsule fault) = cc in
     let table = table-of files c.as_str.result.now (string_bytes c.args.name) c.read_table.result (Err (stop.Capsule fault)) c.as_str.ensures.value is c.read_table.ensures.told in
     let turned = c.answered-in-Err-Capsule in
-    turns-as _ (quiet_turn (send_call (string_bytes c.args.name) c.args.request) (reply.BadCapsule fault)) (moment_live c.args.live) (moment_live c.args.live) _ _
-    turned.ensures.turn refl
-    (moment-as turned.result.powered (Some (fields agent)) (agent_device agent) turned.ensures.on turned.ensures.device)
-    (bad-table _ _ _ _ _ _ _ _ _ _ _ _ c.read_table.ensures.cause.later (reply.BadCapsule fault) (none-failed (Err (stop.Capsule fault)) _ _ is c.read_table.ensures.cause.once refl) refl refl table (table, refl)
+    turns-as _ (quiet_turn (send_call c.args.partial (string_bytes c.args.name) c.args.request) (reply.BadCapsule fault)) (moment_where true agent) (moment_where true agent) _ _
+    (turned.ensures.turn ∙ ap (λ (x : Call). quiet_turn x (reply.BadCapsule fault)) c.send_call-in-Err-Capsule.ensures) refl
+    (moment-as agent turned.result.here true turned.ensures.here)
+    (bad-table c.args.partial _ _ _ _ _ _ _ _ _ _ _ _ c.read_table.ensures.cause.later (reply.BadCapsule fault) (none-failed (Err (stop.Capsule fault)) _ _ is c.read_table.ensures.cause.once refl) refl refl table (table, refl)
     (is-there files c.as_str.result.now (string_bytes c.args.name) c.read_table.result (stop.Capsule fault) c.as_str.ensures.value is (λ e. cc) c.read_table.ensures.missing)
-    (record { spent = record { told = refl; counts = refl; armed = refl; power = refl }; unarmed = stays-free _ _ }))
+    (record { told = refl; counts = refl; armed = refl; power = refl }) (stays-free _ _))
 
 pub returns-in-Err-ReadFailed-clause-turns : goal.returns-in-Err-ReadFailed-clause-turns
 returns-in-Err-ReadFailed-clause-turns g c =
-    let agent = c.args.live.agent in
+    let agent = c.args.agent.now in
     let is : c.read_table.result ≡ Err stop.ReadFailed = cc in
-    turns-as _ (quiet_turn (send_call (string_bytes c.args.name) c.args.request) reply.ReadFault) (moment_live c.args.live) (moment_live c.args.live) _ _
-    c.stopped.ensures.turn refl
-    (moment-as c.stopped.result.powered _ (agent_device agent) c.stopped.ensures.on c.stopped.ensures.device)
-    (unread-table _ _ _ _ _ _ _ _ _ _ _ _ c.read_table.ensures.cause.later (one-failed c.read_table.result _ _ c.read_table.ensures.cause.once)
+    turns-as _ (quiet_turn (send_call c.args.partial (string_bytes c.args.name) c.args.request) reply.ReadFault) (moment_where true agent) (moment_where true agent) _ _
+    (c.stopped.ensures.turn ∙ ap (λ (x : Call). quiet_turn x reply.ReadFault) c.send_call-in-Err-ReadFailed.ensures) refl
+    (moment-as agent c.stopped.result.here false c.stopped.ensures.here)
+    (unread-table c.args.partial _ _ _ _ _ _ _ _ _ _ _ _ c.read_table.ensures.cause.later (one-failed c.read_table.result _ _ c.read_table.ensures.cause.once)
     (unread-by (g.H.Files.contents c.args.files.now) c.as_str.result.now (string_bytes c.args.name) _ _ c.as_str.ensures.value (c.read_table.ensures.cause.failed is)))

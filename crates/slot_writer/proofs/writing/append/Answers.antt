@@ -7,8 +7,9 @@ use Rattle.slot_writer.specs.Writes.{writes_behind, writes_to_append}
 use Rattle.slot_writer.proofs.Counting.{appends-filled}
 use Rattle.slot_writer.proofs.Spending.{spends_then_arming}
 use Rattle.slot_writer.proofs.Keeping.{kept-filled}
-use Rattle.slot_writer.proofs.Appending.{on_ok, filled-appended}
+use Rattle.slot_writer.proofs.Appending.{filled-appended}
 use Rattle.slot_writer.proofs.writing.append.Goals as goal
+use Rattle.std.proofs.lemmas.Result.{on_ok_weaker}
 
 pub returns-clause-appends : goal.returns-clause-appends
 returns-clause-appends g c tells =
@@ -34,7 +35,7 @@ returns-clause-kept g c =
     let enough : room ≤ length bytes = omega (arith, c.if-kept-bytes-lt-GRANULE.false, some) in
     let kept : OnOk c.append_whole-2.result (take (length (drop room bytes) % 16) left ≡ drop (length (drop room bytes) - length (drop room bytes) % 16) (drop room bytes)) =
     subst (λ (l : List ℕ). OnOk c.append_whole-2.result (take (length l % 16) left ≡ drop (length l - length l % 16) l)) (take_rest bytes room) c.append_whole-2.ensures.kept in
-    on_ok {A = take (length (drop room bytes) % 16) left ≡ drop (length (drop room bytes) - length (drop room bytes) % 16) (drop room bytes)} c.append_whole-2.result
+    on_ok_weaker {P = take (length (drop room bytes) % 16) left ≡ drop (length (drop room bytes) - length (drop room bytes) % 16) (drop room bytes)} c.append_whole-2.result
     (kept-filled c.args.size room c.args.rest.now bytes left some (omega arith) enough c.told-rest) kept
 
 pub returns-clause-arming : goal.returns-clause-arming
@@ -49,4 +50,4 @@ returns-clause-arming g c =
     let sum : writes_behind (done_of c.args.size) n + writes_behind (done_of c.args.size + 16) (m - m % 16) ≡ writes_to_append c.args.size (length bytes) =
     ap (λ (k : ℕ). writes_behind (done_of c.args.size) k + writes_behind (done_of c.args.size + 16) (m - m % 16)) c.keep-2.array_long ∙ appends-filled c.args.size room (length bytes) m some (omega arith) m_is in
     spends_then_arming tt c.append_whole-2.result (writes_behind (done_of c.args.size) n) (writes_behind (done_of c.args.size + 16) (m - m % 16)) (writes_to_append c.args.size (length bytes)) _ _ _ _ _ _ sum
-    c.in_ok-program_behind.ensures.costs.cuts c.in_ok-program_behind.ensures.arming c.append_whole-2.ensures.arming
+    c.in_ok-program_behind.ensures.goes.costs.cuts c.in_ok-program_behind.ensures.arming c.append_whole-2.ensures.arming

@@ -23,4 +23,4 @@ returns-clause-arming g c =
     length-take-le c.granule_for.result c.padded-last.result (omega (arith, c.granule_for.ensures, padded_size (size % 16) c.args.rest.now c.padded-last.result (omega arith) c.told-rest c.padded-last.ensures)) ∙ c.granule_for.ensures in
     spends_then_arming tt c.barrier.result (writes_behind (done_of size) n) 0 (writes_to_finish size) _ _ _ _ _ _
     (ap (λ (k : ℕ). writes_behind (done_of size) k + 0) n_is ∙ finishes-kept size)
-    c.in_ok-program_behind.ensures.costs.cuts c.in_ok-program_behind.ensures.arming (spends_barrier c.barrier.result _ _ _ _ c.barrier.ensures.arming c.barrier.ensures.reached)
+    c.in_ok-program_behind.ensures.goes.costs.cuts c.in_ok-program_behind.ensures.arming (spends_barrier c.barrier.result _ _ _ _ c.barrier.ensures.arming c.barrier.ensures.reached)

@@ -30,5 +30,5 @@ returns-clause-arming g c =
     let some : 0 < length c.args.bytes.now = search rules in
     let erased : ℕ = c.args.first + c.blocks_for-2.result - (c.args.first + c.blocks_for.result) in
     let total : erased + 1 ≡ writes_behind done n = omega (arith, c.blocks_for.ensures, c.blocks_for-2.ensures, behind-some done n some) in
-    spends_then_arming tt c.program.result erased 1 (writes_behind done n) _ _ _ _ _ _ total c.in_ok-erase_blocks.ensures.costs.cuts c.in_ok-erase_blocks.ensures.arming
+    spends_then_arming tt c.program.result erased 1 (writes_behind done n) _ _ _ _ _ _ total c.in_ok-erase_blocks.ensures.goes.costs.cuts c.in_ok-erase_blocks.ensures.arming
     (spends_one c.program.result _ _ _ _ c.program.ensures.arming c.program.ensures.reached)

@@ -7,9 +7,8 @@ use Rattle.agent_calls.specs.Shown.{gone, moment}
 use Rattle.update_client.specs.declared.stops.SendStop.{SendStop}
 use Rattle.update_client.specs.Finishes.{FinishesBy}
 use Rattle.update_client.proofs.Finished.{finish-done, finish-lost, finish-failed, finish-refused, finish-halted, still-here}
-use Rattle.update_client.proofs.Taking.{takes-switch}
 use Rattle.update_client.proofs.finishing.finish.Goals as goal
-use Rattle.update_client.proofs.Going.{MeetsAs}
+use Rattle.agent_machine.proofs.CallGoing.{MeetsAs}
 
 pub returns-in-Ok-clause-finishes : goal.returns-in-Ok-clause-finishes
 returns-in-Ok-clause-finishes g c = finish-done _ _ _ (c.in-Ok.ensures.meets c.requires.here _ refl)
@@ -20,7 +19,7 @@ returns-in-Ok-cancel-clause-finishes g c =
     let ends = subst (λ (q : Stop). MeetsAs {T = Unit {0}} (λ _. reply.Success) (Err q) (g.V.Verifier.passes c.args.verifier.now) call.End
     (moment c.args.agent.now) (moment c.end.new.self)) c.in-Err-Status.field-0-is (c.in-Err-Status.ensures.meets c.requires.here _ refl) in
     let goes = subst (λ (q : Stop). GoesBy {T = Unit {0}} (Err q) (gone c.args.agent.now)
-    (gone c.end.new.self)) c.in-Err-Status.field-0-is c.in-Err-Status.ensures.goes in
+    (gone c.end.new.self)) c.in-Err-Status.field-0-is c.in-Err-Status.ensures.goes.gone in
     finish-refused _ _ (moment c.end.new.self) _ st ends (c.in-Ok-cancel.ensures.meets (still-here st _ _ c.requires.here goes))
 
 pub returns-in-Err-clause-finishes : goal.returns-in-Err-clause-finishes
@@ -29,11 +28,11 @@ returns-in-Err-clause-finishes g c =
     let ends = subst (λ (q : Stop). MeetsAs {T = Unit {0}} (λ _. reply.Success) (Err q) (g.V.Verifier.passes c.args.verifier.now) call.End
     (moment c.args.agent.now) (moment c.end.new.self)) c.in-Err-Status.field-0-is (c.in-Err-Status.ensures.meets c.requires.here _ refl) in
     let goes = subst (λ (q : Stop). GoesBy {T = Unit {0}} (Err q) (gone c.args.agent.now)
-    (gone c.end.new.self)) c.in-Err-Status.field-0-is c.in-Err-Status.ensures.goes in
+    (gone c.end.new.self)) c.in-Err-Status.field-0-is c.in-Err-Status.ensures.goes.gone in
     let here = still-here st _ _ c.requires.here goes in
     subst (λ (q : SendStop). FinishesBy (g.V.Verifier.passes c.args.verifier.now) (Err q) (moment c.args.agent.now) (moment c.cancel.new.self))
     (sym c.stopped.ensures)
-    (finish-halted _ _ (moment c.end.new.self) _ st ends c.in-Err.stop _ _ here c.in-Err.ensures.goes (c.in-Err.ensures.meets here))
+    (finish-halted _ _ (moment c.end.new.self) _ st ends c.in-Err.stop _ _ here c.in-Err.ensures.goes.gone (c.in-Err.ensures.meets here))
 
 pub returns-in-Err-Lost-clause-finishes : goal.returns-in-Err-Lost-clause-finishes
 returns-in-Err-Lost-clause-finishes g c = finish-lost _ _ _ (subst
@@ -46,4 +45,4 @@ returns-in-Err-Fault-clause-finishes g c = finish-failed _ _ _ (subst
     (moment c.end.new.self)) c.in-Err-Fault.field-0-is (c.in-Err-Fault.ensures.meets c.requires.here _ refl))
 
 pub returns-in-Ok-clause-takes : goal.returns-in-Ok-clause-takes
-returns-in-Ok-clause-takes g c = takes-switch _ _ c.in-Ok.ensures.spent
+returns-in-Ok-clause-takes g c = c.in-Ok.ensures.spent

@@ -1,16 +1,15 @@
-use Rattle.std.proofs.Common.{◌≡◌, false, Result, Ok, Err, sym, subst, ◌∙◌}
+use Rattle.std.proofs.Common.{◌≡◌, false, Result, Err, sym, subst, ◌∙◌}
 use Rattle.std.proofs.lemmas.Result.{on_ok_weaker}
 use Rattle.flash_core.specs.declared.flash.FlashStop.{FlashStop}
-use Rattle.agent_calls.specs.Shown.{device, gone, moment}
+use Rattle.agent_calls.specs.Shown.{SpentBy, device, moment}
 use Rattle.update_client.specs.declared.stops.SendStop.{SendStop}
 use Rattle.update_client.specs.declared.stops.SendStop.TheVariants.{ReadFailed}
-use Rattle.update_client.specs.Halts.{Spent, SpentBy, flash_of, is_unread}
-use Rattle.update_client.specs.Finishes.{InstallsImages}
+use Rattle.update_client.specs.Halts.{flash_of, is_unread}
 use Rattle.update_client.specs.Images.{SendsImages}
 use Rattle.update_client.specs.Pieces.{ReadsBy}
 use Rattle.update_client.proofs.Installed.{installed, uncancelled, interrupted, unread-is}
-use Rattle.update_client.proofs.ImagesTaking.{install-takes}
-use Rattle.update_client.proofs.Spending.{spent-then, still-spent, unstopped}
+use Rattle.agent_machine.proofs.Spending.{call-spent, spent-then}
+use Rattle.update_client.proofs.Spending.{unstopped}
 use Rattle.update_client.proofs.finishing.install.Goals as goal
 
 pub returns-then-not-is_unread-clause-installs : goal.returns-then-not-is_unread-clause-installs
@@ -28,27 +27,28 @@ returns-else-not-is_unread-clause-installs g c =
     (Err st) (moment c.args.agent.now) (moment c.send_images.new.agent)) is c.in-Err.ensures.sent in
     let spent = subst (λ (st : SendStop). SpentBy (flash_of {T = Unit {0}} (Err st)) c.args.agent.now c.send_images.new.agent) is c.in-Err.ensures.spent in
     let e = c.cancel-cancelled.ensures in
-    uncancelled _ _ _ _ _ _ (moment c.send_images.new.agent) _ c.cancel-cancelled.result _ _ spent.gone_is e.goes e.answers sent (e.meets spent.gone_is)
+    uncancelled _ _ _ _ _ _ (moment c.send_images.new.agent) _ c.cancel-cancelled.result _ _ spent.gone_is e.goes.gone e.answers sent (e.meets spent.gone_is)
 
 pub returns-in-Ok-clause-takes : goal.returns-in-Ok-clause-takes
-returns-in-Ok-clause-takes g c = on_ok_weaker c.finish.result (λ ends. install-takes c.args.entries.now c.args.acceptance (moment c.args.agent.now) _
-    (g.D.Flash.arming (device c.send_images.new.agent)) _ c.in-Ok.ensures.takes ends) c.finish.ensures.takes
+returns-in-Ok-clause-takes g c = on_ok_weaker c.finish.result (λ ends. record {
+  sent = g.D.Flash.arming (device c.send_images.new.agent);
+  images = c.in-Ok.ensures.takes;
+  switch = ends;
+}) c.finish.ensures.takes
 
 -- ---- what it spends
 
 pub returns-in-Ok-clause-spent : goal.returns-in-Ok-clause-spent
-returns-in-Ok-clause-spent g c = spent-then _ _ _ _ _ _ _ _ _ _ _ _ _ _ c.in-Ok.ensures.spent c.finish.ensures.spent
+returns-in-Ok-clause-spent g c = spent-then c.in-Ok.ensures.spent c.finish.ensures.spent
 
 pub returns-else-not-is_unread-clause-spent : goal.returns-else-not-is_unread-clause-spent
 returns-else-not-is_unread-clause-spent g c =
     let is : c.in-Err.stop ≡ ReadFailed = unread-is c.in-Err.stop (sym c.is_unread.ensures ∙ c.if-not-is_unread.false) in
     let spent = subst (λ (st : SendStop). SpentBy (flash_of {T = Unit {0}} (Err st)) c.args.agent.now c.send_images.new.agent) is c.in-Err.ensures.spent in
     let e = c.cancel-cancelled.ensures in
-    spent-then _ _ _ _ _ _ _ _ _ _ _ _ _ _ spent
-    (subst (λ (f : Result (Unit {0}) FlashStop). Spent f (gone c.cancel-cancelled.new.self) (g.D.Flash.on (device c.cancel-cancelled.new.self)) (g.D.Flash.blocks (device c.send_images.new.agent))
-    (g.D.Flash.blocks (device c.cancel-cancelled.new.self)) (g.D.Flash.arming (device c.send_images.new.agent)) (g.D.Flash.arming (device c.cancel-cancelled.new.self))
-    (g.D.Flash.counts (device c.send_images.new.agent)) (g.D.Flash.counts (device c.cancel-cancelled.new.self))) (unstopped c.cancel-cancelled.result e.answers)
-    (still-spent c.cancel-cancelled.result _ _ _ _ _ g.D.Flash.arming g.D.Flash.counts _ _ spent.gone_is e.goes e.power e.size e.costs e.answers e.still))
+    spent-then spent
+    (subst (λ (f : Result (Unit {0}) FlashStop). SpentBy f c.send_images.new.agent c.cancel-cancelled.new.self)
+    (unstopped c.cancel-cancelled.result e.answers) (call-spent spent.gone_is e.goes))
 
 pub returns-else-not-is_unread-clause-reads : goal.returns-else-not-is_unread-clause-reads
 returns-else-not-is_unread-clause-reads g c =

@@ -1,12 +1,14 @@
-use Rattle.std.proofs.Common.{Err, Ok, ℕ, sym, subst}
-use Rattle.agent_calls.specs.Shown.{device, moment}
+use Rattle.std.proofs.Common.{Err, ℕ, length, sym, subst}
+use Rattle.agent_calls.specs.Shown.{SpentBy, device, gone, moment}
+use Rattle.agent_calls.specs.Takes.{pieces_of}
 use Rattle.update_client.specs.declared.stops.SendStop.{SendStop}
 use Rattle.update_client.specs.Pieces.{SendsImage}
 use Rattle.update_client.proofs.WrittenPiece.{image-unopened, image-unwritten, image-sent, image-uncommitted}
-use Rattle.update_client.specs.Halts.{SpentBy, flash_of}
+use Rattle.update_client.specs.Halts.{flash_of}
 use Rattle.update_client.specs.Takes.{FirstTake}
 use Rattle.update_client.proofs.ImagesTaking.{image-takes}
-use Rattle.update_client.proofs.Spending.{call-spent, spent-then, still-spent, stop-spent}
+use Rattle.agent_machine.proofs.Spending.{call-spent, spent-then}
+use Rattle.update_client.proofs.Spending.{stop-spent}
 use Rattle.update_client.proofs.Stopped.{handed-on}
 use Rattle.update_client.proofs.images.send_image.Goals as goal
 
@@ -14,7 +16,7 @@ pub returns-in-Err-clause-sent : goal.returns-in-Err-clause-sent
 returns-in-Err-clause-sent g c =
     subst (λ (st : SendStop). SendsImage (g.H.Files.contents c.args.files.now) c.args.name.now c.args.guid c.args.entry.now c.args.acceptance (Err st)
     (moment c.args.agent.now) (moment c.open.new.self)) (sym c.stopped.ensures)
-    (image-unopened _ _ _ _ _ _ _ c.in-Err.stop _ _ c.requires.here c.in-Err.ensures.goes (c.in-Err.ensures.meets c.requires.here))
+    (image-unopened _ _ _ _ _ _ _ c.in-Err.stop _ _ c.requires.here c.in-Err.ensures.goes.gone (c.in-Err.ensures.meets c.requires.here))
 
 pub returns-in_err-write_image-clause-sent : goal.returns-in_err-write_image-clause-sent
 returns-in_err-write_image-clause-sent g c =
@@ -32,14 +34,14 @@ returns-in-Err-commit-clause-sent g c =
     (moment c.args.agent.now) (moment c.commit.new.self)) (sym c.stopped-in-Err-commit.ensures)
     (image-uncommitted _ _ _ _ _ c.in-Ok.field-0 _ (moment c.open.new.self) (moment c.write_image.new.agent) _
     (c.in-Ok.ensures.meets c.requires.here) c.in_ok-write_image.ensures.wrote
-    c.in-Err-commit.stop _ _ c.in_ok-write_image.ensures.spent.gone_is c.in-Err-commit.ensures.goes
+    c.in-Err-commit.stop _ _ c.in_ok-write_image.ensures.spent.gone_is c.in-Err-commit.ensures.goes.gone
     (c.in-Err-commit.ensures.meets c.in_ok-write_image.ensures.spent.gone_is))
 
 pub returns-in-Ok-commit-clause-takes : goal.returns-in-Ok-commit-clause-takes
 returns-in-Ok-commit-clause-takes g c =
-    image-takes _ _ _ _ _ c.in-Ok.field-0 _ (moment c.open.new.self) (moment c.write_image.new.agent) _ (g.D.Flash.arming (device c.write_image.new.agent)) _
+    image-takes _ _ (length c.args.buf.now) _ _ c.in-Ok.field-0 _ (moment c.open.new.self) (moment c.write_image.new.agent) _ (g.D.Flash.arming (device c.write_image.new.agent)) _
     (c.in-Ok.ensures.meets c.requires.here) c.in_ok-write_image.ensures.wrote
-    (subst (λ d. FirstTake c.args.entry.now c.args.entry.now.size (moment c.open.new.self) (g.D.Flash.arming d)
+    (subst (λ d. FirstTake (length c.args.buf.now) c.args.entry.now (pieces_of (length c.args.buf.now) c.args.entry.now.size) (moment c.open.new.self) (g.D.Flash.arming d)
     (g.D.Flash.arming (device c.write_image.new.agent))) c.in-Ok.ensures.still c.in_ok-write_image.ensures.takes)
     (λ image writes. (c.in-Ok-commit.ensures.spent c.in_ok-write_image.ensures.spent.gone_is image writes).lowered)
 
@@ -47,31 +49,24 @@ returns-in-Ok-commit-clause-takes g c =
 
 pub returns-in-Err-clause-spent : goal.returns-in-Err-clause-spent
 returns-in-Err-clause-spent g c =
-    let e = c.in-Err.ensures in
     subst (λ (st : SendStop). SpentBy (flash_of {T = Unit {0}} (Err st)) c.args.agent.now c.open.new.self) (sym c.stopped.ensures)
-    (stop-spent ℕ (Unit {0}) c.in-Err.stop _ _ _ _ _ _ _ _ (still-spent {T = ℕ} (Err c.in-Err.stop) _ _ _ _ _ g.D.Flash.arming g.D.Flash.counts _ _ c.requires.here e.goes e.power e.size e.costs e.answers e.still))
+    (stop-spent ℕ (Unit {0}) c.in-Err.stop (gone c.open.new.self) (device c.args.agent.now) (device c.open.new.self)
+    (call-spent c.requires.here c.in-Err.ensures.goes))
 
 pub returns-in_err-write_image-clause-spent : goal.returns-in_err-write_image-clause-spent
 returns-in_err-write_image-clause-spent g c =
-    rw (handed-on c.from_residual.result c.in_err-write_image.field-0.0 c.from_residual.ensures.1) (
-    let e = c.in-Ok.ensures in
-    spent-then _ _ _ _ _ _ _ _ _ _ _ _ _ _ (still-spent (Ok c.in-Ok.field-0) _ _ _ _ _ g.D.Flash.arming g.D.Flash.counts _ _ c.requires.here e.goes e.power e.size e.costs e.answers e.still)
-    c.in_err-write_image.ensures.spent)
+    rw (handed-on c.from_residual.result c.in_err-write_image.field-0.0 c.from_residual.ensures.1)
+    (spent-then (call-spent c.requires.here c.in-Ok.ensures.goes) c.in_err-write_image.ensures.spent)
 
 pub returns-in-Ok-commit-clause-spent : goal.returns-in-Ok-commit-clause-spent
 returns-in-Ok-commit-clause-spent g c =
-    let e = c.in-Ok.ensures in
     let wrote = c.in_ok-write_image.ensures.spent in
-    let ends = c.in-Ok-commit.ensures in
-    spent-then _ _ _ _ _ _ _ _ _ _ _ _ _ _ (still-spent (Ok c.in-Ok.field-0) _ _ _ _ _ g.D.Flash.arming g.D.Flash.counts _ _ c.requires.here e.goes e.power e.size e.costs e.answers e.still)
-    (spent-then _ _ _ _ _ _ _ _ _ _ _ _ _ _ wrote (call-spent (Ok c.in-Ok-commit.field-0) _ _ _ _ _ _ _ _ _ wrote.gone_is ends.goes ends.power ends.size ends.costs ends.unarmed))
+    spent-then (call-spent c.requires.here c.in-Ok.ensures.goes) (spent-then wrote (call-spent wrote.gone_is c.in-Ok-commit.ensures.goes))
 
 pub returns-in-Err-commit-clause-spent : goal.returns-in-Err-commit-clause-spent
 returns-in-Err-commit-clause-spent g c =
-    let e = c.in-Ok.ensures in
     let wrote = c.in_ok-write_image.ensures.spent in
-    let ends = c.in-Err-commit.ensures in
     subst (λ (st : SendStop). SpentBy (flash_of {T = Unit {0}} (Err st)) c.args.agent.now c.commit.new.self) (sym c.stopped-in-Err-commit.ensures)
-    (spent-then _ _ _ _ _ _ _ _ _ _ _ _ _ _ (still-spent (Ok c.in-Ok.field-0) _ _ _ _ _ g.D.Flash.arming g.D.Flash.counts _ _ c.requires.here e.goes e.power e.size e.costs e.answers e.still)
-    (spent-then _ _ _ _ _ _ _ _ _ _ _ _ _ _ wrote
-    (stop-spent (Unit {0}) (Unit {0}) c.in-Err-commit.stop _ _ _ _ _ _ _ _ (call-spent {T = Unit {0}} (Err c.in-Err-commit.stop) _ _ _ _ _ _ _ _ _ wrote.gone_is ends.goes ends.power ends.size ends.costs ends.unarmed))))
+    (spent-then (call-spent c.requires.here c.in-Ok.ensures.goes) (spent-then wrote
+    (stop-spent (Unit {0}) (Unit {0}) c.in-Err-commit.stop (gone c.commit.new.self) (device c.write_image.new.agent) (device c.commit.new.self)
+    (call-spent wrote.gone_is c.in-Err-commit.ensures.goes))))

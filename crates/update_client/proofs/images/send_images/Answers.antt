@@ -1,10 +1,10 @@
 use Rattle.std.proofs.Common.{◌≡◌, ◌<◌, ℕ, List, length, get_or, Ok, Err, Option, refl, ap, subst, ◌∙◌, arith}
 use Rattle.std.proofs.lemmas.List.{get_or_default}
-use Rattle.update_client.proofs.Spending.{none-spent, spent-then}
+use Rattle.agent_machine.proofs.Spending.{none-spent, spent-then}
 use Rattle.update_client.proofs.ImagesTaking.{images-take-none, images-take-more, images-take-all}
 use Rattle.host_io.specs.Contents.{Directory}
 use Rattle.fwu_formats.specs.Package.{Entry}
-use Rattle.agent_calls.specs.Shown.{device, moment}
+use Rattle.agent_calls.specs.Shown.{device, gone, moment}
 use Rattle.update_client.specs.Pieces.{SendsImage}
 use Rattle.update_client.specs.Images.{no_entry}
 use Rattle.update_client.specs.Takes.{ImageTakes}
@@ -15,8 +15,8 @@ use Rattle.update_client.proofs.images.send_images.Goals as goal
 pub loop-k-init : goal.loop-k-init
 loop-k-init g c = record {
   first = images-none _ _ _ _ _;
-  takes = images-take-none c.args.entries.now c.args.acceptance _ _;
-  spent = none-spent _ _ _ _ _ c.requires.here (c.args.agent.now.power c.requires.here);
+  takes = images-take-none (length c.args.buf.now) c.args.entries.now _ _;
+  spent = none-spent g.D.Flash (gone c.args.agent.now) (device c.args.agent.now) c.requires.here (c.args.agent.now.power c.requires.here);
   buffer = refl;
   same = refl;
   unwritten = refl;
@@ -37,14 +37,18 @@ loop-k-preserved g c =
     (moment c.send_image.new.agent)) at
     (subst (λ (guid : List ℕ). SendsImage (g.H.Files.contents c.loop-k.files) c.args.name.now guid c.index-entries-k.result c.args.acceptance (Ok tt)
     (moment c.loop-k.agent) (moment c.send_image.new.agent)) (ap (λ (e : Entry). e.guid) c.entry.view_is) c.in_ok-send_image.ensures.sent)) in
-    let takes = subst (λ (e : Entry). ImageTakes e.guid e c.args.acceptance (moment c.loop-k.agent) (g.D.Flash.arming (device c.loop-k.agent))
+    let size = length c.args.buf.now in
+    let now = length c.loop-k.buf in
+    let takes = subst (λ (n : ℕ). ImageTakes n (get_or c.args.entries.now k no_entry).guid (get_or c.args.entries.now k no_entry) (moment c.loop-k.agent)
+    (g.D.Flash.arming (device c.loop-k.agent)) (g.D.Flash.arming (device c.send_image.new.agent))) before.buffer
+    (subst (λ (e : Entry). ImageTakes now e.guid e (moment c.loop-k.agent) (g.D.Flash.arming (device c.loop-k.agent))
     (g.D.Flash.arming (device c.send_image.new.agent))) at
-    (subst (λ (guid : List ℕ). ImageTakes guid c.index-entries-k.result c.args.acceptance (moment c.loop-k.agent) (g.D.Flash.arming (device c.loop-k.agent))
-    (g.D.Flash.arming (device c.send_image.new.agent))) (ap (λ (e : Entry). e.guid) c.entry.view_is) c.in_ok-send_image.ensures.takes) in
+    (subst (λ (guid : List ℕ). ImageTakes now guid c.index-entries-k.result (moment c.loop-k.agent) (g.D.Flash.arming (device c.loop-k.agent))
+    (g.D.Flash.arming (device c.send_image.new.agent))) (ap (λ (e : Entry). e.guid) c.entry.view_is) c.in_ok-send_image.ensures.takes)) in
     record {
       first = images-more _ _ _ _ k below _ (moment c.loop-k.agent) _ before.first image;
-      takes = images-take-more _ _ _ _ k _ (moment c.loop-k.agent) _ _ _ below before.first before.takes takes;
-      spent = spent-then (Ok tt) _ _ _ _ _ _ _ _ _ _ _ _ _ before.spent c.in_ok-send_image.ensures.spent;
+      takes = images-take-more _ _ size _ _ k _ (moment c.loop-k.agent) _ _ _ below before.first before.takes takes;
+      spent = spent-then before.spent c.in_ok-send_image.ensures.spent;
       buffer = c.in_ok-send_image.ensures.buffer ∙ before.buffer;
       same = c.in_ok-send_image.ensures.same ∙ before.same;
       unwritten = c.in_ok-send_image.ensures.unwritten ∙ before.unwritten;
@@ -74,9 +78,9 @@ pub returns-clause-sent : goal.returns-clause-sent
 returns-clause-sent g c = images-done _ _ _ _ c.loop-k.k _ _ (omega (arith, c.loop-k-test.false, c.loop-k.auto.k-end)) c.loop-k.invariant.first
 
 pub returns-clause-takes : goal.returns-clause-takes
-returns-clause-takes g c = images-take-all c.args.entries.now c.args.acceptance c.loop-k.k _ _ _ (omega (arith, c.loop-k-test.false)) c.loop-k.invariant.takes
+returns-clause-takes g c = images-take-all (length c.args.buf.now) c.args.entries.now c.loop-k.k _ _ _ (omega (arith, c.loop-k-test.false)) c.loop-k.invariant.takes
 
 pub returns-in_err-send_image-clause-spent : goal.returns-in_err-send_image-clause-spent
 returns-in_err-send_image-clause-spent g c =
     rw (handed-on c.from_residual.result c.in_err-send_image.field-0.0 c.from_residual.ensures.1)
-    (spent-then _ _ _ _ _ _ _ _ _ _ _ _ _ _ c.loop-k.invariant.spent c.in_err-send_image.ensures.spent)
+    (spent-then c.loop-k.invariant.spent c.in_err-send_image.ensures.spent)

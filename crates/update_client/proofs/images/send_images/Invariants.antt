@@ -1,7 +1,6 @@
 use Rattle.std.proofs.Common.{◌≡◌, ◌≤◌, length}
 use Rattle.std.specs.Prelude.{Ok}
-use Rattle.agent_calls.specs.Shown.{device, gone, moment}
-use Rattle.update_client.specs.Halts.{Spent}
+use Rattle.agent_calls.specs.Shown.{SpentBy, device, moment}
 use Rattle.update_client.specs.Images.{SendsFirst}
 use Rattle.update_client.specs.Takes.{ImagesTake}
 use Rattle.update_client.proofs.images.send_images.Given as goal
@@ -9,10 +8,8 @@ use Rattle.update_client.proofs.images.send_images.Given as goal
 abbrev pub invariant-loop-k : goal.invariant-loop-k
 invariant-loop-k g l = record {
   first : SendsFirst (g.H.Files.contents l.fn.files) l.name l.entries l.acceptance l.k (moment l.fn.agent) (moment l.agent);
-  takes : ImagesTake l.entries l.acceptance l.k (moment l.fn.agent) (g.D.Flash.arming (device l.fn.agent)) (g.D.Flash.arming (device l.agent));
-  spent : Spent (Ok tt) (gone l.agent) (g.D.Flash.on (device l.agent)) (g.D.Flash.blocks (device l.fn.agent)) (g.D.Flash.blocks (device l.agent))
-      (g.D.Flash.arming (device l.fn.agent)) (g.D.Flash.arming (device l.agent)) (g.D.Flash.counts (device l.fn.agent))
-      (g.D.Flash.counts (device l.agent));
+  takes : ImagesTake (length l.fn.buf) l.entries l.k (moment l.fn.agent) (g.D.Flash.arming (device l.fn.agent)) (g.D.Flash.arming (device l.agent));
+  spent : SpentBy (Ok tt) l.fn.agent l.agent;
   buffer : length l.buf ≡ length l.fn.buf;
   same : g.H.Files.contents l.files ≡ g.H.Files.contents l.fn.files;
   unwritten : g.H.Files.writes l.files ≡ g.H.Files.writes l.fn.files;

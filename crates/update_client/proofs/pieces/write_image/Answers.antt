@@ -1,9 +1,10 @@
-use Rattle.std.proofs.Common.{Ok, Err, Option, refl, ap, subst, ◌∙◌, arith}
+use Rattle.std.proofs.Common.{ℕ, ◌<◌, length, Ok, Err, Option, refl, ap, subst, ◌∙◌, arith}
 use Rattle.host_io.specs.Contents.{Directory}
-use Rattle.update_client.proofs.Spending.{none-spent, spent-then}
-use Rattle.update_client.proofs.ImagesTaking.{first-takes-none, first-takes-more, first-takes-all}
+use Rattle.agent_machine.proofs.Spending.{none-spent, spent-then}
+use Rattle.update_client.proofs.ImagesTaking.{first-taken-none, first-taken-more, first-taken-all}
 use Rattle.fwu_formats.specs.Package.{Entry}
-use Rattle.agent_calls.specs.Shown.{moment}
+use Rattle.agent_calls.specs.Shown.{device, gone, moment}
+use Rattle.agent_calls.specs.Takes.{piece_at}
 use Rattle.update_client.specs.Pieces.{WritesPiece}
 use Rattle.update_client.proofs.WrittenImage.{first-none, first-more, image-stopped, image-done}
 use Rattle.update_client.proofs.Stopped.{handed-on}
@@ -18,8 +19,8 @@ pub loop-at-init : goal.loop-at-init
 loop-at-init g c = record {
   inside = omega arith;
   first = first-none _ _ _ _;
-  takes = first-takes-none c.args.entry.now _ _;
-  spent = none-spent _ _ _ _ _ c.requires.here (c.args.agent.now.power c.requires.here);
+  takes = first-taken-none (length c.args.buf.now) c.args.entry.now _ _ c.requires.room;
+  spent = none-spent g.D.Flash (gone c.args.agent.now) (device c.args.agent.now) c.requires.here (c.args.agent.now.power c.requires.here);
   buffer = refl;
   same = refl;
   unwritten = refl;
@@ -32,11 +33,13 @@ loop-at-preserved g c =
     let before = c.loop-at.invariant in
     let wrote = subst (λ (d : Option Directory). WritesPiece d c.args.name.now c.args.entry.now c.loop-at.at (Ok c.in_ok-at.field-0)
     (moment c.loop-at.agent) (moment c.write_piece.new.agent)) before.same c.in_ok-at.ensures.wrote in
+    let more : c.loop-at.at < c.args.entry.now.size = omega (arith, c.loop-at-test.true, ap (λ (e : Entry). e.size) c.entry.view_is) in
     record {
       inside = omega (arith, wrote.count.2, ap (λ (e : Entry). e.size) c.entry.view_is);
       first = first-more _ _ _ _ _ _ _ before.first c.in_ok-at.field-0 wrote;
-      takes = first-takes-more _ _ c.args.entry.now _ c.in_ok-at.field-0 _ (moment c.loop-at.agent) _ _ _ before.first before.takes c.in_ok-at.ensures.takes;
-      spent = spent-then (Ok tt) _ _ _ _ _ _ _ _ _ _ _ _ _ before.spent c.in_ok-at.ensures.spent;
+      takes = first-taken-more _ _ (length c.args.buf.now) c.args.entry.now _ c.in_ok-at.field-0 _ (moment c.loop-at.agent) _ _ _ more
+          (c.in_ok-at.ensures.piece ∙ ap (λ (m : ℕ). piece_at m c.args.entry.now.size c.loop-at.at) before.buffer) before.first before.takes c.in_ok-at.ensures.takes;
+      spent = spent-then before.spent c.in_ok-at.ensures.spent;
       buffer = c.in_ok-at.ensures.buffer ∙ before.buffer;
       same = c.in_ok-at.ensures.same ∙ before.same;
       unwritten = c.in_ok-at.ensures.unwritten ∙ before.unwritten;
@@ -55,9 +58,9 @@ returns-in_err-at-clause-wrote g c =
 pub returns-clause-takes : goal.returns-clause-takes
 returns-clause-takes g c =
     let size = ap (λ (e : Entry). e.size) c.entry.view_is in
-    first-takes-all c.args.entry.now _ _ _ _ (omega (arith, c.loop-at-test.false, c.loop-at.invariant.inside, size)) c.loop-at.invariant.takes
+    first-taken-all (length c.args.buf.now) c.args.entry.now _ _ _ _ c.requires.room (omega (arith, c.loop-at-test.false, size)) c.loop-at.invariant.takes
 
 pub returns-in_err-at-clause-spent : goal.returns-in_err-at-clause-spent
 returns-in_err-at-clause-spent g c =
     rw (handed-on c.from_residual.result c.in_err-at.field-0.0 c.from_residual.ensures.1)
-    (spent-then _ _ _ _ _ _ _ _ _ _ _ _ _ _ c.loop-at.invariant.spent c.in_err-at.ensures.spent)
+    (spent-then c.loop-at.invariant.spent c.in_err-at.ensures.spent)

@@ -1,19 +1,16 @@
 use Rattle.std.proofs.Common.{◌-◌, ◌≡◌, ◌≤◌, length}
 use Rattle.std.specs.Prelude.{Ok}
-use Rattle.agent_calls.specs.Shown.{device, gone, moment}
-use Rattle.update_client.specs.Halts.{Spent}
+use Rattle.agent_calls.specs.Shown.{SpentBy, device, moment}
 use Rattle.update_client.specs.Pieces.{WritesFirst}
-use Rattle.update_client.specs.Takes.{FirstTake}
+use Rattle.update_client.proofs.ImagesTaking.{FirstTaken}
 use Rattle.update_client.proofs.pieces.write_image.Given as goal
 
 abbrev pub invariant-loop-at : goal.invariant-loop-at
 invariant-loop-at g l = record {
   inside : l.at ≤ l.entry-inside.size;
   first : WritesFirst (g.H.Files.contents l.fn.files) l.name l.entry l.at (moment l.fn.agent) (moment l.agent);
-  takes : FirstTake l.entry l.at (moment l.fn.agent) (g.D.Flash.arming (device l.fn.agent)) (g.D.Flash.arming (device l.agent));
-  spent : Spent (Ok tt) (gone l.agent) (g.D.Flash.on (device l.agent)) (g.D.Flash.blocks (device l.fn.agent)) (g.D.Flash.blocks (device l.agent))
-      (g.D.Flash.arming (device l.fn.agent)) (g.D.Flash.arming (device l.agent)) (g.D.Flash.counts (device l.fn.agent))
-      (g.D.Flash.counts (device l.agent));
+  takes : FirstTaken (length l.fn.buf) l.entry l.at (moment l.fn.agent) (g.D.Flash.arming (device l.fn.agent)) (g.D.Flash.arming (device l.agent));
+  spent : SpentBy (Ok tt) l.fn.agent l.agent;
   buffer : length l.buf ≡ length l.fn.buf;
   same : g.H.Files.contents l.files ≡ g.H.Files.contents l.fn.files;
   unwritten : g.H.Files.writes l.files ≡ g.H.Files.writes l.fn.files;

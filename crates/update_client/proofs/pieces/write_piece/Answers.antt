@@ -1,16 +1,17 @@
-use Rattle.std.proofs.Common.{◌≡◌, ◌++◌, ◌≤◌, ℕ, length, take, drop, Ok, Err, sym, ap, subst, ◌∙◌, arith}
+use Rattle.std.proofs.Common.{◌≡◌, ◌++◌, ◌≤◌, ℕ, length, take, drop, Err, sym, ap, subst, ◌∙◌, arith}
 use Rattle.std.proofs.lemmas.List.{length-take-le, take-append-le, take_all}
 use Rattle.fwu_formats.specs.Package.{Entry, payload}
 use Rattle.flash_core.specs.Counts.{lowered_by}
 use Rattle.slot_writer.specs.Writes.{writes_to_append}
 use Rattle.agent_kept.specs.Kept.{part_at, size_of}
-use Rattle.agent_calls.specs.Shown.{device, fields, moment}
+use Rattle.agent_calls.specs.Shown.{SpentBy, device, fields, gone, moment}
 use Rattle.update_client.specs.declared.stops.SendStop.{SendStop}
-use Rattle.update_client.specs.Halts.{SpentBy, flash_of}
+use Rattle.update_client.specs.Halts.{flash_of}
 use Rattle.update_client.specs.Pieces.{WritesPiece}
 use Rattle.update_client.proofs.WrittenPiece.{piece-unread, piece-written, piece-stopped}
 use Rattle.update_client.proofs.ImagesTaking.{piece-takes}
-use Rattle.update_client.proofs.Spending.{call-spent, none-spent, stop-spent}
+use Rattle.agent_machine.proofs.Spending.{call-spent, none-spent}
+use Rattle.update_client.proofs.Spending.{stop-spent}
 use Rattle.update_client.proofs.pieces.write_piece.Goals as goal
 
 pub returns-in-Err-clause-wrote : goal.returns-in-Err-clause-wrote
@@ -43,7 +44,7 @@ returns-in-Err-write_stream-clause-wrote g c =
     (moment c.args.agent.now) (moment c.write_stream.new.self)) (sym c.stopped.ensures)
     (piece-stopped _ _ _ _ n _ _ _ c.in-Err-write_stream.stop _ _ (ap length whole ∙ size)
     (omega (arith, c.requires.some, c.min-size.ensures, ap (λ (e : Entry). e.size) c.entry.view_is))
-    c.requires.here c.in-Err-write_stream.ensures.goes (c.in-Err-write_stream.ensures.meets c.requires.here))
+    c.requires.here c.in-Err-write_stream.ensures.goes.gone (c.in-Err-write_stream.ensures.meets c.requires.here))
 
 pub returns-in-Ok-write_stream-clause-takes : goal.returns-in-Ok-write_stream-clause-takes
 returns-in-Ok-write_stream-clause-takes g c =
@@ -61,15 +62,14 @@ returns-in-Ok-write_stream-clause-takes g c =
 -- ---- what it spends
 
 pub returns-in-Err-clause-spent : goal.returns-in-Err-clause-spent
-returns-in-Err-clause-spent g c = none-spent _ _ _ _ _ c.requires.here (c.args.agent.now.power c.requires.here)
+returns-in-Err-clause-spent g c =
+    none-spent g.D.Flash (gone c.args.agent.now) (device c.args.agent.now) c.requires.here (c.args.agent.now.power c.requires.here)
 
 pub returns-in-Ok-write_stream-clause-spent : goal.returns-in-Ok-write_stream-clause-spent
-returns-in-Ok-write_stream-clause-spent g c =
-    let e = c.in-Ok-write_stream.ensures in
-    call-spent (Ok c.in-Ok-write_stream.field-0) _ _ _ _ _ _ _ _ _ c.requires.here e.goes e.power e.size e.costs e.unarmed
+returns-in-Ok-write_stream-clause-spent g c = call-spent c.requires.here c.in-Ok-write_stream.ensures.goes
 
 pub returns-in-Err-write_stream-clause-spent : goal.returns-in-Err-write_stream-clause-spent
 returns-in-Err-write_stream-clause-spent g c =
-    let e = c.in-Err-write_stream.ensures in
     subst (λ (st : SendStop). SpentBy (flash_of {T = ℕ} (Err st)) c.args.agent.now c.write_stream.new.self) (sym c.stopped.ensures)
-    (stop-spent (Unit {0}) ℕ c.in-Err-write_stream.stop _ _ _ _ _ _ _ _ (call-spent {T = Unit {0}} (Err c.in-Err-write_stream.stop) _ _ _ _ _ _ _ _ _ c.requires.here e.goes e.power e.size e.costs e.unarmed))
+    (stop-spent (Unit {0}) ℕ c.in-Err-write_stream.stop (gone c.write_stream.new.self) (device c.args.agent.now) (device c.write_stream.new.self)
+    (call-spent c.requires.here c.in-Err-write_stream.ensures.goes))

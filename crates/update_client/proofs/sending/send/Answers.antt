@@ -1,26 +1,25 @@
-use Rattle.std.proofs.Common.{◌≡◌, ◌+◌, ◌^◌, ◌<◌, ◌≤◌, Bool, true, false, List, length, Some, Result, Ok, Err, is_ok, refl, sym, ap, subst, ◌∙◌, arith, IsFalse}
+use Rattle.std.proofs.Common.{◌≡◌, ◌+◌, ◌^◌, ◌<◌, ◌≤◌, List, length, Option, Some, Ok, Err, refl, sym, ap, subst, ◌∙◌}
 use Rattle.std.specs.List.{All}
 use Rattle.fwu_formats.specs.Layout.{ImageRow}
 use Rattle.fwu_formats.specs.Package.{Entry}
 use Rattle.fwu_model.specs.Answer.{first_image_fault, skipped}
-use Rattle.flash_core.specs.declared.flash.FlashStop.{FlashStop}
-use Rattle.flash_core.specs.Counts.{Spends, StaysUnarmed}
-use Rattle.flash_core.proofs.Costs.{spends_then}
-use Rattle.agent_machine.specs.declared.stop.Stop.{Stop}
-use Rattle.agent_machine.specs.declared.stop.Stop.TheVariants as stop
-use Rattle.agent_machine.specs.Meets.{GoesBy}
-use Rattle.agent_calls.specs.Shown.{device, fields, moment}
+use Rattle.flash_core.specs.Calls.{Goes}
+use Rattle.agent_calls.specs.Shown.{device, fields, gone, moment}
 use Rattle.update_client.specs.declared.stops.SendStop.{SendStop}
 use Rattle.update_client.specs.Choosing.{AreChosen, refused_image}
-use Rattle.update_client.specs.Halts.{flash_of}
+use Rattle.update_client.specs.Halts.{flash_of, unbegun_as}
 use Rattle.update_client.specs.Finishes.{InstallsImages}
 use Rattle.update_client.specs.Sends.{Sends}
 use Rattle.update_client.specs.declared.stops.Sent.{Sent}
-use Rattle.update_client.specs.Takes.{InstallTakes, blocks_sent}
+use Rattle.update_client.specs.Takes.{InstallTakes, writes_sent}
 use Rattle.agent_machine.proofs.Showing.{shows-some}
 use Rattle.update_client.proofs.Chosen.{chosen_have}
-use Rattle.update_client.proofs.Spending.{unbegun-flash}
-use Rattle.update_client.proofs.Taking.{takes-some, takes-store, takes-then, unarmed-then}
+use Rattle.agent_machine.proofs.Spending.{call-spent, spent-then}
+use Rattle.update_client.proofs.Spending.{goes-of, here-before, unbegun-spent}
+use Rattle.agent_calls.proofs.Taking.{takes-begin, takes-some, takes-then}
+use Rattle.agent_calls.specs.Takes.{Takes, writes_to_begin}
+use Rattle.agent_machine.specs.Ends.{TakesSwitch}
+use Rattle.flash_core.specs.declared.flash.Arming.{Arming}
 use Rattle.update_client.proofs.WholeSending.{installs-done, sends-early, sends-unbegun, sends-done, sends-halted, sends-take, switches}
 use Rattle.update_client.proofs.Stopped.{handed-on}
 use Rattle.update_client.proofs.sending.send.Goals as goal
@@ -44,7 +43,8 @@ returns-in-Err-clause-sends g c = λ here.
     let chosen = subst (λ (rows : List ImageRow). AreChosen rows c.args.toc.now c.in_ok-entries.entries) c.rows.ensures.value c.in_ok-entries.ensures in
     subst (λ (st : SendStop). Sends (g.H.Files.contents c.args.files.now) c.args.name.now c.args.toc.now c.args.acceptance
     (g.V.Verifier.passes c.args.verifier.now) (Err st) (moment c.args.agent.now) (moment c.begin.new.self)) (sym c.unbegun.ensures)
-    (sends-unbegun _ _ _ _ _ _ c.in-Err.stop _ _ _ chosen.none here c.in-Err.ensures.goes (c.in-Err.ensures.meets here))
+    (sends-unbegun _ _ _ _ _ _ c.in-Err.stop _ _ _ chosen.none here c.in-Err.ensures.goes.gone (c.in-Err.ensures.meets here)
+    (λ is E s x layout shows. c.in-Err.ensures.begun is here E s x layout shows))
 
 pub returns-clause-sends : goal.returns-clause-sends
 returns-clause-sends g c = λ here.
@@ -77,87 +77,57 @@ returns-clause-counted g c =
       images = ap length c.rows-2.ensures.value;
       skipped = c.skipped-skipped.ensures ∙ ap
           (λ (rows : List ImageRow). skipped rows c.args.toc.now) c.rows-3.ensures.value;
+      copied = refl;
     }
 
 pub returns-clause-switched : goal.returns-clause-switched
 returns-clause-switched g c = λ here.
     let agent = c.args.agent.now in
-    switches _ _ _ _ _ _ (returns-clause-installs g c here)
+    switches _ _ (λ s x shows.
+    let i = returns-clause-installs g c here s x shows in
+    record { now = i.now; session = i.session; shows = i.shows; active = i.installed.active; previous = i.installed.previous })
     (shows-some (fields agent) (agent.fitting here) g.D.Flash.tells (g.D.Flash.told agent.flash) (agent.knows here) (agent.some here))
-
--- what was begun is done by an agent that isn't gone
-here-before : (was now : Bool) → GoesBy {T = Unit {0}} (Ok tt) was now → IsFalse was
-here-before false now goes = refl
-here-before true now goes = absurd (no-gone (goes.gone.1 refl))
-  where
-    no-gone : ◌≡◌ {A = Result (Unit {0}) Stop} (Ok tt) (Err stop.Gone) → ⊥
-    no-gone e = absurd cc
 
 pub returns-clause-spent : goal.returns-clause-spent
 returns-clause-spent g c =
     let agent = c.args.agent.now in
-    let here = here-before _ _ c.in-Ok.ensures.goes in
-    let least = blocks_sent (fields agent).layout.rows c.args.toc.now + 4 in
+    let here = here-before _ _ c.in-Ok.ensures.goes.gone in
+    let size = length c.args.buf.now in
+    let begin = writes_to_begin (fields agent) in
+    let writes = writes_sent size (fields agent).layout.rows c.args.toc.now in
     let armed = g.D.Flash.arming (device agent) in
     let begun = g.D.Flash.arming (device c.begin.new.self) in
     let arming = g.D.Flash.arming (device c.install.new.agent) in
     let chosen = subst (λ (rows : List ImageRow). AreChosen rows c.args.toc.now c.in_ok-entries.entries) c.rows.ensures.value c.in_ok-entries.ensures in
-    let installs = subst (λ (l : List Entry). InstallTakes l c.args.acceptance (moment c.begin.new.self) begun arming) c.as_slice.ensures
+    let installs = subst (λ (l : List Entry). InstallTakes size l (moment c.begin.new.self) begun arming) c.as_slice.ensures
     c.in_ok-install.ensures.takes in
-    takes-then 0 least least armed begun arming (omega arith) (takes-store _ _ _ _ c.in-Ok.ensures.spent)
-    (takes-some least begun arming
+    let one : Takes begin armed begun = takes-begin (fields agent) _ armed begun c.in-Ok.ensures.spent (c.in-Ok.ensures.keeps tt)
+    (λ is. ap (λ d. g.D.Flash.arming d) (c.in-Ok.ensures.still is)) in
+    let two : Takes writes begun installs.sent = takes-some writes begun installs.sent
     (shows-some (fields agent) (agent.fitting here) g.D.Flash.tells (g.D.Flash.told agent.flash) (agent.knows here) (agent.some here))
     (sends-take (g.H.Files.contents c.args.files.now) c.args.name.now c.args.toc.now c.args.acceptance (g.V.Verifier.passes c.args.verifier.now) (moment agent)
     c.in_ok-entries.entries (moment c.begin.new.self) (moment c.install.new.agent) (agent.fitting here).layout chosen (c.in-Ok.ensures.meets here)
-    begun arming installs))
+    size begun installs.sent installs.images) in
+    subst (λ (a : Option Arming). TakesSwitch a arming) (takes-then begin writes (begin + writes) armed begun installs.sent refl one two) installs.switch
 
 -- ---- what it costs
 
-pub returns-in-Err-clause-costs : goal.returns-in-Err-clause-costs
-returns-in-Err-clause-costs g c =
-    let agent = c.args.agent.now in
-    let flash = unbegun-flash (Unit {0}) Sent c.in-Err.stop ∙ ap (λ (st : SendStop). flash_of {T = Sent} (Err st)) (sym c.unbegun.ensures) in
-    subst (λ (f : Result (Unit {0}) FlashStop). Spends f (g.D.Flash.counts (device agent)) (g.D.Flash.counts (device c.begin.new.self))) flash c.in-Err.ensures.costs
+pub returns-in-Err-clause-goes : goal.returns-in-Err-clause-goes
+returns-in-Err-clause-goes g c = λ here.
+    let a = device c.args.agent.now in
+    let b = c.begin.new.self in
+    subst (λ (st : SendStop). Goes g.D.Flash (flash_of {T = Sent} (Err st)) a (device b)) (sym c.unbegun.ensures)
+    (goes-of (flash_of {T = Sent} (Err (unbegun_as c.in-Err.stop))) (gone b) a (device b)
+    (unbegun-spent (Unit {0}) Sent c.in-Err.stop (gone b) a (device b) (call-spent here c.in-Err.ensures.goes)))
 
-pub returns-in-Err-clause-power : goal.returns-in-Err-clause-power
-returns-in-Err-clause-power g c = λ here.
-    let flash = unbegun-flash (Unit {0}) Sent c.in-Err.stop ∙ ap (λ (st : SendStop). flash_of {T = Sent} (Err st)) (sym c.unbegun.ensures) in
-    c.in-Err.ensures.power here ∙ ap (λ (f : Result (Unit {0}) FlashStop). is_ok f) flash
+pub returns-clause-goes : goal.returns-clause-goes
+returns-clause-goes g c = λ here.
+    let b = c.install.new.agent in
+    goes-of (Ok tt) (gone b) (device c.args.agent.now) (device b) (spent-then (call-spent here c.in-Ok.ensures.goes) c.in_ok-install.ensures.spent)
 
-pub returns-in-Err-clause-unarmed : goal.returns-in-Err-clause-unarmed
-returns-in-Err-clause-unarmed g c =
-    let agent = c.args.agent.now in
-    let flash = unbegun-flash (Unit {0}) Sent c.in-Err.stop ∙ ap (λ (st : SendStop). flash_of {T = Sent} (Err st)) (sym c.unbegun.ensures) in
-    subst (λ (f : Result (Unit {0}) FlashStop). StaysUnarmed f (g.D.Flash.arming (device agent)) (g.D.Flash.arming (device c.begin.new.self))
-    (g.D.Flash.counts (device agent)) (g.D.Flash.counts (device c.begin.new.self))) flash c.in-Err.ensures.unarmed
-
-pub returns-clause-costs : goal.returns-clause-costs
-returns-clause-costs g c = spends_then tt (Ok tt) _ _ _ c.in-Ok.ensures.costs c.in_ok-install.ensures.spent.costs
-
-pub returns-clause-power : goal.returns-clause-power
-returns-clause-power g c = λ here. c.in_ok-install.ensures.spent.power
-
-pub returns-clause-size : goal.returns-clause-size
-returns-clause-size g c = c.in_ok-install.ensures.spent.size ∙ c.in-Ok.ensures.size
-
-pub returns-clause-unarmed : goal.returns-clause-unarmed
-returns-clause-unarmed g c = unarmed-then (Ok tt) _ _ _ _ _ _ c.in-Ok.ensures.costs.cuts c.in-Ok.ensures.unarmed c.in_ok-install.ensures.spent.unarmed
-
-pub returns-in_err-install-clause-costs : goal.returns-in_err-install-clause-costs
-returns-in_err-install-clause-costs g c =
+pub returns-in_err-install-clause-goes : goal.returns-in_err-install-clause-goes
+returns-in_err-install-clause-goes g c =
+    let b = c.install.new.agent in
     rw (handed-on c.from_residual-in_err-install.result c.in_err-install.field-0.0 c.from_residual-in_err-install.ensures.1)
-    (spends_then tt (flash_of {T = Sent} (Err c.in_err-install.field-0.0)) _ _ _ c.in-Ok.ensures.costs c.in_err-install.ensures.spent.costs)
-
-pub returns-in_err-install-clause-power : goal.returns-in_err-install-clause-power
-returns-in_err-install-clause-power g c =
-    rw (handed-on c.from_residual-in_err-install.result c.in_err-install.field-0.0 c.from_residual-in_err-install.ensures.1)
-    (λ here. c.in_err-install.ensures.spent.power)
-
-pub returns-in_err-install-clause-size : goal.returns-in_err-install-clause-size
-returns-in_err-install-clause-size g c =
-    c.in_err-install.ensures.spent.size ∙ c.in-Ok.ensures.size
-
-pub returns-in_err-install-clause-unarmed : goal.returns-in_err-install-clause-unarmed
-returns-in_err-install-clause-unarmed g c =
-    rw (handed-on c.from_residual-in_err-install.result c.in_err-install.field-0.0 c.from_residual-in_err-install.ensures.1)
-    (unarmed-then (flash_of {T = Sent} (Err c.in_err-install.field-0.0)) _ _ _ _ _ _ c.in-Ok.ensures.costs.cuts c.in-Ok.ensures.unarmed c.in_err-install.ensures.spent.unarmed)
+    (λ here. goes-of (flash_of {T = Sent} (Err c.in_err-install.field-0.0)) (gone b) (device c.args.agent.now) (device b)
+    (spent-then (call-spent here c.in-Ok.ensures.goes) c.in_err-install.ensures.spent))

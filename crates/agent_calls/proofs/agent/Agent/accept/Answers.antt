@@ -1,4 +1,5 @@
-use Rattle.std.proofs.Common.{◌<◌, ℕ, List, length, Bool, true, refl, subst}
+use Rattle.std.proofs.Common.{◌≡◌, Some, ◌<◌, ℕ, List, length, Bool, true, refl, subst}
+use Rattle.fwu_formats.specs.Layout.{ImageRow, find_image}
 use Rattle.fwu_model.specs.Call as call
 use Rattle.agent_kept.specs.declared.kinds.Request.TheVariants as request
 use Rattle.agent_kept.specs.declared.kinds.Plan.TheVariants as plan
@@ -61,13 +62,19 @@ returns-in-Accept-clause-stores g c done tells image found clear =
     (flash_result c.carry_out.result) (g.D.Flash.told a.flash) (g.D.Flash.told c.carry_out.new.self.flash) (c.carry_out.ensures.stores tells)
 
 pub returns-in-Accept-clause-keeps : goal.returns-in-Accept-clause-keeps
-returns-in-Accept-clause-keeps g c image found =
+returns-in-Accept-clause-keeps g c done image found =
     let a = c.args.self.now in
     let f : Fields = fields a in
     let asked = subst (IsPlanFor f.session f.meta.meta (request.Accept c.args.guid)) c.in-Accept.is c.in-Ok.ensures.asked in
-    ok-any c.carry_out.result
-    (accept-keeps f (a.fitting c.if-self.false) c.args.guid c.in-Accept.image c.in-Accept.store asked image found
-    c.carry_out.new.self.meta c.carry_out.ensures.planned)
+    accept-keeps f (a.fitting c.if-self.false) c.args.guid c.in-Accept.image c.in-Accept.store asked image found
+    c.carry_out.new.self.meta c.carry_out.ensures.planned
 
 pub returns-in-Accept-clause-session : goal.returns-in-Accept-clause-session
 returns-in-Accept-clause-session g c = ok-any c.carry_out.result c.carry_out.ensures.changed
+
+pub returns-in-Accept-clause-found : goal.returns-in-Accept-clause-found
+returns-in-Accept-clause-found g c done =
+    let a = c.args.self.now in
+    let f : Fields = fields a in
+    let asked = subst (IsPlanFor f.session f.meta.meta (request.Accept c.args.guid)) c.in-Accept.is c.in-Ok.ensures.asked in
+    (c.in-Accept.image, subst (λ (rows : List ImageRow). find_image rows c.args.guid ≡ Some c.in-Accept.image) (a.fitting c.if-self.false).rows asked.0)

@@ -1,5 +1,6 @@
-use Rattle.std.proofs.Common.{ℕ, List, Bool, true, refl, sym, ◌∙◌, subst}
+use Rattle.std.proofs.Common.{ℕ, List, Bool, true, refl, sym, ap, ◌∙◌, subst}
 use Rattle.fwu_model.specs.Call as call
+use Rattle.fwu_model.specs.Answer.{Answer}
 use Rattle.agent_kept.specs.declared.kinds.Request.TheVariants as request
 use Rattle.agent_kept.specs.declared.kinds.Plan.TheVariants as plan
 use Rattle.agent_machine.specs.Stored.{MayBegin}
@@ -37,6 +38,13 @@ returns-in-Err-clause-meets g c = λ here passes.
     (refused-of (moment a) (a.fitting here) a.session.sound passes (request.Begin c.args.vendor_flags c.args.partial_count)
     (λ E s. tt) c.in-Err.status (c.in-Err.ensures.plans passes))
 
+pub returns-in-Ok-clause-begun : goal.returns-in-Ok-clause-begun
+returns-in-Ok-clause-begun g c = λ stopped here E s x layout shows.
+    let a = c.args.self.now in
+    let by = begin-answers (fields a) (a.fitting here) a.session.sound E.passes c.args.vendor_flags c.args.partial_count c.in-Ok.plan
+    (c.in-Ok.ensures.plans E.passes) g.D.Flash.tells (g.D.Flash.told a.flash) E s x (record { layout = layout; verifier = refl }) shows in
+    ap (λ (w : Answer). w.reply) by.is ∙ by.reply
+
 pub returns-in-Ok-clause-still : goal.returns-in-Ok-clause-still
 returns-in-Ok-clause-still g c = λ free.
     let a = c.args.self.now in
@@ -52,13 +60,12 @@ returns-in-Ok-clause-stores g c done tells used =
     (flash_result c.carry_out.result) (g.D.Flash.told a.flash) (g.D.Flash.told c.carry_out.new.self.flash) (c.carry_out.ensures.stores tells)
 
 pub returns-in-Ok-clause-keeps : goal.returns-in-Ok-clause-keeps
-returns-in-Ok-clause-keeps g c =
+returns-in-Ok-clause-keeps g c done =
     let a = c.args.self.now in
     let fitting = a.fitting c.if-self.false in
-    ok-any c.carry_out.result
-    (begin-keeps (fields a) fitting c.frees.result
+    begin-keeps (fields a) fitting c.frees.result
     (c.frees.ensures ∙ begin-frees (fields a) fitting c.args.vendor_flags c.args.partial_count c.in-Ok.plan c.in-Ok.ensures.asked)
-    c.carry_out.new.self.meta c.carry_out.ensures.planned)
+    c.carry_out.new.self.meta c.carry_out.ensures.planned
 
 pub returns-in-Ok-clause-restarts : goal.returns-in-Ok-clause-restarts
 returns-in-Ok-clause-restarts g c = ok-any c.carry_out.result c.carry_out.ensures.changed

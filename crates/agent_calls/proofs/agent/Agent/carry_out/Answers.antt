@@ -32,8 +32,8 @@ invariant_of-self g c =
     let f = fields c.args.self.now in
     let k = kept c.settle.new.session in
     record {
-      power = λ here. c.in-Ok.ensures.power;
-      inside = λ here. omega (arith, c.args.self.now.inside here, c.in-Ok.ensures.size);
+      power = λ here. c.in-Ok.ensures.goes.power;
+      inside = λ here. omega (arith, c.args.self.now.inside here, c.in-Ok.ensures.goes.size);
       fitting = λ here. after-fitting f (c.args.self.now.fitting here) c.args.plan k c.settle.new.meta c.trials_after-self.result c.requires.plan
           c.settle.ensures.session c.settle.ensures.meta c.trials_after-self.ensures;
       some = λ here. after-some f (c.args.self.now.fitting here) c.args.plan k c.settle.new.meta c.trials_after-self.result c.requires.plan

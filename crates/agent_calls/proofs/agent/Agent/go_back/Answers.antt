@@ -1,4 +1,4 @@
-use Rattle.std.proofs.Common.{true, false, refl, sym, subst, arith}
+use Rattle.std.proofs.Common.{inl, inr, true, false, refl, sym, subst, arith}
 use Rattle.flash_core.specs.Told.{Told}
 use Rattle.fwu_model.specs.State.{Back}
 use Rattle.fwu_model.specs.MoveMetas.{meta_after}
@@ -46,7 +46,7 @@ returns-then-not-goes_back-clause-meets g c =
     let s = g.D.Flash.told a.flash in
     let passes = g.V.Verifier.passes c.args.verifier.now in
     bad-meets g.D.Flash.tells (fields a) (a.fitting c.requires.here) a.session.sound s
-    (g.D.Flash.told c.is_bank_good.new.flash) c.in-Ok.ensures.content passes (a.knows c.requires.here)
+    (g.D.Flash.told c.is_bank_good.new.flash) c.in-Ok.ensures.reads.content passes (a.knows c.requires.here)
     (promised c.may_try.result (may_try_kept a.meta.meta (kept a.session) a.boot) true c.may_try.ensures c.if-not-may_try.false) c.args.decision.now
     c.requires.decided c.in-Ok.good
     (λ is E setting. good-permitted E a.layout passes a.counter s.now c.previous-bank.result a.meta.meta.previous c.in-Ok.good
@@ -59,7 +59,7 @@ returns-else-not-goes_back-clause-meets g c =
     let s = g.D.Flash.told a.flash in
     let passes = g.V.Verifier.passes c.args.verifier.now in
     back-meets g.D.Flash.tells (fields a) (a.fitting c.requires.here) a.session.sound s
-    (g.D.Flash.told c.is_bank_good.new.flash) c.in-Ok.ensures.content passes (a.knows c.requires.here)
+    (g.D.Flash.told c.is_bank_good.new.flash) c.in-Ok.ensures.reads.content passes (a.knows c.requires.here)
     (promised c.may_try.result (may_try_kept a.meta.meta (kept a.session) a.boot) true c.may_try.ensures c.if-not-may_try.false) c.args.decision.now
     c.requires.decided c.in-Ok.good
     (λ is E setting. good-permitted E a.layout passes a.counter s.now c.previous-bank.result a.meta.meta.previous c.in-Ok.good
@@ -72,14 +72,14 @@ pub returns-in-Err-clause-meets : goal.returns-in-Err-clause-meets
 returns-in-Err-clause-meets g c =
     let a = c.args.self.now in
     stopped-meets g.D.Flash.tells (fields a) (a.fitting c.requires.here) a.session.sound (g.D.Flash.told a.flash)
-    (g.D.Flash.told c.is_bank_good.new.flash) c.in-Err.ensures.content (g.V.Verifier.passes c.args.verifier.now) c.stopped.result c.stopped.ensures.stopped
+    (g.D.Flash.told c.is_bank_good.new.flash) c.in-Err.ensures.reads.content (g.V.Verifier.passes c.args.verifier.now) c.stopped.result c.stopped.ensures.stopped
 
 -- the read before the store left the content as it was
 pub returns-else-not-goes_back-clause-stores : goal.returns-else-not-goes_back-clause-stores
 returns-else-not-goes_back-clause-stores g c done tells =
     let f = fields c.args.self.now in
     subst (λ (u : Told). Stores (flash_result c.carry_out.result) f.layout (meta_after f.meta.meta Back) u (g.D.Flash.told c.carry_out.new.self.flash))
-    (c.in-Ok.ensures.content tells) (c.carry_out.ensures.stores tells)
+    (c.in-Ok.ensures.reads.content tells) (c.carry_out.ensures.stores tells)
 
 pub returns-in-Err-clause-stores : goal.returns-in-Err-clause-stores
 returns-in-Err-clause-stores g c done tells =
@@ -88,7 +88,7 @@ returns-in-Err-clause-stores g c done tells =
     subst (λ (r : Done). Stores r f.layout (meta_after f.meta.meta Back) (g.D.Flash.told a.flash) (g.D.Flash.told c.is_bank_good.new.flash))
     (sym c.stopped.ensures.stop)
     (back-stopped f (a.fitting c.requires.here) c.in-Err.stop (g.D.Flash.told a.flash) (g.D.Flash.told c.is_bank_good.new.flash)
-    (omega (arith, a.inside c.requires.here, (g.met.D.Flash.sound a.flash tells).size)) (c.in-Err.ensures.content tells))
+    (omega (arith, a.inside c.requires.here, (g.met.D.Flash.sound a.flash tells).size)) (c.in-Err.ensures.reads.content tells))
 
 pub returns-else-not-goes_back-clause-keeps : goal.returns-else-not-goes_back-clause-keeps
 returns-else-not-goes_back-clause-keeps g c = ok-any c.carry_out.result c.carry_out.ensures.planned
@@ -107,3 +107,9 @@ returns-else-not-goes_back-clause-passed g c =
     (c.in-Ok.ensures.passed
     (back-is-good (kept a.session) a.meta.meta c.args.decision.now c.in-Ok.good c.requires.asked
     (promised c.goes_back.result (is_to_do (ruled_as c.args.decision.now c.in-Ok.good)) true c.goes_back.ensures c.if-not-goes_back.false)))
+
+pub returns-else-not-goes_back-clause-either : goal.returns-else-not-goes_back-clause-either
+returns-else-not-goes_back-clause-either g c done = inr c.carry_out.ensures.planned
+
+pub returns-in-Err-clause-either : goal.returns-in-Err-clause-either
+returns-in-Err-clause-either g c done = inl refl

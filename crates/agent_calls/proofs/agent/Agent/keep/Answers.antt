@@ -1,8 +1,9 @@
-use Rattle.std.proofs.Common.{[]}
+use Rattle.std.proofs.Common.{[], ap, ◌∙◌}
+use Rattle.fwu_formats.specs.Metadata.{Meta}
 use Rattle.agent_kept.specs.Kept.{kept}
 use Rattle.agent_machine.specs.Fields.{Fields}
 use Rattle.agent_machine.proofs.Room.{meta-of-session}
-use Rattle.agent_machine.proofs.Quietly.{keeps-fitting, keeps-known, keeps-some, quiet-carried}
+use Rattle.agent_machine.proofs.Quietly.{keeps-fitting, keeps-known, keeps-some, quiet-carried, quiet-meta}
 use Rattle.agent_calls.specs.Shown.{fields}
 use Rattle.agent_calls.proofs.agent.Agent.keep.Goals as goal
 
@@ -38,3 +39,8 @@ returns-clause-carried g c =
     quiet-carried g.D.Flash.tells (g.D.Flash.told c.args.self.now.flash) (fields c.args.self.now) (kept c.settle.new.session) c.settle.new.meta []
     c.args.plan.now (c.args.self.now.fitting here) c.args.self.now.session.sound (c.args.self.now.knows here)
     c.requires.quiet c.requires.plan c.requires.may c.settle.ensures.session c.settle.ensures.meta c.settle.ensures.settles
+
+pub returns-clause-metadata : goal.returns-clause-metadata
+returns-clause-metadata g c =
+    let f : Fields = fields c.args.self.now in
+    c.settle.ensures.meta ∙ ap (λ (m : Meta). record f.meta { meta = m }) (quiet-meta f.session f.meta.meta c.args.plan.now c.requires.quiet)

@@ -47,3 +47,6 @@ returns-clause-content g c = c.go_back.ensures.content
 
 pub returns-clause-passed : goal.returns-clause-passed
 returns-clause-passed g c = c.go_back.ensures.passed
+
+pub returns-clause-either : goal.returns-clause-either
+returns-clause-either g c = c.go_back.ensures.either

@@ -40,8 +40,8 @@ invariant_of-self g c =
     let t = g.D.Flash.told c.append.new.flash in
     let k = kept c.settle.new.session in
     record {
-      power = λ still. c.in-Ok.ensures.power;
-      inside = λ still. omega (arith, a.inside here, c.in-Ok.ensures.size);
+      power = λ still. c.in-Ok.ensures.goes.power;
+      inside = λ still. omega (arith, a.inside here, c.in-Ok.ensures.goes.size);
       fitting = λ still.
           write-fitting g.D.Flash.tells s t f k c.settle.new.meta c.args.image c.start-first.result c.size-size.result c.args.number c.args.at
           c.append.new.rest c.args.bytes.now fitting a.session.sound (a.knows here) c.requires.plan

@@ -107,3 +107,9 @@ returns-in-Write-clause-others g c image writes other apart =
     let own = subst (IsPlanFor f.session f.meta.meta (request.Write c.args.handle (length c.args.bytes.now))) c.in-Write.is c.in-Ok.ensures.asked in
     let is : c.in-Write.image ≡ image = writes-same c.in-Write.image image (sym own.1 ∙ writes) in
     c.write_image.ensures.others other (λ same. apart (same ∙ is))
+
+pub returns-in-Write-clause-writes : goal.returns-in-Write-clause-writes
+returns-in-Write-clause-writes g c done =
+    let f : Fields = fields c.args.self.now in
+    let own = subst (IsPlanFor f.session f.meta.meta (request.Write c.args.handle (length c.args.bytes.now))) c.in-Write.is c.in-Ok.ensures.asked in
+    (c.in-Write.image, own.1)

@@ -4,9 +4,9 @@ use Rattle.meta_layout.specs.Rows.{fitted}
 use Rattle.meta_layout.proofs.Layouts.{fitted-bad, too-many}
 use Rattle.meta_layout.proofs.layout.Layout.make.Goals as goal
 
-pub returns-then-rows-gt16 : goal.returns-then-rows-gt16
-returns-then-rows-gt16 c =
-    fitted-bad (record { banks = c.args.banks; rows = c.args.rows.now }) c.args.blocks (too-many (record { banks = c.args.banks; rows = c.args.rows.now }) c.if-rows-gt16.true)
+pub returns-then-rows-gt-MOST_IMAGES : goal.returns-then-rows-gt-MOST_IMAGES
+returns-then-rows-gt-MOST_IMAGES c =
+    fitted-bad (record { banks = c.args.banks; rows = c.args.rows.now }) c.args.blocks (too-many (record { banks = c.args.banks; rows = c.args.rows.now }) c.if-rows-gt-MOST_IMAGES.true)
 
 pub returns : goal.returns
 returns c = c.of_rows.ensures ∙ ap (λ (l : List ImageRow). fitted (record { banks = c.args.banks; rows = l }) c.args.blocks) c.rows_of.ensures

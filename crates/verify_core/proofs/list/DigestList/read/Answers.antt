@@ -1,8 +1,9 @@
 use Rattle.std.proofs.Common.{◌≡◌, ◌++◌, ◌∷◌, [], drop, ◌+◌, ◌∙◌, sym, ap, refl, arith, true, not, is_ok, length, List, ℕ, append-nil, Ok}
 use Rattle.std.proofs.lemmas.List.{length-drop}
 use Rattle.fwu_formats.specs.Digests.{digests_of}
-use Rattle.verify_core.proofs.Lines.{behind, from_line, no_end, bad_line, next_line, end_is, some_left, none_left}
+use Rattle.verify_core.proofs.Lines.{behind, from_line, no_end, bad_line, next_line, end_is}
 use Rattle.verify_core.proofs.list.DigestList.read.Goals as goal
+use Rattle.base_core.proofs.Lists.{some_left, none_left}
 
 pub returns-in_default-clause-fault : goal.returns-in_default-clause-fault
 unfolding digests_of

@@ -1,0 +1,629 @@
+#!/usr/bin/env python3
+"""Makes the bytes in the tests' sources again, from docs/FORMATS.md alone, and compares them with those that stand there.
+
+    check_vectors.py
+
+It prints a line for each constant, case or list that agrees, and of each other one both values; then how many there are. It ends
+with status 1 where one differs. The bytes are made by make_flash.py, make_packages.py, make_table.py and make_rows.py; the faults
+of bytes that are changed go by first_faults.py, and what a soak draws and prints by soak_model.py. From a source come what is
+compared and, of a case, which bytes it changes. A constant of digits or bytes of which nothing is known here differs too.
+"""
+import hashlib
+import io
+import os
+import re
+import struct
+import sys
+import uuid
+import zlib
+
+sys.dont_write_bytecode = True
+
+import first_faults
+import make_packages
+import make_table
+import serve_client
+import soak_model
+from first_faults import capsule_entries, capsule_number, fault_of
+from make_flash import ACCEPTED, BLOCK, NAMES, ROWS, VALID, first_bits, first_metadata, first_metadata_1, guid, layout, manifest
+from make_flash import metadata, record, sealed
+from make_packages import capsule, item, manifest_of, package
+from make_rows import FLASHES, LAYOUT_SIZE, MARKED, METADATA_SIZE, list_of, put, renewed, word
+from make_table import METADATA, STORE
+
+CRATES = os.path.join(os.path.dirname(os.path.abspath(__file__)), "..", "..", "crates")
+
+
+# What stands in a source.
+
+
+class Unread(Exception):
+    """A source hasn't the form that is looked for."""
+
+
+def one(text, pattern):
+    """The group of the first place of this form, or its groups."""
+    found = re.search(pattern, text, re.S)
+    if not found:
+        raise Unread(f"nothing there is as {pattern}")
+    groups = found.groups()
+    return groups[0] if len(groups) == 1 else groups
+
+
+def bytes_in(text):
+    """The bytes of a list of numbers."""
+    return bytes(int(number, 0) for number in re.findall(r"\w+", text))
+
+
+def constants(text):
+    """The constants that are digits or bytes alone, by their names."""
+    digits = re.findall(r'const (\w+): &str =\s*"((?:[0-9a-f]{2})+)";', text)
+    lists = re.findall(r"const (\w+): \[u8; \d+\] = \[([^\]]*)\];", text)
+    return {name: bytes.fromhex(value) for name, value in digits} | {name: bytes_in(value) for name, value in lists}
+
+
+def lines_in(text, name):
+    """The constant of this name, a text."""
+    return one(text, rf'const {name}: &(?:str|\[u8\]) =\s*b?"([^"]*)";').replace("\\n", "\n")
+
+
+def body_of(text, name):
+    """What stands in the function of this name."""
+    return one(text, rf"\nfn {name}\b(.*?)\n}}")
+
+
+def rows(text, name, pattern):
+    """The groups of each row of the constant of this name."""
+    count, body = one(text, rf"const {name}: \[[^\n]*; (\d+)\] = \[\s*(.*?),?\s*\];\n")
+    found = re.findall(pattern, body, re.S)
+    if len(found) != int(count):
+        raise Unread(f"{name} has {count} rows, and {len(found)} are read")
+    return found
+
+
+def named(comment):
+    """A case by its comment."""
+    return comment[0].lower() + comment[1:]
+
+
+def each(wanted, found):
+    """The values of each name in one of both."""
+    for name in [*wanted, *(name for name in found if name not in wanted)]:
+        yield name, wanted.get(name), found.get(name)
+
+
+def constants_are(wanted):
+    """The check of a source that has these constants."""
+    return lambda text: each(wanted, constants(text))
+
+
+# crates/vectors
+
+
+def flashes(text):
+    wanted = {
+        "LAYOUT": layout(ROWS, 2),
+        "LAYOUT_OF_THREE": layout(ROWS, 3),
+        "LAYOUT_OF_FOUR": layout(ROWS, 4),
+        "METADATA": first_metadata(ROWS, 2),
+        "METADATA_OF_THREE": first_metadata(ROWS, 3),
+        "METADATA_OF_FOUR": first_metadata(ROWS, 4),
+        "ON_TRIAL": metadata(ROWS, 1, 0, [ACCEPTED, VALID], first_bits(ROWS, 2)),
+        "VERSION_1": first_metadata_1(ROWS, 2),
+        "MANIFEST": manifest_of(1),
+        "MANIFEST_2": manifest_of(2),
+        "MANIFEST_5": manifest_of(5),
+        "MANIFEST_70000": manifest_of(70000),
+    }
+    yield from each(wanted, constants(text))
+    yield "LIST", list_of(1).decode(), lines_in(text, "LIST")
+
+
+HOSTILE = {
+    "a checksum that was not renewed": FLASHES["layout-not-renewed.img"],
+    "no magic": FLASHES["layout-magic.img"],
+    "one image": FLASHES["layout-one-image.img"],
+    "five banks": FLASHES["layout-five-banks.img"],
+    "a slot of 257 blocks": FLASHES["layout-slot.img"],
+    "two images of one type": FLASHES["layout-same-type.img"],
+    "slots beyond the flash": FLASHES["layout-beyond.img"],
+    "metadata of version 3": FLASHES["metadata-version.img"],
+    "metadata of 281 bytes": FLASHES["metadata-size.img"],
+    "an accepted word of 2": FLASHES["metadata-accepted.img"],
+    "a state of a bank that is not there": FLASHES["metadata-state.img"],
+    "a byte behind the metadata": FLASHES["metadata-behind.img"],
+    "a first replica that is none": put(MARKED, BLOCK, FLASHES["metadata-version.img"][BLOCK : 2 * BLOCK]),
+    "an active bank without firmware": FLASHES["no-firmware.img"],
+    "form 1 of a version above 223": FLASHES["manifest-form.img"],
+    "a counter above the version": FLASHES["two-marks.img"],
+    "a record above the version": FLASHES["record-above.img"],
+    "a record of the version": put(MARKED, 5 * BLOCK, record(1)),
+    "metadata of version 1": put(MARKED, BLOCK, first_metadata_1(ROWS, 2), 2 * BLOCK, first_metadata_1(ROWS, 2)),
+}
+
+
+def refused(image):
+    """The front of a boot's line where layout or metadata refuse it, and of any other."""
+    fault = first_faults.layout_fault(image[:BLOCK], len(image) // BLOCK)
+    if fault:
+        return f"boot bad-layout {1 + first_faults.LAYOUT_FAULTS.index(fault)}"
+    replicas = (image[BLOCK * block : BLOCK * (block + 1)] for block in (1, 2))
+    return "boot no-metadata" if all(first_faults.metadata_fault(replica, ROWS, 2) for replica in replicas) else "boot"
+
+
+def hostile(text):
+    case = r'// ([^\n]*)\.\n\s+Case \{\s+at: (\d+),\s+digits: "(\w*)",\s+also_at: (\d+),\s+also: "(\w*)",\s+line: "([^"]*)"'
+    found, lines = {}, []
+    for comment, at, digits, also_at, also, line in rows(text, "CASES", case):
+        found[named(comment)] = put(MARKED, int(at), bytes.fromhex(digits), int(also_at), bytes.fromhex(also))
+        lines.append(one(line, "(boot(?: bad-layout .| no-metadata)?)"))
+    yield from each(HOSTILE, found)
+    yield "the lines of boots", [refused(image) for image in found.values()], lines
+
+
+def tables_of_four(text):
+    primary, backup, entries = make_table.CASES["valid"]
+    yield from each({"PRIMARY": primary, "BACKUP": backup, "ENTRIES": entries[: 3 * 128]}, constants(text))
+
+
+def device_of_128():
+    """A device with a table of 128 entries, and with UEFI's protective MBR: one partition from block 1 to the last one."""
+    entries = make_table.entries_of([(STORE, 6, 27), (METADATA, 28, 28), (METADATA, 29, 29)], 128)
+    primary = make_table.header(1, 39, 2, entries, 128, first=6, last=34)
+    backup = make_table.header(39, 1, 35, entries, 128, first=6, last=34)
+    image = bytes(40 * BLOCK)
+    image = put(image, 446, struct.pack("<B3sB3sII", 0, b"\x00\x02\x00", 0xEE, b"\xff\xff\xff", 1, 39), 510, b"\x55\xaa")
+    return put(image, BLOCK, primary, 2 * BLOCK, entries, 35 * BLOCK, entries, 39 * BLOCK, backup)
+
+
+def tables(text):
+    yield from tables_of_four(text)
+    found = bytes(40 * BLOCK)
+    for at, digits in rows(text, "BY_FDISK", r'\(\s*(\d+),\s*"(\w+)"'):
+        found = put(found, int(at), bytes.fromhex(digits))
+    yield "BY_FDISK", device_of_128(), found
+
+
+def partitioned(text):
+    case = r'// ([^\n]*)\.\n\s+Case \{\s+changes: "([^"]*)",\s+line: "([^"]*)"'
+    found, lines = {}, []
+    for comment, changes, line in rows(text, "CASES", case):
+        image = make_table.device(MARKED)
+        for at, digits in re.findall(r"(\d+):(\w+)", changes):
+            image = put(image, int(at), bytes.fromhex(digits))
+        found[named(comment)] = image
+        lines.append(one(line, r"(gpt [\w -]*|boot)"))
+    wanted = {name: make_table.device(MARKED, table) for name, table in make_table.CASES.items() if name != "valid"}
+    yield from each(wanted, found)
+    faults = (first_faults.table_fault(image) for image in found.values())
+    yield "the lines of boots", [f"gpt {fault}" if fault else "boot" for fault in faults], lines
+
+
+def base_values(text):
+    digest = hashlib.sha256(b"abc").digest()
+    yield "the checksum of 123456789", zlib.crc32(b"123456789"), int(one(text, r'b"123456789"\), (\w+)\)'), 0)
+    yield "the first byte of a digest", digest[0], int(one(text, r"digest\[0\], (\w+)\)"), 0)
+    yield "the last word of it", int.from_bytes(digest[28:], "little"), int(one(text, r"&digest, 28\), (\w+)\)"), 0)
+    yield from seals(text)
+
+
+def seals(text):
+    block = sealed(bytes(12) + word(32) + bytes(12))
+    found = one(text, r"put_le32\(&mut \w+, 0, (\w+)\)")
+    yield "the checksum of a sealed block", int.from_bytes(block[:4], "little"), int(found, 0)
+
+
+def soaks(text):
+    for name, rounds in (("NO_ROUND", 0), ("ONE_ROUND", 1)):
+        yield name, soak_model.line_of(1, rounds) + "\n", lines_in(text, name)
+    front = one(text, r'"(soak rounds=20 turns=\d+ boots=)')
+    yield "a soak of 20 rounds", soak_model.line_of(1, 20)[: len(front)], front
+
+
+# crates/agent_vectors
+
+
+def packages(text):
+    found = constants(text)
+    yield from each({name: data for name, (_, data) in make_packages.CONSTANTS.items()}, found)
+    package_2 = one(text, r"const PACKAGE_2: [^\n]* = \[([^\]]*)\];")
+    for name, parts in rows(text, "FILES", r'\("([\w.]+)", &(\[[^\]]*\]|PACKAGE_2)\)'):
+        words = re.findall(r'"(\w+)"|(\w+)', parts.replace("PACKAGE_2", package_2))
+        data = b"".join(bytes.fromhex(digits) if digits else found[other] for digits, other in words)
+        yield name, make_packages.FILES[name], data
+
+
+def directory(bank, version, accepted):
+    """The first 48 bytes of what is told of the images of a bank: a header, and of the manifest, which has one block."""
+    header = struct.pack("<IIII", 1, len(ROWS), 32, bank)
+    return header + guid("manifest") + struct.pack("<IIII", BLOCK, len(manifest_of(version)), version, accepted)
+
+
+def directories_are(*told):
+    """The check of a source in whose lines these are told, in their order."""
+
+    def check(text):
+        found = re.findall(rf"total={16 + 32 * len(ROWS)} (\w+)", text)
+        yield "what is read of the directory", [directory(*numbers).hex() for numbers in told], found
+
+    return check
+
+
+def lists(text):
+    found = re.findall(r'"((?:[0-9a-f]{64}\\n)+)"', text)
+    yield "LISTS", [list_of(1).decode(), list_of(2, 1).decode()], [lines.replace("\\n", "\n") for lines in found]
+
+
+def list_of_both(text):
+    yield "LIST", list_of(1, 2).decode(), lines_in(text, "LIST")
+
+
+def list_of_one(text):
+    yield "LIST", list_of(2).decode(), lines_in(text, "LIST")
+
+
+def sendings(text):
+    case = r'Case \{\s+size: (\d+),\s+changes: &\[(.*?)\],\s+answer: "([^"]*)"'
+    for name, base in (("PACKAGES", make_packages.FILES["p2.fip"]), ("CAPSULES", make_packages.CAPSULE_2)):
+        wanted, found = [], []
+        for size, changes, answer in rows(text, name, case):
+            data = (base + bytes(int(size)))[: int(size)]
+            for at, values in re.findall(r"\(\s*(\d+),\s*&\[([^\]]*)\]", changes):
+                data = bytes(put(data, int(at), bytes_in(values)))
+            wanted.append(first_faults.sent(data))
+            found.append(answer)
+        yield name, wanted, found
+    yield "the header of a package", package([])[:16].hex(), one(text, r'&\["(\w+)"\]')
+
+
+# crates/fip_vectors
+
+HELLO = package([("tb-fw", b"hello")])
+HELLO_CAPSULE = capsule([item("tb-fw", b"hello")])
+
+# What the files of these names have, in each of the sources.
+FILES = {
+    "h.bin": b"hello",
+    "s3.bin": b"xyz",
+    "abc.bin": b"abc",
+    "e.bin": b"",
+    "u.fip": package([("nt-fw", b"hello")]),
+    f"x{NAMES['tb-fw']}.bin": b"hello",
+    f"y{NAMES['nt-fw']}.bin": b"hello",
+}
+
+
+def files(text):
+    """Those whose digits stand in the source."""
+    for name, digits in re.findall(r'\(\s*"(?:fip_test/)?([\w.-]+)",\s*(?:&\[)?"((?:[0-9a-f]{2})*)"', text):
+        yield f"the file {name}", FILES.get(name), bytes.fromhex(digits)
+
+
+def commands(text):
+    yield from files(text)
+    found = "".join(rows(text, "ALIGNED", r'"(\w+)"'))
+    yield "ALIGNED", package([("tb-fw", b"hello"), ("nt-fw", b"xyz")], 16), bytes.fromhex(found)
+
+
+def conversions(text):
+    yield from files(text)
+    twice = capsule([item("tb-fw", b"", index=index) for index in (1, 2)])
+    other = capsule([item("tb-fw", b"hello", version=3)], flags=0x10000)
+    yield from each({"TWICE": twice, "BY_MKEFICAPSULE": other}, constants(text))
+    yield "TWICE, its fault", "Duplicate(1)", fault_of(capsule_entries, twice)
+    wanted, found = [], []
+    for count, changes, line in rows(text, "HOSTILE", r'\((\d+), &(\[.*?\]), "([^"]*)\\n"\)'):
+        fault = fault_of(capsule_entries, changed(text, HELLO_CAPSULE[: int(count)], changes))
+        wanted.append(f"not-capsule {capsule_number(fault)}")
+        found.append(line)
+    yield "HOSTILE", wanted, found
+
+
+def manifests_of_tool(text):
+    yield from files(text)
+    own = constants(text)["ROWS"]
+    yield "ROWS", manifest_of(1)[16:-32], own
+    for version, head, digest in rows(text, "CASES", r'"manifest out.bin (\d+) [^"]*",\s+"(\w+)",\s+"(\w+)"'):
+        yield f"the manifest of version {version}", manifest_of(int(version)), bytes.fromhex(head) + own + bytes.fromhex(digest)
+
+
+def real_files(text):
+    yield from files(text)
+    head, digest = one(text, r'wanted\(\s+rt,\s+alloc,\s+"(\w+)",\s+"(\w+)"')
+    yield "the file m.bin", manifest_of(1)[:16] + manifest_of(1)[-32:], bytes.fromhex(head + digest)
+
+
+def type_of_all(text):
+    yield "the type tb-fw", guid("tb-fw"), bytes_in(one(text, r"Guid::of\(\[([^;\]]*)\]\)"))
+
+
+# Bytes that are changed, as a source has them: a list of places and bytes, or the name of one; and the fault then.
+CHANGES = r"&(\[.*?\]|\w+)"
+FAULT = r"CapsuleFault::(\w+(?:\(\d+\))?)"
+
+
+def changed(text, data, changes):
+    if not changes.startswith("["):
+        changes = " ".join(rows(text, changes, r"\(\d+, \w+\)"))
+    for at, value in re.findall(r"\((\d+), (\w+)\)", changes):
+        data = put(data, int(at), bytes_in(value)) if int(at) < len(data) else data
+    return bytes(data)
+
+
+def capsule_faults(text, name):
+    wanted, found = [], []
+    for count, changes, fault in rows(text, name, rf"\(\s*(\d+),\s*{CHANGES},\s*{FAULT}"):
+        wanted.append(fault_of(capsule_entries, changed(text, HELLO_CAPSULE[: int(count)], changes)))
+        found.append(fault)
+    yield name, wanted, found
+
+
+def capsule_images(text):
+    wanted, found = [], []
+    for changes, place, size in rows(text, "TAKEN", rf"\({CHANGES}, (\d+), (\d+)\)"):
+        wanted += capsule_entries(changed(text, HELLO_CAPSULE, changes))
+        found.append((guid("tb-fw"), int(place), int(size)))
+    yield "TAKEN", wanted, found
+
+
+def many(count):
+    """A capsule of so many items of no bytes, whose types are sixteen times 1, 2 and so on."""
+    return capsule([item(str(uuid.UUID(bytes=bytes([i + 1]) * 16)), b"", index=0) for i in range(count)])
+
+
+def capsules_of_many(text):
+    wanted, found = [], []
+    row = rf"\(\s*(\d+),\s*{CHANGES},\s*(?:Ok\((\d+)\)|Err\([\w:]*\({FAULT})"
+    for count, changes, number, fault in rows(text, "SEVERAL", row):
+        data = changed(text, many(int(count)), changes)
+        wanted.append(fault_of(capsule_entries, data) or str(len(capsule_entries(data))))
+        found.append(fault or number)
+    yield "SEVERAL", wanted, found
+
+
+def capsules(text):
+    yield from type_of_all(text)
+    yield from capsule_faults(text, "HEADERS")
+    yield from capsule_faults(text, "ITEMS")
+    yield from capsule_images(text)
+    yield from capsules_of_many(text)
+
+
+def tables_of_packages(text):
+    yield from type_of_all(text)
+    wanted, found = [], []
+    for count, fault in rows(text, "FAULTS", r"\((\d+), (?:None|Some\(FipFault::(\w+(?:\(\d+\))?)\))\)"):
+        wanted.append(fault_of(first_faults.package_entries, HELLO[: int(count)]))
+        found.append(fault or None)
+    yield "FAULTS", wanted, found
+
+
+def sizes(text):
+    yield "the header of a package", package([])[:16], bytes_in(one(text, r"let head = \[(.*?)\];"))
+
+
+# crates/layer_vectors
+
+IMAGE_TYPE = str(uuid.UUID(bytes=bytes(range(1, 17))))
+IMAGE_ROWS = [("aaaaaaaa-aaaa-aaaa-aaaa-aaaaaaaaaaaa", 1), (IMAGE_TYPE, 1)]
+
+
+def manifest_of_image(security):
+    return manifest(security, [(IMAGE_TYPE, 9, b"abc")])
+
+
+def fixtures(text):
+    yield from each({"METADATA": first_metadata(ROWS, 2)[4:40], "MANIFEST": manifest_of_image(7)}, constants(text))
+    found = []
+    for quoted, values in rows(text, "TYPES", r'\*b"([^"]*)"|\[([^\]]*)\]'):
+        found.append(quoted.encode().decode("unicode_escape").encode("latin-1") if quoted else bytes_in(values))
+    yield "TYPES", [guid(name) for name, _ in ROWS], found
+
+
+def manifests_of_layers(text):
+    yield from each({"WIDE": manifest_of_image(70000), "BOTH": manifest_of(1)}, constants(text))
+    data, wanted, found = manifest_of_image(7), [], []
+    change = r"(?:put|has_fault)\(rt, bytes, (\d+), (?:&\[)?(\w+)\]?(?:, ManifestFault::(\w+))?\)"
+    for at, value, fault in re.findall(change, text):
+        data = bytes(put(data, int(at), bytes_in(value)))
+        if fault:
+            wanted.append(first_faults.manifest_fault(data, IMAGE_ROWS))
+            found.append(fault)
+    yield "faults", wanted, found
+
+
+def hashes(text):
+    """The first bytes of the digests of messages of the bytes 0, 1, 2, … modulo 251, and the digests of the standard's examples."""
+    found = constants(text)
+    message = bytes(i % 251 for i in range(1000))
+    lengths = [int(name[3:]) for name in found if name[3:].isdigit()]
+    wanted = {f"OF_{length}": hashlib.sha256(message[:length]).digest()[:8] for length in lengths}
+    example = one(text, r'let long = b"(\w+)";').encode()
+    wanted |= {"OF_ABC": hashlib.sha256(b"abc").digest(), "OF_TWO_BLOCKS": hashlib.sha256(example).digest()}
+    yield from each(wanted, found)
+
+
+def turns(text):
+    """The manifests of seven images, of which image i is so many times the byte i."""
+    wanted = {}
+    for name in ["ALIKE", "UNLIKE"]:
+        sizes = one(text, rf"const {name}: \[usize; 7\] = \[([^\]]*)\];").split(",")
+        images = [(str(uuid.UUID(bytes=bytes([i] * 16))), 9, bytes([i]) * int(size)) for i, size in enumerate(sizes, 1)]
+        wanted[f"MANIFEST_{name}"] = manifest(7, images)
+    yield from each(wanted, constants(text))
+
+
+def faults_in(text, function, block, size, fault_in):
+    """The table of a function: a number that is put at a place, with the checksum of so many bytes renewed, and the fault then."""
+    wanted, found = [], []
+    for at, value, fault in re.findall(r"\n\s+\((\d+), (\w+), (?:None|Some\(\w+::(\w+)\))\)", body_of(text, function)):
+        data = renewed(put(block, int(at), word(int(value, 0))), 0, size)
+        wanted.append(fault_in(bytes(data)))
+        found.append(fault or None)
+    yield function, wanted, found
+
+
+def layouts(text):
+    yield from each({"LAYOUT_HEAD": layout(ROWS, 2)[:32]}, constants(text))
+    wanted = {
+        "is_written": layout(ROWS, 2)[:4],
+        "has_two_banks": first_metadata(ROWS, 2)[:4],
+        "has_three_banks": first_metadata(ROWS, 3)[16:40],
+        "has_version_one": first_metadata_1(ROWS, 3)[:16],
+    }
+    for function, data in wanted.items():
+        yield function, data, bytes_in(one(body_of(text, function), r"(?:wanted = |0, &)\[(.*?)\]"))
+    block = put(b"\xff" * BLOCK, 0, layout(ROWS, 2))
+    name = "a_layout_block_has_its_first_fault"
+    yield from faults_in(text, name, block, LAYOUT_SIZE, lambda data: first_faults.layout_fault(data, 22))
+    block = put(b"\xff" * BLOCK, 0, first_metadata(ROWS, 2))
+    name = "a_metadata_block_has_its_first_fault"
+    yield from faults_in(text, name, block, METADATA_SIZE, lambda data: first_faults.metadata_fault(data, ROWS, 2))
+
+
+def digests(text):
+    yield "ABC", hashlib.sha256(b"abc").hexdigest() + "\n", lines_in(text, "ABC").lower()
+
+
+def names_of_images(text):
+    for name, spelled in re.findall(r'is_named\(&rt, "(.*?)", "(.*?)"\)', text):
+        yield f"the type {name}", NAMES[name], spelled.lower()
+
+
+ENDINGS = ("Nothing", "Boot", "Accept", "Previous")
+
+
+def package_of_soak(number, sizes_in, security):
+    return package(list(zip(make_packages.NAMES, soak_model.all_images(number, sizes_in, security))))
+
+
+def round_text(number, drawn):
+    """A round as a source has it."""
+    cut = "Some(Cut {{ n: {}, k: {} }})".format(*drawn.cut) if drawn.cut else "None"
+    front = f"number: {number}, sizes: {list(drawn.sizes)}, security: {drawn.security}, acceptance: {int(drawn.is_trial)}"
+    return f"{front}, cut: {cut}, ending: Ending::{ENDINGS[drawn.ending]},"
+
+
+def packages_of_soak(text, drawn_sizes, first_round):
+    first = package_of_soak(0, drawn_sizes, 1)
+    later = package_of_soak(1, first_round.sizes, first_round.security)
+    wanted = {
+        "FIRST_DIGEST": hashlib.sha256(first).digest(),
+        "ROUND_DIGEST": hashlib.sha256(later).digest(),
+        "GREATEST": package_of_soak(2**32 - 1, (0, 3), 223),
+    }
+    yield from each(wanted, constants(text))
+    found = re.findall(r"(\d+),\s+(?:FIRST|ROUND)_DIGEST", text)
+    yield "the lengths of packages", [len(first), len(later)], [int(length) for length in found]
+
+
+def soak_rounds(text):
+    found = one(text, r"for want in \[(.*?)\]")
+    draws = soak_model.Draws(1)
+    yield "the first draws", [draws.draw(32768) for _ in range(10)], [int(number) for number in re.findall(r"\d+", found)]
+    draws = soak_model.Draws(1)
+    drawn_sizes = draws.sizes()
+    drawn = {number: draws.round(number) for number in range(1, 28)}
+    yield "the first sizes", str(list(drawn_sizes)), one(text, r"draw_sizes\(&mut register\), (\[.*?\])")
+    found = [" ".join(fields.split()) for fields in re.findall(r"= Round \{(.*?)\};", text, re.S)]
+    yield "rounds 1 and 27", [round_text(number, drawn[number]) for number in (1, 27)], found
+    yield from packages_of_soak(text, drawn_sizes, drawn[1])
+    yield "the line of one round", soak_model.line_of(1, 1), one(text, r'b"(soak [^"]*)\\n"')
+
+
+# crates/wire_vectors
+
+
+def requests(text):
+    """What a model of a server writes for each stream of requests."""
+    rows = re.findall(r'// ([^\n]*)\n\s*\(\s*"([0-9a-f]*)",\s*"([0-9a-f]*)",?\s*\)', text.replace("\\\n", ""))
+    for comment, stream, replies in rows:
+        written = io.BytesIO()
+        serve_client.model_serve(io.BytesIO(bytes.fromhex(stream)), written, serve_client.ModelAgent())
+        yield named(comment), written.getvalue().hex(), replies
+
+
+CHECKS = {
+    "vectors/src/flashes.rt": flashes,
+    "vectors/src/hostile.rt": hostile,
+    "vectors/src/tables.rt": tables,
+    "vectors/src/partitioned.rt": partitioned,
+    "vectors/src/formats.rt": constants_are({"PACKAGE": make_packages.of_three(1)}),
+    "vectors/src/scripts.rt": constants_are({"FREE": b"\xff" * 289}),
+    "vectors/src/soaks.rt": soaks,
+    "vectors/src/values.rt": base_values,
+    "agent_vectors/src/packages.rt": packages,
+    "agent_vectors/src/banks.rt": lists,
+    "agent_vectors/src/partial.rt": list_of_one,
+    "agent_vectors/src/real_files.rt": list_of_both,
+    "agent_vectors/src/rows.rt": directories_are((0, 1, 1)),
+    "agent_vectors/src/handles.rt": directories_are((1, 2, 0), (1, 2, 1), (0, 1, 1)),
+    "agent_vectors/src/sends.rt": sendings,
+    "wire_vectors/src/flashes.rt": constants_are({"LAYOUT": layout(ROWS, 2), "METADATA": first_metadata(ROWS, 2), "MANIFEST": manifest_of(1)}),
+    "wire_vectors/src/exchanges.rt": constants_are({"MANIFEST_2": manifest_of(2)}),
+    "wire_vectors/src/requests.rt": requests,
+    "fip_vectors/src/fixtures.rt": constants_are({"HELLO": HELLO, "HELLO_CAPSULE": HELLO_CAPSULE, "EMPTY": package([])}),
+    "fip_vectors/src/commands.rt": commands,
+    "fip_vectors/src/conversions.rt": conversions,
+    "fip_vectors/src/manifests.rt": manifests_of_tool,
+    "fip_vectors/src/memory.rt": files,
+    "fip_vectors/src/real_files.rt": real_files,
+    "fip_vectors/src/capsules.rt": capsules,
+    "fip_vectors/src/tables.rt": tables_of_packages,
+    "fip_vectors/src/sizes.rt": sizes,
+    "layer_vectors/src/fixtures.rt": fixtures,
+    "layer_vectors/src/manifests.rt": manifests_of_layers,
+    "layer_vectors/src/layouts.rt": layouts,
+    "layer_vectors/src/marks.rt": constants_are({"RECORD": record(70000)}),
+    "layer_vectors/src/memory_flash.rt": seals,
+    "layer_vectors/src/lists.rt": digests,
+    "layer_vectors/src/hashes.rt": hashes,
+    "layer_vectors/src/turns.rt": turns,
+    "layer_vectors/src/values.rt": names_of_images,
+    "layer_vectors/src/soak_rounds.rt": soak_rounds,
+    "gpt_vectors/src/devices.rt": tables_of_four,
+}
+
+
+def shown(value):
+    return value.hex() if isinstance(value, (bytes, bytearray)) else repr(value)
+
+
+def both(wanted, found):
+    """Both values; of longer ones that part in which they differ, and where it begins."""
+    if not all(isinstance(value, (bytes, bytearray, list)) for value in (wanted, found)):
+        return "", shown(wanted), shown(found)
+    least = min(len(wanted), len(found))
+    places = [at for at in range(least) if wanted[at] != found[at]]
+    first = places[0] if places else least
+    end = places[-1] + 1 if len(wanted) == len(found) else None
+    return f" from {first} on", shown(wanted[first:end]), shown(found[first:end])
+
+
+def compared(source):
+    """What is compared of a source, and what it would have to be."""
+    with open(os.path.join(CRATES, source), encoding="utf-8") as file:
+        text = file.read()
+    try:
+        yield from CHECKS[source](text)
+    except (Unread, ValueError) as unread:
+        yield str(unread), None, None
+
+
+def main():
+    agree = differ = 0
+    for source in CHECKS:
+        for name, wanted, found in compared(source):
+            if wanted == found and wanted not in (None, []):
+                agree += 1
+                print(f"crates/{source}: {name}")
+                continue
+            differ += 1
+            where, own, other = both(wanted, found)
+            print(f"DIFFERS: crates/{source}: {name}\n  by the formats{where}: {own}\n  in the source{where}: {other}")
+    print(f"{agree} agree, {differ} differ")
+    return 1 if differ else 0
+
+
+if __name__ == "__main__":
+    sys.exit(main())

@@ -1,0 +1,209 @@
+-- Copies of all images that aren't named, one after another.
+use Rattle.std.proofs.Common.{◌≡◌, ◌≢◌, ℕ, zero, suc, ◌+◌, ◌<◌, ◌≤◌, Bool, true, false, cond, List, [], length, get_or, set, replicate, Some, None, Ok, Err, inl, inr, refl, sym, ap, subst, ◌∙◌, arith, length-set, ltb, eq-eqb, ne_eqb, get_or-set_same, get_or-set_other, ext_get_or}
+use Rattle.std.specs.Prelude.{IsTrue, ◌==◌}
+use Rattle.std.proofs.lemmas.Bool.{lt-ltb, le-ltb, cases_eq, cases_lt}
+use Rattle.std.proofs.lemmas.List.{length-replicate}
+use Rattle.std.proofs.lemmas.List.FromFn.{length-map-range_with_len, get_or-map-range_with_len}
+use Rattle.fwu_model.specs.Sound.{Setting}
+use Rattle.fwu_model.specs.Session.{Staged, Nothing, Committed}
+use Rattle.agent_machine.specs.declared.stop.Stop.{Stop}
+use Rattle.agent_machine.specs.Fields.{Fields, total_of}
+use Rattle.agent_machine.specs.Moment.{Moment, Shows}
+use Rattle.agent_machine.specs.Goes.{Goes}
+use Rattle.agent_machine.proofs.Going.{goes-nothing, goes-then}
+use Rattle.agent_machine.specs.Filling.{between, filled}
+use Rattle.agent_calls.specs.Partly.{copied_first}
+use Rattle.fwu_model.specs.Answer.{copied_part, copied_parts, image_held}
+use Rattle.agent_calls.specs.Copies.{CopiesImage, CopiesFirst, CopiesImages}
+use Rattle.agent_calls.proofs.Copies.{follows-after, other-end, stays-none, stays-then}
+
+-- ---- the parts, place by place
+
+abbrev part : List Bool → ℕ → (ℕ → List ℕ) → ℕ → Staged
+part named k bytes i = cond (ltb i k) (copied_part (get_or named i true) (bytes i)) Nothing
+
+pub first-long : (named : List Bool) (k : ℕ) (bytes : ℕ → List ℕ) → length (copied_first named k bytes) ≡ length named
+first-long named k bytes = length-map-range_with_len (part named k bytes) 0 (length named)
+
+first-at : (named : List Bool) (k : ℕ) (bytes : ℕ → List ℕ) (i : ℕ) → i < length named → get_or (copied_first named k bytes) i Nothing ≡ part named k bytes i
+first-at named k bytes i lt = get_or-map-range_with_len (part named k bytes) 0 (length named) i i Nothing lt (omega arith)
+
+under : (named : List Bool) (k : ℕ) (bytes : ℕ → List ℕ) (i : ℕ) → i < k → part named k bytes i ≡ copied_part (get_or named i true) (bytes i)
+under named k bytes i lt = ap (λ (b : Bool). cond b (copied_part (get_or named i true) (bytes i)) Nothing) (lt-ltb i k lt)
+
+over : (named : List Bool) (k : ℕ) (bytes : ℕ → List ℕ) (i : ℕ) → k ≤ i → part named k bytes i ≡ Nothing
+over named k bytes i le = ap (λ (b : Bool). cond b (copied_part (get_or named i true) (bytes i)) Nothing) (le-ltb i k le)
+
+nothing-at : (n i : ℕ) → get_or (replicate n Nothing) i Nothing ≡ Nothing
+nothing-at zero i = refl
+nothing-at (suc n) zero = refl
+nothing-at (suc n) (suc i) = nothing-at n i
+
+first-none : (named : List Bool) (bytes : ℕ → List ℕ) → copied_first named 0 bytes ≡ replicate (length named) Nothing
+first-none named bytes =
+    let long = first-long named 0 bytes in
+    ext_get_or Nothing (copied_first named 0 bytes) (replicate (length named) Nothing) (long ∙ sym (length-replicate (length named) Nothing)) (λ i below.
+    first-at named 0 bytes i (omega (arith, below, long)) ∙ over named 0 bytes i (omega arith) ∙ sym (nothing-at (length named) i))
+
+pub first-all : (named : List Bool) (bytes : ℕ → List ℕ) → copied_first named (length named) bytes ≡ copied_parts named bytes
+unfolding copied_parts
+first-all named bytes =
+    let g = λ (i : ℕ). copied_part (get_or named i true) (bytes i) in
+    let long = first-long named (length named) bytes in
+    let also = length-map-range_with_len g 0 (length named) in
+    ext_get_or Nothing (copied_first named (length named) bytes) (copied_parts named bytes) (long ∙ sym also) (λ i below.
+    let lt : i < length named = omega (arith, below, long) in
+    first-at named (length named) bytes i lt ∙ under named (length named) bytes i lt
+    ∙ sym (get_or-map-range_with_len g 0 (length named) i i Nothing lt (omega arith)))
+
+-- an image that is named stays nothing
+next-named : (named : List Bool) (k : ℕ) (bytes : ℕ → List ℕ) → get_or named k true ≡ true → copied_first named (k + 1) bytes ≡ copied_first named k bytes
+next-named named k bytes is =
+    let long = first-long named (k + 1) bytes in
+    ext_get_or Nothing (copied_first named (k + 1) bytes) (copied_first named k bytes) (long ∙ sym (first-long named k bytes)) (λ i below.
+    let lt : i < length named = omega (arith, below, long) in
+    first-at named (k + 1) bytes i lt ∙ same i ∙ sym (first-at named k bytes i lt))
+  where
+    same : (i : ℕ) → part named (k + 1) bytes i ≡ part named k bytes i
+    same i = elim (cases_lt i k) [
+      | inl lt ↦ under named (k + 1) bytes i (omega (arith, lt)) ∙ sym (under named k bytes i lt)
+      | inr le ↦ elim (cases_eq i k) [
+        | inl e ↦ under named (k + 1) bytes i (omega (arith, e)) ∙ ap (λ (b : Bool). copied_part b (bytes i)) (ap (λ (j : ℕ). get_or named j true) e ∙ is) ∙ sym (over named k bytes i le)
+        | inr ne ↦ over named (k + 1) bytes i (past i le ne) ∙ sym (over named k bytes i le)
+      ]
+    ]
+      where
+        past : (i : ℕ) → k ≤ i → i ≢ k → k + 1 ≤ i
+        past i le ne = elim (cases_lt k i) [ inl lt ↦ omega (arith, lt) | inr ge ↦ absurd (ne (omega (arith, le, ge))) ]
+
+-- these bytes of one image, and those of the others as they were
+abbrev pub with_bytes : (ℕ → List ℕ) → ℕ → List ℕ → ℕ → List ℕ
+with_bytes bytes k new i = cond (i == k) new (bytes i)
+
+with-same : (bytes : ℕ → List ℕ) (k : ℕ) (new : List ℕ) (i : ℕ) → i ≡ k → with_bytes bytes k new i ≡ new
+with-same bytes k new i e = ap (λ (b : Bool). cond b new (bytes i)) (eq-eqb i k e)
+
+with-other : (bytes : ℕ → List ℕ) (k : ℕ) (new : List ℕ) (i : ℕ) → i ≢ k → with_bytes bytes k new i ≡ bytes i
+with-other bytes k new i ne = ap (λ (b : Bool). cond b new (bytes i)) (ne_eqb i k ne)
+
+-- another one is committed
+next-copied : (named : List Bool) (k : ℕ) (bytes : ℕ → List ℕ) (new : List ℕ) → get_or named k true ≡ false → k < length named
+    → filled (copied_first named k bytes) k new true ≡ copied_first named (k + 1) (with_bytes bytes k new)
+next-copied named k bytes new is below-k =
+    let old = copied_first named k bytes in
+    let long = first-long named k bytes in
+    let size = length-set old k (Committed new true) in
+    ext_get_or Nothing (set old k (Committed new true)) (copied_first named (k + 1) (with_bytes bytes k new)) (size ∙ long ∙ sym (first-long named (k + 1) (with_bytes bytes k new))) (λ i below.
+    let lt : i < length named = omega (arith, below, size, long) in
+    by-place i lt ∙ sym (first-at named (k + 1) (with_bytes bytes k new) i lt))
+  where
+    by-place : (i : ℕ) → i < length named → get_or (set (copied_first named k bytes) k (Committed new true)) i Nothing ≡ part named (k + 1) (with_bytes bytes k new) i
+    by-place i lt = elim (cases_eq i k) [
+      | inl e ↦
+          let here : get_or (set (copied_first named k bytes) k (Committed new true)) i Nothing ≡ Committed new true =
+          ap (λ (j : ℕ). get_or (set (copied_first named k bytes) k (Committed new true)) j Nothing) e
+          ∙ get_or-set_same (copied_first named k bytes) k (Committed new true) Nothing (omega (arith, below-k, first-long named k bytes)) in
+          here ∙ sym (under named (k + 1) (with_bytes bytes k new) i (omega (arith, e))
+          ∙ ap (λ (b : Bool). copied_part b (with_bytes bytes k new i)) (ap (λ (j : ℕ). get_or named j true) e ∙ is)
+          ∙ ap (λ (xs : List ℕ). Committed xs true) (with-same bytes k new i e))
+      | inr ne ↦
+          get_or-set_other (copied_first named k bytes) k i (Committed new true) Nothing ne ∙ first-at named k bytes i lt ∙ elsewhere i ne
+    ]
+      where
+        elsewhere : (i : ℕ) → i ≢ k → part named k bytes i ≡ part named (k + 1) (with_bytes bytes k new) i
+        elsewhere i ne = elim (cases_lt i k) [
+          | inl lt ↦ under named k bytes i lt ∙ ap (λ (xs : List ℕ). copied_part (get_or named i true) xs) (sym (with-other bytes k new i ne))
+              ∙ sym (under named (k + 1) (with_bytes bytes k new) i (omega (arith, lt)))
+          | inr le ↦ over named k bytes i le ∙ sym (over named (k + 1) (with_bytes bytes k new) i (past i le ne))
+        ]
+          where
+            past : (i : ℕ) → k ≤ i → i ≢ k → k + 1 ≤ i
+            past i le ne = elim (cases_lt k i) [ inl lt ↦ omega (arith, lt) | inr ge ↦ absurd (ne (omega (arith, le, ge))) ]
+
+pub first-empty : (named : List Bool) (k : ℕ) (bytes : ℕ → List ℕ) → k < length named → get_or (copied_first named k bytes) k Nothing ≡ Nothing
+first-empty named k bytes below = first-at named k bytes k below ∙ over named k bytes k (omega arith)
+
+-- ---- the copies
+
+pub copies-none : (named : List Bool) (m : Moment) → CopiesFirst named 0 m m
+copies-none named m = record {
+  stays = stays-none m;
+  bytes = λ i. [];
+  count = λ i lt is. absurd (omega (arith, lt));
+  read = λ tells s boot shows i lt is. absurd (omega (arith, lt));
+  goes = λ E s boot layout shows. goes-nothing E m s (between boot (copied_first named 0 (λ i. [])))
+      (subst (λ (ps : List Staged). Shows m s (between boot ps)) (sym (first-none named (λ i. []))) shows);
+}
+
+abbrev plain : Fields → Setting
+plain f = record { layout = f.layout; files = λ _. None; passes = λ _. true }
+
+split : (i k : ℕ) → i < k + 1 → i ≢ k → i < k
+split i k lt ne = elim (cases_lt i k) [ inl less ↦ less | inr le ↦ absurd (ne (omega (arith, lt, le))) ]
+
+module _ (named : List Bool) (k : ℕ) (old mid : Moment) (first : CopiesFirst named k old mid) where
+  pub copies-named : get_or named k true ≡ true → CopiesFirst named (k + 1) old mid
+  copies-named is = record {
+    stays = first.stays;
+    bytes = first.bytes;
+    count = λ i lt not. first.count i (split i k lt (other i not)) not;
+    read = λ tells s boot shows i lt not. first.read tells s boot shows i (split i k lt (other i not)) not;
+    goes = λ E s boot layout shows. subst (λ (ps : List Staged). Goes E (Ok tt) old mid s [] (between boot ps)) (sym (next-named named k first.bytes is)) (first.goes E s boot layout shows);
+  }
+    where
+      other : (i : ℕ) → get_or named i true ≡ false → i ≢ k
+      other i not e = let both : false ≡ true = sym not ∙ ap (λ (j : ℕ). get_or named j true) e ∙ is in cc
+
+  module _ (new : Moment) (below : k < length named) where
+    nothing-there : get_or (copied_first named k first.bytes) k Nothing ≡ Nothing
+    nothing-there = first-at named k first.bytes k below ∙ over named k first.bytes k (omega arith)
+
+    within-parts : k < length (copied_first named k first.bytes)
+    within-parts = omega (arith, below, first-long named k first.bytes)
+
+    pub copies-more : get_or named k true ≡ false → CopiesImage k (Ok tt) mid new → CopiesFirst named (k + 1) old new
+    copies-more is image = record {
+      stays = stays-then old mid new first.stays image.stays;
+      bytes = with_bytes first.bytes k image.bytes;
+      count = λ i lt not. elim (cases_eq i k) [
+        | inl e ↦ ap (λ (xs : List ℕ). length xs) (with-same first.bytes k image.bytes i e) ∙ image.count ∙ ap (λ (l : List ℕ). get_or l k 0) first.stays.lengths ∙ ap (λ (j : ℕ). total_of old.fields (Some j)) (sym e)
+        | inr ne ↦ ap (λ (xs : List ℕ). length xs) (with-other first.bytes k image.bytes i ne) ∙ first.count i (split i k lt ne) not
+      ];
+      read = λ tells s boot shows i lt not.
+          let one = first.goes (plain old.fields) s boot refl shows in
+          elim (cases_eq i k) [
+            | inl e ↦ with-same first.bytes k image.bytes i e
+                ∙ image.read (subst IsTrue (sym one.stays.tells) tells) s boot (copied_first named k first.bytes) within-parts nothing-there one.shows
+                ∙ ap (λ (j : ℕ). image_held s boot j) (sym e)
+            | inr ne ↦ with-other first.bytes k image.bytes i ne ∙ first.read tells s boot shows i (split i k lt ne) not
+          ];
+      goes = λ E s boot layout shows.
+          let one = first.goes E s boot layout shows in
+          let parts = copied_first named k first.bytes in
+          subst (λ (ps : List Staged). Goes E (Ok tt) old new s [] (between boot ps)) (next-copied named k first.bytes image.bytes is below)
+          (goes-then E (Ok tt) old mid new s [] [] (between boot parts) (between boot (filled parts k image.bytes true)) one
+          (image.goes E s boot parts (layout ∙ sym one.stays.layout) within-parts nothing-there one.shows));
+    }
+
+    pub copies-stopped : (st : Stop) → CopiesImage k (Err st) mid new → CopiesImages named (Err st) old new
+    copies-stopped st image = record {
+      stays = stays-then old mid new first.stays image.stays;
+      bytes = first.bytes;
+      count = tt;
+      read = tt;
+      goes = λ E s boot layout shows.
+          let one = first.goes E s boot layout shows in
+          let parts = copied_first named k first.bytes in
+          other-end (Unit {0}) (Unit {0}) st E old new s (between boot (filled parts k image.bytes true)) (between boot (copied_first named (length named) first.bytes))
+          (follows-after {T = Unit {0}} (Err st) E old mid new s (between boot parts) (between boot (filled parts k image.bytes true)) one
+          (image.goes E s boot parts (layout ∙ sym one.stays.layout) within-parts nothing-there one.shows));
+    }
+
+  pub copies-done : k ≡ length named → CopiesImages named (Ok tt) old mid
+  copies-done all = record {
+    stays = first.stays;
+    bytes = first.bytes;
+    count = λ i lt not. first.count i (omega (arith, lt, all)) not;
+    read = λ tells s boot shows i lt not. first.read tells s boot shows i (omega (arith, lt, all)) not;
+    goes = λ E s boot layout shows. subst (λ (n : ℕ). Goes E (Ok tt) old mid s [] (between boot (copied_first named n first.bytes))) all (first.goes E s boot layout shows);
+  }

@@ -1,0 +1,127 @@
+use Rattle.std.proofs.Common.{◌≡◌, ◌+◌, ℕ, Bool, List, length, take, true, false, refl, sym, ap, subst, ◌∙◌}
+use Rattle.std.specs.List.{list_any}
+use Rattle.std.proofs.lemmas.List.{length-map}
+use Rattle.base_core.specs.Bytes.{same_bytes}
+use Rattle.fwu_formats.specs.Layout.{ImageRow, Layout}
+use Rattle.agent_kept.specs.declared.kinds.Request.TheVariants as request
+use Rattle.agent_machine.proofs.Showing.{known-shows, shows-some}
+use Rattle.agent_machine.proofs.StoredCalls.{refused-of}
+use Rattle.agent_machine.specs.Meets.{IsDone}
+use Rattle.agent_machine.proofs.Spending.{call-spent, spent-goes, spent-then}
+use Rattle.agent_calls.specs.Shown.{agent_at, device, fields, moment}
+use Rattle.std.specs.Prelude.{OnOk}
+use Rattle.agent_calls.specs.Takes.{CopiesTake, Takes, writes_to_begin, writes_to_copy}
+use Rattle.agent_calls.proofs.CopyTaking.{when-done}
+use Rattle.agent_calls.proofs.Taking.{takes-begin, takes-some, takes-then}
+use Rattle.fwu_model.specs.Answer.{are_named, names_unknown}
+use Rattle.agent_calls.specs.Copies.{CopiesImages}
+use Rattle.agent_calls.proofs.BegunPartly.{held, refused-partly, unbegun-stopped, begun-partly, only-done, takes-at, done-unrefused}
+use Rattle.agent_calls.proofs.PlannedPartly.{IsPartial, named-are, partial-plan, plan-known, refused-partial}
+use Rattle.agent_calls.proofs.agent.Agent.begin_partial.Given as given
+use Rattle.agent_calls.proofs.agent.Agent.begin_partial.Goals as goal
+use Rattle.agent_calls.proofs.agent.Agent.begin_partial.Goals.{After-rows-count}
+
+pub returns-in-Err-clause-begins : goal.returns-in-Err-clause-begins
+returns-in-Err-clause-begins g c = λ here passes.
+    let a = c.args.self.now in
+    let types = c.args.list.now in
+    refused-partly (moment a) types (are_named a.layout.rows types) passes c.in-Err.status (λ E s x setting shows.
+    refused-partial (moment a) E s x shows types (held (moment a)) c.in-Err.status
+    (refused-of (moment a) (a.fitting here) a.session.sound passes (request.BeginPartial c.args.vendor_flags c.args.list)
+    (λ F t. tt) c.in-Err.status (c.in-Err.ensures.plans passes) E s x setting shows))
+
+-- what is planned
+module _ (g : given.Over) (c : After-rows-count g) where
+  partial : IsPartial (fields c.args.self.now).session c.args.list.now c.in-Ok.plan
+  partial =
+      partial-plan (fields c.args.self.now).session (fields c.args.self.now).meta.meta c.args.vendor_flags c.args.list c.in-Ok.plan c.in-Ok.ensures.asked
+
+  known-is : names_unknown c.args.self.now.layout.rows c.args.list.now ≡ false
+  known-is =
+      let a = c.args.self.now in
+      let here = c.if-self.false in
+      plan-known (fields a) (g.D.Flash.told a.flash) (a.fitting here) a.session.sound (a.some here) (λ _. true)
+      (request.BeginPartial c.args.vendor_flags c.args.list) c.args.list.now refl (λ E s. tt) c.in-Ok.plan partial (c.in-Ok.ensures.plans (λ _. true))
+
+  named-is : take (length c.rows-count.result.now) c.named_in-named.result ≡ are_named c.args.self.now.layout.rows c.args.list.now
+  named-is =
+      let a = c.args.self.now in
+      named-are (fields a) c.args.list.now c.in-Ok.plan c.named_in-named.result (length c.rows-count.result.now) (a.fitting c.if-self.false) partial
+      c.named_in-named.ensures (ap (λ (l : List ImageRow). length l) c.rows-count.ensures.value)
+
+  long-is : length (are_named c.args.self.now.layout.rows c.args.list.now) ≡ length c.args.self.now.layout.rows
+  long-is = length-map c.args.self.now.layout.rows (λ (r : ImageRow). list_any (same_bytes r.guid) c.args.list.now)
+
+pub copy_images-requires-clause-each : goal.copy_images-requires-clause-each
+copy_images-requires-clause-each g c =
+    let begins = c.in-Ok-begin.ensures.meets c.if-self.false (λ _. true) in
+    ap (λ (l : List Bool). length l) (named-is g (goal.at.copy_images-requires-clause-each g c).After-rows-count) ∙ long-is g (goal.at.copy_images-requires-clause-each g c).After-rows-count ∙ ap (λ (L : Layout). length L.rows) (sym begins.leaves.stays.layout)
+
+pub returns-in-Err-begin-clause-begins : goal.returns-in-Err-begin-clause-begins
+returns-in-Err-begin-clause-begins g c = λ here passes.
+    let a = c.args.self.now in
+    let types = c.args.list.now in
+    unbegun-stopped (moment a) (moment c.begin.new.self) types (are_named a.layout.rows types) passes (known-is g (goal.at.returns-in-Err-begin-clause-begins g c).After-rows-count)
+    c.in-Err-begin.stop (λ is. ap (λ b. moment b) (c.in-Err-begin.ensures.refused is))
+    (λ is E s x layout shows. c.in-Err-begin.ensures.begun is here E s x layout shows) (c.in-Err-begin.ensures.meets here passes)
+
+pub returns-in-Ok-begin-clause-begins : goal.returns-in-Ok-begin-clause-begins
+returns-in-Ok-begin-clause-begins g c = λ here passes.
+    let a = c.args.self.now in
+    let b = c.begin.new.self in
+    let d = c.copy_images.new.self in
+    let types = c.args.list.now in
+    let begins = c.in-Ok-begin.ensures.meets here in
+    let copied = subst (λ (l : List Bool). CopiesImages l c.copy_images.result (moment b) (moment d)) (named-is g (goal.at.returns-in-Ok-begin-clause-begins g c).After-rows-count) c.copy_images.ensures.copies in
+    begun-partly (moment a) (moment b) (moment d) types passes c.copy_images.result (a.fitting here)
+    (known-is g (goal.at.returns-in-Ok-begin-clause-begins g c).After-rows-count) (begins passes) copied
+    (λ tells. (_, _, known-shows (fields a) (a.fitting here) g.D.Flash.tells (g.D.Flash.told a.flash) (a.knows here tells)))
+
+-- the copies were done, or the flash stopped them
+module _ (g : given.Over) (c : goal.After-copy_images g) where
+  done : IsDone c.copy_images.result
+  done =
+      let a = c.args.self.now in
+      let b = c.begin.new.self in
+      let d = c.copy_images.new.self in
+      let types = c.args.list.now in
+      let here = c.if-self.false in
+      let begins = c.in-Ok-begin.ensures.meets here (λ _. true) in
+      let copied = subst (λ (l : List Bool). CopiesImages l c.copy_images.result (moment b) (moment d)) (named-is g (goal.at.returns-in-Ok-begin-clause-goes g c).After-rows-count) c.copy_images.ensures.copies in
+      only-done (moment a) (moment b) (moment d) types (λ _. true) c.copy_images.result (a.fitting here)
+      (known-is g (goal.at.returns-in-Ok-begin-clause-goes g c).After-rows-count) begins copied
+      (shows-some (fields a) (a.fitting here) g.D.Flash.tells (g.D.Flash.told a.flash) (a.knows here) (a.some here))
+
+pub returns-in-Ok-begin-clause-goes : goal.returns-in-Ok-begin-clause-goes
+returns-in-Ok-begin-clause-goes g c =
+    let here = c.if-self.false in
+    spent-goes c.copy_images.result (agent_at c.args.self.now) (agent_at c.copy_images.new.self) (done g c) here
+    (spent-then (call-spent here c.in-Ok-begin.ensures.goes) c.copy_images.ensures.spent)
+
+pub returns-in-Ok-begin-clause-refused : goal.returns-in-Ok-begin-clause-refused
+returns-in-Ok-begin-clause-refused g c = λ is. absurd (done-unrefused c.copy_images.result (done g c) is)
+
+pub returns-in-Ok-begin-clause-spent : goal.returns-in-Ok-begin-clause-spent
+returns-in-Ok-begin-clause-spent g c = λ here.
+    let a = c.args.self.now in
+    let b = c.begin.new.self in
+    let d = c.copy_images.new.self in
+    let types = c.args.list.now in
+    let named = are_named a.layout.rows types in
+    let copies = writes_to_copy named a.lengths (length a.layout.rows) in
+    let armed = g.D.Flash.arming (device a) in
+    let begun = g.D.Flash.arming (device b) in
+    let arming = g.D.Flash.arming (device d) in
+    let begins = c.in-Ok-begin.ensures.meets here (λ _. true) in
+    let copied = subst (λ (l : List Bool). CopiesImages l c.copy_images.result (moment b) (moment d)) (named-is g (goal.at.returns-in-Ok-begin-clause-spent g c).After-rows-count) c.copy_images.ensures.copies in
+    let takes = subst (λ (n : ℕ). OnOk c.copy_images.result (CopiesTake (are_named a.layout.rows types) n (moment b) begun arming)) (long-is g (goal.at.returns-in-Ok-begin-clause-spent g c).After-rows-count)
+    (subst (λ (l : List Bool). OnOk c.copy_images.result (CopiesTake l (length l) (moment b) begun arming)) (named-is g (goal.at.returns-in-Ok-begin-clause-spent g c).After-rows-count) c.copy_images.ensures.takes) in
+    let begun-with : Takes (writes_to_begin (fields a)) armed begun =
+    takes-begin (fields a) _ armed begun c.in-Ok-begin.ensures.spent (c.in-Ok-begin.ensures.keeps tt)
+    (λ is. ap (λ d. g.D.Flash.arming d) (c.in-Ok-begin.ensures.still is)) in
+    when-done _ _ c.copy_images.result takes (λ t.
+    takes-then (writes_to_begin (fields a)) copies (writes_to_begin (fields a) + copies) armed begun arming refl begun-with
+    (takes-some copies begun arming
+    (shows-some (fields a) (a.fitting here) g.D.Flash.tells (g.D.Flash.told a.flash) (a.knows here) (a.some here))
+    (takes-at (moment a) (moment b) (moment d) types (λ _. true) c.copy_images.result (a.fitting here)
+    (known-is g (goal.at.returns-in-Ok-begin-clause-spent g c).After-rows-count) begins copied begun arming t)))

@@ -1,0 +1,67 @@
+use Rattle.std.proofs.Common.{◌<◌, ℕ, Some, length, sym, subst, true}
+use Rattle.fwu_formats.specs.Layout.{Layout}
+use Rattle.agent_calls.specs.Shown.{device, fields, gone, moment}
+use Rattle.agent_machine.specs.Fields.{total_of}
+use Rattle.base_core.specs.Block.{block_bytes}
+use Rattle.agent_calls.specs.Takes.{FrontTakes, pieces_of}
+use Rattle.agent_calls.proofs.CopyTaking.{copy-takes, lowered-of}
+use Rattle.agent_calls.proofs.Copies.{image-unopened, image-uncopied, image-ended}
+use Rattle.agent_machine.proofs.Spending.{call-spent, spent-then}
+use Rattle.agent_calls.proofs.CopySpending.{err-spent}
+use Rattle.agent_calls.proofs.OwnRows.{found-at}
+use Rattle.agent_calls.proofs.agent.Agent.copy_image.Goals as goal
+
+pub returns-in-Err-clause-copies : goal.returns-in-Err-clause-copies
+returns-in-Err-clause-copies g c =
+    let a = c.args.self.now in
+    let here = c.requires.here in
+    let found = found-at a.layout c.rows.result.now c.args.image c.index-rows-image.result (a.fitting here).layout c.requires.image c.rows.ensures.value in
+    image-unopened _ c.args.image (moment a) (moment c.open.new.self) c.in-Err.stop (gone a) (gone c.open.new.self)
+    found here c.in-Err.ensures.goes.gone (c.in-Err.ensures.meets here)
+
+pub copy_bytes-requires-clause-image : goal.copy_bytes-requires-clause-image
+copy_bytes-requires-clause-image g c =
+    subst (λ (L : Layout). c.args.image < length L.rows) (sym (c.in-Ok.ensures.meets c.requires.here (λ _. true)).leaves.stays.layout) c.requires.image
+
+pub returns-in-Err-copy_bytes-clause-copies : goal.returns-in-Err-copy_bytes-clause-copies
+returns-in-Err-copy_bytes-clause-copies g c =
+    let a = c.args.self.now in
+    let here = c.requires.here in
+    let found = found-at a.layout c.rows.result.now c.args.image c.index-rows-image.result (a.fitting here).layout c.requires.image c.rows.ensures.value in
+    image-uncopied _ c.args.image c.in-Ok.field-0 (moment a) (moment c.open.new.self) found
+    (c.in-Ok.ensures.meets here) (moment c.copy_bytes.new.self) c.in-Err-copy_bytes.stop c.in-Err-copy_bytes.ensures.copies
+
+pub returns-clause-copies : goal.returns-clause-copies
+returns-clause-copies g c =
+    let a = c.args.self.now in
+    let here = c.requires.here in
+    let found = found-at a.layout c.rows.result.now c.args.image c.index-rows-image.result (a.fitting here).layout c.requires.image c.rows.ensures.value in
+    let still = c.in-Ok-copy_bytes.ensures.spent.gone_is in
+    image-ended _ c.args.image c.in-Ok.field-0 (moment a) (moment c.open.new.self) found
+    (c.in-Ok.ensures.meets here) (moment c.copy_bytes.new.self) c.in-Ok-copy_bytes.ensures.copies (moment c.commit.new.self) c.commit.result
+    (gone c.copy_bytes.new.self) (gone c.commit.new.self) still c.commit.ensures.goes.gone (c.commit.ensures.meets still)
+
+pub returns-in-Err-clause-spent : goal.returns-in-Err-clause-spent
+returns-in-Err-clause-spent g c = err-spent ℕ (Unit {0}) c.in-Err.stop (gone c.open.new.self) (device c.args.self.now) (device c.open.new.self)
+    (call-spent c.requires.here c.in-Err.ensures.goes)
+
+pub returns-in-Err-copy_bytes-clause-spent : goal.returns-in-Err-copy_bytes-clause-spent
+returns-in-Err-copy_bytes-clause-spent g c = spent-then (call-spent c.requires.here c.in-Ok.ensures.goes) c.in-Err-copy_bytes.ensures.spent
+
+pub returns-clause-spent : goal.returns-clause-spent
+returns-clause-spent g c =
+    let copied = c.in-Ok-copy_bytes.ensures.spent in
+    spent-then (call-spent c.requires.here c.in-Ok.ensures.goes) (spent-then copied (call-spent copied.gone_is c.commit.ensures.goes))
+
+pub returns-clause-takes : goal.returns-clause-takes
+returns-clause-takes g c =
+    let a = c.args.self.now in
+    let here = c.requires.here in
+    let found = found-at a.layout c.rows.result.now c.args.image c.index-rows-image.result (a.fitting here).layout c.requires.image c.rows.ensures.value in
+    let still = c.in-Ok-copy_bytes.ensures.spent.gone_is in
+    copy-takes c.commit.result _ c.args.image c.in-Ok.field-0 (moment a) (moment c.open.new.self) (moment c.copy_bytes.new.self)
+    (g.D.Flash.arming (device a)) (g.D.Flash.arming (device c.copy_bytes.new.self)) (g.D.Flash.arming (device c.commit.new.self)) found
+    (c.in-Ok.ensures.meets here) c.in-Ok-copy_bytes.ensures.copies
+    (subst (λ d. FrontTakes c.args.image (pieces_of block_bytes (total_of (fields c.open.new.self) (Some c.args.image))) (moment c.open.new.self) (g.D.Flash.arming d)
+    (g.D.Flash.arming (device c.copy_bytes.new.self))) c.in-Ok.ensures.still c.in-Ok-copy_bytes.ensures.takes)
+    (λ i writes. lowered-of _ c.commit.result (c.commit.ensures.spent still i writes).lowered)

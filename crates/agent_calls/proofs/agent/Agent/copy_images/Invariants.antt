@@ -1,0 +1,12 @@
+use Rattle.std.specs.Prelude.{Ok}
+use Rattle.agent_calls.specs.Shown.{SpentBy, device, moment}
+use Rattle.agent_calls.specs.Takes.{CopiesTake}
+use Rattle.agent_calls.specs.Copies.{CopiesFirst}
+use Rattle.agent_calls.proofs.agent.Agent.copy_images.Given as goal
+
+abbrev pub invariant-loop-image : goal.invariant-loop-image
+invariant-loop-image g l = record {
+  first : CopiesFirst l.fn.named l.image (moment l.fn.self) (moment l.self);
+  takes : CopiesTake l.fn.named l.image (moment l.fn.self) (g.D.Flash.arming (device l.fn.self)) (g.D.Flash.arming (device l.self));
+  spent : SpentBy (Ok tt) l.fn.self l.self;
+}

@@ -1,0 +1,116 @@
+use Rattle.std.proofs.Common.{◌≡◌, ◌+◌, ◌<◌, ◌≤◌, ◌++◌, ◌*◌, ℕ, Option, Some, Ok, Err, sym, length, take, drop, refl, ap, ◌∙◌, subst, arith}
+use Rattle.std.proofs.lemmas.List.{length-take-le, take-append-le, take_all}
+use Rattle.std.specs.Prelude.{IsFalse}
+use Rattle.fwu_formats.specs.Layout.{start}
+use Rattle.agent_machine.specs.Fields.{Fields, total_of}
+use Rattle.flash_core.specs.declared.flash.Arming.{Arming}
+use Rattle.flash_core.specs.Counts.{lowered_by}
+use Rattle.slot_writer.specs.Writes.{writes_to_append}
+use Rattle.agent_kept.specs.Kept.{part_at, size_of}
+use Rattle.agent_machine.proofs.Spending.{call-spent, spent-then}
+use Rattle.agent_calls.proofs.CopySpending.{err-spent, read-spent, stopped-spent}
+use Rattle.agent_calls.proofs.CopyTaking.{piece-takes}
+use Rattle.agent_calls.specs.Shown.{device, fields, gone, moment}
+use Rattle.agent_calls.proofs.Copies.{piece-unread, piece-held, piece-written, piece-stopped, read-goes, read-stays}
+use Rattle.agent_calls.proofs.agent.Agent.copy_piece.Goals as goal
+
+pub returns-in-Err-clause-copies : goal.returns-in-Err-clause-copies
+returns-in-Err-clause-copies g c =
+    let a = c.args.self.now in
+    piece-unread g.D.Flash.tells (g.D.Flash.told a.flash) (g.D.Flash.told c.read_part.new.self.flash) (fields a) (fields c.read_part.new.self)
+    c.read_part.ensures.fields c.read_part.ensures.reads.content c.args.image c.args.at c.stopped.result c.in-Err.stop c.stopped.ensures.stop
+
+pub returns-in-Ok-write_stream-clause-copies : goal.returns-in-Ok-write_stream-clause-copies
+returns-in-Ok-write_stream-clause-copies g c =
+    let a = c.args.self.now in
+    let f : Fields = fields a in
+    let b = c.read_part.new.self in
+    let n = c.min-size.result in
+    let buf = c.args.buf.now in
+    let out = c.read_part.new.out in
+    let here = c.requires.here in
+    let s = g.D.Flash.told a.flash in
+    let t = g.D.Flash.told b.flash in
+    let inside : c.args.at + n ≤ total_of f (Some c.args.image) = omega (arith, c.min-size.ensures, c.requires.some) in
+    let small : n ≤ length buf = omega (arith, c.min-size.ensures, c.requires.room) in
+    let size : length out ≡ n = c.read_part.auto.out ∙ length-take-le n buf small in
+    let whole : take n (out ++ drop n buf) ≡ out = take-append-le n out (drop n buf) (omega (arith, size)) ∙ take_all n out (omega (arith, size)) in
+    let still : IsFalse (gone b) = subst IsFalse (sym c.in-Ok.ensures.gone) refl in
+    let some : 0 < n = omega (arith, c.min-size.ensures, c.requires.some) in
+    piece-written (moment a) (moment b) (moment c.write_stream.new.self) (a.fitting here) c.args.image c.args.at n
+    (take n (out ++ drop n buf))
+    (λ E w x shows. read-goes g.D.Flash.tells s t f (fields b) c.read_part.ensures.fields c.read_part.ensures.reads.content E w x shows)
+    (read-stays g.D.Flash.tells s t f (fields b) c.read_part.ensures.fields c.read_part.ensures.reads.content)
+    c.requires.image (ap length whole ∙ size) inside some
+    (piece-held (moment a) (a.fitting here) (a.knows here) c.args.image c.args.at n c.requires.image inside (take n (out ++ drop n buf))
+    (λ tells. whole ∙ c.in-Ok.ensures.bytes tells
+    ∙ ap (λ (k : ℕ). take k (drop (4096 * start f.layout f.boot c.args.image + c.args.at) s.now)) (length-take-le n buf small)))
+    (c.in-Ok-write_stream.ensures.meets still)
+
+pub returns-in-Err-write_stream-clause-copies : goal.returns-in-Err-write_stream-clause-copies
+returns-in-Err-write_stream-clause-copies g c =
+    let a = c.args.self.now in
+    let f : Fields = fields a in
+    let b = c.read_part.new.self in
+    let n = c.min-size.result in
+    let buf = c.args.buf.now in
+    let out = c.read_part.new.out in
+    let here = c.requires.here in
+    let s = g.D.Flash.told a.flash in
+    let t = g.D.Flash.told b.flash in
+    let inside : c.args.at + n ≤ total_of f (Some c.args.image) = omega (arith, c.min-size.ensures, c.requires.some) in
+    let small : n ≤ length buf = omega (arith, c.min-size.ensures, c.requires.room) in
+    let size : length out ≡ n = c.read_part.auto.out ∙ length-take-le n buf small in
+    let whole : take n (out ++ drop n buf) ≡ out = take-append-le n out (drop n buf) (omega (arith, size)) ∙ take_all n out (omega (arith, size)) in
+    let still : IsFalse (gone b) = subst IsFalse (sym c.in-Ok.ensures.gone) refl in
+    piece-stopped (moment a) (moment b) (moment c.write_stream.new.self) (a.fitting here) c.args.image c.args.at n
+    (take n (out ++ drop n buf))
+    (λ E w x shows. read-goes g.D.Flash.tells s t f (fields b) c.read_part.ensures.fields c.read_part.ensures.reads.content E w x shows)
+    (read-stays g.D.Flash.tells s t f (fields b) c.read_part.ensures.fields c.read_part.ensures.reads.content)
+    c.requires.image (ap length whole ∙ size) inside c.in-Err-write_stream.stop (gone b) (gone c.write_stream.new.self) still
+    c.in-Err-write_stream.ensures.goes.gone (c.in-Err-write_stream.ensures.meets still)
+
+pub returns-in-Ok-write_stream-clause-takes : goal.returns-in-Ok-write_stream-clause-takes
+returns-in-Ok-write_stream-clause-takes g c =
+    let a = c.args.self.now in
+    let f : Fields = fields a in
+    let b = c.read_part.new.self in
+    let n = c.min-size.result in
+    let buf = c.args.buf.now in
+    let out = c.read_part.new.out in
+    let here = c.requires.here in
+    let s = g.D.Flash.told a.flash in
+    let t = g.D.Flash.told b.flash in
+    let inside : c.args.at + n ≤ total_of f (Some c.args.image) = omega (arith, c.min-size.ensures, c.requires.some) in
+    let small : n ≤ length buf = omega (arith, c.min-size.ensures, c.requires.room) in
+    let size : length out ≡ n = c.read_part.auto.out ∙ length-take-le n buf small in
+    let whole : take n (out ++ drop n buf) ≡ out = take-append-le n out (drop n buf) (omega (arith, size)) ∙ take_all n out (omega (arith, size)) in
+    let still : IsFalse (gone b) = subst IsFalse (sym c.in-Ok.ensures.gone) refl in
+    let long : length (take n (out ++ drop n buf)) ≡ n = ap length whole ∙ size in
+    piece-takes c.args.image c.args.at n (moment a) (moment b) (g.D.Flash.arming (device a)) (g.D.Flash.arming (device c.write_stream.new.self))
+    (λ E w x shows. read-goes g.D.Flash.tells s t f (fields b) c.read_part.ensures.fields c.read_part.ensures.reads.content E w x shows)
+    (λ i writes. (c.in-Ok-write_stream.ensures.spent tt i writes).lowered
+    ∙ ap (λ (m : ℕ). lowered_by (writes_to_append (size_of (part_at (fields b).session i)) m) (g.D.Flash.arming (device b))) long
+    ∙ ap (λ (o : Option Arming). lowered_by (writes_to_append (size_of (part_at (fields b).session i)) n) o) c.in-Ok.ensures.reads.arming)
+
+-- ---- what it spends
+
+pub returns-in-Err-clause-spent : goal.returns-in-Err-clause-spent
+returns-in-Err-clause-spent g c =
+    stopped-spent ℕ c.stopped.result c.in-Err.stop c.stopped.ensures.stop (gone c.read_part.new.self) (device c.args.self.now) (device c.read_part.new.self)
+    (read-spent {g = g.D.Flash} (Err c.in-Err.stop) (gone c.read_part.new.self) (device c.args.self.now) (device c.read_part.new.self) c.in-Err.ensures.gone c.in-Err.ensures.reads)
+
+pub returns-in-Ok-write_stream-clause-spent : goal.returns-in-Ok-write_stream-clause-spent
+returns-in-Ok-write_stream-clause-spent g c =
+    let b = c.read_part.new.self in
+    let still : IsFalse (gone b) = subst IsFalse (sym c.in-Ok.ensures.gone) refl in
+    spent-then (read-spent {g = g.D.Flash} (Ok tt) (gone b) (device c.args.self.now) (device b) c.in-Ok.ensures.gone c.in-Ok.ensures.reads)
+    (call-spent still c.in-Ok-write_stream.ensures.goes)
+
+pub returns-in-Err-write_stream-clause-spent : goal.returns-in-Err-write_stream-clause-spent
+returns-in-Err-write_stream-clause-spent g c =
+    let b = c.read_part.new.self in
+    let still : IsFalse (gone b) = subst IsFalse (sym c.in-Ok.ensures.gone) refl in
+    err-spent (Unit {0}) ℕ c.in-Err-write_stream.stop (gone c.write_stream.new.self) (device c.args.self.now) (device c.write_stream.new.self)
+    (spent-then (read-spent {g = g.D.Flash} (Ok tt) (gone b) (device c.args.self.now) (device b) c.in-Ok.ensures.gone c.in-Ok.ensures.reads)
+    (call-spent still c.in-Err-write_stream.ensures.goes))

@@ -1,0 +1,124 @@
+-- What a copy of images of the bank that was started leaves, step by step.
+use Rattle.std.specs.Prelude.{◌≡◌, ◌≤◌, ◌<◌, ℕ, ◌+◌, Bool, true, false, List, [], ◌++◌, length, take, drop, Result, Ok, Err, OnOk, IfOk, replicate, ⊤, slice_index_or, IsTrue, Some}
+use Rattle.flash_core.specs.declared.flash.FlashStop.TheVariants as flash_stop
+use Rattle.fwu_model.specs.State.{State, after}
+use Rattle.fwu_model.specs.Sound.{Setting}
+use Rattle.fwu_model.specs.Session.{Session, Staged, Nothing}
+use Rattle.fwu_model.specs.Reply.{Success, Refused}
+use Rattle.fwu_model.specs.Answer.{Answer}
+use Rattle.fwu_model.specs.Calm.{IsAtRest}
+use Rattle.moves.specs.Moved.{Does, GuardedBy, IsReady}
+use Rattle.agent_machine.specs.declared.stop.Stop.{Stop}
+use Rattle.agent_machine.specs.declared.stop.Stop.TheVariants as stop
+use Rattle.agent_machine.specs.Fields.{total_of}
+use Rattle.agent_machine.specs.Moment.{Moment, Shows}
+use Rattle.agent_machine.specs.Goes.{Goes}
+use Rattle.agent_machine.specs.Beside.{KeepsSparedByAll}
+use Rattle.agent_machine.specs.Meets.{IsSettingOf, Stays, flash_result}
+use Rattle.agent_machine.specs.Filling.{between, within, filled}
+use Rattle.agent_calls.specs.Partly.{begins_over, copied_first}
+use Rattle.fwu_model.specs.Answer.{image_held}
+
+-- Steps within a staging: done, and then the session is this one; or the flash stopped them. None is refused.
+abbrev pub Follows : {T : Type 0} → Result T Stop → Setting → Moment → Moment → State → Session → Type 0
+Follows (Ok x) E old new s y = Goes E (Ok tt) old new s [] y
+Follows (Err stop.Lost) E old new s y = Goes E (Err flash_stop.Lost) old new s [] y
+Follows (Err stop.Fault) E old new s y = Goes E (Err flash_stop.Failed) old new s [] y
+Follows (Err (stop.Status st)) E old new s y = ⊥
+Follows (Err stop.Gone) E old new s y = ⊥
+
+-- A piece of an image of the bank that was started, from a place of it on, was read and written behind what was there.
+pub record CopiesPiece (image at : ℕ) (result : Result ℕ Stop) (old new : Moment) : Type 0 where
+  pub stays : Stays old new
+  pub bytes : List ℕ
+  pub count : IfOk result (λ n. (length bytes ≡ n) × (0 < n) × (at + n ≤ total_of old.fields (Some image)))
+  pub read : IfOk result (λ n. IsTrue old.tells → (s : State) (x : Session) → Shows old s x
+      → bytes ≡ take n (drop at (image_held s old.fields.boot image)))
+  pub goes : (E : Setting) (s : State) (boot : ℕ) (parts : List Staged) (before : List ℕ) → E.layout ≡ old.fields.layout
+      → image < length parts → length before ≡ at → Shows old s (within boot parts image before)
+      → Follows result E old new s (within boot parts image (before ++ bytes))
+
+-- its first bytes were
+pub record CopiesFront (image at : ℕ) (old new : Moment) : Type 0 where
+  pub stays : Stays old new
+  pub bytes : List ℕ
+  pub count : length bytes ≡ at
+  pub read : IsTrue old.tells → (s : State) (boot : ℕ) (parts : List Staged) → image < length parts
+      → Shows old s (within boot parts image []) → bytes ≡ take at (image_held s boot image)
+  pub goes : (E : Setting) (s : State) (boot : ℕ) (parts : List Staged) → E.layout ≡ old.fields.layout
+      → image < length parts → Shows old s (within boot parts image [])
+      → Goes E (Ok tt) old new s [] (within boot parts image bytes)
+
+-- all of it was
+pub record CopiesBytes (image : ℕ) (result : Result (Unit {0}) Stop) (old new : Moment) : Type 0 where
+  pub stays : Stays old new
+  pub bytes : List ℕ
+  pub count : OnOk result (length bytes ≡ total_of old.fields (Some image))
+  pub read : OnOk result (IsTrue old.tells → (s : State) (boot : ℕ) (parts : List Staged) → image < length parts
+      → Shows old s (within boot parts image []) → bytes ≡ image_held s boot image)
+  pub goes : (E : Setting) (s : State) (boot : ℕ) (parts : List Staged) → E.layout ≡ old.fields.layout
+      → image < length parts → Shows old s (within boot parts image [])
+      → Follows result E old new s (within boot parts image bytes)
+
+-- an image of which nothing was staged is committed with the bytes that it has in the bank that was started
+pub record CopiesImage (image : ℕ) (result : Result (Unit {0}) Stop) (old new : Moment) : Type 0 where
+  pub stays : Stays old new
+  pub bytes : List ℕ
+  pub count : OnOk result (length bytes ≡ total_of old.fields (Some image))
+  pub read : OnOk result (IsTrue old.tells → (s : State) (boot : ℕ) (parts : List Staged) → image < length parts
+      → slice_index_or parts image Nothing ≡ Nothing → Shows old s (between boot parts) → bytes ≡ image_held s boot image)
+  pub goes : (E : Setting) (s : State) (boot : ℕ) (parts : List Staged) → E.layout ≡ old.fields.layout
+      → image < length parts → slice_index_or parts image Nothing ≡ Nothing → Shows old s (between boot parts)
+      → Follows result E old new s (between boot (filled parts image bytes true))
+
+-- so each of the first images that isn't named
+pub record CopiesFirst (named : List Bool) (k : ℕ) (old new : Moment) : Type 0 where
+  pub stays : Stays old new
+  pub bytes : ℕ → List ℕ
+  pub count : (i : ℕ) → i < k → slice_index_or named i true ≡ false → length (bytes i) ≡ total_of old.fields (Some i)
+  pub read : IsTrue old.tells → (s : State) (boot : ℕ) → Shows old s (between boot (replicate (length named) Nothing))
+      → (i : ℕ) → i < k → slice_index_or named i true ≡ false → bytes i ≡ image_held s boot i
+  pub goes : (E : Setting) (s : State) (boot : ℕ) → E.layout ≡ old.fields.layout
+      → Shows old s (between boot (replicate (length named) Nothing))
+      → Goes E (Ok tt) old new s [] (between boot (copied_first named k bytes))
+
+-- and all of them
+pub record CopiesImages (named : List Bool) (result : Result (Unit {0}) Stop) (old new : Moment) : Type 0 where
+  pub stays : Stays old new
+  pub bytes : ℕ → List ℕ
+  pub count : OnOk result ((i : ℕ) → i < length named → slice_index_or named i true ≡ false
+      → length (bytes i) ≡ total_of old.fields (Some i))
+  pub read : OnOk result (IsTrue old.tells → (s : State) (boot : ℕ) → Shows old s (between boot (replicate (length named) Nothing))
+      → (i : ℕ) → i < length named → slice_index_or named i true ≡ false → bytes i ≡ image_held s boot i)
+  pub goes : (E : Setting) (s : State) (boot : ℕ) → E.layout ≡ old.fields.layout
+      → Shows old s (between boot (replicate (length named) Nothing))
+      → Follows result E old new s (between boot (copied_first named (length named) bytes))
+
+-- ---- the call
+
+-- An answer or a refusal is the machine's, and the agent shows the machine after it. The flash stops no call that it refuses.
+abbrev pub AnswersAs : Result (Unit {0}) Stop → Answer → State → Moment → Type 0
+AnswersAs (Ok x) a s new = (a.reply ≡ Success) × Shows new (after s a.moves) a.next
+AnswersAs (Err (stop.Status st)) a s new = (a.reply ≡ Refused st) × Shows new (after s a.moves) a.next
+AnswersAs (Err stop.Lost) a s new = a.reply ≡ Success
+AnswersAs (Err stop.Fault) a s new = a.reply ≡ Success
+AnswersAs (Err stop.Gone) a s new = ⊤
+
+-- What a partial begin says of an agent that isn't gone, on any device. There are bytes of the images that aren't named, as many as
+-- the agent keeps of the bank that was started, and those of its package where the device tells its content. Each machine that the
+-- agent shows answers with them; on a ready flash each loss leaves a prefix of its moves.
+pub record BeginsPartly (types : List (List ℕ)) (named : List Bool) (passes : List ℕ → Bool) (result : Result (Unit {0}) Stop)
+    (old new : Moment) : Type 0 where
+  pub bytes : ℕ → List ℕ
+  pub count : OnOk result ((i : ℕ) → i < length named → slice_index_or named i true ≡ false
+      → length (bytes i) ≡ total_of old.fields (Some i))
+  pub read : IsTrue old.tells → (s : State) (x : Session) → Shows old s x → (i : ℕ) → i < length named
+      → slice_index_or named i true ≡ false → bytes i ≡ image_held s s.active i
+  pub exact : (E : Setting) (s : State) (x : Session) → IsSettingOf old.fields passes E → Shows old s x
+      → AnswersAs result (begins_over E s x types bytes) s new
+  pub does : (E : Setting) (s : State) (x : Session) → IsSettingOf old.fields passes E → Shows old s x → IsTrue old.tells
+      → IsReady E old.told s → Does (flash_result result) E s (begins_over E s x types bytes).moves new.told
+  pub guarded : IsTrue old.tells → IsAtRest old.told → GuardedBy (flash_result result) new.told
+  -- on any flash, at any exit: nothing changes but the metadata, the marks of the starts on trial, and the update bank
+  pub keeps : IsTrue old.tells → KeepsSparedByAll old.fields old.told new.told
+  pub stays : Stays old new

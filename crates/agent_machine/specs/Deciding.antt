@@ -1,0 +1,13 @@
+-- Which metadata decides in an image that a loss leaves.
+use Rattle.std.specs.Prelude.{List, ℕ}
+use Rattle.flash_core.specs.Told.{Told}
+use Rattle.flash_core.specs.May.{May}
+use Rattle.fwu_formats.specs.Layout.{Layout}
+use Rattle.fwu_formats.specs.Metadata.{MetaRead}
+use Rattle.fwu_model.specs.Calm.{IsAtRest}
+use Rattle.fwu_model.specs.Replica.{BothHold, Decides}
+
+-- From a flash at rest, sound or not, whose replicas both hold the old metadata: in each image that a loss leaves it decides, or the
+-- new one.
+abbrev pub KeepsOldOrNew : Layout → MetaRead → MetaRead → Told → Told → Type 0
+KeepsOldOrNew L old new s t = IsAtRest s → BothHold L old s.now → (image : List ℕ) → May t image → Decides L old new image

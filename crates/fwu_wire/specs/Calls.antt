@@ -1,0 +1,73 @@
+-- Which call of the agent a request asks for, by its function and its arguments.
+use Rattle.std.specs.Prelude.{ℕ, ◌==◌, nat_le, if◌then◌else◌, List, length, take, drop, Option, Some, None, option_map}
+use Rattle.base_core.specs.Bytes.{num_at}
+use Rattle.fwu_model.specs.declared.kinds.Op.{Op}
+use Rattle.fwu_model.specs.declared.kinds.Op.TheVariants as op
+use Rattle.fwu_model.specs.Call.{Call}
+use Rattle.fwu_model.specs.Call as call
+use Rattle.fwu_wire.specs.Functions.{function_of}
+use Rattle.fwu_wire.specs.declared.functions.Function.{Function}
+use Rattle.fwu_wire.specs.declared.functions.Function.TheVariants as function
+use Rattle.fwu_wire.specs.declared.calls.AgentCall.{AgentCall}
+use Rattle.fwu_wire.specs.declared.calls.AgentCall.TheVariants as wire
+
+-- a read asks for so many bytes at most
+abbrev pub most_room : ℕ
+most_room = 4096
+
+-- the arguments have so many bytes
+abbrev pub of_length : ℕ → List ℕ → Call → Option Call
+of_length n args c = if length args == n then Some c else None
+
+abbrev pub op_of : ℕ → Option Op
+op_of n = if n == 0 then Some op.Read else if n == 1 then Some op.Write else None
+
+abbrev pub open_call : List ℕ → Op → Call
+open_call guid op.Read = call.OpenRead guid
+open_call guid op.Write = call.OpenWrite guid
+
+abbrev pub asks_open : List ℕ → Option Call
+asks_open args =
+    if length args == 20 then option_map (open_call (take 16 args)) (op_of (num_at 4 args 16)) else None
+
+-- the bytes stand behind the handle. No body has more than 4,096 of them
+abbrev pub asks_write : List ℕ → Option Call
+asks_write args = if nat_le 4 (length args) then Some (call.Write (num_at 4 args 0) (drop 4 args)) else None
+
+abbrev pub asks_read : List ℕ → Option Call
+asks_read args =
+    if length args == 8
+    then (if nat_le (num_at 4 args 4) most_room then Some (call.Read (num_at 4 args 0) (num_at 4 args 4)) else None)
+    else None
+
+-- the vendor flags and the atomic length have no meaning
+abbrev pub asks_by : Option Function → List ℕ → Option Call
+asks_by None args = None
+asks_by (Some function.Discover) args = of_length 0 args call.Discover
+asks_by (Some function.Begin) args = of_length 8 args (call.Begin (num_at 4 args 4))
+asks_by (Some function.End) args = of_length 0 args call.End
+asks_by (Some function.Cancel) args = of_length 0 args call.Cancel
+asks_by (Some function.Open) args = asks_open args
+asks_by (Some function.WriteStream) args = asks_write args
+asks_by (Some function.ReadStream) args = asks_read args
+asks_by (Some function.Commit) args = of_length 12 args (call.Commit (num_at 4 args 0) (num_at 4 args 4))
+asks_by (Some function.Accept) args = of_length 16 args (call.Accepts args)
+asks_by (Some function.SelectPrevious) args = of_length 0 args call.Previous
+
+-- a message is the number of a function, and its arguments
+unfoldable pub asks : List ℕ → Option Call
+asks message = asks_by (function_of (num_at 4 message 0)) (drop 4 message)
+
+-- ---- the calls of the code
+
+abbrev pub shown : AgentCall → Call
+shown wire.Discover = call.Discover
+shown (wire.Begin flags count) = call.Begin count
+shown wire.End = call.End
+shown wire.Cancel = call.Cancel
+shown (wire.Open guid op) = open_call guid op
+shown (wire.Write handle bytes) = call.Write handle bytes.now
+shown (wire.Read handle room) = call.Read handle room
+shown (wire.Commit handle request atomic) = call.Commit handle request
+shown (wire.Accept guid) = call.Accepts guid
+shown wire.Previous = call.Previous

@@ -1,0 +1,123 @@
+-- What a call of the agent gave, as a reply of the machine, and what a server made of a request.
+use Rattle.std.specs.Prelude.{◌≡◌, ℕ, Bool, true, false, List, length, take, Option, Some, None, Result, Ok, Err, IfOk, ⊤}
+use Rattle.fwu_model.specs.Call.{Call}
+use Rattle.fwu_model.specs.Reply.{Reply}
+use Rattle.fwu_model.specs.Reply as reply
+use Rattle.agent_machine.specs.declared.stop.Stop as agents
+use Rattle.agent_machine.specs.declared.stop.Stop.TheVariants as agent_stop
+use Rattle.agent_machine.specs.Meets.{Leaves, flash_result}
+use Rattle.agent_machine.specs.Moment.{Moment}
+use Rattle.agent_calls.specs.AnswersCall.{AnswersCall}
+use Rattle.wire_frames.specs.declared.exchange.Admission.{Admission}
+use Rattle.wire_frames.specs.declared.exchange.Admission.TheVariants.{Acts, Repeats, Ignored}
+use Rattle.wire_frames.specs.Exchange.{Answered, admission, answered, written}
+use Rattle.wire_frames.specs.Frames.{frame, number_of, numbered}
+use Rattle.fwu_wire.specs.Replies.{message, replied}
+use Rattle.fwu_wire.specs.declared.replies.AgentReply.{AgentReply}
+use Rattle.fwu_wire.specs.declared.replies.AgentReply.TheVariants as wire
+use Rattle.fwu_wire.specs.declared.stops.Stop.{Stop}
+use Rattle.fwu_wire.specs.declared.stops.Stop.TheVariants as stop
+use Rattle.fwu_wire.specs.declared.stops.Taken.{Taken}
+use Rattle.fwu_wire.specs.declared.stops.Taken.TheVariants as taken
+
+-- ---- stops
+
+-- why the agent gave no reply
+abbrev pub agents_stop : Stop → agents.Stop
+agents_stop stop.Lost = agent_stop.Lost
+agents_stop stop.Fault = agent_stop.Fault
+agents_stop stop.Gone = agent_stop.Gone
+
+-- whether the agent was stopped, as one of its calls tells it
+abbrev pub stopped_by : {T : Type 0} → Result T Stop → Result (Unit {0}) agents.Stop
+stopped_by (Ok value) = Ok tt
+stopped_by (Err why) = Err (agents_stop why)
+
+-- ---- a call of the agent
+
+-- its answer or its refusal as a reply, or why there is none
+abbrev pub said : {T : Type 0} → (T → AgentReply) → Result T agents.Stop → Result AgentReply Stop
+said says (Ok value) = Ok (says value)
+said says (Err (agent_stop.Status st)) = Ok (wire.Refused st)
+said says (Err agent_stop.Lost) = Err stop.Lost
+said says (Err agent_stop.Fault) = Err stop.Fault
+said says (Err agent_stop.Gone) = Err stop.Gone
+
+-- and what the agent answered, of a reply
+abbrev pub agents_answer : Result AgentReply Stop → Result (Unit {0}) agents.Stop
+agents_answer (Ok (wire.Refused st)) = Err (agent_stop.Status st)
+agents_answer (Ok other) = Ok tt
+agents_answer (Err why) = Err (agents_stop why)
+
+-- with the bytes that were read
+abbrev pub reply_in : Result AgentReply Stop → List ℕ → Result Reply Stop
+reply_in (Ok r) bytes = Ok (replied r bytes)
+reply_in (Err why) bytes = Err why
+
+-- The agent was called, and its answer or refusal is the machine's; or the flash stopped it.
+pub record CallMeets (passes : List ℕ → Bool) (c : Call) (result : Result Reply Stop) (old new : Moment) : Type 0 where
+  pub answers : IfOk result (λ r. AnswersCall passes c r old new)
+  pub leaves : Leaves (flash_result (stopped_by result)) passes c old new
+
+-- ---- a request that acts
+
+abbrev pub IsRefusal : Reply → Type 0
+IsRefusal (reply.Refused st) = ⊤
+IsRefusal other = ⊥
+
+-- The message is that of the machine's reply to the call. A refusal leaves what the agent keeps.
+pub record RepliesToCall (passes : List ℕ → Bool) (c : Call) (bytes : List ℕ) (old new : Moment) : Type 0 where
+  pub reply : Reply
+  pub message_is : bytes ≡ message reply
+  pub answers : AnswersCall passes c reply old new
+  pub refused : IsRefusal reply → new.fields ≡ old.fields
+
+-- The message of the reply to a request: to its call; or that of a request for no call, which does nothing.
+abbrev pub RepliesTo : (List ℕ → Bool) → Option Call → List ℕ → Moment → Moment → Type 0
+RepliesTo passes None bytes old new = (bytes ≡ message reply.NotUnderstood) × (new ≡ old)
+RepliesTo passes (Some c) bytes old new = RepliesToCall passes c bytes old new
+
+-- what the flash has at any exit, and what a loss leaves of it
+abbrev pub LeavesBy : {T : Type 0} → Result T Stop → (List ℕ → Bool) → Option Call → Moment → Moment → Type 0
+LeavesBy result passes None old new = new ≡ old
+LeavesBy result passes (Some c) old new = Leaves (flash_result (stopped_by result)) passes c old new
+
+-- ---- any request
+
+-- a buffer before and after a request
+pub record Buffers : Type 0 where
+  pub before : List ℕ
+  pub after : List ℕ
+
+-- whether it has the next number
+abbrev pub is_next : Admission → Bool
+is_next Acts = true
+is_next Repeats = false
+is_next Ignored = false
+
+-- the request acts
+abbrev pub IsNext : Answered → List ℕ → Type 0
+IsNext a body = admission a.last (number_of body) ≡ Acts
+
+-- A frame of n bytes was given for a request of this number, by the steps of the exchange: it is what is written for the request,
+-- where the frame of a request that acts is the one at the front of the buffer; and that one is kept.
+pub record GivesReply (number n : ℕ) (acted : Bool) (old new : Answered) (out : Buffers) : Type 0 where
+  pub whole : length (take n out.after) ≡ n
+  pub writes : written old number (take n out.after) ≡ Some (take n out.after)
+  pub keeps : new ≡ answered old number (take n out.after)
+  pub acts : acted ≡ is_next (admission old.last number)
+
+-- What is given for a request, by its number and what is kept: a reply; or nothing, and nothing changes. Or the agent is stopped, in
+-- a request that acts, and nothing is kept.
+abbrev pub Gives : ℕ → Result Taken Stop → Answered → Answered → Buffers → Type 0
+Gives number (Ok (taken.Reply n acted)) old new out = GivesReply number n acted old new out
+Gives number (Ok taken.Ignored) old new out = (admission old.last number ≡ Ignored) × (new ≡ old) × (out.after ≡ out.before)
+Gives number (Err why) old new out = (admission old.last number ≡ Acts) × (new ≡ old)
+
+-- the frame of a request that acted is that of its reply
+abbrev pub IsReply : (List ℕ → Bool) → Option Call → ℕ → Result Taken Stop → List ℕ → Moment → Moment → Type 0
+IsReply passes asked number (Ok (taken.Reply n true)) after old new =
+    (bytes : List ℕ) × (take n after ≡ frame (numbered number bytes)) × RepliesTo passes asked bytes old new
+IsReply passes asked number (Ok (taken.Reply n false)) after old new = ⊤
+IsReply passes asked number (Ok taken.Ignored) after old new = ⊤
+IsReply passes asked number (Err why) after old new = ⊤

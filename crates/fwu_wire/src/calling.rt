@@ -1,0 +1,115 @@
+//! Calls of the agent, with their answers as replies.
+ghost use Rattle.std.specs.Prelude.{◌≡◌, ◌≤◌, ℕ, Bool, List, IsFalse, IfOk, Err, length, ◌++◌};
+ghost use Rattle.agent_calls.specs.Shown.{AgentGoes, gone, moment};
+ghost use Rattle.fwu_model.specs.Call as call;
+ghost use Rattle.fwu_wire.specs.Calls.{most_room, open_call, shown};
+ghost use Rattle.fwu_wire.specs.Fitting.{AsksWithin, FitsFrame};
+ghost use Rattle.fwu_wire.specs.Taken.{CallMeets, agents_answer, reply_in, said};
+
+use crate::calls::AgentCall;
+use crate::replies::AgentReply;
+use crate::stops::Stop;
+use agent_calls::{Agent, Stop as AgentStop};
+use base_core::Guid;
+use flash_core::Flash;
+use fwu_model::Op;
+use verify_core::Verifier;
+
+/// What is answered where the agent gives no value.
+fn refused(stop: AgentStop) -> Result<AgentReply, Stop>
+    ensures { result ≡ said {T = Unit {0}} (λ value. AgentReply.Success) (Err stop) }
+{
+    match stop {
+        AgentStop::Status(status) => Ok(AgentReply::Refused(status)),
+        AgentStop::Lost => Err(Stop::Lost),
+        AgentStop::Fault => Err(Stop::Fault),
+        AgentStop::Gone => Err(Stop::Gone),
+    }
+}
+
+/// The reply to a call that tells nothing but that it was done.
+fn done(answer: Result<(), AgentStop>) -> Result<AgentReply, Stop>
+    ensures { result ≡ said (λ value. AgentReply.Success) answer }
+{
+    match answer {
+        Ok(()) => Ok(AgentReply::Success),
+        Err(stop) => refused(stop),
+    }
+}
+
+fn discover<D: Flash>(agent: &mut Agent<D>) -> Result<AgentReply, Stop>
+    ensures meets { IsFalse (gone agent.old) → (passes : List ℕ → Bool) → (bytes : List ℕ) →
+        CallMeets passes call.Discover (reply_in result bytes) (moment agent.old) (moment agent.new) }
+    ensures goes { AgentGoes (agents_answer result) agent.old agent.new }
+    ensures still { agent.new ≡ agent.old }
+    ensures fits { IfOk result FitsFrame }
+{
+    match agent.discover() {
+        Ok(discovery) => Ok(AgentReply::Discovered(discovery.state)),
+        Err(stop) => refused(stop),
+    }
+}
+
+fn open<D: Flash>(agent: &mut Agent<D>, guid: Guid, op: Op) -> Result<AgentReply, Stop>
+    ensures meets { IsFalse (gone agent.old) → (passes : List ℕ → Bool) → (bytes : List ℕ) →
+        CallMeets passes (open_call guid op) (reply_in result bytes)
+        (moment agent.old) (moment agent.new) }
+    ensures goes { AgentGoes (agents_answer result) agent.old agent.new }
+    ensures fits { IfOk result FitsFrame }
+{
+    match agent.open(guid, op) {
+        Ok(handle) => Ok(AgentReply::Opened(handle)),
+        Err(stop) => refused(stop),
+    }
+}
+
+/// Reads to the front of the buffer.
+fn read<D: Flash>(agent: &mut Agent<D>, handle: u32, out: &mut [u8]) -> Result<AgentReply, Stop>
+    requires few { length out.old ≤ most_room }
+    ensures meets { IsFalse (gone agent.old) → (passes : List ℕ → Bool) → (behind : List ℕ) →
+        CallMeets passes (call.Read handle (length out.old)) (reply_in result (out.new ++ behind))
+        (moment agent.old) (moment agent.new) }
+    ensures goes { AgentGoes (agents_answer result) agent.old agent.new }
+    ensures fits { IfOk result FitsFrame }
+{
+    match agent.read_stream(handle, out) {
+        Ok((count, total)) => Ok(AgentReply::Got { total, count }),
+        Err(stop) => refused(stop),
+    }
+}
+
+/// Calls the agent. What is read stands at the front of the buffer.
+pub fn call_agent<D: Flash, V: Verifier>(
+    agent: &mut Agent<D>,
+    call: &AgentCall,
+    out: &mut [u8],
+    verifier: &V,
+) -> Result<AgentReply, Stop>
+    requires room { most_room ≤ length out.old }
+    requires within { AsksWithin call.now }
+    ensures meets { IsFalse (gone agent.old) →
+        CallMeets (V.passes verifier.now) (shown call.now) (reply_in result out.new)
+        (moment agent.old) (moment agent.new) }
+    ensures goes { AgentGoes (agents_answer result) agent.old agent.new }
+    ensures fits { IfOk result FitsFrame }
+{
+    match *call {
+        AgentCall::Discover => discover(agent),
+        AgentCall::Begin {
+            vendor_flags,
+            partial_count,
+        } => done(agent.begin(vendor_flags, partial_count)),
+        AgentCall::End => done(agent.end(verifier)),
+        AgentCall::Cancel => done(agent.cancel()),
+        AgentCall::Open { guid, op } => open(agent, guid, op),
+        AgentCall::Write { handle, bytes } => done(agent.write_stream(handle, bytes)),
+        AgentCall::Read { handle, room } => read(agent, handle, &mut out[..room as usize]),
+        AgentCall::Commit {
+            handle,
+            acceptance_req,
+            max_atomic_len,
+        } => done(agent.commit(handle, acceptance_req, max_atomic_len)),
+        AgentCall::Accept { guid } => done(agent.accept(guid)),
+        AgentCall::Previous => done(agent.previous(verifier)),
+    }
+}

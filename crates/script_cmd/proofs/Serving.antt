@@ -1,0 +1,35 @@
+-- What was answered is served.
+use Rattle.std.proofs.Common.{ℕ, Bool, List, Option}
+use Rattle.script_cmd.specs.Answered.{Answered}
+use Rattle.script_cmd.specs.Ending.{Device, Ending, World}
+use Rattle.script_cmd.specs.Serves.{Serves}
+use Rattle.script_cmd.specs.Ways.{Inputs}
+use Rattle.script_cmd.specs.declared.done.Note.{Note}
+use Rattle.script_cmd.proofs.PromiseAll.{promised}
+use Rattle.script_cmd.proofs.PromiseTable.{promised-by-table}
+use Rattle.script_cmd.proofs.SinkCounts.{answered-counts}
+use Rattle.script_cmd.proofs.SoakPromise.{soaked-by}
+
+pub serving : {H I : Type 0} (passes : List ℕ → Bool) (device : Device) (inputs : Inputs) (ending : Ending Note) (old new : World)
+    (rest : Option (List ℕ)) (fb fa : H) (sb sa : I) → Answered passes device inputs ending old new rest fb fa sb sa
+    → Serves passes device inputs ending old new rest fb fa sb sa
+serving passes device inputs ending old new rest fb fa sb sa a = record {
+  promises = λ runs. promised _ _ _ _ _ _ (a.way runs);
+  by_table = λ plain over. promised-by-table _ _ _ _ _ _ (a.by_table plain over);
+  shows = a.shows;
+  formats = a.formats;
+  soaks = λ seed rounds is. soaked-by _ _ seed rounds _ _ _ (a.soaks seed rounds is);
+  read_to_end = a.read_to_end;
+  read_to_end_by_table = a.read_to_end_by_table;
+  power = a.power;
+  source = a.source;
+  list_first = a.list_first;
+  in_time = a.in_time;
+  source_count = a.source_count;
+  files = a.files;
+  unsent = a.unsent;
+  list_alone = a.list_alone;
+  note = a.note;
+  sink_count = answered-counts old new passes device inputs ending rest fb fa sb sa a;
+  later = a.later;
+}

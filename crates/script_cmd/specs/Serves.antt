@@ -1,0 +1,69 @@
+-- What the program promises of what its words ask for, by each command. It is the contract of both top calls.
+use Rattle.std.specs.Prelude.{◌≡◌, ℕ, Bool, List, [], Option, Some, None, IfSome, IsTrue, IsFalse}
+use Rattle.fwu_formats.specs.Layout.{ImageRow}
+use Rattle.fwu_model.specs.Allow.{asks_list}
+use Rattle.fwu_model.specs.Causes.{may_fail_before}
+use Rattle.fwu_words.specs.Order.{Asked}
+use Rattle.fwu_words.specs.Order as ask
+use Rattle.script_cmd.specs.Asking.{asks_beyond, asks_files, asks_package, asks_run, leaves_on}
+use Rattle.script_cmd.specs.Ending.{Device, Ending, World, in_model}
+use Rattle.script_cmd.specs.Formatting.{FormattedBy}
+use Rattle.script_cmd.specs.Noted.{is_beyond}
+use Rattle.script_cmd.specs.Printed.{FailsAtThree}
+use Rattle.script_cmd.specs.Promises.{Promised}
+use Rattle.script_cmd.specs.PromisesByTable.{PromisedByTable}
+use Rattle.script_turns.specs.Runs.{calls_of, sends_none}
+use Rattle.script_cmd.specs.Showing.{ShowedBy}
+use Rattle.script_cmd.specs.Soaked.{SoakedBy}
+use Rattle.script_cmd.specs.Sourced.{FailsOnce, ReadsInTime}
+use Rattle.script_cmd.specs.Ways.{ByList, HasGoodList, HasPasses, Inputs, IsIdle, Later, RunsOrNone, given_all}
+use Rattle.script_cmd.specs.WaysByTable.{over_table}
+use Rattle.script_cmd.specs.declared.done.Note.{Note}
+
+-- What it promises of a run for what was asked. `rest` is what the source tells afterwards.
+pub record Serves {H I : Type 0} (passes : List ℕ → Bool) (device : Device) (inputs : Inputs)
+    (ending : Ending Note) (old new : World) (rest : Option (List ℕ)) (files_before files_after : H)
+    (source_before source_after : I) : Type 0 where
+  -- for `run` and `boot`, and for words that ask for nothing
+  pub promises : RunsOrNone inputs.asked → Promised passes device.tells inputs (in_model ending) old new
+  -- for `run --gpt` and `boot --gpt`, which are `run` and `boot` on the flash behind the partition table
+  pub by_table : (plain : Asked) → over_table inputs.asked ≡ Some plain
+      → PromisedByTable passes device (record inputs { asked = Some plain }) ending old new
+  -- for `show`: what it found and wrote, and that nothing changed and nothing is armed
+  pub shows : inputs.asked ≡ Some ask.show → ShowedBy device.tells (given_all inputs) (in_model ending) old new
+  -- for `format`: what became of the flash, exactly what is refused, and what was written
+  pub formats : (banks : ℕ) (rows : List ImageRow) (file : List ℕ) → inputs.asked ≡ Some (ask.format banks rows file)
+      → FormattedBy passes device (given_all inputs) file (record { banks = banks; rows = rows }) ending old new
+  -- for `soak`: its calls are a run of the machine from the flash as it was formatted, and the line is that of their totals
+  pub soaks : (seed rounds : ℕ) → inputs.asked ≡ Some (ask.soak seed rounds)
+      → SoakedBy device (given_all inputs) seed rounds ending old new
+  pub read_to_end : ending.status ≡ 0 → inputs.asked ≡ Some ask.run → IfSome rest (λ r. r ≡ [])
+  pub read_to_end_by_table : ending.status ≡ 0 → inputs.asked ≡ Some ask.run_partitioned
+      → IfSome rest (λ r. r ≡ [])
+  pub power : IsTrue (leaves_on inputs.asked) → ending.status ≡ 0 → IsTrue new.flash.power
+  -- only `run` reads the source, and not behind a list that told files lack, or that is none
+  pub source : IsFalse (asks_run inputs.asked) → source_after ≡ source_before
+  pub list_first : (HasGoodList inputs.list inputs.files → ⊥) → source_after ≡ source_before
+  pub in_time : IsTrue (asks_run inputs.asked) → ReadsInTime inputs.source rest
+  pub source_count : IsTrue (asks_run inputs.asked)
+      → FailsOnce ending.journal ending.status old.faults.source new.faults.source
+  -- only `run`, `format` and a list read files, and where no turn is a `send`, `run` does not
+  pub files : inputs.list ≡ None → IsFalse (asks_files inputs.asked) → files_after ≡ files_before
+  pub unsent : inputs.list ≡ None → IsFalse (asks_package inputs.asked)
+      → IsTrue (sends_none (calls_of ending.journal)) → files_after ≡ files_before
+  -- then no other file than the list is asked for
+  pub list_alone : IsFalse (asks_package inputs.asked) → IsTrue (sends_none (calls_of ending.journal))
+      → IsFalse (may_fail_before ending.status) → new.faults.files ≡ old.faults.files
+  pub note : IsFalse (asks_beyond inputs.asked) → IsFalse (is_beyond ending.noted)
+  -- the sink fails at the line that ends it with 3, and at no other
+  pub sink_count : FailsAtThree ending.status old.faults.sink new.faults.sink
+  pub later : Later old.faults new.faults
+
+-- The same by the manifests that the list has which the words name. Where no list was read nothing was done, and it holds
+-- whichever pass.
+abbrev pub ServesByList : {H I : Type 0} → List (List ℕ) → Device → Inputs → Ending Note → World → World → Option (List ℕ)
+    → H → H → I → I → Type 0
+ServesByList words device inputs ending old new rest files_before files_after source_before source_after =
+    ByList (HasPasses (asks_list words) inputs.list inputs.files)
+    (IsIdle ending.journal ending.status old.flash new.flash)
+    (λ passes. Serves passes device inputs ending old new rest files_before files_after source_before source_after)

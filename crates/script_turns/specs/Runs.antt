@@ -1,0 +1,101 @@
+-- What a run of turns did so far.
+use Rattle.std.specs.List.{list_all}
+use Rattle.std.specs.Prelude.{not, ◌≡◌, ℕ, ◌+◌, ◌≤◌, Bool, List, [], ◌∷◌, length, map, sum_by, Option, Some, None, IsTrue}
+use Rattle.std.specs.Prelude.{Contains, slice_get}
+use Rattle.flash_core.specs.Counts.{Rose, all_stops, stops_in}
+use Rattle.flash_core.specs.Told.{NothingDirty}
+use Rattle.flash_core.specs.May.{Guards}
+use Rattle.host_io.specs.Contents.{Directory}
+use Rattle.fwu_model.specs.State.{State}
+use Rattle.fwu_model.specs.Sound.{Setting}
+use Rattle.fwu_model.specs.Seen.{seen, SoundFlash}
+use Rattle.fwu_model.specs.Call.{Call}
+use Rattle.fwu_model.specs.Call as call
+use Rattle.fwu_model.specs.Reply.{Turn}
+use Rattle.fwu_model.specs.Reply as reply
+use Rattle.fwu_model.specs.Run.{Condition, Runs, ends_run, is_send}
+use Rattle.fwu_model.specs.Headline.{ArmedBy, made_after}
+use Rattle.fwu_model.specs.Causes.{FileNotRead, LossesAreCounted, cuts_in}
+use Rattle.script_turns.specs.Powered.{Fits, Moment, IsAt, IsSafe}
+use Rattle.script_turns.specs.Booted.{BootsFrom}
+use Rattle.script_turns.specs.Replies.{power_after}
+use Rattle.script_turns.specs.Takes.{stop_told}
+use Rattle.script_turns.specs.Turning.{NoneFalls, Turns}
+
+abbrev pub calls_of : List Turn → List Call
+calls_of journal = map (λ (t : Turn). t.call) journal
+
+-- no call reads a file
+abbrev pub sends_none : List Call → Bool
+sends_none script = list_all (λ c. not (is_send c)) script
+
+-- how many turns of a journal tell a stop of the flash
+abbrev pub stops_of : List Turn → ℕ
+stops_of journal = sum_by (λ (t : Turn). stops_in (stop_told t.reply)) journal
+
+-- whether the device has power after the turns of a journal
+abbrev pub power_left : Bool → List Turn → Bool
+power_left power [] = power
+power_left power (t ∷ turns) = power_left (power_after power t.reply) turns
+
+-- The turns of a journal, one after the other, from a device and the files' faults to those that they leave.
+-- After each of them an agent that is there fits some machine, on any device.
+abbrev pub Follows : (List ℕ → Bool) → Bool → Option Directory → List Turn → Moment → Moment → ℕ → ℕ → Type 0
+Follows passes tells files [] old new from to = (new ≡ old) × (to ≡ from)
+Follows passes tells files (t ∷ turns) old new from to =
+    (mid : Moment) × (n : ℕ) × Turns passes tells files t.call t old mid from n × Fits tells mid
+    × Follows passes tells files turns mid new n to
+
+-- a flash from which the headline holds: sound, with nothing dirty, and guarded at the front
+pub record StartsSound (E : Setting) (start : State) (passes : List ℕ → Bool)
+    (old : Moment) : Type 0 where
+  pub clean : NothingDirty old.told
+  pub sound : SoundFlash E old.told.now
+  pub shows : seen old.told.now ≡ Some start
+  pub guarded : Guards 1 7 old.told
+  pub passes_are : E.passes ≡ passes
+
+-- the machine's run leads to a condition that the flash is at
+pub record RunsTo (E : Setting) (start : State) (journal : List Turn)
+    (old new : Moment) : Type 0 where
+  pub last : Condition
+  pub runs : Runs E start journal last
+  pub is_at : IsAt E last new.on new.told
+  pub armed : ArmedBy last journal old.counts new.counts new.armed
+
+-- No loss was armed and no turn is a `cut`: none is armed, none was reached, and a turn is lost only to a loss that none armed.
+pub record RunsFree (journal : List Turn) (old new : Moment) : Type 0 where
+  pub armed : new.armed ≡ None
+  pub reached : new.counts.reached ≡ old.counts.reached
+  pub lost : (t : Turn) → Contains journal t → t.reply ≡ reply.Lost → Rose old.counts.cuts new.counts.cuts
+
+-- The turns of the journal were done, from a device that was off and unarmed. The files' faults were some, and are some.
+pub record Ran (passes : List ℕ → Bool) (tells : Bool) (files : Option Directory)
+    (journal : List Turn) (old new : Moment) (from to : ℕ) : Type 0 where
+  pub counts : NoneFalls old.counts new.counts
+  -- no failure and no loss is counted but those that the turns tell
+  pub once : all_stops new.counts ≤ all_stops old.counts + stops_of journal
+  -- each `cut` is an arming, and there are no others
+  pub made : new.counts.made ≡ made_after old.counts.made (cuts_in journal)
+  pub free : old.armed ≡ None → cuts_in journal ≡ 0 → RunsFree journal old new
+  pub lost_turns : LossesAreCounted journal old.counts new.counts
+  pub fault_turns : (t : Turn) → Contains journal t → t.reply ≡ reply.Fault
+      → Rose old.counts.faults new.counts.faults
+  pub unread_turns : (t : Turn) → Contains journal t → t.reply ≡ reply.ReadFault
+      → FileNotRead files from to t.call
+  pub later : from ≤ to
+  -- what each of them did, on any device
+  pub follows : Follows passes tells files journal old new from to
+  pub power : new.power ≡ power_left old.power journal
+  pub guard : IsTrue tells → new.told.guard ≡ old.told.guard
+  -- a turn that ends the run is the last
+  pub ends : (n : ℕ) (t : Turn) → slice_get journal n ≡ Some t → IsTrue (ends_run t.reply)
+      → n + 1 ≡ length journal
+  pub run : IsTrue tells → (E : Setting) (start : State) → StartsSound E start passes old
+      → files ≡ Some E.files
+      → (Rose old.counts.chances new.counts.chances → ⊥) → RunsTo E start journal old new
+  pub safe : IsTrue tells → NothingDirty old.told → Guards 1 7 old.told → IsSafe new.power new.told
+  -- until the first turn nothing is done, and where it is a boot it goes by the bytes
+  pub untouched : journal ≡ [] → (new ≡ old)
+  pub first : IsTrue tells → NothingDirty old.told → (t : Turn) → slice_get journal 0 ≡ Some t
+      → t.call ≡ call.Boot → BootsFrom passes old.told.now t.reply

@@ -1,0 +1,5 @@
+pub mod FourLanes
+pub mod LaneWords
+pub mod Blocks
+pub mod Ends
+pub mod LaneStates

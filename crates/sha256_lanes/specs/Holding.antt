@@ -1,0 +1,17 @@
+-- What a hash value and the hasher hold.
+use Rattle.std.specs.Prelude.{◌≡◌, ℕ, ◌%◌, List, [], ◌∷◌, length}
+use Rattle.sha2.specs.Sha256.{IsAbsorbed, initial_hash_256}
+use Rattle.sha256_lanes.specs.Lanes.{lane}
+use Rattle.sha256_lanes.specs.declared.lanes.Lanes.{Lanes}
+
+-- the hash value h has taken in the message m, which is of whole blocks
+unfoldable pub IsOfBlocks : List ℕ → List ℕ → Type 0
+IsOfBlocks h m = (length m % 64 ≡ 0) × IsAbsorbed initial_hash_256 h [] m
+
+-- the hash values of the four messages, word by word
+abbrev pub state_of : Lanes → List (List ℕ)
+state_of s = s.h0 ∷ s.h1 ∷ s.h2 ∷ s.h3 ∷ s.h4 ∷ s.h5 ∷ s.h6 ∷ s.h7 ∷ []
+
+-- lane j of the hasher s holds the message m, which is of whole blocks
+abbrev pub HoldsInLane : ℕ → Lanes → List ℕ → Type 0
+HoldsInLane j s m = IsOfBlocks (lane j (state_of s)) m

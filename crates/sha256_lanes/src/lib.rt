@@ -1,0 +1,13 @@
+//! SHA-256 (FIPS 180-4) of four messages side by side, one in each lane of the vectors.
+#![tactic(auto)]
+
+mod consts;
+mod four;
+mod lanes;
+mod last;
+mod rounds;
+mod schedule;
+mod words;
+
+pub use four::digests;
+pub use lanes::Lanes;

@@ -1,0 +1,251 @@
+use Rattle.std.proofs.Common.{◌≡◌, ◌+◌, ◌^◌, ◌<◌, ◌≤◌, ℕ, Bool, true, false, List, length, take, Option, Some, Ok, Err, sym, ap, subst, ◌∙◌, arith, IsTrue, IsFalse}
+use Rattle.std.specs.List.{All}
+use Rattle.std.proofs.lemmas.List.{length-map}
+use Rattle.fwu_formats.specs.Layout.{ImageRow}
+use Rattle.fwu_formats.specs.Package.{Entry}
+use Rattle.fwu_model.specs.Answer.{skipped}
+use Rattle.agent_machine.specs.declared.stop.Stop.{Stop}
+use Rattle.agent_calls.specs.Shown.{device, fields, gone, moment}
+use Rattle.flash_core.specs.declared.flash.Arming.{Arming}
+use Rattle.agent_machine.specs.Ends.{TakesSwitch}
+use Rattle.agent_calls.specs.Takes.{Takes, writes_to_begin, writes_to_copy}
+use Rattle.agent_calls.proofs.Taking.{takes-some, takes-then}
+use Rattle.agent_machine.proofs.Showing.{shows-some}
+use Rattle.update_client.specs.Takes.{InstallTakes, writes_in}
+use Rattle.fwu_model.specs.Answer.{are_named, names_unknown, partial_fault}
+use Rattle.agent_calls.specs.Copies.{BeginsPartly}
+use Rattle.flash_core.specs.Calls.{Goes}
+use Rattle.update_client.specs.declared.stops.Sent.{Sent}
+use Rattle.update_client.specs.declared.stops.SendStop.{SendStop}
+use Rattle.update_client.specs.Halts.{flash_of, unbegun_as}
+use Rattle.agent_machine.proofs.Spending.{call-spent, spent-then}
+use Rattle.update_client.proofs.Spending.{goes-of, here-before, unbegun-spent}
+use Rattle.update_client.specs.Choosing.{refused_image}
+use Rattle.update_client.specs.Finishes.{InstallsImages}
+use Rattle.update_client.specs.Partial.{ArePresent, SendsOver, present, types_of, writes_over}
+use Rattle.fip_tables.proofs.Chosen.{present_few}
+use Rattle.update_client.proofs.Named.{known-types}
+use Rattle.update_client.proofs.Present.{counted-by, placed-in, present-have, present-some, rows-found, rows-some}
+use Rattle.update_client.proofs.InstalledOver.{installs-over}
+use Rattle.update_client.proofs.WholeSending.{switches}
+use Rattle.update_client.proofs.WholePartly.{over-early, over-unbegun, over-done, over-halted, over-take}
+use Rattle.update_client.proofs.Stopped.{handed-on}
+use Rattle.update_client.proofs.partial.send_partial.Goals as goal
+
+pub choose_present-requires-clause-some : goal.choose_present-requires-clause-some
+choose_present-requires-clause-some g c =
+    let some = rows-some c.args.agent.now.layout c.rows.ensures.fits in
+    omega (arith, some, ap (λ (l : List ImageRow). length l) c.rows.ensures.value)
+
+pub returns-in_err-entries-clause-sends : goal.returns-in_err-entries-clause-sends
+returns-in_err-entries-clause-sends g c =
+    rw (handed-on c.from_residual.result c.in_err-entries.field-0.0 c.from_residual.ensures.1) (λ here.
+    over-early _ _ _ _ _ (moment c.args.agent.now) c.in_err-entries.field-0.0 (subst (λ (rows : List ImageRow). refused_image
+    (partial_fault rows c.args.toc.now) ≡ Some c.in_err-entries.field-0.0) c.rows.ensures.value c.in_err-entries.ensures))
+
+pub types_in-types-requires : goal.types_in-types-requires
+types_in-types-requires g c =
+    let agent = c.args.agent.now in
+    let L = agent.layout in
+    let toc = c.args.toc.now in
+    let fit = c.rows.ensures.fits in
+    let are = subst (λ (rs : List ImageRow). ArePresent rs toc c.in_ok-entries.entries) c.rows.ensures.value c.in_ok-entries.ensures in
+    let few = present_few L.rows toc in
+    omega (
+      arith,
+      few,
+      ap (λ (l : List Entry). length l) (c.as_slice.ensures ∙ are.entries_are),
+      c.rows.ensures.few,
+      ap (λ (l : List ImageRow). length l) c.rows.ensures.value,
+    )
+
+pub begin_partial-requires : goal.begin_partial-requires
+begin_partial-requires g c =
+    let agent = c.args.agent.now in
+    let L = agent.layout in
+    let toc = c.args.toc.now in
+    let fit = c.rows.ensures.fits in
+    let are = subst (λ (rs : List ImageRow). ArePresent rs toc c.in_ok-entries.entries) c.rows.ensures.value c.in_ok-entries.ensures in
+    let listed : take c.len.result c.types_in-types.result ≡ types_of c.as_slice.result.now =
+    ap (λ (n : ℕ). take n c.types_in-types.result) (c.len.ensures.length ∙ ap (λ (l : List Entry). length l) (sym c.as_slice.ensures))
+    ∙ c.types_in-types.ensures in
+    let some = present-some L.rows toc c.in_ok-entries.entries are in
+    record {
+      some = omega (
+        arith,
+        some,
+        ap (λ (l : List (List ℕ)). length l) listed,
+        length-map c.as_slice.result.now (λ (e : Entry). e.guid),
+        ap (λ (l : List Entry). length l) c.as_slice.ensures,
+      );
+    }
+
+pub returns-in-Err-clause-sends : goal.returns-in-Err-clause-sends
+returns-in-Err-clause-sends g c = λ here.
+    let agent = c.args.agent.now in
+    let L = agent.layout in
+    let toc = c.args.toc.now in
+    let fit = c.rows.ensures.fits in
+    let are = subst (λ (rs : List ImageRow). ArePresent rs toc c.in_ok-entries.entries) c.rows.ensures.value c.in_ok-entries.ensures in
+    let listed : take c.len.result c.types_in-types.result ≡ types_of (present L.rows toc) =
+    ap (λ (n : ℕ). take n c.types_in-types.result) (c.len.ensures.length ∙ ap (λ (l : List Entry). length l) (sym c.as_slice.ensures))
+    ∙ c.types_in-types.ensures ∙ ap types_of (c.as_slice.ensures ∙ are.entries_are) in
+    let known : names_unknown L.rows (types_of (present L.rows toc)) ≡ false = known-types L.rows L.rows toc (λ i lt. rows-found L i fit lt) in
+    let begins = subst (λ (t : List (List ℕ)). BeginsPartly t (are_named L.rows t) (g.V.Verifier.passes c.args.verifier.now) (Err c.in-Err.stop) (moment agent)
+    (moment c.begin_partial.new.self)) listed (c.in-Err.ensures.begins here (g.V.Verifier.passes c.args.verifier.now)) in
+    subst (λ (st : SendStop). SendsOver (g.H.Files.contents c.args.files.now) c.args.name.now toc c.args.acceptance
+    (g.V.Verifier.passes c.args.verifier.now) (Err st) (moment agent) (moment c.begin_partial.new.self)) (sym c.unbegun.ensures)
+    (over-unbegun _ _ _ _ _ (moment agent) are.none known (moment c.begin_partial.new.self) c.in-Err.stop
+    (λ e. not-gone here (c.in-Err.ensures.goes.gone.gone.0 (ap (λ (q : Stop). Err q) e))) begins)
+  where
+    not-gone : {b : Bool} → IsFalse b → IsTrue b → ⊥
+    not-gone {b} here there = let both : false ≡ true = sym here ∙ there in absurd cc
+
+pub install-requires-clause-ends : goal.install-requires-clause-ends
+install-requires-clause-ends g c =
+    let agent = c.args.agent.now in
+    let L = agent.layout in
+    let toc = c.args.toc.now in
+    let fit = c.rows.ensures.fits in
+    let are = subst (λ (rs : List ImageRow). ArePresent rs toc c.in_ok-entries.entries) c.rows.ensures.value c.in_ok-entries.ensures in
+    subst (λ (l : List Entry). All (λ e. e.offset + e.size < 2 ^ 64) l) (sym (c.as_slice-2.ensures ∙ are.entries_are))
+    (present-have (λ e. e.offset + e.size < 2 ^ 64) L.rows toc c.requires.ends)
+
+pub install-requires-clause-stored : goal.install-requires-clause-stored
+install-requires-clause-stored g c = λ file told.
+    let agent = c.args.agent.now in
+    let L = agent.layout in
+    let toc = c.args.toc.now in
+    let fit = c.rows.ensures.fits in
+    let are = subst (λ (rs : List ImageRow). ArePresent rs toc c.in_ok-entries.entries) c.rows.ensures.value c.in_ok-entries.ensures in
+    subst (λ (l : List Entry). All (λ e. e.offset + e.size ≤ length file) l) (sym (c.as_slice-2.ensures ∙ are.entries_are))
+    (present-have (λ e. e.offset + e.size ≤ length file) L.rows toc (c.requires.stored file told))
+
+pub returns-in_err-install-clause-sends : goal.returns-in_err-install-clause-sends
+returns-in_err-install-clause-sends g c =
+    rw (handed-on c.from_residual-in_err-install.result c.in_err-install.field-0.0 c.from_residual-in_err-install.ensures.1)
+    (λ here.
+    let agent = c.args.agent.now in
+    let L = agent.layout in
+    let toc = c.args.toc.now in
+    let fit = c.rows.ensures.fits in
+    let are = subst (λ (rs : List ImageRow). ArePresent rs toc c.in_ok-entries.entries) c.rows.ensures.value c.in_ok-entries.ensures in
+    let listed : take c.len.result c.types_in-types.result ≡ types_of (present L.rows toc) =
+    ap (λ (n : ℕ). take n c.types_in-types.result) (c.len.ensures.length ∙ ap (λ (l : List Entry). length l) (sym c.as_slice.ensures))
+    ∙ c.types_in-types.ensures ∙ ap types_of (c.as_slice.ensures ∙ are.entries_are) in
+    let known : names_unknown L.rows (types_of (present L.rows toc)) ≡ false = known-types L.rows L.rows toc (λ i lt. rows-found L i fit lt) in
+    let begins = subst (λ (t : List (List ℕ)). BeginsPartly t (are_named L.rows t) (g.V.Verifier.passes c.args.verifier.now) (Ok tt) (moment agent)
+    (moment c.begin_partial.new.self)) listed (c.in-Ok.ensures.begins here (g.V.Verifier.passes c.args.verifier.now)) in
+    let inst = subst (λ (l : List Entry). InstallsImages (g.H.Files.contents c.args.files.now) c.args.name.now l c.args.acceptance
+    (g.V.Verifier.passes c.args.verifier.now) (Err c.in_err-install.field-0.0) (moment c.begin_partial.new.self)
+    (moment c.install.new.agent)) c.as_slice-2.ensures c.in_err-install.ensures.installs in
+    over-halted _ _ _ _ _ (moment agent) are.none known c.in_ok-entries.entries (moment c.begin_partial.new.self) (moment c.install.new.agent) are.entries_are begins
+    (λ E layout. placed-in E L toc begins.bytes c.in_ok-entries.entries layout fit are) c.in_err-install.field-0.0 inst)
+
+pub returns-clause-counted : goal.returns-clause-counted
+returns-clause-counted g c =
+    let agent = c.args.agent.now in
+    let L = agent.layout in
+    let toc = c.args.toc.now in
+    let are = subst (λ (rs : List ImageRow). ArePresent rs toc c.in_ok-entries.entries) c.rows.ensures.value c.in_ok-entries.ensures in
+    let images = c.len-images.ensures.length ∙ ap (λ (l : List Entry). length l) are.entries_are in
+    let few = present_few L.rows toc in
+    counted-by L.rows toc _ _ _ images (c.skipped-skipped.ensures ∙ ap (λ (rows : List ImageRow). skipped rows toc) c.rows-3.ensures.value)
+    (omega (arith, images, few, ap (λ (l : List ImageRow). length l) c.rows-2.ensures.value))
+
+pub returns-clause-sends : goal.returns-clause-sends
+returns-clause-sends g c = λ here.
+    let agent = c.args.agent.now in
+    let L = agent.layout in
+    let toc = c.args.toc.now in
+    let fit = c.rows.ensures.fits in
+    let are = subst (λ (rs : List ImageRow). ArePresent rs toc c.in_ok-entries.entries) c.rows.ensures.value c.in_ok-entries.ensures in
+    let listed : take c.len.result c.types_in-types.result ≡ types_of (present L.rows toc) =
+    ap (λ (n : ℕ). take n c.types_in-types.result) (c.len.ensures.length ∙ ap (λ (l : List Entry). length l) (sym c.as_slice.ensures))
+    ∙ c.types_in-types.ensures ∙ ap types_of (c.as_slice.ensures ∙ are.entries_are) in
+    let known : names_unknown L.rows (types_of (present L.rows toc)) ≡ false = known-types L.rows L.rows toc (λ i lt. rows-found L i fit lt) in
+    let begins = subst (λ (t : List (List ℕ)). BeginsPartly t (are_named L.rows t) (g.V.Verifier.passes c.args.verifier.now) (Ok tt) (moment agent)
+    (moment c.begin_partial.new.self)) listed (c.in-Ok.ensures.begins here (g.V.Verifier.passes c.args.verifier.now)) in
+    let inst = subst (λ (l : List Entry). InstallsImages (g.H.Files.contents c.args.files.now) c.args.name.now l c.args.acceptance
+    (g.V.Verifier.passes c.args.verifier.now) (Ok tt) (moment c.begin_partial.new.self)
+    (moment c.install.new.agent)) c.as_slice-2.ensures c.in_ok-install.ensures.installs in
+    over-done _ _ _ _ _ (moment agent) are.none known c.in_ok-entries.entries (moment c.begin_partial.new.self) (moment c.install.new.agent) are.entries_are begins
+    (λ E layout. placed-in E L toc begins.bytes c.in_ok-entries.entries layout fit are) _
+    (returns-clause-counted g c) inst
+
+pub returns-clause-installs : goal.returns-clause-installs
+returns-clause-installs g c = λ here s x shows.
+    let are = subst (λ (rs : List ImageRow). ArePresent rs c.args.toc.now c.in_ok-entries.entries) c.rows.ensures.value c.in_ok-entries.ensures in
+    installs-over _ _ _ _ _ _ _ _ (returns-clause-sends g c here) c.rows.ensures.fits are.none s x shows
+
+pub returns-clause-switched : goal.returns-clause-switched
+returns-clause-switched g c = λ here.
+    let agent = c.args.agent.now in
+    switches _ _ (λ s x shows.
+    let i = returns-clause-installs g c here s x shows in
+    record { now = i.now; session = i.session; shows = i.shows; active = i.installed.active; previous = i.installed.previous })
+    (shows-some (fields agent) (agent.fitting here) g.D.Flash.tells (g.D.Flash.told agent.flash) (agent.knows here) (agent.some here))
+
+pub returns-clause-spent : goal.returns-clause-spent
+returns-clause-spent g c =
+    let agent = c.args.agent.now in
+    let here = here-before _ _ c.in-Ok.ensures.goes.gone in
+    let L = agent.layout in
+    let toc = c.args.toc.now in
+    let fit = c.rows.ensures.fits in
+    let are = subst (λ (rs : List ImageRow). ArePresent rs toc c.in_ok-entries.entries) c.rows.ensures.value c.in_ok-entries.ensures in
+    let listed : take c.len.result c.types_in-types.result ≡ types_of (present L.rows toc) =
+    ap (λ (n : ℕ). take n c.types_in-types.result) (c.len.ensures.length ∙ ap (λ (l : List Entry). length l) (sym c.as_slice.ensures))
+    ∙ c.types_in-types.ensures ∙ ap types_of (c.as_slice.ensures ∙ are.entries_are) in
+    let known : names_unknown L.rows (types_of (present L.rows toc)) ≡ false = known-types L.rows L.rows toc (λ i lt. rows-found L i fit lt) in
+    let begins = subst (λ (t : List (List ℕ)). BeginsPartly t (are_named L.rows t) (g.V.Verifier.passes c.args.verifier.now) (Ok tt) (moment agent)
+    (moment c.begin_partial.new.self)) listed (c.in-Ok.ensures.begins here (g.V.Verifier.passes c.args.verifier.now)) in
+    let armed = g.D.Flash.arming (device agent) in
+    let begun = g.D.Flash.arming (device c.begin_partial.new.self) in
+    let arming = g.D.Flash.arming (device c.install.new.agent) in
+    let size = length c.args.buf.now in
+    let copies = writes_to_begin (fields agent) + writes_to_copy (are_named L.rows (types_of (present L.rows toc))) agent.lengths (length L.rows) in
+    let writes = writes_in size (present L.rows toc) in
+    let one : Takes copies armed begun = subst (λ (t : List (List ℕ)). Takes (writes_to_begin (fields agent)
+    + writes_to_copy (are_named L.rows t) agent.lengths (length L.rows)) armed begun) listed (c.in-Ok.ensures.spent here) in
+    let installs = subst (λ (l : List Entry). InstallTakes size l (moment c.begin_partial.new.self) begun arming) c.as_slice-2.ensures
+    c.in_ok-install.ensures.takes in
+    let two : Takes writes begun installs.sent = takes-some writes begun installs.sent
+    (shows-some (fields agent) (agent.fitting here) g.D.Flash.tells (g.D.Flash.told agent.flash) (agent.knows here) (agent.some here))
+    (over-take (g.H.Files.contents c.args.files.now) c.args.name.now toc c.args.acceptance (g.V.Verifier.passes c.args.verifier.now) (moment agent) are.none known c.in_ok-entries.entries (moment c.begin_partial.new.self)
+    (moment c.install.new.agent) are.entries_are begins
+    (λ E layout. placed-in E L toc begins.bytes c.in_ok-entries.entries layout fit are) size begun installs.sent installs.images) in
+    subst (λ (a : Option Arming). TakesSwitch a arming) (takes-then copies writes
+    (writes_to_begin (fields agent) + writes_over size L.rows agent.lengths toc) armed begun installs.sent (omega arith) one two) installs.switch
+
+pub overflow_sub-copied : goal.overflow_sub-copied
+overflow_sub-copied g c =
+    let agent = c.args.agent.now in
+    let L = agent.layout in
+    let toc = c.args.toc.now in
+    let fit = c.rows.ensures.fits in
+    let are = subst (λ (rs : List ImageRow). ArePresent rs toc c.in_ok-entries.entries) c.rows.ensures.value c.in_ok-entries.ensures in
+    let few = present_few L.rows toc in
+    omega (arith, few, c.len-images.ensures.length, ap (λ (l : List Entry). length l) are.entries_are, ap (λ (l : List ImageRow). length l) c.rows-2.ensures.value)
+
+-- ---- what it costs
+
+pub returns-in-Err-clause-goes : goal.returns-in-Err-clause-goes
+returns-in-Err-clause-goes g c = λ here.
+    let a = device c.args.agent.now in
+    let b = c.begin_partial.new.self in
+    subst (λ (st : SendStop). Goes g.D.Flash (flash_of {T = Sent} (Err st)) a (device b)) (sym c.unbegun.ensures)
+    (goes-of (flash_of {T = Sent} (Err (unbegun_as c.in-Err.stop))) (gone b) a (device b)
+    (unbegun-spent (Unit {0}) Sent c.in-Err.stop (gone b) a (device b) (call-spent here c.in-Err.ensures.goes)))
+
+pub returns-clause-goes : goal.returns-clause-goes
+returns-clause-goes g c = λ here.
+    let b = c.install.new.agent in
+    goes-of (Ok tt) (gone b) (device c.args.agent.now) (device b) (spent-then (call-spent here c.in-Ok.ensures.goes) c.in_ok-install.ensures.spent)
+
+pub returns-in_err-install-clause-goes : goal.returns-in_err-install-clause-goes
+returns-in_err-install-clause-goes g c =
+    let b = c.install.new.agent in
+    rw (handed-on c.from_residual-in_err-install.result c.in_err-install.field-0.0 c.from_residual-in_err-install.ensures.1)
+    (λ here. goes-of (flash_of {T = Sent} (Err c.in_err-install.field-0.0)) (gone b) (device c.args.agent.now) (device b)
+    (spent-then (call-spent here c.in-Ok.ensures.goes) c.in_err-install.ensures.spent))

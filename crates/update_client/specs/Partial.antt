@@ -1,0 +1,117 @@
+-- What a partial sending stages over the images of the active bank.
+use Rattle.std.specs.Prelude.{◌≡◌, ◌+◌, ◌<◌, ℕ, Bool, false, List, [], ◌∷◌, IsTrue, length, map, Option, Some, None, Result, Ok, Err, if◌then◌else◌, slice_index_or}
+use Rattle.fwu_formats.specs.Layout.{ImageRow}
+use Rattle.fwu_formats.specs.Package.{Entry, Toc}
+use Rattle.fwu_model.specs.Reply.{Reply}
+use Rattle.fwu_model.specs.Reply as reply
+use Rattle.fwu_model.specs.Session.{Session, Off, On, Staged}
+use Rattle.fwu_model.specs.Answer.{Answer, answer, answered, are_named, bits_over, copied_part, has_image, image_held, images_over, install_unless, partial_fault, sent_over}
+use Rattle.agent_calls.specs.Takes.{writes_to_copy}
+use Rattle.update_client.specs.Takes.{writes_in}
+use Rattle.update_client.specs.declared.stops.SendStop.{SendStop}
+use Rattle.update_client.specs.declared.stops.SendStop.TheVariants.{MissingImage, ImageTooLarge, Begin, End, ReadFailed, Lost, Fault, Gone}
+pub use Rattle.fip_tables.specs.Images.{present}
+use Rattle.update_client.specs.Choosing.{no_row, refused_image}
+use Rattle.update_client.specs.Sends.{AnswersBy, IsBegun, IsInstalled, ended}
+use Rattle.flash_core.specs.declared.flash.FlashStop.TheVariants as flash_stop
+use Rattle.host_io.specs.Contents.{Directory}
+use Rattle.fip_tables.specs.Files.{Tells}
+use Rattle.fwu_model.specs.State.{State}
+use Rattle.fwu_model.specs.Sound.{Setting}
+use Rattle.fwu_model.specs.Call as call
+use Rattle.agent_machine.specs.Moment.{Moment, Shows}
+use Rattle.agent_machine.specs.Goes.{Goes}
+use Rattle.update_client.specs.declared.stops.Sent.{Sent}
+
+-- ---- which entries are sent
+
+abbrev pub types_of : List Entry → List (List ℕ)
+types_of entries = map (λ (e : Entry). e.guid) entries
+
+-- they are chosen where it has one at all and none is too large
+pub record ArePresent (rows : List ImageRow) (toc : Toc) (entries : List Entry) : Type 0 where
+  pub none : partial_fault rows toc ≡ None
+  pub entries_are : entries ≡ present rows toc
+
+abbrev pub ChoosesPresent : List ImageRow → Toc → Result (List Entry) SendStop → Type 0
+ChoosesPresent rows toc (Ok entries) = ArePresent rows toc entries
+ChoosesPresent rows toc (Err fault) = refused_image (partial_fault rows toc) ≡ Some fault
+
+-- ---- what is staged, of the images from one of these numbers on
+
+-- the numbers of the images that are sent
+abbrev pub places : Toc → ℕ → List ImageRow → List ℕ
+places toc a [] = []
+places toc a (r ∷ rows) = if has_image toc r then a ∷ places toc (a + 1) rows else places toc (a + 1) rows
+
+-- what the begin copied
+abbrev pub kept_parts : Toc → (ℕ → List ℕ) → ℕ → List ImageRow → List Staged
+kept_parts toc bytes a [] = []
+kept_parts toc bytes a (r ∷ rows) = copied_part (has_image toc r) (bytes a) ∷ kept_parts toc bytes (a + 1) rows
+
+-- these images sent over that
+abbrev pub over_images : Toc → (ℕ → List ℕ) → ℕ → List ImageRow → List (List ℕ) → List (List ℕ)
+over_images toc bytes a [] images = []
+over_images toc bytes a (r ∷ rows) [] = bytes a ∷ over_images toc bytes (a + 1) rows []
+over_images toc bytes a (r ∷ rows) (b ∷ images) =
+    if has_image toc r then b ∷ over_images toc bytes (a + 1) rows images
+    else bytes a ∷ over_images toc bytes (a + 1) rows (b ∷ images)
+
+-- ---- the sending
+
+-- the machine's answer to a partial sending by the table that is given, where these are the images in the end
+abbrev pub over_answer : Setting → Toc → List (List ℕ) → ℕ → State → Session → Answer
+over_answer E toc p request s Off = answered reply.IsOff [] Off
+over_answer E toc p request s (On boot staging handles) =
+    install_unless (partial_fault E.layout.rows toc) E s boot staging handles p (bits_over E.layout.rows toc request)
+    (sent_over E.layout.rows toc)
+
+-- as of a sending, by the machine's answer to it
+abbrev pub GoesAs : Result Sent SendStop → Answer → Setting → Moment → Moment → State → Session → Type 0
+GoesAs (Ok sent) a E old new s x = AnswersBy (reply.SentPartial sent.images sent.skipped sent.copied) a E old new s
+GoesAs (Err (MissingImage guid)) a E old new s x = AnswersBy (reply.Missing guid) a E old new s
+GoesAs (Err (ImageTooLarge guid)) a E old new s x = AnswersBy (reply.TooLarge guid) a E old new s
+GoesAs (Err (Begin st)) a E old new s x = AnswersBy (reply.BeginRefused st) a E old new s
+GoesAs (Err (End st)) a E old new s x = AnswersBy (reply.EndRefused st) a E old new s
+GoesAs (Err ReadFailed) a E old new s x = IsBegun E s x × Goes E (Ok tt) old new s (answer E s x (call.Begin 0)).moves (ended x)
+GoesAs (Err Lost) a E old new s x = IsBegun E s x × Goes E (Err flash_stop.Lost) old new s a.moves (ended x)
+GoesAs (Err Fault) a E old new s x = IsBegun E s x × Goes E (Err flash_stop.Failed) old new s a.moves (ended x)
+GoesAs (Err Gone) a E old new s x = ⊥
+
+-- What a partial sending says of an agent that isn't gone, on any device. There are bytes of the images that the table lacks, those
+-- of the active bank where the device tells. And there are images, those of the file over these bytes where it is told. Each machine
+-- that the agent shows goes by the sending of them.
+pub record SendsOver (told : Option Directory) (name : List ℕ) (toc : Toc) (request : ℕ) (passes : List ℕ → Bool)
+    (result : Result Sent SendStop) (old new : Moment) : Type 0 where
+  pub bytes : ℕ → List ℕ
+  pub copied : IsTrue old.tells → (s : State) (x : Session) → Shows old s x → (i : ℕ) → i < length old.fields.layout.rows
+      → has_image toc (slice_index_or old.fields.layout.rows i no_row) ≡ false → bytes i ≡ image_held s s.active i
+  pub images : List (List ℕ)
+  pub read : (file : List ℕ) → Tells told name file → images ≡ images_over old.fields.layout.rows file toc bytes
+  pub goes : (E : Setting) (s : State) (x : Session) → E.layout ≡ old.fields.layout → E.passes ≡ passes → Shows old s x
+      → GoesAs result (over_answer E toc images request s x) E old new s x
+
+-- ---- when done
+
+-- The machine that the agent shows then has installed the file's images over those of the bank that was active, which are those of
+-- its package where the device tells its content.
+pub record InstallsOver (told : Option Directory) (name : List ℕ) (toc : Toc) (request : ℕ) (old new : Moment)
+    (before : State) : Type 0 where
+  pub now : State
+  pub session : Session
+  pub shows : Shows new now session
+  pub bytes : ℕ → List ℕ
+  pub copied : IsTrue old.tells → (i : ℕ) → i < length new.fields.layout.rows
+      → has_image toc (slice_index_or new.fields.layout.rows i no_row) ≡ false → bytes i ≡ image_held before before.active i
+  pub images : List (List ℕ)
+  pub read : (file : List ℕ) → Tells told name file → images ≡ images_over new.fields.layout.rows file toc bytes
+  pub installed : IsInstalled images (bits_over new.fields.layout.rows toc request) before now
+
+-- how many images the table has, how many of its entries are none, and how many images it lacks
+abbrev pub IsCountedOver : List ImageRow → Toc → Sent → Type 0
+IsCountedOver rows toc sent = reply.SentPartial sent.images sent.skipped sent.copied ≡ sent_over rows toc
+
+-- the writes and commits of the images that are copied, and of those that are sent, `size` bytes at a time
+abbrev pub writes_over : ℕ → List ImageRow → List ℕ → Toc → ℕ
+writes_over size rows lengths toc =
+    writes_to_copy (are_named rows (types_of (present rows toc))) lengths (length rows) + writes_in size (present rows toc)

@@ -1,0 +1,44 @@
+-- The side that asks.
+use Rattle.std.specs.Prelude.{◌≡◌, ℕ, ◌+◌, Bool, true, false, not, ◌==◌, nat_lt, nat_le, ◌&&◌, if◌then◌else◌, List, [], drop, length, take, IsTrue, IsFalse}
+use Rattle.wire_frames.specs.declared.client.Asked.{Asked}
+use Rattle.wire_frames.specs.declared.client.Asked.TheVariants.{Frame, Waiting}
+use Rattle.wire_frames.specs.Frames.{frame, number_of, numbered}
+
+-- the number of the last request, whether it is open, and its frame. At first that is 0, none, and no frame
+pub record Asking : Type 0 where
+  pub last : ℕ
+  pub is_open : Bool
+  pub request : List ℕ
+
+abbrev pub asked_none : Asking
+asked_none = record { last = 0; is_open = false; request = [] }
+
+-- the greatest number of a request
+abbrev pub last_number : ℕ
+last_number = 4294967295
+
+-- none is open, and there is a number for the next
+abbrev pub may_ask : Asking → Bool
+may_ask a = not a.is_open && nat_lt a.last last_number
+
+-- the frame of the next request
+abbrev pub next_frame : Asking → List ℕ → List ℕ
+next_frame a message = frame (numbered (a.last + 1) message)
+
+abbrev pub asked : Asking → List ℕ → Asking
+asked a message = record { last = a.last + 1; is_open = true; request = next_frame a message }
+
+-- a reply is that of the open request
+abbrev pub fits : Asking → List ℕ → Bool
+fits a reply = a.is_open && (nat_le 4 (length reply) && (number_of reply == a.last))
+
+-- after a reply, which closes the open request where it fits
+abbrev pub closed : Asking → List ℕ → Asking
+closed a reply = if fits a reply then record a { is_open = false } else a
+
+-- What an asking does: the frame is kept, and written to the front; or nothing changes.
+abbrev pub Asks : Asked → Asking → Asking → List ℕ → List ℕ → List ℕ → Type 0
+Asks (Frame size) old new message before after =
+    IsTrue (may_ask old) × (new ≡ asked old message) × (take size after ≡ new.request) × (size ≡ length new.request)
+    × (drop size after ≡ drop size before)
+Asks Waiting old new message before after = IsFalse (may_ask old) × (new ≡ old) × (after ≡ before)

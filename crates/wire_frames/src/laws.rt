@@ -1,0 +1,23 @@
+//! Laws of frames and of their numbers: functions that do nothing, whose contract is the law.
+ghost use Rattle.std.specs.Prelude.{◌≡◌, ℕ, List};
+ghost use Rattle.wire_frames.specs.Frames.{Splits};
+ghost use Rattle.wire_frames.specs.Events.{EachRequestActsAtMostOnce};
+ghost use Rattle.wire_frames.specs.Stream.{StopsByTheBytes};
+
+/// No two readings of one stream differ: its frames, and what follows them, are one.
+pub fn one_reading()
+    ensures { (stream : List ℕ) (bodies others : List (List ℕ)) (rest left : List ℕ)
+        → Splits stream bodies rest → Splits stream others left → (bodies ≡ others) × (rest ≡ left) }
+{}
+
+/// Why reading stops, and behind which frames, is said by the bytes of the stream, however they came in pieces: at its end, or at a
+/// length that no body has, or at an end inside a frame. `TooLong` says that it has more than 1,073,741,824 bytes.
+pub fn stops_by_the_bytes()
+    ensures { StopsByTheBytes }
+{}
+
+/// Within one power cycle, whatever is lost, repeated or comes out of order, each request acts at most once, and a reply that the
+/// client takes is that of its request.
+pub fn each_request_acts_at_most_once()
+    ensures { EachRequestActsAtMostOnce }
+{}

@@ -1,0 +1,11 @@
+//! Calls over a byte stream, from the frames up, as tests: a client and a server on a flash in memory.
+#![tactic(auto)]
+
+#[cfg(test)]
+mod exchanges;
+#[cfg(test)]
+mod flashes;
+#[cfg(test)]
+mod readings;
+#[cfg(test)]
+mod requests;
