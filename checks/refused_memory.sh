@@ -1,14 +1,15 @@
 #!/bin/sh
 # Refuses each growth of memory of the built programs in turn, one in each run, over files of the system: fip makes a package of two images
-# and lists it, and fwu boots a flash, sends it a package on trial and boots again. A library that is loaded before the C library counts the
-# calls of malloc, calloc and realloc, and refuses the one of a number, for the numbers from 1 on until a run meets none that is refused.
+# and lists it, and fwu boots a flash, sends it a package on trial and boots again, and serves seven requests. A library that is loaded
+# before the C library counts the calls of malloc, calloc and realloc, and refuses the one of a number, for the numbers from 1 on until a run meets none that is refused.
 # A refused run ends with status 9, or, where the room is then taken in another way, as the run without a refusal does: with its status, its
 # lines and its files. Afterwards fwu's flash boots a bank, and no file but those that the words name has changed. The script ends with 1
 # where one of these doesn't hold, and prints how many numbers it went over. It wants bin/fip and bin/fwu (demo/build.sh), a C compiler,
 # and glibc. With the word fip or fwu it goes over that program alone.
 set -eu
 cd "$(dirname "$0")/.."
-bin=$(pwd)/bin
+top=$(pwd)
+bin=$top/bin
 chosen=${1:-fip fwu}
 for program in fip fwu; do
     [ -s "$bin/$program" ] && [ -x "$bin/$program" ] || case $chosen in
@@ -144,6 +145,19 @@ sweep_fwu() {
     printf 'boot\nsend p2.fip trial\nboot\nshow\n' >"$work/script"
     named=flash.img
     sweep "$bin/fwu" flash.img run
+    python3 -B - "$top/demo" "$work/script" <<'PY'
+import sys
+
+sys.path.insert(0, sys.argv[1])
+from serve_client import BEGIN, CANCEL, DISCOVER, OPEN, READ, WRITE, frame, numbered, type_of, words
+
+calls = [(DISCOVER, b""), (OPEN, type_of("tb-fw") + words(0)), (READ, words(1, 4096)), (BEGIN, words(0, 0))]
+calls += [(OPEN, type_of("tb-fw") + words(1)), (WRITE, words(1) + b"abcd"), (CANCEL, b"")]
+with open(sys.argv[2], "wb") as file:
+    for number, (function, arguments) in enumerate(calls):
+        file.write(frame(numbered(number + 1, words(function) + arguments)))
+PY
+    sweep "$bin/fwu" flash.img serve
 }
 
 case $chosen in *fip*) sweep_fip ;; esac

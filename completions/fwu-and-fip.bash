@@ -10,7 +10,7 @@ _fwu() {
     if [ "$COMP_CWORD" -eq 1 ] || [ "$before" = --allow ]; then
         COMPREPLY=($(compgen -f -- "$cur"))
     elif [ "$COMP_CWORD" -eq "$at" ]; then
-        _offer "run boot show format soak $([ "$at" -eq 2 ] && echo --allow)"
+        _offer "run boot show format soak serve $([ "$at" -eq 2 ] && echo --allow)"
     else
         case ${COMP_WORDS[$at]} in
             run | boot) _offer --gpt ;;

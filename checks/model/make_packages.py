@@ -1,13 +1,11 @@
 #!/usr/bin/env python3
-"""Writes the packages and capsules of crates/agent_vectors, from the formats in docs/FORMATS.md alone.
+"""The packages and capsules of the rows in crates/rows_prog/data, from the formats in docs/FORMATS.md alone.
 
-    make_packages.py              prints the constants of crates/agent_vectors/src/packages.rt
     make_packages.py FOLDER       writes each file into a folder
 """
 import os
 import struct
 import sys
-import textwrap
 import uuid
 
 from make_flash import guid, manifest
@@ -141,43 +139,11 @@ FILES = {
 
 FRONT = 16 + 40 * 4  # the header and the table of a package of three
 
-# The constants of crates/agent_vectors/src/packages.rt, each with its comment.
-CONSTANTS = {
-    "TABLE": ("The header and the table of a package of a manifest, `abc` and `hello`, which follow.", FILES["p2.fip"][:FRONT]),
-    **{
-        f"MANIFEST_{number}": (f"The manifest of the images `abc` and `hello`, of security version {number}.", manifest_of(number))
-        for number in (0, 1, 2, 5)
-    },
-    "LONG_TABLE": ("The same of `abc` and the long image, of version 2.", FILES["long.fip"][:FRONT]),
-    "LONG_MANIFEST": ("Their manifest.", manifest_of(2, nt_fw=pattern(LONG))),
-    "EMPTY_TABLE": ("The same of an image of no bytes and `hello`, of version 2.", FILES["empty.fip"][:FRONT]),
-    "EMPTY_MANIFEST": ("Their manifest.", manifest_of(2, tb_fw=b"")),
-    "EMPTY_MANIFEST_5": ("The same of version 5.", manifest_of(5, tb_fw=b"")),
-    "TABLE_OF_ONE": ("The header and the table of a package of a manifest alone, which follows.", FILES["m2.fip"][: 16 + 40 * 2]),
-    "CHANGED": ("A package of `abd` as tb-fw, and of a manifest of version 2 of it and of `hello`.", CHANGED),
-    "CAPSULE_OF_ONE": ("A capsule of the manifest of version 2 alone.", CAPSULE_OF_ONE),
-    "ALONE": ("A package of `hello` as tb-fw alone.", FILES["a.fip"]),
-    "STRANGER": ("A package of an image that no layout of the rows has.", FILES["soc.fip"]),
-    "EXTRA": ("A package of version 2, its images in another order and among others.", EXTRA),
-    "CAPSULE": ("A capsule of version 2.", CAPSULE_2),
-    "OTHER_CAPSULE": (
-        "Another one: a driver, items of each version in another order, with gaps and vendor's code, one of a type that the layout "
-        "lacks, and bytes behind.",
-        OTHER_CAPSULE_2,
-    ),
-}
-
 
 def main(words):
-    if words:
-        for name, data in FILES.items():
-            with open(os.path.join(words[0], name), "wb") as file:
-                file.write(data)
-        return
-    for name, (comment, data) in CONSTANTS.items():
-        for line in textwrap.wrap(comment, 96):
-            print("///", line)
-        print(f"pub const {name}: &str =\n    \"{data.hex()}\";\n")
+    for name, data in FILES.items():
+        with open(os.path.join(words[0], name), "wb") as file:
+            file.write(data)
 
 
 if __name__ == "__main__":

@@ -1,23 +1,16 @@
 #!/usr/bin/env python3
-"""Writes the files of checks/rows.sh that neither program makes, from the formats in docs/FORMATS.md alone.
-
-    make_rows.py FOLDER
+"""The bytes of the rows in crates/rows_prog/data, from the formats in docs/FORMATS.md alone; check_rows.py compares them.
 
 They are the packages and capsules of make_packages.py, and those that are listed below: flashes of 22 blocks, most of them the
-small one of make_flash.py with a part changed, a device with a partition table, packages, manifests, lists of digests, and records
-of the counter.
+small one of make_flash.py with a part changed, packages, lists of digests, and records of the counter.
 """
 import hashlib
-import os
 import struct
-import sys
 import uuid
 import zlib
 
-import make_packages
-from make_flash import BLOCK, ROWS, first_metadata_1, flash, guid, record, small
+from make_flash import BLOCK, ROWS, flash, guid, record, small
 from make_packages import manifest_of
-from make_table import device
 
 # The bytes of the layout and of metadata of version 2, by which their checksums go.
 LAYOUT_SIZE = 104
@@ -62,13 +55,6 @@ def on_trial():
     return put(image, 15 * BLOCK, manifest_of(2), 16 * BLOCK, b"abc", 18 * BLOCK, b"hello")
 
 
-def of_version_1():
-    """Metadata of version 1 in both replicas."""
-    text = first_metadata_1(ROWS, 2)
-    text += b"\xff" * (METADATA_SIZE - len(text))
-    return put(MARKED, BLOCK, text, 2 * BLOCK, text)
-
-
 def manifest_of_form_1(version):
     """A manifest of form 1, of any version."""
     text = put(manifest_of(1)[:-32], 8, word(version))
@@ -79,8 +65,6 @@ FLASHES = {
     "formatted.img": flash(ROWS, [b"abc", b"hello"], [7, 9], 1, 0),
     "marked.img": MARKED,
     "trial.img": on_trial(),
-    "torn.img": put(MARKED, BLOCK, bytes([MARKED[BLOCK] ^ 1])),
-    "old.img": of_version_1(),
     "layout-not-renewed.img": put(MARKED, 8, word(3)),
     "layout-magic.img": put(MARKED, 4, word(0)),
     "layout-one-image.img": layout_with(12, word(1)),
@@ -117,35 +101,9 @@ PACKAGES = {
     "flags.fip": header(0x01020304, 5) + entry("tb-fw", 96, 5, 7) + bytes(40) + b"hello",
     # 65 entries.
     "many.fip": header(0x12345678, 0) + b"".join(entry(numbered(n), 0, 0) for n in range(1, 66)) + bytes(40),
-    # An entry whose end is no number of 64 bits.
-    "far.fip": header(0x12345678, 0) + entry("tb-fw", 2**64 - 1, 2**64 - 1) + bytes(40),
 }
 
 
 def list_of(*versions):
     """The digests of the manifests of these security versions."""
     return "".join(hashlib.sha256(manifest_of(version)).hexdigest() + "\n" for version in versions).encode()
-
-
-FILES = {
-    **make_packages.FILES,
-    **PACKAGES,
-    **FLASHES,
-    "table.img": device(MARKED),
-    "1.list": list_of(1),
-    "1-and-2.list": list_of(2, 1),
-    "empty.list": b"",
-    "bad.list": b"00\n",
-    **{f"manifest-{version}.bin": manifest_of(version) for version in (1, 224, 70000)},
-    **{f"record-{value}": record(value) for value in (2, 3, 5, 70000)},
-}
-
-
-def main(words):
-    for name, data in FILES.items():
-        with open(os.path.join(words[0], name), "wb") as file:
-            file.write(data)
-
-
-if __name__ == "__main__":
-    main(sys.argv[1:])

@@ -1,9 +1,9 @@
 -- A partial begin: a begin, and then the copies.
-use Rattle.std.proofs.Common.{◌≡◌, ◌≢◌, cond, ℕ, ◌<◌, Bool, true, false, List, [], ◌∷◌, ◌++◌, length, get_or, replicate, Option, Some, None, Result, Ok, Err, refl, sym, ap, subst, ◌∙◌, get_or-set_other, IsTrue, eqb-true, OnOk}
+use Rattle.std.proofs.Common.{◌≡◌, ◌≢◌, cond, ℕ, ◌<◌, Bool, true, false, List, [], ◌∷◌, ◌++◌, length, get_or, replicate, Option, Some, None, Result, Ok, Err, refl, sym, ap, subst, ◌∙◌, get_or-set_other, IsTrue, eqb-true, OnOk, arith}
 use Rattle.std.specs.Prelude.{◌==◌}
 use Rattle.std.specs.List.{list_any}
 use Rattle.std.proofs.lemmas.Bool.{or_parts, not-false}
-use Rattle.std.proofs.lemmas.List.{length-map}
+use Rattle.std.proofs.lemmas.List.{length-map, length-replicate}
 use Rattle.base_core.specs.Bytes.{same_bytes}
 use Rattle.flash_core.specs.declared.flash.FlashStop.{FlashStop}
 use Rattle.flash_core.specs.declared.flash.FlashStop.TheVariants as flash_stop
@@ -24,7 +24,7 @@ use Rattle.agent_kept.specs.Kept.{staging_meant, handles_meant}
 use Rattle.agent_state.proofs.Machine.{active-is}
 use Rattle.agent_machine.specs.declared.stop.Stop.{Stop}
 use Rattle.agent_machine.specs.declared.stop.Stop.TheVariants as stop
-use Rattle.agent_machine.specs.Fields.{total_of}
+use Rattle.agent_machine.specs.Fields.{Fields, total_of}
 use Rattle.agent_machine.specs.Knows.{Fitting}
 use Rattle.agent_machine.specs.Machine.{state_in}
 use Rattle.agent_machine.specs.Moment.{Moment, Shows, Showing}
@@ -33,17 +33,21 @@ use Rattle.agent_machine.specs.Goes.{Goes}
 use Rattle.agent_machine.specs.Beside.{IsSparedByAll}
 use Rattle.agent_machine.proofs.Beside.{spared-once, spared-same}
 use Rattle.agent_machine.proofs.Going.{goes-then}
+use Rattle.agent_machine.proofs.Totals.{held-long}
 use Rattle.agent_machine.proofs.Stored.{target-other}
 use Rattle.agent_machine.proofs.StoredShows.{target-is}
 use Rattle.flash_core.specs.declared.flash.Arming.{Arming}
 use Rattle.agent_calls.specs.Takes.{CopiesTake, Takes, writes_to_copy}
 use Rattle.agent_machine.specs.Filling.{between}
 use Rattle.agent_calls.specs.Partly.{begins_over}
-use Rattle.fwu_model.specs.Answer.{are_named, names_unknown, copied_parts, image_held}
+use Rattle.fwu_model.specs.Answer.{are_named, booted_package, names_unknown, copied_parts, image_held}
 use Rattle.agent_calls.specs.Copies.{Follows, CopiesImages, AnswersAs, BeginsPartly}
 use Rattle.agent_machine.proofs.CallGoing.{MeetsAs, call-goes, call-replies}
 use Rattle.agent_calls.proofs.Copies.{stays-none, stays-then}
 use Rattle.agent_calls.proofs.CopyingAll.{first-all}
+
+abbrev setting-of : Fields → (List ℕ → Bool) → Setting
+setting-of f passes = record { layout = f.layout; files = λ _. None; passes = passes }
 
 -- what was done or stopped by the flash isn't refused
 pub done-unrefused : (q : Result (Unit {0}) Stop) → IsDone q → IsRefused q → ⊥
@@ -157,11 +161,33 @@ still-held m fitting s x shows here image = by-test (is_invalid (bank s (update_
 
 -- ---- the bytes of the active bank, by what the device tells
 
+-- where it tells nothing, any as many as the agent keeps
+abbrev held-by : Moment → ℕ → Bool → List ℕ
+held-by m i tells = cond tells (image_held (state_in m.fields m.told.now) (state_in m.fields m.told.now).active i) (replicate (total_of m.fields (Some i)) 0)
+
 abbrev pub held : Moment → ℕ → List ℕ
-held m i = image_held (state_in m.fields m.told.now) (state_in m.fields m.told.now).active i
+held m i = held-by m i m.tells
 
 pub held-is : (m : Moment) (s : State) (x : Session) → Shows m s x → IsTrue m.tells → (i : ℕ) → held m i ≡ image_held s s.active i
-held-is m s x shows tells i = ap (λ (q : State). image_held q q.active i) (sym (shows.told tells).0)
+held-is m s x shows tells i = ap (held-by m i) tells ∙ ap (λ (q : State). image_held q q.active i) (sym (shows.told tells).0)
+
+-- a machine that is shown, where the bank that was started is the active one
+pub record Booted (m : Moment) : Type 0 where
+  pub state : State
+  pub session : Session
+  pub shows : Shows m state session
+  pub is : m.fields.boot ≡ state.active
+
+pub held-count : (m : Moment) → (IsTrue m.tells → Booted m) → (i : ℕ) → i < length m.fields.layout.rows → length (held m i) ≡ total_of m.fields (Some i)
+held-count m some i lt = by-test m.tells refl
+  where
+    by-test : (tells : Bool) → m.tells ≡ tells → length (held m i) ≡ total_of m.fields (Some i)
+    by-test true e =
+        let w = some e in
+        ap (λ (l : List ℕ). length l) (held-is m w.state w.session w.shows e i)
+        ∙ ap (λ (b : ℕ). length (image_held w.state b i)) (sym w.is)
+        ∙ sym (held-long m.fields (booted_package w.state m.fields.boot) i w.shows.speaks.lengths_are lt)
+    by-test false e = ap (λ (b : Bool). length (held-by m i b)) e ∙ length-replicate (total_of m.fields (Some i)) 0
 
 -- ---- a refusal
 
@@ -170,7 +196,7 @@ pub refused-partly : (m : Moment) (types : List (List ℕ)) (named : List Bool) 
     → BeginsPartly types named passes (Err (stop.Status st)) m m
 refused-partly m types named passes st is = record {
   bytes = held m;
-  count = tt;
+  count = λ done. absurd done;
   read = λ tells s x shows i lt un. held-is m s x shows tells i;
   exact = λ E s x setting shows.
       (ap (λ (a : Answer). a.reply) (is E s x setting shows), subst (λ (a : Answer). Shows m (after s a.moves) a.next) (sym (is E s x setting shows)) shows);
@@ -184,16 +210,18 @@ refused-partly m types named passes st is = record {
 
 -- ---- a begin that the flash stopped
 
-module _ (old new : Moment) (types : List (List ℕ)) (named : List Bool) (passes : List ℕ → Bool) (known : names_unknown old.fields.layout.rows types ≡ false) where
+module _ (old new : Moment) (types : List (List ℕ)) (named : List Bool) (passes : List ℕ → Bool) (known : names_unknown old.fields.layout.rows types ≡ false)
+    (long : length named ≡ length old.fields.layout.rows) (some : IsTrue old.tells → (s : State) × (x : Session) × Shows old s x) where
   known-in : (E : Setting) → E.layout ≡ old.fields.layout → names_unknown E.layout.rows types ≡ false
   known-in E layout = ap (λ (L : Layout). names_unknown L.rows types) layout ∙ known
 
-  unbegun : (q : Stop) → ((E : Setting) (s : State) (x : Session) → IsSettingOf old.fields passes E → Shows old s x
+  unbegun : (q : Stop) → (IsDone {T = Unit {0}} (Err q) → (i : ℕ) → i < length old.fields.layout.rows → length (held old i) ≡ total_of old.fields (Some i))
+      → ((E : Setting) (s : State) (x : Session) → IsSettingOf old.fields passes E → Shows old s x
       → AnswersAs (Err q) (begins_over E s x types (held old)) s new)
       → MeetsAs {T = Unit {0}} (λ _. Success) (Err q) passes (call.Begin 0) old new → BeginsPartly types named passes (Err q) old new
-  unbegun q exact meets = record {
+  unbegun q count exact meets = record {
     bytes = held old;
-    count = tt;
+    count = λ done i lt un. count done i (omega (arith, lt, long));
     read = λ tells s x shows i lt un. held-is old s x shows tells i;
     exact = exact;
     does = λ E s x setting shows tells ready.
@@ -217,15 +245,24 @@ module _ (old new : Moment) (types : List (List ℕ)) (named : List Bool) (passe
   begun-reply E s x setting shows is =
       ap (λ (a : Answer). a.reply) (begun-with old E s x shows types (held old) is (known-in E setting.layout)).0
 
+  -- and of how many bytes each image has that isn't copied
+  begun-count : ((E : Setting) (s : State) (x : Session) → E.layout ≡ old.fields.layout → Shows old s x → (answer E s x (call.Begin 0)).reply ≡ Success)
+      → (i : ℕ) → i < length old.fields.layout.rows → length (held old i) ≡ total_of old.fields (Some i)
+  begun-count were =
+      let E = setting-of old.fields passes in
+      held-count old (λ tells.
+      let w = some tells in
+      record { state = w.0; session = w.1; shows = w.2; is = (begun-with old E w.0 w.1 w.2 types (held old) (were E w.0 w.1 refl w.2) known).2 })
+
   pub unbegun-stopped : (q : Stop) → (IsRefused {T = Unit {0}} (Err q) → new ≡ old)
       → (IsStopped {T = Unit {0}} (Err q) → (E : Setting) (s : State) (x : Session) → E.layout ≡ old.fields.layout → Shows old s x
       → (answer E s x (call.Begin 0)).reply ≡ Success) → MeetsAs {T = Unit {0}} (λ _. Success) (Err q) passes (call.Begin 0) old new
       → BeginsPartly types named passes (Err q) old new
   unbegun-stopped stop.Lost same were meets =
-      unbegun stop.Lost (λ E s x setting shows. begun-reply E s x setting shows (were tt E s x setting.layout shows)) meets
+      unbegun stop.Lost (λ done. begun-count (were tt)) (λ E s x setting shows. begun-reply E s x setting shows (were tt E s x setting.layout shows)) meets
   unbegun-stopped stop.Fault same were meets =
-      unbegun stop.Fault (λ E s x setting shows. begun-reply E s x setting shows (were tt E s x setting.layout shows)) meets
-  unbegun-stopped stop.Gone same were meets = unbegun stop.Gone (λ E s x setting shows. tt) meets
+      unbegun stop.Fault (λ done. begun-count (were tt)) (λ E s x setting shows. begun-reply E s x setting shows (were tt E s x setting.layout shows)) meets
+  unbegun-stopped stop.Gone same were meets = unbegun stop.Gone (λ done. absurd done) (λ E s x setting shows. tt) meets
   unbegun-stopped (stop.Status st) same were meets =
       subst (λ (m : Moment). BeginsPartly types named passes (Err (stop.Status st)) old m) (sym (same tt))
       (refused-partly old types named passes st (refused-by st meets))
@@ -310,7 +347,7 @@ module _ (old mid new : Moment) (types : List (List ℕ)) (passes : List ℕ →
   answers-by (Err stop.Gone) a s E is follows goes = absurd follows
 
   abbrev plain : Setting
-  plain = record { layout = old.fields.layout; files = λ _. None; passes = passes }
+  plain = setting-of old.fields passes
 
   plain-fits : IsSettingOf old.fields passes plain
   plain-fits = record { layout = refl; verifier = refl }
@@ -352,7 +389,7 @@ module _ (old mid new : Moment) (types : List (List ℕ)) (passes : List ℕ →
   partly-by : (r : Result (Unit {0}) Stop) → r ≡ result → (IsTrue old.tells → (s : State) × (x : Session) × Shows old s x) → BeginsPartly types named passes r old new
   partly-by (Ok u) e some = record {
     bytes = copied.bytes;
-    count = subst (λ (q : Result (Unit {0}) Stop). OnOk q ((i : ℕ) → i < length named → get_or named i true ≡ false → length (copied.bytes i) ≡ total_of old.fields (Some i))) (sym e) (count-by result copied.count);
+    count = λ done. subst (λ (q : Result (Unit {0}) Stop). OnOk q ((i : ℕ) → i < length named → get_or named i true ≡ false → length (copied.bytes i) ≡ total_of old.fields (Some i))) (sym e) (count-by result copied.count);
     read = read-done (subst (λ (q : Result (Unit {0}) Stop). OnOk q (IsTrue mid.tells → (s : State) (boot : ℕ) → Shows mid s (between boot (replicate (length named) Nothing))
         → (i : ℕ) → i < length named → get_or named i true ≡ false → copied.bytes i ≡ image_held s boot i)) (sym e) copied.read);
     exact = λ E s x setting shows. subst (λ (q : Result (Unit {0}) Stop). AnswersAs q (begins_over E s x types copied.bytes) s new) (sym e)
@@ -368,7 +405,9 @@ module _ (old mid new : Moment) (types : List (List ℕ)) (passes : List ℕ →
   }
   partly-by (Err q) e some = record {
     bytes = held old;
-    count = tt;
+    count = λ done i lt un. held-count old (λ tells.
+        let w = some tells in
+        record { state = w.0; session = w.1; shows = w.2; is = (begun-at plain w.0 w.1 plain-fits w.2).booted }) i (omega (arith, lt, count-is));
     read = λ tells s x shows i lt un. held-is old s x shows tells i;
     exact = λ E s x setting shows. stops-by q E s x
         (subst (λ (r : Result (Unit {0}) Stop). Follows r E mid new (after s (begin_moves s)) (between old.fields.boot (copied_parts named copied.bytes))) (sym e) (follows-at E s x setting shows))

@@ -16,3 +16,4 @@ mod PlannedPartly
 pub mod Taking
 pub mod Pieces
 pub mod CopyTaking
+mod CopyFilling

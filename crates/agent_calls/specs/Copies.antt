@@ -1,7 +1,11 @@
 -- What a copy of images of the bank that was started leaves, step by step.
-use Rattle.std.specs.Prelude.{◌≡◌, ◌≤◌, ◌<◌, ℕ, ◌+◌, Bool, true, false, List, [], ◌++◌, length, take, drop, Result, Ok, Err, OnOk, IfOk, replicate, ⊤, slice_index_or, IsTrue, Some}
+use Rattle.std.specs.Prelude.{◌≡◌, ◌≤◌, ◌<◌, ℕ, ◌+◌, Bool, true, false, not, List, [], ◌++◌, length, take, drop, Result, Ok, Err, OnOk, IfOk, IsErr, replicate, ⊤, slice_index_or, IsTrue, Some}
+use Rattle.flash_core.specs.declared.flash.FlashStop.{FlashStop}
 use Rattle.flash_core.specs.declared.flash.FlashStop.TheVariants as flash_stop
-use Rattle.fwu_model.specs.State.{State, after}
+use Rattle.flash_core.specs.Told.{Told}
+use Rattle.fwu_formats.specs.Metadata.{state_at}
+use Rattle.fwu_model.specs.State.{State, Free, after, is_invalid}
+use Rattle.fwu_model.specs.MoveMetas.{meta_after}
 use Rattle.fwu_model.specs.Sound.{Setting}
 use Rattle.fwu_model.specs.Session.{Session, Staged, Nothing}
 use Rattle.fwu_model.specs.Reply.{Success, Refused}
@@ -10,11 +14,12 @@ use Rattle.fwu_model.specs.Calm.{IsAtRest}
 use Rattle.moves.specs.Moved.{Does, GuardedBy, IsReady}
 use Rattle.agent_machine.specs.declared.stop.Stop.{Stop}
 use Rattle.agent_machine.specs.declared.stop.Stop.TheVariants as stop
-use Rattle.agent_machine.specs.Fields.{total_of}
+use Rattle.agent_machine.specs.Fields.{Fields, target, total_of}
 use Rattle.agent_machine.specs.Moment.{Moment, Shows}
 use Rattle.agent_machine.specs.Goes.{Goes}
-use Rattle.agent_machine.specs.Beside.{KeepsSparedByAll}
-use Rattle.agent_machine.specs.Meets.{IsSettingOf, Stays, flash_result}
+use Rattle.agent_machine.specs.Beside.{IsBesideBank, KeepsSparedByAll, KeepsWhere}
+use Rattle.agent_machine.specs.Stored.{StoresIf}
+use Rattle.agent_machine.specs.Meets.{IsDone, IsSettingOf, Stays, flash_result}
 use Rattle.agent_machine.specs.Filling.{between, within, filled}
 use Rattle.agent_calls.specs.Partly.{begins_over, copied_first}
 use Rattle.fwu_model.specs.Answer.{image_held}
@@ -94,6 +99,13 @@ pub record CopiesImages (named : List Bool) (result : Result (Unit {0}) Stop) (o
       → Shows old s (between boot (replicate (length named) Nothing))
       → Follows result E old new s (between boot (copied_first named (length named) bytes))
 
+-- What the copies leave at any exit: the metadata that is kept, and on a flash that tells its content all beside the update bank.
+pub record FillsBank (old new : Moment) : Type 0 where
+  pub tells : new.tells ≡ old.tells
+  pub layout : new.fields.layout ≡ old.fields.layout
+  pub metadata : new.fields.meta ≡ old.fields.meta
+  pub beside : IsTrue old.tells → KeepsWhere (IsBesideBank old.fields.layout (target old.fields)) old.told new.told
+
 -- ---- the call
 
 -- An answer or a refusal is the machine's, and the agent shows the machine after it. The flash stops no call that it refuses.
@@ -110,8 +122,8 @@ AnswersAs (Err stop.Gone) a s new = ⊤
 pub record BeginsPartly (types : List (List ℕ)) (named : List Bool) (passes : List ℕ → Bool) (result : Result (Unit {0}) Stop)
     (old new : Moment) : Type 0 where
   pub bytes : ℕ → List ℕ
-  pub count : OnOk result ((i : ℕ) → i < length named → slice_index_or named i true ≡ false
-      → length (bytes i) ≡ total_of old.fields (Some i))
+  pub count : IsDone result → (i : ℕ) → i < length named → slice_index_or named i true ≡ false
+      → length (bytes i) ≡ total_of old.fields (Some i)
   pub read : IsTrue old.tells → (s : State) (x : Session) → Shows old s x → (i : ℕ) → i < length named
       → slice_index_or named i true ≡ false → bytes i ≡ image_held s s.active i
   pub exact : (E : Setting) (s : State) (x : Session) → IsSettingOf old.fields passes E → Shows old s x
@@ -122,3 +134,15 @@ pub record BeginsPartly (types : List (List ℕ)) (named : List Bool) (passes : 
   -- on any flash, at any exit: nothing changes but the metadata, the marks of the starts on trial, and the update bank
   pub keeps : IsTrue old.tells → KeepsSparedByAll old.fields old.told new.told
   pub stays : Stays old new
+
+-- At any exit but a refusal, on a flash that tells its content: it stores the metadata in which the update bank is invalid, or nothing
+-- where the bank is so already. Behind that nothing changes beside the update bank.
+pub record StoresThenFills (result : Result (Unit {0}) FlashStop) (f : Fields) (s t : Told) : Type 0 where
+  -- how the store ended, and what is told then
+  pub stored : Result (Unit {0}) FlashStop
+  pub between : Told
+  pub stores : StoresIf (not (is_invalid (state_at f.meta.meta (target f)))) stored f.layout
+      (meta_after f.meta.meta (Free (target f))) s between
+  pub fills : KeepsWhere (IsBesideBank f.layout (target f)) between t
+  -- nothing follows a store that was stopped
+  pub last : IsErr stored → (result ≡ stored) × (t ≡ between)

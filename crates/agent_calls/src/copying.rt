@@ -1,8 +1,10 @@
 //! A staging begins of which the images that aren't named are those of the active bank.
-ghost use Rattle.std.specs.Prelude.{◌≡◌, ◌+◌, ◌<◌, ℕ, Bool, List, Some, length, IfOk, OnOk, IsFalse};
+ghost use Rattle.std.specs.Prelude.{All, ◌≡◌, ◌+◌, ◌<◌, ℕ, Bool, List, Some, length, IfOk, OnOk, IsTrue, IsFalse};
 ghost use Rattle.base_core.specs.Block.{block_bytes};
-ghost use Rattle.agent_machine.specs.Fields.{total_of};
-ghost use Rattle.agent_machine.specs.Meets.{IsRefused, flash_result};
+ghost use Rattle.fwu_formats.specs.Metadata.{state_at};
+ghost use Rattle.agent_machine.specs.Fields.{target, total_of};
+ghost use Rattle.agent_machine.specs.Meets.{IsDone, IsRefused, flash_result};
+ghost use Rattle.fwu_model.specs.State.{is_invalid};
 ghost use Rattle.fwu_model.specs.Answer.{are_named};
 ghost use Rattle.agent_calls.specs.Partly.{named_in};
 
@@ -26,6 +28,8 @@ fn named_in(plan: &Plan) -> [bool; 16]
 impl<D: Flash> Agent<D> {
     ghost use Rattle.agent_calls.specs.Shown.{AgentGoes, SpentBy, fields, device, gone, moment};
     ghost use Rattle.agent_calls.specs.Copies.{BeginsPartly, CopiesPiece, CopiesBytes, CopiesImage, CopiesImages};
+    ghost use Rattle.agent_calls.specs.Copies.{FillsBank, StoresThenFills};
+    ghost use Rattle.agent_calls.specs.Metas.{meta_begun};
     ghost use Rattle.agent_calls.specs.Takes.{CopiesTake, CopyTakes, FrontTakes, PieceTakes, Takes};
     ghost use Rattle.agent_calls.specs.Takes.{piece_at, pieces_of, writes_to_begin, writes_to_copy};
 
@@ -38,6 +42,7 @@ impl<D: Flash> Agent<D> {
         requires room { length buf.old ≡ block_bytes }
 
         ensures copies { CopiesPiece image at result (moment self.old) (moment self.new) }
+        ensures fills { FillsBank (moment self.old) (moment self.new) }
         ensures piece { IfOk result (λ n.
             n ≡ piece_at block_bytes (total_of (fields self.old) (Some image)) at) }
         ensures takes { IfOk result (λ n. PieceTakes image at n (moment self.old)
@@ -63,6 +68,7 @@ impl<D: Flash> Agent<D> {
         requires image { image < length (fields self.old).layout.rows }
 
         ensures copies { CopiesBytes image result (moment self.old) (moment self.new) }
+        ensures fills { FillsBank (moment self.old) (moment self.new) }
         ensures takes { OnOk result (FrontTakes image
             (pieces_of block_bytes (total_of (fields self.old) (Some image)))
             (moment self.old) (D.arming (device self.old)) (D.arming (device self.new))) }
@@ -87,6 +93,7 @@ impl<D: Flash> Agent<D> {
         requires image { image < length (fields self.old).layout.rows }
 
         ensures copies { CopiesImage image result (moment self.old) (moment self.new) }
+        ensures fills { FillsBank (moment self.old) (moment self.new) }
         ensures takes { OnOk result (CopyTakes image (moment self.old)
             (D.arming (device self.old)) (D.arming (device self.new))) }
         ensures spent { SpentBy (flash_result result) self.old self.new }
@@ -109,6 +116,8 @@ impl<D: Flash> Agent<D> {
         requires each { length named.now ≡ length (fields self.old).layout.rows }
 
         ensures copies { CopiesImages named.now result (moment self.old) (moment self.new) }
+        ensures fills { FillsBank (moment self.old) (moment self.new) }
+        ensures still { All IsTrue named.now → self.new ≡ self.old }
         ensures takes { OnOk result (CopiesTake named.now (length named.now) (moment self.old)
             (D.arming (device self.old)) (D.arming (device self.new))) }
         ensures spent { SpentBy (flash_result result) self.old self.new }
@@ -129,21 +138,33 @@ impl<D: Flash> Agent<D> {
     /// then commits each image that the list doesn't name with the bytes that it has in the active bank,
     /// as accepted. These are read from the flash in pieces of 4096 bytes, the last one of an image
     /// shorter, and each piece is written as by `write_stream`. An image of no bytes has no piece. Of an
-    /// image that the list names nothing is staged. A type that the list names twice counts once. The
-    /// vendor flags have no meaning. Nothing here takes memory but a buffer of 4096 bytes on the stack.
+    /// image that the list names nothing is staged. An empty list names no image, and so all are copied.
+    /// A type that the list names twice counts once. The vendor flags have no meaning. Nothing here takes
+    /// memory but a buffer of 4096 bytes on the stack.
     ///
     /// DENIED: nothing is staged and the active bank is on trial, or the bank that was started isn't
     /// the active one. UNKNOWN: the list names a type that is no image's. They come in this order, before
     /// anything is done. Lost, Fault: the flash stopped the store, a read or a write, and what was copied
     /// by then is in an invalid bank. Gone: it stopped an earlier call of this agent.
     pub fn begin_partial(&mut self, vendor_flags: u32, list: &[Guid]) -> Result<(), Stop>
-        requires some { 0 < length list.now }
         // On any device: an answer or a refusal is that of each machine that the agent shows.
         ensures begins { IsFalse (gone self.old) → (passes : List ℕ → Bool) →
             BeginsPartly list.now (are_named (fields self.old).layout.rows list.now) passes result
             (moment self.old) (moment self.new) }
         ensures goes { AgentGoes result self.old self.new }
         ensures refused { IsRefused result → self.new ≡ self.old }
+        // On any device: where the update bank is invalid already and each image is named, it is not touched.
+        ensures still { let f = fields self.old in
+            IsTrue (is_invalid (state_at f.meta.meta (target f))) →
+            All IsTrue (are_named f.layout.rows list.now) → device self.new ≡ device self.old }
+        // On any flash that tells its content, sound or not, at any exit but a refusal: the metadata is
+        // stored once, as by `begin`, and behind that only the update bank changes.
+        ensures stores { IsDone result → IsTrue D.tells →
+            StoresThenFills (flash_result result) (fields self.old)
+            (D.told (device self.old)) (D.told (device self.new)) }
+        // On any device: the agent keeps the metadata in which the update bank is invalid, also where the
+        // flash stopped the store or a copy.
+        ensures keeps { IsDone result → (fields self.new).meta ≡ meta_begun (fields self.old) }
         // When done, on every device: the erases and programs of a begin, and of the writes and the commit
         // of each image that is copied, and no other.
         ensures spent { IsFalse (gone self.old) → let f = fields self.old in

@@ -10,8 +10,8 @@ use host_io::MemoryFiles;
 use std::alloc::Global;
 use std::process::Abort;
 
-/// Bytes that are changed: where each stands, and what stands there instead.
-pub type Change<'a> = &'a [(usize, u8)];
+// Bytes that are changed: where each stands, and what stands there instead.
+type Change<'a> = &'a [(usize, u8)];
 
 // How many bytes of the capsule there are, what is changed in them, and the fault.
 const HEADERS: [(usize, Change, CapsuleFault); 22] = [
@@ -110,8 +110,8 @@ fn change(bytes: &mut Vec<u8>, changes: Change) {
     }
 }
 
-/// The first bytes of the capsule of `hello`, with these changes, as the file `a.cap`.
-pub fn changed(rt: &impl Abort, alloc: Global, count: usize, changes: Change) -> MemoryFiles {
+// The first bytes of the capsule of `hello`, with these changes, as the file `a.cap`.
+fn changed(rt: &impl Abort, alloc: Global, count: usize, changes: Change) -> MemoryFiles {
     let mut bytes = front(rt, alloc, HELLO_CAPSULE, count);
     change(&mut bytes, changes);
     one_file(rt, alloc, "a.cap", bytes, 0)
@@ -140,13 +140,6 @@ fn have_faults(rt: &impl Abort, alloc: Global, cases: &[(usize, Change, CapsuleF
 fn faults_come_in_order(rt: HostRuntime) {
     have_faults(&rt, rt.alloc(), &HEADERS);
     have_faults(&rt, rt.alloc(), &ITEMS);
-}
-
-#[test]
-fn a_name_that_is_missing(rt: HostRuntime) {
-    let files = changed(&rt, rt.alloc(), 89, &[]);
-    let found = items_in(files, "b.cap");
-    holds(&rt, found == Err(CapsuleStop::ReadFailed), "b.cap");
 }
 
 // Adds the heads of so many items with images of this size, whose types are sixteen times 1, 2 and so on.

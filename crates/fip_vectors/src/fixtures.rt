@@ -46,15 +46,6 @@ pub fn front(rt: &impl Abort, alloc: Global, digits: &str, count: usize) -> Vec<
     bytes
 }
 
-/// The package of `hello` whose entry says the greatest offset and the greatest size.
-pub fn far(rt: &impl Abort, alloc: Global) -> Vec<u8> {
-    let mut bytes = front(rt, alloc, HELLO, 101);
-    if let Some(place) = bytes.as_mut_slice().get_mut(32..48) {
-        place.fill(0xff);
-    }
-    bytes
-}
-
 /// Adds bytes at the end.
 pub fn add(rt: &impl Abort, bytes: &mut Vec<u8>, more: &[u8]) {
     bytes.extend_from_slice(more).expect(rt, "memory");
@@ -161,9 +152,4 @@ pub fn all_end<H: Files>(rt: &impl Abort, alloc: Global, files: &mut H, steps: &
         let answer = ended(rt, alloc, line, files);
         ends(rt, &answer, line, *status, text);
     }
-}
-
-/// A file has these bytes.
-pub fn has(rt: &impl Abort, files: &MemoryFiles, name: &str, wanted: &[u8]) {
-    holds(rt, files.get(name) == Some(wanted), name);
 }

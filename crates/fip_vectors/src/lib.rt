@@ -1,19 +1,13 @@
-//! Worked packages, capsules, tables, manifests and words of the tool, as tests. The expected values come from the layouts and from other
-//! programs.
+//! The tool over files and streams that fail or want memory and over files of the system, and worked tables of packages and
+//! capsules. The expected values come from the layouts and from other programs.
 #![tactic(auto)]
 
 #[cfg(test)]
 mod capsules;
 #[cfg(test)]
-mod commands;
-#[cfg(test)]
-mod conversions;
+mod faults;
 #[cfg(test)]
 mod fixtures;
-#[cfg(test)]
-mod listings;
-#[cfg(test)]
-mod manifests;
 #[cfg(test)]
 mod memory;
 #[cfg(test)]
@@ -22,5 +16,3 @@ mod real_files;
 mod sizes;
 #[cfg(test)]
 mod tables;
-#[cfg(test)]
-mod words;

@@ -3,7 +3,7 @@
 
 ghost use Rattle.std.specs.Prelude.{◌<◌};
 
-use crate::fixtures::{EMPTY, HELLO, add, far, front, holds, holds_at, one_file};
+use crate::fixtures::{EMPTY, HELLO, front, holds, holds_at, one_file};
 use base_core::Guid;
 use fip_tables::{
     Entry, Outline, PackStop, Part, Parts, StreamToc, Toc, TocStop, pack, package_frame,
@@ -122,31 +122,6 @@ fn aligned_package(rt: HostRuntime) {
     holds(&rt, has_offsets(&toc, 144, 160), "the table");
 }
 
-// The fault of bytes that are fed in pieces of a length.
-fn fault_of(bytes: &[u8], step: usize) -> Option<FipFault>
-    requires some { 0 < step }
-{
-    fed(bytes, step).err()
-}
-
-// How many bytes of `HELLO` there are, and the fault.
-const FAULTS: [(usize, Option<FipFault>); 4] = [
-    (101, None),
-    (95, Some(FipFault::NoEnd(1))),
-    (100, Some(FipFault::Beyond(0))),
-    (15, Some(FipFault::ShortHeader)),
-];
-
-#[test]
-fn faults_of_packages(rt: HostRuntime) {
-    for (count, fault) in &FAULTS {
-        let bytes = front(&rt, rt.alloc(), HELLO, *count);
-        holds_at(&rt, fault_of(bytes.as_slice(), 50) == *fault, *count);
-    }
-    let other = fault_of(b"a name that is other", 50);
-    holds(&rt, other == Some(FipFault::BadName), "another name");
-}
-
 #[test]
 fn tables_in_pieces(rt: HostRuntime) {
     let hello = front(&rt, rt.alloc(), HELLO, 101);
@@ -154,29 +129,6 @@ fn tables_in_pieces(rt: HostRuntime) {
         let toc = fed(hello.as_slice(), step).expect(&rt, "a package");
         holds_at(&rt, is_of_hello(&toc), step);
     }
-}
-
-#[test]
-fn too_many_entries(rt: HostRuntime) {
-    let mut bytes = front(&rt, rt.alloc(), HELLO, 16);
-    for i in 1u8..66 {
-        add(&rt, &mut bytes, &[i]);
-        add(&rt, &mut bytes, &[0; 39]);
-    }
-    add(&rt, &mut bytes, &[0; 40]);
-    let fault = fault_of(bytes.as_slice(), 1000);
-    holds(&rt, fault == Some(FipFault::TooMany), "65 entries");
-}
-
-#[test]
-fn end_beyond_64_bits(rt: HostRuntime) {
-    let bytes = far(&rt, rt.alloc());
-    let fault = fault_of(bytes.as_slice(), 101);
-    holds(
-        &rt,
-        fault == Some(FipFault::Beyond(0)),
-        "an end beyond 64 bits",
-    );
 }
 
 // Why the file of this name has no table, if it has none, or one other than that of `HELLO`.

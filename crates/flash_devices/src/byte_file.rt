@@ -1,6 +1,7 @@
 ghost use Rattle.std.specs.Prelude.{None};
 ghost use Rattle.flash_devices.specs.File.{size_of};
 
+use std::fs::OpenFile;
 use std::io::{self, Read, Seek, SeekFrom, Write};
 
 /// A file whose bytes are read and written at places, counted in bytes from its start.
@@ -46,7 +47,7 @@ pub trait ByteFile {
             (is_err result) }
         ensures called { called self.old self.new };
 
-    /// Hands on to the system what was written.
+    /// Puts what was written where a loss of power leaves it.
     fn flush(&mut self) -> io::Result<()>
         ensures same { content self.new ≡ content self.old }
         ensures fails { FailsAs (fails self.old) (is_err result) }
@@ -54,10 +55,11 @@ pub trait ByteFile {
         ensures flushed { OnOk result (flushed self.old self.new) };
 }
 
-/// Files that are read and written at a position, as those of the system. They tell no bytes, since
-/// what a write leaves isn't told by readers and writers. Each call seeks to its place first, and
-/// then all bytes are read or written.
-impl<F: Read + Write + Seek> ByteFile for F {
+/// Files that are read and written at a position, and can be synced, as those of the system. They tell
+/// no bytes, since what a write leaves isn't told by readers and writers. Each read and write seeks to
+/// its place first, and then all bytes are read or written. A flush is a `sync_data`, and its error is
+/// the flush's. No clause says so, since none of a file of the system says what a sync did: it is tested.
+impl<F: Read + Write + Seek + OpenFile> ByteFile for F {
     ghost use Rattle.std.specs.Prelude.{◌≡◌, ⊤, Option, IfOk, IfSome, IsErr, OnOk, OnErr, is_err, length};
     ghost use Rattle.std.specs.Io.KnownBytes.{Keeps};
     ghost use Rattle.flash_devices.specs.ByteFiles.{untold, FailsAs, FailsWithin, HoldsAt, Writes};
@@ -110,6 +112,7 @@ impl<F: Read + Write + Seek> ByteFile for F {
         ensures fails { FailsAs None (is_err result) }
         ensures keeps { Keeps (F.contents self.old) (F.contents self.new) }
     {
-        Write::flush(self)
+        Write::flush(self)?;
+        self.sync_data()
     }
 }

@@ -8,7 +8,7 @@
 
 ghost use Rattle.std.specs.Prelude.{◌≡◌, IfSome, codes};
 ghost use Rattle.flash_devices.specs.File.{IsNew};
-ghost use Rattle.script_cmd.specs.Printed.{Prints};
+ghost use Rattle.host_io.specs.Printed.{Prints};
 
 use flash_core::Flash;
 use flash_devices::{FileFlash, MemoryFlash};

@@ -35,6 +35,10 @@ third_refused : (s n t : Text) → IsNoFlag s → IsNoFlag n → IsNoFlag t → 
 unfolding clap_on_literals
 third_refused s n t p q r = rw (p.long, p.short, p.dashes, q.long, q.short, q.dashes, r.long, r.short, r.dashes) refl
 
+more_refused : (t : Text) → IsNoFlag t → asked (codes "serve" ∷ t ∷ []) ≡ None
+unfolding clap_on_literals
+more_refused t p = rw (p.long, p.short, p.dashes) refl
+
 pub plain_soak : (s n : Text) → IsPlain s → IsPlain n → asked (codes "soak" ∷ s ∷ n ∷ []) ≡ soak_by (number_read s) (number_read n)
 plain_soak s n p q = soak_taken s n (plain_is_no_flag s p) (plain_is_no_flag n q)
 
@@ -43,3 +47,6 @@ plain_seed s p = seed_refused s (plain_is_no_flag s p)
 
 pub plain_third : (s n t : Text) → IsPlain s → IsPlain n → IsPlain t → asked (codes "soak" ∷ s ∷ n ∷ t ∷ []) ≡ None
 plain_third s n t p q r = third_refused s n t (plain_is_no_flag s p) (plain_is_no_flag n q) (plain_is_no_flag t r)
+
+pub plain_more : (t : Text) → IsPlain t → asked (codes "serve" ∷ t ∷ []) ≡ None
+plain_more t p = more_refused t (plain_is_no_flag t p)

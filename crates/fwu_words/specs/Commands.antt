@@ -22,5 +22,6 @@ abbrev pub soak_app : App
 soak_app = with_rule (with_rule (new_app (codes "soak")) (word (codes "seed"))) (word (codes "rounds"))
 
 abbrev pub fwu_app : App
-fwu_app = with_leaf (with_leaf (with_leaf (with_leaf (with_leaf (top_app (codes "fwu"))
-    (turns_app (codes "run"))) (turns_app (codes "boot"))) (new_app (codes "show"))) format_app) soak_app
+fwu_app = with_leaf (with_leaf (with_leaf (with_leaf (with_leaf (with_leaf (top_app (codes "fwu"))
+    (turns_app (codes "run"))) (turns_app (codes "boot"))) (new_app (codes "show"))) format_app) soak_app)
+    (new_app (codes "serve"))

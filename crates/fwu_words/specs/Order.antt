@@ -8,7 +8,7 @@ use Rattle.clap_words.specs.Answers.{file_in}
 use Rattle.fwu_words.specs.Commands.{fwu_app}
 use Rattle.fwu_words.specs.Values.{banks_of, number_read, rows_of}
 use Rattle.fwu_words.specs.declared.orders.Order.{Order}
-use Rattle.fwu_words.specs.declared.orders.Order.TheVariants.{Run, RunPartitioned, Boot, BootPartitioned, Show, Format, Soak}
+use Rattle.fwu_words.specs.declared.orders.Order.TheVariants.{Run, RunPartitioned, Boot, BootPartitioned, Show, Format, Soak, Serve}
 
 -- a command with its values
 pub data Asked : Type 0 where
@@ -20,6 +20,7 @@ pub data Asked : Type 0 where
   show : Asked
   format : ℕ → List ImageRow → List ℕ → Asked
   soak : (seed : ℕ) → (rounds : ℕ) → Asked
+  serve : Asked
 
 -- an order, without where its words lie in memory
 abbrev pub view : Order → Asked
@@ -30,6 +31,7 @@ view BootPartitioned = boot_partitioned
 view Show = show
 view (Format banks rows file) = format banks rows.items file.now
 view (Soak seed rounds) = soak seed rounds
+view Serve = serve
 
 abbrev pub format_by : Option ℕ → Option (List ImageRow) → Option Text → Option Asked
 format_by banks rows file =
@@ -71,6 +73,7 @@ order_of name rows =
     else if same_bytes name (codes "show") then Some show
     else if same_bytes name (codes "format") then format_of rows
     else if same_bytes name (codes "soak") then soak_of rows
+    else if same_bytes name (codes "serve") then Some serve
     else None
 
 -- What the words ask for. None where they are refused.

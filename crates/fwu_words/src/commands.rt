@@ -41,7 +41,7 @@ fn soak_command<'a>(alloc: Global) -> Result<Command<'a>, AllocError>
     with_word(alloc, command, "rounds")
 }
 
-/// `fwu` with its five commands.
+/// `fwu` with its six commands.
 pub fn fwu_command<'a>(alloc: Global) -> Result<Command<'a>, AllocError>
     ensures { IfOk result (λ c. IsApp c fwu_app) }
 {
@@ -49,7 +49,8 @@ pub fn fwu_command<'a>(alloc: Global) -> Result<Command<'a>, AllocError>
     let command = with_command(command, turns_command(alloc, "boot"))?;
     let command = with_leaf_command(command, Command::new(alloc, "show"))?;
     let command = with_command(command, format_command(alloc))?;
-    with_command(command, soak_command(alloc))
+    let command = with_command(command, soak_command(alloc))?;
+    with_leaf_command(command, Command::new(alloc, "serve"))
 }
 
 /// The command set is one of those that `clap`'s exact clauses are about.

@@ -5,7 +5,7 @@ ghost use Rattle.clap.specs.Words.{Text};
 ghost use Rattle.fwu_model.specs.Allow.{Admits, after_list, asks_list, list_name};
 ghost use Rattle.fwu_words.specs.Allow.{NamesList, NamesNone};
 ghost use Rattle.fwu_words.specs.Commands.{fwu_app};
-ghost use Rattle.fwu_words.specs.Order.{asked, boot, boot_partitioned, format_by, run, run_partitioned, show, soak_by};
+ghost use Rattle.fwu_words.specs.Order.{asked, boot, boot_partitioned, format_by, run, run_partitioned, serve, show, soak_by};
 ghost use Rattle.clap_words.specs.Plain.{IsPlain};
 ghost use Rattle.fwu_words.specs.Values.{banks_of, file_named, number_read, rows_of};
 ghost use Rattle.clap_words.specs.Words.{reads};
@@ -33,6 +33,9 @@ pub fn plain_words_are_taken()
     ensures seed_alone { (seed : Text) → IsPlain seed → asked (codes "soak" ∷ seed ∷ []) ≡ None }
     ensures third { (seed rounds other : Text) → IsPlain seed → IsPlain rounds → IsPlain other
         → asked (codes "soak" ∷ seed ∷ rounds ∷ other ∷ []) ≡ None }
+    ensures serve { asked (codes "serve" ∷ []) ≡ Some serve }
+    ensures serve_by_table { asked (codes "serve" ∷ codes "--gpt" ∷ []) ≡ None }
+    ensures serve_more { (other : Text) → IsPlain other → asked (codes "serve" ∷ other ∷ []) ≡ None }
     ensures help { asked (codes "--help" ∷ []) ≡ None }
     ensures nothing { asked [] ≡ None }
 {}

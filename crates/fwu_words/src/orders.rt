@@ -36,6 +36,8 @@ pub enum Order<'a> {
         seed: u32,
         rounds: u32,
     },
+    /// Boots once, and serves the requests of a byte stream.
+    Serve,
 }
 
 fn given_banks<'a>(found: &ArgMatches<'a>) -> Result<u32, UsageStop>
@@ -139,6 +141,8 @@ fn named_order<'a>(
         format_order(alloc, found)
     } else if is_word(name, b"soak") {
         soak_order(found)
+    } else if is_word(name, b"serve") {
+        Ok(Order::Serve)
     } else {
         Err(UsageStop::Usage)
     }

@@ -1,7 +1,9 @@
 pub mod Calls
 pub mod Causes
+pub mod Printed
 pub mod Contents
 pub mod Joined
+pub mod Kept
 pub mod Held
 pub mod Access
 pub mod Reads

@@ -10,22 +10,24 @@ ghost use Rattle.host_io.specs.declared.stops.WriteStop.TheVariants as stop;
 
 use crate::files::Files;
 use crate::joining::Piece;
+use crate::kept_file::KeptFile;
 use crate::stops::{Failed, WriteStop};
 use crate::writes::Writes;
-use std::alloc::Global;
+use std::alloc::{AllocError, Global};
 use std::fs::{File, Metadata, OpenFile, OpenOptions};
 use std::io::{Read, Seek, SeekFrom, Write};
 use std::marker::Model;
 use std::os::unix::fs::MetadataExt;
+use std::path::Path;
 use std::{fs, io};
 
 // How many bytes are read at a time to be added to others, or written: few enough that they are still
 // in the processor's cache then. To add them costs less than a first fill of their place with zeros.
 const ROOM: usize = 65536;
 
-// What may stand behind the name of a file in that of the new one that is to take its place. The first
-// is taken that no file has; what a killed run leaves is never written over.
-const FRESH: [&str; 4] = [".new", ".new1", ".new2", ".new3"];
+// How many names a new file may have before it takes its place. The first is taken that no file has; what
+// a killed run leaves is never written over.
+const FRESH: u32 = 1000;
 
 // Fills the piece with the next bytes of the file, and adds them to those that were read.
 fn read_piece<F: Read>(file: &mut F, piece: &mut [u8], out: &mut Vec<u8>) -> io::Result<()>
@@ -58,6 +60,29 @@ fn size_of(frame: &[u8], pieces: &[Piece<'_>]) -> usize {
     size
 }
 
+// A name for a new file that is to take the place of one of this name: with `.new` behind it, `.new1`
+// and so on.
+fn fresh_name(alloc: Global, name: &str, number: u32) -> Result<String, AllocError> {
+    if number == 0 {
+        return format!(in alloc; "{name}.new");
+    }
+    format!(in alloc; "{name}.new{number}")
+}
+
+// The folder that a file of this name stands in.
+fn folder_of(name: &str) -> &str {
+    match Path::new(name).parent() {
+        Some(folder) if !folder.as_os_str().is_empty() => folder.as_os_str(),
+        _ => ".",
+    }
+}
+
+// Where a file ends that ended here, behind this piece and its gap, counted around the greatest usize.
+fn end_behind(end: usize, piece: &Piece<'_>) -> usize {
+    end.wrapping_add(piece.gap)
+        .wrapping_add(piece.count as usize)
+}
+
 // Whether a file is a regular one of no other name, which a new file may replace.
 fn is_alone(found: &Metadata) -> bool {
     found.is_file() && found.nlink() == 1
@@ -71,14 +96,18 @@ fn same_owner(one: &Metadata, other: &Metadata) -> bool {
 /// The files of the system. They tell nothing of their contents. Each error is a fault, and so are
 /// a name that no file has, or that a folder, a pipe or a device has, whose size says nothing of what
 /// it would give, and a range outside the file.
-#[derive(Debug, Drop)]
-pub struct HostFiles<R> {
+///
+/// The file that `read_at` read last stays open for the next such read of its name, until a size is asked
+/// for, or a file is written. So a file that takes its name meanwhile is not read before that.
+#[derive(Drop)]
+pub struct HostFiles<R: std::rt::Files> {
     rt: R,
     faults: u64,
     writes: Writes,
+    kept: Option<KeptFile<R::File>>,
 }
 
-impl<R> Model for HostFiles<R> {
+impl<R: std::rt::Files> Model for HostFiles<R> {
     ghost use Rattle.host_io.specs.Held.{AdaptedFiles};
 
     ghost Value = { AdaptedFiles R };
@@ -95,6 +124,7 @@ impl<R: std::rt::Files> HostFiles<R> {
             rt,
             faults: 0,
             writes: Writes::none(),
+            kept: None,
         }
     }
 
@@ -141,9 +171,24 @@ impl<R: std::rt::Files> HostFiles<R> {
         Ok(file)
     }
 
-    // Fills `out` with the bytes from place `at` on. A range outside the file is an error.
-    fn fill(&self, name: &str, at: u64, out: &mut [u8]) -> io::Result<()> {
-        self.open_at(name, at)?.read_exact(out)
+    // Fills `out` with the bytes from place `at` on, of the file that is kept where it has this name. A
+    // range outside the file is an error, an empty one too.
+    fn fill(&mut self, name: &str, at: u64, out: &mut [u8]) -> io::Result<()>
+        ensures same { self.new ≡ self.old }
+    {
+        if out.is_empty() {
+            let _file = self.open_at(name, at)?;
+            return Ok(());
+        }
+        if let Some(kept) = &mut self.kept {
+            if kept.is_named(name) {
+                return kept.read_at(at, out);
+            }
+        }
+        let mut file = self.open_at(name, at)?;
+        file.read_exact(out)?;
+        self.kept = KeptFile::new(file, name);
+        Ok(())
     }
 
     // Adds the bytes from place `at` on at the end of a list that has the room for them. A range
@@ -166,10 +211,12 @@ impl<R: std::rt::Files> HostFiles<R> {
         Ok(())
     }
 
-    // Writes a piece.
+    // Writes a piece behind what ends at this place. Each write but the last ends at a multiple of the
+    // room, so that no block of the system's is written in two halves.
     fn copy<W: Write>(
         &self,
         piece: &Piece<'_>,
+        end: usize,
         room: &mut [u8; ROOM],
         into: &mut W,
     ) -> io::Result<()>
@@ -178,19 +225,23 @@ impl<R: std::rt::Files> HostFiles<R> {
     {
         let mut file = self.open_at(piece.file, piece.at)?;
         let mut left = piece.count;
+        let mut most = ROOM - end % ROOM;
         while left > 0 {
-            let size = left.min(ROOM as u64);
+            let size = left.min(most as u64);
             copy_piece(&mut file, &mut room[..size as usize], into)?;
             left -= size;
+            most = ROOM;
         }
         Ok(())
     }
 
-    // Writes the next bytes of the frame, and the piece behind them. Gives what is left of the frame.
+    // Writes the next bytes of the frame, and the piece behind them, behind what ends at this place. Gives
+    // what is left of the frame.
     fn add_piece<'a, W: Write>(
         &self,
         frame: &'a [u8],
         piece: &Piece<'_>,
+        end: usize,
         room: &mut [u8; ROOM],
         into: &mut W,
     ) -> io::Result<&'a [u8]>
@@ -200,7 +251,7 @@ impl<R: std::rt::Files> HostFiles<R> {
     {
         let (front, rest) = frame.split_at(piece.gap.min(frame.len()));
         into.write_all(front)?;
-        self.copy(piece, room, into)?;
+        self.copy(piece, end.wrapping_add(front.len()), room, into)?;
         Ok(rest)
     }
 
@@ -211,16 +262,18 @@ impl<R: std::rt::Files> HostFiles<R> {
     {
         let mut room = [0; ROOM];
         let mut left = frame;
+        let mut end = 0;
         for piece in pieces {
-            left = self.add_piece(left, piece, &mut room, into)?;
+            left = self.add_piece(left, piece, end, &mut room, into)?;
+            end = end_behind(end, piece);
         }
         into.write_all(left)
     }
 
-    // Gives a new file the rights of the one that it is to replace, where both have the same owner and
-    // group and may have the same rights, and says whether. That the old one can't be written is an
+    // Gives a new file the mode of the one that it is to replace, where both have the same owner and
+    // group and may have the same mode, and says whether. That the old one can't be written is an
     // error.
-    fn give_rights(&self, name: &str, file: &R::File, old: &Metadata) -> io::Result<bool> {
+    fn give_mode(&self, name: &str, file: &R::File, old: &Metadata) -> io::Result<bool> {
         let found = file.metadata()?;
         if !same_owner(&found, old) {
             return Ok(false);
@@ -237,12 +290,20 @@ impl<R: std::rt::Files> HostFiles<R> {
         }
     }
 
-    // Whether the new file may take this name. It has the rights of the old one then.
+    // Whether the new file may take this name. It has the mode of the old one then.
     fn prepare(&self, name: &str, file: &R::File) -> io::Result<bool> {
         match fs::symlink_metadata(&self.rt, name) {
-            Ok(old) if is_alone(&old) => self.give_rights(name, file, &old),
+            Ok(old) if is_alone(&old) => self.give_mode(name, file, &old),
             Ok(_) => Ok(false),
             Err(e) => Ok(e.kind() == io::ErrorKind::NotFound),
+        }
+    }
+
+    // Puts the new name of a file on the disk. Where its folder can't be opened or synced, a loss of power
+    // may leave the old file, as whole as the new one.
+    fn sync_folder(&self, name: &str) {
+        if let Ok(folder) = fs::open(&self.rt, folder_of(name)) {
+            let _ = folder.sync_all();
         }
     }
 
@@ -261,7 +322,11 @@ impl<R: std::rt::Files> HostFiles<R> {
         }
         self.join(frame, pieces, file)?;
         file.sync_data()?;
-        Ok(fs::rename(&self.rt, fresh, name).is_ok())
+        if fs::rename(&self.rt, fresh, name).is_err() {
+            return Ok(false);
+        }
+        self.sync_folder(name);
+        Ok(true)
     }
 
     // Makes the file by a new one, `fresh`, that takes its place, or says that none can. Where it does
@@ -281,6 +346,17 @@ impl<R: std::rt::Files> HostFiles<R> {
         replaced
     }
 
+    // Writes over all of a file where it stands, or makes it. A regular one is put on the disk, so that an
+    // error that the system tells only then comes here.
+    fn write_over(&self, name: &str, bytes: &[u8]) -> io::Result<()> {
+        let mut file = fs::create(&self.rt, name)?;
+        file.write_all(bytes)?;
+        if file.metadata()?.is_file() {
+            file.sync_data()?;
+        }
+        Ok(())
+    }
+
     // Makes the file where it stands, from memory, since it may be among those of the pieces.
     fn rewrite(
         &self,
@@ -291,28 +367,28 @@ impl<R: std::rt::Files> HostFiles<R> {
     ) -> Result<(), WriteStop> {
         let mut bytes = Vec::with_capacity(alloc, size_of(frame, pieces))?;
         let made = self.join(frame, pieces, &mut bytes);
-        match made.and_then(|()| fs::write(&self.rt, name, bytes.as_slice())) {
+        match made.and_then(|()| self.write_over(name, bytes.as_slice())) {
             Ok(()) => Ok(()),
             Err(_) => Err(WriteStop::Failed),
         }
     }
 
-    // A new file beside one of this name, and its own name, or none where none can be made.
+    // A new file beside one of this name, and its own name, or none where none can be made. That all names
+    // are taken is an error: the old file is not to be torn since runs were killed.
     fn fresh_file(
         &self,
         alloc: Global,
         name: &str,
     ) -> Result<Option<(String, R::File)>, WriteStop> {
-        for behind in FRESH {
-            let mut fresh = String::from_str(alloc, name)?;
-            fresh.push_str(behind)?;
+        for number in 0..FRESH {
+            let fresh = fresh_name(alloc, name, number)?;
             match File::create_new(&self.rt, fresh.as_str()) {
                 Ok(file) => return Ok(Some((fresh, file))),
                 Err(e) if e.kind() == io::ErrorKind::AlreadyExists => {}
                 Err(_) => return Ok(None),
             }
         }
-        Ok(None)
+        Err(WriteStop::Failed)
     }
 
     // Makes the file by a new one, or says that none can take its place.
@@ -375,6 +451,7 @@ impl<R: std::rt::Files> Files for HostFiles<R> {
         ensures unwritten { self.new.writes ≡ self.old.writes }
         ensures inner { self.new.inner ≡ self.old.inner }
     {
+        self.kept = None;
         match fs::metadata(&self.rt, name) {
             Ok(found) if found.is_file() => Ok(Some(found.len())),
             _ => Err(self.fail()),
@@ -428,17 +505,21 @@ impl<R: std::rt::Files> Files for HostFiles<R> {
         ensures writes { self.new.writes ≡ writes_after result self.old.writes }
         ensures inner { self.new.inner ≡ self.old.inner }
     {
-        match fs::write(&self.rt, name, bytes) {
+        self.kept = None;
+        match self.write_over(name, bytes) {
             Ok(()) => self.count_write(Ok(())),
             Err(_) => self.count_write(Err(WriteStop::Failed)),
         }
     }
 
-    /// Besides what the trait says: a new file, of this name with `.new` behind it and with the old
-    /// one's rights, takes the name once it is whole. So where this fails the old file is still there;
-    /// one that can't be written is an error. A link, a file of two names or of another user or group,
-    /// what is no regular file, and one beside which no new file can be made or that can't be replaced,
-    /// is written where it stands, once all is read.
+    /// Besides what the trait says: a new file takes the name once it is whole and on the disk. Its own
+    /// name has `.new` behind, or `.new1` up to `.new999` where files of these names are there. It has the
+    /// old one's mode, and no other rights of it. So where this fails the old file is still there; that
+    /// it can't be written, or that all names are taken, is an error.
+    ///
+    /// A link, a file of two names or of another user or group, what is no regular file, and one beside
+    /// which no new file can be made or that can't be replaced, is written where it stands, once all is
+    /// read.
     fn write_joined(
         &mut self,
         alloc: Global,
@@ -451,6 +532,7 @@ impl<R: std::rt::Files> Files for HostFiles<R> {
         ensures writes { self.new.writes ≡ writes_after result self.old.writes }
         ensures inner { self.new.inner ≡ self.old.inner }
     {
+        self.kept = None;
         let end = self.make(alloc, name, frame, pieces);
         self.count_write(end)
     }

@@ -9,6 +9,7 @@ ghost use Rattle.host_io.specs.Contents.{StopsAt};
 ghost use Rattle.host_io.specs.declared.stops.WriteStop.TheVariants as stop;
 
 use crate::calls::CallCounter;
+use crate::retries::{flush_again, write_again};
 use crate::steady::SteadyWrite;
 use crate::stops::{Failed, WriteStop};
 use std::alloc::Global;
@@ -103,7 +104,8 @@ impl Sink for MemorySink {
     }
 }
 
-/// A sink over a writer. Each error of the writer, and each time that it takes nothing, is a fault.
+/// A sink over a writer. Each error of the writer, and each time that it takes nothing, is a fault, but
+/// for a call that the system interrupted, which is made again.
 #[derive(Debug, Drop)]
 pub struct StdSink<W> {
     writer: W,
@@ -146,7 +148,7 @@ impl<W: Write> StdSink<W> {
         ensures cause { HasCause self.old.faults self.new.faults result }
         ensures count { self.new.faults ≡ failures result self.old.faults }
     {
-        match self.writer.write(piece) {
+        match write_again(&mut self.writer, piece) {
             Ok(count) if count > 0 => Ok(count),
             _ => Err(self.fail()),
         }
@@ -158,7 +160,7 @@ impl<W: Write> StdSink<W> {
         ensures cause { HasCause self.old.faults self.new.faults result }
         ensures count { self.new.faults ≡ failures result self.old.faults }
     {
-        match self.writer.flush() {
+        match flush_again(&mut self.writer) {
             Ok(()) => Ok(()),
             Err(_) => Err(self.fail()),
         }

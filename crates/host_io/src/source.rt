@@ -7,6 +7,7 @@ ghost use Rattle.host_io.specs.Calls.{IsListed, counted, failures, gave, unused}
 ghost use Rattle.host_io.specs.Causes.{HasCause};
 
 use crate::calls::CallCounter;
+use crate::retries::read_again;
 use crate::steady::SteadyRead;
 use crate::stops::Failed;
 use std::io::Read;
@@ -112,7 +113,8 @@ impl Source for MemorySource {
     }
 }
 
-/// A source over a reader. Each error of the reader is a fault.
+/// A source over a reader. Each error of the reader is a fault, but for a read that the system
+/// interrupted, which is made again.
 #[derive(Debug, Drop)]
 pub struct StdSource<R> {
     reader: R,
@@ -153,7 +155,7 @@ impl<R: SteadyRead> Source for StdSource<R> {
     ghost joins = { λ _ _ _ _ _ _ _. tt };
 
     fn read(&mut self, out: &mut [u8]) -> Result<usize, Failed> {
-        match self.reader.read(out) {
+        match read_again(&mut self.reader, out) {
             Ok(count) => Ok(count),
             Err(_) => {
                 self.faults = self.faults.saturating_add(1);

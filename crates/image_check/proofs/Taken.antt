@@ -1,31 +1,30 @@
--- What images that are hashed side by side have.
-use Rattle.std.proofs.Common.{◌≡◌, ℕ, zero, suc, ◌+◌, ◌-◌, ◌%◌, ◌<◌, ◌≤◌, Bool, List, ◌++◌, length, take, drop, slice_index, sym, ap, ap₂, ◌∙◌, subst, arith, take-add, inl, inr, Ok, length-append}
-use Rattle.std.proofs.lemmas.Bool.{cases_lt}
+-- What lanes that hash the images of a bank side by side have taken in.
+use Rattle.std.proofs.Common.{◌≡◌, ℕ, zero, suc, ◌+◌, ◌-◌, ◌*◌, ◌%◌, ◌<◌, ◌≤◌, List, ◌++◌, length, take, drop, sym, ap, ap₂, ◌∙◌, subst, arith, take-add, Ok, Option, Some, length-append}
 use Rattle.std.proofs.lemmas.List.{drop-drop}
+use Rattle.std.specs.Option.{ForSome}
 use Rattle.std.specs.Prelude.{IsTrue, slice_range}
+use Rattle.base_core.specs.Block.{block_bytes}
 use Rattle.flash_core.specs.Told.{Told}
 use Rattle.flash_core.specs.declared.flash.Flash.{Ghosts}
 use Rattle.flash_core.specs.Calls.{Reads}
-use Rattle.sha256_lanes.specs.Holding.{HoldsInLane}
+use Rattle.sha256_lanes.specs.Holding.{Holds, HoldsInLane}
+use Rattle.sha256_lanes.specs.declared.alone.Message.{Message}
 use Rattle.sha256_lanes.specs.declared.lanes.Lanes.{Lanes}
-use Rattle.fwu_formats.specs.Manifest.{row_at}
-use Rattle.fwu_formats.specs.Layout.{ImageRow}
-use Rattle.image_check.specs.Found.{is_good, place}
-use Rattle.image_check.specs.Passed.{HasImage}
-use Rattle.image_check.specs.Taken.{HasTaken, has_digest}
+use Rattle.image_check.specs.declared.side.Job.{Job}
+use Rattle.image_check.specs.Taken.{HasTaken, IsInLane, job_at, left}
 
--- nothing but reads was done so far, and each lane has taken in what is done of its range
-pub record HasTakenIn {D : Type 0} (g : Ghosts D) (old new : D) (lanes : Lanes) (at : List ℕ) (count done : ℕ) : Type 0 where
-  pub small : done ≤ count
-  pub whole : done % 64 ≡ 0
+-- nothing but reads was done so far, and each lane has taken in so many bytes more
+pub record HasTakenIn {D : Type 0} (g : Ghosts D) (old new : D) (lanes : Lanes) (jobs : List (Option Job)) (count more : ℕ) : Type 0 where
+  pub small : more ≤ count
+  pub whole : more % 64 ≡ 0
   pub reads : Reads {X = Unit {0}} g (Ok tt) old new
-  pub taken : (j : ℕ) → j < 4 → HasTaken g old (slice_index at j) j lanes done
+  pub each : (j : ℕ) → j < 4 → ForSome (job_at jobs j) (λ job. HasTaken g old job.at (job.done + more) (HoldsInLane j lanes))
 
--- and one lane alone
-pub record HasGoneOn {D : Type 0} (g : Ghosts D) (old new : D) (lanes : Lanes) (at j count done : ℕ) : Type 0 where
+-- and one message alone
+pub record HasGoneOn {D : Type 0} (g : Ghosts D) (old new : D) (message : Message) (at count done : ℕ) : Type 0 where
   pub small : done ≤ count
   pub reads : Reads {X = Unit {0}} g (Ok tt) old new
-  pub taken : HasTaken g old at j lanes done
+  pub taken : HasTaken g old at done (Holds message)
 
 -- what is done of a range, and one more piece of it
 pub joined : (image piece : List ℕ) (at done n : ℕ) → piece ≡ slice_range image (at + done) (at + done + n) → take done (drop at image) ++ piece ≡ take (done + n) (drop at image)
@@ -41,25 +40,52 @@ pub piece_told : (old mid : Told) (piece : List ℕ) (at done asked n : ℕ) →
 piece_told old mid piece at done asked n told size same =
     told ∙ ap (λ (k : ℕ). slice_range mid.now (at + done) (at + done + k)) size ∙ ap (λ (t : Told). slice_range t.now (at + done) (at + done + n)) same
 
--- one more piece in a lane
-pub taken_more : {D : Type 0} (g : Ghosts D) (d : D) (at j : ℕ) (lanes next : Lanes) (piece : List ℕ) (done n : ℕ) → HasTaken g d at j lanes done → length piece ≡ n
-    → (IsTrue g.tells → piece ≡ slice_range (g.told d).now (at + done) (at + done + n))
-    → ((m : List ℕ) → HoldsInLane j lanes m → HoldsInLane j next (m ++ piece)) → HasTaken g d at j next (done + n)
-taken_more g d at j lanes next piece done n taken size told adds = record {
+-- one more piece
+pub taken_more : {D : Type 0} (g : Ghosts D) (d : D) (at : ℕ) (holds next : List ℕ → Type 0) (piece : List ℕ) (done n : ℕ) → HasTaken g d at done holds
+    → length piece ≡ n → (IsTrue g.tells → piece ≡ slice_range (g.told d).now (at + done) (at + done + n))
+    → ((m : List ℕ) → holds m → next (m ++ piece)) → HasTaken g d at (done + n) next
+taken_more g d at holds next piece done n taken size told adds = record {
   bytes = taken.bytes ++ piece;
   size = length-append taken.bytes piece ∙ ap₂ ◌+◌ taken.size size;
   held = adds taken.bytes taken.held;
   told = λ tells. ap (λ (l : List ℕ). l ++ piece) (taken.told tells) ∙ joined (g.told d).now piece at done n (told tells);
 }
 
+-- one more piece in a lane
+pub lane_more : {D : Type 0} (g : Ghosts D) (d mid : D) (job : Option Job) (j : ℕ) (lanes next : Lanes) (piece : List ℕ) (taken asked n : ℕ)
+    → ForSome job (λ o. HasTaken g d o.at (o.done + taken) (HoldsInLane j lanes)) → length piece ≡ n → asked ≡ n
+    → (IsTrue g.tells → g.told mid ≡ g.told d)
+    → ForSome job (λ o. IsTrue g.tells → piece ≡ slice_range (g.told mid).now (o.at + (o.done + taken)) (o.at + (o.done + taken) + asked))
+    → ((m : List ℕ) → HoldsInLane j lanes m → HoldsInLane j next (m ++ piece))
+    → ForSome job (λ o. HasTaken g d o.at (o.done + (taken + n)) (HoldsInLane j next))
+lane_more g d mid job j lanes next piece taken asked n before size same_size same told adds = λ o is.
+    let e : o.done + taken + n ≡ o.done + (taken + n) = omega arith in
+    subst (λ (k : ℕ). HasTaken g d o.at k (HoldsInLane j next)) e
+    (taken_more g d o.at (HoldsInLane j lanes) (HoldsInLane j next) piece (o.done + taken) n (before o is) size
+    (λ tells. piece_told (g.told d) (g.told mid) piece o.at (o.done + taken) asked n (told o is tells) same_size (same tells)) adds)
+
+-- what a lane reads next lies in its image, and that on the device
+pub read_inside : {D : Type 0} (g : Ghosts D) (d : D) (lanes : Lanes) (j : ℕ) (o : Option Job) (job : Job) (count taken n blocks : ℕ)
+    → ForSome o (IsInLane g d lanes j) → count ≤ left o → o ≡ Some job → taken + n ≤ count → blocks ≡ g.blocks d
+    → job.at + (job.done + taken) + n ≤ block_bytes * blocks
+read_inside g d lanes j o job count taken n blocks each enough is fits same =
+    let there = each job is in
+    let more : count ≤ job.size - job.done = subst (λ (x : Option Job). count ≤ left x) is enough in
+    omega (arith, there.small, there.inside, more, fits, same)
+
+-- the same from a hasher that holds the same
+pub taken_by : {D : Type 0} (g : Ghosts D) (d : D) (at done : ℕ) (holds next : List ℕ → Type 0) → ((m : List ℕ) → holds m → next m)
+    → HasTaken g d at done holds → HasTaken g d at done next
+taken_by g d at done holds next keeps taken = record { bytes = taken.bytes; size = taken.size; held = keeps taken.bytes taken.held; told = taken.told }
+
 -- a device that tells the same
-pub taken_here : {D : Type 0} (g : Ghosts D) (old new : D) (at j : ℕ) (lanes : Lanes) (count : ℕ) → (IsTrue g.tells → g.told new ≡ g.told old)
-    → HasTaken g old at j lanes count → HasTaken g new at j lanes count
-taken_here g old new at j lanes count same taken = record {
+pub taken_here : {D : Type 0} (g : Ghosts D) (old new : D) (at done : ℕ) (holds : List ℕ → Type 0) → (IsTrue g.tells → g.told new ≡ g.told old)
+    → HasTaken g old at done holds → HasTaken g new at done holds
+taken_here g old new at done holds same taken = record {
   bytes = taken.bytes;
   size = taken.size;
   held = taken.held;
-  told = λ tells. taken.told tells ∙ ap (λ (t : Told). take count (drop at t.now)) (sym (same tells));
+  told = λ tells. taken.told tells ∙ ap (λ (t : Told). take done (drop at t.now)) (sym (same tells));
 }
 
 -- what holds of each of the four lanes
@@ -69,44 +95,3 @@ of_lanes P p0 p1 p2 p3 (suc zero) h = p1
 of_lanes P p0 p1 p2 p3 (suc (suc zero)) h = p2
 of_lanes P p0 p1 p2 p3 (suc (suc (suc zero))) h = p3
 of_lanes P p0 p1 p2 p3 (suc (suc (suc (suc n)))) h = absurd (omega arith)
-
--- ---- the four images of a turn
-
--- nothing but reads was done so far, and the first so many of the four are good
-pub record ArePassed {D : Type 0} (g : Ghosts D) (old new : D)
-    (starts manifest : List ℕ) (k j : ℕ) : Type 0 where
-  pub reads : Reads {X = Unit {0}} g (Ok tt) old new
-  pub all_good : IsTrue g.tells → (i : ℕ) → i < j → IsTrue (has_digest (g.told old).now (slice_index starts i) (row_at manifest (k + i)))
-  pub images : (i : ℕ) → i < j → HasImage (row_at manifest (k + i))
-
--- one more of them
-pub one_more : (P : ℕ → Type 0) (j : ℕ) → ((i : ℕ) → i < j → P i) → P j → (i : ℕ) → i < j + 1 → P i
-one_more P j before here i below = elim (cases_lt i j) [
-  | inl under ↦ before i under
-  | inr over ↦ let at : i ≡ j = omega arith in subst P (sym at) here
-]
-
--- what one of the four was found to be
-pub turn_good : (rows : List ImageRow) (first : ℕ) (manifest : List ℕ) (new old : Told) (starts : List ℕ) (k m : ℕ) (b : Bool)
-    → slice_index starts m ≡ place rows first (k + m + 1) → new ≡ old → has_digest new.now (slice_index starts m) (row_at manifest (k + m)) ≡ b
-    → is_good old.now rows first manifest (k + m) ≡ b
-turn_good rows first manifest new old starts k m b start same found =
-    let row = row_at manifest (k + m) in
-    sym (ap (λ (t : Told). has_digest t.now (slice_index starts m) row) same ∙ ap (λ (s : ℕ). has_digest old.now s row) start) ∙ found
-
--- what holds of each below, and of some more
-pub some_more : (P : ℕ → Type 0) (k n : ℕ) → ((i : ℕ) → i < k → P i) → ((m : ℕ) → m < n → P (k + m)) → (i : ℕ) → i < k + n → P i
-some_more P k n before here i below = elim (cases_lt i k) [
-  | inl under ↦ before i under
-  | inr over ↦ let at : k + (i - k) ≡ i = omega arith in subst P at (here (i - k) (omega arith))
-]
-
--- what holds of where each of three or four images begins holds of all four places, where the last stands at the fourth
-pub of_turn : (P : ℕ → Type 0) (starts : List ℕ) (many : ℕ) → 3 ≤ many → slice_index starts 3 ≡ slice_index starts (many - 1)
-    → ((j : ℕ) → j < many → P (slice_index starts j)) → (j : ℕ) → j < 4 → P (slice_index starts j)
-of_turn P starts many three last each j lt = elim (cases_lt j many) [
-  | inl under ↦ each j under
-  | inr over ↦
-      let fourth : j ≡ 3 = omega arith in
-      subst P (sym (ap (slice_index starts) fourth ∙ last)) (each (many - 1) (omega arith))
-]

@@ -148,8 +148,8 @@ pub fn check_keeping_manifest<D: Flash, V: Verifier>(
 
 /// The verdict on a bank, by what the flash holds. The bank's manifest stands at the front of the slot of image 0, and
 /// its images are the first bytes of their slots, of the lengths that their rows say. The verifier is asked only of a
-/// manifest that passes, and given exactly its bytes. The images are read through the buffer, of at least 4096 bytes,
-/// and the flash is only read. No memory is taken.
+/// manifest that passes, and given exactly its bytes. One or two images are read through the buffer, of at least 4096
+/// bytes, and more are read side by side. The flash is only read. No memory is taken.
 pub fn check<D: Flash, V: Verifier>(
     flash: &mut D,
     layout: &Layout,

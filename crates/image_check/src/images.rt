@@ -11,7 +11,7 @@ ghost use Rattle.image_check.specs.Passed.{HasImage, HasImages, IsDigestOf};
 ghost use Rattle.image_check.specs.Verdict.{lowest_bad};
 ghost use Rattle.base_core.specs.Limits.{most_images};
 
-use crate::side::{good_of_turn, starts};
+use crate::side::first_bad_in_lanes;
 use base_core::{BLOCK_BYTES, ImageRow};
 use flash_core::{Flash, FlashStop};
 use manifest_core::row_at;
@@ -51,7 +51,7 @@ pub(crate) fn is_same(bytes: &[u8], other: &[u8]) -> bool
 }
 
 /// Whether the image that begins at this block has the digest of row k.
-pub(crate) fn is_image_good<D: Flash>(
+fn is_image_good<D: Flash>(
     flash: &mut D,
     block: u32,
     manifest: &[u8],
@@ -96,18 +96,11 @@ pub fn first_bad<D: Flash>(
     ensures reads { Reads D.Flash result flash.old flash.new }
 {
     let count = rows.len() - 1;
-    let mut block = first;
-    for turn in 0..(count + 1) / 4 {
-        let k = 4 * turn;
-        let many = (count - k).min(4);
-        let starts = starts(rows, first, block, k, many);
-        let good = good_of_turn(flash, &starts, many as u32, manifest, k as u32, buf)?;
-        if good < many as u32 {
-            return Ok(Some(k as u32 + good + 1));
-        }
-        block = starts[3];
+    if count > 2 {
+        return first_bad_in_lanes(flash, rows, first, manifest);
     }
-    for k in ((count + 1) / 4 * 4).min(count)..count {
+    let mut block = first;
+    for k in 0..count {
         block += rows[k].slots;
         if !is_image_good(flash, block, manifest, k as u32, buf)? {
             return Ok(Some(k as u32 + 1));

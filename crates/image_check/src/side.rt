@@ -1,277 +1,439 @@
-//! The images of a bank in turns of four, hashed side by side where that pays. The last turn may have three.
-ghost use Rattle.std.specs.Prelude.{◌≡◌, ℕ, ◌+◌, ◌-◌, ◌*◌, ◌%◌, ◌<◌, ◌≤◌, ◌^◌, length, take, drop, IsTrue, IfOk, slice_index};
+//! The images of a bank, hashed four side by side: a lane whose image is done takes the next one.
+ghost use Rattle.std.specs.Prelude.{◌≡◌, ℕ, ◌+◌, ◌-◌, ◌*◌, ◌%◌, ◌<◌, ◌≤◌, ◌≢◌, ◌^◌, List, [], length, take, drop, Some, None, IsTrue, IsFalse, IfOk, IfSome, OnOk, slice_index_or, slice_range};
+ghost use Rattle.std.specs.Option.{ForSome};
 ghost use Rattle.base_core.specs.Block.{block_bytes};
+ghost use Rattle.base_core.specs.Limits.{most_images};
 ghost use Rattle.sha2.specs.Sha256.{sha256};
 ghost use Rattle.flash_core.specs.Calls.{Reads};
-ghost use Rattle.fwu_formats.specs.Layout.{slot_total};
+ghost use Rattle.fwu_formats.specs.Layout.{ImageRow as Row, no_row, slot_total};
 ghost use Rattle.fwu_formats.specs.Manifest as model;
-ghost use Rattle.image_check.specs.Found.{place};
-ghost use Rattle.image_check.specs.Passed.{HasImage, IsDigestOf};
-ghost use Rattle.image_check.specs.Taken.{AreGood, HasTaken, has_digest};
+ghost use Rattle.sha256_lanes.specs.Holding.{Holds, HoldsInLane};
+ghost use Rattle.image_check.specs.Found.{FitSlots, is_good};
+ghost use Rattle.image_check.specs.Passed.{HasImage, HasImages, IsDigestOf};
+ghost use Rattle.image_check.specs.Taken.{AreInLanes, AreOfManifest, HasTaken, IsOfManifest, IsUnderWay, gone_on, has_digest, job_at, left};
+ghost use Rattle.image_check.specs.Verdict.{lowest_bad};
 
-use crate::images::{is_image_good, is_same};
+use crate::images::is_same;
 use base_core::{BLOCK_BYTES, ImageRow};
 use flash_core::{Flash, FlashStop};
 use manifest_core::row_at;
-use sha256_lanes::Lanes;
+use sha256_lanes::{Lanes, Message};
 
-/// Hashes the first bytes of four ranges of a flash side by side, in pieces of at most 4096 bytes, which are read by turns.
-fn take_in<D: Flash>(flash: &mut D, at: &[u32; 4], count: u32) -> Result<Lanes, FlashStop>
+/// An image that a lane works on: its row, the byte at which it begins, its length, and how many bytes of it the lane has taken in.
+#[derive(Clone, Copy, Drop)]
+struct Job {
+    row: u32,
+    at: u32,
+    size: u32,
+    done: u32,
+}
+
+/// Four lanes, each with the image that it works on, if it has one.
+#[derive(Drop)]
+struct Work {
+    lanes: Lanes,
+    jobs: [Option<Job>; 4],
+    // the row of the image that no lane has had yet, and the block at which that image begins
+    next: u32,
+    block: u32,
+    // the lowest row whose image was found bad, or else how many rows there are
+    bad: u32,
+}
+
+/// How many bytes a lane has left to take in. A lane without an image is never the one with the fewest.
+fn left(job: Option<Job>) -> u32
+    ensures { result ≡ left job }
+{
+    match job {
+        Some(job) => job.size.saturating_sub(job.done),
+        None => u32::MAX,
+    }
+}
+
+/// The lane with the fewest bytes left.
+fn shortest(jobs: &[Option<Job>; 4]) -> usize
+    ensures lane { result < 4 }
+    ensures least { (j : ℕ) → j < 4 → left (job_at jobs.now result) ≤ left (job_at jobs.now j) }
+{
+    let mut best = 0;
+    for j in 1..4 {
+        if left(jobs[j]) < left(jobs[best]) {
+            best = j;
+        }
+    }
+    best
+}
+
+/// The same image, of which so many bytes more are taken in.
+fn gone_on(job: Option<Job>, count: u32) -> Option<Job>
+    requires { ForSome job (λ job. job.done + count < 2 ^ 32) }
+    ensures { result ≡ gone_on count job }
+{
+    match job {
+        Some(job) => Some(Job {
+            row: job.row,
+            at: job.at,
+            size: job.size,
+            done: job.done + count,
+        }),
+        None => None,
+    }
+}
+
+/// Each lane's image, of which so many bytes more are taken in.
+fn all_gone_on(jobs: &[Option<Job>; 4], count: u32) -> [Option<Job>; 4]
+    requires { (j : ℕ) → j < 4 → ForSome (job_at jobs.now j) (λ job. job.done + count < 2 ^ 32) }
+    ensures { (j : ℕ) → j < 4 → job_at result j ≡ gone_on count (job_at jobs.now j) }
+{
+    [
+        gone_on(jobs[0], count),
+        gone_on(jobs[1], count),
+        gone_on(jobs[2], count),
+        gone_on(jobs[3], count),
+    ]
+}
+
+/// Reads what a lane takes in next, so many bytes behind what it has. A lane without an image reads nothing.
+fn read_for<D: Flash>(
+    flash: &mut D,
+    job: Option<Job>,
+    ahead: u32,
+    out: &mut [u8],
+) -> Result<(), FlashStop>
+    requires on { IsTrue (D.on flash.old) }
+    requires inside { ForSome job (λ job. job.at + (job.done + ahead) + length out.old ≤ block_bytes * D.blocks flash.old) }
+    ensures bytes { OnOk result (ForSome job (λ job. IsTrue D.tells → let at = job.at + (job.done + ahead) in
+        out.new ≡ slice_range (D.told flash.old).now at (at + length out.old))) }
+    ensures reads { Reads D.Flash result flash.old flash.new }
+{
+    match job {
+        Some(job) => flash.read(job.at + (job.done + ahead), out),
+        None => Ok(()),
+    }
+}
+
+/// Hashes so many bytes more of each lane's image side by side, in pieces of at most 4096 bytes, which are read by turns.
+fn take_in<D: Flash>(
+    flash: &mut D,
+    lanes: &mut Lanes,
+    jobs: &[Option<Job>; 4],
+    count: u32,
+) -> Result<(), FlashStop>
     requires on { IsTrue (D.on flash.old) }
     requires whole { count % 64 ≡ 0 }
-    requires inside { (j : ℕ) → j < 4
-        → slice_index at.now j + count ≤ block_bytes * D.blocks flash.old }
-    ensures taken { IfOk result (λ lanes. (j : ℕ) → j < 4
-        → HasTaken D.Flash flash.old (slice_index at.now j) j lanes count) }
+    requires lanes { AreInLanes D.Flash flash.old jobs.now lanes.old }
+    requires enough { (j : ℕ) → j < 4 → count ≤ left (job_at jobs.now j) }
+    ensures taken { OnOk result ((j : ℕ) → j < 4 → ForSome (job_at jobs.now j) (λ job.
+        HasTaken D.Flash flash.old job.at (job.done + count) (HoldsInLane j lanes.new))) }
     ensures reads { Reads D.Flash result flash.old flash.new }
 {
     let mut a = [0u8; 4096];
     let mut b = [0u8; 4096];
     let mut c = [0u8; 4096];
     let mut d = [0u8; 4096];
-    let mut lanes = Lanes::new();
-    let mut done = 0u32;
-    while done < count {
-        let size = ((count - done) as usize).min(4096);
+    let mut taken = 0u32;
+    while taken < count {
+        let size = ((count - taken) as usize).min(4096);
         let first = &mut a[..size];
-        flash.read(at[0] + done, first)?;
+        read_for(flash, jobs[0], taken, first)?;
         let second = &mut b[..size];
-        flash.read(at[1] + done, second)?;
+        read_for(flash, jobs[1], taken, second)?;
         let third = &mut c[..size];
-        flash.read(at[2] + done, third)?;
+        read_for(flash, jobs[2], taken, third)?;
         let fourth = &mut d[..size];
-        flash.read(at[3] + done, fourth)?;
+        read_for(flash, jobs[3], taken, fourth)?;
         lanes.absorb(&*first, &*second, &*third, &*fourth);
-        done += size as u32;
+        taken += size as u32;
     }
-    Ok(lanes)
+    Ok(())
 }
 
-/// The digest of a range of a flash, of which lane j has taken in the first bytes. The lane goes on alone, in pieces of 4096 bytes.
+/// The digest of a range of a flash whose first bytes a message has taken in. It goes on alone, in pieces of 4096 bytes.
 fn digest_after<D: Flash>(
     flash: &mut D,
-    lanes: &Lanes,
-    j: usize,
+    begun: &Message,
     taken: u32,
     at: u32,
     count: u32,
 ) -> Result<[u8; 32], FlashStop>
     requires on { IsTrue (D.on flash.old) }
     requires inside { at + count ≤ block_bytes * D.blocks flash.old }
-    requires lane { j < 4 }
     requires small { taken ≤ count }
-    requires taken { HasTaken D.Flash flash.old at j lanes.now taken }
+    requires taken { HasTaken D.Flash flash.old at taken (Holds begun.now) }
     ensures digest { IfOk result (λ digest. IsTrue D.tells →
         digest ≡ sha256 (take count (drop at (D.told flash.old).now))) }
     ensures some { IfOk result (IsDigestOf count) }
     ensures reads { Reads D.Flash result flash.old flash.new }
 {
     let mut piece = [0u8; 4096];
-    let mut lanes = *lanes;
+    let mut message = *begun;
     let mut done = taken;
     while count - done > 4096 {
         flash.read(at + done, &mut piece)?;
-        lanes.absorb(&piece, &piece, &piece, &piece);
+        message.absorb(&piece);
         done += 4096;
     }
     let rest = &mut piece[..(count - done) as usize];
     flash.read(at + done, rest)?;
-    Ok(lanes.finish(j, &*rest, count as u64))
+    Ok(message.finish(&*rest, count as u64))
 }
 
-/// Whether the image that begins at this block, of which lane j has taken in the first bytes, has the digest of row k.
+/// Whether an image, of which a message has taken in the first bytes, has the digest of its row.
 fn is_rest_good<D: Flash>(
     flash: &mut D,
-    lanes: &Lanes,
-    j: usize,
-    taken: u32,
-    block: u32,
+    message: &Message,
+    job: Job,
     manifest: &[u8],
-    k: u32,
 ) -> Result<bool, FlashStop>
     requires on { IsTrue (D.on flash.old) }
-    requires few { k ≤ 16 }
-    requires row { 72 + 56 * k ≤ length manifest.now }
-    requires inside { block_bytes * block + (model.row_at manifest.now k).size
-        ≤ block_bytes * D.blocks flash.old }
-    requires lane { j < 4 }
-    requires small { taken ≤ (model.row_at manifest.now k).size }
-    requires taken { HasTaken D.Flash flash.old (block_bytes * block) j lanes.now taken }
+    requires row { IsOfManifest manifest.now job }
+    requires inside { job.at + job.size ≤ block_bytes * D.blocks flash.old }
+    requires small { job.done ≤ job.size }
+    requires taken { HasTaken D.Flash flash.old job.at job.done (Holds message.now) }
     ensures good { IfOk result (λ good. IsTrue D.tells →
-        good ≡ has_digest (D.told flash.old).now block (model.row_at manifest.now k)) }
-    ensures some { IfOk result (λ good. IsTrue good → HasImage (model.row_at manifest.now k)) }
+        good ≡ has_digest (D.told flash.old).now job (model.row_at manifest.now job.row)) }
+    ensures some { IfOk result (λ good. IsTrue good → HasImage (model.row_at manifest.now job.row)) }
     ensures reads { Reads D.Flash result flash.old flash.new }
 {
-    let row = row_at(manifest, k);
-    let digest = digest_after(flash, lanes, j, taken, BLOCK_BYTES * block, row.size)?;
+    let row = row_at(manifest, job.row);
+    let digest = digest_after(flash, message, job.done, job.at, job.size)?;
     Ok(is_same(&digest, &row.digest))
 }
 
-/// The blocks at which the three or four images from row k on begin, where that row's own slot begins at this block.
-/// The last of three stands there twice.
-pub(crate) fn starts(rows: &[ImageRow], first: u32, block: u32, k: usize, many: usize) -> [u32; 4]
-    requires three { 3 ≤ many }
-    requires four { many ≤ 4 }
-    requires within { k + many ≤ length rows.now }
-    requires place { block ≡ first + slot_total (take k rows.now) }
-    requires small { first + slot_total rows.now < 2 ^ 32 }
-    ensures each { (j : ℕ) → j < many → slice_index result j ≡ place rows.now first (k + j + 1) }
-    ensures last { slice_index result 3 ≡ place rows.now first (k + many) }
+/// The lowest bad row when this image is judged too, of which a message has taken in the first bytes; it goes on alone.
+/// An image above one that was found bad is not looked at.
+fn judged<D: Flash>(
+    flash: &mut D,
+    message: &Message,
+    job: Job,
+    bad: u32,
+    manifest: &[u8],
+) -> Result<u32, FlashStop>
+    requires on { IsTrue (D.on flash.old) }
+    requires row { IsOfManifest manifest.now job }
+    requires inside { job.at + job.size ≤ block_bytes * D.blocks flash.old }
+    requires small { job.done ≤ job.size }
+    requires taken { HasTaken D.Flash flash.old job.at job.done (Holds message.now) }
+    ensures kept { IfOk result (λ after. (after ≤ bad) × (after < bad → after ≡ job.row)) }
+    ensures bad { IfOk result (λ after. IsTrue D.tells → after < bad →
+        IsFalse (has_digest (D.told flash.old).now job (model.row_at manifest.now job.row))) }
+    ensures good { IfOk result (λ after. IsTrue D.tells → job.row < after →
+        IsTrue (has_digest (D.told flash.old).now job (model.row_at manifest.now job.row))) }
+    ensures some { IfOk result (λ after. job.row < after → HasImage (model.row_at manifest.now job.row)) }
+    ensures reads { Reads D.Flash result flash.old flash.new }
 {
-    let a = block + rows[k].slots;
-    let b = a + rows[k + 1].slots;
-    let c = b + rows[k + 2].slots;
-    let d = last_start(rows, first, c, k, many);
-    [a, b, c, d]
-}
-
-/// The block at which the last of three or four images from row k on begins, where the third begins at this block.
-fn last_start(rows: &[ImageRow], first: u32, third: u32, k: usize, many: usize) -> u32
-    requires three { 3 ≤ many }
-    requires four { many ≤ 4 }
-    requires within { k + many ≤ length rows.now }
-    requires place { third ≡ place rows.now first (k + 3) }
-    requires small { first + slot_total rows.now < 2 ^ 32 }
-    ensures { result ≡ place rows.now first (k + many) }
-{
-    if many == 4 {
-        third + rows[k + 3].slots
+    if bad <= job.row || is_rest_good(flash, message, job, manifest)? {
+        Ok(bad)
     } else {
-        third
+        Ok(job.row)
     }
 }
 
-/// How many bytes of the images from row k on are hashed side by side: whole blocks of the hash that all of them have.
-/// At least one byte of each image is left, if it has one.
-fn common(manifest: &[u8], k: u32, many: u32) -> u32
-    requires three { 3 ≤ many }
-    requires four { many ≤ 4 }
-    requires few { k + many ≤ 17 }
-    requires row { 72 + 56 * (k + (many - 1)) ≤ length manifest.now }
+/// Finishes the image of a lane, if it has one, and the lane is free.
+fn settle<D: Flash>(
+    flash: &mut D,
+    work: &mut Work,
+    j: usize,
+    manifest: &[u8],
+) -> Result<(), FlashStop>
+    requires on { IsTrue (D.on flash.old) }
+    requires lane { j < 4 }
+    requires rows { AreOfManifest manifest.now work.old.jobs }
+    requires lanes { AreInLanes D.Flash flash.old work.old.jobs work.old.lanes }
+    ensures under_way { (rows : List Row) (first : ℕ) → IsUnderWay D.Flash flash.old rows first manifest.now work.old
+        → OnOk result (IsUnderWay D.Flash flash.new rows first manifest.now work.new) }
+    ensures free { OnOk result (job_at work.new.jobs j ≡ None) }
+    ensures others { OnOk result ((i : ℕ) → i ≢ j → job_at work.new.jobs i ≡ job_at work.old.jobs i) }
+    ensures next { OnOk result (work.new.next ≡ work.old.next) }
+    ensures bad { OnOk result (work.new.bad ≤ work.old.bad) }
+    ensures reads { Reads D.Flash result flash.old flash.new }
+{
+    if let Some(job) = work.jobs[j] {
+        let message = work.lanes.message(j);
+        work.bad = judged(flash, &message, job, work.bad, manifest)?;
+        work.jobs[j] = None;
+    }
+    Ok(())
+}
+
+/// Each lane takes in so many bytes more of its image.
+fn go_on<D: Flash>(flash: &mut D, work: &mut Work, count: u32) -> Result<(), FlashStop>
+    requires on { IsTrue (D.on flash.old) }
+    requires whole { count % 64 ≡ 0 }
+    requires lanes { AreInLanes D.Flash flash.old work.old.jobs work.old.lanes }
+    requires enough { (j : ℕ) → j < 4 → count ≤ left (job_at work.old.jobs j) }
+    ensures lanes { OnOk result (AreInLanes D.Flash flash.new work.new.jobs work.new.lanes) }
+    ensures jobs { OnOk result ((j : ℕ) → j < 4
+        → job_at work.new.jobs j ≡ gone_on count (job_at work.old.jobs j)) }
+    ensures rest { OnOk result ((work.new.next ≡ work.old.next) × (work.new.block ≡ work.old.block)
+        × (work.new.bad ≡ work.old.bad)) }
+    ensures reads { Reads D.Flash result flash.old flash.new }
+{
+    take_in(flash, &mut work.lanes, &work.jobs, count)?;
+    let jobs = all_gone_on(&work.jobs, count);
+    work.jobs = jobs;
+    Ok(())
+}
+
+/// How many of the bytes that are left are taken in side by side: whole blocks of the hash, but at least one byte is left.
+fn whole_blocks(left: u32) -> u32
     ensures whole { result % 64 ≡ 0 }
-    ensures least { (j : ℕ) → j < many → result ≤ (model.row_at manifest.now (k + j)).size }
+    ensures within { result ≤ left }
 {
-    let a = row_at(manifest, k).size;
-    let b = row_at(manifest, k + 1).size;
-    let c = row_at(manifest, k + 2).size;
-    let last = row_at(manifest, k + (many - 1)).size;
-    let least = a.min(b).min(c.min(last)).saturating_sub(1);
-    least - least % 64
+    let most = left.saturating_sub(1);
+    most - most % 64
 }
 
-/// Whether four lanes are quicker than one image after the other.
-/// Four blocks side by side take a little more than the time of two, and so does a block of one image alone in its lane.
-fn pays(manifest: &[u8], k: u32, many: u32, common: u32) -> bool
-    requires three { 3 ≤ many }
-    requires four { many ≤ 4 }
-    requires few { k + many ≤ 17 }
-    requires row { 72 + 56 * (k + (many - 1)) ≤ length manifest.now }
-{
-    let mut total = 0u64;
-    for j in 0..many {
-        total += u64::from(row_at(manifest, k + j).size);
-    }
-    2 * total < u64::from(4 * many - 5) * u64::from(common)
-}
-
-/// How many of the three or four images from row k on, which begin at these blocks, have the digests of their rows,
-/// before the first that has not.
-pub(crate) fn good_of_turn<D: Flash>(
+/// All lanes go on until the one with the fewest bytes left is at the last block of its image, and that one is finished.
+/// The lane is free then.
+fn finish_shortest<D: Flash>(
     flash: &mut D,
-    starts: &[u32; 4],
-    many: u32,
+    work: &mut Work,
     manifest: &[u8],
-    k: u32,
-    buf: &mut [u8],
-) -> Result<u32, FlashStop>
+) -> Result<usize, FlashStop>
     requires on { IsTrue (D.on flash.old) }
-    requires room { 0 < length buf.old }
-    requires three { 3 ≤ many }
-    requires four { many ≤ 4 }
-    requires few { k + many ≤ 17 }
-    requires row { 72 + 56 * (k + (many - 1)) ≤ length manifest.now }
-    requires last { slice_index starts.now 3 ≡ slice_index starts.now (many - 1) }
-    requires inside { (j : ℕ) → j < many → block_bytes * slice_index starts.now j
-        + (model.row_at manifest.now (k + j)).size ≤ block_bytes * D.blocks flash.old }
-    ensures good { IfOk result (AreGood D.Flash flash.old starts.now manifest.now k many) }
+    requires rows { AreOfManifest manifest.now work.old.jobs }
+    requires lanes { AreInLanes D.Flash flash.old work.old.jobs work.old.lanes }
+    ensures under_way { (rows : List Row) (first : ℕ) → IsUnderWay D.Flash flash.old rows first manifest.now work.old
+        → OnOk result (IsUnderWay D.Flash flash.new rows first manifest.now work.new) }
+    ensures free { IfOk result (λ j. (j < 4) × (job_at work.new.jobs j ≡ None)) }
+    ensures next { OnOk result (work.new.next ≡ work.old.next) }
+    ensures bad { OnOk result (work.new.bad ≤ work.old.bad) }
     ensures reads { Reads D.Flash result flash.old flash.new }
 {
-    let common = common(manifest, k, many);
-    if pays(manifest, k, many, common) {
-        good_in_lanes(flash, starts, many, manifest, k, common)
+    let j = shortest(&work.jobs);
+    if let Some(job) = work.jobs[j] {
+        let count = whole_blocks(left(Some(job)));
+        go_on(flash, work, count)?;
+        settle(flash, work, j, manifest)?;
+    }
+    Ok(j)
+}
+
+/// A lane without an image, if there is one.
+fn idle(jobs: &[Option<Job>; 4]) -> Option<usize>
+    ensures { IfSome result (λ j. (j < 4) × (job_at jobs.now j ≡ None)) }
+{
+    for j in 0..4 {
+        if jobs[j].is_none() {
+            return Some(j);
+        }
+    }
+    None
+}
+
+/// A lane without an image: where each has one, the first that is done with it.
+fn free_lane<D: Flash>(flash: &mut D, work: &mut Work, manifest: &[u8]) -> Result<usize, FlashStop>
+    requires on { IsTrue (D.on flash.old) }
+    requires rows { AreOfManifest manifest.now work.old.jobs }
+    requires lanes { AreInLanes D.Flash flash.old work.old.jobs work.old.lanes }
+    ensures under_way { (rows : List Row) (first : ℕ) → IsUnderWay D.Flash flash.old rows first manifest.now work.old
+        → OnOk result (IsUnderWay D.Flash flash.new rows first manifest.now work.new) }
+    ensures free { IfOk result (λ j. (j < 4) × (job_at work.new.jobs j ≡ None)) }
+    ensures next { OnOk result (work.new.next ≡ work.old.next) }
+    ensures bad { OnOk result (work.new.bad ≤ work.old.bad) }
+    ensures reads { Reads D.Flash result flash.old flash.new }
+{
+    match idle(&work.jobs) {
+        Some(j) => Ok(j),
+        None => finish_shortest(flash, work, manifest),
+    }
+}
+
+/// A free lane takes the next image.
+fn begin(work: &mut Work, j: usize, rows: &[ImageRow], manifest: &[u8])
+    requires lane { j < 4 }
+    requires few { work.old.next ≤ most_images }
+    requires row { model.field_place model.row_size work.old.next ≤ length manifest.now }
+    requires within { work.old.next + 1 < length rows.now }
+    requires place { block_bytes * work.old.block < 2 ^ 32 }
+    requires small { work.old.block + (slice_index_or rows.now (work.old.next + 1) no_row).slots < 2 ^ 32 }
+    ensures job { job_at work.new.jobs j ≡ Some (record {
+      row = work.old.next;
+      at = block_bytes * work.old.block;
+      size = (model.row_at manifest.now work.old.next).size;
+      done = 0;
+    }) }
+    ensures jobs { (i : ℕ) → i ≢ j → job_at work.new.jobs i ≡ job_at work.old.jobs i }
+    ensures begun { HoldsInLane j work.new.lanes [] }
+    ensures lanes { (i : ℕ) → i < 4 → i ≢ j → (m : List ℕ) → HoldsInLane i work.old.lanes m → HoldsInLane i work.new.lanes m }
+    ensures next { work.new.next ≡ work.old.next + 1 }
+    ensures block { work.new.block ≡ work.old.block + (slice_index_or rows.now (work.old.next + 1) no_row).slots }
+    ensures bad { work.new.bad ≡ work.old.bad }
+{
+    let row = row_at(manifest, work.next);
+    work.lanes.restart(j);
+    work.jobs[j] = Some(Job {
+        row: work.next,
+        at: BLOCK_BYTES * work.block,
+        size: row.size,
+        done: 0,
+    });
+    work.next += 1;
+    work.block += rows[work.next as usize].slots;
+}
+
+/// Hashes the images of a bank until none is left that no lane has had, but for those above one that was found bad.
+fn begin_all<D: Flash>(
+    flash: &mut D,
+    rows: &[ImageRow],
+    first: u32,
+    manifest: &[u8],
+) -> Result<Work, FlashStop>
+    requires on { IsTrue (D.on flash.old) }
+    requires some { 1 ≤ length rows.now }
+    requires few { length rows.now ≤ most_images }
+    requires manifest { model.manifest_size (length rows.now - 1) ≤ length manifest.now }
+    requires sizes { FitSlots rows.now manifest.now }
+    requires inside { first + slot_total rows.now ≤ D.blocks flash.old }
+    ensures under_way { IfOk result (IsUnderWay D.Flash flash.new rows.now first manifest.now) }
+    ensures all { IfOk result (λ work. work.bad ≤ work.next) }
+    ensures reads { Reads D.Flash result flash.old flash.new }
+{
+    let block = first + rows[0].slots;
+    let bad = (rows.len() - 1) as u32;
+    let mut work = Work {
+        lanes: Lanes::new(),
+        jobs: [None; 4],
+        next: 0,
+        block,
+        bad,
+    };
+    while work.next < work.bad {
+        let j = free_lane(flash, &mut work, manifest)?;
+        begin(&mut work, j, rows, manifest);
+    }
+    Ok(work)
+}
+
+/// The lowest image after the manifest that has not the digest of its row, in a bank that begins at this block.
+/// Four lanes are quicker than one message after the other while three have an image; two are finished one after the other.
+pub(crate) fn first_bad_in_lanes<D: Flash>(
+    flash: &mut D,
+    rows: &[ImageRow],
+    first: u32,
+    manifest: &[u8],
+) -> Result<Option<u32>, FlashStop>
+    requires on { IsTrue (D.on flash.old) }
+    requires some { 1 ≤ length rows.now }
+    requires few { length rows.now ≤ most_images }
+    requires manifest { model.manifest_size (length rows.now - 1) ≤ length manifest.now }
+    requires sizes { FitSlots rows.now manifest.now }
+    requires inside { first + slot_total rows.now ≤ D.blocks flash.old }
+    ensures bad { IfOk result (λ bad. IsTrue D.tells →
+        bad ≡ lowest_bad (is_good (D.told flash.old).now rows.now first manifest.now) 0 (length rows.now - 1)) }
+    ensures some { IfOk result (HasImages manifest.now (length rows.now - 1)) }
+    ensures reads { Reads D.Flash result flash.old flash.new }
+{
+    let mut work = begin_all(flash, rows, first, manifest)?;
+    finish_shortest(flash, &mut work, manifest)?;
+    finish_shortest(flash, &mut work, manifest)?;
+    for j in 0..4 {
+        settle(flash, &mut work, j, manifest)?;
+    }
+    if (work.bad as usize) < rows.len() - 1 {
+        Ok(Some(work.bad + 1))
     } else {
-        good_one_by_one(flash, starts, many, manifest, k, buf)
+        Ok(None)
     }
-}
-
-/// The same, one image after the other.
-fn good_one_by_one<D: Flash>(
-    flash: &mut D,
-    starts: &[u32; 4],
-    many: u32,
-    manifest: &[u8],
-    k: u32,
-    buf: &mut [u8],
-) -> Result<u32, FlashStop>
-    requires on { IsTrue (D.on flash.old) }
-    requires room { 0 < length buf.old }
-    requires four { many ≤ 4 }
-    requires few { k + many ≤ 17 }
-    requires row { 72 + 56 * (k + (many - 1)) ≤ length manifest.now }
-    requires inside { (j : ℕ) → j < many → block_bytes * slice_index starts.now j
-        + (model.row_at manifest.now (k + j)).size ≤ block_bytes * D.blocks flash.old }
-    ensures good { IfOk result (AreGood D.Flash flash.old starts.now manifest.now k many) }
-    ensures reads { Reads D.Flash result flash.old flash.new }
-{
-    for j in 0..many {
-        if !is_image_good(flash, starts[j as usize], manifest, k + j, buf)? {
-            return Ok(j);
-        }
-    }
-    Ok(many)
-}
-
-/// The same, where all have this many bytes in whole blocks of the hash, which are hashed side by side.
-fn good_in_lanes<D: Flash>(
-    flash: &mut D,
-    starts: &[u32; 4],
-    many: u32,
-    manifest: &[u8],
-    k: u32,
-    common: u32,
-) -> Result<u32, FlashStop>
-    requires on { IsTrue (D.on flash.old) }
-    requires three { 3 ≤ many }
-    requires four { many ≤ 4 }
-    requires few { k + many ≤ 17 }
-    requires row { 72 + 56 * (k + (many - 1)) ≤ length manifest.now }
-    requires last { slice_index starts.now 3 ≡ slice_index starts.now (many - 1) }
-    requires inside { (j : ℕ) → j < many → block_bytes * slice_index starts.now j
-        + (model.row_at manifest.now (k + j)).size ≤ block_bytes * D.blocks flash.old }
-    requires whole { common % 64 ≡ 0 }
-    requires least { (j : ℕ) → j < many → common ≤ (model.row_at manifest.now (k + j)).size }
-    ensures good { IfOk result (AreGood D.Flash flash.old starts.now manifest.now k many) }
-    ensures reads { Reads D.Flash result flash.old flash.new }
-{
-    let lanes = take_in(flash, &places(starts), common)?;
-    for j in 0..many {
-        let lane = j as usize;
-        if !is_rest_good(flash, &lanes, lane, common, starts[lane], manifest, k + j)? {
-            return Ok(j);
-        }
-    }
-    Ok(many)
-}
-
-/// The bytes at which these blocks begin.
-fn places(starts: &[u32; 4]) -> [u32; 4]
-    requires small { (j : ℕ) → j < 4 → block_bytes * slice_index starts.now j < 2 ^ 32 }
-    ensures { (j : ℕ) → j < 4 → slice_index result j ≡ block_bytes * slice_index starts.now j }
-{
-    [
-        BLOCK_BYTES * starts[0],
-        BLOCK_BYTES * starts[1],
-        BLOCK_BYTES * starts[2],
-        BLOCK_BYTES * starts[3],
-    ]
 }

@@ -1,5 +1,5 @@
-//! A flash over a file: of the system, in memory, at a cursor, with short writes, torn in mid-stream, and broken. Block 3 begins at
-//! byte 12288.
+//! A flash over a file: of the system, in memory, at a cursor that counts its syncs, with short writes, torn in mid-stream, and broken.
+//! Block 3 begins at byte 12288.
 
 use crate::fixtures::{
     are_numbers, arm, ends, erase, gives, holds, image, only, power_on, put, read, removed, same,
@@ -7,7 +7,8 @@ use crate::fixtures::{
 use flash_core::{Flash, FlashStop};
 use flash_devices::{ByteFile, FileFlash, FlashOpenFault, MemoryFile};
 use std::alloc::Global;
-use std::fs::{self, File};
+use std::cell::Cell;
+use std::fs::{self, File, Metadata, OpenFile};
 use std::io::{self, Cursor, ErrorKind, Read, Seek, SeekFrom, Write};
 use std::process::Abort;
 use std::rt::Files;
@@ -118,19 +119,13 @@ fn a_file_in_memory_is_a_flash(rt: HostRuntime) {
     are_left(&rt, alloc, file.bytes());
 }
 
-#[test]
-fn a_cursor_is_a_flash(rt: HostRuntime) {
-    let alloc = rt.alloc();
-    let bytes = worked(&rt, Cursor::new(zeros(&rt, alloc))).into_inner();
-    are_left(&rt, alloc, bytes.as_slice());
-}
-
-// A file that takes few bytes at a time, and after so many bytes fails.
+// A file that takes few bytes at a time, and after so many bytes fails. It counts its syncs.
 #[derive(Drop)]
 struct SlowFile {
     inner: Cursor<Vec<u8>>,
     most: usize,
     fails_after: usize,
+    syncs: Cell<u32>,
 }
 
 impl Read for SlowFile {
@@ -162,12 +157,46 @@ impl Seek for SlowFile {
     }
 }
 
+// What no flash asks of its file.
+fn unasked<T>() -> io::Result<T> {
+    Err(io::Error::from(ErrorKind::Unsupported))
+}
+
+impl OpenFile for SlowFile {
+    fn metadata(&self) -> io::Result<Metadata> {
+        unasked()
+    }
+
+    fn set_len(&self, _size: u64) -> io::Result<()> {
+        unasked()
+    }
+
+    fn sync_all(&self) -> io::Result<()> {
+        unasked()
+    }
+
+    fn sync_data(&self) -> io::Result<()> {
+        self.syncs.set(self.syncs.get().saturating_add(1));
+        Ok(())
+    }
+}
+
 fn slow(bytes: Vec<u8>, most: usize, fails_after: usize) -> SlowFile {
     SlowFile {
         inner: Cursor::new(bytes),
         most,
         fails_after,
+        syncs: Cell::new(0),
     }
+}
+
+#[test]
+fn a_barrier_is_one_sync(rt: HostRuntime) {
+    let alloc = rt.alloc();
+    let file = worked(&rt, slow(zeros(&rt, alloc), 100_000, 1_000_000));
+    holds(&rt, file.syncs.get() == 1, "one sync");
+    let bytes = file.inner.into_inner();
+    are_left(&rt, alloc, bytes.as_slice());
 }
 
 #[test]
@@ -241,6 +270,25 @@ impl Write for Broken {
     }
 
     fn flush(&mut self) -> io::Result<()> {
+        Ok(())
+    }
+}
+
+// Nothing that was written can be synced.
+impl OpenFile for Broken {
+    fn metadata(&self) -> io::Result<Metadata> {
+        unasked()
+    }
+
+    fn set_len(&self, _size: u64) -> io::Result<()> {
+        unasked()
+    }
+
+    fn sync_all(&self) -> io::Result<()> {
+        unasked()
+    }
+
+    fn sync_data(&self) -> io::Result<()> {
         Err(io::Error::from(ErrorKind::Other))
     }
 }

@@ -43,7 +43,7 @@ pub const TYPES: [[u8; 16]; 3] = [
     ],
 ];
 
-pub fn manifest_type() -> Guid {
+fn manifest_type() -> Guid {
     Guid::of(TYPES[0])
 }
 

@@ -85,6 +85,81 @@ fn sources(rt: HostRuntime) {
     drains(&rt, alloc, &mut StdSource::new(Faulty(0)), b"x!x!");
 }
 
+// A stream of which every other call is interrupted. It gives its bytes from the end, and takes them one at a time.
+#[derive(Drop)]
+struct Interrupted {
+    calls: u32,
+    bytes: Vec<u8>,
+}
+
+impl Interrupted {
+    fn new(bytes: Vec<u8>) -> Interrupted {
+        Interrupted { calls: 0, bytes }
+    }
+
+    // One more call.
+    fn call(&mut self) -> io::Result<()> {
+        self.calls = self.calls.saturating_add(1);
+        if self.calls % 2 == 1 {
+            return Err(io::Error::from(ErrorKind::Interrupted));
+        }
+        Ok(())
+    }
+}
+
+impl Read for Interrupted {
+    fn read(&mut self, out: &mut [u8]) -> io::Result<usize> {
+        self.call()?;
+        if out.is_empty() {
+            return Ok(0);
+        }
+        match self.bytes.pop() {
+            Some(byte) => {
+                out[0] = byte;
+                Ok(1)
+            }
+            None => Ok(0),
+        }
+    }
+}
+
+impl SteadyRead for Interrupted {
+    ghost tells = { false };
+
+    ghost steady = { λ _. refl };
+}
+
+impl Write for Interrupted {
+    fn write(&mut self, bytes: &[u8]) -> io::Result<usize> {
+        self.call()?;
+        match bytes.first() {
+            Some(byte) => {
+                self.bytes.push(*byte)?;
+                Ok(1)
+            }
+            None => Ok(0),
+        }
+    }
+
+    fn flush(&mut self) -> io::Result<()> {
+        self.call()
+    }
+}
+
+impl SteadyWrite for Interrupted {
+    ghost tells = { false };
+
+    ghost steady = { λ _. refl };
+}
+
+#[test]
+fn interrupted_reads_are_made_again(rt: HostRuntime) {
+    let alloc = rt.alloc();
+    let bytes = b"level".to_vec(alloc).expect(&rt, "memory");
+    let mut source = StdSource::new(Interrupted::new(bytes));
+    drains(&rt, alloc, &mut source, b"level");
+}
+
 // A writer that takes all, and can't send it on.
 #[derive(Drop)]
 struct Stuck;
@@ -128,6 +203,13 @@ fn a_sink_of_bytes(rt: HostRuntime) {
     let mut bytes = Vec::new(rt.alloc());
     put_into(&rt, &mut bytes, [Ok(()); 3]);
     are_bytes(&rt, bytes.as_slice(), b"one two three ");
+}
+
+#[test]
+fn interrupted_writes_are_made_again(rt: HostRuntime) {
+    let mut stream = Interrupted::new(Vec::new(rt.alloc()));
+    put_into(&rt, &mut stream, [Ok(()); 3]);
+    are_bytes(&rt, stream.bytes.as_slice(), b"one two three ");
 }
 
 #[test]
@@ -304,6 +386,34 @@ fn whole_files<R: std::rt::Files + Drop>(rt: &(impl std::rt::Files + Abort), run
 #[test]
 fn files_of_the_system(rt: HostRuntime) {
     whole_files(&rt, &rt);
+}
+
+// A file that another takes the name of is read as it was, until its size is asked for.
+fn replaced<R: std::rt::Files>(
+    rt: &(impl std::rt::Files + Abort),
+    files: &mut HostFiles<R>,
+    name: &str,
+    next: &str,
+) {
+    stores(rt, files, next, b"next", Ok(Some(4)));
+    stores(rt, files, name, b"first", Ok(Some(5)));
+    gives(rt, files, (name, 0), b"firs");
+    fs::rename(rt, next, name).expect(rt, "renamed");
+    gives(rt, files, (name, 1), b"irst");
+    sized(rt, files, name, Ok(Some(4)));
+    gives(rt, files, (name, 0), b"next");
+}
+
+fn replaced_files<R: std::rt::Files + Drop>(rt: &(impl std::rt::Files + Abort), runtime: R) {
+    let name = "host_io_open.tmp";
+    let mut files = HostFiles::new(runtime);
+    replaced(rt, &mut files, name, "host_io_next.tmp");
+    removed(rt, name);
+}
+
+#[test]
+fn a_file_stays_open_between_reads(rt: HostRuntime) {
+    replaced_files(&rt, &rt);
 }
 
 // No size is told, and nothing is written.

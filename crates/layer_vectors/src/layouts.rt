@@ -2,11 +2,8 @@
 
 ghost use Rattle.std.specs.Prelude.{◌<◌, [], length, slice_index_or};
 
-use crate::fixtures::{
-    METADATA, TYPES, boot_type, holds, image, manifest_type, normal_type, put, row, same, stands,
-    three_rows,
-};
-use base_core::{ImageRow, crc32, put_le32};
+use crate::fixtures::{METADATA, TYPES, holds, image, normal_type, put, same, stands, three_rows};
+use base_core::{crc32, put_le32};
 use meta_layout::{
     BankBits, BankState, Bits, Layout, LayoutFault, Meta, MetaFault, States, directory_guid,
 };
@@ -96,24 +93,6 @@ fn is_written(rt: &impl Abort, written: &[u8], block: &[u8]) {
     stands(rt, written, 4095, &[0xff]);
 }
 
-// The block at which an image of a bank begins.
-fn start(rt: &impl Abort, layout: &Layout, bank: u32, image: u32) -> u32 {
-    holds(rt, bank < layout.banks(), "a bank");
-    holds(rt, (image as usize) < layout.rows().len(), "an image");
-    layout.start(bank, image)
-}
-
-#[test]
-fn images_begin_at_their_blocks(rt: HostRuntime) {
-    let layout = layout_of(&rt, 2);
-    same(&rt, layout.banks(), 2);
-    same(&rt, layout.rows().len(), 3);
-    same(&rt, start(&rt, &layout, 0, 0), 8);
-    same(&rt, start(&rt, &layout, 0, 2), 11);
-    same(&rt, start(&rt, &layout, 1, 1), 16);
-    same(&rt, Meta::replica_size(&layout), 288);
-}
-
 // Replaces a number, and renews the checksum of so many bytes.
 fn change(rt: &impl Abort, block: &mut [u8], size: usize, at: usize, value: u32) {
     holds(rt, block.len() == 4096, "a block");
@@ -151,45 +130,9 @@ fn a_layout_block_has_its_first_fault(rt: HostRuntime) {
     }
 }
 
-// Why there is no such layout.
-fn refused(rows: &[ImageRow], banks: u32, blocks: u32) -> Option<LayoutFault> {
-    Layout::make(rows, banks, blocks).err()
-}
-
-#[test]
-fn a_layout_is_made_within_its_limits(rt: HostRuntime) {
-    let twice = [
-        row(manifest_type(), 1),
-        row(boot_type(), 2),
-        row(boot_type(), 4),
-    ];
-    let rows = three_rows();
-    let field = Some(LayoutFault::BadField);
-    same(&rt, refused(&twice, 2, 22), field);
-    same(&rt, refused(&rows[..1], 2, 22), field);
-    same(&rt, refused(&rows, 5, 99), field);
-    same(&rt, refused(&rows, 3, 28), Some(LayoutFault::BeyondFlash));
-}
-
-// Why these bytes are no layout.
-fn read_fault(bytes: &[u8]) -> Option<LayoutFault> {
-    Layout::read(bytes, 22).err()
-}
-
 // Why these bytes are no metadata of two banks.
 fn meta_read_fault(rt: &impl Abort, bytes: &[u8]) -> Option<MetaFault> {
     Meta::read(&layout_of(rt, 2), bytes).err()
-}
-
-#[test]
-fn short_blocks_are_refused(rt: HostRuntime) {
-    same(
-        &rt,
-        meta_read_fault(&rt, &[0xff; 279]),
-        Some(MetaFault::Short),
-    );
-    same(&rt, read_fault(&[0xff; 31]), Some(LayoutFault::Short));
-    same(&rt, read_fault(&LAYOUT_HEAD), Some(LayoutFault::Short));
 }
 
 // The block that the first metadata of a layout is written as.
@@ -311,91 +254,44 @@ fn two_states() -> States {
     states
 }
 
-fn two_bits() -> Bits {
+// The bits of two banks: one of two images, and none.
+fn two_bits() -> BankBits {
     let mut bits = Bits::new();
     bits.push(true);
     bits.push(false);
-    bits
-}
-
-// The bits of two banks: these, and none of them.
-fn all_bits(bits: Bits) -> BankBits {
     let mut all = BankBits::new();
     all.push(bits);
     all.push(bits.cleared());
     all
 }
 
-fn set_state(rt: &impl Abort, meta: &mut Meta, bank: u32, state: BankState) {
-    holds(rt, bank < meta.banks(), "a bank");
-    meta.set_state(bank, state);
-}
-
-fn state(rt: &impl Abort, meta: &Meta, bank: u32) -> BankState {
-    holds(rt, bank < meta.banks(), "a bank");
-    meta.state(bank)
-}
-
-// The metadata has this bit.
-fn has_bit(rt: &impl Abort, meta: &Meta, bank: usize, image: usize)
-    ensures below { bank < length meta.now.meta.bits }
-    ensures within { image < length (slice_index_or meta.now.meta.bits bank []) }
+// The metadata has a bit of the second bank.
+fn has_bit(rt: &impl Abort, meta: &Meta)
+    ensures bank { 1 < length meta.now.meta.bits }
+    ensures image { 0 < length (slice_index_or meta.now.meta.bits 1 []) }
 {
-    holds(rt, bank < meta.bits().len(), "a bank");
-    holds(rt, image < meta.bits().get(bank).len(), "an image");
+    holds(rt, meta.bits().len() > 1, "two banks");
+    holds(rt, meta.bits().get(1).len() > 0, "an image");
 }
 
-fn set_bit(rt: &impl Abort, meta: &mut Meta, bank: u32, image: u32, on: bool) {
-    has_bit(rt, meta, bank as usize, image as usize);
-    meta.set_bit(bank, image, on);
-}
-
-fn bit(rt: &impl Abort, meta: &Meta, bank: u32, image: u32) -> bool {
-    has_bit(rt, meta, bank as usize, image as usize);
-    meta.bit(bank, image)
-}
-
-fn set_second(rt: &impl Abort, states: &mut States, state: BankState) {
-    holds(rt, states.len() == 2, "two banks");
-    states.set(1, state);
+// Sets each part.
+fn set_all(rt: &impl Abort, meta: &mut Meta) {
+    meta.set_active(1);
+    meta.set_previous(0);
+    holds(rt, meta.banks() == 2, "two banks");
+    meta.set_state(1, BankState::Invalid);
+    has_bit(rt, meta);
+    meta.set_bit(1, 0, true);
 }
 
 #[test]
-fn each_part_is_set_alone(rt: HostRuntime) {
+fn each_part_is_set(rt: HostRuntime) {
     let mut states = two_states();
-    let bits = two_bits();
-    let all = all_bits(bits);
-    have_two(&rt, &states, &all, &bits);
-    let mut meta = Meta::of(2, 0, 1, states, all);
-    meta.set_active(1);
-    meta.set_previous(0);
-    set_state(&rt, &mut meta, 1, BankState::Invalid);
-    set_bit(&rt, &mut meta, 1, 0, true);
-    are_parts(&rt, &meta);
-    set_second(&rt, &mut states, BankState::Invalid);
-    differ(&rt, &meta, &states, &all);
-}
-
-fn have_two(rt: &impl Abort, states: &States, all: &BankBits, bits: &Bits) {
-    same(rt, states.len(), 2);
-    same(rt, all.len(), 2);
-    same(rt, bits.len(), 2);
-}
-
-// The metadata has these states, and other bits than these.
-fn differ(rt: &impl Abort, meta: &Meta, states: &States, all: &BankBits) {
-    holds(rt, meta.states().is(states), "the states");
-    holds(rt, !meta.bits().is(all), "the bits");
-}
-
-// The parts are what they were set to.
-fn are_parts(rt: &impl Abort, meta: &Meta) {
-    same(rt, meta.active(), 1);
-    same(rt, meta.previous(), 0);
-    same(rt, meta.banks(), 2);
-    same(rt, state(rt, meta, 0), BankState::Accepted);
-    same(rt, state(rt, meta, 1), BankState::Invalid);
-    same(rt, bit(rt, meta, 0, 0), true);
-    same(rt, bit(rt, meta, 0, 1), false);
-    same(rt, bit(rt, meta, 1, 0), true);
+    let mut meta = Meta::of(2, 0, 1, states, two_bits());
+    set_all(&rt, &mut meta);
+    same(&rt, (meta.active(), meta.previous()), (1, 0));
+    holds(&rt, states.len() == 2, "two banks");
+    states.set(1, BankState::Invalid);
+    holds(&rt, meta.states().is(&states), "the states");
+    holds(&rt, !meta.bits().is(&two_bits()), "the bits");
 }

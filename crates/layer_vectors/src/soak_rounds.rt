@@ -1,15 +1,10 @@
-//! Draws, rounds, calls and packages, against values from elsewhere: the numbers of the C standard's
+//! Draws, rounds and packages, against values from elsewhere: the numbers of the C standard's
 //! example of `rand`, and rounds and packages as Python draws and makes them: checks/model/check_vectors.py
 //! makes them again.
 
 use crate::fixtures::same;
-use base_core::Guid;
-use gen_core::{
-    Cut, Ending, Lcg, Round, SoakCall, Totals, draw_sizes, file_name, is_too_small, package,
-    round_calls, soak_rows,
-};
+use gen_core::{Cut, Ending, Lcg, Round, draw_sizes, package, soak_rows};
 use sha2::{Digest, Sha256};
-use std::alloc::Global;
 use std::process::Abort;
 
 // The SHA-256 of the package that a soak of seed 1 formats a flash with, of 6546 bytes.
@@ -89,71 +84,6 @@ fn rounds_are_drawn_in_order(rt: HostRuntime) {
     assert_eq!(rt; Round::draw(&mut register, 27), later);
 }
 
-// The call that sends the package of round 1, on trial.
-fn send() -> SoakCall {
-    SoakCall::Send {
-        number: 1,
-        acceptance: 1,
-    }
-}
-
-// The calls of a round are these.
-fn has_calls(rt: &impl Abort, alloc: Global, round: &Round, wanted: &[SoakCall]) {
-    let calls = round_calls(alloc, &soak_rows(), round).ok();
-    same(rt, calls.expect(rt, "memory").as_slice(), wanted);
-}
-
-#[test]
-fn calls_of_rounds(rt: HostRuntime) {
-    let alloc = rt.alloc();
-    let mut register = Lcg::new(1);
-    let _sizes = draw_sizes(&mut register);
-    let mut round = Round::draw(&mut register, 1);
-    let cut = SoakCall::Cut(Cut { n: 2, k: 3322 });
-    has_calls(&rt, alloc, &round, &[cut, send(), SoakCall::Boot]);
-    round.cut = None;
-    round.ending = Ending::Previous;
-    has_calls(
-        &rt,
-        alloc,
-        &round,
-        &[send(), SoakCall::Boot, SoakCall::Previous, SoakCall::Boot],
-    );
-    round.ending = Ending::Accept;
-    has_calls(&rt, alloc, &round, &accepting());
-}
-
-// The calls of a round that accepts its package, image by image.
-fn accepting() -> [SoakCall; 6] {
-    let [first, second, third] = soak_rows();
-    [
-        send(),
-        SoakCall::Boot,
-        SoakCall::Accept { guid: first.guid },
-        SoakCall::Accept { guid: second.guid },
-        SoakCall::Accept { guid: third.guid },
-        SoakCall::Boot,
-    ]
-}
-
-// The package of this number has this name.
-fn has_name(rt: &impl Abort, alloc: Global, number: u32, wanted: &str) {
-    let name = file_name(alloc, number).ok();
-    same(rt, name.expect(rt, "memory").as_str(), wanted);
-}
-
-#[test]
-fn names_of_packages(rt: HostRuntime) {
-    has_name(&rt, rt.alloc(), 1, "g1");
-    has_name(&rt, rt.alloc(), 4_294_967_295, "g4294967295");
-}
-
-#[test]
-fn types_of_images(rt: HostRuntime) {
-    let second = Guid::read("5ff9ec0b-4d22-3e4d-a544-c39d81c73f0a");
-    assert_eq!(rt; Some(soak_rows()[1].guid), second);
-}
-
 // The package of this number, by these lengths, has so many bytes and this SHA-256.
 fn has_digest(rt: &impl Abort, file: &[u8], len: usize, digest: [u8; 32]) {
     same(rt, file.len(), len);
@@ -192,23 +122,4 @@ fn package_of_the_greatest_number(rt: HostRuntime) {
         file.expect(&rt, "memory").as_slice(),
         GREATEST.as_slice(),
     );
-}
-
-#[test]
-fn line_of_one_round(rt: HostRuntime) {
-    let totals = Totals {
-        turns: 4,
-        boots: 2,
-        losses: 1,
-        fallbacks: 0,
-        sends: 0,
-        bank: 0,
-        version: 1,
-        counter: 1,
-    };
-    let line = totals.line(rt.alloc(), 1).ok();
-    let want =
-        b"soak rounds=1 turns=4 boots=2 losses=1 fallbacks=0 sends=0 bank=0 version=1 counter=1\n";
-    same(&rt, line.expect(&rt, "memory").as_slice(), want.as_slice());
-    same(&rt, (is_too_small(21), is_too_small(22)), (true, false));
 }

@@ -16,24 +16,27 @@ use Rattle.script_cmd.specs.Answered.{Answered}
 use Rattle.script_cmd.specs.Asking.{plainly}
 use Rattle.script_cmd.specs.Formatting.{FormattedBy}
 use Rattle.script_cmd.specs.Noted.{is_beyond, noted}
-use Rattle.script_cmd.specs.Printed.{Prints}
+use Rattle.host_io.specs.Printed.{Prints}
 use Rattle.script_turns.specs.Runs.{calls_of, sends_none}
+use Rattle.script_cmd.specs.ServeWays.{ServeWay}
+use Rattle.script_cmd.specs.ServeWays as serve
 use Rattle.script_cmd.specs.Showing.{ShowedBy}
 use Rattle.script_cmd.specs.SoakWays.{SoakWay}
 use Rattle.script_cmd.specs.SoakWays as soak
 use Rattle.script_cmd.specs.Sourced.{FailsOnce, ReadsInTime}
-use Rattle.script_cmd.specs.Ways.{ByList, HasGoodList, Later, Refuses, Way}
+use Rattle.script_cmd.specs.Ways.{ByList, HasGoodList, Refuses, Way}
 use Rattle.script_cmd.specs.Ways as way
 use Rattle.script_cmd.specs.WaysByTable.{WayByTable}
 use Rattle.script_cmd.specs.declared.done.Note.{Note}
 use Rattle.script_cmd.specs.declared.done.Note.TheVariants as note
-use Rattle.script_cmd.proofs.Shapes.{device-of, end-of, inputs-of, world-of}
+use Rattle.script_cmd.proofs.ServeTop.{refused-serves, serves-with-list}
+use Rattle.script_cmd.proofs.Shapes.{Later, device-of, end-of, inputs-of, world-of}
 use Rattle.script_cmd.proofs.SoakTop.{refused-soaks, soaks-with-list}
 use Rattle.script_cmd.proofs.TableWays.{not-over, table-of-boot, table-of-run, table-refused, table-starved, table-with-list}
 use Rattle.script_cmd.proofs.TopFormats.{formats-with-list, none-some, refused-formats, starved-formats}
 use Rattle.script_cmd.proofs.TopPrints.{not-done}
 use Rattle.script_cmd.proofs.TopShows.{refused-shows, shows-with-list, starved-shows}
-use Rattle.script_cmd.proofs.TopSources.{none-fails}
+use Rattle.script_cmd.proofs.TopSources.{none-fails, unread-in-time}
 use Rattle.script_cmd.proofs.TopWays.{no-list-named, refused-by, way-of-boot, way-of-run, with-list}
 
 -- what holds whichever manifests pass
@@ -52,6 +55,7 @@ module _ {H I : Type 0} {passes : List ℕ → Bool} {tells : Bool} {blocks : �
     shows = λ other. absurd cc;
     formats = λ banks rows file other. absurd cc;
     soaks = λ seed rounds other. absurd cc;
+    serves = λ other. absurd cc;
     read_to_end = λ zero runs. whole zero;
     read_to_end_by_table = λ zero other. absurd cc;
     power = λ leaves zero. absurd (false≢true leaves);
@@ -63,7 +67,9 @@ module _ {H I : Type 0} {passes : List ℕ → Bool} {tells : Bool} {blocks : �
     unsent = λ unlisted other none. unsent none;
     list_alone = λ other none whole. counts (unsent none);
     note = λ other. quiet;
-    later = later;
+    later_files = later.files;
+    later_source = λ other. later.source;
+    later_sink = later.sink;
   })
 
   pub answered-run-by-table : (asked : Option Asked) → asked ≡ Some ask.run_partitioned → WayByTable passes (device-of tells blocks) (Some ask.run) (record { list = None; files = told; script = left }) (end-of journal status said) (world-of old taken_before faults_before) (world-of new taken_after faults_after)
@@ -76,6 +82,7 @@ module _ {H I : Type 0} {passes : List ℕ → Bool} {tells : Bool} {blocks : �
     shows = λ other. absurd cc;
     formats = λ banks rows file other. absurd cc;
     soaks = λ seed rounds other. absurd cc;
+    serves = λ other. absurd cc;
     read_to_end = λ zero other. absurd cc;
     read_to_end_by_table = λ zero runs. whole zero;
     power = λ leaves zero. absurd (false≢true leaves);
@@ -87,7 +94,9 @@ module _ {H I : Type 0} {passes : List ℕ → Bool} {tells : Bool} {blocks : �
     unsent = λ unlisted other none. unsent none;
     list_alone = λ other none whole. counts (unsent none);
     note = λ other. absurd (false≢true (sym other));
-    later = later;
+    later_files = later.files;
+    later_source = λ other. later.source;
+    later_sink = later.sink;
   })
 
   -- these read neither the source nor a file
@@ -100,6 +109,7 @@ module _ {H I : Type 0} {passes : List ℕ → Bool} {tells : Bool} {blocks : �
     shows = λ other. absurd cc;
     formats = λ banks rows file other. absurd cc;
     soaks = λ seed rounds other. absurd cc;
+    serves = λ other. absurd cc;
     read_to_end = λ zero other. absurd cc;
     read_to_end_by_table = λ zero other. absurd cc;
     power = λ leaves zero. absurd (false≢true leaves);
@@ -111,7 +121,9 @@ module _ {H I : Type 0} {passes : List ℕ → Bool} {tells : Bool} {blocks : �
     unsent = λ unlisted other none. kept;
     list_alone = λ other none whole. counted;
     note = λ other. quiet;
-    later = later;
+    later_files = later.files;
+    later_source = λ other. later.source;
+    later_sink = later.sink;
   })
 
   pub answered-boot-by-table : (asked : Option Asked) → asked ≡ Some ask.boot_partitioned
@@ -124,6 +136,7 @@ module _ {H I : Type 0} {passes : List ℕ → Bool} {tells : Bool} {blocks : �
     shows = λ other. absurd cc;
     formats = λ banks rows file other. absurd cc;
     soaks = λ seed rounds other. absurd cc;
+    serves = λ other. absurd cc;
     read_to_end = λ zero other. absurd cc;
     read_to_end_by_table = λ zero other. absurd cc;
     power = λ leaves zero. absurd (false≢true leaves);
@@ -135,7 +148,9 @@ module _ {H I : Type 0} {passes : List ℕ → Bool} {tells : Bool} {blocks : �
     unsent = λ unlisted other none. kept;
     list_alone = λ other none whole. counted;
     note = λ other. absurd (false≢true (sym other));
-    later = later;
+    later_files = later.files;
+    later_source = λ other. later.source;
+    later_sink = later.sink;
   })
 
   pub answered-show : (asked : Option Asked) → asked ≡ Some ask.show → ShowedBy tells (record { list = None; files = told; script = left }) (end-of journal status (noted said)) (world-of old taken_before faults_before) (world-of new taken_after faults_after)
@@ -147,6 +162,7 @@ module _ {H I : Type 0} {passes : List ℕ → Bool} {tells : Bool} {blocks : �
     shows = λ same. showed;
     formats = λ banks rows file other. absurd cc;
     soaks = λ seed rounds other. absurd cc;
+    serves = λ other. absurd cc;
     read_to_end = λ zero other. absurd cc;
     read_to_end_by_table = λ zero other. absurd cc;
     power = λ leaves zero. on zero;
@@ -158,7 +174,9 @@ module _ {H I : Type 0} {passes : List ℕ → Bool} {tells : Bool} {blocks : �
     unsent = λ unlisted other none. kept;
     list_alone = λ other none whole. counted;
     note = λ other. quiet;
-    later = later;
+    later_files = later.files;
+    later_source = λ other. later.source;
+    later_sink = later.sink;
   })
 
   pub answered-format : (asked : Option Asked) (b : ℕ) (items : List ImageRow) (f : List ℕ) → asked ≡ Some (ask.format b items f)
@@ -172,6 +190,7 @@ module _ {H I : Type 0} {passes : List ℕ → Bool} {tells : Bool} {blocks : �
     shows = λ other. absurd cc;
     formats = formatted;
     soaks = λ seed rounds other. absurd cc;
+    serves = λ other. absurd cc;
     read_to_end = λ zero other. absurd cc;
     read_to_end_by_table = λ zero other. absurd cc;
     power = λ leaves zero. on zero;
@@ -183,7 +202,9 @@ module _ {H I : Type 0} {passes : List ℕ → Bool} {tells : Bool} {blocks : �
     unsent = λ unlisted other none. absurd (false≢true (sym other));
     list_alone = λ other none whole. absurd (false≢true (sym other));
     note = λ other. absurd (false≢true (sym other));
-    later = later;
+    later_files = later.files;
+    later_source = λ other. later.source;
+    later_sink = later.sink;
   })
 
   pub answered-soak : (asked : Option Asked) (a b : ℕ) → asked ≡ Some (ask.soak a b)
@@ -197,6 +218,7 @@ module _ {H I : Type 0} {passes : List ℕ → Bool} {tells : Bool} {blocks : �
     shows = λ other. absurd cc;
     formats = λ banks rows file other. absurd cc;
     soaks = soaked;
+    serves = λ other. absurd cc;
     read_to_end = λ zero other. absurd cc;
     read_to_end_by_table = λ zero other. absurd cc;
     power = λ leaves zero. absurd (false≢true leaves);
@@ -208,65 +230,99 @@ module _ {H I : Type 0} {passes : List ℕ → Bool} {tells : Bool} {blocks : �
     unsent = λ unlisted other none. kept;
     list_alone = λ other none whole. counted;
     note = λ other. absurd (false≢true (sym other));
-    later = later;
+    later_files = later.files;
+    later_source = λ other. later.source;
+    later_sink = later.sink;
+  })
+
+  pub answered-serve : (asked : Option Asked) → asked ≡ Some ask.serve → ServeWay passes tells (record { list = None; files = told; script = left }) (end-of journal status (noted said)) (world-of old taken_before faults_before) (world-of new taken_after faults_after) rest
+      → files_after ≡ files → faults_after.files ≡ faults_before.files → IsFalse (is_beyond said) → faults_before.sink ≤ faults_after.sink
+      → Answered passes (device-of tells blocks) (inputs-of asked None told left) (end-of journal status said) (world-of old taken_before faults_before) (world-of new taken_after faults_after) rest files files_after source source_after
+  answered-serve asked is served kept counted quiet later = subst (λ (a : Option Asked). Answered passes (device-of tells blocks) (inputs-of a None told left) (end-of journal status said) (world-of old taken_before faults_before) (world-of new taken_after faults_after) rest files files_after source source_after) (sym is) (record {
+    way = λ runs. absurd runs;
+    by_table = λ plain over. absurd (not-over (Some ask.serve) (Some ask.serve) plain refl refl over);
+    shows = λ other. absurd cc;
+    formats = λ banks rows file other. absurd cc;
+    soaks = λ seed rounds other. absurd cc;
+    serves = λ same. served;
+    read_to_end = λ zero other. absurd cc;
+    read_to_end_by_table = λ zero other. absurd cc;
+    power = λ leaves zero. absurd (false≢true leaves);
+    source = λ other. absurd (false≢true (sym other));
+    list_first = λ none. absurd (none no-list-named);
+    in_time = λ runs. absurd (false≢true runs);
+    source_count = λ runs. absurd (false≢true runs);
+    files = λ unlisted other. kept;
+    unsent = λ unlisted other none. kept;
+    list_alone = λ other none whole. counted;
+    note = λ other. quiet;
+    later_files = omega (arith, counted);
+    later_source = λ other. absurd (other refl);
+    later_sink = later;
   })
 
   -- words that ask for nothing, behind a list or without one
   pub answered-usage : (asked : Option Asked) (list : Option (List ℕ)) → asked ≡ None → HasGoodList list told → journal ≡ [] → new ≡ old → said ≡ note.Nothing → Prints usage_line 1 status taken_before taken_after faults_before.sink faults_after.sink
-      → files_after ≡ files → faults_after.files ≡ faults_before.files → source_after ≡ source → ReadsInTime left rest → faults_after.source ≡ faults_before.source → Later faults_before faults_after
+      → files_after ≡ files → faults_after.files ≡ faults_before.files → source_after ≡ source → rest ≡ left → faults_after.source ≡ faults_before.source → Later faults_before faults_after
       → Answered passes (device-of tells blocks) (inputs-of asked list told left) (end-of journal status said) (world-of old taken_before faults_before) (world-of new taken_after faults_after) rest files files_after source source_after
-  answered-usage asked list words good none same is prints kept counted stays timely once later = record {
+  answered-usage asked list words good none same is prints kept counted stays unread once later = record {
     way = λ runs. refused-by passes tells journal status (noted said) old new taken_before taken_after asked (record { list = list; files = told; script = script_asked (plainly asked) left }) faults_before faults_after 1 usage_line model_note.Nothing none same (ap noted is) (way.usage good words) prints;
     by_table = λ plain over. absurd (not-over asked None plain words refl over);
     shows = λ other. absurd (none-some ask.show asked words other);
     formats = λ banks rows file other. absurd (none-some (ask.format banks rows file) asked words other);
     soaks = λ seed rounds other. absurd (none-some (ask.soak seed rounds) asked words other);
+    serves = λ other. absurd (none-some ask.serve asked words other);
     read_to_end = λ zero other. absurd (none-some ask.run asked words other);
     read_to_end_by_table = λ zero other. absurd (none-some ask.run_partitioned asked words other);
     power = λ leaves zero. absurd (not-done usage_line 1 status taken_before taken_after faults_before.sink faults_after.sink (λ one. absurd (omega arith)) prints zero);
     source = λ other. stays;
     list_first = λ lacks. stays;
-    in_time = λ runs. timely;
+    in_time = λ runs. unread-in-time left rest unread;
     source_count = λ runs. none-fails journal status faults_before.source faults_after.source once;
     files = λ unlisted other. kept;
     unsent = λ unlisted other unsent. kept;
     list_alone = λ other unsent whole. counted;
     note = λ other. ap is_beyond is;
-    later = later;
+    later_files = later.files;
+    later_source = λ other. later.source;
+    later_sink = later.sink;
   }
 
   -- nothing was done for want of memory, whatever is asked for
   pub answered-starved : (asked : Option Asked) (list : Option (List ℕ)) → journal ≡ [] → new ≡ old → old.armed ≡ None → status ≡ 9 → said ≡ note.Nothing → (taken_after ≡ taken_before) × (faults_after.sink ≡ faults_before.sink) → (list ≡ None → files_after ≡ files)
-      → source_after ≡ source → ReadsInTime left rest → faults_after.source ≡ faults_before.source → Later faults_before faults_after
+      → source_after ≡ source → rest ≡ left → faults_after.source ≡ faults_before.source → Later faults_before faults_after
       → Answered passes (device-of tells blocks) (inputs-of asked list told left) (end-of journal status said) (world-of old taken_before faults_before) (world-of new taken_after faults_after) rest files files_after source source_after
-  answered-starved asked list none same unarmed nine is stuck kept stays timely once later = record {
+  answered-starved asked list none same unarmed nine is stuck kept stays unread once later = record {
     way = λ runs. way.starved none same nine (ap noted is) stuck;
     by_table = λ plain over. table-starved passes tells blocks journal status said old new taken_before taken_after (Some plain) (record { list = list; files = told; script = script_asked (plainly (Some plain)) left }) faults_before faults_after none same nine is stuck;
     shows = λ words. starved-shows tells (record { list = list; files = told; script = left }) old new status (noted said) journal taken_before taken_after faults_before faults_after same unarmed none nine (ap noted is) stuck;
     formats = λ banks rows file words.
         starved-formats passes tells (record { list = list; files = told; script = left }) file (record { banks = banks; rows = rows }) blocks old new status said journal taken_before taken_after faults_before faults_after same unarmed none is nine stuck;
     soaks = λ seed rounds words. soak.starved none same nine is stuck;
+    serves = λ words. serve.starved none same (unread, once) nine (ap noted is) stuck;
     read_to_end = λ zero words. absurd (omega (arith, zero, nine));
     read_to_end_by_table = λ zero words. absurd (omega (arith, zero, nine));
     power = λ leaves zero. absurd (omega (arith, zero, nine));
     source = λ other. stays;
     list_first = λ lacks. stays;
-    in_time = λ runs. timely;
+    in_time = λ runs. unread-in-time left rest unread;
     source_count = λ runs. none-fails journal status faults_before.source faults_after.source once;
     files = λ unlisted other. kept unlisted;
     unsent = λ unlisted other unsent. kept unlisted;
     list_alone = λ other unsent whole. absurd (false≢true (sym whole ∙ ap may_fail_before nine));
     note = λ other. ap is_beyond is;
-    later = later;
+    later_files = later.files;
+    later_source = λ other. later.source;
+    later_sink = later.sink;
   }
 
   -- a list was refused, whatever is asked for
   pub answered-refused : (asked : Option Asked) (name : List ℕ) (planned : ℕ) (line : List ℕ) (met : Note)
       → ((script : Option (List ℕ)) (a : Option Asked) → Refuses a (record { list = Some name; files = told; script = script }) faults_before faults_after planned (noted met) line) → planned ≢ 0 → IsFalse (is_beyond met)
       → journal ≡ [] → new ≡ old → old.armed ≡ None → said ≡ met → Prints line planned status taken_before taken_after faults_before.sink faults_after.sink → (IsFalse (may_fail_before status) → faults_after.files ≡ faults_before.files)
-      → source_after ≡ source → ReadsInTime left rest → faults_after.source ≡ faults_before.source → Later faults_before faults_after
+      → source_after ≡ source → rest ≡ left → faults_after.source ≡ faults_before.source → Later faults_before faults_after
       → Answered passes (device-of tells blocks) (inputs-of asked (Some name) told left) (end-of journal status said) (world-of old taken_before faults_before) (world-of new taken_after faults_after) rest files files_after source source_after
-  answered-refused asked name planned line met why some beyond none same unarmed is prints counted stays timely once later = record {
+  answered-refused asked name planned line met why some beyond none same unarmed is prints counted stays unread once later = record {
     way = λ runs.
         refused-by passes tells journal status (noted said) old new taken_before taken_after asked (record { list = Some name; files = told; script = script_asked (plainly asked) left }) faults_before faults_after planned line (noted met) none same (ap noted is)
         (why (script_asked (plainly asked) left) asked) prints;
@@ -281,18 +337,21 @@ module _ {H I : Type 0} {passes : List ℕ → Bool} {tells : Bool} {blocks : �
     soaks = λ seed rounds words.
         refused-soaks tells (record { list = Some name; files = told; script = left }) seed rounds blocks journal status said old new taken_before taken_after faults_before faults_after planned line (noted met) none same (ap is_beyond is ∙ beyond) (ap noted is)
         (why left (Some (ask.soak seed rounds))) prints;
+    serves = λ words. refused-serves passes tells (record { list = Some name; files = told; script = left }) old new status (noted said) journal taken_before taken_after faults_before faults_after planned line (noted met) rest none same (ap noted is) (why left (Some ask.serve)) prints unread once;
     read_to_end = λ zero words. absurd (not-done line planned status taken_before taken_after faults_before.sink faults_after.sink some prints zero);
     read_to_end_by_table = λ zero words. absurd (not-done line planned status taken_before taken_after faults_before.sink faults_after.sink some prints zero);
     power = λ leaves zero. absurd (not-done line planned status taken_before taken_after faults_before.sink faults_after.sink some prints zero);
     source = λ other. stays;
     list_first = λ lacks. stays;
-    in_time = λ runs. timely;
+    in_time = λ runs. unread-in-time left rest unread;
     source_count = λ runs. none-fails journal status faults_before.source faults_after.source once;
     files = λ unlisted other. absurd cc;
     unsent = λ unlisted other unsent. absurd cc;
     list_alone = λ other unsent whole. counted whole;
     note = λ other. ap is_beyond is ∙ beyond;
-    later = later;
+    later_files = later.files;
+    later_source = λ other. later.source;
+    later_sink = later.sink;
   }
 
   -- what is done without a list is done behind one that was read and is one
@@ -310,6 +369,7 @@ module _ {H I : Type 0} {passes : List ℕ → Bool} {tells : Bool} {blocks : �
         formats = λ banks rows file words.
             formats-with-list passes tells mid_told told name left file (record { banks = banks; rows = rows }) blocks old new status said journal taken_before taken_after faults_before mid faults_after same good counted at_source at_sink unarmed (a.formats banks rows file words);
         soaks = λ seed rounds words. soaks-with-list tells mid_told told name left seed rounds blocks journal status said old new taken_before taken_after faults_before mid faults_after good later at_source at_sink (a.soaks seed rounds words);
+        serves = λ words. serves-with-list passes tells mid_told told name left old new status (noted said) journal taken_before taken_after faults_before mid faults_after rest same good counted at_source at_sink (a.serves words);
         read_to_end = a.read_to_end;
         read_to_end_by_table = a.read_to_end_by_table;
         power = a.power;
@@ -321,11 +381,9 @@ module _ {H I : Type 0} {passes : List ℕ → Bool} {tells : Bool} {blocks : �
         unsent = λ unlisted other unsent. absurd cc;
         list_alone = λ other unsent whole. a.list_alone other unsent whole ∙ counted;
         note = a.note;
-        later = record {
-          files = omega (arith, counted, a.later.files);
-          source = omega (arith, at_source, a.later.source);
-          sink = omega (arith, at_sink, a.later.sink);
-        };
+        later_files = omega (arith, counted, a.later_files);
+        later_source = λ other. let was = a.later_source other in omega (arith, at_source, was);
+        later_sink = omega (arith, at_sink, a.later_sink);
       }
 
   -- by equal words

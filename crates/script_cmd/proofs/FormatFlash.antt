@@ -9,7 +9,7 @@ use Rattle.flash_format.specs.declared.formatting.Formatted.{Formatted}
 use Rattle.flash_format.specs.declared.stops.FormatStop.{FormatStop}
 use Rattle.flash_format.specs.declared.stops.FormatStop.TheVariants.{Input, ReadFailed, Flash}
 use Rattle.script_cmd.specs.Formatting.{format_status}
-use Rattle.script_cmd.specs.Printed.{Prints}
+use Rattle.host_io.specs.Printed.{Prints}
 use Rattle.script_cmd.specs.Showing.{HasCause}
 use Rattle.script_cmd.proofs.ShowFlash.{has-cause}
 

@@ -6,9 +6,8 @@ pub mod PromiseWritten
 pub mod PromiseEnds
 pub mod PromiseHeadline
 pub mod PromiseBoot
-pub mod PromiseGuarded
 pub mod PromiseComplete
-pub mod PromiseReplies
+pub mod PromiseRan
 pub mod PromiseAll
 pub mod OutcomeLemmas
 pub mod Permitted
@@ -33,6 +32,9 @@ pub mod SoakTotals
 pub mod SoakEnding
 pub mod SoakTop
 pub mod SoakPromise
+pub mod ServeTop
+mod ServeAccount
+pub mod ServePromise
 pub mod AnsweredBy
 mod SinkCounts
 mod Serving

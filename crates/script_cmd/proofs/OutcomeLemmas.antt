@@ -18,7 +18,7 @@ pub nothing-is-passed-over : NothingIsPassedOver
 nothing-is-passed-over passes tells inputs end old new bytes calls reads p = sym ((p.ends.does calls reads).all_calls refl)
 
 pub nothing-is-touched : NothingIsTouched
-nothing-is-touched passes tells inputs end old new p = p.device.untouched refl
+nothing-is-touched passes tells inputs end old new p = p.turns.device.untouched refl
 
 pub nothing-is-armed : NothingIsArmed
 nothing-is-armed passes tells inputs end old new p = p.ends.made
@@ -61,7 +61,7 @@ usage-line-is-of-usage passes tells inputs end old new before p =
 
 pub no-metadata-is-none : NoMetadataIsNone
 no-metadata-is-none passes inputs end old new t turns clean boots is p =
-    let h = subst (BootsFrom passes old.flash.told.now) is (p.first refl clean t refl boots) in
+    let h = subst (BootsFrom passes old.flash.told.now) is (p.turns.first refl clean t refl boots) in
     (h.0, h.1, h.2)
 
 pub usage-reads-no-source : UsageReadsNoSource

@@ -57,4 +57,4 @@ module _ (passes : List ℕ → Bool) (tells : Bool) (files : Option Directory) 
 
 pub boots-are-permitted : BootsArePermitted
 boots-are-permitted passes tells inputs end old new p n t bank version trials counter fallback at boots is =
-    by-journal passes tells inputs.files t bank version trials counter fallback boots is end.journal n old.flash _ _ _ p.replies.follows at
+    by-journal passes tells inputs.files t bank version trials counter fallback boots is end.journal n old.flash _ _ _ p.turns.replies.follows at

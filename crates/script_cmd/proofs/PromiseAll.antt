@@ -7,9 +7,8 @@ use Rattle.script_cmd.specs.Promises.{given_to, Promised}
 use Rattle.script_cmd.proofs.PromiseHeadline.{ways-keep-the-headline}
 use Rattle.script_cmd.proofs.PromiseWritten.{ways-write}
 use Rattle.script_cmd.proofs.PromiseEnds.{ways-end}
-use Rattle.script_cmd.proofs.PromiseReplies.{ways-boot-first, ways-leave-the-device, ways-reply}
+use Rattle.script_cmd.proofs.PromiseRan.{ways-hold}
 use Rattle.script_cmd.proofs.PromiseBoot.{ways-boot}
-use Rattle.script_cmd.proofs.PromiseGuarded.{ways-guard}
 use Rattle.script_cmd.proofs.PromiseComplete.{ways-are-complete}
 
 pub promised : (passes : List ℕ → Bool) (tells : Bool) (inputs : Inputs) (end : Ending Note) (old new : World) → Way passes tells inputs.asked (given_to inputs) end old new
@@ -18,10 +17,7 @@ promised passes tells inputs end old new way = record {
   headline = ways-keep-the-headline passes tells inputs end old new way;
   wrote = ways-write passes tells inputs.asked (given_to inputs) end old new way;
   ends = ways-end passes tells inputs.asked (given_to inputs) end old new way;
-  replies = ways-reply passes tells inputs.asked (given_to inputs) end old new way;
-  device = ways-leave-the-device passes tells inputs.asked (given_to inputs) end old new way;
-  first = ways-boot-first passes tells inputs.asked (given_to inputs) end old new way;
+  turns = ways-hold passes tells inputs.asked (given_to inputs) end old new way;
   boot_word = ways-boot passes tells inputs end old new way;
-  guarded = ways-guard passes tells inputs.asked (given_to inputs) end old new way;
   complete = ways-are-complete passes tells inputs end old new way;
 }

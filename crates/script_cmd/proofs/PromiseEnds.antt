@@ -21,7 +21,7 @@ use Rattle.fwu_words.specs.Order.{Asked}
 use Rattle.script_cmd.specs.Asking.{plainly}
 use Rattle.script_turns.specs.Powered.{Moment, at}
 use Rattle.script_cmd.specs.Ending.{Ending, World}
-use Rattle.script_cmd.specs.Printed.{Prints, all, front, nothing}
+use Rattle.host_io.specs.Printed.{Prints, all, front, nothing}
 use Rattle.script_cmd.specs.Running.{Ended, Printed, status_of_last, note_of_last, last_turn}
 use Rattle.script_turns.specs.Runs.{Ran}
 use Rattle.script_cmd.specs.Ways.{Given, HasGoodList, AsksTurns, HasCalls, Refuses, usage, not_read, list_not_read, too_long, bad_script, bad_list, starved, refused, ran}
@@ -207,7 +207,7 @@ module _ (asked : Option Asked) (g : Given) (faults_before faults_after : Faults
           sink_fault = λ is. absurd (omega arith);
         }
 
-    refused-ends : (planned : ℕ) (line : List ℕ) (taken_before taken_after : Option (List ℕ)) → Refuses asked g faults_before faults_after planned noted line → Prints line planned status taken_before taken_after faults_before.sink faults_after.sink
+    pub refused-ends : (planned : ℕ) (line : List ℕ) (taken_before taken_after : Option (List ℕ)) → Refuses asked g faults_before faults_after planned noted line → Prints line planned status taken_before taken_after faults_before.sink faults_after.sink
         → EndsAs (plainly asked) g.list g.files g.script status noted [] counts counts faults_before faults_after
     refused-ends planned line taken_before taken_after why prints =
         let known = why-planned planned noted line why in

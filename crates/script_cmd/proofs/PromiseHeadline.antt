@@ -16,7 +16,7 @@ use Rattle.fwu_model.specs.Reply.{Turn}
 use Rattle.fwu_model.specs.Wrote.{may_lack, script_asked}
 use Rattle.fwu_model.specs.Run.{Condition, start_of}
 use Rattle.fwu_model.specs.Contract.{Premises, Asks, ByScript, ByBoot}
-use Rattle.fwu_model.specs.Headline.{LeavesOneOf}
+use Rattle.fwu_model.specs.Headline.{Headline, IsPrefixOf, LeavesOneOf}
 use Rattle.fwu_model.specs.Causes.{Faults}
 use Rattle.fwu_model.specs.declared.kinds.Note.{Note}
 use Rattle.fwu_model.specs.declared.kinds.Note.TheVariants as note
@@ -27,9 +27,9 @@ use Rattle.fwu_words.specs.Order.{Asked}
 use Rattle.script_cmd.specs.Asking.{plainly}
 use Rattle.script_turns.specs.Powered.{Moment, Shows, at}
 use Rattle.script_cmd.specs.Running.{Ended}
-use Rattle.script_turns.specs.Runs.{Ran, StartsSound}
+use Rattle.script_turns.specs.Runs.{Ran, StartsSound, calls_of}
 use Rattle.script_cmd.specs.Ways.{HasCalls, starved, refused, ran}
-use Rattle.script_cmd.specs.Promises.{given_to, HeadlineHolds, WaysKeepTheHeadline}
+use Rattle.script_cmd.specs.Promises.{given_to, HeadlineHolds, WaysKeepTheHeadline, outcome}
 use Rattle.script_cmd.proofs.Shapes.{end-of, inputs-of, world-of}
 use Rattle.script_cmd.proofs.PromiseWords.{boot-is-script, same-calls}
 use Rattle.script_cmd.proofs.PromiseTurns.{printed-plan}
@@ -54,6 +54,48 @@ pub left-by : (E : Setting) (c : Condition) (on : Option Fields) (t : Told) → 
 left-by E c None t shows = shows.1
 left-by E c (Some f) t shows = subst (λ (states : List State). LeavesOneOf E states t) (sym shows.one) (calm-stays E t shows.state shows.ready.calm)
 
+-- ---- from a sound flash
+
+module _ (passes : List ℕ → Bool) (tells : Bool) (files : Option (List ℕ → Option (List ℕ))) (status : ℕ) (old : Moment) (told : IsTrue tells) (E : Setting) (start : State) (calls : List Call) where
+  none-head : (status ≡ 0 → [] ≡ calls) → Premises E start old.told files passes old.counts old.counts → Headline E start (outcome calls [] status old old)
+  none-head all given = record {
+    calls = (calls, refl);
+    all_calls = all;
+    last = start_of start;
+    run = refl;
+    left = calm-stays E old.told start (start-is-calm E old.told start given.clean given.sound given.shows);
+    armed = λ h. record { made = refl; last = tt };
+    selects = runs-select E start [] (start_of start) (fits E old.told given.sound) (sound-start E start old.told files passes old.counts old.counts given) refl;
+  }
+
+  -- no turn ran
+  pub idle-head : (journal : List Turn) (new : Moment) → journal ≡ [] → new ≡ old → (status ≡ 0 → [] ≡ calls) → Premises E start old.told files passes old.counts new.counts
+      → Headline E start (outcome calls journal status old new)
+  idle-head journal new empty same all given =
+      subst (λ (j : List Turn). Headline E start (outcome calls j status old new)) (sym empty)
+      (subst (λ (m : Moment). Headline E start (outcome calls [] status old m)) (sym same)
+      (none-head all (subst (λ (m : Moment). Premises E start old.told files passes old.counts m.counts) same given)))
+
+  -- the turns do the first of these calls
+  pub ran-head : (journal : List Turn) (new : Moment) (on : Option Fields) (from to : ℕ) → IsPrefixOf (calls_of journal) calls → (status ≡ 0 → calls_of journal ≡ calls)
+      → Ran passes tells files journal old (at on new.told new.counts new.armed new.power) from to → Premises E start old.told files passes old.counts new.counts
+      → Headline E start (outcome calls journal status old new)
+  ran-head journal new on from to front all turns given =
+      let starts : StartsSound E start passes old = record { clean = given.clean; sound = given.sound; shows = given.shows; guarded = given.guarded; passes_are = sym given.verifier_is } in
+      let to = turns.run told E start starts given.files_told given.no_chance in
+      let sound = sound-start E start old.told files passes old.counts new.counts given in
+      record {
+        calls = front;
+        all_calls = all;
+        last = to.last;
+        run = to.runs;
+        left = left-by E to.last on new.told to.is_at.shows;
+        armed = λ h. to.armed;
+        selects = runs-select E start journal to.last (fits E old.told given.sound) sound to.runs;
+      }
+
+-- ---- of the calls that are asked for
+
 abbrev no-faults : Faults
 no-faults = record { files = 0; source = 0; sink = 0 }
 
@@ -63,42 +105,15 @@ HoldsFor passes tells asked files source journal status old new =
     HeadlineHolds passes tells (inputs-of asked None files source) (end-of journal status note.Nothing) (world-of old None no-faults) (world-of new None no-faults)
 
 module _ (passes : List ℕ → Bool) (tells : Bool) (asked : Option Asked) (files : Option (List ℕ → Option (List ℕ))) (source : Option (List ℕ)) (status : ℕ) (old : Moment) where
-  -- ---- nothing ran
-
-  none-holds : status ≢ 0 → HoldsFor passes tells asked files source [] status old old
-  none-holds not_done told E start calls given asks = record {
-    calls = (calls, refl);
-    all_calls = λ e. absurd (not_done e);
-    last = start_of start;
-    run = refl;
-    left = calm-stays E old.told start (start-is-calm E old.told start given.clean given.sound given.shows);
-    armed = λ h. record { made = refl; last = tt };
-    selects = runs-select E start [] (start_of start) (fits E old.told given.sound) (sound-start E start old.told files passes old.counts old.counts given) refl;
-  }
-
   none-keeps : (journal : List Turn) (new : Moment) → journal ≡ [] → new ≡ old → status ≢ 0 → HoldsFor passes tells asked files source journal status old new
-  none-keeps journal new empty same not_done =
-      subst (λ (j : List Turn). HoldsFor passes tells asked files source j status old new) (sym empty)
-      (subst (λ (m : Moment). HoldsFor passes tells asked files source [] status old m) (sym same) (none-holds not_done))
-
-  -- ---- turns ran
+  none-keeps journal new empty same not_done told E start calls given asks =
+      idle-head passes tells files status old told E start calls journal new empty same (λ e. absurd (not_done e)) given
 
   ran-keeps : (journal : List Turn) (noted : Note) (new : Moment) (mine : List Call) (on : Option Fields) (from to : ℕ) → HasCalls (script_asked (plainly asked) source) mine
       → Ran passes tells files journal old (at on new.told new.counts new.armed new.power) from to → Ended mine journal status noted → HoldsFor passes tells asked files source journal status old new
   ran-keeps journal noted new mine on from to has turns ended told E start calls given asks =
       let same : mine ≡ calls = asked-calls (plainly asked) source calls mine asks has in
-      let starts : StartsSound E start passes old = record { clean = given.clean; sound = given.sound; shows = given.shows; guarded = given.guarded; passes_are = sym given.verifier_is } in
-      let to = turns.run told E start starts given.files_told given.no_chance in
-      let sound = sound-start E start old.told files passes old.counts new.counts given in
-      record {
-        calls = (ended.calls.0, ended.calls.1 ∙ same);
-        all_calls = λ e. ended.all_calls e ∙ same;
-        last = to.last;
-        run = to.runs;
-        left = left-by E to.last on new.told to.is_at.shows;
-        armed = λ h. to.armed;
-        selects = runs-select E start journal to.last (fits E old.told given.sound) sound to.runs;
-      }
+      ran-head passes tells files status old told E start calls journal new on from to (ended.calls.0, ended.calls.1 ∙ same) (λ e. ended.all_calls e ∙ same) turns given
 
 pub ways-keep-the-headline : WaysKeepTheHeadline
 ways-keep-the-headline passes tells inputs end old new (starved empty same nine quiet stuck) =

@@ -7,7 +7,7 @@ use Rattle.fwu_model.specs.Reply as reply
 use Rattle.fwu_model.specs.declared.kinds.Note.{Note}
 use Rattle.fwu_model.specs.Wrote.{may_lack, ends_early}
 use Rattle.fwu_model.specs.Causes.{status_by}
-use Rattle.script_cmd.specs.Printed.{Prints, all, front, nothing}
+use Rattle.host_io.specs.Printed.{Prints, all, front, nothing}
 use Rattle.script_cmd.specs.Running.{status_of_last, last_turn, Ended}
 use Rattle.fwu_model.specs.Call.{Call}
 use Rattle.script_cmd.proofs.TopPrints.{raised-rose}

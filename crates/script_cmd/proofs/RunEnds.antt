@@ -20,7 +20,7 @@ use Rattle.fwu_model.specs.Text.{line, text, call_word, reply_text}
 use Rattle.fwu_model.specs.Wrote.{may_lack}
 use Rattle.fwu_model.specs.Causes.{status_by, note_by}
 use Rattle.script_turns.specs.Powered.{Moment}
-use Rattle.script_cmd.specs.Printed.{FailsAtThree, Prints, all, front, nothing}
+use Rattle.host_io.specs.Printed.{FailsAtThree, Prints, all, front, nothing}
 use Rattle.script_cmd.specs.Running.{Steps, Ended, Writes, Printed, last_turn, status_of_last, note_of_last}
 use Rattle.script_turns.specs.Runs.{Ran, calls_of}
 use Rattle.script_turns.proofs.RunTurns.{ran-none, ran-on}

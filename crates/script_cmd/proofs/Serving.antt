@@ -8,6 +8,7 @@ use Rattle.script_cmd.specs.declared.done.Note.{Note}
 use Rattle.script_cmd.proofs.PromiseAll.{promised}
 use Rattle.script_cmd.proofs.PromiseTable.{promised-by-table}
 use Rattle.script_cmd.proofs.SinkCounts.{answered-counts}
+use Rattle.script_cmd.proofs.ServePromise.{served-by}
 use Rattle.script_cmd.proofs.SoakPromise.{soaked-by}
 
 pub serving : {H I : Type 0} (passes : List ℕ → Bool) (device : Device) (inputs : Inputs) (ending : Ending Note) (old new : World)
@@ -19,6 +20,7 @@ serving passes device inputs ending old new rest fb fa sb sa a = record {
   shows = a.shows;
   formats = a.formats;
   soaks = λ seed rounds is. soaked-by _ _ seed rounds _ _ _ (a.soaks seed rounds is);
+  serves = λ is. served-by _ _ _ _ _ _ _ (a.serves is);
   read_to_end = a.read_to_end;
   read_to_end_by_table = a.read_to_end_by_table;
   power = a.power;
@@ -31,5 +33,7 @@ serving passes device inputs ending old new rest fb fa sb sa a = record {
   list_alone = a.list_alone;
   note = a.note;
   sink_count = answered-counts old new passes device inputs ending rest fb fa sb sa a;
-  later = a.later;
+  later_files = a.later_files;
+  later_source = a.later_source;
+  later_sink = a.later_sink;
 }

@@ -1,5 +1,5 @@
 -- A run's end, what it may change, and what it was given, from their parts.
-use Rattle.std.proofs.Common.{ℕ, Bool, List, Option}
+use Rattle.std.proofs.Common.{◌≤◌, ℕ, Bool, List, Option}
 use Rattle.fwu_model.specs.Causes.{Faults}
 use Rattle.fwu_model.specs.Reply.{Turn}
 use Rattle.fwu_words.specs.Order.{Asked}
@@ -18,3 +18,9 @@ inputs-of asked list files source = record { asked = asked; list = list; files =
 
 abbrev pub device-of : Bool → ℕ → Device
 device-of tells blocks = record { tells = tells; blocks = blocks }
+
+-- no fault count falls
+pub record Later (faults_before faults_after : Faults) : Type 0 where
+  pub files : faults_before.files ≤ faults_after.files
+  pub source : faults_before.source ≤ faults_after.source
+  pub sink : faults_before.sink ≤ faults_after.sink

@@ -17,8 +17,10 @@ use Rattle.script_cmd.specs.ByTable.{flash_fault_line, no_table_line}
 use Rattle.script_cmd.specs.Ending.{Device, Ending, World, in_model}
 use Rattle.script_cmd.specs.Formatting.{Formats, format_status, format_text}
 use Rattle.script_cmd.specs.Formatting as format
-use Rattle.script_cmd.specs.Printed.{FailsAtThree}
+use Rattle.host_io.specs.Printed.{FailsAtThree}
 use Rattle.script_cmd.specs.Promises.{given_to}
+use Rattle.script_cmd.specs.ServeWays.{ServeWay}
+use Rattle.script_cmd.specs.ServeWays as serve
 use Rattle.script_cmd.specs.Showing.{Finds, RefusedList, Showed}
 use Rattle.script_cmd.specs.Showing as show
 use Rattle.script_cmd.specs.SoakWays.{SoakEnds, SoakWay}
@@ -108,6 +110,11 @@ module _ (old new : World) where
       counts-line (format_text (Err stop)) (format_status (Err stop)) end.status old.taken new.taken old.faults.sink new.faults.sink (format-other (Err stop)) prints
   soak-counts device g seed rounds end (soak.ran good large done start on tries off power turns ends beyond) = ends-counts rounds (in_model end) ends
 
+  serve-counts : (passes : List ℕ → Bool) (tells : Bool) (g : Given) (end : Ending model.Note) (rest : Option (List ℕ)) → ServeWay passes tells g end old new rest → FailsAtThree end.status old.faults.sink new.faults.sink
+  serve-counts passes tells g end rest (serve.list_refused none same unread refused) = list-counts ask.serve g end.status end.noted refused
+  serve-counts passes tells g end rest (serve.starved none same unread nine is stuck) = counts-none end.status old.faults.sink new.faults.sink nine stuck.1
+  serve-counts passes tells g end rest (serve.served good unarmed unread e is said by) = subst (λ (k : ℕ). FailsAtThree k old.faults.sink new.faults.sink) (sym is) by.holds.sink_count
+
   pub answered-counts : {H I : Type 0} (passes : List ℕ → Bool) (device : Device) (inputs : Inputs) (end : Ending Note) (rest : Option (List ℕ)) (fb fa : H) (sb sa : I)
       → Answered passes device inputs end old new rest fb fa sb sa → FailsAtThree end.status old.faults.sink new.faults.sink
   answered-counts passes device inputs end rest fb fa sb sa a = go inputs.asked refl
@@ -128,3 +135,4 @@ module _ (old new : World) where
       go (Some (ask.format banks rows file)) is =
           format-counts passes device (given_all inputs) file (record { banks = banks; rows = rows }) end.status end.noted (a.formats banks rows file is).formats
       go (Some (ask.soak seed rounds)) is = soak-counts device (given_all inputs) seed rounds end (a.soaks seed rounds is)
+      go (Some ask.serve) is = serve-counts passes device.tells (given_all inputs) (in_model end) rest (a.serves is)

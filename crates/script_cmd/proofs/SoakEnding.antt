@@ -25,7 +25,7 @@ use Rattle.flash_core.specs.declared.flash.Flash.{Ghosts}
 use Rattle.agent_machine.specs.Fields.{Fields}
 use Rattle.script_turns.specs.declared.powered.Powered.{Powered}
 use Rattle.script_turns.specs.Powered.{Moment, at, device, moment_of, shown_on}
-use Rattle.script_cmd.specs.Printed.{Prints}
+use Rattle.host_io.specs.Printed.{Prints}
 use Rattle.script_turns.specs.Runs.{Ran}
 use Rattle.script_cmd.specs.Soaking.{Stands, goes, starved, ended, first_files, soak_files, stop_line}
 use Rattle.script_cmd.specs.SoakWays.{SoakEnds, all_done, lacking, stopped}

@@ -50,7 +50,7 @@ use Rattle.script_cmd.specs.Ending.{Device, Ending, World, in_model}
 use Rattle.script_cmd.specs.Formatting.{Formats, IsFormattable, Tries, format_status, format_text}
 use Rattle.script_cmd.specs.Formatting as format
 use Rattle.script_cmd.specs.Noted.{noted}
-use Rattle.script_cmd.specs.Printed.{Prints, all, front, nothing}
+use Rattle.host_io.specs.Printed.{Prints, all, front, nothing}
 use Rattle.script_turns.specs.Runs.{Ran, RunsTo, calls_of}
 use Rattle.script_cmd.specs.Showing.{HasCause, RefusesBadList}
 use Rattle.script_cmd.specs.Soaked.{HasSoakList, RunsSoak, SoakedBy, first_images, soak_setting}

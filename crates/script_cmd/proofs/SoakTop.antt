@@ -9,7 +9,7 @@ use Rattle.fwu_words.specs.Order as ask
 use Rattle.gen_core.specs.Calls.{soak_calls}
 use Rattle.script_turns.specs.Powered.{Moment}
 use Rattle.script_cmd.specs.Noted.{is_beyond, noted}
-use Rattle.script_cmd.specs.Printed.{Prints}
+use Rattle.host_io.specs.Printed.{Prints}
 use Rattle.script_cmd.specs.SoakWays.{SoakWay, SoakEnds, list_refused, starved, too_small, not_formatted, ran}
 use Rattle.script_cmd.specs.Ways.{Given, HasGoodList, Refuses}
 use Rattle.script_cmd.specs.declared.done.Note.{Note}

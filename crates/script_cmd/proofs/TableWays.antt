@@ -16,7 +16,7 @@ use Rattle.script_cmd.specs.Asking.{plainly}
 use Rattle.script_cmd.specs.ByTable.{Looks, StopsBefore, flash_fault_line, lacked_in, no_table_line, seen_at}
 use Rattle.script_cmd.specs.Noted.{is_beyond, noted}
 use Rattle.script_turns.specs.Powered.{Moment, at}
-use Rattle.script_cmd.specs.Printed.{Prints, all, front, nothing}
+use Rattle.host_io.specs.Printed.{Prints, all, front, nothing}
 use Rattle.script_cmd.specs.Running.{Printed}
 use Rattle.script_cmd.specs.Ways.{Given, HasGoodList, Refuses}
 use Rattle.script_cmd.specs.Ways as way

@@ -21,7 +21,7 @@ use Rattle.fwu_words.specs.Order.{Asked}
 use Rattle.fwu_words.specs.Order as ask
 use Rattle.script_turns.specs.Powered.{Moment}
 use Rattle.script_cmd.specs.Noted.{noted}
-use Rattle.script_cmd.specs.Printed.{Prints, all, front, nothing}
+use Rattle.host_io.specs.Printed.{Prints, all, front, nothing}
 use Rattle.script_cmd.specs.Ways.{Given, Refuses, bad_list, bad_script, list_not_read, not_read, too_long, usage}
 use Rattle.script_cmd.specs.Showing.{Finds, HasCause, HasMetadata, IsGranted, RefusedList, Showed, ShowsNone}
 use Rattle.script_cmd.specs.Showing as show
@@ -39,7 +39,7 @@ printed line status old new faults_before faults_after fails (front is n appends
 printed line status old new faults_before faults_after fails (nothing is same later) = inr is
 
 -- no list is refused that is there and has no bad line
-granted : (asked : Asked) (g : Given) (before after : Counts) (faults_before faults_after : Faults) (planned : ℕ) (noted : Note) (line : List ℕ) → (Some asked ≡ Some ask.run → ⊥) → (Some asked ≡ Some ask.boot → ⊥)
+pub granted : (asked : Asked) (g : Given) (before after : Counts) (faults_before faults_after : Faults) (planned : ℕ) (noted : Note) (line : List ℕ) → (Some asked ≡ Some ask.run → ⊥) → (Some asked ≡ Some ask.boot → ⊥)
     → IsGranted g before after faults_before faults_after → Refuses (Some asked) g faults_before faults_after planned noted line → ⊥
 granted asked g before after faults_before faults_after planned noted line runs boots has (usage good is) = cc
 granted asked g before after faults_before faults_after planned noted line runs boots has (not_read good is rose) = runs is

@@ -20,7 +20,7 @@ use Rattle.script_cmd.specs.Formatting.{Formats, FormattedBy, Tries, format_stat
 use Rattle.script_turns.specs.Powered.{Moment}
 use Rattle.script_cmd.specs.Noted.{is_beyond, noted}
 use Rattle.script_cmd.specs.Showing.{RefusesBadList}
-use Rattle.script_cmd.specs.Printed.{Prints}
+use Rattle.host_io.specs.Printed.{Prints}
 use Rattle.script_cmd.specs.Ways.{Given, HasGoodList, Refuses, bad_list, bad_script, list_not_read, not_read, too_long, usage}
 use Rattle.script_cmd.specs.declared.done.Note.{Note}
 use Rattle.script_cmd.specs.declared.done.Note.TheVariants as note

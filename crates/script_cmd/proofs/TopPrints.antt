@@ -2,7 +2,7 @@
 use Rattle.std.proofs.Common.{◌≡◌, ◌≢◌, ◌≤◌, ℕ, List, Option, sym, subst, ◌∙◌, arith, rules}
 use Rattle.base_core.specs.Counts.{Rose}
 use Rattle.host_io.specs.Calls.{raised}
-use Rattle.script_cmd.specs.Printed.{FailsAtThree, Prints, all, front, nothing}
+use Rattle.host_io.specs.Printed.{FailsAtThree, Prints, all, front, nothing}
 
 -- a count that was raised rose
 pub raised-rose : (before after : ℕ) → after ≡ raised before → Rose before after

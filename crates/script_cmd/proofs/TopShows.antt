@@ -12,7 +12,7 @@ use Rattle.host_io.specs.Contents.{Directory}
 use Rattle.fwu_words.specs.Order.{Asked}
 use Rattle.fwu_words.specs.Order as ask
 use Rattle.script_turns.specs.Powered.{Moment}
-use Rattle.script_cmd.specs.Printed.{Prints}
+use Rattle.host_io.specs.Printed.{Prints}
 use Rattle.script_turns.specs.Turning.{NoneFalls}
 use Rattle.script_cmd.specs.Ways.{Given, HasGoodList, Refuses}
 use Rattle.script_cmd.specs.Showing.{ShowedBy, Showed, RefusedList, RefusesBadList, starved, list_refused, found}

@@ -8,7 +8,7 @@ use Rattle.fwu_model.specs.Causes.{may_fail_before}
 use Rattle.fwu_model.specs.Reply.{Turn}
 use Rattle.fwu_model.specs.Script.{is_too_long}
 use Rattle.script_text.specs.Limit.{Extent}
-use Rattle.script_cmd.specs.Printed.{Prints}
+use Rattle.host_io.specs.Printed.{Prints}
 use Rattle.script_cmd.specs.Sourced.{FailsOnce, ReadsInTime}
 use Rattle.script_cmd.proofs.PromiseTurns.{by-plan}
 use Rattle.script_cmd.proofs.TopReads.{IsReading}
@@ -20,6 +20,9 @@ nothing-long = refl
 -- nothing was read
 pub in-time-still : (was : Option (List ℕ)) → ReadsInTime was was
 in-time-still was = record { before = []; last = []; taken = Consumes-nil was; short = omega arith; within = nothing-long }
+
+pub unread-in-time : (was now : Option (List ℕ)) → now ≡ was → ReadsInTime was now
+unread-in-time was now same = subst (ReadsInTime was) (sym same) (in-time-still was)
 
 -- a read that failed took nothing
 kept : (was mid new : Option (List ℕ)) (text : List ℕ) → Consumes was mid text → Keeps mid new → Consumes was new text

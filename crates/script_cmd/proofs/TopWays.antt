@@ -22,7 +22,7 @@ use Rattle.script_cmd.specs.Asking.{asked_after, asked_with_list, plainly}
 use Rattle.script_cmd.proofs.Shapes.{end-of, world-of}
 use Rattle.script_cmd.proofs.PromiseTurns.{by-plan}
 use Rattle.script_turns.specs.Powered.{Moment, at}
-use Rattle.script_cmd.specs.Printed.{Prints}
+use Rattle.host_io.specs.Printed.{Prints}
 use Rattle.script_cmd.specs.Running.{Printed}
 use Rattle.script_turns.specs.Runs.{Ran}
 use Rattle.script_cmd.specs.Ways.{AsksTurns, ByList, Given, HasGoodList, HasPasses, IsIdle, IsScriptOf, ReadsList, Refuses, StandsIn, Way, may_lack_list, bad_list, bad_script, list_not_read, not_read, ran, refused, starved, too_long, usage}

@@ -1,19 +1,20 @@
 -- What is done for what the words ask for, by each command.
-use Rattle.std.specs.Prelude.{◌≡◌, ℕ, Bool, List, [], Option, Some, None, IfSome, IsTrue, IsFalse}
+use Rattle.std.specs.Prelude.{◌≡◌, ◌≢◌, ◌≤◌, ℕ, Bool, List, [], Option, Some, None, IfSome, IsTrue, IsFalse}
 use Rattle.fwu_formats.specs.Layout.{ImageRow}
 use Rattle.fwu_model.specs.Causes.{may_fail_before}
 use Rattle.fwu_words.specs.Order.{Asked}
 use Rattle.fwu_words.specs.Order as ask
-use Rattle.script_cmd.specs.Asking.{asks_beyond, asks_files, asks_package, asks_run, leaves_on}
+use Rattle.script_cmd.specs.Asking.{asks_beyond, asks_files, asks_package, asks_run, asks_source, leaves_on}
 use Rattle.script_cmd.specs.Ending.{Device, Ending, World, in_model}
 use Rattle.script_cmd.specs.Formatting.{FormattedBy}
 use Rattle.script_cmd.specs.Noted.{is_beyond}
 use Rattle.script_cmd.specs.Promises.{given_to}
 use Rattle.script_turns.specs.Runs.{calls_of, sends_none}
+use Rattle.script_cmd.specs.ServeWays.{ServeWay}
 use Rattle.script_cmd.specs.Showing.{ShowedBy}
 use Rattle.script_cmd.specs.SoakWays.{SoakWay}
 use Rattle.script_cmd.specs.Sourced.{FailsOnce, ReadsInTime}
-use Rattle.script_cmd.specs.Ways.{ByList, HasGoodList, Inputs, IsIdle, Later, RunsOrNone, Way, given_all}
+use Rattle.script_cmd.specs.Ways.{ByList, HasGoodList, Inputs, IsIdle, RunsOrNone, Way, given_all}
 use Rattle.script_cmd.specs.WaysByTable.{WayByTable, over_table}
 use Rattle.script_cmd.specs.declared.done.Note.{Note}
 
@@ -31,12 +32,13 @@ pub record Answered {H I : Type 0} (passes : List ℕ → Bool) (device : Device
       → FormattedBy passes device (given_all inputs) file (record { banks = banks; rows = rows }) ending old new
   pub soaks : (seed rounds : ℕ) → inputs.asked ≡ Some (ask.soak seed rounds)
       → SoakWay device (given_all inputs) seed rounds ending old new
+  pub serves : inputs.asked ≡ Some ask.serve → ServeWay passes device.tells (given_all inputs) (in_model ending) old new rest
   pub read_to_end : ending.status ≡ 0 → inputs.asked ≡ Some ask.run → IfSome rest (λ r. r ≡ [])
   pub read_to_end_by_table : ending.status ≡ 0 → inputs.asked ≡ Some ask.run_partitioned
       → IfSome rest (λ r. r ≡ [])
   pub power : IsTrue (leaves_on inputs.asked) → ending.status ≡ 0 → IsTrue new.flash.power
-  -- only `run` reads the source, and not behind a list that told files lack, or that is none
-  pub source : IsFalse (asks_run inputs.asked) → source_after ≡ source_before
+  -- only `run` and `serve` read the source, and not behind a list that told files lack, or that is none
+  pub source : IsFalse (asks_source inputs.asked) → source_after ≡ source_before
   pub list_first : (HasGoodList inputs.list inputs.files → ⊥) → source_after ≡ source_before
   pub in_time : IsTrue (asks_run inputs.asked) → ReadsInTime inputs.source rest
   pub source_count : IsTrue (asks_run inputs.asked)
@@ -49,7 +51,10 @@ pub record Answered {H I : Type 0} (passes : List ℕ → Bool) (device : Device
   pub list_alone : IsFalse (asks_package inputs.asked) → IsTrue (sends_none (calls_of ending.journal))
       → IsFalse (may_fail_before ending.status) → new.faults.files ≡ old.faults.files
   pub note : IsFalse (asks_beyond inputs.asked) → IsFalse (is_beyond ending.noted)
-  pub later : Later old.faults new.faults
+  -- no count of failures falls; by how much the source's rises in a serving is told there
+  pub later_files : old.faults.files ≤ new.faults.files
+  pub later_source : inputs.asked ≢ Some ask.serve → old.faults.source ≤ new.faults.source
+  pub later_sink : old.faults.sink ≤ new.faults.sink
 
 -- The same by the manifests of a list that was read (`Has` says of which), or nothing was done, and it holds whichever pass.
 abbrev pub AnsweredByList : {H I : Type 0} → (Has : (List ℕ → Bool) → Type 0) → Device → Inputs → Ending Note → World → World

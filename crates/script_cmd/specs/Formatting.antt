@@ -34,7 +34,7 @@ use Rattle.script_turns.specs.Powered.{Moment}
 use Rattle.script_cmd.specs.ByTable.{Wakes}
 use Rattle.script_cmd.specs.Ending.{Device, Ending, PutsNone, World}
 use Rattle.script_cmd.specs.Noted.{is_beyond, noted}
-use Rattle.script_cmd.specs.Printed.{Prints}
+use Rattle.host_io.specs.Printed.{Prints}
 use Rattle.script_cmd.specs.Showing.{HasCause, IsGranted, RefusedList, RefusesBadList, flash_fault_line}
 use Rattle.script_turns.specs.Turning.{NoneFalls}
 use Rattle.script_cmd.specs.Ways.{Given, HasGoodList}

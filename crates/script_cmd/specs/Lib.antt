@@ -1,4 +1,3 @@
-pub mod Printed
 pub mod Running
 pub mod Noted
 pub mod Asking
@@ -18,6 +17,8 @@ pub mod Soaking
 pub mod SoakStands
 pub mod SoakWays
 pub mod Soaked
+pub mod ServeWays
+pub mod ServedBy
 pub mod Answered
 pub mod Serves
 pub mod Handed

@@ -113,6 +113,19 @@ GuardedHolds tells old new =
     IsTrue tells → NothingDirty old.told → Guards 1 7 old.told → IsGuarded new.told
     × (IsTrue new.power → IsAtRest new.told)
 
+-- What holds of the turns of any run, whichever way it ended. They began with the device as it was handed in.
+pub record RanHolds (passes : List ℕ → Bool) (tells : Bool) (files : Option Directory) (journal : List Turn)
+    (old new : World) : Type 0 where
+  -- For every device: each turn's reply is that of each machine that the agent shows; a boot's reply tells whether the flash is on,
+  -- and with which numbers; while off all else is answered `off`; and what an armed loss counts of the turn.
+  pub replies : RepliesHold passes tells files journal old new
+  -- For every device: where no turn ran it is as it was, and its power is by the replies.
+  pub device : LeavesDevice tells journal old.flash new.flash
+  -- On any flash with nothing dirty, sound or not: a first turn that is a boot goes by the bytes.
+  pub first : FirstHolds passes tells journal old.flash
+  -- From a flash with nothing dirty, sound or not: no loss may harm what is in use, and with power it is at rest.
+  pub guarded : GuardedHolds tells old.flash new.flash
+
 -- from a sound flash all is done, where nothing was lacking and nothing failed, unless memory was wanting
 abbrev pub CompleteHolds : (List ℕ → Bool) → Bool → Inputs → Ending Note → World → World → Type 0
 CompleteHolds passes tells inputs ending old new =
@@ -192,16 +205,9 @@ pub record Promised (passes : List ℕ → Bool) (tells : Bool) (inputs : Inputs
   pub wrote : WroteHolds inputs.asked (given_to inputs) ending old new
   -- For every device, files, source and sink: which turns and causes ended the run.
   pub ends : EndsHold inputs.asked (given_to inputs) ending old new
-  -- For every device: each turn's reply is that of each machine that the agent shows; a boot's reply tells whether the flash is on,
-  -- and with which numbers; while off all else is answered `off`; and what an armed loss counts of the turn.
-  pub replies : RepliesHold passes tells inputs.files ending.journal old new
-  -- For every device: where no turn ran it is as it was, and its power is by the replies.
-  pub device : LeavesDevice tells ending.journal old.flash new.flash
-  -- On any flash with nothing dirty, sound or not: a first turn that is a boot goes by the bytes.
-  pub first : FirstHolds passes tells ending.journal old.flash
+  -- For every device: what each turn did, how the device is left, and that no loss harms what is in use.
+  pub turns : RanHolds passes tells inputs.files ending.journal old new
   -- `boot` on any flash with nothing dirty, sound or not, where nothing failed.
   pub boot_word : BootWordHolds passes tells inputs.asked ending old.flash new.flash
-  -- From a flash with nothing dirty, sound or not: no loss may harm what is in use, and with power it is at rest.
-  pub guarded : GuardedHolds tells old.flash new.flash
   -- From a sound flash all is done, where nothing was lacking and nothing failed, unless memory was wanting.
   pub complete : CompleteHolds passes tells inputs ending old new

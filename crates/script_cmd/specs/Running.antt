@@ -12,7 +12,7 @@ use Rattle.fwu_model.specs.declared.kinds.Note.TheVariants as note
 use Rattle.script_turns.specs.Powered.{Fits, Moment}
 use Rattle.script_turns.specs.Turning.{Turns}
 use Rattle.script_turns.specs.Runs.{calls_of}
-use Rattle.script_cmd.specs.Printed.{FailsAtThree, Prints}
+use Rattle.host_io.specs.Printed.{FailsAtThree, Prints}
 
 -- ---- one turn
 

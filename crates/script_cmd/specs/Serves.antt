@@ -1,22 +1,23 @@
 -- What the program promises of what its words ask for, by each command. It is the contract of both top calls.
-use Rattle.std.specs.Prelude.{◌≡◌, ℕ, Bool, List, [], Option, Some, None, IfSome, IsTrue, IsFalse}
+use Rattle.std.specs.Prelude.{◌≡◌, ◌≢◌, ◌≤◌, ℕ, Bool, List, [], Option, Some, None, IfSome, IsTrue, IsFalse}
 use Rattle.fwu_formats.specs.Layout.{ImageRow}
 use Rattle.fwu_model.specs.Allow.{asks_list}
 use Rattle.fwu_model.specs.Causes.{may_fail_before}
 use Rattle.fwu_words.specs.Order.{Asked}
 use Rattle.fwu_words.specs.Order as ask
-use Rattle.script_cmd.specs.Asking.{asks_beyond, asks_files, asks_package, asks_run, leaves_on}
+use Rattle.script_cmd.specs.Asking.{asks_beyond, asks_files, asks_package, asks_run, asks_source, leaves_on}
 use Rattle.script_cmd.specs.Ending.{Device, Ending, World, in_model}
 use Rattle.script_cmd.specs.Formatting.{FormattedBy}
 use Rattle.script_cmd.specs.Noted.{is_beyond}
-use Rattle.script_cmd.specs.Printed.{FailsAtThree}
+use Rattle.host_io.specs.Printed.{FailsAtThree}
 use Rattle.script_cmd.specs.Promises.{Promised}
 use Rattle.script_cmd.specs.PromisesByTable.{PromisedByTable}
 use Rattle.script_turns.specs.Runs.{calls_of, sends_none}
+use Rattle.script_cmd.specs.ServedBy.{ServedBy}
 use Rattle.script_cmd.specs.Showing.{ShowedBy}
 use Rattle.script_cmd.specs.Soaked.{SoakedBy}
 use Rattle.script_cmd.specs.Sourced.{FailsOnce, ReadsInTime}
-use Rattle.script_cmd.specs.Ways.{ByList, HasGoodList, HasPasses, Inputs, IsIdle, Later, RunsOrNone, given_all}
+use Rattle.script_cmd.specs.Ways.{ByList, HasGoodList, HasPasses, Inputs, IsIdle, RunsOrNone, given_all}
 use Rattle.script_cmd.specs.WaysByTable.{over_table}
 use Rattle.script_cmd.specs.declared.done.Note.{Note}
 
@@ -37,12 +38,14 @@ pub record Serves {H I : Type 0} (passes : List ℕ → Bool) (device : Device) 
   -- for `soak`: its calls are a run of the machine from the flash as it was formatted, and the line is that of their totals
   pub soaks : (seed rounds : ℕ) → inputs.asked ≡ Some (ask.soak seed rounds)
       → SoakedBy device (given_all inputs) seed rounds ending old new
+  -- for `serve`: one boot and the calls of the requests are a run of the machine, and what was written is the frames of the replies
+  pub serves : inputs.asked ≡ Some ask.serve → ServedBy passes device.tells (given_all inputs) (in_model ending) old new rest
   pub read_to_end : ending.status ≡ 0 → inputs.asked ≡ Some ask.run → IfSome rest (λ r. r ≡ [])
   pub read_to_end_by_table : ending.status ≡ 0 → inputs.asked ≡ Some ask.run_partitioned
       → IfSome rest (λ r. r ≡ [])
   pub power : IsTrue (leaves_on inputs.asked) → ending.status ≡ 0 → IsTrue new.flash.power
-  -- only `run` reads the source, and not behind a list that told files lack, or that is none
-  pub source : IsFalse (asks_run inputs.asked) → source_after ≡ source_before
+  -- only `run` and `serve` read the source, and not behind a list that told files lack, or that is none
+  pub source : IsFalse (asks_source inputs.asked) → source_after ≡ source_before
   pub list_first : (HasGoodList inputs.list inputs.files → ⊥) → source_after ≡ source_before
   pub in_time : IsTrue (asks_run inputs.asked) → ReadsInTime inputs.source rest
   pub source_count : IsTrue (asks_run inputs.asked)
@@ -57,7 +60,10 @@ pub record Serves {H I : Type 0} (passes : List ℕ → Bool) (device : Device) 
   pub note : IsFalse (asks_beyond inputs.asked) → IsFalse (is_beyond ending.noted)
   -- the sink fails at the line that ends it with 3, and at no other
   pub sink_count : FailsAtThree ending.status old.faults.sink new.faults.sink
-  pub later : Later old.faults new.faults
+  -- no count of failures falls; by how much the source's rises in a serving is told there
+  pub later_files : old.faults.files ≤ new.faults.files
+  pub later_source : inputs.asked ≢ Some ask.serve → old.faults.source ≤ new.faults.source
+  pub later_sink : old.faults.sink ≤ new.faults.sink
 
 -- The same by the manifests that the list has which the words name. Where no list was read nothing was done, and it holds
 -- whichever pass.

@@ -15,7 +15,7 @@ use Rattle.fwu_model.specs.declared.kinds.Note.TheVariants as note
 use Rattle.early_boot.specs.Numbers.{AreNumbers, ShowsNumbers}
 use Rattle.script_cmd.specs.ByTable.{Wakes}
 use Rattle.script_cmd.specs.Ending.{Ending, PutsNone, World}
-use Rattle.script_cmd.specs.Printed.{Prints}
+use Rattle.host_io.specs.Printed.{Prints}
 use Rattle.script_turns.specs.Turning.{NoneFalls}
 use Rattle.script_turns.specs.Powered.{Moment}
 use Rattle.script_cmd.specs.Ways.{Given, HasGoodList, Refuses}

@@ -23,7 +23,7 @@ use Rattle.script_turns.specs.Powered.{Moment, at}
 use Rattle.script_cmd.specs.Formatting.{Tries, format_note, format_status, format_text}
 use Rattle.script_cmd.specs.Ending.{Device, Ending, PutsNone, World, in_model}
 use Rattle.script_cmd.specs.Noted.{is_beyond, noted}
-use Rattle.script_cmd.specs.Printed.{Prints}
+use Rattle.host_io.specs.Printed.{Prints}
 use Rattle.script_turns.specs.Runs.{Ran, calls_of}
 use Rattle.script_cmd.specs.Showing.{RefusedList}
 use Rattle.script_cmd.specs.Soaking.{first_files, soak_files, stop_line}

@@ -20,7 +20,7 @@ use Rattle.host_io.specs.declared.files.Files as files
 use Rattle.host_io.specs.declared.source.Source as source
 use Rattle.host_io.specs.declared.sink.Sink as sink
 use Rattle.script_cmd.specs.Ending.{Device, Ending, PutsNone, World}
-use Rattle.script_cmd.specs.Printed.{Prints}
+use Rattle.host_io.specs.Printed.{Prints}
 use Rattle.script_cmd.specs.Running.{Ended, Printed}
 use Rattle.script_turns.specs.Runs.{Ran}
 
@@ -111,12 +111,6 @@ abbrev pub inputs_of : {H I : Type 0} → files.Ghosts H → source.Ghosts I →
 inputs_of h i asked list files source =
     record { asked = asked; list = list; files = h.contents files; source = i.left source }
 
--- no fault count falls
-pub record Later (faults_before faults_after : Faults) : Type 0 where
-  pub files : faults_before.files ≤ faults_after.files
-  pub source : faults_before.source ≤ faults_after.source
-  pub sink : faults_before.sink ≤ faults_after.sink
-
 -- Nothing ran for want of memory; or for a cause, whose line was put into the sink; or the turns of the script ran.
 pub data Way (passes : List ℕ → Bool) (tells : Bool) (asked : Option Asked) (g : Given)
     (ending : Ending Note) (old new : World) : Type 0 where
@@ -152,6 +146,7 @@ RunsOrNone (Some ask.boot_partitioned) = ⊥
 RunsOrNone (Some ask.show) = ⊥
 RunsOrNone (Some (ask.format banks rows file)) = ⊥
 RunsOrNone (Some (ask.soak seed rounds)) = ⊥
+RunsOrNone (Some ask.serve) = ⊥
 
 -- ---- whose manifests pass
 

@@ -13,7 +13,7 @@ use Rattle.script_cmd.specs.ByTable.{Looks, Starts, StopsBefore, flash_fault_lin
 use Rattle.script_cmd.specs.Ending.{Device, Ending, PutsNone, World, in_model}
 use Rattle.script_cmd.specs.Noted.{is_beyond, noted}
 use Rattle.script_turns.specs.Powered.{Moment, at}
-use Rattle.script_cmd.specs.Printed.{Prints}
+use Rattle.host_io.specs.Printed.{Prints}
 use Rattle.script_cmd.specs.Running.{Ended, Printed}
 use Rattle.script_turns.specs.Runs.{Ran}
 use Rattle.script_cmd.specs.Ways.{AsksTurns, Given, HasCalls, HasGoodList, Way}
@@ -28,6 +28,7 @@ over_table (Some ask.boot_partitioned) = Some ask.boot
 over_table (Some ask.show) = None
 over_table (Some (ask.format banks rows file)) = None
 over_table (Some (ask.soak seed rounds)) = None
+over_table (Some ask.serve) = None
 
 -- the script was read whole, and has these calls
 pub record ReadsScript (asked : Option Asked) (g : Given) (calls : List Call) : Type 0 where

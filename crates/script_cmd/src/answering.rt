@@ -28,6 +28,7 @@ use crate::refusing::{
 };
 use crate::room::Room;
 use crate::running::run_script;
+use crate::serving_command::serve_source;
 use crate::showing::show;
 use crate::soak_command::soak;
 use flash_core::Flash;
@@ -355,6 +356,7 @@ pub fn answer_with<D: Flash, H: Files, I: Source, O: Sink, V: Verifier>(
             verifier,
         ),
         Ok(Order::Soak { seed, rounds }) => soak(alloc, seed, rounds, sink, flash),
+        Ok(Order::Serve) => serve_source(alloc, files, source, sink, flash, verifier),
         Err(UsageStop::Usage) => print_usage(alloc, sink, flash),
         Err(UsageStop::NoMemory) => idle(alloc, 9, Note::Nothing, flash),
     }

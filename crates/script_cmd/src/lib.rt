@@ -14,6 +14,7 @@ mod reading;
 mod refusing;
 mod room;
 mod running;
+mod serving_command;
 mod showing;
 mod soak_command;
 mod soaking;

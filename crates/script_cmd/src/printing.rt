@@ -1,7 +1,7 @@
 //! Lines that are put into the sink.
 ghost use Rattle.std.specs.Prelude.{◌≡◌};
 ghost use Rattle.fwu_model.specs.Wrote.{usage_line};
-ghost use Rattle.script_cmd.specs.Printed.{Prints};
+ghost use Rattle.host_io.specs.Printed.{Prints};
 
 use host_io::{Sink, WriteStop};
 
@@ -23,6 +23,7 @@ pub fn put_usage<O: Sink>(sink: &mut O) -> u8
     ensures { Prints usage_line 1 result (O.taken sink.old) (O.taken sink.new) (O.faults sink.old)
         (O.faults sink.new) }
 {
-    let line = b"usage: fwu FLASH run|boot|show|format [--banks N] LAYOUT PACKAGE|soak SEED N\n";
+    let line =
+        b"usage: fwu FLASH run|boot|show|format [--banks N] LAYOUT PACKAGE|soak SEED N|serve\n";
     put_line(sink, line.as_slice(), 1)
 }

@@ -3,7 +3,7 @@ ghost use Rattle.std.specs.Prelude.{◌≡◌, []};
 ghost use Rattle.fwu_model.specs.Wrote.{bad_list_line, bad_script_line, not_read_line, too_long_line, usage_line};
 ghost use Rattle.fwu_journal.specs.Shown.{turns};
 ghost use Rattle.script_cmd.specs.ByTable.{flash_fault_line, no_table_line};
-ghost use Rattle.script_cmd.specs.Printed.{Prints};
+ghost use Rattle.host_io.specs.Printed.{Prints};
 
 use crate::done::{Done, NoTable, Note};
 use crate::printing::{put_line, put_usage};

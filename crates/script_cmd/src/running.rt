@@ -10,7 +10,7 @@ ghost use Rattle.fwu_journal.specs.Shown.{HasRoomFor, IsShort, reply, turn as sh
 ghost use Rattle.fwu_journal.specs.declared.line.TheConstants.{LINE_ROOM};
 ghost use Rattle.script_turns.specs.Powered.{at, device, has_power, moment, moment_of, shown_on};
 ghost use Rattle.script_cmd.specs.Noted.{is_beyond, noted};
-ghost use Rattle.script_cmd.specs.Printed.{Prints};
+ghost use Rattle.host_io.specs.Printed.{Prints};
 ghost use Rattle.script_cmd.specs.Running.{Ended, Printed, Steps};
 ghost use Rattle.script_turns.specs.Runs.{Ran, calls_of, sends_none};
 ghost use Rattle.fwu_model.specs.Run.{is_send};

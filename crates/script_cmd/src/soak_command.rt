@@ -17,7 +17,7 @@ ghost use Rattle.script_cmd.specs.Done.{ending};
 ghost use Rattle.script_cmd.specs.Here.{SoaksWay};
 ghost use Rattle.script_cmd.specs.Ending.{in_model};
 ghost use Rattle.script_cmd.specs.Noted.{noted};
-ghost use Rattle.script_cmd.specs.Printed.{Prints};
+ghost use Rattle.host_io.specs.Printed.{Prints};
 ghost use Rattle.script_cmd.specs.SoakWays.{SoakEnds};
 ghost use Rattle.script_cmd.specs.SoakStands.{StandsHere};
 ghost use Rattle.script_cmd.specs.Soaking.{file_of, first_files};

@@ -37,7 +37,7 @@ use Rattle.agent_machine.specs.Fields.{Fields, total_of}
 use Rattle.agent_machine.specs.Beside.{KeepsSpared, KeepsSparedByAll}
 use Rattle.agent_machine.proofs.Beside.{spared-once}
 use Rattle.agent_machine.specs.Moment as agent
-use Rattle.agent_machine.specs.Meets.{Answers, IsSettingOf, Leaves, ShowsNext, Stays, flash_result}
+use Rattle.agent_machine.specs.Meets.{Answers, IsDone, IsSettingOf, Leaves, ShowsNext, Stays, flash_result}
 use Rattle.script_turns.specs.Powered.{Moment, IsAt, IsSafe, at, kept_at}
 use Rattle.agent_calls.specs.AnswersCall.{AnswersCall, GoesBackBy, IsDecided, IsPrevious, IsReplyOf, PermitsBack}
 use Rattle.script_turns.specs.Replies.{AnswersBegin, AnswersTo, CallSays, IsFlashStop, Replies, power_after}
@@ -461,7 +461,7 @@ module _ (passes : List ℕ → Bool) (tells : Bool) (files : Option Directory) 
       exact-own test E s x setting shows =
           subst (λ (a : Answer). (r ≡ a.reply) × agent.Shows behind (after s a.moves) a.next) (sym (own E s x setting shows test)) (exact E s x setting shows)
 
-      says-begun : (r ≡ reply.Success → OnOk result ((i : ℕ) → i < length named → get_or named i true ≡ false → length (begins.bytes i) ≡ total_of f (Some i))
+      says-begun : (r ≡ reply.Success → (IsDone result → (i : ℕ) → i < length named → get_or named i true ≡ false → length (begins.bytes i) ≡ total_of f (Some i))
           → (i : ℕ) → i < length named → get_or named i true ≡ false → length (begins.bytes i) ≡ total_of f (Some i))
           → AnswersBegin passes types r before behind
       says-begun count = record {
@@ -490,7 +490,7 @@ module _ (passes : List ℕ → Bool) (tells : Bool) (files : Option Directory) 
       → Turns passes tells files begin (quiet_turn begin (reply_by (λ (_ : Unit {0}). reply.Success) result)) (at (Some f) told was armed power) (at (on_by result g) now are after_armed after_power) faults faults
   begin-turns (Ok value) here begins power_is costs free takes =
       turns-answered passes tells files faults begin reply.Success f g told now was are armed after_armed power after_power refl refl power_was power_is
-      (exact-own (Ok value) begins reply.Success (exact-done value begins)) (says-begun (Ok value) begins reply.Success (exact-done value begins) (λ is count. count)) (left (Ok value) begins) costs free takes
+      (exact-own (Ok value) begins reply.Success (exact-done value begins)) (says-begun (Ok value) begins reply.Success (exact-done value begins) (λ is count. count tt)) (left (Ok value) begins) costs free takes
   begin-turns (Err (stop.Status st)) here begins power_is costs free takes =
       turns-answered passes tells files faults begin (reply.Refused st) f g told now was are armed after_armed power after_power refl refl power_was power_is
       (exact-own (Err (stop.Status st)) begins (reply.Refused st) (exact-refused st begins)) (says-begun (Err (stop.Status st)) begins (reply.Refused st) (exact-refused st begins) (λ is count. absurd cc)) (left (Err (stop.Status st)) begins) costs free takes

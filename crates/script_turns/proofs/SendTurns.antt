@@ -50,7 +50,7 @@ use Rattle.update_client.specs.Halts.{flash_of}
 use Rattle.update_client.specs.Pieces.{ReadsBy, unread_in}
 use Rattle.update_client.specs.Choosing.{no_row}
 use Rattle.update_client.specs.Sends.{AnswersBy, IsEarly, Sends, SendsBy, ended, send_answer}
-use Rattle.update_client.specs.Partial.{GoesAs, SendsOver, over_answer}
+use Rattle.update_client.specs.Partial.{GoesAs, SendsOver, WasBegun, over_answer}
 use Rattle.update_client.specs.Takes.{SendTakes as TakesSent}
 use Rattle.agent_calls.specs.declared.agent.Agent.{Agent}
 use Rattle.agent_calls.specs.Shown.{fields}
@@ -58,7 +58,7 @@ use Rattle.script_turns.specs.Calls.{is_composed, moment_where}
 use Rattle.script_turns.specs.Stage.{on_where}
 use Rattle.script_turns.specs.Powered.{Moment, at, kept_at, IsAt, IsSafe}
 use Rattle.script_turns.specs.Replies.{Replies, power_after}
-use Rattle.script_turns.specs.Sending.{AnswersSend, IsTableOf, LacksSent, SendSays, SendsAs, done_reply, is_answered, on_sent, send_call, sent_reply}
+use Rattle.script_turns.specs.Sending.{AnswersSend, IsTableOf, LacksSent, SendSays, SendsAs, TellsBegun, done_reply, is_answered, on_sent, send_call, sent_reply}
 use Rattle.script_turns.specs.Takes.{SendTakes, StaysFree, TakesOn, stop_told, unread_told, writes_partly, writes_whole}
 use Rattle.script_turns.specs.Turning.{Makes, NoneFalls, Turns, quiet_turn}
 use Rattle.script_turns.proofs.CallTakes.{with}
@@ -231,7 +231,7 @@ pub record Sending (partly : Bool) (files : Option Directory) (name : List ℕ) 
   pub goes : (E : Setting) (s : State) (x : Session) → E.layout ≡ old.fields.layout → E.passes ≡ passes → agent.Shows old s x → GoesBy partly result (answers E s x) E old new s x
   pub own : IsTrue old.tells → (E : Setting) (s : State) (x : Session) → E.layout ≡ old.fields.layout → files ≡ Some E.files → agent.Shows old s x
       → answer E s x (send_call partly name request) ≡ answers E s x
-  pub says : (r : Reply) → ((E : Setting) (s : State) (x : Session) → E.layout ≡ old.fields.layout → E.passes ≡ passes → agent.Shows old s x
+  pub says : (r : Reply) → (TellsBegun r → WasBegun result) → ((E : Setting) (s : State) (x : Session) → E.layout ≡ old.fields.layout → E.passes ≡ passes → agent.Shows old s x
       → (r ≡ (answers E s x).reply) × agent.Shows new (after s (answers E s x).moves) (answers E s x).next)
       → Stays old new → SendsAs partly passes files name request r old new
 
@@ -245,7 +245,7 @@ module _ (files : Option Directory) (name : List ℕ) (request : ℕ) (passes : 
         subst (λ (y : Session). answer E s y (send_call false name request) ≡ send_answer E toc sends.images request s y) (sym shows.means)
         (sends-as E files name request s old.fields.boot _ _ told there toc sends.images table
         (λ file tells. sends.read file tells ∙ ap (λ (l : Layout). images_of l.rows file toc) (sym layout)));
-    says = λ r exact stays. record { toc = toc; images = sends.images; table = table; read = sends.read; exact = exact; stays = stays };
+    says = λ r begun exact stays. record { toc = toc; images = sends.images; table = table; read = sends.read; exact = exact; stays = stays };
   }
 
   pub sending-over : SendsOver files name toc request passes result old new → Sending true files name request passes result old new
@@ -257,8 +257,17 @@ module _ (files : Option Directory) (name : List ℕ) (request : ℕ) (passes : 
         (sends-over E files name request s old.fields.boot _ _ told there toc sends.bytes sends.images table
         (λ file tells. sends.read file tells ∙ ap (λ (l : Layout). images_over l.rows file toc sends.bytes) (sym layout))
         (subst (λ (l : Layout). (i : ℕ) → i < length l.rows → has_image toc (get_or l.rows i no_row) ≡ false → sends.bytes i ≡ image_held s s.active i) (sym layout) (sends.copied test s x shows)));
-    says = λ r exact stays.
-        record { toc = toc; bytes = sends.bytes; copied = sends.copied; images = sends.images; table = table; read = sends.read; exact = exact; stays = stays };
+    says = λ r begun exact stays. record {
+      toc = toc;
+      bytes = sends.bytes;
+      copied = sends.copied;
+      whole = λ tells. sends.whole (begun tells);
+      images = sends.images;
+      table = table;
+      read = sends.read;
+      exact = exact;
+      stays = stays;
+    };
   }
 
 -- no sending changes which blocks are guarded, nor the layout
@@ -481,10 +490,10 @@ module _ (partly : Bool) (passes : List ℕ → Bool) (tells : Bool) (files : Op
 
   module _ (result : Result Sent SendStop) (sends : Sending partly files name request passes result old new) (stays : Stays old new) where
     -- what was answered
-    says-answered : (r : Reply)
+    says-answered : (r : Reply) → (TellsBegun r → WasBegun result)
         → ((E : Setting) (s : State) (x : Session) → E.layout ≡ f.layout → E.passes ≡ passes → agent.Shows old s x → AnswersBy r (sends.answers E s x) E old new s)
         → SendsAs partly passes files name request r old new
-    says-answered r goes = sends.says r (λ E s x layout passes_are shows. let h = goes E s x layout passes_are shows in (h.0, h.1.shows)) stays
+    says-answered r begun goes = sends.says r begun (λ E s x layout passes_are shows. let h = goes E s x layout passes_are shows in (h.0, h.1.shows)) stays
 
   done-says : (kind : Bool) (sent : Sent) → SendsAs kind passes files name request (done_reply kind sent) old new → AnswersSend kind passes files name request (done_reply kind sent) old new
   done-says false sent says = says
@@ -492,11 +501,11 @@ module _ (partly : Bool) (passes : List ℕ → Bool) (tells : Bool) (files : Op
 
   says : (result : Result Sent SendStop) → (result ≡ Err Gone → ⊥) → (sends : Sending partly files name request passes result old new) → Stays old new
       → SendSays partly passes tells files name request (Some f) t (sent_reply partly result) (on_sent result g) u
-  says (Ok sent) there sends stays = done-says partly sent (says-answered (Ok sent) sends stays (done_reply partly sent) sends.goes)
-  says (Err (MissingImage guid)) there sends stays = says-answered (Err (MissingImage guid)) sends stays (reply.Missing guid) sends.goes
-  says (Err (ImageTooLarge guid)) there sends stays = says-answered (Err (ImageTooLarge guid)) sends stays (reply.TooLarge guid) sends.goes
-  says (Err (Begin st)) there sends stays = says-answered (Err (Begin st)) sends stays (reply.BeginRefused st) sends.goes
-  says (Err (End st)) there sends stays = says-answered (Err (End st)) sends stays (reply.EndRefused st) sends.goes
+  says (Ok sent) there sends stays = done-says partly sent (says-answered (Ok sent) sends stays (done_reply partly sent) (λ tells. tt) sends.goes)
+  says (Err (MissingImage guid)) there sends stays = says-answered (Err (MissingImage guid)) sends stays (reply.Missing guid) (λ tells. tells) sends.goes
+  says (Err (ImageTooLarge guid)) there sends stays = says-answered (Err (ImageTooLarge guid)) sends stays (reply.TooLarge guid) (λ tells. tells) sends.goes
+  says (Err (Begin st)) there sends stays = says-answered (Err (Begin st)) sends stays (reply.BeginRefused st) (λ tells. tells) sends.goes
+  says (Err (End st)) there sends stays = says-answered (Err (End st)) sends stays (reply.EndRefused st) (λ tells. tt) sends.goes
   says (Err ReadFailed) there sends stays = tt
   says (Err Lost) there sends stays = tt
   says (Err Fault) there sends stays = tt

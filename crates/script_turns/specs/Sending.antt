@@ -1,5 +1,6 @@
 -- What a turn of `send` says, whole or partial, on any device and of any file.
-use Rattle.std.specs.Prelude.{◌≡◌, ◌<◌, ℕ, Bool, true, false, List, length, Option, Some, None, Result, Ok, Err, IsTrue, ⊤, slice_index_or}
+use Rattle.std.specs.Prelude.{◌≡◌, ◌≢◌, ◌<◌, ℕ, Bool, true, false, List, length, Option, Some, None, Result, Ok, Err, IsTrue, ⊤, slice_index_or}
+use Rattle.host_io.specs.Access.{Access, Asks}
 use Rattle.host_io.specs.Contents.{Directory}
 use Rattle.flash_core.specs.Told.{Told}
 use Rattle.fwu_formats.specs.Package.{Toc}
@@ -20,7 +21,7 @@ use Rattle.update_client.specs.declared.stops.SendStop.{SendStop}
 use Rattle.update_client.specs.declared.stops.SendStop.TheVariants.{MissingImage, ImageTooLarge, Begin, End, ReadFailed, Lost, Fault, Gone}
 use Rattle.update_client.specs.Choosing.{no_row}
 use Rattle.update_client.specs.Sends.{send_answer}
-use Rattle.update_client.specs.Partial.{over_answer}
+use Rattle.update_client.specs.Partial.{AreWhole, over_answer}
 use Rattle.script_turns.specs.Powered.{kept_at}
 
 -- a sending of all images, or one over those of the active bank
@@ -38,6 +39,12 @@ LacksSent files (call.Send name request) = Lacks files name
 LacksSent files (call.SendPartial name request) = Lacks files name
 LacksSent files other = ⊥
 
+-- an access that no turn of the call makes: a sending asks for its own file alone, and any other call for none
+abbrev pub IsUnnamed : Call → Access → Type 0
+IsUnnamed (call.Send name request) access = access ≢ Asks name
+IsUnnamed (call.SendPartial name request) access = access ≢ Asks name
+IsUnnamed other access = ⊤
+
 -- Some table and images were sent, those of the file where it is told; the answer is that of each machine that the agent shows, and
 -- it shows the machine after it.
 pub record SendsBy (passes : List ℕ → Bool) (files : Option Directory) (name : List ℕ) (request : ℕ) (r : Reply)
@@ -51,8 +58,14 @@ pub record SendsBy (passes : List ℕ → Bool) (files : Option Directory) (name
       × agent.Shows new (after s (send_answer E toc images request s x).moves) (send_answer E toc images request s x).next
   pub stays : Stays old new
 
+-- the reply of a partial sending tells that its begin was done
+abbrev pub TellsBegun : Reply → Type 0
+TellsBegun (reply.SentPartial images skipped copied) = ⊤
+TellsBegun (reply.EndRefused st) = ⊤
+TellsBegun other = ⊥
+
 -- Some table and images were sent over some bytes of the images that the table lacks, which are the active bank's where the device
--- tells. The images are those of the file over these bytes where it is told. The answer is that of each machine that the agent
+-- tells, and behind a begin that was done as many on any device. The images are those of the file over these bytes where it is told. The answer is that of each machine that the agent
 -- shows, and it shows the machine after it.
 pub record SendsOverBy (passes : List ℕ → Bool) (files : Option Directory) (name : List ℕ) (request : ℕ) (r : Reply)
     (old new : agent.Moment) : Type 0 where
@@ -60,6 +73,7 @@ pub record SendsOverBy (passes : List ℕ → Bool) (files : Option Directory) (
   pub bytes : ℕ → List ℕ
   pub copied : IsTrue old.tells → (s : State) (x : Session) → agent.Shows old s x → (i : ℕ) → i < length old.fields.layout.rows
       → has_image toc (slice_index_or old.fields.layout.rows i no_row) ≡ false → bytes i ≡ image_held s s.active i
+  pub whole : TellsBegun r → AreWhole old.fields.layout.rows toc old.fields bytes
   pub images : List (List ℕ)
   pub table : IsTableOf files name (Ok toc)
   pub read : (file : List ℕ) → Tells files name file → images ≡ images_over old.fields.layout.rows file toc bytes

@@ -1,5 +1,6 @@
 //! The turn of `send`, whole or partial.
 ghost use Rattle.std.specs.Prelude.{◌≡◌, ◌+◌, ◌^◌, ◌<◌, ◌≤◌, All, ℕ, List, Ok, string_bytes, length, IsTrue, IsFalse, true, false};
+ghost use Rattle.host_io.specs.Reads.{ReadsFile};
 ghost use Rattle.fwu_model.specs.Reply as model;
 ghost use Rattle.fwu_model.specs.Run.{ends_run};
 ghost use Rattle.fip_tables.specs.Files.{Lacks, Tells};
@@ -121,8 +122,7 @@ fn send_by<D: Flash, H: Files, V: Verifier>(
         → D.on (device agent.new) ≡ result.here }
     ensures here { IsTrue result.here → IsFalse (gone agent.new) }
     ensures size { D.blocks (device agent.new) ≡ D.blocks (device agent.old) }
-    ensures same { H.contents files.new ≡ H.contents files.old }
-    ensures unwritten { H.writes files.new ≡ H.writes files.old }
+    ensures reads { ReadsFile H.Files (string_bytes name) files.old files.new }
     ensures short { IsShort (turn result.turn).reply }
 {
     let mut piece = [0u8; PIECE];
@@ -161,8 +161,7 @@ fn send_partial_by<D: Flash, H: Files, V: Verifier>(
         → D.on (device agent.new) ≡ result.here }
     ensures here { IsTrue result.here → IsFalse (gone agent.new) }
     ensures size { D.blocks (device agent.new) ≡ D.blocks (device agent.old) }
-    ensures same { H.contents files.new ≡ H.contents files.old }
-    ensures unwritten { H.writes files.new ≡ H.writes files.old }
+    ensures reads { ReadsFile H.Files (string_bytes name) files.old files.new }
     ensures short { IsShort (turn result.turn).reply }
 {
     let mut piece = [0u8; PIECE];
@@ -197,8 +196,7 @@ pub(crate) fn send_turn<D: Flash, H: Files, V: Verifier>(
         → D.on (device agent.new) ≡ result.here }
     ensures here { IsTrue result.here → IsFalse (gone agent.new) }
     ensures size { D.blocks (device agent.new) ≡ D.blocks (device agent.old) }
-    ensures same { H.contents files.new ≡ H.contents files.old }
-    ensures unwritten { H.writes files.new ≡ H.writes files.old }
+    ensures reads { ReadsFile H.Files (string_bytes name) files.old files.new }
     ensures missing { Lacks (H.contents files.old) (string_bytes name)
         → (turn result.turn).reply ≡ model.ReadFault }
     ensures short { IsShort (turn result.turn).reply }

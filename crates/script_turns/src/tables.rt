@@ -1,5 +1,6 @@
 //! The table of a file that is to be sent.
 ghost use Rattle.std.specs.Prelude.{◌≡◌, ◌+◌, ◌^◌, ◌<◌, ◌≤◌, All, ℕ, List, Err, IfErr, IfOk, length};
+ghost use Rattle.host_io.specs.Reads.{ReadsFile};
 ghost use Rattle.fwu_formats.specs.Capsule.{capsule_of, is_capsule};
 ghost use Rattle.fwu_formats.specs.Package.{toc_of};
 ghost use Rattle.fwu_model.specs.Answer.{table_in, table_or};
@@ -34,8 +35,7 @@ fn is_capsule<H: Files>(files: &mut H, name: &str) -> Result<bool, TableStop>
         → found ≡ is_capsule file) }
     ensures there { IfOk result (λ found. Lacks (H.contents files.old) name.now → ⊥) }
     ensures stops { IfErr result (λ why. why ≡ stop.ReadFailed) }
-    ensures same { H.contents files.new ≡ H.contents files.old }
-    ensures unwritten { H.writes files.new ≡ H.writes files.old }
+    ensures reads { ReadsFile H.Files name.now files.old files.new }
     ensures cause { HasTableCause (H.contents files.old) name.now (H.faults files.old)
         (H.faults files.new) result }
 {
@@ -62,8 +62,7 @@ fn package_table<H: Files>(files: &mut H, name: &str) -> Result<Toc, TableStop>
     ensures ends { IfOk result (λ toc. All (λ e. e.offset + e.size < 2 ^ 64) toc.entries) }
     ensures there { IfOk result (λ toc. Lacks (H.contents files.old) name.now → ⊥) }
     ensures missing { Lacks (H.contents files.old) name.now → result ≡ Err stop.ReadFailed }
-    ensures same { H.contents files.new ≡ H.contents files.old }
-    ensures unwritten { H.writes files.new ≡ H.writes files.old }
+    ensures reads { ReadsFile H.Files name.now files.old files.new }
     ensures cause { HasTableCause (H.contents files.old) name.now (H.faults files.old)
         (H.faults files.new) result }
 {
@@ -83,8 +82,7 @@ fn capsule_table<H: Files>(files: &mut H, name: &str) -> Result<Toc, TableStop>
     ensures ends { IfOk result (λ toc. All (λ e. e.offset + e.size < 2 ^ 64) toc.entries) }
     ensures there { IfOk result (λ toc. Lacks (H.contents files.old) name.now → ⊥) }
     ensures missing { Lacks (H.contents files.old) name.now → result ≡ Err stop.ReadFailed }
-    ensures same { H.contents files.new ≡ H.contents files.old }
-    ensures unwritten { H.writes files.new ≡ H.writes files.old }
+    ensures reads { ReadsFile H.Files name.now files.old files.new }
     ensures cause { HasTableCause (H.contents files.old) name.now (H.faults files.old)
         (H.faults files.new) result }
 {
@@ -108,8 +106,7 @@ pub fn read_table<H: Files>(files: &mut H, name: &str) -> Result<Toc, TableStop>
     ensures ends { IfOk result (λ toc. All (λ e. e.offset + e.size < 2 ^ 64) toc.entries) }
     ensures there { IfOk result (λ toc. Lacks (H.contents files.old) name.now → ⊥) }
     ensures missing { Lacks (H.contents files.old) name.now → result ≡ Err stop.ReadFailed }
-    ensures same { H.contents files.new ≡ H.contents files.old }
-    ensures unwritten { H.writes files.new ≡ H.writes files.old }
+    ensures reads { ReadsFile H.Files name.now files.old files.new }
     ensures cause { HasTableCause (H.contents files.old) name.now (H.faults files.old)
         (H.faults files.new) result }
 {

@@ -1,6 +1,7 @@
 //! One turn of a run.
 ghost use Rattle.std.specs.Prelude.{◌≡◌, IsSome, IsTrue, IsFalse, ℕ, None, Option, true};
 ghost use Rattle.host_io.specs.Contents.{Directory};
+ghost use Rattle.host_io.specs.Reads.{ReadsFiles};
 ghost use Rattle.fwu_model.specs.Call as call;
 ghost use Rattle.fwu_model.specs.Reply as reply;
 ghost use Rattle.fwu_model.specs.Run.{ends_run, is_boot, is_send};
@@ -11,7 +12,7 @@ ghost use Rattle.script_text.specs.Shown.{HasBuffer, shown};
 ghost use Rattle.script_turns.specs.Calls.{moment_where};
 ghost use Rattle.script_turns.specs.Needs.{needs_bank};
 ghost use Rattle.script_turns.specs.Powered.{Fits, device, has_power, moment_in, moment_of, shown_on};
-ghost use Rattle.script_turns.specs.Sending.{LacksSent};
+ghost use Rattle.script_turns.specs.Sending.{IsUnnamed, LacksSent};
 ghost use Rattle.script_turns.specs.Stage.{device as flash_of, has_power as is_powered, shown_on as kept_by};
 ghost use Rattle.script_turns.specs.Turning.{Turns};
 
@@ -50,8 +51,7 @@ fn agent_turn<D: Flash, H: Files, V: Verifier>(
         → D.on (agent_device agent.new) ≡ result.here }
     ensures here { IsTrue result.here → IsFalse (gone agent.new) }
     ensures size { D.blocks (agent_device agent.new) ≡ D.blocks (agent_device agent.old) }
-    ensures same { H.contents files.new ≡ H.contents files.old }
-    ensures unwritten { H.writes files.new ≡ H.writes files.old }
+    ensures reads { ReadsFiles H.Files (IsUnnamed (shown call)) files.old files.new }
     ensures files { IsFalse (is_send (shown call)) → files.new ≡ files.old }
     // A file that is not there.
     ensures missing { LacksSent (H.contents files.old) (shown call)
@@ -87,8 +87,7 @@ fn live_turn<D: Flash, H: Files, V: Verifier>(
         → D.on (agent_device live.new.agent) ≡ live.new.here }
     ensures size { D.blocks (agent_device live.new.agent)
         ≡ D.blocks (agent_device live.old.agent) }
-    ensures same { H.contents files.new ≡ H.contents files.old }
-    ensures unwritten { H.writes files.new ≡ H.writes files.old }
+    ensures reads { ReadsFiles H.Files (IsUnnamed (shown call)) files.old files.new }
     ensures files { IsFalse (is_send (shown call)) → files.new ≡ files.old }
     ensures idle { IsFalse live.old.here → files.new ≡ files.old }
     // A file that is not there.
@@ -123,8 +122,7 @@ fn bank_turn<D: Flash, H: Files, V: Verifier>(
     ensures powered { IsFalse (ends_run (turn result).reply)
         → D.on (flash_of stage.new) ≡ is_powered stage.new }
     ensures size { D.blocks (flash_of stage.new) ≡ D.blocks (flash_of stage.old) }
-    ensures same { H.contents files.new ≡ H.contents files.old }
-    ensures unwritten { H.writes files.new ≡ H.writes files.old }
+    ensures reads { ReadsFiles H.Files (IsUnnamed (shown call)) files.old files.new }
     ensures files { IsFalse (is_send (shown call)) → files.new ≡ files.old }
     ensures idle { kept_by stage.old ≡ None → files.new ≡ files.old }
     // A file that is not there.
@@ -157,8 +155,7 @@ fn stage_turn<D: Flash, H: Files, V: Verifier>(
     ensures powered { IsFalse (ends_run (turn result).reply)
         → D.on (flash_of stage.new) ≡ is_powered stage.new }
     ensures size { D.blocks (flash_of stage.new) ≡ D.blocks (flash_of stage.old) }
-    ensures same { H.contents files.new ≡ H.contents files.old }
-    ensures unwritten { H.writes files.new ≡ H.writes files.old }
+    ensures reads { ReadsFiles H.Files (IsUnnamed (shown call)) files.old files.new }
     ensures files { IsFalse (is_send (shown call)) → files.new ≡ files.old }
     ensures idle { kept_by stage.old ≡ None → files.new ≡ files.old }
     // A file that is not there.
@@ -217,8 +214,7 @@ pub fn turn<D: Flash, H: Files, V: Verifier>(
     ensures powered { IsFalse (ends_run (turn result).reply)
         → D.on (device powered.new) ≡ has_power powered.new }
     ensures size { D.blocks (device powered.new) ≡ D.blocks (device powered.old) }
-    ensures same { H.contents files.new ≡ H.contents files.old }
-    ensures unwritten { H.writes files.new ≡ H.writes files.old }
+    ensures reads { ReadsFiles H.Files (IsUnnamed (shown call)) files.old files.new }
     ensures files { IsFalse (is_send (shown call)) → files.new ≡ files.old }
     ensures idle { shown_on powered.old ≡ None → files.new ≡ files.old }
     // A file that is not there.

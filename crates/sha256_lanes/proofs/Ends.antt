@@ -4,12 +4,6 @@ use Rattle.std.proofs.lemmas.List.{append_assoc, drop-drop, drop-replicate, drop
 use Rattle.std.specs.Int.{w64, to_be_bytes}
 use Rattle.sha2.specs.Sha256.{digest_bytes, hash_after, initial_hash_256, padded_message, padding, sha256}
 use Rattle.sha256_lanes.specs.Holding.{IsOfBlocks}
-use Rattle.sha256_lanes.specs.Lanes.{of_four}
-use Rattle.sha256_lanes.proofs.FourLanes.{below_four}
-
--- one message in all lanes
-pub of_four_same : (m : List ℕ) (j : ℕ) → j < 4 → of_four m m m m j ≡ m
-of_four_same m = below_four (λ j. of_four m m m m j ≡ m) refl refl refl refl
 
 -- the padding reads a length modulo 2 ^ 64
 pub padding_same : (n total : ℕ) → total ≡ n % 2 ^ 64 → padding total ≡ padding n

@@ -19,18 +19,22 @@ lane-slice_set j (u ∷ words) (suc k) v = ap (λ (l : List ℕ). slice_index u 
 pub length-lane : (j : ℕ) (words : List (List ℕ)) → length (lane j words) ≡ length words
 length-lane j words = length-map words (λ (v : List ℕ). slice_index v j)
 
--- one word more of each message is what it has to be
+-- one word more is what it has to be
+pub word_more : (F : ℕ → ℕ) (words : List ℕ) (t x : ℕ) → t < length words → ((k : ℕ) → k < t → slice_index words k ≡ F k) → x ≡ F t
+    → (k : ℕ) → k < t + 1 → slice_index (slice_set words t x) k ≡ F k
+word_more F words t x lt before here =
+    below_more (λ k. slice_index (slice_set words t x) k ≡ F k) t
+    (λ k below.
+    let ne : k ≢ t = λ e. absurd (omega arith) in
+    get_or-set_other words t k x 0 ne ∙ before k below)
+    (get_or-set_same words t x 0 lt ∙ here)
+
+-- and of each message
 pub words_more : (F : ℕ → ℕ) (j : ℕ) (words : List (List ℕ)) (t : ℕ) (v : List ℕ) → t < length words
     → ((k : ℕ) → k < t → slice_index (lane j words) k ≡ F k) → slice_index v j ≡ F t
     → (k : ℕ) → k < t + 1 → slice_index (lane j (slice_set words t v)) k ≡ F k
 words_more F j words t v lt before here =
-    let within : t < length (lane j words) = omega (arith, length-lane j words) in
-    let written = lane-slice_set j words t v in
-    below_more (λ k. slice_index (lane j (slice_set words t v)) k ≡ F k) t
-    (λ k below.
-    let ne : k ≢ t = λ e. absurd (omega arith) in
-    ap (λ (l : List ℕ). slice_index l k) written ∙ get_or-set_other (lane j words) t k (slice_index v j) 0 ne ∙ before k below)
-    (ap (λ (l : List ℕ). slice_index l t) written ∙ get_or-set_same (lane j words) t (slice_index v j) 0 within ∙ here)
+    rw (lane-slice_set j words t v) (word_more F (lane j words) t (slice_index v j) (omega (arith, length-lane j words)) before here)
 
 -- W t reads only the words before it
 pub next_word_same : (w x : List ℕ) (t : ℕ) → 16 ≤ t → ((k : ℕ) → k < t → slice_index w k ≡ slice_index x k) → next_word w t ≡ next_word x t

@@ -2,6 +2,7 @@
 use Rattle.std.specs.Prelude.{◌≡◌, ℕ, ◌%◌, List, [], ◌∷◌, length}
 use Rattle.sha2.specs.Sha256.{IsAbsorbed, initial_hash_256}
 use Rattle.sha256_lanes.specs.Lanes.{lane}
+use Rattle.sha256_lanes.specs.declared.alone.Message.{Message}
 use Rattle.sha256_lanes.specs.declared.lanes.Lanes.{Lanes}
 
 -- the hash value h has taken in the message m, which is of whole blocks
@@ -15,3 +16,7 @@ state_of s = s.h0 ∷ s.h1 ∷ s.h2 ∷ s.h3 ∷ s.h4 ∷ s.h5 ∷ s.h6 ∷ s.h7
 -- lane j of the hasher s holds the message m, which is of whole blocks
 abbrev pub HoldsInLane : ℕ → Lanes → List ℕ → Type 0
 HoldsInLane j s m = IsOfBlocks (lane j (state_of s)) m
+
+-- a message that goes on alone is m, which is of whole blocks
+abbrev pub Holds : Message → List ℕ → Type 0
+Holds s m = IsOfBlocks s.words m

@@ -1,12 +1,12 @@
 // Four messages, hashed side by side.
 
-ghost use Rattle.std.specs.Prelude.{◌≡◌, ℕ, ◌++◌, ◌%◌, ◌^◌, ◌<◌, List, [], length};
+ghost use Rattle.std.specs.Prelude.{◌≡◌, ◌≢◌, ℕ, ◌++◌, ◌%◌, ◌^◌, ◌<◌, List, [], length, slice_index};
 ghost use Rattle.sha2.specs.Sha256.{sha256};
-ghost use Rattle.sha256_lanes.specs.Holding.{HoldsInLane, IsOfBlocks, state_of};
+ghost use Rattle.sha256_lanes.specs.Holding.{Holds, HoldsInLane, IsOfBlocks, state_of};
 ghost use Rattle.sha256_lanes.specs.Lanes.{lane, of_four};
 
+use crate::alone::Message;
 use crate::consts::INITIAL_HASH;
-use crate::last::{digest_bytes, last_blocks};
 use crate::rounds::compress;
 use std::simd::u32x4;
 
@@ -70,21 +70,39 @@ impl Lanes {
         self.h7 = state[7];
     }
 
+    /// Lane j begins a new message, and the others stay.
+    pub fn restart(&mut self, j: usize)
+        requires { j < 4 }
+        ensures begun { HoldsInLane j self.new [] }
+        ensures others { (i : ℕ) → i < 4 → i ≢ j → (m : List ℕ) → HoldsInLane i self.old m → HoldsInLane i self.new m }
+    {
+        self.h0 = with_word(self.h0, j, INITIAL_HASH[0]);
+        self.h1 = with_word(self.h1, j, INITIAL_HASH[1]);
+        self.h2 = with_word(self.h2, j, INITIAL_HASH[2]);
+        self.h3 = with_word(self.h3, j, INITIAL_HASH[3]);
+        self.h4 = with_word(self.h4, j, INITIAL_HASH[4]);
+        self.h5 = with_word(self.h5, j, INITIAL_HASH[5]);
+        self.h6 = with_word(self.h6, j, INITIAL_HASH[6]);
+        self.h7 = with_word(self.h7, j, INITIAL_HASH[7]);
+    }
+
+    /// The message of lane j, to go on alone.
+    pub fn message(&self, j: usize) -> Message
+        requires { j < 4 }
+        ensures { (m : List ℕ) → HoldsInLane j self.now m → Holds result m }
+    {
+        Message {
+            words: words_of(&self.state(), j),
+        }
+    }
+
     /// The digest of the message of lane j with this rest behind it, which have so many bytes together, modulo 2^64.
-    /// The other lanes idle.
     pub fn finish(&self, j: usize, rest: &[u8], total: u64) -> [u8; 32]
         requires { j < 4 }
         ensures { (m : List ℕ) → total ≡ length (m ++ rest.now) % 2 ^ 64 → HoldsInLane j self.now m
             → result ≡ sha256 (m ++ rest.now) }
     {
-        let mut state = self.state();
-        let whole = rest.len() - rest.len() % 64;
-        let blocks = &rest[..whole];
-        absorb_blocks(&mut state, blocks, blocks, blocks, blocks);
-        let (end, size) = last_blocks(&rest[whole..], total);
-        let last = &end[..size];
-        absorb_blocks(&mut state, last, last, last, last);
-        digest_bytes(&words_of(&state, j))
+        self.message(j).finish(rest, total)
     }
 }
 
@@ -114,4 +132,15 @@ fn words_of(state: &[u32x4; 8], j: usize) -> [u32; 8]
         words[k] = state[k].to_array()[j];
     }
     words
+}
+
+// The vector with this word in lane j.
+fn with_word(v: u32x4, j: usize, word: u32) -> u32x4
+    requires { j < 4 }
+    ensures here { slice_index result j ≡ word }
+    ensures others { (i : ℕ) → i ≢ j → slice_index result i ≡ slice_index v i }
+{
+    let mut words = v.to_array();
+    words[j] = word;
+    u32x4::from_array(words)
 }

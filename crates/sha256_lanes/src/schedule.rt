@@ -9,7 +9,7 @@ use std::simd::u32x4;
 
 // The word at this byte of a block, high byte first.
 #[inline(always)]
-fn word_at(block: &[u8], at: usize) -> u32
+pub(crate) fn word_at(block: &[u8], at: usize) -> u32
     requires { at + 4 ≤ length block.now }
     ensures { result ≡ word_at block.now at }
 {

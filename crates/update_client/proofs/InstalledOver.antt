@@ -53,6 +53,8 @@ module _ (told : Option Directory) (name : List ℕ) (toc : Toc) (request : ℕ)
         bytes = sends.bytes;
         copied = λ tells i lt lacks. sends.copied tells s (On boot staging handles) shows i (omega (arith, lt, ap (λ (l : List ImageRow). length l) rows))
             (sym (ap (λ (l : List ImageRow). has_image toc (get_or l i no_row)) rows) ∙ lacks);
+        whole = λ i lt lacks. sends.whole tt i (omega (arith, lt, ap (λ (l : List ImageRow). length l) rows))
+            (sym (ap (λ (l : List ImageRow). has_image toc (get_or l i no_row)) rows) ∙ lacks);
         images = sends.images;
         read = λ file tells. sends.read file tells ∙ ap (λ (l : List ImageRow). images_over l file toc sends.bytes) (sym rows);
         installed = subst (λ (l : List ImageRow). IsInstalled sends.images (bits_over l toc request) s (after s a.moves)) (sym rows)

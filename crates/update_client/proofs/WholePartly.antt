@@ -42,11 +42,14 @@ use Rattle.update_client.specs.Finishes.{Finishes, InstallsImages, end_moves}
 use Rattle.update_client.specs.Halts.{unbegun_as}
 use Rattle.update_client.specs.Images.{AreImages, sent_parts}
 use Rattle.update_client.specs.Sends.{AnswersBy, IsBegun}
-use Rattle.update_client.specs.Partial.{GoesAs, IsCountedOver, SendsOver, kept_parts, over_answer, over_images, places, present, types_of}
+use Rattle.update_client.specs.Partial.{AreWhole, GoesAs, WasBegun, IsCountedOver, SendsOver, kept_parts, over_answer, over_images, places, present, types_of}
 use Rattle.update_client.proofs.Installed.{told_value, told-is, stopped-at}
 use Rattle.update_client.proofs.Staging.{begin-answers, begun-keeps, begun-may}
 use Rattle.update_client.proofs.Named.{copied-is, named-is, payloads-are}
 use Rattle.update_client.proofs.Over.{done-bits, done-committed, done-package, done_parts, over-payloads, sent-over}
+
+some-is : (a b : SendStop) → ◌≡◌ {A = Option SendStop} (Some a) (Some b) → a ≡ b
+some-is a b e = cc
 
 append-nil : (ms : List Move) → ms ++ [] ≡ ms
 append-nil [] = refl
@@ -263,26 +266,26 @@ module _ (told : Option Directory) (name : List ℕ) (toc : Toc) (request : ℕ)
   over-early halt is = record {
     bytes = held old;
     copied = λ tells s x shows i lt lacks. held-is old s x shows tells i;
+    whole = λ was. absurd (by-early (partial_fault rows toc) halt is was);
     images = told_value told name (of_file (held old));
     read = λ file tells. told-is told name (of_file (held old)) file tells;
     goes = λ E s x layout verifier shows. by-session E s x layout shows;
   }
     where
+      by-early : (o : Option Reply) (h : SendStop) → refused_image o ≡ Some h → WasBegun (Err h) → ⊥
+      by-early (Some (reply.Missing g)) h it was = subst (λ (k : SendStop). WasBegun (Err k)) (sym (some-is (MissingImage g) h it)) was
+      by-early (Some (reply.TooLarge g)) h it was = subst (λ (k : SendStop). WasBegun (Err k)) (sym (some-is (ImageTooLarge g) h it)) was
+      by-early other h it was = absurd cc
+
       by-fault : (o : Option Reply) (h : SendStop) → refused_image o ≡ Some h → (E : Setting) (s : State) (boot : ℕ) (staging : Option (List Staged))
           (handles : List Handle) (p : List (List ℕ)) (bits : List Bool) (done : Reply) → Shows old s (On boot staging handles)
           → GoesAs (Err h) (install_unless o E s boot staging handles p bits done) E old old s (On boot staging handles)
       by-fault (Some (reply.Missing g)) h it E s boot staging handles p bits done shows =
           subst (λ (k : SendStop). GoesAs (Err k) (install_unless (Some (reply.Missing g)) E s boot staging handles p bits done) E old old s (On boot staging handles))
           (some-is (MissingImage g) h it) (refl, goes-nothing E old s (On boot staging handles) shows)
-        where
-          some-is : (a b : SendStop) → ◌≡◌ {A = Option SendStop} (Some a) (Some b) → a ≡ b
-          some-is a b e = cc
       by-fault (Some (reply.TooLarge g)) h it E s boot staging handles p bits done shows =
           subst (λ (k : SendStop). GoesAs (Err k) (install_unless (Some (reply.TooLarge g)) E s boot staging handles p bits done) E old old s (On boot staging handles))
           (some-is (ImageTooLarge g) h it) (refl, goes-nothing E old s (On boot staging handles) shows)
-        where
-          some-is : (a b : SendStop) → ◌≡◌ {A = Option SendStop} (Some a) (Some b) → a ≡ b
-          some-is a b e = cc
       by-fault other h it E s boot staging handles p bits done shows = absurd cc
 
       by-session : (E : Setting) (s : State) (x : Session) → E.layout ≡ old.fields.layout → Shows old s x
@@ -301,6 +304,13 @@ module _ (told : Option Directory) (name : List ℕ) (toc : Toc) (request : ℕ)
       begins.read tells s x shows i (omega (arith, lt, length-map rows test))
       (get_or-map test rows i no_row true lt ∙ named-is rows toc i lt ∙ lacks)
 
+  -- and as many as the agent keeps
+  whole-of : (new : Moment) (begins : BeginsPartly types (are_named rows types) passes (Ok tt) old new)
+      → AreWhole rows toc old.fields begins.bytes
+  whole-of new begins i lt lacks =
+      let test = λ (r : ImageRow). list_any (same_bytes r.guid) types in
+      begins.count tt i (omega (arith, lt, length-map rows test)) (get_or-map test rows i no_row true lt ∙ named-is rows toc i lt ∙ lacks)
+
   module _ (none : partial_fault rows toc ≡ None) (known : names_unknown rows types ≡ false) where
     none-in : (E : Setting) → E.layout ≡ old.fields.layout → partial_fault E.layout.rows toc ≡ None
     none-in E layout = ap (λ (L : Layout). partial_fault L.rows toc) layout ∙ none
@@ -314,6 +324,7 @@ module _ (told : Option Directory) (name : List ℕ) (toc : Toc) (request : ℕ)
     over-unbegun new q there begins = record {
       bytes = begins.bytes;
       copied = copied-of new (Err q) begins;
+      whole = λ was. absurd (by-unbegun q was);
       images = told_value told name (of_file begins.bytes);
       read = λ file tells. told-is told name (of_file begins.bytes) file tells;
       goes = λ E s x layout verifier shows. by-session E s x layout verifier shows;
@@ -321,6 +332,12 @@ module _ (told : Option Directory) (name : List ℕ) (toc : Toc) (request : ℕ)
       where
         err-is : (a b : Stop) → ◌≡◌ {A = Result (Unit {0}) Stop} (Err a) (Err b) → a ≡ b
         err-is a b e = cc
+
+        by-unbegun : (k : Stop) → WasBegun (Err (unbegun_as k)) → ⊥
+        by-unbegun (stop.Status st) was = was
+        by-unbegun stop.Lost was = was
+        by-unbegun stop.Fault was = was
+        by-unbegun stop.Gone was = was
 
         by-stop : (k : Stop) (E : Setting) (s : State) (boot : ℕ) (staging : Option (List Staged)) (handles : List Handle) (p : List (List ℕ)) (bits : List Bool)
             (done : Reply) → names_unknown E.layout.rows types ≡ false → (k ≡ stop.Gone → ⊥)
@@ -406,6 +423,7 @@ module _ (told : Option Directory) (name : List ℕ) (toc : Toc) (request : ℕ)
       over-done sent counted inst = record {
         bytes = begins.bytes;
         copied = copied-of m1 (Ok tt) begins;
+        whole = λ was. whole-of m1 begins;
         images = p (Ok tt) inst;
         read = p-read (Ok tt) inst;
         goes = λ E s x layout verifier shows. by-session E s x layout verifier shows;
@@ -427,6 +445,7 @@ module _ (told : Option Directory) (name : List ℕ) (toc : Toc) (request : ℕ)
       over-halted halt inst = record {
         bytes = begins.bytes;
         copied = copied-of m1 (Ok tt) begins;
+        whole = λ was. whole-of m1 begins;
         images = p (Err halt) inst;
         read = p-read (Err halt) inst;
         goes = λ E s x layout verifier shows. by-session E s x layout verifier shows;

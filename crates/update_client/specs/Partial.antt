@@ -1,5 +1,5 @@
 -- What a partial sending stages over the images of the active bank.
-use Rattle.std.specs.Prelude.{◌≡◌, ◌+◌, ◌<◌, ℕ, Bool, false, List, [], ◌∷◌, IsTrue, length, map, Option, Some, None, Result, Ok, Err, if◌then◌else◌, slice_index_or}
+use Rattle.std.specs.Prelude.{◌≡◌, ◌+◌, ◌<◌, ℕ, Bool, false, List, [], ◌∷◌, IsTrue, length, map, Option, Some, None, Result, Ok, Err, if◌then◌else◌, slice_index_or, ⊤}
 use Rattle.fwu_formats.specs.Layout.{ImageRow}
 use Rattle.fwu_formats.specs.Package.{Entry, Toc}
 use Rattle.fwu_model.specs.Reply.{Reply}
@@ -19,6 +19,7 @@ use Rattle.fip_tables.specs.Files.{Tells}
 use Rattle.fwu_model.specs.State.{State}
 use Rattle.fwu_model.specs.Sound.{Setting}
 use Rattle.fwu_model.specs.Call as call
+use Rattle.agent_machine.specs.Fields.{Fields, total_of}
 use Rattle.agent_machine.specs.Moment.{Moment, Shows}
 use Rattle.agent_machine.specs.Goes.{Goes}
 use Rattle.update_client.specs.declared.stops.Sent.{Sent}
@@ -78,14 +79,27 @@ GoesAs (Err Lost) a E old new s x = IsBegun E s x × Goes E (Err flash_stop.Lost
 GoesAs (Err Fault) a E old new s x = IsBegun E s x × Goes E (Err flash_stop.Failed) old new s a.moves (ended x)
 GoesAs (Err Gone) a E old new s x = ⊥
 
+-- the begin was done, and the flash stopped nothing behind it
+abbrev pub WasBegun : Result Sent SendStop → Type 0
+WasBegun (Ok sent) = ⊤
+WasBegun (Err (End st)) = ⊤
+WasBegun (Err ReadFailed) = ⊤
+WasBegun other = ⊥
+
+-- as many bytes of each image that the table lacks, as the agent keeps of the bank that was started
+abbrev pub AreWhole : List ImageRow → Toc → Fields → (ℕ → List ℕ) → Type 0
+AreWhole rows toc f bytes = (i : ℕ) → i < length rows → has_image toc (slice_index_or rows i no_row) ≡ false
+    → length (bytes i) ≡ total_of f (Some i)
+
 -- What a partial sending says of an agent that isn't gone, on any device. There are bytes of the images that the table lacks, those
--- of the active bank where the device tells. And there are images, those of the file over these bytes where it is told. Each machine
--- that the agent shows goes by the sending of them.
+-- of the active bank where the device tells, and behind a begin that was done as many on any device. And there are images, those of
+-- the file over these bytes where it is told. Each machine that the agent shows goes by the sending of them.
 pub record SendsOver (told : Option Directory) (name : List ℕ) (toc : Toc) (request : ℕ) (passes : List ℕ → Bool)
     (result : Result Sent SendStop) (old new : Moment) : Type 0 where
   pub bytes : ℕ → List ℕ
   pub copied : IsTrue old.tells → (s : State) (x : Session) → Shows old s x → (i : ℕ) → i < length old.fields.layout.rows
       → has_image toc (slice_index_or old.fields.layout.rows i no_row) ≡ false → bytes i ≡ image_held s s.active i
+  pub whole : WasBegun result → AreWhole old.fields.layout.rows toc old.fields bytes
   pub images : List (List ℕ)
   pub read : (file : List ℕ) → Tells told name file → images ≡ images_over old.fields.layout.rows file toc bytes
   pub goes : (E : Setting) (s : State) (x : Session) → E.layout ≡ old.fields.layout → E.passes ≡ passes → Shows old s x
@@ -94,7 +108,7 @@ pub record SendsOver (told : Option Directory) (name : List ℕ) (toc : Toc) (re
 -- ---- when done
 
 -- The machine that the agent shows then has installed the file's images over those of the bank that was active, which are those of
--- its package where the device tells its content.
+-- its package where the device tells its content, and have as many bytes on any device.
 pub record InstallsOver (told : Option Directory) (name : List ℕ) (toc : Toc) (request : ℕ) (old new : Moment)
     (before : State) : Type 0 where
   pub now : State
@@ -103,6 +117,7 @@ pub record InstallsOver (told : Option Directory) (name : List ℕ) (toc : Toc) 
   pub bytes : ℕ → List ℕ
   pub copied : IsTrue old.tells → (i : ℕ) → i < length new.fields.layout.rows
       → has_image toc (slice_index_or new.fields.layout.rows i no_row) ≡ false → bytes i ≡ image_held before before.active i
+  pub whole : AreWhole new.fields.layout.rows toc old.fields bytes
   pub images : List (List ℕ)
   pub read : (file : List ℕ) → Tells told name file → images ≡ images_over new.fields.layout.rows file toc bytes
   pub installed : IsInstalled images (bits_over new.fields.layout.rows toc request) before now

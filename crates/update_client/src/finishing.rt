@@ -1,5 +1,6 @@
 //! Ending a staging.
 ghost use Rattle.std.specs.Prelude.{◌≡◌, All, ◌+◌, ◌^◌, ◌<◌, ◌≤◌, ℕ, List, length, IsFalse, OnOk};
+ghost use Rattle.host_io.specs.Reads.{ReadsFile};
 ghost use Rattle.fip_tables.specs.Files.{Lacks, Tells};
 ghost use Rattle.agent_machine.specs.Ends.{TakesSwitch};
 ghost use Rattle.agent_calls.specs.Shown.{SpentBy, device, gone, moment};
@@ -64,8 +65,7 @@ pub fn install<D: Flash, H: Files, V: Verifier>(
     ensures stops { StopsWithin result }
     ensures spent { SpentBy (flash_of result) agent.old agent.new }
     ensures buffer { length buf.new ≡ length buf.old }
-    ensures same { H.contents files.new ≡ H.contents files.old }
-    ensures unwritten { H.writes files.new ≡ H.writes files.old }
+    ensures files { ReadsFile H.Files name.now files.old files.new }
     ensures reads { ReadsBy (H.faults files.old) (H.faults files.new) result }
 {
     match send_images(agent, files, name, entries, acceptance, buf) {

@@ -1,5 +1,6 @@
 //! Sending the images of a package.
 ghost use Rattle.std.specs.Prelude.{◌≡◌, All, ◌+◌, ◌^◌, ◌<◌, ◌≤◌, ℕ, List, length, IsFalse, OnOk};
+ghost use Rattle.host_io.specs.Reads.{ReadsFile};
 ghost use Rattle.fip_tables.specs.Files.{Lacks, Tells};
 ghost use Rattle.agent_calls.specs.Shown.{SpentBy, device, gone, moment};
 ghost use Rattle.update_client.specs.Halts.{StopsWithin, flash_of};
@@ -41,8 +42,7 @@ pub fn send_image<D: Flash, H: Files>(
     ensures stops { StopsWithin result }
     ensures spent { SpentBy (flash_of result) agent.old agent.new }
     ensures buffer { length buf.new ≡ length buf.old }
-    ensures same { H.contents files.new ≡ H.contents files.old }
-    ensures unwritten { H.writes files.new ≡ H.writes files.old }
+    ensures files { ReadsFile H.Files name.now files.old files.new }
     ensures reads { ReadsBy (H.faults files.old) (H.faults files.new) result }
 {
     match agent.open(guid, Op::Write) {
@@ -79,8 +79,7 @@ pub fn send_images<D: Flash, H: Files>(
     ensures stops { StopsWithin result }
     ensures spent { SpentBy (flash_of result) agent.old agent.new }
     ensures buffer { length buf.new ≡ length buf.old }
-    ensures same { H.contents files.new ≡ H.contents files.old }
-    ensures unwritten { H.writes files.new ≡ H.writes files.old }
+    ensures files { ReadsFile H.Files name.now files.old files.new }
     ensures reads { ReadsBy (H.faults files.old) (H.faults files.new) result }
 {
     for k in 0..entries.len() {

@@ -5,6 +5,7 @@ ghost use Rattle.fwu_model.specs.State.{State};
 ghost use Rattle.fwu_model.specs.Session.{Session};
 ghost use Rattle.agent_machine.specs.Moment.{Shows};
 ghost use Rattle.fwu_model.specs.Answer.{first_image_fault};
+ghost use Rattle.host_io.specs.Reads.{ReadsFile};
 ghost use Rattle.fip_tables.specs.Files.{Lacks, Tells};
 ghost use Rattle.agent_calls.specs.Shown.{device, fields, gone, moment};
 ghost use Rattle.update_client.specs.Halts.{flash_of};
@@ -83,8 +84,7 @@ pub fn send<D: Flash, H: Files, V: Verifier>(
         SendTakes (writes_to_begin f + writes_sent (length buf.old) f.layout.rows toc.now)
         (D.arming (device agent.old)) (D.arming (device agent.new))) }
     ensures buffer { length buf.new ≡ length buf.old }
-    ensures same { H.contents files.new ≡ H.contents files.old }
-    ensures unwritten { H.writes files.new ≡ H.writes files.old }
+    ensures files { ReadsFile H.Files name.now files.old files.new }
     ensures reads { ReadsBy (H.faults files.old) (H.faults files.new) result }
 {
     let entries = choose(agent.rows(), toc)?;

@@ -2,9 +2,10 @@
 ghost use Rattle.std.specs.Prelude.{◌≡◌, IsFalse, None};
 ghost use Rattle.flash_devices.specs.Memory.{is_on, arming_of};
 
+use crate::texts::expand;
 use flash_core::Flash;
 use flash_devices::{Cut, MemoryFlash};
-use host_io::{MemoryFiles, MemorySink, MemorySource, Sink};
+use host_io::{Files, MemoryFiles, MemorySink, MemorySource, Sink};
 use script_cmd::{Done, Note, fwu_top, fwu_top_with};
 use std::alloc::Global;
 use std::process::Abort;
@@ -16,6 +17,8 @@ pub struct Ran {
     pub status: u8,
     pub note: Note,
     pub printed: Vec<u8>,
+    /// How many calls of the flash failed.
+    pub faults: u64,
     pub image: Vec<u8>,
 }
 
@@ -24,6 +27,7 @@ pub struct Ran {
 pub struct Trouble {
     pub cut: Cut,
     pub flash: u64,
+    pub files: u64,
     pub source: u64,
     pub sink: u64,
 }
@@ -38,6 +42,7 @@ const NO_CUT: Cut = Cut {
 pub const NOTHING: Trouble = Trouble {
     cut: NO_CUT,
     flash: 0,
+    files: 0,
     source: 0,
     sink: 0,
 };
@@ -90,10 +95,10 @@ pub fn flash_of(rt: &impl Abort, alloc: Global, image: Vec<u8>, trouble: &Troubl
 }
 
 /// The program's end on a flash. What it promises is left out, so that goals stay small.
-pub fn end_on<D: Flash, O: Sink>(
+pub fn end_on<D: Flash, H: Files, O: Sink>(
     alloc: Global,
     words: Vec<String>,
-    files: Vec<Named>,
+    files: &mut H,
     source: &mut MemorySource,
     sink: &mut O,
     flash: D,
@@ -101,15 +106,14 @@ pub fn end_on<D: Flash, O: Sink>(
     requires off { IsFalse (D.on flash) }
     requires unarmed { D.arming flash ≡ None }
 {
-    let mut files = MemoryFiles::new(alloc, files, Vec::new(alloc));
-    fwu_top(alloc, words.as_slice(), &mut files, source, sink, flash)
+    fwu_top(alloc, words.as_slice(), files, source, sink, flash)
 }
 
 /// The same by a verifier that is handed in.
-pub fn end_by<D: Flash, O: Sink, V: Verifier>(
+pub fn end_by<D: Flash, H: Files, O: Sink, V: Verifier>(
     alloc: Global,
     words: Vec<String>,
-    files: Vec<Named>,
+    files: &mut H,
     source: &mut MemorySource,
     sink: &mut O,
     flash: D,
@@ -118,16 +122,13 @@ pub fn end_by<D: Flash, O: Sink, V: Verifier>(
     requires off { IsFalse (D.on flash) }
     requires unarmed { D.arming flash ≡ None }
 {
-    let mut files = MemoryFiles::new(alloc, files, Vec::new(alloc));
-    fwu_top_with(
-        alloc,
-        words.as_slice(),
-        &mut files,
-        source,
-        sink,
-        flash,
-        verifier,
-    )
+    let words = words.as_slice();
+    fwu_top_with(alloc, words, files, source, sink, flash, verifier)
+}
+
+/// These files in memory, of which the call of this number fails.
+pub fn files_of(rt: &impl Abort, alloc: Global, files: Vec<Named>, fails: u64) -> MemoryFiles {
+    MemoryFiles::new(alloc, files, only(rt, alloc, fails))
 }
 
 // The bytes of a flash once it has power.
@@ -144,17 +145,18 @@ pub fn ran_of(rt: &impl Abort, alloc: Global, done: Done<MemoryFlash>, printed: 
     Ran {
         status: done.status,
         note: done.note,
+        faults: done.flash.counts().faults,
         printed: Vec::from_slice(alloc, printed).expect(rt, "memory"),
         image: image_of(rt, alloc, done.flash),
     }
 }
 
 /// The program with these words, files and source, on a flash, with a sink of which a call fails.
-pub fn run_on(
+pub fn run_on<H: Files>(
     rt: &impl Abort,
     alloc: Global,
     words: &str,
-    files: Vec<Named>,
+    files: &mut H,
     source: &mut MemorySource,
     trouble: &Trouble,
     flash: MemoryFlash,
@@ -179,8 +181,9 @@ pub fn run_with(
     trouble: &Trouble,
 ) -> Ran {
     let mut source = source_of(rt, alloc, script, trouble.source);
+    let mut files = files_of(rt, alloc, files, trouble.files);
     let flash = flash_of(rt, alloc, image, trouble);
-    run_on(rt, alloc, words, files, &mut source, trouble, flash)
+    run_on(rt, alloc, words, &mut files, &mut source, trouble, flash)
 }
 
 /// The program with these words and this script, and no files, on a flash with these bytes.
@@ -192,4 +195,50 @@ pub fn run(rt: &impl Abort, alloc: Global, words: &str, script: &str, image: Vec
 pub fn ends(rt: &impl Abort, ran: &Ran, status: u8, printed: &str) {
     let is_so = ran.status == status && ran.printed.as_slice() == printed.as_bytes();
     assert!(rt; is_so, "{printed}");
+}
+
+/// Runs of scripts over these files, each from a flash with these bytes.
+#[derive(Drop)]
+pub struct Bench {
+    pub files: Vec<Named>,
+    pub flash: Vec<u8>,
+}
+
+impl Bench {
+    /// The script on the flash.
+    pub fn run(&self, rt: &impl Abort, alloc: Global, script: &str, trouble: &Trouble) -> Ran {
+        let script = expand(rt, alloc, script);
+        let files = self.files.as_slice().to_vec(alloc).expect(rt, "memory");
+        let flash = self.flash.as_slice().to_vec(alloc).expect(rt, "memory");
+        run_with(rt, alloc, "run", script.as_str(), files, flash, trouble)
+    }
+
+    /// Whether the script on the flash ends with status 0, and prints lines that begin and end so.
+    pub fn is_between(
+        &self,
+        rt: &impl Abort,
+        alloc: Global,
+        script: &str,
+        trouble: &Trouble,
+        front: &str,
+        end: &str,
+    ) -> bool {
+        let ran = self.run(rt, alloc, script, trouble);
+        let front = expand(rt, alloc, front);
+        let end = expand(rt, alloc, end);
+        let printed = ran.printed.as_slice();
+        ran.status == 0
+            && printed.starts_with(front.as_bytes())
+            && printed.ends_with(end.as_bytes())
+    }
+}
+
+/// Whether a text ends with one of these lines.
+pub fn ends_with_one(rt: &impl Abort, alloc: Global, text: &[u8], lines: &[&str]) -> bool {
+    for line in lines {
+        if text.ends_with(expand(rt, alloc, line).as_bytes()) {
+            return true;
+        }
+    }
+    false
 }

@@ -1,17 +1,13 @@
-//! A package that is sent by the program's own call: to a flash behind a GUID partition table, with a sink that has no memory for
-//! one of the lines, and by a verifier that is handed in. The lines are those of the same scripts in `agent_vectors`, there without
-//! a table, and by a list that the words name.
+//! A package that is sent by the program's own call: with a sink that has no memory for one of the lines, and by a verifier that is
+//! handed in.
 ghost use Rattle.std.specs.Prelude.{◌≡◌, false, refl, IsFalse, None};
 ghost use Rattle.flash_devices.specs.Memory.{is_on, arming_of};
 
-use crate::flashes::{LIST, MANIFEST_2, two_banks};
-use crate::formats::package_of;
-use crate::partitioned::{GUARDED, device};
+use crate::flashes::{LIST, two_banks};
+use crate::packages::packages;
 use crate::runs::{
-    NOTHING, Named, Ran, end_by, end_on, ends, flash_of, holds, one_file, ran_of, run, source_of,
-    words_of,
+    NOTHING, Ran, end_by, end_on, ends, files_of, flash_of, holds, ran_of, run, source_of, words_of,
 };
-use crate::tables::partitioned;
 use flash_devices::MemoryFlash;
 use host_io::{MemorySink, Sink, WriteStop};
 use std::alloc::Global;
@@ -44,11 +40,6 @@ impl Sink for ShortSink {
     }
 }
 
-// A package of version 2 by its name, and no other file.
-fn files(rt: &impl Abort, alloc: Global) -> Vec<Named> {
-    one_file(rt, alloc, "p2.fip", package_of(rt, alloc, 176, MANIFEST_2))
-}
-
 // The program with these words and this script on a device, with a sink for so many lines.
 fn run_on(
     rt: &impl Abort,
@@ -65,46 +56,9 @@ fn run_on(
     let text = Vec::new(alloc);
     let mut sink = ShortSink { text, calls };
     let words = words_of(rt, alloc, words);
-    let files = files(rt, alloc);
-    let done = end_on(alloc, words, files, &mut source, &mut sink, flash);
+    let mut files = files_of(rt, alloc, packages(rt, alloc), 0);
+    let done = end_on(alloc, words, &mut files, &mut source, &mut sink, flash);
     ran_of(rt, alloc, done, sink.text.as_slice())
-}
-
-// Scripts behind a table, and their lines. The cut is within the metadata that would make the package the active one.
-const BEHIND_A_TABLE: [(&str, &str); 2] = [
-    (
-        "boot\nsend p2.fip trial\nboot\n",
-        "boot bank=0 version=1 trials=0 counter=1\nsend SUCCESS images=3 skipped=0\nboot bank=1 version=2 trials=1 counter=1\n",
-    ),
-    (
-        "boot\ncut 8 100\nsend p2.fip trial\nboot\nsend p2.fip trial\nboot\n",
-        "boot bank=0 version=1 trials=0 counter=1\ncut ok\nsend lost\nboot bank=0 version=1 trials=0 counter=1\nsend SUCCESS images=3 skipped=0\nboot bank=1 version=2 trials=1 counter=1\n",
-    ),
-];
-
-// Whether the images are the same outside the partitions, which are blocks 3 to 26.
-fn same_outside(one: &[u8], other: &[u8]) -> bool {
-    one.len() == other.len()
-        && one.get(..12_288) == other.get(..12_288)
-        && one.get(110_592..) == other.get(110_592..)
-}
-
-// The script behind the table prints these lines and changes nothing outside the partitions.
-fn is_sent(rt: &impl Abort, alloc: Global, script: &str, lines: &str) {
-    let image = partitioned(rt, alloc, true, true);
-    let flash = device(rt, alloc, image, &GUARDED, &NOTHING);
-    let ran = run_on(rt, alloc, "run --gpt", script, 100, flash);
-    ends(rt, &ran, 0, lines);
-    let before = partitioned(rt, alloc, true, true);
-    let is_same = same_outside(ran.image.as_slice(), before.as_slice());
-    holds(rt, is_same, script);
-}
-
-#[test]
-fn a_package_is_sent_behind_a_table(rt: HostRuntime) {
-    for (script, lines) in &BEHIND_A_TABLE {
-        is_sent(&rt, rt.alloc(), script, lines);
-    }
 }
 
 // Words and their script, for how many lines there was memory, the status, and what a boot prints on the flash that is left: each
@@ -206,8 +160,16 @@ fn run_by(rt: &impl Abort, alloc: Global, script: &str, list: &DigestList) -> Ra
     let mut sink = MemorySink::new(alloc, Vec::new(alloc), Vec::new(alloc));
     let flash = flash_of(rt, alloc, two_banks(rt, alloc), &NOTHING);
     let words = words_of(rt, alloc, "run");
-    let files = files(rt, alloc);
-    let done = end_by(alloc, words, files, &mut source, &mut sink, flash, list);
+    let mut files = files_of(rt, alloc, packages(rt, alloc), 0);
+    let done = end_by(
+        alloc,
+        words,
+        &mut files,
+        &mut source,
+        &mut sink,
+        flash,
+        list,
+    );
     ran_of(rt, alloc, done, sink.bytes())
 }
 

@@ -11,8 +11,8 @@ use std::process::Abort;
 use verify_core::AnyManifest;
 use wire_frames::{FrameReader, MOST_BODY_BYTES};
 
-// The manifest of the images `abc` and `hello`, of security version 2: demo/check_vectors.py makes it again.
-const MANIFEST_2: &str =
+/// The manifest of the images `abc` and `hello`, of security version 2: demo/check_vectors.py makes it again.
+pub const MANIFEST_2: &str =
     "46574d460100000002000000020000005ff9ec0b4d223e4da544c39d81c73f0a0300000007000000ba7816bf8f01cfea414140de5dae2223b00361a396177a9cb410ff61f20015add6d0eea7fcead54b97829934f234b6e405000000090000002cf24dba5fb0a30e26e83b2ac5b9e29e1b161e5c1fa7425e73043362938b98243e4fddc75c0ea9600912d33069cf761c2f408f57591b2947853625b2c0c4fb00";
 
 // The frame of a request with this message, twice.
@@ -66,10 +66,11 @@ fn exchanged(
     reply
 }
 
-// A request and its reply, as messages.
-type Row = (&'static str, &'static str);
+/// A request and its reply, as messages.
+pub type Row = (&'static str, &'static str);
 
-const BEFORE: [Row; 4] = [
+/// An update up to the write of its manifest.
+pub const BEFORE: [Row; 4] = [
     ("100000000000000000000000", "00000000"),
     (
         "00000000",
@@ -84,7 +85,8 @@ const BEFORE: [Row; 4] = [
     ),
 ];
 
-const BEHIND: [Row; 9] = [
+/// What follows that write.
+pub const BEHIND: [Row; 9] = [
     ("16000000010000000000000000000000", "00000000"),
     (
         "130000005ff9ec0b4d223e4da544c39d81c73f0a01000000",

@@ -19,8 +19,8 @@ pub const METADATA: &str =
 pub const MANIFEST: &str =
     "46574d460100000001000000020000005ff9ec0b4d223e4da544c39d81c73f0a0300000007000000ba7816bf8f01cfea414140de5dae2223b00361a396177a9cb410ff61f20015add6d0eea7fcead54b97829934f234b6e405000000090000002cf24dba5fb0a30e26e83b2ac5b9e29e1b161e5c1fa7425e73043362938b9824dfb762568ec809e6a8e136de9bae264bf9ebe5fecc8f297f2f37b0393cbb8273";
 
-// Puts the bytes that the digits spell into the image, where it has room for them.
-fn put(rt: &impl Abort, alloc: Global, image: &mut Vec<u8>, at: u32, digits: &str) {
+/// Puts the bytes that the digits spell into the image, where it has room for them.
+pub fn put(rt: &impl Abort, alloc: Global, image: &mut Vec<u8>, at: u32, digits: &str) {
     let bytes = hex::decode(alloc, digits).expect(rt, "digits");
     let first = at as usize;
     let end = first + bytes.len();

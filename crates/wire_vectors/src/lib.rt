@@ -1,4 +1,4 @@
-//! Calls over a byte stream, from the frames up, as tests: a client and a server on a flash in memory.
+//! Calls over a byte stream, from the frames up, as tests: a client and a server on a flash in memory, and servings of one.
 #![tactic(auto)]
 
 #[cfg(test)]
@@ -6,6 +6,12 @@ mod exchanges;
 #[cfg(test)]
 mod flashes;
 #[cfg(test)]
+mod lengths;
+#[cfg(test)]
 mod readings;
 #[cfg(test)]
 mod requests;
+#[cfg(test)]
+mod servings;
+#[cfg(test)]
+mod streams;

@@ -58,10 +58,11 @@ pub fn replies_to(
     written
 }
 
-// Requests, and their replies.
-type Row = (&'static str, &'static str);
+/// Requests, and their replies.
+pub type Row = (&'static str, &'static str);
 
-const ROWS: [Row; 15] = [
+/// Streams of requests, and what is written for them.
+pub const ROWS: [Row; 15] = [
     // A begin twice, and an end.
     (
         "10000000010000001000000000000000000000001000000001000000100000000000000000000000080000000200000011000000",

@@ -20,4 +20,5 @@ returns c =
     let boot = c.in_ok-command-2.ensures _ _ run c.turns_command-2.ensures in
     let show = leaf_added boot (record { app = c.new.ensures.app; globals = c.new.ensures.local }) c.in_ok-command-3.ensures in
     let format = c.in_ok-command-4.ensures _ _ show c.format_command.ensures in
-    c.with_command-4.ensures _ _ format c.soak_command.ensures
+    let soak = c.in_ok-command-5.ensures _ _ format c.soak_command.ensures in
+    IfOk-weaker c.with_leaf_command-2.result _ _ (λ r h. leaf_added soak (record { app = c.new-2.ensures.app; globals = c.new-2.ensures.local }) h) c.with_leaf_command-2.ensures

@@ -1,6 +1,6 @@
 use Rattle.std.proofs.Common.{refl}
 use Rattle.clap.proofs.OnLiterals.{clap_on_literals}
-use Rattle.fwu_words.proofs.PlainWords.{plain_banks, plain_format, plain_seed, plain_soak, plain_third}
+use Rattle.fwu_words.proofs.PlainWords.{plain_banks, plain_format, plain_more, plain_seed, plain_soak, plain_third}
 use Rattle.fwu_words.proofs.laws.plain_words_are_taken.Goals as goal
 
 pub returns-clause-run : goal.returns-clause-run
@@ -33,6 +33,17 @@ returns-clause-seed_alone c = plain_seed
 
 pub returns-clause-third : goal.returns-clause-third
 returns-clause-third c = plain_third
+
+pub returns-clause-serve : goal.returns-clause-serve
+unfolding clap_on_literals
+returns-clause-serve c = refl
+
+pub returns-clause-serve_by_table : goal.returns-clause-serve_by_table
+unfolding clap_on_literals
+returns-clause-serve_by_table c = refl
+
+pub returns-clause-serve_more : goal.returns-clause-serve_more
+returns-clause-serve_more c = plain_more
 
 pub returns-clause-help : goal.returns-clause-help
 unfolding clap_on_literals

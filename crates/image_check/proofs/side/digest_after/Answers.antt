@@ -1,7 +1,6 @@
-use Rattle.std.proofs.Common.{◌≡◌, ◌+◌, ◌-◌, ◌%◌, ◌^◌, ◌++◌, ◌∙◌, List, ap, subst, arith, length, length-append, length-take, take, drop, refl, ℕ}
+use Rattle.std.proofs.Common.{◌≡◌, ◌+◌, ◌-◌, ◌%◌, ◌^◌, ◌++◌, ◌∙◌, List, ap, arith, length, length-append, length-take, take, drop, refl, ℕ}
 use Rattle.sha2.specs.Sha256.{sha256}
-use Rattle.sha256_lanes.specs.Holding.{HoldsInLane}
-use Rattle.sha256_lanes.proofs.Ends.{of_four_same}
+use Rattle.sha256_lanes.specs.Holding.{Holds}
 use Rattle.image_check.proofs.Stays.{reads_none, reads_then}
 use Rattle.image_check.proofs.Taken.{joined, piece_told, taken_more}
 use Rattle.image_check.proofs.side.digest_after.Goals as goal
@@ -14,7 +13,6 @@ pub loop-done-preserved : goal.loop-done-preserved
 loop-done-preserved g c =
     let done = c.loop-done.done in
     let at = c.args.at in
-    let j = c.args.j in
     let piece = c.read.new.out in
     let after = c.absorb.new.self in
     let device = c.args.flash.now in
@@ -34,11 +32,9 @@ loop-done-preserved g c =
           reached = c.in_ok-read.ensures.reached;
         });
         taken =
-            taken_more g.D.Flash device at j c.loop-done.lanes after piece done 4096 held.taken long
+            taken_more g.D.Flash device at (Holds c.loop-done.message) (Holds after) piece done 4096 held.taken long
             (λ tells. piece_told (g.D.Flash.told device) _ piece at done _ 4096 (c.in_ok-read.ensures.bytes tells) asked (held.reads.content tells))
-            (λ m before.
-            subst (λ (p : List ℕ). HoldsInLane j after (m ++ p)) (of_four_same piece j c.requires.lane)
-            (c.absorb.ensures j c.requires.lane m before));
+            c.absorb.ensures;
       },
     )
 

@@ -2,11 +2,11 @@ use Rattle.std.proofs.Common.{◌≡◌, ◌-◌, length}
 use Rattle.image_check.proofs.Taken.{HasTakenIn}
 use Rattle.image_check.proofs.side.take_in.Given as goal
 
--- each lane has taken in what is done of its range
-abbrev pub invariant-loop-done : goal.invariant-loop-done
-invariant-loop-done g l =
+-- each lane has taken in so much more of its image
+abbrev pub invariant-loop-taken : goal.invariant-loop-taken
+invariant-loop-taken g l =
     (length l.a ≡ 4096) × (length l.b ≡ 4096) × (length l.c ≡ 4096) × (length l.d ≡ 4096)
-    × HasTakenIn g.D.Flash l.fn.flash l.flash l.lanes l.at l.count l.done
+    × HasTakenIn g.D.Flash l.fn.flash l.flash l.lanes l.jobs l.count l.taken
 
-abbrev pub decreases-loop-done : goal.decreases-loop-done
-decreases-loop-done g l = l.count - l.done
+abbrev pub decreases-loop-taken : goal.decreases-loop-taken
+decreases-loop-taken g l = l.count - l.taken

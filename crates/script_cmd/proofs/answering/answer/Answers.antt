@@ -5,7 +5,6 @@ use Rattle.fwu_model.specs.Allow.{list_name}
 use Rattle.fwu_model.specs.Wrote.{usage_line}
 use Rattle.script_cmd.proofs.AnsweredBy.{answered-at, answered-usage}
 use Rattle.script_cmd.proofs.TopPrints.{later}
-use Rattle.script_cmd.proofs.TopSources.{in-time-still}
 use Rattle.script_cmd.proofs.TopWays.{by-words, has-any, idles-at, no-list, no-words, none-bad, same-moment, some-list}
 use Rattle.script_cmd.proofs.answering.answer.Goals as goal
 
@@ -24,7 +23,7 @@ returns-in-Usage-clause-answers g c =
       idles-at _ _ _ _ usage_line 1 _ _ _ _ e.no_turns same refl e.prints,
       λ passes.
           answered-usage _ (list_name words) (no-words words c.in-Usage.ensures) (none-bad (list_name words) files c.in-Usage.ensures.none) e.no_turns same e.note e.prints
-          refl refl refl (in-time-still _) refl (record { files = omega arith; source = omega arith; sink = later _ _ _ _ _ _ _ e.prints }),
+          refl refl refl refl refl (record { files = omega arith; source = omega arith; sink = later _ _ _ _ _ _ _ e.prints }),
     )
 
 pub returns-in-File-clause-answers : goal.returns-in-File-clause-answers

@@ -1,11 +1,10 @@
-use Rattle.script_cmd.proofs.AnsweredBy.{answered-boot, answered-boot-by-table, answered-format, answered-run, answered-run-by-table, answered-show, answered-soak, answered-starved, answered-usage}
+use Rattle.script_cmd.proofs.AnsweredBy.{answered-boot, answered-boot-by-table, answered-format, answered-run, answered-run-by-table, answered-serve, answered-show, answered-soak, answered-starved, answered-usage}
 use Rattle.script_cmd.proofs.TopFormats.{formatted-as}
 use Rattle.script_cmd.proofs.SoakTop.{soak-as}
 use Rattle.std.proofs.Common.{Some, None, ap, refl, arith}
 use Rattle.fwu_words.specs.Order as ask
 use Rattle.script_cmd.specs.Ways.{Given}
 use Rattle.script_cmd.proofs.TopShows.{showed-by}
-use Rattle.script_cmd.proofs.TopSources.{in-time-still}
 use Rattle.script_cmd.proofs.TopPrints.{later}
 use Rattle.script_cmd.proofs.TopWays.{no-list-named, same-moment}
 use Rattle.script_cmd.proofs.answering.answer_with.Goals as goal
@@ -80,14 +79,20 @@ returns-in-Ok-Soak-clause-answers g c =
     (record { files = files; source = source; sink = 0 }) no-list-named))
     refl refl refl (record { files = omega arith; source = omega arith; sink = e.later })
 
+pub returns-in-Ok-Serve-clause-answers : goal.returns-in-Ok-Serve-clause-answers
+returns-in-Ok-Serve-clause-answers g c =
+    let e = c.serve_source.ensures in
+    let kept = ap g.H.Files.faults e.files in
+    answered-serve _ (rw c.in-Ok-Serve.field-0-is at c.in-Ok-Serve.ensures) e.way e.files kept e.note e.later
+
 pub returns-in-Err-Usage-clause-answers : goal.returns-in-Err-Usage-clause-answers
 returns-in-Err-Usage-clause-answers g c =
     let e = c.print_usage.ensures in
     answered-usage _ None (rw c.in-Err-Usage.field-0-is at c.in-Err-Usage.ensures) no-list-named e.no_turns (same-moment g.D.Flash.told g.D.Flash.counts g.D.Flash.arming g.D.Flash.on _ _ e.flash) e.note e.prints
-    refl refl refl (in-time-still _) refl (record { files = omega arith; source = omega arith; sink = later _ _ _ _ _ _ _ e.prints })
+    refl refl refl refl refl (record { files = omega arith; source = omega arith; sink = later _ _ _ _ _ _ _ e.prints })
 
 pub returns-in-Err-NoMemory-clause-answers : goal.returns-in-Err-NoMemory-clause-answers
 returns-in-Err-NoMemory-clause-answers g c =
     let e = c.idle.ensures in
     answered-starved _ None e.no_turns (same-moment g.D.Flash.told g.D.Flash.counts g.D.Flash.arming g.D.Flash.on _ _ e.flash) c.requires.unarmed e.status e.note (refl, refl)
-    (λ unlisted. refl) refl (in-time-still _) refl (record { files = omega arith; source = omega arith; sink = omega arith })
+    (λ unlisted. refl) refl refl refl (record { files = omega arith; source = omega arith; sink = omega arith })

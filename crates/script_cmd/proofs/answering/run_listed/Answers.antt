@@ -8,7 +8,6 @@ use Rattle.script_cmd.specs.Ways.{bad_list, list_not_read}
 use Rattle.script_cmd.proofs.AnsweredBy.{answered-refused, answered-starved, answered-with-list}
 use Rattle.script_cmd.proofs.PromiseTurns.{by-plan}
 use Rattle.script_cmd.proofs.TopPrints.{later}
-use Rattle.script_cmd.proofs.TopSources.{in-time-still}
 use Rattle.script_cmd.proofs.TopWays.{good-list, idles, idles-at, list-there, of-list, reads-list, same-moment}
 use Rattle.script_cmd.proofs.answering.run_listed.Goals as goal
 
@@ -21,7 +20,7 @@ returns-in-Err-Failed-clause-answers g c =
       λ passes.
           answered-refused _ c.args.name.now 2 not_read_line note.Nothing (λ script asked. list_not_read refl (c.in-Err-Failed.ensures.failed (ap Err c.in-Err-Failed.field-0-is))) (λ two. absurd (omega arith)) refl
           e.no_turns same c.requires.unarmed e.note e.prints (λ whole. absurd (false≢true (sym whole ∙ by-plan not_read_line 2 _ _ _ _ _ e.prints may_fail_before refl refl refl)))
-          refl (in-time-still _) refl (record { files = c.read_file.ensures.later; source = omega arith; sink = later _ _ _ _ _ _ _ e.prints }),
+          refl refl refl (record { files = c.read_file.ensures.later; source = omega arith; sink = later _ _ _ _ _ _ _ e.prints }),
     )
 
 pub returns-in-Err-NoMemory-clause-answers : goal.returns-in-Err-NoMemory-clause-answers
@@ -31,7 +30,7 @@ returns-in-Err-NoMemory-clause-answers g c =
     inr (
       idles _ _ _ _ e.no_turns same e.status,
       λ passes.
-          answered-starved _ _ e.no_turns same c.requires.unarmed e.status e.note (refl, refl) (λ unlisted. absurd cc) refl (in-time-still _) refl
+          answered-starved _ _ e.no_turns same c.requires.unarmed e.status e.note (refl, refl) (λ unlisted. absurd cc) refl refl refl
           (record { files = c.read_file.ensures.later; source = omega arith; sink = omega arith }),
     )
 
@@ -65,7 +64,7 @@ returns-in-Err-BadLine-clause-answers g c =
       λ passes.
           answered-refused _ name 13 (bad_list_line line) (note.BadList line) (λ script asked. bad_list line refl (list-there files name bytes whole) bad) (λ thirteen. absurd (omega arith)) refl
           e.no_turns same c.requires.unarmed e.note e.prints (λ some. c.in-Ok.ensures.quiet)
-          refl (in-time-still _) refl (record { files = c.read_file.ensures.later; source = omega arith; sink = later _ _ _ _ _ _ _ e.prints }),
+          refl refl refl (record { files = c.read_file.ensures.later; source = omega arith; sink = later _ _ _ _ _ _ _ e.prints }),
     )
 
 pub returns-clause-answers : goal.returns-clause-answers
@@ -75,6 +74,6 @@ returns-clause-answers g c =
     inr (
       idles _ _ _ _ e.no_turns same e.status,
       λ passes.
-          answered-starved _ _ e.no_turns same c.requires.unarmed e.status e.note (refl, refl) (λ unlisted. absurd cc) refl (in-time-still _) refl
+          answered-starved _ _ e.no_turns same c.requires.unarmed e.status e.note (refl, refl) (λ unlisted. absurd cc) refl refl refl
           (record { files = c.read_file.ensures.later; source = omega arith; sink = omega arith }),
     )

@@ -1,4 +1,4 @@
-use Rattle.script_cmd.proofs.PromiseGuarded.{ways-guard}
+use Rattle.script_cmd.proofs.PromiseRan.{ways-guard}
 use Rattle.script_cmd.proofs.laws.ways_guard.Goals as goal
 
 pub returns : goal.returns

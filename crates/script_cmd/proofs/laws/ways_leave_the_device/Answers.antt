@@ -1,4 +1,4 @@
-use Rattle.script_cmd.proofs.PromiseReplies.{ways-leave-the-device}
+use Rattle.script_cmd.proofs.PromiseRan.{ways-leave-the-device}
 use Rattle.script_cmd.proofs.laws.ways_leave_the_device.Goals as goal
 
 pub returns : goal.returns

@@ -1,4 +1,4 @@
-use Rattle.script_cmd.proofs.PromiseReplies.{ways-reply}
+use Rattle.script_cmd.proofs.PromiseRan.{ways-reply}
 use Rattle.script_cmd.proofs.laws.ways_reply.Goals as goal
 
 pub returns : goal.returns

@@ -1,5 +1,5 @@
 use Rattle.std.proofs.Common.{refl}
-use Rattle.script_cmd.specs.Printed.{front}
+use Rattle.host_io.specs.Printed.{front}
 use Rattle.script_cmd.proofs.printing.put_line.Goals as goal
 
 pub returns-in-Err-Failed : goal.returns-in-Err-Failed

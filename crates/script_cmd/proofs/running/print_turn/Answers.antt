@@ -3,7 +3,7 @@ use Rattle.fwu_model.specs.Causes.{status_by}
 use Rattle.fwu_model.specs.Text.{line}
 use Rattle.script_text.specs.Shown.{shown}
 use Rattle.fwu_journal.specs.Shown.{reply}
-use Rattle.script_cmd.specs.Printed.{Prints}
+use Rattle.host_io.specs.Printed.{Prints}
 use Rattle.script_cmd.proofs.running.print_turn.Goals as goal
 
 pub returns-clause-prints : goal.returns-clause-prints

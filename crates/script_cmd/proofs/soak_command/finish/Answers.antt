@@ -1,5 +1,5 @@
 use Rattle.std.proofs.Common.{ℕ, List, ap, subst}
-use Rattle.script_cmd.specs.Printed.{Prints}
+use Rattle.host_io.specs.Printed.{Prints}
 use Rattle.script_cmd.proofs.SoakEnding.{ends-by}
 use Rattle.script_cmd.proofs.soak_command.finish.Goals as goal
 

@@ -1,6 +1,6 @@
 use Rattle.std.proofs.Common.{ℕ, List, ap, subst, ◌∙◌}
 use Rattle.gen_core.specs.Line.{totals_line}
-use Rattle.script_cmd.specs.Printed.{Prints}
+use Rattle.host_io.specs.Printed.{Prints}
 use Rattle.script_cmd.proofs.soak_command.print_totals.Goals as goal
 
 pub returns-in-Ok : goal.returns-in-Ok

@@ -1,5 +1,6 @@
 use Rattle.std.proofs.Common.{ℕ, List, false, true, ap, subst}
 use Rattle.std.specs.Prelude.{string_bytes}
+use Rattle.host_io.specs.Reads.{ReadsFile}
 use Rattle.agent_machine.proofs.Showing.{shows-some}
 use Rattle.agent_calls.specs.declared.agent.Agent.{Agent}
 use Rattle.agent_calls.specs.Shown.{device as agent_device, fields, moment}
@@ -30,3 +31,7 @@ returns-clause-turns g c =
     (ap (λ (a : Agent _ g.D.Flash). g.D.Flash.told (agent_device a)) same, ap (λ (a : Agent _ g.D.Flash). g.D.Flash.counts (agent_device a)) same, ap (λ (a : Agent _ g.D.Flash). g.D.Flash.arming (agent_device a)) same))
     c.requires.table sent.ensures.spent)
     (sent-free false (g.V.Verifier.passes c.args.verifier.now) g.D.Flash.tells (g.H.Files.contents c.args.files.now) (string_bytes c.args.name) c.args.request (fields agent) (fields new) (g.D.Flash.told (agent_device agent)) (g.D.Flash.told (agent_device new)) _ _ _ _ 0 0 sent.result true (sent.ensures.goes here).unarmed))
+
+pub returns-clause-reads : goal.returns-clause-reads
+returns-clause-reads g c =
+    subst (λ (n : List ℕ). ReadsFile g.H.Files n c.args.files.now c.send-sent.new.files) c.as_str.ensures.value c.send-sent.ensures.files

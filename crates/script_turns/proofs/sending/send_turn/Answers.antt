@@ -2,6 +2,8 @@ use Rattle.std.proofs.Common.{◌≡◌, ◌⊎◌, inl, inr, ℕ, ◌+◌, ◌�
 use Rattle.std.specs.Prelude.{string_bytes}
 use Rattle.base_core.specs.Counts.{Rose}
 use Rattle.host_io.specs.Contents.{Directory}
+use Rattle.host_io.specs.Reads.{ReadsFile}
+use Rattle.host_io.proofs.Reading.{reads-then}
 use Rattle.fip_tables.specs.Files.{Lacks, Tells}
 use Rattle.fwu_formats.specs.Package.{Toc}
 use Rattle.fwu_model.specs.Answer.{table_in}
@@ -54,7 +56,7 @@ returns-in-Ok-clause-turns g c =
     (subst (λ (kind : Bool). Turns (g.V.Verifier.passes c.args.verifier.now) g.D.Flash.tells (g.H.Files.contents c.args.files.now) (send_call kind name c.args.request) (turn c.send_partial_by.result.turn) (moment_where true c.args.agent.now)
     (moment_where c.send_partial_by.result.here c.send_partial_by.new.agent) (g.H.Files.faults c.read_table.new.files) (g.H.Files.faults c.send_partial_by.new.files)) (sym c.if-partial.true)
     (subst (λ (files : Option Directory). Turns (g.V.Verifier.passes c.args.verifier.now) g.D.Flash.tells files (send_call true name c.args.request) (turn c.send_partial_by.result.turn) (moment_where true c.args.agent.now)
-    (moment_where c.send_partial_by.result.here c.send_partial_by.new.agent) (g.H.Files.faults c.read_table.new.files) (g.H.Files.faults c.send_partial_by.new.files)) c.read_table.ensures.same c.send_partial_by.ensures.turns))
+    (moment_where c.send_partial_by.result.here c.send_partial_by.new.agent) (g.H.Files.faults c.read_table.new.files) (g.H.Files.faults c.send_partial_by.new.files)) c.read_table.ensures.reads.same c.send_partial_by.ensures.turns))
 
 pub returns-in-Ok-2-clause-turns : goal.returns-in-Ok-2-clause-turns
 returns-in-Ok-2-clause-turns g c =
@@ -63,7 +65,7 @@ returns-in-Ok-2-clause-turns g c =
     (subst (λ (kind : Bool). Turns (g.V.Verifier.passes c.args.verifier.now) g.D.Flash.tells (g.H.Files.contents c.args.files.now) (send_call kind name c.args.request) (turn c.send_by.result.turn) (moment_where true c.args.agent.now)
     (moment_where c.send_by.result.here c.send_by.new.agent) (g.H.Files.faults c.read_table.new.files) (g.H.Files.faults c.send_by.new.files)) (sym c.if-partial.false)
     (subst (λ (files : Option Directory). Turns (g.V.Verifier.passes c.args.verifier.now) g.D.Flash.tells files (send_call false name c.args.request) (turn c.send_by.result.turn) (moment_where true c.args.agent.now)
-    (moment_where c.send_by.result.here c.send_by.new.agent) (g.H.Files.faults c.read_table.new.files) (g.H.Files.faults c.send_by.new.files)) c.read_table.ensures.same c.send_by.ensures.turns))
+    (moment_where c.send_by.result.here c.send_by.new.agent) (g.H.Files.faults c.read_table.new.files) (g.H.Files.faults c.send_by.new.files)) c.read_table.ensures.reads.same c.send_by.ensures.turns))
 
 pub returns-in-Err-Package-clause-turns : goal.returns-in-Err-Package-clause-turns
 returns-in-Err-Package-clause-turns g c =
@@ -103,3 +105,29 @@ returns-in-Err-ReadFailed-clause-turns g c =
     (moment-as agent c.stopped.result.here false c.stopped.ensures.here)
     (unread-table c.args.partial _ _ _ _ _ _ _ _ _ _ _ _ c.read_table.ensures.cause.later (one-failed c.read_table.result _ _ c.read_table.ensures.cause.once)
     (unread-by (g.H.Files.contents c.args.files.now) c.as_str.result.now (string_bytes c.args.name) _ _ c.as_str.ensures.value (c.read_table.ensures.cause.failed is)))
+
+-- ---- which files it asks for
+
+pub returns-in-Ok-clause-reads : goal.returns-in-Ok-clause-reads
+returns-in-Ok-clause-reads g c =
+    reads-then g.H.Files _ g.met.H.Files.joins _ _ _
+    (subst (λ (n : List ℕ). ReadsFile g.H.Files n c.args.files.now c.read_table.new.files) c.as_str.ensures.value c.read_table.ensures.reads)
+    c.send_partial_by.ensures.reads
+
+pub returns-in-Ok-2-clause-reads : goal.returns-in-Ok-2-clause-reads
+returns-in-Ok-2-clause-reads g c =
+    reads-then g.H.Files _ g.met.H.Files.joins _ _ _
+    (subst (λ (n : List ℕ). ReadsFile g.H.Files n c.args.files.now c.read_table.new.files) c.as_str.ensures.value c.read_table.ensures.reads)
+    c.send_by.ensures.reads
+
+pub returns-in-Err-Package-clause-reads : goal.returns-in-Err-Package-clause-reads
+returns-in-Err-Package-clause-reads g c =
+    subst (λ (n : List ℕ). ReadsFile g.H.Files n c.args.files.now c.read_table.new.files) c.as_str.ensures.value c.read_table.ensures.reads
+
+pub returns-in-Err-Capsule-clause-reads : goal.returns-in-Err-Capsule-clause-reads
+returns-in-Err-Capsule-clause-reads g c =
+    subst (λ (n : List ℕ). ReadsFile g.H.Files n c.args.files.now c.read_table.new.files) c.as_str.ensures.value c.read_table.ensures.reads
+
+pub returns-in-Err-ReadFailed-clause-reads : goal.returns-in-Err-ReadFailed-clause-reads
+returns-in-Err-ReadFailed-clause-reads g c =
+    subst (λ (n : List ℕ). ReadsFile g.H.Files n c.args.files.now c.read_table.new.files) c.as_str.ensures.value c.read_table.ensures.reads

@@ -1,5 +1,6 @@
 use Rattle.std.proofs.Common.{◌≡◌, ◌⊎◌, inl, inr, Option, None, ap}
 use Rattle.flash_core.specs.declared.flash.Flash.{Ghosts}
+use Rattle.host_io.proofs.Reading.{reads-none}
 use Rattle.agent_machine.specs.Fields.{Fields}
 use Rattle.script_text.specs.Shown.{shown}
 use Rattle.script_turns.specs.Powered.{at, moment, moment_in}
@@ -24,3 +25,6 @@ returns-in-Off-clause-turns g c =
     let s = c.args.stage.now in
     let off = moment-off s (not-booted s c.in-Off.is) in
     turns-as _ _ _ _ _ _ c.turn_of.ensures off off (off-turn _ _ _ _ _ _ _ _ (shown c.args.call) c.requires.asks)
+
+pub returns-in-Off-clause-reads : goal.returns-in-Off-clause-reads
+returns-in-Off-clause-reads g c = reads-none g.H.Files _ g.met.H.Files.at_rest _

@@ -1,4 +1,5 @@
 use Rattle.std.proofs.Common.{false}
+use Rattle.host_io.proofs.Reading.{reads-none}
 use Rattle.script_text.specs.Shown.{shown}
 use Rattle.script_turns.proofs.Fitting.{seen-here, shows-here}
 use Rattle.script_turns.proofs.OffTurns.{off-turn}
@@ -16,3 +17,6 @@ invariant_of-live g c =
     let here = c.agent_turn-turn.ensures.here in
     let a = c.agent_turn-turn.new.agent in
     record { not_gone = here; shows = λ there. shows-here a (here there); seen = λ there. seen-here a (here there) }
+
+pub returns-then-not-live-clause-reads : goal.returns-then-not-live-clause-reads
+returns-then-not-live-clause-reads g c = reads-none g.H.Files _ g.met.H.Files.at_rest _

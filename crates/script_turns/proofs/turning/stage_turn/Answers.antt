@@ -1,4 +1,5 @@
 use Rattle.std.proofs.Common.{sym, ap, subst}
+use Rattle.host_io.proofs.Reading.{reads-none}
 use Rattle.fwu_model.specs.Call.{Call}
 use Rattle.fwu_journal.specs.Shown.{turn}
 use Rattle.script_text.specs.Shown.{shown}
@@ -31,3 +32,12 @@ returns-in-Cut-clause-turns g c =
     let faults = g.H.Files.faults c.args.files.now in
     subst (λ (what : Call). Turns passes g.D.Flash.tells files what (turn c.cut_turn.result) (moment_in c.args.stage.now)
     (moment_in c.cut_turn.new.stage) faults faults) (sym (ap shown c.in-Cut.is)) (c.cut_turn.ensures.turns passes files faults)
+
+pub returns-in-Show-clause-reads : goal.returns-in-Show-clause-reads
+returns-in-Show-clause-reads g c = reads-none g.H.Files _ g.met.H.Files.at_rest _
+
+pub returns-in-NoCall-clause-reads : goal.returns-in-NoCall-clause-reads
+returns-in-NoCall-clause-reads g c = reads-none g.H.Files _ g.met.H.Files.at_rest _
+
+pub returns-in-Cut-clause-reads : goal.returns-in-Cut-clause-reads
+returns-in-Cut-clause-reads g c = reads-none g.H.Files _ g.met.H.Files.at_rest _

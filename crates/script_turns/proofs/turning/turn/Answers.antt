@@ -1,4 +1,5 @@
 use Rattle.std.proofs.Common.{sym, ap, subst}
+use Rattle.host_io.proofs.Reading.{reads-none}
 use Rattle.fwu_model.specs.Call.{Call}
 use Rattle.fwu_journal.specs.Shown.{turn}
 use Rattle.script_text.specs.Shown.{shown}
@@ -19,3 +20,6 @@ returns-in-Boot-clause-fits g c = fitting c.boot_in.new.powered
 
 pub returns-in-Some-clause-fits : goal.returns-in-Some-clause-fits
 returns-in-Some-clause-fits g c = fits-stage c.stage_turn.new.stage
+
+pub returns-in-Boot-clause-reads : goal.returns-in-Boot-clause-reads
+returns-in-Boot-clause-reads g c = reads-none g.H.Files _ g.met.H.Files.at_rest _

@@ -1,4 +1,5 @@
 use Rattle.std.proofs.Common.{Err, ℕ, length, sym, subst}
+use Rattle.host_io.proofs.Reading.{reads-none}
 use Rattle.agent_calls.specs.Shown.{SpentBy, device, gone, moment}
 use Rattle.agent_calls.specs.Takes.{pieces_of}
 use Rattle.update_client.specs.declared.stops.SendStop.{SendStop}
@@ -70,3 +71,8 @@ returns-in-Err-commit-clause-spent g c =
     (spent-then (call-spent c.requires.here c.in-Ok.ensures.goes) (spent-then wrote
     (stop-spent (Unit {0}) (Unit {0}) c.in-Err-commit.stop (gone c.commit.new.self) (device c.write_image.new.agent) (device c.commit.new.self)
     (call-spent wrote.gone_is c.in-Err-commit.ensures.goes))))
+
+-- ---- which files it asks for
+
+pub returns-in-Err-clause-files : goal.returns-in-Err-clause-files
+returns-in-Err-clause-files g c = reads-none g.H.Files _ g.met.H.Files.at_rest _

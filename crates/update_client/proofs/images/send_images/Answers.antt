@@ -3,6 +3,7 @@ use Rattle.std.proofs.lemmas.List.{get_or_default}
 use Rattle.agent_machine.proofs.Spending.{none-spent, spent-then}
 use Rattle.update_client.proofs.ImagesTaking.{images-take-none, images-take-more, images-take-all}
 use Rattle.host_io.specs.Contents.{Directory}
+use Rattle.host_io.proofs.Reading.{reads-none, reads-then}
 use Rattle.fwu_formats.specs.Package.{Entry}
 use Rattle.agent_calls.specs.Shown.{device, gone, moment}
 use Rattle.update_client.specs.Pieces.{SendsImage}
@@ -18,9 +19,7 @@ loop-k-init g c = record {
   takes = images-take-none (length c.args.buf.now) c.args.entries.now _ _;
   spent = none-spent g.D.Flash (gone c.args.agent.now) (device c.args.agent.now) c.requires.here (c.args.agent.now.power c.requires.here);
   buffer = refl;
-  same = refl;
-  unwritten = refl;
-  later = omega arith;
+  files = reads-none g.H.Files _ g.met.H.Files.at_rest _;
   none = omega arith;
 }
 
@@ -32,7 +31,7 @@ loop-k-preserved g c =
     let at : c.index-entries-k.result ≡ get_or c.args.entries.now k no_entry = c.index-entries-k.is
     ∙ get_or_default c.args.entries.now k c.index-entries-k.result no_entry below in
     let image = subst (λ (d : Option Directory). SendsImage d c.args.name.now (get_or c.args.entries.now k no_entry).guid
-    (get_or c.args.entries.now k no_entry) c.args.acceptance (Ok tt) (moment c.loop-k.agent) (moment c.send_image.new.agent)) before.same
+    (get_or c.args.entries.now k no_entry) c.args.acceptance (Ok tt) (moment c.loop-k.agent) (moment c.send_image.new.agent)) before.files.same
     (subst (λ (e : Entry). SendsImage (g.H.Files.contents c.loop-k.files) c.args.name.now e.guid e c.args.acceptance (Ok tt) (moment c.loop-k.agent)
     (moment c.send_image.new.agent)) at
     (subst (λ (guid : List ℕ). SendsImage (g.H.Files.contents c.loop-k.files) c.args.name.now guid c.index-entries-k.result c.args.acceptance (Ok tt)
@@ -50,9 +49,7 @@ loop-k-preserved g c =
       takes = images-take-more _ _ size _ _ k _ (moment c.loop-k.agent) _ _ _ below before.first before.takes takes;
       spent = spent-then before.spent c.in_ok-send_image.ensures.spent;
       buffer = c.in_ok-send_image.ensures.buffer ∙ before.buffer;
-      same = c.in_ok-send_image.ensures.same ∙ before.same;
-      unwritten = c.in_ok-send_image.ensures.unwritten ∙ before.unwritten;
-      later = omega (arith, before.later, c.in_ok-send_image.ensures.reads.later);
+      files = reads-then g.H.Files _ g.met.H.Files.joins _ _ _ before.files c.in_ok-send_image.ensures.files;
       none = omega (arith, before.none, c.in_ok-send_image.ensures.reads.once);
     }
 
@@ -66,7 +63,7 @@ returns-in_err-send_image-clause-sent g c =
     ∙ get_or_default c.args.entries.now k c.index-entries-k.result no_entry below in
     let image = subst (λ (d : Option Directory). SendsImage d c.args.name.now (get_or c.args.entries.now k no_entry).guid
     (get_or c.args.entries.now k no_entry) c.args.acceptance (Err c.in_err-send_image.field-0.0) (moment c.loop-k.agent)
-    (moment c.send_image.new.agent)) before.same
+    (moment c.send_image.new.agent)) before.files.same
     (subst (λ (e : Entry). SendsImage (g.H.Files.contents c.loop-k.files) c.args.name.now e.guid e c.args.acceptance (Err c.in_err-send_image.field-0.0)
     (moment c.loop-k.agent) (moment c.send_image.new.agent)) at
     (subst (λ (guid : List ℕ). SendsImage (g.H.Files.contents c.loop-k.files) c.args.name.now guid c.index-entries-k.result c.args.acceptance
@@ -84,3 +81,9 @@ pub returns-in_err-send_image-clause-spent : goal.returns-in_err-send_image-clau
 returns-in_err-send_image-clause-spent g c =
     rw (handed-on c.from_residual.result c.in_err-send_image.field-0.0 c.from_residual.ensures.1)
     (spent-then c.loop-k.invariant.spent c.in_err-send_image.ensures.spent)
+
+-- ---- which files it asks for
+
+pub returns-in_err-send_image-clause-files : goal.returns-in_err-send_image-clause-files
+returns-in_err-send_image-clause-files g c =
+    reads-then g.H.Files _ g.met.H.Files.joins _ _ _ c.loop-k.invariant.files c.in_err-send_image.ensures.files

@@ -1,5 +1,6 @@
 use Rattle.std.proofs.Common.{◌≡◌, ◌≤◌, length}
 use Rattle.std.specs.Prelude.{Ok}
+use Rattle.host_io.specs.Reads.{ReadsFile}
 use Rattle.agent_calls.specs.Shown.{SpentBy, device, moment}
 use Rattle.update_client.specs.Images.{SendsFirst}
 use Rattle.update_client.specs.Takes.{ImagesTake}
@@ -11,8 +12,6 @@ invariant-loop-k g l = record {
   takes : ImagesTake (length l.fn.buf) l.entries l.k (moment l.fn.agent) (g.D.Flash.arming (device l.fn.agent)) (g.D.Flash.arming (device l.agent));
   spent : SpentBy (Ok tt) l.fn.agent l.agent;
   buffer : length l.buf ≡ length l.fn.buf;
-  same : g.H.Files.contents l.files ≡ g.H.Files.contents l.fn.files;
-  unwritten : g.H.Files.writes l.files ≡ g.H.Files.writes l.fn.files;
-  later : g.H.Files.faults l.fn.files ≤ g.H.Files.faults l.files;
+  files : ReadsFile g.H.Files l.name l.fn.files l.files;
   none : g.H.Files.faults l.files ≤ g.H.Files.faults l.fn.files;
 }

@@ -1,6 +1,6 @@
 use Rattle.std.proofs.Common.{◌≡◌, ◌+◌, ◌^◌, ◌<◌, ◌≤◌, ℕ, Bool, true, false, List, length, take, Option, Some, Ok, Err, sym, ap, subst, ◌∙◌, arith, IsTrue, IsFalse}
 use Rattle.std.specs.List.{All}
-use Rattle.std.proofs.lemmas.List.{length-map}
+use Rattle.host_io.proofs.Reading.{reads-none}
 use Rattle.fwu_formats.specs.Layout.{ImageRow}
 use Rattle.fwu_formats.specs.Package.{Entry}
 use Rattle.fwu_model.specs.Answer.{skipped}
@@ -25,7 +25,7 @@ use Rattle.update_client.specs.Finishes.{InstallsImages}
 use Rattle.update_client.specs.Partial.{ArePresent, SendsOver, present, types_of, writes_over}
 use Rattle.fip_tables.proofs.Chosen.{present_few}
 use Rattle.update_client.proofs.Named.{known-types}
-use Rattle.update_client.proofs.Present.{counted-by, placed-in, present-have, present-some, rows-found, rows-some}
+use Rattle.update_client.proofs.Present.{counted-by, placed-in, present-have, rows-found, rows-some}
 use Rattle.update_client.proofs.InstalledOver.{installs-over}
 use Rattle.update_client.proofs.WholeSending.{switches}
 use Rattle.update_client.proofs.WholePartly.{over-early, over-unbegun, over-done, over-halted, over-take}
@@ -58,27 +58,6 @@ types_in-types-requires g c =
       c.rows.ensures.few,
       ap (λ (l : List ImageRow). length l) c.rows.ensures.value,
     )
-
-pub begin_partial-requires : goal.begin_partial-requires
-begin_partial-requires g c =
-    let agent = c.args.agent.now in
-    let L = agent.layout in
-    let toc = c.args.toc.now in
-    let fit = c.rows.ensures.fits in
-    let are = subst (λ (rs : List ImageRow). ArePresent rs toc c.in_ok-entries.entries) c.rows.ensures.value c.in_ok-entries.ensures in
-    let listed : take c.len.result c.types_in-types.result ≡ types_of c.as_slice.result.now =
-    ap (λ (n : ℕ). take n c.types_in-types.result) (c.len.ensures.length ∙ ap (λ (l : List Entry). length l) (sym c.as_slice.ensures))
-    ∙ c.types_in-types.ensures in
-    let some = present-some L.rows toc c.in_ok-entries.entries are in
-    record {
-      some = omega (
-        arith,
-        some,
-        ap (λ (l : List (List ℕ)). length l) listed,
-        length-map c.as_slice.result.now (λ (e : Entry). e.guid),
-        ap (λ (l : List Entry). length l) c.as_slice.ensures,
-      );
-    }
 
 pub returns-in-Err-clause-sends : goal.returns-in-Err-clause-sends
 returns-in-Err-clause-sends g c = λ here.
@@ -249,3 +228,11 @@ returns-in_err-install-clause-goes g c =
     rw (handed-on c.from_residual-in_err-install.result c.in_err-install.field-0.0 c.from_residual-in_err-install.ensures.1)
     (λ here. goes-of (flash_of {T = Sent} (Err c.in_err-install.field-0.0)) (gone b) (device c.args.agent.now) (device b)
     (spent-then (call-spent here c.in-Ok.ensures.goes) c.in_err-install.ensures.spent))
+
+-- ---- which files it asks for
+
+pub returns-in_err-entries-clause-files : goal.returns-in_err-entries-clause-files
+returns-in_err-entries-clause-files g c = reads-none g.H.Files _ g.met.H.Files.at_rest _
+
+pub returns-in-Err-clause-files : goal.returns-in-Err-clause-files
+returns-in-Err-clause-files g c = reads-none g.H.Files _ g.met.H.Files.at_rest _

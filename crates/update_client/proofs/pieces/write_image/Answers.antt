@@ -1,5 +1,6 @@
 use Rattle.std.proofs.Common.{ℕ, ◌<◌, length, Ok, Err, Option, refl, ap, subst, ◌∙◌, arith}
 use Rattle.host_io.specs.Contents.{Directory}
+use Rattle.host_io.proofs.Reading.{reads-none, reads-then}
 use Rattle.agent_machine.proofs.Spending.{none-spent, spent-then}
 use Rattle.update_client.proofs.ImagesTaking.{first-taken-none, first-taken-more, first-taken-all}
 use Rattle.fwu_formats.specs.Package.{Entry}
@@ -22,9 +23,7 @@ loop-at-init g c = record {
   takes = first-taken-none (length c.args.buf.now) c.args.entry.now _ _ c.requires.room;
   spent = none-spent g.D.Flash (gone c.args.agent.now) (device c.args.agent.now) c.requires.here (c.args.agent.now.power c.requires.here);
   buffer = refl;
-  same = refl;
-  unwritten = refl;
-  later = omega arith;
+  files = reads-none g.H.Files _ g.met.H.Files.at_rest _;
   none = omega arith;
 }
 
@@ -32,7 +31,7 @@ pub loop-at-preserved : goal.loop-at-preserved
 loop-at-preserved g c =
     let before = c.loop-at.invariant in
     let wrote = subst (λ (d : Option Directory). WritesPiece d c.args.name.now c.args.entry.now c.loop-at.at (Ok c.in_ok-at.field-0)
-    (moment c.loop-at.agent) (moment c.write_piece.new.agent)) before.same c.in_ok-at.ensures.wrote in
+    (moment c.loop-at.agent) (moment c.write_piece.new.agent)) before.files.same c.in_ok-at.ensures.wrote in
     let more : c.loop-at.at < c.args.entry.now.size = omega (arith, c.loop-at-test.true, ap (λ (e : Entry). e.size) c.entry.view_is) in
     record {
       inside = omega (arith, wrote.count.2, ap (λ (e : Entry). e.size) c.entry.view_is);
@@ -41,9 +40,7 @@ loop-at-preserved g c =
           (c.in_ok-at.ensures.piece ∙ ap (λ (m : ℕ). piece_at m c.args.entry.now.size c.loop-at.at) before.buffer) before.first before.takes c.in_ok-at.ensures.takes;
       spent = spent-then before.spent c.in_ok-at.ensures.spent;
       buffer = c.in_ok-at.ensures.buffer ∙ before.buffer;
-      same = c.in_ok-at.ensures.same ∙ before.same;
-      unwritten = c.in_ok-at.ensures.unwritten ∙ before.unwritten;
-      later = omega (arith, before.later, c.in_ok-at.ensures.reads.later);
+      files = reads-then g.H.Files _ g.met.H.Files.joins _ _ _ before.files c.in_ok-at.ensures.files;
       none = omega (arith, before.none, c.in_ok-at.ensures.reads.once);
     }
 
@@ -52,7 +49,7 @@ returns-in_err-at-clause-wrote g c =
     rw (handed-on c.from_residual.result c.in_err-at.field-0.0 c.from_residual.ensures.1) (
     let before = c.loop-at.invariant in
     let wrote = subst (λ (d : Option Directory). WritesPiece d c.args.name.now c.args.entry.now c.loop-at.at (Err c.in_err-at.field-0.0)
-    (moment c.loop-at.agent) (moment c.write_piece.new.agent)) before.same c.in_err-at.ensures.wrote in
+    (moment c.loop-at.agent) (moment c.write_piece.new.agent)) before.files.same c.in_err-at.ensures.wrote in
     image-stopped _ _ _ _ _ _ _ before.first c.in_err-at.field-0.0 wrote)
 
 pub returns-clause-takes : goal.returns-clause-takes
@@ -64,3 +61,8 @@ pub returns-in_err-at-clause-spent : goal.returns-in_err-at-clause-spent
 returns-in_err-at-clause-spent g c =
     rw (handed-on c.from_residual.result c.in_err-at.field-0.0 c.from_residual.ensures.1)
     (spent-then c.loop-at.invariant.spent c.in_err-at.ensures.spent)
+
+-- ---- which files it asks for
+
+pub returns-in_err-at-clause-files : goal.returns-in_err-at-clause-files
+returns-in_err-at-clause-files g c = reads-then g.H.Files _ g.met.H.Files.joins _ _ _ c.loop-at.invariant.files c.in_err-at.ensures.files

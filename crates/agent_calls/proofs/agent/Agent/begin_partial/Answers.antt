@@ -6,11 +6,12 @@ use Rattle.fwu_formats.specs.Layout.{ImageRow, Layout}
 use Rattle.agent_kept.specs.declared.kinds.Request.TheVariants as request
 use Rattle.agent_machine.proofs.Showing.{known-shows, shows-some}
 use Rattle.agent_machine.proofs.StoredCalls.{refused-of}
-use Rattle.agent_machine.specs.Meets.{IsDone}
+use Rattle.agent_machine.specs.Meets.{IsDone, flash_result}
 use Rattle.agent_machine.proofs.Spending.{call-spent, spent-goes, spent-then}
 use Rattle.agent_calls.specs.Shown.{agent_at, device, fields, moment}
-use Rattle.std.specs.Prelude.{OnOk}
+use Rattle.std.specs.Prelude.{All, Err, IsTrue, OnOk}
 use Rattle.agent_calls.specs.Takes.{CopiesTake, Takes, writes_to_begin, writes_to_copy}
+use Rattle.agent_calls.proofs.CopyFilling.{stored-alone, stored-filled}
 use Rattle.agent_calls.proofs.CopyTaking.{when-done}
 use Rattle.agent_calls.proofs.Taking.{takes-begin, takes-some, takes-then}
 use Rattle.fwu_model.specs.Answer.{are_named, names_unknown}
@@ -62,6 +63,8 @@ returns-in-Err-begin-clause-begins g c = λ here passes.
     let a = c.args.self.now in
     let types = c.args.list.now in
     unbegun-stopped (moment a) (moment c.begin.new.self) types (are_named a.layout.rows types) passes (known-is g (goal.at.returns-in-Err-begin-clause-begins g c).After-rows-count)
+    (long-is g (goal.at.returns-in-Err-begin-clause-begins g c).After-rows-count)
+    (λ tells. (_, _, known-shows (fields a) (a.fitting here) g.D.Flash.tells (g.D.Flash.told a.flash) (a.knows here tells)))
     c.in-Err-begin.stop (λ is. ap (λ b. moment b) (c.in-Err-begin.ensures.refused is))
     (λ is E s x layout shows. c.in-Err-begin.ensures.begun is here E s x layout shows) (c.in-Err-begin.ensures.meets here passes)
 
@@ -125,3 +128,40 @@ returns-in-Ok-begin-clause-spent g c = λ here.
     (shows-some (fields a) (a.fitting here) g.D.Flash.tells (g.D.Flash.told a.flash) (a.knows here) (a.some here))
     (takes-at (moment a) (moment b) (moment d) types (λ _. true) c.copy_images.result (a.fitting here)
     (known-is g (goal.at.returns-in-Ok-begin-clause-spent g c).After-rows-count) begins copied begun arming t)))
+
+-- ---- the flash, and the metadata that is kept
+
+pub returns-in-Err-begin-clause-still : goal.returns-in-Err-begin-clause-still
+returns-in-Err-begin-clause-still g c = λ invalid all. c.in-Err-begin.ensures.still invalid
+
+pub returns-in-Ok-begin-clause-still : goal.returns-in-Ok-begin-clause-still
+returns-in-Ok-begin-clause-still g c = λ invalid all.
+    ap (λ x. device x) (c.copy_images.ensures.still
+    (subst (All IsTrue) (sym (named-is g (goal.at.returns-in-Ok-begin-clause-still g c).After-rows-count)) all))
+    ∙ c.in-Ok-begin.ensures.still invalid
+
+pub returns-in-Err-begin-clause-stores : goal.returns-in-Err-begin-clause-stores
+returns-in-Err-begin-clause-stores g c = λ done tells.
+    let a = c.args.self.now in
+    let here = c.if-self.false in
+    let begin = c.in-Err-begin.ensures in
+    stored-alone (fields a) (flash_result {T = Unit {0}} (Err c.in-Err-begin.stop)) (g.D.Flash.told (device a)) (g.D.Flash.told (device c.begin.new.self))
+    (λ is. (
+      sym (begin.goes.power here) ∙ ap (λ d. g.D.Flash.on d) (begin.still is) ∙ a.power here,
+      ap (λ d. g.D.Flash.told d) (begin.still is),
+    ))
+    (λ used. begin.stores done tells used)
+
+pub returns-in-Ok-begin-clause-stores : goal.returns-in-Ok-begin-clause-stores
+returns-in-Ok-begin-clause-stores g c = λ done tells.
+    let a = c.args.self.now in
+    let begin = c.in-Ok-begin.ensures in
+    let begins = begin.meets c.if-self.false (λ _. true) in
+    stored-filled (flash_result c.copy_images.result) (moment a) (moment c.begin.new.self) (moment c.copy_images.new.self) refl begins.leaves.stays.layout
+    (begin.keeps tt) (λ is. ap (λ d. g.D.Flash.told d) (begin.still is)) (λ used. begin.stores tt tells used) c.copy_images.ensures.fills tells
+
+pub returns-in-Err-begin-clause-keeps : goal.returns-in-Err-begin-clause-keeps
+returns-in-Err-begin-clause-keeps g c = λ done. c.in-Err-begin.ensures.keeps done
+
+pub returns-in-Ok-begin-clause-keeps : goal.returns-in-Ok-begin-clause-keeps
+returns-in-Ok-begin-clause-keeps g c = λ done. c.copy_images.ensures.fills.metadata ∙ c.in-Ok-begin.ensures.keeps tt

@@ -3,6 +3,7 @@ use Rattle.base_core.specs.Block.{block_bytes}
 use Rattle.agent_machine.specs.Fields.{total_of}
 use Rattle.agent_calls.specs.Shown.{device, fields, gone, moment}
 use Rattle.agent_calls.specs.Takes.{piece_at}
+use Rattle.agent_calls.proofs.CopyFilling.{fills-none, fills-then}
 use Rattle.agent_calls.proofs.Copies.{front-none, front-more, bytes-stopped, bytes-done}
 use Rattle.agent_calls.proofs.CopyTaking.{front-taken-none, front-taken-more, front-taken-all}
 use Rattle.agent_machine.proofs.Spending.{none-spent, spent-then}
@@ -16,6 +17,7 @@ loop-at-init g c = record {
   first = front-none c.args.image (moment c.args.self.now);
   takes = front-taken-none c.args.image (moment c.args.self.now) (g.D.Flash.arming (device c.args.self.now));
   spent = none-spent g.D.Flash (gone c.args.self.now) (device c.args.self.now) c.requires.here (c.args.self.now.power c.requires.here);
+  fills = fills-none (moment c.args.self.now);
 }
 
 pub loop-at-preserved : goal.loop-at-preserved
@@ -33,6 +35,7 @@ loop-at-preserved g c =
           (g.D.Flash.arming (device c.loop-at.self)) (g.D.Flash.arming (device c.copy_piece.new.self)) more
           (c.in-Ok.ensures.piece ∙ ap (λ (n : ℕ). piece_at block_bytes n c.loop-at.at) long) before.first before.takes c.in-Ok.ensures.takes;
       spent = spent-then before.spent c.in-Ok.ensures.spent;
+      fills = fills-then (moment c.args.self.now) (moment c.loop-at.self) (moment c.copy_piece.new.self) before.fills c.in-Ok.ensures.fills;
     }
 
 pub returns-in-Err-clause-copies : goal.returns-in-Err-clause-copies
@@ -52,3 +55,7 @@ returns-clause-takes g c =
 pub returns-in-Err-clause-spent : goal.returns-in-Err-clause-spent
 returns-in-Err-clause-spent g c = err-spent ℕ (Unit {0}) c.in-Err.stop (gone c.copy_piece.new.self) (device c.args.self.now) (device c.copy_piece.new.self)
     (spent-then c.loop-at.invariant.spent c.in-Err.ensures.spent)
+
+pub returns-in-Err-clause-fills : goal.returns-in-Err-clause-fills
+returns-in-Err-clause-fills g c =
+    fills-then (moment c.args.self.now) (moment c.loop-at.self) (moment c.copy_piece.new.self) c.loop-at.invariant.fills c.in-Err.ensures.fills

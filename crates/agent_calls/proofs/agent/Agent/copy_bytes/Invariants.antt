@@ -4,7 +4,7 @@ use Rattle.base_core.specs.Block.{block_bytes}
 use Rattle.agent_machine.specs.Fields.{total_of}
 use Rattle.agent_calls.specs.Shown.{SpentBy, device, fields, moment}
 use Rattle.agent_calls.proofs.CopyTaking.{FrontTaken}
-use Rattle.agent_calls.specs.Copies.{CopiesFront}
+use Rattle.agent_calls.specs.Copies.{CopiesFront, FillsBank}
 use Rattle.agent_calls.proofs.agent.Agent.copy_bytes.Given as goal
 
 abbrev pub invariant-loop-at : goal.invariant-loop-at
@@ -14,6 +14,7 @@ invariant-loop-at g l = record {
   first : CopiesFront l.fn.image l.at (moment l.fn.self) (moment l.self);
   takes : FrontTaken l.fn.image l.at (moment l.fn.self) (g.D.Flash.arming (device l.fn.self)) (g.D.Flash.arming (device l.self));
   spent : SpentBy (Ok tt) l.fn.self l.self;
+  fills : FillsBank (moment l.fn.self) (moment l.self);
 }
 
 abbrev pub decreases-loop-at : goal.decreases-loop-at

@@ -1,15 +1,19 @@
-use Rattle.std.proofs.Common.{◌<◌, ℕ, Some, length, sym, subst, true}
+use Rattle.std.proofs.Common.{◌<◌, ℕ, Bool, List, Some, length, sym, ap, subst, true}
 use Rattle.fwu_formats.specs.Layout.{Layout}
 use Rattle.agent_calls.specs.Shown.{device, fields, gone, moment}
-use Rattle.agent_machine.specs.Fields.{total_of}
+use Rattle.agent_machine.specs.Fields.{target, total_of}
 use Rattle.base_core.specs.Block.{block_bytes}
 use Rattle.agent_calls.specs.Takes.{FrontTakes, pieces_of}
+use Rattle.agent_calls.specs.Copies.{FillsBank}
+use Rattle.agent_calls.proofs.CopyFilling.{fills-behind, fills-ended, fills-still, fills-then, slot-behind}
 use Rattle.agent_calls.proofs.CopyTaking.{copy-takes, lowered-of}
 use Rattle.agent_calls.proofs.Copies.{image-unopened, image-uncopied, image-ended}
 use Rattle.agent_machine.proofs.Spending.{call-spent, spent-then}
 use Rattle.agent_calls.proofs.CopySpending.{err-spent}
 use Rattle.agent_calls.proofs.OwnRows.{found-at}
+use Rattle.agent_calls.proofs.agent.Agent.copy_image.Given as given
 use Rattle.agent_calls.proofs.agent.Agent.copy_image.Goals as goal
+use Rattle.agent_calls.proofs.agent.Agent.copy_image.Goals.{After-copy_bytes, After-open}
 
 pub returns-in-Err-clause-copies : goal.returns-in-Err-clause-copies
 returns-in-Err-clause-copies g c =
@@ -65,3 +69,40 @@ returns-clause-takes g c =
     (subst (λ d. FrontTakes c.args.image (pieces_of block_bytes (total_of (fields c.open.new.self) (Some c.args.image))) (moment c.open.new.self) (g.D.Flash.arming d)
     (g.D.Flash.arming (device c.copy_bytes.new.self))) c.in-Ok.ensures.still c.in-Ok-copy_bytes.ensures.takes)
     (λ i writes. lowered-of _ c.commit.result (c.commit.ensures.spent still i writes).lowered)
+
+-- ---- what it leaves as it was
+
+any : List ℕ → Bool
+any _ = true
+
+module _ (g : given.Over) (c : After-open g) where
+  opened : FillsBank (moment c.args.self.now) (moment c.open.new.self)
+  opened =
+      let o = c.open.ensures in
+      fills-still (moment c.args.self.now) (moment c.open.new.self) (o.meets c.requires.here any).leaves.stays o.metadata
+      (λ told. ap (λ d. g.D.Flash.told d) o.still)
+
+pub returns-in-Err-clause-fills : goal.returns-in-Err-clause-fills
+returns-in-Err-clause-fills g c = opened g (goal.at.returns-in-Err-clause-fills g c).After-open
+
+module _ (g : given.Over) (c : After-copy_bytes g) where
+  copied : FillsBank (moment c.args.self.now) (moment c.open.new.self) → FillsBank (moment c.args.self.now) (moment c.copy_bytes.new.self)
+  copied first = fills-then (moment c.args.self.now) (moment c.open.new.self) (moment c.copy_bytes.new.self) first c.copy_bytes.ensures.fills
+
+pub returns-in-Err-copy_bytes-clause-fills : goal.returns-in-Err-copy_bytes-clause-fills
+returns-in-Err-copy_bytes-clause-fills g c =
+    copied g (goal.at.returns-in-Err-copy_bytes-clause-fills g c).After-copy_bytes (opened g (goal.at.returns-in-Err-copy_bytes-clause-fills g c).After-open)
+
+pub returns-clause-fills : goal.returns-clause-fills
+returns-clause-fills g c =
+    let b = c.copy_bytes.new.self in
+    let d = c.commit.new.self in
+    let still = c.in-Ok-copy_bytes.ensures.spent.gone_is in
+    let e = c.commit.ensures in
+    let leaves = (e.meets still any).leaves in
+    fills-then (moment c.args.self.now) (moment b) (moment d)
+    (copied g (goal.at.returns-clause-fills g c).After-copy_bytes (opened g (goal.at.returns-clause-fills g c).After-open))
+    (fills-ended (moment b) (moment d)
+    (λ image writes. fills-behind (moment b) (moment d) leaves.stays e.metadata leaves.keeps _ _
+    (slot-behind (fields b).layout (target (fields b)) image _) (λ told. (e.ends still told image writes).keeps))
+    (λ none. fills-still (moment b) (moment d) leaves.stays e.metadata (λ told. ap (λ x. g.D.Flash.told x) (e.still none))))

@@ -1,7 +1,8 @@
-use Rattle.std.proofs.Common.{◌≡◌, ℕ, true, false, length, get_or, ap, subst, ◌∙◌, arith}
+use Rattle.std.proofs.Common.{◌≡◌, ℕ, true, false, length, get_or, refl, ap, subst, ◌∙◌, arith}
 use Rattle.std.proofs.lemmas.List.{get_or_default}
 use Rattle.fwu_formats.specs.Layout.{Layout}
 use Rattle.agent_calls.specs.Shown.{device, gone, moment}
+use Rattle.agent_calls.proofs.CopyFilling.{fills-none, fills-then, unnamed}
 use Rattle.agent_calls.proofs.CopyingAll.{copies-none, copies-named, copies-more, copies-stopped, copies-done}
 use Rattle.agent_calls.specs.Takes.{CopiesTake}
 use Rattle.agent_calls.proofs.CopyTaking.{copies-take-none, copies-take-named, copies-take-more}
@@ -13,6 +14,8 @@ loop-image-init g c = record {
   first = copies-none c.args.named.now (moment c.args.self.now);
   takes = copies-take-none c.args.named.now (moment c.args.self.now) (g.D.Flash.arming (device c.args.self.now));
   spent = none-spent g.D.Flash (gone c.args.self.now) (device c.args.self.now) c.requires.here (c.args.self.now.power c.requires.here);
+  fills = fills-none (moment c.args.self.now);
+  still = λ all. refl;
 }
 
 pub loop-image-preserved-then-named-image : goal.loop-image-preserved-then-named-image
@@ -25,6 +28,8 @@ loop-image-preserved-then-named-image g c =
       takes = copies-take-named c.args.named.now c.loop-image.image (moment c.args.self.now) (g.D.Flash.arming (device c.args.self.now))
           (g.D.Flash.arming (device c.loop-image.self)) is before.takes;
       spent = before.spent;
+      fills = before.fills;
+      still = before.still;
     }
 
 pub copy_image-requires-clause-here : goal.copy_image-requires-clause-here
@@ -51,6 +56,8 @@ loop-image-preserved g c =
           (g.D.Flash.arming (device c.args.self.now)) (g.D.Flash.arming (device c.loop-image.self)) (g.D.Flash.arming (device c.copy_image.new.self))
           c.loop-image-test.true is before.first before.takes c.in-Ok.ensures.takes;
       spent = spent-then before.spent c.in-Ok.ensures.spent;
+      fills = fills-then (moment c.args.self.now) (moment c.loop-image.self) (moment c.copy_image.new.self) before.fills c.in-Ok.ensures.fills;
+      still = λ all. absurd (unnamed c.args.named.now c.loop-image.image c.loop-image-test.true all is);
     }
 
 pub returns-clause-copies : goal.returns-clause-copies
@@ -66,3 +73,12 @@ returns-clause-takes g c =
 
 pub returns-in-Err-clause-spent : goal.returns-in-Err-clause-spent
 returns-in-Err-clause-spent g c = spent-then c.loop-image.invariant.spent c.in-Err.ensures.spent
+
+pub returns-in-Err-clause-fills : goal.returns-in-Err-clause-fills
+returns-in-Err-clause-fills g c =
+    fills-then (moment c.args.self.now) (moment c.loop-image.self) (moment c.copy_image.new.self) c.loop-image.invariant.fills c.in-Err.ensures.fills
+
+pub returns-in-Err-clause-still : goal.returns-in-Err-clause-still
+returns-in-Err-clause-still g c = λ all.
+    absurd (unnamed c.args.named.now c.loop-image.image c.loop-image-test.true all
+    (get_or_default c.args.named.now c.loop-image.image true false c.loop-image-test.true ∙ c.if-named-image.false))

@@ -1,18 +1,22 @@
-use Rattle.std.proofs.Common.{◌≡◌, ◌+◌, ◌<◌, ◌≤◌, ◌++◌, ◌*◌, ℕ, Option, Some, Ok, Err, sym, length, take, drop, refl, ap, ◌∙◌, subst, arith}
+use Rattle.std.proofs.Common.{◌≡◌, ◌+◌, ◌<◌, ◌≤◌, ◌++◌, ◌*◌, ℕ, Bool, true, List, Option, Some, Ok, Err, sym, length, take, drop, refl, ap, ◌∙◌, subst, arith}
 use Rattle.std.proofs.lemmas.List.{length-take-le, take-append-le, take_all}
 use Rattle.std.specs.Prelude.{IsFalse}
 use Rattle.fwu_formats.specs.Layout.{start}
-use Rattle.agent_machine.specs.Fields.{Fields, total_of}
+use Rattle.agent_machine.specs.Fields.{Fields, target, total_of}
 use Rattle.flash_core.specs.declared.flash.Arming.{Arming}
 use Rattle.flash_core.specs.Counts.{lowered_by}
 use Rattle.slot_writer.specs.Writes.{writes_to_append}
 use Rattle.agent_kept.specs.Kept.{part_at, size_of}
 use Rattle.agent_machine.proofs.Spending.{call-spent, spent-then}
 use Rattle.agent_calls.proofs.CopySpending.{err-spent, read-spent, stopped-spent}
+use Rattle.agent_calls.specs.Copies.{FillsBank}
+use Rattle.agent_calls.proofs.CopyFilling.{fills-by, fills-behind, fills-still, fills-then, slot-behind}
 use Rattle.agent_calls.proofs.CopyTaking.{piece-takes}
 use Rattle.agent_calls.specs.Shown.{device, fields, gone, moment}
 use Rattle.agent_calls.proofs.Copies.{piece-unread, piece-held, piece-written, piece-stopped, read-goes, read-stays}
+use Rattle.agent_calls.proofs.agent.Agent.copy_piece.Given as given
 use Rattle.agent_calls.proofs.agent.Agent.copy_piece.Goals as goal
+use Rattle.agent_calls.proofs.agent.Agent.copy_piece.Goals.{After-read_part, After-write_stream}
 
 pub returns-in-Err-clause-copies : goal.returns-in-Err-clause-copies
 returns-in-Err-clause-copies g c =
@@ -114,3 +118,45 @@ returns-in-Err-write_stream-clause-spent g c =
     err-spent (Unit {0}) ℕ c.in-Err-write_stream.stop (gone c.write_stream.new.self) (device c.args.self.now) (device c.write_stream.new.self)
     (spent-then (read-spent {g = g.D.Flash} (Ok tt) (gone b) (device c.args.self.now) (device b) c.in-Ok.ensures.gone c.in-Ok.ensures.reads)
     (call-spent still c.in-Err-write_stream.ensures.goes))
+
+-- ---- what it leaves as it was
+
+any : List ℕ → Bool
+any _ = true
+
+module _ (g : given.Over) (c : After-read_part g) where
+  read : FillsBank (moment c.args.self.now) (moment c.read_part.new.self)
+  read =
+      let a = c.args.self.now in
+      let b = c.read_part.new.self in
+      fills-still (moment a) (moment b)
+      (read-stays g.D.Flash.tells (g.D.Flash.told a.flash) (g.D.Flash.told b.flash) (fields a) (fields b) c.read_part.ensures.fields c.read_part.ensures.reads.content)
+      (ap (λ (f : Fields). f.meta) c.read_part.ensures.fields) c.read_part.ensures.reads.content
+
+pub returns-in-Err-clause-fills : goal.returns-in-Err-clause-fills
+returns-in-Err-clause-fills g c = read g (goal.at.returns-in-Err-clause-fills g c).After-read_part
+
+module _ (g : given.Over) (c : After-write_stream g) where
+  written : FillsBank (moment c.read_part.new.self) (moment c.write_stream.new.self)
+  written =
+      let b = c.read_part.new.self in
+      let d = c.write_stream.new.self in
+      let still : IsFalse (gone b) = subst IsFalse (sym c.in-Ok.ensures.gone) refl in
+      let w = c.write_stream.ensures in
+      let leaves = (w.meets still any).leaves in
+      fills-by c.write_stream.result (moment b) (moment d)
+      (λ done.
+      let writes = w.writes done in
+      fills-behind (moment b) (moment d) leaves.stays w.metadata leaves.keeps _ _
+      (slot-behind (fields b).layout (target (fields b)) writes.0 _) (λ told. (w.appends done told writes.0 writes.1).keeps))
+      (λ is. ap (λ x. moment x) (w.refused is)) (λ is. ap (λ x. moment x) (w.goes.untouched is))
+
+pub returns-in-Ok-write_stream-clause-fills : goal.returns-in-Ok-write_stream-clause-fills
+returns-in-Ok-write_stream-clause-fills g c =
+    fills-then (moment c.args.self.now) (moment c.read_part.new.self) (moment c.write_stream.new.self)
+    (read g (goal.at.returns-in-Ok-write_stream-clause-fills g c).After-read_part) (written g (goal.at.returns-in-Ok-write_stream-clause-fills g c).After-write_stream)
+
+pub returns-in-Err-write_stream-clause-fills : goal.returns-in-Err-write_stream-clause-fills
+returns-in-Err-write_stream-clause-fills g c =
+    fills-then (moment c.args.self.now) (moment c.read_part.new.self) (moment c.write_stream.new.self)
+    (read g (goal.at.returns-in-Err-write_stream-clause-fills g c).After-read_part) (written g (goal.at.returns-in-Err-write_stream-clause-fills g c).After-write_stream)

@@ -1,0 +1,296 @@
+-- What a serving took, did and wrote, by how it ended.
+use Rattle.std.proofs.Common.{◌≡◌, ◌≢◌, ◌≤◌, ℕ, ◌+◌, List, [], ◌∷◌, ◌++◌, length, length-append, take, drop, Option, Some, None, Result, Ok, Err, refl, sym, ap, subst, ◌∙◌, arith, append-nil, append_assoc}
+use Rattle.std.specs.Prelude.{IfSome}
+use Rattle.std.specs.Io.KnownBytes.{Appends, Consumes, IsAtEnd}
+use Rattle.std.proofs.KnownBytes.{Appends-nil, Appends-trans, Consumes-trans, Consumes-whole}
+use Rattle.std.proofs.lemmas.Grind.{flat_map-append}
+use Rattle.host_io.specs.Printed.{all, front, nothing}
+use Rattle.fwu_model.specs.Call.{Call}
+use Rattle.fwu_model.specs.Call as call
+use Rattle.fwu_model.specs.Headline.{IsPrefixOf}
+use Rattle.fwu_model.specs.Reply.{Reply, Turn}
+use Rattle.fwu_model.specs.Reply as reply
+use Rattle.fwu_wire.specs.Replies.{message}
+use Rattle.script_turns.specs.Powered.{Moment}
+use Rattle.script_turns.specs.Runs.{calls_of}
+use Rattle.wire_frames.specs.Exchange.{admission}
+use Rattle.wire_frames.specs.Frames.{frame, frames, number_of, numbered}
+use Rattle.wire_frames.specs.Stream.{StopsReading}
+use Rattle.wire_frames.specs.declared.exchange.Admission.{Admission}
+use Rattle.wire_frames.specs.declared.exchange.Admission.TheVariants.{Acts, Repeats, Ignored}
+use Rattle.wire_frames.specs.declared.stream.FrameStop.{FrameStop}
+use Rattle.wire_frames.specs.declared.stream.FrameStop.TheVariants as stop
+use Rattle.wire_frames.proofs.Once.{Admits, admits}
+use Rattle.wire_frames.proofs.Once as once
+use Rattle.serving.specs.Acting.{OneStop}
+use Rattle.serving.specs.Acting as acts
+use Rattle.serving.specs.Ends.{IsEarly, end_by, end_of_stop, status_of}
+use Rattle.serving.specs.Going.{Goes, ServeEnds, TakesFrames, at_the_end, at_a_request}
+use Rattle.serving.specs.Scene.{At, Port, RunAt, Scene, begin_at, unasked}
+use Rattle.serving.specs.Serving.{Puts, ServesAgain, ServesBy, ServesNew, ServesOne, answered, stopped}
+use Rattle.serving.specs.Starting.{Serves, not_started, started}
+use Rattle.serving.specs.Written.{Answers, answered_numbers, calls_for, frame_of, messages_of, written}
+use Rattle.serving.specs.declared.ends.ServeEnd.{ServeEnd}
+use Rattle.serving.specs.declared.ends.ServeEnd.TheVariants as end
+use Rattle.serving.proofs.Snoc.{frame-last, length-messages, messages-more}
+use Rattle.script_cmd.specs.ServedBy.{last_frame}
+use Rattle.script_cmd.proofs.PromiseTurns.{some-from}
+use Rattle.script_cmd.proofs.TopPrints.{later}
+
+-- ---- the ends
+
+-- no turn ends a serving by these
+not-end : (r : Reply) → end_by r ≡ Err end.End → ⊥
+not-end reply.Fault is = cc
+not-end (reply.NotBooted why) is = cc
+not-end reply.Lost is = cc
+not-end other is = cc
+
+not-sink : (r : Reply) → end_by r ≡ Err end.SinkFailed → ⊥
+not-sink reply.Fault is = cc
+not-sink (reply.NotBooted why) is = cc
+not-sink reply.Lost is = cc
+not-sink other is = cc
+
+early-some : (e : ServeEnd) → IsEarly e → status_of e ≡ 0 → ⊥
+early-some end.End early is = early
+early-some end.ReadFailed early is = omega arith
+early-some end.SinkFailed early is = omega arith
+early-some end.FlashFault early is = omega arith
+early-some (end.NotBooted why) early is = omega arith
+early-some end.TooLong early is = omega arith
+early-some end.NoMemory early is = omega arith
+early-some end.BadFrame early is = omega arith
+early-some end.PowerLost early is = omega arith
+
+pub end-at-three : (e : ServeEnd) → status_of e ≡ 3 → e ≡ end.SinkFailed
+end-at-three end.SinkFailed is = refl
+end-at-three other is = absurd (omega arith)
+
+-- ---- the account
+
+-- These requests were answered by these turns, behind the boot's, and so much was written; of the reply of the last turn a part where
+-- the sink failed.
+pub record Account (stream rest : Option (List ℕ)) (e : ServeEnd) (journal : List Turn) (before after : Option (List ℕ)) : Type 0 where
+  pub bodies : List (List ℕ)
+  pub turns : List Turn
+  pub part : List ℕ
+  pub come : IfSome stream (λ s. IsPrefixOf (frames bodies) s)
+  pub all : e ≡ end.End → IfSome stream (λ s. s ≡ frames bodies)
+  pub left : e ≡ end.End → IfSome rest (λ l. l ≡ [])
+  pub begin : IsPrefixOf turns (drop 1 journal)
+  pub all_turns : e ≡ end.End → turns ≡ drop 1 journal
+  pub calls : calls_of turns ≡ calls_for bodies
+  pub took : Appends before after (written (messages_of turns) (answered_numbers 0 bodies) ++ part)
+  pub none : e ≢ end.SinkFailed → part ≡ []
+  pub front : e ≡ end.SinkFailed → (n : ℕ) × (part ≡ take n (last_frame (drop 1 journal)))
+  pub some : e ≢ end.NoMemory → journal ≢ []
+
+-- ---- nothing was served
+
+idle : (stream rest : Option (List ℕ)) (e : ServeEnd) (journal : List Turn) (before after : Option (List ℕ)) → after ≡ before → (e ≡ end.End → ⊥) → (e ≡ end.SinkFailed → ⊥) → (e ≢ end.NoMemory → journal ≢ [])
+    → Account stream rest e journal before after
+idle stream rest e journal before after same ends fails some = record {
+  bodies = [];
+  turns = [];
+  part = [];
+  come = some-from stream (λ s. IsPrefixOf [] s) (λ s told. (s, refl));
+  all = λ is. absurd (ends is);
+  left = λ is. absurd (ends is);
+  begin = (drop 1 journal, refl);
+  all_turns = λ is. absurd (ends is);
+  calls = refl;
+  took = subst (λ (o : Option (List ℕ)). Appends before o []) (sym same) (Appends-nil before);
+  none = λ differs. refl;
+  front = λ is. absurd (fails is);
+  some = some;
+}
+
+by-stop : (E : Scene) (start : Moment) (sink : Port) (new : At) (e : ServeEnd) (stream rest : Option (List ℕ)) → OneStop E call.Boot e (begin_at start) new.run → new.sink ≡ sink → Account stream rest e new.run.journal sink.bytes new.sink.bytes
+by-stop E start sink new e stream rest (acts.starved is still) same =
+    idle stream rest e new.run.journal sink.bytes new.sink.bytes (ap (λ (p : Port). p.bytes) same) (λ x. cc) (λ x. cc) (λ differs. absurd (differs is))
+by-stop E start sink new e stream rest (acts.ended t one by) same =
+    idle stream rest e new.run.journal sink.bytes new.sink.bytes (ap (λ (p : Port). p.bytes) same)
+    (λ x. not-end t.reply (subst (λ (y : ServeEnd). end_by t.reply ≡ Err y) x by)) (λ x. not-sink t.reply (subst (λ (y : ServeEnd). end_by t.reply ≡ Err y) x by))
+    (λ differs none. let kept : new.run.journal ≡ t ∷ [] = one.kept in cc)
+
+-- ---- the request that ended it
+
+record Last (e : ServeEnd) (turns : List Turn) (old new : At) : Type 0 where
+  more : List Turn
+  part : List ℕ
+  journal_is : new.run.journal ≡ old.run.journal ++ more
+  took : Appends old.sink.bytes new.sink.bytes part
+  none : e ≢ end.SinkFailed → part ≡ []
+  front : e ≡ end.SinkFailed → (n : ℕ) × (part ≡ take n (last_frame (turns ++ more)))
+
+put-last : (e : ServeEnd) (turns more : List Turn) (old new : At) (piece : List ℕ) → IsEarly e → new.run.journal ≡ old.run.journal ++ more → piece ≡ last_frame (turns ++ more) → Puts piece (Err e) old.sink new.sink → Last e turns old new
+put-last e turns more old new piece early kept is_frame (all is bytes same) = absurd (early-some e early is)
+put-last e turns more old new piece early kept is_frame (front is n bytes later once) = record {
+  more = more;
+  part = take n piece;
+  journal_is = kept;
+  took = bytes;
+  none = λ differs. absurd (differs (end-at-three e is));
+  front = λ failed. (n, ap (take n) is_frame);
+}
+put-last e turns more old new piece early kept is_frame (nothing is same quiet) = record {
+  more = more;
+  part = [];
+  journal_is = kept;
+  took = subst (λ (o : Option (List ℕ)). Appends old.sink.bytes o []) (sym same) (Appends-nil old.sink.bytes);
+  none = λ differs. refl;
+  front = λ failed. absurd (omega (arith, is, ap status_of failed));
+}
+
+-- where its turn ended the serving, or there was no memory for it, nothing was written
+stop-last : (E : Scene) (c : Call) (e : ServeEnd) (turns : List Turn) (old new : At) → OneStop E c e old.run new.run → new.sink ≡ old.sink → Last e turns old new
+stop-last E c e turns old new (acts.starved is still) same = record {
+  more = [];
+  part = [];
+  journal_is = ap (λ (r : RunAt). r.journal) still ∙ sym (append-nil old.run.journal);
+  took = subst (λ (p : Port). Appends old.sink.bytes p.bytes []) (sym same) (Appends-nil old.sink.bytes);
+  none = λ differs. refl;
+  front = λ failed. absurd (cc);
+}
+stop-last E c e turns old new (acts.ended t one by) same = record {
+  more = t ∷ [];
+  part = [];
+  journal_is = one.kept;
+  took = subst (λ (p : Port). Appends old.sink.bytes p.bytes []) (sym same) (Appends-nil old.sink.bytes);
+  none = λ differs. refl;
+  front = λ failed. absurd (not-sink t.reply (subst (λ (y : ServeEnd). end_by t.reply ≡ Err y) failed by));
+}
+
+same-end : (x y : ServeEnd) → ◌≡◌ {A = Result (Unit {0}) ServeEnd} (Err x) (Err y) → y ≡ x
+same-end x y is = cc
+
+-- the frame of the turn that came last
+frame-of-last : (turns : List Turn) (t : Turn) (number : ℕ) (bytes : List ℕ) → number ≡ length turns + 1 → bytes ≡ message t.reply → frame (numbered number bytes) ≡ last_frame (turns ++ t ∷ [])
+frame-of-last turns t number bytes is bytes_are =
+    let count : number ≡ length (turns ++ t ∷ []) = omega (arith, is, length-append turns (t ∷ [])) in
+    ap (λ (b : List ℕ). frame (numbered number b)) bytes_are
+    ∙ frame-last (messages_of turns) (message t.reply) number (omega (arith, is, length-messages turns))
+    ∙ ap (λ (l : List (List ℕ)). frame_of l number) (sym (messages-more turns t))
+    ∙ ap (λ (n : ℕ). frame_of (messages_of (turns ++ t ∷ [])) n) count
+
+new-last : (E : Scene) (number : ℕ) (c : Call) (e : ServeEnd) (turns : List Turn) (old new : At) → IsEarly e → number ≡ length turns + 1 → ServesNew E number c old new (Err e) → Last e turns old new
+new-last E number c e turns old new early is (answered bytes one exchange puts) =
+    put-last e turns (one.turn ∷ []) old new (frame (numbered number bytes)) early one.one.kept (frame-of-last turns one.turn number bytes is one.bytes_are) puts
+new-last E number c e turns old new early is (stopped why stops_by same_end exchange same) =
+    stop-last E c e turns old new (subst (λ (y : ServeEnd). OneStop E c y old.run new.run) (same-end e why same_end) stops_by) same
+
+no-answer : (e : ServeEnd) → ◌≡◌ {A = Result (Unit {0}) ServeEnd} (Err e) (Ok tt) → ⊥
+no-answer e is = cc
+
+one-last : (E : Scene) (body : List ℕ) (e : ServeEnd) (bodies : List (List ℕ)) (turns : List Turn) (old new : At) → IsEarly e → Answers bodies turns old.exchange → Admits old.exchange.last (number_of body) → ServesOne E body old new (Err e)
+    → Last e turns old new
+one-last E body e bodies turns old new early answers (once.next so number) serves =
+    new-last E (number_of body) _ e turns old new early (omega (arith, number, answers.count)) (subst (λ (a : Admission). ServesBy a E body old new (Err e)) so serves)
+one-last E body e bodies turns old new early answers (once.again so number some) serves =
+    let puts : ServesAgain old new (Err e) = subst (λ (a : Admission). ServesBy a E body old new (Err e)) so serves in
+    put-last e turns [] old new old.exchange.reply early (ap (λ (r : RunAt). r.journal) puts.run ∙ sym (append-nil old.run.journal))
+    (answers.kept some ∙ ap (λ (n : ℕ). frame_of (messages_of turns) n) (sym answers.count) ∙ ap last_frame (sym (append-nil turns))) puts.puts
+one-last E body e bodies turns old new early answers (once.other so) serves =
+    let both : (new ≡ old) × (◌≡◌ {A = Result (Unit {0}) ServeEnd} (Err e) (Ok tt)) = subst (λ (a : Admission). ServesBy a E body old new (Err e)) so serves in
+    absurd (no-answer e both.1)
+
+-- ---- what was taken of the source
+
+consumed-front : (a b : Option (List ℕ)) (bs cs : List ℕ) → Consumes a b (bs ++ cs) → IfSome a (λ s. IsPrefixOf bs s)
+consumed-front None b bs cs c = tt
+consumed-front (Some xs) None bs cs c = absurd c
+consumed-front (Some xs) (Some ys) bs cs c = (cs ++ ys, sym (append_assoc bs cs ys) ∙ sym c)
+
+nothing-left : (o : Option (List ℕ)) → IsAtEnd o → IfSome o (λ l. l ≡ [])
+nothing-left None is = tt
+nothing-left (Some xs) is = is
+
+-- ---- requests were served
+
+module _ (E : Scene) (t : Turn) (start : Moment) (old new : At) (e : ServeEnd) (from to : Port) (bodies : List (List ℕ)) where
+  -- and no further frame was read
+  at-end : (mid : Option (List ℕ)) → Goes E (t ∷ []) start bodies old new → TakesFrames bodies from.bytes mid → (e ≡ end.End → IfSome from.bytes (λ s. s ≡ frames bodies) × IfSome to.bytes (λ l. l ≡ [])) → (e ≡ end.SinkFailed → ⊥)
+      → Account from.bytes to.bytes e new.run.journal old.sink.bytes new.sink.bytes
+  at-end mid goes takes ends fails =
+      let behind : drop 1 new.run.journal ≡ goes.turns = ap (drop 1) goes.journal_is in
+      record {
+        bodies = bodies;
+        turns = goes.turns;
+        part = [];
+        come = consumed-front from.bytes mid (frames bodies) [] (subst (Consumes from.bytes mid) (sym (append-nil (frames bodies))) takes.consumed);
+        all = λ is. (ends is).0;
+        left = λ is. (ends is).1;
+        begin = ([], append-nil goes.turns ∙ sym behind);
+        all_turns = λ is. sym behind;
+        calls = goes.answers.calls_are;
+        took = subst (Appends old.sink.bytes new.sink.bytes) (sym (append-nil (written (messages_of goes.turns) (answered_numbers 0 bodies)))) goes.took;
+        none = λ differs. refl;
+        front = λ is. absurd (fails is);
+        some = λ differs none. let all_of : new.run.journal ≡ t ∷ goes.turns = goes.journal_is in cc;
+      }
+
+  by-stream : (mid : Option (List ℕ)) (taken : ℕ) (why : FrameStop) → Goes E (t ∷ []) start bodies old new → TakesFrames bodies from.bytes mid → StopsReading why (length (frames bodies)) taken mid to.bytes → e ≡ end_of_stop why
+      → Account from.bytes to.bytes e new.run.journal old.sink.bytes new.sink.bytes
+  by-stream mid taken stop.End goes takes stops is =
+      at-end mid goes takes
+      (λ x. (Consumes-whole from.bytes to.bytes (frames bodies ++ []) (λ s. s ≡ frames bodies) (Consumes-trans from.bytes mid to.bytes (frames bodies) [] takes.consumed stops.0) stops.1 (append-nil (frames bodies)), nothing-left to.bytes stops.1))
+      (λ x. cc)
+  by-stream mid taken stop.Failed goes takes stops is = at-end mid goes takes (λ x. absurd (cc)) (λ x. cc)
+  by-stream mid taken stop.TooLong goes takes stops is = at-end mid goes takes (λ x. absurd (cc)) (λ x. cc)
+  by-stream mid taken stop.BadFrame goes takes stops is = at-end mid goes takes (λ x. absurd (cc)) (λ x. cc)
+
+  -- or the next request ended it
+  by-request : (body : List ℕ) (mid : At) (goes : Goes E (t ∷ []) start bodies old mid) → TakesFrames (bodies ++ body ∷ []) from.bytes to.bytes → IsEarly e → Last e goes.turns mid new
+      → Account from.bytes to.bytes e new.run.journal old.sink.bytes new.sink.bytes
+  by-request body mid goes takes early last =
+      let all_of : new.run.journal ≡ t ∷ (goes.turns ++ last.more) = last.journal_is ∙ ap (λ (j : List Turn). j ++ last.more) goes.journal_is in
+      let behind : drop 1 new.run.journal ≡ goes.turns ++ last.more = ap (drop 1) all_of in
+      let two : frames (bodies ++ body ∷ []) ≡ frames bodies ++ frames (body ∷ []) = flat_map-append frame bodies (body ∷ []) in
+      let goes_on : e ≡ end.End → ⊥ = λ is. subst IsEarly is early in
+      record {
+        bodies = bodies;
+        turns = goes.turns;
+        part = last.part;
+        come = consumed-front from.bytes to.bytes (frames bodies) (frames (body ∷ [])) (subst (Consumes from.bytes to.bytes) two takes.consumed);
+        all = λ is. absurd (goes_on is);
+        left = λ is. absurd (goes_on is);
+        begin = (last.more, sym behind);
+        all_turns = λ is. absurd (goes_on is);
+        calls = goes.answers.calls_are;
+        took = Appends-trans old.sink.bytes mid.sink.bytes new.sink.bytes (written (messages_of goes.turns) (answered_numbers 0 bodies)) last.part goes.took last.took;
+        none = last.none;
+        front = λ is. let f = last.front is in (f.0, f.1 ∙ ap (λ (ts : List Turn). take f.0 (last_frame ts)) (sym behind));
+        some = λ differs none. cc;
+      }
+
+by-ends : (E : Scene) (t : Turn) (start : Moment) (old new : At) (e : ServeEnd) (from to : Port) → ServeEnds E (t ∷ []) start old new e from to → Account from.bytes to.bytes e new.run.journal old.sink.bytes new.sink.bytes
+by-ends E t start old new e from to (at_the_end bodies mid taken why goes takes stops count is) = by-stream E t start old new e from to bodies mid taken why goes takes stops is
+by-ends E t start old new e from to (at_a_request bodies body mid goes takes count one early) =
+    by-request E t start old new e from to bodies body mid goes takes early
+    (one-last E body e bodies goes.turns mid new early goes.answers (admits mid.exchange.last (number_of body)) one)
+
+pub account : (E : Scene) (start : Moment) (sink : Port) (new : At) (e : ServeEnd) (from to : Port) → Serves E start sink new e from to → Account from.bytes to.bytes e new.run.journal sink.bytes new.sink.bytes
+account E start sink new e from to (not_started stops exchange same unread) = by-stop E start sink new e from.bytes to.bytes stops same
+account E start sink new e from to (started t mid one on ends) = by-ends E t start (unasked mid sink) new e from to ends
+
+-- ---- how often the sink failed
+
+stop-quiet : (old new : Port) → new ≡ old → old.faults ≤ new.faults
+stop-quiet old new same = omega (arith, ap (λ (p : Port). p.faults) same)
+
+request-later : (E : Scene) (body : List ℕ) (old new : At) (e : ServeEnd) (a : Admission) → ServesBy a E body old new (Err e) → old.sink.faults ≤ new.sink.faults
+request-later E body old new e Acts (answered bytes one exchange puts) = later _ 0 (status_of e) old.sink.bytes new.sink.bytes old.sink.faults new.sink.faults puts
+request-later E body old new e Acts (stopped why stops_by same_end exchange same) = stop-quiet old.sink new.sink same
+request-later E body old new e Repeats puts = later old.exchange.reply 0 (status_of e) old.sink.bytes new.sink.bytes old.sink.faults new.sink.faults puts.puts
+request-later E body old new e Ignored both = absurd (no-answer e both.1)
+
+ends-later : (E : Scene) (first : List Turn) (start : Moment) (old new : At) (e : ServeEnd) (from to : Port) → ServeEnds E first start old new e from to → old.sink.faults ≤ new.sink.faults
+ends-later E first start old new e from to (at_the_end bodies mid taken why goes takes stops count is) = omega (arith, goes.quiet)
+ends-later E first start old new e from to (at_a_request bodies body mid goes takes count one early) =
+    let more = request-later E body mid new e (admission mid.exchange.last (number_of body)) one in
+    omega (arith, goes.quiet, more)
+
+pub sink-later : (E : Scene) (start : Moment) (sink : Port) (new : At) (e : ServeEnd) (from to : Port) → Serves E start sink new e from to → sink.faults ≤ new.sink.faults
+sink-later E start sink new e from to (not_started stops exchange same unread) = stop-quiet sink new.sink same
+sink-later E start sink new e from to (started t mid one on ends) = ends-later E (t ∷ []) start (unasked mid sink) new e from to ends

@@ -1,0 +1,310 @@
+-- All that a serving promises, whichever way it ended.
+use Rattle.std.proofs.Common.{◌≡◌, ◌≢◌, ◌⊎◌, inl, inr, ℕ, Bool, List, [], ◌∷◌, ◌++◌, Contains, length, take, drop, Option, Some, None, refl, sym, ap, subst, ◌∙◌, arith, append-nil, take-append-drop, IsTrue, IsFalse}
+use Rattle.std.proofs.lemmas.Bool.{false≢true}
+use Rattle.std.proofs.lemmas.List.Elements.{Contains-append_right, Contains-get_or}
+use Rattle.host_io.specs.Printed.{Prints, all, front, nothing}
+use Rattle.wire_frames.specs.Frames.{Splits, frames}
+use Rattle.serving.specs.Ends.{status_of}
+use Rattle.serving.specs.Holds.{Cause, IsQuiet}
+use Rattle.serving.specs.Scene.{Port, port, scene}
+use Rattle.serving.specs.Written.{answered_numbers, messages_of, written}
+use Rattle.serving.specs.declared.ends.ServeEnd.{ServeEnd}
+use Rattle.serving.specs.declared.ends.ServeEnd.TheVariants as end
+use Rattle.fwu_model.specs.Causes.{Faults}
+use Rattle.fwu_model.specs.Contract.{Premises}
+use Rattle.fwu_model.specs.Headline.{IsPrefixOf}
+use Rattle.fwu_model.specs.Reply.{Turn}
+use Rattle.fwu_model.specs.Run.{is_refused_boot}
+use Rattle.fwu_model.specs.Sound.{Setting}
+use Rattle.fwu_model.specs.State.{State}
+use Rattle.fwu_model.specs.declared.kinds.NoBoot.{NoBoot}
+use Rattle.fwu_model.specs.declared.kinds.Note.{Note}
+use Rattle.fwu_model.proofs.Complete.{runs-boot}
+use Rattle.fwu_words.specs.Order as ask
+use Rattle.script_turns.specs.Runs.{calls_of}
+use Rattle.script_cmd.specs.Ending.{Ending, World}
+use Rattle.script_cmd.specs.Promises.{RanHolds}
+use Rattle.script_cmd.specs.ServeWays.{ServeWay, ServesSource, left_at, list_refused, note_of, served, sink_of, starved}
+use Rattle.script_cmd.specs.ServedBy.{ServedBy, ServedComplete, ServedEnds, ServedHeadline, ServedWrites, WroteFrames, WroteLine, may_end_serving}
+use Rattle.script_cmd.specs.Showing.{RefusesBadList}
+use Rattle.script_cmd.specs.Ways.{Given, Refuses, bad_list, bad_script, list_not_read, may_lack_list, not_read, too_long, usage}
+use Rattle.script_cmd.proofs.PromiseEnds.{refused-ends}
+use Rattle.script_cmd.proofs.PromiseHeadline.{idle-head, ran-head, sound-start}
+use Rattle.script_cmd.proofs.PromiseRan.{idle-holds, ran-holds}
+use Rattle.script_cmd.proofs.PromiseTurns.{by-plan, some-from}
+use Rattle.script_cmd.proofs.PromiseWritten.{appended}
+use Rattle.script_cmd.proofs.ServeAccount.{Account, account, end-at-three}
+use Rattle.script_cmd.proofs.TopCompletes.{granted}
+use Rattle.script_cmd.proofs.TopShows.{good-list-kept, refused-list, starved-list}
+
+-- ---- the end of a status
+
+end-at-zero : (e : ServeEnd) → status_of e ≡ 0 → e ≡ end.End
+end-at-zero end.End is = refl
+end-at-zero other is = absurd (omega arith)
+
+end-at-two : (e : ServeEnd) → status_of e ≡ 2 → e ≡ end.ReadFailed
+end-at-two end.ReadFailed is = refl
+end-at-two other is = absurd (omega arith)
+
+end-at-five : (e : ServeEnd) → status_of e ≡ 5 → e ≡ end.FlashFault
+end-at-five end.FlashFault is = refl
+end-at-five other is = absurd (omega arith)
+
+end-at-six : (e : ServeEnd) → status_of e ≡ 6 → (why : NoBoot) × (e ≡ end.NotBooted why)
+end-at-six (end.NotBooted why) is = (why, refl)
+end-at-six other is = absurd (omega arith)
+
+end-at-eight : (e : ServeEnd) → status_of e ≡ 8 → e ≡ end.TooLong
+end-at-eight end.TooLong is = refl
+end-at-eight other is = absurd (omega arith)
+
+end-at-eleven : (e : ServeEnd) → status_of e ≡ 11 → e ≡ end.BadFrame
+end-at-eleven end.BadFrame is = refl
+end-at-eleven other is = absurd (omega arith)
+
+end-at-twelve : (e : ServeEnd) → status_of e ≡ 12 → e ≡ end.PowerLost
+end-at-twelve end.PowerLost is = refl
+end-at-twelve other is = absurd (omega arith)
+
+no-thirteen : (e : ServeEnd) → status_of e ≡ 13 → ⊥
+no-thirteen end.End is = omega arith
+no-thirteen other is = omega arith
+
+ends-known : (e : ServeEnd) → IsTrue (may_end_serving (status_of e))
+ends-known end.End = refl
+ends-known other = refl
+
+-- ---- a list
+
+-- the line of a list stands for these alone
+list-plan : (g : Given) (before after : Faults) (planned : ℕ) (noted : Note) (line : List ℕ) → Refuses (Some ask.serve) g before after planned noted line → (planned ≡ 2) ⊎ (planned ≡ 13)
+list-plan g before after planned noted line (usage good is) = cc
+list-plan g before after planned noted line (not_read good is rose) = cc
+list-plan g before after planned noted line (list_not_read some why) = inl refl
+list-plan g before after planned noted line (too_long good is long) = cc
+list-plan g before after planned noted line (bad_script n good (inl is) short bad) = cc
+list-plan g before after planned noted line (bad_script n good (inr is) short bad) = cc
+list-plan g before after planned noted line (bad_list n some there bad) = inr refl
+
+plan-holds : (planned : ℕ) (f : ℕ → Bool) → IsTrue (f 2) → IsTrue (f 13) → (planned ≡ 2) ⊎ (planned ≡ 13) → IsTrue (f planned)
+plan-holds planned f two thirteen (inl is) = subst (λ (k : ℕ). IsTrue (f k)) (sym is) two
+plan-holds planned f two thirteen (inr is) = subst (λ (k : ℕ). IsTrue (f k)) (sym is) thirteen
+
+plan-other : (planned k : ℕ) → (planned ≡ 2) ⊎ (planned ≡ 13) → (2 ≡ k → ⊥) → (13 ≡ k → ⊥) → planned ≡ k → ⊥
+plan-other planned k (inl is) two thirteen same = two (sym is ∙ same)
+plan-other planned k (inr is) two thirteen same = thirteen (sym is ∙ same)
+
+module _ (g : Given) (ending : Ending Note) (old new : World) (rest : Option (List ℕ)) (planned : ℕ) (line : List ℕ) (none : ending.journal ≡ []) (why : Refuses (Some ask.serve) g old.faults new.faults planned ending.noted line)
+    (prints : Prints line planned ending.status old.taken new.taken old.faults.sink new.faults.sink) where
+  plan : (planned ≡ 2) ⊎ (planned ≡ 13)
+  plan = list-plan g old.faults new.faults planned ending.noted line why
+
+  list-status : (f : ℕ → Bool) → IsTrue (f 2) → IsTrue (f 3) → IsTrue (f 9) → IsTrue (f 13) → IsTrue (f ending.status)
+  list-status f two three nine thirteen = by-plan line planned ending.status old.taken new.taken old.faults.sink new.faults.sink prints f three nine (plan-holds planned f two thirteen plan)
+
+  -- no other status is of a list
+  list-other : (k : ℕ) → IsFalse (may_lack_list k) → ending.status ≡ k → ⊥
+  list-other k other is = false≢true (sym other ∙ subst (λ (n : ℕ). IsTrue (may_lack_list n)) is (list-status may_lack_list refl refl refl refl))
+
+  list-ends : new.faults.source ≡ old.faults.source → ServedEnds g ending old new rest
+  list-ends unread =
+      let ends = refused-ends (Some ask.serve) g old.faults new.faults ending.status ending.noted old.flash.counts planned line old.taken new.taken why prints in
+      record {
+        no_other = list-status may_end_serving refl refl refl refl;
+        at_end = λ is. absurd (list-other 0 refl is);
+        whole = λ is. absurd (list-other 0 refl is);
+        not_read = λ is. elim (ends.not_read is refl) [ inl source ↦ absurd (false≢true source.0) | inr list ↦ inr (none, list.0, list.1) ];
+        read_all = λ unless. unread;
+        sink_fault = ends.sink_fault;
+        flash_fault = λ is. absurd (list-other 5 refl is);
+        not_booted = λ is. absurd (list-other 6 refl is);
+        too_long = λ is. absurd (list-other 8 refl is);
+        bad_frame = λ is. absurd (list-other 11 refl is);
+        lost = λ is. absurd (list-other 12 refl is);
+        not_list = ends.not_list;
+      }
+
+  list-line : (w : List ℕ) → (ending.status ≡ planned → w ≡ line) → IsPrefixOf w line → (ending.status ≡ 9 → w ≡ []) → WroteLine g ending old new w
+  list-line w whole part lacks = record { no_turns = none; planned = planned; line = line; why = why; all = whole; front = part; none = lacks }
+
+  list-writes : ServedWrites g ending old new
+  list-writes before told = go prints
+    where
+      go : Prints line planned ending.status old.taken new.taken old.faults.sink new.faults.sink
+          → (w : List ℕ) × (new.taken ≡ Some (before ++ w)) × (WroteFrames g.script ending.journal ending.status w ⊎ WroteLine g ending old new w)
+      go (all is bytes same) =
+          (line, appended old.taken new.taken line before told bytes, inr (list-line line (λ again. refl) ([], append-nil line) (λ nine. absurd (plan-other planned 9 plan (λ e. omega arith) (λ e. omega arith) (sym is ∙ nine)))))
+      go (front is n bytes later once) = (
+        take n line,
+        appended old.taken new.taken (take n line) before told bytes,
+        inr (list-line (take n line) (λ again. absurd (plan-other planned 3 plan (λ e. omega arith) (λ e. omega arith) (sym again ∙ is))) (drop n line, take-append-drop n line) (λ nine. absurd (omega (arith, is, nine)))),
+      )
+      go (nothing is same quiet) = (
+        [],
+        same ∙ told ∙ ap Some (sym (append-nil before)),
+        inr (list-line [] (λ again. absurd (plan-other planned 9 plan (λ e. omega arith) (λ e. omega arith) (sym again ∙ is))) (line, refl) (λ nine. refl)),
+      )
+
+-- ---- nothing was done for want of memory
+
+module _ (g : Given) (ending : Ending Note) (old new : World) (rest : Option (List ℕ)) (nine : ending.status ≡ 9) where
+  starved-ends : new.faults.source ≡ old.faults.source → ServedEnds g ending old new rest
+  starved-ends unread = record {
+    no_other = subst (λ (k : ℕ). IsTrue (may_end_serving k)) (sym nine) refl;
+    at_end = λ is. absurd (omega (arith, is, nine));
+    whole = λ is. absurd (omega (arith, is, nine));
+    not_read = λ is. absurd (omega (arith, is, nine));
+    read_all = λ unless. unread;
+    sink_fault = λ is. absurd (omega (arith, is, nine));
+    flash_fault = λ is. absurd (omega (arith, is, nine));
+    not_booted = λ is. absurd (omega (arith, is, nine));
+    too_long = λ is. absurd (omega (arith, is, nine));
+    bad_frame = λ is. absurd (omega (arith, is, nine));
+    lost = λ is. absurd (omega (arith, is, nine));
+    not_list = λ is. absurd (omega (arith, is, nine));
+  }
+
+  starved-frames : WroteFrames g.script ending.journal ending.status []
+  starved-frames = record {
+    bodies = [];
+    turns = [];
+    part = [];
+    come = some-from g.script (λ s. IsPrefixOf [] s) (λ s told. (s, refl));
+    all = λ is. absurd (omega (arith, is, nine));
+    begin = (drop 1 ending.journal, refl);
+    all_turns = λ is. absurd (omega (arith, is, nine));
+    calls = refl;
+    written_is = refl;
+    none = λ other. refl;
+    front = λ is. absurd (omega (arith, is, nine));
+  }
+
+-- ---- it was served
+
+module _ (passes : List ℕ → Bool) (tells : Bool) (g : Given) (ending : Ending Note) (old new : World) (rest : Option (List ℕ)) (unarmed : old.flash.armed ≡ None) (e : ServeEnd) (is : ending.status ≡ status_of e) (said : ending.noted ≡ note_of e)
+    (by : ServesSource passes tells g.files g.script e ending.journal old new rest) where
+  abbrev from : Port
+  from = port g.script old.faults.source
+
+  abbrev to : Port
+  to = port rest new.faults.source
+
+  done : Account g.script rest e ending.journal old.taken new.taken
+  done = account (scene passes tells g.files old.faults.files) old.flash (sink_of old) (left_at by.on by.exchange ending.journal new) e from to by.serves
+
+  cause-at : (x : ServeEnd) → e ≡ x → Cause x old.flash (sink_of old) (left_at by.on by.exchange ending.journal new) from to
+  cause-at x same = subst (λ (y : ServeEnd). Cause y old.flash (sink_of old) (left_at by.on by.exchange ending.journal new) from to) same by.holds.cause
+
+  served-ends : ServedEnds g ending old new rest
+  served-ends = record {
+    no_other = subst (λ (k : ℕ). IsTrue (may_end_serving k)) (sym is) (ends-known e);
+    at_end = λ zero. done.left (end-at-zero e (sym is ∙ zero));
+    whole = λ zero. some-from g.script _ (λ stream told. cause-at end.End (end-at-zero e (sym is ∙ zero)) stream told);
+    not_read = λ two.
+        let failed = end-at-two e (sym is ∙ two) in
+        inl (done.some (λ x. let both = sym failed ∙ x in cc), by.holds.source_count.failed failed);
+    read_all = λ unless. by.holds.source_count.quiet (λ failed. done.some (λ x. let both = sym failed ∙ x in cc) (unless (is ∙ ap status_of failed)));
+    sink_fault = λ three. cause-at end.SinkFailed (end-at-three e (sym is ∙ three));
+    flash_fault = λ five. cause-at end.FlashFault (end-at-five e (sym is ∙ five));
+    not_booted = λ six. let w = end-at-six e (sym is ∙ six) in (w.0, cause-at (end.NotBooted w.0) w.1, said ∙ ap note_of w.1);
+    too_long = λ eight. some-from g.script _ (λ stream told. (cause-at end.TooLong (end-at-eight e (sym is ∙ eight)) stream told).1);
+    bad_frame = λ eleven. some-from g.script _ (λ stream told.
+        let c = cause-at end.BadFrame (end-at-eleven e (sym is ∙ eleven)) stream told in
+        let some = c.1.2 in
+        (c.0, c.1.0, c.1.1, (λ none. omega (arith, some, ap length none))));
+    lost = λ twelve. let c = cause-at end.PowerLost (end-at-twelve e (sym is ∙ twelve)) in (c.0, c.1.unarmed unarmed);
+    not_list = λ thirteen. absurd (no-thirteen e (sym is ∙ thirteen));
+  }
+
+  abbrev wrote : List ℕ
+  wrote = written (messages_of done.turns) (answered_numbers 0 done.bodies) ++ done.part
+
+  served-frames : (w : List ℕ) → w ≡ wrote → WroteFrames g.script ending.journal ending.status w
+  served-frames w whole = record {
+    bodies = done.bodies;
+    turns = done.turns;
+    part = done.part;
+    come = done.come;
+    all = λ zero. done.all (end-at-zero e (sym is ∙ zero));
+    begin = done.begin;
+    all_turns = λ zero. done.all_turns (end-at-zero e (sym is ∙ zero));
+    calls = done.calls;
+    written_is = whole;
+    none = λ other. done.none (λ failed. other (is ∙ ap status_of failed));
+    front = λ three. done.front (end-at-three e (sym is ∙ three));
+  }
+
+  served-writes : ServedWrites g ending old new
+  served-writes before told = (wrote, appended old.taken new.taken wrote before told done.took, inl (served-frames wrote refl))
+
+  -- the boot of a sound flash starts a bank
+  boots : IsTrue tells → (E : Setting) (start : State) → Premises E start old.flash.told g.files passes old.flash.counts new.flash.counts → (why : NoBoot) → e ≢ end.NotBooted why
+  boots told E start given why same =
+      let c = cause-at (end.NotBooted why) same in
+      let head = ran-head passes tells g.files ending.status old.flash told E start (calls_of ending.journal) ending.journal new.flash by.on old.faults.files old.faults.files ([], append-nil (calls_of ending.journal)) (λ zero. refl) by.holds.ran given in
+      let sound = sound-start E start old.flash.told g.files passes old.flash.counts new.flash.counts given in
+      let has : Contains ending.journal c.last = subst (λ (ts : List Turn). Contains ts c.last) (sym c.journal_is) (Contains-append_right c.before (c.last ∷ []) c.last (Contains-get_or (c.last ∷ []) 0 c.last (omega arith))) in
+      false≢true (sym (runs-boot E start ending.journal head.last sound head.run c.last has) ∙ ap is_refused_boot c.reply_is)
+
+  completes : ServedComplete passes tells g ending old new
+  completes told E start bodies given stream are few grants no_source =
+      let quiet : IsQuiet old.flash (sink_of old) (left_at by.on by.exchange ending.journal new) e from to = record {
+        booted = boots told E start given;
+        no_fault = grants.no_fault;
+        no_cut = grants.no_cut;
+        unarmed = unarmed;
+        no_failed_read = no_source;
+        no_failed_put = grants.no_sink_fault;
+      } in
+      let splits : Splits (frames bodies) bodies [] = record { whole = sym (append-nil (frames bodies)); each = are; no_more = inl (inl (omega arith)) } in
+      elim (by.holds.complete quiet (frames bodies) bodies [] stream splits few) [ inl ended ↦ inl (is ∙ ap status_of ended) | inr lacks ↦ inr (is ∙ ap status_of lacks) ]
+
+-- ---- whichever way
+
+module _ (passes : List ℕ → Bool) (tells : Bool) (g : Given) (ending : Ending Note) (old new : World) (rest : Option (List ℕ)) where
+  lists : ServeWay passes tells g ending old new rest → RefusesBadList g old.flash new.flash ending.status old.faults new.faults
+  lists (list_refused none same unread refused) = refused-list g old.flash new.flash ending.status old.faults new.faults ask.serve ending.noted old.taken new.taken same refused
+  lists (starved none same unread nine quiet stuck) = starved-list g old.flash new.flash ending.status old.faults new.faults same nine
+  lists (served good unarmed unread e is said by) = good-list-kept g old.flash new.flash ending.status old.faults new.faults good
+
+  heads : ServeWay passes tells g ending old new rest → ServedHeadline passes tells g.files ending old.flash new.flash
+  heads (list_refused none same unread refused) told E start given =
+      idle-head passes tells g.files ending.status old.flash told E start (calls_of ending.journal) ending.journal new.flash none same (λ zero. sym (ap calls_of none)) given
+  heads (starved none same unread nine quiet stuck) told E start given =
+      idle-head passes tells g.files ending.status old.flash told E start (calls_of ending.journal) ending.journal new.flash none same (λ zero. sym (ap calls_of none)) given
+  heads (served good unarmed unread e is said by) told E start given =
+      ran-head passes tells g.files ending.status old.flash told E start (calls_of ending.journal) ending.journal new.flash by.on old.faults.files old.faults.files ([], append-nil (calls_of ending.journal)) (λ zero. refl) by.holds.ran given
+
+  hold : ServeWay passes tells g ending old new rest → RanHolds passes tells g.files ending.journal old new
+  hold (list_refused none same unread refused) = idle-holds passes tells g.files ending.journal old new none same
+  hold (starved none same unread nine quiet stuck) = idle-holds passes tells g.files ending.journal old new none same
+  hold (served good unarmed unread e is said by) = ran-holds passes tells g.files ending.journal by.on old.faults.files old.faults.files old new (omega arith) (λ some. sym unread) by.holds.ran
+
+  why-ended : ServeWay passes tells g ending old new rest → ServedEnds g ending old new rest
+  why-ended (list_refused none same unread (planned, line, why, prints)) = list-ends g ending old new rest planned line none why prints unread.1
+  why-ended (starved none same unread nine quiet stuck) = starved-ends g ending old new rest nine unread.1
+  why-ended (served good unarmed unread e is said by) = served-ends passes tells g ending old new rest unarmed e is said by
+
+  writes : ServeWay passes tells g ending old new rest → ServedWrites g ending old new
+  writes (list_refused none same unread (planned, line, why, prints)) before told = list-writes g ending old new rest planned line none why prints before told
+  writes (starved none same unread nine quiet stuck) before told = ([], stuck.0 ∙ told ∙ ap Some (sym (append-nil before)), inl (starved-frames g ending old new rest nine))
+  writes (served good unarmed unread e is said by) before told = served-writes passes tells g ending old new rest unarmed e is said by before told
+
+  all-served : ServeWay passes tells g ending old new rest → ServedComplete passes tells g ending old new
+  all-served (list_refused none same unread (planned, line, why, prints)) told E start bodies given stream are few grants no_source =
+      absurd (granted ask.serve g old.flash.counts new.flash.counts old.faults new.faults planned ending.noted line (λ x. cc) (λ x. cc) grants why)
+  all-served (starved none same unread nine quiet stuck) told E start bodies given stream are few grants no_source = inr nine
+  all-served (served good unarmed unread e is said by) told E start bodies given stream are few grants no_source =
+      completes passes tells g ending old new rest unarmed e is said by told E start bodies given stream are few grants no_source
+
+  pub served-by : ServeWay passes tells g ending old new rest → ServedBy passes tells g ending old new rest
+  served-by went = record {
+    way = went;
+    refuses_list = lists went;
+    headline = heads went;
+    turns = hold went;
+    ends = why-ended went;
+    wrote = writes went;
+    complete = all-served went;
+  }

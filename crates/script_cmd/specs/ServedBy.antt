@@ -1,0 +1,153 @@
+-- What the command `serve` promises, whichever way it ends.
+use Rattle.std.specs.Prelude.{◌≡◌, ◌≢◌, ◌≤◌, ◌<◌, ◌⊎◌, ◌||◌, ◌==◌, ℕ, Bool, List, [], ◌++◌, Option, Some, IfSome, IsSome}
+use Rattle.std.specs.Prelude.{IsTrue, drop, length, take}
+use Rattle.flash_core.specs.Counts.{Rose}
+use Rattle.host_io.specs.Calls.{raised}
+use Rattle.host_io.specs.Contents.{Directory}
+use Rattle.wire_frames.specs.Frames.{AreBodies, Splits, frames}
+use Rattle.wire_frames.specs.Stream.{most_bytes}
+use Rattle.serving.specs.Holds.{EndsWith}
+use Rattle.serving.specs.Written.{answered_numbers, calls_for, frame_of, messages_of, written}
+use Rattle.fwu_model.specs.Allow.{list_bytes}
+use Rattle.fwu_model.specs.Causes.{LacksList}
+use Rattle.fwu_model.specs.Contract.{Premises}
+use Rattle.fwu_model.specs.Headline.{Headline, IsPrefixOf}
+use Rattle.fwu_model.specs.Reply.{Turn}
+use Rattle.fwu_model.specs.Reply as reply
+use Rattle.fwu_model.specs.Sound.{Setting}
+use Rattle.fwu_model.specs.State.{State}
+use Rattle.fwu_model.specs.Wrote.{IsBadList}
+use Rattle.fwu_model.specs.declared.kinds.NoBoot.{NoBoot}
+use Rattle.fwu_model.specs.declared.kinds.Note.{Note}
+use Rattle.fwu_model.specs.declared.kinds.Note.TheVariants as note
+use Rattle.fwu_words.specs.Order as ask
+use Rattle.script_turns.specs.Powered.{Moment}
+use Rattle.script_turns.specs.Runs.{calls_of}
+use Rattle.script_cmd.specs.Ending.{Ending, World}
+use Rattle.script_cmd.specs.Promises.{RanHolds, outcome}
+use Rattle.script_cmd.specs.ServeWays.{ServeWay}
+use Rattle.script_cmd.specs.Showing.{IsGranted, RefusesBadList}
+use Rattle.script_cmd.specs.Ways.{Given, Refuses}
+
+-- ---- the turns
+
+-- from a sound flash the turns are those of the machine
+abbrev pub ServedHeadline : (List ℕ → Bool) → Bool → Option Directory → Ending Note → Moment → Moment → Type 0
+ServedHeadline passes tells files ending old new =
+    IsTrue tells → (E : Setting) (start : State) → Premises E start old.told files passes old.counts new.counts
+    → Headline E start (outcome (calls_of ending.journal) ending.journal ending.status old new)
+
+-- ---- why it ended
+
+-- these end a serving
+abbrev pub may_end_serving : ℕ → Bool
+may_end_serving status =
+    (status == 0) || (status == 2) || (status == 3) || (status == 5) || (status == 6) || (status == 8) || (status == 9)
+    || (status == 11) || (status == 12) || (status == 13)
+
+-- The statuses by their causes, on any device, files, source and sink. Want of memory, 9, has no other cause.
+pub record ServedEnds (g : Given) (ending : Ending Note) (old new : World) (rest : Option (List ℕ)) : Type 0 where
+  -- there is no other status
+  pub no_other : IsTrue (may_end_serving ending.status)
+  -- the source is at its end
+  pub at_end : ending.status ≡ 0 → IfSome rest (λ left. left ≡ [])
+  -- and it had whole frames, and nothing behind them
+  pub whole : ending.status ≡ 0 → IfSome g.script (λ stream. (bodies : List (List ℕ)) × Splits stream bodies [])
+  -- a read of the source failed, once, or a list of digests was not read
+  pub not_read : ending.status ≡ 2 → ((ending.journal ≢ []) × (new.faults.source ≡ raised old.faults.source))
+      ⊎ ((ending.journal ≡ []) × IsSome g.list × (Rose old.faults.files new.faults.files ⊎ LacksList g.files g.list))
+  -- and else no read of the source failed
+  pub read_all : (ending.status ≡ 2 → ending.journal ≡ []) → new.faults.source ≡ old.faults.source
+  -- the sink failed: at a frame, or at the line of a list
+  pub sink_fault : ending.status ≡ 3 → Rose old.faults.sink new.faults.sink
+  -- the last turn is a fault of the flash
+  pub flash_fault : ending.status ≡ 5
+      → EndsWith ending.journal reply.Fault × Rose old.flash.counts.faults new.flash.counts.faults
+  -- the last turn started no bank, and why is noted
+  pub not_booted : ending.status ≡ 6
+      → (why : NoBoot) × EndsWith ending.journal (reply.NotBooted why) × (ending.noted ≡ note.Boot why)
+  -- the source has more than 1 GiB
+  pub too_long : ending.status ≡ 8 → IfSome g.script (λ stream. most_bytes < length stream)
+  -- a length that no body has, or an end inside a frame, stands behind whole frames
+  pub bad_frame : ending.status ≡ 11
+      → IfSome g.script (λ stream. (bodies : List (List ℕ)) × (left : List ℕ) × Splits stream bodies left × (left ≢ []))
+  -- the last turn is a loss of power, which none armed
+  pub lost : ending.status ≡ 12 → EndsWith ending.journal reply.Lost × Rose old.flash.counts.cuts new.flash.counts.cuts
+  -- the list of digests has a bad line, which is noted
+  pub not_list : ending.status ≡ 13
+      → IsSome g.list × (n : ℕ) × (ending.noted ≡ note.BadList n) × IsBadList (list_bytes g.list g.files) n
+
+-- ---- what was written
+
+-- the frame of the last turn's reply
+abbrev pub last_frame : List Turn → List ℕ
+last_frame turns = frame_of (messages_of turns) (length turns)
+
+-- The frames of the replies to requests of a stream: one for each that acts, and again for each repeat.
+pub record WroteFrames (stream : Option (List ℕ)) (journal : List Turn) (status : ℕ) (w : List ℕ) : Type 0 where
+  -- the requests that were answered, their turns behind the boot's, and a part of one more frame
+  pub bodies : List (List ℕ)
+  pub turns : List Turn
+  pub part : List ℕ
+  -- they stand at the front of the stream, and are all of it where all was done
+  pub come : IfSome stream (λ s. IsPrefixOf (frames bodies) s)
+  pub all : status ≡ 0 → IfSome stream (λ s. s ≡ frames bodies)
+  -- the turns are the first of the journal, and all of them where all was done
+  pub begin : IsPrefixOf turns (drop 1 journal)
+  pub all_turns : status ≡ 0 → turns ≡ drop 1 journal
+  -- each request that acts has its turn
+  pub calls : calls_of turns ≡ calls_for bodies
+  -- and each frame has the reply of its number's turn
+  pub written_is : w ≡ written (messages_of turns) (answered_numbers 0 bodies) ++ part
+  -- where the sink failed, a front of the frame of the last turn stands behind them
+  pub none : status ≢ 3 → part ≡ []
+  pub front : status ≡ 3 → (n : ℕ) × (part ≡ take n (last_frame (drop 1 journal)))
+
+-- the line of a list that was not read or is none, or a front of it
+pub record WroteLine (g : Given) (ending : Ending Note) (old new : World) (w : List ℕ) : Type 0 where
+  pub no_turns : ending.journal ≡ []
+  pub planned : ℕ
+  pub line : List ℕ
+  pub why : Refuses (Some ask.serve) g old.faults new.faults planned ending.noted line
+  pub all : ending.status ≡ planned → w ≡ line
+  pub front : IsPrefixOf w line
+  pub none : ending.status ≡ 9 → w ≡ []
+
+-- what the sink took, where it tells that, at every status
+abbrev pub ServedWrites : Given → Ending Note → World → World → Type 0
+ServedWrites g ending old new =
+    (before : List ℕ) → old.taken ≡ Some before → (w : List ℕ) × (new.taken ≡ Some (before ++ w))
+    × (WroteFrames g.script ending.journal ending.status w ⊎ WroteLine g ending old new w)
+
+-- ---- all is served
+
+-- From a sound flash all requests are served, where the source has whole frames within the limit, and nothing was lacking and
+-- nothing failed, unless memory was wanting.
+abbrev pub ServedComplete : (List ℕ → Bool) → Bool → Given → Ending Note → World → World → Type 0
+ServedComplete passes tells g ending old new =
+    IsTrue tells → (E : Setting) (start : State) (bodies : List (List ℕ))
+    → Premises E start old.flash.told g.files passes old.flash.counts new.flash.counts
+    → g.script ≡ Some (frames bodies) → AreBodies bodies → length (frames bodies) ≤ most_bytes
+    → IsGranted g old.flash.counts new.flash.counts old.faults new.faults
+    → (Rose old.faults.source new.faults.source → ⊥)
+    → (ending.status ≡ 0) ⊎ (ending.status ≡ 9)
+
+-- ---- in one
+
+-- All that `serve` promises. `rest` is what the source has left.
+pub record ServedBy (passes : List ℕ → Bool) (tells : Bool) (g : Given) (ending : Ending Note) (old new : World)
+    (rest : Option (List ℕ)) : Type 0 where
+  -- For every device, files, source and sink, told or not: which way it ended, with what was taken, done and written.
+  pub way : ServeWay passes tells g ending old new rest
+  pub refuses_list : RefusesBadList g old.flash new.flash ending.status old.faults new.faults
+  -- From a sound flash: the turns are those of the machine, every image that a loss may leave shows a state that they lead to, and
+  -- each boot selects a complete and permitted package.
+  pub headline : ServedHeadline passes tells g.files ending old.flash new.flash
+  -- For every device: what each turn did, how the device is left, and that no loss harms what is in use.
+  pub turns : RanHolds passes tells g.files ending.journal old new
+  -- For every device, files, source and sink: each status has its cause.
+  pub ends : ServedEnds g ending old new rest
+  -- For every device, files and source: what the sink took, at every status.
+  pub wrote : ServedWrites g ending old new
+  -- From a sound flash all requests are served, where nothing was lacking and nothing failed, unless memory was wanting.
+  pub complete : ServedComplete passes tells g ending old new

@@ -1,0 +1,7 @@
+pub mod Snoc
+pub mod Acts
+pub mod OneMore
+pub mod Steps
+pub mod SoFar
+pub mod Starts
+pub mod Holds

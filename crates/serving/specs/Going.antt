@@ -1,0 +1,52 @@
+-- The requests of a source so far, and how a serving ends.
+use Rattle.std.specs.Prelude.{◌≡◌, ◌≤◌, ℕ, List, [], ◌∷◌, ◌++◌, Option, None, Err, IsFalse, length}
+use Rattle.std.specs.List.{list_any}
+use Rattle.std.specs.Io.KnownBytes.{Appends, Consumes}
+use Rattle.fwu_model.specs.Causes.{cuts_in}
+use Rattle.fwu_model.specs.Reply.{Turn}
+use Rattle.fwu_model.specs.Run.{ends_run}
+use Rattle.script_turns.specs.Powered.{Moment}
+use Rattle.wire_frames.specs.Frames.{AreBodies, frames}
+use Rattle.wire_frames.specs.Stream.{StopsReading, most_bytes, stop_faults}
+use Rattle.wire_frames.specs.declared.stream.FrameStop.{FrameStop}
+use Rattle.serving.specs.Ends.{IsEarly, end_of_stop}
+use Rattle.serving.specs.Scene.{At, Port, RanIn, Scene}
+use Rattle.serving.specs.Serving.{ServesOne}
+use Rattle.serving.specs.Written.{Answers, answered_numbers, messages_of, written}
+use Rattle.serving.specs.declared.ends.ServeEnd.{ServeEnd}
+
+-- These requests were served, behind the first turns of the journal, and none of them ended the serving. The turns are a run from
+-- the start. The requests that act have one turn each, and its reply was written for each of them, and again for each repeat.
+pub record Goes (E : Scene) (first : List Turn) (start : Moment) (bodies : List (List ℕ)) (old new : At) : Type 0 where
+  pub turns : List Turn
+  pub journal_is : new.run.journal ≡ first ++ turns
+  pub ran : RanIn E new.run.journal start new.run.moment
+  pub none : IsFalse (list_any (λ (t : Turn). ends_run t.reply) new.run.journal)
+  -- no loss of power was armed
+  pub uncut : cuts_in new.run.journal ≡ 0
+  pub answers : Answers bodies turns new.exchange
+  pub took : Appends old.sink.bytes new.sink.bytes (written (messages_of turns) (answered_numbers 0 bodies))
+  pub quiet : new.sink.faults ≡ old.sink.faults
+
+-- the frames of these bodies, and no other byte, were taken from a source
+pub record TakesFrames (bodies : List (List ℕ)) (old new : Option (List ℕ)) : Type 0 where
+  pub each : AreBodies bodies
+  pub consumed : Consumes old new (frames bodies)
+  pub few : length (frames bodies) ≤ most_bytes
+
+-- How a serving ends: these requests were served, and no further frame could be read; or they were, and the next one ended it.
+pub data ServeEnds (E : Scene) (first : List Turn) (start : Moment) (old new : At) (e : ServeEnd) (from to : Port) : Type 0 where
+  at_the_end : (bodies : List (List ℕ)) (mid : Option (List ℕ)) (taken : ℕ) (why : FrameStop)
+      → Goes E first start bodies old new → TakesFrames bodies from.bytes mid
+      → StopsReading why (length (frames bodies)) taken mid to.bytes
+      → to.faults ≡ stop_faults {T = ℕ} (Err why) from.faults → e ≡ end_of_stop why
+      → ServeEnds E first start old new e from to
+  at_a_request : (bodies : List (List ℕ)) (body : List ℕ) (mid : At)
+      → Goes E first start bodies old mid → TakesFrames (bodies ++ body ∷ []) from.bytes to.bytes → to.faults ≡ from.faults
+      → ServesOne E body mid new (Err e) → IsEarly e
+      → ServeEnds E first start old new e from to
+
+-- The requests of a source are served: so of every run that was begun on a flash on which no bank was started.
+abbrev pub GoesOn : Scene → At → At → ServeEnd → Port → Port → Type 0
+GoesOn E old new e from to = (first : List Turn) (start : Moment) → start.on ≡ None → Goes E first start [] old old
+    → ServeEnds E first start old new e from to

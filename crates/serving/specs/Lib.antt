@@ -1,0 +1,9 @@
+pub mod Ends
+pub mod Requests
+pub mod Written
+pub mod Scene
+pub mod Acting
+pub mod Serving
+pub mod Going
+pub mod Starting
+pub mod Holds

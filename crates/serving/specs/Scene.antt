@@ -1,0 +1,63 @@
+-- What does not change in a serving, and what is known of it between two requests.
+use Rattle.std.specs.Prelude.{ℕ, Bool, List, [], Option}
+use Rattle.flash_core.specs.declared.flash.Flash.{Ghosts}
+use Rattle.host_io.specs.Contents.{Directory}
+use Rattle.fwu_model.specs.Call.{Call}
+use Rattle.fwu_model.specs.Reply.{Turn}
+use Rattle.fwu_journal.specs.Shown.{turns}
+use Rattle.script_turns.specs.Powered.{Moment, moment_of}
+use Rattle.script_turns.specs.Runs.{Ran}
+use Rattle.script_turns.specs.Turning.{Turns}
+use Rattle.wire_frames.specs.Exchange.{Answered, none_yet}
+use Rattle.serving.specs.declared.serving.Serving.{Serving}
+
+-- The verifier's test of a manifest, whether the device tells its content, the files where they are told, and how many of their
+-- calls have failed.
+pub record Scene : Type 0 where
+  pub passes : List ℕ → Bool
+  pub tells : Bool
+  pub files : Option Directory
+  pub faults : ℕ
+
+abbrev pub scene : (List ℕ → Bool) → Bool → Option Directory → ℕ → Scene
+scene passes tells files faults = record { passes = passes; tells = tells; files = files; faults = faults }
+
+-- a turn of such a serving, and a run of turns: no call of the files fails
+abbrev pub TurnsIn : Scene → Call → Turn → Moment → Moment → Type 0
+TurnsIn E c t old new = Turns E.passes E.tells E.files c t old new E.faults E.faults
+
+abbrev pub RanIn : Scene → List Turn → Moment → Moment → Type 0
+RanIn E journal old new = Ran E.passes E.tells E.files journal old new E.faults E.faults
+
+-- A sink, or a source: the bytes that it took, or has left, where they are told, and how many of its calls have failed.
+pub record Port : Type 0 where
+  pub bytes : Option (List ℕ)
+  pub faults : ℕ
+
+abbrev pub port : Option (List ℕ) → ℕ → Port
+port bytes faults = record { bytes = bytes; faults = faults }
+
+-- a run between two turns: the flash, and its turns so far
+pub record RunAt : Type 0 where
+  pub moment : Moment
+  pub journal : List Turn
+
+abbrev pub run_of : {D : Type 0} {F : Ghosts D} → Serving D F → RunAt
+run_of s = record { moment = moment_of s.powered; journal = turns s.journal }
+
+-- one without turns
+abbrev pub begin_at : Moment → RunAt
+begin_at start = record { moment = start; journal = [] }
+
+-- A serving between two requests: its run, the number and the reply of the last request that acted, and the sink.
+pub record At : Type 0 where
+  pub run : RunAt
+  pub exchange : Answered
+  pub sink : Port
+
+abbrev pub at : {D : Type 0} {F : Ghosts D} → Serving D F → Port → At
+at s sink = record { run = run_of s; exchange = s.exchange; sink = sink }
+
+-- one whose run is so, and to which no request came
+abbrev pub unasked : RunAt → Port → At
+unasked run sink = record { run = run; exchange = none_yet; sink = sink }
