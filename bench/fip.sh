@@ -1,9 +1,9 @@
 #!/bin/sh
 # `fip` beside fiptool (Debian's arm-trusted-firmware-tools), where it is installed, in one run: processor time and peak memory of
 # `create`, `update`, `remove` and `unpack` over three payloads that make a package of nearly 64 MiB, the time of `info`, and the
-# start-up. `capsule` and `package` of that package beside two copies of it through one buffer of its size, by one read and one
-# write: through a buffer of malloc, and by dd, whose buffer begins at a page. And what `fip` takes
-# to refuse by sizes alone: an image of 3 GiB, and a package and a capsule of 60 MiB whose 64 entries or items overlap.
+# start-up. `create`, `capsule`, `package` and `unpack` of that package beside `cp` of it, and beside two copies of it through one
+# buffer of its size, by one read and one write: through a buffer of malloc, and by dd, whose buffer begins at a page. And what `fip`
+# takes to refuse by sizes alone: an image of 3 GiB, and a package and a capsule of 60 MiB whose 64 entries or items overlap.
 set -eu
 cd "$(dirname "$0")/.."
 . bench/build_fip.sh
@@ -84,27 +84,32 @@ def plain_copy():
 
 
 def making(words, made):
-    """What a run takes that makes a new file, which is then removed: so none takes away the bytes of the file of another run."""
+    """What a run takes that makes new files, which are then removed: so none takes away the bytes of the file of another run."""
     taken = cost(words)
-    os.remove(made)
+    for name in made:
+        os.remove(name)
     return taken
 
 
 def beside_copies(title, ours, made, plain, rounds=40):
-    """The least of so many rounds of a command, which makes a file, and of both copies, in turns."""
+    """The least of so many rounds of a command, which makes these files, and of the copies, in turns."""
     dd = ["dd", "if=our.fip", "of=copy.bin", f"bs={size}", "count=1", "status=none"]
-    costs = [(making(ours, made), making(plain, "copy.bin"), making(dd, "copy.bin")) for _ in range(rounds)]
-    least = [min(round[i][0] for round in costs) for i in range(3)]
-    print(f"{title}: fip {least[0] * 1000:.1f} ms, {costs[0][0][1] / 2**20:.0f} MiB; copy {least[1] * 1000:.1f} ms, ratio"
-          f" {least[0] / least[1]:.2f}; dd {least[2] * 1000:.1f} ms, ratio {least[0] / least[2]:.2f}")
+    copies = {"cp": ["cp", "our.fip", "copy.bin"], "copy": plain, "dd": dd}
+    costs = [(making(ours, made), *(making(words, ["copy.bin"]) for words in copies.values())) for _ in range(rounds)]
+    one, *others = (min(round[i][0] for round in costs) for i in range(1 + len(copies)))
+    beside = "; ".join(f"{name} {other * 1000:.1f} ms, ratio {one / other:.2f}" for name, other in zip(copies, others))
+    print(f"{title}: fip {one * 1000:.1f} ms, {max(round[0][1] for round in costs) / 2**20:.0f} MiB; {beside}")
 
 
 copy = plain_copy()
 subprocess.run([fip, "capsule", "our.fip", "our.cap"], check=True, stdout=subprocess.DEVNULL)
 subprocess.run([fip, "package", "our.cap", "again.fip"], check=True, stdout=subprocess.DEVNULL)
 subprocess.run(["cmp", "our.fip", "again.fip"], check=True)
-beside_copies("capsule", [fip, "capsule", "our.fip", "new.cap"], "new.cap", copy)
-beside_copies("package", [fip, "package", "our.cap", "new.fip"], "new.fip", copy)
+beside_copies("create", [fip, "create", "new.fip", "tb-fw=a.bin", "soc-fw=b.bin", "nt-fw=c.bin"], ["new.fip"], copy)
+beside_copies("capsule", [fip, "capsule", "our.fip", "new.cap"], ["new.cap"], copy)
+beside_copies("package", [fip, "package", "our.cap", "new.fip"], ["new.fip"], copy)
+TYPES = ("5ff9ec0b-4d22-3e4d-a544-c39d81c73f0a", "47d4086d-4cfe-9846-9b95-2950cbbd5a00", "d6d0eea7-fcea-d54b-9782-9934f234b6e4")
+beside_copies("unpack", [fip, "unpack", "our.fip", "new-"], [f"new-{name}.bin" for name in TYPES], copy)
 
 
 def refused(title, words, line):

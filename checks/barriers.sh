@@ -16,10 +16,12 @@ python3 -B - "$model" <<'PY'
 import sys
 
 sys.path.insert(0, sys.argv[1])
-from make_packages import of_three
+from make_packages import manifest_of, of_three, package
 
 with open("p2.fip", "wb") as file:
     file.write(of_three(2))
+with open("m2.fip", "wb") as file:
+    file.write(package([("manifest", manifest_of(2))]))
 PY
 
 failed=0
@@ -42,6 +44,12 @@ counted "a boot that writes nothing" 0
 printf 'boot\nsend p2.fip now\n' | strace -f -e trace=fdatasync,fsync -o trace "$bin/fwu" flash.img run >out
 grep -q '^send SUCCESS' out || { cat out; exit 1; }
 counted "a sending of three images" 5
+
+# One at the end of each image, whether it is copied or sent.
+python3 -B "$model/make_flash.py" flash.img
+printf 'boot\nsend m2.fip now partial\n' | strace -f -e trace=fdatasync,fsync -o trace "$bin/fwu" flash.img run >out
+grep -q '^send SUCCESS images=1 skipped=0 copied=2' out || { cat out; exit 1; }
+counted "a sending of one image of three" 5
 
 printf new >new.bin
 "$bin/fip" create out.fip nt-fw=new.bin >out

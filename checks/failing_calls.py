@@ -4,6 +4,7 @@
     failing_calls.py [BIN]    BIN is bin/ where it isn't named; wants strace
 
 `fip create` makes OUT anew: OUT is the old package or the new one, whole, and it is the new one where the run ended with status 0.
+So it is with the file that `fip unpack` makes of a payload.
 `fwu FLASH run` boots, sends a package and boots: a boot of what is left starts, with the version that was acknowledged last or with
 the one that was sent.
 
@@ -61,7 +62,7 @@ def each_failure(title, words, script, fresh, is_right):
     return wrong
 
 
-def fail_fip(fip):
+def fail_create(fip):
     old, new = package([("nt-fw", b"old" * 3000)]), package([("nt-fw", b"new" * 50000)])
     with open("new.bin", "wb") as file:
         file.write(b"new" * 50000)
@@ -85,6 +86,27 @@ def payload_of(text):
     """The one payload of a package, by its table."""
     at, size = (int.from_bytes(text[place : place + 8], "little") for place in (32, 40))
     return text[at : at + size] if len(text) >= at + size else None
+
+
+def fail_unpack(fip):
+    old, new = b"old" * 3000, b"new" * 50000
+    out = "xd6d0eea7-fcea-d54b-9782-9934f234b6e4.bin"
+    with open("in.fip", "wb") as file:
+        file.write(package([("nt-fw", new)]))
+
+    def fresh():
+        for name in os.listdir("."):
+            if name.startswith(out):
+                os.unlink(name)
+        with open(out, "wb") as file:
+            file.write(old)
+
+    def is_right(done):
+        with open(out, "rb") as file:
+            found = file.read()
+        return found == new if done.returncode == 0 else found in (old, new)
+
+    return each_failure("fip unpack", [fip, "unpack", "in.fip", "x"], b"", fresh, is_right)
 
 
 def fail_fwu(fwu):
@@ -114,7 +136,8 @@ def main():
         return 1
     with tempfile.TemporaryDirectory() as folder:
         os.chdir(folder)
-        wrong = fail_fip(os.path.join(bin, "fip")) + fail_fwu(os.path.join(bin, "fwu"))
+        fip, fwu = os.path.join(bin, "fip"), os.path.join(bin, "fwu")
+        wrong = fail_create(fip) + fail_unpack(fip) + fail_fwu(fwu)
         os.chdir("/")
     return 1 if wrong else 0
 

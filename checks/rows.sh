@@ -119,7 +119,7 @@ cp a.fip both.fip
 chmod 640 both.fip
 row 'a capsule in the place of its package' 0 'capsule items=1 size=89' fip capsule both.fip both.fip
 same 'its bytes' a.cap both.fip
-row 'it has the rights of the old file' 0 640 stat -c %a both.fip
+row 'it has the mode of the old file' 0 640 stat -c %a both.fip
 head -c 3000 /dev/zero >long.zeros
 row 'a file that cannot be written' 2 file-fault limited fip create both.fip tb-fw=long.zeros
 same 'the old file is there' a.cap both.fip
@@ -145,6 +145,41 @@ row 'no name is left for a new file' 2 file-fault fip capsule a.fip many.fip
 same 'the old file is there' a.fip many.fip
 rm -f many.fip.new*
 row 'a file in a folder that is not there' 2 file-fault fip create none/z.fip
+
+# onto FILE COMMAND..: the standard output goes to this file, which is printed then.
+onto() {
+    onto=$1
+    shift
+    status=0
+    "$@" >"$onto" || status=$?
+    cat "$onto"
+    return "$status"
+}
+row 'a package over the file of the standard output' 2 file-fault onto printed.txt fip create /dev/stdout tb-fw=h.bin
+row 'by its own name' 2 file-fault onto printed.txt fip create printed.txt tb-fw=h.bin
+row 'no new one is left' 1 '' test -e printed.txt.new
+row 'a manifest over that file' 2 file-fault onto printed.txt fip manifest printed.txt 1 tb-fw,7,h.bin
+payload=x$tb_fw.bin
+row 'a payload over that file' 2 file-fault onto "$payload" fip unpack a.fip x
+row 'a package beside that file' 0 'packed entries=1 size=101' onto printed.txt fip create beside.fip tb-fw=h.bin
+same 'its bytes' a.fip beside.fip
+# A list is added to a package, which is read meanwhile.
+listed_behind() {
+    fip info behind.fip >>behind.fip || return
+    tail -c +102 behind.fip
+}
+cp a.fip behind.fip
+row 'a list behind the package that it lists' 0 "$listed" listed_behind
+printf old >"$payload"
+chmod 640 "$payload"
+row 'a payload in the place of an old file' 0 "$tb_fw size=5 file=$payload" fip unpack a.fip x
+same 'its bytes' h.bin "$payload"
+row 'it has the mode of the old file' 0 640 stat -c %a "$payload"
+printf old >"$payload"
+cp "$payload" old.bin
+fip create zeros.fip tb-fw=long.zeros >/dev/null
+row 'a payload that cannot be written' 2 file-fault limited fip unpack zeros.fip x
+same 'the old file is there' old.bin "$payload"
 row 'a capsule in a folder that is not there' 2 file-fault fip capsule a.fip none/z.cap
 
 # A file of 64 MiB without data.

@@ -24,10 +24,17 @@ named() {
     sed -n "s/^$1: //p" crates.txt
 }
 
+# How many lines of code, definitions and proofs each crate has: what its proof takes goes with that.
+lines() {
+    for folder in crates/*; do
+        echo "$(basename "$folder") $(find "$folder" -name out -prune -o \( -name '*.rt' -o -name '*.antt' \) -exec cat {} + | wc -l)"
+    done
+}
+
 # The programs and the crates that they stand on, each with those of this repository that it names, as "crate: names": first the
-# one with the longest way up to a program, by the seconds that the proofs on it took when four ran at once.
+# one with the longest way up to a program, by the lines of the crates on it.
 order() {
-    awk '
+    lines | awk '
         NR == FNR { own[$1] = $2; next }
         /^[a-z]/ { crate = $1; sub(/:.*/, "", crate); sub(/^[^:]*:/, ""); names[crate] = $0 }
         function visit(crate, above,    list, count, i) {
@@ -45,7 +52,7 @@ order() {
                 for (i = 1; i <= count; i++) if (list[i] in names) below = below " " list[i]
                 print tall[crate] "\t" crate ":" below
             }
-        }' demo/proof_seconds.txt crates.txt | sort -rn | cut -f2
+        }' - crates.txt | sort -rn | cut -f2
 }
 
 # A sum of all that a crate's proof stands on: the toolchain, its files, and the sums of the crates that it names.

@@ -1,9 +1,9 @@
 #!/bin/sh
 # Builds fip and fwu (demo/build.sh, which shows what it proves as it goes), makes packages, formats a flash file, and runs updates
-# on it: power is cut within a boot, within a sending, and within the end of a staging; an update is accepted, and an older one
-# refused. What it prints behind the build is compared with demo/cut.expected. That text comes from no run of the programs, but from
-# what docs says of formats and of the machine, and its last line from checks/model/soak_model.py. Where they differ the script shows it,
-# and ends with 1.
+# on it. Power is cut within a boot, within a sending, within the copy of an image that isn't sent, and within the end of a staging. An
+# update is accepted, and an older one refused. What it prints behind the build is compared with demo/cut.expected. That text comes from
+# no run of the programs, but from what docs says of formats and of the machine, and its last line from checks/model/soak_model.py.
+# Where they differ the script shows it, and ends with 1.
 set -eu
 here=$(cd "$(dirname "$0")/.." && pwd)
 "$here/demo/build.sh"
@@ -78,6 +78,29 @@ END
     "$fwu" flash.img run <accept.script
 }
 
+# An update that brings the manifest and one image, on a copy of the flash: the other image is copied from the active bank. Power is
+# lost within that copy, and the old bank boots. Sent again the update is installed.
+send_some() {
+    cp flash.img copy.img
+    printf abcd >new.bin
+    say fip manifest m.bin 7 tb-fw,9,new.bin nt-fw,9,hello.bin
+    "$fip" manifest m.bin 7 tb-fw,9,new.bin nt-fw,9,hello.bin
+    say fip create p7.fip manifest=m.bin tb-fw=new.bin
+    "$fip" create p7.fip manifest=m.bin tb-fw=new.bin
+    cat >partial.script <<'END'
+boot
+cut 2 8
+send p7.fip now partial
+boot
+send p7.fip now partial
+boot
+show
+END
+    say "fwu copy.img run <partial.script"
+    cat partial.script
+    "$fwu" copy.img run <partial.script
+}
+
 hex() {
     od -An -v -tx1 "$1" | tr -d ' \n'
 }
@@ -123,6 +146,7 @@ soak() {
     boot_first
     update
     accept
+    send_some
     stage
     boot_changed
     soak

@@ -7,10 +7,12 @@ It prints a line for each file, answer or line that agrees, and of each other on
 with status 1 where one differs. The bytes are made by make_flash.py, make_packages.py, make_table.py and make_rows.py; the faults
 of bytes that are changed go by first_faults.py, and what a soak prints by soak_model.py.
 """
+import io
 import os
 import re
 import struct
 import sys
+import uuid
 
 sys.dont_write_bytecode = True
 HERE = os.path.dirname(os.path.abspath(__file__))
@@ -20,10 +22,11 @@ import first_faults
 import make_packages
 import make_table
 import rows
+import serve_model
 import soak_model
 from check_vectors import Unread, both, each, one
 from first_faults import capsule_entries, capsule_number, fault_of
-from make_flash import ACCEPTED, BLOCK, ROWS, VALID, first_bits, first_metadata, first_metadata_1, guid, layout, metadata, record
+from make_flash import ACCEPTED, BLOCK, ROWS, VALID, first_bits, first_metadata, first_metadata_1, guid, layout, manifest, metadata, record
 from make_packages import capsule, item, manifest_of, package
 from make_rows import FLASHES, MARKED, PACKAGES, list_of, put
 from make_table import METADATA, STORE
@@ -108,10 +111,24 @@ HOSTILE = {
     "a layout with a slot of 257 blocks": FLASHES["layout-slot.img"],
     "a layout with a type twice": FLASHES["layout-same-type.img"],
     "a layout beyond the flash": FLASHES["layout-beyond.img"],
+    "a layout of 17 images": FLASHES["layout-17-images.img"],
+    "a layout of another size": FLASHES["layout-size.img"],
+    "a layout of one bank": FLASHES["layout-one-bank.img"],
+    "a layout with a number among its zeros": FLASHES["layout-zeros.img"],
+    "a layout with a slot of no block": FLASHES["layout-no-slot.img"],
+    "a layout with a number behind a slot": FLASHES["layout-behind-slot.img"],
+    "a byte behind the layout": FLASHES["layout-behind.img"],
     "metadata of version 3": FLASHES["metadata-version.img"],
     "metadata of another size": FLASHES["metadata-size.img"],
     "metadata with a bit that is none": FLASHES["metadata-accepted.img"],
     "metadata with the state of a bank that is not there": FLASHES["metadata-state.img"],
+    "metadata of version 0": FLASHES["metadata-version-0.img"],
+    "metadata with an active bank that is not there": FLASHES["metadata-active.img"],
+    "metadata with a previous bank that is not there": FLASHES["metadata-previous.img"],
+    "metadata with a state that is none": FLASHES["metadata-no-state.img"],
+    "metadata with a number among its zeros": FLASHES["metadata-zeros.img"],
+    "metadata with a number behind a bit": FLASHES["metadata-behind-bit.img"],
+    "metadata of an accepted and of a valid bank": FLASHES["metadata-valid.img"],
     "a byte behind the metadata": FLASHES["metadata-behind.img"],
     "a first replica that is none": put(MARKED, BLOCK, FLASHES["metadata-version.img"][BLOCK : 2 * BLOCK]),
     "an active bank without firmware": FLASHES["no-firmware.img"],
@@ -260,6 +277,36 @@ def rows_of_soaks():
         yield f"a soak of seed {seed}, of {rounds} rounds", soak_model.line_of(int(seed), int(rounds)), line
 
 
+# The lengths of the images that are looked at side by side, and of those that are looked at one after the other.
+SIDE_BY_SIDE = {
+    "like": (12288, 8100, 8000, 7000, 5000, 5001, 6000),
+    "unlike": (100, 8000, 65, 100, 100, 64, 3),
+}
+
+
+def rows_of_side_by_side():
+    """Manifests and packages of seven images, of which image i is so many times the byte i."""
+    wanted = {}
+    for name, sizes in SIDE_BY_SIDE.items():
+        images = [(str(uuid.UUID(bytes=bytes([i] * 16))), bytes([i]) * size) for i, size in enumerate(sizes, 1)]
+        wanted[f"{name}.manifest"] = manifest(7, [(kind, 9, data) for kind, data in images])
+        wanted[f"{name}.fip"] = package([("manifest", wanted[f"{name}.manifest"]), *images])
+    yield from each(wanted, own_files("side_by_side.rows"))
+
+
+def rows_of_servings():
+    """What a model of a server writes for the requests of a row, on the flash that was formatted."""
+    for row, read in begun("servings.rows"):
+        if row == "replies of the most bytes":
+            text = manifest_of(1, tb_fw=b"a" * 4100)
+            wanted = put(FLASHES["formatted.img"], 8 * BLOCK, text, 9 * BLOCK, b"a" * 4100)
+            yield "the flash of the most bytes", bytes(wanted), read.files.get("flash.img")
+        elif read.files.get("requests.bin") is not None and read.files.get("replies.bin") is not None:
+            written = io.BytesIO()
+            serve_model.model_serve(io.BytesIO(read.files.get("requests.bin")), written, serve_model.ModelAgent())
+            yield row, written.getvalue(), read.files.get("replies.bin")
+
+
 CHECKS = {
     "common.rows": files_of_all_rows,
     "packages.rows": rows_of_packages,
@@ -267,11 +314,13 @@ CHECKS = {
     "capsules.rows": rows_of_capsules,
     "formats.rows": rows_of_formats,
     "boots.rows": rows_of_boots,
+    "side_by_side.rows": rows_of_side_by_side,
     "sendings.rows": rows_of_sendings,
     "staging.rows": rows_of_directories,
     "banks.rows": rows_of_banks,
     "tables.rows": rows_of_tables,
     "soaks.rows": rows_of_soaks,
+    "servings.rows": rows_of_servings,
 }
 
 

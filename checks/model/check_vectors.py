@@ -9,7 +9,6 @@ of bytes that are changed go by first_faults.py, and what a soak draws and print
 compared and, of a case, which bytes it changes. A constant of digits or bytes of which nothing is known here differs too.
 """
 import hashlib
-import io
 import os
 import re
 import sys
@@ -21,13 +20,12 @@ sys.dont_write_bytecode = True
 import first_faults
 import make_packages
 import make_table
-import serve_model
 import soak_model
 from first_faults import capsule_entries, fault_of
-from make_flash import ACCEPTED, BLOCK, NAMES, ROWS, VALID, first_bits, first_metadata, first_metadata_1, guid, layout, manifest
-from make_flash import metadata, sealed
+from make_flash import ACCEPTED, NAMES, ROWS, VALID, first_bits, first_metadata, first_metadata_1, guid, layout, manifest, metadata
+from make_flash import sealed
 from make_packages import capsule, item, manifest_of, package
-from make_rows import LAYOUT_SIZE, METADATA_SIZE, list_of, put, renewed, word
+from make_rows import list_of, put, word
 from make_table import METADATA
 
 CRATES = os.path.join(os.path.dirname(os.path.abspath(__file__)), "..", "..", "crates")
@@ -66,11 +64,6 @@ def lines_in(text, name):
     return one(text, rf'const {name}: &(?:str|\[u8\]) =\s*b?"([^"]*)";').replace("\\n", "\n")
 
 
-def body_of(text, name):
-    """What stands in the function of this name."""
-    return one(text, rf"\nfn {name}\b(.*?)\n}}")
-
-
 def rows(text, name, pattern):
     """The groups of each row of the constant of this name."""
     count, body = one(text, rf"const {name}: \[[^\n]*; (\d+)\] = \[\s*(.*?),?\s*\];\n")
@@ -78,11 +71,6 @@ def rows(text, name, pattern):
     if len(found) != int(count):
         raise Unread(f"{name} has {count} rows, and {len(found)} are read")
     return found
-
-
-def named(comment):
-    """A case by its comment."""
-    return comment[0].lower() + comment[1:]
 
 
 def each(wanted, found):
@@ -96,7 +84,7 @@ def constants_are(wanted):
     return lambda text: each(wanted, constants(text))
 
 
-# crates/vectors
+# crates/runs_kit and crates/vectors
 
 
 def flashes(text):
@@ -162,7 +150,8 @@ def files(text):
         yield f"the file {name}", FILES.get(name), bytes.fromhex(digits)
 
 
-def type_of_all(text):
+def fixtures(text):
+    yield from each({"HELLO": HELLO, "HELLO_CAPSULE": HELLO_CAPSULE, "EMPTY": package([])}, constants(text))
     yield "the type tb-fw", guid("tb-fw"), bytes_in(one(text, r"Guid::of\(\[([^;\]]*)\]\)"))
 
 
@@ -211,7 +200,6 @@ def capsules_of_many(text):
 
 
 def capsules(text):
-    yield from type_of_all(text)
     yield from capsule_faults(text, "HEADERS")
     yield from capsule_faults(text, "ITEMS")
     yield from capsule_images(text)
@@ -232,16 +220,8 @@ def manifest_of_image(security):
     return manifest(security, [(IMAGE_TYPE, 9, b"abc")])
 
 
-def fixtures(text):
-    yield from each({"METADATA": first_metadata(ROWS, 2)[4:40], "MANIFEST": manifest_of_image(7)}, constants(text))
-    found = []
-    for quoted, values in rows(text, "TYPES", r'\*b"([^"]*)"|\[([^\]]*)\]'):
-        found.append(quoted.encode().decode("unicode_escape").encode("latin-1") if quoted else bytes_in(values))
-    yield "TYPES", [guid(name) for name, _ in ROWS], found
-
-
 def manifests_of_layers(text):
-    yield from each({"WIDE": manifest_of_image(70000), "BOTH": manifest_of(1)}, constants(text))
+    yield from each({"MANIFEST": manifest_of_image(7)}, constants(text))
     data, wanted, found = manifest_of_image(7), [], []
     change = r"(?:put|has_fault)\(rt, bytes, (\d+), (?:&\[)?(\w+)\]?(?:, ManifestFault::(\w+))?\)"
     for at, value, fault in re.findall(change, text):
@@ -254,51 +234,12 @@ def manifests_of_layers(text):
 
 def hashes(text):
     """The first bytes of the digests of messages of the bytes 0, 1, 2, … modulo 251, and the digests of the standard's examples."""
-    found = constants(text)
-    message = bytes(i % 251 for i in range(1000))
-    lengths = [int(name[3:]) for name in found if name[3:].isdigit()]
-    wanted = {f"OF_{length}": hashlib.sha256(message[:length]).digest()[:8] for length in lengths}
     example = one(text, r'let long = b"(\w+)";').encode()
-    wanted |= {"OF_ABC": hashlib.sha256(b"abc").digest(), "OF_TWO_BLOCKS": hashlib.sha256(example).digest()}
-    yield from each(wanted, found)
-
-
-def turns(text):
-    """The manifests of seven images, of which image i is so many times the byte i."""
-    wanted = {}
-    for name in ["ALIKE", "UNLIKE"]:
-        sizes = one(text, rf"const {name}: \[usize; 7\] = \[([^\]]*)\];").split(",")
-        images = [(str(uuid.UUID(bytes=bytes([i] * 16))), 9, bytes([i]) * int(size)) for i, size in enumerate(sizes, 1)]
-        wanted[f"MANIFEST_{name}"] = manifest(7, images)
+    wanted = {"OF_ABC": hashlib.sha256(b"abc").digest(), "OF_TWO_BLOCKS": hashlib.sha256(example).digest()}
     yield from each(wanted, constants(text))
-
-
-def faults_in(text, function, block, size, fault_in):
-    """The table of a function: a number that is put at a place, with the checksum of so many bytes renewed, and the fault then."""
-    wanted, found = [], []
-    for at, value, fault in re.findall(r"\n\s+\((\d+), (\w+), (?:None|Some\(\w+::(\w+)\))\)", body_of(text, function)):
-        data = renewed(put(block, int(at), word(int(value, 0))), 0, size)
-        wanted.append(fault_in(bytes(data)))
-        found.append(fault or None)
-    yield function, wanted, found
-
-
-def layouts(text):
-    yield from each({"LAYOUT_HEAD": layout(ROWS, 2)[:32]}, constants(text))
-    wanted = {
-        "is_written": layout(ROWS, 2)[:4],
-        "has_two_banks": first_metadata(ROWS, 2)[:4],
-        "has_three_banks": first_metadata(ROWS, 3)[16:40],
-        "has_version_one": first_metadata_1(ROWS, 3)[:16],
-    }
-    for function, data in wanted.items():
-        yield function, data, bytes_in(one(body_of(text, function), r"(?:wanted = |0, &)\[(.*?)\]"))
-    block = put(b"\xff" * BLOCK, 0, layout(ROWS, 2))
-    name = "a_layout_block_has_its_first_fault"
-    yield from faults_in(text, name, block, LAYOUT_SIZE, lambda data: first_faults.layout_fault(data, 22))
-    block = put(b"\xff" * BLOCK, 0, first_metadata(ROWS, 2))
-    name = "a_metadata_block_has_its_first_fault"
-    yield from faults_in(text, name, block, METADATA_SIZE, lambda data: first_faults.metadata_fault(data, ROWS, 2))
+    message = bytes(i % 251 for i in range(1000))
+    found = {int(length): bytes_in(data) for length, data in rows(text, "DIGESTS", r"\((\d+), \[([^\]]*)\]\)")}
+    yield "DIGESTS", {length: hashlib.sha256(message[:length]).digest()[:8] for length in found}, found
 
 
 def digests(text):
@@ -322,14 +263,15 @@ def round_text(number, drawn):
 def packages_of_soak(text, drawn_sizes, first_round):
     first = package_of_soak(0, drawn_sizes, 1)
     later = package_of_soak(1, first_round.sizes, first_round.security)
+    greatest = package_of_soak(2**32 - 1, (0, 3), 223)
     wanted = {
         "FIRST_DIGEST": hashlib.sha256(first).digest(),
         "ROUND_DIGEST": hashlib.sha256(later).digest(),
-        "GREATEST": package_of_soak(2**32 - 1, (0, 3), 223),
+        "GREATEST_DIGEST": hashlib.sha256(greatest).digest(),
     }
     yield from each(wanted, constants(text))
-    found = re.findall(r"(\d+),\s+(?:FIRST|ROUND)_DIGEST", text)
-    yield "the lengths of packages", [len(first), len(later)], [int(length) for length in found]
+    found = re.findall(r"(\d+),\s+(?:FIRST|ROUND|GREATEST)_DIGEST", text)
+    yield "the lengths of packages", [len(first), len(later), len(greatest)], [int(length) for length in found]
 
 
 def soak_rounds(text):
@@ -345,43 +287,23 @@ def soak_rounds(text):
     yield from packages_of_soak(text, drawn_sizes, drawn[1])
 
 
-# crates/wire_vectors
-
-
-def requests(text):
-    """What a model of a server writes for each stream of requests."""
-    rows = re.findall(r'// ([^\n]*)\n\s*\(\s*"([0-9a-f]*)",\s*"([0-9a-f]*)",?\s*\)', text.replace("\\\n", ""))
-    for comment, stream, replies in rows:
-        written = io.BytesIO()
-        serve_model.model_serve(io.BytesIO(bytes.fromhex(stream)), written, serve_model.ModelAgent())
-        yield named(comment), written.getvalue().hex(), replies
-
-
 CHECKS = {
-    "vectors/src/flashes.rt": flashes,
+    "runs_kit/src/flashes.rt": flashes,
     "vectors/src/tables.rt": tables_of_four,
     "vectors/src/packages.rt": packages,
     "vectors/src/boots.rt": constants_are({"FREE": b"\xff" * 289}),
     "vectors/src/values.rt": base_values,
     "vectors/src/real_files.rt": list_of_both,
-    "wire_vectors/src/flashes.rt": constants_are({"LAYOUT": layout(ROWS, 2), "METADATA": first_metadata(ROWS, 2), "MANIFEST": manifest_of(1)}),
-    "wire_vectors/src/exchanges.rt": constants_are({"MANIFEST_2": manifest_of(2)}),
-    "wire_vectors/src/requests.rt": requests,
-    "fip_vectors/src/fixtures.rt": constants_are({"HELLO": HELLO, "HELLO_CAPSULE": HELLO_CAPSULE, "EMPTY": package([])}),
+    "fip_vectors/src/fixtures.rt": fixtures,
     "fip_vectors/src/memory.rt": files,
     "fip_vectors/src/real_files.rt": files,
     "fip_vectors/src/capsules.rt": capsules,
-    "fip_vectors/src/tables.rt": type_of_all,
     "fip_vectors/src/sizes.rt": sizes,
-    "layer_vectors/src/fixtures.rt": fixtures,
     "layer_vectors/src/manifests.rt": manifests_of_layers,
-    "layer_vectors/src/layouts.rt": layouts,
     "layer_vectors/src/memory_flash.rt": seals,
     "layer_vectors/src/lists.rt": digests,
     "layer_vectors/src/hashes.rt": hashes,
-    "layer_vectors/src/turns.rt": turns,
     "layer_vectors/src/soak_rounds.rt": soak_rounds,
-    "gpt_vectors/src/devices.rt": tables_of_four,
 }
 
 

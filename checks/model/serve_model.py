@@ -3,7 +3,8 @@
 
     serve_model.py [ROUNDS]             tries the client against the model, over links that lose and repeat
     serve_model.py --model              serves the model on the standard input and output
-    serve_model.py --program FWU        updates a flash by FWU serve and by a script of the same calls, and compares them
+    serve_model.py --program FWU        updates a flash by FWU serve and by a script of the same calls, and compares them; and
+                                        sends it packages that don't fit, which leave the flash as it was
 
 It ends with 1 where something differs.
 """
@@ -20,17 +21,29 @@ import uuid
 sys.dont_write_bytecode = True
 sys.path.insert(0, os.path.join(os.path.dirname(os.path.abspath(__file__)), "..", "..", "demo"))
 
-from make_flash import guid  # noqa: E402
-from make_packages import of_three  # noqa: E402
+import serve_client  # noqa: E402
+from make_flash import NAMES, guid  # noqa: E402
+from make_packages import CAPSULE_2, EXTRA, SOC_FW, manifest_of, of_one, of_three, package as packed, table  # noqa: E402
 from serve_client import (  # noqa: E402
     ACCEPT, BEGIN, CANCEL, COMMIT, DISCOVER, END, LAST_NUMBER, OPEN, PREVIOUS, READ, ROOM, WRITE,
-    Caller, Client, Line, digits, frame, line_of, number_of, numbered, words,
+    Caller, Client, Line, digits, frame, number_of, numbered, steps_of, words,
 )  # fmt: skip
 
+DIRECTORY = guid("46575544-4952-4543-544f-525900000001")
 CLIENT = os.path.join(os.path.dirname(os.path.abspath(__file__)), "..", "..", "demo", "serve_client.py")
 
+
+def line_of(call, line):
+    """What a line of a script prints."""
+    [(_, *step)] = steps_of(line)
+    return serve_client.line_of(call, *step)
+
+
 class ModelAgent:
-    """An agent of three images, of which each is installed that was committed. It notes each call that was made."""
+    """An agent of three images, of which each is installed that was committed. It notes each call that was made.
+
+    It looks at no manifest, so its directory has version 0 of each image, and each as accepted.
+    """
 
     FORMS = {DISCOVER: 0, BEGIN: 8, END: 0, CANCEL: 0, OPEN: 20, READ: 8, COMMIT: 12, ACCEPT: 16, PREVIOUS: 0}
 
@@ -52,6 +65,13 @@ class ModelAgent:
         if (function == OPEN and numbers[4] > 1) or (function == READ and numbers[1] > ROOM):
             return -100, b""
         return getattr(self, f"f{function}")(arguments, numbers)
+
+    def contents(self, name):
+        return self.directory() if name == DIRECTORY else self.images[name]
+
+    def directory(self):
+        rows = [name + words(room, len(self.images[name]), 0, 1) for name, room in self.room.items()]
+        return words(1, len(rows), 32, 0) + b"".join(rows)
 
     def f0(self, arguments, numbers):
         return 0, words(1, 0, 0 if self.staged is None else 1, 10, 0, *range(16, 25))
@@ -81,15 +101,15 @@ class ModelAgent:
 
     def f19(self, arguments, numbers):
         name, writes = arguments[:16], numbers[4] == 1
-        if name not in self.images:
+        if name not in self.images and name != DIRECTORY:
             return -1, b""
-        if writes and (self.staged is None or (name in self.staged and self.staged[name] is not None)):
+        if writes and (name == DIRECTORY or self.staged is None or (name in self.staged and self.staged[name] is not None)):
             is_open = any(n == name and w for n, w, _ in self.handles.values())
             return (-2 if is_open else -6), b""
         handle = next(h for h in range(1, 40) if h not in self.handles)
         if handle > 32:
             return -2, b""
-        self.handles[handle] = (name, writes, bytearray() if writes else bytearray(self.images[name]))
+        self.handles[handle] = (name, writes, bytearray() if writes else bytearray(self.contents(name)))
         if writes:
             self.staged[name] = self.handles[handle][2]
         return 0, words(handle)
@@ -113,7 +133,7 @@ class ModelAgent:
             return -6, b""
         piece = bytes(data[: numbers[1]])
         del data[: numbers[1]]
-        return 0, words(len(self.images[name])) + piece
+        return 0, words(len(self.contents(name))) + piece
 
     def f22(self, arguments, numbers):
         return (0 if self.handles.pop(numbers[0], None) else -1), b""
@@ -154,6 +174,86 @@ def model_serve(source, sink, agent):
 def serve_pipes(source, sink, agent, statuses):
     with os.fdopen(source, "rb") as requests, os.fdopen(sink, "wb") as replies:
         statuses.append(model_serve(requests, replies, agent))
+
+
+MANIFEST, TB_FW, NT_FW = map(NAMES.get, ("manifest", "tb-fw", "nt-fw"))
+THREE = of_three(2)
+
+# Files that are no package, and what a sending of each answers.
+NO_PACKAGES = [
+    ("no bytes", b"", "bad-package short-header"),
+    ("15 bytes", THREE[:15], "bad-package short-header"),
+    ("another name", b"\2" + THREE[1:], "bad-package bad-name"),
+    ("serial number 0", THREE[:4] + bytes(4) + THREE[8:], "bad-package zero-serial"),
+    ("a header alone", THREE[:16], "bad-package no-end 0"),
+    ("an entry that isn't whole", THREE[:95], "bad-package no-end 1"),
+    ("no marker", THREE[:136], "bad-package no-end 3"),
+    ("a marker that isn't whole", THREE[:175], "bad-package no-end 3"),
+    ("65 entries", packed([(str(uuid.UUID(int=i + 1)), b"") for i in range(65)]), "bad-package too-many"),
+    ("a type twice", packed([("tb-fw", b"abc"), ("nt-fw", b"hello"), ("tb-fw", b"abc")]), "bad-package duplicate 2"),
+    ("a byte less", THREE[:-1], "bad-package beyond 2"),
+    ("the greatest place", table([("tb-fw", 2**64 - 1, 2**64 - 1), 96]), "bad-package beyond 0"),
+]
+CAPSULES = [
+    (name, data, "bad-package a capsule: this client sends packages alone, and `fip package` makes one of it")
+    for name, data in (("a capsule", CAPSULE_2), ("a front of a capsule", CAPSULE_2[:16]))
+]
+
+# Packages that don't fit the slots of the model: 1, 2 and 4 blocks.
+NO_FITS = [
+    ("no entry", packed([]), f"missing {MANIFEST}"),
+    ("64 entries of other types", packed([(str(uuid.UUID(int=i + 1)), b"") for i in range(64)]), f"missing {MANIFEST}"),
+    ("another image", packed([(SOC_FW, b"xyz")]), f"missing {MANIFEST}"),
+    ("the manifest alone", of_one(manifest_of(2)), f"missing {TB_FW}"),
+    ("no last image", packed([("manifest", manifest_of(2)), ("tb-fw", b"abc")]), f"missing {NT_FW}"),
+    ("a manifest too large", of_three(2, text=bytes(4097)), f"too-large {MANIFEST}"),
+    ("an image too large", of_three(2, tb_fw=bytes(8193)), f"too-large {TB_FW}"),
+    ("the last image too large", of_three(2, nt_fw=bytes(16385)), f"too-large {NT_FW}"),
+    ("too large, and none", packed([("tb-fw", bytes(8193)), ("manifest", b"")]), f"too-large {TB_FW}"),
+    ("none, and too large", packed([("nt-fw", bytes(16385)), ("manifest", b"")]), f"missing {TB_FW}"),
+]
+
+# What the client asks where it looks at the directory alone.
+LOOK = [words(OPEN) + DIRECTORY + words(0), words(READ, 1, 4096), words(COMMIT, 1, 0, 0)]
+
+# Scripts that aren't done, the number of the line that is none, and what is told of it.
+UNSENT = [
+    ("send p.fip now partial", 1, "no partial update"),
+    ("discover\nbegin tb-fw", 2, "no partial update"),
+    ("discover\n\n# remark\nsend nowhere.fip now", 4, "nowhere.fip"),
+    ("send p.fip now\nsend . trial", 2, "directory"),
+    ("discover ", 1, "line of a script"),
+    ("discover\r\n", 1, "line of a script"),
+    ("send p.fip", 1, "line of a script"),
+    ("send p.fip later", 1, "line of a script"),
+    ("open tb-fw x", 1, "line of a script"),
+    ("open tb_fw r", 1, "'tb_fw'"),
+    ("accept 00000000000000000000000000000000", 1, "name"),
+    ("read 1 4097", 1, "4097"),
+    ("read 4294967296 1", 1, "4294967296"),
+    ("read 01 1", 1, "'01'"),
+    ("write 1 abc", 1, "'abc'"),
+    ("write 1 ", 1, "bytes"),
+    (f"write 1 {'00' * 4097}", 1, "4096"),
+    ("boot", 1, "no such call"),
+    ("show", 1, "no such call"),
+    ("cut 1 0", 1, "no such call"),
+]
+
+
+def calls_of(agent):
+    return lambda function, arguments=b"": agent.answer(words(function) + arguments)
+
+
+def client(fwu, flash, script, options=()):
+    return subprocess.run([sys.executable, "-B", CLIENT, *options, fwu, flash], input=script, capture_output=True, text=True)
+
+
+def make_program(name, text):
+    with open(name, "w") as file:
+        file.write(f"#!/bin/sh\n{text}\n")
+    os.chmod(name, 0o755)
+    return name
 
 
 class SelfTest:
@@ -222,19 +322,61 @@ class SelfTest:
         client.last = LAST_NUMBER
         self.same("asking with no number left", client.ask(words(END)), None)
 
+    def sends(self, name, data, answer, calls):
+        """A sending of this file, its answer and all calls that it makes."""
+        written("sent.fip", data)
+        agent = ModelAgent()
+        self.same(name, line_of(calls_of(agent), "send sent.fip now"), f"send {answer}")
+        self.same(f"{name}: calls", agent.made, calls)
+
+    def judging(self):
+        """What doesn't fit is told so, and nothing is asked for that changes anything."""
+        for row in NO_PACKAGES + CAPSULES:
+            self.sends(*row, [])
+        for row in NO_FITS:
+            self.sends(*row, LOOK)
+        agent = ModelAgent()
+        for _ in range(32):
+            line_of(calls_of(agent), "open tb-fw r")
+        self.same("no handle for the directory", line_of(calls_of(agent), "send sent.fip now"), "send BUSY")
+        fits = of_three(2, tb_fw=bytes(8192), nt_fw=bytes(16384), text=bytes(4096))
+        for name, data, skipped in (("slots that are filled", fits, 0), ("another order and other types", EXTRA, 2)):
+            written("sent.fip", data)
+            agent = ModelAgent()
+            self.same(name, line_of(calls_of(agent), "send sent.fip now"), f"send SUCCESS images=3 skipped={skipped}")
+            opened = [message[4:20] for message in agent.made if number_of(message) == OPEN]
+            self.same(f"{name}: order", opened, [DIRECTORY, guid("manifest"), guid("tb-fw"), guid("nt-fw")])
+
+    def unsent(self):
+        """A script with a line that is none starts no program, and one line tells which."""
+        written("p.fip", THREE)
+        fwu = make_program("./notes", "touch started")
+        for script, number, told in UNSENT:
+            done = client(fwu, "-", script)
+            self.same(f"{script[:40]!r}", (done.stdout, done.returncode, os.path.exists("started")), ("", 4, False))
+            is_told = f"line {number}," in done.stderr and told in done.stderr and done.stderr.count("\n") == 1
+            self.same(f"{script[:40]!r}: what is told", is_told or done.stderr, True)
+        done = client("./none", "-", "discover\n")
+        self.same("no program", (done.stdout, done.returncode, "'./none'" in done.stderr), ("", 4, True))
+
+    def early(self):
+        """A program that ends before it answers, with a status of docs/USAGE.md."""
+        ends = {0: "fwu", 5: "FLASH can't be used", 6: "no bank could be started", 9: "memory was wanting", 12: "power was lost"}
+        for status, meaning in ends.items():
+            done = client(make_program("./ends", f"exit {status}"), "-", "# remark\ndiscover\nend\n")
+            is_told = all(part in done.stderr for part in ("line 2", f"with {status}", meaning)) and done.stderr.count("\n") == 1
+            self.same(f"status {status}", (done.stdout, done.returncode, is_told or done.stderr), ("", status or 1, True))
+
     def program(self, folder, package):
         """This program as it is run, on the model in place of fwu."""
         this = os.path.abspath(__file__)
-        fwu = os.path.join(folder, "fwu")
-        with open(fwu, "w") as file:
-            file.write(f"#!/bin/sh\nexec '{sys.executable}' -B '{this}' --model\n")
-        os.chmod(fwu, 0o755)
+        fwu = make_program(os.path.join(folder, "fwu"), f"exec '{sys.executable}' -B '{this}' --model")
         script = f"# an update\ndiscover\n\nsend {package} now\nopen tb-fw r\nread 1 3\nread 9 1\nend\n"
         wanted = "discover 1.0 regular 0,16,17,18,19,20,21,22,23,24\nsend SUCCESS images=3 skipped=0\n"
         wanted += "open SUCCESS handle=1\nread SUCCESS total=5120 000102\nread UNKNOWN\nend DENIED\n"
         for options in ([], ["--lose", "20", "--repeat", "30", "--seed", "5"], ["--twice", "--lose-replies", "3"]):
-            done = subprocess.run([sys.executable, "-B", CLIENT, *options, fwu, "-"], input=script, capture_output=True, text=True)
-            self.same(f"the program with {options}", (done.stdout, done.returncode), (wanted, 0))
+            done = client(fwu, "-", script, options)
+            self.same(f"the program with {options}", (done.stdout, done.stderr, done.returncode), (wanted, "", 0))
 
     def rounds(self, count, package):
         """Scripts over a line that loses and repeats print what they print of an agent beside."""
@@ -242,7 +384,7 @@ class SelfTest:
             chance = random.Random(seed)
             script = [random_line(chance, package) for _ in range(40)]
             beside, served = ModelAgent(), ModelAgent()
-            wanted = [line_of(lambda function, arguments=b"": beside.answer(words(function) + arguments), line) for line in script]
+            wanted = [line_of(calls_of(beside), line) for line in script]
             there, back = os.pipe(), os.pipe()
             statuses = []
             thread = threading.Thread(target=serve_pipes, args=(there[0], back[1], served, statuses))
@@ -290,6 +432,11 @@ def self_test(rounds):
             file.write(of_three(2, tb_fw=bytes(range(256)) * 20))
         test.rounds(rounds, package)
         test.program(folder, package)
+        os.chdir(folder)
+        test.judging()
+        test.unsent()
+        test.early()
+        os.chdir("/")
     print(f"{test.rows - test.failed} of {test.rows} hold")
     return 1 if test.failed else 0
 
@@ -315,7 +462,7 @@ def updates_alike(fwu, options):
     with open("served.img", "rb") as file:
         written("scripted.img", file.read())
     text = SCRIPT.format(package="p2.fip")
-    served = subprocess.run([sys.executable, "-B", CLIENT, *options, fwu, "served.img"], input=text, capture_output=True, text=True)
+    served = client(fwu, "served.img", text, options)
     script = subprocess.run([sys.executable, "-B", CLIENT, "--script"], input=text, capture_output=True, text=True).stdout
     subprocess.run([fwu, "scripted.img", "run"], input=script, text=True, stdout=subprocess.DEVNULL, check=True)
     with open("served.img", "rb") as one, open("scripted.img", "rb") as other:
@@ -325,11 +472,42 @@ def updates_alike(fwu, options):
     return is_same and is_done
 
 
+def contents_of(name):
+    with open(name, "rb") as file:
+        return file.read()
+
+
+def scripted(fwu, script):
+    return subprocess.run([fwu, "flash.img", "run"], input=script, capture_output=True, text=True).stdout
+
+
+def leaves_flash(fwu):
+    """Whether files that don't fit are answered over serve, as they are in a script, and leave both banks of a flash."""
+    written("p1.fip", of_three(1))
+    written("p2.fip", THREE)
+    written("flash.img", b"\xff" * 4096 * 22)
+    subprocess.run([fwu, "flash.img", "format", "manifest:1,tb-fw:2,nt-fw:4", "p1.fip"], stdout=subprocess.DEVNULL, check=True)
+    booted = "boot bank=1 version=2 trials=0 counter=2\n"
+    is_made = scripted(fwu, "boot\nsend p2.fip now\nboot\n").endswith(booted)
+    flash = contents_of("flash.img")
+    rows = NO_PACKAGES + NO_FITS + CAPSULES
+    for i, (_, data, _) in enumerate(rows):
+        written(f"{i}.fip", data)
+    lines = [f"send {i}.fip now\n" for i in range(len(rows))]
+    wanted = [f"send {answer}\n" for _, _, answer in rows]
+    is_answered = client(fwu, "flash.img", "".join(lines)).stdout == "".join(wanted)
+    count = len(rows) - len(CAPSULES)
+    is_alike = scripted(fwu, "boot\n" + "".join(lines[:count])) == booted + "".join(wanted[:count])
+    is_left = is_made and is_answered and is_alike and contents_of("flash.img") == flash
+    print(f"{len(rows)} files that don't fit: {'the flash as before' if is_left else 'DIFFERS'}")
+    return is_left
+
+
 def try_program(fwu):
     links = ([], ["--twice", "--lose-replies", "3"], ["--lose", "20", "--repeat", "30", "--seed", "1"])
     with tempfile.TemporaryDirectory() as folder:
         os.chdir(folder)
-        alike = [updates_alike(fwu, options) for options in links]
+        alike = [leaves_flash(fwu)] + [updates_alike(fwu, options) for options in links]
         os.chdir("/")
     return 0 if all(alike) else 1
 

@@ -40,6 +40,7 @@ fills-none m = record {
   tells = refl;
   layout = refl;
   metadata = refl;
+  trials = refl;
   beside = λ told. spared-same (IsBesideBank m.fields.layout (target m.fields)) m.told;
 }
 
@@ -48,6 +49,7 @@ fills-then a b c ab bc = record {
   tells = bc.tells ∙ ab.tells;
   layout = bc.layout ∙ ab.layout;
   metadata = bc.metadata ∙ ab.metadata;
+  trials = bc.trials ∙ ab.trials;
   beside = λ told. spared-then (IsBesideBank a.fields.layout (target a.fields)) a.told b.told c.told (ab.beside told)
       (bank-same a.fields b.fields b.told c.told ab.layout (ap (λ (r : MetaRead). r.meta.active) ab.metadata)
       (bc.beside (subst IsTrue (sym ab.tells) told)));
@@ -59,13 +61,14 @@ fills-then a b c ab bc = record {
 pub fills-same : (a b : Moment) → b ≡ a → FillsBank a b
 fills-same a b same = subst (FillsBank a) (sym same) (fills-none a)
 
-module _ (a b : Moment) (stays : Stays a b) (metadata : b.fields.meta ≡ a.fields.meta) where
+module _ (a b : Moment) (stays : Stays a b) (metadata : b.fields.meta ≡ a.fields.meta) (trials : b.fields.trials ≡ a.fields.trials) where
   -- one that leaves what is told
   pub fills-still : (IsTrue a.tells → b.told ≡ a.told) → FillsBank a b
   fills-still still = record {
     tells = stays.tells;
     layout = stays.layout;
     metadata = metadata;
+    trials = trials;
     beside = λ told. spared-told (IsBesideBank a.fields.layout (target a.fields)) a.told b.told (still told);
   }
 
@@ -76,6 +79,7 @@ module _ (a b : Moment) (stays : Stays a b) (metadata : b.fields.meta ≡ a.fiel
     tells = stays.tells;
     layout = stays.layout;
     metadata = metadata;
+    trials = trials;
     beside = λ told. record {
       size = (spares told).size;
       now = λ i beside. elim (cases_lt i (4096 * 4)) [

@@ -99,11 +99,13 @@ pub record CopiesImages (named : List Bool) (result : Result (Unit {0}) Stop) (o
       → Shows old s (between boot (replicate (length named) Nothing))
       → Follows result E old new s (between boot (copied_first named (length named) bytes))
 
--- What the copies leave at any exit: the metadata that is kept, and on a flash that tells its content all beside the update bank.
+-- What the copies leave at any exit: the metadata that is kept, the trials, and on a flash that tells its content all beside the
+-- update bank.
 pub record FillsBank (old new : Moment) : Type 0 where
   pub tells : new.tells ≡ old.tells
   pub layout : new.fields.layout ≡ old.fields.layout
   pub metadata : new.fields.meta ≡ old.fields.meta
+  pub trials : new.fields.trials ≡ old.fields.trials
   pub beside : IsTrue old.tells → KeepsWhere (IsBesideBank old.fields.layout (target old.fields)) old.told new.told
 
 -- ---- the call

@@ -116,6 +116,7 @@ impl<D: Flash> Agent<D> {
         ensures device { device self.new ≡ device self.old }
         ensures rests { (fields self.new).rests ≡ (fields self.old).rests }
         ensures metadata { (fields self.new).meta ≡ (fields self.old).meta }
+        ensures trials { (fields self.new).trials ≡ (fields self.old).trials }
         ensures here { IsFalse (gone self.new) }
     {
         settle(&mut self.meta, &mut self.session, &Decision::Do(*plan), &[]);

@@ -67,6 +67,8 @@ impl<D: Flash> Agent<D> {
         ensures keeps { IsDone result → (fields self.new).meta ≡ meta_begun (fields self.old) }
         ensures restarts { OnOk result
             (Restarts true (fields self.old).session (fields self.new).session) }
+        // On any device, at any exit: the trials that it tells are those that it told.
+        ensures trials { (fields self.new).trials ≡ (fields self.old).trials }
         // On any device: an answer stored the metadata, or has it as it was and wrote nothing.
         ensures spent { OnOk result (TakesStore (fields self.old).meta (fields self.new).meta
             (D.arming (device self.old)) (D.arming (device self.new))) }

@@ -42,6 +42,7 @@ impl<D: Flash> Agent<D> {
         ensures known { IsErrOf result Stop.Gone → ⊥ }
         ensures rests { (fields self.new).rests ≡ (fields self.old).rests }
         ensures metadata { (fields self.new).meta ≡ (fields self.old).meta }
+        ensures trials { (fields self.new).trials ≡ (fields self.old).trials }
         ensures ends { IsTrue D.tells → let f = fields self.old in
             Finishes (flash_result result) (start f.layout (target f) image)
             (size_of (part_at f.session image)) (rest_of f image)
@@ -110,9 +111,11 @@ impl<D: Flash> Agent<D> {
         // and nothing is done on the device where it writes none
         ensures still { ((image : ℕ) → IsWriter (fields self.old) handle image → ⊥) →
             device self.new ≡ device self.old }
-        // on any device, at any exit: the bytes stay that are kept of the images, and so does the metadata
+        // on any device, at any exit: the bytes stay that are kept of the images, and so do the metadata and
+        // the trials
         ensures rests { (fields self.new).rests ≡ (fields self.old).rests }
         ensures metadata { (fields self.new).meta ≡ (fields self.old).meta }
+        ensures trials { (fields self.new).trials ≡ (fields self.old).trials }
     {
         if self.gone {
             return Err(Stop::Gone);

@@ -165,6 +165,8 @@ impl<D: Flash> Agent<D> {
         // On any device: the agent keeps the metadata in which the update bank is invalid, also where the
         // flash stopped the store or a copy.
         ensures keeps { IsDone result → (fields self.new).meta ≡ meta_begun (fields self.old) }
+        // On any device, at any exit: the trials that it tells are those that it told.
+        ensures trials { (fields self.new).trials ≡ (fields self.old).trials }
         // When done, on every device: the erases and programs of a begin, and of the writes and the commit
         // of each image that is copied, and no other.
         ensures spent { IsFalse (gone self.old) → let f = fields self.old in

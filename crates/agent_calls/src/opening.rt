@@ -53,9 +53,10 @@ impl<D: Flash> Agent<D> {
         ensures refused { IsRefused result → self.new ≡ self.old }
         ensures answers { IsStopped result → ⊥ }
         ensures still { device self.new ≡ device self.old }
-        // on any device: the bytes stay that are kept of the images, and so does the metadata
+        // on any device: the bytes stay that are kept of the images, and so do the metadata and the trials
         ensures rests { (fields self.new).rests ≡ (fields self.old).rests }
         ensures metadata { (fields self.new).meta ≡ (fields self.old).meta }
+        ensures trials { (fields self.new).trials ≡ (fields self.old).trials }
     {
         if self.gone {
             return Err(Stop::Gone);

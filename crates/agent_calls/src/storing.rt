@@ -83,6 +83,8 @@ impl<D: Flash> Agent<D> {
         ensures planned { let f = fields self.old in
             (fields self.new).meta ≡ record f.meta { meta = meta_planned f.session f.meta.meta plan } }
         ensures changed { Changes (fields self.old).session [] plan (fields self.new).session }
+        ensures trials { let f = fields self.old in (fields self.new).trials
+            ≡ trials_planned plan (meta_planned f.session f.meta.meta plan) f.trials }
         // On any flash that tells its content, sound or not: that metadata is stored, and nothing else.
         ensures stores { IsTrue D.tells → let f = fields self.old in
             StoresIf (is_stored plan) (flash_result result) f.layout

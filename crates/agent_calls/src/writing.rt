@@ -40,6 +40,7 @@ impl<D: Flash> Agent<D> {
         ensures goes { AgentGoes result self.old self.new }
         ensures done { IsDone result }
         ensures metadata { (fields self.new).meta ≡ (fields self.old).meta }
+        ensures trials { (fields self.new).trials ≡ (fields self.old).trials }
         ensures appends { IsTrue D.tells → let f = fields self.old in
             Appends (flash_result result) (start f.layout (target f) image)
             (size_of (part_at f.session image)) (rest_of f image) bytes.now
@@ -126,9 +127,10 @@ impl<D: Flash> Agent<D> {
             let size = size_of (part_at (fields self.old).session image) in
             take ((size + length bytes.now) % granule_bytes) (rest_of (fields self.new) image)
             ≡ kept_of size (rest_of (fields self.old) image) bytes.now) }
-        // on any device, at any exit: the metadata that is kept stays, and so does what is kept of another
-        // image
+        // on any device, at any exit: the metadata that is kept stays, and so do the trials, and what is kept
+        // of another image
         ensures metadata { (fields self.new).meta ≡ (fields self.old).meta }
+        ensures trials { (fields self.new).trials ≡ (fields self.old).trials }
         ensures others { (image : ℕ) →
             handle_kept (fields self.old).session (handle - 1) ≡ handle_kinds.Writes image →
             (other : ℕ) → (other ≡ image → ⊥) →

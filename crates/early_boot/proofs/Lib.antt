@@ -13,3 +13,4 @@ pub mod Taken
 pub mod Known
 pub mod Whole
 pub mod Numbered
+pub mod Left

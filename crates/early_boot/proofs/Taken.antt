@@ -16,9 +16,12 @@ use Rattle.early_boot.specs.Showing.{Shows, stop_in}
 use Rattle.early_boot.specs.Mending.{TakesMending, mended}
 use Rattle.early_boot.specs.Numbers.{numbers_shown}
 use Rattle.early_boot.specs.CountingStarts.{CountsLater, TakesCounting, counting_in, counting_of}
-use Rattle.early_boot.specs.Starting.{TakesMendingAndStart}
+use Rattle.early_boot.specs.Starting.{TakesMendingAndStart, TakesRepairAndStart}
 use Rattle.early_boot.specs.Tells.{started_as}
-use Rattle.early_boot.specs.EndsBy.{TakesByBytes, TakesLoaded, TakesLoadedAndStart, counting_told, stopped_with, unshown_end}
+use Rattle.early_boot.specs.Ends.{no_bank}
+use Rattle.early_boot.specs.EndsBy.{TakesBoot, TakesByBytes, TakesLoaded, TakesLoadedAndStart, TakesStart, counting_told, stopped_with, unshown_end}
+use Rattle.replicas.specs.Which.{form_of}
+use Rattle.replicas.specs.Repairs.{TakesRepair}
 
 -- ---- nothing was shown, or the flash stopped it
 
@@ -32,6 +35,21 @@ unshown-takes (unshown.Flash flash_stop.Failed) image armed arming is = tt
 pub stopped-takes : (stop : FlashStop) (n : Numbers) (image : List ℕ) (armed arming : Option Arming) → TakesByBytes image (stopped_with stop n) armed arming
 stopped-takes flash_stop.Lost n image armed arming = tt
 stopped-takes flash_stop.Failed n image armed arming = tt
+
+-- the same on any device
+
+pub unshown-spent : (why : Unshown) (armed arming : Option Arming) → arming ≡ arming_kept (stop_in {T = Shown} (Err why)) armed → TakesBoot (unshown_end why) armed arming
+unshown-spent (unshown.Layout f) armed arming is = is
+unshown-spent unshown.Metadata armed arming is = is
+unshown-spent (unshown.Flash flash_stop.Lost) armed arming is = tt
+unshown-spent (unshown.Flash flash_stop.Failed) armed arming is = tt
+
+pub stopped-spent : (stop : FlashStop) (n : Numbers) (armed arming : Option Arming) → TakesBoot (stopped_with stop n) armed arming
+stopped-spent flash_stop.Lost n armed arming = tt
+stopped-spent flash_stop.Failed n armed arming = tt
+
+pub none-spent : (shown : Shown) (active previous : ℕ) (armed arming : Option Arming) → TakesRepairAndStart shown None armed arming → TakesBoot (no_bank active previous) armed arming
+none-spent shown active previous armed arming takes = (shown.which, subst (λ (left : Option Arming). TakesRepair shown.which armed left) (sym takes.start) takes.repair)
 
 -- ---- what the start is counted as is told by the numbers
 
@@ -48,6 +66,15 @@ module _ (shown after : Shown) (chosen : Chosen) (n : Numbers) (read : n ≡ num
       swapped (chosen.bank == shown.meta.meta.active) counted counting.Nothing
       ∙ ap (λ (r : MetaRead). cond (not (chosen.bank == r.meta.active)) counting.Nothing counted) (sym later.meta)
       ∙ ap (λ (m : Numbers). counting_told (started_as after chosen) m) (sym read)
+
+  pub start-spent : (armed arming : Option Arming) → shown.meta.form ≡ form_of shown.which → TakesRepairAndStart shown (Some (after, chosen)) armed arming → TakesStart (started_as after chosen) n armed arming
+  start-spent armed arming form takes = record {
+    which = shown.which;
+    version_is = ap (λ (m : Numbers). m.form) read ∙ form;
+    repaired = takes.repaired;
+    repair = takes.repair;
+    counting = subst (λ (k : Counting). TakesCounting k takes.repaired arming) counting-is takes.start;
+  }
 
   pub start-takes : (image : List ℕ) (armed arming : Option Arming) → Shows image shown → TakesMendingAndStart shown image (Some (after, chosen)) armed arming
       → TakesLoadedAndStart image (started_as after chosen) n armed arming

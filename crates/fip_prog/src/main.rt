@@ -5,8 +5,11 @@
 //! standard input, as `info -` does. Each line goes to the standard output.
 #![tactic(auto)]
 
+mod output_guard;
+
 use fip_tool::fip_top;
 use host_io::{HostFiles, StdSink, StdSource};
+use output_guard::OutputGuard;
 use std::alloc::{AllocError, AllocGlobal, Global};
 use std::env::Env;
 use std::process::ExitCode;
@@ -48,7 +51,7 @@ fn main(rt: HostRuntime) -> ExitCode {
         Err(_) => return ExitCode::from(9),
     };
     let alloc = rt.alloc();
-    let mut files = HostFiles::new(&rt);
+    let mut files = HostFiles::new(OutputGuard::new(&rt));
     let status = fip_top(alloc, words.as_slice(), &mut files, &mut source, &mut sink);
     ExitCode::from(status)
 }

@@ -1,76 +1,65 @@
 -- What is done for what the words ask for, from what a command did.
-use Rattle.std.proofs.Common.{◌≡◌, ◌≤◌, inl, inr, ℕ, List, [], Option, Some, None, Result, Err, refl, sym, ap, subst, ◌∙◌, arith}
+use Rattle.std.proofs.Common.{◌≡◌, ◌≤◌, inl, inr, [], Option, Some, None, Result, Err, refl, sym, ap, subst, ◌∙◌, arith}
 use Rattle.std.specs.Prelude.{IfErr, IsTrue}
 use Rattle.std.proofs.KnownBytes.{Appends-nil, Consumes-nil}
 use Rattle.std.proofs.lemmas.Bool.{false≢true}
 use Rattle.base_core.specs.Counts.{Rose}
 use Rattle.fip_words.specs.Order.{Asked, info_of_source}
 use Rattle.host_io.specs.Access.{Access}
-use Rattle.host_io.specs.Contents.{Directory}
-use Rattle.host_io.specs.declared.writes.Writes.{Writes}
+use Rattle.host_io.specs.declared.files.Files as files
+use Rattle.host_io.specs.declared.source.Source as source
+use Rattle.host_io.specs.declared.sink.Sink as sink
 use Rattle.fip_tool.proofs.Did.{are-told}
 use Rattle.fip_tool.proofs.FileFaults.{faults-none}
 use Rattle.fip_tool.proofs.SourceLemmas.{nothing-read}
 use Rattle.fip_tool.proofs.WroteLemmas.{wrote-none}
 use Rattle.fip_tool.proofs.Refusing.{memory-may}
-use Rattle.fip_tool.specs.Done.{Done}
-use Rattle.fip_tool.specs.Names.{IsUnnamed}
+use Rattle.fip_tool.specs.Done.{Done, DoneWithFiles}
 use Rattle.fip_tool.specs.Refusals.{MayRefuse}
-use Rattle.fip_tool.specs.Said.{IsTexts, Says}
-use Rattle.fip_tool.specs.Steps.{Did, FaultsOnce, sink_failures, source_failures}
-use Rattle.fip_tool.specs.Tool.{ReadSource, asks_files, command_outcome}
-use Rattle.fip_tool.specs.Wrote.{WroteFor}
+use Rattle.fip_tool.specs.Said.{IsTexts}
+use Rattle.fip_tool.specs.Seen.{ReadSourceIn, SaysIn}
+use Rattle.fip_tool.specs.Steps.{sink_failures, source_failures}
+use Rattle.fip_tool.specs.Tool.{asks_files}
 use Rattle.fip_tool.specs.declared.stops.Stop.{Stop}
 use Rattle.fip_tool.specs.declared.stops.Stop.TheVariants as stop
 
-module _ {H I O : Type 0} {contents : H → Option Directory} {file_faults : H → ℕ} {writes : H → Writes} {Spares : H → H → Access → Type 0} {left : I → Option (List ℕ)} {source_faults : I → ℕ} {taken : O → Option (List ℕ)} {sink_faults : O → ℕ} where
+module _ {H I O : Type 0} {h : files.Ghosts H} {i : source.Ghosts I} {o : sink.Ghosts O} where
   -- a command that asks for files does not touch the source
-  pub done-with-files : {asked : Option Asked} {result : Result (Unit {0}) Stop} {files files_after : H} {source : I} {sink sink_after : O} (one : Asked) → asked ≡ Some one → IsTrue (asks_files (Some one))
-      → ((told : Directory) → contents files ≡ Some told
-      → Did (command_outcome one told) told (contents files_after) (taken sink) (taken sink_after) (Rose (file_faults files) (file_faults files_after)) (Rose (writes files).failed (writes files_after).failed) (Rose (sink_faults sink) (sink_faults sink_after)) result)
-      → Says (IsTexts one) (taken sink) (taken sink_after) (Rose (sink_faults sink) (sink_faults sink_after)) result
-      → (result ≡ Err stop.FileFault → contents files ≡ None → Rose (file_faults files) (file_faults files_after))
-      → (result ≡ Err stop.Usage → ⊥)
-      → FaultsOnce (file_faults files) (file_faults files_after) result
-      → WroteFor (Some one) (taken sink) (taken sink_after) (writes files).done (writes files_after).done result
-      → sink_faults sink ≤ sink_faults sink_after
-      → sink_faults sink_after ≡ sink_failures result (sink_faults sink)
-      → IfErr result (MayRefuse (Some one))
-      → ((access : Access) → IsUnnamed (Some one) access → Spares files files_after access)
-      → Done contents file_faults writes Spares left source_faults taken sink_faults asked result files files_after source source sink sink_after
-  done-with-files {result = result} {files = files} {files_after = files_after} {source = source} {sink = sink} {sink_after = sink_after} one is asks did says cause usage faults wrote later count refusals spares =
-      subst (λ (a : Option Asked). Done contents file_faults writes Spares left source_faults taken sink_faults a result files files_after source source sink sink_after) (sym is) (record {
-        told = λ told e other. did told e;
+  pub done-with-files : {asked : Option Asked} {result : Result (Unit {0}) Stop} {before after : H} {kept : I} {old new : O} (one : Asked) → asked ≡ Some one → IsTrue (asks_files (Some one))
+      → DoneWithFiles h o one result before after old new → Done h i o asked result before after kept kept old new
+  done-with-files {result = result} {before = before} {after = after} {kept = kept} {old = old} {new = new} one is asks done =
+      subst (λ (a : Option Asked). Done h i o a result before after kept kept old new) (sym is) (record {
+        told = λ told e other. done.told told e;
         source = λ same. absurd (false≢true (sym (ap asks_files same) ∙ asks));
-        says = says;
+        says = done.says;
         words = λ none. absurd cc;
-        usage = λ e. absurd (usage e);
-        refusals = refusals;
+        usage = λ e. absurd (done.usage e);
+        refusals = done.refusals;
         source_stays = λ other. (refl, refl);
         source_count = λ same. absurd (false≢true (sym (ap asks_files same) ∙ asks));
         files_stay = λ stays. absurd (false≢true (sym stays ∙ asks));
-        cause = λ e untold. inl (cause e untold);
-        spares = spares;
-        file_count = faults;
-        wrote = wrote;
-        later = later;
-        sink_count = count;
+        cause = λ e untold. inl (done.cause e untold);
+        spares = done.spares;
+        file_count = done.file_count;
+        wrote = done.wrote;
+        later = done.later;
+        sink_count = done.sink_count;
       })
 
   -- a listing of the source does not touch the files
-  pub done-of-source : {asked : Option Asked} {result : Result (Unit {0}) Stop} {files : H} {source source_after : I} {sink sink_after : O} → asked ≡ Some info_of_source
-      → ReadSource result (contents files) (contents files) (left source) (left source_after) (taken sink) (taken sink_after) (Rose (source_faults source) (source_faults source_after)) (Rose (sink_faults sink) (sink_faults sink_after))
-      → Says (IsTexts info_of_source) (taken sink) (taken sink_after) (Rose (sink_faults sink) (sink_faults sink_after)) result
-      → (result ≡ Err stop.FileFault → Rose (source_faults source) (source_faults source_after))
+  pub done-of-source : {asked : Option Asked} {result : Result (Unit {0}) Stop} {kept : H} {before after : I} {old new : O} → asked ≡ Some info_of_source
+      → ReadSourceIn i o (h.contents kept) (h.contents kept) before after old new result
+      → SaysIn o (IsTexts info_of_source) old new result
+      → (result ≡ Err stop.FileFault → Rose (i.faults before) (i.faults after))
       → (result ≡ Err stop.Usage → ⊥)
-      → sink_faults sink ≤ sink_faults sink_after
-      → source_faults source_after ≡ source_failures result (source_faults source)
-      → sink_faults sink_after ≡ sink_failures result (sink_faults sink)
+      → o.faults old ≤ o.faults new
+      → i.faults after ≡ source_failures result (i.faults before)
+      → o.faults new ≡ sink_failures result (o.faults old)
       → IfErr result (MayRefuse (Some info_of_source))
-      → ((access : Access) → Spares files files access)
-      → Done contents file_faults writes Spares left source_faults taken sink_faults asked result files files source source_after sink sink_after
-  done-of-source {result = result} {files = files} {source = source} {source_after = source_after} {sink = sink} {sink_after = sink_after} is read says cause usage later source_count sink_count refusals rest =
-      subst (λ (a : Option Asked). Done contents file_faults writes Spares left source_faults taken sink_faults a result files files source source_after sink sink_after) (sym is) (record {
+      → ((access : Access) → h.spares kept kept access)
+      → Done h i o asked result kept kept before after old new
+  done-of-source {result = result} {kept = kept} {before = before} {after = after} {old = old} {new = new} is read says cause usage later source_count sink_count refusals rest =
+      subst (λ (a : Option Asked). Done h i o a result kept kept before after old new) (sym is) (record {
         told = λ told e other. absurd (other refl);
         source = λ same. read;
         says = says;
@@ -88,9 +77,9 @@ module _ {H I O : Type 0} {contents : H → Option Directory} {file_faults : H �
         sink_count = sink_count;
       })
 
-  module _ {asked : Option Asked} {files : H} {source : I} {sink : O} where
-    pub done-usage : asked ≡ None → ((access : Access) → Spares files files access) → Done contents file_faults writes Spares left source_faults taken sink_faults asked (Err stop.Usage) files files source source sink sink
-    done-usage none rest = subst (λ (a : Option Asked). Done contents file_faults writes Spares left source_faults taken sink_faults a (Err stop.Usage) files files source source sink sink) (sym none) (record {
+  module _ {asked : Option Asked} {kept : H} {held : I} {old : O} where
+    pub done-usage : asked ≡ None → ((access : Access) → h.spares kept kept access) → Done h i o asked (Err stop.Usage) kept kept held held old old
+    done-usage none rest = subst (λ (a : Option Asked). Done h i o a (Err stop.Usage) kept kept held held old old) (sym none) (record {
       told = λ told e other. (refl, are-told told _ e, Appends-nil _);
       source = λ same. absurd cc;
       says = refl;
@@ -109,7 +98,7 @@ module _ {H I O : Type 0} {contents : H → Option Directory} {file_faults : H �
     })
 
     -- want of memory before anything was done
-    pub done-starved : ((access : Access) → Spares files files access) → Done contents file_faults writes Spares left source_faults taken sink_faults asked (Err stop.NoMemory) files files source source sink sink
+    pub done-starved : ((access : Access) → h.spares kept kept access) → Done h i o asked (Err stop.NoMemory) kept kept held held old old
     done-starved rest = record {
       told = λ told e other. (0, are-told told _ e, Appends-nil _);
       source = λ same. ([], nothing-read, refl, Consumes-nil _, (0, λ name. refl, Appends-nil _));
@@ -123,7 +112,7 @@ module _ {H I O : Type 0} {contents : H → Option Directory} {file_faults : H �
       cause = λ e untold. absurd cc;
       spares = λ access other. rest access;
       file_count = faults-none refl;
-      wrote = wrote-none asked (taken sink) (writes files).done stop.NoMemory;
+      wrote = wrote-none asked (o.taken old) (h.writes kept).done stop.NoMemory;
       later = omega arith;
       sink_count = refl;
     }

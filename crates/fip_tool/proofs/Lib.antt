@@ -2,6 +2,7 @@ pub mod Conversions
 pub mod Converted
 pub mod Did
 pub mod DoneBy
+pub mod DoneWith
 pub mod Enclosings
 pub mod FileFaults
 pub mod GivenTables
@@ -24,6 +25,7 @@ pub mod UnpackWords
 pub mod UnpackedBy
 pub mod UsageEnds
 pub mod Whole
+pub mod WritesBy
 pub mod WritingLemmas
 pub mod WroteLemmas
 pub mod Makings

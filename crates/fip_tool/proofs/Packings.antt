@@ -128,10 +128,6 @@ pub entry-there : (told : Option Directory) (p : Payload) (name : List ℕ) (e :
 entry-there told p name e file size at h =
     subst (λ (f : List ℕ). HasRange told f p.at p.size) (sym file) (subst (λ (n : ℕ). HasRange told name n p.size) (sym at) (subst (HasRange told name e.offset) (sym size) h))
 
-pub renewed-there : (told : Option Directory) (p q : Payload) → p.file.now ≡ q.file.now → p.size ≡ q.size → p.at ≡ q.at → IsThere told q → IsThere told p
-renewed-there told p q file size at h =
-    subst (λ (f : List ℕ). HasRange told f p.at p.size) (sym file) (subst (λ (n : ℕ). HasRange told q.file.now n p.size) (sym at) (subst (HasRange told q.file.now q.at) (sym size) h))
-
 -- an entry whose payload lies in a file of told bytes
 pub has-entry : (told : Option Directory) (name : List ℕ) (e : Entry) → (Lacks told name → ⊥) → ((bytes : List ℕ) → Tells told name bytes → e.offset + e.size ≤ length bytes) → HasEntry told name e
 has-entry None name e there stored = tt
@@ -164,9 +160,6 @@ zeroed-all told [] h = refl
 zeroed-all told (p ∷ ps) h =
     ap (λ (x : Part). x ∷ map zeroed (map (part_told told) ps)) (zeroed-one told p (h 0 p (omega arith)))
     ∙ ap (λ (xs : List Part). outline_of p ∷ xs) (zeroed-all told ps (λ k d lt. h (suc k) d (omega (arith, lt))))
-
-pub there-told : (P : Option Directory → Payload → Type 0) (o : Option Directory) (told : Directory) (ps : List Payload) → o ≡ Some told → All (P o) ps → All (P (Some told)) ps
-there-told P o told ps e h = subst (λ (x : Option Directory). All (P x) ps) e h
 
 no-fault : (o : Option PackFault) → unless_fault {X = Unit {0}} o tt ≡ Ok tt → o ≡ None
 no-fault None e = refl

@@ -9,7 +9,7 @@ use Rattle.fip_tables.specs.declared.toc.TocStop.TheVariants as toc
 use Rattle.capsule_tables.specs.Answers.{HasReadCause as CapsuleCause}
 use Rattle.capsule_tables.specs.declared.faults.CapsuleStop.{CapsuleStop}
 use Rattle.capsule_tables.specs.declared.faults.CapsuleStop.TheVariants as items
-use Rattle.fip_tool.specs.Steps.{AsksNothing, Gives, IsLate, NoneFailed, ReadsOnly}
+use Rattle.fip_tool.specs.Steps.{AsksNothing, NoneFailed, ReadsOnly}
 use Rattle.fip_tool.specs.Tool.{capsule_stopped_by, stopped_by}
 use Rattle.fip_tool.specs.declared.stops.Stop.{Stop}
 use Rattle.fip_tool.specs.declared.stops.Stop.TheVariants as stop
@@ -139,17 +139,3 @@ module _ {X : Type 0} {told now : Option Directory} {before after : ℕ} where
       usage = λ e. absurd cc;
       sink = λ e. absurd cc;
     }
-
--- a stop that may come late, of a part that does not print
-pub gives-late : {X Y Z : Type 0} (view : X → Y) (rose : Type 0) (value : Result Y Stop) (s : Stop) → IsLate s → (◌≡◌ {A = Result Z Stop} (Err s) (Err stop.SinkFault) → ⊥)
-    → (◌≡◌ {A = Result Z Stop} (Err s) (Err stop.FileFault) → rose) → Gives view rose value (Err s)
-gives-late view rose value stop.FileFault late prints because = inr (because refl)
-gives-late view rose value stop.NoMemory late prints because = tt
-gives-late view rose value stop.SinkFault late prints because = absurd (prints refl)
-gives-late view rose value stop.Usage late prints because = absurd late
-gives-late view rose value (stop.NotFip f) late prints because = absurd late
-gives-late view rose value (stop.NoSuchEntry guid) late prints because = absurd late
-gives-late view rose value (stop.NotPacked f) late prints because = absurd late
-gives-late view rose value (stop.NoManifest f) late prints because = absurd late
-gives-late view rose value stop.TooLong late prints because = absurd late
-gives-late view rose value (stop.NotCapsule f) late prints because = absurd late

@@ -180,9 +180,6 @@ module _ (T : List (List ℕ) → Type 0) (was mid text : Option (List ℕ)) (ea
   says-ends stop.TooLong t h r = ended stop.TooLong t ([], refl, appends-same was mid h) (λ w. w) none-yet r
   says-ends (stop.NotCapsule f) t h r = ended (stop.NotCapsule f) t ([], refl, appends-same was mid h) (λ w. w) none-yet r
 
-pub says-ok : (T : List (List ℕ) → Type 0) (was text : Option (List ℕ)) (rose : Type 0) (u : Unit {0}) → Says T was text rose (Ok u) → SaysAll T was text rose (Ok u)
-says-ok T was text rose u h = h
-
 -- status 3 comes where the sink failed alone
 three : (s : Stop) → status_number s ≡ 3 → s ≡ stop.SinkFault
 three stop.SinkFault e = refl

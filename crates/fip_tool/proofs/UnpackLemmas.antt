@@ -321,9 +321,6 @@ entry-did prefix bytes e name shown out line told now was text rose late spoiled
     did-later (Makes (unpack_steps prefix bytes (e ∷ []))) told now was text rose late spoiled spoiled-late sink-rose r rises spoils
     (subst (λ (l : List Step). Did (Makes l) told now was text rose spoiled sink-rose r) steps d)
 
-pub same-ok : (a b : List ℕ) → ◌≡◌ {A = Result (List ℕ) Stop} (Ok a) (Ok b) → b ≡ a
-same-ok a b e = cc
-
 -- ---- one entry after the other
 
 module _ (p : Entry → Bool) (es : List Entry) (i : ℕ) (e : Entry) (lt : i < length es) (here : get_or es i e ≡ e) where

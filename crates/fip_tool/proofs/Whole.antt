@@ -1,23 +1,16 @@
 -- Whole files.
-use Rattle.std.proofs.Common.{◌≡◌, ℕ, List, Option, Some, None, Result, Ok, Err, IfErr, IfOk, Vec, inl, inr, subst, length, take, drop, arith, refl, sym, ap, ◌∙◌}
+use Rattle.std.proofs.Common.{◌≡◌, ℕ, List, Option, Some, None, Ok, Err, Vec, inl, inr, subst, length, arith, refl, sym, ap, ◌∙◌}
 use Rattle.base_core.specs.Counts.{Rose}
-use Rattle.host_io.specs.Contents.{Directory, HasRange, Holds, TellsRange}
+use Rattle.host_io.specs.Contents.{Directory, HasRange, Holds}
 use Rattle.host_io.specs.Whole.{HasFileCause, LacksFile}
 use Rattle.host_io.specs.declared.stops.ReadStop.{ReadStop}
 use Rattle.host_io.specs.declared.stops.ReadStop.TheVariants as read_stop
 use Rattle.std.specs.Global.{Global}
-use Rattle.fip_tables.specs.Files.{Tells}
-use Rattle.fip_tables.proofs.Told.{range_is}
 use Rattle.fip_tool.specs.Steps.{Gives, IsLate, ReadsOnly}
 use Rattle.fip_tool.specs.Tool.{file_value, size_in, there, unread_by}
 use Rattle.fip_tool.proofs.ReadsBy.{reads-starved}
-use Rattle.fip_tool.specs.declared.stops.Stop.{Stop}
 use Rattle.fip_tool.specs.declared.stops.Stop.TheVariants as stop
 use Rattle.fip_tool.proofs.Tables.{sized}
-
--- what is known of a file's size
-KnowsSize : Option Directory → List ℕ → ℕ → Type 0
-KnowsSize o name n = (told : Directory) → o ≡ Some told → size_in told name ≡ Ok n
 
 pub has-range : (o : Option Directory) (name : List ℕ) (n len : ℕ) → ((told : Directory) → o ≡ Some told → size_in told name ≡ Ok n) → len ≡ n → HasRange o name 0 len
 has-range None name n len knows e = tt
@@ -29,22 +22,6 @@ has-range (Some d) name n len knows e = go (d name) refl
     go : (o : Option (List ℕ)) → d name ≡ o → HasRange (Some d) name 0 len
     go None is = let no : ◌≡◌ {A = Option (List ℕ)} None (Some s.0) = sym is ∙ s.1 in cc
     go (Some bytes) is = rw is (let same : bytes ≡ s.0 = (let both : ◌≡◌ {A = Option (List ℕ)} (Some bytes) (Some s.0) = sym is ∙ s.1 in cc) in let long = ap length same in omega (arith, long, s.2, e))
-
--- what a range gives, by its size and where it is told
-pub range-gives : (o : Option Directory) (name bytes : List ℕ) (at size : ℕ) {rose late : Type 0} (r : Result (Vec ℕ Global) Stop) → Tells o name bytes → (rose → late) → IfOk r (λ v. length v.items ≡ size) → IfOk r (λ v. TellsRange o name at v.items)
-    → IfErr r IsLate → (r ≡ Err stop.FileFault → rose) → (r ≡ Err stop.SinkFault → ⊥) → Gives (λ v. v.items) late (Ok (take size (drop at bytes))) r
-range-gives o name bytes at size (Ok v) tells rises long range late cause sink =
-    ap (λ (l : List ℕ). Ok l) (sym (range_is o name at v.items bytes tells range ∙ ap (λ (n : ℕ). take n (drop at bytes)) long))
-range-gives o name bytes at size (Err stop.FileFault) tells rises long range late cause sink = inr (rises (cause refl))
-range-gives o name bytes at size (Err stop.NoMemory) tells rises long range late cause sink = tt
-range-gives o name bytes at size (Err stop.SinkFault) tells rises long range late cause sink = sink refl
-range-gives o name bytes at size (Err stop.Usage) tells rises long range late cause sink = absurd late
-range-gives o name bytes at size (Err (stop.NotFip f)) tells rises long range late cause sink = absurd late
-range-gives o name bytes at size (Err (stop.NoSuchEntry guid)) tells rises long range late cause sink = absurd late
-range-gives o name bytes at size (Err (stop.NotPacked f)) tells rises long range late cause sink = absurd late
-range-gives o name bytes at size (Err (stop.NoManifest f)) tells rises long range late cause sink = absurd late
-range-gives o name bytes at size (Err stop.TooLong) tells rises long range late cause sink = absurd late
-range-gives o name bytes at size (Err (stop.NotCapsule f)) tells rises long range late cause sink = absurd late
 
 -- what a file gives that was read whole
 pub value-read : (o : Option Directory) (told : Directory) (name bytes : List ℕ) → o ≡ Some told → Holds o name bytes → file_value told name ≡ Ok bytes

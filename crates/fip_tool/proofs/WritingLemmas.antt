@@ -1,15 +1,14 @@
 -- What a writing and a line leave.
-use Rattle.std.proofs.Common.{◌≡◌, ◌≢◌, inr, ℕ, List, [], ◌∷◌, Bool, true, false, Option, Some, None, Result, Ok, Err, ◌≤◌, length, map, refl, sym, ap, subst, ◌∙◌, append-nil, rules, true≢false}
+use Rattle.std.proofs.Common.{◌≡◌, ◌≢◌, inr, ℕ, List, [], ◌∷◌, Bool, true, false, Option, Some, None, Result, Ok, Err, ◌≤◌, length, refl, sym, ap, subst, ◌∙◌, append-nil, rules, true≢false}
 use Rattle.std.specs.Str.{bytes_eq}
 use Rattle.std.proofs.lemmas.Slice.Eq.{bytes_eq-Decides}
 use Rattle.std.specs.Io.KnownBytes.{Appends}
 use Rattle.base_core.specs.Counts.{Rose}
 use Rattle.host_io.specs.Calls.{raised}
 use Rattle.host_io.specs.Contents.{ChangesOnly, Directory, Holds}
-use Rattle.host_io.specs.Joined.{HoldsJoined, chunk_in, joined}
 use Rattle.host_io.specs.declared.joining.Piece.{Piece}
 use Rattle.fip_tool.specs.Lines.{made_line}
-use Rattle.fip_tool.specs.Payloads.{made_bytes}
+use Rattle.fip_tool.specs.Payloads.{joined_pieces, made_bytes}
 use Rattle.fip_tool.specs.declared.made.Made.{Made}
 use Rattle.fip_tool.specs.Steps.{Makes, Step, Writes, Prints, Are, AreBut, Did, Printed, Written, outcome_by, with_file}
 use Rattle.fip_tool.specs.Tool.{puts}
@@ -43,16 +42,9 @@ not-written files (Some old) (Some new) name e only =
     let same : old ≡ files = cc in
     λ other differs. only other differs ∙ ap (λ (d : Directory). d other) same
 
--- what was made is there
-pub holds-made : (files : Directory) (o now : Option Directory) (name frame : List ℕ) (pieces : List Piece) (m : Made) → o ≡ Some files → frame ≡ m.frame.bytes.items → pieces ≡ m.pieces.items
-    → HoldsJoined o now name frame pieces → Holds now name (made_bytes files m)
-holds-made files None now name frame pieces m e f p h = cc
-holds-made files (Some old) now name frame pieces m e f p h =
-    let same : old ≡ files = cc in
-    let is : joined frame (map (chunk_in old) pieces) ≡ made_bytes files m =
-    ap (λ (d : Directory). joined frame (map (chunk_in d) pieces)) same ∙ ap (λ (l : List ℕ). joined l (map (chunk_in files) pieces)) f
-    ∙ ap (λ (q : List Piece). joined m.frame.bytes.items (map (chunk_in files) q)) p in
-    subst (Holds now name) is h
+-- what a frame's and pieces' slices make
+pub joined-made : (files : Directory) (m : Made) (frame : List ℕ) (pieces : List Piece) → frame ≡ m.frame.bytes.items → pieces ≡ m.pieces.items → joined_pieces files frame pieces ≡ made_bytes files m
+joined-made files m frame pieces f p = ap (λ (l : List ℕ). joined_pieces files l pieces) f ∙ ap (joined_pieces files m.frame.bytes.items) p
 
 -- files that tell nothing go on so
 pub silent : (o now : Option Directory) (name : List ℕ) → ChangesOnly o now name → o ≡ None → now ≡ None
@@ -77,12 +69,12 @@ write-stopped files now was text files-rose spoiled sink-rose name bytes line st
 write-stopped files now was text files-rose spoiled sink-rose name bytes line (stop.NotCapsule f) w t = absurd w
 
 -- the file and the line of what was made
-pub made-put : (format : Format) (files : Directory) (out : List ℕ) (value : Result (ℕ × List ℕ) Stop) (n : ℕ) (bytes line : List ℕ) (now : Option Directory) (was text : Option (List ℕ)) (a b c k s t : ℕ) (sink-rose : Type 0)
-    (r : Result (Unit {0}) Stop) → value ≡ Ok (n, bytes) → line ≡ made_line format n (length bytes) → a ≤ b → k ≡ s
-    → Did (Makes (Writes out bytes ∷ Prints line ∷ [])) files now was text (Rose b c) (Rose s t) sink-rose r
+pub made-put : (format : Format) (files : Directory) (out : List ℕ) (value : Result (ℕ × List ℕ) Stop) (n : ℕ) (bytes laid line : List ℕ) (now : Option Directory) (was text : Option (List ℕ)) (a b c k s t : ℕ) (sink-rose : Type 0)
+    (r : Result (Unit {0}) Stop) → value ≡ Ok (n, bytes) → laid ≡ bytes → line ≡ made_line format n (length bytes) → a ≤ b → k ≡ s
+    → Did (Makes (Writes out laid ∷ Prints line ∷ [])) files now was text (Rose b c) (Rose s t) sink-rose r
     → Did (outcome_by (puts format out) value) files now was text (Rose a c) (Rose k t) sink-rose r
-made-put format files out value n bytes line now was text a b c k s t sink-rose r v lined le kept did =
-    let steps : Writes out bytes ∷ Prints line ∷ [] ≡ puts format out (n, bytes) = ap (λ (l : List ℕ). Writes out bytes ∷ Prints l ∷ []) lined ∙ spelled format in
+made-put format files out value n bytes laid line now was text a b c k s t sink-rose r v is lined le kept did =
+    let steps : Writes out laid ∷ Prints line ∷ [] ≡ puts format out (n, bytes) = ap (λ (l : List ℕ). Writes out l ∷ Prints line ∷ []) is ∙ ap (λ (l : List ℕ). Writes out bytes ∷ Prints l ∷ []) lined ∙ spelled format in
     made-steps (puts format out) value (n, bytes) files now was text (Rose b c) (Rose a c) (Rose s t) (Rose k t) sink-rose r v (rose-from a b c le) (rose-still k s t kept)
     (subst (λ (l : List Step). Did (Makes l) files now was text (Rose b c) (Rose s t) sink-rose r) steps did)
   where

@@ -4,34 +4,59 @@ use Rattle.base_core.specs.Counts.{Rose}
 use Rattle.fip_words.specs.Order.{Asked, info_of_source}
 use Rattle.host_io.specs.Access.{Access}
 use Rattle.host_io.specs.Contents.{Directory}
-use Rattle.host_io.specs.declared.writes.Writes.{Writes}
+use Rattle.host_io.specs.declared.files.Files as files
+use Rattle.host_io.specs.declared.source.Source as source
+use Rattle.host_io.specs.declared.sink.Sink as sink
 use Rattle.fip_tool.specs.Names.{IsUnnamed}
 use Rattle.fip_tool.specs.Refusals.{MayRefuse}
-use Rattle.fip_tool.specs.Said.{IsTextsOf, Says}
-use Rattle.fip_tool.specs.Steps.{Did, FaultsOnce, sink_failures, source_failures}
-use Rattle.fip_tool.specs.Tool.{ReadSource, asks_files, outcome_of}
-use Rattle.fip_tool.specs.Wrote.{WroteFor}
+use Rattle.fip_tool.specs.Said.{IsTexts, IsTextsOf}
+use Rattle.fip_tool.specs.Seen.{DidIn, ReadSourceIn, SaysIn, WroteForIn, WroteIn}
+use Rattle.fip_tool.specs.Steps.{FaultsOnce, IsLate, sink_failures, source_failures}
+use Rattle.fip_tool.specs.Tool.{asks_files, command_outcome, outcome_of}
 use Rattle.fip_tool.specs.declared.stops.Stop.{Stop}
 use Rattle.fip_tool.specs.declared.stops.Stop.TheVariants as stop
 
--- What was done, with what is seen of the files, the source and the sink. A status is not told yet, nor a line that says why the
--- command stopped.
-pub record Done {H I O : Type 0} (contents : H → Option Directory) (file_faults : H → ℕ) (writes : H → Writes)
-    (Spares : H → H → Access → Type 0)
-    (left : I → Option (List ℕ)) (source_faults : I → ℕ)
-    (taken : O → Option (List ℕ)) (sink_faults : O → ℕ)
+-- What was done by a part of a command that writes files, each with its text behind it, whatever files there are.
+pub record WritesTexts {H O : Type 0} (h : files.Ghosts H) (o : sink.Ghosts O) (T : List (List ℕ) → Type 0)
+    (result : Result (Unit {0}) Stop) (files_before files_after : H) (sink_before sink_after : O) : Type 0 where
+  pub says : SaysIn o T sink_before sink_after result
+  pub wrote : WroteIn h o T files_before files_after sink_before sink_after result
+  -- at most one call of the files failed, and ended it
+  pub file_count : FaultsOnce (h.faults files_before) (h.faults files_after) result
+  pub cause : result ≡ Err stop.FileFault → Rose (h.faults files_before) (h.faults files_after)
+  pub late : IfErr result IsLate
+  pub usage : result ≡ Err stop.Usage → ⊥
+  pub later : h.faults files_before ≤ h.faults files_after
+  pub later_sink : o.faults sink_before ≤ o.faults sink_after
+  pub sink_count : o.faults sink_after ≡ sink_failures result (o.faults sink_before)
+
+-- What was done for an order that asks for files. A status is not told yet, nor a line that says why the command stopped.
+pub record DoneWithFiles {H O : Type 0} (h : files.Ghosts H) (o : sink.Ghosts O) (asked : Asked) (result : Result (Unit {0}) Stop)
+    (files_before files_after : H) (sink_before sink_after : O) : Type 0 where
+  pub told : (told : Directory) → h.contents files_before ≡ Some told
+      → DidIn h o (command_outcome asked told) told files_before files_after sink_before sink_after result
+  pub says : SaysIn o (IsTexts asked) sink_before sink_after result
+  pub wrote : WroteForIn h o (Some asked) files_before files_after sink_before sink_after result
+  -- at most one call of the files failed, and ended it
+  pub file_count : FaultsOnce (h.faults files_before) (h.faults files_after) result
+  pub cause : result ≡ Err stop.FileFault → h.contents files_before ≡ None → Rose (h.faults files_before) (h.faults files_after)
+  pub usage : result ≡ Err stop.Usage → ⊥
+  -- each refusal is one of what was asked for
+  pub refusals : IfErr result (MayRefuse (Some asked))
+  -- no access is made that the words don't name
+  pub spares : (access : Access) → IsUnnamed (Some asked) access → h.spares files_before files_after access
+  pub later : o.faults sink_before ≤ o.faults sink_after
+  pub sink_count : o.faults sink_after ≡ sink_failures result (o.faults sink_before)
+
+-- The same of whatever the words ask for, with what is seen of the source.
+pub record Done {H I O : Type 0} (h : files.Ghosts H) (i : source.Ghosts I) (o : sink.Ghosts O)
     (asked : Option Asked) (result : Result (Unit {0}) Stop)
     (files_before files_after : H) (source_before source_after : I) (sink_before sink_after : O) : Type 0 where
-  pub told : (told : Directory) → contents files_before ≡ Some told → asked ≢ Some info_of_source
-      → Did (outcome_of asked told) told (contents files_after) (taken sink_before) (taken sink_after)
-      (Rose (file_faults files_before) (file_faults files_after)) (Rose (writes files_before).failed (writes files_after).failed)
-      (Rose (sink_faults sink_before) (sink_faults sink_after)) result
+  pub told : (told : Directory) → h.contents files_before ≡ Some told → asked ≢ Some info_of_source
+      → DidIn h o (outcome_of asked told) told files_before files_after sink_before sink_after result
   pub source : asked ≡ Some info_of_source
-      → ReadSource result (contents files_before) (contents files_after) (left source_before) (left source_after)
-      (taken sink_before) (taken sink_after) (Rose (source_faults source_before) (source_faults source_after))
-      (Rose (sink_faults sink_before) (sink_faults sink_after))
-  pub says : Says (IsTextsOf asked) (taken sink_before) (taken sink_after)
-      (Rose (sink_faults sink_before) (sink_faults sink_after)) result
+      → ReadSourceIn i o (h.contents files_before) (h.contents files_after) source_before source_after sink_before sink_after result
+  pub says : SaysIn o (IsTextsOf asked) sink_before sink_after result
   -- usage is answered exactly where nothing is asked for, or there is no memory to see that
   pub words : asked ≡ None → (result ≡ Err stop.Usage) ⊎ (result ≡ Err stop.NoMemory)
   pub usage : result ≡ Err stop.Usage → asked ≡ None
@@ -39,17 +64,16 @@ pub record Done {H I O : Type 0} (contents : H → Option Directory) (file_fault
   pub refusals : IfErr result (MayRefuse asked)
   -- only a listing of the source reads it
   pub source_stays : asked ≢ Some info_of_source
-      → (left source_after ≡ left source_before) × (source_faults source_after ≡ source_faults source_before)
+      → (i.left source_after ≡ i.left source_before) × (i.faults source_after ≡ i.faults source_before)
   pub source_count : asked ≡ Some info_of_source
-      → source_faults source_after ≡ source_failures result (source_faults source_before)
+      → i.faults source_after ≡ source_failures result (i.faults source_before)
   pub files_stay : IsFalse (asks_files asked) → files_after ≡ files_before
   -- no access is made that the words don't name
-  pub spares : (access : Access) → IsUnnamed asked access → Spares files_before files_after access
-  pub cause : result ≡ Err stop.FileFault → contents files_before ≡ None
-      → Rose (file_faults files_before) (file_faults files_after)
-      ⊎ Rose (source_faults source_before) (source_faults source_after)
+  pub spares : (access : Access) → IsUnnamed asked access → h.spares files_before files_after access
+  pub cause : result ≡ Err stop.FileFault → h.contents files_before ≡ None
+      → Rose (h.faults files_before) (h.faults files_after) ⊎ Rose (i.faults source_before) (i.faults source_after)
   -- at most one call of the files failed, and ended it
-  pub file_count : FaultsOnce (file_faults files_before) (file_faults files_after) result
-  pub wrote : WroteFor asked (taken sink_before) (taken sink_after) (writes files_before).done (writes files_after).done result
-  pub later : sink_faults sink_before ≤ sink_faults sink_after
-  pub sink_count : sink_faults sink_after ≡ sink_failures result (sink_faults sink_before)
+  pub file_count : FaultsOnce (h.faults files_before) (h.faults files_after) result
+  pub wrote : WroteForIn h o asked files_before files_after sink_before sink_after result
+  pub later : o.faults sink_before ≤ o.faults sink_after
+  pub sink_count : o.faults sink_after ≡ sink_failures result (o.faults sink_before)

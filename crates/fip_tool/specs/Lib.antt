@@ -6,6 +6,7 @@ pub mod Ends
 pub mod Payloads
 pub mod Said
 pub mod Wrote
+pub mod Seen
 pub mod Converted
 pub mod Done
 pub mod Unpacked

@@ -40,9 +40,13 @@ pub record IsMadeOf (frame : Frame) (ps : List Payload) (m : Made) : Type 0 wher
   pub frame_is : m.frame ≡ frame
   pub pieces : m.pieces.items ≡ pieces_of frame.gaps.items ps
 
+-- a frame with the pieces between its bytes that files have
+abbrev pub joined_pieces : Directory → List ℕ → List Piece → List ℕ
+joined_pieces files frame pieces = joined frame (map (chunk_in files) pieces)
+
 -- the bytes of a file that is to be made, by the files that its pieces are of
 abbrev pub made_bytes : Directory → Made → List ℕ
-made_bytes files m = joined m.frame.bytes.items (map (chunk_in files) m.pieces.items)
+made_bytes files m = joined_pieces files m.frame.bytes.items m.pieces.items
 
 -- and how many payloads it has
 abbrev pub made_by : Directory → Made → ℕ × List ℕ

@@ -19,7 +19,7 @@ use Rattle.fwu_formats.specs.declared.kinds.CapsuleFault.{CapsuleFault}
 use Rattle.capsule_tables.specs.declared.faults.CapsuleStop.{CapsuleStop}
 use Rattle.capsule_tables.specs.declared.faults.CapsuleStop.TheVariants as capsule_stop
 use Rattle.fip_tables.specs.Answers.{decided}
-use Rattle.fip_tables.specs.Packing.{pack_fault, zeroed}
+use Rattle.fip_tables.specs.Packing.{pack_fault}
 use Rattle.fip_tables.specs.declared.faults.PackFault.{PackFault}
 use Rattle.fip_tables.specs.declared.toc.TocStop.{TocStop}
 use Rattle.fip_tables.specs.declared.toc.TocStop.TheVariants as toc
@@ -87,13 +87,6 @@ part_in files p = option_map (λ bytes. record { guid = p.guid; flags = 0; bytes
 -- the parts of named files
 abbrev pub parts_in : Directory → List NamedFile → Result (List Part) Stop
 parts_in files parts = there (each (part_in files) parts)
-
--- the part of a named file, with zeros in place of its bytes
-abbrev pub outline_in : Directory → NamedFile → Result Part Stop
-outline_in files p = after (there (part_in files p)) (λ part. Ok (zeroed part))
-
-abbrev pub outlines_in : Directory → List NamedFile → Result (List Part) Stop
-outlines_in files parts = after (parts_in files parts) (λ ps. Ok (map zeroed ps))
 
 -- a package's table, and how many bytes it has
 unfoldable pub sized_table : Directory → List ℕ → Result (Toc × ℕ) Stop

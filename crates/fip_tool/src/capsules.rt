@@ -1,19 +1,16 @@
 //! The commands that turn a package into a capsule, and back: `capsule` and `package`.
-ghost use Rattle.std.specs.Prelude.{◌≡◌, ◌≤◌, All, IfErr, IfOk, List, Option, Some, None, Err, ℕ, length, map};
-ghost use Rattle.base_core.specs.Counts.{Rose};
+ghost use Rattle.std.specs.Prelude.{◌≡◌, All, IfErr, IfOk, List, Option, Some, Err, ℕ, length, map};
 ghost use Rattle.fwu_formats.specs.Package.{Toc};
-ghost use Rattle.fip_tool.specs.Names.{IsUnnamed};
-ghost use Rattle.host_io.specs.Access.{Access};
 ghost use Rattle.host_io.specs.Contents.{Directory};
 ghost use Rattle.host_io.specs.Reads.{ReadsFile};
 ghost use Rattle.fip_words.specs.Order.{Asked};
 ghost use Rattle.fip_tool.specs.Payloads.{HasEntry, IsWhole, made_by};
-ghost use Rattle.fip_tool.specs.Said.{IsTable, IsTexts, Says};
-ghost use Rattle.fip_tool.specs.Refusals.{IsOfEnclosing, IsOfPackaging, IsOfPacking, MayRefuse};
-ghost use Rattle.fip_tool.specs.Steps.{AsksNothing, Did, FaultsOnce, Gives, ReadsOnly, outcome_by, sink_failures};
-ghost use Rattle.fip_tool.specs.Tool.{capsule_value, enclose_value, encloses, kept_part, pack_value, repackage_value, packs};
-ghost use Rattle.fip_tool.specs.Wrote.{Wrote};
-ghost use Rattle.fip_tool.specs.declared.stops.Stop.TheVariants as stop;
+ghost use Rattle.fip_tool.specs.Said.{IsTable};
+ghost use Rattle.fip_tool.specs.Refusals.{IsOfEnclosing, IsOfPackaging, IsOfPacking};
+ghost use Rattle.fip_tool.specs.Done.{DoneWithFiles};
+ghost use Rattle.fip_tool.specs.Seen.{GivesIn, ReadsOnlyIn};
+ghost use Rattle.fip_tool.specs.Steps.{AsksNothing, Gives};
+ghost use Rattle.fip_tool.specs.Tool.{capsule_value, enclose_value, kept_part, pack_value, repackage_value};
 
 use crate::enclosing::enclosed;
 use crate::made::{Format, Made};
@@ -52,12 +49,10 @@ fn capsule_of_package<'a, H: Files>(
     from: &'a str,
 ) -> Result<Made<'a>, Stop>
     ensures told { (told : Directory) → H.contents files.old ≡ Some told
-        → Gives (made_by told) (Rose (H.faults files.old) (H.faults files.new))
-        (capsule_value told from.now) result }
+        → GivesIn H.Files (made_by told) (capsule_value told from.now) files.old files.new result }
     ensures whole { IfOk result (IsWhole (H.contents files.new)) }
     ensures count { IfOk result (λ m. (t : Toc) × IsTable t × (m.count ≡ length t.entries)) }
-    ensures reads { ReadsOnly (H.contents files.old) (H.contents files.new) (H.faults files.old)
-        (H.faults files.new) result }
+    ensures reads { ReadsOnlyIn H.Files files.old files.new result }
     ensures files { ReadsFile H.Files from.now files.old files.new }
     ensures refusals { IfErr result IsOfEnclosing }
 {
@@ -95,12 +90,11 @@ fn package_of_capsule<'a, H: Files>(
     from: &'a str,
 ) -> Result<Made<'a>, Stop>
     ensures told { (told : Directory) → H.contents files.old ≡ Some told
-        → Gives (made_by told) (Rose (H.faults files.old) (H.faults files.new))
-        (repackage_value told align from.now) result }
+        → GivesIn H.Files (made_by told) (repackage_value told align from.now)
+        files.old files.new result }
     ensures whole { IfOk result (IsWhole (H.contents files.new)) }
     ensures count { IfOk result (λ m. (t : Toc) × (m.count ≡ length t.entries)) }
-    ensures reads { ReadsOnly (H.contents files.old) (H.contents files.new) (H.faults files.old)
-        (H.faults files.new) result }
+    ensures reads { ReadsOnlyIn H.Files files.old files.new result }
     ensures files { ReadsFile H.Files from.now files.old files.new }
     ensures refusals { IfErr result IsOfPackaging }
 {
@@ -116,27 +110,8 @@ pub fn run_capsule<H: Files, O: Sink>(
     from: &str,
     out: &str,
 ) -> Result<(), Stop>
-    ensures told { (told : Directory) → H.contents files.old ≡ Some told
-        → Did (outcome_by (encloses out.now) (capsule_value told from.now)) told
-        (H.contents files.new) (O.taken sink.old) (O.taken sink.new)
-        (Rose (H.faults files.old) (H.faults files.new))
-        (Rose (H.writes files.old).failed (H.writes files.new).failed)
-        (Rose (O.faults sink.old) (O.faults sink.new)) result }
-    ensures says { Says (IsTexts (Asked.capsule from.now out.now)) (O.taken sink.old)
-        (O.taken sink.new)
-        (Rose (O.faults sink.old) (O.faults sink.new)) result }
-    ensures file_count { FaultsOnce (H.faults files.old) (H.faults files.new) result }
-    ensures wrote { Wrote (IsTexts (Asked.capsule from.now out.now))
-        (O.taken sink.old) (O.taken sink.new) (H.writes files.old).done (H.writes files.new).done
-        result }
-    ensures cause { result ≡ Err stop.FileFault → H.contents files.old ≡ None
-        → Rose (H.faults files.old) (H.faults files.new) }
-    ensures usage { result ≡ Err stop.Usage → ⊥ }
-    ensures later { O.faults sink.old ≤ O.faults sink.new }
-    ensures sink_count { O.faults sink.new ≡ sink_failures result (O.faults sink.old) }
-    ensures refusals { IfErr result (MayRefuse (Some (Asked.capsule from.now out.now))) }
-    ensures spares { (access : Access) → IsUnnamed (Some (Asked.capsule from.now out.now)) access
-        → H.spares files.old files.new access }
+    ensures { DoneWithFiles H.Files O.Sink (Asked.capsule from.now out.now) result
+        files.old files.new sink.old sink.new }
 {
     let made = capsule_of_package(alloc, files, from);
     put_made(alloc, files, sink, Format::Capsule, out, made)
@@ -152,27 +127,8 @@ pub fn run_package<H: Files, O: Sink>(
     from: &str,
     out: &str,
 ) -> Result<(), Stop>
-    ensures told { (told : Directory) → H.contents files.old ≡ Some told
-        → Did (outcome_by (packs out.now) (repackage_value told align from.now)) told
-        (H.contents files.new) (O.taken sink.old) (O.taken sink.new)
-        (Rose (H.faults files.old) (H.faults files.new))
-        (Rose (H.writes files.old).failed (H.writes files.new).failed)
-        (Rose (O.faults sink.old) (O.faults sink.new)) result }
-    ensures says { Says (IsTexts (Asked.repackage align from.now out.now)) (O.taken sink.old)
-        (O.taken sink.new)
-        (Rose (O.faults sink.old) (O.faults sink.new)) result }
-    ensures file_count { FaultsOnce (H.faults files.old) (H.faults files.new) result }
-    ensures wrote { Wrote (IsTexts (Asked.repackage align from.now out.now))
-        (O.taken sink.old) (O.taken sink.new) (H.writes files.old).done (H.writes files.new).done
-        result }
-    ensures cause { result ≡ Err stop.FileFault → H.contents files.old ≡ None
-        → Rose (H.faults files.old) (H.faults files.new) }
-    ensures usage { result ≡ Err stop.Usage → ⊥ }
-    ensures later { O.faults sink.old ≤ O.faults sink.new }
-    ensures sink_count { O.faults sink.new ≡ sink_failures result (O.faults sink.old) }
-    ensures refusals { IfErr result (MayRefuse (Some (Asked.repackage align from.now out.now))) }
-    ensures spares { (access : Access) → IsUnnamed (Some (Asked.repackage align from.now out.now)) access
-        → H.spares files.old files.new access }
+    ensures { DoneWithFiles H.Files O.Sink (Asked.repackage align from.now out.now) result
+        files.old files.new sink.old sink.new }
 {
     let made = package_of_capsule(alloc, files, align, from);
     put_made(alloc, files, sink, Format::Package, out, made)

@@ -1,12 +1,12 @@
 //! `info`: what a package has.
 ghost use Rattle.std.specs.Prelude.{◌≡◌, ◌≤◌, IfOk, List, Some, Err, ℕ, IfErr};
-ghost use Rattle.base_core.specs.Counts.{Rose};
 ghost use Rattle.host_io.specs.Contents.{Directory};
 ghost use Rattle.host_io.specs.Reads.{ReadsFile};
 ghost use Rattle.fip_tool.specs.Refusals.{IsOfPackage, IsOfSource};
 ghost use Rattle.fip_tool.specs.Said.{IsListing};
-ghost use Rattle.fip_tool.specs.Steps.{Gives, ReadsOnly, source_failures};
-ghost use Rattle.fip_tool.specs.Tool.{GivenTo, StopsInTime, given_value, info_value};
+ghost use Rattle.fip_tool.specs.Seen.{GivenToIn, GivesIn, ReadsOnlyIn};
+ghost use Rattle.fip_tool.specs.Steps.{source_failures};
+ghost use Rattle.fip_tool.specs.Tool.{StopsInTime, given_value, info_value};
 ghost use Rattle.fip_tool.specs.declared.stops.Stop.TheVariants as stop;
 
 use crate::lines::info_text;
@@ -18,11 +18,10 @@ use std::alloc::Global;
 /// What is printed of a package in a file.
 pub fn file_info<H: Files>(alloc: Global, files: &mut H, name: &str) -> Result<Vec<u8>, Stop>
     ensures told { (told : Directory) → H.contents files.old ≡ Some told
-        → Gives (λ text. text.items) (Rose (H.faults files.old) (H.faults files.new))
-        (info_value told name.now) result }
+        → GivesIn H.Files (λ text. text.items) (info_value told name.now)
+        files.old files.new result }
     ensures listed { IfOk result (λ text. IsListing text.items) }
-    ensures reads { ReadsOnly (H.contents files.old) (H.contents files.new) (H.faults files.old)
-        (H.faults files.new) result }
+    ensures reads { ReadsOnlyIn H.Files files.old files.new result }
     ensures files { ReadsFile H.Files name.now files.old files.new }
     ensures refusals { IfErr result IsOfPackage }
 {
@@ -32,9 +31,8 @@ pub fn file_info<H: Files>(alloc: Global, files: &mut H, name: &str) -> Result<V
 
 /// What is printed of the package that the source gives.
 pub fn source_info<I: Source>(alloc: Global, source: &mut I) -> Result<Vec<u8>, Stop>
-    ensures given { (given : List ℕ) × StopsInTime given × GivenTo (λ text. text.items) given_value
-        (I.left source.old) (I.left source.new)
-        (Rose (I.faults source.old) (I.faults source.new)) result given }
+    ensures given { (given : List ℕ) × StopsInTime given × GivenToIn I.Source (λ text. text.items)
+        given_value source.old source.new result given }
     ensures listed { IfOk result (λ text. IsListing text.items) }
     ensures usage { result ≡ Err stop.Usage → ⊥ }
     ensures sink { result ≡ Err stop.SinkFault → ⊥ }

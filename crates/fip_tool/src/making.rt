@@ -1,20 +1,18 @@
 //! The commands that make packages: `create`, `remove` and `update`.
 ghost use Rattle.std.specs.Prelude.{◌≡◌, ◌≢◌, ◌≤◌, ◌+◌, All, IfErr, IfOk, List, Option, Some, None, Err, ℕ, filter, length, map, not};
-ghost use Rattle.base_core.specs.Counts.{Rose};
 ghost use Rattle.fip_tables.specs.Files.{Lacks, Tells};
 ghost use Rattle.fwu_formats.specs.Package.{Toc};
-ghost use Rattle.fip_tool.specs.Names.{IsUnnamed};
 ghost use Rattle.host_io.specs.Contents.{Directory};
-ghost use Rattle.host_io.specs.Access.{Access, Asks};
+ghost use Rattle.host_io.specs.Access.{Asks};
 ghost use Rattle.host_io.specs.Reads.{ReadsFile, ReadsFiles};
 ghost use Rattle.fip_words.specs.Order.{Asked, part_view};
 ghost use Rattle.fip_tool.specs.Payloads.{HasEntry, IsThere, IsWhole, made_by, part_told};
-ghost use Rattle.fip_tool.specs.Said.{IsTable, IsTexts, Says};
-ghost use Rattle.fip_tool.specs.Refusals.{IsOfPacking, IsOfRepacking, MayRefuse};
-ghost use Rattle.fip_tool.specs.Steps.{AsksNothing, Did, FaultsOnce, Gives, ReadsOnly, outcome_by, sink_failures};
-ghost use Rattle.fip_tool.specs.Tool.{after, create_value, first_missing, is_named, kept_part, pack_value, packs, parts_in, remove_value, update_value, updated_part};
-ghost use Rattle.fip_tool.specs.Wrote.{Wrote};
-ghost use Rattle.fip_tool.specs.declared.stops.Stop.TheVariants as stop;
+ghost use Rattle.fip_tool.specs.Said.{IsTable};
+ghost use Rattle.fip_tool.specs.Refusals.{IsOfPacking, IsOfRepacking};
+ghost use Rattle.fip_tool.specs.Done.{DoneWithFiles};
+ghost use Rattle.fip_tool.specs.Seen.{GivesIn, ReadsOnlyIn};
+ghost use Rattle.fip_tool.specs.Steps.{AsksNothing, Gives};
+ghost use Rattle.fip_tool.specs.Tool.{after, create_value, first_missing, is_named, kept_part, pack_value, parts_in, remove_value, update_value, updated_part};
 
 use crate::made::{Format, Made};
 use crate::named::{is_named, table_with};
@@ -38,12 +36,11 @@ fn created<'a, H: Files>(
     named: &[FileWord<'a>],
 ) -> Result<Made<'a>, Stop>
     ensures told { (told : Directory) → H.contents files.old ≡ Some told
-        → Gives (made_by told) (Rose (H.faults files.old) (H.faults files.new))
-        (create_value told align (map part_view named.now)) result }
+        → GivesIn H.Files (made_by told) (create_value told align (map part_view named.now))
+        files.old files.new result }
     ensures whole { IfOk result (IsWhole (H.contents files.new)) }
     ensures count { IfOk result (λ m. m.count ≡ length named.now) }
-    ensures reads { ReadsOnly (H.contents files.old) (H.contents files.new) (H.faults files.old)
-        (H.faults files.new) result }
+    ensures reads { ReadsOnlyIn H.Files files.old files.new result }
     ensures files { ReadsFiles H.Files (λ access. All (λ w. access ≢ Asks w.file.now) named.now)
         files.old files.new }
     ensures refusals { IfErr result IsOfPacking }
@@ -132,13 +129,12 @@ fn removed<'a, H: Files>(
     guids: &[Guid],
 ) -> Result<Made<'a>, Stop>
     ensures told { (told : Directory) → H.contents files.old ≡ Some told
-        → Gives (made_by told) (Rose (H.faults files.old) (H.faults files.new))
-        (remove_value told align from.now guids.now) result }
+        → GivesIn H.Files (made_by told) (remove_value told align from.now guids.now)
+        files.old files.new result }
     ensures whole { IfOk result (IsWhole (H.contents files.new)) }
     ensures count { IfOk result (λ m. (t : Toc) × IsTable t × (first_missing t guids.now ≡ None)
         × (m.count ≡ length (filter (λ e. not (is_named guids.now e)) t.entries))) }
-    ensures reads { ReadsOnly (H.contents files.old) (H.contents files.new) (H.faults files.old)
-        (H.faults files.new) result }
+    ensures reads { ReadsOnlyIn H.Files files.old files.new result }
     ensures files { ReadsFile H.Files from.now files.old files.new }
     ensures refusals { IfErr result IsOfRepacking }
 {
@@ -160,14 +156,12 @@ fn replaced<'a, H: Files>(
     requires there { Lacks (H.contents files.old) from.now → ⊥ }
     ensures told { (told : Directory) (bytes : List ℕ) → H.contents files.old ≡ Some told
         → told from.now ≡ Some bytes
-        → Gives (made_by told) (Rose (H.faults files.old) (H.faults files.new))
-        (after (parts_in told (map part_view named.now))
+        → GivesIn H.Files (made_by told) (after (parts_in told (map part_view named.now))
         (λ new. pack_value toc.now.serial toc.now.flags
-        (map (updated_part bytes new) toc.now.entries) align)) result }
+        (map (updated_part bytes new) toc.now.entries) align)) files.old files.new result }
     ensures whole { IfOk result (IsWhole (H.contents files.new)) }
     ensures count { IfOk result (λ m. m.count ≡ length toc.now.entries) }
-    ensures reads { ReadsOnly (H.contents files.old) (H.contents files.new) (H.faults files.old)
-        (H.faults files.new) result }
+    ensures reads { ReadsOnlyIn H.Files files.old files.new result }
     ensures files { ReadsFiles H.Files (λ access. All (λ w. access ≢ Asks w.file.now) named.now)
         files.old files.new }
     ensures refusals { IfErr result IsOfPacking }
@@ -190,14 +184,13 @@ fn updated<'a, H: Files>(
     named: &[FileWord<'a>],
 ) -> Result<Made<'a>, Stop>
     ensures told { (told : Directory) → H.contents files.old ≡ Some told
-        → Gives (made_by told) (Rose (H.faults files.old) (H.faults files.new))
-        (update_value told align from.now (map part_view named.now)) result }
+        → GivesIn H.Files (made_by told)
+        (update_value told align from.now (map part_view named.now)) files.old files.new result }
     ensures whole { IfOk result (IsWhole (H.contents files.new)) }
     ensures count { IfOk result (λ m. (t : Toc) × IsTable t
         × (first_missing t (map (λ p. p.guid) (map part_view named.now)) ≡ None)
         × (m.count ≡ length t.entries)) }
-    ensures reads { ReadsOnly (H.contents files.old) (H.contents files.new) (H.faults files.old)
-        (H.faults files.new) result }
+    ensures reads { ReadsOnlyIn H.Files files.old files.new result }
     ensures files { ReadsFiles H.Files (λ access. (access ≢ Asks from.now)
         × All (λ w. access ≢ Asks w.file.now) named.now) files.old files.new }
     ensures refusals { IfErr result IsOfRepacking }
@@ -216,29 +209,9 @@ pub fn run_create<H: Files, O: Sink>(
     out: &str,
     named: &[FileWord<'_>],
 ) -> Result<(), Stop>
-    ensures told { (told : Directory) → H.contents files.old ≡ Some told
-        → Did (outcome_by (packs out.now) (create_value told align (map part_view named.now))) told
-        (H.contents files.new) (O.taken sink.old) (O.taken sink.new)
-        (Rose (H.faults files.old) (H.faults files.new))
-        (Rose (H.writes files.old).failed (H.writes files.new).failed)
-        (Rose (O.faults sink.old) (O.faults sink.new)) result }
-    ensures says { Says (IsTexts (Asked.create align out.now (map part_view named.now)))
-        (O.taken sink.old) (O.taken sink.new)
-        (Rose (O.faults sink.old) (O.faults sink.new)) result }
-    ensures file_count { FaultsOnce (H.faults files.old) (H.faults files.new) result }
-    ensures wrote { Wrote (IsTexts (Asked.create align out.now (map part_view named.now)))
-        (O.taken sink.old) (O.taken sink.new) (H.writes files.old).done (H.writes files.new).done
-        result }
-    ensures cause { result ≡ Err stop.FileFault → H.contents files.old ≡ None
-        → Rose (H.faults files.old) (H.faults files.new) }
-    ensures usage { result ≡ Err stop.Usage → ⊥ }
-    ensures later { O.faults sink.old ≤ O.faults sink.new }
-    ensures sink_count { O.faults sink.new ≡ sink_failures result (O.faults sink.old) }
-    ensures refusals { IfErr result
-        (MayRefuse (Some (Asked.create align out.now (map part_view named.now)))) }
-    ensures spares { (access : Access)
-        → IsUnnamed (Some (Asked.create align out.now (map part_view named.now))) access
-        → H.spares files.old files.new access }
+    ensures { DoneWithFiles H.Files O.Sink
+        (Asked.create align out.now (map part_view named.now)) result
+        files.old files.new sink.old sink.new }
 {
     let made = created(alloc, files, align, named);
     put_made(alloc, files, sink, Format::Package, out, made)
@@ -254,28 +227,8 @@ pub fn run_remove<H: Files, O: Sink>(
     out: &str,
     guids: &[Guid],
 ) -> Result<(), Stop>
-    ensures told { (told : Directory) → H.contents files.old ≡ Some told
-        → Did (outcome_by (packs out.now) (remove_value told align from.now guids.now)) told
-        (H.contents files.new) (O.taken sink.old) (O.taken sink.new)
-        (Rose (H.faults files.old) (H.faults files.new))
-        (Rose (H.writes files.old).failed (H.writes files.new).failed)
-        (Rose (O.faults sink.old) (O.faults sink.new)) result }
-    ensures says { Says (IsTexts (Asked.remove align from.now out.now guids.now)) (O.taken sink.old)
-        (O.taken sink.new)
-        (Rose (O.faults sink.old) (O.faults sink.new)) result }
-    ensures file_count { FaultsOnce (H.faults files.old) (H.faults files.new) result }
-    ensures wrote { Wrote (IsTexts (Asked.remove align from.now out.now guids.now))
-        (O.taken sink.old) (O.taken sink.new) (H.writes files.old).done (H.writes files.new).done
-        result }
-    ensures cause { result ≡ Err stop.FileFault → H.contents files.old ≡ None
-        → Rose (H.faults files.old) (H.faults files.new) }
-    ensures usage { result ≡ Err stop.Usage → ⊥ }
-    ensures later { O.faults sink.old ≤ O.faults sink.new }
-    ensures sink_count { O.faults sink.new ≡ sink_failures result (O.faults sink.old) }
-    ensures refusals { IfErr result
-        (MayRefuse (Some (Asked.remove align from.now out.now guids.now))) }
-    ensures spares { (access : Access) → IsUnnamed (Some (Asked.remove align from.now out.now guids.now)) access
-        → H.spares files.old files.new access }
+    ensures { DoneWithFiles H.Files O.Sink (Asked.remove align from.now out.now guids.now) result
+        files.old files.new sink.old sink.new }
 {
     let made = removed(alloc, files, align, from, guids);
     put_made(alloc, files, sink, Format::Package, out, made)
@@ -292,30 +245,9 @@ pub fn run_update<H: Files, O: Sink>(
     out: &str,
     named: &[FileWord<'_>],
 ) -> Result<(), Stop>
-    ensures told { (told : Directory) → H.contents files.old ≡ Some told
-        → Did (outcome_by (packs out.now)
-        (update_value told align from.now (map part_view named.now))) told (H.contents files.new)
-        (O.taken sink.old) (O.taken sink.new)
-        (Rose (H.faults files.old) (H.faults files.new))
-        (Rose (H.writes files.old).failed (H.writes files.new).failed)
-        (Rose (O.faults sink.old) (O.faults sink.new)) result }
-    ensures says { Says (IsTexts (Asked.update align from.now out.now (map part_view named.now)))
-        (O.taken sink.old) (O.taken sink.new)
-        (Rose (O.faults sink.old) (O.faults sink.new)) result }
-    ensures file_count { FaultsOnce (H.faults files.old) (H.faults files.new) result }
-    ensures wrote { Wrote (IsTexts (Asked.update align from.now out.now (map part_view named.now)))
-        (O.taken sink.old) (O.taken sink.new) (H.writes files.old).done (H.writes files.new).done
-        result }
-    ensures cause { result ≡ Err stop.FileFault → H.contents files.old ≡ None
-        → Rose (H.faults files.old) (H.faults files.new) }
-    ensures usage { result ≡ Err stop.Usage → ⊥ }
-    ensures later { O.faults sink.old ≤ O.faults sink.new }
-    ensures sink_count { O.faults sink.new ≡ sink_failures result (O.faults sink.old) }
-    ensures refusals { IfErr result
-        (MayRefuse (Some (Asked.update align from.now out.now (map part_view named.now)))) }
-    ensures spares { (access : Access)
-        → IsUnnamed (Some (Asked.update align from.now out.now (map part_view named.now))) access
-        → H.spares files.old files.new access }
+    ensures { DoneWithFiles H.Files O.Sink
+        (Asked.update align from.now out.now (map part_view named.now)) result
+        files.old files.new sink.old sink.new }
 {
     let made = updated(alloc, files, align, from, named);
     put_made(alloc, files, sink, Format::Package, out, made)

@@ -1,19 +1,17 @@
 //! Manifests of images in files.
-ghost use Rattle.std.specs.Prelude.{◌≡◌, All, ◌≢◌, ◌≤◌, ◌==◌, ◌||◌, ◌++◌, ◌∷◌, [], Some, Ok, Err, IfOk, IfSome, if◌then◌else◌, length, map, nat_lt, option_and_then, option_map, IfErr};
-ghost use Rattle.base_core.specs.Counts.{Rose};
+ghost use Rattle.std.specs.Prelude.{◌≡◌, All, ◌≢◌, ◌==◌, ◌||◌, ◌++◌, ◌∷◌, [], Some, Ok, Err, IfOk, IfSome, if◌then◌else◌, length, map, nat_lt, option_and_then, option_map, IfErr};
 ghost use Rattle.fwu_formats.specs.declared.kinds.ManifestFault.TheVariants as fault;
 ghost use Rattle.fip_words.specs.Order.{Asked, image_view};
 ghost use Rattle.fip_words.specs.Values.{each};
-ghost use Rattle.fip_tool.specs.Names.{IsUnnamed};
 ghost use Rattle.host_io.specs.Contents.{Directory};
-ghost use Rattle.host_io.specs.Access.{Access, Asks};
+ghost use Rattle.host_io.specs.Access.{Asks};
 ghost use Rattle.host_io.specs.Reads.{ReadsFile, ReadsFiles};
 ghost use Rattle.manifest_core.specs.Shown.{row};
-ghost use Rattle.fip_tool.specs.Refusals.{IsOfManifest, MayRefuse};
-ghost use Rattle.fip_tool.specs.Said.{IsTexts, Says};
-ghost use Rattle.fip_tool.specs.Steps.{Did, FaultsOnce, Gives, ReadsOnly, outcome_by, sink_failures, IsLate};
-ghost use Rattle.fip_tool.specs.Tool.{after, image_in, image_row, is_long, manifest_value, nothing, of_rows, sizes_value, there, unless_long, writes_manifest};
-ghost use Rattle.fip_tool.specs.Wrote.{Wrote};
+ghost use Rattle.fip_tool.specs.Refusals.{IsOfManifest};
+ghost use Rattle.fip_tool.specs.Done.{DoneWithFiles};
+ghost use Rattle.fip_tool.specs.Seen.{GivesIn, ReadsOnlyIn};
+ghost use Rattle.fip_tool.specs.Steps.{Gives, IsLate};
+ghost use Rattle.fip_tool.specs.Tool.{after, image_in, image_row, is_long, manifest_value, nothing, of_rows, sizes_value, there, unless_long};
 ghost use Rattle.fip_tool.specs.declared.stops.Stop.TheVariants as stop;
 
 use crate::lines::manifest_line;
@@ -51,10 +49,10 @@ fn row_of_file<H: Files>(
     named: &ImageWord,
 ) -> Result<Option<Row>, Stop>
     ensures told { (told : Directory) → H.contents files.old ≡ Some told
-        → Gives (option_map row) (Rose (H.faults files.old) (H.faults files.new))
-        (after (there (image_in told (image_view named.now))) (λ i. Ok (image_row i))) result }
-    ensures reads { ReadsOnly (H.contents files.old) (H.contents files.new) (H.faults files.old)
-        (H.faults files.new) result }
+        → GivesIn H.Files (option_map row)
+        (after (there (image_in told (image_view named.now))) (λ i. Ok (image_row i)))
+        files.old files.new result }
+    ensures reads { ReadsOnlyIn H.Files files.old files.new result }
     ensures files { ReadsFile H.Files named.now.file.now files.old files.new }
     ensures late { IfErr result IsLate }
 {
@@ -83,11 +81,10 @@ fn rows_of_files<H: Files>(
     named: &[ImageWord],
 ) -> Result<Option<Vec<Row>>, Stop>
     ensures told { (told : Directory) → H.contents files.old ≡ Some told
-        → Gives (option_map (λ v. map row v.items)) (Rose (H.faults files.old) (H.faults files.new))
+        → GivesIn H.Files (option_map (λ v. map row v.items))
         (after (there (each (image_in told) (map image_view named.now)))
-        (λ images. Ok (each image_row images))) result }
-    ensures reads { ReadsOnly (H.contents files.old) (H.contents files.new) (H.faults files.old)
-        (H.faults files.new) result }
+        (λ images. Ok (each image_row images))) files.old files.new result }
+    ensures reads { ReadsOnlyIn H.Files files.old files.new result }
     ensures files { ReadsFiles H.Files (λ access. All (λ w. access ≢ Asks w.file.now) named.now)
         files.old files.new }
     ensures count { IfOk result (λ rows. IfSome rows (λ v. length v.items ≡ length named.now)) }
@@ -151,10 +148,10 @@ fn check_count(count: usize, is_long: bool) -> Result<(), Stop>
 // Whether the image of a file is too long, by its size.
 fn is_long_file<H: Files>(files: &mut H, named: &ImageWord<'_>) -> Result<bool, Stop>
     ensures told { (told : Directory) → H.contents files.old ≡ Some told
-        → Gives (λ long. long) (Rose (H.faults files.old) (H.faults files.new))
-        (after (there (image_in told (image_view named.now))) (λ i. Ok (is_long i))) result }
-    ensures reads { ReadsOnly (H.contents files.old) (H.contents files.new) (H.faults files.old)
-        (H.faults files.new) result }
+        → GivesIn H.Files (λ long. long)
+        (after (there (image_in told (image_view named.now))) (λ i. Ok (is_long i)))
+        files.old files.new result }
+    ensures reads { ReadsOnlyIn H.Files files.old files.new result }
     ensures files { ReadsFile H.Files named.now.file.now files.old files.new }
     ensures late { IfErr result IsLate }
 {
@@ -164,10 +161,9 @@ fn is_long_file<H: Files>(files: &mut H, named: &ImageWord<'_>) -> Result<bool, 
 // Whether there is a manifest of named images. It asks for the sizes of all files, and reads none.
 fn check_sizes<H: Files>(files: &mut H, named: &[ImageWord<'_>]) -> Result<(), Stop>
     ensures told { (told : Directory) → H.contents files.old ≡ Some told
-        → Gives nothing (Rose (H.faults files.old) (H.faults files.new))
-        (sizes_value told (map image_view named.now)) result }
-    ensures reads { ReadsOnly (H.contents files.old) (H.contents files.new) (H.faults files.old)
-        (H.faults files.new) result }
+        → GivesIn H.Files nothing (sizes_value told (map image_view named.now))
+        files.old files.new result }
+    ensures reads { ReadsOnlyIn H.Files files.old files.new result }
     ensures files { ReadsFiles H.Files (λ access. All (λ w. access ≢ Asks w.file.now) named.now)
         files.old files.new }
     ensures refusals { IfErr result IsOfManifest }
@@ -189,11 +185,10 @@ pub fn manifest<H: Files>(
     named: &[ImageWord<'_>],
 ) -> Result<(u64, Vec<u8>), Stop>
     ensures told { (told : Directory) → H.contents files.old ≡ Some told
-        → Gives (λ m. (m.0, m.1.items)) (Rose (H.faults files.old) (H.faults files.new))
-        (manifest_value told security (map image_view named.now)) result }
+        → GivesIn H.Files (λ m. (m.0, m.1.items))
+        (manifest_value told security (map image_view named.now)) files.old files.new result }
     ensures count { IfOk result (λ m. m.0 ≡ length named.now) }
-    ensures reads { ReadsOnly (H.contents files.old) (H.contents files.new) (H.faults files.old)
-        (H.faults files.new) result }
+    ensures reads { ReadsOnlyIn H.Files files.old files.new result }
     ensures files { ReadsFiles H.Files (λ access. All (λ w. access ≢ Asks w.file.now) named.now)
         files.old files.new }
     ensures refusals { IfErr result IsOfManifest }
@@ -214,30 +209,9 @@ pub fn run_manifest<H: Files, O: Sink>(
     security: u32,
     named: &[ImageWord],
 ) -> Result<(), Stop>
-    ensures told { (told : Directory) → H.contents files.old ≡ Some told
-        → Did (outcome_by (writes_manifest out.now security)
-        (manifest_value told security (map image_view named.now))) told (H.contents files.new)
-        (O.taken sink.old) (O.taken sink.new)
-        (Rose (H.faults files.old) (H.faults files.new))
-        (Rose (H.writes files.old).failed (H.writes files.new).failed)
-        (Rose (O.faults sink.old) (O.faults sink.new)) result }
-    ensures says { Says (IsTexts (Asked.manifest out.now security (map image_view named.now)))
-        (O.taken sink.old) (O.taken sink.new)
-        (Rose (O.faults sink.old) (O.faults sink.new)) result }
-    ensures file_count { FaultsOnce (H.faults files.old) (H.faults files.new) result }
-    ensures wrote { Wrote (IsTexts (Asked.manifest out.now security (map image_view named.now)))
-        (O.taken sink.old) (O.taken sink.new) (H.writes files.old).done (H.writes files.new).done
-        result }
-    ensures cause { result ≡ Err stop.FileFault → H.contents files.old ≡ None
-        → Rose (H.faults files.old) (H.faults files.new) }
-    ensures usage { result ≡ Err stop.Usage → ⊥ }
-    ensures later { O.faults sink.old ≤ O.faults sink.new }
-    ensures sink_count { O.faults sink.new ≡ sink_failures result (O.faults sink.old) }
-    ensures refusals { IfErr result
-        (MayRefuse (Some (Asked.manifest out.now security (map image_view named.now)))) }
-    ensures spares { (access : Access)
-        → IsUnnamed (Some (Asked.manifest out.now security (map image_view named.now))) access
-        → H.spares files.old files.new access }
+    ensures { DoneWithFiles H.Files O.Sink
+        (Asked.manifest out.now security (map image_view named.now)) result
+        files.old files.new sink.old sink.new }
 {
     let (rows, bytes) = manifest(alloc, files, security, named)?;
     let line = manifest_line(alloc, rows, bytes.len() as u64, security)?;

@@ -1,12 +1,11 @@
 //! The entries of a package that the words name, each by its type.
 ghost use Rattle.std.specs.Prelude.{◌≡◌, ◌<◌, ◌+◌, ◌^◌, All, IfOk, None, Some, Ok, IfErr, length};
-ghost use Rattle.base_core.specs.Counts.{Rose};
 ghost use Rattle.host_io.specs.Contents.{Directory};
 ghost use Rattle.host_io.specs.Reads.{ReadsFile};
 ghost use Rattle.fip_tool.specs.Refusals.{IsOfEntries, IsOfPackage};
 ghost use Rattle.fip_tool.specs.Said.{IsTable};
-ghost use Rattle.fip_tool.specs.Steps.{Gives, ReadsOnly};
 ghost use Rattle.fip_tool.specs.Tool.{after, first_missing, is_named, sized_table, unless_missing};
+ghost use Rattle.fip_tool.specs.Seen.{GivesIn, ReadsOnlyIn};
 
 use crate::stops::Stop;
 use crate::table::read_package;
@@ -32,14 +31,12 @@ pub fn is_named(guids: &[Guid], entry: &Entry) -> bool
 /// The table of a package that has an entry of each of these types.
 pub fn table_with<H: Files>(files: &mut H, name: &str, guids: &[Guid]) -> Result<Toc, Stop>
     ensures told { (told : Directory) → H.contents files.old ≡ Some told
-        → Gives (λ t. t) (Rose (H.faults files.old) (H.faults files.new))
-        (after (sized_table told name.now)
-        (λ t. unless_missing (first_missing t.0 guids.now) (Ok t.0))) result }
+        → GivesIn H.Files (λ t. t) (after (sized_table told name.now)
+        (λ t. unless_missing (first_missing t.0 guids.now) (Ok t.0))) files.old files.new result }
     ensures all { IfOk result (λ t. first_missing t guids.now ≡ None) }
     ensures table { IfOk result IsTable }
     ensures ends { IfOk result (λ t. All (λ e. e.offset + e.size < 2 ^ 64) t.entries) }
-    ensures reads { ReadsOnly (H.contents files.old) (H.contents files.new) (H.faults files.old)
-        (H.faults files.new) result }
+    ensures reads { ReadsOnlyIn H.Files files.old files.new result }
     ensures files { ReadsFile H.Files name.now files.old files.new }
     ensures refusals { IfErr result IsOfEntries }
     ensures unnamed { length guids.now ≡ 0 → IfErr result IsOfPackage }

@@ -1,12 +1,12 @@
 //! The payloads of packages that are made: what each is, and where it is read.
 ghost use Rattle.std.specs.Prelude.{◌≡◌, ◌≢◌, ◌<◌, ◌≤◌, ◌+◌, ◌^◌, All, IfOk, List, Option, Some, None, ℕ, find, length, map, IfErr};
 ghost use Rattle.base_core.specs.Bytes.{same_bytes};
-ghost use Rattle.base_core.specs.Counts.{Rose};
 ghost use Rattle.host_io.specs.Contents.{Directory};
 ghost use Rattle.host_io.specs.Access.{Asks};
 ghost use Rattle.host_io.specs.Reads.{ReadsFile, ReadsFiles};
 ghost use Rattle.fip_words.specs.Order.{part_view};
-ghost use Rattle.fip_tool.specs.Steps.{Gives, ReadsOnly, IsLate};
+ghost use Rattle.fip_tool.specs.Seen.{GivesIn, ReadsOnlyIn};
+ghost use Rattle.fip_tool.specs.Steps.{IsLate};
 ghost use Rattle.fip_tool.specs.Payloads.{HasEntry, IsThere, outline_of, part_told, piece_of};
 ghost use Rattle.fip_tool.specs.Tool.{part_in, parts_in, there, updated_part};
 
@@ -57,11 +57,10 @@ impl<'a> Payload<'a> {
 // The payload that a named file is, whole.
 fn payload_of_file<'a, H: Files>(files: &mut H, named: &FileWord<'a>) -> Result<Payload<'a>, Stop>
     ensures told { (told : Directory) → H.contents files.old ≡ Some told
-        → Gives (part_told told) (Rose (H.faults files.old) (H.faults files.new))
-        (there (part_in told (part_view named.now))) result }
+        → GivesIn H.Files (part_told told) (there (part_in told (part_view named.now)))
+        files.old files.new result }
     ensures there { IfOk result (IsThere (H.contents files.old)) }
-    ensures reads { ReadsOnly (H.contents files.old) (H.contents files.new) (H.faults files.old)
-        (H.faults files.new) result }
+    ensures reads { ReadsOnlyIn H.Files files.old files.new result }
     ensures files { ReadsFile H.Files named.now.file.now files.old files.new }
     ensures late { IfErr result IsLate }
 {
@@ -82,12 +81,11 @@ pub fn payloads_of_files<'a, H: Files>(
     named: &[FileWord<'a>],
 ) -> Result<Vec<Payload<'a>>, Stop>
     ensures told { (told : Directory) → H.contents files.old ≡ Some told
-        → Gives (λ v. map (part_told told) v.items) (Rose (H.faults files.old) (H.faults files.new))
-        (parts_in told (map part_view named.now)) result }
+        → GivesIn H.Files (λ v. map (part_told told) v.items)
+        (parts_in told (map part_view named.now)) files.old files.new result }
     ensures there { IfOk result (λ v. All (IsThere (H.contents files.old)) v.items) }
     ensures count { IfOk result (λ v. length v.items ≡ length named.now) }
-    ensures reads { ReadsOnly (H.contents files.old) (H.contents files.new) (H.faults files.old)
-        (H.faults files.new) result }
+    ensures reads { ReadsOnlyIn H.Files files.old files.new result }
     ensures files { ReadsFiles H.Files (λ access. All (λ w. access ≢ Asks w.file.now) named.now)
         files.old files.new }
     ensures late { IfErr result IsLate }

@@ -1,7 +1,7 @@
 //! Texts for the sink.
 ghost use Rattle.std.specs.Prelude.{◌≡◌, ◌≤◌, Err, IfErr};
-ghost use Rattle.base_core.specs.Counts.{Rose};
-ghost use Rattle.fip_tool.specs.Steps.{IsLate, Printed, sink_failures};
+ghost use Rattle.fip_tool.specs.Seen.{PrintedIn};
+ghost use Rattle.fip_tool.specs.Steps.{IsLate, sink_failures};
 ghost use Rattle.fip_tool.specs.declared.stops.Stop.TheVariants as stop;
 
 use crate::stops::Stop;
@@ -9,8 +9,7 @@ use host_io::{Sink, WriteStop};
 
 /// Prints a text.
 pub fn print<O: Sink>(sink: &mut O, text: &[u8]) -> Result<(), Stop>
-    ensures printed { Printed (O.taken sink.old) (O.taken sink.new)
-        (Rose (O.faults sink.old) (O.faults sink.new)) text.now result }
+    ensures printed { PrintedIn O.Sink text.now sink.old sink.new result }
     ensures late { IfErr result IsLate }
     ensures usage { result ≡ Err stop.Usage → ⊥ }
     ensures later { O.faults sink.old ≤ O.faults sink.new }

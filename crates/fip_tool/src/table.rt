@@ -1,17 +1,17 @@
 //! The table of contents of a package, from a file or from the source, or of a capsule.
 ghost use Rattle.std.specs.Prelude.{◌≡◌, ◌≤◌, ◌<◌, ◌+◌, ◌^◌, All, IfOk, List, Some, Ok, Err, length, ℕ, ◌++◌, IfErr};
 ghost use Rattle.std.specs.Io.KnownBytes.{Consumes, IsAtEnd};
-ghost use Rattle.base_core.specs.Counts.{Rose};
 ghost use Rattle.host_io.specs.Contents.{Directory};
 ghost use Rattle.host_io.specs.Reads.{ReadsFile};
 ghost use Rattle.fwu_formats.specs.Package.{toc_of};
 ghost use Rattle.fip_tables.specs.Answers.{decided};
 ghost use Rattle.fip_tables.specs.Stream.{Fed};
 ghost use Rattle.fip_tool.specs.Refusals.{IsOfCapsule, IsOfPackage, IsOfSource};
-ghost use Rattle.fip_tool.specs.Steps.{Gives, ReadsOnly, source_failures, IsLate};
-ghost use Rattle.fip_tool.specs.Tool.{GivenTo, StopsInTime, after, capsule_in, given_table, size_in, sized_table, source_limit};
+ghost use Rattle.fip_tool.specs.Seen.{FedSomeIn, GivenToIn, GivesIn, ReadsOnlyIn};
+ghost use Rattle.fip_tool.specs.Steps.{source_failures, IsLate};
+ghost use Rattle.fip_tool.specs.Tool.{StopsInTime, after, capsule_in, given_table, size_in, sized_table, source_limit};
 ghost use Rattle.fip_tool.specs.Said.{IsTable};
-ghost use Rattle.fip_tool.specs.Source.{EndsAs, FedSome};
+ghost use Rattle.fip_tool.specs.Source.{EndsAs};
 ghost use Rattle.fip_tool.specs.declared.stops.Stop.TheVariants as stop;
 
 use crate::stops::Stop;
@@ -26,10 +26,8 @@ const SOURCE_LIMIT: u64 = 4_294_967_296;
 #[tactic(auto, unfolding(crate::specs::Tool::size_in))]
 pub fn size_of<H: Files>(files: &mut H, name: &str) -> Result<u64, Stop>
     ensures told { (told : Directory) → H.contents files.old ≡ Some told
-        → Gives (λ n. n) (Rose (H.faults files.old) (H.faults files.new))
-        (size_in told name.now) result }
-    ensures reads { ReadsOnly (H.contents files.old) (H.contents files.new) (H.faults files.old)
-        (H.faults files.new) result }
+        → GivesIn H.Files (λ n. n) (size_in told name.now) files.old files.new result }
+    ensures reads { ReadsOnlyIn H.Files files.old files.new result }
     ensures files { ReadsFile H.Files name.now files.old files.new }
     ensures late { IfErr result IsLate }
 {
@@ -42,12 +40,10 @@ pub fn size_of<H: Files>(files: &mut H, name: &str) -> Result<u64, Stop>
 /// The table of a package in a file, and how many bytes the file has. Each payload ends below 2 ^ 64, whatever file it is.
 pub fn read_package<H: Files>(files: &mut H, name: &str) -> Result<(Toc, u64), Stop>
     ensures told { (told : Directory) → H.contents files.old ≡ Some told
-        → Gives (λ t. t) (Rose (H.faults files.old) (H.faults files.new))
-        (sized_table told name.now) result }
+        → GivesIn H.Files (λ t. t) (sized_table told name.now) files.old files.new result }
     ensures ends { IfOk result (λ t. All (λ e. e.offset + e.size < 2 ^ 64) t.0.entries) }
     ensures table { IfOk result (λ t. IsTable t.0) }
-    ensures reads { ReadsOnly (H.contents files.old) (H.contents files.new) (H.faults files.old)
-        (H.faults files.new) result }
+    ensures reads { ReadsOnlyIn H.Files files.old files.new result }
     ensures files { ReadsFile H.Files name.now files.old files.new }
     ensures refusals { IfErr result IsOfPackage }
 {
@@ -59,10 +55,9 @@ pub fn read_package<H: Files>(files: &mut H, name: &str) -> Result<(Toc, u64), S
 /// The table of a capsule in a file.
 pub fn read_enclosed<H: Files>(files: &mut H, name: &str) -> Result<Toc, Stop>
     ensures told { (told : Directory) → H.contents files.old ≡ Some told
-        → Gives (λ t. t) (Rose (H.faults files.old) (H.faults files.new))
-        (after (capsule_in told name.now) (λ p. Ok p.1)) result }
-    ensures reads { ReadsOnly (H.contents files.old) (H.contents files.new) (H.faults files.old)
-        (H.faults files.new) result }
+        → GivesIn H.Files (λ t. t) (after (capsule_in told name.now) (λ p. Ok p.1))
+        files.old files.new result }
+    ensures reads { ReadsOnlyIn H.Files files.old files.new result }
     ensures files { ReadsFile H.Files name.now files.old files.new }
     ensures refusals { IfErr result IsOfCapsule }
 {
@@ -74,8 +69,7 @@ fn feed_some<I: Source>(source: &mut I, stream: &mut StreamToc) -> Result<usize,
     requires room { stream.old.count ≤ source_limit }
     ensures few { IfOk result (λ n. n ≤ 4096) }
     ensures fed { (given : List ℕ) → Fed stream.old given
-        → (piece : List ℕ) × FedSome stream.new given piece (I.left source.old) (I.left source.new)
-        (Rose (I.faults source.old) (I.faults source.new)) result }
+        → (piece : List ℕ) × FedSomeIn I.Source stream.new given piece source.old source.new result }
     ensures usage { result ≡ Err stop.Usage → ⊥ }
     ensures sink { result ≡ Err stop.SinkFault → ⊥ }
     ensures later { I.faults source.old ≤ I.faults source.new }
@@ -110,9 +104,8 @@ fn ended(stream: StreamToc, count: u64) -> Result<(Toc, u64), Stop>
 /// The table of a package that the source gives, and how many bytes it gave. It is read to its end, to a fault that no further
 /// bytes mend, or past the most bytes.
 pub fn read_given<I: Source>(source: &mut I) -> Result<(Toc, u64), Stop>
-    ensures given { (given : List ℕ) × StopsInTime given × GivenTo (λ t. t) given_table
-        (I.left source.old) (I.left source.new)
-        (Rose (I.faults source.old) (I.faults source.new)) result given }
+    ensures given { (given : List ℕ) × StopsInTime given × GivenToIn I.Source (λ t. t) given_table
+        source.old source.new result given }
     ensures usage { result ≡ Err stop.Usage → ⊥ }
     ensures sink { result ≡ Err stop.SinkFault → ⊥ }
     ensures later { I.faults source.old ≤ I.faults source.new }

@@ -10,12 +10,11 @@ ghost use Rattle.fip_words.specs.Order.{Asked, asked, info_of_source, view};
 ghost use Rattle.fip_words.specs.Values.{is_unpacked};
 ghost use Rattle.fip_tool.specs.Refusals.{EndsFor, MayRefuse};
 ghost use Rattle.fip_tool.specs.Converted.{Converts};
-ghost use Rattle.fip_tool.specs.Done.{Done};
-ghost use Rattle.fip_tool.specs.Ends.{Ended, Reported, Told};
-ghost use Rattle.fip_tool.specs.Said.{IsTexts, SaidWith, Says, SinkAlone};
-ghost use Rattle.fip_tool.specs.Steps.{Did, FailsAtMostOnce, FailsOnce, FaultsOnce, line_failures, sink_failed, sink_failures, source_failures};
-ghost use Rattle.fip_tool.specs.Tool.{EndedSource, ReadSource, asks_files, command_outcome, outcome_of};
-ghost use Rattle.fip_tool.specs.Wrote.{WroteWith};
+ghost use Rattle.fip_tool.specs.Done.{Done, DoneWithFiles};
+ghost use Rattle.fip_tool.specs.Said.{IsTexts};
+ghost use Rattle.fip_tool.specs.Seen.{EndedIn, EndedSourceIn, ReadSourceIn, ReportedIn, SaidWithIn, SaysIn, SinkAloneIn, ToldIn, WroteWithIn};
+ghost use Rattle.fip_tool.specs.Steps.{FailsAtMostOnce, FailsOnce, line_failures, sink_failed, sink_failures, source_failures};
+ghost use Rattle.fip_tool.specs.Tool.{asks_files, outcome_of};
 ghost use Rattle.fip_tool.specs.declared.stops.Stop.TheVariants as stop;
 ghost use Rattle.fip_tool.specs.declared.stops.Stop.TheVariants.{SinkFault};
 
@@ -37,22 +36,9 @@ fn info<H: Files, O: Sink>(
     sink: &mut O,
     name: &str,
 ) -> Result<(), Stop>
-    ensures told { (told : Directory) → H.contents files.old ≡ Some told
-        → Did (command_outcome (Asked.info name.now) told) told (H.contents files.new)
-        (O.taken sink.old) (O.taken sink.new)
-        (Rose (H.faults files.old) (H.faults files.new))
-        (Rose (H.writes files.old).failed (H.writes files.new).failed)
-        (Rose (O.faults sink.old) (O.faults sink.new)) result }
-    ensures says { Says (IsTexts (Asked.info name.now)) (O.taken sink.old) (O.taken sink.new)
-        (Rose (O.faults sink.old) (O.faults sink.new)) result }
-    ensures file_count { FaultsOnce (H.faults files.old) (H.faults files.new) result }
+    ensures done { DoneWithFiles H.Files O.Sink (Asked.info name.now) result
+        files.old files.new sink.old sink.new }
     ensures files { ReadsFile H.Files name.now files.old files.new }
-    ensures cause { result ≡ Err stop.FileFault → H.contents files.old ≡ None
-        → Rose (H.faults files.old) (H.faults files.new) }
-    ensures usage { result ≡ Err stop.Usage → ⊥ }
-    ensures later { O.faults sink.old ≤ O.faults sink.new }
-    ensures sink_count { O.faults sink.new ≡ sink_failures result (O.faults sink.old) }
-    ensures refusals { IfErr result (MayRefuse (Some (Asked.info name.now))) }
 {
     let text = file_info(alloc, files, name)?;
     print(sink, text.as_slice())
@@ -63,13 +49,9 @@ fn info_of_source<I: Source, O: Sink>(
     source: &mut I,
     sink: &mut O,
 ) -> Result<(), Stop>
-    ensures listed { (told : Option Directory)
-        → ReadSource result told told (I.left source.old) (I.left source.new) (O.taken sink.old)
-        (O.taken sink.new)
-        (Rose (I.faults source.old) (I.faults source.new))
-        (Rose (O.faults sink.old) (O.faults sink.new)) }
-    ensures says { Says (IsTexts info_of_source) (O.taken sink.old) (O.taken sink.new)
-        (Rose (O.faults sink.old) (O.faults sink.new)) result }
+    ensures listed { (told : Option Directory) → ReadSourceIn I.Source O.Sink told told
+        source.old source.new sink.old sink.new result }
+    ensures says { SaysIn O.Sink (IsTexts info_of_source) sink.old sink.new result }
     ensures cause { result ≡ Err stop.FileFault → Rose (I.faults source.old) (I.faults source.new) }
     ensures usage { result ≡ Err stop.Usage → ⊥ }
     ensures later { O.faults sink.old ≤ O.faults sink.new }
@@ -83,8 +65,7 @@ fn info_of_source<I: Source, O: Sink>(
 
 // Tells why a command ended, and says why the tool ends then.
 fn tell<O: Sink>(alloc: Global, sink: &mut O, stop: Stop) -> Stop
-    ensures told { Told (O.taken sink.old) (O.taken sink.new)
-        (Rose (O.faults sink.old) (O.faults sink.new)) stop result }
+    ensures told { ToldIn O.Sink stop sink.old sink.new result }
     ensures later { O.faults sink.old ≤ O.faults sink.new }
     ensures sink_count { (stop ≡ SinkFault → ⊥) → O.faults sink.new ≡ sink_failed result
         (O.faults sink.old) }
@@ -100,8 +81,7 @@ fn tell<O: Sink>(alloc: Global, sink: &mut O, stop: Stop) -> Stop
 
 // Where the sink takes no more, and for want of memory, nothing is told.
 fn report<O: Sink>(alloc: Global, sink: &mut O, stop: Stop) -> Stop
-    ensures reported { Reported (O.taken sink.old) (O.taken sink.new)
-        (Rose (O.faults sink.old) (O.faults sink.new)) stop result }
+    ensures reported { ReportedIn O.Sink stop sink.old sink.new result }
     ensures later { O.faults sink.old ≤ O.faults sink.new }
     ensures sink_count { O.faults sink.new ≡ line_failures stop result (O.faults sink.old) }
 {
@@ -121,8 +101,8 @@ fn command<H: Files, I: Source, O: Sink>(
 ) -> Result<(), Stop>
     requires other { (from prefix : List ℕ) → (names : List (List ℕ))
         → view order.now ≡ Asked.unpack from prefix names → is_unpacked prefix from ≡ false }
-    ensures { Done H.contents H.faults H.writes H.spares I.left I.faults O.taken O.faults (Some (view order.now))
-        result files.old files.new source.old source.new sink.old sink.new }
+    ensures { Done H.Files I.Source O.Sink (Some (view order.now)) result
+        files.old files.new source.old source.new sink.old sink.new }
 {
     match order {
         FipOrder::Info { file } => info(alloc, files, sink, file),
@@ -167,9 +147,8 @@ fn run<H: Files, I: Source, O: Sink>(
     source: &mut I,
     sink: &mut O,
 ) -> Result<(), Stop>
-    ensures { Done H.contents H.faults H.writes H.spares I.left I.faults O.taken O.faults
-        (asked (map string_bytes words.now)) result files.old files.new source.old source.new
-        sink.old sink.new }
+    ensures { Done H.Files I.Source O.Sink (asked (map string_bytes words.now)) result
+        files.old files.new source.old source.new sink.old sink.new }
 {
     match fip_order(alloc, words) {
         Ok(order) => command(alloc, &order, files, source, sink),
@@ -192,20 +171,13 @@ pub fn fip_top<H: Files, I: Source, O: Sink>(
     // What was done is the first ones of the command's steps. Only where a writing failed is a file other than they leave it.
     ensures told { (told : Directory) → H.contents files.old ≡ Some told
         → asked (map string_bytes words.now) ≢ Some info_of_source
-        → Ended (outcome_of (asked (map string_bytes words.now)) told) told (H.contents files.new)
-        (O.taken sink.old) (O.taken sink.new)
-        (Rose (H.faults files.old) (H.faults files.new))
-        (Rose (H.writes files.old).failed (H.writes files.new).failed)
-        (Rose (O.faults sink.old) (O.faults sink.new)) result }
+        → EndedIn H.Files O.Sink (outcome_of (asked (map string_bytes words.now)) told) told
+        files.old files.new sink.old sink.new result }
     ensures source { asked (map string_bytes words.now) ≡ Some info_of_source
-        → EndedSource result (H.contents files.old) (H.contents files.new)
-        (I.left source.old) (I.left source.new) (O.taken sink.old) (O.taken sink.new)
-        (Rose (I.faults source.old) (I.faults source.new))
-        (Rose (O.faults sink.old) (O.faults sink.new)) }
+        → EndedSourceIn I.Source O.Sink (H.contents files.old) (H.contents files.new)
+        source.old source.new sink.old sink.new result }
     // What the sink took, whatever files there are: the lines of the command, and where it stopped the line of the stop last.
-    ensures said { SaidWith (asked (map string_bytes words.now)) (O.taken sink.old)
-        (O.taken sink.new)
-        (Rose (O.faults sink.old) (O.faults sink.new)) result }
+    ensures said { SaidWithIn O.Sink (asked (map string_bytes words.now)) sink.old sink.new result }
     // Both conversions keep the types and the payloads, in their order.
     ensures converts { (told : Directory) → H.contents files.old ≡ Some told → result ≡ 0
         → Converts (asked (map string_bytes words.now)) told (H.contents files.new) }
@@ -219,16 +191,14 @@ pub fn fip_top<H: Files, I: Source, O: Sink>(
     // A command ends at the first call of the files that fails, whatever files there are.
     ensures file_count { FailsAtMostOnce result (H.faults files.old) (H.faults files.new) }
     // Where the sink failed no call of the files failed, and none of a source that is listed, unless the line that told so is cut.
-    ensures sink_alone { result ≡ 3 → SinkAlone (asked (map string_bytes words.now))
-        (O.taken sink.old) (O.taken sink.new) (H.faults files.old) (H.faults files.new) }
+    ensures sink_alone { result ≡ 3 → SinkAloneIn O.Sink (asked (map string_bytes words.now))
+        sink.old sink.new (H.faults files.old) (H.faults files.new) }
     ensures source_alone { asked (map string_bytes words.now) ≡ Some info_of_source → result ≡ 3
-        → SinkAlone (asked (map string_bytes words.now)) (O.taken sink.old) (O.taken sink.new)
+        → SinkAloneIn O.Sink (asked (map string_bytes words.now)) sink.old sink.new
         (I.faults source.old) (I.faults source.new) }
     // What is written, whatever files there are: each file once, with its line behind it, and nothing by a listing or a refusal.
-    ensures wrote { WroteWith (asked (map string_bytes words.now)) (O.taken sink.old)
-        (O.taken sink.new)
-        (Rose (O.faults sink.old) (O.faults sink.new))
-        (H.writes files.old).done (H.writes files.new).done result }
+    ensures wrote { WroteWithIn H.Files O.Sink (asked (map string_bytes words.now))
+        files.old files.new sink.old sink.new result }
     // Usage is answered exactly by the words, whatever files there are.
     ensures usage { result ≡ 1 → asked (map string_bytes words.now) ≡ None }
     ensures words { asked (map string_bytes words.now) ≡ None → (result ≡ 1) ⊎ (result ≡ 3)

@@ -1,28 +1,29 @@
 //! A file that is written, and the line that is printed then.
-ghost use Rattle.std.specs.Prelude.{◌≡◌, ◌≢◌, ◌⊎◌, ◌≤◌, ◌∷◌, [], List, Some, None, Ok, Result, Err, IfErr, IfOk, OnOk, ℕ, length};
+ghost use Rattle.std.specs.Prelude.{◌≡◌, ◌≢◌, ◌⊎◌, ◌≤◌, ◌∷◌, [], All, List, Some, None, Ok, Result, Err, IfErr, IfOk, OnOk, ℕ};
 ghost use Rattle.base_core.specs.Counts.{Rose};
 ghost use Rattle.host_io.specs.Access.{Access, Makes};
 ghost use Rattle.host_io.specs.Contents.{Directory};
-ghost use Rattle.fip_tool.specs.Said.{IsMadeLine, Says};
-ghost use Rattle.fip_tool.specs.Steps.{Did, FaultsOnce, Gives, IsLate, Makes, Prints, Writes, Written, outcome_by, sink_failures};
-ghost use Rattle.fip_tool.specs.Payloads.{IsWhole, made_by, made_bytes};
+ghost use Rattle.host_io.specs.Joined.{HasPiece};
+ghost use Rattle.fip_tool.specs.Done.{WritesTexts};
+ghost use Rattle.fip_tool.specs.Said.{IsMadeLine};
+ghost use Rattle.fip_tool.specs.Seen.{DidIn, DidSince, SaysIn, WrittenIn, WroteIn};
+ghost use Rattle.fip_tool.specs.Steps.{FaultsOnce, Gives, IsLate, Makes, Prints, Writes, outcome_by, sink_failures};
+ghost use Rattle.fip_tool.specs.Payloads.{IsWhole, joined_pieces, made_by};
 ghost use Rattle.fip_tool.specs.Tool.{puts};
-ghost use Rattle.fip_tool.specs.Wrote.{Wrote, written_once};
+ghost use Rattle.fip_tool.specs.Wrote.{written_once};
 ghost use Rattle.fip_tool.specs.declared.stops.Stop.{Stop};
 ghost use Rattle.fip_tool.specs.declared.stops.Stop.TheVariants as stop;
 
 use crate::made::{Format, Made, made_line};
 use crate::printing::print;
 use crate::stops::Stop;
-use host_io::{Files, Sink, WriteStop};
+use host_io::{Files, Piece, Sink, WriteStop};
 use std::alloc::Global;
 
 /// Writes a file whole.
 pub fn write<H: Files>(files: &mut H, name: &str, bytes: &[u8]) -> Result<(), Stop>
     ensures told { (told : Directory) → H.contents files.old ≡ Some told
-        → Written told (H.contents files.new)
-        (Rose (H.faults files.old) (H.faults files.new))
-        (Rose (H.writes files.old).failed (H.writes files.new).failed) name.now bytes.now result }
+        → WrittenIn H.Files told name.now bytes.now files.old files.new result }
     ensures spares { (access : Access) → access ≢ Makes name.now → H.spares files.old files.new access }
     ensures file_count { FaultsOnce (H.faults files.old) (H.faults files.new) result }
     ensures wrote { (H.writes files.new).done ≡ written_once result (H.writes files.old).done }
@@ -50,26 +51,13 @@ pub fn write_and_print<H: Files, O: Sink>(
     line: &[u8],
 ) -> Result<(), Stop>
     ensures told { (told : Directory) → H.contents files.old ≡ Some told
-        → Did (Makes (Writes name.now bytes.now ∷ Prints line.now ∷ [])) told (H.contents files.new)
-        (O.taken sink.old) (O.taken sink.new)
-        (Rose (H.faults files.old) (H.faults files.new))
-        (Rose (H.writes files.old).failed (H.writes files.new).failed)
-        (Rose (O.faults sink.old) (O.faults sink.new)) result }
+        → DidIn H.Files O.Sink (Makes (Writes name.now bytes.now ∷ Prints line.now ∷ [])) told
+        files.old files.new sink.old sink.new result }
     ensures spares { (access : Access) → access ≢ Makes name.now → H.spares files.old files.new access }
-    ensures file_count { FaultsOnce (H.faults files.old) (H.faults files.new) result }
-    ensures wrote { Wrote (λ texts. texts ≡ line.now ∷ [])
-        (O.taken sink.old) (O.taken sink.new) (H.writes files.old).done (H.writes files.new).done
-        result }
+    ensures texts { WritesTexts H.Files O.Sink (λ texts. texts ≡ line.now ∷ []) result
+        files.old files.new sink.old sink.new }
     ensures unspoiled { OnOk result ((H.writes files.new).failed ≡ (H.writes files.old).failed) }
-    ensures cause { result ≡ Err stop.FileFault → Rose (H.faults files.old) (H.faults files.new) }
     ensures silent { H.contents files.old ≡ None → H.contents files.new ≡ None }
-    ensures says { Says (λ texts. texts ≡ line.now ∷ []) (O.taken sink.old) (O.taken sink.new)
-        (Rose (O.faults sink.old) (O.faults sink.new)) result }
-    ensures late { IfErr result IsLate }
-    ensures usage { result ≡ Err stop.Usage → ⊥ }
-    ensures later { H.faults files.old ≤ H.faults files.new }
-    ensures later_sink { O.faults sink.old ≤ O.faults sink.new }
-    ensures sink_count { O.faults sink.new ≡ sink_failures result (O.faults sink.old) }
 {
     match write(files, name, bytes) {
         Ok(()) => print(sink, line),
@@ -77,64 +65,55 @@ pub fn write_and_print<H: Files, O: Sink>(
     }
 }
 
-// Makes a file of its frame and its pieces.
-fn write_made<H: Files>(
+// Makes a file of a frame and pieces of files.
+fn join<H: Files>(
     alloc: Global,
     files: &mut H,
     name: &str,
-    made: &Made<'_>,
+    frame: &[u8],
+    pieces: &[Piece<'_>],
 ) -> Result<(), Stop>
-    requires { IsWhole (H.contents files.old) made.now }
+    requires { All (HasPiece (H.contents files.old)) pieces.now }
     ensures told { (told : Directory) → H.contents files.old ≡ Some told
-        → Written told (H.contents files.new)
-        (Rose (H.faults files.old) (H.faults files.new))
-        (Rose (H.writes files.old).failed (H.writes files.new).failed) name.now
-        (made_bytes told made.now) result }
+        → WrittenIn H.Files told name.now (joined_pieces told frame.now pieces.now)
+        files.old files.new result }
     ensures spares { (access : Access) → access ≢ Makes name.now → H.spares files.old files.new access }
     ensures file_count { FaultsOnce (H.faults files.old) (H.faults files.new) result }
     ensures wrote { (H.writes files.new).done ≡ written_once result (H.writes files.old).done }
+    ensures unspoiled { OnOk result ((H.writes files.new).failed ≡ (H.writes files.old).failed) }
     ensures cause { result ≡ Err stop.FileFault → Rose (H.faults files.old) (H.faults files.new) }
+    ensures silent { H.contents files.old ≡ None → H.contents files.new ≡ None }
     ensures late { IfErr result IsLate }
     ensures usage { result ≡ Err stop.Usage → ⊥ }
     ensures sink { result ≡ Err stop.SinkFault → ⊥ }
     ensures later { H.faults files.old ≤ H.faults files.new }
 {
-    let frame = made.frame.bytes.as_slice();
-    files.write_joined(alloc, name, frame, made.pieces.as_slice())?;
+    files.write_joined(alloc, name, frame, pieces)?;
     Ok(())
 }
 
-// Makes a file of its frame and its pieces, and prints a line then.
-fn make_and_print<H: Files, O: Sink>(
+/// Makes a file of a frame and pieces of files, and prints a line then.
+pub fn join_and_print<H: Files, O: Sink>(
     alloc: Global,
     files: &mut H,
     sink: &mut O,
     name: &str,
-    made: &Made<'_>,
+    frame: &[u8],
+    pieces: &[Piece<'_>],
     line: &[u8],
 ) -> Result<(), Stop>
-    requires { IsWhole (H.contents files.old) made.now }
+    requires { All (HasPiece (H.contents files.old)) pieces.now }
     ensures told { (told : Directory) → H.contents files.old ≡ Some told
-        → Did (Makes (Writes name.now (made_bytes told made.now) ∷ Prints line.now ∷ [])) told
-        (H.contents files.new) (O.taken sink.old) (O.taken sink.new)
-        (Rose (H.faults files.old) (H.faults files.new))
-        (Rose (H.writes files.old).failed (H.writes files.new).failed)
-        (Rose (O.faults sink.old) (O.faults sink.new)) result }
+        → DidIn H.Files O.Sink
+        (Makes (Writes name.now (joined_pieces told frame.now pieces.now) ∷ Prints line.now ∷ []))
+        told files.old files.new sink.old sink.new result }
     ensures spares { (access : Access) → access ≢ Makes name.now → H.spares files.old files.new access }
-    ensures file_count { FaultsOnce (H.faults files.old) (H.faults files.new) result }
-    ensures wrote { Wrote (λ texts. texts ≡ line.now ∷ [])
-        (O.taken sink.old) (O.taken sink.new) (H.writes files.old).done (H.writes files.new).done
-        result }
-    ensures cause { result ≡ Err stop.FileFault → Rose (H.faults files.old) (H.faults files.new) }
-    ensures says { Says (λ texts. texts ≡ line.now ∷ []) (O.taken sink.old) (O.taken sink.new)
-        (Rose (O.faults sink.old) (O.faults sink.new)) result }
-    ensures late { IfErr result IsLate }
-    ensures usage { result ≡ Err stop.Usage → ⊥ }
-    ensures later { H.faults files.old ≤ H.faults files.new }
-    ensures later_sink { O.faults sink.old ≤ O.faults sink.new }
-    ensures sink_count { O.faults sink.new ≡ sink_failures result (O.faults sink.old) }
+    ensures texts { WritesTexts H.Files O.Sink (λ texts. texts ≡ line.now ∷ []) result
+        files.old files.new sink.old sink.new }
+    ensures unspoiled { OnOk result ((H.writes files.new).failed ≡ (H.writes files.old).failed) }
+    ensures silent { H.contents files.old ≡ None → H.contents files.new ≡ None }
 {
-    write_made(alloc, files, name, made)?;
+    join(alloc, files, name, frame, pieces)?;
     print(sink, line)
 }
 
@@ -148,23 +127,18 @@ pub fn put_made<H: Files, O: Sink>(
     made: Result<Made<'_>, Stop>,
 ) -> Result<(), Stop>
     requires { IfOk made (IsWhole (H.contents files.old)) }
-    ensures told { (told : Directory) (value : Result (ℕ × List ℕ) Stop) (before kept : ℕ)
-        → H.contents files.old ≡ Some told
-        → before ≤ H.faults files.old → kept ≡ (H.writes files.old).failed
+    ensures told { (told : Directory) (value : Result (ℕ × List ℕ) Stop) (before : ℕ)
+        → H.contents files.old ≡ Some told → before ≤ H.faults files.old
         → Gives (made_by told) (Rose before (H.faults files.old)) value made.entry
-        → Did (outcome_by (puts format out.now) value) told (H.contents files.new)
-        (O.taken sink.old) (O.taken sink.new)
-        (Rose before (H.faults files.new)) (Rose kept (H.writes files.new).failed)
-        (Rose (O.faults sink.old) (O.faults sink.new)) result }
-    ensures says { (made.entry ≡ Err stop.SinkFault → ⊥) → Says (IsMadeLine format made.entry)
-        (O.taken sink.old) (O.taken sink.new)
-        (Rose (O.faults sink.old) (O.faults sink.new)) result }
+        → DidSince H.Files O.Sink before (outcome_by (puts format out.now) value) told
+        files.old files.new sink.old sink.new result }
+    ensures says { (made.entry ≡ Err stop.SinkFault → ⊥)
+        → SaysIn O.Sink (IsMadeLine format made.entry) sink.old sink.new result }
     ensures spares { (access : Access) → access ≢ Makes out.now → H.spares files.old files.new access }
     ensures file_count { (before : ℕ) → FaultsOnce before (H.faults files.old) made.entry
         → FaultsOnce before (H.faults files.new) result }
-    ensures wrote { Wrote (IsMadeLine format made.entry)
-        (O.taken sink.old) (O.taken sink.new) (H.writes files.old).done (H.writes files.new).done
-        result }
+    ensures wrote { WroteIn H.Files O.Sink (IsMadeLine format made.entry)
+        files.old files.new sink.old sink.new result }
     ensures cause { result ≡ Err stop.FileFault → (made.entry ≡ Err stop.FileFault)
         ⊎ Rose (H.faults files.old) (H.faults files.new) }
     ensures usage { result ≡ Err stop.Usage → made.entry ≡ Err stop.Usage }
@@ -179,5 +153,7 @@ pub fn put_made<H: Files, O: Sink>(
         Err(stop) => return Err(stop),
     };
     let line = made_line(alloc, format, made.count, made.frame.size)?;
-    make_and_print(alloc, files, sink, out, &made, line.as_slice())
+    let frame = made.frame.bytes.as_slice();
+    let pieces = made.pieces.as_slice();
+    join_and_print(alloc, files, sink, out, frame, pieces, line.as_slice())
 }

@@ -2,7 +2,7 @@
 //! bytes changed, or its front, and the fault is the first one by the order of the tests.
 //! checks/model/check_vectors.py finds the same ones.
 
-use crate::fixtures::{HELLO_CAPSULE, add, front, holds, holds_at, one_file};
+use crate::fixtures::{HELLO_CAPSULE, add, add_part, front, holds, holds_at, one_file, tb_fw};
 use base_core::Guid;
 use capsule_tables::{CapsuleFault, CapsuleStop, make_capsule, read_capsule};
 use fip_tables::{PackFault, PackStop, Part, Parts};
@@ -251,24 +251,6 @@ fn faults_of_several_items(rt: HostRuntime) {
     }
 }
 
-fn guid() -> Guid {
-    Guid::of([
-        0x5f, 0xf9, 0xec, 0x0b, 0x4d, 0x22, 0x3e, 0x4d, 0xa5, 0x44, 0xc3, 0x9d, 0x81, 0xc7, 0x3f,
-        0x0a,
-    ])
-}
-
-// Adds a part of this type.
-fn add_part(rt: &impl Abort, alloc: Global, parts: &mut Vec<Part>, guid: Guid, text: &str) {
-    let bytes = Vec::from_slice(alloc, text.as_bytes()).expect(rt, "memory");
-    let part = Part {
-        guid,
-        flags: 7,
-        bytes,
-    };
-    parts.push(part).expect(rt, "memory");
-}
-
 // The capsule of `hello` under this type, and then of `xyz` under these types.
 fn capsule(
     rt: &impl Abort,
@@ -277,9 +259,9 @@ fn capsule(
     others: &[Guid],
 ) -> Result<Vec<u8>, PackStop> {
     let mut parts = Vec::new(alloc);
-    add_part(rt, alloc, &mut parts, first, "hello");
+    add_part(rt, alloc, &mut parts, first, 7, "hello");
     for other in others {
-        add_part(rt, alloc, &mut parts, *other, "xyz");
+        add_part(rt, alloc, &mut parts, *other, 7, "xyz");
     }
     let parts = Parts {
         serial: 9,
@@ -293,7 +275,7 @@ fn capsule(
 fn size_with(rt: &impl Abort, alloc: Global, count: usize) -> Result<usize, PackStop> {
     let bytes = vec![in alloc; 0; count].expect(rt, "memory");
     let part = Part {
-        guid: guid(),
+        guid: tb_fw(),
         flags: 0,
         bytes,
     };
@@ -313,7 +295,7 @@ fn size_with(rt: &impl Abort, alloc: Global, count: usize) -> Result<usize, Pack
 #[test]
 fn capsules_of_parts(rt: HostRuntime) {
     let alloc = rt.alloc();
-    let made = capsule(&rt, alloc, guid(), &[]).expect(&rt, "a capsule");
+    let made = capsule(&rt, alloc, tb_fw(), &[]).expect(&rt, "a capsule");
     let hello = front(&rt, alloc, HELLO_CAPSULE, 89);
     holds(&rt, made == hello, "the capsule of hello");
     let size = size_with(&rt, alloc, 67_108_780);
@@ -334,13 +316,13 @@ fn is_refused(
 #[test]
 fn parts_of_no_capsule(rt: HostRuntime) {
     let alloc = rt.alloc();
-    let is_so = is_refused(&rt, alloc, guid(), &[guid()], PackFault::Duplicate(1));
+    let is_so = is_refused(&rt, alloc, tb_fw(), &[tb_fw()], PackFault::Duplicate(1));
     holds(&rt, is_so, "twice");
     let is_so = is_refused(&rt, alloc, Guid::nil(), &[], PackFault::NilGuid(0));
     holds(&rt, is_so, "nil");
-    let is_so = is_refused(&rt, alloc, guid(), &[guid(); 63], PackFault::Duplicate(1));
+    let is_so = is_refused(&rt, alloc, tb_fw(), &[tb_fw(); 63], PackFault::Duplicate(1));
     holds(&rt, is_so, "64 of a type");
-    let is_so = is_refused(&rt, alloc, guid(), &[guid(); 64], PackFault::TooMany);
+    let is_so = is_refused(&rt, alloc, tb_fw(), &[tb_fw(); 64], PackFault::TooMany);
     holds(&rt, is_so, "65 of a type");
     let size = size_with(&rt, alloc, 67_108_781);
     let is_so = size == Err(PackStop::Fault(PackFault::TooLarge));
@@ -354,7 +336,7 @@ fn is_taken(files: MemoryFiles, offset: u64, size: u64) -> bool {
         return false;
     };
     match toc.entries.as_slice().first() {
-        Some(entry) => entry.guid == guid() && entry.offset == offset && entry.size == size,
+        Some(entry) => entry.guid == tb_fw() && entry.offset == offset && entry.size == size,
         None => false,
     }
 }

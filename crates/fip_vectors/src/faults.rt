@@ -1,8 +1,9 @@
 //! A call of the files, the source or the sink fails; and a source that is longer than one may be.
 ghost use Rattle.std.specs.Prelude.{⊤, ◌≡◌, false, refl, None};
 
-use crate::fixtures::{EMPTY, HELLO, ended_with, ends, front, holds, one_file, only};
+use crate::fixtures::{EMPTY, HELLO, ended_with, ends, front, holds, one_file};
 use host_io::{Failed, MemorySource, Source};
+use runs_kit::only;
 use std::alloc::Global;
 use std::process::Abort;
 
@@ -52,7 +53,10 @@ const FAILING: [Failing; 7] = [
 
 // The package, of which the call of this number fails.
 fn source(rt: &impl Abort, alloc: Global, fails: u64) -> MemorySource {
-    MemorySource::new(front(rt, alloc, HELLO, 101), only(rt, alloc, fails))
+    MemorySource::new(
+        front(rt, alloc, HELLO, 101),
+        only(alloc, fails).expect(rt, "memory"),
+    )
 }
 
 fn ends_so(rt: &impl Abort, alloc: Global, failing: &Failing) {

@@ -1,7 +1,12 @@
 //! Packages, words, and a run of the tool.
 
+ghost use Rattle.std.specs.Prelude.{IsTrue};
+
+use base_core::Guid;
+use fip_tables::Part;
 use fip_tool::fip_top;
 use host_io::{Files, MemoryFiles, MemorySink, MemorySource, Source};
+use runs_kit::{Named, add_file, files_of, only, words_of};
 use std::alloc::Global;
 use std::process::Abort;
 
@@ -19,24 +24,9 @@ pub const HELLO_CAPSULE: &str =
 pub const EMPTY: &str =
     "010064aa78563412000000000000000000000000000000000000000000000000380000000000000000000000000000000000000000000000";
 
-/// Stops the test where this does not hold, and prints what it is of. A call costs its test's proof less than the macro in its place.
-pub fn holds(rt: &impl Abort, is_so: bool, of: &str) {
-    assert!(rt; is_so, "{of}");
-}
-
-/// The same of the row with this number.
+/// Stops the test where this does not hold of the row with this number.
 pub fn holds_at(rt: &impl Abort, is_so: bool, row: usize) {
     assert!(rt; is_so, "at {row}");
-}
-
-/// The words of a line.
-pub fn words(rt: &impl Abort, alloc: Global, line: &str) -> Vec<String> {
-    let mut list = Vec::new(alloc);
-    for word in line.split(' ') {
-        let word = String::from_str(alloc, word).expect(rt, "memory");
-        list.push(word).expect(rt, "memory");
-    }
-    list
 }
 
 /// The first bytes of a package or a capsule.
@@ -51,29 +41,26 @@ pub fn add(rt: &impl Abort, bytes: &mut Vec<u8>, more: &[u8]) {
     bytes.extend_from_slice(more).expect(rt, "memory");
 }
 
-/// A file, by its name.
-pub type Named = (String, Vec<u8>);
+/// The type of the trusted boot firmware.
+pub fn tb_fw() -> Guid {
+    Guid::of([
+        0x5f, 0xf9, 0xec, 0x0b, 0x4d, 0x22, 0x3e, 0x4d, 0xa5, 0x44, 0xc3, 0x9d, 0x81, 0xc7, 0x3f,
+        0x0a,
+    ])
+}
 
-/// Adds a file.
-pub fn add_file(
+/// Adds a part of this type.
+pub fn add_part(
     rt: &impl Abort,
     alloc: Global,
-    files: &mut Vec<Named>,
-    name: &str,
-    bytes: Vec<u8>,
+    parts: &mut Vec<Part>,
+    guid: Guid,
+    flags: u64,
+    text: &str,
 ) {
-    let name = String::from_str(alloc, name).expect(rt, "memory");
-    files.push((name, bytes)).expect(rt, "memory");
-}
-
-/// The list of one call. There is no call of number 0.
-pub fn only(rt: &impl Abort, alloc: Global, call: u64) -> Vec<u64> {
-    Vec::from_slice(alloc, &[call]).expect(rt, "memory")
-}
-
-/// These files and no other, of which the call of this number fails.
-pub fn files_of(rt: &impl Abort, alloc: Global, files: Vec<Named>, fails: u64) -> MemoryFiles {
-    MemoryFiles::new(alloc, files, only(rt, alloc, fails))
+    let bytes = Vec::from_slice(alloc, text.as_bytes()).expect(rt, "memory");
+    let part = Part { guid, flags, bytes };
+    parts.push(part).expect(rt, "memory");
 }
 
 /// One file alone.
@@ -85,15 +72,15 @@ pub fn one_file(
     fails: u64,
 ) -> MemoryFiles {
     let mut files = Vec::new(alloc);
-    add_file(rt, alloc, &mut files, name, bytes);
-    files_of(rt, alloc, files, fails)
+    add_file(alloc, &mut files, name, bytes).expect(rt, "memory");
+    files_of(alloc, files, fails).expect(rt, "memory")
 }
 
 /// Adds files of these names and of the bytes that the digits spell.
 pub fn add_all(rt: &impl Abort, alloc: Global, files: &mut Vec<Named>, named: &[(&str, &str)]) {
     for (name, digits) in named {
         let bytes = hex::decode(alloc, *digits).expect(rt, "digits");
-        add_file(rt, alloc, files, name, bytes);
+        add_file(alloc, files, name, bytes).expect(rt, "memory");
     }
 }
 
@@ -125,8 +112,18 @@ pub fn ended_with<H: Files, I: Source + Drop>(
     source: I,
     fails: u64,
 ) -> Answer {
-    let mut sink = MemorySink::new(alloc, Vec::new(alloc), only(rt, alloc, fails));
-    let status = end(alloc, words(rt, alloc, line), files, source, &mut sink);
+    let mut sink = MemorySink::new(
+        alloc,
+        Vec::new(alloc),
+        only(alloc, fails).expect(rt, "memory"),
+    );
+    let status = end(
+        alloc,
+        words_of(alloc, line).expect(rt, "memory"),
+        files,
+        source,
+        &mut sink,
+    );
     let text = Vec::from_slice(alloc, sink.bytes()).expect(rt, "memory");
     Answer { status, text }
 }
@@ -152,4 +149,11 @@ pub fn all_end<H: Files>(rt: &impl Abort, alloc: Global, files: &mut H, steps: &
         let answer = ended(rt, alloc, line, files);
         ends(rt, &answer, line, *status, text);
     }
+}
+
+/// Stops the test where this does not hold, and prints what it is of. A call costs its test's proof less than the macro in its place.
+pub fn holds(rt: &impl Abort, is_so: bool, of: &str)
+    ensures { IsTrue is_so }
+{
+    assert!(rt; is_so, "{of}");
 }

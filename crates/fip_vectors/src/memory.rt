@@ -3,9 +3,10 @@
 ghost use Rattle.std.specs.Prelude.{◌≡◌, ⊤, false, true, refl, None, Some};
 ghost use Rattle.host_io.specs.Contents.{bytes_in};
 
-use crate::fixtures::{add_all, files_of, holds_at, words};
+use crate::fixtures::{add_all, holds_at};
 use fip_tool::fip_top;
 use host_io::{Failed, Files, MemoryFiles, MemorySource, Piece, Sink, WriteStop};
+use runs_kit::{files_of, words_of};
 use std::alloc::Global;
 use std::process::Abort;
 
@@ -152,7 +153,7 @@ fn payloads(rt: &impl Abort, alloc: Global) -> MemoryFiles {
     let mut files = Vec::new(alloc);
     let named = [("h.bin", "68656c6c6f"), ("s3.bin", "78797a")];
     add_all(rt, alloc, &mut files, &named);
-    files_of(rt, alloc, files, 0)
+    files_of(alloc, files, 0).expect(rt, "memory")
 }
 
 // The payloads, and `b.fip` of both.
@@ -161,7 +162,7 @@ fn with_package(rt: &impl Abort, alloc: Global, writes: u32) -> ShortFiles {
         inner: payloads(rt, alloc),
         writes: 1,
     };
-    let line = words(rt, alloc, "create b.fip tb-fw=h.bin nt-fw=s3.bin");
+    let line = words_of(alloc, "create b.fip tb-fw=h.bin nt-fw=s3.bin").expect(rt, "memory");
     end(alloc, line, &mut files, 1);
     files.writes = writes;
     files
@@ -190,7 +191,12 @@ fn are_so(files: &MemoryFiles, there: [bool; 4]) -> bool {
 fn is_so(rt: &impl Abort, alloc: Global, case: &Case) -> bool {
     let (line, texts, writes, status, there) = *case;
     let mut files = with_package(rt, alloc, writes);
-    let ended = end(alloc, words(rt, alloc, line), &mut files, texts);
+    let ended = end(
+        alloc,
+        words_of(alloc, line).expect(rt, "memory"),
+        &mut files,
+        texts,
+    );
     ended == status && are_there(&files.inner, there) && are_so(&files.inner, there)
 }
 

@@ -2,8 +2,9 @@
 //! call before that is needed.
 
 use crate::capsules::many;
-use crate::fixtures::{add, add_file, ended, ends, files_of};
+use crate::fixtures::{add, ended, ends};
 use host_io::MemoryFiles;
+use runs_kit::{add_file, files_of};
 use std::alloc::Global;
 use std::process::Abort;
 
@@ -41,14 +42,14 @@ fn overlapping(rt: &impl Abort, alloc: Global) -> Vec<u8> {
 // The call of this number on the files fails.
 fn files(rt: &impl Abort, alloc: Global, fails: u64) -> MemoryFiles {
     let mut files = Vec::new(alloc);
-    add_file(rt, alloc, &mut files, "p.fip", overlapping(rt, alloc));
+    add_file(alloc, &mut files, "p.fip", overlapping(rt, alloc)).expect(rt, "memory");
     let capsule = many(rt, alloc, ENTRIES, LONG as u32);
-    add_file(rt, alloc, &mut files, "c.cap", capsule);
+    add_file(alloc, &mut files, "c.cap", capsule).expect(rt, "memory");
     let long = vec![in alloc; 0; LONG].expect(rt, "memory");
-    add_file(rt, alloc, &mut files, "long.bin", long);
+    add_file(alloc, &mut files, "long.bin", long).expect(rt, "memory");
     let hello = Vec::from_slice(alloc, b"hello").expect(rt, "memory");
-    add_file(rt, alloc, &mut files, "h.bin", hello);
-    files_of(rt, alloc, files, fails)
+    add_file(alloc, &mut files, "h.bin", hello).expect(rt, "memory");
+    files_of(alloc, files, fails).expect(rt, "memory")
 }
 
 // A command, the number of its first call that would read a payload, and what it prints before that, with status 6. The table

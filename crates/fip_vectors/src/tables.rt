@@ -3,23 +3,16 @@
 
 ghost use Rattle.std.specs.Prelude.{◌<◌};
 
-use crate::fixtures::{EMPTY, HELLO, front, holds, holds_at, one_file};
+use crate::fixtures::{EMPTY, HELLO, add_part, front, holds, holds_at, one_file, tb_fw};
 use base_core::Guid;
 use fip_tables::{
-    Entry, Outline, PackStop, Part, Parts, StreamToc, Toc, TocStop, pack, package_frame,
-    payload_at, read_toc,
+    Entry, Outline, PackStop, Parts, StreamToc, Toc, TocStop, pack, package_frame, payload_at,
+    read_toc,
 };
 use fwu_formats::FipFault;
 use host_io::{Failed, Files, MemoryFiles, Piece};
 use std::alloc::Global;
 use std::process::Abort;
-
-fn first_guid() -> Guid {
-    Guid::of([
-        0x5f, 0xf9, 0xec, 0x0b, 0x4d, 0x22, 0x3e, 0x4d, 0xa5, 0x44, 0xc3, 0x9d, 0x81, 0xc7, 0x3f,
-        0x0a,
-    ])
-}
 
 // The table of bytes that are fed in pieces of a length.
 fn fed(bytes: &[u8], step: usize) -> Result<Toc, FipFault>
@@ -39,7 +32,7 @@ fn fed(bytes: &[u8], step: usize) -> Result<Toc, FipFault>
 fn is_of_hello(toc: &Toc) -> bool {
     let entries = toc.entries.as_slice();
     let hello = Entry {
-        guid: first_guid(),
+        guid: tb_fw(),
         offset: 96,
         size: 5,
         flags: 0,
@@ -50,7 +43,7 @@ fn is_of_hello(toc: &Toc) -> bool {
 // The first five bytes of the payload of `HELLO` in a file.
 fn hello_in<H: Files>(files: &mut H, name: &str) -> Result<[u8; 5], Failed> {
     let entry = Entry {
-        guid: first_guid(),
+        guid: tb_fw(),
         offset: 96,
         size: 5,
         flags: 0,
@@ -63,22 +56,11 @@ fn hello_in<H: Files>(files: &mut H, name: &str) -> Result<[u8; 5], Failed> {
     Ok(out)
 }
 
-// Adds a part of this type.
-fn add_part(rt: &impl Abort, alloc: Global, parts: &mut Vec<Part>, guid: Guid, text: &str) {
-    let bytes = Vec::from_slice(alloc, text.as_bytes()).expect(rt, "memory");
-    let part = Part {
-        guid,
-        flags: 0,
-        bytes,
-    };
-    parts.push(part).expect(rt, "memory");
-}
-
 // The package of these parts.
 fn package(rt: &impl Abort, alloc: Global, named: &[(Guid, &str)], align: u32) -> Vec<u8> {
     let mut parts = Vec::new(alloc);
     for (guid, text) in named {
-        add_part(rt, alloc, &mut parts, *guid, text);
+        add_part(rt, alloc, &mut parts, *guid, 0, text);
     }
     let parts = Parts {
         serial: 0x1234_5678,
@@ -93,7 +75,7 @@ fn bytes_of_packages(rt: HostRuntime) {
     let alloc = rt.alloc();
     let empty = package(&rt, alloc, &[], 1);
     holds(&rt, empty == front(&rt, alloc, EMPTY, 56), "no part");
-    let hello = package(&rt, alloc, &[(first_guid(), "hello")], 1);
+    let hello = package(&rt, alloc, &[(tb_fw(), "hello")], 1);
     holds(&rt, hello == front(&rt, alloc, HELLO, 101), "one part");
 }
 
@@ -110,7 +92,7 @@ fn has_offsets(toc: &Toc, first: u64, second: u64) -> bool {
 #[test]
 fn aligned_package(rt: HostRuntime) {
     let alloc = rt.alloc();
-    let two = [(first_guid(), "hello"), (Guid::of([7; 16]), "xyz")];
+    let two = [(tb_fw(), "hello"), (Guid::of([7; 16]), "xyz")];
     let bytes = package(&rt, alloc, &two, 16);
     let last = b"xyz\0\0\0\0\0\0\0\0\0\0\0\0\0".as_slice();
     holds(
@@ -162,7 +144,7 @@ fn pack_file(
     };
     let size = bytes.len() as u64;
     let outlines = [Outline {
-        guid: first_guid(),
+        guid: tb_fw(),
         flags: 0,
         size,
     }];

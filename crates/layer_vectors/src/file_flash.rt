@@ -2,10 +2,11 @@
 //! Block 3 begins at byte 12288.
 
 use crate::fixtures::{
-    are_numbers, arm, ends, erase, gives, holds, image, only, power_on, put, read, removed, same,
+    are_numbers, arm, ends, erase, gives, holds, image, power_on, put, read, removed, same,
 };
 use flash_core::{Flash, FlashStop};
 use flash_devices::{ByteFile, FileFlash, FlashOpenFault, MemoryFile};
+use runs_kit::only;
 use std::alloc::Global;
 use std::cell::Cell;
 use std::fs::{self, File, Metadata, OpenFile};
@@ -229,29 +230,6 @@ fn a_write_that_fails_in_mid_stream_is_a_fault(rt: HostRuntime) {
     let file = not_erased(&rt, slow(zeros(&rt, alloc), 64, 100));
     let left = file.inner.into_inner();
     are_partly_erased(&rt, alloc, left.as_slice());
-}
-
-// A barrier is done, and a program fails.
-fn not_programmed<F: ByteFile + Drop>(rt: &impl Abort, file: F) -> F {
-    let mut flash = switched_on(rt, file);
-    settles(rt, &mut flash, Ok(()));
-    programs(rt, &mut flash, 16384, 5, Err(FlashStop::Failed));
-    is_off(rt, &flash, (0, 0, 1));
-    flash.into_file()
-}
-
-// 32768 erased bytes.
-fn blank(rt: &impl Abort, alloc: Global) -> Vec<u8> {
-    image(rt, alloc, 0xFF, 32768)
-}
-
-#[test]
-fn a_listed_call_of_a_file_in_memory_fails(rt: HostRuntime) {
-    let alloc = rt.alloc();
-    let file = MemoryFile::new(blank(&rt, alloc), only(&rt, alloc, 3));
-    let file = not_programmed(&rt, file);
-    let blank = blank(&rt, alloc);
-    holds(&rt, file.bytes() == blank.as_slice(), "what is left");
 }
 
 // A file of so many bytes, of which nothing can be read or written.

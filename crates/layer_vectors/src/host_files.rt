@@ -1,11 +1,10 @@
-//! Files, sources and sinks, each form once, with a failing call among others.
+//! Files of the system, and sources and sinks over streams, with calls that fail and that are interrupted.
 
 ghost use Rattle.std.specs.Prelude.{◌+◌, ◌≤◌, false, refl, vec_capacity, vec_len};
 
-use crate::fixtures::{are_bytes, holds, image, only, removed, same};
+use crate::fixtures::{are_bytes, image, removed, same};
 use host_io::{
-    Failed, Files, HostFiles, MemoryFiles, MemorySink, MemorySource, Sink, Source, StdSink,
-    StdSource, SteadyRead, SteadyWrite, WriteStop,
+    Failed, Files, HostFiles, Sink, Source, StdSink, StdSource, SteadyRead, SteadyWrite, WriteStop,
 };
 use std::alloc::Global;
 use std::io::{Cursor, ErrorKind, Read, Write};
@@ -70,16 +69,9 @@ impl SteadyRead for Faulty {
     ghost steady = { λ _. refl };
 }
 
-// The second read fails.
-fn memory_source(rt: &impl Abort, alloc: Global) -> MemorySource {
-    let bytes = b"firmware".to_vec(alloc).expect(rt, "memory");
-    MemorySource::new(bytes, only(rt, alloc, 2))
-}
-
 #[test]
 fn sources(rt: HostRuntime) {
     let alloc = rt.alloc();
-    drains(&rt, alloc, &mut memory_source(&rt, alloc), b"firm!ware");
     let mut over = StdSource::new(Cursor::new(b"firmware".as_slice()));
     drains(&rt, alloc, &mut over, b"firmware");
     drains(&rt, alloc, &mut StdSource::new(Faulty(0)), b"x!x!");
@@ -180,19 +172,6 @@ impl SteadyWrite for Stuck {
     ghost steady = { λ _. refl };
 }
 
-// The second put fails.
-fn memory_sink(rt: &impl Abort, alloc: Global) -> MemorySink {
-    let start = b"zero ".to_vec(alloc).expect(rt, "memory");
-    MemorySink::new(alloc, start, only(rt, alloc, 2))
-}
-
-#[test]
-fn sinks_in_memory(rt: HostRuntime) {
-    let mut memory = memory_sink(&rt, rt.alloc());
-    put_words(&rt, &mut memory, [Ok(()), Err(WriteStop::Failed), Ok(())]);
-    are_bytes(&rt, memory.bytes(), b"zero one three ");
-}
-
 // The words are put into a writer.
 fn put_into<W: SteadyWrite + Drop>(rt: &impl Abort, writer: W, ends: [Result<(), WriteStop>; 3]) {
     put_words(rt, &mut StdSink::new(writer), ends);
@@ -237,44 +216,6 @@ fn stores<H: Files>(
     same(rt, stored(files, name, bytes), wanted);
 }
 
-// Reads three bytes from the third one on, where the file has them.
-fn range(files: &mut MemoryFiles, name: &str, out: &mut [u8; 3]) -> Result<bool, Failed> {
-    match files.get(name) {
-        Some(bytes) if bytes.len() >= 5 => {}
-        _ => return Ok(false),
-    }
-    files.read_at(name, 2, out)?;
-    Ok(true)
-}
-
-// Adds three bytes from the third one on, where the file has them and the list has room.
-fn range_onto(files: &mut MemoryFiles, name: &str, list: &mut Vec<u8>) -> Result<bool, Failed>
-    requires { vec_len list.old + 3 ≤ vec_capacity list.old }
-{
-    match files.get(name) {
-        Some(bytes) if bytes.len() >= 5 => {}
-        _ => return Ok(false),
-    }
-    files.read_onto(name, 2, 3, list)?;
-    Ok(true)
-}
-
-// A file's name and bytes.
-fn file_of(rt: &impl Abort, alloc: Global, name: &str, bytes: &[u8]) -> (String, Vec<u8>) {
-    let name = String::from_str(alloc, name).expect(rt, "memory");
-    (name, bytes.to_vec(alloc).expect(rt, "memory"))
-}
-
-// The fourth call fails.
-fn memory_files(rt: &impl Abort, alloc: Global) -> MemoryFiles {
-    let mut list = Vec::new(alloc);
-    list.push(file_of(rt, alloc, "a", b"abcdef"))
-        .expect(rt, "memory");
-    list.push(file_of(rt, alloc, "empty", b""))
-        .expect(rt, "memory");
-    MemoryFiles::new(alloc, list, only(rt, alloc, 4))
-}
-
 // The file's size is told so.
 fn sized<H: Files>(
     rt: &impl Abort,
@@ -285,49 +226,6 @@ fn sized<H: Files>(
     same(rt, files.size(name), wanted);
 }
 
-// The file has these bytes, or there is none.
-fn is_held(rt: &impl Abort, files: &MemoryFiles, name: &str, wanted: Option<&str>) {
-    match (files.get(name), wanted) {
-        (Some(bytes), Some(wanted)) => holds(rt, bytes == wanted.as_bytes(), name),
-        (None, None) => {}
-        _ => holds(rt, false, name),
-    }
-}
-
-// The file "a" has this range.
-fn has_range(rt: &impl Abort, files: &mut MemoryFiles) {
-    let mut out = [0; 3];
-    same(rt, range(files, "a", &mut out), Ok(true));
-    holds(rt, out == *b"cde", "a range");
-}
-
-#[test]
-fn files_in_memory(rt: HostRuntime) {
-    let mut files = memory_files(&rt, rt.alloc());
-    have_sizes(&rt, &mut files);
-    has_range(&rt, &mut files);
-    stores(&rt, &mut files, "b", b"xy", Err(WriteStop::Failed));
-    is_held(&rt, &files, "b", None);
-    store_both(&rt, &mut files);
-    are_held(&rt, &files);
-}
-
-fn have_sizes<H: Files>(rt: &impl Abort, files: &mut H) {
-    sized(rt, files, "a", Ok(Some(6)));
-    sized(rt, files, "b", Ok(None));
-}
-
-fn store_both<H: Files>(rt: &impl Abort, files: &mut H) {
-    stores(rt, files, "b", b"xy", Ok(Some(2)));
-    stores(rt, files, "a", b"z", Ok(Some(1)));
-}
-
-fn are_held(rt: &impl Abort, files: &MemoryFiles) {
-    is_held(rt, files, "a", Some("z"));
-    is_held(rt, files, "b", Some("xy"));
-    is_held(rt, files, "empty", Some(""));
-}
-
 // A list that begins with `old `, and has the room for so many bytes more.
 fn old(rt: &impl Abort, alloc: Global, count: usize) -> Vec<u8>
     ensures { vec_len result + count ≤ vec_capacity result }
@@ -335,14 +233,6 @@ fn old(rt: &impl Abort, alloc: Global, count: usize) -> Vec<u8>
     let mut list = b"old ".to_vec(alloc).expect(rt, "memory");
     list.reserve(count).expect(rt, "memory");
     list
-}
-
-#[test]
-fn ranges_in_memory(rt: HostRuntime) {
-    let mut files = memory_files(&rt, rt.alloc());
-    let mut list = old(&rt, rt.alloc(), 3);
-    same(&rt, range_onto(&mut files, "a", &mut list), Ok(true));
-    are_bytes(&rt, list.as_slice(), b"old cde");
 }
 
 // What becomes of a read from this place on.

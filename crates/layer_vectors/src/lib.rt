@@ -12,9 +12,9 @@ mod host_files;
 #[cfg(test)]
 mod journal_lines;
 #[cfg(test)]
-mod layouts;
-#[cfg(test)]
 mod lists;
+#[cfg(test)]
+mod lists_of_files;
 #[cfg(test)]
 mod made_files;
 #[cfg(test)]
@@ -22,10 +22,4 @@ mod manifests;
 #[cfg(test)]
 mod memory_flash;
 #[cfg(test)]
-mod slot_pieces;
-#[cfg(test)]
 mod soak_rounds;
-#[cfg(test)]
-mod turns;
-#[cfg(test)]
-mod verdicts;

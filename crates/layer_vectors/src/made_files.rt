@@ -1,7 +1,7 @@
-//! Files that are made of a frame and of pieces of others, in memory and by the system.
+//! Files that are made of a frame and of pieces of others, by the system.
 
-use crate::fixtures::{are_bytes, holds, only, removed, same};
-use host_io::{Files, HostFiles, MemoryFiles, Piece, WriteStop};
+use crate::fixtures::{are_bytes, holds, removed, same};
+use host_io::{Files, HostFiles, Piece, WriteStop};
 use std::alloc::Global;
 use std::fs::{self, Permissions};
 use std::os::unix::fs::{PermissionsExt, symlink};
@@ -37,46 +37,6 @@ const BEHIND_THE_END: [Piece<'static>; 1] = [Piece {
     at: 7,
     count: 2,
 }];
-
-// The pieces' file in memory. The call of this number fails.
-fn memory_files(rt: &impl Abort, alloc: Global, fails: u64) -> MemoryFiles {
-    let mut files = MemoryFiles::new(alloc, Vec::new(alloc), only(rt, alloc, fails));
-    same(rt, files.write_whole(FROM_NAME, FROM), Ok(()));
-    files
-}
-
-// What becomes of a file of the whole of the pieces' file, behind `<`.
-fn wraps(rt: &impl Abort, alloc: Global, files: &mut MemoryFiles, wanted: Result<(), WriteStop>) {
-    let count = match files.get(FROM_NAME) {
-        Some(bytes) => bytes.len() as u64,
-        None => return holds(rt, false, FROM_NAME),
-    };
-    let pieces = [Piece {
-        gap: 1,
-        file: FROM_NAME,
-        at: 0,
-        count,
-    }];
-    let made = files.write_joined(alloc, FROM_NAME, b"<>", &pieces);
-    same(rt, made, wanted);
-}
-
-// The pieces' file holds this.
-fn is_held(rt: &impl Abort, files: &MemoryFiles, wanted: &[u8]) {
-    match files.get(FROM_NAME) {
-        Some(bytes) => are_bytes(rt, bytes, wanted),
-        None => holds(rt, false, FROM_NAME),
-    }
-}
-
-#[test]
-fn made_in_memory(rt: HostRuntime) {
-    let mut files = memory_files(&rt, rt.alloc(), 2);
-    wraps(&rt, rt.alloc(), &mut files, Err(WriteStop::Failed));
-    is_held(&rt, &files, FROM);
-    wraps(&rt, rt.alloc(), &mut files, Ok(()));
-    is_held(&rt, &files, b"<firmware>");
-}
 
 // What becomes of a file that is made of these pieces, by the system.
 fn makes<R: std::rt::Files>(

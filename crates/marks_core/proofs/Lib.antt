@@ -2,3 +2,4 @@ pub mod Granules
 pub mod Counting
 pub mod Clearing
 pub mod Recording
+pub mod Fronts

@@ -3,28 +3,28 @@ ghost use Rattle.std.specs.Prelude.{◌≡◌, ◌<◌, ◌≤◌, length, IsTru
 ghost use Rattle.base_core.specs.Block.{block_bytes, block};
 ghost use Rattle.flash_core.specs.Counts.{lowered};
 ghost use Rattle.flash_core.specs.Calls.{Goes, Reads};
-ghost use Rattle.fwu_formats.specs.Counter.{counter_in};
+ghost use Rattle.fwu_formats.specs.Counter.{counter_in, record_size};
 ghost use Rattle.marks_core.specs.Raises.{value_in, place_for, record_place, Raises};
 
 use crate::marks::count;
-use crate::record::{record_bytes, value_in};
+use crate::record::{RECORD_BYTES, record_bytes, value_in};
 use base_core::BLOCK_BYTES;
-use flash_core::{Flash, FlashStop, read_block, replace};
+use flash_core::{Flash, FlashStop, replace};
 use fwu_formats::{COUNTER_BLOCK, COUNTER_LIMIT, FIRST_RECORD, SECOND_RECORD};
 
-/// The value of the record in a block.
-fn record_at<D: Flash>(flash: &mut D, b: u32, buf: &mut [u8]) -> Result<Option<u32>, FlashStop>
+/// The value of the record in a block, of which its first 32 bytes are read.
+fn record_at<D: Flash>(flash: &mut D, b: u32, front: &mut [u8]) -> Result<Option<u32>, FlashStop>
     requires on { IsTrue (D.on flash.old) }
     requires inside { b < D.blocks flash.old }
-    requires room { length buf.old ≡ block_bytes }
+    requires room { length front.old ≡ record_size }
 
     ensures value { IfOk result (λ r. IsTrue D.tells →
         r ≡ value_in (block b (D.told flash.old).now)) }
     ensures reads { Reads D.Flash result flash.old flash.new }
-    ensures buffer { length buf.new ≡ length buf.old }
+    ensures buffer { length front.new ≡ length front.old }
 {
-    read_block(flash, b, buf)?;
-    Ok(value_in(buf))
+    flash.read(BLOCK_BYTES * b, front)?;
+    Ok(value_in(front))
 }
 
 fn greatest(marks: u32, first: Option<u32>, second: Option<u32>) -> u32
@@ -40,10 +40,10 @@ pub fn counter<D: Flash>(flash: &mut D) -> Result<u32, FlashStop>
     ensures counter { IfOk result (λ n. IsTrue D.tells → n ≡ counter_in (D.told flash.old).now) }
     ensures reads { Reads D.Flash result flash.old flash.new }
 {
-    let mut block = [0; BLOCK_BYTES as usize];
+    let mut front = [0; RECORD_BYTES];
     let marks = count(flash, COUNTER_BLOCK, COUNTER_LIMIT)?;
-    let first = record_at(flash, FIRST_RECORD, &mut block)?;
-    let second = record_at(flash, SECOND_RECORD, &mut block)?;
+    let first = record_at(flash, FIRST_RECORD, &mut front)?;
+    let second = record_at(flash, SECOND_RECORD, &mut front)?;
     Ok(greatest(marks, first, second))
 }
 
@@ -61,23 +61,23 @@ fn place_for(first: Option<u32>, second: Option<u32>) -> u32
     if b < a { SECOND_RECORD } else { FIRST_RECORD }
 }
 
-fn record_place<D: Flash>(flash: &mut D, buf: &mut [u8]) -> Result<u32, FlashStop>
+fn record_place<D: Flash>(flash: &mut D, front: &mut [u8]) -> Result<u32, FlashStop>
     requires on { IsTrue (D.on flash.old) }
-    requires room { length buf.old ≡ block_bytes }
+    requires room { length front.old ≡ record_size }
 
     ensures place { IfOk result (λ r. IsTrue D.tells → r ≡ record_place (D.told flash.old).now) }
     ensures inside { IfOk result (λ r. (5 ≤ r) × (r ≤ 6)) }
     ensures reads { Reads D.Flash result flash.old flash.new }
-    ensures buffer { length buf.new ≡ length buf.old }
+    ensures buffer { length front.new ≡ length front.old }
 {
-    let first = record_at(flash, FIRST_RECORD, buf)?;
-    let second = record_at(flash, SECOND_RECORD, buf)?;
+    let first = record_at(flash, FIRST_RECORD, front)?;
+    let second = record_at(flash, SECOND_RECORD, front)?;
     Ok(place_for(first, second))
 }
 
 /// Raises the counter to a value above it: one record, by erase, program and barrier, into block 5 where neither or only block 6 is
 /// a record, into block 6 where only block 5 is, else over the lower value (5 at a tie).
-/// The first 4096 bytes of the buffer are used.
+/// The first 32 bytes of the buffer are used.
 pub fn raise<D: Flash>(flash: &mut D, v: u32, buf: &mut [u8]) -> Result<(), FlashStop>
     requires on { IsTrue (D.on flash.old) }
     requires room { block_bytes ≤ length buf.old }
@@ -89,6 +89,6 @@ pub fn raise<D: Flash>(flash: &mut D, v: u32, buf: &mut [u8]) -> Result<(), Flas
     ensures spent { OnOk result (D.arming flash.new ≡ lowered (lowered (D.arming flash.old))) }
     ensures buffer { length buf.new ≡ length buf.old }
 {
-    let place = record_place(flash, &mut buf[..BLOCK_BYTES as usize])?;
+    let place = record_place(flash, &mut buf[..RECORD_BYTES])?;
     replace(flash, place, &record_bytes(v))
 }

@@ -1,6 +1,7 @@
 -- What reads as metadata, and what decides.
 use Rattle.std.proofs.Common.{◌≡◌, inl, inr, cond, ℕ, Bool, true, false, List, ◌++◌, length, replicate, Option, Some, None, Result, Ok, Err, refl, sym, ap, subst, ◌∙◌, IsTrue, append_assoc}
 use Rattle.std.specs.Prelude.{not, ◌==◌, ◌-◌, ◌%◌}
+use Rattle.std.specs.Option.{ForSome}
 use Rattle.base_core.specs.Bytes.{num_at, part}
 use Rattle.base_core.specs.Crc.{crc}
 use Rattle.base_core.specs.Block.{block, blank}
@@ -108,3 +109,11 @@ pub found_loads : (L : Layout) (which : Which) (r : MetaRead) (image : List ℕ)
 found_loads L which r image zero one is_zero is_one finds =
     let there = subst (λ (o : Option MetaRead). Finds which r (meta_read L (block 1 image)) o) is_one (subst (λ (o : Option MetaRead). Finds which r o one) is_zero finds) in
     record { decides = found_decides L which r image there; finds = there }
+
+-- and is what one of them reads as
+pub found_is : (P : MetaRead → Type 0) (which : Which) (r : MetaRead) (zero one : Option MetaRead) → ForSome zero P → ForSome one P → Finds which r zero one → P r
+found_is P Same r zero one of_zero of_one finds = of_zero r finds.0
+found_is P RepairZero r zero one of_zero of_one finds = of_one r finds.1
+found_is P RepairOne r zero one of_zero of_one finds = of_zero r finds.0
+found_is P MigrateZero r zero one of_zero of_one finds = of_zero r finds.0
+found_is P MigrateOne r zero one of_zero of_one finds = of_one r finds.1

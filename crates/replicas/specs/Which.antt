@@ -1,9 +1,11 @@
 -- What loading finds.
-use Rattle.std.specs.Prelude.{◌≡◌, ◌≢◌, ◌⊎◌, List, ℕ, Option, Some, None, Result, Ok, Err}
+use Rattle.std.specs.Prelude.{◌≡◌, ◌≢◌, ◌⊎◌, List, ℕ, Option, Some, None, Result, Ok, Err, IfOk, IsErrOf, IsTrue}
 use Rattle.base_core.specs.Block.{block}
+use Rattle.flash_core.specs.declared.flash.Flash.{Ghosts}
 use Rattle.flash_core.specs.declared.flash.FlashStop.{FlashStop}
+use Rattle.flash_core.specs.Calls.{Reads}
 use Rattle.fwu_formats.specs.Layout.{Layout}
-use Rattle.fwu_formats.specs.Metadata.{MetaRead, meta_read}
+use Rattle.fwu_formats.specs.Metadata.{MetaRead, fits_meta, meta_read}
 use Rattle.fwu_formats.specs.Image.{deciding}
 use Rattle.replicas.specs.declared.which.Which.{Which}
 use Rattle.replicas.specs.declared.which.Which.TheVariants.{Same, RepairZero, RepairOne, MigrateZero, MigrateOne}
@@ -40,3 +42,15 @@ abbrev pub flash_result : {T : Type 0} → Result T ReplicaStop → Result (Unit
 flash_result (Ok x) = Ok tt
 flash_result (Err NoMetadata) = Ok tt
 flash_result (Err (Flash stop)) = Err stop
+
+-- What loading the metadata that decides gives, whichever buffer the replicas are read into.
+pub record Found {D : Type 0} (g : Ghosts D) (L : Layout) (result : Result (MetaRead × Which) ReplicaStop) (old new : D) : Type 0 where
+  -- on a device that tells its content: the metadata that decides, and what is to be done
+  pub loads : IfOk result (λ r. IsTrue g.tells → Loads L r.1 r.0 (g.told old).now)
+  -- `NoMetadata` only where none decides
+  pub none : IsErrOf result NoMetadata → IsTrue g.tells → deciding L (g.told old).now ≡ None
+  -- on any device: it is of the layout, and of the version for which this is to be done
+  pub fits : IfOk result (λ r. IsTrue (fits_meta L r.0.meta))
+  pub form : IfOk result (λ r. r.0.form ≡ form_of r.1)
+  -- nothing is written
+  pub reads : Reads g (flash_result result) old new

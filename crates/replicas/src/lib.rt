@@ -6,7 +6,7 @@ mod repairing;
 mod storing;
 mod which;
 
-pub use loading::load;
+pub use loading::{load, load_in};
 pub use repairing::repair;
 pub use storing::store;
 pub use which::{ReplicaStop, Which};

@@ -1,40 +1,73 @@
 //! Writing the metadata that decides over the replica that lacks it.
-ghost use Rattle.std.specs.Prelude.{◌≡◌, ◌↔◌, ◌%◌, ◌<◌, ◌≤◌, Some, length, IsTrue, IfOk, OnOk};
+ghost use Rattle.std.specs.Prelude.{◌≡◌, ◌≢◌, ◌↔◌, ◌%◌, ◌<◌, ◌≤◌, Some, length, IsTrue, IfOk, OnOk};
 ghost use Rattle.base_core.specs.Block.{block_bytes, granule_bytes, block};
 ghost use Rattle.flash_core.specs.Calls.{Goes, Reads};
 ghost use Rattle.fwu_formats.specs.Layout.{fits_layout};
 ghost use Rattle.fwu_formats.specs.Metadata.{fits_meta, meta_read, replica_bytes};
 ghost use Rattle.fwu_model.specs.Replica.{in_version};
 ghost use Rattle.replicas.specs.Which.{Loads};
-ghost use Rattle.replicas.specs.Repairs.{Repairs, TakesOne, TakesRepair};
+ghost use Rattle.replicas.specs.Repairs.{Repairs, TakesBoth, TakesOne, TakesRepair};
 ghost use Rattle.replicas.specs.declared.which.Which.TheVariants.{Same, MigrateZero};
 
 use crate::loading::read_replica;
 use crate::storing::{spell, write_both};
 use crate::which::Which;
+use base_core::BLOCK_BYTES;
 use flash_core::{Flash, FlashStop, replace};
 use fwu_formats::{FIRST_REPLICA, SECOND_REPLICA};
 use meta_layout::{Layout, Meta};
 
 /// Whether replica 1 holds the metadata in version 2.
-fn holds<D: Flash>(flash: &mut D, layout: &Layout, meta: &Meta) -> Result<bool, FlashStop>
+fn holds<D: Flash>(
+    flash: &mut D,
+    layout: &Layout,
+    meta: &Meta,
+    buf: &mut [u8],
+) -> Result<bool, FlashStop>
     requires on { IsTrue (D.on flash.old) }
+    requires room { length buf.old ≡ block_bytes }
 
     ensures held { IfOk result (λ held. IsTrue D.tells → IsTrue held ↔
         (meta_read layout.now (block 2 (D.told flash.old).now) ≡
         Some (in_version 2 meta.now.meta))) }
     ensures reads { Reads D.Flash result flash.old flash.new }
+    ensures buffer { length buf.new ≡ length buf.old }
 {
     let mut migrated = *meta;
     migrated.migrate();
-    match read_replica(flash, layout, SECOND_REPLICA)? {
+    match read_replica(flash, layout, SECOND_REPLICA, buf)? {
         Some(other) => Ok(other.is(&migrated)),
         None => Ok(false),
     }
 }
 
-/// Writes over replica 1 and then over replica 0, which decides and is version 1.
-/// A replica 1 that holds the metadata in version 2 stays.
+/// Whether replica 0 alone is left to be migrated: replica 1 holds the metadata in version 2.
+/// Nothing is read where replica 0 is not to be migrated.
+fn is_half_migrated<D: Flash>(
+    flash: &mut D,
+    layout: &Layout,
+    meta: &Meta,
+    which: Which,
+    buf: &mut [u8],
+) -> Result<bool, FlashStop>
+    requires on { IsTrue (D.on flash.old) }
+    requires room { length buf.old ≡ block_bytes }
+
+    ensures held { IfOk result (λ half. IsTrue D.tells → which ≡ MigrateZero → IsTrue half ↔
+        (meta_read layout.now (block 2 (D.told flash.old).now) ≡
+        Some (in_version 2 meta.now.meta))) }
+    ensures migrates { IfOk result (λ half. IsTrue half → which ≡ MigrateZero) }
+    ensures none { which ≡ Same → flash.new ≡ flash.old }
+    ensures reads { Reads D.Flash result flash.old flash.new }
+    ensures buffer { length buf.new ≡ length buf.old }
+{
+    match which {
+        Which::MigrateZero => holds(flash, layout, meta, buf),
+        Which::Same | Which::RepairZero | Which::RepairOne | Which::MigrateOne => Ok(false),
+    }
+}
+
+/// Writes over replica 1, which lacks the metadata in version 2, and then over replica 0, which decides and is version 1.
 fn migrate_zero<D: Flash>(
     flash: &mut D,
     layout: &Layout,
@@ -50,19 +83,14 @@ fn migrate_zero<D: Flash>(
     requires of_layout { IsTrue (fits_meta layout.now meta.now.meta) }
     requires loaded { IsTrue D.tells →
         Loads layout.now MigrateZero meta.now (D.told flash.old).now }
+    requires lacks { IsTrue D.tells →
+        meta_read layout.now (block 2 (D.told flash.old).now) ≢ Some (in_version 2 meta.now.meta) }
 
     ensures repairs { IsTrue D.tells →
         Repairs result layout.now meta.now (D.told flash.old) (D.told flash.new) }
     ensures goes { Goes D.Flash result flash.old flash.new }
-    ensures spent { OnOk result (TakesRepair MigrateZero (D.arming flash.old) (D.arming flash.new)) }
-    // a replica 1 that holds the metadata in version 2 stays, so that one replica is written
-    ensures once { OnOk result (IsTrue D.tells →
-        meta_read layout.now (block 2 (D.told flash.old).now) ≡ Some (in_version 2 meta.now.meta) →
-        TakesOne (D.arming flash.old) (D.arming flash.new)) }
+    ensures spent { OnOk result (TakesBoth (D.arming flash.old) (D.arming flash.new)) }
 {
-    if holds(flash, layout, meta)? {
-        return replace(flash, FIRST_REPLICA, bytes);
-    }
     replace(flash, SECOND_REPLICA, bytes)?;
     replace(flash, FIRST_REPLICA, bytes)
 }
@@ -95,8 +123,13 @@ pub fn repair<D: Flash>(
         TakesOne (D.arming flash.old) (D.arming flash.new)) }
     ensures buffer { length buf.new ≡ length buf.old }
 {
+    layout.fits();
+    let half = is_half_migrated(flash, layout, meta, which, &mut buf[..BLOCK_BYTES as usize])?;
     let size = spell(layout, meta, buf);
     let bytes = &buf[..size];
+    if half {
+        return replace(flash, FIRST_REPLICA, bytes);
+    }
     match which {
         Which::Same => Ok(()),
         Which::RepairZero => replace(flash, FIRST_REPLICA, bytes),

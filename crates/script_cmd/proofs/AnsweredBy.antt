@@ -68,7 +68,7 @@ module _ {H I : Type 0} {passes : List ℕ → Bool} {tells : Bool} {blocks : �
     list_alone = λ other none whole. counts (unsent none);
     note = λ other. quiet;
     later_files = later.files;
-    later_source = λ other. later.source;
+    later_source = later.source;
     later_sink = later.sink;
   })
 
@@ -95,7 +95,7 @@ module _ {H I : Type 0} {passes : List ℕ → Bool} {tells : Bool} {blocks : �
     list_alone = λ other none whole. counts (unsent none);
     note = λ other. absurd (false≢true (sym other));
     later_files = later.files;
-    later_source = λ other. later.source;
+    later_source = later.source;
     later_sink = later.sink;
   })
 
@@ -122,7 +122,7 @@ module _ {H I : Type 0} {passes : List ℕ → Bool} {tells : Bool} {blocks : �
     list_alone = λ other none whole. counted;
     note = λ other. quiet;
     later_files = later.files;
-    later_source = λ other. later.source;
+    later_source = later.source;
     later_sink = later.sink;
   })
 
@@ -149,7 +149,7 @@ module _ {H I : Type 0} {passes : List ℕ → Bool} {tells : Bool} {blocks : �
     list_alone = λ other none whole. counted;
     note = λ other. absurd (false≢true (sym other));
     later_files = later.files;
-    later_source = λ other. later.source;
+    later_source = later.source;
     later_sink = later.sink;
   })
 
@@ -175,7 +175,7 @@ module _ {H I : Type 0} {passes : List ℕ → Bool} {tells : Bool} {blocks : �
     list_alone = λ other none whole. counted;
     note = λ other. quiet;
     later_files = later.files;
-    later_source = λ other. later.source;
+    later_source = later.source;
     later_sink = later.sink;
   })
 
@@ -203,7 +203,7 @@ module _ {H I : Type 0} {passes : List ℕ → Bool} {tells : Bool} {blocks : �
     list_alone = λ other none whole. absurd (false≢true (sym other));
     note = λ other. absurd (false≢true (sym other));
     later_files = later.files;
-    later_source = λ other. later.source;
+    later_source = later.source;
     later_sink = later.sink;
   })
 
@@ -231,12 +231,12 @@ module _ {H I : Type 0} {passes : List ℕ → Bool} {tells : Bool} {blocks : �
     list_alone = λ other none whole. counted;
     note = λ other. absurd (false≢true (sym other));
     later_files = later.files;
-    later_source = λ other. later.source;
+    later_source = later.source;
     later_sink = later.sink;
   })
 
   pub answered-serve : (asked : Option Asked) → asked ≡ Some ask.serve → ServeWay passes tells (record { list = None; files = told; script = left }) (end-of journal status (noted said)) (world-of old taken_before faults_before) (world-of new taken_after faults_after) rest
-      → files_after ≡ files → faults_after.files ≡ faults_before.files → IsFalse (is_beyond said) → faults_before.sink ≤ faults_after.sink
+      → files_after ≡ files → faults_after.files ≡ faults_before.files → IsFalse (is_beyond said) → Later faults_before faults_after
       → Answered passes (device-of tells blocks) (inputs-of asked None told left) (end-of journal status said) (world-of old taken_before faults_before) (world-of new taken_after faults_after) rest files files_after source source_after
   answered-serve asked is served kept counted quiet later = subst (λ (a : Option Asked). Answered passes (device-of tells blocks) (inputs-of a None told left) (end-of journal status said) (world-of old taken_before faults_before) (world-of new taken_after faults_after) rest files files_after source source_after) (sym is) (record {
     way = λ runs. absurd runs;
@@ -256,9 +256,9 @@ module _ {H I : Type 0} {passes : List ℕ → Bool} {tells : Bool} {blocks : �
     unsent = λ unlisted other none. kept;
     list_alone = λ other none whole. counted;
     note = λ other. quiet;
-    later_files = omega (arith, counted);
-    later_source = λ other. absurd (other refl);
-    later_sink = later;
+    later_files = later.files;
+    later_source = later.source;
+    later_sink = later.sink;
   })
 
   -- words that ask for nothing, behind a list or without one
@@ -284,7 +284,7 @@ module _ {H I : Type 0} {passes : List ℕ → Bool} {tells : Bool} {blocks : �
     list_alone = λ other unsent whole. counted;
     note = λ other. ap is_beyond is;
     later_files = later.files;
-    later_source = λ other. later.source;
+    later_source = later.source;
     later_sink = later.sink;
   }
 
@@ -312,7 +312,7 @@ module _ {H I : Type 0} {passes : List ℕ → Bool} {tells : Bool} {blocks : �
     list_alone = λ other unsent whole. absurd (false≢true (sym whole ∙ ap may_fail_before nine));
     note = λ other. ap is_beyond is;
     later_files = later.files;
-    later_source = λ other. later.source;
+    later_source = later.source;
     later_sink = later.sink;
   }
 
@@ -350,7 +350,7 @@ module _ {H I : Type 0} {passes : List ℕ → Bool} {tells : Bool} {blocks : �
     list_alone = λ other unsent whole. counted whole;
     note = λ other. ap is_beyond is ∙ beyond;
     later_files = later.files;
-    later_source = λ other. later.source;
+    later_source = later.source;
     later_sink = later.sink;
   }
 
@@ -382,7 +382,7 @@ module _ {H I : Type 0} {passes : List ℕ → Bool} {tells : Bool} {blocks : �
         list_alone = λ other unsent whole. a.list_alone other unsent whole ∙ counted;
         note = a.note;
         later_files = omega (arith, counted, a.later_files);
-        later_source = λ other. let was = a.later_source other in omega (arith, at_source, was);
+        later_source = omega (arith, at_source, a.later_source);
         later_sink = omega (arith, at_sink, a.later_sink);
       }
 

@@ -265,7 +265,7 @@ module _ (E : Scene) (t : Turn) (start : Moment) (old new : At) (e : ServeEnd) (
       }
 
 by-ends : (E : Scene) (t : Turn) (start : Moment) (old new : At) (e : ServeEnd) (from to : Port) → ServeEnds E (t ∷ []) start old new e from to → Account from.bytes to.bytes e new.run.journal old.sink.bytes new.sink.bytes
-by-ends E t start old new e from to (at_the_end bodies mid taken why goes takes stops count is) = by-stream E t start old new e from to bodies mid taken why goes takes stops is
+by-ends E t start old new e from to (at_the_end bodies mid why goes takes there is) = by-stream E t start old new e from to bodies mid there.taken why goes takes there.stops is
 by-ends E t start old new e from to (at_a_request bodies body mid goes takes count one early) =
     by-request E t start old new e from to bodies body mid goes takes early
     (one-last E body e bodies goes.turns mid new early goes.answers (admits mid.exchange.last (number_of body)) one)
@@ -286,7 +286,7 @@ request-later E body old new e Repeats puts = later old.exchange.reply 0 (status
 request-later E body old new e Ignored both = absurd (no-answer e both.1)
 
 ends-later : (E : Scene) (first : List Turn) (start : Moment) (old new : At) (e : ServeEnd) (from to : Port) → ServeEnds E first start old new e from to → old.sink.faults ≤ new.sink.faults
-ends-later E first start old new e from to (at_the_end bodies mid taken why goes takes stops count is) = omega (arith, goes.quiet)
+ends-later E first start old new e from to (at_the_end bodies mid why goes takes there is) = omega (arith, goes.quiet)
 ends-later E first start old new e from to (at_a_request bodies body mid goes takes count one early) =
     let more = request-later E body mid new e (admission mid.exchange.last (number_of body)) one in
     omega (arith, goes.quiet, more)

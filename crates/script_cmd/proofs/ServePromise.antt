@@ -1,7 +1,9 @@
 -- All that a serving promises, whichever way it ended.
 use Rattle.std.proofs.Common.{◌≡◌, ◌≢◌, ◌⊎◌, inl, inr, ℕ, Bool, List, [], ◌∷◌, ◌++◌, Contains, length, take, drop, Option, Some, None, refl, sym, ap, subst, ◌∙◌, arith, append-nil, take-append-drop, IsTrue, IsFalse}
+use Rattle.std.specs.Io.KnownBytes.{Consumes}
+use Rattle.std.proofs.KnownBytes.{Consumes-nil}
 use Rattle.std.proofs.lemmas.Bool.{false≢true}
-use Rattle.std.proofs.lemmas.List.Elements.{Contains-append_right, Contains-get_or}
+use Rattle.std.proofs.lemmas.List.Elements.{Contains-get_or}
 use Rattle.host_io.specs.Printed.{Prints, all, front, nothing}
 use Rattle.wire_frames.specs.Frames.{Splits, frames}
 use Rattle.serving.specs.Ends.{status_of}
@@ -24,8 +26,8 @@ use Rattle.fwu_words.specs.Order as ask
 use Rattle.script_turns.specs.Runs.{calls_of}
 use Rattle.script_cmd.specs.Ending.{Ending, World}
 use Rattle.script_cmd.specs.Promises.{RanHolds}
-use Rattle.script_cmd.specs.ServeWays.{ServeWay, ServesSource, left_at, list_refused, note_of, served, sink_of, starved}
-use Rattle.script_cmd.specs.ServedBy.{ServedBy, ServedComplete, ServedEnds, ServedHeadline, ServedWrites, WroteFrames, WroteLine, may_end_serving}
+use Rattle.script_cmd.specs.ServeWays.{ServeWay, ServesSource, Unread, left_at, list_refused, note_of, served, sink_of, starved}
+use Rattle.script_cmd.specs.ServedBy.{ServedBy, ServedComplete, ServedEnds, ServedHeadline, ServedWrites, TakesAtMost, WroteFrames, WroteLine, may_end_serving}
 use Rattle.script_cmd.specs.Showing.{RefusesBadList}
 use Rattle.script_cmd.specs.Ways.{Given, Refuses, bad_list, bad_script, list_not_read, may_lack_list, not_read, too_long, usage}
 use Rattle.script_cmd.proofs.PromiseEnds.{refused-ends}
@@ -75,6 +77,15 @@ ends-known : (e : ServeEnd) → IsTrue (may_end_serving (status_of e))
 ends-known end.End = refl
 ends-known other = refl
 
+-- nothing was taken of the source
+takes-none : (status : ℕ) (stream rest : Option (List ℕ)) → rest ≡ stream → (status ≡ 8 → ⊥) → TakesAtMost status stream rest
+takes-none status stream rest same other = record {
+  given = [];
+  consumed = subst (λ (o : Option (List ℕ)). Consumes stream o []) (sym same) (Consumes-nil stream);
+  few = omega arith;
+  too_long = (λ is. absurd (other is), λ more. absurd (omega (arith, more)));
+}
+
 -- ---- a list
 
 -- the line of a list stands for these alone
@@ -107,7 +118,7 @@ module _ (g : Given) (ending : Ending Note) (old new : World) (rest : Option (Li
   list-other : (k : ℕ) → IsFalse (may_lack_list k) → ending.status ≡ k → ⊥
   list-other k other is = false≢true (sym other ∙ subst (λ (n : ℕ). IsTrue (may_lack_list n)) is (list-status may_lack_list refl refl refl refl))
 
-  list-ends : new.faults.source ≡ old.faults.source → ServedEnds g ending old new rest
+  list-ends : Unread g old new rest → ServedEnds g ending old new rest
   list-ends unread =
       let ends = refused-ends (Some ask.serve) g old.faults new.faults ending.status ending.noted old.flash.counts planned line old.taken new.taken why prints in
       record {
@@ -115,10 +126,11 @@ module _ (g : Given) (ending : Ending Note) (old new : World) (rest : Option (Li
         at_end = λ is. absurd (list-other 0 refl is);
         whole = λ is. absurd (list-other 0 refl is);
         not_read = λ is. elim (ends.not_read is refl) [ inl source ↦ absurd (false≢true source.0) | inr list ↦ inr (none, list.0, list.1) ];
-        read_all = λ unless. unread;
+        read_all = λ unless. unread.1;
         sink_fault = ends.sink_fault;
         flash_fault = λ is. absurd (list-other 5 refl is);
         not_booted = λ is. absurd (list-other 6 refl is);
+        taken = takes-none ending.status g.script rest unread.0 (list-other 8 refl);
         too_long = λ is. absurd (list-other 8 refl is);
         bad_frame = λ is. absurd (list-other 11 refl is);
         lost = λ is. absurd (list-other 12 refl is);
@@ -149,16 +161,17 @@ module _ (g : Given) (ending : Ending Note) (old new : World) (rest : Option (Li
 -- ---- nothing was done for want of memory
 
 module _ (g : Given) (ending : Ending Note) (old new : World) (rest : Option (List ℕ)) (nine : ending.status ≡ 9) where
-  starved-ends : new.faults.source ≡ old.faults.source → ServedEnds g ending old new rest
+  starved-ends : Unread g old new rest → ServedEnds g ending old new rest
   starved-ends unread = record {
     no_other = subst (λ (k : ℕ). IsTrue (may_end_serving k)) (sym nine) refl;
     at_end = λ is. absurd (omega (arith, is, nine));
     whole = λ is. absurd (omega (arith, is, nine));
     not_read = λ is. absurd (omega (arith, is, nine));
-    read_all = λ unless. unread;
+    read_all = λ unless. unread.1;
     sink_fault = λ is. absurd (omega (arith, is, nine));
     flash_fault = λ is. absurd (omega (arith, is, nine));
     not_booted = λ is. absurd (omega (arith, is, nine));
+    taken = takes-none ending.status g.script rest unread.0 (λ is. omega (arith, is, nine));
     too_long = λ is. absurd (omega (arith, is, nine));
     bad_frame = λ is. absurd (omega (arith, is, nine));
     lost = λ is. absurd (omega (arith, is, nine));
@@ -208,6 +221,12 @@ module _ (passes : List ℕ → Bool) (tells : Bool) (g : Given) (ending : Endin
     sink_fault = λ three. cause-at end.SinkFailed (end-at-three e (sym is ∙ three));
     flash_fault = λ five. cause-at end.FlashFault (end-at-five e (sym is ∙ five));
     not_booted = λ six. let w = end-at-six e (sym is ∙ six) in (w.0, cause-at (end.NotBooted w.0) w.1, said ∙ ap note_of w.1);
+    taken = record {
+      given = by.holds.given.given;
+      consumed = by.holds.given.consumed;
+      few = by.holds.given.few;
+      too_long = (λ eight. by.holds.given.too_long.0 (end-at-eight e (sym is ∙ eight)), λ more. is ∙ ap status_of (by.holds.given.too_long.1 more));
+    };
     too_long = λ eight. some-from g.script _ (λ stream told. (cause-at end.TooLong (end-at-eight e (sym is ∙ eight)) stream told).1);
     bad_frame = λ eleven. some-from g.script _ (λ stream told.
         let c = cause-at end.BadFrame (end-at-eleven e (sym is ∙ eleven)) stream told in
@@ -244,8 +263,8 @@ module _ (passes : List ℕ → Bool) (tells : Bool) (g : Given) (ending : Endin
       let c = cause-at (end.NotBooted why) same in
       let head = ran-head passes tells g.files ending.status old.flash told E start (calls_of ending.journal) ending.journal new.flash by.on old.faults.files old.faults.files ([], append-nil (calls_of ending.journal)) (λ zero. refl) by.holds.ran given in
       let sound = sound-start E start old.flash.told g.files passes old.flash.counts new.flash.counts given in
-      let has : Contains ending.journal c.last = subst (λ (ts : List Turn). Contains ts c.last) (sym c.journal_is) (Contains-append_right c.before (c.last ∷ []) c.last (Contains-get_or (c.last ∷ []) 0 c.last (omega arith))) in
-      false≢true (sym (runs-boot E start ending.journal head.last sound head.run c.last has) ∙ ap is_refused_boot c.reply_is)
+      let has : Contains ending.journal c.turn = subst (λ (ts : List Turn). Contains ts c.turn) (sym c.only) (Contains-get_or (c.turn ∷ []) 0 c.turn (omega arith)) in
+      false≢true (sym (runs-boot E start ending.journal head.last sound head.run c.turn has) ∙ ap is_refused_boot c.reply_is)
 
   completes : ServedComplete passes tells g ending old new
   completes told E start bodies given stream are few grants no_source =
@@ -282,8 +301,8 @@ module _ (passes : List ℕ → Bool) (tells : Bool) (g : Given) (ending : Endin
   hold (served good unarmed unread e is said by) = ran-holds passes tells g.files ending.journal by.on old.faults.files old.faults.files old new (omega arith) (λ some. sym unread) by.holds.ran
 
   why-ended : ServeWay passes tells g ending old new rest → ServedEnds g ending old new rest
-  why-ended (list_refused none same unread (planned, line, why, prints)) = list-ends g ending old new rest planned line none why prints unread.1
-  why-ended (starved none same unread nine quiet stuck) = starved-ends g ending old new rest nine unread.1
+  why-ended (list_refused none same unread (planned, line, why, prints)) = list-ends g ending old new rest planned line none why prints unread
+  why-ended (starved none same unread nine quiet stuck) = starved-ends g ending old new rest nine unread
   why-ended (served good unarmed unread e is said by) = served-ends passes tells g ending old new rest unarmed e is said by
 
   writes : ServeWay passes tells g ending old new rest → ServedWrites g ending old new

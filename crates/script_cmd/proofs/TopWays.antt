@@ -1,5 +1,5 @@
 -- The ways that a run may end, from what its parts did.
-use Rattle.std.proofs.Common.{◌≡◌, ◌≤◌, ℕ, Bool, true, false, List, [], ◌∷◌, Option, Some, None, Ok, Err, refl, sym, ap, subst, ◌∙◌, inl, inr, arith}
+use Rattle.std.proofs.Common.{◌≡◌, ◌≤◌, ◌⊎◌, ℕ, Bool, true, false, List, [], ◌∷◌, Option, Some, None, Ok, Err, refl, sym, ap, subst, ◌∙◌, inl, inr, arith}
 use Rattle.std.specs.Prelude.{IfSome, IsTrue, codes}
 use Rattle.flash_core.specs.declared.flash.Arming.{Arming}
 use Rattle.flash_core.specs.declared.flash.Counts.{Counts}
@@ -12,7 +12,8 @@ use Rattle.fwu_model.specs.Causes.{Faults, LacksList}
 use Rattle.fwu_model.specs.Wrote.{bad_script_line, script_asked}
 use Rattle.fwu_formats.specs.Digests.{digests_of, passes_any, passes_listed}
 use Rattle.fwu_model.specs.Allow.{after_list, asks_list, list_bytes, list_name}
-use Rattle.host_io.specs.Contents.{Directory}
+use Rattle.host_io.specs.Contents.{Directory, Holds}
+use Rattle.host_io.specs.Whole as whole
 use Rattle.fwu_model.specs.declared.kinds.Note.{Note}
 use Rattle.fwu_model.specs.declared.kinds.Note.TheVariants as note
 use Rattle.fwu_words.specs.Order.{Asked, asked}
@@ -51,6 +52,18 @@ of-told (Some value) P all = all value refl
 -- a list that was read has no bad line
 pub no-bad-line : (bytes : List ℕ) (digests : List (List ℕ)) → digests_of bytes ≡ Ok digests → (n : ℕ) → digests_of bytes ≡ Err n → ⊥
 no-bad-line bytes digests read n bad = cc
+
+-- the bytes of a file that was read, where the files are told
+pub bytes-there : (files : Option Directory) (name bytes : List ℕ) → Holds files name bytes
+    → (directory : Directory) → files ≡ Some directory → directory name ≡ Some bytes
+bytes-there files name bytes holds directory told = subst (λ (o : Option Directory). Holds o name bytes) told holds
+
+-- a list that was not read is one that is not there, or a call failed
+pub list-lacks : (files : Option Directory) (name : List ℕ) (before after : ℕ) → Rose before after ⊎ whole.LacksFile files name
+    → Rose before after ⊎ LacksList files (Some name)
+list-lacks files name before after (inl rose) = inl rose
+list-lacks None name before after (inr lacks) = elim lacks [ ]
+list-lacks (Some directory) name before after (inr lacks) = inr lacks
 
 -- a fact of a list's bytes, where the files are told
 pub of-list : (files : Option Directory) (name bytes : List ℕ) (P : List ℕ → Type 0) → ((directory : Directory) → files ≡ Some directory → directory name ≡ Some bytes) → P bytes → IfSome (list_bytes (Some name) files) P

@@ -1,5 +1,5 @@
 -- What is done for what the words ask for, by each command.
-use Rattle.std.specs.Prelude.{◌≡◌, ◌≢◌, ◌≤◌, ℕ, Bool, List, [], Option, Some, None, IfSome, IsTrue, IsFalse}
+use Rattle.std.specs.Prelude.{◌≡◌, ◌≤◌, ℕ, Bool, List, [], Option, Some, None, IfSome, IsTrue, IsFalse}
 use Rattle.fwu_formats.specs.Layout.{ImageRow}
 use Rattle.fwu_model.specs.Causes.{may_fail_before}
 use Rattle.fwu_words.specs.Order.{Asked}
@@ -51,9 +51,9 @@ pub record Answered {H I : Type 0} (passes : List ℕ → Bool) (device : Device
   pub list_alone : IsFalse (asks_package inputs.asked) → IsTrue (sends_none (calls_of ending.journal))
       → IsFalse (may_fail_before ending.status) → new.faults.files ≡ old.faults.files
   pub note : IsFalse (asks_beyond inputs.asked) → IsFalse (is_beyond ending.noted)
-  -- no count of failures falls; by how much the source's rises in a serving is told there
+  -- no count of failures falls
   pub later_files : old.faults.files ≤ new.faults.files
-  pub later_source : inputs.asked ≢ Some ask.serve → old.faults.source ≤ new.faults.source
+  pub later_source : old.faults.source ≤ new.faults.source
   pub later_sink : old.faults.sink ≤ new.faults.sink
 
 -- The same by the manifests of a list that was read (`Has` says of which), or nothing was done, and it holds whichever pass.

@@ -1,12 +1,13 @@
 -- What the command `serve` promises, whichever way it ends.
 use Rattle.std.specs.Prelude.{◌≡◌, ◌≢◌, ◌≤◌, ◌<◌, ◌⊎◌, ◌||◌, ◌==◌, ℕ, Bool, List, [], ◌++◌, Option, Some, IfSome, IsSome}
-use Rattle.std.specs.Prelude.{IsTrue, drop, length, take}
+use Rattle.std.specs.Prelude.{◌↔◌, ◌+◌, IsTrue, drop, length, take}
+use Rattle.std.specs.Io.KnownBytes.{Consumes}
 use Rattle.flash_core.specs.Counts.{Rose}
 use Rattle.host_io.specs.Calls.{raised}
 use Rattle.host_io.specs.Contents.{Directory}
 use Rattle.wire_frames.specs.Frames.{AreBodies, Splits, frames}
 use Rattle.wire_frames.specs.Stream.{most_bytes}
-use Rattle.serving.specs.Holds.{EndsWith}
+use Rattle.serving.specs.Holds.{EndsWith, RefusesBoot}
 use Rattle.serving.specs.Written.{answered_numbers, calls_for, frame_of, messages_of, written}
 use Rattle.fwu_model.specs.Allow.{list_bytes}
 use Rattle.fwu_model.specs.Causes.{LacksList}
@@ -45,6 +46,13 @@ may_end_serving status =
     (status == 0) || (status == 2) || (status == 3) || (status == 5) || (status == 6) || (status == 8) || (status == 9)
     || (status == 11) || (status == 12) || (status == 13)
 
+-- These bytes were taken of the source: one more than 1 GiB at last, and so many exactly at 8.
+pub record TakesAtMost (status : ℕ) (stream rest : Option (List ℕ)) : Type 0 where
+  pub given : List ℕ
+  pub consumed : Consumes stream rest given
+  pub few : length given ≤ most_bytes + 1
+  pub too_long : (status ≡ 8) ↔ (most_bytes < length given)
+
 -- The statuses by their causes, on any device, files, source and sink. Want of memory, 9, has no other cause.
 pub record ServedEnds (g : Given) (ending : Ending Note) (old new : World) (rest : Option (List ℕ)) : Type 0 where
   -- there is no other status
@@ -63,10 +71,12 @@ pub record ServedEnds (g : Given) (ending : Ending Note) (old new : World) (rest
   -- the last turn is a fault of the flash
   pub flash_fault : ending.status ≡ 5
       → EndsWith ending.journal reply.Fault × Rose old.flash.counts.faults new.flash.counts.faults
-  -- the last turn started no bank, and why is noted
+  -- the one turn is a boot that started no bank, and why is noted
   pub not_booted : ending.status ≡ 6
-      → (why : NoBoot) × EndsWith ending.journal (reply.NotBooted why) × (ending.noted ≡ note.Boot why)
-  -- the source has more than 1 GiB
+      → (why : NoBoot) × RefusesBoot ending.journal why × (ending.noted ≡ note.Boot why)
+  -- the source gave byte 1,073,741,825, and at no other status did it
+  pub taken : TakesAtMost ending.status g.script rest
+  -- and so it has more than 1 GiB
   pub too_long : ending.status ≡ 8 → IfSome g.script (λ stream. most_bytes < length stream)
   -- a length that no body has, or an end inside a frame, stands behind whole frames
   pub bad_frame : ending.status ≡ 11

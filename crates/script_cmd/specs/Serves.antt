@@ -1,5 +1,5 @@
 -- What the program promises of what its words ask for, by each command. It is the contract of both top calls.
-use Rattle.std.specs.Prelude.{◌≡◌, ◌≢◌, ◌≤◌, ℕ, Bool, List, [], Option, Some, None, IfSome, IsTrue, IsFalse}
+use Rattle.std.specs.Prelude.{◌≡◌, ◌≤◌, ℕ, Bool, List, [], Option, Some, None, IfSome, IsTrue, IsFalse}
 use Rattle.fwu_formats.specs.Layout.{ImageRow}
 use Rattle.fwu_model.specs.Allow.{asks_list}
 use Rattle.fwu_model.specs.Causes.{may_fail_before}
@@ -60,9 +60,9 @@ pub record Serves {H I : Type 0} (passes : List ℕ → Bool) (device : Device) 
   pub note : IsFalse (asks_beyond inputs.asked) → IsFalse (is_beyond ending.noted)
   -- the sink fails at the line that ends it with 3, and at no other
   pub sink_count : FailsAtThree ending.status old.faults.sink new.faults.sink
-  -- no count of failures falls; by how much the source's rises in a serving is told there
+  -- no count of failures falls
   pub later_files : old.faults.files ≤ new.faults.files
-  pub later_source : inputs.asked ≢ Some ask.serve → old.faults.source ≤ new.faults.source
+  pub later_source : old.faults.source ≤ new.faults.source
   pub later_sink : old.faults.sink ≤ new.faults.sink
 
 -- The same by the manifests that the list has which the words name. Where no list was read nothing was done, and it holds

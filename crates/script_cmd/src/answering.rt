@@ -22,7 +22,7 @@ ghost use Rattle.script_cmd.specs.Ways.{IsScriptOf, ReadsList, device_of, inputs
 use crate::done::{Done, Note};
 use crate::formatting::format_flash;
 use crate::partitioned::run_by_table;
-use crate::reading::{FileStop, SourceStop, read_file, read_source};
+use crate::reading::{SourceStop, read_source};
 use crate::refusing::{
     idle, print_usage, refuse_length, refuse_list, refuse_reading, refuse_script,
 };
@@ -31,13 +31,14 @@ use crate::running::run_script;
 use crate::serving_command::serve_source;
 use crate::showing::show;
 use crate::soak_command::soak;
+use allow_list::{ListStop, read_list};
 use flash_core::Flash;
 use fwu_words::{Allow, Order, UsageStop, allow_of, fwu_order};
 use host_io::{Files, Sink, Source};
 use script_text::{Script, ScriptFault, read_script};
 use script_turns::Powered;
 use std::alloc::Global;
-use verify_core::{AnyManifest, DigestList, ListFault, Verifier};
+use verify_core::{AnyManifest, Verifier};
 
 /// Takes the memory for the turns of a script, and runs it.
 fn run_calls<D: Flash, H: Files, O: Sink, V: Verifier>(
@@ -381,15 +382,11 @@ fn run_listed<D: Flash, H: Files, I: Source, O: Sink>(
     ensures unwritten { H.writes files.new ≡ H.writes files.old }
     ensures size { D.blocks result.flash ≡ D.blocks flash }
 {
-    let bytes = match read_file(alloc, files, name) {
-        Ok(bytes) => bytes,
-        Err(FileStop::Failed) => return refuse_reading(alloc, sink, flash),
-        Err(FileStop::NoMemory) => return idle(alloc, 9, Note::Nothing, flash),
-    };
-    match DigestList::read(alloc, bytes.as_slice()) {
+    match read_list(alloc, files, name) {
         Ok(list) => answer_with(alloc, rest, files, source, sink, flash, &list),
-        Err(ListFault::BadLine(line)) => refuse_list(alloc, sink, line, flash),
-        Err(ListFault::NoMemory) => idle(alloc, 9, Note::Nothing, flash),
+        Err(ListStop::Failed) => refuse_reading(alloc, sink, flash),
+        Err(ListStop::BadLine(line)) => refuse_list(alloc, sink, line, flash),
+        Err(ListStop::NoMemory) => idle(alloc, 9, Note::Nothing, flash),
     }
 }
 

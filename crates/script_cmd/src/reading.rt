@@ -1,14 +1,11 @@
-//! What the program reads before it runs: a script from the source, and a list of digests from a file.
-ghost use Rattle.std.specs.Prelude.{◌≡◌, ◌≤◌, ◌⊎◌, ℕ, List, Option, [], Some, Err, IfOk, OnOk, IsTrue, length, false};
+//! What the program reads before it runs a script: its text.
+ghost use Rattle.std.specs.Prelude.{◌≡◌, ◌≤◌, ℕ, List, [], Some, Err, IfOk, OnOk, IsTrue, length, false};
 ghost use Rattle.std.specs.Io.KnownBytes.{IsAtEnd};
 ghost use Rattle.flash_core.specs.Counts.{Rose};
 ghost use Rattle.fwu_model.specs.Script.{is_too_long};
-ghost use Rattle.fwu_model.specs.Causes.{LacksFile};
-ghost use Rattle.host_io.specs.Contents.{Directory};
 ghost use Rattle.script_cmd.specs.Sourced.{ReadsInTime, read_failures};
 
-use base_core::NoMemory;
-use host_io::{Files, Source};
+use host_io::Source;
 use script_text::TextLimit;
 use std::alloc::Global;
 
@@ -19,14 +16,6 @@ pub enum SourceStop {
     Failed,
     /// The text is longer than a script may be.
     TooLong,
-    NoMemory,
-}
-
-/// Why a file was not read.
-#[derive(Clone, Copy)]
-pub enum FileStop {
-    /// A read failed, or no file has the name.
-    Failed,
     NoMemory,
 }
 
@@ -64,41 +53,5 @@ pub fn read_source<I: Source>(alloc: Global, source: &mut I) -> Result<Vec<u8>, 
         if text.extend_from_slice(piece).is_err() {
             return Err(SourceStop::NoMemory);
         }
-    }
-}
-
-// So many zeros.
-fn zeros(alloc: Global, size: u64) -> Result<Vec<u8>, NoMemory>
-    ensures { IfOk result (λ bytes. length bytes.items ≡ size) }
-{
-    let mut bytes = Vec::new(alloc);
-    bytes.resize(size as usize, 0)?;
-    Ok(bytes)
-}
-
-/// Reads a file whole.
-pub fn read_file<H: Files>(alloc: Global, files: &mut H, name: &str) -> Result<Vec<u8>, FileStop>
-    ensures whole { IfOk result
-        (λ bytes. (directory : Directory) → H.contents files.old ≡ Some directory
-        → directory name.now ≡ Some bytes.items) }
-    ensures same { H.contents files.new ≡ H.contents files.old }
-    ensures unwritten { H.writes files.new ≡ H.writes files.old }
-    ensures later { H.faults files.old ≤ H.faults files.new }
-    ensures quiet { IfOk result (λ bytes. H.faults files.new ≡ H.faults files.old) }
-    ensures failed { result ≡ Err FileStop.Failed
-        → Rose (H.faults files.old) (H.faults files.new) ⊎ LacksFile (H.contents files.old)
-        name.now }
-{
-    let size = match files.size(name) {
-        Ok(Some(size)) => size,
-        Ok(None) => return Err(FileStop::Failed),
-        Err(_) => return Err(FileStop::Failed),
-    };
-    let Ok(mut bytes) = zeros(alloc, size) else {
-        return Err(FileStop::NoMemory);
-    };
-    match files.read_at(name, 0, bytes.as_mut_slice()) {
-        Ok(()) => Ok(bytes),
-        Err(_) => Err(FileStop::Failed),
     }
 }

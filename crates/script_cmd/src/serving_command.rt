@@ -48,7 +48,8 @@ pub fn serve_source<D: Flash, H: Files, I: Source, O: Sink, V: Verifier>(
         (I.left source.new) }
     ensures files { files.new ≡ files.old }
     ensures note { IsFalse (is_beyond result.note) }
-    ensures later { O.faults sink.old ≤ O.faults sink.new }
+    ensures later_source { I.faults source.old ≤ I.faults source.new }
+    ensures later_sink { O.faults sink.old ≤ O.faults sink.new }
     ensures size { D.blocks result.flash ≡ D.blocks flash }
 {
     let Served { serving, end } = serve(alloc, Powered::off(flash), files, source, sink, verifier);

@@ -4,4 +4,5 @@ pub mod OneMore
 pub mod Steps
 pub mod SoFar
 pub mod Starts
+pub mod Requested
 pub mod Holds

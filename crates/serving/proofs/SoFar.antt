@@ -63,9 +63,15 @@ module _ (E : Scene) (old : At) (from : Port) where
           (record { each = bodies-more was.bodies body was.each frame_is.is; consumed = consumed-more; few = subst (λ (n : ℕ). n ≤ most_bytes) count-more few })
           (quiet ∙ was.quiet) serves early
 
-    pub ends-there : (rest : Port) (taken : ℕ) (e : ServeEnd) (why : FrameStop) → StopsReading why read taken mid.bytes rest.bytes → rest.faults ≡ stop_faults {T = ℕ} (Err why) mid.faults → e ≡ end_of_stop why
-        → GoesOn E old now e from rest
-    ends-there rest taken e why stops fails is first start off none =
-        ServeEnds.at_the_end was.bodies mid.bytes taken why (was.goes first start off none)
+    pub ends-there : (rest : Port) (taken : ℕ) (e : ServeEnd) (why : FrameStop) → StopsReading why read taken mid.bytes rest.bytes → taken ≤ most_bytes → rest.faults ≡ stop_faults {T = ℕ} (Err why) mid.faults → mid.faults ≤ rest.faults
+        → e ≡ end_of_stop why → GoesOn E old now e from rest
+    ends-there rest taken e why stops few fails later is first start off none =
+        ServeEnds.at_the_end was.bodies mid.bytes why (was.goes first start off none)
         (record { each = was.each; consumed = was.consumed; few = subst (λ (n : ℕ). n ≤ most_bytes) was.count was.few })
-        (subst (λ (n : ℕ). StopsReading why n taken mid.bytes rest.bytes) was.count stops) (fails ∙ ap (stop_faults {T = ℕ} (Err why)) was.quiet) is
+        (record {
+          taken = taken;
+          stops = subst (λ (n : ℕ). StopsReading why n taken mid.bytes rest.bytes) was.count stops;
+          few = few;
+          count = fails ∙ ap (stop_faults {T = ℕ} (Err why)) was.quiet;
+          later = subst (λ (n : ℕ). n ≤ rest.faults) was.quiet later;
+        }) is

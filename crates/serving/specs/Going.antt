@@ -10,7 +10,7 @@ use Rattle.wire_frames.specs.Frames.{AreBodies, frames}
 use Rattle.wire_frames.specs.Stream.{StopsReading, most_bytes, stop_faults}
 use Rattle.wire_frames.specs.declared.stream.FrameStop.{FrameStop}
 use Rattle.serving.specs.Ends.{IsEarly, end_of_stop}
-use Rattle.serving.specs.Scene.{At, Port, RanIn, Scene}
+use Rattle.serving.specs.Scene.{At, Port, RanIn, Scene, port}
 use Rattle.serving.specs.Serving.{ServesOne}
 use Rattle.serving.specs.Written.{Answers, answered_numbers, messages_of, written}
 use Rattle.serving.specs.declared.ends.ServeEnd.{ServeEnd}
@@ -34,12 +34,19 @@ pub record TakesFrames (bodies : List (List ℕ)) (old new : Option (List ℕ)) 
   pub consumed : Consumes old new (frames bodies)
   pub few : length (frames bodies) ≤ most_bytes
 
+-- No further frame was read, behind so many bytes: why, how many bytes were taken at last, and how often the source has failed.
+pub record StopsThere (why : FrameStop) (read : ℕ) (old new : Port) : Type 0 where
+  pub taken : ℕ
+  pub stops : StopsReading why read taken old.bytes new.bytes
+  pub few : taken ≤ most_bytes
+  pub count : new.faults ≡ stop_faults {T = ℕ} (Err why) old.faults
+  pub later : old.faults ≤ new.faults
+
 -- How a serving ends: these requests were served, and no further frame could be read; or they were, and the next one ended it.
 pub data ServeEnds (E : Scene) (first : List Turn) (start : Moment) (old new : At) (e : ServeEnd) (from to : Port) : Type 0 where
-  at_the_end : (bodies : List (List ℕ)) (mid : Option (List ℕ)) (taken : ℕ) (why : FrameStop)
+  at_the_end : (bodies : List (List ℕ)) (mid : Option (List ℕ)) (why : FrameStop)
       → Goes E first start bodies old new → TakesFrames bodies from.bytes mid
-      → StopsReading why (length (frames bodies)) taken mid to.bytes
-      → to.faults ≡ stop_faults {T = ℕ} (Err why) from.faults → e ≡ end_of_stop why
+      → StopsThere why (length (frames bodies)) (port mid from.faults) to → e ≡ end_of_stop why
       → ServeEnds E first start old new e from to
   at_a_request : (bodies : List (List ℕ)) (body : List ℕ) (mid : At)
       → Goes E first start bodies old mid → TakesFrames (bodies ++ body ∷ []) from.bytes to.bytes → to.faults ≡ from.faults

@@ -1,5 +1,6 @@
 -- What holds of a serving however it ended.
-use Rattle.std.specs.Prelude.{◌≡◌, ◌≢◌, ◌⊎◌, ◌≤◌, ◌++◌, ℕ, List, [], ◌∷◌, None, Some, length, slice_get, ⊤}
+use Rattle.std.specs.Prelude.{◌≡◌, ◌≢◌, ◌⊎◌, ◌↔◌, ◌≤◌, ◌<◌, ◌+◌, ◌++◌, ℕ, List, [], ◌∷◌, Option, None, Some, length, slice_get, ⊤}
+use Rattle.std.specs.Io.KnownBytes.{Consumes}
 use Rattle.flash_core.specs.Counts.{Rose}
 use Rattle.host_io.specs.Calls.{raised}
 use Rattle.host_io.specs.Printed.{FailsAtThree}
@@ -31,6 +32,13 @@ pub record EndsWith (journal : List Turn) (r : Reply) : Type 0 where
   pub journal_is : journal ≡ before ++ last ∷ []
   pub reply_is : last.reply ≡ r
 
+-- the one turn is a boot that started no bank
+pub record RefusesBoot (journal : List Turn) (why : NoBoot) : Type 0 where
+  pub turn : Turn
+  pub only : journal ≡ turn ∷ []
+  pub call_is : turn.call ≡ call.Boot
+  pub reply_is : turn.reply ≡ reply.NotBooted why
+
 -- A loss of power is counted. Where none was armed at first, it is none that was armed.
 pub record IsLost (old new : Moment) : Type 0 where
   pub counted : Rose old.counts.cuts new.counts.cuts ⊎ Rose old.counts.reached new.counts.reached
@@ -43,7 +51,7 @@ Cause end.ReadFailed start sink new from to = Rose from.faults to.faults
 Cause end.SinkFailed start sink new from to = Rose sink.faults new.sink.faults
 Cause end.FlashFault start sink new from to =
     EndsWith new.run.journal reply.Fault × Rose start.counts.faults new.run.moment.counts.faults
-Cause (end.NotBooted why) start sink new from to = EndsWith new.run.journal (reply.NotBooted why)
+Cause (end.NotBooted why) start sink new from to = RefusesBoot new.run.journal why
 Cause end.TooLong start sink new from to = StopsBy stop.TooLong from
 Cause end.NoMemory start sink new from to = ⊤
 Cause end.BadFrame start sink new from to = StopsBy stop.BadFrame from
@@ -77,6 +85,14 @@ IsComplete start sink new e from to = IsQuiet start sink new e from to
 pub record FailsAtRead (e : ServeEnd) (before after : ℕ) : Type 0 where
   pub failed : e ≡ end.ReadFailed → after ≡ raised before
   pub quiet : e ≢ end.ReadFailed → after ≡ before
+  pub later : before ≤ after
+
+-- These bytes were taken of the source: one more than the most at last, and so many exactly where the serving ended by that one.
+pub record TakesWithin (e : ServeEnd) (old new : Option (List ℕ)) : Type 0 where
+  pub given : List ℕ
+  pub consumed : Consumes old new given
+  pub few : length given ≤ most_bytes + 1
+  pub too_long : (e ≡ end.TooLong) ↔ (most_bytes < length given)
 
 -- Its turns are a run from the start, on any device, and the first of them is a boot. Its end has a cause.
 pub record Holds (E : Scene) (start : Moment) (sink : Port) (new : At) (e : ServeEnd) (from to : Port) : Type 0 where
@@ -86,4 +102,5 @@ pub record Holds (E : Scene) (start : Moment) (sink : Port) (new : At) (e : Serv
   pub cause : Cause e start sink new from to
   pub sink_count : FailsAtThree (status_of e) sink.faults new.sink.faults
   pub source_count : FailsAtRead e from.faults to.faults
+  pub given : TakesWithin e from.bytes to.bytes
   pub complete : IsComplete start sink new e from to

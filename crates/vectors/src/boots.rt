@@ -1,9 +1,10 @@
 //! Power is lost at each erase and program of two boots, where they repair, migrate, raise the counter or mark trials.
-use crate::flashes::{
-    MANIFEST_5, VERSION_1, on_trial, put, put_metadata, two_banks, with_manifest,
-};
-use crate::runs::{NOTHING, Trouble, ends_with_one, run_with};
+use crate::runs::{ends_with_one, run_with};
 use flash_devices::Cut;
+use runs_kit::{
+    MANIFEST_5, NO_TROUBLE, Trouble, VERSION_1, on_trial, put, put_metadata, two_banks,
+    with_manifest,
+};
 use std::alloc::Global;
 use std::process::Abort;
 
@@ -24,15 +25,15 @@ const FREE: &str =
     "ffffffffffffffffffffffffffffffffffffffffffffffffffffffffffffffffffffffffffffffffffffffffffffffffffffffffffffffffffffffffffffffffffffffffffffffffffffffffffffffffffffffffffffffffffffffffffffffffffffffffffffffffffffffffffffffffffffffffffffffffffffffffffffffffffffffffffffffffffffffffffffffffffffffffffffffffffffffffffffffffffffffffffffffffffffffffffffffffffffffffffffffffffffffffffffffffffffffffffffffffffffffffffffffffffffffffffffffffffffffffffffffffffffffffffffffffffffffffffffffffffffffffffffffffffffffffffffffffffffffffffffffffffffffffffffffffffffffffffffffffffffffffffffffffff";
 
 fn old_metadata(rt: &impl Abort, alloc: Global) -> Vec<u8> {
-    let mut image = two_banks(rt, alloc);
-    put_metadata(rt, alloc, &mut image, FREE);
-    put_metadata(rt, alloc, &mut image, VERSION_1);
+    let mut image = two_banks(alloc).expect(rt, "memory");
+    put_metadata(alloc, &mut image, FREE).expect(rt, "memory");
+    put_metadata(alloc, &mut image, VERSION_1).expect(rt, "memory");
     image
 }
 
 fn torn(rt: &impl Abort, alloc: Global) -> Vec<u8> {
-    let mut image = two_banks(rt, alloc);
-    put(rt, alloc, &mut image, 4096, "fd");
+    let mut image = two_banks(alloc).expect(rt, "memory");
+    put(alloc, &mut image, 4096, "fd").expect(rt, "memory");
     image
 }
 
@@ -40,14 +41,14 @@ fn image_of(rt: &impl Abort, alloc: Global, start: Start) -> Vec<u8> {
     match start {
         Start::Torn => torn(rt, alloc),
         Start::Old => old_metadata(rt, alloc),
-        Start::Fifth => with_manifest(rt, alloc, MANIFEST_5),
-        Start::OnTrial => on_trial(rt, alloc),
+        Start::Fifth => with_manifest(alloc, MANIFEST_5).expect(rt, "memory"),
+        Start::OnTrial => on_trial(alloc).expect(rt, "memory"),
     }
 }
 
 // Whether two boots with this cut end well, and their last line is one of these.
 fn comes_back(rt: &impl Abort, alloc: Global, image: Vec<u8>, cut: Cut, lines: &[&str]) -> bool {
-    let trouble = Trouble { cut, ..NOTHING };
+    let trouble = Trouble { cut, ..NO_TROUBLE };
     let files = Vec::new(alloc);
     let ran = run_with(rt, alloc, "run", "boot\nboot\n", files, image, &trouble);
     ran.status == 0 && ends_with_one(rt, alloc, ran.printed.as_slice(), lines)

@@ -1,8 +1,8 @@
 //! Power is lost at each erase and program of an update.
-use crate::flashes::{formatted, two_banks};
 use crate::packages::packages;
-use crate::runs::{Bench, NOTHING, Trouble, ends_with_one, run};
+use crate::runs::{Bench, ends_with_one, run};
 use flash_devices::Cut;
+use runs_kit::{NO_TROUBLE, Trouble, formatted, two_banks};
 use std::alloc::Global;
 use std::process::Abort;
 
@@ -206,9 +206,9 @@ fn survives(rt: &impl Abort, alloc: Global, bench: &Bench, sweep: &Sweep, cut: C
     let script = sweep.script.replace(alloc, "CUT", line.as_str());
     let script = script.expect(rt, "memory");
     let trouble = if sweep.script.contains("CUT") {
-        NOTHING
+        NO_TROUBLE
     } else {
-        Trouble { cut, ..NOTHING }
+        Trouble { cut, ..NO_TROUBLE }
     };
     let end = end_at(sweep.ends, op, landed);
     bench.is_between(rt, alloc, script.as_str(), &trouble, sweep.front, end)
@@ -234,7 +234,7 @@ fn holds_at(rt: &impl Abort, is_so: bool, script: &str, cut: Cut) {
 #[test]
 fn a_staging_survives_each_loss(rt: HostRuntime) {
     let alloc = rt.alloc();
-    let bench = bench_of(&rt, alloc, two_banks(&rt, alloc));
+    let bench = bench_of(&rt, alloc, two_banks(alloc).expect(&rt, "memory"));
     for sweep in &STAGING {
         each_loss(&rt, alloc, &bench, sweep);
     }
@@ -243,7 +243,7 @@ fn a_staging_survives_each_loss(rt: HostRuntime) {
 #[test]
 fn a_sending_survives_each_loss(rt: HostRuntime) {
     let alloc = rt.alloc();
-    let bench = bench_of(&rt, alloc, formatted(&rt, alloc));
+    let bench = bench_of(&rt, alloc, formatted(alloc).expect(&rt, "memory"));
     for sweep in &SENDING {
         each_loss(&rt, alloc, &bench, sweep);
     }
@@ -286,7 +286,7 @@ const PARTIAL: [Sweep; 2] = [
 #[test]
 fn a_partial_sending_survives_each_loss(rt: HostRuntime) {
     let alloc = rt.alloc();
-    let bench = bench_of(&rt, alloc, formatted(&rt, alloc));
+    let bench = bench_of(&rt, alloc, formatted(alloc).expect(&rt, "memory"));
     for sweep in &PARTIAL {
         each_loss(&rt, alloc, &bench, sweep);
     }
@@ -299,8 +299,8 @@ const ACCEPTED: &str =
 #[test]
 fn a_sending_over_a_package_survives_each_loss(rt: HostRuntime) {
     let alloc = rt.alloc();
-    let mut bench = bench_of(&rt, alloc, formatted(&rt, alloc));
-    bench.flash = bench.run(&rt, alloc, ACCEPTED, &NOTHING).image;
+    let mut bench = bench_of(&rt, alloc, formatted(alloc).expect(&rt, "memory"));
+    bench.flash = bench.run(&rt, alloc, ACCEPTED, &NO_TROUBLE).image;
     for sweep in &SENDINGS_AGAIN {
         each_loss(&rt, alloc, &bench, sweep);
     }
@@ -344,7 +344,7 @@ fn comes_back(
     cut: Cut,
     lines: &[&str],
 ) -> bool {
-    let ran = bench.run(rt, alloc, script, &Trouble { cut, ..NOTHING });
+    let ran = bench.run(rt, alloc, script, &Trouble { cut, ..NO_TROUBLE });
     let is_allowed = ends_with_one(rt, alloc, ran.printed.as_slice(), lines);
     let is_done = ran.status == 0;
     let booted = run(rt, alloc, "boot", "", ran.image);
@@ -370,7 +370,7 @@ fn each_return(
 #[test]
 fn a_whole_update_survives_each_loss(rt: HostRuntime) {
     let alloc = rt.alloc();
-    let bench = bench_of(&rt, alloc, formatted(&rt, alloc));
+    let bench = bench_of(&rt, alloc, formatted(alloc).expect(&rt, "memory"));
     for (script, lines) in &UPDATES {
         // None of them makes more than 40 operations.
         for op in 1..41 {

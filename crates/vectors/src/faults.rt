@@ -1,7 +1,7 @@
 //! One call of the flash, of the files, of the source or of the sink fails in an update.
-use crate::flashes::two_banks;
 use crate::packages::packages;
-use crate::runs::{Bench, NOTHING, Ran, Trouble, holds, run};
+use crate::runs::{Bench, Ran, holds, run};
+use runs_kit::{NO_TROUBLE, Trouble, two_banks};
 use std::alloc::Global;
 use std::process::Abort;
 
@@ -38,7 +38,7 @@ enum Failing {
 }
 
 fn trouble_of(failing: Failing, call: u64) -> Trouble {
-    let mut trouble = NOTHING;
+    let mut trouble = NO_TROUBLE;
     match failing {
         Failing::Flash => trouble.flash = call,
         Failing::Files => trouble.files = call,
@@ -70,7 +70,7 @@ fn is_failure(failing: Failing, ran: &Ran, whole: &[u8]) -> bool {
 
 // Each call fails in turn, until there are no more: no failure is passed over. How many there were.
 fn fail_each(rt: &impl Abort, alloc: Global, bench: &Bench, script: &str, failing: Failing) -> u64 {
-    let whole = bench.run(rt, alloc, script, &NOTHING).printed;
+    let whole = bench.run(rt, alloc, script, &NO_TROUBLE).printed;
     for call in 1..400 {
         let ran = bench.run(rt, alloc, script, &trouble_of(failing, call));
         if ran.status == 0 {
@@ -97,7 +97,7 @@ const FAILURES: [(&str, Failing, u64, u64); 4] = [
 #[test]
 fn an_update_survives_the_failure_of_each_call(rt: HostRuntime) {
     let alloc = rt.alloc();
-    let (files, flash) = (packages(&rt, alloc), two_banks(&rt, alloc));
+    let (files, flash) = (packages(&rt, alloc), two_banks(alloc).expect(&rt, "memory"));
     let bench = Bench { files, flash };
     for (script, failing, least, most) in FAILURES {
         let calls = fail_each(&rt, alloc, &bench, script, failing);

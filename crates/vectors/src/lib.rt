@@ -9,8 +9,6 @@ mod cuts;
 #[cfg(test)]
 mod faults;
 #[cfg(test)]
-mod flashes;
-#[cfg(test)]
 mod packages;
 #[cfg(test)]
 mod partitioned;

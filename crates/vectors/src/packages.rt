@@ -1,7 +1,6 @@
 //! The bytes of packages. They come from checks/model/make_packages.py, which writes them from docs/FORMATS.md by Python's
 //! struct, uuid and hashlib: checks/model/check_vectors.py makes them again.
-use crate::flashes::{MANIFEST, MANIFEST_2, MANIFEST_5};
-use crate::runs::Named;
+use runs_kit::{MANIFEST, MANIFEST_2, MANIFEST_5, Named};
 use std::alloc::Global;
 use std::process::Abort;
 

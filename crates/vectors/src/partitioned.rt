@@ -2,9 +2,10 @@
 ghost use Rattle.std.specs.Prelude.{◌≡◌, IsFalse, None};
 ghost use Rattle.flash_devices.specs.Memory.{is_on, arming_of};
 
-use crate::runs::{NOTHING, Ran, Trouble, ends, files_of, flash_of, holds, run_on, source_of};
+use crate::runs::{Ran, ends, holds, run_on, source_of};
 use crate::tables::{BACKUP, PRIMARY, partitioned};
 use flash_devices::{Cut, MemoryFlash};
+use runs_kit::{NO_TROUBLE, Trouble, files_of, flash_of};
 use script_cmd::Note;
 use std::alloc::Global;
 use std::process::Abort;
@@ -20,13 +21,15 @@ fn device(rt: &impl Abort, alloc: Global, image: Vec<u8>, trouble: &Trouble) -> 
     ensures unarmed { arming_of result ≡ None }
 {
     let guarded = Vec::from_slice(alloc, &GUARDED).expect(rt, "memory");
-    flash_of(rt, alloc, image, trouble).guard(guarded)
+    flash_of(alloc, image, trouble)
+        .expect(rt, "memory")
+        .guard(guarded)
 }
 
 // A boot of a device with these bytes.
 fn booted(rt: &impl Abort, alloc: Global, image: Vec<u8>, trouble: &Trouble) -> Ran {
     let mut source = source_of(rt, alloc, "", 0);
-    let mut files = files_of(rt, alloc, Vec::new(alloc), 0);
+    let mut files = files_of(alloc, Vec::new(alloc), 0).expect(rt, "memory");
     let flash = device(rt, alloc, image, trouble);
     let words = "boot --gpt";
     run_on(rt, alloc, words, &mut files, &mut source, trouble, flash)
@@ -42,7 +45,7 @@ fn has_headers(rt: &impl Abort, alloc: Global, image: &[u8]) -> bool {
 
 // A boot of this device ends well, and then both headers stand.
 fn is_repaired(rt: &impl Abort, alloc: Global, image: Vec<u8>) {
-    let ran = booted(rt, alloc, image, &NOTHING);
+    let ran = booted(rt, alloc, image, &NO_TROUBLE);
     ends(rt, &ran, 0, BOOT1);
     holds(rt, has_headers(rt, alloc, ran.image.as_slice()), "headers");
 }
@@ -59,7 +62,10 @@ fn fails(rt: &impl Abort, alloc: Global, image: Vec<u8>, trouble: &Trouble) -> R
 fn a_table_that_is_not_read(rt: HostRuntime) {
     let alloc = rt.alloc();
     for flash in 1..5 {
-        let trouble = Trouble { flash, ..NOTHING };
+        let trouble = Trouble {
+            flash,
+            ..NO_TROUBLE
+        };
         let image = partitioned(&rt, alloc, true, true);
         let note = fails(&rt, alloc, image, &trouble).note;
         holds(&rt, note == Note::Nothing, "a note");
@@ -68,7 +74,7 @@ fn a_table_that_is_not_read(rt: HostRuntime) {
 
 // A loss of power at one of the four operations of a repair, and then a boot.
 fn repairs_after(rt: &impl Abort, alloc: Global, primary: bool, cut: Cut) {
-    let trouble = Trouble { cut, ..NOTHING };
+    let trouble = Trouble { cut, ..NO_TROUBLE };
     let image = partitioned(rt, alloc, primary, !primary);
     is_repaired(rt, alloc, fails(rt, alloc, image, &trouble).image);
 }

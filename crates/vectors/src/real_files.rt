@@ -1,10 +1,10 @@
 //! The program over files of the system, in a folder that has no file but those that the words and the scripts name: a file that
 //! nobody named is never asked for, since that would be a file fault.
 
-use crate::flashes::blank;
 use crate::packages::packages;
-use crate::runs::{NOTHING, Ran, ends, flash_of, run_on, source_of};
+use crate::runs::{Ran, ends, run_on, source_of};
 use host_io::HostFiles;
+use runs_kit::{NO_TROUBLE, blank, flash_of};
 use std::alloc::{Alloc, Global};
 use std::fs;
 use std::process::Abort;
@@ -66,8 +66,8 @@ fn ran<R: Files>(
     image: Vec<u8>,
 ) -> Ran {
     let mut source = source_of(rt, alloc, script, 0);
-    let flash = flash_of(rt, alloc, image, &NOTHING);
-    run_on(rt, alloc, words, files, &mut source, &NOTHING, flash)
+    let flash = flash_of(alloc, image, &NO_TROUBLE).expect(rt, "memory");
+    run_on(rt, alloc, words, files, &mut source, &NO_TROUBLE, flash)
 }
 
 #[test]
@@ -75,7 +75,14 @@ fn updates_over_files_of_the_system(rt: HostRuntime) {
     let alloc = rt.alloc();
     make_folder(&rt, alloc);
     let mut files = HostFiles::new(&rt);
-    let made = ran(&rt, alloc, &mut files, FORMAT, "", blank(&rt, alloc, 22));
+    let made = ran(
+        &rt,
+        alloc,
+        &mut files,
+        FORMAT,
+        "",
+        blank(alloc, 22).expect(&rt, "memory"),
+    );
     let line = "format banks=2 images=3 blocks=22 version=1\n";
     ends(&rt, &made, 0, line);
     for (words, script, status, lines) in &RUNS {

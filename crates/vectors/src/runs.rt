@@ -1,11 +1,12 @@
 //! Runs of the program on flashes in memory.
-ghost use Rattle.std.specs.Prelude.{◌≡◌, IsFalse, None};
+ghost use Rattle.std.specs.Prelude.{◌≡◌, IsFalse, None, IsTrue};
 ghost use Rattle.flash_devices.specs.Memory.{is_on, arming_of};
 
 use crate::texts::expand;
 use flash_core::Flash;
-use flash_devices::{Cut, MemoryFlash};
-use host_io::{Files, MemoryFiles, MemorySink, MemorySource, Sink};
+use flash_devices::MemoryFlash;
+use host_io::{Files, MemorySink, MemorySource, Sink};
+use runs_kit::{NO_TROUBLE, Named, Trouble, files_of, flash_of, only, words_of};
 use script_cmd::{Done, Note, fwu_top, fwu_top_with};
 use std::alloc::Global;
 use std::process::Abort;
@@ -22,76 +23,10 @@ pub struct Ran {
     pub image: Vec<u8>,
 }
 
-/// What stops a run: a cut, or the failure of one call, each by its number from 1 on. Number 0 is none.
-#[derive(Clone, Copy)]
-pub struct Trouble {
-    pub cut: Cut,
-    pub flash: u64,
-    pub files: u64,
-    pub source: u64,
-    pub sink: u64,
-}
-
-const NO_CUT: Cut = Cut {
-    op: 0,
-    landed: 0,
-    back: false,
-};
-
-/// Nothing stops the run.
-pub const NOTHING: Trouble = Trouble {
-    cut: NO_CUT,
-    flash: 0,
-    files: 0,
-    source: 0,
-    sink: 0,
-};
-
-/// Stops the test where this does not hold, and prints what it is of. A call costs its test's proof less than the macro in its place.
-pub fn holds(rt: &impl Abort, is_so: bool, of: &str) {
-    assert!(rt; is_so, "{of}");
-}
-
-/// The words of a line.
-pub fn words_of(rt: &impl Abort, alloc: Global, line: &str) -> Vec<String> {
-    let mut words = Vec::new(alloc);
-    for word in line.split(' ') {
-        let word = String::from_str(alloc, word).expect(rt, "memory");
-        words.push(word).expect(rt, "memory");
-    }
-    words
-}
-
-/// A file, by its name.
-pub type Named = (String, Vec<u8>);
-
-/// This file and no other.
-pub fn one_file(rt: &impl Abort, alloc: Global, name: &str, bytes: Vec<u8>) -> Vec<Named> {
-    let mut files = Vec::new(alloc);
-    let name = String::from_str(alloc, name).expect(rt, "memory");
-    files.push((name, bytes)).expect(rt, "memory");
-    files
-}
-
-// The list of one call.
-fn only(rt: &impl Abort, alloc: Global, call: u64) -> Vec<u64> {
-    Vec::from_slice(alloc, &[call]).expect(rt, "memory")
-}
-
 /// A source of this script, of which the call of this number fails.
 pub fn source_of(rt: &impl Abort, alloc: Global, script: &str, fails: u64) -> MemorySource {
     let bytes = Vec::from_slice(alloc, script.as_bytes()).expect(rt, "memory");
-    MemorySource::new(bytes, only(rt, alloc, fails))
-}
-
-/// A flash with these bytes, off.
-pub fn flash_of(rt: &impl Abort, alloc: Global, image: Vec<u8>, trouble: &Trouble) -> MemoryFlash
-    ensures off { IsFalse (is_on result) }
-    ensures unarmed { arming_of result ≡ None }
-{
-    let cuts = Vec::from_slice(alloc, &[trouble.cut]).expect(rt, "memory");
-    let faults = only(rt, alloc, trouble.flash);
-    MemoryFlash::from_bytes(alloc, image, cuts, faults).expect(rt, "a flash")
+    MemorySource::new(bytes, only(alloc, fails).expect(rt, "memory"))
 }
 
 /// The program's end on a flash. What it promises is left out, so that goals stay small.
@@ -124,11 +59,6 @@ pub fn end_by<D: Flash, H: Files, O: Sink, V: Verifier>(
 {
     let words = words.as_slice();
     fwu_top_with(alloc, words, files, source, sink, flash, verifier)
-}
-
-/// These files in memory, of which the call of this number fails.
-pub fn files_of(rt: &impl Abort, alloc: Global, files: Vec<Named>, fails: u64) -> MemoryFiles {
-    MemoryFiles::new(alloc, files, only(rt, alloc, fails))
 }
 
 // The bytes of a flash once it has power.
@@ -164,8 +94,12 @@ pub fn run_on<H: Files>(
     requires off { IsFalse (is_on flash) }
     requires unarmed { arming_of flash ≡ None }
 {
-    let mut sink = MemorySink::new(alloc, Vec::new(alloc), only(rt, alloc, trouble.sink));
-    let words = words_of(rt, alloc, words);
+    let mut sink = MemorySink::new(
+        alloc,
+        Vec::new(alloc),
+        only(alloc, trouble.sink).expect(rt, "memory"),
+    );
+    let words = words_of(alloc, words).expect(rt, "memory");
     let done = end_on(alloc, words, files, source, &mut sink, flash);
     ran_of(rt, alloc, done, sink.bytes())
 }
@@ -181,14 +115,22 @@ pub fn run_with(
     trouble: &Trouble,
 ) -> Ran {
     let mut source = source_of(rt, alloc, script, trouble.source);
-    let mut files = files_of(rt, alloc, files, trouble.files);
-    let flash = flash_of(rt, alloc, image, trouble);
+    let mut files = files_of(alloc, files, trouble.files).expect(rt, "memory");
+    let flash = flash_of(alloc, image, trouble).expect(rt, "memory");
     run_on(rt, alloc, words, &mut files, &mut source, trouble, flash)
 }
 
 /// The program with these words and this script, and no files, on a flash with these bytes.
 pub fn run(rt: &impl Abort, alloc: Global, words: &str, script: &str, image: Vec<u8>) -> Ran {
-    run_with(rt, alloc, words, script, Vec::new(alloc), image, &NOTHING)
+    run_with(
+        rt,
+        alloc,
+        words,
+        script,
+        Vec::new(alloc),
+        image,
+        &NO_TROUBLE,
+    )
 }
 
 /// It ended so.
@@ -241,4 +183,11 @@ pub fn ends_with_one(rt: &impl Abort, alloc: Global, text: &[u8], lines: &[&str]
         }
     }
     false
+}
+
+/// Stops the test where this does not hold, and prints what it is of. A call costs its test's proof less than the macro in its place.
+pub fn holds(rt: &impl Abort, is_so: bool, of: &str)
+    ensures { IsTrue is_so }
+{
+    assert!(rt; is_so, "{of}");
 }

@@ -3,13 +3,11 @@
 ghost use Rattle.std.specs.Prelude.{◌≡◌, false, refl, IsFalse, None};
 ghost use Rattle.flash_devices.specs.Memory.{is_on, arming_of};
 
-use crate::flashes::{LIST, two_banks};
 use crate::packages::packages;
-use crate::runs::{
-    NOTHING, Ran, end_by, end_on, ends, files_of, flash_of, holds, ran_of, run, source_of, words_of,
-};
+use crate::runs::{Ran, end_by, end_on, ends, holds, ran_of, run, source_of};
 use flash_devices::MemoryFlash;
 use host_io::{MemorySink, Sink, WriteStop};
+use runs_kit::{LIST, NO_TROUBLE, files_of, flash_of, two_banks, words_of};
 use std::alloc::Global;
 use std::process::Abort;
 use verify_core::DigestList;
@@ -55,8 +53,8 @@ fn run_on(
     let mut source = source_of(rt, alloc, script, 0);
     let text = Vec::new(alloc);
     let mut sink = ShortSink { text, calls };
-    let words = words_of(rt, alloc, words);
-    let mut files = files_of(rt, alloc, packages(rt, alloc), 0);
+    let words = words_of(alloc, words).expect(rt, "memory");
+    let mut files = files_of(alloc, packages(rt, alloc), 0).expect(rt, "memory");
     let done = end_on(alloc, words, &mut files, &mut source, &mut sink, flash);
     ran_of(rt, alloc, done, sink.text.as_slice())
 }
@@ -138,7 +136,9 @@ fn left_after(
     calls: u32,
     status: u8,
 ) -> Vec<u8> {
-    let flash = flash_of(rt, alloc, two_banks(rt, alloc), &NOTHING);
+    let flash = flash_of(alloc, two_banks(alloc).expect(rt, "memory"), &NO_TROUBLE).expect(
+        rt, "memory",
+    );
     let ran = run_on(rt, alloc, words, script, calls, flash);
     holds(rt, ran.status == status, script);
     ran.image
@@ -158,9 +158,11 @@ fn want_of_memory_for_a_line_leaves_a_flash_that_boots(rt: HostRuntime) {
 fn run_by(rt: &impl Abort, alloc: Global, script: &str, list: &DigestList) -> Ran {
     let mut source = source_of(rt, alloc, script, 0);
     let mut sink = MemorySink::new(alloc, Vec::new(alloc), Vec::new(alloc));
-    let flash = flash_of(rt, alloc, two_banks(rt, alloc), &NOTHING);
-    let words = words_of(rt, alloc, "run");
-    let mut files = files_of(rt, alloc, packages(rt, alloc), 0);
+    let flash = flash_of(alloc, two_banks(alloc).expect(rt, "memory"), &NO_TROUBLE).expect(
+        rt, "memory",
+    );
+    let words = words_of(alloc, "run").expect(rt, "memory");
+    let mut files = files_of(alloc, packages(rt, alloc), 0).expect(rt, "memory");
     let done = end_by(
         alloc,
         words,

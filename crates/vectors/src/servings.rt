@@ -1,13 +1,8 @@
-//! The command `serve`: what it answers to requests, how it ends, and what it leaves of its note and its source.
-use crate::flashes::{LIST, blank, two_banks};
-use crate::runs::{
-    NOTHING, Named, Ran, Trouble, end_on, ends, files_of, flash_of, holds, one_file, run_on,
-    words_of,
-};
+//! Servings that a failure or a loss of power ends: what was written up to then.
+use crate::runs::{Ran, end_on, holds, run_on};
 use flash_devices::Cut;
-use fwu_formats::LayoutFault;
-use fwu_model::NoBoot;
-use host_io::{MemorySink, MemorySource, Source};
+use host_io::{MemorySink, MemorySource};
+use runs_kit::{NO_TROUBLE, Trouble, files_of, flash_of, two_banks, words_of};
 use script_cmd::Note;
 use std::alloc::Global;
 use std::process::Abort;
@@ -17,22 +12,6 @@ fn stream_of(rt: &impl Abort, alloc: Global, digits: &str, fails: u64) -> Memory
     let bytes = hex::decode(alloc, digits).expect(rt, "digits");
     let fails = Vec::from_slice(alloc, &[fails]).expect(rt, "memory");
     MemorySource::new(bytes, fails)
-}
-
-// The program with these words and files, and this stream, on a flash with these bytes.
-fn served(
-    rt: &impl Abort,
-    alloc: Global,
-    words: &str,
-    files: Vec<Named>,
-    stream: &str,
-    image: Vec<u8>,
-    trouble: &Trouble,
-) -> Ran {
-    let mut source = stream_of(rt, alloc, stream, trouble.source);
-    let flash = flash_of(rt, alloc, image, trouble);
-    let mut files = files_of(rt, alloc, files, trouble.files);
-    run_on(rt, alloc, words, &mut files, &mut source, trouble, flash)
 }
 
 // It wrote the bytes that the digits spell.
@@ -45,10 +24,6 @@ fn wrote(rt: &impl Abort, alloc: Global, ran: &Ran, digits: &str) {
 const BEGINS: &str =
     "100000000100000010000000000000000000000010000000010000001000000000000000000000000800000002000000\
 11000000";
-
-// The reply to request 1 twice, and an end without a manifest is denied.
-const BEGUN: &str = "080000000100000000000000080000000100000000000000\
-0800000002000000fcffffff";
 
 // A cancel, which is denied where nothing is staged.
 const CANCEL: &str = "080000000100000012000000";
@@ -63,11 +38,6 @@ const WRITES: &str =
 
 const OPENED: &str = "0800000001000000000000000c000000020000000000000001000000";
 
-// What the agent tells: version 1.0, regular, and its ten functions.
-const DISCOVERED: &str = "400000000100000000000000010000000000000000000000\
-0a000000000000001000000011000000120000001300000014000000150000001600000017000000\
-18000000";
-
 // A stream on a flash with firmware, what fails, how the serving ends, and what it wrote.
 #[derive(Clone, Copy)]
 struct Case {
@@ -77,60 +47,43 @@ struct Case {
     written: &'static str,
 }
 
-const SERVINGS: [Case; 10] = [
-    // Nothing comes: the boot alone.
-    Case {
-        stream: "",
-        trouble: NOTHING,
-        status: 0,
-        written: "",
-    },
-    Case {
-        stream: "080000000100000000000000",
-        trouble: NOTHING,
-        status: 0,
-        written: DISCOVERED,
-    },
-    Case {
-        stream: BEGINS,
-        trouble: NOTHING,
-        status: 0,
-        written: BEGUN,
-    },
-    // Its first 11 bytes end inside a frame.
-    Case {
-        stream: "1000000001000000100000",
-        trouble: NOTHING,
-        status: 11,
-        written: "",
-    },
-    // A good request, and a length that no body has.
-    Case {
-        stream: "08000000010000001200000007000000",
-        trouble: NOTHING,
-        status: 11,
-        written: NOTHING_BEGUN,
-    },
+const SERVINGS: [Case; 6] = [
     // The second read fails.
     Case {
         stream: CANCEL,
         trouble: Trouble {
             source: 2,
-            ..NOTHING
+            ..NO_TROUBLE
         },
         status: 2,
         written: "",
     },
+    // The end isn't told, but a failure.
+    Case {
+        stream: CANCEL,
+        trouble: Trouble {
+            source: 3,
+            ..NO_TROUBLE
+        },
+        status: 2,
+        written: NOTHING_BEGUN,
+    },
     // A closed sink, and one that is full behind the first reply.
     Case {
         stream: CANCEL,
-        trouble: Trouble { sink: 1, ..NOTHING },
+        trouble: Trouble {
+            sink: 1,
+            ..NO_TROUBLE
+        },
         status: 3,
         written: "",
     },
     Case {
         stream: BEGINS,
-        trouble: Trouble { sink: 2, ..NOTHING },
+        trouble: Trouble {
+            sink: 2,
+            ..NO_TROUBLE
+        },
         status: 3,
         written: "080000000100000000000000",
     },
@@ -139,7 +92,7 @@ const SERVINGS: [Case; 10] = [
         stream: CANCEL,
         trouble: Trouble {
             flash: 1,
-            ..NOTHING
+            ..NO_TROUBLE
         },
         status: 5,
         written: "",
@@ -153,7 +106,7 @@ const SERVINGS: [Case; 10] = [
                 landed: 0,
                 back: false,
             },
-            ..NOTHING
+            ..NO_TROUBLE
         },
         status: 12,
         written: OPENED,
@@ -162,83 +115,29 @@ const SERVINGS: [Case; 10] = [
 
 // The program ends as the case says.
 fn ends_as(rt: &impl Abort, alloc: Global, case: &Case) {
-    let image = two_banks(rt, alloc);
-    let files = Vec::new(alloc);
-    let ran = served(rt, alloc, "serve", files, case.stream, image, &case.trouble);
+    let mut source = stream_of(rt, alloc, case.stream, case.trouble.source);
+    let mut files = files_of(alloc, Vec::new(alloc), 0).expect(rt, "memory");
+    let flash = flash_of(alloc, two_banks(alloc).expect(rt, "memory"), &case.trouble).expect(
+        rt, "memory",
+    );
+    let ran = run_on(
+        rt,
+        alloc,
+        "serve",
+        &mut files,
+        &mut source,
+        &case.trouble,
+        flash,
+    );
     wrote(rt, alloc, &ran, case.written);
     let is_so = ran.status == case.status && ran.note == Note::Nothing;
     holds(rt, is_so, case.stream);
 }
 
 #[test]
-fn servings_of_a_flash_with_firmware(rt: HostRuntime) {
+fn servings_that_are_stopped(rt: HostRuntime) {
     for case in &SERVINGS {
         ends_as(&rt, rt.alloc(), case);
-    }
-}
-
-#[test]
-fn a_blank_flash_serves_nothing(rt: HostRuntime) {
-    let alloc = rt.alloc();
-    let (files, image) = (Vec::new(alloc), blank(&rt, alloc, 8));
-    let ran = served(&rt, alloc, "serve", files, CANCEL, image, &NOTHING);
-    ends(&rt, &ran, 6, "");
-    let wanted = Note::Boot(NoBoot::Layout(LayoutFault::BadMagic));
-    holds(&rt, ran.note == wanted, "the note of a boot");
-}
-
-const USAGE: &str =
-    "usage: fwu FLASH run|boot|show|format [--banks N] LAYOUT PACKAGE|soak SEED N|serve\n";
-
-// The words, the list's bytes, the status, the line, and the note.
-const REFUSALS: [(&str, &str, u8, &str, Note); 5] = [
-    ("serve x", "", 1, USAGE, Note::Nothing),
-    ("serve --gpt", "", 1, USAGE, Note::Nothing),
-    ("--allow list serve --gpt", "", 1, USAGE, Note::Nothing),
-    (
-        "--allow list serve",
-        "x\n",
-        13,
-        "bad-list 1\n",
-        Note::BadList(1),
-    ),
-    ("--allow none serve", "", 2, "read-fault\n", Note::Nothing),
-];
-
-// These words are answered by a line alone, and their source is not read.
-fn is_refused(rt: &impl Abort, alloc: Global, words: &str, list: &str) -> Ran {
-    let bytes = Vec::from_slice(alloc, list.as_bytes()).expect(rt, "memory");
-    let mut source = stream_of(rt, alloc, CANCEL, 0);
-    let flash = flash_of(rt, alloc, two_banks(rt, alloc), &NOTHING);
-    let files = one_file(rt, alloc, "list", bytes);
-    let mut files = files_of(rt, alloc, files, 0);
-    let ran = run_on(rt, alloc, words, &mut files, &mut source, &NOTHING, flash);
-    let mut rest = [0; 16];
-    holds(rt, source.read(&mut rest).unwrap_or(16) == 12, words);
-    ran
-}
-
-#[test]
-fn what_is_refused_before_a_serving(rt: HostRuntime) {
-    for (words, list, status, line, note) in &REFUSALS {
-        let ran = is_refused(&rt, rt.alloc(), words, list);
-        ends(&rt, &ran, *status, line);
-        holds(&rt, ran.note == *note, words);
-    }
-}
-
-// By an empty list no bank boots, and by that of its manifest the bank does.
-#[test]
-fn a_list_says_what_boots(rt: HostRuntime) {
-    let alloc = rt.alloc();
-    for (list, status, written) in [("", 6, ""), (LIST, 0, NOTHING_BEGUN)] {
-        let bytes = Vec::from_slice(alloc, list.as_bytes()).expect(&rt, "memory");
-        let files = one_file(&rt, alloc, "list", bytes);
-        let words = "--allow list serve";
-        let image = two_banks(&rt, alloc);
-        let ran = served(&rt, alloc, words, files, CANCEL, image, &NOTHING);
-        wrote(&rt, alloc, &ran, written);
-        holds(&rt, ran.status == status, words);
     }
 }
 
@@ -246,11 +145,13 @@ fn a_list_says_what_boots(rt: HostRuntime) {
 #[test]
 fn a_repeat_is_no_turn(rt: HostRuntime) {
     let alloc = rt.alloc();
-    let flash = flash_of(&rt, alloc, two_banks(&rt, alloc), &NOTHING);
+    let flash = flash_of(alloc, two_banks(alloc).expect(&rt, "memory"), &NO_TROUBLE).expect(
+        &rt, "memory",
+    );
     let mut source = stream_of(&rt, alloc, BEGINS, 0);
     let mut sink = MemorySink::new(alloc, Vec::new(alloc), Vec::new(alloc));
-    let words = words_of(&rt, alloc, "serve");
-    let mut files = files_of(&rt, alloc, Vec::new(alloc), 0);
+    let words = words_of(alloc, "serve").expect(&rt, "memory");
+    let mut files = files_of(alloc, Vec::new(alloc), 0).expect(&rt, "memory");
     let done = end_on(alloc, words, &mut files, &mut source, &mut sink, flash);
     holds(&rt, done.journal.len() == 3, BEGINS);
 }

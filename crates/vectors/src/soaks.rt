@@ -1,7 +1,7 @@
 //! Soaks that a fault, a loss of power or a sink ends.
-use crate::flashes::blank;
-use crate::runs::{NOTHING, Trouble, ends, holds, run, run_with};
+use crate::runs::{ends, holds, run, run_with};
 use flash_devices::Cut;
+use runs_kit::{NO_TROUBLE, Trouble, blank};
 use script_cmd::Note;
 use std::alloc::Global;
 use std::process::Abort;
@@ -25,7 +25,7 @@ const SOAKS: [Case; 4] = [
     Case {
         trouble: Trouble {
             flash: 1,
-            ..NOTHING
+            ..NO_TROUBLE
         },
         status: 5,
         line: "flash-fault\n",
@@ -38,7 +38,7 @@ const SOAKS: [Case; 4] = [
                 landed: 0,
                 back: false,
             },
-            ..NOTHING
+            ..NO_TROUBLE
         },
         status: 5,
         line: "flash-fault\n",
@@ -48,14 +48,17 @@ const SOAKS: [Case; 4] = [
     Case {
         trouble: Trouble {
             flash: 50,
-            ..NOTHING
+            ..NO_TROUBLE
         },
         status: 5,
         line: "flash-fault\n",
         left: BOOT1,
     },
     Case {
-        trouble: Trouble { sink: 1, ..NOTHING },
+        trouble: Trouble {
+            sink: 1,
+            ..NO_TROUBLE
+        },
         status: 3,
         line: "",
         left: BOOT1,
@@ -64,7 +67,7 @@ const SOAKS: [Case; 4] = [
 
 // The program ends as the case says, and leaves such a flash.
 fn ends_as(rt: &impl Abort, alloc: Global, case: &Case) {
-    let image = blank(rt, alloc, 64);
+    let image = blank(alloc, 64).expect(rt, "memory");
     let files = Vec::new(alloc);
     let ran = run_with(rt, alloc, "soak 1 1", "", files, image, &case.trouble);
     ends(rt, &ran, case.status, case.line);

@@ -1,7 +1,7 @@
 //! Devices with a flash of 22 blocks behind a GUID partition table.
 ghost use Rattle.std.specs.Prelude.{◌+◌, ◌≤◌};
 
-use crate::flashes::{blank, put, two_banks};
+use runs_kit::{blank, put, two_banks};
 use std::alloc::Global;
 use std::process::Abort;
 
@@ -50,17 +50,17 @@ fn put_flash(image: &mut Vec<u8>, flash: &[u8]) {
 
 /// The flash of `two_banks` in a device of 40 blocks with these copies of a table.
 pub fn partitioned(rt: &impl Abort, alloc: Global, primary: bool, backup: bool) -> Vec<u8> {
-    let mut image = blank(rt, alloc, 40);
+    let mut image = blank(alloc, 40).expect(rt, "memory");
     for place in [2, 38] {
         put_zeros(&mut image, 4096 * place, 512);
-        put(rt, alloc, &mut image, 4096 * place as u32, ENTRIES);
+        put(alloc, &mut image, 4096 * place as u32, ENTRIES).expect(rt, "memory");
     }
     if primary {
-        put(rt, alloc, &mut image, 4096, PRIMARY);
+        put(alloc, &mut image, 4096, PRIMARY).expect(rt, "memory");
     }
     if backup {
-        put(rt, alloc, &mut image, 39 * 4096, BACKUP);
+        put(alloc, &mut image, 39 * 4096, BACKUP).expect(rt, "memory");
     }
-    put_flash(&mut image, two_banks(rt, alloc).as_slice());
+    put_flash(&mut image, two_banks(alloc).expect(rt, "memory").as_slice());
     image
 }

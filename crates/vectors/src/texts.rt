@@ -1,5 +1,5 @@
 //! Scripts, and the lines that they print, with words for the longer parts.
-use crate::flashes::MANIFEST_2;
+use runs_kit::MANIFEST_2;
 use std::alloc::Global;
 use std::process::Abort;
 

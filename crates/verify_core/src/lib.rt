@@ -4,5 +4,5 @@
 mod list;
 mod verifier;
 
-pub use list::{DigestList, ListFault};
+pub use list::{DigestList, LINE_BYTES, LineFault, ListFault};
 pub use verifier::{AnyManifest, Both, Verifier};

@@ -1,9 +1,9 @@
 //! Lists of the SHA-256 (FIPS 180-4) of the manifests that pass, an own format.
-ghost use Rattle.std.specs.Prelude.{◌≡◌, ◌+◌, ◌<◌, ◌==◌, ℕ, List, Ok, IfOk, IfErr, drop, length, position};
+ghost use Rattle.std.specs.Prelude.{◌≡◌, ◌==◌, ◌∷◌, ◌++◌, ◌≤◌, ℕ, List, [], Ok, Err, None, IfOk, IfErr, IsSomeAnd, OnErr, OnOk, drop, length, position};
 ghost use Rattle.std.specs.List.{list_any};
 ghost use Rattle.base_core.specs.Bytes.{same_bytes};
 ghost use Rattle.fwu_formats.specs.Digests.{digests_of, digest_of, passes_listed};
-ghost use Rattle.verify_core.specs.Shown.{IsFaultOf};
+ghost use Rattle.verify_core.specs.Shown.{IsFaultOf, first_digest};
 
 use crate::verifier::Verifier;
 use hex::FromHex;
@@ -11,6 +11,19 @@ use sha2::{Digest, Sha256};
 use std::alloc::Global;
 use std::marker::Model;
 use thiserror::Error;
+
+/// How many bytes a line of a list has: 64 hexadecimal digits and its end.
+pub const LINE_BYTES: usize = 65;
+
+/// Why no digest was added.
+#[derive(Clone, Copy, Debug, PartialEq, Eq, Error)]
+pub enum LineFault {
+    /// The text does not begin with 64 hexadecimal digits and a line end.
+    #[error("the line is not 64 hexadecimal digits and a line end")]
+    NoDigest,
+    #[error("no memory")]
+    NoMemory,
+}
 
 /// Why bytes are no list: the first line, from 1, that is not 64 hexadecimal digits and a line end.
 #[derive(Clone, Copy, Debug, PartialEq, Eq, Error)]
@@ -52,12 +65,12 @@ fn line_end(text: &[u8]) -> Option<usize>
     text.iter().position(|byte| *byte == b'\n')
 }
 
-/// What follows a place.
-fn after(text: &[u8], place: usize) -> &[u8]
-    requires { place < length text.now }
-    ensures { result.now ≡ drop (place + 1) text.now }
+/// What follows a text's first line, of the length of a list's lines.
+fn after_line(text: &[u8]) -> &[u8]
+    requires { 65 ≤ length text.now }
+    ensures { result.now ≡ drop 65 text.now }
 {
-    &text[place + 1..]
+    &text[LINE_BYTES..]
 }
 
 fn is_same(bytes: &[u8], other: &[u8]) -> bool
@@ -73,29 +86,54 @@ fn is_listed(digest: &[u8], digests: &[[u8; 32]]) -> bool
 }
 
 impl DigestList {
+    /// The list of no digests.
+    pub fn new(alloc: Global) -> DigestList
+        ensures { result ≡ [] }
+    {
+        DigestList {
+            digests: Vec::new(alloc),
+        }
+    }
+
+    /// Adds the digest that the first line of a text is: 64 hexadecimal digits, letters of either case, and behind
+    /// them a byte 0x0A. What stands behind the line is not looked at. An `Err` leaves the list as it was.
+    pub fn add_first_line(&mut self, text: &[u8]) -> Result<(), LineFault>
+        ensures added { OnOk result (IsSomeAnd (first_digest text.now)
+            (λ digest. self.new ≡ self.old ++ digest ∷ [])) }
+        ensures bad { result ≡ Err LineFault.NoDigest → first_digest text.now ≡ None }
+        ensures unchanged { OnErr result (self.new ≡ self.old) }
+    {
+        let Some(end) = line_end(text) else {
+            return Err(LineFault::NoDigest);
+        };
+        let Some(digest) = digest_in(&text[..end]) else {
+            return Err(LineFault::NoDigest);
+        };
+        if self.digests.push(digest).is_err() {
+            return Err(LineFault::NoMemory);
+        }
+        Ok(())
+    }
+
     /// The digests of a file whose lines are 64 hexadecimal digits, letters of either case, each ended by a byte 0x0A.
     /// The first other line is the fault, and so is a last line without its end. The empty file is the empty list.
     pub fn read(alloc: Global, bytes: &[u8]) -> Result<DigestList, ListFault>
         ensures ok { IfOk result (λ list. digests_of bytes.now ≡ Ok list) }
         ensures fault { IfErr result (λ fault. IsFaultOf (digests_of bytes.now) fault) }
     {
-        let mut digests = Vec::new(alloc);
+        let mut list = DigestList::new(alloc);
         let mut rest = bytes;
         let mut line = 1u64;
         while !rest.is_empty() {
-            let Some(end) = line_end(rest) else {
-                return Err(ListFault::BadLine(line));
-            };
-            let Some(digest) = digest_in(&rest[..end]) else {
-                return Err(ListFault::BadLine(line));
-            };
-            if digests.push(digest).is_err() {
-                return Err(ListFault::NoMemory);
+            match list.add_first_line(rest) {
+                Ok(()) => {}
+                Err(LineFault::NoDigest) => return Err(ListFault::BadLine(line)),
+                Err(LineFault::NoMemory) => return Err(ListFault::NoMemory),
             }
-            rest = after(rest, end);
+            rest = after_line(rest);
             line += 1;
         }
-        Ok(DigestList { digests })
+        Ok(list)
     }
 }
 

@@ -61,6 +61,7 @@ impl Model for FrameReader {
 fn past_the_most<I: Source>(source: &mut I) -> Cut
     ensures ends { EndsAt result (I.left source.old) (I.left source.new) }
     ensures faults { I.faults source.new ≡ faults_by result (I.faults source.old) }
+    ensures later { I.faults source.old ≤ I.faults source.new }
 {
     let mut one = [0; 1];
     match source.read(&mut one) {
@@ -119,6 +120,7 @@ impl FrameReader {
         ensures kept { IfErr result (λ why. self.new ≡ self.old) }
         ensures within { self.new ≤ most_bytes }
         ensures faults { I.faults source.new ≡ faults_told result (I.faults source.old) }
+        ensures later { I.faults source.old ≤ I.faults source.new }
     {
         let room = (MOST_SOURCE_BYTES - self.taken).min(out.len() as u64) as usize;
         if room == 0 {
@@ -143,6 +145,7 @@ impl FrameReader {
             (I.left source.old) (I.left source.new)) }
         ensures within { self.new ≤ most_bytes }
         ensures faults { I.faults source.new ≡ faults_of result (I.faults source.old) }
+        ensures later { I.faults source.old ≤ I.faults source.new }
     {
         // what is known of each reader is known of this one from here on
         let _ = &self.taken;
@@ -171,6 +174,7 @@ impl FrameReader {
             (I.left source.old) (I.left source.new)) }
         ensures within { self.new ≤ most_bytes }
         ensures faults { I.faults source.new ≡ stop_faults result (I.faults source.old) }
+        ensures later { I.faults source.old ≤ I.faults source.new }
     {
         let mut head = [0; LENGTH_BYTES];
         if let Err(short) = self.fill(source, &mut head) {

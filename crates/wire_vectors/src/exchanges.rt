@@ -1,19 +1,16 @@
 //! A whole update by a client and a server, where each frame comes twice; and a loss of power.
 
-use crate::flashes::{booted, holds, two_banks};
+use crate::flashes::{booted, holds};
 use crate::requests::{replies_to, server_of};
 use agent_calls::Agent;
 use flash_devices::{Cut, MemoryFlash};
-use fwu_wire::{Asked, Client, FRAME_BYTES, Server, Stop};
+use fwu_wire::{Admission, Asked, Client, Exchange, FRAME_BYTES, Server, Stop};
 use host_io::MemorySource;
+use runs_kit::{MANIFEST_2, two_banks};
 use std::alloc::Global;
 use std::process::Abort;
 use verify_core::AnyManifest;
 use wire_frames::{FrameReader, MOST_BODY_BYTES};
-
-/// The manifest of the images `abc` and `hello`, of security version 2: demo/check_vectors.py makes it again.
-pub const MANIFEST_2: &str =
-    "46574d460100000002000000020000005ff9ec0b4d223e4da544c39d81c73f0a0300000007000000ba7816bf8f01cfea414140de5dae2223b00361a396177a9cb410ff61f20015add6d0eea7fcead54b97829934f234b6e405000000090000002cf24dba5fb0a30e26e83b2ac5b9e29e1b161e5c1fa7425e73043362938b98243e4fddc75c0ea9600912d33069cf761c2f408f57591b2947853625b2c0c4fb00";
 
 // The frame of a request with this message, twice.
 fn asked_twice(rt: &impl Abort, alloc: Global, client: &mut Client, message: &[u8]) -> Vec<u8> {
@@ -143,6 +140,24 @@ fn an_update_is_made_once(rt: HostRuntime) {
 }
 
 #[test]
+fn no_number_follows_the_greatest(rt: HostRuntime) {
+    let mut exchange = Exchange::new();
+    exchange.keep(4_294_967_294, &[1]);
+    let next = exchange.admit(4_294_967_295) == Admission::Acts;
+    holds(&rt, next, "the greatest number is the next one");
+    exchange.keep(4_294_967_295, &[2]);
+    for number in [0, 1, 4_294_967_294] {
+        let ignored = exchange.admit(number) == Admission::Ignored;
+        holds(&rt, ignored, "no other request acts");
+    }
+    let repeats = exchange.admit(4_294_967_295) == Admission::Repeats;
+    holds(&rt, repeats, "the greatest number comes again");
+    let mut out = [0; FRAME_BYTES];
+    let kept = exchange.repeat(&mut out) == 1 && out[0] == 2;
+    holds(&rt, kept, "the frame that is kept");
+}
+
+#[test]
 fn a_cut_stops_the_agent(rt: HostRuntime) {
     let alloc = rt.alloc();
     let cut = Cut {
@@ -151,7 +166,7 @@ fn a_cut_stops_the_agent(rt: HostRuntime) {
         back: false,
     };
     let cuts = [cut].to_vec(alloc).expect(&rt, "memory");
-    let image = two_banks(&rt, alloc);
+    let image = two_banks(alloc).expect(&rt, "memory");
     let mut server = Server::new(Agent::start(booted(&rt, alloc, image, cuts)));
     let begin = [1, 0, 0, 0, 16, 0, 0, 0, 0, 0, 0, 0, 0, 0, 0, 0];
     let mut open = [0; 28];

@@ -6,10 +6,6 @@ mod exchanges;
 #[cfg(test)]
 mod flashes;
 #[cfg(test)]
-mod lengths;
-#[cfg(test)]
-mod readings;
-#[cfg(test)]
 mod requests;
 #[cfg(test)]
 mod servings;

@@ -1,11 +1,12 @@
-//! Requests that a server takes from a stream, and the bytes of its replies.
+//! A server, the requests that it takes from a stream, and the bytes of its replies.
 ghost use Rattle.wire_frames.specs.Frames.{IsBody};
 
-use crate::flashes::{booted, holds, two_banks};
+use crate::flashes::{booted, holds};
 use agent_calls::Agent;
 use flash_devices::MemoryFlash;
 use fwu_wire::{FRAME_BYTES, Server, Stop, Taken};
 use host_io::MemorySource;
+use runs_kit::two_banks;
 use std::alloc::Global;
 use std::process::Abort;
 use verify_core::AnyManifest;
@@ -13,7 +14,7 @@ use wire_frames::{FrameReader, MOST_BODY_BYTES};
 
 /// A server of the agent of a flash of two banks.
 pub fn server_of(rt: &impl Abort, alloc: Global) -> Server<MemoryFlash> {
-    let image = two_banks(rt, alloc);
+    let image = two_banks(alloc).expect(rt, "memory");
     Server::new(Agent::start(booted(rt, alloc, image, Vec::new(alloc))))
 }
 
@@ -58,102 +59,56 @@ pub fn replies_to(
     written
 }
 
-/// Requests, and their replies.
-pub type Row = (&'static str, &'static str);
-
-/// Streams of requests, and what is written for them.
-pub const ROWS: [Row; 15] = [
-    // A begin twice, and an end.
-    (
-        "10000000010000001000000000000000000000001000000001000000100000000000000000000000080000000200000011000000",
-        "0800000001000000000000000800000001000000000000000800000002000000fcffffff",
-    ),
-    // Number 0, and number 2 at first.
-    ("080000000000000011000000080000000200000011000000", ""),
-    // Numbers 1, 3 and 2.
-    (
-        "080000000100000011000000080000000300000011000000080000000200000012000000",
-        "0800000001000000faffffff0800000002000000faffffff",
-    ),
-    // A function that isn't one, again with other bytes, and a discover.
-    (
-        "080000000100000001000000080000000100000011000000080000000200000000000000",
-        "08000000010000009cffffff08000000010000009cffffff400000000200000000000000010000000000000000000000\
-0a0000000000000010000000110000001200000013000000140000001500000016000000\
-1700000018000000",
-    ),
-    // Functions 15, 25 and 4,294,967,295.
-    (
-        "08000000010000000f0000000800000002000000190000000800000003000000ffffffff",
-        "08000000010000009cffffff08000000020000009cffffff08000000030000009cffffff",
-    ),
-    // A discover, an end, a cancel and a previous with a byte more.
-    (
-        "0900000001000000000000000009000000020000001100000000090000000300000012000000000900000004000000180000\
-0000",
-        "08000000010000009cffffff08000000020000009cffffff08000000030000009cffffff08000000040000009cffffff",
-    ),
-    // A begin without its count, and one with a count of 1.
-    (
-        "0c0000000100000010000000000000001000000002000000100000000000000001000000",
-        "08000000010000009cffffff0800000002000000f8ffffff",
-    ),
-    // An open with op 2, and one of a type that isn't there.
-    (
-        "1c00000001000000130000005ff9ec0b4d223e4da544c39d81c73f0a02000000\
-1c00000002000000130000005ff9ec0b4d223e4da544c39d81c73f0b00000000",
-        "08000000010000009cffffff0800000002000000ffffffff",
-    ),
-    // The image `abc` is read.
-    (
-        "1c00000001000000130000005ff9ec0b4d223e4da544c39d81c73f0a00000000\
-1000000002000000150000000100000010000000",
-        "0c0000000100000000000000010000000f000000020000000000000003000000616263",
-    ),
-    // Two of its bytes, the last one, and none.
-    (
-        "1c00000001000000130000005ff9ec0b4d223e4da544c39d81c73f0a00000000\
-1000000002000000150000000100000002000000100000000300000015000000010000000010000010000000040000001500000001\
-00000000100000",
-        "0c0000000100000000000000010000000e0000000200000000000000030000006162\
-0d000000030000000000000003000000630c000000040000000000000003000000",
-    ),
-    // A read of more than a reply holds.
-    (
-        "1c00000001000000130000005ff9ec0b4d223e4da544c39d81c73f0a00000000\
-1000000002000000150000000100000001100000",
-        "0c00000001000000000000000100000008000000020000009cffffff",
-    ),
-    // A write with 3 bytes of arguments, and one through no handle.
-    (
-        "0b00000001000000140000000100000d00000002000000140000000100000061",
-        "08000000010000009cffffff0800000002000000ffffffff",
-    ),
-    // A commit of no handle, and one with a number less.
-    (
-        "140000000100000016000000010000000000000000000000100000000200000016000000\
-0100000000000000",
-        "0800000001000000ffffffff08000000020000009cffffff",
-    ),
-    // An acceptance of an image that is accepted, and of no image.
-    (
-        "1800000001000000170000005ff9ec0b4d223e4da544c39d81c73f0a\
-1800000002000000170000005ff9ec0b4d223e4da544c39d81c73f0b",
-        "0800000001000000000000000800000002000000ffffffff",
-    ),
-    // A way back to nothing.
-    ("080000000100000018000000", "0800000001000000faffffff"),
+// The functions, and the lengths of their arguments.
+const ARGUMENTS: [(u8, u8); 9] = [
+    (0, 0),
+    (16, 8),
+    (17, 0),
+    (18, 0),
+    (19, 20),
+    (21, 8),
+    (22, 12),
+    (23, 16),
+    (24, 0),
 ];
 
+// A request of a function with so many bytes 0 of arguments, and then one to cancel.
+fn with_arguments(rt: &impl Abort, alloc: Global, function: u8, count: u8) -> Vec<u8> {
+    let size = count.wrapping_add(8);
+    let head = [size, 0, 0, 0, 1, 0, 0, 0, function, 0, 0, 0];
+    let mut stream = head.to_vec(alloc).expect(rt, "memory");
+    let arguments = vec![in alloc; 0; count as usize].expect(rt, "memory");
+    stream
+        .extend_from_slice(arguments.as_slice())
+        .expect(rt, "memory");
+    let cancel = [8, 0, 0, 0, 2, 0, 0, 0, 18, 0, 0, 0];
+    stream.extend_from_slice(&cancel).expect(rt, "memory");
+    stream
+}
+
+// The first request asks for no call, and the second one has nothing to cancel.
+const NO_CALL: &str = "08000000010000009cffffff0800000002000000faffffff";
+
+fn asks_for_no_call(rt: &impl Abort, alloc: Global, function: u8, count: u8) {
+    let mut server = server_of(rt, alloc);
+    let stream = with_arguments(rt, alloc, function, count);
+    let written = replies_to(rt, alloc, &mut server, stream);
+    let expected = hex::decode(alloc, NO_CALL).expect(rt, "digits");
+    let same = written.as_slice() == expected.as_slice();
+    holds(rt, same, NO_CALL);
+}
+
 #[test]
-fn requests_are_answered(rt: HostRuntime) {
+fn arguments_of_another_length_ask_for_no_call(rt: HostRuntime) {
     let alloc = rt.alloc();
-    for (stream, replies) in &ROWS {
-        let mut server = server_of(&rt, alloc);
-        let stream = hex::decode(alloc, stream).expect(&rt, "digits");
-        let written = replies_to(&rt, alloc, &mut server, stream);
-        let expected = hex::decode(alloc, replies).expect(&rt, "digits");
-        let same = written.as_slice() == expected.as_slice();
-        holds(&rt, same, replies);
+    for (function, count) in &ARGUMENTS {
+        asks_for_no_call(&rt, alloc, *function, count.wrapping_add(1));
+        if *count > 0 {
+            asks_for_no_call(&rt, alloc, *function, count.wrapping_sub(1));
+        }
+    }
+    // A write has a handle of four bytes, and any bytes behind it.
+    for count in 0..4 {
+        asks_for_no_call(&rt, alloc, 20, count);
     }
 }

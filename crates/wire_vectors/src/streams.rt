@@ -1,11 +1,12 @@
 //! Streams that come in pieces, and streams of the most bytes that are taken.
 ghost use Rattle.std.specs.Prelude.{◌≡◌, ⊤, None, false, refl};
 
-use crate::exchanges::{BEFORE, BEHIND, MANIFEST_2, Row};
-use crate::flashes::{booted, holds, two_banks};
-use crate::servings::{Did, NO_TROUBLE, Trouble, served};
+use crate::exchanges::{BEFORE, BEHIND, Row};
+use crate::flashes::{booted, holds};
+use crate::servings::{Did, served};
 use flash_devices::Cut;
 use host_io::{Failed, Source};
+use runs_kit::{MANIFEST_2, NO_TROUBLE, Trouble, two_banks};
 use std::alloc::Global;
 use std::process::Abort;
 
@@ -95,7 +96,7 @@ fn no_more_than_the_most_is_taken(rt: HostRuntime) {
             given: 0,
             count: *count,
         };
-        let image = two_banks(&rt, alloc);
+        let image = two_banks(alloc).expect(&rt, "memory");
         let did = served(&rt, alloc, image, &mut source, &NO_TROUBLE);
         holds(&rt, did.status == *status, "the status");
         holds(&rt, did.turns == 1, "the boot alone");
@@ -159,7 +160,13 @@ fn updated(rt: &impl Abort, alloc: Global, requests: &[u8], size: usize, trouble
         at: 0,
         size,
     };
-    served(rt, alloc, two_banks(rt, alloc), &mut source, trouble)
+    served(
+        rt,
+        alloc,
+        two_banks(alloc).expect(rt, "memory"),
+        &mut source,
+        trouble,
+    )
 }
 
 // Whether these bytes start the bank with its version.
@@ -170,7 +177,7 @@ fn boots(rt: &impl Abort, alloc: Global, image: &[u8], bank: u32, version: u32) 
 }
 
 // How many bytes come at a time.
-const SIZES: [usize; 3] = [1, 3, 4112];
+const SIZES: [usize; 10] = [1, 2, 3, 5, 7, 11, 12, 13, 64, 4112];
 
 #[test]
 fn an_update_comes_in_pieces(rt: HostRuntime) {
@@ -187,6 +194,61 @@ fn an_update_comes_in_pieces(rt: HostRuntime) {
         holds(&rt, same, "the same replies");
         let same = did.image.as_slice() == whole.image.as_slice();
         holds(&rt, same, "the same flash");
+    }
+}
+
+// How many whole frames stand at the front of a stream, and how many bytes they have.
+fn whole_frames(stream: &[u8]) -> (usize, usize) {
+    let mut count: usize = 0;
+    let mut end: usize = 0;
+    for _ in 0..stream.len() {
+        let (Some(low), Some(high)) = (stream.get(end), stream.get(end.saturating_add(1))) else {
+            return (count, end);
+        };
+        let size = (*high as usize)
+            .wrapping_mul(256)
+            .wrapping_add(*low as usize);
+        let next = end.saturating_add(4).saturating_add(size);
+        if next > stream.len() {
+            return (count, end);
+        }
+        count = count.wrapping_add(1);
+        end = next;
+    }
+    (count, end)
+}
+
+// The frames of an update may end at any byte: those that came whole are answered, and an end within one is told.
+#[test]
+fn an_update_ends_at_any_byte(rt: HostRuntime) {
+    let alloc = rt.alloc();
+    let frames = update(&rt, alloc);
+    for size in 0..frames.requests.len() + 1 {
+        let stream = frames
+            .requests
+            .as_slice()
+            .get(..size)
+            .expect(&rt, "a front");
+        let (count, end) = whole_frames(stream);
+        let did = updated(&rt, alloc, stream, 4112, &NO_TROUBLE);
+        let status = if end == size { 0 } else { 11 };
+        holds(
+            &rt,
+            did.status == status,
+            "an end behind a frame, or within one",
+        );
+        holds(
+            &rt,
+            did.turns == count.wrapping_add(1),
+            "a boot and the requests",
+        );
+        let front = frames
+            .replies
+            .as_slice()
+            .starts_with(did.written.as_slice());
+        let (replies, all) = whole_frames(did.written.as_slice());
+        let whole = replies == count && all == did.written.len();
+        holds(&rt, front && whole, "the first replies");
     }
 }
 

@@ -1,7 +1,6 @@
-use Rattle.std.proofs.Common.{◌≡◌, ◌∙◌, ◌∷◌, [], ℕ, List, Result, None, ap, length}
+use Rattle.std.proofs.Common.{◌≡◌, ◌∙◌, ◌∷◌, [], ℕ, List, Result, None, ap, length, refl}
 use Rattle.fwu_formats.specs.Package.{Toc}
 use Rattle.std.specs.Prelude.{IfOk, filter, not}
-use Rattle.host_io.specs.declared.writes.Writes.{Writes}
 use Rattle.fip_words.specs.Order.{remove}
 use Rattle.fip_tool.specs.Lines.{packed_line}
 use Rattle.fip_tool.specs.Said.{IsMadeLine, IsTable, IsTexts}
@@ -9,44 +8,20 @@ use Rattle.fip_tool.specs.Tool.{remove_value, first_missing, is_named}
 use Rattle.fip_tool.specs.declared.made.Format.TheVariants as format
 use Rattle.fip_tool.specs.declared.made.Made.{Made}
 use Rattle.fip_tool.specs.declared.stops.Stop.{Stop}
-use Rattle.fip_tool.proofs.FileFaults.{faults-of}
-use Rattle.fip_tool.proofs.Tables.{either-rose, failed-same}
-use Rattle.fip_tool.proofs.Texts.{made-texts, says-as}
-use Rattle.fip_tool.proofs.WroteLemmas.{wrote-as}
-use Rattle.fip_tool.proofs.Refusing.{late-of-repacking, made-may}
-use Rattle.fip_tool.specs.Refusals.{IsOfRepacking}
+use Rattle.fip_tool.proofs.DoneWith.{done-made}
+use Rattle.fip_tool.proofs.Texts.{made-texts}
+use Rattle.fip_tool.proofs.Refusing.{late-of-repacking}
 use Rattle.fip_tool.proofs.making.run_remove.Goals as goal
 
 -- the line is of a package that was read, with some size
 texts-are : (align : ℕ) (from out : List ℕ) (made : Result Made Stop) (guids : List (List ℕ)) → IfOk made (λ m. (t : Toc) × IsTable t × (first_missing t guids ≡ None) × (m.count ≡ length (filter (λ e. not (is_named guids e)) t.entries))) → (texts : List (List ℕ)) → IsMadeLine format.Package made texts → IsTexts (remove align from out guids) texts
 texts-are align from out made guids count texts t = let p = made-texts format.Package made (λ n. (t : Toc) × IsTable t × (first_missing t guids ≡ None) × (n ≡ length (filter (λ e. not (is_named guids e)) t.entries))) count texts t in (p.1.0, p.1.1, p.2, p.1.2, p.3 ∙ ap (λ (n : ℕ). packed_line n p.2 ∷ []) p.1.3)
 
-pub returns-clause-told : goal.returns-clause-told
-returns-clause-told g c = λ told e.
-    c.put_made.ensures.told told (remove_value told c.args.align c.args.from.now c.args.guids.now) _ _ (c.removed-made.ensures.reads.same ∙ e) c.removed-made.ensures.reads.later (failed-same c.removed-made.ensures.files.unwritten)
-    (c.removed-made.ensures.told told e)
-
-pub returns-clause-says : goal.returns-clause-says
-returns-clause-says g c = says-as (IsMadeLine format.Package c.removed-made.result) _ _ _ _ _ c.put_made.result (texts-are c.args.align c.args.from.now c.args.out.now c.removed-made.result c.args.guids.now c.removed-made.ensures.count) (λ r. r) (c.put_made.ensures.says c.removed-made.ensures.reads.sink)
-
-pub returns-clause-wrote : goal.returns-clause-wrote
-returns-clause-wrote g c = wrote-as (IsMadeLine format.Package c.removed-made.result) _ _ _ _ _ _ c.put_made.result (texts-are c.args.align c.args.from.now c.args.out.now c.removed-made.result c.args.guids.now c.removed-made.ensures.count) (ap (λ (w : Writes). w.done) c.removed-made.ensures.files.unwritten) c.put_made.ensures.wrote
-
-pub returns-clause-file_count : goal.returns-clause-file_count
-returns-clause-file_count g c = c.put_made.ensures.file_count _ (faults-of c.removed-made.ensures.reads)
-
-pub returns-clause-cause : goal.returns-clause-cause
-returns-clause-cause g c = λ failed none.
-    either-rose _ _ _ c.removed-made.ensures.reads.later c.put_made.ensures.later (λ e. c.removed-made.ensures.reads.cause e none) (c.put_made.ensures.cause failed)
-
-pub returns-clause-later : goal.returns-clause-later
-returns-clause-later g c = c.put_made.ensures.later_sink
-
-pub returns-clause-sink_count : goal.returns-clause-sink_count
-returns-clause-sink_count g c = c.put_made.ensures.sink_count c.removed-made.ensures.reads.sink
-
-pub returns-clause-refusals : goal.returns-clause-refusals
-returns-clause-refusals g c = made-may c.removed-made.result c.put_made.result IsOfRepacking late-of-repacking c.removed-made.ensures.refusals c.put_made.ensures.refusals
-
-pub returns-clause-spares : goal.returns-clause-spares
-returns-clause-spares g c = λ access other. g.met.H.Files.joins _ _ _ access (c.removed-made.ensures.files.spares access other.0) (c.put_made.ensures.spares access other.1)
+pub returns : goal.returns
+returns g c =
+    let made = c.removed-made in
+    let put = c.put_made.ensures in
+    done-made format.Package c.args.out.now (λ told. remove_value told c.args.align c.args.from.now c.args.guids.now) (λ told. refl) (texts-are c.args.align c.args.from.now c.args.out.now made.result c.args.guids.now made.ensures.count) (λ w. w) late-of-repacking
+    made.ensures.reads made.ensures.files made.ensures.told made.ensures.refusals
+    put.told put.says put.wrote put.file_count put.cause put.usage put.refusals put.later put.later_sink put.sink_count
+    (λ access other. g.met.H.Files.joins _ _ _ access (made.ensures.files.spares access other.0) (put.spares access other.1))

@@ -10,7 +10,7 @@ command-requires g c = record { other = λ from prefix names e. asked-is-other f
 
 pub returns-in-Ok : goal.returns-in-Ok
 returns-in-Ok g c =
-    subst (λ (a : Option Asked). Done g.H.Files.contents g.H.Files.faults g.H.Files.writes g.H.Files.spares g.I.Source.left g.I.Source.faults g.O.Sink.taken g.O.Sink.faults a c.command.result c.args.files.now c.command.new.files c.args.source.now c.command.new.source c.args.sink.now c.command.new.sink)
+    subst (λ (a : Option Asked). Done g.H.Files g.I.Source g.O.Sink a c.command.result c.args.files.now c.command.new.files c.args.source.now c.command.new.source c.args.sink.now c.command.new.sink)
     (sym c.in-Ok.ensures) c.command.ensures
 
 pub returns-in-Err-Usage : goal.returns-in-Err-Usage

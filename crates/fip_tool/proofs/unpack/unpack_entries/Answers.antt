@@ -56,7 +56,7 @@ loop-entry-preserved g c =
           rw (w.files-is, w.sink-is) (record {
             silent = λ e. w.in_ok-unpack_entry.ensures.silent (c.loop-entry.invariant.silent e);
             spares = λ access asked made. g.met.H.Files.joins _ _ _ access (c.loop-entry.invariant.spares access asked made) (w.in_ok-unpack_entry.ensures.spares access asked made);
-            quiet = w.in_ok-unpack_entry.ensures.file_count.quiet ∙ c.loop-entry.invariant.quiet;
+            quiet = w.in_ok-unpack_entry.ensures.texts.file_count.quiet ∙ c.loop-entry.invariant.quiet;
             unspoiled = w.in_ok-unpack_entry.ensures.unspoiled ∙ c.loop-entry.invariant.unspoiled;
             wrote =
                 let p = λ (e : Entry). (length c.args.names.now == 0) || is_named c.args.names.now e in
@@ -64,9 +64,9 @@ loop-entry-preserved g c =
                 let es = c.args.entries.now in
                 let more = next-chosen p es c.loop-entry.entry-index e c.loop-entry-test.true (sym c.entry-item.is) (sym c.is_chosen.ensures ∙ w.if-is_chosen.true) in
                 one-wrote (unpacked_line c.args.prefix.now e) _ _ _ _ _ (length (filter p (take c.loop-entry.entry-index es))) _ c.loop-entry.invariant.wrote
-                (ap length more ∙ length-append (filter p (take c.loop-entry.entry-index es)) (e ∷ [])) w.in_ok-unpack_entry.ensures.wrote;
-            later_sink = omega (arith, c.loop-entry.invariant.later_sink, w.unpack_entry.ensures.later_sink);
-            sink_count = w.in_ok-unpack_entry.ensures.sink_count ∙ c.loop-entry.invariant.sink_count;
+                (ap length more ∙ length-append (filter p (take c.loop-entry.entry-index es)) (e ∷ [])) w.in_ok-unpack_entry.ensures.texts.wrote;
+            later_sink = omega (arith, c.loop-entry.invariant.later_sink, w.unpack_entry.ensures.texts.later_sink);
+            sink_count = w.in_ok-unpack_entry.ensures.texts.sink_count ∙ c.loop-entry.invariant.sink_count;
             said =
                 let p = λ (e : Entry). (length c.args.names.now == 0) || is_named c.args.names.now e in
                 let e = c.entry-item.result in
@@ -74,7 +74,7 @@ loop-entry-preserved g c =
                 let more = next-chosen p es c.loop-entry.entry-index e c.loop-entry-test.true (sym c.entry-item.is) (sym c.is_chosen.ensures ∙ w.if-is_chosen.true) in
                 said-more (map (unpacked_line c.args.prefix.now) (filter p (take c.loop-entry.entry-index es))) _ (unpacked_line c.args.prefix.now e) _ _ _ (Unit {0}) tt
                 (ap (map (unpacked_line c.args.prefix.now)) more ∙ map-append (unpacked_line c.args.prefix.now) (filter p (take c.loop-entry.entry-index es)) (e ∷ []))
-                c.loop-entry.invariant.said w.in_ok-unpack_entry.ensures.says;
+                c.loop-entry.invariant.said w.in_ok-unpack_entry.ensures.texts.says;
             so-far = λ told bytes is stored.
                 let s = c.loop-entry.invariant.so-far told bytes is stored in
                 step-done c.args.prefix.now c.args.from.now bytes (λ e. (length c.args.names.now == 0) || is_named c.args.names.now e) c.args.entries.now c.loop-entry.entry-index told _
@@ -104,69 +104,63 @@ loop-entry-preserved g c =
           })
     ]
 
-pub returns-in_err-unpack_entry-clause-says : goal.returns-in_err-unpack_entry-clause-says
-returns-in_err-unpack_entry-clause-says g c =
-    rw (handed-on c.from_residual.result c.in_err-unpack_entry.field-0.0 c.from_residual.ensures.1) (let p = λ (e : Entry). (length c.args.names.now == 0) || is_named c.args.names.now e in
+pub returns-in_err-unpack_entry-clause-texts : goal.returns-in_err-unpack_entry-clause-texts
+returns-in_err-unpack_entry-clause-texts g c =
+    let p = λ (e : Entry). (length c.args.names.now == 0) || is_named c.args.names.now e in
     let e = c.entry-item.result in
     let es = c.args.entries.now in
     let i = c.loop-entry.entry-index in
     let line = unpacked_line c.args.prefix.now in
     let split = split-chosen p es i e c.loop-entry-test.true (sym c.entry-item.is) (sym c.is_chosen.ensures ∙ c.if-is_chosen.true) in
-    says-behind (map line (filter p (take i es))) (line e) (map line (filter p (drop (i + 1) es))) (map line (filter p es))
-    (ap (map line) split ∙ map-append line (filter p (take i es)) (e ∷ filter p (drop (i + 1) es)))
-    _ _ _ _ _ (λ r. rose-from _ _ _ c.loop-entry.invariant.later_sink r) c.loop-entry.invariant.said c.in_err-unpack_entry.field-0.0 c.in_err-unpack_entry.ensures.late c.in_err-unpack_entry.ensures.says)
+    let all = ap (map line) split ∙ map-append line (filter p (take i es)) (e ∷ filter p (drop (i + 1) es)) in
+    let start = (g.H.Files.writes c.args.files.now).done in
+    let so-far = c.loop-entry.invariant in
+    let put = c.in_err-unpack_entry.ensures.texts in
+    rw (handed-on c.from_residual.result c.in_err-unpack_entry.field-0.0 c.from_residual.ensures.1) (record {
+      says =
+          says-behind (map line (filter p (take i es))) (line e) (map line (filter p (drop (i + 1) es))) (map line (filter p es)) all
+          _ _ _ _ _ (λ r. rose-from _ _ _ so-far.later_sink r) so-far.said c.in_err-unpack_entry.field-0.0 put.late put.says;
+      wrote =
+          wrote-behind (map line (filter p (take i es))) (line e) (map line (filter p (drop (i + 1) es))) (map line (filter p es)) _ _ _ _ start _ _ c.in_err-unpack_entry.field-0.0 all so-far.said
+          (so-far.wrote ∙ ap (λ (n : ℕ). raised_by n start) (sym (length-map (filter p (take i es)) line))) put.late put.says put.wrote;
+      file_count = faults-then so-far.quiet put.file_count;
+      cause = λ e. rose-still _ _ _ (sym so-far.quiet) (put.cause e);
+      late = put.late;
+      usage = put.usage;
+      later = omega (arith, so-far.quiet, put.later);
+      later_sink = omega (arith, so-far.later_sink, put.later_sink);
+      sink_count = put.sink_count ∙ ap (sink_failed c.in_err-unpack_entry.field-0.0) so-far.sink_count;
+    })
 
-pub returns-clause-says : goal.returns-clause-says
-returns-clause-says g c =
+pub returns-clause-texts : goal.returns-clause-texts
+returns-clause-texts g c =
     let p = λ (e : Entry). (length c.args.names.now == 0) || is_named c.args.names.now e in
-    let far : length c.args.entries.now ≤ c.loop-entry.entry-index = omega (arith, c.loop-entry-test.false) in (
-      map (unpacked_line c.args.prefix.now) (filter p c.args.entries.now),
-      refl,
-      subst (λ (l : List Entry). Appends (g.O.Sink.taken c.args.sink.now) (g.O.Sink.taken c.loop-entry.sink) (joined (map (unpacked_line c.args.prefix.now) (filter p l))))
-          (take_all c.loop-entry.entry-index c.args.entries.now far) c.loop-entry.invariant.said,
-    )
+    let line = unpacked_line c.args.prefix.now in
+    let start = (g.H.Files.writes c.args.files.now).done in
+    let so-far = c.loop-entry.invariant in
+    let all = take_all c.loop-entry.entry-index c.args.entries.now (omega (arith, c.loop-entry-test.false)) in
+    let said = subst (λ (l : List Entry). Appends (g.O.Sink.taken c.args.sink.now) (g.O.Sink.taken c.loop-entry.sink) (joined (map line (filter p l)))) all so-far.said in record {
+      says = (map line (filter p c.args.entries.now), refl, said);
+      wrote = record {
+        texts = map line (filter p c.args.entries.now);
+        are = refl;
+        said = said;
+        count = so-far.wrote ∙ ap (λ (l : List Entry). raised_by (length (filter p l)) start) all ∙ ap (λ (n : ℕ). raised_by n start) (sym (length-map (filter p c.args.entries.now) line));
+      };
+      file_count = faults-none so-far.quiet;
+      cause = λ e. absurd cc;
+      late = tt;
+      usage = λ e. absurd cc;
+      later = omega (arith, so-far.quiet);
+      later_sink = so-far.later_sink;
+      sink_count = so-far.sink_count;
+    }
 
 pub returns-clause-told : goal.returns-clause-told
 returns-clause-told g c = λ told bytes is stored.
     let far : length c.args.entries.now ≤ c.loop-entry.entry-index = omega (arith, c.loop-entry-test.false) in
     all-done c.args.prefix.now c.args.from.now bytes (λ e. (length c.args.names.now == 0) || is_named c.args.names.now e) c.args.entries.now c.loop-entry.entry-index told _ _ _ (Unit {0}) (Unit {0}) (Unit {0}) tt far
     (c.loop-entry.invariant.so-far told bytes is stored)
-
-pub returns-in_err-unpack_entry-clause-sink_count : goal.returns-in_err-unpack_entry-clause-sink_count
-returns-in_err-unpack_entry-clause-sink_count g c =
-    rw (handed-on c.from_residual.result c.in_err-unpack_entry.field-0.0 c.from_residual.ensures.1) (c.in_err-unpack_entry.ensures.sink_count ∙ ap (sink_failed c.in_err-unpack_entry.field-0.0) c.loop-entry.invariant.sink_count)
-
-pub returns-in_err-unpack_entry-clause-file_count : goal.returns-in_err-unpack_entry-clause-file_count
-returns-in_err-unpack_entry-clause-file_count g c =
-    rw (handed-on c.from_residual.result c.in_err-unpack_entry.field-0.0 c.from_residual.ensures.1) (faults-then c.loop-entry.invariant.quiet c.in_err-unpack_entry.ensures.file_count)
-
-pub returns-clause-file_count : goal.returns-clause-file_count
-returns-clause-file_count g c = faults-none c.loop-entry.invariant.quiet
-
-pub returns-in_err-unpack_entry-clause-wrote : goal.returns-in_err-unpack_entry-clause-wrote
-returns-in_err-unpack_entry-clause-wrote g c =
-    rw (handed-on c.from_residual.result c.in_err-unpack_entry.field-0.0 c.from_residual.ensures.1) (let p = λ (e : Entry). (length c.args.names.now == 0) || is_named c.args.names.now e in
-    let e = c.entry-item.result in
-    let es = c.args.entries.now in
-    let i = c.loop-entry.entry-index in
-    let line = unpacked_line c.args.prefix.now in
-    let split = split-chosen p es i e c.loop-entry-test.true (sym c.entry-item.is) (sym c.is_chosen.ensures ∙ c.if-is_chosen.true) in
-    let start = (g.H.Files.writes c.args.files.now).done in
-    wrote-behind (map line (filter p (take i es))) (line e) (map line (filter p (drop (i + 1) es))) (map line (filter p es)) _ _ _ _ start _ _ c.in_err-unpack_entry.field-0.0
-    (ap (map line) split ∙ map-append line (filter p (take i es)) (e ∷ filter p (drop (i + 1) es))) c.loop-entry.invariant.said
-    (c.loop-entry.invariant.wrote ∙ ap (λ (n : ℕ). raised_by n start) (sym (length-map (filter p (take i es)) line))) c.in_err-unpack_entry.ensures.late c.in_err-unpack_entry.ensures.says c.in_err-unpack_entry.ensures.wrote)
-
-pub returns-clause-wrote : goal.returns-clause-wrote
-returns-clause-wrote g c =
-    let p = λ (e : Entry). (length c.args.names.now == 0) || is_named c.args.names.now e in
-    let line = unpacked_line c.args.prefix.now in
-    let start = (g.H.Files.writes c.args.files.now).done in
-    let all = take_all c.loop-entry.entry-index c.args.entries.now (omega (arith, c.loop-entry-test.false)) in record {
-      texts = map line (filter p c.args.entries.now);
-      are = refl;
-      said = subst (λ (l : List Entry). Appends (g.O.Sink.taken c.args.sink.now) (g.O.Sink.taken c.loop-entry.sink) (joined (map line (filter p l)))) all c.loop-entry.invariant.said;
-      count = c.loop-entry.invariant.wrote ∙ ap (λ (l : List Entry). raised_by (length (filter p l)) start) all ∙ ap (λ (n : ℕ). raised_by n start) (sym (length-map (filter p c.args.entries.now) line));
-    }
 
 pub returns-in_err-unpack_entry-clause-spares : goal.returns-in_err-unpack_entry-clause-spares
 returns-in_err-unpack_entry-clause-spares g c = λ access asked made.

@@ -1,36 +1,39 @@
-use Rattle.std.proofs.Common.{◌∙◌, ap}
+use Rattle.std.proofs.Common.{◌∷◌, ◌∙◌, [], ap, subst, sym}
 use Rattle.fwu_formats.specs.Package.{Entry}
-use Rattle.host_io.specs.Access.{Makes}
+use Rattle.host_io.specs.Contents.{Directory}
+use Rattle.host_io.specs.Joined.{HasPiece}
+use Rattle.host_io.specs.declared.joining.Piece.{Piece}
 use Rattle.fip_tool.specs.Lines.{unpacked_name}
-use Rattle.fip_tool.proofs.UnpackLemmas.{same-ok}
-use Rattle.fip_tool.proofs.UnpackedBy.{unnamed, unread, written-out}
+use Rattle.fip_tool.specs.Payloads.{HasEntry, joined_pieces}
+use Rattle.fip_tool.proofs.Packings.{has-entry}
+use Rattle.fip_tool.proofs.UnpackedBy.{made, one-piece, piece-is, unnamed}
 use Rattle.fip_tool.proofs.Stopped.{handed-on}
 use Rattle.fip_tool.specs.declared.stops.Stop.TheVariants as stop
 use Rattle.fip_tool.proofs.unpack.unpack_entry.Goals as goal
 
+pub join_and_print-requires : goal.join_and_print-requires
+join_and_print-requires g c =
+    let contents = g.H.Files.contents c.args.files.now in
+    let piece : Piece = record { gap = 0; file = c.args.from; at = c.entry.inside.offset; count = c.entry.inside.size } in
+    one-piece (HasPiece contents) piece
+    (subst (HasEntry contents c.args.from.now) (sym c.entry.view_is) (has-entry contents c.args.from.now c.args.entry.now c.requires.there c.requires.stored))
+
 pub returns : goal.returns
 returns g c =
-    let read = c.read_payload.ensures in
-    let e = c.write_and_print.ensures in
-    written-out c.read_payload.new.files _ c.as_str-2.result.now c.as_str.result.now c.as_slice.result.now c.as_slice-2.result.now (ap (λ (e : Entry). unpacked_name c.args.prefix.now e.guid) c.entry.view_is)
+    let e = c.join_and_print.ensures in
+    let piece : Piece = record { gap = 0; file = c.args.from; at = c.entry.inside.offset; count = c.entry.inside.size } in
+    made c.entry.inside.guid c.as_str-2.result.now c.as_str.result.now c.as_slice.result.now (λ (told : Directory). joined_pieces told [] (piece ∷ []))
+    (ap (λ (e : Entry). unpacked_name c.args.prefix.now e.guid) c.entry.view_is)
     (c.as_str-2.ensures.value ∙ c.in_ok-name.ensures.name) (c.as_str.ensures.value ∙ c.in_ok-name.ensures.name)
-    (λ bytes tells. c.as_slice.ensures.value ∙ same-ok _ _ (c.in_ok-bytes.ensures.told bytes tells)) (c.as_slice-2.ensures.value ∙ c.in_ok-line.ensures)
-    c.in_ok-name.ensures.other read.reads.same c.in_ok-bytes.ensures.reads.quiet read.files.unwritten
-    e.told e.file_count e.wrote e.unspoiled e.cause e.silent e.says e.late e.usage e.later e.later_sink e.sink_count
-    (λ access asked made. g.met.H.Files.joins _ _ _ access (read.files.spares access asked)
-    (e.spares access (λ is. made _ (is ∙ ap Makes (c.as_str-2.ensures.value ∙ c.in_ok-name.ensures.name)))))
-
-pub returns-in_err-bytes : goal.returns-in_err-bytes
-returns-in_err-bytes g c =
-    let e = c.in_err-bytes.ensures in
-    rw (handed-on c.from_residual.result c.in_err-bytes.field-0.0 c.from_residual.ensures.1) (unread c.in_err-bytes.field-0.0 e.told e.reads e.late e.cause e.files.unwritten (λ access asked made. e.files.spares access asked))
+    (λ told bytes is. piece-is told c.args.from.now bytes c.args.entry.now c.entry.inside.offset c.entry.inside.size is
+    (ap (λ (e : Entry). e.offset) c.entry.view_is) (ap (λ (e : Entry). e.size) c.entry.view_is))
+    (c.as_slice.ensures.value ∙ c.in_ok-line.ensures) c.in_ok-name.ensures.other
+    e.told e.silent e.unspoiled e.texts e.spares
 
 pub returns-in_err-name : goal.returns-in_err-name
 returns-in_err-name g c =
-    rw (handed-on c.from_residual-in_err-name.result stop.NoMemory c.from_residual-in_err-name.ensures.1) (unnamed c.read_payload.ensures.reads.same c.in_ok-bytes.ensures.reads.quiet c.read_payload.ensures.files.unwritten
-    (λ access asked made. c.read_payload.ensures.files.spares access asked))
+    rw (handed-on c.from_residual.result stop.NoMemory c.from_residual.ensures.1) (unnamed (λ access. g.met.H.Files.at_rest _ access))
 
 pub returns-in_err-line : goal.returns-in_err-line
 returns-in_err-line g c =
-    rw (handed-on c.from_residual-in_err-line.result stop.NoMemory c.from_residual-in_err-line.ensures.1) (unnamed c.read_payload.ensures.reads.same c.in_ok-bytes.ensures.reads.quiet c.read_payload.ensures.files.unwritten
-    (λ access asked made. c.read_payload.ensures.files.spares access asked))
+    rw (handed-on c.from_residual-in_err-line.result stop.NoMemory c.from_residual-in_err-line.ensures.1) (unnamed (λ access. g.met.H.Files.at_rest _ access))

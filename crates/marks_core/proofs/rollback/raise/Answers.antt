@@ -1,4 +1,5 @@
 use Rattle.std.proofs.Common.{◌≤◌, length, sym, subst, arith}
+use Rattle.std.proofs.lemmas.List.{length-take-le}
 use Rattle.std.specs.Prelude.{List, ℕ}
 use Rattle.flash_core.specs.Told.{Told}
 use Rattle.flash_core.specs.Replaces.{padded, Replaces}
@@ -23,3 +24,9 @@ returns-clause-raises g c tells =
     let from = subst (λ (m : Told). Replaces c.replace.result (record_place s.now) (padded c.record_bytes.result) m t) (c.in_ok-place.ensures.reads.content tells) here in
     let writes = subst (λ (bytes : List ℕ). Replaces c.replace.result (record_place s.now) (padded bytes) s t) c.record_bytes.ensures from in
     raised c.replace.result c.args.v s t room c.ranges.v.fits (c.requires.above tells) writes
+
+pub slice_bounds-record_place-end-2 : goal.slice_bounds-record_place-end-2
+slice_bounds-record_place-end-2 g c = sym (length-take-le 32 c.args.buf.now (omega (arith, c.requires.room)))
+
+pub record_place-requires-clause-room : goal.record_place-requires-clause-room
+record_place-requires-clause-room g c = length-take-le 32 c.args.buf.now (omega (arith, c.requires.room))

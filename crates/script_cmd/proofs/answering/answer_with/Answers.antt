@@ -83,7 +83,7 @@ pub returns-in-Ok-Serve-clause-answers : goal.returns-in-Ok-Serve-clause-answers
 returns-in-Ok-Serve-clause-answers g c =
     let e = c.serve_source.ensures in
     let kept = ap g.H.Files.faults e.files in
-    answered-serve _ (rw c.in-Ok-Serve.field-0-is at c.in-Ok-Serve.ensures) e.way e.files kept e.note e.later
+    answered-serve _ (rw c.in-Ok-Serve.field-0-is at c.in-Ok-Serve.ensures) e.way e.files kept e.note (record { files = omega (arith, kept); source = e.later_source; sink = e.later_sink })
 
 pub returns-in-Err-Usage-clause-answers : goal.returns-in-Err-Usage-clause-answers
 returns-in-Err-Usage-clause-answers g c =

@@ -8,19 +8,54 @@ use Rattle.script_cmd.specs.Ways.{bad_list, list_not_read}
 use Rattle.script_cmd.proofs.AnsweredBy.{answered-refused, answered-starved, answered-with-list}
 use Rattle.script_cmd.proofs.PromiseTurns.{by-plan}
 use Rattle.script_cmd.proofs.TopPrints.{later}
-use Rattle.script_cmd.proofs.TopWays.{good-list, idles, idles-at, list-there, of-list, reads-list, same-moment}
+use Rattle.script_cmd.proofs.TopWays.{bytes-there, good-list, idles, idles-at, list-lacks, list-there, of-list, reads-list, same-moment}
 use Rattle.script_cmd.proofs.answering.run_listed.Goals as goal
 
 pub returns-in-Err-Failed-clause-answers : goal.returns-in-Err-Failed-clause-answers
 returns-in-Err-Failed-clause-answers g c =
     let e = c.refuse_reading.ensures in
+    let name = c.args.name.now in
+    let files = g.H.Files.contents c.args.files.now in
+    let why = list-lacks files name _ _ (c.in-Err-Failed.ensures.cause.failed (ap Err c.in-Err-Failed.field-0-is)) in
     let same = same-moment g.D.Flash.told g.D.Flash.counts g.D.Flash.arming g.D.Flash.on _ _ e.flash in
     inr (
       idles-at _ _ _ _ not_read_line 2 _ _ _ _ e.no_turns same refl e.prints,
       λ passes.
-          answered-refused _ c.args.name.now 2 not_read_line note.Nothing (λ script asked. list_not_read refl (c.in-Err-Failed.ensures.failed (ap Err c.in-Err-Failed.field-0-is))) (λ two. absurd (omega arith)) refl
+          answered-refused _ name 2 not_read_line note.Nothing (λ script asked. list_not_read refl why) (λ two. absurd (omega arith)) refl
           e.no_turns same c.requires.unarmed e.note e.prints (λ whole. absurd (false≢true (sym whole ∙ by-plan not_read_line 2 _ _ _ _ _ e.prints may_fail_before refl refl refl)))
-          refl refl refl (record { files = c.read_file.ensures.later; source = omega arith; sink = later _ _ _ _ _ _ _ e.prints }),
+          refl refl refl (record { files = c.read_list.ensures.reads.later; source = omega arith; sink = later _ _ _ _ _ _ _ e.prints }),
+    )
+
+pub returns-in-Ok-clause-answers : goal.returns-in-Ok-clause-answers
+returns-in-Ok-clause-answers g c =
+    let name = c.args.name.now in
+    let digests = c.in-Ok.list in
+    let files = g.H.Files.contents c.args.files.now in
+    let read = c.in-Ok.ensures.ok in
+    let whole = bytes-there files name read.bytes read.stands in
+    inl (
+      passes_listed digests,
+      reads-list name read.bytes digests files whole read.is,
+      answered-with-list _ name _ _ _ c.answer_with.ensures.answers c.read_list.ensures.reads.same (good-list files name read.bytes digests whole read.is) c.in-Ok.ensures.cause.done refl refl c.requires.unarmed,
+    )
+
+pub returns-in-Err-BadLine-clause-answers : goal.returns-in-Err-BadLine-clause-answers
+returns-in-Err-BadLine-clause-answers g c =
+    let e = c.refuse_list.ensures in
+    let name = c.args.name.now in
+    let line = c.in-Err-BadLine.line in
+    let files = g.H.Files.contents c.args.files.now in
+    let is = ap Err c.in-Err-BadLine.field-0-is in
+    let read = c.in-Err-BadLine.ensures.bad line is in
+    let whole = bytes-there files name read.bytes read.stands in
+    let same = same-moment g.D.Flash.told g.D.Flash.counts g.D.Flash.arming g.D.Flash.on _ _ e.flash in
+    let bad = of-list files name read.bytes (λ (l : List ℕ). digests_of l ≡ Err line) whole read.is in
+    inr (
+      idles-at _ _ _ _ (bad_list_line line) 13 _ _ _ _ e.no_turns same refl e.prints,
+      λ passes.
+          answered-refused _ name 13 (bad_list_line line) (note.BadList line) (λ script asked. bad_list line refl (list-there files name read.bytes whole) bad) (λ thirteen. absurd (omega arith)) refl
+          e.no_turns same c.requires.unarmed e.note e.prints (λ some. c.in-Err-BadLine.ensures.cause.bad line is)
+          refl refl refl (record { files = c.read_list.ensures.reads.later; source = omega arith; sink = later _ _ _ _ _ _ _ e.prints }),
     )
 
 pub returns-in-Err-NoMemory-clause-answers : goal.returns-in-Err-NoMemory-clause-answers
@@ -31,49 +66,5 @@ returns-in-Err-NoMemory-clause-answers g c =
       idles _ _ _ _ e.no_turns same e.status,
       λ passes.
           answered-starved _ _ e.no_turns same c.requires.unarmed e.status e.note (refl, refl) (λ unlisted. absurd cc) refl refl refl
-          (record { files = c.read_file.ensures.later; source = omega arith; sink = omega arith }),
-    )
-
-pub returns-in-Ok-read-clause-answers : goal.returns-in-Ok-read-clause-answers
-returns-in-Ok-read-clause-answers g c =
-    let name = c.args.name.now in
-    let bytes = c.in-Ok.bytes.items in
-    let digests = c.in-Ok-read.list in
-    let files = g.H.Files.contents c.args.files.now in
-    let whole = c.in-Ok.ensures.whole in
-    let read : digests_of bytes ≡ Ok digests = ap digests_of (sym c.as_slice.ensures.value) ∙ c.in-Ok-read.ensures.ok in
-    inl (
-      passes_listed digests,
-      reads-list name bytes digests files whole read,
-      answered-with-list _ name _ _ _ c.answer_with.ensures.answers c.read_file.ensures.same (good-list files name bytes digests whole read) c.in-Ok.ensures.quiet refl refl c.requires.unarmed,
-    )
-
-pub returns-in-Err-BadLine-clause-answers : goal.returns-in-Err-BadLine-clause-answers
-returns-in-Err-BadLine-clause-answers g c =
-    let e = c.refuse_list.ensures in
-    let name = c.args.name.now in
-    let bytes = c.in-Ok.bytes.items in
-    let line = c.in-Err-BadLine.line in
-    let files = g.H.Files.contents c.args.files.now in
-    let whole = c.in-Ok.ensures.whole in
-    let fault = rw c.in-Err-BadLine.field-0-is at c.in-Err-BadLine.ensures.fault in
-    let same = same-moment g.D.Flash.told g.D.Flash.counts g.D.Flash.arming g.D.Flash.on _ _ e.flash in
-    let bad = of-list files name bytes (λ (l : List ℕ). digests_of l ≡ Err line) whole (ap digests_of (sym c.as_slice.ensures.value) ∙ fault) in
-    inr (
-      idles-at _ _ _ _ (bad_list_line line) 13 _ _ _ _ e.no_turns same refl e.prints,
-      λ passes.
-          answered-refused _ name 13 (bad_list_line line) (note.BadList line) (λ script asked. bad_list line refl (list-there files name bytes whole) bad) (λ thirteen. absurd (omega arith)) refl
-          e.no_turns same c.requires.unarmed e.note e.prints (λ some. c.in-Ok.ensures.quiet)
-          refl refl refl (record { files = c.read_file.ensures.later; source = omega arith; sink = later _ _ _ _ _ _ _ e.prints }),
-    )
-
-pub returns-clause-answers : goal.returns-clause-answers
-returns-clause-answers g c =
-    let e = c.idle-in-Err-NoMemory-read.ensures in
-    let same = same-moment g.D.Flash.told g.D.Flash.counts g.D.Flash.arming g.D.Flash.on _ _ e.flash in
-    inr (
-      idles _ _ _ _ e.no_turns same e.status,
-      λ passes.
-          answered-starved _ _ e.no_turns same c.requires.unarmed e.status e.note (refl, refl) (λ unlisted. absurd cc) refl refl refl
-          (record { files = c.read_file.ensures.later; source = omega arith; sink = omega arith }),
+          (record { files = c.read_list.ensures.reads.later; source = omega arith; sink = omega arith }),
     )

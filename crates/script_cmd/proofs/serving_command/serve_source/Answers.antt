@@ -15,5 +15,8 @@ returns-clause-way g c =
     (at-device d.told d.counts d.arming d.on _ _ _ _ c.off.ensures.on c.off.ensures.device)
     (at-device d.told d.counts d.arming d.on _ _ _ _ refl (sym c.into_flash.ensures)) e.serves e.holds)
 
-pub returns-clause-later : goal.returns-clause-later
-returns-clause-later g c = sink-later _ _ _ _ _ _ _ c.serve-serving.ensures.serves
+pub returns-clause-later_source : goal.returns-clause-later_source
+returns-clause-later_source g c = c.serve-serving.ensures.holds.source_count.later
+
+pub returns-clause-later_sink : goal.returns-clause-later_sink
+returns-clause-later_sink g c = sink-later _ _ _ _ _ _ _ c.serve-serving.ensures.serves

@@ -24,7 +24,7 @@ returns-in-Err-clause-goes g c =
     let now = at c.loop-size.serving (port (g.O.Sink.taken c.loop-size.sink) (g.O.Sink.faults c.loop-size.sink)) in
     let mid = port (g.I.Source.left c.loop-size.source) (g.I.Source.faults c.loop-size.source) in
     let rest = port (g.I.Source.left c.next.new.source) (g.I.Source.faults c.next.new.source) in
-    ends-there E old from now mid c.loop-size.reader c.loop-size.invariant.so_far rest c.next.new.self c.end_of_stop.result c.in-Err.why c.in-Err.ensures.stops c.in-Err.ensures.faults c.end_of_stop.ensures
+    ends-there E old from now mid c.loop-size.reader c.loop-size.invariant.so_far rest c.next.new.self c.end_of_stop.result c.in-Err.why c.in-Err.ensures.stops c.next.ensures.within c.in-Err.ensures.faults c.next.ensures.later c.end_of_stop.ensures
 
 pub returns-in-Err-served-clause-goes : goal.returns-in-Err-served-clause-goes
 returns-in-Err-served-clause-goes g c =

@@ -165,3 +165,6 @@ returns-in-Err-begin-clause-keeps g c = λ done. c.in-Err-begin.ensures.keeps do
 
 pub returns-in-Ok-begin-clause-keeps : goal.returns-in-Ok-begin-clause-keeps
 returns-in-Ok-begin-clause-keeps g c = λ done. c.copy_images.ensures.fills.metadata ∙ c.in-Ok-begin.ensures.keeps tt
+
+pub returns-in-Ok-begin-clause-trials : goal.returns-in-Ok-begin-clause-trials
+returns-in-Ok-begin-clause-trials g c = c.copy_images.ensures.fills.trials ∙ c.in-Ok-begin.ensures.trials

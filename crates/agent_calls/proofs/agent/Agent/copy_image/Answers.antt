@@ -79,7 +79,7 @@ module _ (g : given.Over) (c : After-open g) where
   opened : FillsBank (moment c.args.self.now) (moment c.open.new.self)
   opened =
       let o = c.open.ensures in
-      fills-still (moment c.args.self.now) (moment c.open.new.self) (o.meets c.requires.here any).leaves.stays o.metadata
+      fills-still (moment c.args.self.now) (moment c.open.new.self) (o.meets c.requires.here any).leaves.stays o.metadata o.trials
       (λ told. ap (λ d. g.D.Flash.told d) o.still)
 
 pub returns-in-Err-clause-fills : goal.returns-in-Err-clause-fills
@@ -103,6 +103,6 @@ returns-clause-fills g c =
     fills-then (moment c.args.self.now) (moment b) (moment d)
     (copied g (goal.at.returns-clause-fills g c).After-copy_bytes (opened g (goal.at.returns-clause-fills g c).After-open))
     (fills-ended (moment b) (moment d)
-    (λ image writes. fills-behind (moment b) (moment d) leaves.stays e.metadata leaves.keeps _ _
+    (λ image writes. fills-behind (moment b) (moment d) leaves.stays e.metadata e.trials leaves.keeps _ _
     (slot-behind (fields b).layout (target (fields b)) image _) (λ told. (e.ends still told image writes).keeps))
-    (λ none. fills-still (moment b) (moment d) leaves.stays e.metadata (λ told. ap (λ x. g.D.Flash.told x) (e.still none))))
+    (λ none. fills-still (moment b) (moment d) leaves.stays e.metadata e.trials (λ told. ap (λ x. g.D.Flash.told x) (e.still none))))

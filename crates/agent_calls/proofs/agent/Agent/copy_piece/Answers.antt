@@ -131,7 +131,7 @@ module _ (g : given.Over) (c : After-read_part g) where
       let b = c.read_part.new.self in
       fills-still (moment a) (moment b)
       (read-stays g.D.Flash.tells (g.D.Flash.told a.flash) (g.D.Flash.told b.flash) (fields a) (fields b) c.read_part.ensures.fields c.read_part.ensures.reads.content)
-      (ap (λ (f : Fields). f.meta) c.read_part.ensures.fields) c.read_part.ensures.reads.content
+      (ap (λ (f : Fields). f.meta) c.read_part.ensures.fields) (ap (λ (f : Fields). f.trials) c.read_part.ensures.fields) c.read_part.ensures.reads.content
 
 pub returns-in-Err-clause-fills : goal.returns-in-Err-clause-fills
 returns-in-Err-clause-fills g c = read g (goal.at.returns-in-Err-clause-fills g c).After-read_part
@@ -147,7 +147,7 @@ module _ (g : given.Over) (c : After-write_stream g) where
       fills-by c.write_stream.result (moment b) (moment d)
       (λ done.
       let writes = w.writes done in
-      fills-behind (moment b) (moment d) leaves.stays w.metadata leaves.keeps _ _
+      fills-behind (moment b) (moment d) leaves.stays w.metadata w.trials leaves.keeps _ _
       (slot-behind (fields b).layout (target (fields b)) writes.0 _) (λ told. (w.appends done told writes.0 writes.1).keeps))
       (λ is. ap (λ x. moment x) (w.refused is)) (λ is. ap (λ x. moment x) (w.goes.untouched is))
 

@@ -1,0 +1,102 @@
+-- What is done for an order that asks for files, from what its parts did.
+use Rattle.std.proofs.Common.{◌≡◌, ◌⊎◌, ◌≤◌, ℕ, List, Some, Result, Err, ap, arith, refl, subst, sym, ◌∙◌}
+use Rattle.std.specs.Prelude.{IfErr}
+use Rattle.base_core.specs.Counts.{Rose}
+use Rattle.fip_words.specs.Order.{Asked}
+use Rattle.host_io.specs.Access.{Access}
+use Rattle.host_io.specs.Contents.{Directory}
+use Rattle.host_io.specs.Reads.{ReadsFiles}
+use Rattle.host_io.specs.declared.files.Files as files
+use Rattle.host_io.specs.declared.sink.Sink as sink
+use Rattle.host_io.specs.declared.writes.Writes.{Writes}
+use Rattle.fip_tool.specs.Done.{DoneWithFiles, WritesTexts}
+use Rattle.fip_tool.specs.Names.{IsUnnamed}
+use Rattle.fip_tool.specs.Payloads.{made_by}
+use Rattle.fip_tool.specs.Refusals.{MayRefuse}
+use Rattle.fip_tool.specs.Said.{IsMadeLine, IsTexts}
+use Rattle.fip_tool.specs.Seen.{DidIn, DidSince, GivesIn, ReadsOnlyIn, SaysIn, WroteIn, WroteForIn}
+use Rattle.fip_tool.specs.Steps.{FaultsOnce, Gives, IsLate, Outcome, outcome_by, sink_failures}
+use Rattle.fip_tool.specs.Tool.{command_outcome, puts}
+use Rattle.fip_tool.specs.Wrote.{WroteFor}
+use Rattle.fip_tool.specs.declared.made.Format.{Format}
+use Rattle.fip_tool.specs.declared.made.Made.{Made}
+use Rattle.fip_tool.specs.declared.stops.Stop.{Stop}
+use Rattle.fip_tool.specs.declared.stops.Stop.TheVariants as stop
+use Rattle.fip_tool.proofs.Did.{did-later}
+use Rattle.fip_tool.proofs.FileFaults.{faults-as, faults-of}
+use Rattle.fip_tool.proofs.Refusing.{if-err-as, made-may}
+use Rattle.fip_tool.proofs.SinkFaults.{still}
+use Rattle.fip_tool.proofs.Tables.{either-rose, failed-same, rose-still}
+use Rattle.fip_tool.proofs.Texts.{err-same, says-as, says-nothing}
+use Rattle.fip_tool.proofs.WroteLemmas.{wrote-as, wrote-none}
+
+module _ {H O : Type 0} {h : files.Ghosts H} {o : sink.Ghosts O} {one : Asked} where
+  -- a stop before anything was done
+  pub done-unread : {X : Type 0} {IsOther : Access → Type 0} {before after : H} {old : O} (s : Stop)
+      → ReadsOnlyIn {X = X} h before after (Err s) → ReadsFiles h IsOther before after → ((access : Access) → IsUnnamed (Some one) access → IsOther access)
+      → ((told : Directory) → h.contents before ≡ Some told → DidIn h o (command_outcome one told) told before after old old (Err s))
+      → MayRefuse (Some one) s → DoneWithFiles h o one (Err s) before after old old
+  done-unread {before = before} {old = old} s reads asked unnamed did may = record {
+    told = did;
+    says = says-nothing (IsTexts one) _ _ _ s (λ e. reads.sink (err-same e)) refl;
+    wrote = subst (λ (w : Writes). WroteFor (Some one) (o.taken old) (o.taken old) (h.writes before).done w.done (Err s)) (sym asked.unwritten) (wrote-none (Some one) (o.taken old) (h.writes before).done s);
+    file_count = faults-as (faults-of reads);
+    cause = λ e none. let same : s ≡ stop.FileFault = cc in reads.cause (err-same same) none;
+    usage = λ e. let same : s ≡ stop.Usage = cc in reads.usage (err-same same);
+    refusals = may;
+    spares = λ access other. asked.spares access (unnamed access other);
+    later = omega arith;
+    sink_count = still _ s (λ e. reads.sink (err-same e));
+  }
+
+  -- files were written, each with its text
+  pub done-texts : {result : Result (Unit {0}) Stop} {before after : H} {old new : O} → WritesTexts h o (IsTexts one) result before after old new
+      → (WroteIn h o (IsTexts one) before after old new result → WroteForIn h o (Some one) before after old new result) → ((s : Stop) → IsLate s → MayRefuse (Some one) s)
+      → ((told : Directory) → h.contents before ≡ Some told → DidIn h o (command_outcome one told) told before after old new result)
+      → ((access : Access) → IsUnnamed (Some one) access → h.spares before after access) → DoneWithFiles h o one result before after old new
+  done-texts {result = result} put writes late did spares = record {
+    told = did;
+    says = put.says;
+    wrote = writes put.wrote;
+    file_count = put.file_count;
+    cause = λ e none. put.cause e;
+    usage = put.usage;
+    refusals = if-err-as result IsLate (MayRefuse (Some one)) late put.late;
+    spares = spares;
+    later = put.later_sink;
+    sink_count = put.sink_count;
+  }
+
+  -- what was made was put into a file, and its line was printed
+  pub done-made : {IsOther : Access → Type 0} {made : Result Made Stop} {result : Result (Unit {0}) Stop} {before mid after : H} {old new : O} (format : Format) (out : List ℕ) (value : Directory → Result (ℕ × List ℕ) Stop)
+      → ((told : Directory) → command_outcome one told ≡ outcome_by (puts format out) (value told)) → ((texts : List (List ℕ)) → IsMadeLine format made texts → IsTexts one texts)
+      → (WroteIn h o (IsTexts one) before after old new result → WroteForIn h o (Some one) before after old new result)
+      → ((s : Stop) → IsLate s → MayRefuse (Some one) s)
+      → ReadsOnlyIn h before mid made → ReadsFiles h IsOther before mid → ((told : Directory) → h.contents before ≡ Some told → GivesIn h (made_by told) (value told) before mid made)
+      → IfErr made (MayRefuse (Some one))
+      → ((told : Directory) (value : Result (ℕ × List ℕ) Stop) (count : ℕ) → h.contents mid ≡ Some told → count ≤ h.faults mid → Gives (made_by told) (Rose count (h.faults mid)) value made
+      → DidSince h o count (outcome_by (puts format out) value) told mid after old new result)
+      → ((made ≡ Err stop.SinkFault → ⊥) → SaysIn o (IsMadeLine format made) old new result)
+      → WroteIn h o (IsMadeLine format made) mid after old new result
+      → ((count : ℕ) → FaultsOnce count (h.faults mid) made → FaultsOnce count (h.faults after) result)
+      → (result ≡ Err stop.FileFault → (made ≡ Err stop.FileFault) ⊎ Rose (h.faults mid) (h.faults after))
+      → (result ≡ Err stop.Usage → made ≡ Err stop.Usage)
+      → IfErr result (λ s. (made ≡ Err s) ⊎ IsLate s)
+      → h.faults mid ≤ h.faults after → o.faults old ≤ o.faults new
+      → ((made ≡ Err stop.SinkFault → ⊥) → o.faults new ≡ sink_failures result (o.faults old))
+      → ((access : Access) → IsUnnamed (Some one) access → h.spares before after access)
+      → DoneWithFiles h o one result before after old new
+  done-made {made = made} {result = result} {before = before} {mid = mid} {after = after} {old = old} {new = new} format out value outcome texts writes late reads asked gives may did says wrote counts cause usage refusals later later_sink sink_count spares = record {
+    told = λ told e.
+        subst (λ (all : Outcome). DidIn h o all told before after old new result) (sym (outcome told))
+        (did-later _ told _ _ _ _ _ _ _ _ result (λ r. r) (λ r. rose-still _ _ _ (failed-same asked.unwritten) r) (did told (value told) (h.faults before) (reads.same ∙ e) reads.later (gives told e)));
+    says = says-as (IsMadeLine format made) (IsTexts one) _ _ _ _ result texts (λ r. r) (says reads.sink);
+    wrote = writes (wrote-as (IsMadeLine format made) (IsTexts one) _ _ _ _ _ result texts (ap (λ (w : Writes). w.done) asked.unwritten) wrote);
+    file_count = counts (h.faults before) (faults-of reads);
+    cause = λ e none. either-rose _ _ _ reads.later later (λ failed. reads.cause failed none) (cause e);
+    usage = λ e. reads.usage (usage e);
+    refusals = made-may made result (MayRefuse (Some one)) late may refusals;
+    spares = spares;
+    later = later_sink;
+    sink_count = sink_count reads.sink;
+  }

@@ -1,0 +1,111 @@
+-- What was done, as files, a source and a sink tell it. A word `DidIn` is `Did` with what those tell and count: it takes how
+-- their types tell it, and each of them before and after.
+use Rattle.std.specs.Prelude.{ℕ, List, Option, Result}
+use Rattle.base_core.specs.Counts.{Rose}
+use Rattle.fip_words.specs.Order.{Asked}
+use Rattle.fip_tables.specs.Stream.{Stream}
+use Rattle.host_io.specs.Contents.{Directory}
+use Rattle.host_io.specs.declared.files.Files as files
+use Rattle.host_io.specs.declared.source.Source as source
+use Rattle.host_io.specs.declared.sink.Sink as sink
+use Rattle.fip_tool.specs.Ends.{Ended, Reported, Told}
+use Rattle.fip_tool.specs.Said.{SaidWith, Says, SinkAlone}
+use Rattle.fip_tool.specs.Source.{FedSome}
+use Rattle.fip_tool.specs.Steps.{Did, Gives, Outcome, Printed, ReadsOnly, Written}
+use Rattle.fip_tool.specs.Tool.{EndedSource, GivenTo, ReadSource}
+use Rattle.fip_tool.specs.Wrote.{Wrote, WroteFor, WroteWith}
+use Rattle.fip_tool.specs.declared.stops.Stop.{Stop}
+
+-- ---- in files
+
+abbrev pub ReadsOnlyIn : {H X : Type 0} → files.Ghosts H → H → H → Result X Stop → Type 0
+ReadsOnlyIn h old new result = ReadsOnly (h.contents old) (h.contents new) (h.faults old) (h.faults new) result
+
+abbrev pub GivesIn : {H X Y : Type 0} → files.Ghosts H → (X → Y) → Result Y Stop → H → H → Result X Stop → Type 0
+GivesIn h view value old new result = Gives view (Rose (h.faults old) (h.faults new)) value result
+
+-- of told files, of which one with this name is to have these bytes
+abbrev pub WrittenIn : {H : Type 0} → files.Ghosts H → Directory → List ℕ → List ℕ → H → H → Result (Unit {0}) Stop → Type 0
+WrittenIn h told name bytes old new result =
+    Written told (h.contents new) (Rose (h.faults old) (h.faults new)) (Rose (h.writes old).failed (h.writes new).failed)
+    name bytes result
+
+-- ---- in a source
+
+abbrev pub FedSomeIn : {I : Type 0} → source.Ghosts I → Stream → List ℕ → List ℕ → I → I → Result ℕ Stop → Type 0
+FedSomeIn i stream given piece old new result =
+    FedSome stream given piece (i.left old) (i.left new) (Rose (i.faults old) (i.faults new)) result
+
+abbrev pub GivenToIn : {I X Y : Type 0} → source.Ghosts I → (X → Y) → (List ℕ → Result Y Stop) → I → I → Result X Stop → List ℕ
+    → Type 0
+GivenToIn i view value old new result given =
+    GivenTo view value (i.left old) (i.left new) (Rose (i.faults old) (i.faults new)) result given
+
+-- ---- in a sink
+
+abbrev pub PrintedIn : {O : Type 0} → sink.Ghosts O → List ℕ → O → O → Result (Unit {0}) Stop → Type 0
+PrintedIn o piece old new result = Printed (o.taken old) (o.taken new) (Rose (o.faults old) (o.faults new)) piece result
+
+abbrev pub SaysIn : {O : Type 0} → sink.Ghosts O → (List (List ℕ) → Type 0) → O → O → Result (Unit {0}) Stop → Type 0
+SaysIn o T old new result = Says T (o.taken old) (o.taken new) (Rose (o.faults old) (o.faults new)) result
+
+abbrev pub ToldIn : {O : Type 0} → sink.Ghosts O → Stop → O → O → Stop → Type 0
+ToldIn o s old new now = Told (o.taken old) (o.taken new) (Rose (o.faults old) (o.faults new)) s now
+
+abbrev pub ReportedIn : {O : Type 0} → sink.Ghosts O → Stop → O → O → Stop → Type 0
+ReportedIn o s old new now = Reported (o.taken old) (o.taken new) (Rose (o.faults old) (o.faults new)) s now
+
+abbrev pub SaidWithIn : {O : Type 0} → sink.Ghosts O → Option Asked → O → O → ℕ → Type 0
+SaidWithIn o asked old new status = SaidWith asked (o.taken old) (o.taken new) (Rose (o.faults old) (o.faults new)) status
+
+-- of a count of other calls that failed, before and after
+abbrev pub SinkAloneIn : {O : Type 0} → sink.Ghosts O → Option Asked → O → O → ℕ → ℕ → Type 0
+SinkAloneIn o asked old new before after = SinkAlone asked (o.taken old) (o.taken new) before after
+
+-- ---- in files and a sink
+
+-- where so many calls of the files had failed before
+abbrev pub DidSince : {H O : Type 0} → files.Ghosts H → sink.Ghosts O → ℕ → Outcome → Directory → H → H → O → O
+    → Result (Unit {0}) Stop → Type 0
+DidSince h o before outcome told files-old files-new old new result =
+    Did outcome told (h.contents files-new) (o.taken old) (o.taken new) (Rose before (h.faults files-new))
+    (Rose (h.writes files-old).failed (h.writes files-new).failed) (Rose (o.faults old) (o.faults new)) result
+
+abbrev pub DidIn : {H O : Type 0} → files.Ghosts H → sink.Ghosts O → Outcome → Directory → H → H → O → O
+    → Result (Unit {0}) Stop → Type 0
+DidIn h o outcome told files-old files-new old new result =
+    DidSince h o (h.faults files-old) outcome told files-old files-new old new result
+
+abbrev pub WroteIn : {H O : Type 0} → files.Ghosts H → sink.Ghosts O → (List (List ℕ) → Type 0) → H → H → O → O
+    → Result (Unit {0}) Stop → Type 0
+WroteIn h o T files-old files-new old new result =
+    Wrote T (o.taken old) (o.taken new) (h.writes files-old).done (h.writes files-new).done result
+
+abbrev pub WroteForIn : {H O : Type 0} → files.Ghosts H → sink.Ghosts O → Option Asked → H → H → O → O
+    → Result (Unit {0}) Stop → Type 0
+WroteForIn h o asked files-old files-new old new result =
+    WroteFor asked (o.taken old) (o.taken new) (h.writes files-old).done (h.writes files-new).done result
+
+abbrev pub EndedIn : {H O : Type 0} → files.Ghosts H → sink.Ghosts O → Outcome → Directory → H → H → O → O → ℕ → Type 0
+EndedIn h o outcome told files-old files-new old new status =
+    Ended outcome told (h.contents files-new) (o.taken old) (o.taken new) (Rose (h.faults files-old) (h.faults files-new))
+    (Rose (h.writes files-old).failed (h.writes files-new).failed) (Rose (o.faults old) (o.faults new)) status
+
+abbrev pub WroteWithIn : {H O : Type 0} → files.Ghosts H → sink.Ghosts O → Option Asked → H → H → O → O → ℕ → Type 0
+WroteWithIn h o asked files-old files-new old new status =
+    WroteWith asked (o.taken old) (o.taken new) (Rose (o.faults old) (o.faults new))
+    (h.writes files-old).done (h.writes files-new).done status
+
+-- ---- in a source and a sink, with what files tell before and after
+
+abbrev pub ReadSourceIn : {I O : Type 0} → source.Ghosts I → sink.Ghosts O → Option Directory → Option Directory → I → I → O → O
+    → Result (Unit {0}) Stop → Type 0
+ReadSourceIn i o told now source-old source-new old new result =
+    ReadSource result told now (i.left source-old) (i.left source-new) (o.taken old) (o.taken new)
+    (Rose (i.faults source-old) (i.faults source-new)) (Rose (o.faults old) (o.faults new))
+
+abbrev pub EndedSourceIn : {I O : Type 0} → source.Ghosts I → sink.Ghosts O → Option Directory → Option Directory → I → I → O → O
+    → ℕ → Type 0
+EndedSourceIn i o told now source-old source-new old new status =
+    EndedSource status told now (i.left source-old) (i.left source-new) (o.taken old) (o.taken new)
+    (Rose (i.faults source-old) (i.faults source-new)) (Rose (o.faults old) (o.faults new))

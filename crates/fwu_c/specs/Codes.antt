@@ -1,0 +1,36 @@
+-- The numbers that a caller in C is told.
+use Rattle.std.specs.Prelude.{ℕ, nat_lt, if◌then◌else◌, List, Option, Some, None, Result, Ok, Err}
+use Rattle.fwu_formats.specs.Layout.{Layout}
+use Rattle.fwu_formats.specs.Package.{Toc, Entry, entry_of}
+use Rattle.fwu_formats.specs.declared.kinds.FipFault.{FipFault}
+use Rattle.fwu_formats.specs.declared.kinds.LayoutFault.{LayoutFault}
+use Rattle.fwu_formats.specs.declared.kinds.LayoutFault.TheVariants.{Short, BadMagic, BadSize, BadCrc, BadField, BeyondFlash}
+
+-- the number of a layout's fault
+abbrev pub fault_code : LayoutFault → ℕ
+fault_code Short = 1
+fault_code BadMagic = 2
+fault_code BadSize = 3
+fault_code BadCrc = 4
+fault_code BadField = 5
+fault_code BeyondFlash = 6
+
+-- 0: a layout; else the number of its first fault
+abbrev pub layout_code : Result Layout LayoutFault → ℕ
+layout_code (Ok l) = 0
+layout_code (Err f) = fault_code f
+
+-- 7: the layout has no such bank
+abbrev pub slots_code : ℕ → Result Layout LayoutFault → ℕ
+slots_code bank (Err f) = fault_code f
+slots_code bank (Ok L) = if nat_lt bank L.banks then 0 else 7
+
+-- 0: there; 1: the package has no entry of the type
+abbrev pub found_code : Option Entry → ℕ
+found_code (Some e) = 0
+found_code None = 1
+
+-- 2: it is no package
+abbrev pub find_code : List ℕ → Result Toc FipFault → ℕ
+find_code guid (Err f) = 2
+find_code guid (Ok toc) = found_code (entry_of toc guid)

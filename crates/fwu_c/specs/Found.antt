@@ -1,0 +1,22 @@
+-- What is found in a package, and in a manifest.
+use Rattle.std.specs.Prelude.{ℕ, List, Option, Some, None, Result, Ok, Err}
+use Rattle.fwu_formats.specs.Layout.{Layout}
+use Rattle.fwu_formats.specs.Manifest.{Manifest, manifest_of}
+use Rattle.fwu_formats.specs.Package.{Toc, Entry, entry_of}
+use Rattle.fwu_formats.specs.declared.kinds.FipFault.{FipFault}
+use Rattle.fwu_formats.specs.declared.kinds.LayoutFault.{LayoutFault}
+use Rattle.fwu_formats.specs.declared.kinds.ManifestFault.{ManifestFault}
+
+-- the entry of a type, where the bytes are a package
+abbrev pub entry_in : List ℕ → Result Toc FipFault → Option Entry
+entry_in guid (Err f) = None
+entry_in guid (Ok toc) = entry_of toc guid
+
+abbrev pub security_of : Result Manifest ManifestFault → Option ℕ
+security_of (Err f) = None
+security_of (Ok m) = Some m.security
+
+-- the security version of a manifest, where the block is a layout and the bytes begin with a manifest of its images
+abbrev pub security_version : List ℕ → Result Layout LayoutFault → Option ℕ
+security_version manifest (Err f) = None
+security_version manifest (Ok L) = security_of (manifest_of L.rows manifest)

@@ -1,0 +1,27 @@
+-- What is reported of a start.
+use Rattle.std.specs.Prelude.{◌≡◌, if◌then◌else◌, length, take, ⊤}
+use Rattle.early_boot.specs.Started.{Started}
+use Rattle.early_boot.specs.Ends.{Ended, booted, bad_layout, no_metadata, no_bank, lost, failed}
+use Rattle.fwu_c.specs.Codes.{fault_code}
+use Rattle.fwu_c.specs.declared.report.Report.{Report}
+
+-- each field is that of the start
+pub record ReportsStart (b : Started) (r : Report) : Type 0 where
+  pub bank : r.bank ≡ b.bank
+  pub version : r.version ≡ b.version
+  pub trials : r.trials ≡ b.trials
+  pub counter : r.counter ≡ b.counter
+  pub fallback : r.fallback ≡ (if b.fallback then 1 else 0)
+  pub active : r.active ≡ b.meta.meta.active
+  pub previous : r.previous ≡ b.meta.meta.previous
+  pub images : r.images ≡ length b.layout.rows
+  pub lengths : take r.images r.lengths ≡ b.lengths
+
+-- each end has its own fields
+abbrev pub ReportsEnd : Ended → Report → Type 0
+ReportsEnd (booted b n) r = ReportsStart b r
+ReportsEnd (bad_layout f) r = r.layout_fault ≡ fault_code f
+ReportsEnd no_metadata r = ⊤
+ReportsEnd (no_bank active previous) r = (r.active ≡ active) × (r.previous ≡ previous)
+ReportsEnd (lost n) r = ⊤
+ReportsEnd (failed n) r = ⊤

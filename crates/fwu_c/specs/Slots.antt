@@ -1,0 +1,27 @@
+-- Where a bank keeps its images.
+use Rattle.std.specs.Prelude.{◌≡◌, ℕ, ◌*◌, nat_lt, if◌then◌else◌, length, take, Option, Some, None, Result, Ok, Err, slice_index_or}
+use Rattle.base_core.specs.Block.{block_bytes}
+use Rattle.base_core.specs.Bytes.{listed}
+use Rattle.fwu_formats.specs.Layout.{Layout, no_row, slot_bytes, start}
+use Rattle.fwu_formats.specs.declared.kinds.LayoutFault.{LayoutFault}
+use Rattle.fwu_c.specs.declared.slots.Slot.{Slot}
+use Rattle.fwu_c.specs.declared.slots.Slots.{Slots}
+
+-- the slot of an image of a bank, in bytes
+abbrev pub slot_of : Layout → ℕ → ℕ → Slot
+slot_of L bank image = record {
+  guid = (slice_index_or L.rows image no_row).guid;
+  offset = block_bytes * start L bank image;
+  size = slot_bytes L image;
+}
+
+-- the layout, where it has the bank
+abbrev pub layout_with : ℕ → Result Layout LayoutFault → Option Layout
+layout_with bank (Err f) = None
+layout_with bank (Ok L) = if nat_lt bank L.banks then Some L else None
+
+-- the bank's slots, in the order of the layout
+pub record TellsSlots (L : Layout) (bank : ℕ) (s : Slots) : Type 0 where
+  pub banks : s.banks ≡ L.banks
+  pub images : s.images ≡ length L.rows
+  pub slots : take s.images s.slots ≡ listed (length L.rows) (slot_of L bank)

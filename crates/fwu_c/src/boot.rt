@@ -1,0 +1,84 @@
+//! The boot of a flash that lies in memory.
+ghost use Rattle.std.specs.Prelude.{◌≡◌, ◌*◌, ◌≤◌, length, true};
+ghost use Rattle.base_core.specs.Block.{block_bytes};
+ghost use Rattle.step_flash.specs.Device.{block_count, image_of, is_on, told_of};
+ghost use Rattle.step_flash.specs.Guard.{start};
+ghost use Rattle.fwu_c.specs.Boots.{BootsBy, HasFlashSize};
+
+use crate::handing::{hand_over, hand_over_full};
+use crate::layouts::fault_number;
+use crate::report::{Report, report_start};
+use base_core::BLOCK_BYTES;
+use early_boot::{BootEnd, boot_in};
+use std::alloc::Global;
+use step_flash::{Step, StepFlash};
+use verify_core::AnyManifest;
+
+/// Boots a flash that lies in memory, and tells the steps by which the flash becomes what the boot makes of it. 0: a bank is to be
+/// started, once the steps are done in their order. 1: block 0 is no layout. 2: neither replica is metadata. 3: neither bank may be
+/// started. 5: there was no room for one more step. 6: these bytes are no flash. 7: memory, or room for the steps' bytes, is wanting.
+#[unsafe(no_mangle)]
+pub extern "C" fn fwu_boot(
+    alloc: Global,
+    image: &[u8],
+    steps: &mut [Step],
+    room: &mut [u8],
+    report: &mut Report,
+) -> u32
+    ensures boots { result ≤ 5 → BootsBy image.now result report.new steps.new room.new }
+    // Steps are told and not done, so no power is lost.
+    ensures unlost { result ≡ 4 → ⊥ }
+    // At 5 as many steps are told as there is room for.
+    ensures full { result ≡ 5 → report.new.steps ≡ length steps.old }
+    ensures no_flash { result ≡ 6 → HasFlashSize image.now → ⊥ }
+{
+    let Some(flash) = StepFlash::new(alloc, image, steps.len()) else {
+        return 6;
+    };
+    let Ok(mut block) = Vec::from_elem(alloc, 0u8, BLOCK_BYTES as usize) else {
+        return 7;
+    };
+    boot_over(flash, &mut block, steps, room, report)
+}
+
+/// As `fwu_boot`, on the device over the image, with a buffer of 4096 bytes.
+fn boot_over(
+    flash: StepFlash<'_>,
+    block: &mut [u8],
+    steps: &mut [Step],
+    room: &mut [u8],
+    report: &mut Report,
+) -> u32
+    requires on { is_on flash ≡ true }
+    requires block { length block.old ≡ block_bytes }
+    requires fresh { told_of flash ≡ start (image_of flash) }
+    requires size { length (image_of flash) ≡ block_bytes * block_count flash }
+    ensures boots { result ≤ 5 → BootsBy (image_of flash.entry) result report.new steps.new room.new }
+    ensures unlost { result ≡ 4 → ⊥ }
+    ensures full { result ≡ 5 → report.new.steps ≡ length steps.old }
+    ensures known { result ≡ 6 → ⊥ }
+{
+    match boot_in(flash, &AnyManifest, block) {
+        BootEnd::Booted(booted, _) => {
+            report_start(&booted, report);
+            let (flash, _, _) = booted.into_parts();
+            hand_over(flash, 0, steps, room, report)
+        }
+        BootEnd::BadLayout(flash, fault) => {
+            report.layout_fault = fault_number(fault);
+            hand_over(flash, 1, steps, room, report)
+        }
+        BootEnd::NoMetadata(flash) => hand_over(flash, 2, steps, room, report),
+        BootEnd::NoBank {
+            flash,
+            active,
+            previous,
+        } => {
+            report.active = active;
+            report.previous = previous;
+            hand_over(flash, 3, steps, room, report)
+        }
+        BootEnd::Lost(flash, _) => hand_over(flash, 4, steps, room, report),
+        BootEnd::Fault(flash, _) => hand_over_full(flash, steps, room, report),
+    }
+}

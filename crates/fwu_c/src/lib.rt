@@ -1,0 +1,20 @@
+//! What a boot loader or an update agent in C calls; `include/fwu.h` declares it. Nothing here calls back.
+//!
+//! A slice crosses as a pointer and a length. The caller passes pointers that are valid for the call; what is written overlaps
+//! nothing else that is passed.
+#![tactic(auto)]
+
+mod boot;
+mod checksums;
+mod handing;
+mod layouts;
+mod packages;
+mod report;
+mod slots;
+
+pub use boot::fwu_boot;
+pub use checksums::{fwu_crc32, fwu_sealed};
+pub use layouts::fwu_layout;
+pub use packages::{Place, fwu_find, fwu_manifest};
+pub use report::Report;
+pub use slots::{Slot, Slots, fwu_slots};

@@ -1,0 +1,80 @@
+//! Packages (the FIP layout of Trusted Firmware-A) and manifests (own format).
+ghost use Rattle.std.specs.Prelude.{◌≡◌, ◌+◌, ◌≤◌, is_some, length, IfNone, IfSome};
+ghost use Rattle.fwu_formats.specs.Layout.{layout_of};
+ghost use Rattle.fwu_formats.specs.Package.{toc_of};
+ghost use Rattle.fwu_c.specs.Codes.{find_code, found_code};
+ghost use Rattle.fwu_c.specs.Found.{entry_in, security_version};
+
+use base_core::Guid;
+use fip_tables::{Entry, StreamToc};
+use meta_layout::Layout;
+
+/// Where a payload stands: bytes from the package's first byte, and how many.
+#[repr(C)]
+#[derive(Clone, Copy)]
+pub struct Place {
+    pub offset: u64,
+    pub size: u64,
+}
+
+const _: () = prove!(size_of::<Place>() == 16);
+
+/// Tells where an entry's payload stands, where there is one. 0: there is one; 1: there is none.
+fn put_place(entry: Option<Entry>, place: &mut Place) -> u32
+    ensures code { result ≡ found_code entry }
+    ensures place { IfSome entry (λ e. (place.new.offset ≡ e.offset) × (place.new.size ≡ e.size)) }
+    ensures kept { IfNone entry (place.new ≡ place.old) }
+{
+    match entry {
+        Some(entry) => {
+            place.offset = entry.offset;
+            place.size = entry.size;
+            0
+        }
+        None => 1,
+    }
+}
+
+/// Where the payload of a type stands in a package. 0: `place` says it. 1: the package has no entry of the type. 2: the bytes are
+/// no package. At 1 and 2 `place` stays as it was.
+#[unsafe(no_mangle)]
+pub extern "C" fn fwu_find(bytes: &[u8], guid: &[u8; 16], place: &mut Place) -> u32
+    ensures code { result ≡ find_code guid.now (toc_of bytes.now) }
+    ensures place { IfSome (entry_in guid.now (toc_of bytes.now))
+        (λ e. (place.new.offset ≡ e.offset) × (place.new.size ≡ e.size)) }
+    ensures kept { IfNone (entry_in guid.now (toc_of bytes.now)) (place.new ≡ place.old) }
+{
+    let mut stream = StreamToc::new();
+    if stream.feed(bytes).is_err() {
+        return 2;
+    }
+    match stream.end() {
+        Ok(toc) => put_place(toc.entries.find(&Guid::of(*guid)), place),
+        Err(_) => 2,
+    }
+}
+
+/// Whether the bytes begin with a manifest of the layout in this block, of a flash of so many blocks. Where they do, `version` is
+/// its security version, else it stays as it was.
+#[unsafe(no_mangle)]
+pub extern "C" fn fwu_manifest(
+    manifest: &[u8],
+    block: &[u8],
+    blocks: u32,
+    version: &mut u32,
+) -> bool
+    ensures passes { result ≡ is_some (security_version manifest.now (layout_of block.now blocks)) }
+    ensures version { IfSome (security_version manifest.now (layout_of block.now blocks)) (λ v. version.new ≡ v) }
+    ensures kept { IfNone (security_version manifest.now (layout_of block.now blocks)) (version.new ≡ version.old) }
+{
+    let Ok(layout) = Layout::read(block, blocks) else {
+        return false;
+    };
+    match manifest_core::test(manifest, layout.rows()) {
+        Ok(told) => {
+            *version = told;
+            true
+        }
+        Err(_) => false,
+    }
+}

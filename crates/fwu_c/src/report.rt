@@ -1,0 +1,54 @@
+//! What a boot reports.
+ghost use Rattle.std.specs.Prelude.{◌≡◌};
+ghost use Rattle.early_boot.specs.Started.{started};
+ghost use Rattle.fwu_c.specs.Reports.{ReportsStart};
+
+use early_boot::Booted;
+use flash_core::Flash;
+
+/// What a boot reports; which fields it writes is said by the answer.
+#[repr(C)]
+#[derive(Clone, Copy)]
+pub struct Report {
+    /// The bank that is to be started.
+    pub bank: u32,
+    /// The security version of its package.
+    pub version: u32,
+    /// How often the active bank was started on trial, this start counted, and 0 where it is not on trial.
+    pub trials: u32,
+    /// The anti-rollback counter after the steps.
+    pub counter: u32,
+    /// 1 where the previous bank is started in place of the active one, else 0.
+    pub fallback: u32,
+    /// The active bank.
+    pub active: u32,
+    /// The bank that was active before.
+    pub previous: u32,
+    /// The number of the layout's first fault.
+    pub layout_fault: u32,
+    /// How many images the bank has.
+    pub images: u32,
+    /// The length of each image in bytes, in the order of the layout.
+    pub lengths: [u32; 16],
+    /// How many steps are told.
+    pub steps: u32,
+    /// How many bytes of the room are theirs.
+    pub bytes: u32,
+}
+
+const _: () = prove!(size_of::<Report>() == 108);
+
+/// Reports a bank that is to be started.
+pub fn report_start<D: Flash>(booted: &Booted<D>, report: &mut Report)
+    ensures { ReportsStart (started booted.now) report.new }
+{
+    report.bank = booted.bank();
+    report.version = booted.version();
+    report.trials = booted.trials();
+    report.counter = booted.counter();
+    report.fallback = u32::from(booted.fallback());
+    report.active = booted.active();
+    report.previous = booted.previous();
+    report.images = booted.layout().rows().len() as u32;
+    report.lengths = booted.lengths();
+}

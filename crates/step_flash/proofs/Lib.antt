@@ -1,0 +1,7 @@
+mod Slices
+mod Grows
+mod Sounds
+mod ReadBack
+mod Calls
+pub mod Guards
+pub mod Causes

@@ -1,0 +1,295 @@
+//! The device.
+ghost use Rattle.std.specs.Prelude.{◌≡◌, ℕ, ◌+◌, ◌*◌, ◌≤◌, All, length, is_none, true, IsTrue, IfSome, IfNone, slice_range};
+ghost use Rattle.std.specs.Option.{ForSome};
+ghost use Rattle.base_core.specs.Block.{blank, block_bytes, fewest_blocks, most_blocks};
+ghost use Rattle.flash_core.specs.Told.{Told, IsSound};
+ghost use Rattle.flash_core.specs.Counts.{lowered};
+ghost use Rattle.step_flash.specs.Guard.{start};
+ghost use Rattle.step_flash.specs.Steps.{IsInside, run, run_step};
+
+use crate::overlay::overlay;
+use crate::step::{BARRIER, ERASE, Step, note_barrier, note_erase, note_program};
+use crate::stopped::Stopped;
+use base_core::{BLOCK_BYTES, FEWEST_BLOCKS, MOST_BLOCKS};
+use flash_core::{Arming, Flash, FlashStop};
+use std::alloc::Global;
+
+static BLANK: [u8; 4096] = [0xFF; 4096];
+
+/// A flash over an image in memory, which is never written. Its erases, programs and barriers are noted as steps, at most so many.
+///
+/// An erase, a program or a barrier fails where there is no room for one more step, or no memory for it. An erase or a program
+/// fails too where an armed loss of power is due, since a list of steps has no loss. Power goes then. Once it is on again, each
+/// read, erase, program and barrier fails.
+#[derive(Drop)]
+pub struct StepFlash<'a> {
+    image: &'a [u8],
+    blocks: u32,
+    on: bool,
+    // power was not on again after a stop
+    live: bool,
+    steps: Vec<Step>,
+    most: usize,
+    // the bytes of the programs, one after the other
+    room: Vec<u8>,
+    stopped: Option<Stopped>,
+    arming: Option<Arming>,
+    faults: u64,
+    made: u64,
+    ghost sizes: { (fewest_blocks ≤ blocks) × (blocks ≤ most_blocks) },
+    ghost size: { length image.now ≡ block_bytes * blocks },
+    ghost inside: { All (IsInside (length room.items) (block_bytes * blocks)) steps.items },
+    ghost idle: { IsTrue on → IsTrue (is_none stopped) },
+    ghost ahead: { ForSome arming (λ armed. 1 ≤ armed.n) },
+    ghost sound: { IsSound blocks true (run room.items (start image.now) steps.items) },
+}
+
+/// What was noted: the steps, in their order, and the room in which the bytes of programs stand.
+#[derive(Drop)]
+pub struct StepParts {
+    /// What is to be done to the flash, in this order.
+    pub steps: Vec<Step>,
+    /// The bytes of the programs, one after the other.
+    pub room: Vec<u8>,
+}
+
+/// The bytes of an erased block.
+#[tactic(auto, unfolding(base_core::specs::Block::blank))]
+fn blank_block() -> &'static [u8]
+    ensures { result.now ≡ blank block_bytes }
+{
+    &BLANK
+}
+
+/// How many blocks an image of so many bytes has, where a flash may have as many.
+fn blocks_of(bytes: usize) -> Option<u32>
+    ensures some { IfSome result (λ b. (fewest_blocks ≤ b) × (b ≤ most_blocks) × (bytes ≡ block_bytes * b)) }
+    ensures none { IfNone result ((b : ℕ) → fewest_blocks ≤ b → b ≤ most_blocks → bytes ≡ block_bytes * b → ⊥) }
+{
+    let block = BLOCK_BYTES as usize;
+    if bytes % block != 0 {
+        return None;
+    }
+    let blocks = bytes / block;
+    if blocks < FEWEST_BLOCKS as usize {
+        return None;
+    }
+    if blocks > MOST_BLOCKS as usize {
+        return None;
+    }
+    Some(blocks as u32)
+}
+
+/// Makes of bytes that were read from a place on what a step makes of them.
+fn lay(step: &Step, room: &[u8], blocks: u32, at: usize, out: &mut [u8])
+    requires inside { IsInside (length room.now) (block_bytes * blocks) step.now }
+    requires few { blocks ≤ most_blocks }
+    requires place { at + length out.old ≤ block_bytes * blocks }
+    ensures laid { (t : Told) → length t.now ≡ block_bytes * blocks
+        → out.old ≡ slice_range t.now at (at + length out.old)
+        → out.new ≡ slice_range (run_step room.now t step.now).now at (at + length out.old) }
+    ensures size { length out.new ≡ length out.old }
+{
+    if step.kind == ERASE {
+        overlay(out, at, step.at as usize, blank_block());
+        return;
+    }
+    if step.kind == BARRIER {
+        return;
+    }
+    let from = step.from as usize;
+    let bytes = &room[from..from + step.length as usize];
+    overlay(out, at, step.at as usize, bytes);
+}
+
+impl<'a> StepFlash<'a> {
+    ghost use Rattle.std.specs.Prelude.{◌≡◌, true, None, ◌+◌, ◌*◌, ◌≤◌, All, length, is_ok, slice_range};
+    ghost use Rattle.std.specs.Prelude.{ℕ, IfSome, IfNone, IsTrue, IsErrOf};
+    ghost use Rattle.flash_core.specs.Told.{halt};
+    ghost use Rattle.flash_core.specs.Counts.{Spends, IsDue};
+    ghost use Rattle.flash_core.specs.declared.flash.FlashStop.TheVariants.{Failed};
+    ghost use Rattle.step_flash.specs.Device.{is_on, is_live, block_count, image_of, after_steps, told_of};
+    ghost use Rattle.step_flash.specs.Device.{arming_of, counts_of, NotedBy};
+
+    /// The device over an image, which is on, with nothing dirty, and notes so many steps at most. None where the image has not the
+    /// bytes of 8 to 65,536 blocks of 4096 bytes.
+    pub fn new(alloc: Global, image: &'a [u8], most: usize) -> Option<StepFlash<'a>>
+        ensures content { IfSome result (λ d. told_of d ≡ start image.now) }
+        ensures power { IfSome result (λ d. is_on d ≡ true) }
+        ensures unarmed { IfSome result (λ d. arming_of d ≡ None) }
+        ensures image { IfSome result (λ d. image_of d ≡ image.now) }
+        ensures live { IfSome result (λ d. is_live d ≡ true) }
+        ensures size { IfSome result (λ d. length image.now ≡ block_bytes * block_count d) }
+        ensures none { IfNone result ((b : ℕ) → fewest_blocks ≤ b → b ≤ most_blocks → length image.now ≡ block_bytes * b → ⊥) }
+    {
+        let blocks = blocks_of(image.len())?;
+        Some(StepFlash {
+            image,
+            blocks,
+            on: true,
+            live: true,
+            steps: Vec::new(alloc),
+            most,
+            room: Vec::new(alloc),
+            stopped: None,
+            arming: None,
+            faults: 0,
+            made: 0,
+        })
+    }
+
+    /// Whether power was not on again after a stop. Then what is told is what the steps leave.
+    pub fn is_live(&self) -> bool
+        ensures { result ≡ is_live self.now }
+    {
+        self.live
+    }
+
+    /// The steps that were noted, in their order.
+    pub fn into_parts(self) -> StepParts
+        ensures noted { IsTrue (is_live self.entry) → NotedBy self.entry result }
+        ensures inside { All (IsInside (length result.room.items) (block_bytes * block_count self.entry)) result.steps.items }
+    {
+        StepParts {
+            steps: self.steps,
+            room: self.room,
+        }
+    }
+
+    /// Fills the buffer with the bytes that stand from a place on after the steps.
+    fn fill(&self, at: usize, out: &mut [u8])
+        requires inside { at + length out.old ≤ block_bytes * block_count self.now }
+        ensures { out.new ≡ slice_range (after_steps self.now).now at (at + length out.old) }
+    {
+        out.copy_from_slice(&self.image[at..at + out.len()]);
+        for step in &self.steps {
+            lay(step, &self.room, self.blocks, at, out);
+        }
+    }
+
+    /// A call fails, and power goes.
+    fn failed(&mut self) -> Result<(), FlashStop>
+        ensures stop { IsErrOf result Failed }
+        ensures power { is_on self.new ≡ is_ok result }
+        ensures size { block_count self.new ≡ block_count self.old }
+        ensures arming { arming_of self.new ≡ arming_of self.old }
+        ensures counts { Spends result (counts_of self.old) (counts_of self.new) }
+        ensures content { told_of self.new ≡ told_of self.old }
+    {
+        self.on = false;
+        self.faults = self.faults.saturating_add(1);
+        Err(FlashStop::Failed)
+    }
+
+    /// An erase or a program fails, and power goes.
+    fn stop(&mut self, at: u32, bytes: &[u8]) -> Result<(), FlashStop>
+        requires on { IsTrue (is_on self.old) }
+        ensures stop { IsErrOf result Failed }
+        ensures power { is_on self.new ≡ is_ok result }
+        ensures size { block_count self.new ≡ block_count self.old }
+        ensures arming { arming_of self.new ≡ arming_of self.old }
+        ensures counts { Spends result (counts_of self.old) (counts_of self.new) }
+        ensures content { told_of self.new ≡ halt at bytes.now (told_of self.old) }
+    {
+        self.on = false;
+        self.stopped = Some(Stopped::new(at, bytes));
+        self.failed()
+    }
+
+    /// Whether an erase or a program may be noted: power was not on again after a stop, and no loss is armed for it.
+    fn is_ready(&self) -> bool
+        ensures live { IsTrue result → IsTrue (is_live self.now) }
+        ensures undue { IsTrue result → IsDue (arming_of self.now) → ⊥ }
+    {
+        self.live && !matches!(self.arming, Some(Arming { n: 1, .. }))
+    }
+}
+
+/// An armed loss is one erase or program nearer.
+fn lowered(arming: Option<Arming>) -> Option<Arming>
+    ensures { result ≡ lowered arming }
+{
+    let Arming { n, k } = arming?;
+    Some(Arming {
+        n: n.saturating_sub(1),
+        k,
+    })
+}
+
+impl<'a> Flash for StepFlash<'a> {
+    ghost use Rattle.std.specs.Prelude.{true};
+    ghost use Rattle.step_flash.specs.Device.{is_on, block_count, told_of, arming_of, counts_of, device_sound};
+
+    ghost on = { λ d. is_on d };
+
+    ghost blocks = { λ d. block_count d };
+
+    ghost tells = { true };
+
+    ghost told = { λ d. told_of d };
+
+    ghost landed = { λ d. 0 };
+
+    ghost arming = { λ d. arming_of d };
+
+    ghost counts = { λ d. counts_of d };
+
+    ghost sizes = { λ d. d.sizes };
+
+    ghost sound = { λ d _. device_sound d };
+
+    ghost ahead = { λ d. d.ahead };
+
+    fn blocks(&self) -> u32 {
+        self.blocks
+    }
+
+    fn is_on(&self) -> bool {
+        self.on
+    }
+
+    fn read(&mut self, at: u32, out: &mut [u8]) -> Result<(), FlashStop> {
+        if !self.live {
+            return self.failed();
+        }
+        self.fill(at as usize, out);
+        Ok(())
+    }
+
+    fn erase(&mut self, block: u32) -> Result<(), FlashStop> {
+        let at = BLOCK_BYTES * block;
+        if !self.is_ready() || !note_erase(&mut self.steps, self.most, at) {
+            return self.stop(at, blank_block());
+        }
+        self.arming = lowered(self.arming);
+        Ok(())
+    }
+
+    fn program(&mut self, at: u32, bytes: &[u8]) -> Result<(), FlashStop> {
+        if !self.is_ready()
+            || !note_program(&mut self.steps, &mut self.room, self.most, at, bytes)
+        {
+            return self.stop(at, bytes);
+        }
+        self.arming = lowered(self.arming);
+        Ok(())
+    }
+
+    fn barrier(&mut self) -> Result<(), FlashStop> {
+        if !self.live || !note_barrier(&mut self.steps, self.most) {
+            return self.failed();
+        }
+        Ok(())
+    }
+
+    fn arm(&mut self, n: u32, k: u32) {
+        self.arming = Some(Arming { n, k });
+        self.made = self.made.saturating_add(1);
+    }
+
+    fn power_on(&mut self) {
+        self.on = true;
+        self.live = false;
+        self.stopped = None;
+    }
+}

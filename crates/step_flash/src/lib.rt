@@ -1,0 +1,16 @@
+//! A flash that is read where it lies in memory, and whose erases, programs and barriers are noted down as steps, in their order.
+//! It tells its content: that of the image with the steps done.
+#![tactic(auto)]
+
+mod device;
+mod ghost_bytes;
+mod laws;
+mod overlay;
+mod step;
+mod stopped;
+#[cfg(test)]
+mod tests;
+
+pub use device::{StepFlash, StepParts};
+pub use laws::{a_guard_tells_its_image, no_power_is_lost};
+pub use step::{BARRIER, ERASE, PROGRAM, Step};

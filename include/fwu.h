@@ -1,0 +1,166 @@
+/* libfwu.a: what a boot loader or an update agent in C calls. docs/FIRMWARE.md says how a board takes it up.
+ *
+ * Each function is written in Rattle (crates/fwu_c) and proved to meet its contract. Nothing compares the declarations below with
+ * it: who changes one changes the other. What a number stands for is the same in each call.
+ *
+ * Every pointer is valid for its call and not null, also where its length is 0. What is written overlaps nothing else that is
+ * passed. What is only read (const) is written by nobody meanwhile. The library keeps no pointer, and calls back only for memory
+ * (fwu_work). */
+#ifndef FWU_H
+#define FWU_H
+#include <stdbool.h>
+#include <stddef.h>
+#include <stdint.h>
+#ifdef __cplusplus
+extern "C" {
+#define FWU_ASSERT static_assert
+#else
+#define FWU_ASSERT _Static_assert
+#endif
+
+/* Rises with each change of a struct, a number or an argument. A board writes FWU_ASSERT(FWU_INTERFACE == 1, "..") in its code. */
+#define FWU_INTERFACE 1
+
+#define FWU_BLOCK_BYTES 4096    /* of a block: what one erase makes 0xFF */
+#define FWU_GRANULE_BYTES 16    /* of a granule: programs are whole granules, over bytes that are erased */
+#define FWU_MOST_IMAGES 16      /* of a bank */
+
+/* ---- checksums */
+
+/* The CRC-32 of `length` bytes: that of UEFI, of IEEE 802.3 and of zlib. */
+uint32_t fwu_crc32(const uint8_t *bytes, size_t length);
+
+/* Whether a block of `length` bytes has a right checksum in front: that of a layout, of metadata in version 1 or 2, of a counter
+ * record or of a GUID partition table. */
+bool fwu_sealed(const uint8_t *block, size_t length);
+
+/* ---- the layout: block 0 of the flash */
+
+/* What fwu_layout answers, the number N of `boot bad-layout N`. */
+enum fwu_layout_fault {
+    FWU_LAYOUT_READ = 0,         /* it is a layout */
+    FWU_LAYOUT_SHORT = 1,        /* too few bytes */
+    FWU_LAYOUT_BAD_MAGIC = 2,
+    FWU_LAYOUT_BAD_SIZE = 3,
+    FWU_LAYOUT_BAD_CRC = 4,
+    FWU_LAYOUT_BAD_FIELD = 5,
+    FWU_LAYOUT_BEYOND_FLASH = 6  /* the last bank ends behind the flash */
+};
+
+/* 0 where `length` bytes of block 0 are the layout of a flash of `blocks` blocks, else the number of its first fault. */
+uint32_t fwu_layout(const uint8_t *block, size_t length, uint32_t blocks);
+
+/* Where a bank keeps an image. */
+struct fwu_slot {
+    uint8_t type[16]; /* the image's type: a UUID, in the order of its text */
+    uint64_t offset;  /* where the slot begins, in bytes from the flash's first one */
+    uint64_t size;    /* the bytes of the slot: whole blocks */
+};
+
+/* What a layout says of a bank. */
+struct fwu_slots {
+    uint32_t banks;                         /* how many banks the flash has, 2 to 4 */
+    uint32_t images;                        /* how many images each bank has, 2 to 16 */
+    struct fwu_slot slots[FWU_MOST_IMAGES]; /* a slot for each image, in the order of the layout; behind them it stays as it was */
+};
+
+#define FWU_NO_SUCH_BANK 7
+
+/* Where bank `bank` (from 0) keeps its images, by `length` bytes of block 0 of a flash of `blocks` blocks. 0: `slots` tells it. 1
+ * to 6: enum fwu_layout_fault. 7: there is no such bank. From 1 on `slots` stays as it was. */
+uint32_t fwu_slots(const uint8_t *block, size_t length, uint32_t blocks, uint32_t bank, struct fwu_slots *slots);
+
+FWU_ASSERT(sizeof(struct fwu_slot) == 32 && offsetof(struct fwu_slot, offset) == 16, "as in crates/fwu_c/src/slots.rt");
+FWU_ASSERT(sizeof(struct fwu_slots) == 520 && offsetof(struct fwu_slots, slots) == 8, "as in crates/fwu_c/src/slots.rt");
+
+/* ---- packages (the FIP layout of Trusted Firmware-A) and manifests */
+
+/* Where a payload stands, in bytes from the package's first one, and how many bytes it has. */
+struct fwu_place {
+    uint64_t offset;
+    uint64_t size;
+};
+
+/* What fwu_find answers. */
+enum fwu_found {
+    FWU_FOUND = 0,
+    FWU_NO_ENTRY = 1,   /* the package has no entry of the type */
+    FWU_NO_PACKAGE = 2  /* the bytes are no package */
+};
+
+/* Where a package of `length` bytes has the payload of a type. `type` has the 16 bytes of a UUID, in the order of its text.
+ * `place` is written at 0 alone, and lies within the package then. */
+uint32_t fwu_find(const uint8_t *package, size_t length, const uint8_t type[16], struct fwu_place *place);
+
+/* Whether `length` bytes begin with a manifest of the images of a layout: `block` has `size` bytes of block 0, of a flash of
+ * `blocks` blocks. Only then is `version` written: the manifest's security version. False too where the block is no layout. */
+bool fwu_manifest(const uint8_t *manifest, size_t length, const uint8_t *block, size_t size, uint32_t blocks, uint32_t *version);
+
+FWU_ASSERT(sizeof(struct fwu_place) == 16 && offsetof(struct fwu_place, size) == 8, "as in crates/fwu_c/src/packages.rt");
+
+/* ---- the boot */
+
+/* What fwu_boot answers, and the line of `fwu FLASH boot` beside it. */
+enum fwu_answer {
+    FWU_BOOT = 0,        /* boot bank=..: a bank is to be started, once all steps are done */
+    FWU_BAD_LAYOUT = 1,  /* boot bad-layout N: block 0 is no layout; no step is told */
+    FWU_NO_METADATA = 2, /* boot no-metadata: neither replica is metadata of the layout; no step is told */
+    FWU_NO_BANK = 3,     /* boot no-bank ..: neither the active nor the previous bank may be started; steps may repair metadata */
+    FWU_STEPS_FULL = 5,  /* one more step was to follow those that are told, which fill `steps` */
+    FWU_NO_FLASH = 6,    /* flash cannot be used: the length isn't 8 to 65,536 blocks */
+    FWU_NO_ROOM = 7      /* the work buffer has no room left, or `room` is too small for the steps' bytes */
+};
+
+enum fwu_kind {
+    FWU_ERASE = 1,   /* the block at `at` becomes 0xFF: `length` is 4096, `from` is 0 */
+    FWU_PROGRAM = 2, /* the bytes at `at` become the `length` bytes of the room from `from` on */
+    FWU_BARRIER = 3  /* what came before outlives a loss of power before what follows is begun: the other fields are 0 */
+};
+
+/* What is to be done to the flash. `at` and `length` are bytes of the flash, `from` is bytes from the room's first one. */
+struct fwu_step {
+    uint32_t kind; /* enum fwu_kind */
+    uint32_t at;
+    uint32_t length;
+    uint32_t from;
+};
+
+/* What a boot reports. `steps` and `bytes` are written at 0 to 5; of the others each says when. */
+struct fwu_report {
+    uint32_t bank;                     /* at 0: the bank that is to be started */
+    uint32_t version;                  /* at 0: the security version of its package */
+    uint32_t trials;                   /* at 0: starts of the active bank on trial, this one counted; 0 if not on trial */
+    uint32_t counter;                  /* at 0: the anti-rollback counter, after the steps */
+    uint32_t fallback;                 /* at 0: 1 where it is the previous bank in place of the active one, else 0 */
+    uint32_t active;                   /* at 0 and 3: the active bank */
+    uint32_t previous;                 /* at 0 and 3: the bank that was active before */
+    uint32_t layout_fault;             /* at 1: enum fwu_layout_fault */
+    uint32_t images;                   /* at 0: how many images the bank has, 2 to 16 */
+    uint32_t lengths[FWU_MOST_IMAGES]; /* at 0: the bytes of each image, in the order of the layout */
+    uint32_t steps;                    /* how many steps are told */
+    uint32_t bytes;                    /* how many bytes of the room are theirs */
+};
+
+/* Boots a flash that lies in memory, and writes nothing to it. `flash` has all its `length` bytes, from block 0 on. `steps` has
+ * room for `most` steps, which is also how many are told at most; `room` has `size` bytes. The steps are to be done in their
+ * order, and at 0 before the bank is started. The call takes its memory from the work buffer (fwu_work). */
+uint32_t fwu_boot(const uint8_t *flash, size_t length, struct fwu_step *steps, size_t most, uint8_t *room, size_t size,
+                  struct fwu_report *report);
+
+FWU_ASSERT(sizeof(struct fwu_step) == 16 && offsetof(struct fwu_step, from) == 12, "as in crates/step_flash/src/step.rt");
+FWU_ASSERT(sizeof(struct fwu_report) == 108 && offsetof(struct fwu_report, lengths) == 36 &&
+           offsetof(struct fwu_report, bytes) == 104, "as in crates/fwu_c/src/report.rt");
+
+/* ---- memory: demo/c/work.c */
+
+/* Gives the library memory: `size` bytes, of any alignment, which are the caller's again when the next call has returned. To be
+ * called before each fwu_boot. 6,144 bytes are enough for every boot. */
+void fwu_work(void *memory, size_t size);
+
+/* The most bytes of the buffer that a call took so far. */
+size_t fwu_work_most(void);
+
+#ifdef __cplusplus
+}
+#endif
+#endif
