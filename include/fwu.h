@@ -154,7 +154,7 @@ FWU_ASSERT(sizeof(struct fwu_report) == 108 && offsetof(struct fwu_report, lengt
 /* ---- memory: demo/c/work.c */
 
 /* Gives the library memory: `size` bytes, of any alignment, which are the caller's again when the next call has returned. To be
- * called before each fwu_boot. 6,144 bytes are enough for every boot. */
+ * called before each fwu_boot. 6,144 bytes did for each boot of three images and two banks that was tried. At FWU_NO_ROOM: more. */
 void fwu_work(void *memory, size_t size);
 
 /* The most bytes of the buffer that a call took so far. */
