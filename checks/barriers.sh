@@ -1,7 +1,7 @@
 #!/bin/sh
 # Counts the syncs of the built programs over files of the system, by strace, and compares them with what a barrier is to be.
 # A run that sends a package makes one fdatasync of the flash for each barrier, and none else; one that boots and writes nothing makes none.
-# A file that `fip create` makes anew is synced once before it takes its name. It ends with 1 where one of these doesn't hold.
+# A file that `fip create` makes anew is synced once before it takes its name, and is given no mode that it has. It ends with 1 where one of these doesn't hold.
 set -eu
 cd "$(dirname "$0")/.."
 bin=$(pwd)/bin
@@ -53,10 +53,14 @@ counted "a sending of one image of three" 5
 
 printf new >new.bin
 "$bin/fip" create out.fip nt-fw=new.bin >out
-strace -f -e trace=fdatasync,fsync,rename,renameat,renameat2 -o trace "$bin/fip" create out.fip nt-fw=new.bin >out
+strace -f -e trace=fdatasync,fsync,rename,renameat,renameat2,chmod,fchmod -o trace "$bin/fip" create out.fip nt-fw=new.bin >out
 counted "a file made anew, and its folder" 2
 grep -nE 'fdatasync|rename' trace | sed 's/(.*//' | awk '{ print $2 }' | tr '\n' ' ' | grep -q '^fdatasync rename' || {
     echo "DIFFERS: the new file takes its name before it is synced"
+    failed=1
+}
+grep -q chmod trace && {
+    echo "DIFFERS: a new file that has the old one's mode is given it again"
     failed=1
 }
 exit "$failed"

@@ -4,7 +4,9 @@
     failing_calls.py [BIN]    BIN is bin/ where it isn't named; wants strace
 
 `fip create` makes OUT anew: OUT is the old package or the new one, whole, and it is the new one where the run ended with status 0.
-So it is with the file that `fip unpack` makes of a payload.
+It keeps its mode, and it is the new one where the system refuses that mode to a new file: then it is written where it stands.
+So it is with the file that `fip unpack` makes of a payload, and with that of `fip manifest`.
+A list of a package that the standard input gives is whole where the system interrupts a read of it or a write of the list.
 `fwu FLASH run` boots, sends a package and boots: a boot of what is left starts, with the version that was acknowledged last or with
 the one that was sent.
 
@@ -13,6 +15,7 @@ It prints a line for each program and system call, and ends with 1 where one run
 import os
 import re
 import shutil
+import stat
 import subprocess
 import sys
 import tempfile
@@ -20,7 +23,7 @@ import tempfile
 sys.dont_write_bytecode = True
 sys.path.insert(0, os.path.join(os.path.dirname(os.path.abspath(__file__)), "model"))
 
-from make_packages import of_three, package  # noqa: E402
+from make_packages import manifest_of, of_three, package  # noqa: E402
 
 # What the programs ask of the system for files; what starts a program and maps memory is left alone.
 CALLS = (
@@ -47,14 +50,16 @@ def counts(words, script, fresh):
     return found
 
 
-def each_failure(title, words, script, fresh, is_right):
+def each_failure(title, words, script, fresh, is_right, calls=CALLS, error="EIO"):
     """Runs with each call failing in turn. How many runs left something wrong."""
     wrong = 0
     for call, count in sorted(counts(words, script, fresh).items()):
+        if call not in calls:
+            continue
         bad = []
         for number in range(1, count + 1):
             fresh()
-            done, _ = traced(["-e", f"trace={call}", "-e", f"inject={call}:error=EIO:when={number}"], words, script)
+            done, _ = traced(["-e", f"trace={call}", "-e", f"inject={call}:error={error}:when={number}"], words, script)
             if not is_right(done):
                 bad.append(number)
         print(f"{title}: {call}, each of {count}: {'as it has to be' if not bad else f'WRONG at {bad}'}", flush=True)
@@ -62,24 +67,35 @@ def each_failure(title, words, script, fresh, is_right):
     return wrong
 
 
+def fail_making(title, words, out, old, new, told=lambda text: text):
+    """A file that is made anew. How many runs left something wrong of it; `told` takes from its bytes what is compared."""
+
+    def fresh():
+        for name in os.listdir("."):
+            if name.startswith(out):
+                os.unlink(name)
+        with open(out, "wb") as file:
+            file.write(old)
+        os.chmod(out, 0o640)
+
+    def is_right(done):
+        with open(out, "rb") as file:
+            found = told(file.read())
+        whole = found == told(new) if done.returncode == 0 else found in (told(old), told(new))
+        return whole and stat.S_IMODE(os.stat(out).st_mode) == 0o640
+
+    def is_new(done):
+        return done.returncode == 0 and is_right(done)
+
+    wrong = each_failure(title, words, b"", fresh, is_right)
+    return wrong + each_failure(f"{title}, the mode refused", words, b"", fresh, is_new, ["fchmod", "chmod"], "EPERM")
+
+
 def fail_create(fip):
     old, new = package([("nt-fw", b"old" * 3000)]), package([("nt-fw", b"new" * 50000)])
     with open("new.bin", "wb") as file:
         file.write(b"new" * 50000)
-
-    def fresh():
-        for name in os.listdir("."):
-            if name.startswith("out.fip"):
-                os.unlink(name)
-        with open("out.fip", "wb") as file:
-            file.write(old)
-
-    def is_right(done):
-        with open("out.fip", "rb") as file:
-            found = payload_of(file.read())
-        return found == payload_of(new) if done.returncode == 0 else found in (payload_of(old), payload_of(new))
-
-    return each_failure("fip create", [fip, "create", "out.fip", "nt-fw=new.bin"], b"", fresh, is_right)
+    return fail_making("fip create", [fip, "create", "out.fip", "nt-fw=new.bin"], "out.fip", old, new, payload_of)
 
 
 def payload_of(text):
@@ -89,24 +105,34 @@ def payload_of(text):
 
 
 def fail_unpack(fip):
-    old, new = b"old" * 3000, b"new" * 50000
-    out = "xd6d0eea7-fcea-d54b-9782-9934f234b6e4.bin"
+    new = b"new" * 50000
     with open("in.fip", "wb") as file:
         file.write(package([("nt-fw", new)]))
+    out = "xd6d0eea7-fcea-d54b-9782-9934f234b6e4.bin"
+    return fail_making("fip unpack", [fip, "unpack", "in.fip", "x"], out, b"old" * 3000, new)
 
-    def fresh():
-        for name in os.listdir("."):
-            if name.startswith(out):
-                os.unlink(name)
-        with open(out, "wb") as file:
-            file.write(old)
+
+def fail_manifest(fip):
+    words = [fip, "manifest", "out.bin", "2", "tb-fw,7,tb.bin", "nt-fw,9,nt.bin"]
+    images = {"tb": b"t" * 5000, "nt": b"n" * 70000}
+    for name, image in images.items():
+        with open(f"{name}.bin", "wb") as file:
+            file.write(image)
+    return fail_making("fip manifest", words, "out.bin", b"old" * 3000, manifest_of(2, images["tb"], images["nt"]))
+
+
+def interrupt_list(fip):
+    """A list of a package that the standard input gives, each read and write interrupted in turn."""
+    text = package([("nt-fw", b"new" * 5000)])
+    wanted = subprocess.run([fip, "info", "-"], input=text, capture_output=True, check=True).stdout
 
     def is_right(done):
-        with open(out, "rb") as file:
-            found = file.read()
-        return found == new if done.returncode == 0 else found in (old, new)
+        # The first read is the loader's, of the C library. It isn't made again, and the program doesn't begin.
+        not_begun = done.returncode == 127 and b"loading shared libraries" in done.stderr
+        return not_begun or (done.returncode == 0 and done.stdout == wanted)
 
-    return each_failure("fip unpack", [fip, "unpack", "in.fip", "x"], b"", fresh, is_right)
+    calls = ["read", "write"]
+    return each_failure("fip info -, interrupted", [fip, "info", "-"], text, lambda: None, is_right, calls, "EINTR")
 
 
 def fail_fwu(fwu):
@@ -137,7 +163,7 @@ def main():
     with tempfile.TemporaryDirectory() as folder:
         os.chdir(folder)
         fip, fwu = os.path.join(bin, "fip"), os.path.join(bin, "fwu")
-        wrong = fail_create(fip) + fail_unpack(fip) + fail_fwu(fwu)
+        wrong = fail_create(fip) + fail_unpack(fip) + fail_manifest(fip) + interrupt_list(fip) + fail_fwu(fwu)
         os.chdir("/")
     return 1 if wrong else 0
 

@@ -94,15 +94,15 @@ def library_of(crate):
     return f"{place_of(crate)}/{crate}.rlib"
 
 
-def words_of(crate):
-    """The words by which the prover finds a crate."""
+def words_of(crate, tests=False):
+    """The words by which the prover finds a crate, or its tests, which make a program also of a static library."""
     words = ["--crate-name", crate, "src/lib.rt" if os.path.isfile(f"{folder_of(crate)}/src/lib.rt") else "src/main.rt"]
     for name in ["std", *NAMED[crate]]:
         words += ["--extern", f"{name}={library_of(name) if name in NAMED else f'{KIT}/rlibs/{name}.rlib'}"]
     for folder in [f"{KIT}/rlibs", *map(place_of, below(crate))]:
         words += ["-L", f"dependency={folder}"]
     words += ["--antt-project", f"{KIT}/rattle/logic/antt-project.json", "--logic-built", f"{KIT}/logic_built", "--links", f"{crate}="]
-    return [*words, *(["--crate-type", "staticlib"] if crate in STATIC else []), "--jobs", "1"]
+    return [*words, *(["--crate-type", "staticlib"] if crate in STATIC and not tests else []), "--jobs", "1"]
 
 
 @contextlib.contextmanager
@@ -182,7 +182,7 @@ def link(crate, made, program):
 def compiled(crate, program, flags):
     """Proves and builds a program, or tests with that flag. The status."""
     program = f"{folder_of(crate)}/out/{program}"
-    words = ["build", *words_of(crate), *flags, *kept_of(crate), "--toolchain", f"{KIT}/toolchain", "--backend", "llvm", "-o", f"{program}.o"]
+    words = ["build", *words_of(crate, "--test" in flags), *flags, *kept_of(crate), "--toolchain", f"{KIT}/toolchain", "--backend", "llvm", "-o", f"{program}.o"]
     os.makedirs(os.path.dirname(program), exist_ok=True)
     return rattle(folder_of(crate), words) or link(crate, f"{program}.o", program)
 

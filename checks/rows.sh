@@ -189,6 +189,18 @@ row 'a manifest of an image of 64 MiB' 6 'manifest too-large' fip manifest z.bin
 row 'words that ask for nothing' 1 "$fip_usage" fip help
 row 'no file is written by what is refused' 0 '' find . -name 'z.*'
 
+# ---- A list
+
+# A list of 8 GiB without data, and no memory for it.
+dd of=sparse.list bs=1 seek=8589934592 count=0 2>/dev/null
+within_64_mib() (
+    ulimit -v 65536
+    "$@"
+)
+cp formatted.img flash.img
+row 'a list of 8 GiB whose first line is none' 13 'bad-list 1' within_64_mib fwu flash.img --allow sparse.list boot
+rm sparse.list
+
 # ---- The file of a flash
 
 row 'a flash that is not there' 5 'flash cannot be used' fwu none.img boot
@@ -196,6 +208,19 @@ head -c 32767 blank.img >odd.img
 row 'a file that is no whole number of blocks' 5 'flash cannot be used' fwu odd.img boot
 head -c 28672 blank.img >seven.img
 row 'a file of seven blocks' 5 'flash cannot be used' fwu seven.img boot
+
+# held COMMAND..: the lock of the flash's file is another's.
+held() {
+    python3 -c 'import fcntl, subprocess, sys
+file = open("flash.img", "r+b")
+fcntl.flock(file, fcntl.LOCK_EX)
+sys.exit(subprocess.run(sys.argv[1:]).returncode)' "$@"
+}
+cp formatted.img flash.img
+row 'a flash that another run uses' 5 'flash cannot be used' held "$bin/fwu" flash.img show
+cp formatted.img other.img
+row 'another flash meanwhile' 0 "$first" held "$bin/fwu" other.img boot
+same 'the flash is as it was' formatted.img flash.img
 
 # ---- Power is lost at each erase and program
 

@@ -100,15 +100,22 @@ FWU_ASSERT(sizeof(struct fwu_place) == 16 && offsetof(struct fwu_place, size) ==
 
 /* ---- the boot */
 
-/* What fwu_boot answers, and the line of `fwu FLASH boot` beside it. */
+/* What a call that tells steps answers, and the line of `fwu FLASH boot`, or of a script, beside it. fwu_boot never answers 16 to
+ * 21. */
 enum fwu_answer {
     FWU_BOOT = 0,        /* boot bank=..: a bank is to be started, once all steps are done */
     FWU_BAD_LAYOUT = 1,  /* boot bad-layout N: block 0 is no layout; no step is told */
     FWU_NO_METADATA = 2, /* boot no-metadata: neither replica is metadata of the layout; no step is told */
     FWU_NO_BANK = 3,     /* boot no-bank ..: neither the active nor the previous bank may be started; steps may repair metadata */
     FWU_STEPS_FULL = 5,  /* one more step was to follow those that are told, which fill `steps` */
-    FWU_NO_FLASH = 6,    /* flash cannot be used: the length isn't 8 to 65,536 blocks */
-    FWU_NO_ROOM = 7      /* the work buffer has no room left, or `room` is too small for the steps' bytes */
+    FWU_NO_FLASH = 6,    /* flash cannot be used: the length isn't that of 8 to 65,536 blocks */
+    FWU_NO_ROOM = 7,     /* the work buffer has no room left, or `room` is too small for the steps' bytes */
+    FWU_DENIED = 16,     /* send begin DENIED, accept DENIED, previous DENIED: the banks don't allow it; see each call */
+    FWU_AUTH_FAIL = 17,  /* send end AUTH_FAIL: the package is not complete, or is below the counter */
+    FWU_BAD_PACKAGE = 18, /* send bad-package ..: these bytes are no package */
+    FWU_BAD_IMAGE = 19,  /* send missing-image .., image-too-large ..: it lacks an image, or one is larger than its slot */
+    FWU_UNKNOWN = 20,    /* accept UNKNOWN: no image has the type */
+    FWU_NOT_STARTED = 21 /* by what the flash shows no boot started the bank; no step is told */
 };
 
 enum fwu_kind {
@@ -125,7 +132,8 @@ struct fwu_step {
     uint32_t from;
 };
 
-/* What a boot reports. `steps` and `bytes` are written at 0 to 5; of the others each says when. */
+/* What a boot reports. `steps` and `bytes` are written at 0 to 5; of the others each says when. At 6 and 7 nothing is written: the
+ * steps, the room and the report stay as they were. */
 struct fwu_report {
     uint32_t bank;                     /* at 0: the bank that is to be started */
     uint32_t version;                  /* at 0: the security version of its package */
@@ -151,10 +159,56 @@ FWU_ASSERT(sizeof(struct fwu_step) == 16 && offsetof(struct fwu_step, from) == 1
 FWU_ASSERT(sizeof(struct fwu_report) == 108 && offsetof(struct fwu_report, lengths) == 36 &&
            offsetof(struct fwu_report, bytes) == 104, "as in crates/fwu_c/src/report.rt");
 
+/* ---- an update */
+
+/* Installs a package on a flash that lies in memory, and writes nothing to either. `package` has `bytes` bytes: the images of the
+ * flash's layout, by their types. With `acceptance` 0 each image is accepted at once; with any other number the package is on trial,
+ * and is started three times at most until its images are accepted. The other arguments are those of fwu_boot.
+ *
+ * It boots first, which writes nothing more where the loader's boot has been. The steps are one list: those of the boot, and behind
+ * them those that make the update bank invalid, write its images, and make it active.
+ *
+ * 0: once all steps are done, in their order, the next boot tries the package first. 1 to 3: no bank may be started, as fwu_boot
+ * says. 5, 16 to 19: nothing is installed. The steps that are told then needn't be done; to do the first ones of them harms no bank
+ * in use. Where the active bank is on trial no step is told, since a boot would count one more start of it. 6 and 7: nothing is
+ * written, as fwu_boot says.
+ *
+ * What the report says at 0 and 16 to 19 is what fwu_boot says at 0, of the bank that runs; where the active bank is on trial, only
+ * `steps` and `bytes` are written, as 0. At 5 it is that, or nothing but `steps` and `bytes`. */
+uint32_t fwu_update(const uint8_t *flash, size_t length, const uint8_t *package, size_t bytes, uint32_t acceptance,
+                    struct fwu_step *steps, size_t most, uint8_t *room, size_t size, struct fwu_report *report);
+
+/* ---- calls of the firmware that was started */
+
+/* Each call here is made in the firmware that a boot started. `bank` is the bank that fwu_boot reported, whose steps are done; the
+ * loader hands it on. No start is counted, and no counter raised. A call tells steps as fwu_boot does, over the same arguments. Its
+ * steps first repair the metadata, where a replica lacks it.
+ *
+ * 0: done, once all steps are done. 1, 2, 21: no step is told. 16, 20: refused (DEN0118); steps may repair metadata. 5, 6 and 7 are
+ * those of fwu_boot.
+ *
+ * The bank has to be the active one, and accepted or on trial with a start that counts; or the previous one, and accepted. And it
+ * has to hold a complete package of a version not below the counter. Else it is FWU_NOT_STARTED.
+ *
+ * The report says at 0, 16 and 20 what fwu_boot says at 0, by the numbers before the call. At 1 it has the layout's fault. */
+
+/* Accepts the image of a type in the active bank. `type` has the 16 bytes of a UUID, in the order of its text. Once all images of
+ * the bank are accepted, so is the bank, and its trials are over. An image that is accepted already is so again, by no step but
+ * those of the repair. 16: the bank that was started is not the active one. 20: no image has the type. */
+uint32_t fwu_accept(const uint8_t *flash, size_t length, uint32_t bank, const uint8_t type[16], struct fwu_step *steps,
+                    size_t most, uint8_t *room, size_t size, struct fwu_report *report);
+
+/* Selects the bank before: the active and the previous bank change places, and the trials are over. 16: the active bank is not on
+ * trial, and was started; or the previous bank is the active one, isn't accepted, or holds no complete package of a version that is
+ * not below the counter. */
+uint32_t fwu_previous(const uint8_t *flash, size_t length, uint32_t bank, struct fwu_step *steps, size_t most, uint8_t *room,
+                      size_t size, struct fwu_report *report);
+
 /* ---- memory: demo/c/work.c */
 
 /* Gives the library memory: `size` bytes, of any alignment, which are the caller's again when the next call has returned. To be
- * called before each fwu_boot. 6,144 bytes did for each boot of three images and two banks that was tried. At FWU_NO_ROOM: more. */
+ * called before each call that tells steps. No boot that was measured took more than 17,120 bytes; what an update takes is in
+ * docs/FIRMWARE.md. */
 void fwu_work(void *memory, size_t size);
 
 /* The most bytes of the buffer that a call took so far. */

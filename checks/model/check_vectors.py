@@ -212,6 +212,12 @@ def sizes(text):
 
 # crates/layer_vectors
 
+FIVE_TYPES = [str(uuid.UUID(bytes=bytes([17 * k] * 16))) for k in (1, 2, 3)]
+FIVE_ROWS = list(zip(["manifest", "tb-fw", "nt-fw", *FIVE_TYPES], [1, 1, 3, 1, 1, 1]))
+FIVE_CONTENTS = [b"abc", b"\xff" * 8300, b"hello", b"\xff" * 4096, b"\xff" * 64]
+FIVE_IMAGES = [(name, version, data) for (name, _), version, data in zip(FIVE_ROWS[1:], [7, 9, 1, 1, 1], FIVE_CONTENTS)]
+FIVE = {"LAYOUT": layout(FIVE_ROWS, 2), "METADATA": first_metadata(FIVE_ROWS, 2), "MANIFEST": manifest(1, FIVE_IMAGES)}
+
 IMAGE_TYPE = str(uuid.UUID(bytes=bytes(range(1, 17))))
 IMAGE_ROWS = [("aaaaaaaa-aaaa-aaaa-aaaa-aaaaaaaaaaaa", 1), (IMAGE_TYPE, 1)]
 
@@ -299,6 +305,7 @@ CHECKS = {
     "fip_vectors/src/real_files.rt": files,
     "fip_vectors/src/capsules.rt": capsules,
     "fip_vectors/src/sizes.rt": sizes,
+    "layer_vectors/src/boots_in_buffers.rt": constants_are(FIVE),
     "layer_vectors/src/manifests.rt": manifests_of_layers,
     "layer_vectors/src/memory_flash.rt": seals,
     "layer_vectors/src/lists.rt": digests,

@@ -1,6 +1,7 @@
 #!/bin/sh
 # Builds libfwu.a for x86-64 and aarch64 into bin/c, the host program bin/c/try, and the bare program bin/c/bare.elf.
-# The libraries below are those that demo/build.sh proved, which it runs first; fwu_c, and step_flash below it, are proved here.
+# The libraries below are those that demo/build.sh proved, which it runs first; fwu_c, and step_flash and package_files below it, are
+# proved here.
 # The compiler is the toolchain's clang for both processors; the C programs want cc and aarch64-linux-gnu-gcc.
 set -eu
 cd "$(dirname "$0")/../.."
@@ -34,6 +35,7 @@ make() {
 }
 
 make step_flash --statements -o "$proved/step_flash.rlib"
+make package_files --statements -o "$proved/package_files.rlib"
 for processor in x86_64 aarch64; do
     make fwu_c --crate-type staticlib --target $processor-unknown-linux-gnu --toolchain "$toolchain/toolchain" --backend llvm \
         -o "$out/$processor/libfwu.a"

@@ -3,7 +3,6 @@ use Rattle.std.specs.Prelude.{◌≡◌, ℕ, ◌+◌, ◌-◌, Bool, if◌then�
 use Rattle.fwu_model.specs.declared.kinds.Status.TheVariants.{Denied}
 use Rattle.fwu_model.specs.declared.kinds.Op.{Op}
 use Rattle.fwu_model.specs.declared.kinds.Op.TheVariants as op
-use Rattle.fwu_formats.specs.Layout.{find_image}
 use Rattle.fwu_formats.specs.Metadata.{MetaRead}
 use Rattle.fwu_model.specs.State.{State, Free, Switch, Accept, Back, bank, update_bank}
 use Rattle.fwu_model.specs.Sound.{Setting}
@@ -19,7 +18,8 @@ use Rattle.agent_kept.specs.declared.kinds.Plan.{Plan}
 use Rattle.agent_kept.specs.declared.kinds.Plan.TheVariants as plan
 use Rattle.agent_kept.specs.declared.kinds.Decision.{Decision}
 use Rattle.agent_kept.specs.declared.kinds.Decision.TheVariants as decision
-use Rattle.agent_kept.specs.Kept.{Kept, IsKept, HasTotals}
+use Rattle.agent_kept.specs.declared.parts.Handle.TheVariants as handle
+use Rattle.agent_kept.specs.Kept.{Kept, IsKept, HasTotals, handle_kept}
 use Rattle.fwu_model.specs.MoveMetas.{meta_in}
 
 -- the call that is requested, with the bytes of a write
@@ -140,10 +140,9 @@ loosely E s passes m counter k boot staged sp = record {
   kept = sp.kept;
 }
 
--- the request fits the call: a write has the length of its bytes, an open for reading the length of what is read,
--- and of a read each reader has the total of what it reads
+-- the request fits the call: a write has the length of its bytes, and a read's handle, where it reads, the total of what it reads
 abbrev pub FitsRequest : Setting → State → ℕ → Kept → Request → List ℕ → Type 0
 FitsRequest E s boot k (request.Write h n) bytes = n ≡ length bytes
-FitsRequest E s boot k (request.Open guid op.Read total) bytes = total ≡ length (content E s boot (find_image E.layout.rows guid))
-FitsRequest E s boot k (request.Read h room) bytes = HasTotals E s boot k
+FitsRequest E s boot k (request.Read h room) bytes = (image : Option ℕ) (at total : ℕ)
+    → handle_kept k (h - 1) ≡ handle.Reads image at total → total ≡ length (content E s boot image)
 FitsRequest E s boot k other bytes = Unit {0}

@@ -1,7 +1,7 @@
 -- An open: its plan is of what is kept, and what it says.
-use Rattle.std.proofs.Common.{◌≡◌, ℕ, Bool, List, [], length, Option, Result, Ok, Err, refl, sym, ap, ◌∙◌, subst, IsTrue}
+use Rattle.std.proofs.Common.{◌≡◌, ℕ, Bool, List, [], Option, Result, Ok, Err, refl, sym, ap, ◌∙◌, subst, IsTrue}
 use Rattle.flash_core.specs.Told.{Told}
-use Rattle.fwu_formats.specs.Layout.{ImageRow, Layout, find_image}
+use Rattle.fwu_formats.specs.Layout.{ImageRow, find_image}
 use Rattle.fwu_model.specs.declared.kinds.Op.{Op}
 use Rattle.fwu_model.specs.declared.kinds.Op.TheVariants as op
 use Rattle.fwu_model.specs.declared.kinds.Status.{Status}
@@ -12,7 +12,6 @@ use Rattle.fwu_model.specs.Sound.{Setting}
 use Rattle.fwu_model.specs.Call.{Call}
 use Rattle.fwu_model.specs.Reply.{Reply}
 use Rattle.fwu_model.specs.Reply as reply
-use Rattle.fwu_model.specs.Answer.{content}
 use Rattle.agent_kept.specs.declared.kinds.Plan.{Plan}
 use Rattle.agent_kept.specs.declared.kinds.Plan.TheVariants as plan
 use Rattle.agent_kept.specs.declared.kinds.Request.{Request}
@@ -24,12 +23,12 @@ use Rattle.agent_state.specs.Decides.{Decides}
 use Rattle.agent_state.specs.Asked.{IsPlanFor}
 use Rattle.agent_machine.specs.declared.stop.Stop.{Stop}
 use Rattle.agent_machine.specs.declared.stop.Stop.TheVariants as stop
-use Rattle.agent_machine.specs.Fields.{Fields, total_of, IsThere}
+use Rattle.agent_machine.specs.Fields.{Fields}
 use Rattle.agent_machine.specs.Carries.{CarriedOut}
 use Rattle.agent_machine.specs.Knows.{Fitting, SessionSound, Knows}
 use Rattle.agent_machine.specs.Moment.{Moment}
 use Rattle.agent_machine.specs.Meets.{Meets}
-use Rattle.agent_machine.proofs.Answered.{FitsEach, content-total, refused-meets}
+use Rattle.agent_machine.proofs.Answered.{FitsEach, refused-meets}
 use Rattle.agent_machine.proofs.Meeting.{quiet-meets}
 
 -- what is read is not asked for by the call
@@ -53,22 +52,15 @@ opens-asked f fitting guid o image total found p asked h other kind size is =
     ∙ ap (plan.Open h image o) own.3
 
 module _ (tells : Bool) (t : Told) (f : Fields) (fitting : Fitting f) (sound : SessionSound f) (knows : IsTrue tells → Knows f t)
-    (guid : List ℕ) (o : Op) (image : Option ℕ) (total : ℕ)
-    (found : image ≡ find_image f.layout.rows guid) (there : IsThere f image) (sized : total ≡ total_of f image) where
+    (guid : List ℕ) (o : Op) (image : Option ℕ) (total : ℕ) where
   abbrev m : Moment
   m = record { tells = tells; told = t; fields = f }
 
   abbrev asked : Request
   asked = request.Open guid o total
 
-  fits-as : (passes : List ℕ → Bool) (kind : Op) → FitsEach f passes (request.Open guid kind total) []
-  fits-as passes op.Read = λ E s setting speaks.
-      sized ∙ sym (content-total f E s fitting.layout setting.layout speaks image there)
-      ∙ ap (λ (i : Option ℕ). length (content E s f.boot i)) (found ∙ ap (λ (L : Layout). find_image L.rows guid) (sym setting.layout))
-  fits-as passes op.Write = λ E s setting speaks. tt
-
   fits : (passes : List ℕ → Bool) → FitsEach f passes asked []
-  fits passes = fits-as passes o
+  fits passes = λ E s setting speaks. tt
 
   -- the same of the call, where no length is asked for
   as-called : {T : Type 0} (Says : T → Reply → Type 0) (result : Result T Stop) (passes : List ℕ → Bool) (new : Moment)

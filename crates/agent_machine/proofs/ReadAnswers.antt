@@ -32,7 +32,7 @@ use Rattle.agent_machine.specs.Directory.{piece_of}
 use Rattle.agent_machine.specs.Knows.{Fitting, SessionSound, Knows}
 use Rattle.agent_machine.specs.Moment.{Moment, Shows}
 use Rattle.agent_machine.specs.Meets.{IsGot, Leaves, Meets, Stays}
-use Rattle.agent_machine.proofs.Answered.{shown-totals, refused-meets, done-meets, lost-meets, fault-meets, leaves-by, content-total}
+use Rattle.agent_machine.proofs.Answered.{FitsEach, shown-totals, refused-meets, done-meets, lost-meets, fault-meets, leaves-by, content-total}
 use Rattle.fwu_model.specs.State.{State}
 use Rattle.agent_machine.proofs.Room.{old-readers}
 use Rattle.agent_machine.proofs.Reading.{piece-is}
@@ -114,10 +114,15 @@ module _ (old : Moment) (fitting : Fitting old.fields) (sound : SessionSound old
   abbrev asked : Request
   asked = request.Read h room
 
+  -- the handle has the total of what it reads
+  reader-fits : (passes : List ℕ → Bool) → FitsEach f passes asked []
+  reader-fits passes = λ E s setting speaks image at total is.
+      (shown-totals f fitting sound E s setting.layout speaks).total (h - 1) image at total is
+
   pub read-refused : (Says : ℕ × ℕ → Reply → Type 0) (st : Status) → ((passes : List ℕ → Bool)
       → Decides passes f.meta f.counter f.session f.boot asked (decision.Refused st)) → (passes : List ℕ → Bool)
       → Meets {T = ℕ × ℕ} Says (Err (stop.Status st)) passes (call_of asked []) old old
-  read-refused Says st decides passes = refused-meets old fitting sound passes asked [] (λ E s setting speaks. shown-totals f fitting sound E s setting.layout speaks) st (decides passes) Says
+  read-refused Says st decides passes = refused-meets old fitting sound passes asked [] (reader-fits passes) st (decides passes) Says
 
   module _ (p : Plan) (decides : (passes : List ℕ → Bool) → Decides passes f.meta f.counter f.session f.boot asked (decision.Do p)) (number : ℕ)
       (image : Option ℕ) (at n total : ℕ) (is : p ≡ plan.Read number image at n total) (of-it : IsPlanOf f.session p) where
@@ -133,7 +138,7 @@ module _ (old : Moment) (fitting : Fitting old.fields) (sound : SessionSound old
     module _ (new : Moment) (told : IsTrue old.tells → new.told ≡ old.told) (passes : List ℕ → Bool) where
       leaves : (result : Result (Unit {0}) FlashStop) → Stays old new → Leaves result passes (call_of asked []) old new
       leaves result stays =
-          leaves-by old new fitting sound knows passes asked [] (λ E s setting speaks. shown-totals f fitting sound E s setting.layout speaks) own (reads passes) result
+          leaves-by old new fitting sound knows passes asked [] (reader-fits passes) own (reads passes) result
           (λ tells E setting ready. subst (λ (t : Told). Does result E (state_before old) [] t) (sym (told tells))
           (does-nothing result E (state_before old) old.told ready))
           (λ tells rest. guarded-by result new.told (subst IsAtRest (sym (told tells)) rest)) (λ tells. spared-told (IsSpared f) old.told new.told (told tells))
@@ -141,17 +146,17 @@ module _ (old : Moment) (fitting : Fitting old.fields) (sound : SessionSound old
 
       pub read-lost : (Says : ℕ × ℕ → Reply → Type 0) → Stays old new → Meets {T = ℕ × ℕ} Says (Err stop.Lost) passes (call_of asked []) old new
       read-lost Says stays =
-          lost-meets old new fitting sound knows passes asked [] (λ E s setting speaks. shown-totals f fitting sound E s setting.layout speaks) own (reads passes) Says (leaves (Err flash_stop.Lost) stays)
+          lost-meets old new fitting sound knows passes asked [] (reader-fits passes) own (reads passes) Says (leaves (Err flash_stop.Lost) stays)
 
       pub read-faulty : (Says : ℕ × ℕ → Reply → Type 0) → Stays old new → Meets {T = ℕ × ℕ} Says (Err stop.Fault) passes (call_of asked []) old new
       read-faulty Says stays =
-          fault-meets old new fitting sound knows passes asked [] (λ E s setting speaks. shown-totals f fitting sound E s setting.layout speaks) own (reads passes) Says (leaves (Err flash_stop.Failed) stays)
+          fault-meets old new fitting sound knows passes asked [] (reader-fits passes) own (reads passes) Says (leaves (Err flash_stop.Failed) stays)
 
       pub read-meets : (out : List ℕ) → (IsTrue old.tells → take n out ≡ piece_of f.layout f.meta.meta f.boot f.lengths old.told.now image at n)
           → CarriedOut own [] old new
           → Meets {T = ℕ × ℕ} (IsGot old.tells out) (Ok (n, total)) passes (call_of asked []) old new
       read-meets out read carried =
-          done-meets old new fitting sound knows passes asked [] (λ E s setting speaks. shown-totals f fitting sound E s setting.layout speaks) own (reads passes) carried (IsGot old.tells out) (n, total)
+          done-meets old new fitting sound knows passes asked [] (reader-fits passes) own (reads passes) carried (IsGot old.tells out) (n, total)
           (λ E s x setting shows. read-says old fitting number image at n total of knows E s x setting.layout shows out read)
           (leaves (Ok tt) (record {
             tells = carried.tells;

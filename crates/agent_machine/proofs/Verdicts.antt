@@ -2,7 +2,6 @@
 use Rattle.std.proofs.Common.{◌≡◌, ℕ, Bool, List, length, Option, Some, None, refl, sym, ap, ◌∙◌}
 use Rattle.fwu_model.specs.declared.kinds.Status.{Status}
 use Rattle.fwu_model.specs.declared.kinds.Op.TheVariants as op
-use Rattle.fwu_formats.specs.Layout.{find_image}
 use Rattle.fwu_formats.specs.Metadata.{MetaRead}
 use Rattle.fwu_model.specs.State.{State}
 use Rattle.fwu_model.specs.Sound.{Setting}
@@ -84,14 +83,10 @@ module _ (p q : List ℕ → Bool) (m : MetaRead) (counter : ℕ) (k : Kept) (bo
   fits-any E s bytes request.Discover fits = tt
   fits-any E s bytes (request.Begin flags n) fits = tt
   fits-any E s bytes (request.BeginPartial flags list) fits = tt
-  fits-any E s bytes (request.Open guid op.Read total) fits = fits
-      ∙ sym (ap (λ (l : List ℕ). length l) (content-any E p s boot (find_image E.layout.rows guid)))
-  fits-any E s bytes (request.Open guid op.Write total) fits = tt
+  fits-any E s bytes (request.Open guid o total) fits = tt
   fits-any E s bytes (request.Write h n) fits = fits
-  fits-any E s bytes (request.Read h room) fits = record {
-    total = λ place image at total is. fits.total place image at total is ∙ sym (ap (λ (l : List ℕ). length l) (content-any E p s boot image));
-    within = fits.within;
-  }
+  fits-any E s bytes (request.Read h room) fits =
+      λ image at total is. fits image at total is ∙ sym (ap (λ (l : List ℕ). length l) (content-any E p s boot image))
   fits-any E s bytes (request.Commit h req most) fits = tt
   fits-any E s bytes request.End fits = tt
   fits-any E s bytes request.Cancel fits = tt

@@ -14,3 +14,5 @@ pub mod Known
 pub mod Whole
 pub mod Numbered
 pub mod Left
+pub mod TakingUp
+pub mod TakenUp

@@ -9,4 +9,5 @@ pub mod Mending
 pub mod CountingStarts
 pub mod Starting
 pub mod EndsBy
+pub mod TakenUp
 pub mod Law

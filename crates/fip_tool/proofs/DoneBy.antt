@@ -13,8 +13,9 @@ use Rattle.fip_tool.proofs.Did.{are-told}
 use Rattle.fip_tool.proofs.FileFaults.{faults-none}
 use Rattle.fip_tool.proofs.SourceLemmas.{nothing-read}
 use Rattle.fip_tool.proofs.WroteLemmas.{wrote-none}
-use Rattle.fip_tool.proofs.Refusing.{memory-may}
-use Rattle.fip_tool.specs.Done.{Done, DoneWithFiles}
+use Rattle.fip_tool.proofs.Refusing.{if-err-all, memory-may}
+use Rattle.fip_tool.specs.Done.{Done, DoneWithFiles, RefusesAlone}
+use Rattle.fip_tool.specs.Ends.{status_number}
 use Rattle.fip_tool.specs.Refusals.{MayRefuse}
 use Rattle.fip_tool.specs.Said.{IsTexts}
 use Rattle.fip_tool.specs.Seen.{ReadSourceIn, SaysIn}
@@ -40,6 +41,7 @@ module _ {H I O : Type 0} {h : files.Ghosts H} {i : source.Ghosts I} {o : sink.G
         files_stay = λ stays. absurd (false≢true (sym stays ∙ asks));
         cause = λ e untold. inl (done.cause e untold);
         spares = done.spares;
+        alone = done.alone;
         file_count = done.file_count;
         wrote = done.wrote;
         later = done.later;
@@ -71,6 +73,7 @@ module _ {H I O : Type 0} {h : files.Ghosts H} {i : source.Ghosts I} {o : sink.G
         files_stay = λ stays. refl;
         cause = λ e untold. inr (cause e);
         spares = λ access other. rest access;
+        alone = if-err-all result (λ s. RefusesAlone h (Some info_of_source) kept kept (status_number s)) (λ s refuses access other. rest access);
         file_count = faults-none refl;
         wrote = refl;
         later = later;
@@ -91,6 +94,7 @@ module _ {H I O : Type 0} {h : files.Ghosts H} {i : source.Ghosts I} {o : sink.G
       files_stay = λ stays. refl;
       cause = λ e untold. absurd cc;
       spares = λ access other. rest access;
+      alone = λ refuses access other. rest access;
       file_count = faults-none refl;
       wrote = refl;
       later = omega arith;
@@ -111,6 +115,7 @@ module _ {H I O : Type 0} {h : files.Ghosts H} {i : source.Ghosts I} {o : sink.G
       files_stay = λ stays. refl;
       cause = λ e untold. absurd cc;
       spares = λ access other. rest access;
+      alone = λ refuses access other. rest access;
       file_count = faults-none refl;
       wrote = wrote-none asked (o.taken old) (h.writes kept).done stop.NoMemory;
       later = omega arith;

@@ -9,8 +9,9 @@ use Rattle.host_io.specs.Reads.{ReadsFiles}
 use Rattle.host_io.specs.declared.files.Files as files
 use Rattle.host_io.specs.declared.sink.Sink as sink
 use Rattle.host_io.specs.declared.writes.Writes.{Writes}
-use Rattle.fip_tool.specs.Done.{DoneWithFiles, WritesTexts}
-use Rattle.fip_tool.specs.Names.{IsUnnamed}
+use Rattle.fip_tool.specs.Done.{DoneWithFiles, RefusesAlone, WritesTexts}
+use Rattle.fip_tool.specs.Ends.{status_number}
+use Rattle.fip_tool.specs.Names.{IsUnneeded, IsUnnamed}
 use Rattle.fip_tool.specs.Payloads.{made_by}
 use Rattle.fip_tool.specs.Refusals.{MayRefuse}
 use Rattle.fip_tool.specs.Said.{IsMadeLine, IsTexts}
@@ -24,9 +25,9 @@ use Rattle.fip_tool.specs.declared.stops.Stop.{Stop}
 use Rattle.fip_tool.specs.declared.stops.Stop.TheVariants as stop
 use Rattle.fip_tool.proofs.Did.{did-later}
 use Rattle.fip_tool.proofs.FileFaults.{faults-as, faults-of}
-use Rattle.fip_tool.proofs.Refusing.{if-err-as, made-may}
+use Rattle.fip_tool.proofs.Refusing.{if-err-as, late-alone, made-alone, made-may}
 use Rattle.fip_tool.proofs.SinkFaults.{still}
-use Rattle.fip_tool.proofs.Tables.{either-rose, failed-same, rose-still}
+use Rattle.fip_tool.proofs.Tables.{either-rose, tears-since}
 use Rattle.fip_tool.proofs.Texts.{err-same, says-as, says-nothing}
 use Rattle.fip_tool.proofs.WroteLemmas.{wrote-as, wrote-none}
 
@@ -34,9 +35,10 @@ module _ {H O : Type 0} {h : files.Ghosts H} {o : sink.Ghosts O} {one : Asked} w
   -- a stop before anything was done
   pub done-unread : {X : Type 0} {IsOther : Access → Type 0} {before after : H} {old : O} (s : Stop)
       → ReadsOnlyIn {X = X} h before after (Err s) → ReadsFiles h IsOther before after → ((access : Access) → IsUnnamed (Some one) access → IsOther access)
+      → ((access : Access) → IsUnneeded (Some one) (status_number s) access → IsOther access)
       → ((told : Directory) → h.contents before ≡ Some told → DidIn h o (command_outcome one told) told before after old old (Err s))
       → MayRefuse (Some one) s → DoneWithFiles h o one (Err s) before after old old
-  done-unread {before = before} {old = old} s reads asked unnamed did may = record {
+  done-unread {before = before} {old = old} s reads asked unnamed unneeded did may = record {
     told = did;
     says = says-nothing (IsTexts one) _ _ _ s (λ e. reads.sink (err-same e)) refl;
     wrote = subst (λ (w : Writes). WroteFor (Some one) (o.taken old) (o.taken old) (h.writes before).done w.done (Err s)) (sym asked.unwritten) (wrote-none (Some one) (o.taken old) (h.writes before).done s);
@@ -45,6 +47,7 @@ module _ {H O : Type 0} {h : files.Ghosts H} {o : sink.Ghosts O} {one : Asked} w
     usage = λ e. let same : s ≡ stop.Usage = cc in reads.usage (err-same same);
     refusals = may;
     spares = λ access other. asked.spares access (unnamed access other);
+    alone = λ refuses access other. asked.spares access (unneeded access other);
     later = omega arith;
     sink_count = still _ s (λ e. reads.sink (err-same e));
   }
@@ -54,7 +57,7 @@ module _ {H O : Type 0} {h : files.Ghosts H} {o : sink.Ghosts O} {one : Asked} w
       → (WroteIn h o (IsTexts one) before after old new result → WroteForIn h o (Some one) before after old new result) → ((s : Stop) → IsLate s → MayRefuse (Some one) s)
       → ((told : Directory) → h.contents before ≡ Some told → DidIn h o (command_outcome one told) told before after old new result)
       → ((access : Access) → IsUnnamed (Some one) access → h.spares before after access) → DoneWithFiles h o one result before after old new
-  done-texts {result = result} put writes late did spares = record {
+  done-texts {result = result} {before = before} {after = after} put writes late did spares = record {
     told = did;
     says = put.says;
     wrote = writes put.wrote;
@@ -63,6 +66,7 @@ module _ {H O : Type 0} {h : files.Ghosts H} {o : sink.Ghosts O} {one : Asked} w
     usage = put.usage;
     refusals = if-err-as result IsLate (MayRefuse (Some one)) late put.late;
     spares = spares;
+    alone = late-alone result (λ s. (access : Access) → IsUnneeded (Some one) (status_number s) access → h.spares before after access) put.late;
     later = put.later_sink;
     sink_count = put.sink_count;
   }
@@ -85,11 +89,12 @@ module _ {H O : Type 0} {h : files.Ghosts H} {o : sink.Ghosts O} {one : Asked} w
       → h.faults mid ≤ h.faults after → o.faults old ≤ o.faults new
       → ((made ≡ Err stop.SinkFault → ⊥) → o.faults new ≡ sink_failures result (o.faults old))
       → ((access : Access) → IsUnnamed (Some one) access → h.spares before after access)
+      → IfErr made (λ s. after ≡ mid) → IfErr made (λ s. RefusesAlone h (Some one) before mid (status_number s))
       → DoneWithFiles h o one result before after old new
-  done-made {made = made} {result = result} {before = before} {mid = mid} {after = after} {old = old} {new = new} format out value outcome texts writes late reads asked gives may did says wrote counts cause usage refusals later later_sink sink_count spares = record {
+  done-made {made = made} {result = result} {before = before} {mid = mid} {after = after} {old = old} {new = new} format out value outcome texts writes late reads asked gives may did says wrote counts cause usage refusals later later_sink sink_count spares kept alone = record {
     told = λ told e.
         subst (λ (all : Outcome). DidIn h o all told before after old new result) (sym (outcome told))
-        (did-later _ told _ _ _ _ _ _ _ _ result (λ r. r) (λ r. rose-still _ _ _ (failed-same asked.unwritten) r) (did told (value told) (h.faults before) (reads.same ∙ e) reads.later (gives told e)));
+        (did-later _ told _ _ _ _ _ _ _ _ result (λ r. r) (λ r. tears-since (h.writes after) asked.unwritten r) (did told (value told) (h.faults before) (reads.same ∙ e) reads.later (gives told e)));
     says = says-as (IsMadeLine format made) (IsTexts one) _ _ _ _ result texts (λ r. r) (says reads.sink);
     wrote = writes (wrote-as (IsMadeLine format made) (IsTexts one) _ _ _ _ _ result texts (ap (λ (w : Writes). w.done) asked.unwritten) wrote);
     file_count = counts (h.faults before) (faults-of reads);
@@ -97,6 +102,7 @@ module _ {H O : Type 0} {h : files.Ghosts H} {o : sink.Ghosts O} {one : Asked} w
     usage = λ e. reads.usage (usage e);
     refusals = made-may made result (MayRefuse (Some one)) late may refusals;
     spares = spares;
+    alone = made-alone made result mid after (λ (f : H) (s : Stop). (access : Access) → IsUnneeded (Some one) (status_number s) access → h.spares before f access) refusals kept alone;
     later = later_sink;
     sink_count = sink_count reads.sink;
   }

@@ -1,5 +1,5 @@
 -- Which stops a part of a command may end with.
-use Rattle.std.proofs.Common.{◌≡◌, ◌⊎◌, inl, inr, ℕ, List, [], ◌∷◌, length, Option, Some, None, Result, Ok, Err, subst, sym}
+use Rattle.std.proofs.Common.{◌≡◌, ◌⊎◌, inl, inr, ℕ, List, [], ◌∷◌, length, Option, Some, None, Result, Ok, Err, arith, refl, subst, sym}
 use Rattle.std.specs.Prelude.{IfErr}
 use Rattle.fip_tables.specs.declared.toc.TocStop.{TocStop}
 use Rattle.fip_tables.specs.declared.toc.TocStop.TheVariants as toc
@@ -8,7 +8,8 @@ use Rattle.capsule_tables.specs.declared.faults.CapsuleStop.TheVariants as items
 use Rattle.fip_tool.specs.Refusals.{IsOfCapsule, IsOfEnclosing, IsOfEntries, IsOfManifest, IsOfPackage, IsOfPackaging, IsOfPacking, IsOfRepacking, IsOfSource, MayRefuse}
 use Rattle.fwu_formats.specs.Package.{Toc}
 use Rattle.fip_words.specs.Order.{Asked, info, info_of_source, create, update, remove, unpack, manifest, capsule, repackage}
-use Rattle.fip_tool.specs.Ends.{Reported, Told}
+use Rattle.fip_tool.specs.Ends.{Reported, Told, status_number}
+use Rattle.fip_tool.specs.Names.{IsRefusal}
 use Rattle.fip_tool.specs.Steps.{IsLate}
 use Rattle.fip_tool.specs.Tool.{capsule_stopped_by, first_missing, stopped_by}
 use Rattle.fip_tool.specs.declared.stops.Stop.{Stop}
@@ -18,6 +19,40 @@ use Rattle.fip_tool.specs.declared.stops.Stop.TheVariants as stop
 pub if-err-as : {X : Type 0} (r : Result X Stop) (P Q : Stop → Type 0) → ((s : Stop) → P s → Q s) → IfErr r P → IfErr r Q
 if-err-as (Ok x) P Q turns h = h
 if-err-as (Err s) P Q turns h = turns s h
+
+-- each stop is
+pub if-err-all : {X : Type 0} (r : Result X Stop) (P : Stop → Type 0) → ((s : Stop) → P s) → IfErr r P
+if-err-all (Ok x) P all = tt
+if-err-all (Err s) P all = all s
+
+-- what comes late is no refusal
+pub late-unrefused : (s : Stop) → IsLate s → IsRefusal (status_number s) → ⊥
+late-unrefused stop.Usage h refuses = h
+late-unrefused stop.FileFault h refuses = omega (arith, refuses.0)
+late-unrefused stop.SinkFault h refuses = omega (arith, refuses.0)
+late-unrefused (stop.NotFip f) h refuses = h
+late-unrefused (stop.NoSuchEntry guid) h refuses = h
+late-unrefused (stop.NotPacked f) h refuses = h
+late-unrefused (stop.NoManifest f) h refuses = h
+late-unrefused stop.TooLong h refuses = h
+late-unrefused (stop.NotCapsule f) h refuses = h
+late-unrefused stop.NoMemory h refuses = omega (arith, refuses.1)
+
+pub late-alone : {X : Type 0} (r : Result X Stop) (P : Stop → Type 0) → IfErr r IsLate → IfErr r (λ s. IsRefusal (status_number s) → P s)
+late-alone r P h = if-err-as r IsLate (λ s. IsRefusal (status_number s) → P s) (λ s late refuses. absurd (late-unrefused s late refuses)) h
+
+-- a refusal of what is packed
+pub packing-six : (s : Stop) → IsOfPacking s → IsRefusal (status_number s) → status_number s ≡ 6
+packing-six (stop.NotPacked f) h refuses = refl
+packing-six stop.FileFault h refuses = absurd (late-unrefused stop.FileFault tt refuses)
+packing-six stop.SinkFault h refuses = absurd (late-unrefused stop.SinkFault tt refuses)
+packing-six stop.NoMemory h refuses = absurd (late-unrefused stop.NoMemory tt refuses)
+packing-six stop.Usage h refuses = absurd h
+packing-six (stop.NotFip f) h refuses = absurd h
+packing-six (stop.NoSuchEntry guid) h refuses = absurd h
+packing-six (stop.NoManifest f) h refuses = absurd h
+packing-six stop.TooLong h refuses = absurd h
+packing-six (stop.NotCapsule f) h refuses = absurd h
 
 pub toc-of-package : (s : TocStop) → IsOfPackage (stopped_by s)
 toc-of-package (toc.Fault f) = tt
@@ -219,6 +254,16 @@ pub none-missing : (t : Toc) (guids : List (List ℕ)) (guid : List ℕ) → len
 none-missing t [] guid none e = cc
 none-missing t (one ∷ guids) guid none e = cc
 
+-- and it alone has done what it did
+pub made-alone : {H X Y : Type 0} (made : Result X Stop) (r : Result Y Stop) (mid after : H) (P : H → Stop → Type 0) → IfErr r (λ s. (made ≡ Err s) ⊎ IsLate s) → IfErr made (λ s. after ≡ mid)
+    → IfErr made (λ s. IsRefusal (status_number s) → P mid s) → IfErr r (λ s. IsRefusal (status_number s) → P after s)
+made-alone made (Ok y) mid after P of kept alone = tt
+made-alone made (Err s) mid after P (inl is) kept alone =
+    let same : after ≡ mid = rw is at kept in
+    let so : IsRefusal (status_number s) → P mid s = rw is at alone in
+    λ refuses. subst (λ (f : _). P f s) (sym same) (so refuses)
+made-alone made (Err s) mid after P (inr late) kept alone = λ refuses. absurd (late-unrefused s late refuses)
+
 -- any command may end for the sink, or for want of memory
 pub sink-may : (a : Option Asked) → MayRefuse a stop.SinkFault
 sink-may None = tt
@@ -262,3 +307,22 @@ module _ (a : Option Asked) (was text : Option (List ℕ)) (rose : Type 0) where
   reported-may (stop.NoManifest f) t may h = told-may (stop.NoManifest f) t may h
   reported-may stop.TooLong t may h = told-may stop.TooLong t may h
   reported-may (stop.NotCapsule f) t may h = told-may (stop.NotCapsule f) t may h
+
+-- a refusal is the stop that was told
+module _ (was text : Option (List ℕ)) (rose : Type 0) (P : ℕ → Type 0) where
+  told-alone : (s t : Stop) → (IsRefusal (status_number s) → P (status_number s)) → Told was text rose s t → IsRefusal (status_number t) → P (status_number t)
+  told-alone s t alone (inl h) refuses = let same : t ≡ s = h.0 in subst (λ (x : Stop). P (status_number x)) (sym same) (alone (subst (λ (x : Stop). IsRefusal (status_number x)) same refuses))
+  told-alone s t alone (inr (inl h)) refuses = absurd (late-unrefused stop.SinkFault tt (subst (λ (x : Stop). IsRefusal (status_number x)) h.0 refuses))
+  told-alone s t alone (inr (inr h)) refuses = absurd (late-unrefused stop.NoMemory tt (subst (λ (x : Stop). IsRefusal (status_number x)) h.0 refuses))
+
+  pub reported-alone : (s t : Stop) → (IsRefusal (status_number s) → P (status_number s)) → Reported was text rose s t → IsRefusal (status_number t) → P (status_number t)
+  reported-alone stop.SinkFault t alone h refuses = absurd (late-unrefused stop.SinkFault tt (subst (λ (x : Stop). IsRefusal (status_number x)) h.0 refuses))
+  reported-alone stop.NoMemory t alone h refuses = absurd (late-unrefused stop.NoMemory tt (subst (λ (x : Stop). IsRefusal (status_number x)) h.0 refuses))
+  reported-alone stop.Usage t alone h refuses = told-alone stop.Usage t alone h refuses
+  reported-alone stop.FileFault t alone h refuses = told-alone stop.FileFault t alone h refuses
+  reported-alone (stop.NotFip f) t alone h refuses = told-alone (stop.NotFip f) t alone h refuses
+  reported-alone (stop.NoSuchEntry guid) t alone h refuses = told-alone (stop.NoSuchEntry guid) t alone h refuses
+  reported-alone (stop.NotPacked f) t alone h refuses = told-alone (stop.NotPacked f) t alone h refuses
+  reported-alone (stop.NoManifest f) t alone h refuses = told-alone (stop.NoManifest f) t alone h refuses
+  reported-alone stop.TooLong t alone h refuses = told-alone stop.TooLong t alone h refuses
+  reported-alone (stop.NotCapsule f) t alone h refuses = told-alone (stop.NotCapsule f) t alone h refuses

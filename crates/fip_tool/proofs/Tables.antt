@@ -1,5 +1,5 @@
 -- What a package in a file gives.
-use Rattle.std.proofs.Common.{◌≡◌, ◌⊎◌, inl, inr, ◌≤◌, ℕ, List, Option, Some, None, Result, Ok, Err, IfOk, length, arith, refl, sym, ap, ◌∙◌}
+use Rattle.std.proofs.Common.{◌≡◌, ◌⊎◌, inl, inr, ◌≤◌, ℕ, List, Option, Some, None, Result, Ok, Err, IfOk, length, arith, refl, sym, ap, subst, ◌∙◌}
 use Rattle.base_core.specs.Counts.{Rose}
 use Rattle.host_io.specs.Contents.{Directory}
 use Rattle.host_io.specs.declared.writes.Writes.{Writes}
@@ -9,6 +9,7 @@ use Rattle.fip_tables.specs.Files.{IsAnswer, Lacks, Tells}
 use Rattle.fip_tables.specs.declared.toc.TocStop.{TocStop}
 use Rattle.fip_tables.specs.declared.toc.TocStop.TheVariants.{Fault, ReadFailed}
 use Rattle.fip_tool.specs.Steps.{Gives}
+use Rattle.fip_tool.specs.Torn.{MayTear, NoneUnwritten}
 use Rattle.fip_tool.specs.Lines.{info_text}
 use Rattle.fip_tool.specs.Tool.{info_value, size_in, sized_table, stopped_by, there}
 use Rattle.fip_tool.specs.declared.stops.Stop.{Stop}
@@ -23,9 +24,15 @@ pub rose-still : (a b c : ℕ) → a ≡ b → Rose b c → Rose a c
 rose-still a b c same (inl rose) = inl (omega arith)
 rose-still a b c same (inr full) = inr full
 
--- no write failed where none was made
-pub failed-same : {now before : Writes} → now ≡ before → before.failed ≡ now.failed
-failed-same same = sym (ap (λ (w : Writes). w.failed) same)
+-- what may be torn since no write was made, or since none failed
+pub tears-since : {mid before : Writes} (after : Writes) → mid ≡ before → MayTear mid after → MayTear before after
+tears-since after same tears = subst (λ (w : Writes). MayTear w after) same tears
+
+pub tears-still : (before mid after : Writes) → NoneUnwritten before mid → MayTear mid after → MayTear before after
+tears-still before mid after none tears = (rose-still _ _ _ (sym none.0) tears.0, rose-still _ _ _ (sym none.1) tears.1)
+
+pub none-unwritten : (before mid after : Writes) → NoneUnwritten before mid → NoneUnwritten mid after → NoneUnwritten before after
+none-unwritten before mid after first next = (next.0 ∙ first.0, next.1 ∙ first.1)
 
 pub rose-until : (a b c : ℕ) → Rose a b → b ≤ c → Rose a c
 rose-until a b c (inl rose) le = inl (omega arith)

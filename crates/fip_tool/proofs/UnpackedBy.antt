@@ -15,6 +15,7 @@ use Rattle.fip_tool.specs.Lines.{unpacked_line, unpacked_name}
 use Rattle.fip_tool.specs.Done.{WritesTexts}
 use Rattle.fip_tool.specs.Seen.{DidIn}
 use Rattle.fip_tool.specs.Steps.{Makes, Prints}
+use Rattle.fip_tool.specs.Torn.{MayTear, NoneUnwritten}
 use Rattle.fip_tool.specs.Steps as step
 use Rattle.fip_tool.specs.Tool.{unpack_steps}
 use Rattle.fip_tool.specs.Unpacked.{Unpacked}
@@ -49,7 +50,7 @@ module _ {H O : Type 0} {h : files.Ghosts H} {o : sink.Ghosts O} where
       spares = λ access asked made. spares access;
       told = λ told bytes is stored.
           refused (λ (out : List ℕ). unpack_steps prefix bytes (entry ∷ [])) (λ (out : List ℕ). out) (Ok (payload bytes entry)) told _ _ _
-          (Rose (h.faults kept) (h.faults kept)) (Rose (h.writes kept).failed (h.writes kept).failed) (Rose (o.faults old) (o.faults old)) stop.NoMemory tt is refl;
+          (Rose (h.faults kept) (h.faults kept)) (MayTear (h.writes kept) (h.writes kept)) (Rose (o.faults old) (o.faults old)) stop.NoMemory tt is refl;
       other = tt;
       silent = λ none. none;
       unspoiled = tt;
@@ -66,7 +67,7 @@ module _ {H O : Type 0} {h : files.Ghosts H} {o : sink.Ghosts O} where
       → ((told : Directory) → h.contents before ≡ Some told
       → DidIn h o (Makes (step.Writes name (out told) ∷ Prints line ∷ [])) told before after old new result)
       → (h.contents before ≡ None → h.contents after ≡ None)
-      → OnOk result ((h.writes after).failed ≡ (h.writes before).failed)
+      → OnOk result (NoneUnwritten (h.writes before) (h.writes after))
       → WritesTexts h o (λ texts. texts ≡ line ∷ []) result before after old new
       → ((access : Access) → access ≢ Makes name → h.spares before after access)
       → Unpacked h o from prefix entry result before after old new

@@ -7,7 +7,8 @@ use Rattle.host_io.specs.Contents.{Directory}
 use Rattle.host_io.specs.declared.files.Files as files
 use Rattle.host_io.specs.declared.source.Source as source
 use Rattle.host_io.specs.declared.sink.Sink as sink
-use Rattle.fip_tool.specs.Names.{IsUnnamed}
+use Rattle.fip_tool.specs.Ends.{status_number}
+use Rattle.fip_tool.specs.Names.{IsRefusal, IsUnneeded, IsUnnamed}
 use Rattle.fip_tool.specs.Refusals.{MayRefuse}
 use Rattle.fip_tool.specs.Said.{IsTexts, IsTextsOf}
 use Rattle.fip_tool.specs.Seen.{DidIn, ReadSourceIn, SaysIn, WroteForIn, WroteIn}
@@ -15,6 +16,11 @@ use Rattle.fip_tool.specs.Steps.{FaultsOnce, IsLate, sink_failures, source_failu
 use Rattle.fip_tool.specs.Tool.{asks_files, command_outcome, outcome_of}
 use Rattle.fip_tool.specs.declared.stops.Stop.{Stop}
 use Rattle.fip_tool.specs.declared.stops.Stop.TheVariants as stop
+
+-- a refusal with this status has made no file, and asked for none but those that it comes by
+abbrev pub RefusesAlone : {H : Type 0} → files.Ghosts H → Option Asked → H → H → ℕ → Type 0
+RefusesAlone h asked before after status =
+    IsRefusal status → (access : Access) → IsUnneeded asked status access → h.spares before after access
 
 -- What was done by a part of a command that writes files, each with its text behind it, whatever files there are.
 pub record WritesTexts {H O : Type 0} (h : files.Ghosts H) (o : sink.Ghosts O) (T : List (List ℕ) → Type 0)
@@ -45,6 +51,7 @@ pub record DoneWithFiles {H O : Type 0} (h : files.Ghosts H) (o : sink.Ghosts O)
   pub refusals : IfErr result (MayRefuse (Some asked))
   -- no access is made that the words don't name
   pub spares : (access : Access) → IsUnnamed (Some asked) access → h.spares files_before files_after access
+  pub alone : IfErr result (λ s. RefusesAlone h (Some asked) files_before files_after (status_number s))
   pub later : o.faults sink_before ≤ o.faults sink_after
   pub sink_count : o.faults sink_after ≡ sink_failures result (o.faults sink_before)
 
@@ -70,6 +77,7 @@ pub record Done {H I O : Type 0} (h : files.Ghosts H) (i : source.Ghosts I) (o :
   pub files_stay : IsFalse (asks_files asked) → files_after ≡ files_before
   -- no access is made that the words don't name
   pub spares : (access : Access) → IsUnnamed asked access → h.spares files_before files_after access
+  pub alone : IfErr result (λ s. RefusesAlone h asked files_before files_after (status_number s))
   pub cause : result ≡ Err stop.FileFault → h.contents files_before ≡ None
       → Rose (h.faults files_before) (h.faults files_after) ⊎ Rose (i.faults source_before) (i.faults source_after)
   -- at most one call of the files failed, and ended it

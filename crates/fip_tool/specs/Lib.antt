@@ -1,4 +1,5 @@
 pub mod Steps
+pub mod Torn
 pub mod Lines
 pub mod Tool
 pub mod Source

@@ -12,6 +12,7 @@ use Rattle.fip_tool.specs.Ends.{Ended, Reported, Told}
 use Rattle.fip_tool.specs.Said.{SaidWith, Says, SinkAlone}
 use Rattle.fip_tool.specs.Source.{FedSome}
 use Rattle.fip_tool.specs.Steps.{Did, Gives, Outcome, Printed, ReadsOnly, Written}
+use Rattle.fip_tool.specs.Torn.{MayTear}
 use Rattle.fip_tool.specs.Tool.{EndedSource, GivenTo, ReadSource}
 use Rattle.fip_tool.specs.Wrote.{Wrote, WroteFor, WroteWith}
 use Rattle.fip_tool.specs.declared.stops.Stop.{Stop}
@@ -27,7 +28,7 @@ GivesIn h view value old new result = Gives view (Rose (h.faults old) (h.faults 
 -- of told files, of which one with this name is to have these bytes
 abbrev pub WrittenIn : {H : Type 0} → files.Ghosts H → Directory → List ℕ → List ℕ → H → H → Result (Unit {0}) Stop → Type 0
 WrittenIn h told name bytes old new result =
-    Written told (h.contents new) (Rose (h.faults old) (h.faults new)) (Rose (h.writes old).failed (h.writes new).failed)
+    Written told (h.contents new) (Rose (h.faults old) (h.faults new)) (MayTear (h.writes old) (h.writes new))
     name bytes result
 
 -- ---- in a source
@@ -69,7 +70,7 @@ abbrev pub DidSince : {H O : Type 0} → files.Ghosts H → sink.Ghosts O → �
     → Result (Unit {0}) Stop → Type 0
 DidSince h o before outcome told files-old files-new old new result =
     Did outcome told (h.contents files-new) (o.taken old) (o.taken new) (Rose before (h.faults files-new))
-    (Rose (h.writes files-old).failed (h.writes files-new).failed) (Rose (o.faults old) (o.faults new)) result
+    (MayTear (h.writes files-old) (h.writes files-new)) (Rose (o.faults old) (o.faults new)) result
 
 abbrev pub DidIn : {H O : Type 0} → files.Ghosts H → sink.Ghosts O → Outcome → Directory → H → H → O → O
     → Result (Unit {0}) Stop → Type 0
@@ -89,7 +90,7 @@ WroteForIn h o asked files-old files-new old new result =
 abbrev pub EndedIn : {H O : Type 0} → files.Ghosts H → sink.Ghosts O → Outcome → Directory → H → H → O → O → ℕ → Type 0
 EndedIn h o outcome told files-old files-new old new status =
     Ended outcome told (h.contents files-new) (o.taken old) (o.taken new) (Rose (h.faults files-old) (h.faults files-new))
-    (Rose (h.writes files-old).failed (h.writes files-new).failed) (Rose (o.faults old) (o.faults new)) status
+    (MayTear (h.writes files-old) (h.writes files-new)) (Rose (o.faults old) (o.faults new)) status
 
 abbrev pub WroteWithIn : {H O : Type 0} → files.Ghosts H → sink.Ghosts O → Option Asked → H → H → O → O → ℕ → Type 0
 WroteWithIn h o asked files-old files-new old new status =

@@ -59,7 +59,7 @@ half_printed k [] = []
 half_printed k (Writes name bytes ∷ steps) = []
 half_printed k (Prints text ∷ steps) = take k text
 
--- the files after the first n steps. Only where a writing failed may that of the next step be another.
+-- The files after the first n steps. Only where a writing may have torn its file may that of the next step be another.
 abbrev pub StandAfter : ℕ → Outcome → Directory → Option Directory → Type 0 → Type 0
 StandAfter n outcome files now spoiled =
     Are now (written (take n (steps_of outcome)) files)
@@ -67,7 +67,7 @@ StandAfter n outcome files now spoiled =
 
 -- What was done of a command, by its result. The files were `files` and the told contents are `now`; the sink's text was
 -- `was` and is `text`. Nothing but the command's steps was done, in their order. A call of the files failed where
--- `files-rose`, a writing where `spoiled`, and a call of the sink where `sink-rose`.
+-- `files-rose`, a writing that may have torn its file where `spoiled`, and a call of the sink where `sink-rose`.
 abbrev pub Did : Outcome → Directory → Option Directory → Option (List ℕ) → Option (List ℕ) → Type 0 → Type 0 → Type 0
     → Result (Unit {0}) Stop → Type 0
 Did outcome files now was text files-rose spoiled sink-rose (Ok done) =
@@ -175,9 +175,10 @@ pub record FailsOnce (status before after : ℕ) : Type 0 where
   pub failed : status ≡ 2 → after ≡ raised before
   pub none : IsFalse ((status == 2) || ((status == 3) || (status == 9))) → after ≡ before
 
--- what the writing of a file leaves
+-- what the writing of a file leaves: one that failed, all as it was, or its file torn
 abbrev pub Written : Directory → Option Directory → Type 0 → Type 0 → List ℕ → List ℕ → Result (Unit {0}) Stop → Type 0
 Written files now files-rose spoiled name bytes (Ok done) = Are now (with_file name bytes files)
-Written files now files-rose spoiled name bytes (Err FileFault) = files-rose × spoiled × AreBut name now files
+Written files now files-rose spoiled name bytes (Err FileFault) =
+    files-rose × (Are now files ⊎ (spoiled × AreBut name now files))
 Written files now files-rose spoiled name bytes (Err NoMemory) = Are now files
 Written files now files-rose spoiled name bytes (Err stop) = ⊥

@@ -10,6 +10,7 @@ use Rattle.fip_tool.specs.Lines.{unpacked_line, unpacked_name}
 use Rattle.fip_tool.specs.Done.{WritesTexts}
 use Rattle.fip_tool.specs.Seen.{DidIn}
 use Rattle.fip_tool.specs.Steps.{Makes}
+use Rattle.fip_tool.specs.Torn.{NoneUnwritten}
 use Rattle.fip_tool.specs.Tool.{unpack_steps}
 use Rattle.fip_tool.specs.declared.stops.Stop.{Stop}
 
@@ -21,7 +22,7 @@ pub record Unpacked {H O : Type 0} (h : files.Ghosts H) (o : sink.Ghosts O) (fro
   -- the file that is read is not the one that is written
   pub other : OnOk result (is_unpacked prefix from ≡ false → from ≢ unpacked_name prefix entry.guid)
   pub silent : h.contents files_before ≡ None → h.contents files_after ≡ None
-  pub unspoiled : OnOk result ((h.writes files_after).failed ≡ (h.writes files_before).failed)
+  pub unspoiled : OnOk result (NoneUnwritten (h.writes files_before) (h.writes files_after))
   pub texts : WritesTexts h o (λ texts. texts ≡ unpacked_line prefix entry ∷ []) result files_before files_after sink_before sink_after
   -- its payload's file is made, and no other than the package asked for
   pub spares : (access : Access) → access ≢ Asks from → ((guid : List ℕ) → access ≢ Makes (unpacked_name prefix guid))

@@ -1,5 +1,5 @@
 //! The commands that make packages: `create`, `remove` and `update`.
-ghost use Rattle.std.specs.Prelude.{◌≡◌, ◌≢◌, ◌≤◌, ◌+◌, All, IfErr, IfOk, List, Option, Some, None, Err, ℕ, filter, length, map, not};
+ghost use Rattle.std.specs.Prelude.{◌≡◌, ◌≢◌, ◌⊎◌, ◌≤◌, ◌+◌, All, IfErr, IfOk, List, Option, Some, None, Err, ℕ, filter, length, map, not};
 ghost use Rattle.fip_tables.specs.Files.{Lacks, Tells};
 ghost use Rattle.fwu_formats.specs.Package.{Toc};
 ghost use Rattle.host_io.specs.Contents.{Directory};
@@ -193,6 +193,8 @@ fn updated<'a, H: Files>(
     ensures reads { ReadsOnlyIn H.Files files.old files.new result }
     ensures files { ReadsFiles H.Files (λ access. (access ≢ Asks from.now)
         × All (λ w. access ≢ Asks w.file.now) named.now) files.old files.new }
+    ensures package { IfErr result (λ s. IsOfPacking s
+        ⊎ ReadsFile H.Files from.now files.old files.new) }
     ensures refusals { IfErr result IsOfRepacking }
 {
     let types = types_of(alloc, named)?;

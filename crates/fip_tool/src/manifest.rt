@@ -18,7 +18,7 @@ use crate::lines::manifest_line;
 use crate::reading::read_file;
 use crate::stops::Stop;
 use crate::table::size_of;
-use crate::writing::write_and_print;
+use crate::writing::join_and_print;
 use base_core::Guid;
 use fip_words::ImageWord;
 use fwu_formats::ManifestFault;
@@ -215,5 +215,6 @@ pub fn run_manifest<H: Files, O: Sink>(
 {
     let (rows, bytes) = manifest(alloc, files, security, named)?;
     let line = manifest_line(alloc, rows, bytes.len() as u64, security)?;
-    write_and_print(files, sink, out, bytes.as_slice(), line.as_slice())
+    let bytes = bytes.as_slice();
+    join_and_print(alloc, files, sink, out, bytes, &[], line.as_slice())
 }

@@ -10,7 +10,7 @@ ghost use Rattle.fip_words.specs.Order.{Asked, asked, info_of_source, view};
 ghost use Rattle.fip_words.specs.Values.{is_unpacked};
 ghost use Rattle.fip_tool.specs.Refusals.{EndsFor, MayRefuse};
 ghost use Rattle.fip_tool.specs.Converted.{Converts};
-ghost use Rattle.fip_tool.specs.Done.{Done, DoneWithFiles};
+ghost use Rattle.fip_tool.specs.Done.{Done, DoneWithFiles, RefusesAlone};
 ghost use Rattle.fip_tool.specs.Said.{IsTexts};
 ghost use Rattle.fip_tool.specs.Seen.{EndedIn, EndedSourceIn, ReadSourceIn, ReportedIn, SaidWithIn, SaysIn, SinkAloneIn, ToldIn, WroteWithIn};
 ghost use Rattle.fip_tool.specs.Steps.{FailsAtMostOnce, FailsOnce, line_failures, sink_failed, sink_failures, source_failures};
@@ -217,6 +217,9 @@ pub fn fip_top<H: Files, I: Source, O: Sink>(
     // No file is asked for, and none is made, but those that the words name, whatever files there are.
     ensures spares { (access : Access) → IsUnnamed (asked (map string_bytes words.now)) access
         → H.spares files.old files.new access }
+    // A refusal makes no file, and asks for those alone that it comes by.
+    ensures alone { RefusesAlone H.Files (asked (map string_bytes words.now))
+        files.old files.new result }
 {
     match run(alloc, words, files, source, sink) {
         Ok(()) => 0,

@@ -1,4 +1,4 @@
-//! A file that is written, and the line that is printed then.
+//! A file that is made, and the line that is printed then.
 ghost use Rattle.std.specs.Prelude.{◌≡◌, ◌≢◌, ◌⊎◌, ◌≤◌, ◌∷◌, [], All, List, Some, None, Ok, Result, Err, IfErr, IfOk, OnOk, ℕ};
 ghost use Rattle.base_core.specs.Counts.{Rose};
 ghost use Rattle.host_io.specs.Access.{Access, Makes};
@@ -8,6 +8,7 @@ ghost use Rattle.fip_tool.specs.Done.{WritesTexts};
 ghost use Rattle.fip_tool.specs.Said.{IsMadeLine};
 ghost use Rattle.fip_tool.specs.Seen.{DidIn, DidSince, SaysIn, WrittenIn, WroteIn};
 ghost use Rattle.fip_tool.specs.Steps.{FaultsOnce, Gives, IsLate, Makes, Prints, Writes, outcome_by, sink_failures};
+ghost use Rattle.fip_tool.specs.Torn.{NoneUnwritten};
 ghost use Rattle.fip_tool.specs.Payloads.{IsWhole, joined_pieces, made_by};
 ghost use Rattle.fip_tool.specs.Tool.{puts};
 ghost use Rattle.fip_tool.specs.Wrote.{written_once};
@@ -17,53 +18,8 @@ ghost use Rattle.fip_tool.specs.declared.stops.Stop.TheVariants as stop;
 use crate::made::{Format, Made, made_line};
 use crate::printing::print;
 use crate::stops::Stop;
-use host_io::{Files, Piece, Sink, WriteStop};
+use host_io::{Files, Piece, Sink};
 use std::alloc::Global;
-
-/// Writes a file whole.
-pub fn write<H: Files>(files: &mut H, name: &str, bytes: &[u8]) -> Result<(), Stop>
-    ensures told { (told : Directory) → H.contents files.old ≡ Some told
-        → WrittenIn H.Files told name.now bytes.now files.old files.new result }
-    ensures spares { (access : Access) → access ≢ Makes name.now → H.spares files.old files.new access }
-    ensures file_count { FaultsOnce (H.faults files.old) (H.faults files.new) result }
-    ensures wrote { (H.writes files.new).done ≡ written_once result (H.writes files.old).done }
-    ensures unspoiled { OnOk result ((H.writes files.new).failed ≡ (H.writes files.old).failed) }
-    ensures cause { result ≡ Err stop.FileFault → Rose (H.faults files.old) (H.faults files.new) }
-    ensures silent { H.contents files.old ≡ None → H.contents files.new ≡ None }
-    ensures late { IfErr result IsLate }
-    ensures usage { result ≡ Err stop.Usage → ⊥ }
-    ensures sink { result ≡ Err stop.SinkFault → ⊥ }
-    ensures later { H.faults files.old ≤ H.faults files.new }
-{
-    match files.write_whole(name, bytes) {
-        Ok(()) => Ok(()),
-        Err(WriteStop::Failed) => Err(Stop::FileFault),
-        Err(WriteStop::NoMemory) => Err(Stop::NoMemory),
-    }
-}
-
-/// Writes a file whole, and prints a line then.
-pub fn write_and_print<H: Files, O: Sink>(
-    files: &mut H,
-    sink: &mut O,
-    name: &str,
-    bytes: &[u8],
-    line: &[u8],
-) -> Result<(), Stop>
-    ensures told { (told : Directory) → H.contents files.old ≡ Some told
-        → DidIn H.Files O.Sink (Makes (Writes name.now bytes.now ∷ Prints line.now ∷ [])) told
-        files.old files.new sink.old sink.new result }
-    ensures spares { (access : Access) → access ≢ Makes name.now → H.spares files.old files.new access }
-    ensures texts { WritesTexts H.Files O.Sink (λ texts. texts ≡ line.now ∷ []) result
-        files.old files.new sink.old sink.new }
-    ensures unspoiled { OnOk result ((H.writes files.new).failed ≡ (H.writes files.old).failed) }
-    ensures silent { H.contents files.old ≡ None → H.contents files.new ≡ None }
-{
-    match write(files, name, bytes) {
-        Ok(()) => print(sink, line),
-        Err(stop) => Err(stop),
-    }
-}
 
 // Makes a file of a frame and pieces of files.
 fn join<H: Files>(
@@ -80,7 +36,7 @@ fn join<H: Files>(
     ensures spares { (access : Access) → access ≢ Makes name.now → H.spares files.old files.new access }
     ensures file_count { FaultsOnce (H.faults files.old) (H.faults files.new) result }
     ensures wrote { (H.writes files.new).done ≡ written_once result (H.writes files.old).done }
-    ensures unspoiled { OnOk result ((H.writes files.new).failed ≡ (H.writes files.old).failed) }
+    ensures unspoiled { OnOk result (NoneUnwritten (H.writes files.old) (H.writes files.new)) }
     ensures cause { result ≡ Err stop.FileFault → Rose (H.faults files.old) (H.faults files.new) }
     ensures silent { H.contents files.old ≡ None → H.contents files.new ≡ None }
     ensures late { IfErr result IsLate }
@@ -110,7 +66,7 @@ pub fn join_and_print<H: Files, O: Sink>(
     ensures spares { (access : Access) → access ≢ Makes name.now → H.spares files.old files.new access }
     ensures texts { WritesTexts H.Files O.Sink (λ texts. texts ≡ line.now ∷ []) result
         files.old files.new sink.old sink.new }
-    ensures unspoiled { OnOk result ((H.writes files.new).failed ≡ (H.writes files.old).failed) }
+    ensures unspoiled { OnOk result (NoneUnwritten (H.writes files.old) (H.writes files.new)) }
     ensures silent { H.contents files.old ≡ None → H.contents files.new ≡ None }
 {
     join(alloc, files, name, frame, pieces)?;
@@ -143,6 +99,7 @@ pub fn put_made<H: Files, O: Sink>(
         ⊎ Rose (H.faults files.old) (H.faults files.new) }
     ensures usage { result ≡ Err stop.Usage → made.entry ≡ Err stop.Usage }
     ensures refusals { IfErr result (λ s. (made.entry ≡ Err s) ⊎ IsLate s) }
+    ensures kept { IfErr made.entry (λ s. files.new ≡ files.old) }
     ensures later { H.faults files.old ≤ H.faults files.new }
     ensures later_sink { O.faults sink.old ≤ O.faults sink.new }
     ensures sink_count { (made.entry ≡ Err stop.SinkFault → ⊥) → O.faults sink.new ≡ sink_failures result

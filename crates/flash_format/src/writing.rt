@@ -26,10 +26,9 @@ use crate::bank::write_bank;
 use crate::erasing::erase_all;
 use crate::plan::Plan;
 use crate::stops::{FormatStop, InputFault};
-use base_core::BLOCK_BYTES;
 use flash_core::Flash;
 use host_io::Files;
-use image_check::{Verdict, check};
+use image_check::{LANES_BYTES, Verdict, check};
 use meta_layout::Layout;
 use verify_core::Verifier;
 
@@ -101,7 +100,7 @@ pub fn check_bank<D: Flash, V: Verifier>(
     ensures arming { OnOk (flash_result result) (D.arming flash.new ≡ D.arming flash.old) }
     ensures stops { RefusesBank result }
 {
-    let mut buffer = [0; BLOCK_BYTES as usize];
+    let mut buffer = [0; LANES_BYTES];
     let _banks = layout.banks();
     match check(flash, layout, 0, 0, &mut buffer, verifier)? {
         Verdict::Good { version } => Ok(version),

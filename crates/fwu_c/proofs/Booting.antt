@@ -1,28 +1,30 @@
 -- A boot, by what its device tells and by its steps.
-use Rattle.std.proofs.Common.{◌≡◌, ◌∙◌, refl, ℕ, ◌*◌, List, length, Some, None, ap, sym, subst, take}
-use Rattle.std.specs.Prelude.{All}
+use Rattle.std.proofs.Common.{◌≡◌, ◌∙◌, ◌⊎◌, ◌≤◌, inl, inr, refl, ℕ, ◌*◌, List, length, Some, None, ap, sym, subst, take, arith}
 use Rattle.base_core.specs.Block.{block_bytes}
 use Rattle.flash_core.specs.Told.{Told, fresh}
+use Rattle.flash_core.specs.Counts.{Spends}
 use Rattle.fwu_formats.specs.Digests.{passes_any}
 use Rattle.early_boot.specs.Started.{Started}
-use Rattle.early_boot.specs.Ends.{Ended, booted, bad_layout, no_metadata, no_bank, lost, failed}
+use Rattle.early_boot.specs.Ends.{Ended, booted, bad_layout, no_metadata, no_bank, lost, failed, stop_of}
 use Rattle.early_boot.specs.EndsBy.{BootEnds, EndsByBytes}
 use Rattle.step_flash.specs.declared.step.Step.{Step}
 use Rattle.step_flash.specs.declared.device.StepFlash.{StepFlash}
-use Rattle.step_flash.specs.Device.{block_count, told_of, image_of}
+use Rattle.step_flash.specs.Device.{block_count, counts_of, told_of, image_of}
 use Rattle.step_flash.specs.Guard.{guard_of, start}
 use Rattle.step_flash.specs.Stopped.{under_as}
-use Rattle.step_flash.specs.Steps.{IsInside, run}
+use Rattle.step_flash.specs.Steps.{run}
+use Rattle.step_flash.proofs.Causes.{never_lost}
 use Rattle.step_flash.proofs.Guards.{image_is}
 use Rattle.fwu_c.specs.declared.report.Report.{Report}
-use Rattle.fwu_c.specs.Boots.{BootsBy, end_code}
-use Rattle.fwu_c.specs.Handed.{SameBut, StepsOf}
+use Rattle.fwu_c.specs.Boots.{BootsBy, HasFlashSize}
+use Rattle.fwu_c.specs.Codes.{end_code}
+use Rattle.fwu_c.specs.Handed.{HandsOver, IsWithin, SameBut}
 use Rattle.fwu_c.specs.Reports.{ReportsEnd, ReportsStart}
 
 kept : (old t : Told) → t ≡ old → t.guard ≡ old.guard
 kept old t e = ap (λ (x : Told). x.guard) e
 
-guard_kept : (old t : Told) (e : Ended) → EndsByBytes (λ m. passes_any m) old e t → t.guard ≡ old.guard
+pub guard_kept : (old t : Told) (e : Ended) → EndsByBytes (λ m. passes_any m) old e t → t.guard ≡ old.guard
 guard_kept old t (booted b n) ends = ends.others.guard
 guard_kept old t (bad_layout f) ends = kept old t ends.1
 guard_kept old t no_metadata ends = kept old t ends.3
@@ -32,12 +34,12 @@ guard_kept old t (lost (Some n)) ends = ends.others.guard
 guard_kept old t (failed None) ends = kept old t ends
 guard_kept old t (failed (Some n)) ends = ends.others.guard
 
-start_guard : (image : List ℕ) → (start image).guard ≡ guard_of image
+pub start_guard : (image : List ℕ) → (start image).guard ≡ guard_of image
 unfolding fresh
 start_guard image = refl
 
-pub reports_same : (b : Started) (old new : Report) → SameBut old new → ReportsStart b old → ReportsStart b new
-reports_same b old new same reports = subst (ReportsStart b) (sym same) (record {
+pub start_same : (b : Started) (old new : Report) → SameBut old new → ReportsStart b old → ReportsStart b new
+start_same b old new same reports = subst (ReportsStart b) (sym same) (record {
   bank = reports.bank;
   version = reports.version;
   trials = reports.trials;
@@ -49,25 +51,82 @@ reports_same b old new same reports = subst (ReportsStart b) (sym same) (record 
   lengths = reports.lengths;
 })
 
--- the device that came back is over the image, and its steps lie within it
-pub boots_by : (image : List ℕ) (first d : StepFlash) (e : Ended) (number : ℕ) (r : Report) (steps : List Step) (room : List ℕ)
+pub end_same : (e : Ended) (old new : Report) → SameBut old new → ReportsEnd e old → ReportsEnd e new
+end_same (booted b n) old new same reports = start_same b old new same reports
+end_same (bad_layout f) old new same reports = ap (λ (r : Report). r.layout_fault) same ∙ reports
+end_same no_metadata old new same reports = tt
+end_same (no_bank active previous) old new same reports =
+    (ap (λ (r : Report). r.active) same ∙ reports.0, ap (λ (r : Report). r.previous) same ∙ reports.1)
+end_same (lost n) old new same reports = tt
+end_same (failed n) old new same reports = tt
+
+-- ---- numbers
+
+-- a number below 7 is the one that was given
+pub given : (result number : ℕ) → (result ≡ number) ⊎ (result ≡ 7) → (result ≡ 7 → ⊥) → result ≡ number
+given result number (inl is) other = is
+given result number (inr seven) other = absurd (other seven)
+
+pub below_seven : (result : ℕ) → result ≤ 5 → result ≡ 7 → ⊥
+below_seven result low seven = omega (arith, low, seven)
+
+pub not_six : (result : ℕ) → (result ≤ 5) ⊎ (result ≡ 7) → result ≡ 6 → ⊥
+not_six result (inl low) six = omega (arith, low, six)
+not_six result (inr seven) six = omega (arith, seven, six)
+
+pub code_few : (e : Ended) → end_code e ≤ 5
+code_few (booted b n) = omega arith
+code_few (bad_layout f) = omega arith
+code_few no_metadata = omega arith
+code_few (no_bank active previous) = omega arith
+code_few (lost n) = omega arith
+code_few (failed n) = omega arith
+
+pub code_not_four : (e : Ended) (old new : StepFlash) → Spends (stop_of e) (counts_of old) (counts_of new) → end_code e ≡ 4 → ⊥
+code_not_four (booted b n) old new spends four = omega (arith, four)
+code_not_four (bad_layout f) old new spends four = omega (arith, four)
+code_not_four no_metadata old new spends four = omega (arith, four)
+code_not_four (no_bank active previous) old new spends four = omega (arith, four)
+code_not_four (lost n) old new spends four = never_lost _ old new spends refl
+code_not_four (failed n) old new spends four = omega (arith, four)
+
+-- ---- the device that came back
+
+-- what a device lies over has the size of a flash
+pub has_flash_size : (image : List ℕ) (d : StepFlash) → length image ≡ block_bytes * block_count d → HasFlashSize image
+has_flash_size image d size = record { blocks = block_count d; fewest = d.sizes.0; most = d.sizes.1; size = size }
+
+-- it is over the image, and its steps lie within it
+pub record IsOver (image : List ℕ) (d : StepFlash) (r : Report) (steps : List Step) (room : List ℕ) : Type 0 where
+  pub left : told_of d ≡ under_as (told_of d).under (run (take r.bytes room) (start image) (take r.steps steps))
+  pub within : IsWithin (length image) r steps room
+
+pub over : (image : List ℕ) (first d : StepFlash) (told r : Report) (steps : List Step) (room : List ℕ)
     → told_of first ≡ start image → length image ≡ block_bytes * block_count first → block_count d ≡ block_count first
-    → BootEnds (λ m. passes_any m) (told_of first) e (told_of d) → StepsOf d r steps room
-    → All (IsInside r.bytes (block_bytes * block_count d)) (take r.steps steps)
-    → number ≡ end_code e → ReportsEnd e r → BootsBy image number r steps room
-boots_by image first d e number r steps room made size same_size ends left inside is reports =
-    let guarded : (told_of d).guard ≡ guard_of image =
-    guard_kept (told_of first) (told_of d) e ends.by_bytes ∙ ap (λ (x : Told). x.guard) made ∙ start_guard image in
-    let same : image_of d ≡ image = image_is image (image_of d) (take r.bytes room) (take r.steps steps) (told_of d) left guarded in
+    → (told_of d).guard ≡ (told_of first).guard → HandsOver d told r steps room → IsOver image d r steps room
+over image first d told r steps room made size same_size guard hands =
+    let guarded : (told_of d).guard ≡ guard_of image = guard ∙ ap (λ (x : Told). x.guard) made ∙ start_guard image in
+    let same : image_of d ≡ image = image_is image (image_of d) (take r.bytes room) (take r.steps steps) (told_of d) hands.left guarded in
     let whole : block_bytes * block_count d ≡ length image = ap (λ n. block_bytes * n) same_size ∙ sym size in
+    record {
+      left = hands.left ∙ ap (λ (i : List ℕ). under_as (told_of d).under (run (take r.bytes room) (start i) (take r.steps steps))) same;
+      within = subst (λ n. IsWithin n r steps room) whole hands.within;
+    }
+
+pub boots_by : (image : List ℕ) (first d : StepFlash) (e : Ended) (number : ℕ) (told r : Report) (steps : List Step) (room : List ℕ)
+    → told_of first ≡ start image → length image ≡ block_bytes * block_count first → block_count d ≡ block_count first
+    → BootEnds (λ m. passes_any m) (told_of first) e (told_of d) → HandsOver d told r steps room
+    → number ≡ end_code e → ReportsEnd e told → BootsBy image number r steps room
+boots_by image first d e number told r steps room made size same_size ends hands is reports =
+    let o = over image first d told r steps room made size same_size (guard_kept (told_of first) (told_of d) e ends.by_bytes) hands in
     record {
       end = e;
       number_is = is;
       t = told_of d;
       ends = subst (λ (x : Told). BootEnds (λ m. passes_any m) x e (told_of d)) made ends;
-      left = left ∙ ap (λ (i : List ℕ). under_as (told_of d).under (run (take r.bytes room) (start i) (take r.steps steps))) same;
-      inside = subst (λ n. All (IsInside r.bytes n) (take r.steps steps)) whole inside;
-      reports = reports;
+      left = o.left;
+      within = o.within;
+      reports = end_same e told r hands.same reports;
     }
 
 -- of the same image

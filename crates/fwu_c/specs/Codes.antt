@@ -1,10 +1,20 @@
 -- The numbers that a caller in C is told.
 use Rattle.std.specs.Prelude.{ℕ, nat_lt, if◌then◌else◌, List, Option, Some, None, Result, Ok, Err}
+use Rattle.early_boot.specs.Ends.{Ended, booted, bad_layout, no_metadata, no_bank, lost, failed}
 use Rattle.fwu_formats.specs.Layout.{Layout}
 use Rattle.fwu_formats.specs.Package.{Toc, Entry, entry_of}
 use Rattle.fwu_formats.specs.declared.kinds.FipFault.{FipFault}
 use Rattle.fwu_formats.specs.declared.kinds.LayoutFault.{LayoutFault}
 use Rattle.fwu_formats.specs.declared.kinds.LayoutFault.TheVariants.{Short, BadMagic, BadSize, BadCrc, BadField, BeyondFlash}
+
+-- the number of a boot's end
+abbrev pub end_code : Ended → ℕ
+end_code (booted b n) = 0
+end_code (bad_layout f) = 1
+end_code no_metadata = 2
+end_code (no_bank active previous) = 3
+end_code (lost n) = 4
+end_code (failed n) = 5
 
 -- the number of a layout's fault
 abbrev pub fault_code : LayoutFault → ℕ

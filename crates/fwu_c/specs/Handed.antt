@@ -1,17 +1,35 @@
 -- The steps of a device, as they were handed over.
-use Rattle.std.specs.Prelude.{◌≡◌, ℕ, List, take}
+use Rattle.std.specs.Prelude.{◌≡◌, ◌≤◌, ◌*◌, All, ℕ, List, length, take}
+use Rattle.base_core.specs.Block.{block_bytes}
 use Rattle.step_flash.specs.declared.step.Step.{Step}
 use Rattle.step_flash.specs.declared.device.StepFlash.{StepFlash}
-use Rattle.step_flash.specs.Device.{told_of, image_of}
+use Rattle.step_flash.specs.Device.{block_count, image_of, told_of}
 use Rattle.step_flash.specs.Guard.{start}
 use Rattle.step_flash.specs.Stopped.{under_as}
-use Rattle.step_flash.specs.Steps.{run}
+use Rattle.step_flash.specs.Steps.{IsInside, run}
 use Rattle.fwu_c.specs.declared.report.Report.{Report}
-
--- these steps make of its image what the device tells, beside an operation under way
-abbrev pub StepsOf : StepFlash → Report → List Step → List ℕ → Type 0
-StepsOf d r steps room = told_of d ≡ under_as (told_of d).under (run (take r.bytes room) (start (image_of d)) (take r.steps steps))
 
 -- nothing but the numbers of steps and of bytes changed
 abbrev pub SameBut : Report → Report → Type 0
 SameBut old new = new ≡ record old { steps = new.steps; bytes = new.bytes }
+
+-- The report counts steps and bytes that there are, and each of these steps lies within a flash of so many bytes, and its bytes
+-- within those that are counted.
+pub record IsWithin (size : ℕ) (r : Report) (steps : List Step) (room : List ℕ) : Type 0 where
+  pub steps_fit : r.steps ≤ length steps
+  pub bytes_fit : r.bytes ≤ length room
+  pub inside : All (IsInside r.bytes size) (take r.steps steps)
+
+-- The steps that are reported make of the device's image what it tells, beside an operation under way; and the rest of the report
+-- is what was to be told.
+pub record HandsOver (d : StepFlash) (told r : Report) (steps : List Step) (room : List ℕ) : Type 0 where
+  pub left : told_of d ≡ under_as (told_of d).under (run (take r.bytes room) (start (image_of d)) (take r.steps steps))
+  pub within : IsWithin (block_bytes * block_count d) r steps room
+  pub same : SameBut told r
+
+-- nothing was written
+pub record IsUntouched (old : Report) (old_steps : List Step) (old_room : List ℕ) (new : Report) (steps : List Step)
+    (room : List ℕ) : Type 0 where
+  pub report_stays : new ≡ old
+  pub steps_stay : steps ≡ old_steps
+  pub room_stays : room ≡ old_room

@@ -1,6 +1,9 @@
 pub mod Boots
+pub mod Calls
 pub mod Codes
 pub mod Found
 pub mod Handed
 pub mod Reports
+pub mod Sendings
 pub mod Slots
+pub mod Updates

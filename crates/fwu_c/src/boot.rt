@@ -1,15 +1,15 @@
 //! The boot of a flash that lies in memory.
-ghost use Rattle.std.specs.Prelude.{◌≡◌, ◌*◌, ◌≤◌, length, true};
+ghost use Rattle.std.specs.Prelude.{◌≡◌, ◌≢◌, ◌⊎◌, ◌↔◌, ◌*◌, ◌≤◌, length, true};
 ghost use Rattle.base_core.specs.Block.{block_bytes};
 ghost use Rattle.step_flash.specs.Device.{block_count, image_of, is_on, told_of};
 ghost use Rattle.step_flash.specs.Guard.{start};
 ghost use Rattle.fwu_c.specs.Boots.{BootsBy, HasFlashSize};
+ghost use Rattle.fwu_c.specs.Handed.{IsUntouched};
 
-use crate::handing::{hand_over, hand_over_full};
-use crate::layouts::fault_number;
-use crate::report::{Report, report_start};
+use crate::handing::hand_over;
+use crate::report::{Report, into_flash, report_end};
 use base_core::BLOCK_BYTES;
-use early_boot::{BootEnd, boot_in};
+use early_boot::boot_in;
 use std::alloc::Global;
 use step_flash::{Step, StepFlash};
 use verify_core::AnyManifest;
@@ -25,12 +25,16 @@ pub extern "C" fn fwu_boot(
     room: &mut [u8],
     report: &mut Report,
 ) -> u32
+    ensures answers { result ≤ 7 }
     ensures boots { result ≤ 5 → BootsBy image.now result report.new steps.new room.new }
     // Steps are told and not done, so no power is lost.
-    ensures unlost { result ≡ 4 → ⊥ }
+    ensures unlost { result ≢ 4 }
     // At 5 as many steps are told as there is room for.
     ensures full { result ≡ 5 → report.new.steps ≡ length steps.old }
-    ensures no_flash { result ≡ 6 → HasFlashSize image.now → ⊥ }
+    // 6 comes of all bytes that are no flash, and of no others.
+    ensures no_flash { (result ≡ 6) ↔ (HasFlashSize image.now → ⊥) }
+    // Nothing is told without an answer.
+    ensures untouched { 6 ≤ result → IsUntouched report.old steps.old room.old report.new steps.new room.new }
 {
     let Some(flash) = StepFlash::new(alloc, image, steps.len()) else {
         return 6;
@@ -41,7 +45,7 @@ pub extern "C" fn fwu_boot(
     boot_over(flash, &mut block, steps, room, report)
 }
 
-/// As `fwu_boot`, on the device over the image, with a buffer of 4096 bytes.
+/// As `fwu_boot`, on the device over the image, with a buffer of 4096 bytes, in which images are hashed one after another.
 fn boot_over(
     flash: StepFlash<'_>,
     block: &mut [u8],
@@ -53,32 +57,14 @@ fn boot_over(
     requires block { length block.old ≡ block_bytes }
     requires fresh { told_of flash ≡ start (image_of flash) }
     requires size { length (image_of flash) ≡ block_bytes * block_count flash }
+    ensures answers { (result ≤ 5) ⊎ (result ≡ 7) }
     ensures boots { result ≤ 5 → BootsBy (image_of flash.entry) result report.new steps.new room.new }
-    ensures unlost { result ≡ 4 → ⊥ }
+    ensures unlost { result ≢ 4 }
     ensures full { result ≡ 5 → report.new.steps ≡ length steps.old }
-    ensures known { result ≡ 6 → ⊥ }
+    ensures untouched { result ≡ 7 → IsUntouched report.old steps.old room.old report.new steps.new room.new }
 {
-    match boot_in(flash, &AnyManifest, block) {
-        BootEnd::Booted(booted, _) => {
-            report_start(&booted, report);
-            let (flash, _, _) = booted.into_parts();
-            hand_over(flash, 0, steps, room, report)
-        }
-        BootEnd::BadLayout(flash, fault) => {
-            report.layout_fault = fault_number(fault);
-            hand_over(flash, 1, steps, room, report)
-        }
-        BootEnd::NoMetadata(flash) => hand_over(flash, 2, steps, room, report),
-        BootEnd::NoBank {
-            flash,
-            active,
-            previous,
-        } => {
-            report.active = active;
-            report.previous = previous;
-            hand_over(flash, 3, steps, room, report)
-        }
-        BootEnd::Lost(flash, _) => hand_over(flash, 4, steps, room, report),
-        BootEnd::Fault(flash, _) => hand_over_full(flash, steps, room, report),
-    }
+    let end = boot_in(flash, &AnyManifest, block);
+    let mut told = *report;
+    let number = report_end(&end, &mut told);
+    hand_over(into_flash(end), number, told, steps, room, report)
 }

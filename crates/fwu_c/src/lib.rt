@@ -4,17 +4,27 @@
 //! nothing else that is passed.
 #![tactic(auto)]
 
+mod accepting;
 mod boot;
+mod calling;
 mod checksums;
+mod going_back;
 mod handing;
 mod layouts;
 mod packages;
 mod report;
+mod sending;
 mod slots;
+#[cfg(test)]
+mod tests;
+mod update;
 
+pub use accepting::fwu_accept;
 pub use boot::fwu_boot;
 pub use checksums::{fwu_crc32, fwu_sealed};
+pub use going_back::fwu_previous;
 pub use layouts::fwu_layout;
 pub use packages::{Place, fwu_find, fwu_manifest};
 pub use report::Report;
 pub use slots::{Slot, Slots, fwu_slots};
+pub use update::fwu_update;

@@ -1,12 +1,13 @@
 //! Packages (the FIP layout of Trusted Firmware-A) and manifests (own format).
-ghost use Rattle.std.specs.Prelude.{◌≡◌, ◌+◌, ◌≤◌, is_some, length, IfNone, IfSome};
+ghost use Rattle.std.specs.Prelude.{◌≡◌, ◌+◌, ◌^◌, ◌<◌, ◌≤◌, is_some, length, IfNone, IfSome};
 ghost use Rattle.fwu_formats.specs.Layout.{layout_of};
 ghost use Rattle.fwu_formats.specs.Package.{toc_of};
 ghost use Rattle.fwu_c.specs.Codes.{find_code, found_code};
 ghost use Rattle.fwu_c.specs.Found.{entry_in, security_version};
 
 use base_core::Guid;
-use fip_tables::{Entry, StreamToc};
+use fip_tables::{Entry, StreamToc, Toc};
+use fwu_formats::FipFault;
 use meta_layout::Layout;
 
 /// Where a payload stands: bytes from the package's first byte, and how many.
@@ -18,6 +19,17 @@ pub struct Place {
 }
 
 const _: () = prove!(size_of::<Place>() == 16);
+
+/// The table of contents of a package, or the first fault of the bytes.
+pub fn table_of(bytes: &[u8]) -> Result<Toc, FipFault>
+    ensures table { result ≡ toc_of bytes.now }
+    ensures short { length bytes.now < 2 ^ 64 }
+{
+    let mut stream = StreamToc::new();
+    // a fault that is told here is told at the end again
+    let _fault = stream.feed(bytes);
+    stream.end()
+}
 
 /// Tells where an entry's payload stands, where there is one. 0: there is one; 1: there is none.
 fn put_place(entry: Option<Entry>, place: &mut Place) -> u32
@@ -44,11 +56,7 @@ pub extern "C" fn fwu_find(bytes: &[u8], guid: &[u8; 16], place: &mut Place) -> 
         (λ e. (place.new.offset ≡ e.offset) × (place.new.size ≡ e.size)) }
     ensures kept { IfNone (entry_in guid.now (toc_of bytes.now)) (place.new ≡ place.old) }
 {
-    let mut stream = StreamToc::new();
-    if stream.feed(bytes).is_err() {
-        return 2;
-    }
-    match stream.end() {
+    match table_of(bytes) {
         Ok(toc) => put_place(toc.entries.find(&Guid::of(*guid)), place),
         Err(_) => 2,
     }

@@ -1,9 +1,12 @@
 //! What a boot reports.
 ghost use Rattle.std.specs.Prelude.{◌≡◌};
+ghost use Rattle.early_boot.specs.Ends.{device_of, ended};
 ghost use Rattle.early_boot.specs.Started.{started};
-ghost use Rattle.fwu_c.specs.Reports.{ReportsStart};
+ghost use Rattle.fwu_c.specs.Codes.{end_code};
+ghost use Rattle.fwu_c.specs.Reports.{ReportsEnd, ReportsStart};
 
-use early_boot::Booted;
+use crate::layouts::fault_number;
+use early_boot::{BootEnd, Booted};
 use flash_core::Flash;
 
 /// What a boot reports; which fields it writes is said by the answer.
@@ -51,4 +54,50 @@ pub fn report_start<D: Flash>(booted: &Booted<D>, report: &mut Report)
     report.previous = booted.previous();
     report.images = booted.layout().rows().len() as u32;
     report.lengths = booted.lengths();
+}
+
+/// Reports how a boot ended, and answers its number.
+pub fn report_end<D: Flash>(end: &BootEnd<D>, report: &mut Report) -> u32
+    ensures number { result ≡ end_code (ended end.now) }
+    ensures reports { ReportsEnd (ended end.now) report.new }
+{
+    match end {
+        BootEnd::Booted(booted, _) => {
+            report_start(booted, report);
+            0
+        }
+        BootEnd::BadLayout(_, fault) => {
+            report.layout_fault = fault_number(*fault);
+            1
+        }
+        BootEnd::NoMetadata(_) => 2,
+        BootEnd::NoBank {
+            active,
+            previous,
+            ..
+        } => {
+            report.active = *active;
+            report.previous = *previous;
+            3
+        }
+        BootEnd::Lost(_, _) => 4,
+        BootEnd::Fault(_, _) => 5,
+    }
+}
+
+/// The device that a boot gives back.
+pub fn into_flash<D: Flash>(end: BootEnd<D>) -> D
+    ensures { result ≡ device_of end }
+{
+    match end {
+        BootEnd::Booted(booted, _) => {
+            let (flash, _, _) = booted.into_parts();
+            flash
+        }
+        BootEnd::BadLayout(flash, _) => flash,
+        BootEnd::NoMetadata(flash) => flash,
+        BootEnd::NoBank { flash, .. } => flash,
+        BootEnd::Lost(flash, _) => flash,
+        BootEnd::Fault(flash, _) => flash,
+    }
 }

@@ -1,9 +1,10 @@
 //! The program `fwu`: what its words ask for is done on the flash in a file, and each line goes to the standard output.
 //!
 //! The first word names an existing file of 8 to 65,536 blocks of 4096 bytes, or is `-`, a blank flash in memory of 64 blocks.
-//! Where it is neither, or the file can't be opened for reading and writing, the program prints `flash cannot be used` and ends
-//! with 5. The other words are those of `fwu_top`, whose status is the program's. Without any word the program runs the script that
-//! it reads from the standard input on a blank flash, as `- run` does. A standard stream that is closed fails at its first use.
+//! Where it is neither, the file can't be opened for reading and writing, or another run uses it, the program prints `flash cannot
+//! be used` and ends with 5. The other words are those of `fwu_top`, whose status is the program's. Without any word the program
+//! runs the script that it reads from the standard input on a blank flash, as `- run` does. A standard stream that is closed fails
+//! at its first use.
 #![tactic(auto)]
 
 ghost use Rattle.std.specs.Prelude.{◌≡◌, IfSome, codes};
@@ -16,7 +17,7 @@ use host_io::{HostFiles, Sink, Source, StdSink, StdSource};
 use script_cmd::{fwu_top, put_line, put_usage};
 use std::alloc::{AllocError, AllocGlobal, Global};
 use std::env::Env;
-use std::fs::{self, Files, OpenOptions};
+use std::fs::{self, File, Files, OpenOptions, TryLockError};
 use std::process::ExitCode;
 use std::{env, io};
 
@@ -41,13 +42,38 @@ fn hold_standard_streams<R: Files>(rt: &R, flash: &str) -> [Option<R::File>; 3] 
     ]
 }
 
+/// The file of this name, to be read and written.
+fn open_file<R: Files>(rt: &R, name: &str) -> io::Result<R::File> {
+    let mut how = OpenOptions::new();
+    how.read(true).write(true);
+    how.open(rt, name)
+}
+
+/// Another run holds the lock of the flash's file.
+#[derive(Drop)]
+struct InUse;
+
+/// The file of the flash with this run's lock on it, which ends with the file. None where the flash is in memory, where there is no
+/// such file, or no lock to be had.
+fn lock_flash(rt: &HostRuntime, name: &str) -> Result<Option<File>, InUse> {
+    if name == "-" {
+        return Ok(None);
+    }
+    let Ok(file) = open_file(rt, name) else {
+        return Ok(None);
+    };
+    match file.try_lock() {
+        Ok(()) => Ok(Some(file)),
+        Err(TryLockError::WouldBlock) => Err(InUse),
+        Err(TryLockError::Error(_)) => Ok(None),
+    }
+}
+
 /// The file of this name as a flash, or none where it can't be one.
 fn open_flash<R: Files>(rt: &R, name: &str) -> Option<FileFlash<R::File>>
     ensures { IfSome result IsNew }
 {
-    let mut how = OpenOptions::new();
-    how.read(true).write(true);
-    let file = how.open(rt, name).ok()?;
+    let file = open_file(rt, name).ok()?;
     match FileFlash::open(file) {
         Ok(flash) => Some(flash),
         Err(_) => None,
@@ -136,6 +162,9 @@ fn main(rt: HostRuntime) -> ExitCode {
     let flash = flash_named(&rt, &mut bytes);
     let _streams = hold_standard_streams(&rt, flash);
     let mut sink = StdSink::new(io::writer(&rt));
+    let Ok(_lock) = lock_flash(&rt, flash) else {
+        return ExitCode::from(refuse_flash(&mut sink));
+    };
     let mut source = StdSource::new(rt.stdin());
     let words = match words_of(&rt) {
         Ok(words) if words.is_empty() => words_for_none(rt.alloc()),

@@ -8,7 +8,11 @@ use Rattle.clap_words.specs.Answers.{file_in}
 use Rattle.fwu_words.specs.Commands.{fwu_app}
 use Rattle.fwu_words.specs.Values.{banks_of, number_read, rows_of}
 use Rattle.fwu_words.specs.declared.orders.Order.{Order}
-use Rattle.fwu_words.specs.declared.orders.Order.TheVariants.{Run, RunPartitioned, Boot, BootPartitioned, Show, Format, Soak, Serve}
+use Rattle.fwu_words.specs.declared.orders.Order.TheVariants.{Turns, Show, Format, Soak, Serve}
+use Rattle.fwu_words.specs.declared.orders.Place.{Place}
+use Rattle.fwu_words.specs.declared.orders.Place.TheVariants as place
+use Rattle.fwu_words.specs.declared.orders.ScriptFrom.{ScriptFrom}
+use Rattle.fwu_words.specs.declared.orders.ScriptFrom.TheVariants as origin
 
 -- a command with its values
 pub data Asked : Type 0 where
@@ -22,14 +26,18 @@ pub data Asked : Type 0 where
   soak : (seed : ℕ) → (rounds : ℕ) → Asked
   serve : Asked
 
+-- the turns of a script from there, at this place
+abbrev pub turns_of : ScriptFrom → Place → Asked
+turns_of origin.Source place.Flash = run
+turns_of origin.Source place.Partitions = run_partitioned
+turns_of origin.Boot place.Flash = boot
+turns_of origin.Boot place.Partitions = boot_partitioned
+
 -- an order, without where its words lie in memory
 abbrev pub view : Order → Asked
-view Run = run
-view RunPartitioned = run_partitioned
-view Boot = boot
-view BootPartitioned = boot_partitioned
+view (Turns turns) = turns_of turns.from turns.place
 view Show = show
-view (Format banks rows file) = format banks rows.items file.now
+view (Format wanted) = format wanted.banks wanted.rows.items wanted.package.now
 view (Soak seed rounds) = soak seed rounds
 view Serve = serve
 

@@ -10,4 +10,4 @@ mod values;
 pub use allow::{Allow, allow_of};
 pub use clap_words::UsageStop;
 pub use laws::{lists_are_told, plain_words_are_taken, refusals_are_of_clap};
-pub use orders::{Order, fwu_order};
+pub use orders::{NewFlash, Order, Place, ScriptFrom, Turns, fwu_order};

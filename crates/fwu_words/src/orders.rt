@@ -2,7 +2,7 @@
 ghost use Rattle.std.specs.Prelude.{◌≡◌, if◌then◌else◌, map, option_and_then, string_bytes};
 ghost use Rattle.clap.specs.Words.{found_of, rows_of, subcommand_rows_of};
 ghost use Rattle.clap_words.specs.Answers.{Answers};
-ghost use Rattle.fwu_words.specs.Order.{asked, banks_in, boot, boot_partitioned, format_of, is_partitioned, layout_in, number_in, order_of, run, run_partitioned, soak_of, view};
+ghost use Rattle.fwu_words.specs.Order.{asked, banks_in, format_of, is_partitioned, layout_in, number_in, order_of, soak_of, turns_of, view};
 
 use crate::commands::fwu_command;
 use crate::values::{banks_value, layout_rows};
@@ -12,30 +12,50 @@ use clap_words::{UsageStop, given, given_file, matches, read_number};
 use std::alloc::Global;
 use words_core::is_word;
 
+/// Where the calls of a run are from.
+#[derive(Clone, Copy, Debug, PartialEq, Eq)]
+pub enum ScriptFrom {
+    /// The source, as the text of a script: `run`.
+    Source,
+    /// One boot, and no source: `boot`.
+    Boot,
+}
+
+/// Where the turns of a run take place.
+#[derive(Clone, Copy, Debug, PartialEq, Eq)]
+pub enum Place {
+    /// On the device, which is the flash.
+    Flash,
+    /// On the flash that the device has behind a GUID partition table: `--gpt`.
+    Partitions,
+}
+
+/// The turns of a script that are asked for.
+#[derive(Clone, Copy, Debug, PartialEq, Eq)]
+pub struct Turns {
+    pub from: ScriptFrom,
+    pub place: Place,
+}
+
+/// A flash that is to be made: of `banks` banks, 2 to 4, each with these images in this order, and with the package of this name.
+#[derive(Drop)]
+pub struct NewFlash<'a> {
+    pub banks: u32,
+    pub rows: Vec<ImageRow>,
+    pub package: &'a str,
+}
+
 /// What the words of `fwu` ask for. Files are named as they stand in the words.
 #[derive(Drop)]
 pub enum Order<'a> {
-    /// Carries out the calls of a script.
-    Run,
-    /// The same on the flash that the device has behind a GUID partition table.
-    RunPartitioned,
-    /// Boots once.
-    Boot,
-    /// The same on the flash that the device has behind a GUID partition table.
-    BootPartitioned,
+    /// Carries out the calls of a script, one turn for each.
+    Turns(Turns),
     /// Tells what the flash holds.
     Show,
-    /// Makes a flash of `banks` banks, 2 to 4, each with these images in this order, and stores a package.
-    Format {
-        banks: u32,
-        rows: Vec<ImageRow>,
-        package: &'a str,
-    },
+    /// Makes a flash, and stores its package.
+    Format(NewFlash<'a>),
     /// Carries out this many rounds of updates, 0 or more, drawn from the seed.
-    Soak {
-        seed: u32,
-        rounds: u32,
-    },
+    Soak { seed: u32, rounds: u32 },
     /// Boots once, and serves the requests of a byte stream.
     Serve,
 }
@@ -64,11 +84,11 @@ fn format_order<'a>(alloc: Global, found: &ArgMatches<'a>) -> Result<Order<'a>, 
     let banks = given_banks(found)?;
     let rows = given_layout(alloc, found)?;
     let package = given_file(found, "package")?;
-    Ok(Order::Format {
+    Ok(Order::Format(NewFlash {
         banks,
         rows,
         package,
-    })
+    }))
 }
 
 fn given_number<'a>(found: &ArgMatches<'a>, id: &str) -> Result<u32, UsageStop>
@@ -101,26 +121,17 @@ fn is_over_table<'a>(found: &ArgMatches<'a>) -> bool
     }
 }
 
-fn run_order<'a>(found: &ArgMatches<'a>) -> Order<'a>
-    ensures { view result
-        ≡ (if is_partitioned (rows_of (found_of found.now)) then run_partitioned else run) }
+/// The turns of a script from there, at the place that `--gpt` gives.
+fn turns_order<'a>(from: ScriptFrom, found: &ArgMatches<'a>) -> Order<'a>
+    ensures { view result ≡ (if is_partitioned (rows_of (found_of found.now))
+        then turns_of from Place.Partitions else turns_of from Place.Flash) }
 {
-    if is_over_table(found) {
-        Order::RunPartitioned
+    let place = if is_over_table(found) {
+        Place::Partitions
     } else {
-        Order::Run
-    }
-}
-
-fn boot_order<'a>(found: &ArgMatches<'a>) -> Order<'a>
-    ensures { view result
-        ≡ (if is_partitioned (rows_of (found_of found.now)) then boot_partitioned else boot) }
-{
-    if is_over_table(found) {
-        Order::BootPartitioned
-    } else {
-        Order::Boot
-    }
+        Place::Flash
+    };
+    Order::Turns(Turns { from, place })
 }
 
 fn named_order<'a>(
@@ -132,9 +143,9 @@ fn named_order<'a>(
 {
     let name = name.as_bytes();
     if is_word(name, b"run") {
-        Ok(run_order(found))
+        Ok(turns_order(ScriptFrom::Source, found))
     } else if is_word(name, b"boot") {
-        Ok(boot_order(found))
+        Ok(turns_order(ScriptFrom::Boot, found))
     } else if is_word(name, b"show") {
         Ok(Order::Show)
     } else if is_word(name, b"format") {

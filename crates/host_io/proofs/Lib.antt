@@ -4,3 +4,4 @@ pub mod Unlisted
 pub mod Ranges
 pub mod Joins
 pub mod Reading
+pub mod Once

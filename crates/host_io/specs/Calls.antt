@@ -1,5 +1,5 @@
 -- The calls of an object in memory. They have the numbers 1, 2 and so on, up to the greatest u64.
-use Rattle.std.specs.Prelude.{ℕ, ◌+◌, min, List, Contains, Option, Some, None, Result, Ok, Err}
+use Rattle.std.specs.Prelude.{◌≡◌, ◌⊎◌, ℕ, ◌+◌, min, List, Contains, Option, Some, None, Result, Ok, Err}
 use Rattle.host_io.specs.declared.stops.WriteStop.{WriteStop}
 use Rattle.host_io.specs.declared.writes.Writes.{Writes}
 use Rattle.host_io.specs.declared.stops.WriteStop.TheVariants.{Failed, NoMemory}
@@ -50,17 +50,27 @@ write_failures (Err NoMemory) before = before
 
 -- the writes after one that wrote a file
 abbrev pub done_once : Writes → Writes
-done_once writes = record { done = raised writes.done; failed = writes.failed }
+done_once writes = record writes { done = raised writes.done }
 
--- the writes after one that failed
+-- the writes after one that failed, and left its file as it was
 abbrev pub failed_once : Writes → Writes
-failed_once writes = record { done = writes.done; failed = raised writes.failed }
+failed_once writes = record writes { failed = raised writes.failed }
 
--- the writes after one with this result; one that finds no memory is not counted
+-- the writes after one that failed, and may have torn its file
+abbrev pub torn_once : Writes → Writes
+torn_once writes = record writes { failed = raised writes.failed; torn = raised writes.torn }
+
+-- the writes after one with this result that tears no file; one that finds no memory is not counted
 abbrev pub writes_after : {T : Type 0} → Result T WriteStop → Writes → Writes
 writes_after (Ok _) writes = done_once writes
 writes_after (Err Failed) writes = failed_once writes
 writes_after (Err NoMemory) writes = writes
+
+-- the same of a write that may have torn its file where it failed
+abbrev pub CountsWrite : {T : Type 0} → Result T WriteStop → Writes → Writes → Type 0
+CountsWrite (Ok _) before after = after ≡ done_once before
+CountsWrite (Err Failed) before after = (after ≡ failed_once before) ⊎ (after ≡ torn_once before)
+CountsWrite (Err NoMemory) before after = after ≡ before
 
 -- the calls after one with this result
 abbrev pub counted : {T E : Type 0} → Result T E → Calls → Calls

@@ -8,3 +8,4 @@ pub mod Held
 pub mod Access
 pub mod Reads
 pub mod Whole
+pub mod Once

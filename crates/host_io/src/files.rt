@@ -6,9 +6,10 @@ use std::alloc::Global;
 
 /// Files by their names.
 pub trait Files {
-    ghost use Rattle.std.specs.Prelude.{◌≡◌, ◌≢◌, ◌+◌, ◌≤◌, ℕ, Bool, Option, Err, IfOk, OnOk, OnErr, is_some, length, vec_capacity, vec_len};
+    ghost use Rattle.std.specs.Prelude.{◌≡◌, ◌≢◌, ◌⊎◌, ◌+◌, ◌≤◌, ℕ, Bool, Option, Err, IfOk, OnOk, OnErr, is_some, length, vec_capacity, vec_len};
+    ghost use Rattle.base_core.specs.Counts.{Rose};
     ghost use Rattle.host_io.specs.Access.{Access, Asks, Makes};
-    ghost use Rattle.host_io.specs.Calls.{failures, write_failures, writes_after};
+    ghost use Rattle.host_io.specs.Calls.{CountsWrite, failures, write_failures};
     ghost use Rattle.host_io.specs.Causes.{HasCause, HasWriteCause};
     ghost use Rattle.std.specs.List.{All};
     ghost use Rattle.host_io.specs.Contents.{AddsRange, ChangesOnly, Directory, HasRange, Holds, TellsRange, TellsSize};
@@ -25,7 +26,8 @@ pub trait Files {
     /// How many calls failed.
     ghost faults: { Self → ℕ };
 
-    /// How many files were written whole, and how many writes failed.
+    /// How many files were written whole, how many writes failed, and how many of these may have torn
+    /// their file.
     ghost writes: { Self → Writes };
 
     /// No call from the first to the second makes this access. It is nothing at run time, and an
@@ -75,22 +77,26 @@ pub trait Files {
         ensures unwritten { writes self.new ≡ writes self.old }
         ensures spares { (access : Access) → access ≢ Asks name.now → spares self.old self.new access };
 
-    /// Makes the file anew, of these bytes, or writes over all of an old one. After `Failed` nothing
-    /// is known of this name, and no other changed. Files that are not told stay so.
+    /// Makes the file anew, of these bytes, or writes over all of an old one. After `Failed` no other
+    /// name has changed, and this one is as it was, unless a file may have been torn, which is counted.
+    /// Files that are not told stay so.
     fn write_whole(&mut self, name: &str, bytes: &[u8]) -> Result<(), WriteStop>
         ensures written { OnOk result (Holds (contents self.new) name.now bytes.now) }
         ensures others { ChangesOnly (contents self.old) (contents self.new) name.now }
         ensures memory { result ≡ Err stop.NoMemory → contents self.new ≡ contents self.old }
         ensures cause { HasWriteCause (faults self.old) (faults self.new) result }
         ensures count { faults self.new ≡ write_failures result (faults self.old) }
-        ensures writes { writes self.new ≡ writes_after result (writes self.old) }
+        ensures writes { CountsWrite result (writes self.old) (writes self.new) }
+        ensures stands { result ≡ Err stop.Failed → (contents self.new ≡ contents self.old)
+            ⊎ Rose (writes self.old).torn (writes self.new).torn }
         ensures spares { (access : Access) → access ≢ Makes name.now → spares self.old self.new access };
 
     /// Makes the file anew, of a frame's bytes with pieces of files between them, each behind as many
     /// more of the frame as it says (or as there are), and last what is left of the frame. The pieces
-    /// are those that the files had before, also where the made file is one of them. After `Failed`
-    /// nothing is known of this name, and no other changed. Want of memory, which may be taken from
-    /// `alloc`, leaves the files as they were. Files that are not told stay so.
+    /// are those that the files had before, also where the made file is one of them. After `Failed` no
+    /// other name has changed, and this one is as it was, unless a file may have been torn, which is
+    /// counted. Want of memory, which may be taken from `alloc`, leaves the files as they were. Files that
+    /// are not told stay so.
     fn write_joined(
         &mut self,
         alloc: Global,
@@ -105,7 +111,9 @@ pub trait Files {
         ensures memory { result ≡ Err stop.NoMemory → contents self.new ≡ contents self.old }
         ensures cause { HasWriteCause (faults self.old) (faults self.new) result }
         ensures count { faults self.new ≡ write_failures result (faults self.old) }
-        ensures writes { writes self.new ≡ writes_after result (writes self.old) }
+        ensures writes { CountsWrite result (writes self.old) (writes self.new) }
+        ensures stands { result ≡ Err stop.Failed → (contents self.new ≡ contents self.old)
+            ⊎ Rose (writes self.old).torn (writes self.new).torn }
         ensures spares { (access : Access) → access ≢ Makes name.now → spares self.old self.new access };
 
     /// The contents are told at each time, or never.

@@ -2,7 +2,7 @@
 
 ghost use Rattle.std.specs.Prelude.{◌≡◌, ⊤, ◌+◌, ◌≤◌, false, refl, None, Err, IsSome, IfOk, OnErr, OnOk, drop, length, take, vec_capacity, vec_len};
 ghost use Rattle.base_core.specs.Counts.{Rose};
-ghost use Rattle.host_io.specs.Calls.{failures, raised, write_failures, writes_after};
+ghost use Rattle.host_io.specs.Calls.{CountsWrite, failures, raised, torn_once, write_failures, writes_after};
 ghost use Rattle.host_io.specs.Causes.{HasCause, HasWriteCause};
 ghost use Rattle.host_io.specs.Contents.{AddsRange};
 ghost use Rattle.host_io.specs.Joined.{AppendsJoined, AppendsPiece, AppendsSome};
@@ -118,7 +118,7 @@ impl<R: std::rt::Files> Model for HostFiles<R> {
 impl<R: std::rt::Files> HostFiles<R> {
     /// The files that this runtime reaches.
     pub fn new(rt: R) -> HostFiles<R>
-        ensures { result ≡ record { inner = rt; faults = 0; writes = record { done = 0; failed = 0 } } }
+        ensures { result ≡ record { inner = rt; faults = 0; writes = record { done = 0; failed = 0; torn = 0 } } }
     {
         HostFiles {
             rt,
@@ -158,6 +158,21 @@ impl<R: std::rt::Files> HostFiles<R> {
             Err(WriteStop::NoMemory) => {}
         }
         end
+    }
+
+    // Counts a write that may have torn its file.
+    fn tear(&mut self) -> WriteStop
+        ensures failed { result ≡ stop.Failed }
+        ensures count { self.new.faults ≡ raised self.old.faults }
+        ensures writes { self.new.writes ≡ torn_once self.old.writes }
+        ensures inner { self.new.inner ≡ self.old.inner }
+        ensures rose { Rose self.old.faults self.new.faults }
+        ensures later { self.old.faults ≤ self.new.faults }
+        ensures once { self.new.faults ≤ self.old.faults + 1 }
+    {
+        self.fail();
+        self.writes.tear();
+        WriteStop::Failed
     }
 
     // The file, at this place. What is no regular file, and a place behind its end, is an error.
@@ -346,10 +361,27 @@ impl<R: std::rt::Files> HostFiles<R> {
         replaced
     }
 
-    // Writes over all of a file where it stands, or makes it. A regular one is put on the disk, so that an
-    // error that the system tells only then comes here.
-    fn write_over(&self, name: &str, bytes: &[u8]) -> io::Result<()> {
-        let mut file = fs::create(&self.rt, name)?;
+    // Writes over all of a file where it stands, or makes it, and counts that. One that was opened and not
+    // filled may be torn.
+    fn write_over(&mut self, name: &str, bytes: &[u8]) -> Result<(), WriteStop>
+        ensures failed { OnErr result (result ≡ Err stop.Failed) }
+        ensures cause { HasWriteCause self.old.faults self.new.faults result }
+        ensures count { self.new.faults ≡ write_failures result self.old.faults }
+        ensures writes { CountsWrite result self.old.writes self.new.writes }
+        ensures inner { self.new.inner ≡ self.old.inner }
+    {
+        let Ok(mut file) = fs::create(&self.rt, name) else {
+            return self.count_write(Err(WriteStop::Failed));
+        };
+        match self.fill_whole(&mut file, bytes) {
+            Ok(()) => self.count_write(Ok(())),
+            Err(_) => Err(self.tear()),
+        }
+    }
+
+    // Writes the bytes of a new file. A regular one is put on the disk, so that an error that the system
+    // tells only then comes here.
+    fn fill_whole(&self, file: &mut R::File, bytes: &[u8]) -> io::Result<()> {
         file.write_all(bytes)?;
         if file.metadata()?.is_file() {
             file.sync_data()?;
@@ -357,19 +389,36 @@ impl<R: std::rt::Files> HostFiles<R> {
         Ok(())
     }
 
+    // The frame with the pieces between its bytes, in memory.
+    fn joined(
+        &self,
+        alloc: Global,
+        frame: &[u8],
+        pieces: &[Piece<'_>],
+    ) -> Result<Vec<u8>, WriteStop> {
+        let mut bytes = Vec::with_capacity(alloc, size_of(frame, pieces))?;
+        match self.join(frame, pieces, &mut bytes) {
+            Ok(()) => Ok(bytes),
+            Err(_) => Err(WriteStop::Failed),
+        }
+    }
+
     // Makes the file where it stands, from memory, since it may be among those of the pieces.
     fn rewrite(
-        &self,
+        &mut self,
         alloc: Global,
         name: &str,
         frame: &[u8],
         pieces: &[Piece<'_>],
-    ) -> Result<(), WriteStop> {
-        let mut bytes = Vec::with_capacity(alloc, size_of(frame, pieces))?;
-        let made = self.join(frame, pieces, &mut bytes);
-        match made.and_then(|()| self.write_over(name, bytes.as_slice())) {
-            Ok(()) => Ok(()),
-            Err(_) => Err(WriteStop::Failed),
+    ) -> Result<(), WriteStop>
+        ensures cause { HasWriteCause self.old.faults self.new.faults result }
+        ensures count { self.new.faults ≡ write_failures result self.old.faults }
+        ensures writes { CountsWrite result self.old.writes self.new.writes }
+        ensures inner { self.new.inner ≡ self.old.inner }
+    {
+        match self.joined(alloc, frame, pieces) {
+            Ok(bytes) => self.write_over(name, bytes.as_slice()),
+            Err(stop) => self.count_write(Err(stop)),
         }
     }
 
@@ -409,20 +458,6 @@ impl<R: std::rt::Files> HostFiles<R> {
             Ok(replaced) => Ok(replaced),
             Err(_) => Err(WriteStop::Failed),
         }
-    }
-
-    // Makes the file by a new one, or, where none can take its place, where it stands.
-    fn make(
-        &self,
-        alloc: Global,
-        name: &str,
-        frame: &[u8],
-        pieces: &[Piece<'_>],
-    ) -> Result<(), WriteStop> {
-        if self.make_beside(alloc, name, frame, pieces)? {
-            return Ok(());
-        }
-        self.rewrite(alloc, name, frame, pieces)
     }
 }
 
@@ -497,19 +532,16 @@ impl<R: std::rt::Files> Files for HostFiles<R> {
         }
     }
 
-    /// Besides what the trait says, each `Err` is `Failed`.
+    /// Besides what the trait says, each `Err` is `Failed`. A file that could be opened may be torn then.
     fn write_whole(&mut self, name: &str, bytes: &[u8]) -> Result<(), WriteStop>
         ensures failed { OnErr result (result ≡ Err stop.Failed) }
         ensures cause { HasWriteCause self.old.faults self.new.faults result }
         ensures count { self.new.faults ≡ write_failures result self.old.faults }
-        ensures writes { self.new.writes ≡ writes_after result self.old.writes }
+        ensures writes { CountsWrite result self.old.writes self.new.writes }
         ensures inner { self.new.inner ≡ self.old.inner }
     {
         self.kept = None;
-        match self.write_over(name, bytes) {
-            Ok(()) => self.count_write(Ok(())),
-            Err(_) => self.count_write(Err(WriteStop::Failed)),
-        }
+        self.write_over(name, bytes)
     }
 
     /// Besides what the trait says: a new file takes the name once it is whole and on the disk. Its own
@@ -519,7 +551,8 @@ impl<R: std::rt::Files> Files for HostFiles<R> {
     ///
     /// A link, a file of two names or of another user or group, what is no regular file, and one beside
     /// which no new file can be made or that can't be replaced, is written where it stands, once all is
-    /// read.
+    /// read. It may be torn then, where it was opened and not filled. So a piece that can't be read tears
+    /// no file.
     fn write_joined(
         &mut self,
         alloc: Global,
@@ -529,11 +562,14 @@ impl<R: std::rt::Files> Files for HostFiles<R> {
     ) -> Result<(), WriteStop>
         ensures cause { HasWriteCause self.old.faults self.new.faults result }
         ensures count { self.new.faults ≡ write_failures result self.old.faults }
-        ensures writes { self.new.writes ≡ writes_after result self.old.writes }
+        ensures writes { CountsWrite result self.old.writes self.new.writes }
         ensures inner { self.new.inner ≡ self.old.inner }
     {
         self.kept = None;
-        let end = self.make(alloc, name, frame, pieces);
-        self.count_write(end)
+        match self.make_beside(alloc, name, frame, pieces) {
+            Ok(true) => self.count_write(Ok(())),
+            Ok(false) => self.rewrite(alloc, name, frame, pieces),
+            Err(stop) => self.count_write(Err(stop)),
+        }
     }
 }

@@ -132,7 +132,7 @@ impl MemoryFiles {
         ensures { result ≡ record {
           files = pairs_of files.items;
           calls = unused fails.items;
-          writes = record { done = 0; failed = 0 };
+          writes = record { done = 0; failed = 0; torn = 0 };
         } }
     {
         MemoryFiles {
@@ -160,7 +160,7 @@ impl Files for MemoryFiles {
 
     ghost faults = { λ m. m.calls.faults };
 
-    ghost writes = { λ m. m.writes };
+    ghost writes = { λ m. record m.writes { torn = 0 } };
 
     ghost spares = { λ _ _ _. ⊤ };
 

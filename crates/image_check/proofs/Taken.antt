@@ -11,14 +11,14 @@ use Rattle.sha256_lanes.specs.Holding.{Holds, HoldsInLane}
 use Rattle.sha256_lanes.specs.declared.alone.Message.{Message}
 use Rattle.sha256_lanes.specs.declared.lanes.Lanes.{Lanes}
 use Rattle.image_check.specs.declared.side.Job.{Job}
-use Rattle.image_check.specs.Taken.{HasTaken, IsInLane, job_at, left}
+use Rattle.image_check.specs.Taken.{HasTaken, HaveTaken, IsInLane, left}
 
 -- nothing but reads was done so far, and each lane has taken in so many bytes more
 pub record HasTakenIn {D : Type 0} (g : Ghosts D) (old new : D) (lanes : Lanes) (jobs : List (Option Job)) (count more : ℕ) : Type 0 where
   pub small : more ≤ count
   pub whole : more % 64 ≡ 0
   pub reads : Reads {X = Unit {0}} g (Ok tt) old new
-  pub each : (j : ℕ) → j < 4 → ForSome (job_at jobs j) (λ job. HasTaken g old job.at (job.done + more) (HoldsInLane j lanes))
+  pub each : HaveTaken g old jobs lanes more
 
 -- and one message alone
 pub record HasGoneOn {D : Type 0} (g : Ghosts D) (old new : D) (message : Message) (at count done : ℕ) : Type 0 where

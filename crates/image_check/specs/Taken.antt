@@ -15,6 +15,10 @@ use Rattle.image_check.specs.Passed.{HasImage}
 use Rattle.image_check.specs.declared.side.Job.{Job}
 use Rattle.image_check.specs.declared.side.Work.{Work}
 
+-- the fewest bytes of a buffer in which images are hashed side by side: a block for each lane
+abbrev pub lanes_bytes : ℕ
+lanes_bytes = 4 * block_bytes
+
 -- ---- of one lane
 
 -- the image that lane j works on
@@ -37,6 +41,11 @@ pub record HasTaken {D : Type 0} (g : Ghosts D) (d : D) (at count : ℕ) (holds 
   pub size : length bytes ≡ count
   pub held : holds bytes
   pub told : IsTrue g.tells → bytes ≡ take count (drop at (g.told d).now)
+
+-- each lane has taken in so many bytes more of its image than its job says
+abbrev pub HaveTaken : {D : Type 0} → Ghosts D → D → List (Option Job) → Lanes → ℕ → Type 0
+HaveTaken g d jobs lanes more = (j : ℕ) → j < 4
+    → ForSome (job_at jobs j) (λ job. HasTaken g d job.at (job.done + more) (HoldsInLane j lanes))
 
 -- lane j has taken in the first bytes of its image
 pub record IsInLane {D : Type 0} (g : Ghosts D) (d : D) (lanes : Lanes) (j : ℕ) (job : Job) : Type 0 where

@@ -113,7 +113,7 @@ fn check_at<D: Flash, V: Verifier>(
 }
 
 /// The verdict on a bank as `check` gives it, and what was read of the bank's manifest, by which it is: that is left at the front
-/// of `front`, which has room for the largest.
+/// of `front`, which has room for the largest. The images are read through `buf`, as there.
 pub fn check_keeping_manifest<D: Flash, V: Verifier>(
     flash: &mut D,
     layout: &Layout,
@@ -148,8 +148,9 @@ pub fn check_keeping_manifest<D: Flash, V: Verifier>(
 
 /// The verdict on a bank, by what the flash holds. The bank's manifest stands at the front of the slot of image 0, and
 /// its images are the first bytes of their slots, of the lengths that their rows say. The verifier is asked only of a
-/// manifest that passes, and given exactly its bytes. One or two images are read through the buffer, of at least 4096
-/// bytes, and more are read side by side. The flash is only read. No memory is taken.
+/// manifest that passes, and given exactly its bytes. The images are read through the buffer, of at least 4096 bytes:
+/// three or more side by side where it has `LANES_BYTES` or more, and else one after another. What stands in it before
+/// and afterwards means nothing. The flash is only read. No memory is taken.
 pub fn check<D: Flash, V: Verifier>(
     flash: &mut D,
     layout: &Layout,

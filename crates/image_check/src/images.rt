@@ -8,10 +8,11 @@ ghost use Rattle.fwu_formats.specs.Layout.{slot_total};
 ghost use Rattle.fwu_formats.specs.Manifest as model;
 ghost use Rattle.image_check.specs.Found.{is_good, FitSlots};
 ghost use Rattle.image_check.specs.Passed.{HasImage, HasImages, IsDigestOf};
+ghost use Rattle.image_check.specs.Taken.{lanes_bytes};
 ghost use Rattle.image_check.specs.Verdict.{lowest_bad};
 ghost use Rattle.base_core.specs.Limits.{most_images};
 
-use crate::side::first_bad_in_lanes;
+use crate::side::{LANES_BYTES, first_bad_in_lanes};
 use base_core::{BLOCK_BYTES, ImageRow};
 use flash_core::{Flash, FlashStop};
 use manifest_core::row_at;
@@ -74,6 +75,13 @@ fn is_image_good<D: Flash>(
     Ok(is_same(&digest, &row.digest))
 }
 
+/// Whether so many images are hashed side by side: more than two, where the buffer has a block for each of four lanes.
+fn are_side_by_side(count: usize, room: usize) -> bool
+    ensures { IsTrue result → lanes_bytes ≤ room }
+{
+    count > 2 && room >= LANES_BYTES
+}
+
 /// The lowest image after the manifest that has not the digest of its row, in a bank that begins at this block.
 pub fn first_bad<D: Flash>(
     flash: &mut D,
@@ -96,8 +104,8 @@ pub fn first_bad<D: Flash>(
     ensures reads { Reads D.Flash result flash.old flash.new }
 {
     let count = rows.len() - 1;
-    if count > 2 {
-        return first_bad_in_lanes(flash, rows, first, manifest);
+    if are_side_by_side(count, buf.len()) {
+        return first_bad_in_lanes(flash, rows, first, manifest, buf);
     }
     let mut block = first;
     for k in 0..count {

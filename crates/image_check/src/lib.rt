@@ -8,3 +8,4 @@ mod side;
 
 pub use bank::{Verdict, check, check_keeping_manifest};
 pub use laws::good_is_permitted;
+pub use side::LANES_BYTES;

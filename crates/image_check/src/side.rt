@@ -10,7 +10,7 @@ ghost use Rattle.fwu_formats.specs.Manifest as model;
 ghost use Rattle.sha256_lanes.specs.Holding.{Holds, HoldsInLane};
 ghost use Rattle.image_check.specs.Found.{FitSlots, is_good};
 ghost use Rattle.image_check.specs.Passed.{HasImage, HasImages, IsDigestOf};
-ghost use Rattle.image_check.specs.Taken.{AreInLanes, AreOfManifest, HasTaken, IsOfManifest, IsUnderWay, gone_on, has_digest, job_at, left};
+ghost use Rattle.image_check.specs.Taken.{AreInLanes, AreOfManifest, HasTaken, HaveTaken, IsOfManifest, IsUnderWay, gone_on, has_digest, job_at, lanes_bytes, left};
 ghost use Rattle.image_check.specs.Verdict.{lowest_bad};
 
 use crate::images::is_same;
@@ -18,6 +18,9 @@ use base_core::{BLOCK_BYTES, ImageRow};
 use flash_core::{Flash, FlashStop};
 use manifest_core::row_at;
 use sha256_lanes::{Lanes, Message};
+
+/// The fewest bytes of a buffer in which images are hashed side by side: a block of 4096 bytes for each of four lanes.
+pub const LANES_BYTES: usize = 4 * BLOCK_BYTES as usize;
 
 /// An image that a lane works on: its row, the byte at which it begins, its length, and how many bytes of it the lane has taken in.
 #[derive(Clone, Copy, Drop)]
@@ -112,51 +115,74 @@ fn read_for<D: Flash>(
     }
 }
 
+/// Reads so many bytes of each lane's image, those that are so far ahead of what its job has done, and hashes them side by side.
+/// Each lane has a quarter of the buffer.
+fn take_piece<D: Flash>(
+    flash: &mut D,
+    lanes: &mut Lanes,
+    jobs: &[Option<Job>; 4],
+    ahead: u32,
+    size: usize,
+    buf: &mut [u8],
+) -> Result<(), FlashStop>
+    requires on { IsTrue (D.on flash.old) }
+    requires whole { size % 64 ≡ 0 }
+    requires room { length buf.old ≡ 4 * size }
+    requires inside { (j : ℕ) → j < 4 → ForSome (job_at jobs.now j)
+        (λ job. job.at + (job.done + ahead) + size ≤ block_bytes * D.blocks flash.old) }
+    requires taken { HaveTaken D.Flash flash.old jobs.now lanes.old ahead }
+    ensures taken { OnOk result (HaveTaken D.Flash flash.old jobs.now lanes.new (ahead + size)) }
+    ensures reads { Reads D.Flash result flash.old flash.new }
+{
+    let (first, others) = buf.split_at_mut(size);
+    let (second, last_two) = others.split_at_mut(size);
+    let (third, fourth) = last_two.split_at_mut(size);
+    read_for(flash, jobs[0], ahead, first)?;
+    read_for(flash, jobs[1], ahead, second)?;
+    read_for(flash, jobs[2], ahead, third)?;
+    read_for(flash, jobs[3], ahead, fourth)?;
+    lanes.absorb(&*first, &*second, &*third, &*fourth);
+    Ok(())
+}
+
 /// Hashes so many bytes more of each lane's image side by side, in pieces of at most 4096 bytes, which are read by turns.
 fn take_in<D: Flash>(
     flash: &mut D,
     lanes: &mut Lanes,
     jobs: &[Option<Job>; 4],
     count: u32,
+    buf: &mut [u8],
 ) -> Result<(), FlashStop>
     requires on { IsTrue (D.on flash.old) }
+    requires room { lanes_bytes ≤ length buf.old }
     requires whole { count % 64 ≡ 0 }
     requires lanes { AreInLanes D.Flash flash.old jobs.now lanes.old }
     requires enough { (j : ℕ) → j < 4 → count ≤ left (job_at jobs.now j) }
-    ensures taken { OnOk result ((j : ℕ) → j < 4 → ForSome (job_at jobs.now j) (λ job.
-        HasTaken D.Flash flash.old job.at (job.done + count) (HoldsInLane j lanes.new))) }
+    ensures taken { OnOk result (HaveTaken D.Flash flash.old jobs.now lanes.new count) }
     ensures reads { Reads D.Flash result flash.old flash.new }
 {
-    let mut a = [0u8; 4096];
-    let mut b = [0u8; 4096];
-    let mut c = [0u8; 4096];
-    let mut d = [0u8; 4096];
     let mut taken = 0u32;
     while taken < count {
         let size = ((count - taken) as usize).min(4096);
-        let first = &mut a[..size];
-        read_for(flash, jobs[0], taken, first)?;
-        let second = &mut b[..size];
-        read_for(flash, jobs[1], taken, second)?;
-        let third = &mut c[..size];
-        read_for(flash, jobs[2], taken, third)?;
-        let fourth = &mut d[..size];
-        read_for(flash, jobs[3], taken, fourth)?;
-        lanes.absorb(&*first, &*second, &*third, &*fourth);
+        let pieces = &mut buf[..4 * size];
+        take_piece(flash, lanes, jobs, taken, size, pieces)?;
         taken += size as u32;
     }
     Ok(())
 }
 
-/// The digest of a range of a flash whose first bytes a message has taken in. It goes on alone, in pieces of 4096 bytes.
+/// The digest of a range of a flash whose first bytes a message has taken in. It goes on alone, in pieces of 4096 bytes, at the
+/// buffer's front.
 fn digest_after<D: Flash>(
     flash: &mut D,
     begun: &Message,
     taken: u32,
     at: u32,
     count: u32,
+    buf: &mut [u8],
 ) -> Result<[u8; 32], FlashStop>
     requires on { IsTrue (D.on flash.old) }
+    requires room { block_bytes ≤ length buf.old }
     requires inside { at + count ≤ block_bytes * D.blocks flash.old }
     requires small { taken ≤ count }
     requires taken { HasTaken D.Flash flash.old at taken (Holds begun.now) }
@@ -165,15 +191,15 @@ fn digest_after<D: Flash>(
     ensures some { IfOk result (IsDigestOf count) }
     ensures reads { Reads D.Flash result flash.old flash.new }
 {
-    let mut piece = [0u8; 4096];
     let mut message = *begun;
     let mut done = taken;
     while count - done > 4096 {
-        flash.read(at + done, &mut piece)?;
-        message.absorb(&piece);
+        let piece = &mut buf[..4096];
+        flash.read(at + done, piece)?;
+        message.absorb(&*piece);
         done += 4096;
     }
-    let rest = &mut piece[..(count - done) as usize];
+    let rest = &mut buf[..(count - done) as usize];
     flash.read(at + done, rest)?;
     Ok(message.finish(&*rest, count as u64))
 }
@@ -184,8 +210,10 @@ fn is_rest_good<D: Flash>(
     message: &Message,
     job: Job,
     manifest: &[u8],
+    buf: &mut [u8],
 ) -> Result<bool, FlashStop>
     requires on { IsTrue (D.on flash.old) }
+    requires room { block_bytes ≤ length buf.old }
     requires row { IsOfManifest manifest.now job }
     requires inside { job.at + job.size ≤ block_bytes * D.blocks flash.old }
     requires small { job.done ≤ job.size }
@@ -196,7 +224,7 @@ fn is_rest_good<D: Flash>(
     ensures reads { Reads D.Flash result flash.old flash.new }
 {
     let row = row_at(manifest, job.row);
-    let digest = digest_after(flash, message, job.done, job.at, job.size)?;
+    let digest = digest_after(flash, message, job.done, job.at, job.size, buf)?;
     Ok(is_same(&digest, &row.digest))
 }
 
@@ -208,8 +236,10 @@ fn judged<D: Flash>(
     job: Job,
     bad: u32,
     manifest: &[u8],
+    buf: &mut [u8],
 ) -> Result<u32, FlashStop>
     requires on { IsTrue (D.on flash.old) }
+    requires room { block_bytes ≤ length buf.old }
     requires row { IsOfManifest manifest.now job }
     requires inside { job.at + job.size ≤ block_bytes * D.blocks flash.old }
     requires small { job.done ≤ job.size }
@@ -222,7 +252,7 @@ fn judged<D: Flash>(
     ensures some { IfOk result (λ after. job.row < after → HasImage (model.row_at manifest.now job.row)) }
     ensures reads { Reads D.Flash result flash.old flash.new }
 {
-    if bad <= job.row || is_rest_good(flash, message, job, manifest)? {
+    if bad <= job.row || is_rest_good(flash, message, job, manifest, buf)? {
         Ok(bad)
     } else {
         Ok(job.row)
@@ -235,8 +265,10 @@ fn settle<D: Flash>(
     work: &mut Work,
     j: usize,
     manifest: &[u8],
+    buf: &mut [u8],
 ) -> Result<(), FlashStop>
     requires on { IsTrue (D.on flash.old) }
+    requires room { block_bytes ≤ length buf.old }
     requires lane { j < 4 }
     requires rows { AreOfManifest manifest.now work.old.jobs }
     requires lanes { AreInLanes D.Flash flash.old work.old.jobs work.old.lanes }
@@ -250,15 +282,21 @@ fn settle<D: Flash>(
 {
     if let Some(job) = work.jobs[j] {
         let message = work.lanes.message(j);
-        work.bad = judged(flash, &message, job, work.bad, manifest)?;
+        work.bad = judged(flash, &message, job, work.bad, manifest, buf)?;
         work.jobs[j] = None;
     }
     Ok(())
 }
 
 /// Each lane takes in so many bytes more of its image.
-fn go_on<D: Flash>(flash: &mut D, work: &mut Work, count: u32) -> Result<(), FlashStop>
+fn go_on<D: Flash>(
+    flash: &mut D,
+    work: &mut Work,
+    count: u32,
+    buf: &mut [u8],
+) -> Result<(), FlashStop>
     requires on { IsTrue (D.on flash.old) }
+    requires room { lanes_bytes ≤ length buf.old }
     requires whole { count % 64 ≡ 0 }
     requires lanes { AreInLanes D.Flash flash.old work.old.jobs work.old.lanes }
     requires enough { (j : ℕ) → j < 4 → count ≤ left (job_at work.old.jobs j) }
@@ -269,7 +307,7 @@ fn go_on<D: Flash>(flash: &mut D, work: &mut Work, count: u32) -> Result<(), Fla
         × (work.new.bad ≡ work.old.bad)) }
     ensures reads { Reads D.Flash result flash.old flash.new }
 {
-    take_in(flash, &mut work.lanes, &work.jobs, count)?;
+    take_in(flash, &mut work.lanes, &work.jobs, count, buf)?;
     let jobs = all_gone_on(&work.jobs, count);
     work.jobs = jobs;
     Ok(())
@@ -290,8 +328,10 @@ fn finish_shortest<D: Flash>(
     flash: &mut D,
     work: &mut Work,
     manifest: &[u8],
+    buf: &mut [u8],
 ) -> Result<usize, FlashStop>
     requires on { IsTrue (D.on flash.old) }
+    requires room { lanes_bytes ≤ length buf.old }
     requires rows { AreOfManifest manifest.now work.old.jobs }
     requires lanes { AreInLanes D.Flash flash.old work.old.jobs work.old.lanes }
     ensures under_way { (rows : List Row) (first : ℕ) → IsUnderWay D.Flash flash.old rows first manifest.now work.old
@@ -304,8 +344,8 @@ fn finish_shortest<D: Flash>(
     let j = shortest(&work.jobs);
     if let Some(job) = work.jobs[j] {
         let count = whole_blocks(left(Some(job)));
-        go_on(flash, work, count)?;
-        settle(flash, work, j, manifest)?;
+        go_on(flash, work, count, buf)?;
+        settle(flash, work, j, manifest, buf)?;
     }
     Ok(j)
 }
@@ -323,8 +363,14 @@ fn idle(jobs: &[Option<Job>; 4]) -> Option<usize>
 }
 
 /// A lane without an image: where each has one, the first that is done with it.
-fn free_lane<D: Flash>(flash: &mut D, work: &mut Work, manifest: &[u8]) -> Result<usize, FlashStop>
+fn free_lane<D: Flash>(
+    flash: &mut D,
+    work: &mut Work,
+    manifest: &[u8],
+    buf: &mut [u8],
+) -> Result<usize, FlashStop>
     requires on { IsTrue (D.on flash.old) }
+    requires room { lanes_bytes ≤ length buf.old }
     requires rows { AreOfManifest manifest.now work.old.jobs }
     requires lanes { AreInLanes D.Flash flash.old work.old.jobs work.old.lanes }
     ensures under_way { (rows : List Row) (first : ℕ) → IsUnderWay D.Flash flash.old rows first manifest.now work.old
@@ -336,7 +382,7 @@ fn free_lane<D: Flash>(flash: &mut D, work: &mut Work, manifest: &[u8]) -> Resul
 {
     match idle(&work.jobs) {
         Some(j) => Ok(j),
-        None => finish_shortest(flash, work, manifest),
+        None => finish_shortest(flash, work, manifest, buf),
     }
 }
 
@@ -379,8 +425,10 @@ fn begin_all<D: Flash>(
     rows: &[ImageRow],
     first: u32,
     manifest: &[u8],
+    buf: &mut [u8],
 ) -> Result<Work, FlashStop>
     requires on { IsTrue (D.on flash.old) }
+    requires room { lanes_bytes ≤ length buf.old }
     requires some { 1 ≤ length rows.now }
     requires few { length rows.now ≤ most_images }
     requires manifest { model.manifest_size (length rows.now - 1) ≤ length manifest.now }
@@ -400,7 +448,7 @@ fn begin_all<D: Flash>(
         bad,
     };
     while work.next < work.bad {
-        let j = free_lane(flash, &mut work, manifest)?;
+        let j = free_lane(flash, &mut work, manifest, buf)?;
         begin(&mut work, j, rows, manifest);
     }
     Ok(work)
@@ -408,13 +456,16 @@ fn begin_all<D: Flash>(
 
 /// The lowest image after the manifest that has not the digest of its row, in a bank that begins at this block.
 /// Four lanes are quicker than one message after the other while three have an image; two are finished one after the other.
+/// All are read into the buffer: a piece for each lane beside one another, or one of an image that goes on alone.
 pub(crate) fn first_bad_in_lanes<D: Flash>(
     flash: &mut D,
     rows: &[ImageRow],
     first: u32,
     manifest: &[u8],
+    buf: &mut [u8],
 ) -> Result<Option<u32>, FlashStop>
     requires on { IsTrue (D.on flash.old) }
+    requires room { lanes_bytes ≤ length buf.old }
     requires some { 1 ≤ length rows.now }
     requires few { length rows.now ≤ most_images }
     requires manifest { model.manifest_size (length rows.now - 1) ≤ length manifest.now }
@@ -425,11 +476,11 @@ pub(crate) fn first_bad_in_lanes<D: Flash>(
     ensures some { IfOk result (HasImages manifest.now (length rows.now - 1)) }
     ensures reads { Reads D.Flash result flash.old flash.new }
 {
-    let mut work = begin_all(flash, rows, first, manifest)?;
-    finish_shortest(flash, &mut work, manifest)?;
-    finish_shortest(flash, &mut work, manifest)?;
+    let mut work = begin_all(flash, rows, first, manifest, buf)?;
+    finish_shortest(flash, &mut work, manifest, buf)?;
+    finish_shortest(flash, &mut work, manifest, buf)?;
     for j in 0..4 {
-        settle(flash, &mut work, j, manifest)?;
+        settle(flash, &mut work, j, manifest, buf)?;
     }
     if (work.bad as usize) < rows.len() - 1 {
         Ok(Some(work.bad + 1))

@@ -2,6 +2,8 @@
 #![tactic(auto)]
 
 #[cfg(test)]
+mod boots_in_buffers;
+#[cfg(test)]
 mod file_flash;
 #[cfg(test)]
 mod fixtures;

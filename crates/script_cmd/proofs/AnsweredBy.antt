@@ -1,153 +1,147 @@
 -- What is done for what the words ask for, from what the parts of the command did.
-use Rattle.std.proofs.Common.{◌≡◌, ◌≢◌, ◌≤◌, ℕ, Bool, List, [], Option, Some, None, refl, sym, ap, subst, ◌∙◌, arith, inl, inr}
-use Rattle.std.specs.Prelude.{IfSome, IsTrue, IsFalse, codes}
+use Rattle.std.proofs.Common.{◌≡◌, ◌≢◌, ◌≤◌, ℕ, Bool, true, false, List, [], Option, Some, None, refl, sym, ap, subst, ◌∙◌, arith, inl, inr}
+use Rattle.std.specs.Prelude.{IfSome, IsTrue, IsFalse}
 use Rattle.std.proofs.lemmas.Bool.{false≢true}
+use Rattle.std.proofs.lemmas.Option.{same_Some}
 use Rattle.fwu_formats.specs.Digests.{passes_any}
 use Rattle.fwu_formats.specs.Layout.{ImageRow}
 use Rattle.fwu_model.specs.Causes.{Faults, may_fail_before}
 use Rattle.fwu_model.specs.Reply.{Turn}
 use Rattle.fwu_model.specs.Wrote.{script_asked, usage_line}
 use Rattle.fwu_model.specs.declared.kinds.Note.TheVariants as model_note
-use Rattle.fwu_words.specs.Order.{Asked}
+use Rattle.fwu_words.specs.Order.{Asked, turns_of}
 use Rattle.fwu_words.specs.Order as ask
+use Rattle.fwu_words.specs.declared.orders.Place.{Place}
+use Rattle.fwu_words.specs.declared.orders.Place.TheVariants as place
+use Rattle.fwu_words.specs.declared.orders.ScriptFrom.{ScriptFrom}
+use Rattle.fwu_words.specs.declared.orders.ScriptFrom.TheVariants as origin
 use Rattle.host_io.specs.Contents.{Directory}
 use Rattle.script_turns.specs.Powered.{Moment}
 use Rattle.script_cmd.specs.Answered.{Answered}
-use Rattle.script_cmd.specs.Asking.{plainly}
+use Rattle.script_cmd.specs.Asking.{asks_beyond, asks_files, asks_run, asks_source, leaves_on, plainly}
 use Rattle.script_cmd.specs.Formatting.{FormattedBy}
 use Rattle.script_cmd.specs.Noted.{is_beyond, noted}
+use Rattle.script_cmd.specs.Promises.{given_to}
 use Rattle.host_io.specs.Printed.{Prints}
 use Rattle.script_turns.specs.Runs.{calls_of, sends_none}
+use Rattle.script_cmd.specs.Refusing.{plain_of, text_of}
 use Rattle.script_cmd.specs.ServeWays.{ServeWay}
 use Rattle.script_cmd.specs.ServeWays as serve
 use Rattle.script_cmd.specs.Showing.{ShowedBy}
 use Rattle.script_cmd.specs.SoakWays.{SoakWay}
 use Rattle.script_cmd.specs.SoakWays as soak
 use Rattle.script_cmd.specs.Sourced.{FailsOnce, ReadsInTime}
-use Rattle.script_cmd.specs.Ways.{ByList, HasGoodList, Refuses, Way}
+use Rattle.script_cmd.specs.Ways.{ByList, HasGoodList, Refuses, RunsOrNone, Way}
 use Rattle.script_cmd.specs.Ways as way
-use Rattle.script_cmd.specs.WaysByTable.{WayByTable}
+use Rattle.script_cmd.specs.WaysByTable.{WayAt, WayByTable, over_table}
 use Rattle.script_cmd.specs.declared.done.Note.{Note}
 use Rattle.script_cmd.specs.declared.done.Note.TheVariants as note
 use Rattle.script_cmd.proofs.ServeTop.{refused-serves, serves-with-list}
 use Rattle.script_cmd.proofs.Shapes.{Later, device-of, end-of, inputs-of, world-of}
 use Rattle.script_cmd.proofs.SoakTop.{refused-soaks, soaks-with-list}
-use Rattle.script_cmd.proofs.TableWays.{not-over, table-of-boot, table-of-run, table-refused, table-starved, table-with-list}
+use Rattle.script_cmd.proofs.TableWays.{not-over, table-refused, table-starved, table-with-list}
 use Rattle.script_cmd.proofs.TopFormats.{formats-with-list, none-some, refused-formats, starved-formats}
 use Rattle.script_cmd.proofs.TopPrints.{not-done}
 use Rattle.script_cmd.proofs.TopShows.{refused-shows, shows-with-list, starved-shows}
 use Rattle.script_cmd.proofs.TopSources.{none-fails, unread-in-time}
-use Rattle.script_cmd.proofs.TopWays.{no-list-named, refused-by, way-of-boot, way-of-run, with-list}
+use Rattle.script_cmd.proofs.TopWays.{no-list-named, refused-by, with-list}
 
 -- what holds whichever manifests pass
 pub whichever : (Has : (List ℕ → Bool) → Type 0) (Idle : Type 0) (P : (List ℕ → Bool) → Type 0) (Q : Type 0) → ByList Has Idle P → ((passes : List ℕ → Bool) → P passes → Q) → Q
 whichever Has Idle P Q (inl (passes, has, p)) goes = goes passes p
 whichever Has Idle P Q (inr (idle, all)) goes = goes passes_any (all passes_any)
 
+-- ---- what is asked for where turns are
+
+-- it is none of the other commands
+abbrev is_turns : Asked → Bool
+is_turns ask.run = true
+is_turns ask.run_partitioned = true
+is_turns ask.boot = true
+is_turns ask.boot_partitioned = true
+is_turns other = false
+
+asks-turns : (from : ScriptFrom) (at : Place) → is_turns (turns_of from at) ≡ true
+asks-turns origin.Source place.Flash = refl
+asks-turns origin.Source place.Partitions = refl
+asks-turns origin.Boot place.Flash = refl
+asks-turns origin.Boot place.Partitions = refl
+
+no-other : (from : ScriptFrom) (at : Place) (other : Asked) → is_turns other ≡ false → Some (turns_of from at) ≡ Some other → ⊥
+no-other from at other none is = false≢true (sym none ∙ ap is_turns (sym (same_Some (turns_of from at) other is)) ∙ asks-turns from at)
+
+-- a script of the source alone reads it and files, and a flash behind a table alone has more notes
+of-source : (from : ScriptFrom) (at : Place) → asks_run (Some (turns_of from at)) ≡ true → from ≡ origin.Source
+of-source origin.Source at runs = refl
+of-source origin.Boot place.Flash runs = absurd (false≢true runs)
+of-source origin.Boot place.Partitions runs = absurd (false≢true runs)
+
+of-boot : (from : ScriptFrom) (at : Place) → asks_source (Some (turns_of from at)) ≡ false → from ≡ origin.Boot
+of-boot origin.Source place.Flash none = absurd (false≢true (sym none))
+of-boot origin.Source place.Partitions none = absurd (false≢true (sym none))
+of-boot origin.Boot at none = refl
+
+of-no-file : (from : ScriptFrom) (at : Place) → asks_files (Some (turns_of from at)) ≡ false → from ≡ origin.Boot
+of-no-file origin.Source place.Flash none = absurd (false≢true (sym none))
+of-no-file origin.Source place.Partitions none = absurd (false≢true (sym none))
+of-no-file origin.Boot at none = refl
+
+on-flash : (from : ScriptFrom) (at : Place) → asks_beyond (Some (turns_of from at)) ≡ false → at ≡ place.Flash
+on-flash from place.Flash none = refl
+on-flash origin.Source place.Partitions none = absurd (false≢true (sym none))
+on-flash origin.Boot place.Partitions none = absurd (false≢true (sym none))
+
+left-off : (from : ScriptFrom) (at : Place) → leaves_on (Some (turns_of from at)) ≡ false
+left-off origin.Source place.Flash = refl
+left-off origin.Source place.Partitions = refl
+left-off origin.Boot place.Flash = refl
+left-off origin.Boot place.Partitions = refl
+
+module _ (passes : List ℕ → Bool) (tells : Bool) (blocks : ℕ) (told : Option Directory) (left : Option (List ℕ)) (journal : List Turn) (status : ℕ) (said : Note) (old new : Moment) (taken_before taken_after : Option (List ℕ)) (faults_before faults_after : Faults) where
+  -- the way on the device, and the way behind its table
+  turns-way : (from : ScriptFrom) (at : Place) → RunsOrNone (Some (turns_of from at))
+      → WayAt at passes (device-of tells blocks) (Some (plain_of from)) (record { list = None; files = told; script = text_of from left }) (end-of journal status said) (world-of old taken_before faults_before) (world-of new taken_after faults_after)
+      → Way passes tells (Some (turns_of from at)) (given_to (inputs-of (Some (turns_of from at)) None told left)) (end-of journal status (noted said)) (world-of old taken_before faults_before) (world-of new taken_after faults_after)
+  turns-way origin.Source place.Flash runs went = went
+  turns-way origin.Boot place.Flash runs went = went
+  turns-way origin.Source place.Partitions runs went = absurd runs
+  turns-way origin.Boot place.Partitions runs went = absurd runs
+
+  turns-by-table : (from : ScriptFrom) (at : Place) (plain : Asked) → over_table (Some (turns_of from at)) ≡ Some plain
+      → WayAt at passes (device-of tells blocks) (Some (plain_of from)) (record { list = None; files = told; script = text_of from left }) (end-of journal status said) (world-of old taken_before faults_before) (world-of new taken_after faults_after)
+      → WayByTable passes (device-of tells blocks) (Some plain) (given_to (inputs-of (Some plain) None told left)) (end-of journal status said) (world-of old taken_before faults_before) (world-of new taken_after faults_after)
+  turns-by-table origin.Source place.Flash plain over went = absurd (not-over (Some ask.run) (Some ask.run) plain refl refl over)
+  turns-by-table origin.Boot place.Flash plain over went = absurd (not-over (Some ask.boot) (Some ask.boot) plain refl refl over)
+  turns-by-table origin.Source place.Partitions plain over went =
+      subst (λ (a : Asked). WayByTable passes (device-of tells blocks) (Some a) (given_to (inputs-of (Some a) None told left)) (end-of journal status said) (world-of old taken_before faults_before) (world-of new taken_after faults_after)) (same_Some ask.run plain over) went
+  turns-by-table origin.Boot place.Partitions plain over went =
+      subst (λ (a : Asked). WayByTable passes (device-of tells blocks) (Some a) (given_to (inputs-of (Some a) None told left)) (end-of journal status said) (world-of old taken_before faults_before) (world-of new taken_after faults_after)) (same_Some ask.boot plain over) went
+
 module _ {H I : Type 0} {passes : List ℕ → Bool} {tells : Bool} {blocks : ℕ} {told : Option Directory} {left rest : Option (List ℕ)} {journal : List Turn} {status : ℕ} {said : Note} {old new : Moment} {taken_before taken_after : Option (List ℕ)} {faults_before faults_after : Faults} {files files_after : H} {source source_after : I} where
-  pub answered-run : (asked : Option Asked) → asked ≡ Some ask.run → Way passes tells (Some ask.run) (record { list = None; files = told; script = left }) (end-of journal status (noted said)) (world-of old taken_before faults_before) (world-of new taken_after faults_after)
-      → (status ≡ 0 → IfSome rest (λ r. r ≡ [])) → ReadsInTime left rest → FailsOnce journal status faults_before.source faults_after.source → (IsTrue (sends_none (calls_of journal)) → files_after ≡ files)
-      → (files_after ≡ files → faults_after.files ≡ faults_before.files) → IsFalse (is_beyond said) → Later faults_before faults_after
+  -- the turns of a script, wherever it is from and wherever they take place
+  pub answered-turns : (from : ScriptFrom) (at : Place) (asked : Option Asked) → asked ≡ Some (turns_of from at)
+      → WayAt at passes (device-of tells blocks) (Some (plain_of from)) (record { list = None; files = told; script = text_of from left }) (end-of journal status said) (world-of old taken_before faults_before) (world-of new taken_after faults_after)
+      → (status ≡ 0 → from ≡ origin.Source → IfSome rest (λ r. r ≡ [])) → ReadsInTime left rest → FailsOnce journal status faults_before.source faults_after.source → (IsTrue (sends_none (calls_of journal)) → files_after ≡ files)
+      → (files_after ≡ files → faults_after.files ≡ faults_before.files) → (from ≡ origin.Boot → files_after ≡ files) → (from ≡ origin.Boot → source_after ≡ source) → (at ≡ place.Flash → IsFalse (is_beyond said)) → Later faults_before faults_after
       → Answered passes (device-of tells blocks) (inputs-of asked None told left) (end-of journal status said) (world-of old taken_before faults_before) (world-of new taken_after faults_after) rest files files_after source source_after
-  answered-run asked is went whole timely once unsent counts quiet later = subst (λ (a : Option Asked). Answered passes (device-of tells blocks) (inputs-of a None told left) (end-of journal status said) (world-of old taken_before faults_before) (world-of new taken_after faults_after) rest files files_after source source_after) (sym is) (record {
-    way = λ runs. way-of-run passes tells journal status (noted said) old new taken_before taken_after (Some ask.run) told left faults_before faults_after refl went;
-    by_table = λ plain over. absurd (not-over (Some ask.run) (Some ask.run) plain refl refl over);
-    shows = λ other. absurd cc;
-    formats = λ banks rows file other. absurd cc;
-    soaks = λ seed rounds other. absurd cc;
-    serves = λ other. absurd cc;
-    read_to_end = λ zero runs. whole zero;
-    read_to_end_by_table = λ zero other. absurd cc;
-    power = λ leaves zero. absurd (false≢true leaves);
-    source = λ other. absurd (false≢true (sym other));
+  answered-turns from at asked is went whole timely once unsent counts kept stays quiet later = subst (λ (a : Option Asked). Answered passes (device-of tells blocks) (inputs-of a None told left) (end-of journal status said) (world-of old taken_before faults_before) (world-of new taken_after faults_after) rest files files_after source source_after) (sym is) (record {
+    way = λ runs. turns-way passes tells blocks told left journal status said old new taken_before taken_after faults_before faults_after from at runs went;
+    by_table = λ plain over. turns-by-table passes tells blocks told left journal status said old new taken_before taken_after faults_before faults_after from at plain over went;
+    shows = λ other. absurd (no-other from at ask.show refl other);
+    formats = λ banks rows file other. absurd (no-other from at (ask.format banks rows file) refl other);
+    soaks = λ seed rounds other. absurd (no-other from at (ask.soak seed rounds) refl other);
+    serves = λ other. absurd (no-other from at ask.serve refl other);
+    read_to_end = λ zero runs. whole zero (of-source from at (ap asks_run runs));
+    read_to_end_by_table = λ zero runs. whole zero (of-source from at (ap asks_run runs));
+    power = λ leaves zero. absurd (false≢true (sym (left-off from at) ∙ leaves));
+    source = λ none. stays (of-boot from at none);
     list_first = λ none. absurd (none no-list-named);
     in_time = λ runs. timely;
     source_count = λ runs. once;
-    files = λ unlisted other. absurd (false≢true (sym other));
+    files = λ unlisted none. kept (of-no-file from at none);
     unsent = λ unlisted other none. unsent none;
     list_alone = λ other none whole. counts (unsent none);
-    note = λ other. quiet;
-    later_files = later.files;
-    later_source = later.source;
-    later_sink = later.sink;
-  })
-
-  pub answered-run-by-table : (asked : Option Asked) → asked ≡ Some ask.run_partitioned → WayByTable passes (device-of tells blocks) (Some ask.run) (record { list = None; files = told; script = left }) (end-of journal status said) (world-of old taken_before faults_before) (world-of new taken_after faults_after)
-      → (status ≡ 0 → IfSome rest (λ r. r ≡ [])) → ReadsInTime left rest → FailsOnce journal status faults_before.source faults_after.source → (IsTrue (sends_none (calls_of journal)) → files_after ≡ files)
-      → (files_after ≡ files → faults_after.files ≡ faults_before.files) → Later faults_before faults_after
-      → Answered passes (device-of tells blocks) (inputs-of asked None told left) (end-of journal status said) (world-of old taken_before faults_before) (world-of new taken_after faults_after) rest files files_after source source_after
-  answered-run-by-table asked is went whole timely once unsent counts later = subst (λ (a : Option Asked). Answered passes (device-of tells blocks) (inputs-of a None told left) (end-of journal status said) (world-of old taken_before faults_before) (world-of new taken_after faults_after) rest files files_after source source_after) (sym is) (record {
-    way = λ runs. absurd runs;
-    by_table = λ plain over. table-of-run passes tells blocks journal status said old new taken_before taken_after (Some ask.run_partitioned) plain told left faults_before faults_after refl over went;
-    shows = λ other. absurd cc;
-    formats = λ banks rows file other. absurd cc;
-    soaks = λ seed rounds other. absurd cc;
-    serves = λ other. absurd cc;
-    read_to_end = λ zero other. absurd cc;
-    read_to_end_by_table = λ zero runs. whole zero;
-    power = λ leaves zero. absurd (false≢true leaves);
-    source = λ other. absurd (false≢true (sym other));
-    list_first = λ none. absurd (none no-list-named);
-    in_time = λ runs. timely;
-    source_count = λ runs. once;
-    files = λ unlisted other. absurd (false≢true (sym other));
-    unsent = λ unlisted other none. unsent none;
-    list_alone = λ other none whole. counts (unsent none);
-    note = λ other. absurd (false≢true (sym other));
-    later_files = later.files;
-    later_source = later.source;
-    later_sink = later.sink;
-  })
-
-  -- these read neither the source nor a file
-  pub answered-boot : (asked : Option Asked) → asked ≡ Some ask.boot → Way passes tells (Some ask.boot) (record { list = None; files = told; script = Some (codes "boot\n") }) (end-of journal status (noted said)) (world-of old taken_before faults_before) (world-of new taken_after faults_after)
-      → files_after ≡ files → faults_after.files ≡ faults_before.files → source_after ≡ source → IsFalse (is_beyond said) → Later faults_before faults_after
-      → Answered passes (device-of tells blocks) (inputs-of asked None told left) (end-of journal status said) (world-of old taken_before faults_before) (world-of new taken_after faults_after) rest files files_after source source_after
-  answered-boot asked is went kept counted stays quiet later = subst (λ (a : Option Asked). Answered passes (device-of tells blocks) (inputs-of a None told left) (end-of journal status said) (world-of old taken_before faults_before) (world-of new taken_after faults_after) rest files files_after source source_after) (sym is) (record {
-    way = λ runs. way-of-boot passes tells journal status (noted said) old new taken_before taken_after (Some ask.boot) told left faults_before faults_after refl went;
-    by_table = λ plain over. absurd (not-over (Some ask.boot) (Some ask.boot) plain refl refl over);
-    shows = λ other. absurd cc;
-    formats = λ banks rows file other. absurd cc;
-    soaks = λ seed rounds other. absurd cc;
-    serves = λ other. absurd cc;
-    read_to_end = λ zero other. absurd cc;
-    read_to_end_by_table = λ zero other. absurd cc;
-    power = λ leaves zero. absurd (false≢true leaves);
-    source = λ other. stays;
-    list_first = λ none. stays;
-    in_time = λ runs. absurd (false≢true runs);
-    source_count = λ runs. absurd (false≢true runs);
-    files = λ unlisted other. kept;
-    unsent = λ unlisted other none. kept;
-    list_alone = λ other none whole. counted;
-    note = λ other. quiet;
-    later_files = later.files;
-    later_source = later.source;
-    later_sink = later.sink;
-  })
-
-  pub answered-boot-by-table : (asked : Option Asked) → asked ≡ Some ask.boot_partitioned
-      → WayByTable passes (device-of tells blocks) (Some ask.boot) (record { list = None; files = told; script = Some (codes "boot\n") }) (end-of journal status said) (world-of old taken_before faults_before) (world-of new taken_after faults_after)
-      → files_after ≡ files → faults_after.files ≡ faults_before.files → source_after ≡ source → Later faults_before faults_after
-      → Answered passes (device-of tells blocks) (inputs-of asked None told left) (end-of journal status said) (world-of old taken_before faults_before) (world-of new taken_after faults_after) rest files files_after source source_after
-  answered-boot-by-table asked is went kept counted stays later = subst (λ (a : Option Asked). Answered passes (device-of tells blocks) (inputs-of a None told left) (end-of journal status said) (world-of old taken_before faults_before) (world-of new taken_after faults_after) rest files files_after source source_after) (sym is) (record {
-    way = λ runs. absurd runs;
-    by_table = λ plain over. table-of-boot passes tells blocks journal status said old new taken_before taken_after (Some ask.boot_partitioned) plain told left faults_before faults_after refl over went;
-    shows = λ other. absurd cc;
-    formats = λ banks rows file other. absurd cc;
-    soaks = λ seed rounds other. absurd cc;
-    serves = λ other. absurd cc;
-    read_to_end = λ zero other. absurd cc;
-    read_to_end_by_table = λ zero other. absurd cc;
-    power = λ leaves zero. absurd (false≢true leaves);
-    source = λ other. stays;
-    list_first = λ none. stays;
-    in_time = λ runs. absurd (false≢true runs);
-    source_count = λ runs. absurd (false≢true runs);
-    files = λ unlisted other. kept;
-    unsent = λ unlisted other none. kept;
-    list_alone = λ other none whole. counted;
-    note = λ other. absurd (false≢true (sym other));
+    note = λ none. quiet (on-flash from at none);
     later_files = later.files;
     later_source = later.source;
     later_sink = later.sink;

@@ -24,6 +24,7 @@ pub mod FormatFlash
 pub mod TopFormats
 mod TableOpens
 pub mod TableWays
+mod Refused
 pub mod PromiseTable
 pub mod SoakSetting
 pub mod SoakTurns

@@ -21,7 +21,7 @@ use Rattle.fwu_model.specs.Wrote.{may_lack}
 use Rattle.fwu_model.specs.Causes.{status_by, note_by}
 use Rattle.script_turns.specs.Powered.{Moment}
 use Rattle.host_io.specs.Printed.{FailsAtThree, Prints, all, front, nothing}
-use Rattle.script_cmd.specs.Running.{Steps, Ended, Writes, Printed, last_turn, status_of_last, note_of_last}
+use Rattle.script_cmd.specs.Running.{Does, Steps, Ended, Writes, Printed, last_turn, status_of_last, note_of_last}
 use Rattle.script_turns.specs.Runs.{Ran, calls_of}
 use Rattle.script_turns.proofs.RunTurns.{ran-none, ran-on}
 
@@ -95,10 +95,10 @@ module _ (piece : List ℕ) (plan status : ℕ) (old new : Option (List ℕ)) (w
 counts-from : (status was am are : ℕ) → am ≡ was → FailsAtThree status am are → FailsAtThree status was are
 counts-from status was am are same = subst (λ (n : ℕ). FailsAtThree status n are) same
 
--- at the status 0 the run goes on
-pub printed-on : (r : Reply) (piece : List ℕ) (status : ℕ) (old new : Option (List ℕ)) (was are : ℕ) → Prints piece (status_by r) status old new was are → status ≡ 0 → IsFalse (ends_run r)
-printed-on r piece status old new was are prints zero_is =
-    on-at-zero r (sym (printed-all piece (status_by r) status old new was are prints (ap may_lack zero_is)).0 ∙ zero_is)
+-- a list of no length is empty
+pub none-left : {X : Type 0} (xs : List X) → length xs ≡ 0 → xs ≡ []
+none-left [] none = refl
+none-left (x ∷ xs) none = absurd (omega (arith, none))
 
 -- ---- the last turn
 
@@ -188,6 +188,18 @@ module _ (script : List Call) (n : ℕ) (c : Call) (journal : List Turn) (t : Tu
   }
 
 -- ---- going on
+
+-- a turn whose line was put into the sink
+pub steps-printed : {passes : List ℕ → Bool} {tells : Bool} {files : Option Directory} {c : Call} {before after : List Turn} {old new : Moment} {from to plan : ℕ} {noted : Note} {text piece : List ℕ} {status : ℕ} {taken takes : Option (List ℕ)} {was are : ℕ}
+    → Does passes tells files c before after old new from to plan noted text → piece ≡ text → Prints piece plan status taken takes was are → Steps passes tells files c before after old new from to status noted taken takes was are
+steps-printed {piece = piece} {status = status} {taken = taken} {takes = takes} {was = was} {are = are} does is prints = record {
+  turn = does.turn;
+  turns = does.turns;
+  fits = does.fits;
+  kept = does.kept;
+  prints = subst (λ (w : List ℕ). Prints w (status_by does.turn.reply) status taken takes was are) (is ∙ does.text_is) (subst (λ (k : ℕ). Prints piece k status taken takes was are) does.status_is prints);
+  noted_is = does.noted_is;
+}
 
 -- what a turn leaves with these files, with files that are told the same
 pub steps-told : (passes : List ℕ → Bool) (tells : Bool) (told files : Option Directory) (c : Call) (before after : List Turn) (old new : Moment) (from to : ℕ) (status : ℕ) (noted : Note) (taken takes : Option (List ℕ)) (was are : ℕ)

@@ -13,6 +13,7 @@ use Rattle.fwu_model.specs.Reply.{Reply, Turn}
 use Rattle.fwu_model.specs.Reply as reply
 use Rattle.fwu_model.specs.Run.{ends_run}
 use Rattle.fwu_model.specs.Causes.{status_by}
+use Rattle.fwu_model.specs.Text.{line}
 use Rattle.fwu_model.specs.declared.kinds.Note.{Note}
 use Rattle.gen_core.specs.Calls.{file_name, round_calls, round_package, soak_calls}
 use Rattle.gen_core.specs.Draws.{register_after}
@@ -27,7 +28,8 @@ use Rattle.script_turns.specs.declared.powered.Powered.{Powered}
 use Rattle.script_turns.specs.Powered.{Moment, at, device, moment_of, shown_on}
 use Rattle.host_io.specs.Printed.{Prints}
 use Rattle.script_turns.specs.Runs.{Ran}
-use Rattle.script_cmd.specs.Soaking.{Stands, goes, starved, ended, first_files, soak_files, stop_line}
+use Rattle.script_cmd.specs.Showing.{flash_fault_line}
+use Rattle.script_cmd.specs.Soaking.{Stands, goes, starved, ended, first_files, soak_files, stop_text}
 use Rattle.script_cmd.specs.SoakWays.{SoakEnds, all_done, lacking, stopped}
 use Rattle.script_cmd.proofs.Shapes.{end-of}
 
@@ -59,33 +61,30 @@ tries-as tells seed files name rows blocks old new r files_are name_is rows_are 
 
 -- ---- by how it stands
 
-no-nine : (r : Reply) → status_by r ≡ 9 → ⊥
-no-nine reply.Fault nine = omega arith
-no-nine reply.ReadFault nine = omega arith
-no-nine (reply.NotBooted why) nine = omega arith
-no-nine r nine = omega arith
-
-no-zero : (r : Reply) → IsTrue (ends_run r) → status_by r ≡ 0 → ⊥
-no-zero reply.Fault ends zero_is = omega arith
-no-zero reply.ReadFault ends zero_is = omega arith
-no-zero (reply.NotBooted why) ends zero_is = omega arith
-no-zero r ends zero_is = cc
-
 module _ (tells : Bool) (all : Directory) (calls : List Call) (journal : List Turn) (old new : Moment) (stand : ℕ) (noted : Note) (text : List ℕ) where
   pub stands-ran : Stands tells all calls journal old new stand noted text → Ran passes_any tells (Some all) journal old new 0 0
-  stands-ran (goes zero_is quiet empty going) = going.ran
+  stands-ran (goes zero_is quiet going) = going.ran
   stands-ran (starved nine quiet front less going) = going.ran
   stands-ran (ended front t is less ran none ends read status_is noted_is text_is) = ran
 
+-- the line of a turn that ended it, by its status: that of a fault of the flash, or its own
+stop-printed : (c : Call) (r : Reply) (stand status : ℕ) (old new : Option (List ℕ)) (was are : ℕ) → stand ≡ status_by r → IsTrue (ends_run r) → (stand ≡ 5 → Prints flash_fault_line 5 status old new was are)
+    → (stand ≢ 0 → stand ≢ 5 → stand ≢ 9 → Prints (line c r) stand status old new was are) → Prints (stop_text c r) (status_by r) status old new was are
+stop-printed c reply.Fault stand status old new was are is ends failed stops = failed is
+stop-printed c reply.ReadFault stand status old new was are is ends failed stops =
+    subst (λ (k : ℕ). Prints (line c reply.ReadFault) k status old new was are) is (stops (λ zero. absurd (omega (arith, is))) (λ five. absurd (omega (arith, is))) (λ nine. absurd (omega (arith, is))))
+stop-printed c (reply.NotBooted why) stand status old new was are is ends failed stops =
+    subst (λ (k : ℕ). Prints (line c (reply.NotBooted why)) k status old new was are) is (stops (λ zero. absurd (omega (arith, is))) (λ five. absurd (omega (arith, is))) (λ nine. absurd (omega (arith, is))))
+stop-printed c other stand status old new was are is ends failed stops = absurd cc
+
 module _ (tells : Bool) (all : Directory) (rounds : ℕ) (calls : List Call) (journal : List Turn) (old new : Moment) (stand : ℕ) (noted : Note) (text : List ℕ) (status : ℕ) (taken_before taken_after : Option (List ℕ)) (faults_before faults_after : ℕ) where
   pub ends-by : (stand ≡ 0 → Prints (soak_line rounds journal) 0 status taken_before taken_after faults_before faults_after) → (stand ≡ 9 → status ≡ 9) → (stand ≡ 9 → taken_after ≡ taken_before) → (stand ≡ 9 → faults_after ≡ faults_before)
-      → (stand ≢ 0 → stand ≢ 9 → Prints text stand status taken_before taken_after faults_before faults_after)
+      → (stand ≡ 5 → Prints flash_fault_line 5 status taken_before taken_after faults_before faults_after) → (stand ≢ 0 → stand ≢ 5 → stand ≢ 9 → Prints text stand status taken_before taken_after faults_before faults_after)
       → Stands tells all calls journal old new stand noted text → SoakEnds rounds calls (end-of journal status noted) taken_before taken_after faults_before faults_after
-  ends-by whole nines same quietly stops (goes zero_is quiet empty going) = all_done going.calls_are going.none quiet (whole zero_is)
-  ends-by whole nines same quietly stops (starved nine quiet front less going) =
+  ends-by whole nines same quietly failed stops (goes zero_is quiet going) = all_done going.calls_are going.none quiet (whole zero_is)
+  ends-by whole nines same quietly failed stops (starved nine quiet front less going) =
       lacking (less.0, ap (λ (cs : List Call). cs ++ less.0) going.calls_are ∙ less.1) going.none quiet (nines nine) (same nine) (quietly nine)
-  ends-by whole nines same quietly stops (ended front t is less ran none ends read status_is noted_is text_is) =
+  ends-by whole nines same quietly failed stops (ended front t is less ran none ends read status_is noted_is text_is) =
       stopped less front t is none ends read noted_is
-      (subst (λ (k : ℕ). Prints (stop_line t) k status taken_before taken_after faults_before faults_after) status_is
-      (subst (λ (l : List ℕ). Prints l stand status taken_before taken_after faults_before faults_after) text_is
-      (stops (λ zero_is. no-zero t.reply ends (sym status_is ∙ zero_is)) (λ nine. no-nine t.reply (sym status_is ∙ nine)))))
+      (stop-printed t.call t.reply stand status taken_before taken_after faults_before faults_after status_is ends failed
+      (λ some lives left. subst (λ (l : List ℕ). Prints l stand status taken_before taken_after faults_before faults_after) text_is (stops some lives left)))

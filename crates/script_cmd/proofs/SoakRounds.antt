@@ -177,10 +177,10 @@ pub starved-before : (tells : Bool) (all : Directory) (done more : List Call) (j
 starved-before tells all done more journal old mid text was = starved refl refl done (more, refl) was
 
 -- all rounds were done
-pub rounds-done : (tells : Bool) (all : Directory) (done : List Call) (x n i : ℕ) (journal : List Turn) (old mid : Moment) (text : List ℕ) → i ≡ n → text ≡ []
+pub rounds-done : (tells : Bool) (all : Directory) (done : List Call) (x n i : ℕ) (journal : List Turn) (old mid : Moment) (text : List ℕ) → i ≡ n
     → GoesSoaking tells all (done ++ flat_map (round_calls soak_layout.rows) (take i (rounds_from x 1 n))) journal old mid
     → Stands tells all (done ++ flat_map (round_calls soak_layout.rows) (rounds_from x 1 n)) journal old mid 0 note.Nothing text
-rounds-done tells all done x n i journal old mid text end empty was =
-    goes refl refl empty
+rounds-done tells all done x n i journal old mid text end was =
+    goes refl refl
     (subst (λ (rs : List Round). GoesSoaking tells all (done ++ flat_map (round_calls soak_layout.rows) rs) journal old mid)
     (ap (λ (k : ℕ). take k (rounds_from x 1 n)) (end ∙ sym (rounds-count x 1 n)) ∙ take-length (rounds_from x 1 n)) was)

@@ -1,5 +1,5 @@
 -- What a turn of a soak does with one file at hand, it does with all packages at hand.
-use Rattle.std.proofs.Common.{◌≡◌, ℕ, Bool, false, ◌||◌, ◌&&◌, not, ◌==◌, List, [], ◌∷◌, Option, Some, None, Result, Ok, Err, refl, sym, ap, subst, ◌∙◌, inl, inr}
+use Rattle.std.proofs.Common.{◌≡◌, ◌⊎◌, ℕ, Bool, false, ◌||◌, ◌&&◌, not, ◌==◌, List, [], ◌∷◌, Option, Some, None, Result, Ok, Err, refl, sym, ap, subst, ◌∙◌, inl, inr}
 use Rattle.std.specs.Prelude.{if◌then◌else◌, nat_lt}
 use Rattle.std.proofs.lemmas.Option.{same_Some}
 use Rattle.flash_core.specs.Told.{Told}
@@ -22,10 +22,10 @@ use Rattle.fwu_model.specs.State.{State, Bank, Move, bank, is_accepted, is_valid
 use Rattle.moves.specs.Moved.{IsReady}
 use Rattle.agent_machine.specs.Fields.{Fields}
 use Rattle.agent_machine.specs.Moment as agent
-use Rattle.script_turns.specs.Powered.{IsAt, Moment, Shows, kept_at}
+use Rattle.script_turns.specs.Powered.{IsAt, Moment, SameDevice, Shows, kept_at}
 use Rattle.script_turns.specs.Replies.{Replies}
 use Rattle.script_turns.specs.Sending.{AnswersSend, IsTableOf, LacksSent, SendSays, SendsBy}
-use Rattle.script_turns.specs.Takes.{SendTakes, TakesBy}
+use Rattle.script_turns.specs.Takes.{SendTakes, StopTakes, TakesBy}
 use Rattle.script_turns.specs.Turning.{Turns}
 use Rattle.script_cmd.specs.Soaking.{AgreeFor}
 
@@ -209,7 +209,13 @@ module _ (passes : List ℕ → Bool) (tells : Bool) (one all : Directory) where
   says-with name request (Some f) before r None now same says = says
   says-with name request (Some f) before r (Some g) now same says = answers-with name request r (kept_at tells f before) (kept_at tells g now) same says
 
-  spent-with : (name : List ℕ) (f : Fields) (r : Reply) (old new : Moment) → one name ≡ all name → SendTakes (Some one) name f r old new → SendTakes (Some all) name f r old new
+  read-with : (name : List ℕ) (f : Fields) (old new : Moment) → one name ≡ all name → SameDevice old new ⊎ StopTakes false (Some one) name f old new
+      → SameDevice old new ⊎ StopTakes false (Some all) name f old new
+  read-with name f old new same (inl still) = inl still
+  read-with name f old new same (inr by) =
+      inr (record { toc = by.toc; table = table-with name (Ok by.toc) same by.table; entries = by.entries; sent = by.sent; spent = by.spent })
+
+  spent-with : (name : List ℕ) (f : Fields) (r : Reply) (old new : Moment) → one name ≡ all name → SendTakes false (Some one) name f r old new → SendTakes false (Some all) name f r old new
   spent-with name f (reply.Sent images skipped) old new same by = record { toc = by.toc; table = table-with name (Ok by.toc) same by.table; spent = by.spent }
   spent-with name f (reply.SentPartial images skipped copied) old new same by = record { toc = by.toc; table = table-with name (Ok by.toc) same by.table; spent = by.spent }
   spent-with name f (reply.BadPackage g) old new same by = by
@@ -217,6 +223,8 @@ module _ (passes : List ℕ → Bool) (tells : Bool) (one all : Directory) where
   spent-with name f (reply.Missing guid) old new same by = by
   spent-with name f (reply.TooLarge guid) old new same by = by
   spent-with name f (reply.BeginRefused st) old new same by = by
+  spent-with name f (reply.EndRefused st) old new same by = record { toc = by.toc; table = table-with name (Ok by.toc) same by.table; spent = by.spent }
+  spent-with name f reply.ReadFault old new same by = read-with name f old new same by
   spent-with name f r old new same by = tt
 
   takes-with : (c : Call) (on : Option Fields) (old : Moment) (r : Reply) (new : Moment) → AgreeFor one all c → TakesBy (Some one) c on old r new → TakesBy (Some all) c on old r new

@@ -1,18 +1,14 @@
 -- The ways that a run behind a partition table may end, from what its parts did.
 use Rattle.std.proofs.Common.{◌≡◌, ◌≢◌, ◌≤◌, ℕ, Bool, List, [], Option, Some, None, sym, ap, subst, ◌∙◌, arith}
-use Rattle.std.specs.Prelude.{IsTrue, IsFalse, codes}
-use Rattle.std.proofs.lemmas.Option.{same_Some}
+use Rattle.std.specs.Prelude.{IsTrue, IsFalse}
 use Rattle.fwu_model.specs.Call.{Call}
 use Rattle.fwu_model.specs.Reply.{Turn}
 use Rattle.fwu_model.specs.Causes.{Faults}
-use Rattle.fwu_model.specs.Wrote.{script_asked}
 use Rattle.host_io.specs.Contents.{Directory}
 use Rattle.fwu_words.specs.Order.{Asked}
-use Rattle.fwu_words.specs.Order as ask
 use Rattle.script_cmd.specs.declared.done.Note.{Note}
 use Rattle.script_cmd.specs.declared.done.Note.TheVariants as note
 use Rattle.script_cmd.specs.declared.done.NoTable.{NoTable}
-use Rattle.script_cmd.specs.Asking.{plainly}
 use Rattle.script_cmd.specs.ByTable.{Looks, StopsBefore, flash_fault_line, lacked_in, no_table_line, seen_at}
 use Rattle.script_cmd.specs.Noted.{is_beyond, noted}
 use Rattle.script_turns.specs.Powered.{Moment, at}
@@ -74,21 +70,6 @@ module _ (passes : List ℕ → Bool) (tells : Bool) (blocks : ℕ) (journal : L
       ran calls p start on from (record { good = good; asks = reads.asks; has = reads.has }) starts (omega arith)
       (ran-told passes tells files told journal (seen_at p start) (seen_at p (at on new.told new.counts new.armed new.power)) from faults_after.files (sym same_files) does)
       beside ended beyond (subst (λ (n : ℕ). Printed journal status taken_before taken_after n faults_after.sink) (sym sink) printed)
-
-  -- `run --gpt` with the script that the source gives, and `boot --gpt` with a script of its own
-  pub table-of-run : (asked : Option Asked) (plain : Asked) (files : Option Directory) (left : Option (List ℕ)) (faults_before faults_after : Faults) → asked ≡ Some ask.run_partitioned → over_table asked ≡ Some plain
-      → WayByTable passes (device-of tells blocks) (Some ask.run) (record { list = None; files = files; script = left }) (end-of journal status said) (world-of old taken_before faults_before) (world-of new taken_after faults_after)
-      → WayByTable passes (device-of tells blocks) (Some plain) (record { list = None; files = files; script = script_asked (plainly (Some plain)) left }) (end-of journal status said) (world-of old taken_before faults_before) (world-of new taken_after faults_after)
-  table-of-run asked plain files left faults_before faults_after is over way =
-      subst (λ (a : Asked). WayByTable passes (device-of tells blocks) (Some a) (record { list = None; files = files; script = script_asked (plainly (Some a)) left }) (end-of journal status said) (world-of old taken_before faults_before) (world-of new taken_after faults_after))
-      (same_Some ask.run plain (sym (ap over_table is) ∙ over)) way
-
-  pub table-of-boot : (asked : Option Asked) (plain : Asked) (files : Option Directory) (left : Option (List ℕ)) (faults_before faults_after : Faults) → asked ≡ Some ask.boot_partitioned → over_table asked ≡ Some plain
-      → WayByTable passes (device-of tells blocks) (Some ask.boot) (record { list = None; files = files; script = Some (codes "boot\n") }) (end-of journal status said) (world-of old taken_before faults_before) (world-of new taken_after faults_after)
-      → WayByTable passes (device-of tells blocks) (Some plain) (record { list = None; files = files; script = script_asked (plainly (Some plain)) left }) (end-of journal status said) (world-of old taken_before faults_before) (world-of new taken_after faults_after)
-  table-of-boot asked plain files left faults_before faults_after is over way =
-      subst (λ (a : Asked). WayByTable passes (device-of tells blocks) (Some a) (record { list = None; files = files; script = script_asked (plainly (Some a)) left }) (end-of journal status said) (world-of old taken_before faults_before) (world-of new taken_after faults_after))
-      (same_Some ask.boot plain (sym (ap over_table is) ∙ over)) way
 
 -- other words ask for no flash behind a table
 pub not-over : (asked other : Option Asked) (plain : Asked) → asked ≡ other → over_table other ≡ None → over_table asked ≡ Some plain → ⊥

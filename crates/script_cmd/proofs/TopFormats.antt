@@ -127,17 +127,17 @@ none-some x o none some = cc
 
 -- what is asked is one command
 pub formatted-as : (passes : List ℕ → Bool) (tells : Bool) (g : Given) (blocks : ℕ) (old new : Moment) (status : ℕ) (said : Note) (journal : List Turn) (taken_before taken_after : Option (List ℕ)) (faults_before faults_after : Faults)
-    (asked : Option Asked) (b banks : ℕ) (rs items rows : List ImageRow) (f file : List ℕ) → rs ≡ items → asked ≡ Some (ask.format b items f) → asked ≡ Some (ask.format banks rows file) → old.armed ≡ None → journal ≡ []
-    → Formats passes (device-of tells blocks) g f (record { banks = b; rows = rs }) (world-of old taken_before faults_before) (world-of new taken_after faults_after) status said
+    (asked : Option Asked) (b banks : ℕ) (items rows : List ImageRow) (f file : List ℕ) → asked ≡ Some (ask.format b items f) → asked ≡ Some (ask.format banks rows file) → old.armed ≡ None → journal ≡ []
+    → Formats passes (device-of tells blocks) g f (record { banks = b; rows = items }) (world-of old taken_before faults_before) (world-of new taken_after faults_after) status said
     → FormattedBy passes (device-of tells blocks) g file (record { banks = banks; rows = rows }) (end-of journal status said) (world-of old taken_before faults_before) (world-of new taken_after faults_after)
-formatted-as passes tells g blocks old new status said journal taken_before taken_after faults_before faults_after asked b banks rs items rows f file slice by is unarmed none formats =
+formatted-as passes tells g blocks old new status said journal taken_before taken_after faults_before faults_after asked b banks items rows f file by is unarmed none formats =
     let same-banks : b ≡ banks = cc in
-    let same-rows : rs ≡ rows = cc in
+    let same-rows : items ≡ rows = cc in
     let same-file : f ≡ file = cc in
     let here : Formats passes (device-of tells blocks) g file (record { banks = banks; rows = rows }) (world-of old taken_before faults_before) (world-of new taken_after faults_after) status said =
     subst (λ (n : ℕ). Formats passes (device-of tells blocks) g file (record { banks = n; rows = rows }) (world-of old taken_before faults_before) (world-of new taken_after faults_after) status said) same-banks
     (subst (λ (l : List ImageRow). Formats passes (device-of tells blocks) g file (record { banks = b; rows = l }) (world-of old taken_before faults_before) (world-of new taken_after faults_after) status said) same-rows
-    (subst (λ (l : List ℕ). Formats passes (device-of tells blocks) g l (record { banks = b; rows = rs }) (world-of old taken_before faults_before) (world-of new taken_after faults_after) status said) same-file formats)) in
+    (subst (λ (l : List ℕ). Formats passes (device-of tells blocks) g l (record { banks = b; rows = items }) (world-of old taken_before faults_before) (world-of new taken_after faults_after) status said) same-file formats)) in
     by-formats passes tells g file (record { banks = banks; rows = rows }) blocks old new status said journal taken_before taken_after faults_before faults_after unarmed none here
 
 module _ (passes : List ℕ → Bool) (tells : Bool) (told files : Option Directory) (name : List ℕ) (script : Option (List ℕ)) (file : List ℕ) (L : Layout) (blocks : ℕ) (old new : Moment) (status : ℕ) (said : Note) (journal : List Turn) (taken_before taken_after : Option (List ℕ)) (first faults_before faults_after : Faults) where

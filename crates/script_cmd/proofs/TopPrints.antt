@@ -8,9 +8,6 @@ use Rattle.host_io.specs.Printed.{FailsAtThree, Prints, all, front, nothing}
 pub raised-rose : (before after : ℕ) → after ≡ raised before → Rose before after
 raised-rose before after is = search rules
 
-pub at-status : (piece : List ℕ) (planned status told : ℕ) (old new : Option (List ℕ)) (faults_before faults_after : ℕ) → told ≡ status → Prints piece planned status old new faults_before faults_after → Prints piece planned told old new faults_before faults_after
-at-status piece planned status told old new faults_before faults_after e p = subst (λ (n : ℕ). Prints piece planned n old new faults_before faults_after) (sym e) p
-
 pub at-piece : (piece other : List ℕ) (planned status : ℕ) (old new : Option (List ℕ)) (faults_before faults_after : ℕ) → other ≡ piece → Prints other planned status old new faults_before faults_after → Prints piece planned status old new faults_before faults_after
 at-piece piece other planned status old new faults_before faults_after e p = subst (λ (l : List ℕ). Prints l planned status old new faults_before faults_after) e p
 

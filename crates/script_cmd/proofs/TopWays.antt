@@ -7,26 +7,22 @@ use Rattle.flash_core.specs.Counts.{Rose}
 use Rattle.flash_core.specs.Told.{Told}
 use Rattle.fwu_model.specs.Reply.{Turn}
 use Rattle.fwu_formats.specs.Words.{is_file}
-use Rattle.fwu_model.specs.Script.{is_too_long, script_of}
 use Rattle.fwu_model.specs.Causes.{Faults, LacksList}
-use Rattle.fwu_model.specs.Wrote.{bad_script_line, script_asked}
 use Rattle.fwu_formats.specs.Digests.{digests_of, passes_any, passes_listed}
 use Rattle.fwu_model.specs.Allow.{after_list, asks_list, list_bytes, list_name}
 use Rattle.host_io.specs.Contents.{Directory, Holds}
 use Rattle.host_io.specs.Whole as whole
 use Rattle.fwu_model.specs.declared.kinds.Note.{Note}
-use Rattle.fwu_model.specs.declared.kinds.Note.TheVariants as note
 use Rattle.fwu_words.specs.Order.{Asked, asked}
 use Rattle.fwu_words.specs.Allow.{NamesList, NamesNone}
-use Rattle.fwu_words.specs.Order as ask
-use Rattle.script_cmd.specs.Asking.{asked_after, asked_with_list, plainly}
+use Rattle.script_cmd.specs.Asking.{asked_after, asked_with_list}
 use Rattle.script_cmd.proofs.Shapes.{end-of, world-of}
 use Rattle.script_cmd.proofs.PromiseTurns.{by-plan}
 use Rattle.script_turns.specs.Powered.{Moment, at}
 use Rattle.host_io.specs.Printed.{Prints}
 use Rattle.script_cmd.specs.Running.{Printed}
 use Rattle.script_turns.specs.Runs.{Ran}
-use Rattle.script_cmd.specs.Ways.{AsksTurns, ByList, Given, HasGoodList, HasPasses, IsIdle, IsScriptOf, ReadsList, Refuses, StandsIn, Way, may_lack_list, bad_list, bad_script, list_not_read, not_read, ran, refused, starved, too_long, usage}
+use Rattle.script_cmd.specs.Ways.{ByList, Given, HasGoodList, HasPasses, IsIdle, ReadsList, Refuses, StandsIn, Way, may_lack_list, bad_list, bad_script, list_not_read, not_read, ran, refused, starved, too_long, usage}
 
 false_true : false ≡ true → ⊥
 false_true e = cc
@@ -38,11 +34,6 @@ none_some bytes e = cc
 pub same-moment : {D : Type 0} (told : D → Told) (counts : D → Counts) (arming : D → Option Arming) (on : D → Bool) (old new : D) → new ≡ old
     → at None (told new) (counts new) (arming new) (on new) ≡ at None (told old) (counts old) (arming old) (on old)
 same-moment told counts arming on old new e = ap (λ d. at None (told d) (counts d) (arming d) (on d)) e
-
--- a fact of the text, where the script is told
-pub of-script : (script : Option (List ℕ)) (text : List ℕ) (P : List ℕ → Type 0) → IsScriptOf script text → P text → IfSome script P
-of-script None text P is p = tt
-of-script (Some bytes) text P is p = subst P (sym is) p
 
 -- a fact of what is told
 pub of-told : {A : Type 0} (told : Option A) (P : A → Type 0) → ((value : A) → told ≡ Some value → P value) → IfSome told P
@@ -108,33 +99,6 @@ module _ (passes : List ℕ → Bool) (tells : Bool) (journal : List Turn) (stat
   pub refused-by : (asked : Option Asked) (g : Given) (faults_before faults_after : Faults) (planned : ℕ) (line : List ℕ) (told : Note) → journal ≡ [] → new ≡ old → noted ≡ told → Refuses asked g faults_before faults_after planned told line
       → Prints line planned status taken_before taken_after faults_before.sink faults_after.sink → Way passes tells asked g (end-of journal status noted) (world-of old taken_before faults_before) (world-of new taken_after faults_after)
   refused-by asked g faults_before faults_after planned line told none same is why prints = refused planned line none same (subst (λ (n : Note). Refuses asked g faults_before faults_after planned n line) (sym is) why) prints
-
-  pub text-refused : (asked : Option Asked) (g : Given) (faults_before faults_after : Faults) (text : List ℕ) (n : ℕ) → HasGoodList g.list g.files → AsksTurns asked → IsScriptOf g.script text → is_too_long text ≡ false → script_of text ≡ Err n
-      → journal ≡ [] → new ≡ old → noted ≡ note.BadLine n → Prints (bad_script_line n) 4 status taken_before taken_after faults_before.sink faults_after.sink → Way passes tells asked g (end-of journal status noted) (world-of old taken_before faults_before) (world-of new taken_after faults_after)
-  text-refused asked g faults_before faults_after text n listed asks is short bad none same told prints =
-      refused-by asked g faults_before faults_after 4 (bad_script_line n) (note.BadLine n) none same told
-      (bad_script n listed asks (of-script g.script text (λ b. is_too_long b ≡ false) is short) (of-script g.script text (λ b. script_of b ≡ Err n) is bad))
-      prints
-
-  -- a way at equal words
-  pub way-at : (asked other : Option Asked) (list named : Option (List ℕ)) (files : Option Directory) (left : Option (List ℕ)) (faults_before faults_after : Faults) → asked ≡ other → list ≡ named
-      → Way passes tells other (record { list = named; files = files; script = script_asked (plainly other) left }) (end-of journal status noted) (world-of old taken_before faults_before) (world-of new taken_after faults_after)
-      → Way passes tells asked (record { list = list; files = files; script = script_asked (plainly asked) left }) (end-of journal status noted) (world-of old taken_before faults_before) (world-of new taken_after faults_after)
-  way-at asked other list named files left faults_before faults_after words is way =
-      subst (λ (l : Option (List ℕ)). Way passes tells asked (record { list = l; files = files; script = script_asked (plainly asked) left }) (end-of journal status noted) (world-of old taken_before faults_before) (world-of new taken_after faults_after)) (sym is)
-      (subst (λ (a : Option Asked). Way passes tells a (record { list = named; files = files; script = script_asked (plainly a) left }) (end-of journal status noted) (world-of old taken_before faults_before) (world-of new taken_after faults_after)) (sym words) way)
-
-  -- `run` with the script that the source gives
-  pub way-of-run : (asked : Option Asked) (files : Option Directory) (left : Option (List ℕ)) (faults_before faults_after : Faults) → asked ≡ Some ask.run
-      → Way passes tells (Some ask.run) (record { list = None; files = files; script = left }) (end-of journal status noted) (world-of old taken_before faults_before) (world-of new taken_after faults_after)
-      → Way passes tells asked (record { list = None; files = files; script = script_asked (plainly asked) left }) (end-of journal status noted) (world-of old taken_before faults_before) (world-of new taken_after faults_after)
-  way-of-run asked files left faults_before faults_after is way = way-at asked (Some ask.run) None None files left faults_before faults_after is refl way
-
-  -- `boot` with a script of its own
-  pub way-of-boot : (asked : Option Asked) (files : Option Directory) (left : Option (List ℕ)) (faults_before faults_after : Faults) → asked ≡ Some ask.boot
-      → Way passes tells (Some ask.boot) (record { list = None; files = files; script = Some (codes "boot\n") }) (end-of journal status noted) (world-of old taken_before faults_before) (world-of new taken_after faults_after)
-      → Way passes tells asked (record { list = None; files = files; script = script_asked (plainly asked) left }) (end-of journal status noted) (world-of old taken_before faults_before) (world-of new taken_after faults_after)
-  way-of-boot asked files left faults_before faults_after is way = way-at asked (Some ask.boot) None None files left faults_before faults_after is refl way
 
   -- a way without a list is one behind a list that was read and is one
   pub with-list : (asked : Option Asked) (told files : Option Directory) (name : List ℕ) (script : Option (List ℕ)) (first faults_before faults_after : Faults) → told ≡ files → HasGoodList (Some name) files

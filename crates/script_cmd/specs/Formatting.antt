@@ -30,6 +30,7 @@ use Rattle.flash_format.specs.declared.stops.FormatStop.TheVariants.{Input, Read
 use Rattle.flash_format.specs.declared.stops.InputFault.{InputFault}
 use Rattle.flash_format.specs.declared.stops.InputFault.TheVariants as fault
 use Rattle.fwu_words.specs.Order as ask
+use Rattle.fwu_words.specs.declared.orders.NewFlash.{NewFlash}
 use Rattle.script_turns.specs.Powered.{Moment}
 use Rattle.script_cmd.specs.ByTable.{Wakes}
 use Rattle.script_cmd.specs.Ending.{Device, Ending, PutsNone, World}
@@ -156,6 +157,10 @@ pub record Tries (passes : List ℕ → Bool) (tells : Bool) (told : Option Dire
   pub stopped : (stop : FlashStop) → r ≡ Err (Flash stop) → HasCause old.counts new.counts
 
 -- ---- what the command did
+
+-- the layout that a flash is asked to have
+abbrev pub layout_of : NewFlash → Layout
+layout_of wanted = record { banks = wanted.banks; rows = wanted.rows.items }
 
 -- Nothing was done for want of memory, or since a list of digests was not read or is none; or the flash was formatted or was not,
 -- and the line of that was put into the sink.

@@ -12,6 +12,7 @@ pub mod Outcomes
 pub mod Permitted
 pub mod ByTable
 pub mod WaysByTable
+pub mod Refusing
 pub mod PromisesByTable
 pub mod Soaking
 pub mod SoakStands

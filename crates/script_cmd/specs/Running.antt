@@ -16,6 +16,17 @@ use Rattle.host_io.specs.Printed.{FailsAtThree, Prints}
 
 -- ---- one turn
 
+-- What one turn leaves: it does the call c, it is kept, its line is in the text, and the status and the note are by its reply.
+pub record Does (passes : List ℕ → Bool) (tells : Bool) (files : Option Directory) (c : Call)
+    (before after : List Turn) (old new : Moment) (from to : ℕ) (status : ℕ) (noted : Note) (text : List ℕ) : Type 0 where
+  pub turn : Turn
+  pub turns : Turns passes tells files c turn old new from to
+  pub fits : Fits tells new
+  pub kept : after ≡ before ++ turn ∷ []
+  pub status_is : status ≡ status_by turn.reply
+  pub noted_is : noted ≡ note_by turn.reply
+  pub text_is : text ≡ line turn.call turn.reply
+
 -- What one turn leaves: it does the call c, it is kept, and its line was printed with this status.
 pub record Steps (passes : List ℕ → Bool) (tells : Bool) (files : Option Directory) (c : Call)
     (before after : List Turn) (old new : Moment) (from to : ℕ) (status : ℕ) (noted : Note)

@@ -10,18 +10,18 @@ use Rattle.host_io.specs.Contents.{Directory}
 use Rattle.script_turns.specs.Powered.{Moment, moment_of}
 use Rattle.script_cmd.specs.Noted.{noted}
 use Rattle.script_cmd.specs.Soaking.{GoesSoaking, Stands}
-use Rattle.script_cmd.specs.declared.soaking.Soaking.{Soaking}
-use Rattle.script_cmd.specs.declared.soaking.Stand.{Stand}
+use Rattle.script_cmd.specs.declared.running.End.{End}
+use Rattle.script_cmd.specs.declared.running.Run.{Run}
 
 -- these calls were done from here on, and none of them ended it
-abbrev pub GoesHere : {D : Type 0} {F : Ghosts D} → Directory → List Call → Moment → Soaking D F → Type 0
-GoesHere {F = F} all calls old soaking = GoesSoaking F.tells all calls (turns soaking.journal) old (moment_of soaking.powered)
+abbrev pub GoesHere : {D : Type 0} {F : Ghosts D} → Directory → List Call → Moment → Run D F → Type 0
+GoesHere {F = F} all calls old run = GoesSoaking F.tells all calls (turns run.journal) old (moment_of run.powered)
 
 -- it does these calls from here on, and stands so
-abbrev pub StandsHere : {D : Type 0} {F : Ghosts D} → Directory → List Call → Moment → Soaking D F → Stand → Type 0
-StandsHere {F = F} all calls old soaking stand =
-    Stands F.tells all calls (turns soaking.journal) old (moment_of soaking.powered) stand.status (noted stand.note)
-    soaking.text.items
+abbrev pub StandsHere : {D : Type 0} {F : Ghosts D} → Directory → List Call → Moment → Run D F → End → Type 0
+StandsHere {F = F} all calls old run end =
+    Stands F.tells all calls (turns run.journal) old (moment_of run.powered) end.status (noted end.note)
+    run.text.items
 
 -- the packages of so many rounds, drawn from this register, are among the files
 abbrev pub HasPackages : Directory → ℕ → ℕ → Type 0

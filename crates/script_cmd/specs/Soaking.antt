@@ -1,5 +1,5 @@
 -- What the turns of a soak do, and what its line tells.
-use Rattle.std.specs.Prelude.{◌≡◌, ◌≢◌, ◌≤◌, ℕ, ◌+◌, Bool, cond, List, [], ◌∷◌, ◌++◌, Option, Some, ⊤, IsTrue, IsFalse}
+use Rattle.std.specs.Prelude.{◌≡◌, ◌≢◌, ◌≤◌, ℕ, ◌+◌, Bool, cond, List, [], ◌∷◌, ◌++◌, Some, ⊤, IsTrue, IsFalse}
 use Rattle.std.specs.List.{list_any}
 use Rattle.host_io.specs.Contents.{Directory, bytes_in}
 use Rattle.fwu_model.specs.Call.{Call}
@@ -18,8 +18,7 @@ use Rattle.gen_core.specs.Line.{Started, is_booted, is_fallback, is_lost, is_sen
 use Rattle.gen_core.specs.Rounds.{soak_rounds}
 use Rattle.gen_core.specs.declared.line.Totals.{Totals}
 use Rattle.gen_core.specs.declared.rounds.Cut.{Cut}
-use Rattle.script_turns.specs.Powered.{Fits, Moment}
-use Rattle.script_turns.specs.Turning.{Turns}
+use Rattle.script_turns.specs.Powered.{Moment}
 use Rattle.script_turns.specs.Runs.{Ran, calls_of}
 use Rattle.script_cmd.specs.Showing.{flash_fault_line}
 
@@ -81,8 +80,6 @@ pub record IsArmableCut (cut : Cut) : Type 0 where
   pub few : cut.n ≤ 4294967295
   pub within : cut.k ≤ 4096
 
--- ---- one turn
-
 -- the line of a turn that ends a soak
 abbrev pub stop_text : Call → Reply → List ℕ
 stop_text c reply.Fault = flash_fault_line
@@ -90,18 +87,6 @@ stop_text c other = line c other
 
 abbrev pub stop_line : Turn → List ℕ
 stop_line t = stop_text t.call t.reply
-
--- What one turn leaves: it does the call c, it is kept, and where it ends the soak its line is in the text.
-pub record SoakSteps (tells : Bool) (files : Option Directory) (c : Call) (before after : List Turn) (old new : Moment)
-    (status : ℕ) (noted : Note) (text : List ℕ) : Type 0 where
-  pub turn : Turn
-  pub turns : Turns passes_any tells files c turn old new 0 0
-  pub fits : Fits tells new
-  pub kept : after ≡ before ++ turn ∷ []
-  pub status_is : status ≡ status_by turn.reply
-  pub noted_is : noted ≡ note_by turn.reply
-  pub text_is : status ≢ 0 → text ≡ stop_line turn
-  pub no_text : status ≡ 0 → text ≡ []
 
 -- ---- the turns so far
 
@@ -112,10 +97,10 @@ pub record GoesSoaking (tells : Bool) (all : Directory) (calls : List Call) (jou
   pub none : IsFalse (list_any (λ (t : Turn). ends_run t.reply) journal)
 
 -- How a soak that does these calls stands:
--- all were done; or memory was wanting for more than the first of them; or a turn ended it.
+-- all were done; or memory was wanting for more than the first of them; or a turn ended it, whose line is in the text.
 pub data Stands (tells : Bool) (all : Directory) (calls : List Call) (journal : List Turn) (old new : Moment) (status : ℕ)
     (noted : Note) (text : List ℕ) : Type 0 where
-  goes : status ≡ 0 → noted ≡ note.Nothing → text ≡ [] → GoesSoaking tells all calls journal old new
+  goes : status ≡ 0 → noted ≡ note.Nothing → GoesSoaking tells all calls journal old new
       → Stands tells all calls journal old new status noted text
   starved : status ≡ 9 → noted ≡ note.Nothing → (front : List Call) → IsPrefixOf front calls
       → GoesSoaking tells all front journal old new
@@ -123,5 +108,5 @@ pub data Stands (tells : Bool) (all : Directory) (calls : List Call) (journal : 
   ended : (front : List Turn) (t : Turn) → journal ≡ front ++ t ∷ [] → IsPrefixOf (calls_of journal) calls
       → Ran passes_any tells (Some all) journal old new 0 0
       → IsFalse (list_any (λ (u : Turn). ends_run u.reply) front) → IsTrue (ends_run t.reply) → t.reply ≢ reply.ReadFault
-      → status ≡ status_by t.reply → noted ≡ note_by t.reply → text ≡ stop_line t
+      → status ≡ status_by t.reply → noted ≡ note_by t.reply → text ≡ line t.call t.reply
       → Stands tells all calls journal old new status noted text

@@ -132,10 +132,6 @@ pub data Way (passes : List ℕ → Bool) (tells : Bool) (asked : Option Asked) 
 
 -- ---- by the words
 
--- the script, where it is told, is this text
-abbrev pub IsScriptOf : Option (List ℕ) → List ℕ → Type 0
-IsScriptOf script text = IfSome script (λ bytes. bytes ≡ text)
-
 -- the words ask for the turns of a script, or for nothing
 abbrev pub RunsOrNone : Option Asked → Type 0
 RunsOrNone None = ⊤

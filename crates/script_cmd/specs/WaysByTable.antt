@@ -6,6 +6,8 @@ use Rattle.fwu_model.specs.Call.{Call}
 use Rattle.agent_machine.specs.Fields.{Fields}
 use Rattle.fwu_words.specs.Order.{Asked}
 use Rattle.fwu_words.specs.Order as ask
+use Rattle.fwu_words.specs.declared.orders.Place.{Place}
+use Rattle.fwu_words.specs.declared.orders.Place.TheVariants as place
 use Rattle.script_cmd.specs.declared.done.Note.{Note}
 use Rattle.script_cmd.specs.declared.done.Note.TheVariants as note
 use Rattle.script_cmd.specs.declared.done.NoTable.{NoTable}
@@ -67,3 +69,8 @@ pub data WayByTable (passes : List ℕ → Bool) (device : Device) (asked : Opti
       → Ended calls ending.journal ending.status (noted ending.noted) → IsFalse (is_beyond ending.noted)
       → Printed ending.journal ending.status old.taken new.taken old.faults.sink new.faults.sink
       → WayByTable passes device asked g ending old new
+
+-- The ways that a run may end at the place that was asked for.
+abbrev pub WayAt : Place → (List ℕ → Bool) → Device → Option Asked → Given → Ending Note → World → World → Type 0
+WayAt place.Flash passes device asked g ending old new = Way passes device.tells asked g (in_model ending) old new
+WayAt place.Partitions passes device asked g ending old new = WayByTable passes device asked g ending old new

@@ -3,18 +3,19 @@ ghost use Rattle.std.specs.Prelude.{◌≡◌, ◌≤◌, ℕ, List, [], Option,
 ghost use Rattle.flash_format.specs.Stops.{flash_result};
 ghost use Rattle.fwu_journal.specs.Shown.{turns};
 ghost use Rattle.script_turns.specs.Powered.{moment};
-ghost use Rattle.script_cmd.specs.Formatting.{Formats, Tries, format_note, format_status};
+ghost use Rattle.script_cmd.specs.Formatting.{Formats, Tries, format_note, format_status, layout_of};
 ghost use Rattle.script_cmd.specs.Here.{without_list, world_at};
 ghost use Rattle.script_cmd.specs.Ways.{device_of};
 
 use crate::done::{Done, Note};
 use crate::format_line::{FORMAT_ROOM, add_format_line};
 use crate::printing::put_line;
-use crate::refusing::idle;
+use crate::refusing::{Refusal, refuse};
 use base_core::ImageRow;
 use flash_core::Flash;
 use flash_format::{FormatStop, Formatted, format};
 use fwu_journal::Journal;
+use fwu_words::NewFlash;
 use host_io::{Files, Sink};
 use std::alloc::Global;
 use verify_core::Verifier;
@@ -69,16 +70,14 @@ pub fn try_format<D: Flash, H: Files, V: Verifier>(
     format(flash, rows, banks, files, name, verifier)
 }
 
-/// Powers the flash on, formats it with the layout of these rows and banks and with the package of this name, and puts the line of
-/// what became of that into the sink in one piece. The room for the line is made before the flash is touched.
+/// Powers the flash on, makes it as it is asked for, and puts the line of what became of that into the sink in one piece. The room
+/// for the line is made before the flash is touched.
 ///
 /// Status 2 says that the file could not be read, 5 that power was lost or the flash failed, and 7 that the rows, the banks or the
 /// package were refused, and the note says why.
-pub fn format_flash<D: Flash, H: Files, O: Sink, V: Verifier>(
+pub fn format_flash<'a, D: Flash, H: Files, O: Sink, V: Verifier>(
     alloc: Global,
-    rows: &[ImageRow],
-    banks: u32,
-    name: &str,
+    wanted: NewFlash<'a>,
     files: &mut H,
     sink: &mut O,
     flash: D,
@@ -88,7 +87,7 @@ pub fn format_flash<D: Flash, H: Files, O: Sink, V: Verifier>(
     requires unarmed { D.arming flash ≡ None }
     ensures formats { (script : Option (List ℕ)) (was are : ℕ)
         → Formats (V.passes verifier.now) (device_of D.Flash flash)
-        (without_list H.Files script files.old) name.now (record { banks = banks; rows = rows.now })
+        (without_list H.Files script files.old) wanted.entry.package.now (layout_of wanted.entry)
         (world_at D.Flash H.Files O.Sink was flash files.old sink.old)
         (world_at D.Flash H.Files O.Sink are result.flash files.new sink.new) result.status result.note }
     ensures power { result.status ≡ 0 → IsTrue (D.on result.flash) }
@@ -100,10 +99,15 @@ pub fn format_flash<D: Flash, H: Files, O: Sink, V: Verifier>(
     ensures size { D.blocks result.flash ≡ D.blocks flash }
 {
     let Ok(mut text) = Vec::with_capacity(alloc, FORMAT_ROOM) else {
-        return idle(alloc, 9, Note::Nothing, flash);
+        return refuse(alloc, sink, Refusal::NoMemory, flash);
     };
     let mut flash = flash;
-    let ended = try_format(&mut flash, rows, banks, files, name, verifier);
+    let NewFlash {
+        banks,
+        rows,
+        package,
+    } = wanted;
+    let ended = try_format(&mut flash, rows.as_slice(), banks, files, package, verifier);
     add_format_line(&mut text, &ended);
     let status = put_line(sink, text.as_slice(), status_of(&ended));
     Done {

@@ -1,7 +1,8 @@
 //! One file in memory, none of whose calls fails.
-ghost use Rattle.std.specs.Prelude.{◌≡◌, ◌+◌, ◌≤◌, true, refl, [], ◌∷◌, Some, Err, IfOk, OnOk, OnErr, length, ⊤};
+ghost use Rattle.std.specs.Prelude.{◌≡◌, ◌⊎◌, ◌+◌, ◌≤◌, true, refl, [], ◌∷◌, Some, Err, IfOk, OnOk, OnErr, length, ⊤};
 ghost use Rattle.std.specs.Prelude.{string_bytes, vec_capacity, vec_len};
-ghost use Rattle.host_io.specs.Calls.{failures, write_failures, writes_after};
+ghost use Rattle.base_core.specs.Counts.{Rose};
+ghost use Rattle.host_io.specs.Calls.{CountsWrite, failures, write_failures};
 ghost use Rattle.host_io.specs.Causes.{HasCause, HasWriteCause};
 ghost use Rattle.host_io.specs.Contents.{AddsRange, ChangesOnly, HasRange, Holds, TellsRange, TellsSize, bytes_in};
 ghost use Rattle.host_io.specs.Joined.{HasPiece, HoldsJoined};
@@ -26,7 +27,7 @@ impl Files for OneFile {
 
     ghost faults = { λ _. 0 };
 
-    ghost writes = { λ _. record { done = 0; failed = 0 } };
+    ghost writes = { λ _. record { done = 0; failed = 0; torn = 0 } };
 
     ghost spares = { λ _ _ _. ⊤ };
 

@@ -1,9 +1,10 @@
 //! Runs that end before their first turn.
 ghost use Rattle.std.specs.Prelude.{◌≡◌, []};
-ghost use Rattle.fwu_model.specs.Wrote.{bad_list_line, bad_script_line, not_read_line, too_long_line, usage_line};
 ghost use Rattle.fwu_journal.specs.Shown.{turns};
-ghost use Rattle.script_cmd.specs.ByTable.{flash_fault_line, no_table_line};
+ghost use Rattle.fwu_model.specs.Wrote.{bad_list_line, bad_script_line};
 ghost use Rattle.host_io.specs.Printed.{Prints};
+ghost use Rattle.script_cmd.specs.ByTable.{no_table_line};
+ghost use Rattle.script_cmd.specs.Refusing.{refusal_line, refusal_note, refusal_status};
 
 use crate::done::{Done, NoTable, Note};
 use crate::printing::{put_line, put_usage};
@@ -12,136 +13,111 @@ use fwu_journal::Journal;
 use host_io::Sink;
 use std::alloc::Global;
 
-/// A run that did nothing.
-pub fn idle<D: Flash>(alloc: Global, status: u8, note: Note, flash: D) -> Done<D>
-    ensures status { result.status ≡ status }
-    ensures note { result.note ≡ note }
+/// Why a run has no first turn.
+#[derive(Clone, Copy, Debug, PartialEq, Eq)]
+pub enum Refusal {
+    /// The words ask for nothing.
+    Usage,
+    /// The source, or the file of a list of digests, was not read.
+    Unread,
+    /// The script is longer than a script may be.
+    TooLong,
+    /// The first line of the script that is none, from 1.
+    BadScript(u32),
+    /// The first line of the list of digests that is none, from 1.
+    BadList(u64),
+    /// The partition table gives no flash.
+    NoTable(NoTable),
+    /// Power was lost or the flash failed while the partition table was read or repaired.
+    Stopped,
+    /// Memory is wanting. There is no line of it.
+    NoMemory,
+}
+
+/// What is noted of a refusal.
+fn note_of(why: Refusal) -> Note
+    ensures { result ≡ refusal_note why }
+{
+    match why {
+        Refusal::BadScript(line) => Note::BadLine(line),
+        Refusal::BadList(line) => Note::BadList(line),
+        Refusal::NoTable(lack) => Note::NoTable(lack),
+        _ => Note::Nothing,
+    }
+}
+
+/// Puts the line of a script whose first bad line this is.
+fn put_bad_script<O: Sink>(alloc: Global, sink: &mut O, line: u32) -> u8
+    ensures { Prints (bad_script_line line) 4 result (O.taken sink.old) (O.taken sink.new)
+        (O.faults sink.old) (O.faults sink.new) }
+{
+    match format!(in alloc; "bad-script {line}\n") {
+        Ok(text) => put_line(sink, text.as_bytes(), 4),
+        Err(_) => 9,
+    }
+}
+
+/// Puts the line of a list of digests whose first bad line this is.
+fn put_bad_list<O: Sink>(alloc: Global, sink: &mut O, line: u64) -> u8
+    ensures { Prints (bad_list_line line) 13 result (O.taken sink.old) (O.taken sink.new)
+        (O.faults sink.old) (O.faults sink.new) }
+{
+    match format!(in alloc; "bad-list {line}\n") {
+        Ok(text) => put_line(sink, text.as_bytes(), 13),
+        Err(_) => 9,
+    }
+}
+
+/// Puts the line of a device without a flash behind its partition table.
+fn put_no_table<O: Sink>(alloc: Global, sink: &mut O, lack: NoTable) -> u8
+    ensures { Prints (no_table_line lack) 10 result (O.taken sink.old) (O.taken sink.new)
+        (O.faults sink.old) (O.faults sink.new) }
+{
+    match lack {
+        NoTable::Table => put_line(sink, b"gpt no-table\n", 10),
+        NoTable::Store => put_line(sink, b"gpt no-store\n", 10),
+        NoTable::Replicas(count) => match format!(in alloc; "gpt replicas {count}\n") {
+            Ok(text) => put_line(sink, text.as_bytes(), 10),
+            Err(_) => 9,
+        },
+        NoTable::TooSmall => put_line(sink, b"gpt too-small\n", 10),
+    }
+}
+
+/// Puts the line of a refusal, and gives the exit status that comes of it: 1 for usage, 2 for what was not read, 4 for a bad
+/// script, 5 for a stop, 8 for a script that is too long, 10 without a flash behind the table, 13 for a bad list; 3 where the sink
+/// failed. Where memory is wanting, for the line too, nothing is put and it is 9.
+fn put_refusal<O: Sink>(alloc: Global, sink: &mut O, why: Refusal) -> u8
+    ensures prints { Prints (refusal_line why) (refusal_status why) result (O.taken sink.old)
+        (O.taken sink.new) (O.faults sink.old) (O.faults sink.new) }
+    ensures starved { why ≡ Refusal.NoMemory → (result ≡ 9) × (sink.new ≡ sink.old) }
+{
+    match why {
+        Refusal::Usage => put_usage(sink),
+        Refusal::Unread => put_line(sink, b"read-fault\n", 2),
+        Refusal::TooLong => put_line(sink, b"too-long\n", 8),
+        Refusal::BadScript(line) => put_bad_script(alloc, sink, line),
+        Refusal::BadList(line) => put_bad_list(alloc, sink, line),
+        Refusal::NoTable(lack) => put_no_table(alloc, sink, lack),
+        Refusal::Stopped => put_line(sink, b"flash-fault\n", 5),
+        Refusal::NoMemory => 9,
+    }
+}
+
+/// Ends a run that has no first turn: puts the line of the refusal, and does nothing else.
+pub fn refuse<D: Flash, O: Sink>(alloc: Global, sink: &mut O, why: Refusal, flash: D) -> Done<D>
+    ensures prints { Prints (refusal_line why) (refusal_status why) result.status (O.taken sink.old)
+        (O.taken sink.new) (O.faults sink.old) (O.faults sink.new) }
+    ensures starved { why ≡ Refusal.NoMemory → (result.status ≡ 9) × (sink.new ≡ sink.old) }
+    ensures note { result.note ≡ refusal_note why }
     ensures flash { result.flash ≡ flash }
     ensures no_turns { turns result.journal ≡ [] }
 {
+    let status = put_refusal(alloc, sink, why);
     Done {
         status,
-        note,
+        note: note_of(why),
         flash,
         journal: Journal::new(alloc),
-    }
-}
-
-/// Puts a line into the sink, and does nothing else.
-pub fn refuse<D: Flash, O: Sink>(
-    alloc: Global,
-    sink: &mut O,
-    line: &[u8],
-    status: u8,
-    note: Note,
-    flash: D,
-) -> Done<D>
-    ensures prints { Prints line.now status result.status (O.taken sink.old) (O.taken sink.new)
-        (O.faults sink.old) (O.faults sink.new) }
-    ensures note { result.note ≡ note }
-    ensures flash { result.flash ≡ flash }
-    ensures no_turns { turns result.journal ≡ [] }
-{
-    let status = put_line(sink, line, status);
-    idle(alloc, status, note, flash)
-}
-
-/// Puts the line of usage into the sink, and does nothing else.
-pub fn print_usage<D: Flash, O: Sink>(alloc: Global, sink: &mut O, flash: D) -> Done<D>
-    ensures prints { Prints usage_line 1 result.status (O.taken sink.old) (O.taken sink.new)
-        (O.faults sink.old) (O.faults sink.new) }
-    ensures note { result.note ≡ Note.Nothing }
-    ensures flash { result.flash ≡ flash }
-    ensures no_turns { turns result.journal ≡ [] }
-{
-    let status = put_usage(sink);
-    idle(alloc, status, Note::Nothing, flash)
-}
-
-/// Refuses what was not read: the source, or the file of a list of digests.
-pub fn refuse_reading<D: Flash, O: Sink>(alloc: Global, sink: &mut O, flash: D) -> Done<D>
-    ensures prints { Prints not_read_line 2 result.status (O.taken sink.old) (O.taken sink.new)
-        (O.faults sink.old) (O.faults sink.new) }
-    ensures note { result.note ≡ Note.Nothing }
-    ensures flash { result.flash ≡ flash }
-    ensures no_turns { turns result.journal ≡ [] }
-{
-    refuse(alloc, sink, b"read-fault\n", 2, Note::Nothing, flash)
-}
-
-/// Refuses a script that is too long.
-pub fn refuse_length<D: Flash, O: Sink>(alloc: Global, sink: &mut O, flash: D) -> Done<D>
-    ensures prints { Prints too_long_line 8 result.status (O.taken sink.old) (O.taken sink.new)
-        (O.faults sink.old) (O.faults sink.new) }
-    ensures note { result.note ≡ Note.Nothing }
-    ensures flash { result.flash ≡ flash }
-    ensures no_turns { turns result.journal ≡ [] }
-{
-    refuse(alloc, sink, b"too-long\n", 8, Note::Nothing, flash)
-}
-
-/// Refuses a script whose first bad line this is. Where memory is wanting for the answer, nothing is written.
-pub fn refuse_script<D: Flash, O: Sink>(alloc: Global, sink: &mut O, line: u32, flash: D) -> Done<D>
-    ensures prints { Prints (bad_script_line line) 4 result.status (O.taken sink.old)
-        (O.taken sink.new) (O.faults sink.old) (O.faults sink.new) }
-    ensures note { result.note ≡ Note.BadLine line }
-    ensures flash { result.flash ≡ flash }
-    ensures no_turns { turns result.journal ≡ [] }
-{
-    let note = Note::BadLine(line);
-    match format!(in alloc; "bad-script {line}\n") {
-        Ok(text) => refuse(alloc, sink, text.as_bytes(), 4, note, flash),
-        Err(_) => idle(alloc, 9, note, flash),
-    }
-}
-
-/// Refuses a device whose partition table gives no flash. Where memory is wanting for the answer, nothing is written.
-pub fn refuse_table<D: Flash, O: Sink>(
-    alloc: Global,
-    sink: &mut O,
-    why: NoTable,
-    flash: D,
-) -> Done<D>
-    ensures prints { Prints (no_table_line why) 10 result.status (O.taken sink.old)
-        (O.taken sink.new) (O.faults sink.old) (O.faults sink.new) }
-    ensures note { result.note ≡ Note.NoTable why }
-    ensures flash { result.flash ≡ flash }
-    ensures no_turns { turns result.journal ≡ [] }
-{
-    let note = Note::NoTable(why);
-    match why {
-        NoTable::Table => refuse(alloc, sink, b"gpt no-table\n", 10, note, flash),
-        NoTable::Store => refuse(alloc, sink, b"gpt no-store\n", 10, note, flash),
-        NoTable::Replicas(count) => match format!(in alloc; "gpt replicas {count}\n") {
-            Ok(text) => refuse(alloc, sink, text.as_bytes(), 10, note, flash),
-            Err(_) => idle(alloc, 9, note, flash),
-        },
-        NoTable::TooSmall => refuse(alloc, sink, b"gpt too-small\n", 10, note, flash),
-    }
-}
-
-/// Ends a run before its first turn, since power was lost or the flash failed.
-pub fn refuse_stop<D: Flash, O: Sink>(alloc: Global, sink: &mut O, flash: D) -> Done<D>
-    ensures prints { Prints flash_fault_line 5 result.status (O.taken sink.old) (O.taken sink.new)
-        (O.faults sink.old) (O.faults sink.new) }
-    ensures note { result.note ≡ Note.Nothing }
-    ensures flash { result.flash ≡ flash }
-    ensures no_turns { turns result.journal ≡ [] }
-{
-    refuse(alloc, sink, b"flash-fault\n", 5, Note::Nothing, flash)
-}
-
-/// Refuses a list of digests whose first bad line this is. Where memory is wanting for the answer, nothing is written.
-pub fn refuse_list<D: Flash, O: Sink>(alloc: Global, sink: &mut O, line: u64, flash: D) -> Done<D>
-    ensures prints { Prints (bad_list_line line) 13 result.status (O.taken sink.old)
-        (O.taken sink.new) (O.faults sink.old) (O.faults sink.new) }
-    ensures note { result.note ≡ Note.BadList line }
-    ensures flash { result.flash ≡ flash }
-    ensures no_turns { turns result.journal ≡ [] }
-{
-    let note = Note::BadList(line);
-    match format!(in alloc; "bad-list {line}\n") {
-        Ok(text) => refuse(alloc, sink, text.as_bytes(), 13, note, flash),
-        Err(_) => idle(alloc, 9, note, flash),
     }
 }

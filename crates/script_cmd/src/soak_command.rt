@@ -19,6 +19,7 @@ ghost use Rattle.script_cmd.specs.Ending.{in_model};
 ghost use Rattle.script_cmd.specs.Noted.{noted};
 ghost use Rattle.host_io.specs.Printed.{Prints};
 ghost use Rattle.script_cmd.specs.SoakWays.{SoakEnds};
+ghost use Rattle.script_cmd.specs.Showing.{flash_fault_line};
 ghost use Rattle.script_cmd.specs.SoakStands.{StandsHere};
 ghost use Rattle.script_cmd.specs.Soaking.{file_of, first_files};
 ghost use Rattle.script_cmd.specs.Ways.{Given, HasGoodList};
@@ -28,9 +29,10 @@ use crate::format_line::add_format_line;
 use crate::formatting::{note_of, status_of, try_format};
 use crate::one_file::OneFile;
 use crate::printing::put_line;
-use crate::refusing::{idle, refuse};
+use crate::refusing::{Refusal, refuse};
 use crate::room::Room;
-use crate::soaking::{Soaked, Soaking, do_soak};
+use crate::running::{End, Run, done};
+use crate::soaking::do_soak;
 use crate::totals::totals;
 use base_core::NoMemory;
 use flash_core::Flash;
@@ -42,6 +44,13 @@ use host_io::Sink;
 use script_turns::{Fresh, Powered};
 use std::alloc::Global;
 use verify_core::AnyManifest;
+
+/// The package of number 0, and the register behind it, from which the rounds are drawn.
+#[derive(Drop)]
+struct Drawn {
+    first: OneFile,
+    register: Lcg,
+}
 
 /// Draws the sizes of the package of number 0, and makes it.
 fn first_file(alloc: Global, register: &mut Lcg) -> Result<OneFile, NoMemory>
@@ -81,11 +90,15 @@ fn print_end<O: Sink>(
         (O.taken sink.old) (O.taken sink.new) (O.faults sink.old) (O.faults sink.new) }
     ensures starved { stand ≡ 9 → result ≡ 9 }
     ensures untouched { stand ≡ 9 → sink.new ≡ sink.old }
-    ensures stopped { stand ≢ 0 → stand ≢ 9 → Prints last.now stand result (O.taken sink.old)
+    ensures failed { stand ≡ 5 → Prints flash_fault_line 5 result (O.taken sink.old)
         (O.taken sink.new) (O.faults sink.old) (O.faults sink.new) }
+    ensures stopped { stand ≢ 0 → stand ≢ 5 → stand ≢ 9 → Prints last.now stand result
+        (O.taken sink.old) (O.taken sink.new) (O.faults sink.old) (O.faults sink.new) }
 {
     if stand == 0 {
         print_totals(alloc, journal, rounds, sink)
+    } else if stand == 5 {
+        put_line(sink, b"flash-fault\n", 5)
     } else if stand == 9 {
         9
     } else {
@@ -95,37 +108,39 @@ fn print_end<O: Sink>(
 
 /// Puts the line of a soak into the sink: that of its totals, or of the turn that ended it. Where memory is wanting, nothing is
 /// written.
-fn finish<D: Flash, O: Sink>(alloc: Global, soaked: Soaked<D>, rounds: u32, sink: &mut O) -> Done<D>
+fn finish<D: Flash, O: Sink>(
+    alloc: Global,
+    run: Run<D>,
+    end: End,
+    rounds: u32,
+    sink: &mut O,
+) -> Done<D>
     ensures ended { (all : Directory) (calls : List Call) (old : Moment)
-        → StandsHere all calls old soaked.soaking soaked.stand
+        → StandsHere all calls old run end
         → SoakEnds rounds calls
         (in_model (ending result)) (O.taken sink.old) (O.taken sink.new) (O.faults sink.old) (O.faults sink.new) }
-    ensures journal { result.journal ≡ soaked.soaking.journal }
-    ensures note { result.note ≡ soaked.stand.note }
-    ensures flash { result.flash ≡ device soaked.soaking.powered }
+    ensures journal { result.journal ≡ run.journal }
+    ensures note { result.note ≡ end.note }
+    ensures flash { result.flash ≡ device run.powered }
     ensures later { O.faults sink.old ≤ O.faults sink.new }
 {
-    let Soaked { soaking, stand } = soaked;
-    let Soaking {
-        powered,
-        journal,
-        text,
-    } = soaking;
-    let status = print_end(alloc, stand.status, text.as_slice(), &journal, rounds, sink);
-    Done {
-        status,
-        note: stand.note,
-        flash: powered.into_flash(),
-        journal,
-    }
+    let status = print_end(
+        alloc,
+        end.status,
+        run.text.as_slice(),
+        &run.journal,
+        rounds,
+        sink,
+    );
+    let note = end.note;
+    done(run, End { status, note })
 }
 
 /// Formats a flash with the first package, and does the rounds.
 fn format_and_soak<D: Flash, O: Sink>(
     alloc: Global,
     room: Room,
-    first: OneFile,
-    register: Lcg,
+    drawn: Drawn,
     rounds: u32,
     sink: &mut O,
     flash: D,
@@ -137,18 +152,19 @@ fn format_and_soak<D: Flash, O: Sink>(
     requires no_text { room.text.items ≡ [] }
     requires line_fits { HasRoom room.text LINE_ROOM }
     ensures way { (seed : ℕ) (g : Given) (before after : Faults) → HasGoodList g.list g.files
-        → IsFalse (is_too_small (D.blocks flash)) → register ≡ register_after 2 seed
-        → file_of (string_bytes first.name) first.bytes.items ≡ first_files seed
+        → IsFalse (is_too_small (D.blocks flash)) → drawn.register ≡ register_after 2 seed
+        → file_of (string_bytes drawn.first.name) drawn.first.bytes.items ≡ first_files seed
         → SoaksWay D.Flash O.Sink g seed rounds before after flash sink.old result sink.new }
     ensures later { O.faults sink.old ≤ O.faults sink.new }
     ensures size { D.blocks result.flash ≡ D.blocks flash }
 {
-    let mut register = register;
+    let Drawn { first, register } = drawn;
     let mut first = first;
+    let mut register = register;
     let mut room = room;
     let mut flash = flash;
     let Ok(name) = file_name(alloc, 0) else {
-        return idle(alloc, 9, Note::Nothing, flash);
+        return refuse(alloc, sink, Refusal::NoMemory, flash);
     };
     let ended = try_format(
         &mut flash,
@@ -161,8 +177,9 @@ fn format_and_soak<D: Flash, O: Sink>(
     match ended {
         Ok(_) => {
             let start = Powered::fresh(Fresh { flash });
-            let soaked = do_soak(alloc, room, start, &mut first, &mut register, rounds);
-            finish(alloc, soaked, rounds, sink)
+            let mut run = Run::new(room, start);
+            let end = do_soak(alloc, &mut run, &mut first, &mut register, rounds);
+            finish(alloc, run, end, rounds, sink)
         }
         Err(_) => {
             add_format_line(&mut room.text, &ended);
@@ -199,14 +216,20 @@ pub fn soak<D: Flash, O: Sink>(
 {
     if is_too_small(flash.blocks()) {
         let note = Note::Input(InputFault::Layout(LayoutFault::BeyondFlash));
-        return refuse(alloc, sink, b"soak too-small\n", 7, note, flash);
+        return Done {
+            status: put_line(sink, b"soak too-small\n", 7),
+            note,
+            flash,
+            journal: Journal::new(alloc),
+        };
     }
     let mut register = Lcg::new(seed);
     let Ok(first) = first_file(alloc, &mut register) else {
-        return idle(alloc, 9, Note::Nothing, flash);
+        return refuse(alloc, sink, Refusal::NoMemory, flash);
     };
     let Ok(room) = Room::make(alloc, 1) else {
-        return idle(alloc, 9, Note::Nothing, flash);
+        return refuse(alloc, sink, Refusal::NoMemory, flash);
     };
-    format_and_soak(alloc, room, first, register, rounds, sink, flash)
+    let drawn = Drawn { first, register };
+    format_and_soak(alloc, room, drawn, rounds, sink, flash)
 }

@@ -1,5 +1,5 @@
 -- What an armed loss counts of a call of the agent, from what the call says.
-use Rattle.std.proofs.Common.{◌≡◌, ℕ, ◌+◌, ◌-◌, List, length, Option, Some, Result, Ok, Err, refl, ap}
+use Rattle.std.proofs.Common.{◌≡◌, ℕ, ◌+◌, ◌-◌, List, length, Option, Some, Result, Ok, Err, refl, ap, IsTrue}
 use Rattle.std.specs.Prelude.{OnOk, take}
 use Rattle.flash_core.specs.declared.flash.Flash.{Ghosts}
 use Rattle.flash_core.specs.Counts.{ReachesNone, arming_kept}
@@ -12,14 +12,18 @@ use Rattle.fwu_model.specs.Answer.{are_named}
 use Rattle.agent_calls.specs.Takes.{Takes as TakesWrites, writes_to_begin, writes_to_copy}
 use Rattle.agent_machine.specs.declared.stop.Stop.{Stop}
 use Rattle.agent_machine.specs.declared.stop.Stop.TheVariants as stop
-use Rattle.agent_machine.specs.Fields.{Fields}
+use Rattle.fwu_formats.specs.Metadata.{state_at}
+use Rattle.fwu_model.specs.State.{is_invalid}
+use Rattle.agent_machine.specs.Fields.{Fields, target}
+use Rattle.agent_calls.specs.Metas.{meta_begun}
+use Rattle.agent_calls.proofs.Taking.{takes-begin as takes-a-begin}
 use Rattle.agent_machine.specs.Ends.{IsWriter, TakesSwitch}
 use Rattle.agent_machine.specs.Meets.{IsDone, IsRefused, flash_result}
 use Rattle.agent_machine.specs.Stored.{TakesStore}
 use Rattle.agent_calls.specs.declared.agent.Agent.{Agent}
 use Rattle.agent_calls.specs.Shown.{device, fields}
 use Rattle.script_turns.specs.Powered.{Moment, SameDevice, at}
-use Rattle.script_turns.specs.Takes.{BeginsOver, CommitsBy, IsStoredBy, IsSwitchedBy, ReadsBy, WritesBy}
+use Rattle.script_turns.specs.Takes.{AcceptsBy, BeginsBy, BeginsOver, CommitsBy, IsStoredBy, IsSwitchedBy, ReadsBy, WritesBy}
 use Rattle.script_turns.specs.Calls.{on_by, reply_by}
 
 -- the device of an agent, with what is kept
@@ -38,15 +42,32 @@ stores-by (Err stop.Lost) f g old new spent refused = tt
 stores-by (Err stop.Fault) f g old new spent refused = tt
 stores-by (Err stop.Gone) f g old new spent refused = tt
 
--- a partial begin, by what it wrote
-pub begins-by : (result : Result (Unit {0}) Stop) (types : List (List ℕ)) (f : Fields) (old new : Moment)
+pub accepts-by : (result : Result (Unit {0}) Stop) (f g : Fields) (old new : Moment) → OnOk result (TakesStore f.meta g.meta old.armed new.armed) → (IsRefused result → SameDevice old new)
+    → AcceptsBy (done_reply result) f (on_by result g) old new
+accepts-by (Ok value) f g old new spent refused = spent
+accepts-by (Err (stop.Status st)) f g old new spent refused = refused tt
+accepts-by (Err stop.Lost) f g old new spent refused = tt
+accepts-by (Err stop.Fault) f g old new spent refused = tt
+accepts-by (Err stop.Gone) f g old new spent refused = tt
+
+-- a begin, by what it wrote
+pub begins-by : (result : Result (Unit {0}) Stop) (f : Fields) (old new : Moment) → OnOk result (TakesWrites (writes_to_begin f) old.armed new.armed)
+    → (IsRefused result → SameDevice old new) → BeginsBy (done_reply result) f old new
+begins-by (Ok value) f old new spent refused = spent
+begins-by (Err (stop.Status st)) f old new spent refused = refused tt
+begins-by (Err stop.Lost) f old new spent refused = tt
+begins-by (Err stop.Fault) f old new spent refused = tt
+begins-by (Err stop.Gone) f old new spent refused = tt
+
+-- a partial begin
+pub begins-over : (result : Result (Unit {0}) Stop) (types : List (List ℕ)) (f : Fields) (old new : Moment)
     → OnOk result (TakesWrites (writes_to_begin f + writes_to_copy (are_named f.layout.rows types) f.lengths (length f.layout.rows)) old.armed new.armed)
-    → (IsRefused result → new.armed ≡ old.armed) → BeginsOver (done_reply result) types f old new
-begins-by (Ok value) types f old new spent refused = spent
-begins-by (Err (stop.Status st)) types f old new spent refused = refused tt
-begins-by (Err stop.Lost) types f old new spent refused = tt
-begins-by (Err stop.Fault) types f old new spent refused = tt
-begins-by (Err stop.Gone) types f old new spent refused = tt
+    → (IsRefused result → SameDevice old new) → BeginsOver (done_reply result) types f old new
+begins-over (Ok value) types f old new spent refused = spent
+begins-over (Err (stop.Status st)) types f old new spent refused = refused tt
+begins-over (Err stop.Lost) types f old new spent refused = tt
+begins-over (Err stop.Fault) types f old new spent refused = tt
+begins-over (Err stop.Gone) types f old new spent refused = tt
 
 -- what was written by the image of a handle
 abbrev Appends : Result (Unit {0}) Stop → Fields → ℕ → List ℕ → Moment → Moment → Type 0
@@ -100,14 +121,26 @@ module _ {D : Type 0} {F : Ghosts D} (a b : Agent D F) where
   same-device on now same = record { told = ap F.told same; counts = ap F.counts same; armed = ap F.arming same; power = ap F.on same }
 
   module _ (result : Result (Unit {0}) Stop) where
-    pub takes-store : OnOk result (TakesStore (fields a).meta (fields b).meta (F.arming (device a)) (F.arming (device b))) → (IsRefused result → b ≡ a)
-        → IsStoredBy (done_reply result) (fields a) (on_by result (fields b)) (with (Some (fields a)) a) (with (on_by result (fields b)) b)
-    takes-store spent refused = stores-by result (fields a) (fields b) _ _ spent (λ h. ap (λ (x : Agent D F). F.arming (device x)) (refused h))
+    pub takes-accept : OnOk result (TakesStore (fields a).meta (fields b).meta (F.arming (device a)) (F.arming (device b))) → (IsRefused result → b ≡ a)
+        → AcceptsBy (done_reply result) (fields a) (on_by result (fields b)) (with (Some (fields a)) a) (with (on_by result (fields b)) b)
+    takes-accept spent refused = accepts-by result (fields a) (fields b) _ _ spent (λ h. same-device _ _ (ap device (refused h)))
 
-    pub takes-begin : (types : List (List ℕ)) → let f = fields a in
+    pub takes-begin : (IsDone result → (fields b).meta ≡ meta_begun (fields a))
+        → (IsTrue (is_invalid (state_at (fields a).meta.meta (target (fields a)))) → device b ≡ device a)
+        → OnOk result (TakesStore (fields a).meta (fields b).meta (F.arming (device a)) (F.arming (device b))) → (IsRefused result → b ≡ a)
+        → BeginsBy (done_reply result) (fields a) (with (Some (fields a)) a) (with (on_by result (fields b)) b)
+    takes-begin keeps still spent refused = begins-by result (fields a) _ _ (done result keeps spent) (λ h. same-device _ _ (ap device (refused h)))
+      where
+        done : (q : Result (Unit {0}) Stop) → (IsDone q → (fields b).meta ≡ meta_begun (fields a))
+            → OnOk q (TakesStore (fields a).meta (fields b).meta (F.arming (device a)) (F.arming (device b)))
+            → OnOk q (TakesWrites (writes_to_begin (fields a)) (F.arming (device a)) (F.arming (device b)))
+        done (Ok value) keeps spent = takes-a-begin (fields a) (fields b).meta (F.arming (device a)) (F.arming (device b)) spent (keeps tt) (λ is. ap F.arming (still is))
+        done (Err q) keeps spent = tt
+
+    pub takes-partial : (types : List (List ℕ)) → let f = fields a in
         OnOk result (TakesWrites (writes_to_begin f + writes_to_copy (are_named f.layout.rows types) f.lengths (length f.layout.rows)) (F.arming (device a)) (F.arming (device b)))
         → (IsRefused result → b ≡ a) → BeginsOver (done_reply result) types (fields a) (with (Some (fields a)) a) (with (on_by result (fields b)) b)
-    takes-begin types spent refused = begins-by result types (fields a) _ _ spent (λ h. ap (λ (x : Agent D F). F.arming (device x)) (refused h))
+    takes-partial types spent refused = begins-over result types (fields a) _ _ spent (λ h. same-device _ _ (ap device (refused h)))
 
     pub takes-write : (number : ℕ) (bytes : List ℕ) → (result ≡ Err stop.Gone → ⊥)
         → (IsDone result → (image : ℕ) → handle_kept (fields a).session (number - 1) ≡ handle.Writes image

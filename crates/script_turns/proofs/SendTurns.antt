@@ -51,7 +51,9 @@ use Rattle.update_client.specs.Pieces.{ReadsBy, unread_in}
 use Rattle.update_client.specs.Choosing.{no_row}
 use Rattle.update_client.specs.Sends.{AnswersBy, IsEarly, Sends, SendsBy, ended, send_answer}
 use Rattle.update_client.specs.Partial.{GoesAs, SendsOver, WasBegun, over_answer}
-use Rattle.update_client.specs.Takes.{SendTakes as TakesSent}
+use Rattle.base_core.specs.Block.{block_bytes}
+use Rattle.agent_calls.specs.Takes.{Takes as TakesWrites}
+use Rattle.update_client.specs.Takes.{OnRefusedEnd, OnUnread, SendTakes as TakesSent, UnreadTakes}
 use Rattle.agent_calls.specs.declared.agent.Agent.{Agent}
 use Rattle.agent_calls.specs.Shown.{fields}
 use Rattle.script_turns.specs.Calls.{is_composed, moment_where}
@@ -59,7 +61,7 @@ use Rattle.script_turns.specs.Stage.{on_where}
 use Rattle.script_turns.specs.Powered.{Moment, at, kept_at, IsAt, IsSafe}
 use Rattle.script_turns.specs.Replies.{Replies, power_after}
 use Rattle.script_turns.specs.Sending.{AnswersSend, IsTableOf, LacksSent, SendSays, SendsAs, TellsBegun, done_reply, is_answered, on_sent, send_call, sent_reply}
-use Rattle.script_turns.specs.Takes.{SendTakes, StaysFree, TakesOn, stop_told, unread_told, writes_partly, writes_whole}
+use Rattle.script_turns.specs.Takes.{AreSent, SendTakes, StaysFree, TakesOn, stop_told, unread_told, writes_before, writes_of}
 use Rattle.script_turns.specs.Turning.{Makes, NoneFalls, Turns, quiet_turn}
 use Rattle.script_turns.proofs.CallTakes.{with}
 use Rattle.script_turns.proofs.Quiets.{stays-free}
@@ -104,7 +106,7 @@ replies-as false passes tells files name request old new r says = says
 replies-as true passes tells files name request old new r says = says
 
 takes-as : (partly : Bool) (files : Option Directory) (name : List ℕ) (request : ℕ) (f : Fields) (old : Moment) (r : Reply) (new : Moment)
-    → SendTakes files name f r old new → TakesOn files (send_call partly name request) f old r new
+    → SendTakes partly files name f r old new → TakesOn files (send_call partly name request) f old r new
 takes-as false files name request f old r new takes = takes
 takes-as true files name request f old r new takes = takes
 
@@ -391,7 +393,7 @@ module _ (partly : Bool) (passes : List ℕ → Bool) (tells : Bool) (files : Op
 
   -- it is answered by its first fault
   pub bad-table : (r : Reply) → are ≤ was → IsFalse (is_stop r) → power_after power r ≡ power → IsTableOf files name (Err r)
-      → SendSays partly passes tells files name request (Some f) t r (Some f) t → (Lacks files name → ⊥) → SendTakes files name f r here here → StaysFree r here here
+      → SendSays partly passes tells files name request (Some f) t r (Some f) t → (Lacks files name → ⊥) → SendTakes partly files name f r here here → StaysFree r here here
       → Turns passes tells files (send_call partly name request) (quiet_turn (send_call partly name request) r) here here was are
   bad-table r none no_stop keeps table says there early free = record {
     call_is = refl;
@@ -444,7 +446,7 @@ module _ (partly : Bool) (passes : List ℕ → Bool) (tells : Bool) (files : Op
     unread_once = omega (arith, once);
     reads_none = λ e. absurd (always-reads partly name request e);
     replies = replies-as partly passes tells files name request here (at None t cs armed power) reply.ReadFault tt;
-    takes = record { by_call = takes-as partly files name request f here reply.ReadFault (at None t cs armed power) tt; unread = λ e none. record { told = refl; counts = refl; armed = refl; power = refl } };
+    takes = record { by_call = takes-as partly files name request f here reply.ReadFault (at None t cs armed power) (inl (record { told = refl; counts = refl; armed = refl; power = refl })); unread = λ e none. record { told = refl; counts = refl; armed = refl; power = refl } };
     power = refl;
     guard = λ e. refl;
     step = λ e E from passes_are told is no_chance.
@@ -458,11 +460,6 @@ module _ (partly : Bool) (passes : List ℕ → Bool) (tells : Bool) (files : Op
   }
 
 -- ---- a sending
-
--- the writes of a sending of this kind
-abbrev pub writes_of : Bool → Fields → Toc → ℕ
-writes_of false f toc = writes_whole f toc
-writes_of true f toc = writes_partly f toc
 
 -- one that was done goes on
 done-calm : (partly : Bool) (sent : Sent) → IsFalse (is_stop (done_reply partly sent))
@@ -625,22 +622,28 @@ module _ (partly : Bool) (passes : List ℕ → Bool) (tells : Bool) (files : Op
 
   -- what was done to the device
   done-takes : (kind : Bool) (sent : Sent) (toc : Toc) (from to : Moment) → IsTableOf files name (Ok toc) → TakesSent (writes_of kind f toc) from.armed to.armed
-      → SendTakes files name f (done_reply kind sent) from to
+      → SendTakes kind files name f (done_reply kind sent) from to
   done-takes false sent toc from to table takes = record { toc = toc; table = table; spent = takes }
   done-takes true sent toc from to table takes = record { toc = toc; table = table; spent = takes }
 
+  -- up to a read of the file that failed
+  abbrev unread_takes : Toc → Type 0
+  unread_takes toc = (entries : List Entry) × AreSent partly f.layout.rows toc entries × UnreadTakes (writes_before partly f toc) block_bytes entries armed arming
+
   pub sent-takes : (result : Result Sent SendStop) (power : Bool) (toc : Toc) → power ≡ is_ok (flash_of result)
       → (IsEarly result → (u ≡ t) × (ds ≡ cs) × (arming ≡ armed)) → IsTableOf files name (Ok toc) → OnOk result (TakesSent (writes_of partly f toc) armed arming)
-      → SendTakes files name f (sent_reply partly result) (at (Some f) t cs armed true) (at (on_sent result g) u ds arming power)
-  sent-takes (Ok sent) power toc powered same table takes = done-takes partly sent toc _ _ table takes
-  sent-takes (Err (MissingImage guid)) power toc powered same table takes = let d = same tt in record { told = d.0; counts = d.1; armed = d.2; power = powered }
-  sent-takes (Err (ImageTooLarge guid)) power toc powered same table takes = let d = same tt in record { told = d.0; counts = d.1; armed = d.2; power = powered }
-  sent-takes (Err (Begin st)) power toc powered same table takes = let d = same tt in record { told = d.0; counts = d.1; armed = d.2; power = powered }
-  sent-takes (Err (End st)) power toc powered same table takes = tt
-  sent-takes (Err ReadFailed) power toc powered same table takes = tt
-  sent-takes (Err Lost) power toc powered same table takes = tt
-  sent-takes (Err Fault) power toc powered same table takes = tt
-  sent-takes (Err Gone) power toc powered same table takes = tt
+      → OnRefusedEnd result (TakesWrites (writes_of partly f toc) armed arming) → OnUnread result (unread_takes toc)
+      → SendTakes partly files name f (sent_reply partly result) (at (Some f) t cs armed true) (at (on_sent result g) u ds arming power)
+  sent-takes (Ok sent) power toc powered same table takes refused unread = done-takes partly sent toc _ _ table takes
+  sent-takes (Err (MissingImage guid)) power toc powered same table takes refused unread = let d = same tt in record { told = d.0; counts = d.1; armed = d.2; power = powered }
+  sent-takes (Err (ImageTooLarge guid)) power toc powered same table takes refused unread = let d = same tt in record { told = d.0; counts = d.1; armed = d.2; power = powered }
+  sent-takes (Err (Begin st)) power toc powered same table takes refused unread = let d = same tt in record { told = d.0; counts = d.1; armed = d.2; power = powered }
+  sent-takes (Err (End st)) power toc powered same table takes refused unread = record { toc = toc; table = table; spent = refused }
+  sent-takes (Err ReadFailed) power toc powered same table takes refused unread =
+      inr (record { toc = toc; table = table; entries = unread.0; sent = unread.1; spent = unread.2 })
+  sent-takes (Err Lost) power toc powered same table takes refused unread = tt
+  sent-takes (Err Fault) power toc powered same table takes refused unread = tt
+  sent-takes (Err Gone) power toc powered same table takes refused unread = tt
 
   pub sent-free : (result : Result Sent SendStop) (power : Bool) → StaysUnarmed (flash_of result) armed arming cs ds
       → StaysFree (sent_reply partly result) (at (Some f) t cs armed true) (at (on_sent result g) u ds arming power)
@@ -658,7 +661,7 @@ module _ (partly : Bool) (passes : List ℕ → Bool) (tells : Bool) (files : Op
   pub sent-turn : (result : Result Sent SendStop) (power : Bool) → power ≡ is_ok (flash_of result) → (result ≡ Err Gone → ⊥) → (Lacks files name → ⊥)
       → Sending partly files name request passes result old new → ∥ agent.Showing old ∥₁ → (IsTrue tells → agent.Showing old)
       → Spends (flash_of result) cs ds → ReadsBy was are result
-      → SendTakes files name f (sent_reply partly result) (at (Some f) t cs armed true) (at (on_sent result g) u ds arming power)
+      → SendTakes partly files name f (sent_reply partly result) (at (Some f) t cs armed true) (at (on_sent result g) u ds arming power)
       → StaysFree (sent_reply partly result) (at (Some f) t cs armed true) (at (on_sent result g) u ds arming power)
       → Turns passes tells files (send_call partly name request) (quiet_turn (send_call partly name request) (sent_reply partly result)) (at (Some f) t cs armed true) (at (on_sent result g) u ds arming power) was are
   sent-turn result power powered there lacks_none sends some showing spent reads takes free = record {
@@ -698,6 +701,19 @@ module _ (partly : Bool) (passes : List ℕ → Bool) (tells : Bool) (files : Op
     where
       stays : Stays old new
       stays = ∥∥₁_elim some (hlevel props) (stays-of partly files name request passes result old new sends)
+
+-- the entries of a partial sending, where a read failed
+pub unread-over : (P : List Entry → Type 0) (entries : List Entry) (result : Result Sent SendStop) → OnUnread result (P entries)
+    → OnUnread result ((sent : List Entry) × (sent ≡ entries) × P sent)
+unread-over P entries (Ok sent) unread = tt
+unread-over P entries (Err (MissingImage guid)) unread = tt
+unread-over P entries (Err (ImageTooLarge guid)) unread = tt
+unread-over P entries (Err (Begin st)) unread = tt
+unread-over P entries (Err (End st)) unread = tt
+unread-over P entries (Err ReadFailed) unread = (entries, refl, unread)
+unread-over P entries (Err Lost) unread = tt
+unread-over P entries (Err Fault) unread = tt
+unread-over P entries (Err Gone) unread = tt
 
 -- ---- what the code has
 

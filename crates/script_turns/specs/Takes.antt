@@ -1,11 +1,12 @@
 -- What an armed loss counts of a turn, on any device.
-use Rattle.std.specs.Prelude.{◌≡◌, ℕ, ◌+◌, ◌-◌, List, length, Option, Some, None, Result, Ok, Err, ⊤}
+use Rattle.std.specs.Prelude.{◌≡◌, ◌⊎◌, ℕ, ◌+◌, ◌-◌, Bool, true, false, List, length, Option, Some, None, Result, Ok, Err, ⊤}
 use Rattle.flash_core.specs.declared.flash.FlashStop.{FlashStop}
 use Rattle.flash_core.specs.declared.flash.FlashStop.TheVariants as flash_stop
 use Rattle.flash_core.specs.Counts.{ReachesNone, Rose, StaysUnarmed, arming_kept}
 use Rattle.base_core.specs.Block.{block_bytes}
 use Rattle.host_io.specs.Contents.{Directory}
-use Rattle.fwu_formats.specs.Package.{Toc}
+use Rattle.fwu_formats.specs.Layout.{ImageRow}
+use Rattle.fwu_formats.specs.Package.{Entry, Toc}
 use Rattle.slot_writer.specs.Writes.{SpendsArming, writes_to_append, writes_to_finish}
 use Rattle.agent_kept.specs.Kept.{handle_kept, part_at, size_of}
 use Rattle.agent_kept.specs.declared.parts.Handle.TheVariants as handle
@@ -13,8 +14,9 @@ use Rattle.agent_machine.specs.Fields.{Fields}
 use Rattle.agent_machine.specs.Ends.{IsWriter, TakesSwitch}
 use Rattle.agent_machine.specs.Stored.{TakesStore}
 use Rattle.agent_calls.specs.Takes.{Takes as TakesWrites, writes_to_begin, writes_to_copy}
-use Rattle.update_client.specs.Takes.{SendTakes as TakesSent, writes_sent}
-use Rattle.update_client.specs.Partial.{writes_over}
+use Rattle.update_client.specs.Choosing.{AreChosen}
+use Rattle.update_client.specs.Takes.{SendTakes as TakesSent, UnreadTakes, writes_sent}
+use Rattle.update_client.specs.Partial.{present, writes_copied, writes_over}
 use Rattle.fwu_model.specs.Answer.{are_named}
 use Rattle.fwu_model.specs.Call.{Call}
 use Rattle.fwu_model.specs.Call as call
@@ -41,19 +43,30 @@ unread_told other = 0
 abbrev pub StaysFree : Reply → Moment → Moment → Type 0
 StaysFree r old new = StaysUnarmed (stop_told r) old.armed new.armed old.counts new.counts
 
--- a call that stores metadata stored it, or has it as it was and wrote nothing; a refused one did not touch the arming
+-- A begin that is done stored the metadata, or wrote nothing where the update bank was invalid already. A refused one did nothing.
+abbrev pub BeginsBy : Reply → Fields → Moment → Moment → Type 0
+BeginsBy reply.Success f old new = TakesWrites (writes_to_begin f) old.armed new.armed
+BeginsBy (reply.Refused st) f old new = SameDevice old new
+BeginsBy other f old new = ⊤
+
+-- A partial begin that is done wrote what a begin writes, and each image that is copied, and no other. A refused one did nothing.
+abbrev pub BeginsOver : Reply → List (List ℕ) → Fields → Moment → Moment → Type 0
+BeginsOver reply.Success types f old new = TakesWrites (writes_to_begin f
+    + writes_to_copy (are_named f.layout.rows types) f.lengths (length f.layout.rows)) old.armed new.armed
+BeginsOver (reply.Refused st) types f old new = SameDevice old new
+BeginsOver other types f old new = ⊤
+
+-- an accept stored the metadata, or has it as it was and wrote nothing; a refused one did nothing
+abbrev pub AcceptsBy : Reply → Fields → Option Fields → Moment → Moment → Type 0
+AcceptsBy reply.Success f (Some g) old new = TakesStore f.meta g.meta old.armed new.armed
+AcceptsBy (reply.Refused st) f on old new = SameDevice old new
+AcceptsBy other f on old new = ⊤
+
+-- so of going back, but that a refused one may have read the flash
 abbrev pub IsStoredBy : Reply → Fields → Option Fields → Moment → Moment → Type 0
 IsStoredBy reply.Success f (Some g) old new = TakesStore f.meta g.meta old.armed new.armed
 IsStoredBy (reply.Refused st) f on old new = new.armed ≡ old.armed
 IsStoredBy other f on old new = ⊤
-
--- A partial begin that is done wrote what a begin writes, and each image that is copied, and no other. A refused one did not touch
--- the arming.
-abbrev pub BeginsOver : Reply → List (List ℕ) → Fields → Moment → Moment → Type 0
-BeginsOver reply.Success types f old new = TakesWrites (writes_to_begin f
-    + writes_to_copy (are_named f.layout.rows types) f.lengths (length f.layout.rows)) old.armed new.armed
-BeginsOver (reply.Refused st) types f old new = new.armed ≡ old.armed
-BeginsOver other types f old new = ⊤
 
 -- what a write through a handle wrote, by the image of the handle; a refused one did nothing
 abbrev pub WritesBy : Reply → Fields → ℕ → List ℕ → Moment → Moment → Type 0
@@ -87,23 +100,55 @@ writes_whole f toc = writes_to_begin f + writes_sent block_bytes f.layout.rows t
 abbrev pub writes_partly : Fields → Toc → ℕ
 writes_partly f toc = writes_to_begin f + writes_over block_bytes f.layout.rows f.lengths toc
 
+-- by whether it is partial
+abbrev pub writes_of : Bool → Fields → Toc → ℕ
+writes_of false f toc = writes_whole f toc
+writes_of true f toc = writes_partly f toc
+
+-- those of its begin, and of the copies of a partial one
+abbrev pub writes_before : Bool → Fields → Toc → ℕ
+writes_before false f toc = writes_to_begin f
+writes_before true f toc = writes_to_begin f + writes_copied f.layout.rows f.lengths toc
+
+-- the entries of all images, or of those that the table has
+abbrev pub AreSent : Bool → List ImageRow → Toc → List Entry → Type 0
+AreSent false rows toc entries = AreChosen rows toc entries
+AreSent true rows toc entries = entries ≡ present rows toc
+
 -- by some table, that of the file where it is told: so many, and those of the switch
 pub record SentTakes (files : Option Directory) (name : List ℕ) (writes : Toc → ℕ) (old new : Moment) : Type 0 where
   pub toc : Toc
   pub table : IsTableOf files name (Ok toc)
   pub spent : TakesSent (writes toc) old.armed new.armed
 
--- A sending that is done takes the erases and programs of its writes and of the switch, and no other. What was refused before
--- anything was sent did nothing.
-abbrev pub SendTakes : Option Directory → List ℕ → Fields → Reply → Moment → Moment → Type 0
-SendTakes files name f (reply.Sent images skipped) old new = SentTakes files name (writes_whole f) old new
-SendTakes files name f (reply.SentPartial images skipped copied) old new = SentTakes files name (writes_partly f) old new
-SendTakes files name f (reply.BadPackage g) old new = SameDevice old new
-SendTakes files name f (reply.BadCapsule g) old new = SameDevice old new
-SendTakes files name f (reply.Missing guid) old new = SameDevice old new
-SendTakes files name f (reply.TooLarge guid) old new = SameDevice old new
-SendTakes files name f (reply.BeginRefused st) old new = SameDevice old new
-SendTakes files name f other old new = ⊤
+-- so many, and no switch
+pub record EndTakes (files : Option Directory) (name : List ℕ) (writes : Toc → ℕ) (old new : Moment) : Type 0 where
+  pub toc : Toc
+  pub table : IsTableOf files name (Ok toc)
+  pub spent : TakesWrites (writes toc) old.armed new.armed
+
+-- those of the begin, of the first images, and of the first pieces of the next one, of which a further one could not be read
+pub record StopTakes (partial : Bool) (files : Option Directory) (name : List ℕ) (f : Fields) (old new : Moment) : Type 0 where
+  pub toc : Toc
+  pub table : IsTableOf files name (Ok toc)
+  pub entries : List Entry
+  pub sent : AreSent partial f.layout.rows toc entries
+  pub spent : UnreadTakes (writes_before partial f toc) block_bytes entries old.armed new.armed
+
+-- A sending that is done takes the erases and programs of its writes and of the switch, and no other. One whose end is refused takes
+-- those of its writes alone, and one whose file could not be read those up to that read. What was refused before anything was sent
+-- did nothing.
+abbrev pub SendTakes : Bool → Option Directory → List ℕ → Fields → Reply → Moment → Moment → Type 0
+SendTakes partial files name f (reply.Sent images skipped) old new = SentTakes files name (writes_of partial f) old new
+SendTakes partial files name f (reply.SentPartial images skipped copied) old new = SentTakes files name (writes_of partial f) old new
+SendTakes partial files name f (reply.BadPackage g) old new = SameDevice old new
+SendTakes partial files name f (reply.BadCapsule g) old new = SameDevice old new
+SendTakes partial files name f (reply.Missing guid) old new = SameDevice old new
+SendTakes partial files name f (reply.TooLarge guid) old new = SameDevice old new
+SendTakes partial files name f (reply.BeginRefused st) old new = SameDevice old new
+SendTakes partial files name f (reply.EndRefused st) old new = EndTakes files name (writes_of partial f) old new
+SendTakes partial files name f reply.ReadFault old new = SameDevice old new ⊎ StopTakes partial files name f old new
+SendTakes partial files name f other old new = ⊤
 
 -- A boot comes as much nearer an armed loss as an end with this reply does: by the repair of the metadata, and by what the start of
 -- a bank is counted as. A loss that is armed stays so while power comes back.
@@ -115,7 +160,7 @@ pub record BootsBy (r : Reply) (old new : Moment) : Type 0 where
 -- by what the agent kept
 abbrev pub TakesOn : Option Directory → Call → Fields → Moment → Reply → Moment → Type 0
 TakesOn files call.Discover f old r new = SameDevice old new
-TakesOn files (call.Begin n) f old r new = IsStoredBy r f new.on old new
+TakesOn files (call.Begin n) f old r new = BeginsBy r f old new
 TakesOn files (call.BeginPartial types) f old r new = BeginsOver r types f old new
 TakesOn files (call.OpenRead guid) f old r new = SameDevice old new
 TakesOn files (call.OpenWrite guid) f old r new = SameDevice old new
@@ -124,10 +169,10 @@ TakesOn files (call.Read number room) f old r new = ReadsBy r old new
 TakesOn files (call.Commit number request) f old r new = CommitsBy r f number old new
 TakesOn files call.End f old r new = IsSwitchedBy r old new
 TakesOn files call.Cancel f old r new = SameDevice old new
-TakesOn files (call.Accepts guid) f old r new = IsStoredBy r f new.on old new
+TakesOn files (call.Accepts guid) f old r new = AcceptsBy r f new.on old new
 TakesOn files call.Previous f old r new = IsStoredBy r f new.on old new
-TakesOn files (call.Send name request) f old r new = SendTakes files name f r old new
-TakesOn files (call.SendPartial name request) f old r new = SendTakes files name f r old new
+TakesOn files (call.Send name request) f old r new = SendTakes false files name f r old new
+TakesOn files (call.SendPartial name request) f old r new = SendTakes true files name f r old new
 TakesOn files call.Boot f old r new = BootsBy r old new
 TakesOn files (call.Cut n k) f old r new = ⊤
 TakesOn files call.Show f old r new = SameDevice old new

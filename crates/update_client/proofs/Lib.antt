@@ -11,6 +11,7 @@ pub mod WholeSending
 mod Spending
 pub mod ImagesTaking
 mod Stopped
+mod Unsent
 mod Over
 mod Present
 mod Named

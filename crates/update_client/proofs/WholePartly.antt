@@ -1,5 +1,5 @@
 -- A partial sending as one answer of the machine, or a part of one.
-use Rattle.std.proofs.Common.{◌≡◌, cond, ℕ, ◌<◌, Bool, true, false, not, List, [], ◌∷◌, ◌++◌, map, length, get_or, replicate, Option, Some, None, Result, Ok, Err, refl, sym, ap, subst, ◌∙◌, arith}
+use Rattle.std.proofs.Common.{◌≡◌, cond, ℕ, ◌<◌, Bool, true, false, not, List, [], ◌∷◌, ◌++◌, map, length, take, get_or, replicate, Option, Some, None, Result, Ok, Err, refl, sym, ap, subst, ◌∙◌, arith}
 use Rattle.std.specs.Prelude.{IsTrue, ◌==◌}
 use Rattle.std.specs.List.{list_all, list_any}
 use Rattle.std.proofs.lemmas.List.{get_or-map, length-map}
@@ -461,10 +461,11 @@ module _ (told : Option Directory) (name : List ℕ) (toc : Toc) (request : ℕ)
               E old new s (On boot staging handles)) (sym (none-in E layout))
               (sent-halted E s boot staging handles (p (Err halt) inst) (bits_over E.layout.rows toc request) done old m1 new all.0 _ all.1 halt all.2)
 
-      -- what the installing takes of an armed loss, wherever a machine is shown
-      pub over-take : (size : ℕ) (armed sent : Option Arming) → ImagesTake size entries (length entries) m1 armed sent → Showing old
-          → Takes (writes_in size (present rows toc)) armed sent
-      over-take size armed sent images one = by-session one.state one.session one.shows
+      -- what some writes of the installing take of an armed loss, wherever a machine is shown
+      pub over-some : (writes : ℕ) (armed sent : Option Arming)
+          → ((E : Setting) (s : State) (boot : ℕ) (parts : List Staged) (sent_to : List ℕ) → E.layout ≡ m1.fields.layout
+          → AreImages E entries sent_to parts → Shows m1 s (between boot parts) → Takes writes armed sent) → Showing old → Takes writes armed sent
+      over-some writes armed sent images one = by-session one.state one.session one.shows
         where
           E : Setting
           E = record { layout = old.fields.layout; files = λ _. None; passes = passes }
@@ -472,7 +473,7 @@ module _ (told : Option Directory) (name : List ℕ) (toc : Toc) (request : ℕ)
           no-gone : ◌≡◌ {A = Result (Unit {0}) Stop} (Ok tt) (Err stop.Gone) → ⊥
           no-gone e = absurd cc
 
-          by-session : (s : State) (x : Session) → Shows old s x → Takes (writes_in size (present rows toc)) armed sent
+          by-session : (s : State) (x : Session) → Shows old s x → Takes writes armed sent
           by-session s Off shows = absurd (never-off old s shows)
           by-session s (On boot staging handles) shows =
               let x = On boot staging handles in
@@ -481,6 +482,11 @@ module _ (told : Option Directory) (name : List ℕ) (toc : Toc) (request : ℕ)
               let begun = begin-done E s boot staging handles [] [] reply.Success types begins.bytes known old m1 answers.0
               (begun-goes old m1 types (are_named rows types) passes (Ok tt) (λ e. no-gone e) begins E s x setting shows) in
               let goes = subst (λ (ps : List Staged). Goes E (Ok tt) old m1 s (begin_moves s) (between boot ps)) (copied-is rows toc begins.bytes) begun.1 in
-              subst (λ (l : List Entry). Takes (writes_in size l) armed sent) are
-              (images-taken size entries armed sent
-              (images E (after s (begin_moves s)) boot (kept_parts toc begins.bytes 0 rows) (places toc 0 rows) (sym goes.stays.layout) (placed E refl) goes.shows))
+              images E (after s (begin_moves s)) boot (kept_parts toc begins.bytes 0 rows) (places toc 0 rows) (sym goes.stays.layout) (placed E refl) goes.shows
+
+      -- and all of them
+      pub over-take : (size : ℕ) (armed sent : Option Arming) → ImagesTake size entries (length entries) m1 armed sent → Showing old
+          → Takes (writes_in size (present rows toc)) armed sent
+      over-take size armed sent images one =
+          subst (λ (l : List Entry). Takes (writes_in size l) armed sent) are
+          (images-taken size entries armed sent (over-some (writes_in size (take (length entries) entries)) armed sent images one))

@@ -1,5 +1,5 @@
 -- A sending as one answer of the machine, or a part of one.
-use Rattle.std.proofs.Common.{◌≡◌, cond, ℕ, suc, ◌+◌, ◌<◌, ◌≤◌, Bool, true, false, List, [], ◌∷◌, ◌++◌, ◌⊎◌, inl, inr, length, map, get_or, set, replicate, Option, Some, None, Result, Ok, Err, refl, sym, ap, subst, ◌∙◌, arith, append-nil, get_or-set_same, length-set}
+use Rattle.std.proofs.Common.{◌≡◌, cond, ℕ, suc, ◌+◌, ◌<◌, ◌≤◌, Bool, true, false, List, [], ◌∷◌, ◌++◌, ◌⊎◌, inl, inr, length, take, map, get_or, set, replicate, Option, Some, None, Result, Ok, Err, refl, sym, ap, subst, ◌∙◌, arith, append-nil, get_or-set_same, length-set}
 use Rattle.std.proofs.lemmas.Bool.{and_parts}
 use Rattle.std.proofs.Math.Nat.{mod-lt, ℕ_set}
 use Rattle.std.proofs.Math.Logic.{∥∥₁_elim}
@@ -263,7 +263,7 @@ images-are file toc (r ∷ rows) (e ∷ entries) count each =
     (images-are file toc rows entries (omega (arith, count)) (λ k lt. each (suc k) (omega (arith, lt))))
 
 -- what is refused before any call
-early-cases : (o : Option Reply) (halt : SendStop) → refused_image o ≡ Some halt
+pub early-cases : (o : Option Reply) (halt : SendStop) → refused_image o ≡ Some halt
     → ((g : List ℕ) × (halt ≡ MissingImage g) × (o ≡ Some (reply.Missing g)))
     ⊎ ((g : List ℕ) × (halt ≡ ImageTooLarge g) × (o ≡ Some (reply.TooLarge g)))
 early-cases (Some (reply.Missing g)) halt is = inl (g, sym (some-is (MissingImage g) halt is), refl)
@@ -380,23 +380,29 @@ module _ (told : Option Directory) (name : List ℕ) (toc : Toc) (request : ℕ)
           (whole-package n bit inst.images all)
           (inst.goes E w boot (replicate n Nothing) places (layout ∙ sym begun.stays.layout) verifier are (whole-committed n bit inst.images all) begun.shows))
 
-    -- what the installing takes of an armed loss, wherever a machine is shown
-    pub sends-take : (size : ℕ) (armed sent : Option Arming) → ImagesTake size entries (length entries) m1 armed sent → Showing old
-        → Takes (writes_sent size old.fields.layout.rows toc) armed sent
-    sends-take size armed sent images one = by-session one.state one.session one.shows
+    -- what some writes of the installing take of an armed loss, wherever a machine is shown
+    pub sends-some : (writes : ℕ) (armed sent : Option Arming)
+        → ((E : Setting) (s : State) (boot : ℕ) (parts : List Staged) (places : List ℕ) → E.layout ≡ m1.fields.layout
+        → AreImages E entries places parts → Shows m1 s (between boot parts) → Takes writes armed sent) → Showing old → Takes writes armed sent
+    sends-some writes armed sent images one = by-session one.state one.session one.shows
       where
         E : Setting
         E = record { layout = old.fields.layout; files = λ _. None; passes = passes }
 
-        by-session : (s : State) (x : Session) → Shows old s x → Takes (writes_sent size old.fields.layout.rows toc) armed sent
+        by-session : (s : State) (x : Session) → Shows old s x → Takes writes armed sent
         by-session s Off shows = absurd (never-off old s shows)
         by-session s (On boot staging handles) shows =
             let begun = (begin-done E old m1 s boot staging handles refl shows (begins passes)).1 in
-            takes-as (writes_in size entries) (writes_sent size old.fields.layout.rows toc) armed sent
-            (writes-chosen size old.fields.layout.rows toc entries chosen.count chosen.each)
-            (images-taken size entries armed sent
-            (images E (after s (begin_moves s)) boot (replicate (length E.layout.rows) Nothing) (range_with_len 0 (length E.layout.rows))
-            (sym begun.stays.layout) (are E refl) begun.shows))
+            images E (after s (begin_moves s)) boot (replicate (length E.layout.rows) Nothing) (range_with_len 0 (length E.layout.rows))
+            (sym begun.stays.layout) (are E refl) begun.shows
+
+    -- and all of them
+    pub sends-take : (size : ℕ) (armed sent : Option Arming) → ImagesTake size entries (length entries) m1 armed sent → Showing old
+        → Takes (writes_sent size old.fields.layout.rows toc) armed sent
+    sends-take size armed sent images one =
+        takes-as (writes_in size entries) (writes_sent size old.fields.layout.rows toc) armed sent
+        (writes-chosen size old.fields.layout.rows toc entries chosen.count chosen.each)
+        (images-taken size entries armed sent (sends-some (writes_in size (take (length entries) entries)) armed sent images one))
 
     pub sends-done : (sent : Sent) → sent.images ≡ length old.fields.layout.rows
         → sent.skipped ≡ skipped old.fields.layout.rows toc → InstallsImages told name entries request passes (Ok tt) m1 new

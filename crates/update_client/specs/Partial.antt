@@ -126,7 +126,10 @@ pub record InstallsOver (told : Option Directory) (name : List ℕ) (toc : Toc) 
 abbrev pub IsCountedOver : List ImageRow → Toc → Sent → Type 0
 IsCountedOver rows toc sent = reply.SentPartial sent.images sent.skipped sent.copied ≡ sent_over rows toc
 
--- the writes and commits of the images that are copied, and of those that are sent, `size` bytes at a time
+-- the writes and commits of the images that are copied
+abbrev pub writes_copied : List ImageRow → List ℕ → Toc → ℕ
+writes_copied rows lengths toc = writes_to_copy (are_named rows (types_of (present rows toc))) lengths (length rows)
+
+-- and of those that are sent, `size` bytes at a time
 abbrev pub writes_over : ℕ → List ImageRow → List ℕ → Toc → ℕ
-writes_over size rows lengths toc =
-    writes_to_copy (are_named rows (types_of (present rows toc))) lengths (length rows) + writes_in size (present rows toc)
+writes_over size rows lengths toc = writes_copied rows lengths toc + writes_in size (present rows toc)

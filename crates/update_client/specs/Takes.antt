@@ -1,5 +1,5 @@
 -- How many erases and programs a sending makes, as an armed loss counts them, on every device.
-use Rattle.std.specs.Prelude.{◌≡◌, ℕ, ◌+◌, ◌<◌, ◌≤◌, List, [], ◌∷◌, length, take, Option, Some, None, slice_index_or}
+use Rattle.std.specs.Prelude.{◌≡◌, ℕ, ◌+◌, ◌*◌, ◌<◌, ◌≤◌, List, [], ◌∷◌, length, take, Option, Some, None, Result, Ok, Err, slice_index_or, ⊤}
 use Rattle.flash_core.specs.declared.flash.Arming.{Arming}
 use Rattle.flash_core.specs.Counts.{lowered_by}
 use Rattle.fwu_formats.specs.Layout.{ImageRow, find_image, slot_bytes}
@@ -12,7 +12,9 @@ use Rattle.agent_machine.specs.Ends.{TakesSwitch}
 use Rattle.agent_machine.specs.Moment.{Moment, Shows}
 use Rattle.agent_machine.specs.Filling.{between, within}
 use Rattle.agent_calls.specs.Takes.{Takes, writes_of_image, writes_of_pieces}
-use Rattle.update_client.specs.Images.{AreImages}
+use Rattle.update_client.specs.Images.{AreImages, no_entry}
+use Rattle.update_client.specs.declared.stops.SendStop.{SendStop}
+use Rattle.update_client.specs.declared.stops.SendStop.TheVariants.{MissingImage, ImageTooLarge, Begin, End, ReadFailed, Lost, Fault, Gone}
 
 -- the writes and commits of these payloads, written `size` bytes at a time
 abbrev pub writes_in : ℕ → List Entry → ℕ
@@ -65,3 +67,54 @@ pub record InstallTakes (size : ℕ) (entries : List Entry) (old : Moment) (arme
   pub sent : Option Arming
   pub images : ImagesTake size entries (length entries) old armed sent
   pub switch : TakesSwitch sent arming
+
+-- ---- a sending that was not done
+
+-- what is said of one whose end was refused
+abbrev pub OnRefusedEnd : {T : Type 0} → Result T SendStop → Type 0 → Type 0
+OnRefusedEnd (Err (End st)) P = P
+OnRefusedEnd other P = ⊤
+
+-- and of one whose file could not be read
+abbrev pub OnUnread : {T : Type 0} → Result T SendStop → Type 0 → Type 0
+OnUnread (Err ReadFailed) P = P
+OnUnread other P = ⊤
+
+-- the first pieces of a payload, which has a further one
+pub record FrontTakes (size : ℕ) (e : Entry) (old : Moment) (armed arming : Option Arming) : Type 0 where
+  pub pieces : ℕ
+  pub more : size * pieces < e.size
+  pub takes : FirstTake size e pieces old armed arming
+
+-- of an image
+pub record ImageStarts (size : ℕ) (guid : List ℕ) (e : Entry) (old : Moment) (armed arming : Option Arming) : Type 0 where
+  pub pieces : ℕ
+  pub more : size * pieces < e.size
+  pub takes : (E : Setting) (s : State) (boot : ℕ) (parts : List Staged) (image : ℕ)
+      → E.layout ≡ old.fields.layout → image < length parts → find_image E.layout.rows guid ≡ Some image
+      → e.size ≤ slot_bytes E.layout image → slice_index_or parts image Nothing ≡ Nothing → Shows old s (between boot parts)
+      → Takes (writes_of_pieces size e.size pieces) armed arming
+
+-- the writes and commits of the first payloads, and the first pieces of the next one
+abbrev pub writes_up_to : ℕ → List Entry → ℕ → ℕ → ℕ
+writes_up_to size entries images pieces =
+    writes_in size (take images entries) + writes_of_pieces size (slice_index_or entries images no_entry).size pieces
+
+-- the first images, and the first pieces of the next one, which has a further one
+pub record ImagesStart (size : ℕ) (entries : List Entry) (old : Moment) (armed arming : Option Arming) : Type 0 where
+  pub images : ℕ
+  pub pieces : ℕ
+  pub below : images < length entries
+  pub more : size * pieces < (slice_index_or entries images no_entry).size
+  pub takes : (E : Setting) (s : State) (boot : ℕ) (parts : List Staged) (places : List ℕ)
+      → E.layout ≡ old.fields.layout → AreImages E entries places parts → Shows old s (between boot parts)
+      → Takes (writes_up_to size entries images pieces) armed arming
+
+-- A sending whose file could not be read: so many writes, those of the first of these payloads, and of the first pieces of the next
+-- one, which has a further one. There is no other.
+pub record UnreadTakes (writes size : ℕ) (entries : List Entry) (armed arming : Option Arming) : Type 0 where
+  pub images : ℕ
+  pub pieces : ℕ
+  pub below : images < length entries
+  pub more : size * pieces < (slice_index_or entries images no_entry).size
+  pub takes : Takes (writes + writes_up_to size entries images pieces) armed arming

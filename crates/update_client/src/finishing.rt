@@ -7,7 +7,7 @@ ghost use Rattle.agent_calls.specs.Shown.{SpentBy, device, gone, moment};
 ghost use Rattle.update_client.specs.Finishes.{FinishesBy, InstallsImages};
 ghost use Rattle.update_client.specs.Pieces.{ReadsBy};
 ghost use Rattle.update_client.specs.Halts.{StopsEnd, StopsWithin, flash_of};
-ghost use Rattle.update_client.specs.Takes.{InstallTakes};
+ghost use Rattle.update_client.specs.Takes.{ImagesStart, ImagesTake, InstallTakes, OnRefusedEnd, OnUnread};
 
 use crate::images::send_images;
 use crate::pieces::{is_unread, stopped};
@@ -26,6 +26,7 @@ pub fn finish<D: Flash, V: Verifier>(agent: &mut Agent<D>, verifier: &V) -> Resu
         (moment agent.old) (moment agent.new) }
     ensures takes { OnOk result
         (TakesSwitch (D.arming (device agent.old)) (D.arming (device agent.new))) }
+    ensures unswitched { OnRefusedEnd result (device agent.new ≡ device agent.old) }
     ensures stops { StopsEnd result }
     ensures spent { SpentBy (flash_of result) agent.old agent.new }
 {
@@ -61,6 +62,11 @@ pub fn install<D: Flash, H: Files, V: Verifier>(
     ensures installs { InstallsImages (H.contents files.old) name.now entries.now acceptance
         (V.passes verifier.now) result (moment agent.old) (moment agent.new) }
     ensures takes { OnOk result (InstallTakes (length buf.old) entries.now (moment agent.old)
+        (D.arming (device agent.old)) (D.arming (device agent.new))) }
+    ensures unswitched { OnRefusedEnd result (ImagesTake (length buf.old) entries.now
+        (length entries.now) (moment agent.old) (D.arming (device agent.old))
+        (D.arming (device agent.new))) }
+    ensures unsent { OnUnread result (ImagesStart (length buf.old) entries.now (moment agent.old)
         (D.arming (device agent.old)) (D.arming (device agent.new))) }
     ensures stops { StopsWithin result }
     ensures spent { SpentBy (flash_of result) agent.old agent.new }

@@ -6,7 +6,7 @@ ghost use Rattle.agent_calls.specs.Shown.{SpentBy, device, gone, moment};
 ghost use Rattle.update_client.specs.Halts.{StopsWithin, flash_of};
 ghost use Rattle.update_client.specs.Images.{SendsImages};
 ghost use Rattle.update_client.specs.Pieces.{ReadsBy, SendsImage};
-ghost use Rattle.update_client.specs.Takes.{ImageTakes, ImagesTake};
+ghost use Rattle.update_client.specs.Takes.{ImageStarts, ImageTakes, ImagesStart, ImagesTake, OnUnread};
 
 use crate::pieces::{stopped, write_image};
 use crate::stops::SendStop;
@@ -38,6 +38,8 @@ pub fn send_image<D: Flash, H: Files>(
     ensures sent { SendsImage (H.contents files.old) name.now guid entry.now acceptance result
         (moment agent.old) (moment agent.new) }
     ensures takes { OnOk result (ImageTakes (length buf.old) guid entry.now (moment agent.old)
+        (D.arming (device agent.old)) (D.arming (device agent.new))) }
+    ensures unsent { OnUnread result (ImageStarts (length buf.old) guid entry.now (moment agent.old)
         (D.arming (device agent.old)) (D.arming (device agent.new))) }
     ensures stops { StopsWithin result }
     ensures spent { SpentBy (flash_of result) agent.old agent.new }
@@ -76,6 +78,8 @@ pub fn send_images<D: Flash, H: Files>(
         (moment agent.old) (moment agent.new) }
     ensures takes { OnOk result (ImagesTake (length buf.old) entries.now (length entries.now)
         (moment agent.old) (D.arming (device agent.old)) (D.arming (device agent.new))) }
+    ensures unsent { OnUnread result (ImagesStart (length buf.old) entries.now (moment agent.old)
+        (D.arming (device agent.old)) (D.arming (device agent.new))) }
     ensures stops { StopsWithin result }
     ensures spent { SpentBy (flash_of result) agent.old agent.new }
     ensures buffer { length buf.new ≡ length buf.old }

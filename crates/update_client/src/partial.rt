@@ -8,12 +8,12 @@ ghost use Rattle.host_io.specs.Reads.{ReadsFile};
 ghost use Rattle.fip_tables.specs.Files.{Lacks, Tells};
 ghost use Rattle.agent_machine.specs.Moment.{Shows};
 ghost use Rattle.agent_calls.specs.Shown.{device, fields, gone, moment};
-ghost use Rattle.agent_calls.specs.Takes.{writes_to_begin};
-ghost use Rattle.update_client.specs.Takes.{SendTakes};
+ghost use Rattle.agent_calls.specs.Takes.{Takes, writes_to_begin};
+ghost use Rattle.update_client.specs.Takes.{OnRefusedEnd, OnUnread, SendTakes, UnreadTakes};
 ghost use Rattle.update_client.specs.Pieces.{ReadsBy};
 ghost use Rattle.update_client.specs.Sends.{FaultsBy, GoneBy, IsEarly, IsSwitched};
 ghost use Rattle.update_client.specs.Halts.{flash_of};
-ghost use Rattle.update_client.specs.Partial.{InstallsOver, IsCountedOver, SendsOver, types_of, writes_over};
+ghost use Rattle.update_client.specs.Partial.{InstallsOver, IsCountedOver, SendsOver, present, types_of, writes_copied, writes_over};
 
 use crate::choosing::{choose_present, skipped};
 use crate::finishing::install;
@@ -99,6 +99,15 @@ pub fn send_partial<D: Flash, H: Files, V: Verifier>(
     // one of an image, and of its commit, and those of the end's switch. There is no other.
     ensures spent { OnOk result (let f = fields agent.old in
         SendTakes (writes_to_begin f + writes_over (length buf.old) f.layout.rows f.lengths toc.now)
+        (D.arming (device agent.old)) (D.arming (device agent.new))) }
+    // Where the end is refused, so many but for the switch.
+    ensures unswitched { OnRefusedEnd result (let f = fields agent.old in
+        Takes (writes_to_begin f + writes_over (length buf.old) f.layout.rows f.lengths toc.now)
+        (D.arming (device agent.old)) (D.arming (device agent.new))) }
+    // Where the file could not be read, those up to that read, and none behind it.
+    ensures unsent { OnUnread result (let f = fields agent.old in
+        UnreadTakes (writes_to_begin f + writes_copied f.layout.rows f.lengths toc.now)
+        (length buf.old) (present f.layout.rows toc.now)
         (D.arming (device agent.old)) (D.arming (device agent.new))) }
     ensures buffer { length buf.new ≡ length buf.old }
     ensures files { ReadsFile H.Files name.now files.old files.new }

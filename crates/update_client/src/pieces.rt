@@ -6,7 +6,7 @@ ghost use Rattle.agent_calls.specs.Shown.{SpentBy, device, gone, moment};
 ghost use Rattle.agent_calls.specs.Takes.{piece_at, pieces_of};
 ghost use Rattle.update_client.specs.Halts.{StopsWithin, flash_of, stopped_as, unbegun_as, is_unread as was_unread};
 ghost use Rattle.update_client.specs.Pieces.{ReadsBy, WritesImage, WritesPiece};
-ghost use Rattle.update_client.specs.Takes.{FirstTake, PieceTakes};
+ghost use Rattle.update_client.specs.Takes.{FirstTake, FrontTakes, OnUnread, PieceTakes};
 
 use crate::stops::SendStop;
 use agent_calls::{Agent, Stop};
@@ -68,6 +68,7 @@ fn write_piece<D: Flash, H: Files>(
     ensures piece { IfOk result (λ n. n ≡ piece_at (length buf.old) entry.now.size at) }
     ensures takes { IfOk result (λ n. PieceTakes at n (moment agent.old)
         (D.arming (device agent.old)) (D.arming (device agent.new))) }
+    ensures unsent { OnUnread result (agent.new ≡ agent.old) }
     ensures stops { StopsWithin result }
     ensures spent { SpentBy (flash_of result) agent.old agent.new }
     ensures buffer { length buf.new ≡ length buf.old }
@@ -104,6 +105,8 @@ pub fn write_image<D: Flash, H: Files>(
         (moment agent.old) (moment agent.new) }
     ensures takes { OnOk result (FirstTake (length buf.old) entry.now
         (pieces_of (length buf.old) entry.now.size) (moment agent.old)
+        (D.arming (device agent.old)) (D.arming (device agent.new))) }
+    ensures unsent { OnUnread result (FrontTakes (length buf.old) entry.now (moment agent.old)
         (D.arming (device agent.old)) (D.arming (device agent.new))) }
     ensures stops { StopsWithin result }
     ensures spent { SpentBy (flash_of result) agent.old agent.new }

@@ -11,8 +11,10 @@ ghost use Rattle.agent_calls.specs.Shown.{device, fields, gone, moment};
 ghost use Rattle.update_client.specs.Halts.{flash_of};
 ghost use Rattle.update_client.specs.Pieces.{ReadsBy};
 ghost use Rattle.update_client.specs.Sends.{FaultsBy, GoneBy, Installs, IsCounted, IsEarly, IsSwitched, Sends};
-ghost use Rattle.agent_calls.specs.Takes.{writes_to_begin};
-ghost use Rattle.update_client.specs.Takes.{SendTakes, writes_sent};
+ghost use Rattle.agent_calls.specs.Takes.{Takes, writes_to_begin};
+ghost use Rattle.fwu_formats.specs.Package.{Entry};
+ghost use Rattle.update_client.specs.Choosing.{AreChosen};
+ghost use Rattle.update_client.specs.Takes.{OnRefusedEnd, OnUnread, SendTakes, UnreadTakes, writes_sent};
 
 use crate::choosing::{choose, skipped};
 use crate::finishing::install;
@@ -82,6 +84,15 @@ pub fn send<D: Flash, H: Files, V: Verifier>(
     // those of the end's switch. There is no other.
     ensures spent { OnOk result (let f = fields agent.old in
         SendTakes (writes_to_begin f + writes_sent (length buf.old) f.layout.rows toc.now)
+        (D.arming (device agent.old)) (D.arming (device agent.new))) }
+    // Where the end is refused, so many but for the switch.
+    ensures unswitched { OnRefusedEnd result (let f = fields agent.old in
+        Takes (writes_to_begin f + writes_sent (length buf.old) f.layout.rows toc.now)
+        (D.arming (device agent.old)) (D.arming (device agent.new))) }
+    // Where the file could not be read, those up to that read, and none behind it.
+    ensures unsent { OnUnread result (let f = fields agent.old in
+        (entries : List Entry) × AreChosen f.layout.rows toc.now entries
+        × UnreadTakes (writes_to_begin f) (length buf.old) entries
         (D.arming (device agent.old)) (D.arming (device agent.new))) }
     ensures buffer { length buf.new ≡ length buf.old }
     ensures files { ReadsFile H.Files name.now files.old files.new }

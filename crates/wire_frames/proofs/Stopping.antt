@@ -1,11 +1,11 @@
 -- What a stream is where reading stops.
-use Rattle.std.proofs.Common.{◌≡◌, ℕ, ◌+◌, ◌≤◌, List, [], ◌∷◌, ◌++◌, length, Option, Some, None, sym, ap, subst, ◌∙◌, inl, inr, arith, append-nil, length-append}
+use Rattle.std.proofs.Common.{◌≡◌, ℕ, List, [], ◌∷◌, ◌++◌, length, Option, Some, None, sym, ap, subst, ◌∙◌, inl, inr, arith, append-nil, length-append}
 use Rattle.std.specs.Io.KnownBytes.{Consumes}
 use Rattle.std.proofs.lemmas.List.{take_all, take_at}
 use Rattle.base_core.specs.Bytes.{num, num_at}
 use Rattle.wire_frames.specs.declared.stream.FrameStop.{FrameStop}
 use Rattle.wire_frames.specs.declared.stream.FrameStop.TheVariants as stop
-use Rattle.wire_frames.specs.Frames.{AreBodies, HasBadLength, IsLength, IsPartial, frames}
+use Rattle.wire_frames.specs.Frames.{AreBodies, HasBadLength, IsLength, frames}
 use Rattle.wire_frames.specs.Stream.{StopsReading, StopsStream}
 
 -- four bytes that are a bad length are one also with others behind them

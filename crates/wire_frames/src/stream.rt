@@ -2,6 +2,7 @@
 ghost use Rattle.std.specs.Prelude.{◌≡◌, ◌<◌, ◌≤◌, ◌+◌, ℕ, IfOk, IfErr, OnOk, Err, drop, length, take};
 ghost use Rattle.std.specs.Io.KnownBytes.{Consumes};
 ghost use Rattle.base_core.specs.Bytes.{le, num_at};
+ghost use Rattle.host_io.specs.Once.{ReadsBytes, ReadsOnce};
 ghost use Rattle.wire_frames.specs.Stream.{CutsShort, EndsAt, ReadsFrame, StopsReading, faults_by, faults_of, faults_told, most_bytes, stop_by, stop_faults};
 
 use crate::frames::{FEWEST_BODY_BYTES, LENGTH_BYTES, MOST_BODY_BYTES};
@@ -62,6 +63,7 @@ fn past_the_most<I: Source>(source: &mut I) -> Cut
     ensures ends { EndsAt result (I.left source.old) (I.left source.new) }
     ensures faults { I.faults source.new ≡ faults_by result (I.faults source.old) }
     ensures later { I.faults source.old ≤ I.faults source.new }
+    ensures once { ReadsOnce I.Source source.old source.new }
 {
     let mut one = [0; 1];
     match source.read(&mut one) {
@@ -121,6 +123,8 @@ impl FrameReader {
         ensures within { self.new ≤ most_bytes }
         ensures faults { I.faults source.new ≡ faults_told result (I.faults source.old) }
         ensures later { I.faults source.old ≤ I.faults source.new }
+        ensures goes { OnOk result (ReadsBytes I.Source source.old source.new) }
+        ensures once { ReadsOnce I.Source source.old source.new }
     {
         let room = (MOST_SOURCE_BYTES - self.taken).min(out.len() as u64) as usize;
         if room == 0 {
@@ -146,6 +150,8 @@ impl FrameReader {
         ensures within { self.new ≤ most_bytes }
         ensures faults { I.faults source.new ≡ faults_of result (I.faults source.old) }
         ensures later { I.faults source.old ≤ I.faults source.new }
+        ensures goes { OnOk result (ReadsBytes I.Source source.old source.new) }
+        ensures once { ReadsOnce I.Source source.old source.new }
     {
         // what is known of each reader is known of this one from here on
         let _ = &self.taken;
@@ -175,6 +181,9 @@ impl FrameReader {
         ensures within { self.new ≤ most_bytes }
         ensures faults { I.faults source.new ≡ stop_faults result (I.faults source.old) }
         ensures later { I.faults source.old ≤ I.faults source.new }
+        // Each read of a whole frame gave bytes; and whatever the answer, none is made behind one that gave none or failed.
+        ensures goes { OnOk result (ReadsBytes I.Source source.old source.new) }
+        ensures once { ReadsOnce I.Source source.old source.new }
     {
         let mut head = [0; LENGTH_BYTES];
         if let Err(short) = self.fill(source, &mut head) {

@@ -1,11 +1,12 @@
 /* Boots a flash at 0x48000000 on bare aarch64 (QEMU's machine `virt`, EL1, no libc), and prints the lines of `fwu FLASH boot`.
  *
- * QEMU puts the flash there. The board's driver is played by memory: an erase and a program write to it. BOOTS boots, then one
- * with the first replica of the metadata torn, and last the greatest depth of the stack in bytes. */
+ * QEMU puts the flash there, and its length in bytes in the eight bytes before it. The board's driver is played by memory: an erase
+ * and a program write to it. BOOTS boots, then one with the first replica of the metadata torn, and last the greatest depth of the
+ * stack in bytes. */
 #include "fwu.h"
 
 #define FLASH ((uint8_t *)0x48000000)
-#define FLASH_BYTES (22 * FWU_BLOCK_BYTES)
+#define FLASH_BYTES (*(const volatile uint64_t *)0x47fffff8)
 #define UART ((volatile uint32_t *)0x09000000)
 #define BOOTS 5
 #define PAINT 0xA5
@@ -65,7 +66,7 @@ static void print_end(uint32_t answer, const struct fwu_report *report) {
 
 static void boot(void) {
     static struct fwu_step steps[MOST_STEPS];
-    static uint8_t room[1024], work[6144];
+    static uint8_t room[5120], work[20480];
     static struct fwu_report report;
     report.steps = 0;
     fwu_work(work, sizeof work);

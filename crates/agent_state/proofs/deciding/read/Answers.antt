@@ -25,7 +25,7 @@ returns-in-Reads-clause-decides c = λ m boot passes counter E s staged bytes sp
     let stg = staging_meant k staged in
     let hs = handles_meant k in
     let there = machine.handle-place k c.args.handle c.handle.result c.handle.ensures.zero c.handle.ensures.at (λ e. machine.free-reads (sym e ∙ c.in-Reads.is)) ∙ c.in-Reads.is in
-    replies.read-does E s boot stg hs bytes c.args.handle c.args.room c.in-Reads.image c.in-Reads.at _ c.in-Reads.total (machine.handle-is k c.args.handle c.handle.result c.handle.ensures.zero c.handle.ensures.at ∙ ap handle_meant c.in-Reads.is) (fits.total (c.args.handle - 1) c.in-Reads.image c.in-Reads.at c.in-Reads.total there) (c.min.ensures ∙ ap (min c.args.room) c.from.ensures)
+    replies.read-does E s boot stg hs bytes c.args.handle c.args.room c.in-Reads.image c.in-Reads.at _ c.in-Reads.total (machine.handle-is k c.args.handle c.handle.result c.handle.ensures.zero c.handle.ensures.at ∙ ap handle_meant c.in-Reads.is) (fits c.in-Reads.image c.in-Reads.at c.in-Reads.total there) (c.min.ensures ∙ ap (min c.args.room) c.from.ensures)
 
 pub returns-in-Reads-clause-plan : goal.returns-in-Reads-clause-plan
 returns-in-Reads-clause-plan c =

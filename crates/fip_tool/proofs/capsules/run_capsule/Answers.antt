@@ -1,7 +1,9 @@
-use Rattle.std.proofs.Common.{◌≡◌, ◌∙◌, ◌∷◌, [], ℕ, List, Result, ap, length, refl}
+use Rattle.std.proofs.Common.{◌≡◌, ◌∙◌, ◌∷◌, [], ℕ, List, Result, Some, ap, length, refl}
 use Rattle.fwu_formats.specs.Package.{Toc}
 use Rattle.std.specs.Prelude.{IfOk}
 use Rattle.fip_words.specs.Order.{capsule}
+use Rattle.fip_tool.specs.Done.{RefusesAlone}
+use Rattle.fip_tool.specs.Ends.{status_number}
 use Rattle.fip_tool.specs.Lines.{capsule_line}
 use Rattle.fip_tool.specs.Said.{IsMadeLine, IsTable, IsTexts}
 use Rattle.fip_tool.specs.Tool.{capsule_value}
@@ -10,7 +12,7 @@ use Rattle.fip_tool.specs.declared.made.Made.{Made}
 use Rattle.fip_tool.specs.declared.stops.Stop.{Stop}
 use Rattle.fip_tool.proofs.DoneWith.{done-made}
 use Rattle.fip_tool.proofs.Texts.{made-texts}
-use Rattle.fip_tool.proofs.Refusing.{late-of-enclosing}
+use Rattle.fip_tool.proofs.Refusing.{if-err-all, late-of-enclosing}
 use Rattle.fip_tool.proofs.capsules.run_capsule.Goals as goal
 
 -- the line is of a package that was read, with some size
@@ -25,3 +27,4 @@ returns g c =
     made.ensures.reads made.ensures.files made.ensures.told made.ensures.refusals
     put.told put.says put.wrote put.file_count put.cause put.usage put.refusals put.later put.later_sink put.sink_count
     (λ access other. g.met.H.Files.joins _ _ _ access (made.ensures.files.spares access other.0) (put.spares access other.1))
+    put.kept (if-err-all made.result (λ s. RefusesAlone g.H.Files (Some (capsule c.args.from.now c.args.out.now)) c.args.files.now made.new.files (status_number s)) (λ s refuses access other. made.ensures.files.spares access (other)))

@@ -1,4 +1,4 @@
-use Rattle.std.proofs.Common.{◌≡◌, ◌∙◌, ◌∷◌, [], ℕ, List, Result, ap, length, map, sym, refl}
+use Rattle.std.proofs.Common.{◌≡◌, ◌∙◌, ◌∷◌, [], ℕ, List, Result, Some, ap, length, map, sym, refl}
 use Rattle.std.proofs.Common.{◌≢◌}
 use Rattle.fip_words.specs.Values.{NamedFile}
 use Rattle.fip_tool.proofs.NamedFiles.{of-map}
@@ -7,6 +7,8 @@ use Rattle.std.proofs.lemmas.List.{length-map}
 use Rattle.fip_words.specs.Order.{create, part_view}
 use Rattle.std.specs.Prelude.{IfOk}
 use Rattle.fip_words.specs.declared.values.FileWord.{FileWord}
+use Rattle.fip_tool.specs.Done.{RefusesAlone}
+use Rattle.fip_tool.specs.Ends.{status_number}
 use Rattle.fip_tool.specs.Lines.{packed_line}
 use Rattle.fip_tool.specs.Said.{IsMadeLine, IsTexts}
 use Rattle.fip_tool.specs.Tool.{create_value}
@@ -15,7 +17,7 @@ use Rattle.fip_tool.specs.declared.made.Made.{Made}
 use Rattle.fip_tool.specs.declared.stops.Stop.{Stop}
 use Rattle.fip_tool.proofs.DoneWith.{done-made}
 use Rattle.fip_tool.proofs.Texts.{made-texts}
-use Rattle.fip_tool.proofs.Refusing.{late-of-packing}
+use Rattle.fip_tool.proofs.Refusing.{if-err-all, late-of-packing}
 use Rattle.fip_tool.proofs.making.run_create.Goals as goal
 
 -- the line is of all named files, with some size
@@ -30,3 +32,4 @@ returns g c =
     made.ensures.reads made.ensures.files made.ensures.told made.ensures.refusals
     put.told put.says put.wrote put.file_count put.cause put.usage put.refusals put.later put.later_sink put.sink_count
     (λ access other. g.met.H.Files.joins _ _ _ access (made.ensures.files.spares access (of-map (λ (p : NamedFile). access ≢ Asks p.file) part_view c.args.named.now other.0)) (put.spares access other.1))
+    put.kept (if-err-all made.result (λ s. RefusesAlone g.H.Files (Some (create c.args.align c.args.out.now (map part_view c.args.named.now))) c.args.files.now made.new.files (status_number s)) (λ s refuses access other. made.ensures.files.spares access (of-map (λ (p : NamedFile). access ≢ Asks p.file) part_view c.args.named.now other)))

@@ -1,12 +1,16 @@
-use Rattle.std.proofs.Common.{◌≡◌, ◌∙◌, ◌∷◌, [], ℕ, List, Result, None, ap, length, map, refl}
+use Rattle.std.proofs.Common.{◌≡◌, ◌⊎◌, inl, inr, ◌∙◌, ◌∷◌, [], ℕ, List, Result, None, Some, ap, length, map, refl}
 use Rattle.std.proofs.Common.{◌≢◌}
 use Rattle.fip_words.specs.Values.{NamedFile}
 use Rattle.fip_tool.proofs.NamedFiles.{of-map}
 use Rattle.host_io.specs.Access.{Asks}
+use Rattle.host_io.specs.Reads.{ReadsFile}
+use Rattle.fip_tool.specs.Refusals.{IsOfPacking}
 use Rattle.fwu_formats.specs.Package.{Toc}
 use Rattle.fip_words.specs.Order.{update, part_view}
 use Rattle.std.specs.Prelude.{IfOk}
 use Rattle.fip_words.specs.declared.values.FileWord.{FileWord}
+use Rattle.fip_tool.specs.Done.{RefusesAlone}
+use Rattle.fip_tool.specs.Ends.{status_number}
 use Rattle.fip_tool.specs.Lines.{packed_line}
 use Rattle.fip_tool.specs.Said.{IsMadeLine, IsTable, IsTexts}
 use Rattle.fip_tool.specs.Tool.{update_value, first_missing}
@@ -15,7 +19,7 @@ use Rattle.fip_tool.specs.declared.made.Made.{Made}
 use Rattle.fip_tool.specs.declared.stops.Stop.{Stop}
 use Rattle.fip_tool.proofs.DoneWith.{done-made}
 use Rattle.fip_tool.proofs.Texts.{made-texts}
-use Rattle.fip_tool.proofs.Refusing.{late-of-repacking}
+use Rattle.fip_tool.proofs.Refusing.{if-err-as, packing-six, late-of-repacking}
 use Rattle.fip_tool.proofs.making.run_update.Goals as goal
 
 -- the line is of a package that was read, with some size
@@ -30,3 +34,9 @@ returns g c =
     made.ensures.reads made.ensures.files made.ensures.told made.ensures.refusals
     put.told put.says put.wrote put.file_count put.cause put.usage put.refusals put.later put.later_sink put.sink_count
     (λ access other. g.met.H.Files.joins _ _ _ access (made.ensures.files.spares access (other.0, of-map (λ (p : NamedFile). access ≢ Asks p.file) part_view c.args.named.now other.1)) (put.spares access other.2))
+    put.kept (if-err-as made.result (λ s. IsOfPacking s ⊎ ReadsFile g.H.Files c.args.from.now c.args.files.now made.new.files)
+    (λ s. RefusesAlone g.H.Files (Some (update c.args.align c.args.from.now c.args.out.now (map part_view c.args.named.now))) c.args.files.now made.new.files (status_number s))
+    (λ s by refuses access other. elim by [
+      | inl packing ↦ made.ensures.files.spares access (other.0, of-map (λ (p : NamedFile). access ≢ Asks p.file) part_view c.args.named.now (other.1 (packing-six s packing refuses)))
+      | inr reads ↦ reads.spares access other.0
+    ]) made.ensures.package)

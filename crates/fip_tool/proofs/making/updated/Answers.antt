@@ -1,4 +1,6 @@
-use Rattle.std.proofs.Common.{◌∙◌, ap, sym, refl}
+use Rattle.std.proofs.Common.{◌∙◌, ◌⊎◌, inl, inr, ap, sym, refl}
+use Rattle.host_io.specs.Reads.{ReadsFile}
+use Rattle.fip_tool.specs.declared.stops.Stop.TheVariants as stop
 use Rattle.host_io.proofs.Reading.{reads-none, reads-then as reads-after, reads-wider}
 use Rattle.fwu_formats.specs.Package.{Toc}
 use Rattle.fip_tool.specs.Payloads.{made_by}
@@ -63,3 +65,15 @@ returns-in_err-toc-clause-files g c =
 pub returns-in_err-types-clause-files : goal.returns-in_err-types-clause-files
 returns-in_err-types-clause-files g c =
     reads-none g.H.Files _ g.met.H.Files.at_rest _
+
+pub returns-clause-package : goal.returns-clause-package
+returns-clause-package g c =
+    if-err-as c.replaced.result IsOfPacking (λ s. IsOfPacking s ⊎ ReadsFile g.H.Files c.args.from.now c.args.files.now c.replaced.new.files) (λ s packing. inl packing) c.replaced.ensures.refusals
+
+pub returns-in_err-toc-clause-package : goal.returns-in_err-toc-clause-package
+returns-in_err-toc-clause-package g c =
+    rw (handed-on c.from_residual-in_err-toc.result c.in_err-toc.field-0.0 c.from_residual-in_err-toc.ensures.1) (inr c.table_with.ensures.files)
+
+pub returns-in_err-types-clause-package : goal.returns-in_err-types-clause-package
+returns-in_err-types-clause-package g c =
+    rw (handed-on c.from_residual.result stop.NoMemory c.from_residual.ensures.1) (inl tt)

@@ -10,6 +10,7 @@ use Rattle.host_io.specs.Access.{Asks}
 use Rattle.fip_tool.specs.Lines.{manifest_line}
 use Rattle.fip_tool.specs.Said.{IsTexts}
 use Rattle.fip_tool.specs.Steps.{outcome_by}
+use Rattle.fip_tool.specs.Torn.{MayTear}
 use Rattle.fip_tool.specs.Tool.{manifest_value, writes_manifest}
 use Rattle.fip_tool.specs.declared.stops.Stop.TheVariants as stop
 use Rattle.fip_tool.proofs.Did.{no-memory-yet, refused}
@@ -19,23 +20,23 @@ use Rattle.fip_tool.proofs.NamedFiles.{of-map}
 use Rattle.fip_tool.proofs.ReadsBy.{reads-starved}
 use Rattle.fip_tool.proofs.Refusing.{late-of-manifest}
 use Rattle.fip_tool.proofs.Stopped.{handed-on}
-use Rattle.fip_tool.proofs.Tables.{failed-same, rose-from, rose-still}
+use Rattle.fip_tool.proofs.Tables.{rose-from, tears-since}
 use Rattle.fip_tool.proofs.WritesBy.{texts-behind}
 use Rattle.fip_tool.proofs.manifest.run_manifest.Goals as goal
 
 pub returns : goal.returns
 returns g c =
-    let put = c.write_and_print.ensures in
+    let put = c.join_and_print.ensures in
     let long : c.len.result ≡ length c.in_ok-rows.bytes.items = search rules in
-    let line = c.as_slice-2.ensures.value ∙ c.in_ok-line.ensures in
+    let line = c.as_slice.ensures.value ∙ c.in_ok-line.ensures in
     let lined = line ∙ ap (λ (n : ℕ). manifest_line n c.len.result c.args.security) (c.in_ok-rows.ensures.count ∙ sym (length-map c.args.named.now image_view)) in
-    done-texts (texts-behind (λ texts. texts ≡ c.as_slice-2.result.now ∷ []) (IsTexts (asks.manifest c.args.out.now c.args.security (map image_view c.args.named.now)))
+    done-texts (texts-behind (λ texts. texts ≡ c.as_slice.result.now ∷ []) (IsTexts (asks.manifest c.args.out.now c.args.security (map image_view c.args.named.now)))
     (λ texts t. (c.len.result, t ∙ ap (λ (l : List ℕ). l ∷ []) lined)) c.in_ok-rows.ensures.reads.quiet c.manifest.ensures.files.unwritten put.texts)
     (λ w. w) late-of-manifest
     (λ told e.
-    manifest-written told c.args.out.now c.args.security _ (c.in_ok-rows.rows, c.in_ok-rows.bytes.items) c.as_slice.result.now c.as_slice-2.result.now _ _ _ _ _ _ _ _ c.write_and_print.result
-    (c.in_ok-rows.ensures.told told e) c.as_slice.ensures.value (line ∙ ap (λ (n : ℕ). manifest_line c.in_ok-rows.rows n c.args.security) long)
-    (λ r. rose-from _ _ _ c.manifest.ensures.reads.later r) (λ r. rose-still _ _ _ (failed-same c.manifest.ensures.files.unwritten) r)
+    manifest-written told c.args.out.now c.args.security _ (c.in_ok-rows.rows, c.in_ok-rows.bytes.items) c.as_slice-bytes.result.now c.as_slice.result.now _ _ _ _ _ _ _ _ c.join_and_print.result
+    (c.in_ok-rows.ensures.told told e) c.as_slice-bytes.ensures.value (line ∙ ap (λ (n : ℕ). manifest_line c.in_ok-rows.rows n c.args.security) long)
+    (λ r. rose-from _ _ _ c.manifest.ensures.reads.later r) (λ r. tears-since (g.H.Files.writes c.join_and_print.new.files) c.manifest.ensures.files.unwritten r)
     (put.told told (c.manifest.ensures.reads.same ∙ e)))
     (λ access other.
     g.met.H.Files.joins _ _ _ access (c.manifest.ensures.files.spares access (of-map (λ (r : NamedImage). access ≢ Asks r.file) image_view c.args.named.now other.0)) (put.spares access other.1))
@@ -45,6 +46,7 @@ returns-in_err-rows g c =
     let e = c.in_err-rows.ensures in
     rw (handed-on c.from_residual.result c.in_err-rows.field-0.0 c.from_residual.ensures.1) (done-unread c.in_err-rows.field-0.0 e.reads e.files
     (λ access other. of-map (λ (r : NamedImage). access ≢ Asks r.file) image_view c.args.named.now other.0)
+    (λ access other. of-map (λ (r : NamedImage). access ≢ Asks r.file) image_view c.args.named.now other)
     (λ told is.
     refused (writes_manifest c.args.out.now c.args.security) (λ (m : ℕ × Vec ℕ Global). (m.0, m.1.items)) (manifest_value told c.args.security (map image_view c.args.named.now)) told _ _ _ _ _ _ c.in_err-rows.field-0.0
     (e.told told is) (e.reads.same ∙ is) refl)
@@ -55,8 +57,9 @@ returns-in_err-line g c =
     let e = c.manifest.ensures in
     rw (handed-on c.from_residual-in_err-line.result stop.NoMemory c.from_residual-in_err-line.ensures.1) (done-unread {X = Unit {0}} stop.NoMemory (reads-starved e.reads.same c.in_ok-rows.ensures.reads.quiet) e.files
     (λ access other. of-map (λ (r : NamedImage). access ≢ Asks r.file) image_view c.args.named.now other.0)
+    (λ access other. of-map (λ (r : NamedImage). access ≢ Asks r.file) image_view c.args.named.now other)
     (λ told is.
     no-memory-yet (outcome_by (writes_manifest c.args.out.now c.args.security) (manifest_value told c.args.security (map image_view c.args.named.now))) told _ _ _
-    (Rose (g.H.Files.faults c.args.files.now) (g.H.Files.faults c.manifest.new.files)) (Rose (g.H.Files.writes c.args.files.now).failed (g.H.Files.writes c.manifest.new.files).failed) (Rose (g.O.Sink.faults c.args.sink.now) (g.O.Sink.faults c.args.sink.now))
+    (Rose (g.H.Files.faults c.args.files.now) (g.H.Files.faults c.manifest.new.files)) (MayTear (g.H.Files.writes c.args.files.now) (g.H.Files.writes c.manifest.new.files)) (Rose (g.O.Sink.faults c.args.sink.now) (g.O.Sink.faults c.args.sink.now))
     (e.reads.same ∙ is) refl)
     tt)

@@ -1,14 +1,18 @@
-use Rattle.std.proofs.Common.{◌∙◌, [], Ok, Err, Some, inl, inr, map, refl, string_bytes, sym, ap}
+use Rattle.std.proofs.Common.{◌∙◌, ℕ, [], Ok, Err, Some, inl, inr, map, refl, string_bytes, subst, sym, ap, arith}
 use Rattle.base_core.specs.Counts.{Rose}
 use Rattle.fip_tool.proofs.Converted.{converted, no-zero}
 use Rattle.fip_tool.proofs.Ending.{ends, reported-later}
-use Rattle.fip_tool.proofs.Refusing.{reported-may}
+use Rattle.fip_tool.proofs.Refusing.{reported-alone, reported-may}
 use Rattle.fip_tool.proofs.SourceEnds.{reported-read, reported-two}
 use Rattle.fip_tool.proofs.Tables.{rose-from, rose-until}
 use Rattle.fip_tool.proofs.UsageEnds.{no-usage, reported-one, usage-status}
 use Rattle.fip_words.specs.Order.{asked}
+use Rattle.host_io.specs.Access.{Access}
+use Rattle.fip_tool.specs.Done.{RefusesAlone}
+use Rattle.fip_tool.specs.Names.{IsUnneeded}
 use Rattle.fip_tool.specs.Said.{IsTextsOf}
 use Rattle.fip_tool.proofs.Texts.{says-ends, sink-rose}
+use Rattle.fip_tool.specs.Torn.{MayTear}
 use Rattle.fip_tool.specs.Tool.{no_files}
 use Rattle.fip_tool.specs.declared.stops.Stop.{Stop}
 use Rattle.fip_tool.proofs.SinkFaults.{counted, reported-sink}
@@ -73,7 +77,7 @@ returns-in-Err-clause-said g c = (
 pub returns-in-Ok-clause-converts : goal.returns-in-Ok-clause-converts
 returns-in-Ok-clause-converts g c = λ told e none.
     converted (asked (map string_bytes c.args.words.now)) told _ _ _ (Rose (g.H.Files.faults c.args.files.now) (g.H.Files.faults c.run.new.files))
-    (Rose (g.H.Files.writes c.args.files.now).failed (g.H.Files.writes c.run.new.files).failed) (Rose (g.O.Sink.faults c.args.sink.now) (g.O.Sink.faults c.run.new.sink)) (c.in-Ok.ensures.told told e)
+    (MayTear (g.H.Files.writes c.args.files.now) (g.H.Files.writes c.run.new.files)) (Rose (g.O.Sink.faults c.args.sink.now) (g.O.Sink.faults c.run.new.sink)) (c.in-Ok.ensures.told told e)
 
 pub returns-in-Err-clause-converts : goal.returns-in-Err-clause-converts
 returns-in-Err-clause-converts g c = λ told e zero. absurd (no-zero c.report.result (sym c.status.ensures ∙ zero))
@@ -127,3 +131,12 @@ returns-in-Ok-clause-refusals g c = inl refl
 pub returns-in-Err-clause-refusals : goal.returns-in-Err-clause-refusals
 returns-in-Err-clause-refusals g c =
     inr (c.report.result, reported-may (asked (map string_bytes c.args.words.now)) _ _ _ c.in-Err.stop c.report.result c.in-Err.ensures.refusals c.report.ensures.reported, c.status.ensures)
+
+pub returns-in-Ok-clause-alone : goal.returns-in-Ok-clause-alone
+returns-in-Ok-clause-alone g c = λ refuses. absurd (omega (arith, refuses.0))
+
+pub returns-in-Err-clause-alone : goal.returns-in-Err-clause-alone
+returns-in-Err-clause-alone g c =
+    let asks = asked (map string_bytes c.args.words.now) in
+    subst (RefusesAlone g.H.Files asks c.args.files.now c.run.new.files) (sym c.status.ensures)
+    (reported-alone _ _ _ (λ (n : ℕ). (access : Access) → IsUnneeded asks n access → g.H.Files.spares c.args.files.now c.run.new.files access) c.in-Err.stop c.report.result c.in-Err.ensures.alone c.report.ensures.reported)

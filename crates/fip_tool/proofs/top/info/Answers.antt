@@ -1,5 +1,6 @@
-use Rattle.std.proofs.Common.{◌∙◌, List, Vec, ℕ, ap, refl, subst}
+use Rattle.std.proofs.Common.{◌≢◌, ◌∙◌, List, Vec, ℕ, ap, refl, subst}
 use Rattle.std.specs.Global.{Global}
+use Rattle.host_io.specs.Access.{Access, Asks}
 use Rattle.host_io.specs.declared.writes.Writes.{Writes}
 use Rattle.fip_words.specs.Order as asks
 use Rattle.fip_tool.specs.Refusals.{IsOfPackage}
@@ -10,7 +11,7 @@ use Rattle.fip_tool.specs.Tool.{info_value, prints}
 use Rattle.fip_tool.proofs.Did.{printed-text, refused}
 use Rattle.fip_tool.proofs.DoneWith.{done-unread}
 use Rattle.fip_tool.proofs.FileFaults.{faults-none}
-use Rattle.fip_tool.proofs.Refusing.{if-err-as, late-of-package}
+use Rattle.fip_tool.proofs.Refusing.{if-err-as, late-alone, late-of-package}
 use Rattle.fip_tool.proofs.Stopped.{handed-on}
 use Rattle.fip_tool.proofs.Texts.{says-printed}
 use Rattle.fip_tool.proofs.top.info.Goals as goal
@@ -28,6 +29,7 @@ returns-clause-done g c =
       usage = put.usage;
       refusals = if-err-as c.print.result IsLate IsOfPackage late-of-package put.late;
       spares = read.files.spares;
+      alone = late-alone c.print.result (λ s. (access : Access) → access ≢ Asks c.args.name.now → g.H.Files.spares c.args.files.now c.file_info.new.files access) put.late;
       later = put.later;
       sink_count = put.count;
     }
@@ -35,6 +37,6 @@ returns-clause-done g c =
 pub returns-in_err-text-clause-done : goal.returns-in_err-text-clause-done
 returns-in_err-text-clause-done g c =
     let e = c.in_err-text.ensures in
-    rw (handed-on c.from_residual.result c.in_err-text.field-0.0 c.from_residual.ensures.1) (done-unread c.in_err-text.field-0.0 e.reads e.files (λ access other. other)
+    rw (handed-on c.from_residual.result c.in_err-text.field-0.0 c.from_residual.ensures.1) (done-unread c.in_err-text.field-0.0 e.reads e.files (λ access other. other) (λ access other. other)
     (λ told is. refused prints (λ (v : Vec ℕ Global). v.items) (info_value told c.args.name.now) told _ _ _ _ _ _ c.in_err-text.field-0.0 (e.told told is) (e.reads.same ∙ is) refl)
     e.refusals)

@@ -12,7 +12,7 @@ use Rattle.fip_tool.proofs.DoneWith.{done-texts, done-unread}
 use Rattle.fip_tool.proofs.Refusing.{late-of-entries}
 use Rattle.fip_tool.proofs.Repacking.{opened, stored-of, there-of, unpack-err, unpack-of}
 use Rattle.fip_tool.proofs.Stopped.{handed-on}
-use Rattle.fip_tool.proofs.Tables.{failed-same, gives-err, rose-still}
+use Rattle.fip_tool.proofs.Tables.{gives-err, rose-still, tears-since}
 use Rattle.fip_tool.proofs.UnpackLemmas.{chosen-filter}
 use Rattle.fip_tool.proofs.WritesBy.{texts-behind}
 use Rattle.fip_tool.proofs.unpack.run_unpack.Goals as goal
@@ -28,7 +28,7 @@ unpack_entries-requires-clause-there g c = there-of _ _ c.args.from.now c.args.n
 pub returns-in_err-toc : goal.returns-in_err-toc
 returns-in_err-toc g c =
     let e = c.in_err-toc.ensures in
-    rw (handed-on c.from_residual.result c.in_err-toc.field-0.0 c.from_residual.ensures.1) (done-unread c.in_err-toc.field-0.0 e.reads e.files (λ access other. other.0)
+    rw (handed-on c.from_residual.result c.in_err-toc.field-0.0 c.from_residual.ensures.1) (done-unread c.in_err-toc.field-0.0 e.reads e.files (λ access other. other.0) (λ access other. other)
     (λ told is.
     refused (λ v. unpack_steps c.args.prefix.now v.0 v.1) (λ (v : List ℕ × List Entry). v) (unpack_value told c.args.from.now c.args.names.now) told _ _ _ _ _ _ c.in_err-toc.field-0.0
     (gives-err (λ (t : Toc). t) (λ (v : List ℕ × List Entry). v) _ _ _ _ c.in_err-toc.field-0.0 (λ r. r) (unpack-err told c.args.from.now c.args.names.now c.in_err-toc.field-0.0) (e.told told is))
@@ -47,7 +47,7 @@ returns g c =
     (λ told is.
     let o = opened told c.args.from.now c.args.names.now c.in_ok-toc.toc (read.told told is) in
     made-steps (λ v. unpack_steps c.args.prefix.now v.0 v.1) _ _ told _ _ _ _ _ _ _ _ c.unpack_entries.result (unpack-of told c.args.from.now c.args.names.now c.in_ok-toc.toc o) (λ r. rose-still _ _ _ (sym read.reads.quiet) r)
-    (λ r. rose-still _ _ _ (failed-same c.table_with.ensures.files.unwritten) r)
+    (λ r. tears-since (g.H.Files.writes c.unpack_entries.new.files) c.table_with.ensures.files.unwritten r)
     (subst (λ (l : List Entry). DidIn g.H.Files g.O.Sink (Makes (unpack_steps c.args.prefix.now o.bytes l)) told c.table_with.new.files c.unpack_entries.new.files c.args.sink.now c.unpack_entries.new.sink c.unpack_entries.result)
     same (put.told told o.bytes (c.table_with.ensures.reads.same ∙ is) o.is)))
     (λ access other. g.met.H.Files.joins _ _ _ access (c.table_with.ensures.files.spares access other.0) (put.spares access other.0 other.1))

@@ -10,7 +10,7 @@ use Rattle.fip_tool.specs.Said.{joined}
 use Rattle.fip_tool.specs.Tool.{is_named}
 use Rattle.fip_tool.proofs.Texts.{said-more, says-behind}
 use Rattle.fip_tool.proofs.FileFaults.{faults-none, faults-then}
-use Rattle.fip_tool.proofs.Tables.{rose-from, rose-still}
+use Rattle.fip_tool.proofs.Tables.{none-unwritten, rose-from, rose-still, tears-still}
 use Rattle.fip_tool.proofs.UnpackLemmas.{all-done, begins, next-chosen, next-passed, split-chosen, step-done, step-passed, step-stops, tells-still, there-still}
 use Rattle.fip_tool.specs.Steps.{sink_failed}
 use Rattle.fip_tool.specs.Wrote.{raised_by}
@@ -24,7 +24,7 @@ loop-entry-init g c = record {
   silent = λ e. e;
   spares = λ access asked made. g.met.H.Files.at_rest _ access;
   quiet = refl;
-  unspoiled = refl;
+  unspoiled = (refl, refl);
   wrote = refl;
   later_sink = omega arith;
   sink_count = refl;
@@ -47,7 +47,7 @@ returns-in_err-unpack_entry-clause-told g c =
     let s = c.loop-entry.invariant.so-far told bytes is stored in
     step-stops c.args.prefix.now c.args.from.now bytes (λ e. (length c.args.names.now == 0) || is_named c.args.names.now e) c.args.entries.now c.loop-entry.entry-index told _
     c.entry-item.result c.loop-entry-test.true (sym c.entry-item.is) _ _ _ _ _ _ _ s _ _ _ c.in_err-unpack_entry.field-0.0
-    (λ r. rose-still _ _ _ (sym c.loop-entry.invariant.quiet) r) (λ r. rose-still _ _ _ (sym c.loop-entry.invariant.unspoiled) r) (λ r. rose-from _ _ _ c.loop-entry.invariant.later_sink r) (sym c.is_chosen.ensures ∙ c.if-is_chosen.true) (c.in_err-unpack_entry.ensures.told s.now bytes s.is s.stored))
+    (λ r. rose-still _ _ _ (sym c.loop-entry.invariant.quiet) r) (λ r. tears-still (g.H.Files.writes c.args.files.now) (g.H.Files.writes c.loop-entry.files) (g.H.Files.writes c.unpack_entry.new.files) c.loop-entry.invariant.unspoiled r) (λ r. rose-from _ _ _ c.loop-entry.invariant.later_sink r) (sym c.is_chosen.ensures ∙ c.if-is_chosen.true) (c.in_err-unpack_entry.ensures.told s.now bytes s.is s.stored))
 
 pub loop-entry-preserved : goal.loop-entry-preserved
 loop-entry-preserved g c =
@@ -57,7 +57,7 @@ loop-entry-preserved g c =
             silent = λ e. w.in_ok-unpack_entry.ensures.silent (c.loop-entry.invariant.silent e);
             spares = λ access asked made. g.met.H.Files.joins _ _ _ access (c.loop-entry.invariant.spares access asked made) (w.in_ok-unpack_entry.ensures.spares access asked made);
             quiet = w.in_ok-unpack_entry.ensures.texts.file_count.quiet ∙ c.loop-entry.invariant.quiet;
-            unspoiled = w.in_ok-unpack_entry.ensures.unspoiled ∙ c.loop-entry.invariant.unspoiled;
+            unspoiled = none-unwritten (g.H.Files.writes c.args.files.now) (g.H.Files.writes c.loop-entry.files) (g.H.Files.writes w.unpack_entry.new.files) c.loop-entry.invariant.unspoiled w.in_ok-unpack_entry.ensures.unspoiled;
             wrote =
                 let p = λ (e : Entry). (length c.args.names.now == 0) || is_named c.args.names.now e in
                 let e = c.entry-item.result in

@@ -5,6 +5,7 @@ use Rattle.host_io.specs.Access.{Access, Asks, Makes}
 use Rattle.host_io.specs.Contents.{Directory}
 use Rattle.fip_tool.specs.Lines.{unpacked_line, unpacked_name}
 use Rattle.fip_tool.specs.Said.{joined}
+use Rattle.fip_tool.specs.Torn.{NoneUnwritten}
 use Rattle.fip_tool.specs.Tool.{is_named}
 use Rattle.fip_tool.specs.Wrote.{raised_by}
 use Rattle.fip_tool.proofs.UnpackLemmas.{IsUnpacking}
@@ -16,7 +17,7 @@ invariant-loop-entry g l = record {
   silent : g.H.Files.contents l.fn.files ≡ None → g.H.Files.contents l.files ≡ None;
   spares : (access : Access) → access ≢ Asks l.from → ((guid : List ℕ) → access ≢ Makes (unpacked_name l.prefix guid)) → g.H.Files.spares l.fn.files l.files access;
   quiet : g.H.Files.faults l.files ≡ g.H.Files.faults l.fn.files;
-  unspoiled : (g.H.Files.writes l.files).failed ≡ (g.H.Files.writes l.fn.files).failed;
+  unspoiled : NoneUnwritten (g.H.Files.writes l.fn.files) (g.H.Files.writes l.files);
   wrote : (g.H.Files.writes l.files).done ≡ raised_by (length (filter (λ e. (length l.names == 0) || is_named l.names e) (take l.entry-index l.entries))) (g.H.Files.writes l.fn.files).done;
   later_sink : g.O.Sink.faults l.fn.sink ≤ g.O.Sink.faults l.sink;
   sink_count : g.O.Sink.faults l.sink ≡ g.O.Sink.faults l.fn.sink;

@@ -15,7 +15,7 @@ returns-clause-told g c = λ told value before e le gives.
     let made = c.in-Ok.made in
     let is : value ≡ Ok (made_by told made) = rw c.in-Ok.is at gives in
     let whole : IsWhole (g.H.Files.contents c.args.files.now) made = rw c.in-Ok.is at c.requires in
-    made-put c.args.format told c.args.out.now value made.count (made_bytes told made) _ c.as_slice.result.now _ _ _ before _ _ _ _ _ _ c.join_and_print.result
+    made-put c.args.format told c.args.out.now value made.count (made_bytes told made) _ c.as_slice.result.now _ _ _ before _ _ (g.H.Files.writes c.args.files.now) (g.H.Files.writes c.args.files.now) (g.H.Files.writes c.join_and_print.new.files) _ c.join_and_print.result
     is (joined-made told made c.as_slice-frame.result.now c.as_slice-pieces.result.now c.as_slice-frame.ensures.value c.as_slice-pieces.ensures.value)
     (c.as_slice.ensures.value ∙ c.in_ok-line.ensures ∙ ap (made_line c.args.format made.count) (whole.sized told e)) le refl (c.join_and_print.ensures.told told e)
 

@@ -15,7 +15,7 @@ returns-in-No-clause-answers g c =
 
 pub returns-in-Usage-clause-answers : goal.returns-in-Usage-clause-answers
 returns-in-Usage-clause-answers g c =
-    let e = c.print_usage.ensures in
+    let e = c.refuse.ensures in
     let words : List (List ℕ) = map string_bytes c.args.words.now in
     let files = g.H.Files.contents c.args.files.now in
     let same = same-moment g.D.Flash.told g.D.Flash.counts g.D.Flash.arming g.D.Flash.on _ _ e.flash in

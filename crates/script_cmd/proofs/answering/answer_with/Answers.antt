@@ -1,4 +1,4 @@
-use Rattle.script_cmd.proofs.AnsweredBy.{answered-boot, answered-boot-by-table, answered-format, answered-run, answered-run-by-table, answered-serve, answered-show, answered-soak, answered-starved, answered-usage}
+use Rattle.script_cmd.proofs.AnsweredBy.{answered-format, answered-serve, answered-show, answered-soak, answered-starved, answered-turns, answered-usage}
 use Rattle.script_cmd.proofs.TopFormats.{formatted-as}
 use Rattle.script_cmd.proofs.SoakTop.{soak-as}
 use Rattle.std.proofs.Common.{Some, None, ap, refl, arith}
@@ -9,41 +9,13 @@ use Rattle.script_cmd.proofs.TopPrints.{later}
 use Rattle.script_cmd.proofs.TopWays.{no-list-named, same-moment}
 use Rattle.script_cmd.proofs.answering.answer_with.Goals as goal
 
-pub returns-in-Ok-Run-clause-answers : goal.returns-in-Ok-Run-clause-answers
-returns-in-Ok-Run-clause-answers g c =
+pub returns-in-Ok-Turns-clause-answers : goal.returns-in-Ok-Turns-clause-answers
+returns-in-Ok-Turns-clause-answers g c =
     let files = g.H.Files.faults c.args.files.now in
-    let e = c.run_source.ensures in
-    answered-run _ (rw c.in-Ok-Run.field-0-is at c.in-Ok-Run.ensures)
+    let e = c.run_turns.ensures in
+    answered-turns c.in-Ok-Turns.order.from c.in-Ok-Turns.order.place _ (rw c.in-Ok-Turns.field-0-is at c.in-Ok-Turns.ensures)
     (e.way (record { list = None; files = g.H.Files.contents c.args.files.now; script = None }) (record { files = files; source = 0; sink = 0 }) (record { files = files; source = 0; sink = 0 }) no-list-named refl (omega arith))
-    e.read_to_end e.in_time e.source_count e.unsent (ap g.H.Files.faults) e.note (record { files = e.later_files; source = e.later_source; sink = e.later_sink })
-
-pub returns-in-Ok-RunPartitioned-clause-answers : goal.returns-in-Ok-RunPartitioned-clause-answers
-returns-in-Ok-RunPartitioned-clause-answers g c =
-    let files = g.H.Files.faults c.args.files.now in
-    let e = c.run_source_by_table.ensures in
-    answered-run-by-table _ (rw c.in-Ok-RunPartitioned.field-0-is at c.in-Ok-RunPartitioned.ensures)
-    (e.way (record { list = None; files = g.H.Files.contents c.args.files.now; script = None }) (record { files = files; source = 0; sink = 0 }) (record { files = files; source = 0; sink = 0 }) no-list-named refl (omega arith))
-    e.read_to_end e.in_time e.source_count e.unsent (ap g.H.Files.faults) (record { files = e.later_files; source = e.later_source; sink = e.later_sink })
-
-pub returns-in-Ok-Boot-clause-answers : goal.returns-in-Ok-Boot-clause-answers
-returns-in-Ok-Boot-clause-answers g c =
-    let files = g.H.Files.faults c.args.files.now in
-    let source = g.I.Source.faults c.args.source.now in
-    let e = c.run_boot.ensures in
-    let kept = ap g.H.Files.faults e.files in
-    answered-boot _ (rw c.in-Ok-Boot.field-0-is at c.in-Ok-Boot.ensures)
-    (e.way _ (record { files = files; source = source; sink = 0 }) (record { files = files; source = source; sink = 0 }) no-list-named refl refl (omega arith))
-    e.files kept refl e.note (record { files = omega (arith, kept); source = omega arith; sink = e.later })
-
-pub returns-in-Ok-BootPartitioned-clause-answers : goal.returns-in-Ok-BootPartitioned-clause-answers
-returns-in-Ok-BootPartitioned-clause-answers g c =
-    let files = g.H.Files.faults c.args.files.now in
-    let source = g.I.Source.faults c.args.source.now in
-    let e = c.run_boot_by_table.ensures in
-    let kept = ap g.H.Files.faults e.files in
-    answered-boot-by-table _ (rw c.in-Ok-BootPartitioned.field-0-is at c.in-Ok-BootPartitioned.ensures)
-    (e.way _ (record { files = files; source = source; sink = 0 }) (record { files = files; source = source; sink = 0 }) no-list-named refl refl (omega arith))
-    e.files kept refl (record { files = omega (arith, kept); source = omega arith; sink = e.later })
+    e.read_to_end e.in_time e.source_count e.unsent (ap g.H.Files.faults) e.boot_files e.boot_source e.note (record { files = e.later_files; source = e.later_source; sink = e.later_sink })
 
 pub returns-in-Ok-Show-clause-answers : goal.returns-in-Ok-Show-clause-answers
 returns-in-Ok-Show-clause-answers g c =
@@ -60,10 +32,10 @@ returns-in-Ok-Show-clause-answers g c =
 pub returns-in-Ok-Format-clause-answers : goal.returns-in-Ok-Format-clause-answers
 returns-in-Ok-Format-clause-answers g c =
     let e = c.format_flash.ensures in
-    answered-format _ c.in-Ok-Format.banks c.in-Ok-Format.rows.items c.in-Ok-Format.package.now (rw c.in-Ok-Format.field-0-is at c.in-Ok-Format.ensures)
+    answered-format _ c.in-Ok-Format.wanted.banks c.in-Ok-Format.wanted.rows.items c.in-Ok-Format.wanted.package.now (rw c.in-Ok-Format.field-0-is at c.in-Ok-Format.ensures)
     (λ banks rows file is.
-    formatted-as _ _ _ _ _ _ _ _ _ _ _ _ _ (Some (ask.format c.in-Ok-Format.banks c.in-Ok-Format.rows.items c.in-Ok-Format.package.now)) c.in-Ok-Format.banks banks c.as_slice.result.now c.in-Ok-Format.rows.items rows
-    c.in-Ok-Format.package.now file c.as_slice.ensures.value refl is c.requires.unarmed e.no_turns
+    formatted-as _ _ _ _ _ _ _ _ _ _ _ _ _ (Some (ask.format c.in-Ok-Format.wanted.banks c.in-Ok-Format.wanted.rows.items c.in-Ok-Format.wanted.package.now)) c.in-Ok-Format.wanted.banks banks c.in-Ok-Format.wanted.rows.items rows
+    c.in-Ok-Format.wanted.package.now file refl is c.requires.unarmed e.no_turns
     (e.formats (g.I.Source.left c.args.source.now) (g.I.Source.faults c.args.source.now) (g.I.Source.faults c.args.source.now)))
     e.power refl (record { files = e.later_files; source = omega arith; sink = e.later_sink })
 
@@ -87,12 +59,13 @@ returns-in-Ok-Serve-clause-answers g c =
 
 pub returns-in-Err-Usage-clause-answers : goal.returns-in-Err-Usage-clause-answers
 returns-in-Err-Usage-clause-answers g c =
-    let e = c.print_usage.ensures in
+    let e = c.refuse.ensures in
     answered-usage _ None (rw c.in-Err-Usage.field-0-is at c.in-Err-Usage.ensures) no-list-named e.no_turns (same-moment g.D.Flash.told g.D.Flash.counts g.D.Flash.arming g.D.Flash.on _ _ e.flash) e.note e.prints
     refl refl refl refl refl (record { files = omega arith; source = omega arith; sink = later _ _ _ _ _ _ _ e.prints })
 
 pub returns-in-Err-NoMemory-clause-answers : goal.returns-in-Err-NoMemory-clause-answers
 returns-in-Err-NoMemory-clause-answers g c =
-    let e = c.idle.ensures in
-    answered-starved _ None e.no_turns (same-moment g.D.Flash.told g.D.Flash.counts g.D.Flash.arming g.D.Flash.on _ _ e.flash) c.requires.unarmed e.status e.note (refl, refl)
-    (λ unlisted. refl) refl refl refl (record { files = omega arith; source = omega arith; sink = omega arith })
+    let e = c.refuse-in-Err-NoMemory.ensures in
+    let stuck = e.starved refl in
+    answered-starved _ None e.no_turns (same-moment g.D.Flash.told g.D.Flash.counts g.D.Flash.arming g.D.Flash.on _ _ e.flash) c.requires.unarmed stuck.0 e.note (ap g.O.Sink.taken stuck.1, ap g.O.Sink.faults stuck.1)
+    (λ unlisted. refl) refl refl refl (record { files = omega arith; source = omega arith; sink = let quiet = ap g.O.Sink.faults stuck.1 in omega (arith, quiet) })

@@ -1,4 +1,4 @@
-use Rattle.std.proofs.Common.{◌≡◌, ◌∙◌, ℕ, List, Ok, Err, arith, inl, inr, ap, refl, sym}
+use Rattle.std.proofs.Common.{◌≡◌, ◌∙◌, ℕ, List, Err, arith, inl, inr, ap, refl, sym}
 use Rattle.std.proofs.lemmas.Bool.{false≢true}
 use Rattle.fwu_formats.specs.Digests.{digests_of, passes_listed}
 use Rattle.fwu_model.specs.Causes.{may_fail_before}
@@ -13,7 +13,7 @@ use Rattle.script_cmd.proofs.answering.run_listed.Goals as goal
 
 pub returns-in-Err-Failed-clause-answers : goal.returns-in-Err-Failed-clause-answers
 returns-in-Err-Failed-clause-answers g c =
-    let e = c.refuse_reading.ensures in
+    let e = c.refuse.ensures in
     let name = c.args.name.now in
     let files = g.H.Files.contents c.args.files.now in
     let why = list-lacks files name _ _ (c.in-Err-Failed.ensures.cause.failed (ap Err c.in-Err-Failed.field-0-is)) in
@@ -41,7 +41,7 @@ returns-in-Ok-clause-answers g c =
 
 pub returns-in-Err-BadLine-clause-answers : goal.returns-in-Err-BadLine-clause-answers
 returns-in-Err-BadLine-clause-answers g c =
-    let e = c.refuse_list.ensures in
+    let e = c.refuse-in-Err-BadLine.ensures in
     let name = c.args.name.now in
     let line = c.in-Err-BadLine.line in
     let files = g.H.Files.contents c.args.files.now in
@@ -60,11 +60,12 @@ returns-in-Err-BadLine-clause-answers g c =
 
 pub returns-in-Err-NoMemory-clause-answers : goal.returns-in-Err-NoMemory-clause-answers
 returns-in-Err-NoMemory-clause-answers g c =
-    let e = c.idle.ensures in
+    let e = c.refuse-in-Err-NoMemory.ensures in
+    let stuck = e.starved refl in
     let same = same-moment g.D.Flash.told g.D.Flash.counts g.D.Flash.arming g.D.Flash.on _ _ e.flash in
     inr (
-      idles _ _ _ _ e.no_turns same e.status,
+      idles _ _ _ _ e.no_turns same stuck.0,
       λ passes.
-          answered-starved _ _ e.no_turns same c.requires.unarmed e.status e.note (refl, refl) (λ unlisted. absurd cc) refl refl refl
-          (record { files = c.read_list.ensures.reads.later; source = omega arith; sink = omega arith }),
+          answered-starved _ _ e.no_turns same c.requires.unarmed stuck.0 e.note (ap g.O.Sink.taken stuck.1, ap g.O.Sink.faults stuck.1) (λ unlisted. absurd cc) refl refl refl
+          (record { files = c.read_list.ensures.reads.later; source = omega arith; sink = let quiet = ap g.O.Sink.faults stuck.1 in omega (arith, quiet) }),
     )

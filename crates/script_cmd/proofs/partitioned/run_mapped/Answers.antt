@@ -7,6 +7,6 @@ pub invariant_of-fresh : goal.invariant_of-fresh
 invariant_of-fresh g c =
     let m = c.new-mapped.result in
     record {
-      is_on = ap g.D.Flash.on c.new-mapped.ensures.device ∙ c.requires.on;
-      clean = λ told. view-clean m.places (g.D.Flash.told m.flash) (subst NothingDirty (ap g.D.Flash.told (sym c.new-mapped.ensures.device)) (c.requires.clean told));
+      is_on = ap g.D.Flash.on c.new-mapped.ensures.device ∙ c.args.opened.is_on;
+      clean = λ told. view-clean m.places (g.D.Flash.told m.flash) (subst NothingDirty (ap g.D.Flash.told (sym c.new-mapped.ensures.device)) (c.args.opened.clean told));
     }

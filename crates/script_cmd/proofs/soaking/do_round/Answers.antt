@@ -19,7 +19,7 @@ returns-in_default-round_calls-clause-stands g c all done old was there off = st
 
 pub returns-then-is_err-clause-stands : goal.returns-then-is_err-clause-stands
 returns-then-is_err-clause-stands g c all done old was there off =
-    starved-before _ all done _ _ old _ _ (subst (λ (ts : List Turn). GoesSoaking g.D.Flash.tells all done ts old (moment_of c.args.soaking.now.powered)) (sym c.make_room.ensures.stays) was)
+    starved-before _ all done _ _ old _ _ (subst (λ (ts : List Turn). GoesSoaking g.D.Flash.tells all done ts old (moment_of c.args.run.now.powered)) (sym c.make_room.ensures.stays) was)
 
 pub do_calls-requires-clause-armable : goal.do_calls-requires-clause-armable
 do_calls-requires-clause-armable g c =
@@ -30,6 +30,6 @@ pub returns-clause-stands : goal.returns-clause-stands
 returns-clause-stands g c all done old was there off =
     let shown_are : map soak_shown c.as_slice.result.now ≡ round_calls soak_layout.rows c.args.round.now =
     ap (map soak_shown) c.as_slice.ensures.value ∙ c.in-Ok-round_calls.ensures ∙ ap (λ rows. round_calls rows c.args.round.now) c.soak_rows.ensures.rows in
-    subst (λ (cs : List Call). Stands g.D.Flash.tells all (done ++ cs) (turns c.do_calls.new.soaking.journal) old (moment_of c.do_calls.new.soaking.powered) c.do_calls.result.status (noted c.do_calls.result.note) c.do_calls.new.soaking.text.items) shown_are
-    (c.do_calls.ensures.stands all done old (subst (λ (ts : List Turn). GoesSoaking g.D.Flash.tells all done ts old (moment_of c.args.soaking.now.powered)) (sym c.make_room.ensures.stays) was)
+    subst (λ (cs : List Call). Stands g.D.Flash.tells all (done ++ cs) (turns c.do_calls.new.run.journal) old (moment_of c.do_calls.new.run.powered) c.do_calls.result.status (noted c.do_calls.result.note) c.do_calls.new.run.text.items) shown_are
+    (c.do_calls.ensures.stands all done old (subst (λ (ts : List Turn). GoesSoaking g.D.Flash.tells all done ts old (moment_of c.args.run.now.powered)) (sym c.make_room.ensures.stays) was)
     (round-agrees soak_layout.rows c.args.round.now (string_bytes c.in-Ok.file.name) c.in-Ok.file.bytes.items all (map soak_shown c.as_slice.result.now) shown_are c.in-Ok.ensures.name c.in-Ok.ensures.bytes there) off)

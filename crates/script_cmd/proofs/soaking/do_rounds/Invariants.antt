@@ -1,8 +1,6 @@
-use Rattle.std.proofs.Common.{◌≡◌, ◌+◌, ◌-◌, ◌<◌, ◌++◌, ℕ, [], List, Some, None, drop, take}
+use Rattle.std.proofs.Common.{◌≡◌, ◌+◌, ◌-◌, ◌<◌, ◌++◌, ℕ, List, Some, None, drop, take}
 use Rattle.std.specs.Prelude.{flat_map, slice_index_or}
-use Rattle.fwu_journal.specs.Room.{HasRoom}
 use Rattle.fwu_journal.specs.Shown.{turns}
-use Rattle.fwu_journal.specs.declared.line.TheConstants.{LINE_ROOM}
 use Rattle.fwu_model.specs.Call.{Call}
 use Rattle.gen_core.specs.Calls.{file_name, round_calls, round_package}
 use Rattle.gen_core.specs.Rounds.{rounds_from}
@@ -16,13 +14,11 @@ use Rattle.script_cmd.proofs.soaking.do_rounds.Given as goal
 -- the first rounds were done, and the register gives the others
 abbrev pub invariant-loop-index : goal.invariant-loop-index
 invariant-loop-index g l = record {
-  going : (all : Directory) (done : List Call) (old : Moment) → GoesSoaking g.D.Flash.tells all done (turns l.fn.soaking.journal) old (moment_of l.fn.soaking.powered)
+  going : (all : Directory) (done : List Call) (old : Moment) → GoesSoaking g.D.Flash.tells all done (turns l.fn.run.journal) old (moment_of l.fn.run.powered)
       → ((k : ℕ) (d : Round) → k < l.fn.rounds → all (file_name (k + 1)) ≡ Some (round_package (slice_index_or (rounds_from l.fn.register 1 l.fn.rounds) k d)))
       → old.on ≡ None
-      → GoesSoaking g.D.Flash.tells all (done ++ flat_map (round_calls soak_layout.rows) (take l.index (rounds_from l.fn.register 1 l.fn.rounds))) (turns l.soaking.journal) old (moment_of l.soaking.powered);
+      → GoesSoaking g.D.Flash.tells all (done ++ flat_map (round_calls soak_layout.rows) (take l.index (rounds_from l.fn.register 1 l.fn.rounds))) (turns l.run.journal) old (moment_of l.run.powered);
   left : drop l.index (rounds_from l.fn.register 1 l.fn.rounds) ≡ rounds_from l.register (l.index + 1) (l.fn.rounds - l.index);
-  powered : g.D.Flash.on (device l.soaking.powered) ≡ has_power l.soaking.powered;
-  empty : l.soaking.text.items ≡ [];
-  line_fits : HasRoom l.soaking.text LINE_ROOM;
-  size : g.D.Flash.blocks (device l.soaking.powered) ≡ g.D.Flash.blocks (device l.fn.soaking.powered);
+  powered : g.D.Flash.on (device l.run.powered) ≡ has_power l.run.powered;
+  size : g.D.Flash.blocks (device l.run.powered) ≡ g.D.Flash.blocks (device l.fn.run.powered);
 }

@@ -11,19 +11,19 @@ use Rattle.script_cmd.specs.Soaking.{GoesSoaking, file_of}
 use Rattle.script_cmd.proofs.SoakTurns.{goes-none, steps-end, steps-on}
 use Rattle.script_cmd.proofs.soaking.do_soak.Goals as goal
 
-pub returns-then-stand-ne0-clause-stands : goal.returns-then-stand-ne0-clause-stands
-returns-then-stand-ne0-clause-stands g c all named =
-    let old = moment_of c.args.start in
+pub returns-then-end-ne0-clause-stands : goal.returns-then-end-ne0-clause-stands
+returns-then-end-ne0-clause-stands g c all named =
+    let old = moment_of c.args.run.now.powered in
     let more = flat_map (round_calls soak_layout.rows) (rounds_from c.args.register.now 1 c.args.rounds) in
-    steps-end g.D.Flash.tells (file_of (string_bytes c.args.first.now.name) c.args.first.now.bytes.items) all [] call.Boot (turns c.args.room.journal) _ old old _ _ _ _ (call.Boot ∷ more)
+    steps-end g.D.Flash.tells (file_of (string_bytes c.args.first.now.name) c.args.first.now.bytes.items) all [] call.Boot (turns c.args.run.now.journal) _ old old _ _ _ _ (call.Boot ∷ more)
     (subst (λ (ts : List Turn). GoesSoaking g.D.Flash.tells all [] ts old old) (sym c.requires.no_turns) (goes-none g.D.Flash.tells all old c.requires.not_booted))
-    c.step-stand.ensures.steps tt c.requires.not_booted c.if-stand-ne0.true (more, refl)
+    c.do_call-end.ensures.does tt c.requires.not_booted c.if-end-ne0.true (more, refl)
 
 pub returns-clause-stands : goal.returns-clause-stands
 returns-clause-stands g c all named =
-    let old = moment_of c.args.start in
-    c.do_rounds-stand.ensures.stands all (call.Boot ∷ []) old
-    (steps-on g.D.Flash.tells (file_of (string_bytes c.args.first.now.name) c.args.first.now.bytes.items) all [] call.Boot (turns c.args.room.journal) _ old old _ _ _ _
+    let old = moment_of c.args.run.now.powered in
+    c.do_rounds.ensures.stands all (call.Boot ∷ []) old
+    (steps-on g.D.Flash.tells (file_of (string_bytes c.args.first.now.name) c.args.first.now.bytes.items) all [] call.Boot (turns c.args.run.now.journal) _ old old _ _ _ _
     (subst (λ (ts : List Turn). GoesSoaking g.D.Flash.tells all [] ts old old) (sym c.requires.no_turns) (goes-none g.D.Flash.tells all old c.requires.not_booted))
-    c.step-stand.ensures.steps tt c.requires.not_booted c.if-stand-ne0.false)
+    c.do_call-end.ensures.does tt c.requires.not_booted c.if-end-ne0.false)
     named c.requires.not_booted

@@ -1,4 +1,4 @@
-use Rattle.script_turns.proofs.CallTakes.{takes-begin}
+use Rattle.script_turns.proofs.CallTakes.{takes-partial}
 use Rattle.script_turns.proofs.Called.{never-gone, powered-by, there-by, turns-begun}
 use Rattle.script_turns.proofs.calling.begin_partial_turn.Goals as goal
 
@@ -13,7 +13,7 @@ returns-clause-turns g c passes files faults =
     let types = c.args.types.items in
     turns-begun a b c.done.result.here live result passes files faults types _ c.done.ensures.turn c.done.ensures.here here (h.goes.power live) h.goes.costs h.goes.unarmed
     (rw c.as_slice.ensures.value at (h.begins live passes))
-    (takes-begin a b result types (rw c.as_slice.ensures.value at (h.spent live)) h.refused)
+    (takes-partial a b result types (rw c.as_slice.ensures.value at (h.spent live)) h.refused)
 
 pub returns-clause-powered : goal.returns-clause-powered
 returns-clause-powered g c quiet =

@@ -1,7 +1,7 @@
 use Rattle.std.proofs.Common.{◌≡◌, refl, ap}
 use Rattle.fwu_model.specs.Call as call
 use Rattle.fwu_model.specs.Reply as reply
-use Rattle.script_turns.proofs.CallTakes.{takes-store}
+use Rattle.script_turns.proofs.CallTakes.{takes-begin}
 use Rattle.agent_machine.specs.Fields.{Fields}
 use Rattle.agent_calls.specs.Shown.{fields}
 use Rattle.agent_calls.specs.Metas.{meta_begun}
@@ -18,7 +18,7 @@ returns-clause-turns g c passes files faults =
     let here = never-gone result _ _ h.goes.gone live in
     turns-by a b c.done.result.here live (λ value. reply.Success) result passes files faults (call.Begin c.args.partial_count) _ c.done.ensures.turn c.done.ensures.here (h.goes.power live) h.goes.costs h.goes.unarmed (meta-by result (fields a).meta (fields b).meta ((fields b).meta ≡ meta_begun (fields a)) here h.keeps (λ r. ap (λ (f : Fields). f.meta) (h.goes.refused r)))
     (called-done result passes (call.Begin c.args.partial_count) _ _ refl (λ previous. previous) (λ q same. same) here (h.meets live passes))
-    (takes-store a b result h.spent h.refused)
+    (takes-begin a b result h.keeps h.still h.spent h.refused)
 
 pub returns-clause-powered : goal.returns-clause-powered
 returns-clause-powered g c quiet =

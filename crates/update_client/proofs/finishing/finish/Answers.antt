@@ -1,12 +1,14 @@
-use Rattle.std.proofs.Common.{Err, refl, sym, subst}
+use Rattle.std.proofs.Common.{◌≡◌, Err, refl, sym, ap, subst, ◌∙◌}
 use Rattle.fwu_model.specs.Call as call
 use Rattle.fwu_model.specs.Reply as reply
 use Rattle.agent_machine.specs.declared.stop.Stop.{Stop}
-use Rattle.agent_machine.specs.Meets.{GoesBy}
-use Rattle.agent_calls.specs.Shown.{gone, moment}
+use Rattle.agent_machine.specs.Meets.{GoesBy, IsRefused}
+use Rattle.agent_calls.specs.Shown.{device, gone, moment}
 use Rattle.update_client.specs.declared.stops.SendStop.{SendStop}
 use Rattle.update_client.specs.Finishes.{FinishesBy}
 use Rattle.update_client.proofs.Finished.{finish-done, finish-lost, finish-failed, finish-refused, finish-halted, still-here}
+use Rattle.update_client.specs.Takes.{OnRefusedEnd}
+use Rattle.update_client.proofs.Unsent.{end-as}
 use Rattle.update_client.proofs.finishing.finish.Goals as goal
 use Rattle.agent_machine.proofs.CallGoing.{MeetsAs}
 
@@ -46,3 +48,17 @@ returns-in-Err-Fault-clause-finishes g c = finish-failed _ _ _ (subst
 
 pub returns-in-Ok-clause-takes : goal.returns-in-Ok-clause-takes
 returns-in-Ok-clause-takes g c = c.in-Ok.ensures.spent
+
+-- ---- a refused end
+
+pub returns-in-Ok-cancel-clause-unswitched : goal.returns-in-Ok-cancel-clause-unswitched
+returns-in-Ok-cancel-clause-unswitched g c =
+    c.in-Ok-cancel.ensures.still ∙ ap (λ a. device a)
+    (c.in-Err-Status.ensures.refused (subst (λ (q : Stop). IsRefused {T = Unit {0}} (Err q)) (sym c.in-Err-Status.field-0-is) tt))
+
+pub returns-in-Err-clause-unswitched : goal.returns-in-Err-clause-unswitched
+returns-in-Err-clause-unswitched g c =
+    let same = c.in-Err.ensures.still ∙ ap (λ a. device a)
+    (c.in-Err-Status.ensures.refused (subst (λ (q : Stop). IsRefused {T = Unit {0}} (Err q)) (sym c.in-Err-Status.field-0-is) tt)) in
+    subst (λ (st : SendStop). OnRefusedEnd {T = Unit {0}} (Err st) (device c.cancel.new.self ≡ device c.args.agent.now)) (sym c.stopped.ensures)
+    (end-as (Unit {0}) c.in-Err.stop (device c.cancel.new.self ≡ device c.args.agent.now) same)

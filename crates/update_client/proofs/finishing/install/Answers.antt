@@ -1,4 +1,4 @@
-use Rattle.std.proofs.Common.{◌≡◌, false, Result, Err, sym, subst, ◌∙◌}
+use Rattle.std.proofs.Common.{◌≡◌, false, length, Result, Err, sym, subst, ◌∙◌}
 use Rattle.std.proofs.lemmas.Result.{on_ok_weaker}
 use Rattle.flash_core.specs.declared.flash.FlashStop.{FlashStop}
 use Rattle.agent_calls.specs.Shown.{SpentBy, device, moment}
@@ -10,6 +10,8 @@ use Rattle.update_client.specs.Pieces.{ReadsBy}
 use Rattle.update_client.proofs.Installed.{installed, uncancelled, interrupted, unread-is}
 use Rattle.agent_machine.proofs.Spending.{call-spent, spent-then}
 use Rattle.update_client.proofs.Spending.{unstopped}
+use Rattle.update_client.specs.Takes.{ImagesStart, ImagesTake, OnUnread}
+use Rattle.update_client.proofs.Unsent.{end-of, end-read, images-no-end, other-read}
 use Rattle.update_client.proofs.finishing.install.Goals as goal
 
 pub returns-then-not-is_unread-clause-installs : goal.returns-then-not-is_unread-clause-installs
@@ -54,3 +56,39 @@ pub returns-else-not-is_unread-clause-reads : goal.returns-else-not-is_unread-cl
 returns-else-not-is_unread-clause-reads g c =
     let is : c.in-Err.stop ≡ ReadFailed = unread-is c.in-Err.stop (sym c.is_unread.ensures ∙ c.if-not-is_unread.false) in
     subst (λ (st : SendStop). ReadsBy {T = Unit {0}} (g.H.Files.faults c.args.files.now) (g.H.Files.faults c.send_images.new.files) (Err st)) is c.in-Err.ensures.reads
+
+-- ---- a refused end
+
+pub returns-in-Ok-clause-unswitched : goal.returns-in-Ok-clause-unswitched
+returns-in-Ok-clause-unswitched g c =
+    let entries = c.args.entries.now in
+    let size = length c.args.buf.now in
+    let old = moment c.args.agent.now in
+    let armed = g.D.Flash.arming (device c.args.agent.now) in
+    end-of (Unit {0}) c.finish.result (device c.finish.new.agent ≡ device c.send_images.new.agent)
+    (ImagesTake size entries (length entries) old armed (g.D.Flash.arming (device c.finish.new.agent)))
+    (λ same. subst (λ d. ImagesTake size entries (length entries) old armed (g.D.Flash.arming d)) (sym same) c.in-Ok.ensures.takes) c.finish.ensures.unswitched
+
+pub returns-then-not-is_unread-clause-unswitched : goal.returns-then-not-is_unread-clause-unswitched
+returns-then-not-is_unread-clause-unswitched g c =
+    images-no-end _ _ (length c.args.buf.now) c.args.entries.now _ c.in-Err.stop (moment c.args.agent.now) (moment c.send_images.new.agent) _ _ c.in-Err.ensures.sent
+
+-- ---- a read that failed
+
+pub returns-in-Ok-clause-unsent : goal.returns-in-Ok-clause-unsent
+returns-in-Ok-clause-unsent g c = end-read (Unit {0}) c.finish.result _ c.finish.ensures.stops
+
+pub returns-then-not-is_unread-clause-unsent : goal.returns-then-not-is_unread-clause-unsent
+returns-then-not-is_unread-clause-unsent g c =
+    other-read (Unit {0}) c.in-Err.stop _ (sym c.is_unread.ensures ∙ c.if-not-is_unread.true)
+
+pub returns-else-not-is_unread-clause-unsent : goal.returns-else-not-is_unread-clause-unsent
+returns-else-not-is_unread-clause-unsent g c =
+    let is : c.in-Err.stop ≡ ReadFailed = unread-is c.in-Err.stop (sym c.is_unread.ensures ∙ c.if-not-is_unread.false) in
+    let size = length c.args.buf.now in
+    let entries = c.args.entries.now in
+    let old = moment c.args.agent.now in
+    let armed = g.D.Flash.arming (device c.args.agent.now) in
+    subst (λ d. ImagesStart size entries old armed (g.D.Flash.arming d)) (sym c.cancel-cancelled.ensures.still)
+    (subst (λ (st : SendStop). OnUnread {T = Unit {0}} (Err st) (ImagesStart size entries old armed (g.D.Flash.arming (device c.send_images.new.agent)))) is
+    c.in-Err.ensures.unsent)

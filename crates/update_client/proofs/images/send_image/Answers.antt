@@ -1,4 +1,4 @@
-use Rattle.std.proofs.Common.{Err, ℕ, length, sym, subst}
+use Rattle.std.proofs.Common.{Err, ℕ, length, sym, ap, subst}
 use Rattle.host_io.proofs.Reading.{reads-none}
 use Rattle.agent_calls.specs.Shown.{SpentBy, device, gone, moment}
 use Rattle.agent_calls.specs.Takes.{pieces_of}
@@ -6,11 +6,12 @@ use Rattle.update_client.specs.declared.stops.SendStop.{SendStop}
 use Rattle.update_client.specs.Pieces.{SendsImage}
 use Rattle.update_client.proofs.WrittenPiece.{image-unopened, image-unwritten, image-sent, image-uncommitted}
 use Rattle.update_client.specs.Halts.{flash_of}
-use Rattle.update_client.specs.Takes.{FirstTake}
+use Rattle.update_client.specs.Takes.{FirstTake, FrontTakes, ImageStarts, OnUnread}
 use Rattle.update_client.proofs.ImagesTaking.{image-takes}
 use Rattle.agent_machine.proofs.Spending.{call-spent, spent-then}
 use Rattle.update_client.proofs.Spending.{stop-spent}
 use Rattle.update_client.proofs.Stopped.{handed-on}
+use Rattle.update_client.proofs.Unsent.{image-starts, never-unread, unread-then}
 use Rattle.update_client.proofs.images.send_image.Goals as goal
 
 pub returns-in-Err-clause-sent : goal.returns-in-Err-clause-sent
@@ -76,3 +77,29 @@ returns-in-Err-commit-clause-spent g c =
 
 pub returns-in-Err-clause-files : goal.returns-in-Err-clause-files
 returns-in-Err-clause-files g c = reads-none g.H.Files _ g.met.H.Files.at_rest _
+
+-- ---- a read that failed
+
+pub returns-in-Err-clause-unsent : goal.returns-in-Err-clause-unsent
+returns-in-Err-clause-unsent g c =
+    let starts = ImageStarts (length c.args.buf.now) c.args.guid c.args.entry.now (moment c.args.agent.now) (g.D.Flash.arming (device c.args.agent.now))
+    (g.D.Flash.arming (device c.open.new.self)) in
+    subst (λ (st : SendStop). OnUnread {T = Unit {0}} (Err st) starts) (sym c.stopped.ensures) (never-unread (Unit {0}) c.in-Err.stop starts)
+
+pub returns-in_err-write_image-clause-unsent : goal.returns-in_err-write_image-clause-unsent
+returns-in_err-write_image-clause-unsent g c =
+    rw (handed-on c.from_residual.result c.in_err-write_image.field-0.0 c.from_residual.ensures.1) (
+    let size = length c.args.buf.now in
+    let armed = g.D.Flash.arming (device c.args.agent.now) in
+    let opened = g.D.Flash.arming (device c.open.new.self) in
+    let arming = g.D.Flash.arming (device c.write_image.new.agent) in
+    unread-then (Unit {0}) (Unit {0}) c.in_err-write_image.field-0.0 (FrontTakes size c.args.entry.now (moment c.open.new.self) opened arming)
+    (ImageStarts size c.args.guid c.args.entry.now (moment c.args.agent.now) armed arming)
+    (λ front. image-starts size c.args.guid c.args.entry.now c.in-Ok.field-0 (moment c.args.agent.now) (moment c.open.new.self) armed opened arming
+    (c.in-Ok.ensures.meets c.requires.here) (ap (λ d. g.D.Flash.arming d) c.in-Ok.ensures.still) front) c.in_err-write_image.ensures.unsent)
+
+pub returns-in-Err-commit-clause-unsent : goal.returns-in-Err-commit-clause-unsent
+returns-in-Err-commit-clause-unsent g c =
+    let starts = ImageStarts (length c.args.buf.now) c.args.guid c.args.entry.now (moment c.args.agent.now) (g.D.Flash.arming (device c.args.agent.now))
+    (g.D.Flash.arming (device c.commit.new.self)) in
+    subst (λ (st : SendStop). OnUnread {T = Unit {0}} (Err st) starts) (sym c.stopped-in-Err-commit.ensures) (never-unread (Unit {0}) c.in-Err-commit.stop starts)

@@ -8,9 +8,10 @@ use Rattle.fwu_formats.specs.Package.{Entry}
 use Rattle.agent_calls.specs.Shown.{device, gone, moment}
 use Rattle.update_client.specs.Pieces.{SendsImage}
 use Rattle.update_client.specs.Images.{no_entry}
-use Rattle.update_client.specs.Takes.{ImageTakes}
+use Rattle.update_client.specs.Takes.{ImageTakes, ImageStarts, ImagesStart, OnUnread}
 use Rattle.update_client.proofs.SentImages.{images-none, images-more, images-stopped, images-done}
 use Rattle.update_client.proofs.Stopped.{handed-on}
+use Rattle.update_client.proofs.Unsent.{images-start, unread-then}
 use Rattle.update_client.proofs.images.send_images.Goals as goal
 
 pub loop-k-init : goal.loop-k-init
@@ -87,3 +88,28 @@ returns-in_err-send_image-clause-spent g c =
 pub returns-in_err-send_image-clause-files : goal.returns-in_err-send_image-clause-files
 returns-in_err-send_image-clause-files g c =
     reads-then g.H.Files _ g.met.H.Files.joins _ _ _ c.loop-k.invariant.files c.in_err-send_image.ensures.files
+
+-- ---- a read that failed
+
+pub returns-in_err-send_image-clause-unsent : goal.returns-in_err-send_image-clause-unsent
+returns-in_err-send_image-clause-unsent g c =
+    rw (handed-on c.from_residual.result c.in_err-send_image.field-0.0 c.from_residual.ensures.1) (
+    let before = c.loop-k.invariant in
+    let k = c.loop-k.k in
+    let below : k < length c.args.entries.now = omega (arith, c.loop-k-test.true) in
+    let at : c.index-entries-k.result ≡ get_or c.args.entries.now k no_entry = c.index-entries-k.is
+    ∙ get_or_default c.args.entries.now k c.index-entries-k.result no_entry below in
+    let size = length c.args.buf.now in
+    let now = length c.loop-k.buf in
+    let from = moment c.loop-k.agent in
+    let armed = g.D.Flash.arming (device c.args.agent.now) in
+    let mid = g.D.Flash.arming (device c.loop-k.agent) in
+    let arming = g.D.Flash.arming (device c.send_image.new.agent) in
+    let e = get_or c.args.entries.now k no_entry in
+    unread-then (Unit {0}) (Unit {0}) c.in_err-send_image.field-0.0 (ImageStarts now c.index-entries-k.result.guid c.index-entries-k.result from mid arming)
+    (ImagesStart size c.args.entries.now (moment c.args.agent.now) armed arming)
+    (λ starts. images-start _ _ size c.args.entries.now _ k (moment c.args.agent.now) from armed mid arming below before.first before.takes
+    (subst (λ (n : ℕ). ImageStarts n e.guid e from mid arming) before.buffer
+    (subst (λ (x : Entry). ImageStarts now x.guid x from mid arming) at starts)))
+    (subst (λ (guid : List ℕ). OnUnread {T = Unit {0}} (Err c.in_err-send_image.field-0.0) (ImageStarts now guid c.index-entries-k.result from mid arming))
+    (ap (λ (x : Entry). x.guid) c.entry.view_is) c.in_err-send_image.ensures.unsent))

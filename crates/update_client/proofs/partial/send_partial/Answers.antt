@@ -1,9 +1,9 @@
-use Rattle.std.proofs.Common.{◌≡◌, ◌+◌, ◌^◌, ◌<◌, ◌≤◌, ℕ, Bool, true, false, List, length, take, Option, Some, Ok, Err, sym, ap, subst, ◌∙◌, arith, IsTrue, IsFalse}
+use Rattle.std.proofs.Common.{◌≡◌, ◌+◌, ◌^◌, ◌<◌, ◌≤◌, ℕ, Bool, true, false, List, length, take, Option, Some, Ok, Err, refl, sym, ap, subst, ◌∙◌, arith, IsTrue, IsFalse}
 use Rattle.std.specs.List.{All}
 use Rattle.host_io.proofs.Reading.{reads-none}
 use Rattle.fwu_formats.specs.Layout.{ImageRow}
 use Rattle.fwu_formats.specs.Package.{Entry}
-use Rattle.fwu_model.specs.Answer.{skipped}
+use Rattle.fwu_model.specs.Answer.{skipped, are_named, names_unknown, partial_fault}
 use Rattle.agent_machine.specs.declared.stop.Stop.{Stop}
 use Rattle.agent_calls.specs.Shown.{device, fields, gone, moment}
 use Rattle.flash_core.specs.declared.flash.Arming.{Arming}
@@ -11,8 +11,7 @@ use Rattle.agent_machine.specs.Ends.{TakesSwitch}
 use Rattle.agent_calls.specs.Takes.{Takes, writes_to_begin, writes_to_copy}
 use Rattle.agent_calls.proofs.Taking.{takes-some, takes-then}
 use Rattle.agent_machine.proofs.Showing.{shows-some}
-use Rattle.update_client.specs.Takes.{InstallTakes, writes_in}
-use Rattle.fwu_model.specs.Answer.{are_named, names_unknown, partial_fault}
+use Rattle.update_client.specs.Takes.{InstallTakes, writes_in, ImagesStart, ImagesTake, OnRefusedEnd, OnUnread, UnreadTakes, writes_up_to}
 use Rattle.agent_calls.specs.Copies.{BeginsPartly}
 use Rattle.flash_core.specs.Calls.{Goes}
 use Rattle.update_client.specs.declared.stops.Sent.{Sent}
@@ -22,14 +21,15 @@ use Rattle.agent_machine.proofs.Spending.{call-spent, spent-then}
 use Rattle.update_client.proofs.Spending.{goes-of, here-before, unbegun-spent}
 use Rattle.update_client.specs.Choosing.{refused_image}
 use Rattle.update_client.specs.Finishes.{InstallsImages}
-use Rattle.update_client.specs.Partial.{ArePresent, SendsOver, present, types_of, writes_over}
+use Rattle.update_client.specs.Partial.{ArePresent, SendsOver, present, types_of, writes_copied, writes_over}
 use Rattle.fip_tables.proofs.Chosen.{present_few}
 use Rattle.update_client.proofs.Named.{known-types}
 use Rattle.update_client.proofs.Present.{counted-by, placed-in, present-have, rows-found, rows-some}
 use Rattle.update_client.proofs.InstalledOver.{installs-over}
 use Rattle.update_client.proofs.WholeSending.{switches}
-use Rattle.update_client.proofs.WholePartly.{over-early, over-unbegun, over-done, over-halted, over-take}
+use Rattle.update_client.proofs.WholePartly.{over-early, over-unbegun, over-done, over-halted, over-some, over-take}
 use Rattle.update_client.proofs.Stopped.{handed-on}
+use Rattle.update_client.proofs.Unsent.{begin-no-end, begin-read, early-no-end, early-read, end-then, unread-then}
 use Rattle.update_client.proofs.partial.send_partial.Goals as goal
 
 pub choose_present-requires-clause-some : goal.choose_present-requires-clause-some
@@ -236,3 +236,104 @@ returns-in_err-entries-clause-files g c = reads-none g.H.Files _ g.met.H.Files.a
 
 pub returns-in-Err-clause-files : goal.returns-in-Err-clause-files
 returns-in-Err-clause-files g c = reads-none g.H.Files _ g.met.H.Files.at_rest _
+
+-- ---- a refused end
+
+pub returns-in_err-entries-clause-unswitched : goal.returns-in_err-entries-clause-unswitched
+returns-in_err-entries-clause-unswitched g c =
+    rw (handed-on c.from_residual.result c.in_err-entries.field-0.0 c.from_residual.ensures.1)
+    (early-no-end Sent _ c.in_err-entries.field-0.0 _ c.in_err-entries.ensures)
+
+pub returns-in-Err-clause-unswitched : goal.returns-in-Err-clause-unswitched
+returns-in-Err-clause-unswitched g c =
+    let f = fields c.args.agent.now in
+    let takes = Takes (writes_to_begin f + writes_over (length c.args.buf.now) f.layout.rows f.lengths c.args.toc.now) (g.D.Flash.arming (device c.args.agent.now))
+    (g.D.Flash.arming (device c.begin_partial.new.self)) in
+    subst (λ (st : SendStop). OnRefusedEnd {T = Sent} (Err st) takes) (sym c.unbegun.ensures) (begin-no-end Sent c.in-Err.stop takes)
+
+pub returns-in_err-install-clause-unswitched : goal.returns-in_err-install-clause-unswitched
+returns-in_err-install-clause-unswitched g c =
+    rw (handed-on c.from_residual-in_err-install.result c.in_err-install.field-0.0 c.from_residual-in_err-install.ensures.1) (
+    let agent = c.args.agent.now in
+    let here = here-before _ _ c.in-Ok.ensures.goes.gone in
+    let L = agent.layout in
+    let toc = c.args.toc.now in
+    let fit = c.rows.ensures.fits in
+    let are = subst (λ (rs : List ImageRow). ArePresent rs toc c.in_ok-entries.entries) c.rows.ensures.value c.in_ok-entries.ensures in
+    let listed : take c.len.result c.types_in-types.result ≡ types_of (present L.rows toc) =
+    ap (λ (n : ℕ). take n c.types_in-types.result) (c.len.ensures.length ∙ ap (λ (l : List Entry). length l) (sym c.as_slice.ensures))
+    ∙ c.types_in-types.ensures ∙ ap types_of (c.as_slice.ensures ∙ are.entries_are) in
+    let known : names_unknown L.rows (types_of (present L.rows toc)) ≡ false = known-types L.rows L.rows toc (λ i lt. rows-found L i fit lt) in
+    let begins = subst (λ (t : List (List ℕ)). BeginsPartly t (are_named L.rows t) (g.V.Verifier.passes c.args.verifier.now) (Ok tt) (moment agent)
+    (moment c.begin_partial.new.self)) listed (c.in-Ok.ensures.begins here (g.V.Verifier.passes c.args.verifier.now)) in
+    let armed = g.D.Flash.arming (device agent) in
+    let begun = g.D.Flash.arming (device c.begin_partial.new.self) in
+    let arming = g.D.Flash.arming (device c.install.new.agent) in
+    let size = length c.args.buf.now in
+    let copies = writes_to_begin (fields agent) + writes_copied L.rows agent.lengths toc in
+    let writes = writes_in size (present L.rows toc) in
+    let all = writes_to_begin (fields agent) + writes_over size L.rows agent.lengths toc in
+    let one : Takes copies armed begun = subst (λ (t : List (List ℕ)). Takes (writes_to_begin (fields agent)
+    + writes_to_copy (are_named L.rows t) agent.lengths (length L.rows)) armed begun) listed (c.in-Ok.ensures.spent here) in
+    let images = λ (l : List Entry). ImagesTake size l (length l) (moment c.begin_partial.new.self) begun arming in
+    end-then (Unit {0}) Sent c.in_err-install.field-0.0 (images c.as_slice-2.result.now) (Takes all armed arming) (λ taken.
+    takes-then copies writes all armed begun arming (omega arith) one (takes-some writes begun arming
+    (shows-some (fields agent) (agent.fitting here) g.D.Flash.tells (g.D.Flash.told agent.flash) (agent.knows here) (agent.some here))
+    (over-take (g.H.Files.contents c.args.files.now) c.args.name.now toc c.args.acceptance (g.V.Verifier.passes c.args.verifier.now) (moment agent) are.none known c.in_ok-entries.entries (moment c.begin_partial.new.self)
+    (moment c.install.new.agent) are.entries_are begins
+    (λ E layout. placed-in E L toc begins.bytes c.in_ok-entries.entries layout fit are) size begun arming (subst images c.as_slice-2.ensures taken))))
+    c.in_err-install.ensures.unswitched)
+
+-- ---- a read that failed
+
+pub returns-in_err-entries-clause-unsent : goal.returns-in_err-entries-clause-unsent
+returns-in_err-entries-clause-unsent g c =
+    rw (handed-on c.from_residual.result c.in_err-entries.field-0.0 c.from_residual.ensures.1)
+    (early-read Sent _ c.in_err-entries.field-0.0 _ c.in_err-entries.ensures)
+
+pub returns-in-Err-clause-unsent : goal.returns-in-Err-clause-unsent
+returns-in-Err-clause-unsent g c =
+    let f = fields c.args.agent.now in
+    let toc = c.args.toc.now in
+    let takes = UnreadTakes (writes_to_begin f + writes_copied f.layout.rows f.lengths toc) (length c.args.buf.now) (present f.layout.rows toc)
+    (g.D.Flash.arming (device c.args.agent.now)) (g.D.Flash.arming (device c.begin_partial.new.self)) in
+    subst (λ (st : SendStop). OnUnread {T = Sent} (Err st) takes) (sym c.unbegun.ensures) (begin-read Sent c.in-Err.stop takes)
+
+pub returns-in_err-install-clause-unsent : goal.returns-in_err-install-clause-unsent
+returns-in_err-install-clause-unsent g c =
+    rw (handed-on c.from_residual-in_err-install.result c.in_err-install.field-0.0 c.from_residual-in_err-install.ensures.1) (
+    let agent = c.args.agent.now in
+    let here = here-before _ _ c.in-Ok.ensures.goes.gone in
+    let L = agent.layout in
+    let toc = c.args.toc.now in
+    let fit = c.rows.ensures.fits in
+    let are = subst (λ (rs : List ImageRow). ArePresent rs toc c.in_ok-entries.entries) c.rows.ensures.value c.in_ok-entries.ensures in
+    let listed : take c.len.result c.types_in-types.result ≡ types_of (present L.rows toc) =
+    ap (λ (n : ℕ). take n c.types_in-types.result) (c.len.ensures.length ∙ ap (λ (l : List Entry). length l) (sym c.as_slice.ensures))
+    ∙ c.types_in-types.ensures ∙ ap types_of (c.as_slice.ensures ∙ are.entries_are) in
+    let known : names_unknown L.rows (types_of (present L.rows toc)) ≡ false = known-types L.rows L.rows toc (λ i lt. rows-found L i fit lt) in
+    let begins = subst (λ (t : List (List ℕ)). BeginsPartly t (are_named L.rows t) (g.V.Verifier.passes c.args.verifier.now) (Ok tt) (moment agent)
+    (moment c.begin_partial.new.self)) listed (c.in-Ok.ensures.begins here (g.V.Verifier.passes c.args.verifier.now)) in
+    let armed = g.D.Flash.arming (device agent) in
+    let begun = g.D.Flash.arming (device c.begin_partial.new.self) in
+    let arming = g.D.Flash.arming (device c.install.new.agent) in
+    let size = length c.args.buf.now in
+    let copies = writes_to_begin (fields agent) + writes_copied L.rows agent.lengths toc in
+    let one : Takes copies armed begun = subst (λ (t : List (List ℕ)). Takes (writes_to_begin (fields agent)
+    + writes_to_copy (are_named L.rows t) agent.lengths (length L.rows)) armed begun) listed (c.in-Ok.ensures.spent here) in
+    let starts = λ (l : List Entry). ImagesStart size l (moment c.begin_partial.new.self) begun arming in
+    unread-then (Unit {0}) Sent c.in_err-install.field-0.0 (starts c.as_slice-2.result.now) (UnreadTakes copies size (present L.rows toc) armed arming) (λ unread.
+    subst (λ (l : List Entry). UnreadTakes copies size l armed arming) are.entries_are (
+    let start = subst starts c.as_slice-2.ensures unread in
+    let writes = writes_up_to size c.in_ok-entries.entries start.images start.pieces in
+    record {
+      images = start.images;
+      pieces = start.pieces;
+      below = start.below;
+      more = start.more;
+      takes = takes-then copies writes (copies + writes) armed begun arming refl one (takes-some writes begun arming
+          (shows-some (fields agent) (agent.fitting here) g.D.Flash.tells (g.D.Flash.told agent.flash) (agent.knows here) (agent.some here))
+          (over-some (g.H.Files.contents c.args.files.now) c.args.name.now toc c.args.acceptance (g.V.Verifier.passes c.args.verifier.now) (moment agent) are.none known c.in_ok-entries.entries
+          (moment c.begin_partial.new.self) (moment c.install.new.agent) are.entries_are begins
+          (λ E layout. placed-in E L toc begins.bytes c.in_ok-entries.entries layout fit are) writes begun arming start.takes));
+    })) c.in_err-install.ensures.unsent)

@@ -1,4 +1,4 @@
-use Rattle.std.proofs.Common.{ℕ, ◌<◌, length, Ok, Err, Option, refl, ap, subst, ◌∙◌, arith}
+use Rattle.std.proofs.Common.{◌≡◌, ℕ, ◌<◌, length, Ok, Err, Option, refl, ap, subst, ◌∙◌, arith}
 use Rattle.host_io.specs.Contents.{Directory}
 use Rattle.host_io.proofs.Reading.{reads-none, reads-then}
 use Rattle.agent_machine.proofs.Spending.{none-spent, spent-then}
@@ -9,6 +9,8 @@ use Rattle.agent_calls.specs.Takes.{piece_at}
 use Rattle.update_client.specs.Pieces.{WritesPiece}
 use Rattle.update_client.proofs.WrittenImage.{first-none, first-more, image-stopped, image-done}
 use Rattle.update_client.proofs.Stopped.{handed-on}
+use Rattle.update_client.specs.Takes.{FrontTakes}
+use Rattle.update_client.proofs.Unsent.{front-takes, unread-then}
 use Rattle.update_client.proofs.pieces.write_image.Goals as goal
 
 pub returns-clause-wrote : goal.returns-clause-wrote
@@ -66,3 +68,17 @@ returns-in_err-at-clause-spent g c =
 
 pub returns-in_err-at-clause-files : goal.returns-in_err-at-clause-files
 returns-in_err-at-clause-files g c = reads-then g.H.Files _ g.met.H.Files.joins _ _ _ c.loop-at.invariant.files c.in_err-at.ensures.files
+
+-- ---- a read that failed
+
+pub returns-in_err-at-clause-unsent : goal.returns-in_err-at-clause-unsent
+returns-in_err-at-clause-unsent g c =
+    rw (handed-on c.from_residual.result c.in_err-at.field-0.0 c.from_residual.ensures.1) (
+    let size = length c.args.buf.now in
+    let armed = g.D.Flash.arming (device c.args.agent.now) in
+    let arming = g.D.Flash.arming (device c.write_piece.new.agent) in
+    let more : c.loop-at.at < c.args.entry.now.size = omega (arith, c.loop-at-test.true, ap (λ (e : Entry). e.size) c.entry.view_is) in
+    unread-then ℕ (Unit {0}) c.in_err-at.field-0.0 (c.write_piece.new.agent ≡ c.loop-at.agent)
+    (FrontTakes size c.args.entry.now (moment c.args.agent.now) armed arming)
+    (λ same. front-takes size c.args.entry.now c.loop-at.at (moment c.args.agent.now) armed (g.D.Flash.arming (device c.loop-at.agent)) arming more
+    (ap (λ a. g.D.Flash.arming (device a)) same) c.loop-at.invariant.takes) c.in_err-at.ensures.unsent)

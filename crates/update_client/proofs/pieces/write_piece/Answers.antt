@@ -12,6 +12,8 @@ use Rattle.update_client.proofs.WrittenPiece.{piece-unread, piece-written, piece
 use Rattle.update_client.proofs.ImagesTaking.{piece-takes}
 use Rattle.agent_machine.proofs.Spending.{call-spent, none-spent}
 use Rattle.update_client.proofs.Spending.{stop-spent}
+use Rattle.update_client.specs.Takes.{OnUnread}
+use Rattle.update_client.proofs.Unsent.{never-unread}
 use Rattle.update_client.proofs.pieces.write_piece.Goals as goal
 
 pub returns-in-Err-clause-wrote : goal.returns-in-Err-clause-wrote
@@ -73,3 +75,10 @@ returns-in-Err-write_stream-clause-spent g c =
     subst (λ (st : SendStop). SpentBy (flash_of {T = ℕ} (Err st)) c.args.agent.now c.write_stream.new.self) (sym c.stopped.ensures)
     (stop-spent (Unit {0}) ℕ c.in-Err-write_stream.stop (gone c.write_stream.new.self) (device c.args.agent.now) (device c.write_stream.new.self)
     (call-spent c.requires.here c.in-Err-write_stream.ensures.goes))
+
+-- ---- a read that failed
+
+pub returns-in-Err-write_stream-clause-unsent : goal.returns-in-Err-write_stream-clause-unsent
+returns-in-Err-write_stream-clause-unsent g c =
+    subst (λ (st : SendStop). OnUnread {T = ℕ} (Err st) (c.write_stream.new.self ≡ c.args.agent.now)) (sym c.stopped.ensures)
+    (never-unread ℕ c.in-Err-write_stream.stop (c.write_stream.new.self ≡ c.args.agent.now))

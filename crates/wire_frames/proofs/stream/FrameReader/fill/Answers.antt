@@ -1,9 +1,20 @@
-use Rattle.std.proofs.Common.{◌≡◌, ◌≤◌, ◌+◌, ◌-◌, ◌++◌, List, ℕ, ◌∙◌, ap, subst, sym, length, take, drop, arith, length-append}
+use Rattle.std.proofs.Common.{◌≡◌, ◌≤◌, ◌+◌, ◌-◌, ◌++◌, List, ℕ, ◌∙◌, refl, ap, subst, sym, length, take, drop, arith, length-append}
 use Rattle.std.specs.Io.KnownBytes.{Consumes}
-use Rattle.std.proofs.KnownBytes.{Consumes-trans}
+use Rattle.std.proofs.KnownBytes.{Consumes-nil, Consumes-trans}
 use Rattle.std.proofs.lemmas.List.{length-take-le, length-drop, take_rest}
+use Rattle.host_io.proofs.Once.{bytes-none, bytes-then, once-bytes, once-then}
 use Rattle.wire_frames.proofs.Filling.{taken-more}
 use Rattle.wire_frames.proofs.stream.FrameReader.fill.Goals as goal
+
+pub loop-at-init : goal.loop-at-init
+loop-at-init g c = record {
+  came = Consumes-nil _;
+  taken = omega arith;
+  most = omega arith;
+  within = omega arith;
+  faults = refl;
+  reads = bytes-none g.I.Source g.met.I.Source.at_rest c.args.source.now;
+}
 
 pub loop-at-preserved : goal.loop-at-preserved
 loop-at-preserved g c =
@@ -26,4 +37,12 @@ loop-at-preserved g c =
           omega (arith, front, whole, rest, long, room, was.within);
       most = c.read_some.ensures.within;
       faults = c.in-Ok.ensures.faults ∙ was.faults;
+      reads = bytes-then g.I.Source g.met.I.Source.joins _ c.loop-at.source _ was.reads c.in-Ok.ensures.goes;
     }
+
+pub returns-in-Err-clause-once : goal.returns-in-Err-clause-once
+returns-in-Err-clause-once g c =
+    once-then g.I.Source g.met.I.Source.joins c.args.source.now c.loop-at.source c.read_some.new.source c.loop-at.invariant.reads c.read_some.ensures.once
+
+pub returns-clause-once : goal.returns-clause-once
+returns-clause-once g c = once-bytes g.I.Source c.args.source.now c.loop-at.source c.loop-at.invariant.reads

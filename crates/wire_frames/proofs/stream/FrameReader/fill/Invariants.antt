@@ -1,5 +1,6 @@
 use Rattle.std.proofs.Common.{◌≡◌, ◌+◌, ◌-◌, ◌≤◌, length, take}
 use Rattle.std.specs.Io.KnownBytes.{Consumes}
+use Rattle.host_io.specs.Once.{ReadsBytes}
 use Rattle.wire_frames.specs.Stream.{most_bytes}
 use Rattle.wire_frames.proofs.stream.FrameReader.fill.Given as goal
 
@@ -11,6 +12,7 @@ invariant-loop-at g l = record {
   most : l.self ≤ most_bytes;
   within : l.at ≤ length l.out;
   faults : g.I.Source.faults l.source ≡ g.I.Source.faults l.fn.source;
+  reads : ReadsBytes g.I.Source l.fn.source l.source;
 }
 
 abbrev pub decreases-loop-at : goal.decreases-loop-at

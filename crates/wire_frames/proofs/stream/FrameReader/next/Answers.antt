@@ -1,6 +1,7 @@
 use Rattle.std.proofs.Common.{◌≡◌, ◌<◌, false, List, ℕ, ◌∙◌, subst, sym, refl, length, take, drop, arith, length-append}
 use Rattle.std.proofs.lemmas.List.{length-take, length-take-le}
 use Rattle.std.proofs.lemmas.Bool.{false≢true}
+use Rattle.host_io.proofs.Once.{bytes-then, once-then}
 use Rattle.wire_frames.specs.Stream.{StopsReading}
 use Rattle.wire_frames.proofs.Filling.{partial-body, reads-frame, stops-by}
 use Rattle.wire_frames.proofs.stream.FrameReader.next.Goals as goal
@@ -28,3 +29,17 @@ returns-in-Err-fill-clause-stops g c =
     (stops-by short.why head got c.args.self.now c.fill.new.self c.fill-2.new.self false _ (g.I.Source.left c.fill.new.source) _ c.in_default.ensures.bytes c.in-Err-fill.ensures.cut c.in_default.ensures.taken
     (partial-body head got n c.fill.auto.out c.length_in-length.ensures.value c.if-length-lt-FEWEST_BODY_BYTES.false few fewer)
     (λ is. absurd (false≢true is)) (λ is. omega (arith, length-append head got, c.fill.auto.out)))
+
+-- ---- what was read
+
+pub returns-in-Ok-clause-goes : goal.returns-in-Ok-clause-goes
+returns-in-Ok-clause-goes g c =
+    bytes-then g.I.Source g.met.I.Source.joins c.args.source.now c.fill.new.source c.fill-2.new.source c.in_default.ensures.goes c.in-Ok.ensures.goes
+
+pub returns-in-Ok-clause-once : goal.returns-in-Ok-clause-once
+returns-in-Ok-clause-once g c =
+    once-then g.I.Source g.met.I.Source.joins c.args.source.now c.fill.new.source c.fill-2.new.source c.in_default.ensures.goes c.fill-2.ensures.once
+
+pub returns-in-Err-fill-clause-once : goal.returns-in-Err-fill-clause-once
+returns-in-Err-fill-clause-once g c =
+    once-then g.I.Source g.met.I.Source.joins c.args.source.now c.fill.new.source c.fill-2.new.source c.in_default.ensures.goes c.fill-2.ensures.once

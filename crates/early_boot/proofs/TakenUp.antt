@@ -1,0 +1,261 @@
+-- What taking up a bank promises of its device, on any device: the reading, the check, and then the repair.
+use Rattle.std.proofs.Common.{◌≡◌, ℕ, ◌+◌, ◌≤◌, ◌==◌, ◌&&◌, ◌||◌, not, Bool, true, false, cond, List, [], ◌∷◌, Option, Some, None, Ok, Err, refl, sym, ap, subst, ◌∙◌, arith, eq-eqb, IsTrue, leb, le-leb, ltb, lt-ltb}
+use Rattle.std.proofs.lemmas.Bool.{and_from, and_parts, cond_both}
+use Rattle.std.proofs.lemmas.Option.{same_Some}
+use Rattle.std.specs.Prelude.{IfSome}
+use Rattle.flash_core.specs.declared.flash.Flash.{Ghosts}
+use Rattle.flash_core.specs.declared.flash.Arming.{Arming}
+use Rattle.flash_core.specs.declared.flash.FlashStop.{FlashStop}
+use Rattle.flash_core.specs.Calls.{Goes, Reads}
+use Rattle.flash_core.specs.Told.{Told}
+use Rattle.fwu_formats.specs.Layout.{fits_layout}
+use Rattle.fwu_formats.specs.Metadata.{fits_meta, state_at}
+use Rattle.fwu_formats.specs.Manifest.{version}
+use Rattle.fwu_formats.specs.Places.{trial_limit}
+use Rattle.fwu_formats.specs.declared.kinds.BankState.{BankState}
+use Rattle.fwu_formats.specs.declared.kinds.BankState.TheVariants.{Invalid, Valid, Accepted}
+use Rattle.fwu_model.specs.State.{State, Move, RaiseTo, bank, is_accepted, is_valid, after}
+use Rattle.fwu_model.specs.Sound.{Setting, can_fall_back, can_start, choice, holds_permitted}
+use Rattle.fwu_model.specs.Answer.{booted_package, chosen_moves, held_package, migrate_moves, start_moves}
+use Rattle.moves.proofs.Composed.{after-append}
+use Rattle.replicas.specs.Repairs.{TakesRepair}
+use Rattle.early_boot.specs.declared.choosing.Chosen.{Chosen}
+use Rattle.early_boot.specs.declared.showing.Shown.{Shown}
+use Rattle.early_boot.specs.declared.showing.Unshown.{Unshown}
+use Rattle.early_boot.specs.declared.showing.Unshown.TheVariants as unshown
+use Rattle.early_boot.specs.Showing.{CountsNone, Shows, ShowsNothing, stop_in}
+use Rattle.early_boot.specs.Choosing.{IsPermitted}
+use Rattle.early_boot.specs.Knows.{KnowsStarted}
+use Rattle.early_boot.specs.Mending.{TakesMending, mended}
+use Rattle.early_boot.specs.Tells.{started_as}
+use Rattle.early_boot.specs.TakenUp.{BootedRuns, IsTakeUp, MendsFound, OnceFound, SpendsFound, TakenByNumbers, TakesOnce, may_run, not_started, running_in, runs_from, stop_in_end, stopped, taken, unshown_as, was_started}
+use Rattle.early_boot.proofs.Boots.{past-migration}
+use Rattle.early_boot.proofs.Left.{goes-done, goes-stopped, read-goes, read-unarmed}
+use Rattle.early_boot.proofs.Numbered.{numbers-are}
+use Rattle.early_boot.proofs.TakingUp.{none-ends, refused-ends, stopped-ends, taken-ends, taken-knows}
+
+-- ---- nothing was shown
+
+unshown-stop : (why : Unshown) → stop_in_end (unshown_as why) ≡ stop_in {T = Shown} (Err why)
+unshown-stop (unshown.Layout f) = refl
+unshown-stop unshown.Metadata = refl
+unshown-stop (unshown.Flash stop) = refl
+
+unshown-once : (why : Unshown) (image : List ℕ) (armed arming : Option Arming) → TakesOnce image (unshown_as why) armed arming
+unshown-once (unshown.Layout f) image armed arming = tt
+unshown-once unshown.Metadata image armed arming = tt
+unshown-once (unshown.Flash stop) image armed arming = tt
+
+unshown-numbers : (passes : List ℕ → Bool) (b : ℕ) (why : Unshown) → TakenByNumbers passes b (unshown_as why)
+unshown-numbers passes b (unshown.Layout f) = tt
+unshown-numbers passes b unshown.Metadata = tt
+unshown-numbers passes b (unshown.Flash stop) = tt
+
+module _ {D : Type 0} (g : Ghosts D) (passes : List ℕ → Bool) (b : ℕ) (flash left : D) where
+  none-at : (why : Unshown) → Reads g (stop_in_end (unshown_as why)) flash left → (IsTrue g.tells → ShowsNothing (g.told flash).now why) → IsTakeUp g passes b flash (unshown_as why) left
+  none-at (unshown.Layout f) reads nothing = record {
+    power = reads.power;
+    size = reads.size;
+    costs = reads.costs;
+    unarmed = read-unarmed g (Ok tt) flash left reads;
+    spent = record { arming_is = reads.arming; reached = reads.reached };
+    once = λ tells. tt;
+    numbers = tt;
+    ends = λ tells. none-ends (g.told flash) (g.told left) (reads.content tells) passes b (unshown.Layout f) (nothing tells);
+  }
+  none-at unshown.Metadata reads nothing = record {
+    power = reads.power;
+    size = reads.size;
+    costs = reads.costs;
+    unarmed = read-unarmed g (Ok tt) flash left reads;
+    spent = record { arming_is = reads.arming; reached = reads.reached };
+    once = λ tells. tt;
+    numbers = tt;
+    ends = λ tells. none-ends (g.told flash) (g.told left) (reads.content tells) passes b unshown.Metadata (nothing tells);
+  }
+  none-at (unshown.Flash stop) reads nothing = record {
+    power = reads.power;
+    size = reads.size;
+    costs = reads.costs;
+    unarmed = read-unarmed g (Err stop) flash left reads;
+    spent = tt;
+    once = λ tells. tt;
+    numbers = tt;
+    ends = λ tells. none-ends (g.told flash) (g.told left) (reads.content tells) passes b (unshown.Flash stop) (nothing tells);
+  }
+
+  pub none-take-up : (why : Unshown) → Reads g (stop_in {T = Shown} (Err why)) flash left → (IsTrue g.tells → ShowsNothing (g.told flash).now why) → IsTakeUp g passes b flash (unshown_as why) left
+  none-take-up why reads nothing = none-at why (subst (λ r. Reads g r flash left) (sym (unshown-stop why)) reads) nothing
+
+-- ---- the flash was read, and then the bank was checked
+
+module _ {D : Type 0} (g : Ghosts D) (passes : List ℕ → Bool) (b : ℕ) (flash mid left : D) (shown : Shown)
+    (reads : Reads {X = Unit {0}} g (Ok tt) flash mid) (shows : IsTrue g.tells → Shows (g.told flash).now shown) (are : IsTrue (fits_meta shown.layout shown.meta.meta)) where
+  refused-take-up : Goes {X = Option Chosen} g (Ok None) mid left → SpendsFound shown None (g.arming mid) (g.arming left) (g.counts mid) (g.counts left)
+      → (IsTrue g.tells → None ≡ running_in passes (g.told mid).now shown b) → (IsTrue g.tells → MendsFound (Ok None) shown (g.told mid) (g.told left))
+      → IsTakeUp g passes b flash not_started left
+  refused-take-up went spent found mends =
+      let goes = read-goes g tt (Ok tt) flash mid left reads (goes-done {T = Option Chosen} g None mid left went) in
+      record {
+        power = goes.power;
+        size = goes.size;
+        costs = goes.costs;
+        unarmed = goes.unarmed;
+        spent = record {
+          arming_is = spent.arming_is ∙ reads.arming;
+          reached = record { same = spent.reached.same ∙ reads.reached.same; lost = λ is. absurd cc };
+        };
+        once = λ tells. tt;
+        numbers = tt;
+        ends = λ tells.
+            let content = reads.content tells in
+            let none = subst (λ (t : Told). None ≡ running_in passes t.now shown b) content (found tells) in
+            refused-ends passes shown b (g.told flash) (g.told left) (shows tells) are (sym none) (mends tells ∙ content);
+      }
+
+  pub stopped-take-up : (stop : FlashStop) → Goes {X = Option Chosen} g (Err stop) mid left → (IsTrue g.tells → MendsFound (Err stop) shown (g.told mid) (g.told left))
+      → IsTakeUp g passes b flash (stopped stop) left
+  stopped-take-up stop went mends =
+      let goes = read-goes g tt (Err stop) flash mid left reads (goes-stopped {T = Option Chosen} g stop mid left went) in
+      record {
+        power = goes.power;
+        size = goes.size;
+        costs = goes.costs;
+        unarmed = goes.unarmed;
+        spent = tt;
+        once = λ tells. tt;
+        numbers = tt;
+        ends = λ tells.
+            stopped-ends passes shown b (g.told flash) (g.told left) (shows tells) are stop
+            (subst (λ (t : Told). MendsFound (Err stop) shown t (g.told left)) (reads.content tells) (mends tells));
+      }
+
+  module _ (c : Chosen) (found : IsTrue g.tells → Some c ≡ running_in passes (g.told mid).now shown b) (mends : IsTrue g.tells → MendsFound (Ok (Some c)) shown (g.told mid) (g.told left)) where
+    knows-taken : IsTrue g.tells → KnowsStarted (started_as (mended shown) c) (g.told left)
+    knows-taken tells =
+        let content = reads.content tells in
+        taken-knows passes shown b (g.told flash) (g.told left) (shows tells) are c
+        (sym (subst (λ (t : Told). Some c ≡ running_in passes t.now shown b) content (found tells)))
+        (subst (λ (t : Told). MendsFound (Ok (Some c)) shown t (g.told left)) content (mends tells))
+
+    taken-take-up : Goes {X = Option Chosen} g (Ok (Some c)) mid left → SpendsFound shown (Some c) (g.arming mid) (g.arming left) (g.counts mid) (g.counts left)
+        → (IsTrue g.tells → OnceFound shown (g.told mid).now (Some c) (g.arming mid) (g.arming left)) → IsPermitted passes shown c → c.bank ≡ b
+        → IsTrue (may_run b shown.meta.meta.active shown.meta.meta.previous (state_at shown.meta.meta b) shown.trials)
+        → IsTrue (fits_layout shown.layout) → shown.trials ≤ trial_limit → CountsNone shown
+        → IsTakeUp g passes b flash (taken (started_as (mended shown) c)) left
+    taken-take-up went spent once permitted is may fit few none =
+        let goes = read-goes g tt (Ok tt) flash mid left reads (goes-done {T = Option Chosen} g (Some c) mid left went) in
+        record {
+          power = goes.power;
+          size = goes.size;
+          costs = goes.costs;
+          unarmed = goes.unarmed;
+          spent = (shown.which, subst (λ (a : Option Arming). TakesRepair shown.which a (g.arming left)) reads.arming spent);
+          once = λ tells. record {
+            layout = shown.layout;
+            layout_is = (shows tells).layout_is;
+            which = shown.which;
+            meta = shown.meta;
+            loads = (shows tells).loads;
+            takes =
+                subst (λ (a : Option Arming). TakesMending shown.layout shown.which shown.meta (g.told flash).now a (g.arming left)) reads.arming
+                (subst (λ (t : Told). TakesMending shown.layout shown.which shown.meta t.now (g.arming mid) (g.arming left)) (reads.content tells) (once tells));
+          };
+          numbers = record {
+            numbers = numbers-are (mended shown) fit are few refl none;
+            bank_is = is;
+            runs = may;
+            fallback_is = ap (λ (x : ℕ). not (x == shown.meta.meta.active)) is;
+            form_two = refl;
+            permitted = permitted;
+          };
+          ends = λ tells.
+              let content = reads.content tells in
+              taken-ends passes shown b (g.told flash) (g.told left) (shows tells) are c
+              (sym (subst (λ (t : Told). Some c ≡ running_in passes t.now shown b) content (found tells)))
+              (subst (λ (t : Told). MendsFound (Ok (Some c)) shown t (g.told left)) content (mends tells));
+        }
+
+  -- by what the check found
+  pub knows-at : (o : Option Chosen) (c : Chosen) → o ≡ Some c → (IsTrue g.tells → o ≡ running_in passes (g.told mid).now shown b) → (IsTrue g.tells → MendsFound (Ok o) shown (g.told mid) (g.told left))
+      → IsTrue g.tells → KnowsStarted (started_as (mended shown) c) (g.told left)
+  knows-at None c is found mends tells = absurd cc
+  knows-at (Some x) c is found mends tells = subst (λ (y : Chosen). KnowsStarted (started_as (mended shown) y) (g.told left)) (same_Some x c is) (knows-taken x found mends tells)
+
+  pub taken-at : (o : Option Chosen) (c : Chosen) → o ≡ Some c → (IsTrue g.tells → o ≡ running_in passes (g.told mid).now shown b) → (IsTrue g.tells → MendsFound (Ok o) shown (g.told mid) (g.told left))
+      → Goes {X = Option Chosen} g (Ok o) mid left → SpendsFound shown o (g.arming mid) (g.arming left) (g.counts mid) (g.counts left)
+      → (IsTrue g.tells → OnceFound shown (g.told mid).now o (g.arming mid) (g.arming left)) → IfSome o (IsPermitted passes shown) → IfSome o (λ x. x.bank ≡ b)
+      → IfSome o (λ x. IsTrue (may_run b shown.meta.meta.active shown.meta.meta.previous (state_at shown.meta.meta b) shown.trials))
+      → IsTrue (fits_layout shown.layout) → shown.trials ≤ trial_limit → CountsNone shown
+      → IsTakeUp g passes b flash (taken (started_as (mended shown) c)) left
+  taken-at None c is found mends went spent once permitted bank_is may fit few none = absurd cc
+  taken-at (Some x) c is found mends went spent once permitted bank_is may fit few none =
+      subst (λ (y : Chosen). IsTakeUp g passes b flash (taken (started_as (mended shown) y)) left) (same_Some x c is) (taken-take-up x found mends went spent once permitted bank_is may fit few none)
+
+  pub refused-at : (o : Option Chosen) → o ≡ None → Goes {X = Option Chosen} g (Ok o) mid left → SpendsFound shown o (g.arming mid) (g.arming left) (g.counts mid) (g.counts left)
+      → (IsTrue g.tells → o ≡ running_in passes (g.told mid).now shown b) → (IsTrue g.tells → MendsFound (Ok o) shown (g.told mid) (g.told left))
+      → IsTakeUp g passes b flash not_started left
+  refused-at None is went spent found mends = refused-take-up went spent found mends
+  refused-at (Some x) is went spent found mends = absurd cc
+
+-- ---- what a boot started may be taken up
+
+-- the package is permitted too where the counter is its version
+still-permitted : (E : Setting) (counter : ℕ) (held : Option (List (List ℕ))) → IsTrue (holds_permitted E counter held) → IsTrue (holds_permitted E (version (held_package held)) held)
+still-permitted E counter None h = absurd cc
+still-permitted E counter (Some p) h = and_from (leb (version p) (version p)) _ (le-leb (version p) (version p) (omega arith)) (and_parts (leb counter (version p)) _ h).1
+
+runs-active : (E : Setting) (s : State) → IsTrue (was_started (bank s s.active).state s.trials) → IsTrue (holds_permitted E s.counter (bank s s.active).held) → IsTrue (runs_from E s s.active)
+runs-active E s started permitted =
+    and_from _ _
+    (subst (λ (x : Bool). IsTrue (cond x (was_started (bank s s.active).state s.trials) (s.active == s.previous && is_accepted (bank s s.active).state))) (sym (eq-eqb s.active s.active refl)) started)
+    permitted
+
+start-runs : (E : Setting) (s : State) (f : ℕ) (k : BankState) → (bank s s.active).state ≡ k → IsTrue (is_accepted k || (is_valid k && ltb s.trials trial_limit)) → IsTrue (holds_permitted E s.counter (bank s s.active).held)
+    → IsTrue (runs_from E (after (record s { form = f }) (start_moves k s.counter (version (booted_package s s.active)))) s.active)
+start-runs E s f Invalid e h permitted = absurd cc
+start-runs E s f Valid e h permitted =
+    runs-active E (record s { form = f; trials = s.trials + 1 })
+    (subst (λ (k : BankState). IsTrue (was_started k (s.trials + 1))) (sym e) (lt-ltb 0 (s.trials + 1) (omega arith))) permitted
+start-runs E s f Accepted e h permitted =
+    let v = version (booted_package s s.active) in
+    let accepted : (n : ℕ) → IsTrue (was_started (bank s s.active).state n) = λ n. subst (λ (k : BankState). IsTrue (was_started k n)) (sym e) refl in
+    cond_both (ltb s.counter v) (RaiseTo v ∷ []) [] (λ (ms : List Move). IsTrue (runs_from E (after (record s { form = f }) ms) s.active))
+    (λ below. runs-active E (record s { form = f; counter = v }) (accepted s.trials) (still-permitted E s.counter (bank s s.active).held permitted))
+    (λ above. runs-active E (record s { form = f }) (accepted s.trials) permitted)
+
+booted-active : (E : Setting) (s : State) (f : ℕ) → IsTrue (can_start E s) → IsTrue (runs_from E (after (record s { form = f }) (chosen_moves s s.active)) s.active)
+booted-active E s f h =
+    let parts = and_parts _ _ h in
+    cond_both (s.active == s.active) (start_moves (bank s s.active).state s.counter (version (booted_package s s.active))) [] (λ (ms : List Move). IsTrue (runs_from E (after (record s { form = f }) ms) s.active))
+    (λ here. start-runs E s f (bank s s.active).state refl parts.0 parts.1)
+    (λ other. let same = eq-eqb s.active s.active refl in let no_way = sym same ∙ other in absurd cc)
+
+booted-previous : (E : Setting) (s : State) (f : ℕ) → IsTrue (can_fall_back E s) → IsTrue (runs_from E (after (record s { form = f }) (chosen_moves s s.previous)) s.previous)
+booted-previous E s f h =
+    let parts = and_parts _ _ h in
+    let two = and_parts (not (s.previous == s.active)) _ parts.0 in
+    let away : (s.previous == s.active) ≡ false = turned (s.previous == s.active) two.0 in
+    subst (λ (x : Bool). IsTrue (runs_from E (after (record s { form = f }) (cond x (start_moves (bank s s.previous).state s.counter (version (booted_package s s.previous))) [])) s.previous)) (sym away)
+    (and_from _ _
+    (subst (λ (x : Bool). IsTrue (cond x (was_started (bank s s.previous).state s.trials) (s.previous == s.previous && is_accepted (bank s s.previous).state))) (sym away)
+    (and_from _ _ (eq-eqb s.previous s.previous refl) two.1))
+    parts.1)
+  where
+    turned : (x : Bool) → IsTrue (not x) → x ≡ false
+    turned true h = absurd cc
+    turned false h = refl
+
+booted-at : (E : Setting) (s : State) (b f : ℕ) → choice E s ≡ Some b → IsTrue (runs_from E (after (record s { form = f }) (chosen_moves s b)) b)
+unfolding choice
+booted-at E s b f =
+    cond_both (can_start E s) (Some s.active) (cond (can_fall_back E s) (Some s.previous) None) (λ (o : Option ℕ). o ≡ Some b → IsTrue (runs_from E (after (record s { form = f }) (chosen_moves s b)) b))
+    (λ h e. subst (λ (x : ℕ). IsTrue (runs_from E (after (record s { form = f }) (chosen_moves s x)) x)) (same_Some s.active b e) (booted-active E s f h))
+    (λ h. cond_both (can_fall_back E s) (Some s.previous) None (λ (o : Option ℕ). o ≡ Some b → IsTrue (runs_from E (after (record s { form = f }) (chosen_moves s b)) b))
+    (λ g e. subst (λ (x : ℕ). IsTrue (runs_from E (after (record s { form = f }) (chosen_moves s x)) x)) (same_Some s.previous b e) (booted-previous E s f g))
+    (λ g e. absurd cc))
+
+pub booted-runs : BootedRuns
+booted-runs E s b chosen =
+    subst (λ (x : State). IsTrue (runs_from E x b)) (sym (after-append s (migrate_moves s) (chosen_moves s b)))
+    (past-migration s (λ (x : State). IsTrue (runs_from E (after x (chosen_moves s b)) b)) (booted-at E s b 2 chosen) (booted-at E s b s.form chosen))

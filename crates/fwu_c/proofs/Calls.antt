@@ -1,0 +1,255 @@
+-- A call behind a boot of a bank, by what the device tells before it and after it, and by its steps.
+use Rattle.std.proofs.Common.{◌≡◌, ◌∙◌, ◌⊎◌, ◌≤◌, inl, inr, refl, sym, ap, subst, ℕ, ◌*◌, ◌++◌, Bool, true, false, List, length, None, Result, Ok, Err, arith, IsFalse, IsTrue}
+use Rattle.std.specs.Prelude.{OnOk, is_ok}
+use Rattle.base_core.specs.Block.{block_bytes}
+use Rattle.base_core.proofs.Results.{same-Ok}
+use Rattle.flash_core.specs.Told.{Told, fresh}
+use Rattle.flash_core.specs.May.{Guards}
+use Rattle.flash_core.specs.declared.flash.FlashStop.{FlashStop}
+use Rattle.flash_core.specs.declared.flash.FlashStop.TheVariants as flash_stop
+use Rattle.fwu_formats.specs.Digests.{passes_any}
+use Rattle.fwu_formats.specs.Image.{layout_seen}
+use Rattle.fwu_formats.specs.Layout.{Layout}
+use Rattle.fwu_formats.specs.declared.kinds.LayoutFault.{LayoutFault}
+use Rattle.fwu_model.specs.declared.kinds.Status.{Status}
+use Rattle.fwu_model.specs.declared.kinds.Status.TheVariants as status
+use Rattle.fwu_model.specs.State.{State, after}
+use Rattle.fwu_model.specs.Sound.{Setting}
+use Rattle.fwu_model.specs.Session.{Session, On, no_handles}
+use Rattle.fwu_model.specs.Call.{Call}
+use Rattle.fwu_model.specs.Reply.{Reply, Success}
+use Rattle.fwu_model.specs.Answer.{Answer, answer, migrate_moves}
+use Rattle.fwu_model.specs.Calm.{IsCalm}
+use Rattle.moves.specs.Moved.{Does, IsShown}
+use Rattle.moves.proofs.Composed.{does-then}
+use Rattle.early_boot.specs.Started.{Started, started_session}
+use Rattle.early_boot.specs.TakenUp.{StopsRepair, TakenUp, TakesByBytes, taken, bad_layout, no_metadata, not_started, stopped, TakeUpEnds}
+use Rattle.agent_machine.specs.declared.stop.Stop.{Stop}
+use Rattle.agent_machine.specs.declared.stop.Stop.TheVariants as stop
+use Rattle.agent_machine.specs.Meets.{Answers, GoesBy, IsSettingOf, IsStopped, Leaves, ShowsNext, flash_result}
+use Rattle.agent_machine.specs.Moment.{Moment, Shows}
+use Rattle.agent_calls.specs.Started.{StartsFrom}
+use Rattle.step_flash.specs.declared.step.Step.{Step}
+use Rattle.step_flash.specs.declared.device.StepFlash.{StepFlash}
+use Rattle.step_flash.specs.Device.{block_count, counts_of, told_of}
+use Rattle.step_flash.proofs.Causes.{never_lost}
+use Rattle.flash_core.specs.Counts.{Spends}
+use Rattle.step_flash.specs.Guard.{start}
+use Rattle.fwu_c.specs.declared.report.Report.{Report}
+use Rattle.fwu_c.specs.Calls.{AnswersBy, CallEnds, Called, CallsBy, CallsFrom, IsCalled, IsNotTaken, MakesCall, Refuses, RepliesAs, ReportsCall, ReportsTakeUp, Takes, call_code, called, called_code, not_taken, status_code, stop_code, take_up_code}
+use Rattle.fwu_c.specs.Handed.{HandsOver, SameBut}
+use Rattle.fwu_c.proofs.Booting.{over, start_same}
+
+-- ---- numbers
+
+status_large : (st : Status) → 16 ≤ status_code st
+status_large status.Denied = omega arith
+status_large status.AuthFail = omega arith
+status_large status.Unknown = omega arith
+status_large status.Busy = omega arith
+status_large status.OutOfBounds = omega arith
+status_large status.NotAvailable = omega arith
+
+pub call_not_four : (result : Result (Unit {0}) Stop) → IsCalled result → call_code result ≡ 4 → ⊥
+call_not_four (Ok x) is e = omega (arith, e)
+call_not_four (Err (stop.Status st)) is e = omega (arith, e, status_large st)
+call_not_four (Err stop.Lost) is e = is
+call_not_four (Err stop.Fault) is e = omega (arith, e)
+call_not_four (Err stop.Gone) is e = is
+
+pub call_not_six : (result : Result (Unit {0}) Stop) → call_code result ≡ 6 → ⊥
+call_not_six (Ok x) e = omega (arith, e)
+call_not_six (Err (stop.Status st)) e = omega (arith, e, status_large st)
+call_not_six (Err stop.Lost) e = omega (arith, e)
+call_not_six (Err stop.Fault) e = omega (arith, e)
+call_not_six (Err stop.Gone) e = omega (arith, e)
+
+pub call_not_seven : (result : Result (Unit {0}) Stop) → IsCalled result → call_code result ≡ 7 → ⊥
+call_not_seven (Ok x) is e = omega (arith, e)
+call_not_seven (Err (stop.Status st)) is e = omega (arith, e, status_large st)
+call_not_seven (Err stop.Lost) is e = is
+call_not_seven (Err stop.Fault) is e = omega (arith, e)
+call_not_seven (Err stop.Gone) is e = is
+
+-- a bank that is not taken up has neither 6 nor 7
+few_codes : (e : TakenUp) → (take_up_code e ≤ 5) ⊎ (take_up_code e ≡ 21)
+few_codes (taken b) = inl (omega arith)
+few_codes (bad_layout f) = inl (omega arith)
+few_codes no_metadata = inl (omega arith)
+few_codes not_started = inr refl
+few_codes (stopped flash_stop.Lost) = inl (omega arith)
+few_codes (stopped flash_stop.Failed) = inl (omega arith)
+
+pub take_up_not : (e : TakenUp) (number : ℕ) → take_up_code e ≡ number → (number ≡ 6) ⊎ (number ≡ 7) → ⊥
+take_up_not e number is (inl six) = elim (few_codes e) [
+  | inl few ↦ omega (arith, few, is, six)
+  | inr other ↦ omega (arith, other, is, six)
+]
+take_up_not e number is (inr seven) = elim (few_codes e) [
+  | inl few ↦ omega (arith, few, is, seven)
+  | inr other ↦ omega (arith, other, is, seven)
+]
+
+-- a device of steps loses no power
+pub stop_unlost : (why : FlashStop) (old new : StepFlash) → Spends {T = Unit {0}} (Err why) (counts_of old) (counts_of new) → stop_code why ≡ 4 → ⊥
+stop_unlost flash_stop.Lost old new spends four = never_lost _ old new spends refl
+stop_unlost flash_stop.Failed old new spends four = omega (arith, four)
+
+-- what is handed over is the number that was given, or 7
+pub handed_not : (k result number : ℕ) → (result ≡ number) ⊎ (result ≡ 7) → (number ≡ k → ⊥) → (k ≡ 7 → ⊥) → result ≡ k → ⊥
+handed_not k result number (inl is) other small e = other (sym is ∙ e)
+handed_not k result number (inr seven) other small e = small (sym e ∙ seven)
+
+-- ---- the guard stays
+
+kept : (old t : Told) → t ≡ old → t.guard ≡ old.guard
+kept old t e = ap (λ (x : Told). x.guard) e
+
+pub take_up_guard : (bank : ℕ) (old t : Told) (e : TakenUp) → TakesByBytes (λ m. passes_any m) bank old e t → t.guard ≡ old.guard
+take_up_guard bank old t (taken b) ends = ends.others.guard
+take_up_guard bank old t (bad_layout f) ends = kept old t ends.1
+take_up_guard bank old t no_metadata ends = kept old t ends.3
+take_up_guard bank old t not_started ends = kept old t ends.1
+take_up_guard bank old t (stopped why) ends = elim ends [
+  | inl same ↦ kept old t same
+  | inr repair ↦ repair.others.guard
+]
+
+take_up_same : (e : TakenUp) (old new : Report) → IsNotTaken e → SameBut old new → ReportsTakeUp e old → ReportsTakeUp e new
+take_up_same (taken b) old new is same reports = absurd is
+take_up_same (bad_layout f) old new is same reports = ap (λ (r : Report). r.layout_fault) same ∙ reports
+take_up_same no_metadata old new is same reports = tt
+take_up_same not_started old new is same reports = tt
+take_up_same (stopped why) old new is same reports = tt
+
+-- ---- the call
+
+pub is_called : (result : Result (Unit {0}) Stop) → (result ≡ Err stop.Lost → ⊥) → (result ≡ Err stop.Gone → ⊥) → IsCalled result
+is_called (Ok x) lost gone = tt
+is_called (Err (stop.Status st)) lost gone = tt
+is_called (Err stop.Lost) lost gone = lost refl
+is_called (Err stop.Fault) lost gone = tt
+is_called (Err stop.Gone) lost gone = gone refl
+
+not_stopped : (result : Result (Unit {0}) Stop) → is_ok (flash_result result) ≡ true → IsStopped result → ⊥
+not_stopped (Ok x) ok halted = halted
+not_stopped (Err (stop.Status st)) ok halted = halted
+not_stopped (Err stop.Lost) ok halted = absurd (cc)
+not_stopped (Err stop.Fault) ok halted = absurd (cc)
+not_stopped (Err stop.Gone) ok halted = halted
+
+-- an agent that was there is so after an answer or a refusal
+pub here_after : (result : Result (Unit {0}) Stop) (was now : Bool) → IsFalse was → GoesBy result was now → is_ok (flash_result result) ≡ true → IsFalse now
+here_after result was true here gone ok = elim (gone.later.0 refl) [
+  | inl before ↦ absurd (cc (here, before))
+  | inr halted ↦ absurd (not_stopped result ok halted)
+]
+here_after result was false here gone ok = refl
+
+module _ (E : Setting) (s : State) (x : Session) (c : Call) (new : Moment) where
+  reply_by : (result : Result (Unit {0}) Stop) → IsCalled result → Answers (λ (value : Unit {0}) (reply : Reply). reply ≡ Success) result E s x c new → RepliesAs result (answer E s x c).reply
+  reply_by (Ok v) is by = by.0
+  reply_by (Err (stop.Status st)) is by = by.0
+  reply_by (Err stop.Lost) is by = absurd is
+  reply_by (Err stop.Fault) is by = tt
+  reply_by (Err stop.Gone) is by = absurd is
+
+  shown_by : (result : Result (Unit {0}) Stop) → IsCalled result → Answers (λ (value : Unit {0}) (reply : Reply). reply ≡ Success) result E s x c new
+      → (P : Type 0) → (is_ok (flash_result result) ≡ true → ShowsNext E s x c new → P) → OnOk (flash_result result) P
+  shown_by (Ok v) is by P then = then refl by.1
+  shown_by (Err (stop.Status st)) is by P then = then refl by.1
+  shown_by (Err stop.Lost) is by P then = tt
+  shown_by (Err stop.Fault) is by P then = tt
+  shown_by (Err stop.Gone) is by P then = absurd is
+
+module _ (c : Call) (b : Started) (result : Result (Unit {0}) Stop) (old new : Moment) (is : IsCalled result) (tells : IsTrue old.tells) (from : StartsFrom b old.fields)
+    (exact : (E : Setting) (s : State) (x : Session) → IsSettingOf old.fields (λ m. passes_any m) E → Shows old s x
+    → Answers (λ (value : Unit {0}) (reply : Reply). reply ≡ Success) result E s x c new)
+    (leaves : Leaves (flash_result result) (λ m. passes_any m) c old new)
+    (starts : (s : State) → IsShown old.fields.layout old.told.now s → Shows old s (started_session b))
+    (sees : is_ok (flash_result result) ≡ true → (s : State) (x : Session) → Shows new s x → IsShown new.fields.layout new.told.now s) where
+  pub calls_from : CallsFrom c b result old.told new.told
+  calls_from = record {
+    answers = λ E s same passes shown.
+        let setting : IsSettingOf old.fields (λ m. passes_any m) E = record { layout = same ∙ sym from.layout; verifier = passes } in
+        let shows = starts s (subst (λ (L : Layout). IsShown L old.told.now s) (sym from.layout) shown) in
+        let by = exact E s (started_session b) setting shows in
+        let a = answer E s (started_session b) c in
+        let layout : new.fields.layout ≡ E.layout = leaves.stays.layout ∙ from.layout ∙ sym same in
+        record {
+          reply_is = reply_by E s (started_session b) c new result is by;
+          shows = shown_by E s (started_session b) c new result is by (IsShown E.layout new.told.now (after s a.moves))
+              (λ ok next. subst (λ (L : Layout). IsShown L new.told.now (after s a.moves)) layout (sees ok (after s a.moves) a.next next));
+          does = λ ready. leaves.does E s (started_session b) setting shows tells ready;
+          guarded = λ rest. leaves.guarded tells rest;
+          guard_is = leaves.stays.guard tells;
+        };
+  }
+
+-- ---- the bank and the call in one
+
+-- a setting of any layout
+setting_of : Layout → Setting
+setting_of L = record { layout = L; files = λ name. None; passes = λ m. passes_any m }
+
+module _ (image : List ℕ) (bank : ℕ) (c : Call) (b : Started) (result : Result (Unit {0}) Stop) (mid t : Told)
+    (takes : TakeUpEnds (λ m. passes_any m) bank (start image) (taken b) mid) (calls : CallsFrom c b result mid t) where
+  guard_is : t.guard ≡ mid.guard
+  unfolding setting_of
+  guard_is = (calls.answers (setting_of b.layout) _ refl refl takes.by_bytes.shown).guard_is
+
+  does_both : (E : Setting) (s : State) → E.passes ≡ (λ m. passes_any m) → IsCalm E (start image) s → Guards 1 7 (start image)
+      → Does (flash_result result) E s (migrate_moves s ++ (answer E (after s (migrate_moves s)) (On bank None no_handles) c).moves) t
+  does_both E s test calm guards =
+      let ready = takes.by_machine E s test calm guards in
+      let next = after s (migrate_moves s) in
+      let layout : E.layout ≡ b.layout = same-Ok {F = LayoutFault} E.layout b.layout (sym calm.sound.layout ∙ takes.by_bytes.has_layout) in
+      let now = ready.does.all.calm in
+      let shown : IsShown b.layout mid.now next = record { layout = subst (λ (L : Layout). layout_seen mid.now ≡ Ok L) layout now.sound.layout; shows = now.shows } in
+      let by = subst (λ (x : Session). AnswersBy E next (answer E next x c) result mid t) ready.session (calls.answers E next layout test shown) in
+      does-then tt (flash_result result) E s (migrate_moves s) (answer E next (On bank None no_handles) c).moves mid t ready.does (λ at. by.does at)
+
+  pub makes_call : MakesCall image bank c b result t
+  makes_call = record { mid = mid; takes = takes; calls = calls; does = does_both }
+
+calls_by : (image : List ℕ) (bank : ℕ) (c : Call) (first d : StepFlash) (e : Called) (number : ℕ) (told r : Report) (steps : List Step) (room : List ℕ)
+    → told_of first ≡ start image → length image ≡ block_bytes * block_count first → block_count d ≡ block_count first
+    → (told_of d).guard ≡ (told_of first).guard → CallEnds image bank c e (told_of d) → HandsOver d told r steps room
+    → number ≡ called_code e → ReportsCall e r → CallsBy image bank c number r steps room
+calls_by image bank c first d e number told r steps room made size same_size guard ends hands is reports =
+    let o = over image first d told r steps room made size same_size guard hands in
+    record {
+      end = e;
+      number_is = is;
+      t = told_of d;
+      ends = ends;
+      left = o.left;
+      within = o.within;
+      reports = reports;
+    }
+
+-- the bank was not taken up
+pub refused_by : (image : List ℕ) (bank : ℕ) (c : Call) (first d : StepFlash) (number given : ℕ) (told r : Report) (steps : List Step) (room : List ℕ)
+    → told_of first ≡ start image → length image ≡ block_bytes * block_count first → block_count d ≡ block_count first
+    → Refuses bank given told (told_of first) (told_of d) → HandsOver d told r steps room → number ≡ given → CallsBy image bank c number r steps room
+refused_by image bank c first d number given told r steps room made size same_size refuses hands is =
+    calls_by image bank c first d (not_taken refuses.end) number told r steps room made size same_size
+    (take_up_guard bank (told_of first) (told_of d) refuses.end refuses.ends.by_bytes)
+    (refuses.is, subst (λ (x : Told). TakeUpEnds (λ m. passes_any m) bank x refuses.end (told_of d)) made refuses.ends) hands (is ∙ refuses.number_is)
+    (take_up_same refuses.end told r refuses.is hands.same refuses.reports)
+
+-- it was, and the call was made
+pub called_by : (image : List ℕ) (bank : ℕ) (c : Call) (first mid d : StepFlash) (b : Started) (result : Result (Unit {0}) Stop) (number : ℕ) (told r : Report) (steps : List Step) (room : List ℕ)
+    → told_of first ≡ start image → length image ≡ block_bytes * block_count first → block_count d ≡ block_count first
+    → Takes bank b told (told_of first) (told_of mid) → CallsFrom c b result (told_of mid) (told_of d) → HandsOver d told r steps room
+    → number ≡ call_code result → CallsBy image bank c number r steps room
+called_by image bank c first mid d b result number told r steps room made size same_size takes calls hands is =
+    let from_image = subst (λ (x : Told). TakeUpEnds (λ m. passes_any m) bank x (taken b) (told_of mid)) made takes.ends in
+    calls_by image bank c first d (called b result) number told r steps room made size same_size
+    (guard_is image bank c b result (told_of mid) (told_of d) from_image calls ∙ take_up_guard bank (told_of first) (told_of mid) (taken b) takes.ends.by_bytes)
+    (makes_call image bank c b result (told_of mid) (told_of d) from_image calls) hands is (start_same b told r hands.same takes.reports)
+
+-- of the same image
+pub call_of_image : (image other : List ℕ) (bank : ℕ) (c : Call) (number : ℕ) (r : Report) (steps : List Step) (room : List ℕ) → other ≡ image
+    → CallsBy other bank c number r steps room → CallsBy image bank c number r steps room
+call_of_image image other bank c number r steps room same by = subst (λ (i : List ℕ). CallsBy i bank c number r steps room) same by

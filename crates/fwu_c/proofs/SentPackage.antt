@@ -1,0 +1,163 @@
+-- A sending of a package in memory, by what the flash told before and tells after it.
+use Rattle.std.proofs.Common.{◌≡◌, ◌∙◌, inl, inr, refl, sym, ap, subst, ℕ, ◌==◌, Bool, true, false, List, length, replicate, Option, Some, None, Result, Ok, Err, arith, IsFalse, IsTrue}
+use Rattle.std.specs.Prelude.{OnOk, is_ok}
+use Rattle.base_core.specs.Counts.{Rose}
+use Rattle.fwu_formats.specs.Digests.{passes_any}
+use Rattle.fwu_formats.specs.Layout.{Layout}
+use Rattle.fwu_formats.specs.Package.{Toc, toc_of}
+use Rattle.fwu_model.specs.State.{State, after}
+use Rattle.fwu_model.specs.Sound.{Setting}
+use Rattle.fwu_model.specs.Session.{Session}
+use Rattle.fwu_model.specs.Reply.{Reply}
+use Rattle.fwu_model.specs.Answer.{Answer, first_image_fault, images_of}
+use Rattle.moves.specs.Moved.{IsShown}
+use Rattle.early_boot.specs.Started.{Started, started_session}
+use Rattle.agent_machine.specs.Moment.{Moment, Shows}
+use Rattle.agent_machine.specs.Goes.{Goes}
+use Rattle.agent_calls.specs.Started.{StartsFrom}
+use Rattle.update_client.specs.declared.stops.Sent.{Sent}
+use Rattle.update_client.specs.declared.stops.SendStop.{SendStop}
+use Rattle.update_client.specs.declared.stops.SendStop.TheVariants.{MissingImage, ImageTooLarge, Begin, End, ReadFailed, Lost, Fault, Gone}
+use Rattle.update_client.specs.Halts.{flash_of}
+use Rattle.update_client.specs.Sends.{FaultsBy, GoneBy, Installs, IsInstalled, IsStopped, Sends, SendsBy, ended, send_answer}
+use Rattle.package_files.specs.OneFile.{one_file}
+use Rattle.package_files.proofs.Alone.{finds_it}
+use Rattle.host_io.specs.Contents.{Directory}
+use Rattle.fwu_c.specs.Sendings.{AnswersBy, HasInstalled, IsSent, RepliesAs, SendsPackage}
+
+-- ---- what can't be answered
+
+pub is_sent : (result : Result Sent SendStop) → (result ≡ Err ReadFailed → ⊥) → (result ≡ Err Lost → ⊥) → (result ≡ Err Gone → ⊥) → IsSent result
+is_sent (Ok sent) read lost gone = tt
+is_sent (Err (MissingImage guid)) read lost gone = tt
+is_sent (Err (ImageTooLarge guid)) read lost gone = tt
+is_sent (Err (Begin st)) read lost gone = tt
+is_sent (Err (End st)) read lost gone = tt
+is_sent (Err ReadFailed) read lost gone = read refl
+is_sent (Err Lost) read lost gone = lost refl
+is_sent (Err Fault) read lost gone = tt
+is_sent (Err Gone) read lost gone = gone refl
+
+-- a count of faults that stays at 0 didn't rise
+pub never_rose : Rose 0 0 → ⊥
+never_rose (inl more) = omega (arith, more)
+never_rose (inr full) = omega (arith, full)
+
+not_stopped : (result : Result Sent SendStop) → is_ok (flash_of result) ≡ true → IsStopped result → ⊥
+not_stopped (Ok sent) ok stopped = stopped
+not_stopped (Err (MissingImage guid)) ok stopped = stopped
+not_stopped (Err (ImageTooLarge guid)) ok stopped = stopped
+not_stopped (Err (Begin st)) ok stopped = stopped
+not_stopped (Err (End st)) ok stopped = stopped
+not_stopped (Err ReadFailed) ok stopped = stopped
+not_stopped (Err Lost) ok stopped = absurd (cc)
+not_stopped (Err Fault) ok stopped = absurd (cc)
+not_stopped (Err Gone) ok stopped = stopped
+
+-- an agent that was there is so after an answer or a refusal
+pub here_after : (fault : Option Reply) (result : Result Sent SendStop) (was now : Bool) → IsFalse was → GoneBy fault result was now
+    → is_ok (flash_of result) ≡ true → IsFalse now
+here_after fault result was true here gone ok = elim (gone.later.0 refl) [
+  | inl before ↦ absurd (cc (here, before))
+  | inr stopped ↦ absurd (not_stopped result ok stopped)
+]
+here_after fault result was false here gone ok = refl
+
+-- ---- what is said of a result that is done
+
+on_done : {T E Q : Type 0} (r : Result T E) → (is_ok r ≡ true → Q) → OnOk r Q
+on_done (Ok x) f = f refl
+on_done (Err e) f = tt
+
+from_done : {T E Q : Type 0} (r : Result T E) → is_ok r ≡ true → OnOk r Q → Q
+from_done (Ok x) ok q = q
+from_done (Err e) ok q = absurd (cc)
+
+flash_done : (result : Result Sent SendStop) → is_ok result ≡ true → is_ok (flash_of result) ≡ true
+flash_done (Ok sent) ok = refl
+flash_done (Err stop) ok = absurd (cc)
+
+-- ---- by the machine
+
+record Went (E : Setting) (a : Answer) (result : Result Sent SendStop) (old new : Moment) (s : State) : Type 0 where
+  pub reply_is : RepliesAs result a.reply
+  pub session : Session
+  pub goes : Goes E (flash_of result) old new s a.moves session
+
+went : (E : Setting) (toc : Toc) (p : List (List ℕ)) (request : ℕ) (old new : Moment) (s : State) (x : Session) (result : Result Sent SendStop)
+    → IsSent result → SendsBy result E toc p request old new s x → Went E (send_answer E toc p request s x) result old new s
+went E toc p request old new s x (Ok sent) is by = record { reply_is = sym by.0; session = (send_answer E toc p request s x).next; goes = by.1 }
+went E toc p request old new s x (Err (MissingImage guid)) is by = record { reply_is = sym by.0; session = (send_answer E toc p request s x).next; goes = by.1 }
+went E toc p request old new s x (Err (ImageTooLarge guid)) is by = record { reply_is = sym by.0; session = (send_answer E toc p request s x).next; goes = by.1 }
+went E toc p request old new s x (Err (Begin st)) is by = record { reply_is = sym by.0; session = (send_answer E toc p request s x).next; goes = by.1 }
+went E toc p request old new s x (Err (End st)) is by = record { reply_is = sym by.0; session = (send_answer E toc p request s x).next; goes = by.1 }
+went E toc p request old new s x (Err ReadFailed) is by = absurd is
+went E toc p request old new s x (Err Lost) is by = absurd is
+went E toc p request old new s x (Err Fault) is by = record { reply_is = tt; session = ended x; goes = by.1 }
+went E toc p request old new s x (Err Gone) is by = absurd is
+
+pub held_there : (held : Directory) (name file : List ℕ) → held ≡ one_file name file → held name ≡ Some file
+held_there held name file is = ap (λ (d : Directory). d name) is ∙ finds_it name file
+
+-- the setting of any layout; no file of it is read here
+abbrev pub setting_of : Layout → Setting
+setting_of L = record { layout = L; files = λ name. None; passes = λ m. passes_any m }
+
+module _ (held : Directory) (file name : List ℕ) (request : ℕ) (b : Started) (toc : Toc) (result : Result Sent SendStop) (old new : Moment)
+    (there : held name ≡ Some file) (table : toc_of file ≡ Ok toc) (is : IsSent result) (tells : IsTrue old.tells) (from : StartsFrom b old.fields)
+    (sends : Sends (Some held) name toc request (λ m. passes_any m) result old new)
+    (starts : (s : State) → IsShown old.fields.layout old.told.now s → Shows old s (started_session b))
+    (sees : is_ok (flash_of result) ≡ true → (s : State) (x : Session) → Shows new s x → IsShown new.fields.layout new.told.now s) where
+  images-are : sends.images ≡ images_of b.layout.rows file toc
+  images-are = sends.read file there ∙ ap (λ (L : Layout). images_of L.rows file toc) from.layout
+
+  before : (s : State) → IsShown b.layout old.told.now s → Shows old s (started_session b)
+  before s shown = starts s (subst (λ (L : Layout). IsShown L old.told.now s) (sym from.layout) shown)
+
+  by : (E : Setting) (s : State) → E.layout ≡ b.layout → E.passes ≡ (λ m. passes_any m) → IsShown b.layout old.told.now s
+      → Went E (send_answer E toc sends.images request s (started_session b)) result old new s
+  by E s same passes shown =
+      went E toc sends.images request old new s (started_session b) result is
+      (sends.goes E s (started_session b) (same ∙ sym from.layout) passes (before s shown))
+
+  layout-after : (s : State) → IsShown b.layout old.told.now s → new.fields.layout ≡ b.layout
+  layout-after s shown = (by (setting_of b.layout) s refl refl shown).goes.stays.layout ∙ from.layout
+
+  answers : (E : Setting) (s : State) → E.layout ≡ b.layout → E.passes ≡ (λ m. passes_any m) → IsShown b.layout old.told.now s
+      → AnswersBy E s (send_answer E toc (images_of b.layout.rows file toc) request s (started_session b)) result old.told new.told
+  answers E s same passes shown =
+      let w = by E s same passes shown in
+      let layout : new.fields.layout ≡ E.layout = layout-after s shown ∙ sym same in
+      subst (λ (p : List (List ℕ)). AnswersBy E s (send_answer E toc p request s (started_session b)) result old.told new.told) images-are (record {
+        reply_is = w.reply_is;
+        shows = on_done (flash_of result) (λ ok.
+            subst (λ (L : Layout). IsShown L new.told.now (after s (send_answer E toc sends.images request s (started_session b)).moves)) layout
+            (sees ok (after s (send_answer E toc sends.images request s (started_session b)).moves) w.session (from_done (flash_of result) ok w.goes.shows)));
+        does = λ ready. w.goes.does tells ready;
+        guarded = λ rest. w.goes.guarded tells rest;
+        guard_is = w.goes.stays.guard tells;
+      })
+
+  module _ (installs : (s : State) (x : Session) → Shows old s x → OnOk result (Installs (Some held) name toc request new s)) where
+    installed : is_ok result ≡ true → (s : State) → IsShown b.layout old.told.now s
+        → HasInstalled b.layout (images_of b.layout.rows file toc) request s new.told
+    installed ok s shown =
+        let i = from_done result ok (installs s (started_session b) (before s shown)) in
+        let layout = layout-after s shown in
+        let images : i.images ≡ images_of b.layout.rows file toc =
+        i.read file there ∙ ap (λ (L : Layout). images_of L.rows file toc) layout in
+        record {
+          now = i.now;
+          shown = subst (λ (L : Layout). IsShown L new.told.now i.now) layout (sees (flash_done result ok) i.now i.session i.shows);
+          installed = subst (λ (p : List (List ℕ)). IsInstalled p (replicate (length b.layout.rows) (request == 0)) s i.now) images
+              (subst (λ (L : Layout). IsInstalled i.images (replicate (length L.rows) (request == 0)) s i.now) layout i.installed);
+        }
+
+    pub package_sent : FaultsBy (first_image_fault old.fields.layout.rows toc) result → SendsPackage file request b result old.told new.told
+    package_sent faults = record {
+      toc = toc;
+      table = table;
+      faults = subst (λ (L : Layout). FaultsBy (first_image_fault L.rows toc) result) from.layout faults;
+      answers = answers;
+      installs = on_done result installed;
+    }

@@ -1,0 +1,194 @@
+-- An update, by what its device tells and by its steps.
+use Rattle.std.proofs.Common.{◌≡◌, ◌∙◌, refl, ℕ, ◌*◌, List, [], length, Option, Some, None, Ok, Err, ap, sym, subst, take, arith, get_or}
+use Rattle.std.proofs.Math.ListN.{get_or-map}
+use Rattle.std.specs.Prelude.{All, IsTrue, IsFalse}
+use Rattle.base_core.specs.Block.{block_bytes}
+use Rattle.flash_core.specs.Told.{Told, fresh}
+use Rattle.fwu_formats.specs.Digests.{passes_any}
+use Rattle.fwu_formats.specs.Image.{layout_seen, deciding}
+use Rattle.fwu_formats.specs.Layout.{Layout}
+use Rattle.fwu_formats.specs.Metadata.{MetaRead}
+use Rattle.fwu_formats.specs.declared.kinds.BankState.{BankState}
+use Rattle.fwu_formats.specs.declared.kinds.LayoutFault.{LayoutFault}
+use Rattle.fwu_formats.specs.declared.kinds.BankState.TheVariants.{Invalid}
+use Rattle.fwu_model.specs.State.{State, Numbers, Bank, bank, no_bank, numbers_of, is_valid}
+use Rattle.fwu_model.specs.Seen.{seen, seen_by, seen_with}
+use Rattle.moves.specs.Moved.{IsShown}
+use Rattle.early_boot.specs.Numbers.{ShowsNumbers}
+use Rattle.early_boot.specs.Started.{Started}
+use Rattle.early_boot.specs.Ends.{Ended, booted}
+use Rattle.early_boot.specs.EndsBy.{BootEnds}
+use Rattle.step_flash.specs.declared.step.Step.{Step}
+use Rattle.step_flash.specs.declared.device.StepFlash.{StepFlash}
+use Rattle.step_flash.specs.Device.{block_count, told_of}
+use Rattle.step_flash.specs.Guard.{start}
+use Rattle.step_flash.specs.Stopped.{under_as}
+use Rattle.step_flash.specs.Steps.{IsInside, run}
+use Rattle.fwu_c.specs.declared.report.Report.{Report}
+use Rattle.fwu_c.specs.Codes.{end_code}
+use Rattle.fwu_c.specs.Handed.{HandsOver}
+use Rattle.fwu_c.specs.Reports.{ReportsEnd, ReportsStart}
+use Rattle.update_client.specs.declared.stops.SendStop.TheVariants.{MissingImage, ImageTooLarge, Begin, End, ReadFailed, Lost, Fault, Gone}
+use Rattle.fwu_c.specs.Sendings.{InstallsBy, IsOutcome, Outcome, outcome_code}
+use Rattle.fwu_c.specs.Updates.{IsNotBooted, IsOnTrial, UpdateEnds, Updated, UpdatesBy, on_trial, not_booted, tried, update_code, ReportsUpdate}
+use Rattle.fwu_c.proofs.SentPackage.{setting_of}
+use Rattle.fwu_c.proofs.Booting.{end_same, guard_kept, over, start_same}
+
+-- ---- trials
+
+active_state : (s : State) → get_or (numbers_of s).states (numbers_of s).active Invalid ≡ (bank s s.active).state
+active_state s = get_or-map (λ (k : Bank). k.state) s.banks s.active no_bank
+
+-- by the numbers that an image shows its active bank is on trial, or not
+pub trial_by : (image : List ℕ) (n : Numbers) → ShowsNumbers image n → IsTrue (is_valid (get_or n.states n.active Invalid)) → IsOnTrial image
+trial_by image n shows valid =
+    let same : numbers_of shows.0 ≡ n = sym shows.2 in (
+      shows.0,
+      shows.1,
+      ap (λ (k : BankState). is_valid k) (sym (active_state shows.0)) ∙ ap (λ (m : Numbers). is_valid (get_or m.states m.active Invalid)) same ∙ valid,
+    )
+
+same_some : {X : Type 0} (x y : X) → ◌≡◌ {A = Option X} (Some x) (Some y) → x ≡ y
+same_some x y e = cc
+
+pub no_trial_by : (image : List ℕ) (n : Numbers) → ShowsNumbers image n → IsFalse (is_valid (get_or n.states n.active Invalid)) → IsOnTrial image → ⊥
+no_trial_by image n shows other trial =
+    let one : trial.0 ≡ shows.0 = same_some trial.0 shows.0 (sym trial.1 ∙ shows.1) in
+    let here : IsTrue (is_valid (get_or n.states n.active Invalid)) =
+    ap (λ (m : Numbers). is_valid (get_or m.states m.active Invalid)) shows.2 ∙ ap (λ (k : BankState). is_valid k) (active_state shows.0)
+    ∙ ap (λ (u : State). is_valid (bank u u.active).state) (sym one) ∙ trial.2 in
+    absurd (cc (other, here))
+
+-- an image without a layout, or without metadata, shows nothing
+pub none_by_layout : (image : List ℕ) (f : LayoutFault) → layout_seen image ≡ Err f → seen image ≡ None
+unfolding seen
+none_by_layout image f is = ap (λ r. seen_with image r) is
+
+pub none_by_metadata : (image : List ℕ) (L : Layout) → layout_seen image ≡ Ok L → deciding L image ≡ None → seen image ≡ None
+unfolding seen
+none_by_metadata image L layout none = ap (λ r. seen_with image r) layout ∙ ap (λ (m : Option MetaRead). seen_by L image m) none
+
+-- an image that shows nothing has no bank on trial
+pub no_trial : (image : List ℕ) → seen image ≡ None → IsOnTrial image → ⊥
+no_trial image none trial = let is = trial.1 in absurd (cc (none, is))
+
+pub start_now : (image : List ℕ) → (start image).now ≡ image
+unfolding fresh
+start_now image = refl
+
+-- ---- numbers
+
+-- a known outcome has none of the numbers 4 and 6
+pub outcome_not_four : (outcome : Outcome) → IsOutcome outcome → outcome_code outcome ≡ 4 → ⊥
+outcome_not_four None is e = omega (arith, e)
+outcome_not_four (Some (Ok sent)) is e = omega (arith, e)
+outcome_not_four (Some (Err (MissingImage guid))) is e = omega (arith, e)
+outcome_not_four (Some (Err (ImageTooLarge guid))) is e = omega (arith, e)
+outcome_not_four (Some (Err (Begin st))) is e = omega (arith, e)
+outcome_not_four (Some (Err (End st))) is e = omega (arith, e)
+outcome_not_four (Some (Err ReadFailed)) is e = is
+outcome_not_four (Some (Err Lost)) is e = is
+outcome_not_four (Some (Err Fault)) is e = omega (arith, e)
+outcome_not_four (Some (Err Gone)) is e = is
+
+pub outcome_not_six : (outcome : Outcome) → outcome_code outcome ≡ 6 → ⊥
+outcome_not_six None e = omega (arith, e)
+outcome_not_six (Some (Ok sent)) e = omega (arith, e)
+outcome_not_six (Some (Err (MissingImage guid))) e = omega (arith, e)
+outcome_not_six (Some (Err (ImageTooLarge guid))) e = omega (arith, e)
+outcome_not_six (Some (Err (Begin st))) e = omega (arith, e)
+outcome_not_six (Some (Err (End st))) e = omega (arith, e)
+outcome_not_six (Some (Err ReadFailed)) e = omega (arith, e)
+outcome_not_six (Some (Err Lost)) e = omega (arith, e)
+outcome_not_six (Some (Err Fault)) e = omega (arith, e)
+outcome_not_six (Some (Err Gone)) e = omega (arith, e)
+
+pub outcome_not_seven : (outcome : Outcome) → IsOutcome outcome → outcome_code outcome ≡ 7 → ⊥
+outcome_not_seven None is e = omega (arith, e)
+outcome_not_seven (Some (Ok sent)) is e = omega (arith, e)
+outcome_not_seven (Some (Err (MissingImage guid))) is e = omega (arith, e)
+outcome_not_seven (Some (Err (ImageTooLarge guid))) is e = omega (arith, e)
+outcome_not_seven (Some (Err (Begin st))) is e = omega (arith, e)
+outcome_not_seven (Some (Err (End st))) is e = omega (arith, e)
+outcome_not_seven (Some (Err ReadFailed)) is e = is
+outcome_not_seven (Some (Err Lost)) is e = is
+outcome_not_seven (Some (Err Fault)) is e = omega (arith, e)
+outcome_not_seven (Some (Err Gone)) is e = is
+
+-- ---- the record
+
+updates_by : (image file : List ℕ) (request : ℕ) (first d : StepFlash) (e : Updated) (number : ℕ) (told r : Report) (steps : List Step) (room : List ℕ)
+    → told_of first ≡ start image → length image ≡ block_bytes * block_count first → block_count d ≡ block_count first
+    → (told_of d).guard ≡ (told_of first).guard → UpdateEnds image file request e (told_of d) → HandsOver d told r steps room
+    → number ≡ update_code e → ReportsUpdate e r → UpdatesBy image file request number r steps room
+updates_by image file request first d e number told r steps room made size same_size kept ends hands is reports =
+    let o = over image first d told r steps room made size same_size kept hands in
+    record {
+      end = e;
+      number_is = is;
+      t = told_of d;
+      ends = ends;
+      left = o.left;
+      within = o.within;
+      reports = reports;
+    }
+
+-- the boot started no bank
+pub unbooted_by : (image file : List ℕ) (request : ℕ) (first d : StepFlash) (e : Ended) (number : ℕ) (told r : Report) (steps : List Step) (room : List ℕ)
+    → told_of first ≡ start image → length image ≡ block_bytes * block_count first → block_count d ≡ block_count first
+    → IsNotBooted e → BootEnds (λ m. passes_any m) (told_of first) e (told_of d) → HandsOver d told r steps room
+    → number ≡ end_code e → ReportsEnd e told → UpdatesBy image file request number r steps room
+unbooted_by image file request first d e number told r steps room made size same_size not ends hands is reports =
+    updates_by image file request first d (not_booted e) number told r steps room made size same_size
+    (guard_kept (told_of first) (told_of d) e ends.by_bytes)
+    (not, subst (λ (x : Told). BootEnds (λ m. passes_any m) x e (told_of d)) made ends) hands is (end_same e told r hands.same reports)
+
+-- a sending keeps the guard, since the boot before it left a flash that shows a state
+guard_by : (file : List ℕ) (request : ℕ) (b : Started) (outcome : Outcome) (old t : Told) (s : State) → IsShown b.layout old.now s
+    → InstallsBy file request b outcome old t → t.guard ≡ old.guard
+guard_by file request b None old t s shown by = ap (λ (x : Told). x.guard) by.1
+guard_by file request b (Some result) old t s shown by = (by.answers (setting_of b.layout) s refl refl shown).guard_is
+
+-- a bank was started, and the package tried
+pub tried_by : (image file : List ℕ) (request : ℕ) (first mid d : StepFlash) (b : Started) (n : Numbers) (outcome : Outcome) (number : ℕ) (told r : Report)
+    (steps : List Step) (room : List ℕ)
+    → told_of first ≡ start image → length image ≡ block_bytes * block_count first → block_count d ≡ block_count first
+    → BootEnds (λ m. passes_any m) (told_of first) (booted b n) (told_of mid) → layout_seen (told_of mid).now ≡ Ok b.layout
+    → InstallsBy file request b outcome (told_of mid) (told_of d) → HandsOver d told r steps room
+    → number ≡ outcome_code outcome → ReportsStart b told → UpdatesBy image file request number r steps room
+tried_by image file request first mid d b n outcome number told r steps room made size same_size boots layout installs hands is reports =
+    let shown : IsShown b.layout (told_of mid).now boots.by_bytes.shows.0 = record { layout = layout; shows = boots.by_bytes.shows.1 } in
+    updates_by image file request first d (tried b n outcome) number told r steps room made size same_size
+    (guard_by file request b outcome (told_of mid) (told_of d) boots.by_bytes.shows.0 shown installs
+    ∙ guard_kept (told_of first) (told_of mid) (booted b n) boots.by_bytes)
+    (record {
+      mid = told_of mid;
+      boots = subst (λ (x : Told). BootEnds (λ m. passes_any m) x (booted b n) (told_of mid)) made boots;
+      installs = installs;
+    }) hands is (start_same b told r hands.same reports)
+
+-- nothing was tried
+pub denied_by : (image file : List ℕ) (request : ℕ) (r : Report) (steps : List Step) (room : List ℕ) → IsOnTrial image
+    → r.steps ≡ 0 → r.bytes ≡ 0 → UpdatesBy image file request 16 r steps room
+unfolding run fresh
+denied_by image file request r steps room trial none empty =
+    let no_steps : take r.steps steps ≡ [] = ap (λ (n : ℕ). take n steps) none in
+    record {
+      end = on_trial;
+      number_is = refl;
+      t = start image;
+      ends = (trial, refl);
+      left = ap (λ (ss : List Step). under_as (start image).under (run (take r.bytes room) (start image) ss)) (sym no_steps);
+      within = record {
+        steps_fit = omega (arith, none);
+        bytes_fit = omega (arith, empty);
+        inside = subst (λ (ss : List Step). All (IsInside r.bytes (length image)) ss) (sym no_steps) (λ k d lt. absurd (omega (arith, lt)));
+      };
+      reports = (none, empty);
+    }
+
+-- of the same image
+pub update_of_image : (image other file : List ℕ) (request number : ℕ) (r : Report) (steps : List Step) (room : List ℕ) → other ≡ image
+    → UpdatesBy other file request number r steps room → UpdatesBy image file request number r steps room
+update_of_image image other file request number r steps room same by =
+    subst (λ (i : List ℕ). UpdatesBy i file request number r steps room) same by

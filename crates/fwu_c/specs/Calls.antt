@@ -1,0 +1,164 @@
+-- What C is told of one call of the agent, in the session behind a boot of a bank.
+use Rattle.std.specs.Prelude.{◌≡◌, ◌≢◌, ℕ, ◌++◌, List, length, take, None, Result, Ok, Err, OnOk, ⊤}
+use Rattle.flash_core.specs.Told.{Told}
+use Rattle.flash_core.specs.May.{Guards}
+use Rattle.flash_core.specs.declared.flash.FlashStop.{FlashStop}
+use Rattle.flash_core.specs.declared.flash.FlashStop.TheVariants as flash_stop
+use Rattle.fwu_formats.specs.Digests.{passes_any}
+use Rattle.fwu_model.specs.declared.kinds.Status.{Status}
+use Rattle.fwu_model.specs.declared.kinds.Status.TheVariants as status
+use Rattle.fwu_model.specs.State.{State, after}
+use Rattle.fwu_model.specs.Sound.{Setting}
+use Rattle.fwu_model.specs.Session.{On, no_handles}
+use Rattle.fwu_model.specs.Call.{Call}
+use Rattle.fwu_model.specs.Reply.{Reply, Refused, Success}
+use Rattle.fwu_model.specs.Answer.{Answer, answer, migrate_moves}
+use Rattle.fwu_model.specs.Calm.{IsCalm, IsAtRest}
+use Rattle.moves.specs.Moved.{Does, GuardedBy, IsReady, IsShown}
+use Rattle.early_boot.specs.Started.{Started, started_session}
+use Rattle.early_boot.specs.TakenUp.{TakenUp, TakeUpEnds, taken, bad_layout, no_metadata, not_started, stopped}
+use Rattle.agent_machine.specs.declared.stop.Stop.{Stop}
+use Rattle.agent_machine.specs.declared.stop.Stop.TheVariants as stop
+use Rattle.agent_machine.specs.Meets.{flash_result}
+use Rattle.step_flash.specs.declared.step.Step.{Step}
+use Rattle.step_flash.specs.Guard.{start}
+use Rattle.step_flash.specs.Steps.{run}
+use Rattle.fwu_c.specs.Codes.{fault_code}
+use Rattle.fwu_c.specs.Handed.{IsWithin}
+use Rattle.fwu_c.specs.Reports.{ReportsStart}
+use Rattle.fwu_c.specs.declared.report.Report.{Report}
+
+-- ---- numbers
+
+-- of a stop of the flash
+abbrev pub stop_code : FlashStop → ℕ
+stop_code flash_stop.Lost = 4
+stop_code flash_stop.Failed = 5
+
+-- of a bank that was not taken up; 21: no boot started it
+abbrev pub take_up_code : TakenUp → ℕ
+take_up_code (taken b) = 0
+take_up_code (bad_layout f) = 1
+take_up_code no_metadata = 2
+take_up_code not_started = 21
+take_up_code (stopped why) = stop_code why
+
+-- of a refusal (DEN0118); accept and previous have DENIED and UNKNOWN alone
+abbrev pub status_code : Status → ℕ
+status_code status.Denied = 16
+status_code status.AuthFail = 17
+status_code status.Unknown = 20
+status_code status.Busy = 22
+status_code status.OutOfBounds = 23
+status_code status.NotAvailable = 24
+
+-- 0: done
+abbrev pub call_code : Result (Unit {0}) Stop → ℕ
+call_code (Ok x) = 0
+call_code (Err (stop.Status st)) = status_code st
+call_code (Err stop.Lost) = 4
+call_code (Err stop.Fault) = 5
+call_code (Err stop.Gone) = 7
+
+-- ---- the bank is taken up
+
+abbrev pub IsNotTaken : TakenUp → Type 0
+IsNotTaken (taken b) = ⊥
+IsNotTaken other = ⊤
+
+abbrev pub ReportsTakeUp : TakenUp → Report → Type 0
+ReportsTakeUp (bad_layout f) r = r.layout_fault ≡ fault_code f
+ReportsTakeUp other r = ⊤
+
+-- the bank was taken up, and is reported as a boot reports it
+pub record Takes (bank : ℕ) (b : Started) (r : Report) (old t : Told) : Type 0 where
+  pub ends : TakeUpEnds (λ m. passes_any m) bank old (taken b) t
+  pub reports : ReportsStart b r
+
+-- or it was not
+pub record Refuses (bank number : ℕ) (r : Report) (old t : Told) : Type 0 where
+  pub end : TakenUp
+  pub is : IsNotTaken end
+  pub number_is : number ≡ take_up_code end
+  pub ends : TakeUpEnds (λ m. passes_any m) bank old end t
+  pub reports : ReportsTakeUp end r
+  -- steps are told and not done, so no power is lost
+  pub unlost : number ≢ 4
+
+-- ---- the call
+
+-- No power is lost on a device of steps, and no agent that was just started is gone.
+abbrev pub IsCalled : Result (Unit {0}) Stop → Type 0
+IsCalled (Err stop.Lost) = ⊥
+IsCalled (Err stop.Gone) = ⊥
+IsCalled other = ⊤
+
+-- the machine's reply; at a stop of the flash there is none
+abbrev pub RepliesAs : Result (Unit {0}) Stop → Reply → Type 0
+RepliesAs (Ok x) r = r ≡ Success
+RepliesAs (Err (stop.Status st)) r = r ≡ Refused st
+RepliesAs (Err stop.Fault) r = ⊤
+RepliesAs (Err other) r = ⊥
+
+-- From what a flash told to what it tells then, by an answer of the machine.
+pub record AnswersBy (E : Setting) (s : State) (a : Answer) (result : Result (Unit {0}) Stop) (old t : Told) : Type 0 where
+  pub reply_is : RepliesAs result a.reply
+  -- done or refused, on any flash: it shows the state after all of the moves
+  pub shows : OnOk (flash_result result) (IsShown E.layout t.now (after s a.moves))
+  -- from a ready flash: each loss leaves the state after a prefix of the moves, and an answer leaves it ready after all
+  pub does : IsReady E old s → Does (flash_result result) E s a.moves t
+  -- from a flash at rest, sound or not: no loss may harm what is in use
+  pub guarded : IsAtRest old → GuardedBy (flash_result result) t
+  pub guard_is : t.guard ≡ old.guard
+
+-- The call was made in the session behind a boot of the bank.
+pub record CallsFrom (c : Call) (b : Started) (result : Result (Unit {0}) Stop) (old t : Told) : Type 0 where
+  pub answers : (E : Setting) (s : State) → E.layout ≡ b.layout → E.passes ≡ (λ m. passes_any m) → IsShown b.layout old.now s
+      → AnswersBy E s (answer E s (started_session b) c) result old t
+
+-- ---- all of it
+
+-- how it ends
+pub data Called : Type 0 where
+  -- the bank was not taken up, or the flash stopped that
+  not_taken : TakenUp → Called
+  -- it was, and the call was made
+  called : Started → Result (Unit {0}) Stop → Called
+
+abbrev pub called_code : Called → ℕ
+called_code (not_taken e) = take_up_code e
+called_code (called b result) = call_code result
+
+-- the bank as the definitions say, and from what that leaves the call
+pub record MakesCall (image : List ℕ) (bank : ℕ) (c : Call) (b : Started) (result : Result (Unit {0}) Stop) (t : Told) : Type 0 where
+  pub mid : Told
+  pub takes : TakeUpEnds (λ m. passes_any m) bank (start image) (taken b) mid
+  pub calls : CallsFrom c b result mid t
+  -- both, from a calm image: each loss leaves the state after a prefix of all the moves
+  pub does : (E : Setting) (s : State) → E.passes ≡ (λ m. passes_any m) → IsCalm E (start image) s → Guards 1 7 (start image)
+      → Does (flash_result result) E s (migrate_moves s ++ (answer E (after s (migrate_moves s)) (On bank None no_handles) c).moves) t
+
+abbrev pub CallEnds : List ℕ → ℕ → Call → Called → Told → Type 0
+CallEnds image bank c (not_taken e) t = IsNotTaken e × TakeUpEnds (λ m. passes_any m) bank (start image) e t
+CallEnds image bank c (called b result) t = MakesCall image bank c b result t
+
+-- each end has its own fields; the bank is told as a boot tells it, by the numbers before the call
+abbrev pub ReportsCall : Called → Report → Type 0
+ReportsCall (not_taken e) r = ReportsTakeUp e r
+ReportsCall (called b result) r = ReportsStart b r
+
+-- From the image it makes the call as the definitions say, and what the flash then tells is what the steps make of the image; at 5
+-- an erase or a program beyond them may be under way.
+pub record CallsBy (image : List ℕ) (bank : ℕ) (c : Call) (number : ℕ) (r : Report) (steps : List Step) (room : List ℕ) : Type 0 where
+  pub end : Called
+  pub number_is : number ≡ called_code end
+  pub t : Told
+  pub ends : CallEnds image bank c end t
+  pub left : t ≡ record (run (take r.bytes room) (start image) (take r.steps steps)) { under = t.under }
+  -- each step lies within the flash, and its bytes within those of the room
+  pub within : IsWithin (length image) r steps room
+  pub reports : ReportsCall end r
+
+-- 6 and 7 tell nothing
+abbrev pub TellsCall : ℕ → Type 0
+TellsCall number = (number ≢ 6) × (number ≢ 7)

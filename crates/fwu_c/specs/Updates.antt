@@ -1,0 +1,73 @@
+-- What C is told of an update.
+use Rattle.std.specs.Prelude.{◌≡◌, ◌≢◌, ℕ, List, length, take, Some, IsTrue, ⊤}
+use Rattle.flash_core.specs.Told.{Told}
+use Rattle.fwu_formats.specs.Digests.{passes_any}
+use Rattle.fwu_model.specs.State.{State, Numbers, bank, is_valid}
+use Rattle.fwu_model.specs.Seen.{seen}
+use Rattle.early_boot.specs.Started.{Started}
+use Rattle.early_boot.specs.Ends.{Ended, booted}
+use Rattle.early_boot.specs.EndsBy.{BootEnds}
+use Rattle.step_flash.specs.declared.step.Step.{Step}
+use Rattle.step_flash.specs.Guard.{start}
+use Rattle.step_flash.specs.Steps.{run}
+use Rattle.fwu_c.specs.Codes.{end_code}
+use Rattle.fwu_c.specs.Handed.{IsWithin}
+use Rattle.fwu_c.specs.Reports.{ReportsEnd, ReportsStart}
+use Rattle.fwu_c.specs.Sendings.{Outcome, InstallsBy, outcome_code}
+use Rattle.fwu_c.specs.declared.report.Report.{Report}
+
+-- 6 and 7 tell nothing
+abbrev pub IsAnswered : ℕ → Type 0
+IsAnswered number = (number ≢ 6) × (number ≢ 7)
+
+-- the image shows an active bank that is on trial
+abbrev pub IsOnTrial : List ℕ → Type 0
+IsOnTrial image = (s : State) × (seen image ≡ Some s) × IsTrue (is_valid (bank s s.active).state)
+
+-- how an update ends
+pub data Updated : Type 0 where
+  -- the active bank is on trial, and nothing was tried
+  on_trial : Updated
+  -- the boot in it started no bank, or was stopped
+  not_booted : Ended → Updated
+  -- a bank was started, and the package was tried
+  tried : Started → Numbers → Outcome → Updated
+
+abbrev pub update_code : Updated → ℕ
+update_code on_trial = 16
+update_code (not_booted e) = end_code e
+update_code (tried b n outcome) = outcome_code outcome
+
+abbrev pub IsNotBooted : Ended → Type 0
+IsNotBooted (booted b n) = ⊥
+IsNotBooted other = ⊤
+
+-- the boot as the definitions say, and from what it leaves the sending
+pub record TriesPackage (image file : List ℕ) (request : ℕ) (b : Started) (n : Numbers) (outcome : Outcome)
+    (t : Told) : Type 0 where
+  pub mid : Told
+  pub boots : BootEnds (λ m. passes_any m) (start image) (booted b n) mid
+  pub installs : InstallsBy file request b outcome mid t
+
+abbrev pub UpdateEnds : List ℕ → List ℕ → ℕ → Updated → Told → Type 0
+UpdateEnds image file request on_trial t = IsOnTrial image × (t ≡ start image)
+UpdateEnds image file request (not_booted e) t = IsNotBooted e × BootEnds (λ m. passes_any m) (start image) e t
+UpdateEnds image file request (tried b n outcome) t = TriesPackage image file request b n outcome t
+
+-- each end has its own fields; the bank that the boot started is told as a boot tells it
+abbrev pub ReportsUpdate : Updated → Report → Type 0
+ReportsUpdate on_trial r = (r.steps ≡ 0) × (r.bytes ≡ 0)
+ReportsUpdate (not_booted e) r = ReportsEnd e r
+ReportsUpdate (tried b n outcome) r = ReportsStart b r
+
+-- From the image it updates as the definitions say, and what the flash then tells is what the steps make of the image; at 5 an
+-- erase or a program beyond them may be under way.
+pub record UpdatesBy (image file : List ℕ) (request number : ℕ) (r : Report) (steps : List Step) (room : List ℕ) : Type 0 where
+  pub end : Updated
+  pub number_is : number ≡ update_code end
+  pub t : Told
+  pub ends : UpdateEnds image file request end t
+  pub left : t ≡ record (run (take r.bytes room) (start image) (take r.steps steps)) { under = t.under }
+  -- each step lies within the flash, and its bytes within those of the room
+  pub within : IsWithin (length image) r steps room
+  pub reports : ReportsUpdate end r

@@ -1,5 +1,0 @@
-use Rattle.script_cmd.proofs.TopPrints.{at-status}
-use Rattle.script_cmd.proofs.refusing.refuse.Goals as goal
-
-pub returns-clause-prints : goal.returns-clause-prints
-returns-clause-prints g c = at-status _ _ _ _ _ _ _ _ c.idle.ensures.status c.put_line-status.ensures

@@ -1,0 +1,177 @@
+-- A sending that was not done, by how it ended.
+use Rattle.std.proofs.Common.{◌≡◌, ◌*◌, ◌<◌, ℕ, Bool, false, List, inl, inr, length, take, get_or, Option, Some, Result, Ok, Err, refl, sym, ap, subst, ◌∙◌, arith}
+use Rattle.std.specs.Prelude.{◌==◌}
+use Rattle.flash_core.specs.declared.flash.Arming.{Arming}
+use Rattle.host_io.specs.Contents.{Directory}
+use Rattle.fwu_formats.specs.Package.{Entry}
+use Rattle.fwu_model.specs.Call as call
+use Rattle.fwu_model.specs.Reply.{Reply}
+use Rattle.fwu_model.specs.Reply as reply
+use Rattle.agent_machine.specs.declared.stop.Stop.{Stop}
+use Rattle.agent_machine.specs.declared.stop.Stop.TheVariants as stop
+use Rattle.agent_machine.specs.Moment.{Moment}
+use Rattle.agent_machine.proofs.CallGoing.{MeetsAs}
+use Rattle.agent_calls.specs.Takes.{Takes, writes_of_pieces}
+use Rattle.agent_calls.proofs.Pieces.{next-piece}
+use Rattle.agent_calls.proofs.Taking.{takes-then}
+use Rattle.update_client.specs.declared.stops.SendStop.{SendStop}
+use Rattle.update_client.specs.declared.stops.SendStop.TheVariants.{MissingImage, ImageTooLarge, Begin, End, ReadFailed, Lost, Fault, Gone}
+use Rattle.update_client.specs.Choosing.{refused_image}
+use Rattle.update_client.specs.Halts.{StopsEnd, is_unread, stopped_as, unbegun_as}
+use Rattle.update_client.specs.Images.{SendsFirst, SendsImages, no_entry, sent_parts}
+use Rattle.update_client.specs.Takes.{FrontTakes, ImageStarts, ImagesStart, ImagesTake, OnRefusedEnd, OnUnread, writes_in, writes_up_to}
+use Rattle.update_client.proofs.ImagesTaking.{FirstTaken}
+use Rattle.update_client.proofs.Staging.{sent-long, sent-other}
+use Rattle.update_client.proofs.WholeSending.{early-cases}
+use Rattle.update_client.proofs.WrittenPiece.{image-opened}
+
+-- ---- which stop it is
+
+-- no stop of the agent is a failed read
+pub never-unread : (T : Type 0) (q : Stop) (P : Type 0) → OnUnread {T = T} (Err (stopped_as q)) P
+never-unread T (stop.Status st) P = tt
+never-unread T stop.Lost P = tt
+never-unread T stop.Fault P = tt
+never-unread T stop.Gone P = tt
+
+pub begin-read : (T : Type 0) (q : Stop) (P : Type 0) → OnUnread {T = T} (Err (unbegun_as q)) P
+begin-read T (stop.Status st) P = tt
+begin-read T stop.Lost P = tt
+begin-read T stop.Fault P = tt
+begin-read T stop.Gone P = tt
+
+-- nor is that of a begin a refused end
+pub begin-no-end : (T : Type 0) (q : Stop) (P : Type 0) → OnRefusedEnd {T = T} (Err (unbegun_as q)) P
+begin-no-end T (stop.Status st) P = tt
+begin-no-end T stop.Lost P = tt
+begin-no-end T stop.Fault P = tt
+begin-no-end T stop.Gone P = tt
+
+pub end-as : (T : Type 0) (q : Stop) (P : Type 0) → P → OnRefusedEnd {T = T} (Err (stopped_as q)) P
+end-as T (stop.Status st) P holds = holds
+end-as T stop.Lost P holds = tt
+end-as T stop.Fault P holds = tt
+end-as T stop.Gone P holds = tt
+
+-- an image at fault is neither
+pub early-read : (T : Type 0) (o : Option Reply) (halt : SendStop) (P : Type 0) → refused_image o ≡ Some halt → OnUnread {T = T} (Err halt) P
+early-read T o halt P is = elim (early-cases o halt is) [
+  | inl m ↦ subst (λ (h : SendStop). OnUnread {T = T} (Err h) P) (sym m.1) tt
+  | inr l ↦ subst (λ (h : SendStop). OnUnread {T = T} (Err h) P) (sym l.1) tt
+]
+
+pub early-no-end : (T : Type 0) (o : Option Reply) (halt : SendStop) (P : Type 0) → refused_image o ≡ Some halt → OnRefusedEnd {T = T} (Err halt) P
+early-no-end T o halt P is = elim (early-cases o halt is) [
+  | inl m ↦ subst (λ (h : SendStop). OnRefusedEnd {T = T} (Err h) P) (sym m.1) tt
+  | inr l ↦ subst (λ (h : SendStop). OnRefusedEnd {T = T} (Err h) P) (sym l.1) tt
+]
+
+-- the end reads no file
+pub end-read : (T : Type 0) (result : Result T SendStop) (P : Type 0) → StopsEnd result → OnUnread result P
+end-read T (Ok x) P stops = tt
+end-read T (Err (MissingImage g)) P stops = tt
+end-read T (Err (ImageTooLarge g)) P stops = tt
+end-read T (Err (Begin st)) P stops = tt
+end-read T (Err (End st)) P stops = tt
+end-read T (Err ReadFailed) P stops = absurd stops
+end-read T (Err Lost) P stops = tt
+end-read T (Err Fault) P stops = tt
+end-read T (Err Gone) P stops = tt
+
+pub other-read : (T : Type 0) (st : SendStop) (P : Type 0) → is_unread st ≡ false → OnUnread {T = T} (Err st) P
+other-read T (MissingImage g) P other = tt
+other-read T (ImageTooLarge g) P other = tt
+other-read T (Begin st) P other = tt
+other-read T (End st) P other = tt
+other-read T ReadFailed P other = absurd cc
+other-read T Lost P other = tt
+other-read T Fault P other = tt
+other-read T Gone P other = tt
+
+-- ---- handed on
+
+pub unread-then : (T U : Type 0) (st : SendStop) (P Q : Type 0) → (P → Q) → OnUnread {T = T} (Err st) P → OnUnread {T = U} (Err st) Q
+unread-then T U (MissingImage g) P Q by is = tt
+unread-then T U (ImageTooLarge g) P Q by is = tt
+unread-then T U (Begin st) P Q by is = tt
+unread-then T U (End st) P Q by is = tt
+unread-then T U ReadFailed P Q by is = by is
+unread-then T U Lost P Q by is = tt
+unread-then T U Fault P Q by is = tt
+unread-then T U Gone P Q by is = tt
+
+pub end-then : (T U : Type 0) (st : SendStop) (P Q : Type 0) → (P → Q) → OnRefusedEnd {T = T} (Err st) P → OnRefusedEnd {T = U} (Err st) Q
+end-then T U (MissingImage g) P Q by is = tt
+end-then T U (ImageTooLarge g) P Q by is = tt
+end-then T U (Begin st) P Q by is = tt
+end-then T U (End st) P Q by is = by is
+end-then T U ReadFailed P Q by is = tt
+end-then T U Lost P Q by is = tt
+end-then T U Fault P Q by is = tt
+end-then T U Gone P Q by is = tt
+
+pub end-of : (T : Type 0) (result : Result T SendStop) (P Q : Type 0) → (P → Q) → OnRefusedEnd result P → OnRefusedEnd result Q
+end-of T (Ok x) P Q by is = tt
+end-of T (Err st) P Q by is = end-then T T st P Q by is
+
+-- ---- what was written by then
+
+-- a read failed behind the first pieces
+pub front-takes : (size : ℕ) (e : Entry) (at : ℕ) (old : Moment) (a b c : Option Arming) → at < e.size → c ≡ b → FirstTaken size e at old a b
+    → FrontTakes size e old a c
+front-takes size e at old a b c more same front =
+    let here : at ≡ size * front.count = next-piece size e.size at front.count front.pieces more in
+    record {
+      pieces = front.count;
+      more = omega (arith, more, here);
+      takes = λ E s boot parts image layout below room shows.
+          subst (λ (arming : Option Arming). Takes (writes_of_pieces size e.size front.count) a arming) (sym same)
+          (front.takes E s boot parts image layout below room shows);
+    }
+
+-- of an image that was opened
+pub image-starts : (size : ℕ) (guid : List ℕ) (e : Entry) (h : ℕ) (old opened : Moment) (a b c : Option Arming)
+    → ((passes : List ℕ → Bool) → MeetsAs {T = ℕ} (λ k. reply.Opened k) (Ok h) passes (call.OpenWrite guid) old opened) → b ≡ a
+    → FrontTakes size e opened b c → ImageStarts size guid e old a c
+image-starts size guid e h old opened a b c opens still front = record {
+  pieces = front.pieces;
+  more = front.more;
+  takes = λ E s boot parts image layout below found room none shows.
+      let one = image-opened guid h old opened opens E s boot parts image layout below found none shows in
+      subst (λ (armed : Option Arming). Takes (writes_of_pieces size e.size front.pieces) armed c) still
+      (front.takes E s boot parts image (layout ∙ sym one.stays.layout) below room one.shows);
+}
+
+-- behind the first images
+pub images-start : (told : Option Directory) (name : List ℕ) (size : ℕ) (entries : List Entry) (request k : ℕ) (old mid : Moment) (a b c : Option Arming)
+    → k < length entries → SendsFirst told name entries request k old mid → ImagesTake size entries k old a b
+    → ImageStarts size (get_or entries k no_entry).guid (get_or entries k no_entry) mid b c → ImagesStart size entries old a c
+images-start told name size entries request k old mid a b c below first takes image = record {
+  images = k;
+  pieces = image.pieces;
+  below = below;
+  more = image.more;
+  takes = λ E s boot parts places layout are shows.
+      let one = first.goes E s boot parts places layout are shows in
+      let at : length first.images ≡ k = first.count in
+      let bit = request == 0 in
+      takes-then (writes_in size (take k entries)) (writes_of_pieces size (get_or entries k no_entry).size image.pieces)
+      (writes_up_to size entries k image.pieces) a b c refl (takes E s boot parts places layout are shows)
+      (image.takes E s boot (sent_parts parts first.images places bit) (get_or places k 0) (layout ∙ sym one.stays.layout)
+      (omega (arith, are.below k below, sent-long parts first.images places bit)) (are.found k below) (are.fit k below)
+      (sent-other parts first.images places bit (get_or places k 0) (omega (arith, at, below, are.count))
+      (λ j less. are.apart j k (omega (arith, less, at)) below) ∙ are.empty k below) one.shows);
+}
+
+-- no call of the sending of images is a refused end
+pub images-no-end : (told : Option Directory) (name : List ℕ) (size : ℕ) (entries : List Entry) (request : ℕ) (st : SendStop) (old new : Moment) (a b : Option Arming)
+    → SendsImages told name entries request (Err st) old new → OnRefusedEnd {T = Unit {0}} (Err st) (ImagesTake size entries (length entries) old a b)
+images-no-end told name size entries request (MissingImage g) old new a b sent = tt
+images-no-end told name size entries request (ImageTooLarge g) old new a b sent = tt
+images-no-end told name size entries request (Begin q) old new a b sent = tt
+images-no-end told name size entries request (End q) old new a b sent =
+    λ E s boot parts places layout are shows. absurd (sent.goes E s boot parts places layout are shows)
+images-no-end told name size entries request ReadFailed old new a b sent = tt
+images-no-end told name size entries request Lost old new a b sent = tt
+images-no-end told name size entries request Fault old new a b sent = tt
+images-no-end told name size entries request Gone old new a b sent = tt

@@ -1,0 +1,15 @@
+use Rattle.std.proofs.Common.{arith}
+use Rattle.host_io.proofs.Once.{bytes-one, once-one}
+use Rattle.wire_frames.proofs.stream.FrameReader.read_some.Goals as goal
+
+pub returns-in-Ok-eq0-clause-once : goal.returns-in-Ok-eq0-clause-once
+returns-in-Ok-eq0-clause-once g c = once-one g.I.Source c.args.source.now c.read.new.self _ c.in-Ok-eq0.ensures.made
+
+pub returns-in-Ok-clause-goes : goal.returns-in-Ok-clause-goes
+returns-in-Ok-clause-goes g c = bytes-one g.I.Source c.args.source.now c.read.new.self _ c.in-Ok.ensures.made (omega arith)
+
+pub returns-in-Ok-clause-once : goal.returns-in-Ok-clause-once
+returns-in-Ok-clause-once g c = once-one g.I.Source c.args.source.now c.read.new.self _ c.in-Ok.ensures.made
+
+pub returns-in-Err-clause-once : goal.returns-in-Err-clause-once
+returns-in-Err-clause-once g c = once-one g.I.Source c.args.source.now c.read.new.self _ c.in-Err.ensures.made
