@@ -113,7 +113,7 @@ enum fwu_answer {
     FWU_DENIED = 16,     /* send begin DENIED, accept DENIED, previous DENIED: the banks don't allow it; see each call */
     FWU_AUTH_FAIL = 17,  /* send end AUTH_FAIL: the package is not complete, or is below the counter */
     FWU_BAD_PACKAGE = 18, /* send bad-package ..: these bytes are no package */
-    FWU_BAD_IMAGE = 19,  /* send missing-image .., image-too-large ..: it lacks an image, or one is larger than its slot */
+    FWU_BAD_IMAGE = 19,  /* send missing .., too-large ..: it lacks an image, or one is larger than its slot */
     FWU_UNKNOWN = 20,    /* accept UNKNOWN: no image has the type */
     FWU_NOT_STARTED = 21 /* by what the flash shows no boot started the bank; no step is told */
 };

@@ -1,7 +1,7 @@
 #!/bin/sh
 # Builds libfwu.a for x86-64 and aarch64 into bin/c, the host program bin/c/try, and the bare program bin/c/bare.elf.
-# The libraries below are those that demo/build.sh proved, which it runs first; fwu_c, and step_flash and package_files below it, are
-# proved here.
+# The libraries below are those that demo/build.sh proved, which it runs first; fwu_c is proved here, and what stands below it alone:
+# step_flash, package_files, and runs_kit for its tests.
 # The compiler is the toolchain's clang for both processors; the C programs want cc and aarch64-linux-gnu-gcc.
 set -eu
 cd "$(dirname "$0")/../.."
@@ -36,6 +36,7 @@ make() {
 
 make step_flash --statements -o "$proved/step_flash.rlib"
 make package_files --statements -o "$proved/package_files.rlib"
+make runs_kit --statements -o "$proved/runs_kit.rlib"
 for processor in x86_64 aarch64; do
     make fwu_c --crate-type staticlib --target $processor-unknown-linux-gnu --toolchain "$toolchain/toolchain" --backend llvm \
         -o "$out/$processor/libfwu.a"

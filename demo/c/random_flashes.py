@@ -152,7 +152,7 @@ def packages():
         "empty.fip": of_three(8, b"", b"hello"),
         "other.fip": of_three(7, b"abc", b"hello", manifest_of(7, b"abd", b"hello")),
         "missing.fip": package([("manifest", manifest_of(7)), ("tb-fw", b"abc")]),
-        "more.fip": package([("soc-fw", b"x"), ("nt-fw", b"hello"), ("tb-fw", b"abc"), ("manifest", manifest_of(7))]),
+        "more.fip": package([("00000000-0000-0000-0000-000000000001", b"x"), ("nt-fw", b"hello"), ("tb-fw", b"abc"), ("manifest", manifest_of(7))]),
         "cut.fip": of_three(7)[:100],
         "none.fip": bytes(8),
     }.items():
@@ -171,7 +171,7 @@ def is_on_trial(made):
 # What `fwu` says in a script, from its front on, and the number that the library answers.
 NUMBERS = {
     "boot bad-layout": 1, "boot no-metadata": 2, "boot no-bank": 3, "send SUCCESS": 0, "send begin DENIED": 16,
-    "send end AUTH_FAIL": 17, "send bad-package": 18, "send missing-image": 19, "send image-too-large": 19,
+    "send end AUTH_FAIL": 17, "send bad-package": 18, "send missing": 19, "send too-large": 19,
 }
 
 
