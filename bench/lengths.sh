@@ -3,7 +3,7 @@
 # unequal lengths, 1 KiB to 1 MiB: in powers of two, and in equal steps.
 set -eu
 cd "$(dirname "$0")/.."
-work=$(mktemp -d)
+work=$(mktemp -d -p /dev/shm 2>/dev/null || mktemp -d) # a barrier on a disk would count the disk
 trap 'rm -rf "$work"' EXIT
 
 for program in fwu_prog fip_prog; do

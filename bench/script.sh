@@ -3,7 +3,7 @@
 # 16,384 lines beside 65,536, in one run. Beside them scripts of `discover`, of reads of 16 bytes and of writes of 16 bytes.
 set -eu
 cd "$(dirname "$0")/.."
-work=$(mktemp -d)
+work=$(mktemp -d -p /dev/shm 2>/dev/null || mktemp -d) # a barrier on a disk would count the disk
 trap 'rm -rf "$work"' EXIT
 
 (cd crates/fwu_prog && rt run >"$work/build.log" 2>&1) || { cat "$work/build.log"; exit 1; }

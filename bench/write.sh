@@ -6,7 +6,7 @@
 # read whole and then answered `off`.
 set -eu
 cd "$(dirname "$0")/.."
-work=$(mktemp -d)
+work=$(mktemp -d -p /dev/shm 2>/dev/null || mktemp -d) # a barrier on a disk would count the disk
 trap 'rm -rf "$work"' EXIT
 
 (cd crates/fwu_prog && rt run >"$work/build.log" 2>&1) || { cat "$work/build.log"; exit 1; }
