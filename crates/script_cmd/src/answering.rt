@@ -1,5 +1,6 @@
 //! What the words ask for is done, in one of the ways that it may end.
 ghost use Rattle.std.specs.Prelude.{◌≡◌, ◌≤◌, [], Some, None, IfSome, map, string_bytes, IsTrue, IsFalse};
+ghost use Rattle.host_io.specs.Once.{ReadsOnce};
 ghost use Rattle.fwu_model.specs.Allow.{asks_list, list_name};
 ghost use Rattle.fwu_model.specs.Causes.{Faults};
 ghost use Rattle.fwu_journal.specs.Shown.{turns};
@@ -64,6 +65,7 @@ fn run_turns<D: Flash, H: Files, I: Source, O: Sink, V: Verifier>(
     ensures later_files { H.faults files.old ≤ H.faults files.new }
     ensures later_source { I.faults source.old ≤ I.faults source.new }
     ensures later_sink { O.faults sink.old ≤ O.faults sink.new }
+    ensures once { ReadsOnce I.Source source.old source.new }
     ensures size { D.blocks result.flash ≡ D.blocks flash }
 {
     let ready = match script_of(alloc, order.from, source) {
@@ -96,6 +98,7 @@ pub fn answer_with<D: Flash, H: Files, I: Source, O: Sink, V: Verifier>(
         (I.left source.new) files.old files.new source.old source.new }
     ensures same_files { H.contents files.new ≡ H.contents files.old }
     ensures unwritten { H.writes files.new ≡ H.writes files.old }
+    ensures once { ReadsOnce I.Source source.old source.new }
     ensures size { D.blocks result.flash ≡ D.blocks flash }
 {
     match fwu_order(alloc, words) {
@@ -126,6 +129,7 @@ fn run_listed<D: Flash, H: Files, I: Source, O: Sink>(
         flash files.old source.old sink.old result files.new source.new sink.new }
     ensures same_files { H.contents files.new ≡ H.contents files.old }
     ensures unwritten { H.writes files.new ≡ H.writes files.old }
+    ensures once { ReadsOnce I.Source source.old source.new }
     ensures size { D.blocks result.flash ≡ D.blocks flash }
 {
     match read_list(alloc, files, name) {
@@ -154,6 +158,7 @@ pub fn answer<D: Flash, H: Files, I: Source, O: Sink>(
         flash files.old source.old sink.old result files.new source.new sink.new }
     ensures same_files { H.contents files.new ≡ H.contents files.old }
     ensures unwritten { H.writes files.new ≡ H.writes files.old }
+    ensures once { ReadsOnce I.Source source.old source.new }
     ensures size { D.blocks result.flash ≡ D.blocks flash }
 {
     match allow_of(words) {

@@ -3,6 +3,7 @@ ghost use Rattle.std.specs.Prelude.{◌≡◌, ◌≤◌, ℕ, List, [], Some, E
 ghost use Rattle.std.specs.Io.KnownBytes.{IsAtEnd};
 ghost use Rattle.flash_core.specs.Counts.{Rose};
 ghost use Rattle.fwu_model.specs.Script.{is_too_long};
+ghost use Rattle.host_io.specs.Once.{ReadsOnce};
 ghost use Rattle.fwu_words.specs.declared.orders.ScriptFrom.TheVariants as origin;
 ghost use Rattle.script_cmd.specs.Refusing.{LacksScript, text_of};
 ghost use Rattle.script_cmd.specs.Sourced.{ReadsInTime, read_failures};
@@ -41,6 +42,7 @@ pub fn read_source<I: Source>(alloc: Global, source: &mut I) -> Result<Vec<u8>, 
         → Rose (I.faults source.old) (I.faults source.new) }
     ensures in_time { ReadsInTime (I.left source.old) (I.left source.new) }
     ensures count { I.faults source.new ≡ read_failures result (I.faults source.old) }
+    ensures once { ReadsOnce I.Source source.old source.new }
 {
     let mut text = Vec::new(alloc);
     let mut limit = TextLimit::new();
@@ -72,6 +74,7 @@ fn read_whole<I: Source>(alloc: Global, source: &mut I) -> Result<Script, Refusa
     ensures quiet { OnOk result (I.faults source.new ≡ I.faults source.old) }
     ensures in_time { ReadsInTime (I.left source.old) (I.left source.new) }
     ensures later { I.faults source.old ≤ I.faults source.new }
+    ensures once { ReadsOnce I.Source source.old source.new }
 {
     let text = match read_source(alloc, source) {
         Ok(text) => text,
@@ -101,6 +104,7 @@ fn calls_asked<I: Source>(
     ensures quiet { OnOk result (I.faults source.new ≡ I.faults source.old) }
     ensures in_time { ReadsInTime (I.left source.old) (I.left source.new) }
     ensures later { I.faults source.old ≤ I.faults source.new }
+    ensures once { ReadsOnce I.Source source.old source.new }
 {
     match from {
         ScriptFrom::Source => read_whole(alloc, source),
@@ -128,6 +132,7 @@ pub fn script_of<I: Source>(
     ensures quiet { OnOk result (I.faults source.new ≡ I.faults source.old) }
     ensures in_time { ReadsInTime (I.left source.old) (I.left source.new) }
     ensures later { I.faults source.old ≤ I.faults source.new }
+    ensures once { ReadsOnce I.Source source.old source.new }
 {
     let script = match calls_asked(alloc, from, source) {
         Ok(script) => script,

@@ -1,5 +1,6 @@
 //! The command `serve`.
 ghost use Rattle.std.specs.Prelude.{◌≡◌, ◌≤◌, None, IsFalse};
+ghost use Rattle.host_io.specs.Once.{ReadsOnce};
 ghost use Rattle.script_cmd.specs.Done.{ending};
 ghost use Rattle.script_cmd.specs.Ending.{in_model};
 ghost use Rattle.script_cmd.specs.Here.{without_list};
@@ -49,6 +50,7 @@ pub fn serve_source<D: Flash, H: Files, I: Source, O: Sink, V: Verifier>(
     ensures files { files.new ≡ files.old }
     ensures note { IsFalse (is_beyond result.note) }
     ensures later_source { I.faults source.old ≤ I.faults source.new }
+    ensures once { ReadsOnce I.Source source.old source.new }
     ensures later_sink { O.faults sink.old ≤ O.faults sink.new }
     ensures size { D.blocks result.flash ≡ D.blocks flash }
 {

@@ -1,5 +1,6 @@
 //! The program as one call.
 ghost use Rattle.std.specs.Prelude.{◌≡◌, None, map, string_bytes, IsFalse};
+ghost use Rattle.host_io.specs.Once.{ReadsOnce};
 ghost use Rattle.script_cmd.specs.Done.{ending};
 ghost use Rattle.script_cmd.specs.Handed.{listed, unlisted};
 ghost use Rattle.script_cmd.specs.Serves.{Serves, ServesByList};
@@ -43,6 +44,8 @@ pub fn fwu_top_with<D: Flash, H: Files, I: Source, O: Sink, V: Verifier>(
     // Files that are told stay as they are, and none is written, whatever files there are.
     ensures same_files { H.contents files.new ≡ H.contents files.old }
     ensures unwritten { H.writes files.new ≡ H.writes files.old }
+    // No read of the source is made behind one that gave no bytes or failed.
+    ensures once { ReadsOnce I.Source source.old source.new }
     ensures size { D.blocks result.flash ≡ D.blocks flash }
 {
     answer_with(alloc, words, files, source, sink, flash, verifier)
@@ -72,6 +75,8 @@ pub fn fwu_top<D: Flash, H: Files, I: Source, O: Sink>(
     // Files that are told stay as they are, and none is written, whatever files there are.
     ensures same_files { H.contents files.new ≡ H.contents files.old }
     ensures unwritten { H.writes files.new ≡ H.writes files.old }
+    // No read of the source is made behind one that gave no bytes or failed.
+    ensures once { ReadsOnce I.Source source.old source.new }
     ensures size { D.blocks result.flash ≡ D.blocks flash }
 {
     answer(alloc, words, files, source, sink, flash)

@@ -1,5 +1,5 @@
 -- What holds of a serving, by how it ended.
-use Rattle.std.proofs.Common.{◌≡◌, ◌≢◌, ◌⊎◌, ⊎_elim, inl, inr, ℕ, ◌≤◌, Bool, ltb, ltb-true, ltb-false, List, [], ◌∷◌, ◌++◌, length, length-append, Option, Some, None, Ok, Err, refl, sym, ap, subst, ◌∙◌, arith, IsTrue, IsFalse}
+use Rattle.std.proofs.Common.{◌≡◌, ◌⊎◌, ⊎_elim, inl, inr, ℕ, ◌≤◌, ltb, ltb-true, ltb-false, List, [], ◌∷◌, ◌++◌, length, length-append, Option, Some, None, Err, refl, sym, ap, subst, ◌∙◌, arith, IsTrue, IsFalse}
 use Rattle.std.specs.Prelude.{Contains, IfErr}
 use Rattle.std.specs.List.{list_any, slice_get}
 use Rattle.std.specs.Io.KnownBytes.{Consumes}
@@ -13,7 +13,6 @@ use Rattle.host_io.specs.Calls.{raised}
 use Rattle.host_io.specs.Printed.{FailsAtThree}
 use Rattle.fwu_model.specs.Call.{Call}
 use Rattle.fwu_model.specs.Call as call
-use Rattle.fwu_model.specs.Causes.{cuts_in}
 use Rattle.fwu_model.specs.Reply.{Reply, Turn}
 use Rattle.fwu_model.specs.Reply as reply
 use Rattle.fwu_model.specs.Run.{ends_run, is_refused_boot}
@@ -25,15 +24,14 @@ use Rattle.wire_frames.specs.declared.exchange.Admission.{Admission}
 use Rattle.wire_frames.specs.declared.exchange.Admission.TheVariants.{Acts, Repeats, Ignored}
 use Rattle.wire_frames.specs.declared.stream.FrameStop.{FrameStop}
 use Rattle.wire_frames.specs.declared.stream.FrameStop.TheVariants as stop
-use Rattle.wire_frames.specs.Exchange.{admission}
-use Rattle.wire_frames.specs.Frames.{Splits, frames, message_of, number_of}
+use Rattle.wire_frames.specs.Frames.{frames, message_of, number_of}
 use Rattle.wire_frames.specs.Stream.{StopsReading, most_bytes, stop_faults}
 use Rattle.wire_frames.proofs.Readings.{one-reading}
 use Rattle.wire_frames.proofs.Stopping.{stops-stream}
 use Rattle.serving.specs.Acting.{OneStop, OneTurn, ended, starved}
 use Rattle.serving.specs.Ends.{IsEarly, end_by, end_of_stop, status_of}
 use Rattle.serving.specs.Going.{Goes, ServeEnds, StopsThere, TakesFrames, at_a_request, at_the_end}
-use Rattle.serving.specs.Holds.{Cause, EndsWith, FailsAtRead, Holds, IsComplete, IsQuiet, RefusesBoot, StopsBy, TakesWithin, end_behind}
+use Rattle.serving.specs.Holds.{Cause, EndsWith, FailsAtRead, Holds, IsComplete, RefusesBoot, StopsBy, TakesWithin, end_behind}
 use Rattle.serving.specs.Requests.{called}
 use Rattle.serving.specs.Scene.{At, Port, RanIn, RunAt, Scene, begin_at, port, unasked}
 use Rattle.serving.specs.Serving.{ServesBy, ServesNew, answered, stopped}

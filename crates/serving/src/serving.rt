@@ -1,5 +1,6 @@
 //! The requests of a source, one after the other.
 ghost use Rattle.std.specs.Prelude.{◌≡◌, ◌≤◌, IfErr, OnOk, length};
+ghost use Rattle.host_io.specs.Once.{ReadsOnce};
 ghost use Rattle.script_turns.specs.Powered.{device, has_power};
 ghost use Rattle.wire_frames.specs.Frames.{IsBody, message_of, number_of};
 ghost use Rattle.serving.specs.Ends.{IsEarly};
@@ -129,6 +130,7 @@ pub fn serve_all<D: Flash, H: Files, I: Source, O: Sink, V: Verifier>(
         (at serving.new (port (O.taken sink.new) (O.faults sink.new))) result
         (port (I.left source.old) (I.faults source.old))
         (port (I.left source.new) (I.faults source.new)) }
+    ensures once { ReadsOnce I.Source source.old source.new }
     ensures size { D.blocks (device serving.new.powered)
         ≡ D.blocks (device serving.old.powered) }
     ensures files { files.new ≡ files.old }

@@ -1,5 +1,6 @@
 //! A serving, from its boot.
 ghost use Rattle.std.specs.Prelude.{◌≡◌, None, OnOk};
+ghost use Rattle.host_io.specs.Once.{ReadsOnce};
 ghost use Rattle.script_turns.specs.Powered.{device, has_power, moment_of, shown_on};
 ghost use Rattle.serving.specs.Holds.{Holds};
 ghost use Rattle.serving.specs.Scene.{at, port, run_of, scene};
@@ -76,6 +77,8 @@ pub fn serve<D: Flash, H: Files, I: Source, O: Sink, V: Verifier>(
         (at result.serving (port (O.taken sink.new) (O.faults sink.new))) result.end
         (port (I.left source.old) (I.faults source.old))
         (port (I.left source.new) (I.faults source.new)) }
+    // No read of the source is made behind one that gave no bytes or failed.
+    ensures once { ReadsOnce I.Source source.old source.new }
     ensures size { D.blocks (device result.serving.powered) ≡ D.blocks (device start) }
     ensures files { files.new ≡ files.old }
 {

@@ -3,6 +3,7 @@ use Rattle.std.specs.Prelude.{string_bytes}
 use Rattle.fwu_formats.specs.Digests.{passes_any}
 use Rattle.fwu_model.specs.Allow.{list_name}
 use Rattle.fwu_model.specs.Wrote.{usage_line}
+use Rattle.host_io.proofs.Once.{once-none}
 use Rattle.script_cmd.proofs.AnsweredBy.{answered-at, answered-usage}
 use Rattle.script_cmd.proofs.TopPrints.{later}
 use Rattle.script_cmd.proofs.TopWays.{by-words, has-any, idles-at, no-list, no-words, none-bad, same-moment, some-list}
@@ -30,3 +31,8 @@ pub returns-in-File-clause-answers : goal.returns-in-File-clause-answers
 returns-in-File-clause-answers g c =
     let n = some-list _ _ c.in-File.name.now c.in-File.ensures in
     by-words _ _ c.in-File.name.now _ _ _ _ n.1 n.2 (λ passes. answered-at _ _ _ _ n.0 n.2) c.run_listed.ensures.answers
+
+-- ---- no read at all
+
+pub returns-in-Usage-clause-once : goal.returns-in-Usage-clause-once
+returns-in-Usage-clause-once g c = once-none g.I.Source g.met.I.Source.at_rest c.args.source.now

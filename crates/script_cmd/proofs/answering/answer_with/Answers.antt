@@ -1,3 +1,4 @@
+use Rattle.host_io.proofs.Once.{once-none}
 use Rattle.script_cmd.proofs.AnsweredBy.{answered-format, answered-serve, answered-show, answered-soak, answered-starved, answered-turns, answered-usage}
 use Rattle.script_cmd.proofs.TopFormats.{formatted-as}
 use Rattle.script_cmd.proofs.SoakTop.{soak-as}
@@ -69,3 +70,20 @@ returns-in-Err-NoMemory-clause-answers g c =
     let stuck = e.starved refl in
     answered-starved _ None e.no_turns (same-moment g.D.Flash.told g.D.Flash.counts g.D.Flash.arming g.D.Flash.on _ _ e.flash) c.requires.unarmed stuck.0 e.note (ap g.O.Sink.taken stuck.1, ap g.O.Sink.faults stuck.1)
     (λ unlisted. refl) refl refl refl (record { files = omega arith; source = omega arith; sink = let quiet = ap g.O.Sink.faults stuck.1 in omega (arith, quiet) })
+
+-- ---- no read at all
+
+pub returns-in-Ok-Show-clause-once : goal.returns-in-Ok-Show-clause-once
+returns-in-Ok-Show-clause-once g c = once-none g.I.Source g.met.I.Source.at_rest c.args.source.now
+
+pub returns-in-Ok-Format-clause-once : goal.returns-in-Ok-Format-clause-once
+returns-in-Ok-Format-clause-once g c = once-none g.I.Source g.met.I.Source.at_rest c.args.source.now
+
+pub returns-in-Ok-Soak-clause-once : goal.returns-in-Ok-Soak-clause-once
+returns-in-Ok-Soak-clause-once g c = once-none g.I.Source g.met.I.Source.at_rest c.args.source.now
+
+pub returns-in-Err-Usage-clause-once : goal.returns-in-Err-Usage-clause-once
+returns-in-Err-Usage-clause-once g c = once-none g.I.Source g.met.I.Source.at_rest c.args.source.now
+
+pub returns-in-Err-NoMemory-clause-once : goal.returns-in-Err-NoMemory-clause-once
+returns-in-Err-NoMemory-clause-once g c = once-none g.I.Source g.met.I.Source.at_rest c.args.source.now

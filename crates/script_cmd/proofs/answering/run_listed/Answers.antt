@@ -3,6 +3,7 @@ use Rattle.std.proofs.lemmas.Bool.{false≢true}
 use Rattle.fwu_formats.specs.Digests.{digests_of, passes_listed}
 use Rattle.fwu_model.specs.Causes.{may_fail_before}
 use Rattle.fwu_model.specs.Wrote.{bad_list_line, not_read_line}
+use Rattle.host_io.proofs.Once.{once-none}
 use Rattle.script_cmd.specs.declared.done.Note.TheVariants as note
 use Rattle.script_cmd.specs.Ways.{bad_list, list_not_read}
 use Rattle.script_cmd.proofs.AnsweredBy.{answered-refused, answered-starved, answered-with-list}
@@ -69,3 +70,14 @@ returns-in-Err-NoMemory-clause-answers g c =
           answered-starved _ _ e.no_turns same c.requires.unarmed stuck.0 e.note (ap g.O.Sink.taken stuck.1, ap g.O.Sink.faults stuck.1) (λ unlisted. absurd cc) refl refl refl
           (record { files = c.read_list.ensures.reads.later; source = omega arith; sink = let quiet = ap g.O.Sink.faults stuck.1 in omega (arith, quiet) }),
     )
+
+-- ---- no read at all
+
+pub returns-in-Err-Failed-clause-once : goal.returns-in-Err-Failed-clause-once
+returns-in-Err-Failed-clause-once g c = once-none g.I.Source g.met.I.Source.at_rest c.args.source.now
+
+pub returns-in-Err-BadLine-clause-once : goal.returns-in-Err-BadLine-clause-once
+returns-in-Err-BadLine-clause-once g c = once-none g.I.Source g.met.I.Source.at_rest c.args.source.now
+
+pub returns-in-Err-NoMemory-clause-once : goal.returns-in-Err-NoMemory-clause-once
+returns-in-Err-NoMemory-clause-once g c = once-none g.I.Source g.met.I.Source.at_rest c.args.source.now

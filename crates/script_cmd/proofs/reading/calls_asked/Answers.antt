@@ -2,6 +2,7 @@ use Rattle.std.proofs.Common.{◌∙◌, List, Ok, ap, refl, subst, sym}
 use Rattle.std.specs.Prelude.{IfErr, IfOk, IsTrue}
 use Rattle.fwu_model.specs.Call.{Call}
 use Rattle.fwu_words.specs.declared.orders.ScriptFrom.{ScriptFrom}
+use Rattle.host_io.proofs.Once.{once-none}
 use Rattle.script_cmd.specs.Refusing.{LacksScript, starved, text_of}
 use Rattle.script_cmd.specs.Ways.{HasCalls}
 use Rattle.script_cmd.proofs.PromiseWords.{boot-is-script, boot-is-short}
@@ -37,3 +38,11 @@ returns-in-Ok-clause-in_time g c = in-time-still _
 
 pub returns-in-Err-clause-in_time : goal.returns-in-Err-clause-in_time
 returns-in-Err-clause-in_time g c = in-time-still _
+
+-- ---- no read at all
+
+pub returns-in-Ok-clause-once : goal.returns-in-Ok-clause-once
+returns-in-Ok-clause-once g c = once-none g.I.Source g.met.I.Source.at_rest c.args.source.now
+
+pub returns-in-Err-clause-once : goal.returns-in-Err-clause-once
+returns-in-Err-clause-once g c = once-none g.I.Source g.met.I.Source.at_rest c.args.source.now

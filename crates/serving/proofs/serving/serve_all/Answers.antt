@@ -1,4 +1,5 @@
 use Rattle.std.proofs.Common.{refl, Err, Ok, arith, subst, ◌∙◌, take}
+use Rattle.host_io.proofs.Once.{bytes-none, bytes-then, once-bytes, once-then}
 use Rattle.wire_frames.proofs.Readings.{length-frame}
 use Rattle.serving.specs.Scene.{at, port, scene}
 use Rattle.serving.specs.Serving.{ServesOne}
@@ -14,6 +15,7 @@ loop-size-init g c =
       powered = c.requires.powered;
       size = refl;
       files = refl;
+      reads = bytes-none g.I.Source g.met.I.Source.at_rest c.args.source.now;
     }
 
 pub returns-in-Err-clause-goes : goal.returns-in-Err-clause-goes
@@ -60,4 +62,16 @@ loop-size-preserved g c =
       powered = c.in_default.ensures.powered;
       size = c.serve_one-served.ensures.size ∙ c.loop-size.invariant.size;
       files = c.serve_one-served.ensures.files ∙ c.loop-size.invariant.files;
+      reads = bytes-then g.I.Source g.met.I.Source.joins c.args.source.now c.loop-size.source c.next.new.source c.loop-size.invariant.reads c.in-Ok.ensures.goes;
     }
+
+-- ---- what was read
+
+pub returns-in-Err-clause-once : goal.returns-in-Err-clause-once
+returns-in-Err-clause-once g c =
+    once-then g.I.Source g.met.I.Source.joins c.args.source.now c.loop-size.source c.next.new.source c.loop-size.invariant.reads c.next.ensures.once
+
+pub returns-in-Err-served-clause-once : goal.returns-in-Err-served-clause-once
+returns-in-Err-served-clause-once g c =
+    once-bytes g.I.Source c.args.source.now c.next.new.source
+    (bytes-then g.I.Source g.met.I.Source.joins c.args.source.now c.loop-size.source c.next.new.source c.loop-size.invariant.reads c.in-Ok.ensures.goes)

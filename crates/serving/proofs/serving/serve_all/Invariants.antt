@@ -1,4 +1,5 @@
 use Rattle.std.proofs.Common.{◌≡◌, ◌-◌}
+use Rattle.host_io.specs.Once.{ReadsBytes}
 use Rattle.script_turns.specs.Powered.{device, has_power}
 use Rattle.serving.specs.Scene.{at, port, scene}
 use Rattle.serving.proofs.SoFar.{SoFar}
@@ -13,6 +14,7 @@ invariant-loop-size g l = record {
   powered : g.D.Flash.on (device l.serving.powered) ≡ has_power l.serving.powered;
   size : g.D.Flash.blocks (device l.serving.powered) ≡ g.D.Flash.blocks (device l.fn.serving.powered);
   files : l.files ≡ l.fn.files;
+  reads : ReadsBytes g.I.Source l.fn.source l.source;
 }
 
 abbrev pub decreases-loop-size : goal.decreases-loop-size

@@ -1,4 +1,4 @@
-use Rattle.std.proofs.Common.{◌≡◌, ◌≤◌, ◌+◌, ◌∙◌, ℕ, List, length, take, drop, ap, refl, subst, arith}
+use Rattle.std.proofs.Common.{◌≡◌, ◌∙◌, ℕ, List, take, drop, ap, refl, subst, arith}
 use Rattle.std.proofs.lemmas.List.{length-take-le, take_rest}
 use Rattle.fwu_wire.proofs.Written.{behind-eight, frame-written}
 use Rattle.serving.specs.Acting.{OneReply, OneStop}

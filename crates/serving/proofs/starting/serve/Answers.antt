@@ -1,11 +1,12 @@
 use Rattle.std.proofs.Common.{List, ◌∙◌, refl, subst}
+use Rattle.host_io.proofs.Once.{once-none}
 use Rattle.fwu_model.specs.Call as call
 use Rattle.fwu_model.specs.Reply.{Turn}
 use Rattle.script_turns.specs.Powered.{moment_of}
 use Rattle.wire_frames.specs.Exchange.{Answered}
 use Rattle.serving.specs.Acting.{OneStop, OneTurn}
 use Rattle.serving.specs.Going.{GoesOn}
-use Rattle.serving.specs.Scene.{RunAt, at, port, run_of, scene}
+use Rattle.serving.specs.Scene.{at, port, run_of, scene}
 use Rattle.serving.specs.Starting.{not_started}
 use Rattle.serving.proofs.Holds.{serves-holds}
 use Rattle.serving.proofs.Starts.{serves-on}
@@ -52,3 +53,8 @@ returns-clause-holds g c =
     let to = port (g.I.Source.left c.serve_all-end.new.source) (g.I.Source.faults c.serve_all-end.new.source) in
     serves-holds E (moment_of c.args.start) c.requires.not_booted sink from to
     (at c.serve_all-end.new.serving (port (g.O.Sink.taken c.serve_all-end.new.sink) (g.O.Sink.faults c.serve_all-end.new.sink))) c.serve_all-end.result (returns-clause-serves g c)
+
+-- ---- what was read
+
+pub returns-in-Err-clause-once : goal.returns-in-Err-clause-once
+returns-in-Err-clause-once g c = once-none g.I.Source g.met.I.Source.at_rest c.args.source.now
