@@ -2,7 +2,7 @@ use Rattle.std.proofs.Common.{arith, ap, ◌∙◌, List, subst, sym, ℕ}
 use Rattle.std.specs.Prelude.{not}
 use Rattle.host_io.specs.Calls.{raised}
 use Rattle.host_io.proofs.Once.{bytes-none, bytes-one, bytes-then, once-one, once-then}
-use Rattle.script_cmd.proofs.TopReads.{goes-on, is-long, nothing-yet}
+use Rattle.script_cmd.proofs.TopReads.{IsReading, goes-on, is-long, nothing-yet}
 use Rattle.script_cmd.proofs.TopSources.{in-time-failed, in-time-more}
 use Rattle.script_cmd.proofs.reading.read_source.Goals as goal
 
