@@ -9,7 +9,7 @@ use Rattle.sha2.specs.declared.Sha256.{Sha256}
 use Rattle.fwu_formats.specs.Layout.{ImageRow, start, slot_bytes, blocks_needed}
 use Rattle.fwu_formats.specs.Metadata.{state_at}
 use Rattle.fwu_model.specs.State.{is_invalid}
-use Rattle.slot_writer.specs.Slots.{Finishes, blocks_for, done_of}
+use Rattle.slot_writer.specs.Slots.{Finishes, IsBlankAhead, blocks_for, done_of}
 use Rattle.agent_kept.specs.declared.parts.Part.{Part}
 use Rattle.agent_kept.specs.declared.parts.Part.TheVariants.{Nothing, Open, Committed}
 use Rattle.agent_kept.specs.Kept.{Kept, IsKept, CommitsPart, CommitsTo, part_at, part_meant, size_of, slot_of}
@@ -101,6 +101,12 @@ module _ (f : Fields) (k : Kept) (image place size : ℕ) (hasher : Sha256) (bit
     ahead = λ other n h lt is. elim (cases_eq other image) [
       | inl same ↦ absurd (ended-not-open n size h part.0 bit (sym is ∙ ap (λ (j : ℕ). part_at k j) same ∙ part.1))
       | inr ne ↦ stays.ahead other n h ne lt (sym (commits.others other ne) ∙ is)
+    ];
+    padded = λ other n d b lt is. elim (cases_eq other image) [
+      | inl same ↦
+          let e : size ≡ n = ap size_of (sym part.1 ∙ ap (λ (j : ℕ). part_at k j) (sym same) ∙ is) in
+          subst (λ (j : ℕ). IsBlankAhead (start f.layout (target f) j) n t.now) (sym same) (subst (λ (j : ℕ). IsBlankAhead first j t.now) e finishes.padded)
+      | inr ne ↦ stays.padded other n d b ne lt (sym (commits.others other ne) ∙ is)
     ];
     sure = λ other n d b lt is. quiet_fresh _ _ t finishes.stable;
   })

@@ -202,6 +202,7 @@ module _ (f : Fields) (k : Kept) (meta : MetaRead) (fitting : Fitting f) (restar
       staged = record {
         kept = kept-restarted false f.session k (staged_bytes g t.now) restarts;
         ahead = λ i n hasher lt e. absurd (not-open i n hasher e);
+        padded = λ i n digest bit lt e. absurd (not-committed i n digest bit e);
         sure = λ i n digest bit lt e. absurd (not-committed i n digest bit e);
       };
     }

@@ -67,6 +67,8 @@ module _ (f : Fields) (k : Kept) (t : Told) (fitting : Fitting f) (knows : Knows
     pub means : MeansSame k (staged_after p bytes was) (staged_bytes g t.now)
     pub ahead : (image size : ℕ) (hasher : Sha256) → image < length f.layout.rows → part_at k image ≡ Open size hasher
         → IsBlankAhead (start f.layout (target f) image) (done_of size) t.now
+    pub padded : (image size : ℕ) (digest : List ℕ) (bit : Bool) → image < length f.layout.rows → part_at k image ≡ Committed size digest bit
+        → IsBlankAhead (start f.layout (target f) image) size t.now
     pub sure : (image size : ℕ) (digest : List ℕ) (bit : Bool) → image < length f.layout.rows → part_at k image ≡ Committed size digest bit
         → Quiet (4096 * start f.layout (target f) image) (4096 * start f.layout (target f) image + slot_bytes f.layout image) t
 
@@ -76,6 +78,7 @@ module _ (f : Fields) (k : Kept) (t : Told) (fitting : Fitting f) (knows : Knows
     means = λ i lt. ap (λ (q : Part). part_meant q (staged_bytes g t.now i)) (nothing i)
         ∙ sym (ap (λ (q : Part). part_meant q (staged_after p bytes was i)) (nothing i));
     ahead = λ i size hasher lt is. absurd (nothing-open (part_at k i) size hasher (nothing i) is);
+    padded = λ i size digest bit lt is. absurd (nothing-committed (part_at k i) size digest bit (nothing i) is);
     sure = λ i size digest bit lt is. absurd (nothing-committed (part_at k i) size digest bit (nothing i) is);
   }
 
@@ -87,6 +90,7 @@ module _ (f : Fields) (k : Kept) (t : Told) (fitting : Fitting f) (knows : Knows
   same-still p same after = record {
     means = λ i lt. ap (part_meant (part_at k i)) (same-bytes same i ∙ sym (after i));
     ahead = λ i size hasher lt is. knows.staged.ahead i size hasher lt (sym (same i) ∙ is);
+    padded = λ i size digest bit lt is. knows.staged.padded i size digest bit lt (sym (same i) ∙ is);
     sure = λ i size digest bit lt is. knows.staged.sure i size digest bit lt (sym (same i) ∙ is);
   }
 
@@ -119,6 +123,10 @@ module _ (f : Fields) (k : Kept) (t : Told) (fitting : Fitting f) (knows : Knows
     ahead = λ i size hasher lt is. elim (cases_eq i image) [
       | inl same ↦ new-ahead (part_at k i) (start f.layout (target f) i) size hasher (subst (λ (j : ℕ). IsNew (part_at k j)) (sym same) opens.part) is
       | inr ne ↦ knows.staged.ahead i size hasher lt (sym (opens.others i ne) ∙ is)
+    ];
+    padded = λ i size digest bit lt is. elim (cases_eq i image) [
+      | inl same ↦ absurd (new-committed (part_at k i) size digest bit (subst (λ (j : ℕ). IsNew (part_at k j)) (sym same) opens.part) is)
+      | inr ne ↦ knows.staged.padded i size digest bit lt (sym (opens.others i ne) ∙ is)
     ];
     sure = λ i size digest bit lt is. elim (cases_eq i image) [
       | inl same ↦ absurd (new-committed (part_at k i) size digest bit (subst (λ (j : ℕ). IsNew (part_at k j)) (sym same) opens.part) is)
@@ -162,6 +170,7 @@ module _ (f : Fields) (k : Kept) (t : Told) (fitting : Fitting f) (knows : Knows
       known-still f k t knows accepted (record {
         kept = kept-same k (staged_after p bytes was) (staged_bytes g t.now) some it.means kept;
         ahead = it.ahead;
+        padded = it.padded;
         sure = it.sure;
       })
 

@@ -181,6 +181,10 @@ module _ (f : Fields) (image : ℕ) (s t : Told) (fitting : Fitting f) (sound : 
         let le : size ≤ slot_bytes L other = omega (arith, ap size_of is, in-slot other there) in
         keeps.now i (outside other not there i (omega (arith, above)) (omega (arith, under, le)))
         ∙ knows.staged.ahead other size hasher there is i above under;
+    padded = λ other size digest bit not there is i above under.
+        let le : size ≤ slot_bytes L other = omega (arith, ap size_of is, in-slot other there) in
+        keeps.now i (outside other not there i (omega (arith, above)) (omega (arith, under, le)))
+        ∙ knows.staged.padded other size digest bit there is i above under;
     sure = λ other size digest bit not there is i above under. keeps.sure i (outside other not there i above under)
         (knows.staged.sure other size digest bit there is i above under);
     ready = ready-after;

@@ -64,6 +64,7 @@ pub nothing-staged : (g : Fields) (t : Told) → HasNothing g.session → HasSta
 nothing-staged g t none = record {
   kept = kept-nothing g.session (staged_bytes g t.now) none;
   ahead = λ i size hasher lt is. absurd (nothing-open size hasher (sym (none i) ∙ is));
+  padded = λ i size digest bit lt is. absurd (nothing-committed size digest bit (sym (none i) ∙ is));
   sure = λ i size digest bit lt is. absurd (nothing-committed size digest bit (sym (none i) ∙ is));
 }
 

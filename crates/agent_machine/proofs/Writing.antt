@@ -135,6 +135,10 @@ module _ (f : Fields) (k : Kept) (image number at : ℕ) (bytes left : List ℕ)
           (subst (λ (j : ℕ). IsBlankAhead first (done_of j) t.now) e appends.ahead)
       | inr ne ↦ stays.ahead other n hasher ne lt (sym (wrote.others other ne) ∙ is)
     ];
+    padded = λ other n digest bit lt is. elim (cases_eq other image) [
+      | inl same ↦ absurd (open-not-committed (part.0 + length bytes) n part.2 digest bit (sym part.4 ∙ ap (λ (j : ℕ). part_at k j) (sym same) ∙ is))
+      | inr ne ↦ stays.padded other n digest bit ne lt (sym (wrote.others other ne) ∙ is)
+    ];
     sure = λ other n digest bit lt is. elim (cases_eq other image) [
       | inl same ↦ absurd (open-not-committed (part.0 + length bytes) n part.2 digest bit (sym part.4 ∙ ap (λ (j : ℕ). part_at k j) (sym same) ∙ is))
       | inr ne ↦ stays.sure other n digest bit ne lt (sym (wrote.others other ne) ∙ is)

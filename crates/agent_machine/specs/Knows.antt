@@ -41,11 +41,13 @@ pub record Fitting (f : Fields) : Type 0 where
 abbrev pub SessionSound : Fields → Type 0
 SessionSound f = IsSound f.session.staging f.session.rows f.session.parts f.session.handles
 
--- What the flash has of the staged image: behind an open one the block that it ends in is blank, and a committed one is sure.
+-- What the flash has of the staged image: behind each the block that it ends in is blank, and a committed one is sure.
 pub record HasStaged (f : Fields) (t : Told) : Type 0 where
   pub kept : IsKept f.session (staged_bytes f t.now)
   pub ahead : (image size : ℕ) (hasher : Sha256) → image < length f.layout.rows → part_at f.session image ≡ Open size hasher
       → IsBlankAhead (start f.layout (target f) image) (done_of size) t.now
+  pub padded : (image size : ℕ) (digest : List ℕ) (bit : Bool) → image < length f.layout.rows
+      → part_at f.session image ≡ Committed size digest bit → IsBlankAhead (start f.layout (target f) image) size t.now
   pub sure : (image size : ℕ) (digest : List ℕ) (bit : Bool) → image < length f.layout.rows
       → part_at f.session image ≡ Committed size digest bit
       → let at = block_bytes * start f.layout (target f) image in Quiet at (at + slot_bytes f.layout image) t

@@ -36,6 +36,8 @@ pub record StaysKnown (f : Fields) (image : ℕ) (s t : Told) : Type 0 where
   pub others : (other : ℕ) → other ≢ image → other < length f.layout.rows → staged_bytes f t.now other ≡ staged_bytes f s.now other
   pub ahead : (other size : ℕ) (hasher : Sha256) → other ≢ image → other < length f.layout.rows
       → part_at f.session other ≡ Open size hasher → IsBlankAhead (start f.layout (target f) other) (done_of size) t.now
+  pub padded : (other size : ℕ) (digest : List ℕ) (bit : Bool) → other ≢ image → other < length f.layout.rows
+      → part_at f.session other ≡ Committed size digest bit → IsBlankAhead (start f.layout (target f) other) size t.now
   pub sure : (other size : ℕ) (digest : List ℕ) (bit : Bool) → other ≢ image → other < length f.layout.rows
       → part_at f.session other ≡ Committed size digest bit
       → let at = block_bytes * start f.layout (target f) other in Quiet at (at + slot_bytes f.layout other) t
