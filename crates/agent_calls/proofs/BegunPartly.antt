@@ -46,7 +46,7 @@ use Rattle.agent_machine.proofs.CallGoing.{MeetsAs, call-goes, call-replies}
 use Rattle.agent_calls.proofs.Copies.{stays-none, stays-then}
 use Rattle.agent_calls.proofs.CopyingAll.{first-all}
 
-abbrev setting-of : Fields → (List ℕ → Bool) → Setting
+abbrev pub setting-of : Fields → (List ℕ → Bool) → Setting
 setting-of f passes = record { layout = f.layout; files = λ _. None; passes = passes }
 
 -- what was done or stopped by the flash isn't refused

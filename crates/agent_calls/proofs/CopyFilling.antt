@@ -126,7 +126,7 @@ slot-behind L bank image done = omega arith
 -- ---- a partial begin
 
 -- the metadata that a begin leaves has the same active bank
-begun-active : (f : Fields) → (meta_begun f).meta.active ≡ f.meta.meta.active
+pub begun-active : (f : Fields) → (meta_begun f).meta.active ≡ f.meta.meta.active
 begun-active f = by-test (is_invalid (state_at f.meta.meta (target f)))
   where
     by-test : (b : Bool) → (cond b f.meta.meta (meta_after f.meta.meta (Free (target f)))).active ≡ f.meta.meta.active

@@ -12,6 +12,7 @@ pub mod CopySpending
 pub mod Copies
 pub mod CopyingAll
 pub mod BegunPartly
+pub mod CopyPadded
 mod PlannedPartly
 pub mod Taking
 pub mod Pieces

@@ -20,7 +20,7 @@ use Rattle.agent_state.specs.Decides.{next_bank}
 use Rattle.agent_state.specs.Settles.{bits_kept, meta_planned}
 use Rattle.agent_machine.specs.Fields.{Fields, target}
 use Rattle.agent_machine.specs.Knows.{Fitting}
-use Rattle.agent_machine.specs.Stored.{StoresIf, frees}
+use Rattle.agent_machine.specs.Stored.{StoresIf, frees, trials_planned}
 use Rattle.agent_machine.proofs.Stored.{next-target}
 use Rattle.agent_calls.specs.Metas.{meta_begun, meta_accepted, meta_ended}
 
@@ -109,6 +109,13 @@ module _ (f : Fields) (fitting : Fitting f) where
         planned ∙ ap (λ (x : Meta). record f.meta { meta = x })
         (chosen (bit_at m m.active other) store (meta_after m (Accept image)) m (meta_after m (Accept other)) accept-sets
         (ap (λ (i : ℕ). meta_after m (Accept i)) accept-same))
+
+    pub accept-trials : (new : MetaRead) (trials : ℕ) → new ≡ record f.meta { meta = meta_planned f.session m (plan.Accept image store) }
+        → trials ≡ trials_planned (plan.Accept image store) (meta_planned f.session m (plan.Accept image store)) f.trials
+        → trials ≡ trials_planned (plan.Accept other (not (bit_at m m.active other))) new.meta f.trials
+    accept-trials new trials planned told =
+        told ∙ ap (λ (x : Meta). trials_planned (plan.Accept image store) x f.trials) (sym (ap (λ (r : MetaRead). r.meta) planned))
+        ∙ ap (λ (b : Bool). trials_planned (plan.Accept other b) new.meta f.trials) accept-sets
 
   -- ---- previous
 

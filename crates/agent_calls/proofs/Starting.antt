@@ -102,6 +102,7 @@ module _ (f : Fields) (rows : f.session.rows ≡ f.layout.rows) (nothing : HasNo
         staged = record {
           kept = nothing-kept f.session nothing (staged_bytes f t.now);
           ahead = λ i size hasher lt is. absurd (not-open (part_at f.session i) size hasher (nothing i) is);
+          padded = λ i size digest bit lt is. absurd (not-committed (part_at f.session i) size digest bit (nothing i) is);
           sure = λ i size digest bit lt is. absurd (not-committed (part_at f.session i) size digest bit (nothing i) is);
         };
       }

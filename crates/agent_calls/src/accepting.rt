@@ -1,11 +1,12 @@
 //! An image of the active bank is accepted.
-ghost use Rattle.std.specs.Prelude.{◌≡◌, ℕ, Bool, List, Some, IsTrue, IsFalse, OnOk};
+ghost use Rattle.std.specs.Prelude.{◌≡◌, ℕ, Bool, List, Some, IsTrue, IsFalse, OnOk, not};
 ghost use Rattle.fwu_formats.specs.Layout.{find_image};
 ghost use Rattle.fwu_formats.specs.Metadata.{bit_at};
 ghost use Rattle.fwu_model.specs.Call as call;
 ghost use Rattle.fwu_model.specs.Reply.{Success};
 ghost use Rattle.agent_machine.specs.Meets.{Meets, IsDone, IsRefused, flash_result};
-ghost use Rattle.agent_machine.specs.Stored.{TakesStore};
+ghost use Rattle.agent_kept.specs.declared.kinds.Plan.TheVariants as plan;
+ghost use Rattle.agent_machine.specs.Stored.{TakesStore, trials_planned};
 ghost use Rattle.agent_calls.specs.Metas.{meta_accepted};
 ghost use Rattle.fwu_model.specs.MoveMetas.{meta_after};
 ghost use Rattle.fwu_model.specs.State.{Accept};
@@ -54,6 +55,11 @@ impl<D: Flash> Agent<D> {
             find_image (fields self.old).layout.rows guid ≡ Some image →
             (fields self.new).meta ≡ meta_accepted (fields self.old) image }
         ensures session { OnOk result ((fields self.new).session ≡ (fields self.old).session) }
+        // On any device, also where the flash stopped it: the trials are those that its plan leaves.
+        ensures trials { IsDone result → (image : ℕ) → let f = fields self.old in
+            find_image f.layout.rows guid ≡ Some image →
+            (fields self.new).trials ≡ trials_planned (plan.Accept image
+            (not (bit_at f.meta.meta f.meta.meta.active image))) (fields self.new).meta.meta f.trials }
         // On any device: an answer stored the metadata, or has it as it was and wrote nothing.
         ensures spent { OnOk result (TakesStore (fields self.old).meta (fields self.new).meta
             (D.arming (device self.old)) (D.arming (device self.new))) }

@@ -25,6 +25,7 @@ impl<D: Flash> Agent<D> {
         ensures answers { IsStopped result → ⊥ }
         ensures still { device self.new ≡ device self.old }
         ensures metadata { (fields self.new).meta ≡ (fields self.old).meta }
+        ensures trials { (fields self.new).trials ≡ (fields self.old).trials }
     {
         if self.gone {
             return Err(Stop::Gone);

@@ -1,6 +1,8 @@
 //! A staging begins of which the images that aren't named are those of the active bank.
-ghost use Rattle.std.specs.Prelude.{All, ◌≡◌, ◌+◌, ◌<◌, ℕ, Bool, List, Some, length, IfOk, OnOk, IsTrue, IsFalse};
+ghost use Rattle.std.specs.Prelude.{All, slice_index_or, true, false, ◌≡◌, ◌+◌, ◌<◌, ℕ, Bool, List, Some, length, IfOk, OnOk, IsTrue, IsFalse};
 ghost use Rattle.base_core.specs.Block.{block_bytes};
+ghost use Rattle.fwu_formats.specs.Layout.{start};
+ghost use Rattle.slot_writer.specs.Slots.{IsBlankAhead};
 ghost use Rattle.fwu_formats.specs.Metadata.{state_at};
 ghost use Rattle.agent_machine.specs.Fields.{target, total_of};
 ghost use Rattle.agent_machine.specs.Meets.{IsDone, IsRefused, flash_result};
@@ -173,6 +175,13 @@ impl<D: Flash> Agent<D> {
             OnOk result (Takes (writes_to_begin f
             + writes_to_copy (are_named f.layout.rows list.now) f.lengths (length f.layout.rows))
             (D.arming (device self.old)) (D.arming (device self.new))) }
+        // When done, on any flash that tells its content, sound or not: behind each image that is copied the
+        // block that it ends in is blank.
+        ensures padded { OnOk result (IsTrue D.tells → let f = fields self.old in (image : ℕ) →
+            image < length f.layout.rows →
+            slice_index_or (are_named f.layout.rows list.now) image true ≡ false →
+            IsBlankAhead (start f.layout (target f) image) (total_of f (Some image))
+            (D.told (device self.new)).now) }
     {
         if self.gone {
             return Err(Stop::Gone);

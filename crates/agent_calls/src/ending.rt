@@ -107,6 +107,7 @@ impl<D: Flash> Agent<D> {
             (D.told (device self.old)) (D.told (device self.new)) }
         ensures keeps { (fields self.new).meta ≡ meta_ended (fields self.old) }
         ensures restarts { Restarts false (fields self.old).session (fields self.new).session }
+        ensures trials { (fields self.new).trials ≡ 0 }
         ensures spent { OnOk result
             (TakesSwitch (D.arming (device self.old)) (D.arming (device self.new))) }
         // where the content is told, by the bytes of the marks' block
@@ -158,6 +159,8 @@ impl<D: Flash> Agent<D> {
         ensures keeps { IsDone result → (fields self.new).meta ≡ meta_ended (fields self.old) }
         ensures restarts { IsDone result →
             Restarts false (fields self.old).session (fields self.new).session }
+        // On any device, also where the flash stopped it: no start is counted any more.
+        ensures trials { IsDone result → (fields self.new).trials ≡ 0 }
         // on every device: an erase of the marks, or none, and two erases and two programs
         ensures spent { OnOk result
             (TakesSwitch (D.arming (device self.old)) (D.arming (device self.new))) }

@@ -125,6 +125,8 @@ impl<D: Flash> Agent<D> {
         ensures either { IsDone result → ((fields self.new).meta ≡ (fields self.old).meta)
             ⊎ ((fields self.new).meta ≡ meta_back (fields self.old)) }
         ensures session { OnOk result ((fields self.new).session ≡ (fields self.old).session) }
+        ensures trials { IsDone result → ((fields self.new).trials ≡ (fields self.old).trials)
+            ⊎ ((fields self.new).trials ≡ 0) }
         ensures passed { OnOk result (SomePassed (V.passes verifier.now)
             (fields self.old).layout.rows (fields self.old).counter) }
         ensures content { IsRefused result → IsTrue D.tells →
@@ -184,6 +186,9 @@ impl<D: Flash> Agent<D> {
         ensures either { IsDone result → ((fields self.new).meta ≡ (fields self.old).meta)
             ⊎ ((fields self.new).meta ≡ meta_back (fields self.old)) }
         ensures session { OnOk result ((fields self.new).session ≡ (fields self.old).session) }
+        // On any device, also where the flash stopped it: the trials stay, or are ended.
+        ensures trials { IsDone result → ((fields self.new).trials ≡ (fields self.old).trials)
+            ⊎ ((fields self.new).trials ≡ 0) }
         // On any device: where it goes back, some package passed, of a version that is not below the
         // counter.
         ensures passed { OnOk result (SomePassed (V.passes verifier.now)

@@ -138,10 +138,11 @@ impl<D: Flash> Agent<D> {
         ensures beyond { (image : Option ℕ) (at total : ℕ) →
             handle_kept (fields self.old).session (h - 1) ≡ handle.Reads image at total →
             drop (total - at) out.new ≡ drop (total - at) out.old }
-        // on any device, at any exit: the bytes stay that are kept of the staged images, and so does the
-        // metadata
+        // on any device, at any exit: the bytes stay that are kept of the staged images, and so do the
+        // metadata and the trials
         ensures rests { (fields self.new).rests ≡ (fields self.old).rests }
         ensures metadata { (fields self.new).meta ≡ (fields self.old).meta }
+        ensures trials { (fields self.new).trials ≡ (fields self.old).trials }
         ensures content { IsTrue D.tells → D.told (device self.new) ≡ D.told (device self.old) }
         ensures arming { D.arming (device self.new)
             ≡ arming_kept (flash_result result) (D.arming (device self.old)) }

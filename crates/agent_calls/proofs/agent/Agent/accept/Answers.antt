@@ -12,7 +12,7 @@ use Rattle.agent_calls.specs.Shown.{fields, moment}
 use Rattle.agent_state.specs.Asked.{IsPlanFor}
 use Rattle.agent_machine.specs.Fields.{Fields}
 use Rattle.agent_calls.proofs.NoOther.{accepts}
-use Rattle.agent_calls.proofs.Makes.{ok-any, accept-stores, accept-keeps}
+use Rattle.agent_calls.proofs.Makes.{ok-any, accept-stores, accept-keeps, accept-trials}
 use Rattle.agent_calls.proofs.Unstored.{accept-stores-none}
 use Rattle.agent_calls.proofs.agent.Agent.accept.Goals as goal
 
@@ -78,3 +78,11 @@ returns-in-Accept-clause-found g c done =
     let f : Fields = fields a in
     let asked = subst (IsPlanFor f.session f.meta.meta (request.Accept c.args.guid)) c.in-Accept.is c.in-Ok.ensures.asked in
     (c.in-Accept.image, subst (λ (rows : List ImageRow). find_image rows c.args.guid ≡ Some c.in-Accept.image) (a.fitting c.if-self.false).rows asked.0)
+
+pub returns-in-Accept-clause-trials : goal.returns-in-Accept-clause-trials
+returns-in-Accept-clause-trials g c done image found =
+    let a = c.args.self.now in
+    let f : Fields = fields a in
+    let asked = subst (IsPlanFor f.session f.meta.meta (request.Accept c.args.guid)) c.in-Accept.is c.in-Ok.ensures.asked in
+    accept-trials f (a.fitting c.if-self.false) c.args.guid c.in-Accept.image c.in-Accept.store asked image found
+    c.carry_out.new.self.meta (fields c.carry_out.new.self).trials c.carry_out.ensures.planned c.carry_out.ensures.trials

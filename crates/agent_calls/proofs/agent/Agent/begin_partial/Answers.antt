@@ -11,7 +11,11 @@ use Rattle.agent_machine.proofs.Spending.{call-spent, spent-goes, spent-then}
 use Rattle.agent_calls.specs.Shown.{agent_at, device, fields, moment}
 use Rattle.std.specs.Prelude.{All, Err, IsTrue, OnOk}
 use Rattle.agent_calls.specs.Takes.{CopiesTake, Takes, writes_to_begin, writes_to_copy}
+use Rattle.agent_machine.specs.Moment.{Shows}
+use Rattle.fwu_model.specs.Session.{Session}
+use Rattle.fwu_model.specs.State.{State}
 use Rattle.agent_calls.proofs.CopyFilling.{stored-alone, stored-filled}
+use Rattle.agent_calls.proofs.CopyPadded.{copied-padded, on-ok}
 use Rattle.agent_calls.proofs.CopyTaking.{when-done}
 use Rattle.agent_calls.proofs.Taking.{takes-begin, takes-some, takes-then}
 use Rattle.fwu_model.specs.Answer.{are_named, names_unknown}
@@ -168,3 +172,21 @@ returns-in-Ok-begin-clause-keeps g c = λ done. c.copy_images.ensures.fills.meta
 
 pub returns-in-Ok-begin-clause-trials : goal.returns-in-Ok-begin-clause-trials
 returns-in-Ok-begin-clause-trials g c = c.copy_images.ensures.fills.trials ∙ c.in-Ok-begin.ensures.trials
+
+-- behind each image that is copied the block that it ends in is blank
+pub returns-in-Ok-begin-clause-padded : goal.returns-in-Ok-begin-clause-padded
+returns-in-Ok-begin-clause-padded g c =
+    let a = c.args.self.now in
+    let b = c.begin.new.self in
+    let d = c.copy_images.new.self in
+    let here = c.if-self.false in
+    let rows = (goal.at.returns-in-Ok-begin-clause-goes g c).After-rows-count in
+    let types = c.args.list.now in
+    let some : IsTrue g.D.Flash.tells → (s : State) × (x : Session) × Shows (moment a) s x = λ tells. (_, _, known-shows (fields a) (a.fitting here) g.D.Flash.tells (g.D.Flash.told a.flash) (a.knows here tells)) in
+    let copied = subst (λ (l : List Bool). CopiesImages l c.copy_images.result (moment b) (moment d)) (named-is g rows) c.copy_images.ensures.copies in
+    let begins = begun-partly (moment a) (moment b) (moment d) types (λ _. true) c.copy_images.result (a.fitting here)
+    (known-is g rows) (c.in-Ok-begin.ensures.meets here (λ _. true)) copied some in
+    copied-padded (moment a) (moment d) types (λ _. true) c.copy_images.result begins
+    (on-ok c.copy_images.result (λ ok. c.copy_images.ensures.fills.metadata ∙ c.in-Ok-begin.ensures.keeps tt))
+    (on-ok c.copy_images.result (λ ok. (d.fitting (c.copy_images.ensures.spent.gone_is ∙ ok)).rows)) some
+    (on-ok c.copy_images.result (λ ok tells. (d.knows (c.copy_images.ensures.spent.gone_is ∙ ok) tells).staged.padded))

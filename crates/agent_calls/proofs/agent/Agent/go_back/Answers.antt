@@ -113,3 +113,9 @@ returns-else-not-goes_back-clause-either g c done = inr c.carry_out.ensures.plan
 
 pub returns-in-Err-clause-either : goal.returns-in-Err-clause-either
 returns-in-Err-clause-either g c done = inl refl
+
+pub returns-else-not-goes_back-clause-trials : goal.returns-else-not-goes_back-clause-trials
+returns-else-not-goes_back-clause-trials g c done = inr c.carry_out.ensures.trials
+
+pub returns-in-Err-clause-trials : goal.returns-in-Err-clause-trials
+returns-in-Err-clause-trials g c done = inl refl

@@ -50,3 +50,6 @@ returns-clause-passed g c = c.go_back.ensures.passed
 
 pub returns-clause-either : goal.returns-clause-either
 returns-clause-either g c = c.go_back.ensures.either
+
+pub returns-clause-trials : goal.returns-clause-trials
+returns-clause-trials g c = c.go_back.ensures.trials

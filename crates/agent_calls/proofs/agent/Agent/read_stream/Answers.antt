@@ -128,3 +128,12 @@ returns-in-Err-Failed-clause-beyond g c image at total reads =
     c.in-Read.image c.in-Read.at c.in-Read.length c.in-Read.total c.in-Read.is)
     (read-no-more (fields a) c.args.h (length c.args.out.now) c.in-Ok.plan c.in-Ok.ensures.asked c.in-Read.handle c.in-Read.image c.in-Read.at
     c.in-Read.length c.in-Read.total c.in-Read.is image at total reads)
+
+pub returns-in-Ok-read_part-clause-trials : goal.returns-in-Ok-read_part-clause-trials
+returns-in-Ok-read_part-clause-trials g c = c.keep.ensures.trials ∙ ap (λ (x : Fields). x.trials) c.read_part.ensures.fields
+
+pub returns-in-Err-Lost-clause-trials : goal.returns-in-Err-Lost-clause-trials
+returns-in-Err-Lost-clause-trials g c = ap (λ (x : Fields). x.trials) c.read_part.ensures.fields
+
+pub returns-in-Err-Failed-clause-trials : goal.returns-in-Err-Failed-clause-trials
+returns-in-Err-Failed-clause-trials g c = ap (λ (x : Fields). x.trials) c.read_part.ensures.fields
