@@ -204,10 +204,59 @@ uint32_t fwu_accept(const uint8_t *flash, size_t length, uint32_t bank, const ui
 uint32_t fwu_previous(const uint8_t *flash, size_t length, uint32_t bank, struct fwu_step *steps, size_t most, uint8_t *room,
                       size_t size, struct fwu_report *report);
 
+/* ---- what a flash shows */
+
+/* The state of a bank (DEN0118). */
+enum fwu_state {
+    FWU_INVALID = 0,
+    FWU_VALID = 1,   /* where the bank is active it is on trial */
+    FWU_ACCEPTED = 2
+};
+
+/* What is found of a bank's package: the first of 1, 3 and 4 that is so, else 0. */
+enum fwu_verdict {
+    FWU_GOOD = 0,          /* it is complete, and not below the counter */
+    FWU_BAD_MANIFEST = 1,  /* the bank has no manifest of the layout's images */
+    FWU_OTHER_IMAGE = 3,   /* an image is not what its row of the manifest says */
+    FWU_BELOW_COUNTER = 4  /* its security version is below the anti-rollback counter */
+};
+
+/* What is shown of a bank. */
+struct fwu_bank {
+    uint32_t state;                    /* enum fwu_state */
+    uint32_t verdict;                  /* enum fwu_verdict */
+    uint32_t version;                  /* at FWU_GOOD and FWU_BELOW_COUNTER: the package's security version, else 0 */
+    uint32_t image;                    /* at FWU_OTHER_IMAGE: the lowest such image, in the order of the layout, else 0 */
+    uint8_t accepted[FWU_MOST_IMAGES]; /* for each image 1 where it was accepted, else 0; 0 behind them */
+};
+
+/* What a flash shows. */
+struct fwu_shown {
+    uint32_t form;             /* the version of the metadata: 1 or 2 */
+    uint32_t active;           /* the active bank */
+    uint32_t previous;         /* the bank that was active before */
+    uint32_t trials;           /* how often the active bank was started on trial; 0 if not on trial */
+    uint32_t counter;          /* the anti-rollback counter */
+    uint32_t layout_fault;     /* at 1: enum fwu_layout_fault */
+    uint32_t banks;            /* how many banks there are, 2 to 4 */
+    uint32_t images;           /* how many images each bank has, 2 to 16 */
+    struct fwu_bank bank[4];   /* each of these banks; behind them it stays as it was */
+};
+
+/* What a flash that lies in memory shows, with the packages in its banks. Nothing is repaired, no step is told, and no start is
+ * counted. `flash` has all its `length` bytes. The call takes a block of 4096 bytes from the work buffer (fwu_work).
+ *
+ * 0: `shown` tells all but the fault. 1: block 0 is no layout, and `layout_fault` alone is written. 2: neither replica is metadata
+ * of the layout. 6: these bytes are no flash. 7: the work buffer has no room. From 2 on nothing is written. */
+uint32_t fwu_show(const uint8_t *flash, size_t length, struct fwu_shown *shown);
+
+FWU_ASSERT(sizeof(struct fwu_bank) == 32 && offsetof(struct fwu_bank, accepted) == 16, "as in crates/fwu_c/src/show.rt");
+FWU_ASSERT(sizeof(struct fwu_shown) == 160 && offsetof(struct fwu_shown, bank) == 32, "as in crates/fwu_c/src/show.rt");
+
 /* ---- memory: demo/c/work.c */
 
 /* Gives the library memory: `size` bytes, of any alignment, which are the caller's again when the next call has returned. To be
- * called before each call that tells steps. No boot that was measured took more than 17,120 bytes; what an update takes is in
+ * called before fwu_show and each call that tells steps. No boot that was measured took more than 17,120 bytes; what an update takes is in
  * docs/FIRMWARE.md. */
 void fwu_work(void *memory, size_t size);
 

@@ -6,7 +6,7 @@
 FWU is the program `fwu`, TRY that of try.c. A flash is what a random script of boots, sendings, acceptances and losses of power
 leaves, of every other one with some bits flipped. For every tenth flash power goes in each step, after 0, 1, 8, 16, 100 and all
 but one of its bytes; then both boot again, and a bank starts again where one started before. Where a bank starts, `accept` or
-`previous` follows, by both.
+`previous` follows, by both. What a flash shows is compared too, and that what is started is found good.
 
 Each third flash is updated by both too, by a random package, which may be none, too old, too large or not complete. For each 15th
 power goes in each step of the update, and then a bank starts again.
@@ -96,6 +96,22 @@ def both(made, what):
         write("differs.img", made)
         sys.exit(f"DIFFERS: {what}: `{line.strip()}` and `{other.strip()}`; seed {SEED}, {os.path.abspath('differs.img')}")
     return line, after
+
+
+def both_show(made, line, what):
+    """What a flash shows, by both; and the bank that a boot of it starts is found good, of that version."""
+    write("a.img", made)
+    shown, other = said(FWU, "a.img", "show"), said(TRY, "a.img", "show")
+    if not made or len(made) % BLOCK or len(made) < 8 * BLOCK:
+        shown = other if other == "flash cannot be used\n" or not made else shown
+    if shown != other or read("a.img") != made:
+        write("differs.img", made)
+        sys.exit(f"DIFFERS: {what}: `{shown.strip()}` and `{other.strip()}`; seed {SEED}, {os.path.abspath('differs.img')}")
+    if line.startswith("boot bank="):
+        words = dict(word.split("=") for word in line.split() if "=" in word)
+        found = said(TRY, "a.img", "banks").splitlines()[int(words["bank"])]
+        if found != f"bank {words['bank']} verdict=0 version={words['version']} image=0":
+            sys.exit(f"DIFFERS: {what}: `{line.strip()}` and `{found}`; seed {SEED}")
 
 
 def call(made, line, what):
@@ -253,6 +269,7 @@ def main():
         line, _ = both(made, f"flash {number}")
         kind = " ".join(line.split()[:2]).split("=")[0] + (" fallback" if "fallback" in line else "")
         ends[kind] = ends.get(kind, 0) + 1
+        both_show(made, line, f"flash {number}")
         if line.startswith("boot bank="):
             calls += 1
             done += call(made, line, f"flash {number}")

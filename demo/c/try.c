@@ -4,6 +4,8 @@
  *   try FLASH cut STEP BYTES  the same, but power goes in step STEP (from 0), of which so many bytes land; prints `cut`
  *   try FLASH list            prints the answer and the steps, and does none
  *   try FLASH fronts          with room for 0, 1, 2, .. steps the front of the whole list is told; prints how many were compared
+ *   try FLASH show            prints the line of `fwu FLASH show`
+ *   try FLASH banks           prints what is found of the package in each bank
  *   try FLASH scarce          with less room for bytes, or less memory, the answer is the same or 7, and at 7 nothing is written
  *
  * With `update PACKAGE now` or `update PACKAGE trial` behind FLASH each is done of an update in place of a boot. It prints the
@@ -167,6 +169,52 @@ static int scarce(void) {
     return 0;
 }
 
+static uint32_t show(struct fwu_shown *shown) {
+    fwu_work(work, work_bytes);
+    return fwu_show(flash, size, shown);
+}
+
+static void print_list(const char *name, const struct fwu_shown *shown, void print(const struct fwu_shown *, uint32_t)) {
+    printf(" %s=", name);
+    for (uint32_t i = 0; i < shown->banks; i++) {
+        if (i) putchar(',');
+        print(shown, i);
+    }
+}
+
+static void print_state(const struct fwu_shown *shown, uint32_t number) {
+    static const char *const words[] = {"invalid", "valid", "accepted"};
+    fputs(words[shown->bank[number].state], stdout);
+}
+
+static void print_bits(const struct fwu_shown *shown, uint32_t number) {
+    for (uint32_t i = 0; i < shown->images; i++) putchar('0' + shown->bank[number].accepted[i]);
+}
+
+static int print_shown(void) {
+    struct fwu_shown shown = {0};
+    switch (show(&shown)) {
+    case FWU_BOOT:
+        printf("show active=%u previous=%u", shown.active, shown.previous);
+        print_list("banks", &shown, print_state);
+        print_list("bits", &shown, print_bits);
+        printf(" trials=%u counter=%u\n", shown.trials, shown.counter);
+        return 0;
+    case FWU_BAD_LAYOUT: printf("show bad-layout %u\n", shown.layout_fault); return 6;
+    case FWU_NO_METADATA: printf("show no-metadata\n"); return 6;
+    case FWU_NO_FLASH: printf("flash cannot be used\n"); return 2;
+    default: return 5;
+    }
+}
+
+static int print_banks(void) {
+    struct fwu_shown shown = {0};
+    uint32_t answer = show(&shown);
+    for (uint32_t i = 0; answer == 0 && i < shown.banks; i++)
+        printf("bank %u verdict=%u version=%u image=%u\n", i, shown.bank[i].verdict, shown.bank[i].version, shown.bank[i].image);
+    return answer ? 6 : 0;
+}
+
 int main(int count, char **words) {
     if (count < 2) return 1;
     file = open(words[1], O_RDWR);
@@ -190,5 +238,7 @@ int main(int count, char **words) {
     if (count == 1 && !strcmp(words[0], "list")) return list();
     if (count == 1 && !strcmp(words[0], "fronts")) return fronts();
     if (count == 1 && !strcmp(words[0], "scarce")) return scarce();
+    if (count == 1 && !strcmp(words[0], "show")) return print_shown();
+    if (count == 1 && !strcmp(words[0], "banks")) return print_banks();
     return 1;
 }

@@ -3,7 +3,7 @@ use Rattle.std.proofs.Common.{◌≡◌, ◌∙◌, ◌⊎◌, ◌≤◌, inl, i
 use Rattle.std.specs.Prelude.{OnOk, is_ok}
 use Rattle.base_core.specs.Block.{block_bytes}
 use Rattle.base_core.proofs.Results.{same-Ok}
-use Rattle.flash_core.specs.Told.{Told, fresh}
+use Rattle.flash_core.specs.Told.{Told}
 use Rattle.flash_core.specs.May.{Guards}
 use Rattle.flash_core.specs.declared.flash.FlashStop.{FlashStop}
 use Rattle.flash_core.specs.declared.flash.FlashStop.TheVariants as flash_stop
@@ -18,12 +18,12 @@ use Rattle.fwu_model.specs.Sound.{Setting}
 use Rattle.fwu_model.specs.Session.{Session, On, no_handles}
 use Rattle.fwu_model.specs.Call.{Call}
 use Rattle.fwu_model.specs.Reply.{Reply, Success}
-use Rattle.fwu_model.specs.Answer.{Answer, answer, migrate_moves}
+use Rattle.fwu_model.specs.Answer.{answer, migrate_moves}
 use Rattle.fwu_model.specs.Calm.{IsCalm}
 use Rattle.moves.specs.Moved.{Does, IsShown}
 use Rattle.moves.proofs.Composed.{does-then}
 use Rattle.early_boot.specs.Started.{Started, started_session}
-use Rattle.early_boot.specs.TakenUp.{StopsRepair, TakenUp, TakesByBytes, taken, bad_layout, no_metadata, not_started, stopped, TakeUpEnds}
+use Rattle.early_boot.specs.TakenUp.{TakenUp, TakesByBytes, taken, bad_layout, no_metadata, not_started, stopped, TakeUpEnds}
 use Rattle.agent_machine.specs.declared.stop.Stop.{Stop}
 use Rattle.agent_machine.specs.declared.stop.Stop.TheVariants as stop
 use Rattle.agent_machine.specs.Meets.{Answers, GoesBy, IsSettingOf, IsStopped, Leaves, ShowsNext, flash_result}

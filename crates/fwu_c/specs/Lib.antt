@@ -5,5 +5,6 @@ pub mod Found
 pub mod Handed
 pub mod Reports
 pub mod Sendings
+pub mod Shows
 pub mod Slots
 pub mod Updates

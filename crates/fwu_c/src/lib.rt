@@ -14,6 +14,7 @@ mod layouts;
 mod packages;
 mod report;
 mod sending;
+mod show;
 mod slots;
 #[cfg(test)]
 mod tests;
@@ -26,5 +27,6 @@ pub use going_back::fwu_previous;
 pub use layouts::fwu_layout;
 pub use packages::{Place, fwu_find, fwu_manifest};
 pub use report::Report;
+pub use show::{BankShown, FlashShown, fwu_show};
 pub use slots::{Slot, Slots, fwu_slots};
 pub use update::fwu_update;

@@ -1,0 +1,56 @@
+-- The banks of what an image shows.
+use Rattle.std.proofs.Common.{◌≡◌, ◌∙◌, refl, None, sym, ap, ℕ, ◌*◌, ◌/◌, ◌≤◌, ◌⊎◌, inl, inr, subst, List, length, Ok, Option, Some, arith}
+use Rattle.std.proofs.lemmas.List.{length-map}
+use Rattle.base_core.specs.Block.{block, block_bytes}
+use Rattle.meta_layout.proofs.Places.{length-listed}
+use Rattle.fwu_formats.specs.Image.{deciding, layout_seen}
+use Rattle.fwu_formats.specs.Layout.{Layout, blocks_needed}
+use Rattle.fwu_formats.specs.Metadata.{MetaRead}
+use Rattle.fwu_formats.specs.Places.{layout_block}
+use Rattle.fwu_model.specs.State.{Bank, Numbers, State}
+use Rattle.fwu_model.specs.Seen.{bank_in, seen, seen_by, seen_with, state_of}
+use Rattle.early_boot.specs.Numbers.{ShowsNumbers}
+use Rattle.early_boot.proofs.Lookups.{layout-inside}
+use Rattle.fwu_c.specs.Shows.{ShowsBy}
+use Rattle.fwu_c.specs.declared.show.BankShown.{BankShown}
+use Rattle.fwu_c.specs.declared.show.FlashShown.{FlashShown}
+
+by_layout : (L : Layout) (image : List ℕ) (read : Option MetaRead) (s : State) → seen_by L image read ≡ Some s
+    → length s.banks ≡ L.banks
+by_layout L image None s is = absurd (cc)
+by_layout L image (Some r) s is =
+    let same : state_of L image r ≡ s = cc in
+    ap (λ (t : State). length t.banks) (sym same) ∙ length-listed (bank_in L image r.meta) _ L.banks refl
+
+seen_as : (image : List ℕ) (L : Layout) → layout_seen image ≡ Ok L → seen image ≡ seen_by L image (deciding L image)
+unfolding seen
+seen_as image L is = ap (λ r. seen_with image r) is
+
+-- an image shows as many banks as its layout has
+pub banks_are : (image : List ℕ) (L : Layout) (n : Numbers) → layout_seen image ≡ Ok L → ShowsNumbers image n
+    → length n.states ≡ L.banks
+banks_are image L n layout shows =
+    ap (λ (m : Numbers). length m.states) shows.2 ∙ length-map shows.0.banks (λ (k : Bank). k.state)
+    ∙ by_layout L image (deciding L image) shows.0 (sym (seen_as image L layout) ∙ shows.1)
+
+-- and the layout's banks lie in the flash
+pub inside : (image : List ℕ) (L : Layout) (blocks : ℕ) → layout_seen image ≡ Ok L → length image ≡ block_bytes * blocks
+    → blocks_needed L ≤ blocks
+inside image L blocks layout size =
+    omega (arith, layout-inside (block layout_block image) (length image / block_bytes) L layout, size)
+
+pub same_bank : (state verdict version image state2 verdict2 version2 image2 : ℕ) (accepted accepted2 : List ℕ) → state ≡ state2
+    → verdict ≡ verdict2 → version ≡ version2 → image ≡ image2 → accepted ≡ accepted2
+    → ◌≡◌ {A = BankShown} (record { state = state; verdict = verdict; version = version; image = image; accepted = accepted })
+    (record { state = state2; verdict = verdict2; version = version2; image = image2; accepted = accepted2 })
+same_bank state verdict version image state2 verdict2 version2 image2 accepted accepted2 a b c d e = cc
+
+-- ---- numbers
+
+pub no_other : (n k : ℕ) → (n ≡ 0) ⊎ (n ≡ 7) → n ≡ k → (0 ≡ k → ⊥) → (7 ≡ k → ⊥) → ⊥
+no_other n k (inl zero) is low high = low (sym zero ∙ is)
+no_other n k (inr seven) is low high = high (sym seven ∙ is)
+
+pub all_shown : (image : List ℕ) (s : FlashShown) (n : ℕ) → (n ≡ 0) ⊎ (n ≡ 7) → (n ≡ 0 → ShowsBy image 0 s) → n ≤ 5 → ShowsBy image n s
+all_shown image s n (inl zero) shows few = subst (λ k. ShowsBy image k s) (sym zero) (shows zero)
+all_shown image s n (inr seven) shows few = absurd (omega (arith, seven, few))
