@@ -28,6 +28,9 @@ use Rattle.agent_machine.specs.declared.stop.Stop.{Stop}
 use Rattle.agent_machine.specs.declared.stop.Stop.TheVariants as stop
 use Rattle.agent_machine.specs.Meets.{Answers, GoesBy, IsSettingOf, IsStopped, Leaves, ShowsNext, flash_result}
 use Rattle.agent_machine.specs.Moment.{Moment, Shows}
+use Rattle.agent_machine.specs.Fields.{Fields}
+use Rattle.agent_machine.specs.Beside.{IsSparedByAll, KeepsSparedByAll, KeepsWhere}
+use Rattle.agent_machine.proofs.Beside.{spared-once}
 use Rattle.agent_calls.specs.Started.{StartsFrom}
 use Rattle.step_flash.specs.declared.step.Step.{Step}
 use Rattle.step_flash.specs.declared.device.StepFlash.{StepFlash}
@@ -146,6 +149,12 @@ here_after result was true here gone ok = elim (gone.later.0 refl) [
 ]
 here_after result was false here gone ok = refl
 
+-- what an agent spares, in the words of the boot that it started from
+pub spared-of : (L : Layout) (bank : ℕ) (f : Fields) (s t : Told) → f.layout ≡ L → f.boot ≡ bank → KeepsSparedByAll f s t
+    → KeepsWhere (IsSparedByAll L bank) s t
+spared-of L bank f s t layout boot kept =
+    subst (λ (l : Layout). KeepsWhere (IsSparedByAll l bank) s t) layout (subst (λ (b : ℕ). KeepsWhere (IsSparedByAll f.layout b) s t) boot kept)
+
 module _ (E : Setting) (s : State) (x : Session) (c : Call) (new : Moment) where
   reply_by : (result : Result (Unit {0}) Stop) → IsCalled result → Answers (λ (value : Unit {0}) (reply : Reply). reply ≡ Success) result E s x c new → RepliesAs result (answer E s x c).reply
   reply_by (Ok v) is by = by.0
@@ -184,6 +193,7 @@ module _ (c : Call) (b : Started) (result : Result (Unit {0}) Stop) (old new : M
           guarded = λ rest. leaves.guarded tells rest;
           guard_is = leaves.stays.guard tells;
         };
+    keeps = spared-of b.layout b.bank old.fields old.told new.told from.layout from.boot (spared-once old.fields old.told new.told (leaves.keeps tells));
   }
 
 -- ---- the bank and the call in one

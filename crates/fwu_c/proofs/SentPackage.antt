@@ -23,6 +23,7 @@ use Rattle.update_client.specs.Sends.{FaultsBy, GoneBy, Installs, IsInstalled, I
 use Rattle.package_files.specs.OneFile.{one_file}
 use Rattle.package_files.proofs.Alone.{finds_it}
 use Rattle.host_io.specs.Contents.{Directory}
+use Rattle.fwu_c.proofs.Calls.{spared-of}
 use Rattle.fwu_c.specs.Sendings.{AnswersBy, HasInstalled, IsSent, RepliesAs, SendsPackage}
 
 -- ---- what can't be answered
@@ -160,4 +161,6 @@ module _ (held : Directory) (file name : List ℕ) (request : ℕ) (b : Started)
       faults = subst (λ (L : Layout). FaultsBy (first_image_fault L.rows toc) result) from.layout faults;
       answers = answers;
       installs = on_done result installed;
+      keeps = λ s shown. spared-of b.layout b.bank old.fields old.told new.told from.layout from.boot
+          ((by (setting_of b.layout) s refl refl shown).goes.keeps tells);
     }

@@ -17,6 +17,7 @@ use Rattle.fwu_model.specs.Calm.{IsCalm, IsAtRest}
 use Rattle.moves.specs.Moved.{Does, GuardedBy, IsReady, IsShown}
 use Rattle.early_boot.specs.Started.{Started, started_session}
 use Rattle.early_boot.specs.TakenUp.{TakenUp, TakeUpEnds, taken, bad_layout, no_metadata, not_started, stopped}
+use Rattle.agent_machine.specs.Beside.{IsSparedByAll, KeepsWhere}
 use Rattle.agent_machine.specs.declared.stop.Stop.{Stop}
 use Rattle.agent_machine.specs.declared.stop.Stop.TheVariants as stop
 use Rattle.agent_machine.specs.Meets.{flash_result}
@@ -115,6 +116,8 @@ pub record AnswersBy (E : Setting) (s : State) (a : Answer) (result : Result (Un
 pub record CallsFrom (c : Call) (b : Started) (result : Result (Unit {0}) Stop) (old t : Told) : Type 0 where
   pub answers : (E : Setting) (s : State) → E.layout ≡ b.layout → E.passes ≡ (λ m. passes_any m) → IsShown b.layout old.now s
       → AnswersBy E s (answer E s (started_session b) c) result old t
+  -- on any flash, at any exit: nothing changed but blocks 1 to 3, and the bank that follows the one that was started
+  pub keeps : KeepsWhere (IsSparedByAll b.layout b.bank) old t
 
 -- ---- all of it
 

@@ -12,6 +12,7 @@ use Rattle.fwu_model.specs.Answer.{Answer, first_image_fault, images_of}
 use Rattle.fwu_model.specs.Calm.{IsAtRest}
 use Rattle.moves.specs.Moved.{Does, GuardedBy, IsReady, IsShown}
 use Rattle.early_boot.specs.Started.{Started, started_session}
+use Rattle.agent_machine.specs.Beside.{IsSparedByAll, KeepsWhere}
 use Rattle.update_client.specs.declared.stops.Sent.{Sent}
 use Rattle.update_client.specs.declared.stops.SendStop.{SendStop}
 use Rattle.update_client.specs.declared.stops.SendStop.TheVariants.{MissingImage, ImageTooLarge, Begin, End, ReadFailed, Lost, Fault, Gone}
@@ -87,6 +88,8 @@ pub record SendsPackage (file : List ℕ) (request : ℕ) (b : Started) (result 
       → AnswersBy E s (send_answer E toc (images_of b.layout.rows file toc) request s (started_session b)) result old t
   pub installs : OnOk result ((s : State) → IsShown b.layout old.now s
       → HasInstalled b.layout (images_of b.layout.rows file toc) request s t)
+  -- on any flash that shows a state, at any exit: nothing changed but blocks 1 to 3, and the bank that follows the one that was started
+  pub keeps : (s : State) → IsShown b.layout old.now s → KeepsWhere (IsSparedByAll b.layout b.bank) old t
 
 abbrev pub InstallsBy : List ℕ → ℕ → Started → Outcome → Told → Told → Type 0
 InstallsBy file request b None old t = IsErr (toc_of file) × (t ≡ old)
