@@ -3,7 +3,8 @@
 
     two_builds.py NEW OLD [PLACE]     folders with `fwu` and `fip`; it works in PLACE, at first /dev/shm
 
-Each ratio is of the least processor time of rounds that take turns: both builds and the yardsticks meet the same neighbours.
+Each ratio is of the least processor time of rounds that take turns: both builds and the yardsticks meet the same neighbours. The peak
+of memory is that of one run, by GNU time where it is installed.
 """
 import hashlib
 import os
@@ -14,6 +15,7 @@ import uuid
 
 MAKE_FLASH = os.path.join(os.path.dirname(os.path.abspath(__file__)), "..", "checks", "model", "make_flash.py")
 BUILDS = ("new", "old")
+GNU_TIME = "/usr/bin/time"
 ROUNDS = 20
 MIB = 1 << 20
 UNEQUAL = {"powers of two": [1024 << min(i, 10) for i in range(15)], "equal steps": [1024 + i * 74825 for i in range(15)]}
@@ -25,7 +27,7 @@ def made(words):
 
 
 def cost(words, script=None, before=None, leaves=()):
-    """Processor seconds and peak resident bytes of one run, whose new files are then removed."""
+    """Processor seconds of one run, whose new files are then removed."""
     if before:
         made(before)
     with open(script or "/dev/null", "rb") as source, open("out.txt", "wb") as out:
@@ -35,23 +37,34 @@ def cost(words, script=None, before=None, leaves=()):
     assert status == 0, words
     for name in leaves:
         os.remove(name)
-    return usage.ru_utime + usage.ru_stime, usage.ru_maxrss * 1024
+    return usage.ru_utime + usage.ru_stime
+
+
+def peak(run):
+    """What one more run takes at most, as a text, or none."""
+    if not isinstance(run, tuple) or not os.path.exists(GNU_TIME):
+        return ""
+    words, *rest = run
+    cost([GNU_TIME, "-f", "%M", "-o", "peak.txt", *words], *rest)
+    with open("peak.txt", encoding="ascii") as file:
+        return f", {int(file.read()) / 1024:.1f} MiB"
 
 
 def least(runs, rounds=ROUNDS):
-    """Of each of these runs, given by name, the least seconds and the greatest peak, in turns."""
+    """Of each of these runs, given by name, the least seconds, in turns."""
     costs = {name: [] for name in runs}
     for _ in range(rounds):
         for name, run in runs.items():
             costs[name].append(cost(*run) if isinstance(run, tuple) else run())
-    return {name: (min(it[0] for it in of), max(it[1] for it in of)) for name, of in costs.items()}
+    return {name: min(of) for name, of in costs.items()}
 
 
-def told(title, found, yardstick):
+def told(title, runs, yardstick, rounds=ROUNDS):
     """A line of both builds beside the sum of some yardsticks."""
-    by = sum(found[name][0] for name in yardstick)
-    ratios = ", ".join(f"{name} {found[name][0] * 1000:.1f} ms, {found[name][0] / by:.2f}, {found[name][1] / MIB:.0f} MiB" for name in BUILDS)
-    print(f"{title}: {ratios}; {' and '.join(yardstick)} {by * 1000:.1f} ms; old/new {found['old'][0] / found['new'][0]:.2f}", flush=True)
+    found = least(runs, rounds)
+    by = sum(found[name] for name in yardstick)
+    ratios = ", ".join(f"{name} {found[name] * 1000:.1f} ms, {found[name] / by:.2f}{peak(runs[name])}" for name in BUILDS)
+    print(f"{title}: {ratios}; {' and '.join(yardstick)} {by * 1000:.1f} ms; old/new {found['old'] / found['new']:.2f}", flush=True)
 
 
 def of_builds(builds, program, *words, **how):
@@ -81,7 +94,7 @@ def boots(builds, title, sizes):
         for i in range(len(sizes)):
             with open(f"boots-{i}.bin", "rb") as part:
                 file.write(part.read())
-    told(title, least({**of_builds(builds, "fwu", "boots.img", "boot"), "sha256sum": (["sha256sum", "boots.all"],)}), ["sha256sum"])
+    told(title, {**of_builds(builds, "fwu", "boots.img", "boot"), "sha256sum": (["sha256sum", "boots.all"],)}, ["sha256sum"])
 
 
 def sending(builds):
@@ -98,10 +111,10 @@ def sending(builds):
         whole = cost([fwu, "work.img", "run"], "send.txt", anew)
         with open("out.txt", "rb") as out:
             assert b"\nboot bank=1 version=2 trials=0 counter=2\n" in out.read()
-        return whole[0] - first[0], whole[1]
+        return whole - first
 
     yardsticks = {"sha256sum": (["sha256sum", "sent.fip"],), "cp": (["cp", "sent.fip", "copy.fip"], None, None, ["copy.fip"])}
-    told("a sending of 15 MiB and its boot", least({**{it: lambda it=it: both(it) for it in BUILDS}, **yardsticks}), ["sha256sum", "cp"])
+    told("a sending of 15 MiB and its boot", {**{it: lambda it=it: both(it) for it in BUILDS}, **yardsticks}, ["sha256sum", "cp"])
 
 
 def packages(builds):
@@ -118,7 +131,7 @@ def packages(builds):
         (["package", "our.cap", "new.fip"], ["new.fip"]),
         (["unpack", "our.fip", "new-"], [f"new-{name}.bin" for name in TYPES]),
     ):
-        told(f"fip {words[0]} of 63 MiB", least({**of_builds(builds, "fip", *words, leaves=leaves), **copy}), ["cp"])
+        told(f"fip {words[0]} of 63 MiB", {**of_builds(builds, "fip", *words, leaves=leaves), **copy}, ["cp"])
 
 
 def lines(builds):
@@ -135,8 +148,8 @@ def lines(builds):
         with open("lines.txt", "w", encoding="ascii") as file:
             file.write(script)
         found = least(of_builds(builds, "fwu", "small.img", "run", script="lines.txt", before=None), 5)
-        rates = ", ".join(f"{name} {script.count(chr(10)) / found[name][0] / 1e6:.2f} million" for name in BUILDS)
-        print(f"lines a second, {title}: {rates}; new/old {found['old'][0] / found['new'][0]:.2f}", flush=True)
+        rates = ", ".join(f"{name} {script.count(chr(10)) / found[name] / 1e6:.2f} million" for name in BUILDS)
+        print(f"lines a second, {title}: {rates}; new/old {found['old'] / found['new']:.2f}", flush=True)
 
 
 def writes(builds):
@@ -153,11 +166,10 @@ def writes(builds):
 
     def all_writes(build):
         run = lambda i: cost([f"{builds[build]}/fwu", "one.img", "run"], f"writes-{i}.txt")
-        costs = [run(i) for i in range(15)]
-        return sum(it[0] for it in costs) - 15 * run(15)[0], max(it[1] for it in costs)
+        return sum(run(i) for i in range(15)) - 15 * run(15)
 
     yardsticks = {"sha256sum": (["sha256sum", "images.bin"],), "cp": (["cp", "images.bin", "copy.bin"], None, None, ["copy.bin"])}
-    told("lines write of 4096 bytes, 15 MiB", least({**{it: lambda it=it: all_writes(it) for it in BUILDS}, **yardsticks}, 5), ["sha256sum", "cp"])
+    told("lines write of 4096 bytes, 15 MiB", {**{it: lambda it=it: all_writes(it) for it in BUILDS}, **yardsticks}, ["sha256sum", "cp"], 5)
 
 
 def main(new, old, place="/dev/shm"):
