@@ -240,7 +240,7 @@ struct fwu_shown {
     uint32_t layout_fault;     /* at 1: enum fwu_layout_fault */
     uint32_t banks;            /* how many banks there are, 2 to 4 */
     uint32_t images;           /* how many images each bank has, 2 to 16 */
-    struct fwu_bank bank[4];   /* each of these banks; behind them it stays as it was */
+    struct fwu_bank bank[4];   /* each of these banks; what stands behind them means nothing */
 };
 
 /* What a flash that lies in memory shows, with the packages in its banks. Nothing is repaired, no step is told, and no start is
