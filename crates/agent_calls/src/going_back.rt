@@ -20,10 +20,11 @@ ghost use Rattle.replicas.specs.Stores.{Stores};
 use crate::agent::{Agent, stopped};
 use agent_machine::Stop;
 use agent_state::{Decision, Plan, Request, Session, decide, ruled};
+use base_core::BLOCK_BYTES;
 use flash_core::{Flash, FlashStop};
 use fwu_formats::BankState;
 use fwu_model::Status;
-use image_check::{LANES_BYTES, Verdict, check};
+use image_check::{Verdict, check};
 use meta_layout::{Layout, Meta};
 use verify_core::Verifier;
 
@@ -70,7 +71,7 @@ fn is_good(verdict: Verdict) -> bool
     }
 }
 
-/// Whether the verdict on a bank is good. The flash is read alone.
+/// Whether the verdict on a bank is good. The flash is read alone, and the images are hashed one after another, in a block.
 fn is_bank_good<D: Flash, V: Verifier>(
     flash: &mut D,
     layout: &Layout,
@@ -87,7 +88,7 @@ fn is_bank_good<D: Flash, V: Verifier>(
         SomePassed (V.passes verifier.now) layout.now.rows counter) }
     ensures reads { Reads D.Flash result flash.old flash.new }
 {
-    let mut buf = [0; LANES_BYTES];
+    let mut buf = [0; BLOCK_BYTES as usize];
     let verdict = check(flash, layout, bank, counter, &mut buf, verifier)?;
     Ok(is_good(verdict))
 }

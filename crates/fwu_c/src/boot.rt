@@ -63,7 +63,7 @@ fn boot_over(
     ensures full { result ≡ 5 → report.new.steps ≡ length steps.old }
     ensures untouched { result ≡ 7 → IsUntouched report.old steps.old room.old report.new steps.new room.new }
 {
-    let end = boot_in(flash, &AnyManifest, block);
+    let end = boot_in(flash, &AnyManifest, &mut block[..BLOCK_BYTES as usize]);
     let mut told = *report;
     let number = report_end(&end, &mut told);
     hand_over(into_flash(end), number, told, steps, room, report)

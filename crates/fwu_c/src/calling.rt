@@ -8,6 +8,7 @@ ghost use Rattle.fwu_c.specs.Calls.{Refuses, Takes, call_code, status_code, stop
 use crate::layouts::fault_number;
 use crate::report::{Report, report_start};
 use agent_calls::Stop;
+use base_core::BLOCK_BYTES;
 use early_boot::{Booted, TakeUpEnd, take_up};
 use flash_core::FlashStop;
 use fwu_model::Status;
@@ -67,7 +68,7 @@ pub fn taken_up<'a>(
     ensures refuses { IfErr result (λ e. Refuses bank e.1 told.new (told_of flash.entry) (told_of e.0)) }
     ensures left_size { IfErr result (λ e. block_count e.0 ≡ block_count flash.entry) }
 {
-    match take_up(flash, bank, &AnyManifest, block) {
+    match take_up(flash, bank, &AnyManifest, &mut block[..BLOCK_BYTES as usize]) {
         TakeUpEnd::Taken(booted) => {
             report_start(&booted, told);
             Ok(booted)

@@ -192,6 +192,7 @@ fn find_bank(
     let Some(mut flash) = StepFlash::new(alloc, image, 0) else {
         return None;
     };
+    let block = &mut block[..BLOCK_BYTES as usize];
     let Ok(verdict) = check(&mut flash, layout, bank, read.counter, block, &AnyManifest) else {
         return None;
     };

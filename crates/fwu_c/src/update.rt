@@ -138,7 +138,7 @@ fn update_over(
     ensures untouched { result ≡ 7 → IsUntouched report.old steps.old room.old report.new steps.new room.new }
 {
     let mut told = *report;
-    match boot_in(flash, &AnyManifest, block) {
+    match boot_in(flash, &AnyManifest, &mut block[..BLOCK_BYTES as usize]) {
         BootEnd::Booted(booted, _) => {
             report_start(&booted, &mut told);
             let (flash, outcome) = install(booted, file, acceptance, block);
