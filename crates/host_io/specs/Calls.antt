@@ -1,5 +1,7 @@
 -- The calls of an object in memory. They have the numbers 1, 2 and so on, up to the greatest u64.
 use Rattle.std.specs.Prelude.{◌≡◌, ◌⊎◌, ℕ, ◌+◌, min, List, Contains, Option, Some, None, Result, Ok, Err}
+use Rattle.host_io.specs.declared.stops.JoinStop.{JoinStop}
+use Rattle.host_io.specs.declared.stops.JoinStop.TheVariants as join
 use Rattle.host_io.specs.declared.stops.WriteStop.{WriteStop}
 use Rattle.host_io.specs.declared.writes.Writes.{Writes}
 use Rattle.host_io.specs.declared.stops.WriteStop.TheVariants.{Failed, NoMemory}
@@ -71,6 +73,18 @@ abbrev pub CountsWrite : {T : Type 0} → Result T WriteStop → Writes → Writ
 CountsWrite (Ok _) before after = after ≡ done_once before
 CountsWrite (Err Failed) before after = (after ≡ failed_once before) ⊎ (after ≡ torn_once before)
 CountsWrite (Err NoMemory) before after = after ≡ before
+
+-- a joined write as a write: that a piece was not read is a failure
+abbrev pub as_write : {T : Type 0} → Result T JoinStop → Result T WriteStop
+as_write (Ok done) = Ok done
+as_write (Err join.Unread) = Err Failed
+as_write (Err join.Failed) = Err Failed
+as_write (Err join.NoMemory) = Err NoMemory
+
+-- the writes after a joined write; one whose piece was not read is not counted
+abbrev pub CountsJoin : {T : Type 0} → Result T JoinStop → Writes → Writes → Type 0
+CountsJoin (Err join.Unread) before after = after ≡ before
+CountsJoin result before after = CountsWrite (as_write result) before after
 
 -- the calls after one with this result
 abbrev pub counted : {T E : Type 0} → Result T E → Calls → Calls

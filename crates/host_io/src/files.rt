@@ -1,7 +1,7 @@
 //! Files by their names.
 
 use crate::joining::Piece;
-use crate::stops::{Failed, WriteStop};
+use crate::stops::{Failed, JoinStop, WriteStop};
 use std::alloc::Global;
 
 /// Files by their names.
@@ -9,11 +9,12 @@ pub trait Files {
     ghost use Rattle.std.specs.Prelude.{◌≡◌, ◌≢◌, ◌⊎◌, ◌+◌, ◌≤◌, ℕ, Bool, Option, Err, IfOk, OnOk, OnErr, is_some, length, vec_capacity, vec_len};
     ghost use Rattle.base_core.specs.Counts.{Rose};
     ghost use Rattle.host_io.specs.Access.{Access, Asks, Makes};
-    ghost use Rattle.host_io.specs.Calls.{CountsWrite, failures, write_failures};
+    ghost use Rattle.host_io.specs.Calls.{CountsJoin, CountsWrite, as_write, failures, write_failures};
     ghost use Rattle.host_io.specs.Causes.{HasCause, HasWriteCause};
     ghost use Rattle.std.specs.List.{All};
     ghost use Rattle.host_io.specs.Contents.{AddsRange, ChangesOnly, Directory, HasRange, Holds, TellsRange, TellsSize};
     ghost use Rattle.host_io.specs.Joined.{HasPiece, HoldsJoined};
+    ghost use Rattle.host_io.specs.declared.stops.JoinStop.TheVariants as join;
     ghost use Rattle.host_io.specs.declared.stops.WriteStop.TheVariants as stop;
     ghost use Rattle.host_io.specs.declared.writes.Writes.{Writes};
 
@@ -93,26 +94,30 @@ pub trait Files {
 
     /// Makes the file anew, of a frame's bytes with pieces of files between them, each behind as many
     /// more of the frame as it says (or as there are), and last what is left of the frame. The pieces
-    /// are those that the files had before, also where the made file is one of them. After `Failed` no
-    /// other name has changed, and this one is as it was, unless a file may have been torn, which is
-    /// counted. Want of memory, which may be taken from `alloc`, leaves the files as they were. Files that
-    /// are not told stay so.
+    /// are those that the files had before, also where the made file is one of them. Files that are not
+    /// told stay so.
+    ///
+    /// `Unread` says that a piece could not be read: the files are as they were, and no write is counted.
+    /// `Failed` says that the file could not be written. No other name has changed then, and this one is
+    /// as it was, unless a file may have been torn, which is counted. Want of memory, which may be taken
+    /// from `alloc`, leaves the files as they were.
     fn write_joined(
         &mut self,
         alloc: Global,
         name: &str,
         frame: &[u8],
         pieces: &[Piece<'_>],
-    ) -> Result<(), WriteStop>
+    ) -> Result<(), JoinStop>
         requires { All (HasPiece (contents self.old)) pieces.now }
         ensures written { OnOk result (HoldsJoined (contents self.old) (contents self.new) name.now
             frame.now pieces.now) }
         ensures others { ChangesOnly (contents self.old) (contents self.new) name.now }
-        ensures memory { result ≡ Err stop.NoMemory → contents self.new ≡ contents self.old }
-        ensures cause { HasWriteCause (faults self.old) (faults self.new) result }
-        ensures count { faults self.new ≡ write_failures result (faults self.old) }
-        ensures writes { CountsWrite result (writes self.old) (writes self.new) }
-        ensures stands { result ≡ Err stop.Failed → (contents self.new ≡ contents self.old)
+        ensures unread { result ≡ Err join.Unread → contents self.new ≡ contents self.old }
+        ensures memory { result ≡ Err join.NoMemory → contents self.new ≡ contents self.old }
+        ensures cause { HasWriteCause (faults self.old) (faults self.new) (as_write result) }
+        ensures count { faults self.new ≡ write_failures (as_write result) (faults self.old) }
+        ensures writes { CountsJoin result (writes self.old) (writes self.new) }
+        ensures stands { result ≡ Err join.Failed → (contents self.new ≡ contents self.old)
             ⊎ Rose (writes self.old).torn (writes self.new).torn }
         ensures spares { (access : Access) → access ≢ Makes name.now → spares self.old self.new access };
 

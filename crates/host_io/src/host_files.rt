@@ -1,8 +1,9 @@
 //! The files of the system.
 
 ghost use Rattle.std.specs.Prelude.{◌≡◌, ⊤, ◌+◌, ◌≤◌, false, refl, None, Err, IsSome, IfOk, OnErr, OnOk, drop, length, take, vec_capacity, vec_len};
+ghost use Rattle.std.specs.Io.KnownBytes.{Appends};
 ghost use Rattle.base_core.specs.Counts.{Rose};
-ghost use Rattle.host_io.specs.Calls.{CountsWrite, failures, raised, torn_once, write_failures, writes_after};
+ghost use Rattle.host_io.specs.Calls.{CountsJoin, CountsWrite, as_write, failed_once, failures, raised, torn_once, write_failures};
 ghost use Rattle.host_io.specs.Causes.{HasCause, HasWriteCause};
 ghost use Rattle.host_io.specs.Contents.{AddsRange};
 ghost use Rattle.host_io.specs.Joined.{AppendsJoined, AppendsPiece, AppendsSome};
@@ -11,7 +12,7 @@ ghost use Rattle.host_io.specs.declared.stops.WriteStop.TheVariants as stop;
 use crate::files::Files;
 use crate::joining::Piece;
 use crate::kept_file::KeptFile;
-use crate::stops::{Failed, WriteStop};
+use crate::stops::{Failed, JoinStop, WriteStop};
 use crate::writes::Writes;
 use std::alloc::{AllocError, Global};
 use std::fs::{File, Metadata, OpenFile, OpenOptions};
@@ -42,13 +43,24 @@ fn read_piece<F: Read>(file: &mut F, piece: &mut [u8], out: &mut Vec<u8>) -> io:
     Ok(())
 }
 
+// Writes bytes of a file that is made.
+fn put<W: Write>(bytes: &[u8], into: &mut W) -> Result<(), JoinStop>
+    ensures { OnOk result (Appends (W.contents into.old) (W.contents into.new) bytes.now) }
+{
+    into.write_all(bytes).map_err(|_| JoinStop::Failed)
+}
+
 // Fills the room with the next bytes of the file, and writes them.
-fn copy_piece<F: Read, W: Write>(file: &mut F, room: &mut [u8], into: &mut W) -> io::Result<()>
+fn copy_piece<F: Read, W: Write>(
+    file: &mut F,
+    room: &mut [u8],
+    into: &mut W,
+) -> Result<(), JoinStop>
     ensures copied { OnOk result (AppendsSome (W.contents into.old) (W.contents into.new)
         (length room.old)) }
 {
-    file.read_exact(room)?;
-    into.write_all(room)
+    file.read_exact(room).map_err(|_| JoinStop::Unread)?;
+    put(room, into)
 }
 
 // How many bytes a file that is made has.
@@ -141,21 +153,38 @@ impl<R: std::rt::Files> HostFiles<R> {
         Failed
     }
 
-    // Counts a write that ended so.
-    fn count_write(&mut self, end: Result<(), WriteStop>) -> Result<(), WriteStop>
+    // Counts a write that left its file as it was.
+    fn refuse(&mut self) -> WriteStop
+        ensures failed { result ≡ stop.Failed }
+        ensures count { self.new.faults ≡ raised self.old.faults }
+        ensures writes { self.new.writes ≡ failed_once self.old.writes }
+        ensures inner { self.new.inner ≡ self.old.inner }
+        ensures rose { Rose self.old.faults self.new.faults }
+        ensures later { self.old.faults ≤ self.new.faults }
+        ensures once { self.new.faults ≤ self.old.faults + 1 }
+    {
+        self.fail();
+        self.writes.fail();
+        WriteStop::Failed
+    }
+
+    // Counts a joined write that ended so, and tore no file.
+    fn count_write(&mut self, end: Result<(), JoinStop>) -> Result<(), JoinStop>
         ensures end { result ≡ end }
-        ensures cause { HasWriteCause self.old.faults self.new.faults result }
-        ensures count { self.new.faults ≡ write_failures result self.old.faults }
-        ensures writes { self.new.writes ≡ writes_after result self.old.writes }
+        ensures cause { HasWriteCause self.old.faults self.new.faults (as_write result) }
+        ensures count { self.new.faults ≡ write_failures (as_write result) self.old.faults }
+        ensures writes { CountsJoin result self.old.writes self.new.writes }
         ensures inner { self.new.inner ≡ self.old.inner }
     {
         match end {
             Ok(()) => self.writes.pass(),
-            Err(WriteStop::Failed) => {
+            Err(JoinStop::Unread) => {
                 self.fail();
-                self.writes.fail();
             }
-            Err(WriteStop::NoMemory) => {}
+            Err(JoinStop::Failed) => {
+                self.refuse();
+            }
+            Err(JoinStop::NoMemory) => {}
         }
         end
     }
@@ -234,11 +263,13 @@ impl<R: std::rt::Files> HostFiles<R> {
         end: usize,
         room: &mut [u8; ROOM],
         into: &mut W,
-    ) -> io::Result<()>
+    ) -> Result<(), JoinStop>
         ensures copied { OnOk result (AppendsSome (W.contents into.old) (W.contents into.new)
             piece.now.count) }
     {
-        let mut file = self.open_at(piece.file, piece.at)?;
+        let mut file = self
+            .open_at(piece.file, piece.at)
+            .map_err(|_| JoinStop::Unread)?;
         let mut left = piece.count;
         let mut most = ROOM - end % ROOM;
         while left > 0 {
@@ -259,19 +290,24 @@ impl<R: std::rt::Files> HostFiles<R> {
         end: usize,
         room: &mut [u8; ROOM],
         into: &mut W,
-    ) -> io::Result<&'a [u8]>
+    ) -> Result<&'a [u8], JoinStop>
         ensures added { OnOk result (AppendsPiece (W.contents into.old) (W.contents into.new)
             frame.now piece.now) }
         ensures left { IfOk result (λ left. left.now ≡ drop piece.now.gap frame.now) }
     {
         let (front, rest) = frame.split_at(piece.gap.min(frame.len()));
-        into.write_all(front)?;
+        put(front, into)?;
         self.copy(piece, end.wrapping_add(front.len()), room, into)?;
         Ok(rest)
     }
 
     // Writes the frame with the pieces between its bytes.
-    fn join<W: Write>(&self, frame: &[u8], pieces: &[Piece<'_>], into: &mut W) -> io::Result<()>
+    fn join<W: Write>(
+        &self,
+        frame: &[u8],
+        pieces: &[Piece<'_>],
+        into: &mut W,
+    ) -> Result<(), JoinStop>
         ensures joined { OnOk result (AppendsJoined (W.contents into.old) (W.contents into.new)
             frame.now pieces.now) }
     {
@@ -282,7 +318,7 @@ impl<R: std::rt::Files> HostFiles<R> {
             left = self.add_piece(left, piece, end, &mut room, into)?;
             end = end_behind(end, piece);
         }
-        into.write_all(left)
+        put(left, into)
     }
 
     // Gives a new file the mode of the one that it is to replace, where both have the same owner and
@@ -331,12 +367,12 @@ impl<R: std::rt::Files> HostFiles<R> {
         file: &mut R::File,
         frame: &[u8],
         pieces: &[Piece<'_>],
-    ) -> io::Result<bool> {
-        if !self.prepare(name, file)? {
+    ) -> Result<bool, JoinStop> {
+        if !self.prepare(name, file).map_err(|_| JoinStop::Failed)? {
             return Ok(false);
         }
         self.join(frame, pieces, file)?;
-        file.sync_data()?;
+        file.sync_data().map_err(|_| JoinStop::Failed)?;
         if fs::rename(&self.rt, fresh, name).is_err() {
             return Ok(false);
         }
@@ -353,7 +389,7 @@ impl<R: std::rt::Files> HostFiles<R> {
         file: &mut R::File,
         frame: &[u8],
         pieces: &[Piece<'_>],
-    ) -> io::Result<bool> {
+    ) -> Result<bool, JoinStop> {
         let replaced = self.complete(name, fresh, file, frame, pieces);
         if !matches!(replaced, Ok(true)) {
             let _ = fs::remove_file(&self.rt, fresh);
@@ -371,10 +407,13 @@ impl<R: std::rt::Files> HostFiles<R> {
         ensures inner { self.new.inner ≡ self.old.inner }
     {
         let Ok(mut file) = fs::create(&self.rt, name) else {
-            return self.count_write(Err(WriteStop::Failed));
+            return Err(self.refuse());
         };
         match self.fill_whole(&mut file, bytes) {
-            Ok(()) => self.count_write(Ok(())),
+            Ok(()) => {
+                self.writes.pass();
+                Ok(())
+            }
             Err(_) => Err(self.tear()),
         }
     }
@@ -395,12 +434,10 @@ impl<R: std::rt::Files> HostFiles<R> {
         alloc: Global,
         frame: &[u8],
         pieces: &[Piece<'_>],
-    ) -> Result<Vec<u8>, WriteStop> {
+    ) -> Result<Vec<u8>, JoinStop> {
         let mut bytes = Vec::with_capacity(alloc, size_of(frame, pieces))?;
-        match self.join(frame, pieces, &mut bytes) {
-            Ok(()) => Ok(bytes),
-            Err(_) => Err(WriteStop::Failed),
-        }
+        self.join(frame, pieces, &mut bytes)?;
+        Ok(bytes)
     }
 
     // Makes the file where it stands, from memory, since it may be among those of the pieces.
@@ -410,25 +447,23 @@ impl<R: std::rt::Files> HostFiles<R> {
         name: &str,
         frame: &[u8],
         pieces: &[Piece<'_>],
-    ) -> Result<(), WriteStop>
-        ensures cause { HasWriteCause self.old.faults self.new.faults result }
-        ensures count { self.new.faults ≡ write_failures result self.old.faults }
-        ensures writes { CountsWrite result self.old.writes self.new.writes }
+    ) -> Result<(), JoinStop>
+        ensures cause { HasWriteCause self.old.faults self.new.faults (as_write result) }
+        ensures count { self.new.faults ≡ write_failures (as_write result) self.old.faults }
+        ensures writes { CountsJoin result self.old.writes self.new.writes }
         ensures inner { self.new.inner ≡ self.old.inner }
     {
         match self.joined(alloc, frame, pieces) {
-            Ok(bytes) => self.write_over(name, bytes.as_slice()),
+            Ok(bytes) => self
+                .write_over(name, bytes.as_slice())
+                .map_err(|_| JoinStop::Failed),
             Err(stop) => self.count_write(Err(stop)),
         }
     }
 
     // A new file beside one of this name, and its own name, or none where none can be made. That all names
     // are taken is an error: the old file is not to be torn since runs were killed.
-    fn fresh_file(
-        &self,
-        alloc: Global,
-        name: &str,
-    ) -> Result<Option<(String, R::File)>, WriteStop> {
+    fn fresh_file(&self, alloc: Global, name: &str) -> Result<Option<(String, R::File)>, JoinStop> {
         for number in 0..FRESH {
             let fresh = fresh_name(alloc, name, number)?;
             match File::create_new(&self.rt, fresh.as_str()) {
@@ -437,7 +472,7 @@ impl<R: std::rt::Files> HostFiles<R> {
                 Err(_) => return Ok(None),
             }
         }
-        Err(WriteStop::Failed)
+        Err(JoinStop::Failed)
     }
 
     // Makes the file by a new one, or says that none can take its place.
@@ -447,17 +482,14 @@ impl<R: std::rt::Files> HostFiles<R> {
         name: &str,
         frame: &[u8],
         pieces: &[Piece<'_>],
-    ) -> Result<bool, WriteStop> {
+    ) -> Result<bool, JoinStop> {
         if !self.is_replaceable(name) {
             return Ok(false);
         }
         let Some((fresh, mut file)) = self.fresh_file(alloc, name)? else {
             return Ok(false);
         };
-        match self.replace(name, fresh.as_str(), &mut file, frame, pieces) {
-            Ok(replaced) => Ok(replaced),
-            Err(_) => Err(WriteStop::Failed),
-        }
+        self.replace(name, fresh.as_str(), &mut file, frame, pieces)
     }
 }
 
@@ -552,17 +584,18 @@ impl<R: std::rt::Files> Files for HostFiles<R> {
     /// A link, a file of two names or of another user or group, what is no regular file, and one beside
     /// which no new file can be made or that can't be replaced, is written where it stands, once all is
     /// read. It may be torn then, where it was opened and not filled. So a piece that can't be read tears
-    /// no file.
+    /// no file. Such a piece is one whose file can't be opened or is no regular one, whose place is behind
+    /// the file's end, or whose bytes can't all be read.
     fn write_joined(
         &mut self,
         alloc: Global,
         name: &str,
         frame: &[u8],
         pieces: &[Piece<'_>],
-    ) -> Result<(), WriteStop>
-        ensures cause { HasWriteCause self.old.faults self.new.faults result }
-        ensures count { self.new.faults ≡ write_failures result self.old.faults }
-        ensures writes { CountsWrite result self.old.writes self.new.writes }
+    ) -> Result<(), JoinStop>
+        ensures cause { HasWriteCause self.old.faults self.new.faults (as_write result) }
+        ensures count { self.new.faults ≡ write_failures (as_write result) self.old.faults }
+        ensures writes { CountsJoin result self.old.writes self.new.writes }
         ensures inner { self.new.inner ≡ self.old.inner }
     {
         self.kept = None;

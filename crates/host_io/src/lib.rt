@@ -25,6 +25,6 @@ pub use memory_files::MemoryFiles;
 pub use sink::{MemorySink, Sink, StdSink};
 pub use source::{MemorySource, Source, StdSource};
 pub use steady::{SteadyRead, SteadyWrite};
-pub use stops::{Failed, ReadStop, WriteStop};
+pub use stops::{Failed, JoinStop, ReadStop, WriteStop};
 pub use whole::read_whole;
 pub use writes::Writes;

@@ -2,16 +2,17 @@
 
 ghost use Rattle.std.specs.Prelude.{◌≡◌, ⊤, ◌≢◌, ◌↔◌, ◌+◌, ◌++◌, ◌≤◌, ℕ, true, refl, List, Some, Err, IsErr, IfOk, OnOk, OnErr, drop, length, map, option_map, take, vec_capacity, vec_len};
 ghost use Rattle.std.specs.List.{All};
-ghost use Rattle.host_io.specs.Calls.{IsListed, counted, failures, unused, write_counted, write_failures, writes_after};
+ghost use Rattle.host_io.specs.Calls.{IsListed, as_write, counted, failures, unused, write_counted, write_failures, writes_after};
 ghost use Rattle.host_io.specs.Causes.{HasCause, HasWriteCause};
 ghost use Rattle.host_io.specs.Contents.{AddsRange, ChangesOnly, HasRange, Holds, TellsRange, TellsSize, bytes_in, pairs_of, place_in};
 ghost use Rattle.host_io.specs.Joined.{HasPiece, HoldsJoined, chunk_in, joined};
+ghost use Rattle.host_io.specs.declared.stops.JoinStop.TheVariants as join;
 ghost use Rattle.host_io.specs.declared.stops.WriteStop.TheVariants as stop;
 
 use crate::calls::CallCounter;
 use crate::files::Files;
 use crate::joining::Piece;
-use crate::stops::{Failed, WriteStop};
+use crate::stops::{Failed, JoinStop, WriteStop};
 use crate::writes::Writes;
 use std::alloc::{AllocError, Global};
 use std::marker::Model;
@@ -257,32 +258,33 @@ impl Files for MemoryFiles {
     }
 
     /// Besides what the trait says, it fails exactly at the listed calls, and then changes nothing. A
-    /// call that finds no memory has no number.
+    /// call that finds no memory has no number. The pieces lie in memory, and each of them is read.
     fn write_joined(
         &mut self,
         _alloc: Global,
         name: &str,
         frame: &[u8],
         pieces: &[Piece<'_>],
-    ) -> Result<(), WriteStop>
+    ) -> Result<(), JoinStop>
         requires { All (HasPiece (Some (bytes_in self.old.files))) pieces.now }
         ensures written { OnOk result (HoldsJoined (Some (bytes_in self.old.files))
             (Some (bytes_in self.new.files)) name.now frame.now pieces.now) }
         ensures others { ChangesOnly (Some (bytes_in self.old.files))
             (Some (bytes_in self.new.files)) name.now }
-        ensures memory { result ≡ Err stop.NoMemory →
+        ensures read { result ≡ Err join.Unread → ⊥ }
+        ensures memory { result ≡ Err join.NoMemory →
             Some (bytes_in self.new.files) ≡ Some (bytes_in self.old.files) }
-        ensures cause { HasWriteCause self.old.calls.faults self.new.calls.faults result }
-        ensures count { self.new.calls.faults ≡ write_failures result self.old.calls.faults }
-        ensures writes { self.new.writes ≡ writes_after result self.old.writes }
-        ensures listed { (result ≡ Err stop.Failed) ↔ IsListed self.old.calls }
-        ensures calls { self.new.calls ≡ write_counted result self.old.calls }
+        ensures cause { HasWriteCause self.old.calls.faults self.new.calls.faults (as_write result) }
+        ensures count { self.new.calls.faults ≡ write_failures (as_write result) self.old.calls.faults }
+        ensures writes { self.new.writes ≡ writes_after (as_write result) self.old.writes }
+        ensures listed { (result ≡ Err join.Failed) ↔ IsListed self.old.calls }
+        ensures calls { self.new.calls ≡ write_counted (as_write result) self.old.calls }
         ensures unchanged { OnErr result (self.new.files ≡ self.old.files) }
     {
         if self.calls.fails_next() {
             self.calls.fail();
             self.writes.fail();
-            return Err(WriteStop::Failed);
+            return Err(JoinStop::Failed);
         }
         let bytes = join(self.alloc, self.files.as_slice(), frame, pieces)?;
         put_bytes(self.alloc, &mut self.files, name, bytes.as_slice())?;

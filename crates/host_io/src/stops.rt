@@ -1,6 +1,7 @@
 //! Why a call stops.
 
 ghost use Rattle.std.specs.Prelude.{◌≡◌};
+ghost use Rattle.host_io.specs.declared.stops.JoinStop.TheVariants as join;
 ghost use Rattle.host_io.specs.declared.stops.ReadStop.TheVariants as read_stop;
 ghost use Rattle.host_io.specs.declared.stops.WriteStop.TheVariants as stop;
 
@@ -72,5 +73,27 @@ impl From<AllocError> for WriteStop {
 
     fn from(_: AllocError) -> WriteStop {
         WriteStop::NoMemory
+    }
+}
+
+/// Why no file was made of a frame and pieces of files.
+#[derive(Clone, Copy, Debug, PartialEq, Eq, Error)]
+pub enum JoinStop {
+    /// A piece could not be read. The object counted a fault, and no write: no file has changed.
+    #[error("a piece of the file could not be read")]
+    Unread,
+    /// The file could not be written. The object counted a fault, and a write that failed.
+    #[error("the file could not be written")]
+    Failed,
+    /// The object had no memory for the bytes, and is unchanged.
+    #[error("no memory for what was to be written")]
+    NoMemory,
+}
+
+impl From<AllocError> for JoinStop {
+    ghost from_gives = { λ _ stopped. stopped ≡ join.NoMemory };
+
+    fn from(_: AllocError) -> JoinStop {
+        JoinStop::NoMemory
     }
 }

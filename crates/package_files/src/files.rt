@@ -2,7 +2,7 @@
 ghost use Rattle.std.specs.Prelude.{◌≡◌, ⊤, true, refl, Some, option_map};
 ghost use Rattle.package_files.specs.OneFile.{directory};
 
-use host_io::{Failed, Files, Piece, WriteStop};
+use host_io::{Failed, Files, JoinStop, Piece, WriteStop};
 use std::alloc::Global;
 
 /// Files of which there is one. Its bytes are read where they lie in memory, and no memory is taken.
@@ -89,7 +89,7 @@ impl<'a> Files for PackageFiles<'a> {
         _name: &str,
         _frame: &[u8],
         _pieces: &[Piece<'_>],
-    ) -> Result<(), WriteStop> {
-        Err(WriteStop::NoMemory)
+    ) -> Result<(), JoinStop> {
+        Err(JoinStop::NoMemory)
     }
 }

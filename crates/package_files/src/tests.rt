@@ -1,7 +1,7 @@
 //! A file of eight bytes, read through the trait.
 
 use crate::PackageFiles;
-use host_io::{Failed, Files, ReadStop, WriteStop, read_whole};
+use host_io::{Failed, Files, JoinStop, ReadStop, WriteStop, read_whole};
 use std::alloc::Global;
 use std::fmt::Debug;
 use std::process::Abort;
@@ -21,7 +21,7 @@ fn write<H: Files>(files: &mut H, name: &str) -> Result<(), WriteStop> {
     files.write_whole(name, &[55])
 }
 
-fn join<H: Files>(alloc: Global, files: &mut H, name: &str) -> Result<(), WriteStop> {
+fn join<H: Files>(alloc: Global, files: &mut H, name: &str) -> Result<(), JoinStop> {
     files.write_joined(alloc, name, &[55], &[])
 }
 
@@ -60,7 +60,7 @@ fn nothing_is_written(rt: HostRuntime) -> Result<(), Fail> {
     same(
         &rt,
         join(rt.alloc(), &mut files, "q.fip"),
-        Err(WriteStop::NoMemory),
+        Err(JoinStop::NoMemory),
     );
     same(&rt, size_of(&mut files, "q.fip"), Ok(None));
     Ok(())

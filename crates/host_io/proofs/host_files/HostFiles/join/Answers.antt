@@ -12,5 +12,5 @@ loop-piece-preserved g c =
 pub returns : goal.returns
 returns g c = record {
   joined =
-      ok-as c.write_all.result (joined-all _ _ _ c.args.frame.now c.loop-piece.left.now c.args.pieces.now c.loop-piece.piece-index (omega (arith, c.loop-piece-test.false)) c.loop-piece.invariant) c.write_all.ensures.bytes;
+      ok-as c.put.result (joined-all _ _ _ c.args.frame.now c.loop-piece.left.now c.args.pieces.now c.loop-piece.piece-index (omega (arith, c.loop-piece-test.false)) c.loop-piece.invariant) c.put.ensures;
 }
