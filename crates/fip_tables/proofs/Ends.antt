@@ -1,6 +1,6 @@
 -- What the bytes so far are, by how far their table is read.
 use Rattle.std.proofs.Common.{◌≡◌, ℕ, ◌+◌, ◌-◌, ◌*◌, ◌<◌, true, false, List, [], ◌++◌, length, Option, Some, None, Result, Ok, Err, refl, sym, ap, ◌∙◌, arith, append_assoc, append-nil, length-drop}
-use Rattle.std.specs.Prelude.{position}
+use Rattle.std.specs.Prelude.{MatchResult, position}
 use Rattle.fwu_formats.specs.Package.{Toc, entry_limit, entries_from, is_beyond, toc_of, within}
 use Rattle.fwu_formats.specs.declared.kinds.FipFault.{FipFault}
 use Rattle.fwu_formats.specs.declared.kinds.FipFault.TheVariants as fault
@@ -85,3 +85,9 @@ within-some bytes toc i e = ap (within bytes toc) e
 
 pub within-none : (bytes : List ℕ) (toc : Toc) → position (is_beyond bytes) toc.entries ≡ None → within bytes toc (position (is_beyond bytes) toc.entries) ≡ Ok toc
 within-none bytes toc e = ap (within bytes toc) e
+
+-- an answer that tells nothing but the fault, of a table that is known
+pub as-answered : (result : Result (Unit {0}) FipFault) (whole ends : Result Toc FipFault) (seen toc : Toc) → seen ≡ toc → whole ≡ ends
+    → MatchResult result (λ u. ends ≡ Ok seen) (λ f. ends ≡ Err f) → MatchResult result (λ u. whole ≡ Ok toc) (λ f. whole ≡ Err f)
+as-answered (Ok u) whole ends seen toc same e h = e ∙ h ∙ ap (λ (t : Toc). Ok t) same
+as-answered (Err f) whole ends seen toc same e h = e ∙ h

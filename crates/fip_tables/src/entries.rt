@@ -1,6 +1,6 @@
 //! The entries of a table of contents.
 
-ghost use Rattle.std.specs.Prelude.{◌≡◌, ◌+◌, ◌≤◌, ◌<◌, ◌++◌, ◌∷◌, [], Option, Some, None, find, length, position, nat_lt};
+ghost use Rattle.std.specs.Prelude.{◌≡◌, ◌+◌, ◌≤◌, ◌<◌, ◌++◌, ◌∷◌, [], Option, Some, None, IfSome, find, length, position, nat_lt};
 ghost use Rattle.std.specs.List.{list_any};
 ghost use Rattle.base_core.specs.Bytes.{same_bytes};
 ghost use Rattle.base_core.specs.Guid.{nil_guid};
@@ -134,8 +134,10 @@ impl Entries {
 
     /// The first entry whose payload's end lies beyond so many bytes.
     pub fn first_beyond(&self, size: u64) -> Option<usize>
-        ensures { result ≡ position (λ e. nat_lt size (e.offset + e.size)) self.now }
+        ensures first { result ≡ position (λ e. nat_lt size (e.offset + e.size)) self.now }
+        ensures few { IfSome result (λ i. i < 64) }
     {
+        let _open = &self.count;
         self.as_slice()
             .iter()
             .position(|entry| entry.is_beyond(size))

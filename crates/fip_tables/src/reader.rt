@@ -1,7 +1,7 @@
 //! The table of contents at the front of a package, read group by group.
 
-ghost use Rattle.std.specs.Prelude.{◌≡◌, ◌≢◌, ◌+◌, ◌*◌, ◌<◌, ◌≤◌, ◌^◌, ◌++◌, ℕ, List, [], Option, IsTrue, IsNone, OnOk, ◌↔◌, length, take, MatchResult, Ok, Err};
-ghost use Rattle.fwu_formats.specs.Package.{toc_of};
+ghost use Rattle.std.specs.Prelude.{◌≡◌, ◌≢◌, ◌+◌, ◌*◌, ◌<◌, ◌≤◌, ◌^◌, ◌++◌, ℕ, List, [], Option, IsTrue, IsNone, OnOk, ◌↔◌, length, take, position, MatchResult, Ok, Err};
+ghost use Rattle.fwu_formats.specs.Package.{is_beyond, toc_of, within};
 ghost use Rattle.fip_tables.specs.Decoded.{IsHeaderOf};
 ghost use Rattle.fip_tables.specs.Stream.{HoldsAt, IsGroup};
 ghost use Rattle.fip_tables.specs.declared.reader.Stage.TheVariants as stage;
@@ -30,9 +30,7 @@ pub struct TableReader {
     stage: Stage,
     group: [u8; 40],
     held: usize,
-    serial: u32,
-    flags: u64,
-    entries: Entries,
+    toc: Toc,
 }
 
 impl Model for TableReader {
@@ -42,11 +40,7 @@ impl Model for TableReader {
     ghost Value = { Reader };
 
     ghost view = { λ s.
-        record {
-          stage = s.stage;
-          pending = take s.held s.group;
-          toc = record { serial = s.serial; flags = s.flags; entries = s.entries };
-        } };
+        record { stage = s.stage; pending = take s.held s.group; toc = s.toc } };
 
     ghost invariant = { λ s. s.held ≤ 40 };
 }
@@ -66,26 +60,58 @@ fn header_in(group: &[u8]) -> Result<(u32, u64), FipFault>
     Ok((serial, le64_at(group, 8)))
 }
 
+// Takes in the bytes of the header, and says how far the table is then.
+fn take_header(toc: &mut Toc, group: &[u8]) -> Stage
+    requires { length group.now ≡ 16 }
+    ensures { (bytes : List ℕ) → HoldsAt stage.Header toc.old group.now bytes → HoldsAt result toc.new [] bytes }
+{
+    match header_in(group) {
+        Ok((serial, flags)) => {
+            toc.serial = serial;
+            toc.flags = flags;
+            Stage::Table
+        }
+        Err(fault) => Stage::Faulty(fault),
+    }
+}
+
 // Takes in the bytes of an entry, and says how far the table is then.
-fn take_entry(entries: &mut Entries, group: &[u8]) -> Stage
+fn take_entry(toc: &mut Toc, group: &[u8]) -> Stage
     requires { length group.now ≡ 40 }
-    ensures { (serial flags : ℕ) (bytes : List ℕ)
-        → HoldsAt stage.Table (record { serial = serial; flags = flags; entries = entries.old }) group.now bytes
-        → HoldsAt result (record { serial = serial; flags = flags; entries = entries.new }) [] bytes }
+    ensures { (bytes : List ℕ) → HoldsAt stage.Table toc.old group.now bytes → HoldsAt result toc.new [] bytes }
 {
     let entry = Entry::at(group, 0);
-    let count = entries.len();
+    let count = toc.entries.len();
     if entry.is_marker() {
         return Stage::Whole;
     }
     if count == 64 {
         return Stage::Faulty(FipFault::TooMany);
     }
-    if entries.has(&entry.guid) {
+    if toc.entries.has(&entry.guid) {
         return Stage::Faulty(FipFault::Duplicate(count as u32));
     }
-    entries.push(entry);
+    toc.entries.push(entry);
     Stage::Table
+}
+
+// How many entries a table has.
+fn count_of(toc: &Toc) -> u32
+    ensures { result ≡ length toc.now.entries }
+{
+    toc.entries.len() as u32
+}
+
+// The fault of a table whose marker was read, in a package of so many bytes.
+fn check_ends(toc: &Toc, size: u64) -> Result<(), FipFault>
+    ensures { (bytes : List ℕ) → size ≡ length bytes → MatchResult result
+        (λ _. within bytes toc.now (position (is_beyond bytes) toc.now.entries) ≡ Ok toc.now)
+        (λ fault. within bytes toc.now (position (is_beyond bytes) toc.now.entries) ≡ Err fault) }
+{
+    match toc.entries.first_beyond(size) {
+        Some(i) => Err(FipFault::Beyond(i as u32)),
+        None => Ok(()),
+    }
 }
 
 impl TableReader {
@@ -99,9 +125,11 @@ impl TableReader {
             stage: Stage::Header,
             group: [0; 40],
             held: 0,
-            serial: 0,
-            flags: 0,
-            entries: Entries::new(),
+            toc: Toc {
+                serial: 0,
+                flags: 0,
+                entries: Entries::new(),
+            },
         }
     }
 
@@ -125,15 +153,8 @@ impl TableReader {
     {
         let group = &self.group[..self.held];
         match self.stage {
-            Stage::Header => match header_in(group) {
-                Ok((serial, flags)) => {
-                    self.serial = serial;
-                    self.flags = flags;
-                    self.stage = Stage::Table;
-                }
-                Err(fault) => self.stage = Stage::Faulty(fault),
-            },
-            Stage::Table => self.stage = take_entry(&mut self.entries, group),
+            Stage::Header => self.stage = take_header(&mut self.toc, group),
+            Stage::Table => self.stage = take_entry(&mut self.toc, group),
             _ => {}
         }
         self.held = 0;
@@ -202,31 +223,42 @@ impl TableReader {
         matches!(self.stage, Stage::Whole)
     }
 
+    // The first fault of a package of so many bytes. Where there is none, its table is the one so far.
+    fn check(&self, size: u64) -> Result<(), FipFault>
+        requires { IsPartial self.now }
+        ensures { (bytes : List ℕ) → size ≡ length bytes → Holds self.now bytes
+            → MatchResult result (λ _. toc_of bytes ≡ Ok self.now.toc) (λ fault. toc_of bytes ≡ Err fault) }
+    {
+        match self.stage {
+            Stage::Faulty(fault) => Err(fault),
+            Stage::Header => Err(FipFault::ShortHeader),
+            Stage::Table => Err(FipFault::NoEnd(count_of(&self.toc))),
+            Stage::Whole => check_ends(&self.toc, size),
+        }
+    }
+
     // The table of a package of so many bytes, or the fault.
+    pub fn toc(&self, size: u64) -> Result<&Toc, FipFault>
+        requires { IsPartial self.now }
+        ensures { (bytes : List ℕ) → size ≡ length bytes → Holds self.now bytes
+            → MatchResult result (λ toc. toc_of bytes ≡ Ok toc.now) (λ fault. toc_of bytes ≡ Err fault) }
+    {
+        self.check(size)?;
+        Ok(&self.toc)
+    }
+
+    // The same, with the table itself.
     pub fn end(self, size: u64) -> Result<Toc, FipFault>
         requires { IsPartial self }
         ensures { (bytes : List ℕ) → size ≡ length bytes → Holds self bytes → result ≡ toc_of bytes }
     {
+        self.check(size)?;
         let TableReader {
-            stage,
+            stage: _,
             group: _,
             held: _,
-            serial,
-            flags,
-            entries,
+            toc,
         } = self;
-        match stage {
-            Stage::Faulty(fault) => Err(fault),
-            Stage::Header => Err(FipFault::ShortHeader),
-            Stage::Table => Err(FipFault::NoEnd(entries.len() as u32)),
-            Stage::Whole => match entries.first_beyond(size) {
-                Some(i) => Err(FipFault::Beyond(i as u32)),
-                None => Ok(Toc {
-                    serial,
-                    flags,
-                    entries,
-                }),
-            },
-        }
+        Ok(toc)
     }
 }

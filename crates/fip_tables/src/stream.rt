@@ -1,6 +1,6 @@
 //! A table of contents that is read from a stream.
 
-ghost use Rattle.std.specs.Prelude.{◌≡◌, ◌+◌, ◌<◌, ◌^◌, ◌++◌, ◌↔◌, ℕ, List, [], IsTrue, length};
+ghost use Rattle.std.specs.Prelude.{◌≡◌, ◌+◌, ◌<◌, ◌^◌, ◌++◌, ◌↔◌, ℕ, List, [], IsTrue, MatchResult, Ok, Err, length};
 ghost use Rattle.fwu_formats.specs.Package.{toc_of};
 ghost use Rattle.fip_tables.specs.Answers.{decided, has_marker};
 
@@ -73,6 +73,14 @@ impl StreamToc {
     }
 
     /// The table of contents of the bytes so far, or their first fault.
+    pub fn toc(&self) -> Result<&Toc, FipFault>
+        ensures { (bytes : List ℕ) → Fed self.now bytes
+            → MatchResult result (λ toc. toc_of bytes ≡ Ok toc.now) (λ fault. toc_of bytes ≡ Err fault) }
+    {
+        self.reader.toc(self.count)
+    }
+
+    /// The same, with the table itself.
     pub fn end(self) -> Result<Toc, FipFault>
         ensures { (bytes : List ℕ) → Fed self bytes → result ≡ toc_of bytes }
     {
