@@ -5,10 +5,10 @@ use Rattle.std.specs.Io.KnownBytes.{Consumes, IsAtEnd}
 use Rattle.base_core.specs.Bytes.{same_bytes}
 use Rattle.sha2.specs.Sha256.{sha256}
 use Rattle.host_io.specs.Contents.{Directory}
+use Rattle.host_io.specs.declared.stops.JoinStop.{JoinStop}
+use Rattle.host_io.specs.declared.stops.JoinStop.TheVariants as join_stop
 use Rattle.host_io.specs.declared.stops.ReadStop.{ReadStop}
 use Rattle.host_io.specs.declared.stops.ReadStop.TheVariants as read_stop
-use Rattle.host_io.specs.declared.stops.WriteStop.{WriteStop}
-use Rattle.host_io.specs.declared.stops.WriteStop.TheVariants as write_stop
 use Rattle.fwu_formats.specs.Package.{Entry, Part, Toc, has_guid, packed, payload, toc_of}
 use Rattle.fwu_formats.specs.Manifest.{Row, manifest_bytes}
 use Rattle.fwu_formats.specs.declared.kinds.FipFault.{FipFault}
@@ -66,10 +66,11 @@ abbrev pub unread_by : ReadStop → Stop
 unread_by read_stop.Failed = stop.FileFault
 unread_by read_stop.NoMemory = stop.NoMemory
 
--- the stop of a file that was not written
-abbrev pub unwritten_by : WriteStop → Stop
-unwritten_by write_stop.Failed = stop.FileFault
-unwritten_by write_stop.NoMemory = stop.NoMemory
+-- the stop of a file that was not made
+abbrev pub unmade_by : JoinStop → Stop
+unmade_by join_stop.Unread = stop.FileFault
+unmade_by join_stop.Failed = stop.FileFault
+unmade_by join_stop.NoMemory = stop.NoMemory
 
 -- ---- what files give
 

@@ -1,14 +1,14 @@
 //! Why a command ended before all was done.
 
 ghost use Rattle.std.specs.Prelude.{◌≡◌};
-ghost use Rattle.fip_tool.specs.Tool.{capsule_stopped_by, stopped_by, unread_by, unwritten_by};
+ghost use Rattle.fip_tool.specs.Tool.{capsule_stopped_by, stopped_by, unmade_by, unread_by};
 ghost use Rattle.fip_tool.specs.declared.stops.Stop.TheVariants as stop;
 
 use base_core::{Guid, NoMemory as NoMemoryFound};
 use capsule_tables::{CapsuleFault, CapsuleStop};
 use fip_tables::{PackFault, TocStop};
 use fwu_formats::{FipFault, ManifestFault};
-use host_io::{Failed, ReadStop, WriteStop};
+use host_io::{Failed, JoinStop, ReadStop};
 use std::alloc::AllocError;
 use thiserror::Error;
 
@@ -62,14 +62,14 @@ impl From<AllocError> for Stop {
     }
 }
 
-// Of a file that was not written.
-impl From<WriteStop> for Stop {
-    ghost from_gives = { λ given stopped. stopped ≡ unwritten_by given };
+// Of a file that was not made.
+impl From<JoinStop> for Stop {
+    ghost from_gives = { λ given stopped. stopped ≡ unmade_by given };
 
-    fn from(given: WriteStop) -> Stop {
+    fn from(given: JoinStop) -> Stop {
         match given {
-            WriteStop::Failed => Stop::FileFault,
-            WriteStop::NoMemory => Stop::NoMemory,
+            JoinStop::Unread | JoinStop::Failed => Stop::FileFault,
+            JoinStop::NoMemory => Stop::NoMemory,
         }
     }
 }

@@ -16,3 +16,5 @@ mod real_files;
 mod sizes;
 #[cfg(test)]
 mod tables;
+#[cfg(test)]
+mod unread;

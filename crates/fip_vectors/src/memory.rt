@@ -5,7 +5,7 @@ ghost use Rattle.host_io.specs.Contents.{bytes_in};
 
 use crate::fixtures::{add_all, holds_at};
 use fip_tool::fip_top;
-use host_io::{Failed, Files, MemoryFiles, MemorySource, Piece, Sink, WriteStop};
+use host_io::{Failed, Files, JoinStop, MemoryFiles, MemorySource, Piece, Sink, WriteStop};
 use runs_kit::{files_of, words_of};
 use std::alloc::Global;
 use std::process::Abort;
@@ -90,9 +90,9 @@ impl Files for ShortFiles {
         name: &str,
         frame: &[u8],
         pieces: &[Piece<'_>],
-    ) -> Result<(), WriteStop> {
+    ) -> Result<(), JoinStop> {
         if self.writes == 0 {
-            return Err(WriteStop::NoMemory);
+            return Err(JoinStop::NoMemory);
         }
         self.writes -= 1;
         self.inner.write_joined(alloc, name, frame, pieces)

@@ -1,7 +1,7 @@
 //! Files that are made of a frame and of pieces of others, by the system.
 
 use crate::fixtures::{are_bytes, holds, removed, same};
-use host_io::{Files, HostFiles, Piece, WriteStop};
+use host_io::{Files, HostFiles, JoinStop, Piece};
 use std::alloc::Global;
 use std::fs::{self, Permissions};
 use std::os::unix::fs::{PermissionsExt, symlink};
@@ -30,13 +30,33 @@ const PIECES: [Piece<'static>; 2] = [
 
 const MADE: &[u8] = b"<rmw|>e";
 
-// A piece that the file does not have.
-const BEHIND_THE_END: [Piece<'static>; 1] = [Piece {
-    gap: 1,
-    file: FROM_NAME,
-    at: 7,
-    count: 2,
-}];
+// Pieces that can't be read: one that ends behind the file's end, one that begins there, one of no file, and one of a directory.
+const UNREAD: [Piece<'static>; 4] = [
+    Piece {
+        gap: 1,
+        file: FROM_NAME,
+        at: 7,
+        count: 2,
+    },
+    Piece {
+        gap: 1,
+        file: FROM_NAME,
+        at: 9,
+        count: 0,
+    },
+    Piece {
+        gap: 1,
+        file: "host_io_no_file.tmp",
+        at: 0,
+        count: 1,
+    },
+    Piece {
+        gap: 1,
+        file: ".",
+        at: 0,
+        count: 1,
+    },
+];
 
 // What becomes of a file that is made of these pieces, by the system.
 fn makes<R: std::rt::Files>(
@@ -45,7 +65,7 @@ fn makes<R: std::rt::Files>(
     files: &mut HostFiles<R>,
     name: &str,
     pieces: &[Piece<'_>],
-    wanted: Result<(), WriteStop>,
+    wanted: Result<(), JoinStop>,
 ) {
     let made = files.write_joined(alloc, name, b"<|>", pieces);
     same(rt, made, wanted);
@@ -71,6 +91,19 @@ fn is_gone(rt: &(impl std::rt::Files + Abort), name: &str) {
     holds(rt, fs::metadata(rt, name).is_err(), name);
 }
 
+// No file is made of a piece that can't be read, also behind one that can.
+fn stays_unread<R: std::rt::Files>(
+    rt: &impl Abort,
+    alloc: Global,
+    files: &mut HostFiles<R>,
+    name: &str,
+) {
+    for piece in &UNREAD {
+        let pieces = [PIECES[0], *piece];
+        makes(rt, alloc, files, name, &pieces, Err(JoinStop::Unread));
+    }
+}
+
 fn writes<R: std::rt::Files>(rt: &impl Abort, files: &mut HostFiles<R>, name: &str, bytes: &[u8]) {
     same(rt, files.write_whole(name, bytes), Ok(()));
 }
@@ -81,25 +114,10 @@ fn replaces<R: std::rt::Files>(
     alloc: Global,
     files: &mut HostFiles<R>,
 ) {
-    let failed = Err(WriteStop::Failed);
-    makes(
-        rt,
-        alloc,
-        files,
-        "host_io_made.tmp",
-        &BEHIND_THE_END,
-        failed,
-    );
+    stays_unread(rt, alloc, files, "host_io_made.tmp");
     is_gone(rt, "host_io_made.tmp");
     makes(rt, alloc, files, "host_io_made.tmp", &PIECES, Ok(()));
-    makes(
-        rt,
-        alloc,
-        files,
-        "host_io_made.tmp",
-        &BEHIND_THE_END,
-        failed,
-    );
+    stays_unread(rt, alloc, files, "host_io_made.tmp");
     is_there(rt, alloc, files, "host_io_made.tmp", MADE);
     is_gone(rt, "host_io_made.tmp.new");
     makes(rt, alloc, files, FROM_NAME, &PIECES, Ok(()));
@@ -143,7 +161,7 @@ fn stand<R: std::rt::Files>(
         files,
         "host_io_none/file",
         &PIECES,
-        Err(WriteStop::Failed),
+        Err(JoinStop::Failed),
     );
 }
 
@@ -172,13 +190,15 @@ fn rights(rt: &(impl std::rt::Files + Abort), name: &str) -> u32 {
     found.permissions().mode() & 0o777
 }
 
-// A link stays, and what it names is written; a new file has the rights of the old one.
+// A link stays, and what it names is written, unless a piece can't be read; a new file has the rights of the old one.
 fn keeps<R: std::rt::Files>(
     rt: &(impl std::rt::Files + Abort),
     alloc: Global,
     files: &mut HostFiles<R>,
 ) {
     symlink(rt, FROM_NAME, "host_io_link.tmp").expect(rt, "a link");
+    stays_unread(rt, alloc, files, "host_io_link.tmp");
+    is_there(rt, alloc, files, FROM_NAME, FROM);
     makes(rt, alloc, files, "host_io_link.tmp", &PIECES, Ok(()));
     let link = fs::symlink_metadata(rt, "host_io_link.tmp").expect(rt, "a link");
     holds(rt, link.is_symlink(), "a link");

@@ -8,7 +8,7 @@ ghost use Rattle.host_io.specs.Contents.{AddsRange, ChangesOnly, HasRange, Holds
 ghost use Rattle.host_io.specs.Joined.{HasPiece, HoldsJoined};
 ghost use Rattle.host_io.specs.declared.stops.WriteStop.TheVariants as stop;
 
-use host_io::{Failed, Files, Piece, WriteStop};
+use host_io::{Failed, Files, JoinStop, Piece, WriteStop};
 use std::alloc::Global;
 
 /// One file in memory. It is read alone: there is no room for another.
@@ -73,7 +73,7 @@ impl Files for OneFile {
         _name: &str,
         _frame: &[u8],
         _pieces: &[Piece<'_>],
-    ) -> Result<(), WriteStop> {
-        Err(WriteStop::NoMemory)
+    ) -> Result<(), JoinStop> {
+        Err(JoinStop::NoMemory)
     }
 }
