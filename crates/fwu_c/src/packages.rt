@@ -1,13 +1,12 @@
 //! Packages (the FIP layout of Trusted Firmware-A) and manifests (own format).
-ghost use Rattle.std.specs.Prelude.{◌≡◌, ◌+◌, ◌^◌, ◌<◌, ◌≤◌, is_some, length, IfNone, IfSome};
+ghost use Rattle.std.specs.Prelude.{◌≡◌, is_some, IfNone, IfSome};
 ghost use Rattle.fwu_formats.specs.Layout.{layout_of};
 ghost use Rattle.fwu_formats.specs.Package.{toc_of};
 ghost use Rattle.fwu_c.specs.Codes.{find_code, found_code};
 ghost use Rattle.fwu_c.specs.Found.{entry_in, security_version};
 
 use base_core::Guid;
-use fip_tables::{Entry, StreamToc, Toc};
-use fwu_formats::FipFault;
+use fip_tables::{Entry, StreamToc};
 use meta_layout::Layout;
 
 /// Where a payload stands: bytes from the package's first byte, and how many.
@@ -19,17 +18,6 @@ pub struct Place {
 }
 
 const _: () = prove!(size_of::<Place>() == 16);
-
-/// The table of contents of a package, or the first fault of the bytes.
-pub fn table_of(bytes: &[u8]) -> Result<Toc, FipFault>
-    ensures table { result ≡ toc_of bytes.now }
-    ensures short { length bytes.now < 2 ^ 64 }
-{
-    let mut stream = StreamToc::new();
-    // a fault that is told here is told at the end again
-    let _fault = stream.feed(bytes);
-    stream.end()
-}
 
 /// Tells where an entry's payload stands, where there is one. 0: there is one; 1: there is none.
 fn put_place(entry: Option<Entry>, place: &mut Place) -> u32
@@ -56,7 +44,10 @@ pub extern "C" fn fwu_find(bytes: &[u8], guid: &[u8; 16], place: &mut Place) -> 
         (λ e. (place.new.offset ≡ e.offset) × (place.new.size ≡ e.size)) }
     ensures kept { IfNone (entry_in guid.now (toc_of bytes.now)) (place.new ≡ place.old) }
 {
-    match table_of(bytes) {
+    // the table is read where it stands: a fault that is told here is told by it again
+    let mut stream = StreamToc::new();
+    let _fault = stream.feed(bytes);
+    match stream.toc() {
         Ok(toc) => put_place(toc.entries.find(&Guid::of(*guid)), place),
         Err(_) => 2,
     }

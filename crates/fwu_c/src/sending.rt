@@ -6,10 +6,9 @@ ghost use Rattle.fwu_formats.specs.Package.{toc_of};
 ghost use Rattle.step_flash.specs.Device.{block_count, told_of};
 ghost use Rattle.fwu_c.specs.Sendings.{InstallsBy, IsOutcome, IsSent, SendsPackage, outcome_code, sent_code};
 
-use crate::packages::table_of;
 use agent_calls::Agent;
 use early_boot::Booted;
-use fip_tables::Toc;
+use fip_tables::{StreamToc, Toc};
 use package_files::PackageFiles;
 use step_flash::StepFlash;
 use update_client::{SendStop, Sent, send};
@@ -89,9 +88,12 @@ pub fn install<'a>(
     ensures size { block_count result.0 ≡ block_count (device booted.entry) }
     ensures layout { layout_seen (told_of (device booted.entry)).now ≡ Ok (started booted.entry).layout }
 {
-    match table_of(file) {
+    // the table is read where it stands: a fault that is told here is told by it again
+    let mut stream = StreamToc::new();
+    let _fault = stream.feed(file);
+    match stream.toc() {
         Ok(toc) => {
-            let (flash, sent) = send_package(booted, &toc, file, acceptance, block);
+            let (flash, sent) = send_package(booted, toc, file, acceptance, block);
             (flash, Some(sent))
         }
         Err(_) => {
