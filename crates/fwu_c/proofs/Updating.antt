@@ -1,5 +1,5 @@
 -- An update, by what its device tells and by its steps.
-use Rattle.std.proofs.Common.{◌≡◌, ◌∙◌, refl, ℕ, ◌*◌, List, [], length, Option, Some, None, Ok, Err, ap, sym, subst, take, arith, get_or}
+use Rattle.std.proofs.Common.{◌≡◌, ◌∙◌, ◌⊎◌, inl, inr, refl, ℕ, ◌*◌, List, [], length, Option, Some, None, Ok, Err, ap, sym, subst, take, arith, get_or}
 use Rattle.std.proofs.Math.ListN.{get_or-map}
 use Rattle.std.specs.Prelude.{All, IsTrue, IsFalse}
 use Rattle.base_core.specs.Block.{block_bytes}
@@ -114,6 +114,10 @@ outcome_not_seven (Some (Err ReadFailed)) is e = is
 outcome_not_seven (Some (Err Lost)) is e = is
 outcome_not_seven (Some (Err Fault)) is e = omega (arith, e)
 outcome_not_seven (Some (Err Gone)) is e = is
+
+pub is_answer : (n : ℕ) → n ≡ 16 → (n ≡ 6) ⊎ (n ≡ 7) → ⊥
+is_answer n is (inl six) = omega (arith, is, six)
+is_answer n is (inr seven) = omega (arith, is, seven)
 
 -- ---- the record
 

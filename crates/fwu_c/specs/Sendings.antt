@@ -88,7 +88,8 @@ pub record SendsPackage (file : List ℕ) (request : ℕ) (b : Started) (result 
       → AnswersBy E s (send_answer E toc (images_of b.layout.rows file toc) request s (started_session b)) result old t
   pub installs : OnOk result ((s : State) → IsShown b.layout old.now s
       → HasInstalled b.layout (images_of b.layout.rows file toc) request s t)
-  -- on any flash that shows a state, at any exit: nothing changed but blocks 1 to 3, and the bank that follows the one that was started
+  -- on any flash that shows a state, at any exit: nothing changed but blocks 1 to 3, and the bank that follows the one that was
+  -- started
   pub keeps : (s : State) → IsShown b.layout old.now s → KeepsWhere (IsSparedByAll b.layout b.bank) old t
 
 abbrev pub InstallsBy : List ℕ → ℕ → Started → Outcome → Told → Told → Type 0

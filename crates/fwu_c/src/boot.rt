@@ -54,7 +54,7 @@ fn boot_over(
     report: &mut Report,
 ) -> u32
     requires on { is_on flash ≡ true }
-    requires block { length block.old ≡ block_bytes }
+    requires block { block_bytes ≤ length block.old }
     requires fresh { told_of flash ≡ start (image_of flash) }
     requires size { length (image_of flash) ≡ block_bytes * block_count flash }
     ensures answers { (result ≤ 5) ⊎ (result ≡ 7) }

@@ -68,7 +68,12 @@ pub fn taken_up<'a>(
     ensures refuses { IfErr result (λ e. Refuses bank e.1 told.new (told_of flash.entry) (told_of e.0)) }
     ensures left_size { IfErr result (λ e. block_count e.0 ≡ block_count flash.entry) }
 {
-    match take_up(flash, bank, &AnyManifest, &mut block[..BLOCK_BYTES as usize]) {
+    match take_up(
+        flash,
+        bank,
+        &AnyManifest,
+        &mut block[..BLOCK_BYTES as usize],
+    ) {
         TakeUpEnd::Taken(booted) => {
             report_start(&booted, told);
             Ok(booted)

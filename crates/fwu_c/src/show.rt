@@ -1,5 +1,5 @@
 //! What a flash shows, and what is found of the package in each bank.
-ghost use Rattle.std.specs.Prelude.{◌≡◌, ◌⊎◌, ◌↔◌, ◌<◌, ◌≤◌, true, false, Ok, length, slice_index_or, IfSome};
+ghost use Rattle.std.specs.Prelude.{◌≡◌, ◌⊎◌, ◌↔◌, ◌<◌, ◌≤◌, true, false, Ok, drop, length, slice_index_or, IfSome};
 ghost use Rattle.fwu_formats.specs.Metadata.{bit_number};
 ghost use Rattle.base_core.specs.Block.{block_bytes};
 ghost use Rattle.fwu_formats.specs.Image.{layout_seen};
@@ -10,7 +10,7 @@ ghost use Rattle.fwu_c.specs.Shows.{image_told, state_code, verdict_code, versio
 
 use crate::layouts::fault_number;
 use base_core::BLOCK_BYTES;
-use early_boot::{Numbers, Unshown, read_numbers};
+use early_boot::{Numbers, Unshown, read_numbers_in};
 use fwu_formats::{BankState, LayoutFault};
 use image_check::{Verdict, check};
 use meta_layout::{Bits, Layout};
@@ -72,6 +72,8 @@ pub extern "C" fn fwu_show(alloc: Global, image: &[u8], shown: &mut FlashShown) 
     ensures shows { result ≤ 5 → ShowsBy image.now result shown.new }
     // At 1 nothing but the fault is told, and from 2 on nothing.
     ensures fault { result ≡ 1 → shown.new ≡ record shown.old { layout_fault = shown.new.layout_fault } }
+    // Nothing is told behind the last bank.
+    ensures behind { drop shown.new.banks shown.new.bank ≡ drop shown.new.banks shown.old.bank }
     // 6 comes of all bytes that are no flash, and of no others.
     ensures no_flash { (result ≡ 6) ↔ (HasFlashSize image.now → ⊥) }
     ensures untouched { 2 ≤ result → shown.new ≡ shown.old }
@@ -82,7 +84,7 @@ pub extern "C" fn fwu_show(alloc: Global, image: &[u8], shown: &mut FlashShown) 
     let Ok(mut block) = Vec::from_elem(alloc, 0u8, BLOCK_BYTES as usize) else {
         return 7;
     };
-    match read_numbers(&mut flash) {
+    match read_numbers_in(&mut flash, &mut block[..BLOCK_BYTES as usize]) {
         Ok(read) => show_all(alloc, image, &read, &mut block, shown),
         Err(Unshown::Layout(fault)) => {
             shown.layout_fault = fault_number(fault);
@@ -117,6 +119,7 @@ fn show_all(
     requires are { AreNumbers (numbers read.now) }
     ensures answers { (result ≡ 0) ⊎ (result ≡ 7) }
     ensures shows { result ≡ 0 → ShowsBy image.now 0 shown.new }
+    ensures behind { drop shown.new.banks shown.new.bank ≡ drop shown.new.banks shown.old.bank }
     ensures untouched { result ≡ 7 → shown.new ≡ shown.old }
 {
     // without a layout there are no numbers
@@ -135,7 +138,8 @@ fn show_all(
 /// Tells the numbers of a flash.
 fn put_numbers(layout: &Layout, read: &Numbers, shown: &mut FlashShown)
     requires { AreNumbers (numbers read.now) }
-    ensures { TellsNumbers layout.now (numbers read.now) shown.new }
+    ensures told { TellsNumbers layout.now (numbers read.now) shown.new }
+    ensures banks { shown.new.bank ≡ shown.old.bank }
 {
     shown.form = read.form;
     shown.active = read.active;
@@ -161,6 +165,7 @@ fn show_banks(
     requires are { AreNumbers (numbers read.now) }
     requires told { TellsNumbers layout.now (numbers read.now) shown.old }
     ensures banks { result ≡ true → TellsBanks image.now layout.now (numbers read.now) shown.new }
+    ensures behind { result ≡ true → drop shown.new.banks shown.new.bank ≡ drop shown.new.banks shown.old.bank }
     ensures told { TellsNumbers layout.now (numbers read.now) shown.new }
 {
     for bank in 0..read.states.len() {
@@ -181,7 +186,7 @@ fn find_bank(
     bank: u32,
     block: &mut [u8],
 ) -> Option<BankShown>
-    requires room { length block.old ≡ block_bytes }
+    requires room { block_bytes ≤ length block.old }
     requires layout { layout_seen image.now ≡ Ok layout.now }
     requires bank { bank < layout.now.banks }
     requires states { bank < length (numbers read.now).states }

@@ -1,5 +1,5 @@
 //! An update of a flash that lies in memory.
-ghost use Rattle.std.specs.Prelude.{◌≡◌, ◌≢◌, ◌⊎◌, ◌↔◌, ◌*◌, ◌<◌, length, true, IfSome, IsFalse, IsTrue, slice_index_or};
+ghost use Rattle.std.specs.Prelude.{◌≡◌, ◌≢◌, ◌⊎◌, ◌↔◌, ◌*◌, ◌≤◌, ◌<◌, length, true, IfSome, IsFalse, IsTrue, slice_index_or};
 ghost use Rattle.base_core.specs.Block.{block_bytes};
 ghost use Rattle.fwu_formats.specs.declared.kinds.BankState.TheVariants.{Invalid};
 ghost use Rattle.fwu_model.specs.State.{is_valid};
@@ -13,7 +13,7 @@ use crate::handing::hand_over;
 use crate::report::{Report, into_flash, report_end, report_start};
 use crate::sending::{install, outcome_number};
 use base_core::BLOCK_BYTES;
-use early_boot::{BootEnd, Numbers, Unshown, boot_in, read_numbers};
+use early_boot::{BootEnd, Numbers, Unshown, boot_in, read_numbers_in};
 use std::alloc::Global;
 use step_flash::{Step, StepFlash};
 use verify_core::AnyManifest;
@@ -53,13 +53,18 @@ pub extern "C" fn fwu_update(
     let Some(first) = StepFlash::new(alloc, image, 0) else {
         return 6;
     };
-    match shows_trial(first) {
+    let Ok(mut block) = Vec::from_elem(alloc, 0u8, BLOCK_BYTES as usize) else {
+        return 7;
+    };
+    match shows_trial(first, &mut block) {
         Some(true) => {
             report.steps = 0;
             report.bytes = 0;
             16
         }
-        Some(false) => update(alloc, image, file, acceptance, steps, room, report),
+        Some(false) => update(
+            alloc, image, &mut block, file, acceptance, steps, room, report,
+        ),
         // no read of this device fails
         None => 7,
     }
@@ -74,14 +79,15 @@ fn is_on_trial(shown: &Numbers) -> bool
 }
 
 /// Whether a device over an image shows an active bank that is on trial. None where a read failed.
-fn shows_trial(flash: StepFlash<'_>) -> Option<bool>
+fn shows_trial(flash: StepFlash<'_>, block: &mut [u8]) -> Option<bool>
     requires on { is_on flash ≡ true }
+    requires block { block_bytes ≤ length block.old }
     requires fresh { told_of flash ≡ start (image_of flash) }
     ensures trial { IfSome result (λ shown. IsTrue shown → IsOnTrial (image_of flash.entry)) }
     ensures other { IfSome result (λ shown. IsFalse shown → IsOnTrial (image_of flash.entry) → ⊥) }
 {
     let mut flash = flash;
-    match read_numbers(&mut flash) {
+    match read_numbers_in(&mut flash, &mut block[..BLOCK_BYTES as usize]) {
         Ok(shown) => Some(is_on_trial(&shown)),
         Err(Unshown::Layout(_)) => Some(false),
         Err(Unshown::Metadata) => Some(false),
@@ -89,16 +95,18 @@ fn shows_trial(flash: StepFlash<'_>) -> Option<bool>
     }
 }
 
-/// As `fwu_update`, of an image whose active bank is not on trial.
+/// As `fwu_update`, of an image whose active bank is not on trial, with a buffer of 4096 bytes.
 fn update(
     alloc: Global,
     image: &[u8],
+    block: &mut [u8],
     file: &[u8],
     acceptance: u32,
     steps: &mut [Step],
     room: &mut [u8],
     report: &mut Report,
 ) -> u32
+    requires { block_bytes ≤ length block.old }
     ensures updates { IsAnswered result →
         UpdatesBy image.now file.now acceptance result report.new steps.new room.new }
     ensures unlost { result ≢ 4 }
@@ -110,10 +118,7 @@ fn update(
     let Some(flash) = StepFlash::new(alloc, image, steps.len()) else {
         return 6;
     };
-    let Ok(mut block) = Vec::from_elem(alloc, 0u8, BLOCK_BYTES as usize) else {
-        return 7;
-    };
-    update_over(flash, &mut block, file, acceptance, steps, room, report)
+    update_over(flash, block, file, acceptance, steps, room, report)
 }
 
 /// As `update`, on the device over the image, with a buffer of 4096 bytes.
@@ -127,7 +132,7 @@ fn update_over(
     report: &mut Report,
 ) -> u32
     requires on { is_on flash ≡ true }
-    requires block { length block.old ≡ block_bytes }
+    requires block { block_bytes ≤ length block.old }
     requires fresh { told_of flash ≡ start (image_of flash) }
     requires size { length (image_of flash) ≡ block_bytes * block_count flash }
     ensures updates { IsAnswered result →

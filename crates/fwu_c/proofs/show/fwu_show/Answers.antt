@@ -13,7 +13,7 @@ returns-in_default-clause-no_flash c = (λ six flash. c.in_default.ensures.none 
 
 pub show_all-requires-clause-numbers : goal.show_all-requires-clause-numbers
 show_all-requires-clause-numbers c =
-    subst (λ (i : List ℕ). ShowsNumbers i (numbers c.in-Ok-read_numbers.read)) (ap (λ t. t.now) c.in-Some.ensures.content ∙ start_now c.args.image.now) (c.in-Ok-read_numbers.ensures.numbers refl)
+    subst (λ (i : List ℕ). ShowsNumbers i (numbers c.in-Ok-read_numbers_in.read)) (ap (λ t. t.now) c.in-Some.ensures.content ∙ start_now c.args.image.now) (c.in-Ok-read_numbers_in.ensures.numbers refl)
 
 pub returns-in-Err-Layout-clause-shows : goal.returns-in-Err-Layout-clause-shows
 returns-in-Err-Layout-clause-shows c = λ low.
@@ -32,16 +32,16 @@ returns-in-Err-Metadata-clause-shows c = λ low.
     let nothing = subst (λ (i : List ℕ). ShowsNothing i why) now (c.in-Err-Metadata.ensures.nothing refl) in
     subst (λ (w : Unshown). ShowsNothing c.args.image.now w) c.in-Err-Metadata.field-0-is nothing
 
-pub returns-in-Ok-read_numbers-clause-shows : goal.returns-in-Ok-read_numbers-clause-shows
-returns-in-Ok-read_numbers-clause-shows c = λ low.
+pub returns-in-Ok-read_numbers_in-clause-shows : goal.returns-in-Ok-read_numbers_in-clause-shows
+returns-in-Ok-read_numbers_in-clause-shows c = λ low.
     all_shown c.args.image.now c.show_all.new.shown c.show_all.result c.show_all.ensures.answers c.show_all.ensures.shows low
 
-pub returns-in-Ok-read_numbers-clause-fault : goal.returns-in-Ok-read_numbers-clause-fault
-returns-in-Ok-read_numbers-clause-fault c = λ one.
+pub returns-in-Ok-read_numbers_in-clause-fault : goal.returns-in-Ok-read_numbers_in-clause-fault
+returns-in-Ok-read_numbers_in-clause-fault c = λ one.
     absurd (no_other c.show_all.result 1 c.show_all.ensures.answers one (λ e. omega (arith, e)) (λ e. omega (arith, e)))
 
-pub returns-in-Ok-read_numbers-clause-no_flash : goal.returns-in-Ok-read_numbers-clause-no_flash
-returns-in-Ok-read_numbers-clause-no_flash c = (
+pub returns-in-Ok-read_numbers_in-clause-no_flash : goal.returns-in-Ok-read_numbers_in-clause-no_flash
+returns-in-Ok-read_numbers_in-clause-no_flash c = (
   λ six flash. no_other c.show_all.result 6 c.show_all.ensures.answers six (λ e. omega (arith, e)) (λ e. omega (arith, e)),
   λ none. absurd (none (has_flash_size _ c.in-Some.flash c.in-Some.ensures.size)),
 )

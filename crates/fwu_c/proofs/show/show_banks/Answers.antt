@@ -1,8 +1,9 @@
-use Rattle.std.proofs.Common.{◌≡◌, ◌∙◌, ◌<◌, length, take, arith}
-use Rattle.std.proofs.lemmas.List.{length-set, take_more_set}
+use Rattle.std.proofs.Common.{◌≡◌, ◌∙◌, ◌<◌, ◌+◌, List, ap, drop, length, sym, take, arith}
+use Rattle.std.proofs.lemmas.List.{drop-drop, drop-set-lt, length-set, take_more_set}
 use Rattle.meta_layout.proofs.Places.{pushed}
 use Rattle.early_boot.specs.Numbers.{numbers}
 use Rattle.fwu_c.specs.Shows.{bank_shown}
+use Rattle.fwu_c.specs.declared.show.BankShown.{BankShown}
 use Rattle.fwu_c.proofs.Showing.{banks_are}
 use Rattle.fwu_c.proofs.show.show_banks.Goals as goal
 
@@ -33,4 +34,6 @@ loop-bank-preserved c =
         images = numbers_stay.images;
       },
       c.find_bank.ensures.room ∙ c.loop-bank.invariant.3,
+      drop-set-lt (bank + 1) told bank c.in-Some.found (omega arith)
+          ∙ sym (drop-drop 1 bank told) ∙ ap (λ (ks : List BankShown). drop 1 ks) c.loop-bank.invariant.4 ∙ drop-drop 1 bank c.args.shown.now.bank,
     )
