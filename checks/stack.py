@@ -36,6 +36,8 @@ def disassembled(library):
     """Of each function its instructions: of each its address, its words, and the function that it calls, if it calls one."""
     tool = next(filter(shutil.which, ("llvm-objdump", "aarch64-linux-gnu-objdump")), None) or sys.exit("no objdump for aarch64")
     run = subprocess.run([tool, "-d", "-r", "--no-show-raw-insn", library], check=True, capture_output=True, text=True)
+    if "littleaarch64" not in run.stdout:
+        sys.exit(f"{library} isn't for aarch64")
     functions, now = {}, []
     for line in run.stdout.split("\n"):
         if head := HEAD.match(line):
