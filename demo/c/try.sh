@@ -3,15 +3,15 @@
 #   - on random flashes (COUNT, 2,000 if not set) the host program and `fwu` print the same line and leave the same bytes;
 #   - a boot of up to 4 banks of 15 images has room in the buffers of the host program (greatest_boots.py);
 #   - the bare aarch64 program under QEMU prints what `fwu` prints on the same flash, of two, three, five and fifteen images;
-#   - the library's code has at most 70,000 bytes on aarch64 and 95,000 on x86-64, and calls no C function but memcpy, memmove, memset
+#   - the library's code has at most 61,440 bytes on aarch64 and 95,000 on x86-64, and calls no C function but memcpy, memmove, memset
 #     and the three of work.c;
-#   - a boot of each of these flashes takes at most 12,288 bytes of stack (STACK sets another bound; 8,192 are the aim).
+#   - a boot of each of these flashes takes at most 8,192 bytes of stack (STACK sets another bound).
 # It wants gcc, gcc-aarch64-linux-gnu, qemu-system-arm and python3 of Debian, and ends with 1 where one of these doesn't hold.
 set -eu
 cd "$(dirname "$0")/../.."
 top=$PWD
 out=$top/bin/c
-stack=${STACK:-12288}
+stack=${STACK:-8192}
 failed=0
 for tool in cc aarch64-linux-gnu-gcc qemu-system-aarch64 python3; do
     command -v $tool >/dev/null || { echo "$tool isn't installed" >&2; exit 1; }
@@ -26,7 +26,7 @@ fail() {
 python3 -B demo/c/random_flashes.py bin/fwu "$out/try" "${COUNT:-2000}" "${SEED:-1}" || failed=1
 python3 -B demo/c/greatest_boots.py "$out/try" || failed=1
 
-for most in x86_64=95000 aarch64=70000; do
+for most in x86_64=95000 aarch64=61440; do
     processor=${most%=*} text=${most#*=}
     bytes=$(size -A "$out/$processor/libfwu.a" | awk '$1 ~ /^\.(text|rodata)/ { all += $2 } END { print all }')
     data=$(size -A "$out/$processor/libfwu.a" | awk '$1 ~ /^\.(data|bss)/ { all += $2 } END { print all + 0 }')
