@@ -1,5 +1,6 @@
 -- A boot, by what its device tells and by its steps.
-use Rattle.std.proofs.Common.{◌≡◌, ◌∙◌, ◌⊎◌, ◌≤◌, inl, inr, refl, ℕ, ◌*◌, List, length, Some, None, ap, sym, subst, take, arith}
+use Rattle.std.proofs.Common.{◌≡◌, ◌∙◌, ◌⊎◌, ◌≤◌, inl, inr, refl, ℕ, ◌*◌, List, [], length, Some, None, ap, sym, subst, take, arith}
+use Rattle.std.specs.Prelude.{IsTrue}
 use Rattle.base_core.specs.Block.{block_bytes}
 use Rattle.flash_core.specs.Told.{Told, fresh}
 use Rattle.flash_core.specs.Counts.{Spends}
@@ -7,9 +8,10 @@ use Rattle.fwu_formats.specs.Digests.{passes_any}
 use Rattle.early_boot.specs.Started.{Started}
 use Rattle.early_boot.specs.Ends.{Ended, booted, bad_layout, no_metadata, no_bank, lost, failed, stop_of}
 use Rattle.early_boot.specs.EndsBy.{BootEnds, EndsByBytes}
-use Rattle.step_flash.specs.declared.step.Step.{Step}
 use Rattle.step_flash.specs.declared.device.StepFlash.{StepFlash}
-use Rattle.step_flash.specs.Device.{block_count, counts_of, told_of, image_of}
+use Rattle.step_flash.specs.declared.device.StepParts.{StepParts}
+use Rattle.step_flash.specs.declared.step.Step.{Step}
+use Rattle.step_flash.specs.Device.{NotedBy, block_count, counts_of, told_of, image_of}
 use Rattle.step_flash.specs.Guard.{guard_of, start}
 use Rattle.step_flash.specs.Stopped.{under_as}
 use Rattle.step_flash.specs.Steps.{run}
@@ -18,7 +20,7 @@ use Rattle.step_flash.proofs.Guards.{image_is}
 use Rattle.fwu_c.specs.declared.report.Report.{Report}
 use Rattle.fwu_c.specs.Boots.{BootsBy, HasFlashSize}
 use Rattle.fwu_c.specs.Codes.{end_code}
-use Rattle.fwu_c.specs.Handed.{HandsOver, IsWithin, SameBut}
+use Rattle.fwu_c.specs.Handed.{HandsOver, IsStart, IsWithin, SameBut, is_idle}
 use Rattle.fwu_c.specs.Reports.{ReportsEnd, ReportsStart}
 
 kept : (old t : Told) → t ≡ old → t.guard ≡ old.guard
@@ -133,3 +135,28 @@ boots_by image first d e number told r steps room made size same_size ends hands
 pub of_image : (image other : List ℕ) (number : ℕ) (r : Report) (steps : List Step) (room : List ℕ) → other ≡ image
     → BootsBy other number r steps room → BootsBy image number r steps room
 of_image image other number r steps room same boots = subst (λ (i : List ℕ). BootsBy i number r steps room) same boots
+
+-- ---- where nothing was written
+
+pub began_as : (old t : Told) → IsStart old → t ≡ old → IsStart t
+began_as old t began same = (began.0, same ∙ began.1)
+
+pub boot_idle : (e : Ended) (old t : Told) → IsStart old → EndsByBytes (λ m. passes_any m) old e t → IsTrue (is_idle (end_code e)) → IsStart t
+boot_idle (booted b n) old t began ends idle = absurd (cc)
+boot_idle (bad_layout f) old t began ends idle = began_as old t began ends.1
+boot_idle no_metadata old t began ends idle = began_as old t began ends.3
+boot_idle (no_bank active previous) old t began ends idle = absurd (cc)
+boot_idle (lost n) old t began ends idle = absurd (cc)
+boot_idle (failed n) old t began ends idle = absurd (cc)
+
+-- no step makes of the device's image what it tells then
+pub none_noted : (d : StepFlash) (parts : StepParts) (steps : List Step) (room : List ℕ) → NotedBy d parts → IsStart (told_of d) → steps ≡ []
+    → told_of d ≡ under_as (told_of d).under (run room (start (image_of d)) steps)
+unfolding run fresh
+none_noted d parts steps room noted (image, made) empty =
+    let guarded : (told_of d).guard ≡ guard_of image = ap (λ (x : Told). x.guard) made ∙ start_guard image in
+    let same : image_of d ≡ image = image_is image (image_of d) parts.room.items parts.steps.items (told_of d) noted guarded in
+    let now : told_of d ≡ start (image_of d) = made ∙ sym (ap (λ (i : List ℕ). start i) same) in
+    let whole : told_of d ≡ under_as (told_of d).under (start (image_of d)) =
+    subst (λ (t : Told). t ≡ under_as t.under (start (image_of d))) (sym now) refl in
+    subst (λ (ss : List Step). told_of d ≡ under_as (told_of d).under (run room (start (image_of d)) ss)) (sym empty) whole

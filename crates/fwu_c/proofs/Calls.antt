@@ -40,8 +40,8 @@ use Rattle.flash_core.specs.Counts.{Spends}
 use Rattle.step_flash.specs.Guard.{start}
 use Rattle.fwu_c.specs.declared.report.Report.{Report}
 use Rattle.fwu_c.specs.Calls.{AnswersBy, CallEnds, Called, CallsBy, CallsFrom, IsCalled, IsNotTaken, MakesCall, Refuses, RepliesAs, ReportsCall, ReportsTakeUp, Takes, call_code, called, called_code, not_taken, status_code, stop_code, take_up_code}
-use Rattle.fwu_c.specs.Handed.{HandsOver, SameBut}
-use Rattle.fwu_c.proofs.Booting.{over, start_same}
+use Rattle.fwu_c.specs.Handed.{HandsOver, IsStart, SameBut, is_idle}
+use Rattle.fwu_c.proofs.Booting.{began_as, over, start_same}
 
 -- ---- numbers
 
@@ -263,3 +263,27 @@ called_by image bank c first mid d b result number told r steps room made size s
 pub call_of_image : (image other : List ℕ) (bank : ℕ) (c : Call) (number : ℕ) (r : Report) (steps : List Step) (room : List ℕ) → other ≡ image
     → CallsBy other bank c number r steps room → CallsBy image bank c number r steps room
 call_of_image image other bank c number r steps room same by = subst (λ (i : List ℕ). CallsBy i bank c number r steps room) same by
+
+-- ---- where nothing was written
+
+pub take_up_idle : (bank : ℕ) (e : TakenUp) (old t : Told) → IsStart old → TakesByBytes (λ m. passes_any m) bank old e t
+    → IsTrue (is_idle (take_up_code e)) → IsStart t
+take_up_idle bank (taken b) old t began ends idle = absurd (cc)
+take_up_idle bank (bad_layout f) old t began ends idle = began_as old t began ends.1
+take_up_idle bank no_metadata old t began ends idle = began_as old t began ends.3
+take_up_idle bank not_started old t began ends idle = began_as old t began ends.1
+take_up_idle bank (stopped flash_stop.Lost) old t began ends idle = absurd (cc)
+take_up_idle bank (stopped flash_stop.Failed) old t began ends idle = absurd (cc)
+
+-- a call that was made has none of these numbers
+pub call_busy : (result : Result (Unit {0}) Stop) → IsTrue (is_idle (call_code result)) → ⊥
+call_busy (Ok x) idle = absurd (cc)
+call_busy (Err (stop.Status status.Denied)) idle = absurd (cc)
+call_busy (Err (stop.Status status.AuthFail)) idle = absurd (cc)
+call_busy (Err (stop.Status status.Unknown)) idle = absurd (cc)
+call_busy (Err (stop.Status status.Busy)) idle = absurd (cc)
+call_busy (Err (stop.Status status.OutOfBounds)) idle = absurd (cc)
+call_busy (Err (stop.Status status.NotAvailable)) idle = absurd (cc)
+call_busy (Err stop.Lost) idle = absurd (cc)
+call_busy (Err stop.Fault) idle = absurd (cc)
+call_busy (Err stop.Gone) idle = absurd (cc)

@@ -26,7 +26,7 @@ use Rattle.step_flash.specs.Stopped.{under_as}
 use Rattle.step_flash.specs.Steps.{IsInside, run}
 use Rattle.fwu_c.specs.declared.report.Report.{Report}
 use Rattle.fwu_c.specs.Codes.{end_code}
-use Rattle.fwu_c.specs.Handed.{HandsOver}
+use Rattle.fwu_c.specs.Handed.{HandsOver, is_idle}
 use Rattle.fwu_c.specs.Reports.{ReportsEnd, ReportsStart}
 use Rattle.update_client.specs.declared.stops.SendStop.TheVariants.{MissingImage, ImageTooLarge, Begin, End, ReadFailed, Lost, Fault, Gone}
 use Rattle.fwu_c.specs.Sendings.{InstallsBy, IsOutcome, Outcome, outcome_code}
@@ -114,6 +114,18 @@ outcome_not_seven (Some (Err ReadFailed)) is e = is
 outcome_not_seven (Some (Err Lost)) is e = is
 outcome_not_seven (Some (Err Fault)) is e = omega (arith, e)
 outcome_not_seven (Some (Err Gone)) is e = is
+
+pub outcome_busy : (outcome : Outcome) → IsTrue (is_idle (outcome_code outcome)) → ⊥
+outcome_busy None idle = absurd (cc)
+outcome_busy (Some (Ok sent)) idle = absurd (cc)
+outcome_busy (Some (Err (MissingImage guid))) idle = absurd (cc)
+outcome_busy (Some (Err (ImageTooLarge guid))) idle = absurd (cc)
+outcome_busy (Some (Err (Begin st))) idle = absurd (cc)
+outcome_busy (Some (Err (End st))) idle = absurd (cc)
+outcome_busy (Some (Err ReadFailed)) idle = absurd (cc)
+outcome_busy (Some (Err Lost)) idle = absurd (cc)
+outcome_busy (Some (Err Fault)) idle = absurd (cc)
+outcome_busy (Some (Err Gone)) idle = absurd (cc)
 
 pub is_answer : (n : ℕ) → n ≡ 16 → (n ≡ 6) ⊎ (n ≡ 7) → ⊥
 is_answer n is (inl six) = omega (arith, is, six)

@@ -11,6 +11,7 @@ use Rattle.fwu_model.specs.State.{State, after}
 use Rattle.fwu_model.specs.Sound.{Setting}
 use Rattle.fwu_model.specs.Session.{On, no_handles}
 use Rattle.fwu_model.specs.Call.{Call}
+use Rattle.fwu_model.specs.Call as call
 use Rattle.fwu_model.specs.Reply.{Reply, Refused, Success}
 use Rattle.fwu_model.specs.Answer.{Answer, answer, migrate_moves}
 use Rattle.fwu_model.specs.Calm.{IsCalm, IsAtRest}
@@ -27,6 +28,8 @@ use Rattle.step_flash.specs.Steps.{run}
 use Rattle.fwu_c.specs.Codes.{fault_code}
 use Rattle.fwu_c.specs.Handed.{IsWithin}
 use Rattle.fwu_c.specs.Reports.{ReportsStart}
+use Rattle.fwu_c.specs.declared.calling.AgentCall.{AgentCall}
+use Rattle.fwu_c.specs.declared.calling.AgentCall.TheVariants.{Accept, Previous}
 use Rattle.fwu_c.specs.declared.report.Report.{Report}
 
 -- ---- numbers
@@ -87,6 +90,11 @@ pub record Refuses (bank number : ℕ) (r : Report) (old t : Told) : Type 0 wher
   pub unlost : number ≢ 4
 
 -- ---- the call
+
+-- as the model has it
+abbrev pub call_of : AgentCall → Call
+call_of (Accept guid) = call.Accepts guid
+call_of Previous = call.Previous
 
 -- No power is lost on a device of steps, and no agent that was just started is gone.
 abbrev pub IsCalled : Result (Unit {0}) Stop → Type 0

@@ -1,6 +1,7 @@
 -- The steps of a device, as they were handed over.
-use Rattle.std.specs.Prelude.{◌≡◌, ◌≤◌, ◌*◌, All, ℕ, List, length, take}
+use Rattle.std.specs.Prelude.{◌≡◌, ◌≤◌, ◌*◌, ◌==◌, ◌||◌, All, Bool, ℕ, List, length, take}
 use Rattle.base_core.specs.Block.{block_bytes}
+use Rattle.flash_core.specs.Told.{Told}
 use Rattle.step_flash.specs.declared.step.Step.{Step}
 use Rattle.step_flash.specs.declared.device.StepFlash.{StepFlash}
 use Rattle.step_flash.specs.Device.{block_count, image_of, told_of}
@@ -26,6 +27,14 @@ pub record HandsOver (d : StepFlash) (told r : Report) (steps : List Step) (room
   pub left : told_of d ≡ under_as (told_of d).under (run (take r.bytes room) (start (image_of d)) (take r.steps steps))
   pub within : IsWithin (block_bytes * block_count d) r steps room
   pub same : SameBut told r
+
+-- there is no layout or no metadata, or no boot started the bank
+abbrev pub is_idle : ℕ → Bool
+is_idle number = number == 1 || number == 2 || number == 21
+
+-- what a device over some image tells before its first step
+abbrev pub IsStart : Told → Type 0
+IsStart t = (image : List ℕ) × (t ≡ start image)
 
 -- nothing was written
 pub record IsUntouched (old : Report) (old_steps : List Step) (old_room : List ℕ) (new : Report) (steps : List Step)

@@ -1,10 +1,10 @@
 //! The boot of a flash that lies in memory.
-ghost use Rattle.std.specs.Prelude.{◌≡◌, ◌≢◌, ◌⊎◌, ◌↔◌, ◌*◌, ◌≤◌, length, true};
+ghost use Rattle.std.specs.Prelude.{◌≡◌, ◌≢◌, ◌⊎◌, ◌↔◌, ◌*◌, ◌≤◌, length, true, IsTrue};
 ghost use Rattle.base_core.specs.Block.{block_bytes};
 ghost use Rattle.step_flash.specs.Device.{block_count, image_of, is_on, told_of};
 ghost use Rattle.step_flash.specs.Guard.{start};
 ghost use Rattle.fwu_c.specs.Boots.{BootsBy, HasFlashSize};
-ghost use Rattle.fwu_c.specs.Handed.{IsUntouched};
+ghost use Rattle.fwu_c.specs.Handed.{IsUntouched, is_idle};
 
 use crate::handing::hand_over;
 use crate::report::{Report, into_flash, report_end};
@@ -29,6 +29,8 @@ pub extern "C" fn fwu_boot(
     ensures boots { result ≤ 5 → BootsBy image.now result report.new steps.new room.new }
     // Steps are told and not done, so no power is lost.
     ensures unlost { result ≢ 4 }
+    // Where nothing was to be written no step is told.
+    ensures idle { IsTrue (is_idle result) → report.new.steps ≡ 0 }
     // At 5 as many steps are told as there is room for.
     ensures full { result ≡ 5 → report.new.steps ≡ length steps.old }
     // 6 comes of all bytes that are no flash, and of no others.
@@ -60,6 +62,7 @@ fn boot_over(
     ensures answers { (result ≤ 5) ⊎ (result ≡ 7) }
     ensures boots { result ≤ 5 → BootsBy (image_of flash.entry) result report.new steps.new room.new }
     ensures unlost { result ≢ 4 }
+    ensures idle { IsTrue (is_idle result) → report.new.steps ≡ 0 }
     ensures full { result ≡ 5 → report.new.steps ≡ length steps.old }
     ensures untouched { result ≡ 7 → IsUntouched report.old steps.old room.old report.new steps.new room.new }
 {

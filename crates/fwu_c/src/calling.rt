@@ -1,19 +1,37 @@
 //! A call of the agent in the session behind a boot of a bank.
-ghost use Rattle.std.specs.Prelude.{◌≡◌, ◌≤◌, length, true, IfErr, IfOk};
+ghost use Rattle.std.specs.Prelude.{◌≡◌, ◌≢◌, ◌⊎◌, ◌↔◌, ◌*◌, ◌≤◌, length, true, IfErr, IfOk, IsFalse, IsTrue};
 ghost use Rattle.base_core.specs.Block.{block_bytes};
+ghost use Rattle.fwu_formats.specs.Digests.{passes_any};
+ghost use Rattle.fwu_model.specs.Reply.{Success};
 ghost use Rattle.early_boot.specs.Started.{device, started};
-ghost use Rattle.step_flash.specs.Device.{block_count, is_on, told_of};
-ghost use Rattle.fwu_c.specs.Calls.{Refuses, Takes, call_code, status_code, stop_code};
+ghost use Rattle.agent_machine.specs.Meets.{Meets};
+ghost use Rattle.agent_calls.specs.Shown.{AgentGoes, gone, moment};
+ghost use Rattle.step_flash.specs.Device.{block_count, image_of, is_on, told_of};
+ghost use Rattle.step_flash.specs.Guard.{start};
+ghost use Rattle.fwu_c.specs.Boots.{HasFlashSize};
+ghost use Rattle.fwu_c.specs.Calls.{CallsBy, CallsFrom, IsCalled, Refuses, Takes, TellsCall};
+ghost use Rattle.fwu_c.specs.Calls.{call_code, call_of, status_code, stop_code};
+ghost use Rattle.fwu_c.specs.Handed.{IsUntouched, is_idle};
 
+use crate::handing::hand_over;
 use crate::layouts::fault_number;
 use crate::report::{Report, report_start};
-use agent_calls::Stop;
-use base_core::BLOCK_BYTES;
+use agent_calls::{Agent, Stop};
+use base_core::{BLOCK_BYTES, Guid};
 use early_boot::{Booted, TakeUpEnd, take_up};
 use flash_core::FlashStop;
 use fwu_model::Status;
-use step_flash::StepFlash;
+use std::alloc::Global;
+use step_flash::{Step, StepFlash};
 use verify_core::AnyManifest;
+
+/// A call that has no value.
+#[derive(Clone, Copy)]
+pub enum AgentCall {
+    /// Of the image of a type.
+    Accept(Guid),
+    Previous,
+}
 
 /// The number of a refusal.
 fn status_number(status: Status) -> u32
@@ -30,7 +48,7 @@ fn status_number(status: Status) -> u32
 }
 
 /// The number of a call that has no value.
-pub fn call_number(done: &Result<(), Stop>) -> u32
+fn call_number(done: &Result<(), Stop>) -> u32
     ensures { result ≡ call_code done.now }
 {
     match done {
@@ -55,7 +73,7 @@ fn stop_number(stop: FlashStop) -> u32
 
 /// Takes up the bank that a boot started, and reports it. Where it is refused, or the flash stops it, the number of that comes with
 /// the device.
-pub fn taken_up<'a>(
+fn taken_up<'a>(
     flash: StepFlash<'a>,
     bank: u32,
     block: &mut [u8],
@@ -85,5 +103,89 @@ pub fn taken_up<'a>(
         TakeUpEnd::NoMetadata(flash) => Err((flash, 2)),
         TakeUpEnd::NotStarted(flash) => Err((flash, 21)),
         TakeUpEnd::Stopped(flash, stop) => Err((flash, stop_number(stop))),
+    }
+}
+
+/// Makes the call.
+fn ask(agent: &mut Agent<StepFlash<'_>>, call: AgentCall) -> Result<(), Stop>
+    ensures meets { IsFalse (gone agent.old) →
+        Meets (λ value reply. reply ≡ Success) result (λ m. passes_any m) (call_of call) (moment agent.old) (moment agent.new) }
+    ensures goes { AgentGoes result agent.old agent.new }
+{
+    match call {
+        AgentCall::Accept(guid) => agent.accept(guid),
+        AgentCall::Previous => agent.previous(&AnyManifest),
+    }
+}
+
+/// Makes the call in the session behind a boot of the bank.
+fn called<'a>(booted: Booted<StepFlash<'a>>, call: AgentCall) -> (StepFlash<'a>, Result<(), Stop>)
+    ensures calls { CallsFrom (call_of call) (started booted.entry) result.1
+        (told_of (device booted.entry)) (told_of result.0) }
+    ensures ends { IsCalled result.1 }
+    ensures size { block_count result.0 ≡ block_count (device booted.entry) }
+{
+    let mut agent = Agent::start(booted);
+    let done = ask(&mut agent, call);
+    agent.showing();
+    (agent.into_flash(), done)
+}
+
+/// Makes the call on a flash that lies in memory.
+pub fn call_on(
+    alloc: Global,
+    image: &[u8],
+    bank: u32,
+    call: AgentCall,
+    steps: &mut [Step],
+    room: &mut [u8],
+    report: &mut Report,
+) -> u32
+    ensures calls { TellsCall result → CallsBy image.now bank (call_of call) result report.new steps.new room.new }
+    ensures unlost { result ≢ 4 }
+    ensures idle { IsTrue (is_idle result) → report.new.steps ≡ 0 }
+    ensures full { result ≡ 5 → report.new.steps ≡ length steps.old }
+    ensures no_flash { (result ≡ 6) ↔ (HasFlashSize image.now → ⊥) }
+    ensures untouched { (result ≡ 6) ⊎ (result ≡ 7)
+        → IsUntouched report.old steps.old room.old report.new steps.new room.new }
+{
+    let Some(flash) = StepFlash::new(alloc, image, steps.len()) else {
+        return 6;
+    };
+    let Ok(mut block) = Vec::from_elem(alloc, 0u8, BLOCK_BYTES as usize) else {
+        return 7;
+    };
+    call_over(flash, &mut block, bank, call, steps, room, report)
+}
+
+/// As `call_on`, on the device over the image, with a buffer of 4096 bytes.
+fn call_over(
+    flash: StepFlash<'_>,
+    block: &mut [u8],
+    bank: u32,
+    call: AgentCall,
+    steps: &mut [Step],
+    room: &mut [u8],
+    report: &mut Report,
+) -> u32
+    requires on { is_on flash ≡ true }
+    requires block { block_bytes ≤ length block.old }
+    requires fresh { told_of flash ≡ start (image_of flash) }
+    requires size { length (image_of flash) ≡ block_bytes * block_count flash }
+    ensures calls { TellsCall result →
+        CallsBy (image_of flash.entry) bank (call_of call) result report.new steps.new room.new }
+    ensures unlost { result ≢ 4 }
+    ensures idle { IsTrue (is_idle result) → report.new.steps ≡ 0 }
+    ensures full { result ≡ 5 → report.new.steps ≡ length steps.old }
+    ensures known { result ≢ 6 }
+    ensures untouched { result ≡ 7 → IsUntouched report.old steps.old room.old report.new steps.new room.new }
+{
+    let mut told = *report;
+    match taken_up(flash, bank, block, &mut told) {
+        Ok(booted) => {
+            let (flash, done) = called(booted, call);
+            hand_over(flash, call_number(&done), told, steps, room, report)
+        }
+        Err((flash, number)) => hand_over(flash, number, told, steps, room, report),
     }
 }

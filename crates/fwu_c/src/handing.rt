@@ -1,11 +1,41 @@
 //! The steps of a device, handed over to C.
-ghost use Rattle.std.specs.Prelude.{◌≡◌, ◌≢◌, ◌⊎◌, length};
-ghost use Rattle.fwu_c.specs.Handed.{HandsOver, IsUntouched};
+ghost use Rattle.std.specs.Prelude.{◌≡◌, ◌≢◌, ◌⊎◌, ◌*◌, All, length, IfSome, IsTrue};
+ghost use Rattle.base_core.specs.Block.{block_bytes};
+ghost use Rattle.step_flash.specs.Device.{NotedBy, block_count, told_of};
+ghost use Rattle.step_flash.specs.Steps.{IsInside};
+ghost use Rattle.fwu_c.specs.Handed.{HandsOver, IsStart, IsUntouched, is_idle};
 
 use crate::report::Report;
-use step_flash::{Step, StepFlash};
+use step_flash::{Step, StepFlash, StepParts};
 
 const _: () = prove!(size_of::<Step>() == 16);
+
+/// Whether a call that ends with this number has written nothing.
+fn is_idle(number: u32) -> bool
+    ensures { result ≡ is_idle number }
+{
+    number == 1 || number == 2 || number == 21
+}
+
+/// The steps of a device that are handed over: none where nothing was written. None at all where power was on again after a stop.
+fn parts_of(flash: StepFlash<'_>, number: u32) -> Option<StepParts>
+    requires { IsTrue (is_idle number) → IsStart (told_of flash) }
+    ensures noted { IfSome result (λ parts. NotedBy flash.entry parts) }
+    ensures inside { IfSome result (λ parts.
+        All (IsInside (length parts.room.items) (block_bytes * block_count flash.entry)) parts.steps.items) }
+    ensures none { IfSome result (λ parts. IsTrue (is_idle number) → length parts.steps.items ≡ 0) }
+{
+    if !flash.is_live() {
+        return None;
+    }
+    let mut parts = flash.into_parts();
+    if is_idle(number) {
+        parts.steps.clear();
+        parts.room.clear();
+        return Some(parts);
+    }
+    Some(parts)
+}
 
 /// Hands the steps of a device over, with what is told beside them, and answers the number that it is given. It answers 7, and
 /// writes nothing, where there is no room for the steps or for their bytes. It does so too at 5, where fewer steps were noted than
@@ -19,15 +49,16 @@ pub fn hand_over(
     report: &mut Report,
 ) -> u32
     requires known { number ≢ 7 }
+    requires idle { IsTrue (is_idle number) → IsStart (told_of flash) }
     ensures number { (result ≡ number) ⊎ (result ≡ 7) }
     ensures hands { result ≢ 7 → HandsOver flash.entry told report.new steps.new room.new }
+    ensures idle { IsTrue (is_idle result) → report.new.steps ≡ 0 }
     ensures full { result ≡ 5 → report.new.steps ≡ length steps.old }
     ensures untouched { result ≡ 7 → IsUntouched report.old steps.old room.old report.new steps.new room.new }
 {
-    if !flash.is_live() {
+    let Some(parts) = parts_of(flash, number) else {
         return 7;
-    }
-    let parts = flash.into_parts();
+    };
     let count = parts.steps.len();
     let used = parts.room.len();
     let (Ok(count_told), Ok(used_told)) = (u32::try_from(count), u32::try_from(used)) else {

@@ -4,11 +4,10 @@
 //! nothing else that is passed.
 #![tactic(auto)]
 
-mod accepting;
+mod agent;
 mod boot;
 mod calling;
 mod checksums;
-mod going_back;
 mod handing;
 mod layouts;
 mod packages;
@@ -20,10 +19,9 @@ mod slots;
 mod tests;
 mod update;
 
-pub use accepting::fwu_accept;
+pub use agent::{fwu_accept, fwu_previous};
 pub use boot::fwu_boot;
 pub use checksums::{fwu_crc32, fwu_sealed};
-pub use going_back::fwu_previous;
 pub use layouts::fwu_layout;
 pub use packages::{Place, fwu_find, fwu_manifest};
 pub use report::Report;

@@ -6,7 +6,7 @@ ghost use Rattle.fwu_model.specs.State.{is_valid};
 ghost use Rattle.step_flash.specs.Device.{block_count, image_of, is_on, told_of};
 ghost use Rattle.step_flash.specs.Guard.{start};
 ghost use Rattle.fwu_c.specs.Boots.{HasFlashSize};
-ghost use Rattle.fwu_c.specs.Handed.{IsUntouched};
+ghost use Rattle.fwu_c.specs.Handed.{IsUntouched, is_idle};
 ghost use Rattle.fwu_c.specs.Updates.{IsAnswered, IsOnTrial, UpdatesBy};
 
 use crate::handing::hand_over;
@@ -42,6 +42,8 @@ pub extern "C" fn fwu_update(
     ensures trial { IsOnTrial image.now → IsAnswered result → (result ≡ 16) × (report.new.steps ≡ 0) }
     // Steps are told and not done, so no power is lost.
     ensures unlost { result ≢ 4 }
+    // Where nothing was to be written no step is told.
+    ensures idle { IsTrue (is_idle result) → report.new.steps ≡ 0 }
     // At 5 as many steps are told as there is room for.
     ensures full { result ≡ 5 → report.new.steps ≡ length steps.old }
     // 6 comes of all bytes that are no flash, and of no others.
@@ -110,6 +112,7 @@ fn update(
     ensures updates { IsAnswered result →
         UpdatesBy image.now file.now acceptance result report.new steps.new room.new }
     ensures unlost { result ≢ 4 }
+    ensures idle { IsTrue (is_idle result) → report.new.steps ≡ 0 }
     ensures full { result ≡ 5 → report.new.steps ≡ length steps.old }
     ensures no_flash { result ≡ 6 → HasFlashSize image.now → ⊥ }
     ensures untouched { (result ≡ 6) ⊎ (result ≡ 7)
@@ -138,6 +141,7 @@ fn update_over(
     ensures updates { IsAnswered result →
         UpdatesBy (image_of flash.entry) file.now acceptance result report.new steps.new room.new }
     ensures unlost { result ≢ 4 }
+    ensures idle { IsTrue (is_idle result) → report.new.steps ≡ 0 }
     ensures full { result ≡ 5 → report.new.steps ≡ length steps.old }
     ensures known { result ≢ 6 }
     ensures untouched { result ≡ 7 → IsUntouched report.old steps.old room.old report.new steps.new room.new }

@@ -1,4 +1,5 @@
 use Rattle.std.proofs.Common.{◌≡◌, ap, refl, subst, sym, ◌∙◌}
+use Rattle.std.specs.Prelude.{IsTrue}
 use Rattle.fwu_formats.specs.Digests.{passes_any}
 use Rattle.early_boot.specs.Ends.{device_of, ended}
 use Rattle.early_boot.specs.EndsBy.{BootEnds}
@@ -7,9 +8,25 @@ use Rattle.step_flash.specs.declared.device.StepFlash.{StepFlash}
 use Rattle.step_flash.specs.Device.{block_count, image_of, told_of}
 use Rattle.fwu_c.specs.Codes.{end_code}
 use Rattle.fwu_c.proofs.Unbooted.{not_started}
-use Rattle.fwu_c.proofs.Booting.{given}
-use Rattle.fwu_c.proofs.Updating.{tried_by, unbooted_by}
+use Rattle.fwu_c.specs.Handed.{IsStart, is_idle}
+use Rattle.fwu_c.proofs.Booting.{boot_idle, given}
+use Rattle.fwu_c.proofs.Updating.{outcome_busy, tried_by, unbooted_by}
 use Rattle.fwu_c.proofs.update.update_over.Goals as goal
+
+pub hand_over-requires-clause-idle : goal.hand_over-requires-clause-idle
+hand_over-requires-clause-idle c = λ idle.
+    absurd (outcome_busy c.install-flash.result.1 (subst (λ n. IsTrue (is_idle n)) c.outcome_number.ensures idle))
+
+pub hand_over-requires-in_default-clause-idle : goal.hand_over-requires-in_default-clause-idle
+hand_over-requires-in_default-clause-idle c = λ idle.
+    let same = c.in_default.end-is in
+    let numbered = c.report_end-number.ensures.number in
+    let given_back = c.into_flash.ensures in
+    let back : c.into_flash.result ≡ device_of c.boot_in.result = cc in
+    let code : c.report_end-number.result ≡ end_code (ended c.boot_in.result) = cc in
+    subst (λ (d : StepFlash). IsStart (told_of d)) (sym back)
+    (boot_idle (ended c.boot_in.result) (told_of c.args.flash) (told_of (device_of c.boot_in.result)) (image_of c.args.flash, c.requires.fresh)
+    (c.boot_in.ensures.boots.ends refl).by_bytes (subst (λ n. IsTrue (is_idle n)) code idle))
 
 pub returns-in-Booted-clause-updates : goal.returns-in-Booted-clause-updates
 returns-in-Booted-clause-updates c = λ told.

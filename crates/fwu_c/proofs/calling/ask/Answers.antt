@@ -1,0 +1,21 @@
+use Rattle.std.proofs.Common.{◌≡◌, ap, refl, subst, sym}
+use Rattle.fwu_formats.specs.Digests.{passes_any}
+use Rattle.fwu_model.specs.Call.{Call}
+use Rattle.fwu_model.specs.Reply.{Reply, Success}
+use Rattle.agent_machine.specs.Meets.{Meets}
+use Rattle.agent_calls.specs.Shown.{moment}
+use Rattle.fwu_c.specs.Calls.{call_of}
+use Rattle.fwu_c.specs.declared.calling.AgentCall.{AgentCall}
+use Rattle.fwu_c.proofs.calling.ask.Goals as goal
+
+pub returns-in-Accept-clause-meets : goal.returns-in-Accept-clause-meets
+returns-in-Accept-clause-meets c = λ here.
+    subst (λ (k : Call). Meets (λ (value : Unit {0}) (reply : Reply). reply ≡ Success) c.accept.result (λ m. passes_any m) k (moment c.args.agent.now) (moment c.accept.new.self))
+    (ap (λ (a : AgentCall). call_of a) (sym c.in-Accept.is)) (c.accept.ensures.meets here (λ m. passes_any m))
+
+pub returns-in-Previous-clause-meets : goal.returns-in-Previous-clause-meets
+returns-in-Previous-clause-meets c = λ here.
+    let meets = c.previous.ensures.meets here (λ m. passes_any m) refl in
+    subst (λ (k : Call). Meets (λ (value : Unit {0}) (reply : Reply). reply ≡ Success) c.previous.result (λ m. passes_any m) k (moment c.args.agent.now) (moment c.previous.new.self))
+    (ap (λ (a : AgentCall). call_of a) (sym c.in-Previous.is))
+    (record { exact = λ E s x setting shows. meets.exact E s x setting shows refl; leaves = meets.leaves })
