@@ -190,7 +190,8 @@ uint32_t fwu_update(const uint8_t *flash, size_t length, const uint8_t *package,
  * The bank has to be the active one, and accepted or on trial with a start that counts; or the previous one, and accepted. And it
  * has to hold a complete package of a version not below the counter. Else it is FWU_NOT_STARTED.
  *
- * The report says at 0, 16 and 20 what fwu_boot says at 0, by the numbers before the call. At 1 it has the layout's fault. */
+ * The report says at 0, 16 and 20 what fwu_boot says at 0, by the numbers before the call. At 1 it has the layout's fault. At 5 it
+ * is what it is at 0, or nothing but `steps` and `bytes`. */
 
 /* Accepts the image of a type in the active bank. `type` has the 16 bytes of a UUID, in the order of its text. Once all images of
  * the bank are accepted, so is the bank, and its trials are over. An image that is accepted already is so again, by no step but
@@ -240,7 +241,7 @@ struct fwu_shown {
     uint32_t layout_fault;     /* at 1: enum fwu_layout_fault */
     uint32_t banks;            /* how many banks there are, 2 to 4 */
     uint32_t images;           /* how many images each bank has, 2 to 16 */
-    struct fwu_bank bank[4];   /* each of these banks; what stands behind them means nothing */
+    struct fwu_bank bank[4];   /* each of these banks; behind them it stays as it was */
 };
 
 /* What a flash that lies in memory shows, with the packages in its banks. Nothing is repaired, no step is told, and no start is
@@ -256,8 +257,8 @@ FWU_ASSERT(sizeof(struct fwu_shown) == 160 && offsetof(struct fwu_shown, bank) =
 /* ---- memory: demo/c/work.c */
 
 /* Gives the library memory: `size` bytes, of any alignment, which are the caller's again when the next call has returned. To be
- * called before fwu_show and each call that tells steps. No boot that was measured took more than 17,120 bytes; what an update takes is in
- * docs/FIRMWARE.md. */
+ * called before fwu_show and each call that tells steps. No boot that was measured took more than 17,120 bytes; what an update takes
+ * is in docs/FIRMWARE.md. */
 void fwu_work(void *memory, size_t size);
 
 /* The most bytes of the buffer that a call took so far. */

@@ -3,8 +3,8 @@
 #   - on random flashes (COUNT, 2,000 if not set) the host program and `fwu` print the same line and leave the same bytes;
 #   - a boot of up to 4 banks of 15 images has room in the buffers of the host program (greatest_boots.py);
 #   - the bare aarch64 program under QEMU prints what `fwu` prints on the same flash, of two, three, five and fifteen images;
-#   - the library's code has at most 61,440 bytes on aarch64 and 82,000 on x86-64, and calls no C function but memcpy, memmove, memset
-#     and the three of work.c;
+#   - the library has at most 61,440 bytes of code and constants on aarch64 and 82,000 on x86-64;
+#   - it calls no C function but memcpy, memmove, memset and the three of work.c;
 #   - a boot of each of these flashes takes at most 8,192 bytes of stack (STACK sets another bound).
 # It wants gcc, gcc-aarch64-linux-gnu, qemu-system-arm and python3 of Debian, and ends with 1 where one of these doesn't hold.
 set -eu
