@@ -24,6 +24,8 @@ use replicas::store;
 use verify_core::Verifier;
 
 /// Clears the trial marks, and then stores metadata in both replicas.
+// kept apart, so that its block stands on the stack for this call alone
+#[inline(never)]
 fn clear_and_store<D: Flash>(flash: &mut D, layout: &Layout, meta: &Meta) -> Result<(), FlashStop>
     requires on { IsTrue (D.on flash.old) }
     requires fits { IsTrue (fits_meta layout.now meta.now.meta) }

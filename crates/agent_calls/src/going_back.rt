@@ -72,6 +72,8 @@ fn is_good(verdict: Verdict) -> bool
 }
 
 /// Whether the verdict on a bank is good. The flash is read alone, and the images are hashed one after another, in a block.
+// kept apart, so that its block stands on the stack for this call alone
+#[inline(never)]
 fn is_bank_good<D: Flash, V: Verifier>(
     flash: &mut D,
     layout: &Layout,

@@ -14,6 +14,8 @@ use meta_layout::{Layout, Meta};
 use replicas::store;
 
 /// Stores metadata over both replicas, where it is to be stored.
+// kept apart, so that its block stands on the stack for this call alone
+#[inline(never)]
 fn store_if<D: Flash>(
     flash: &mut D,
     layout: &Layout,
