@@ -84,6 +84,8 @@ fn running<D: Flash, V: Verifier>(
 }
 
 /// The bank, where it may be taken up; then the replicas are repaired.
+// its frame is gone before the agent is made: that keeps the stack small
+#[inline(never)]
 fn check_and_mend<D: Flash, V: Verifier>(
     flash: &mut D,
     shown: &Shown,
@@ -143,6 +145,8 @@ fn unshown<D: Flash>(flash: D, why: Unshown) -> TakeUpEnd<D>
 ///
 /// The caller's buffer has 4096 bytes at least. It holds the blocks that are read, and the metadata that is written. What stands
 /// in it before and afterwards means nothing.
+// in the frame of its caller, which takes the end apart at once: that keeps the stack small
+#[inline(always)]
 pub fn take_up<D: Flash, V: Verifier>(
     flash: D,
     bank: u32,

@@ -1,5 +1,5 @@
 -- A sending that was not done, by how it ended.
-use Rattle.std.proofs.Common.{◌≡◌, ◌*◌, ◌<◌, ℕ, Bool, false, List, inl, inr, length, take, get_or, Option, Some, Result, Ok, Err, refl, sym, ap, subst, ◌∙◌, arith}
+use Rattle.std.proofs.Common.{◌≡◌, ◌*◌, ◌<◌, ℕ, Bool, false, List, inl, inr, length, take, get_or, Option, Some, Result, Ok, Err, refl, sym, subst, ◌∙◌, arith}
 use Rattle.std.specs.Prelude.{◌==◌}
 use Rattle.flash_core.specs.declared.flash.Arming.{Arming}
 use Rattle.host_io.specs.Contents.{Directory}

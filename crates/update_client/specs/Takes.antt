@@ -1,5 +1,5 @@
 -- How many erases and programs a sending makes, as an armed loss counts them, on every device.
-use Rattle.std.specs.Prelude.{◌≡◌, ℕ, ◌+◌, ◌*◌, ◌<◌, ◌≤◌, List, [], ◌∷◌, length, take, Option, Some, None, Result, Ok, Err, slice_index_or, ⊤}
+use Rattle.std.specs.Prelude.{◌≡◌, ℕ, ◌+◌, ◌*◌, ◌<◌, ◌≤◌, List, [], ◌∷◌, length, take, Option, Some, None, Result, Err, slice_index_or, ⊤}
 use Rattle.flash_core.specs.declared.flash.Arming.{Arming}
 use Rattle.flash_core.specs.Counts.{lowered_by}
 use Rattle.fwu_formats.specs.Layout.{ImageRow, find_image, slot_bytes}
@@ -14,7 +14,7 @@ use Rattle.agent_machine.specs.Filling.{between, within}
 use Rattle.agent_calls.specs.Takes.{Takes, writes_of_image, writes_of_pieces}
 use Rattle.update_client.specs.Images.{AreImages, no_entry}
 use Rattle.update_client.specs.declared.stops.SendStop.{SendStop}
-use Rattle.update_client.specs.declared.stops.SendStop.TheVariants.{MissingImage, ImageTooLarge, Begin, End, ReadFailed, Lost, Fault, Gone}
+use Rattle.update_client.specs.declared.stops.SendStop.TheVariants.{End, ReadFailed}
 
 -- the writes and commits of these payloads, written `size` bytes at a time
 abbrev pub writes_in : ℕ → List Entry → ℕ
