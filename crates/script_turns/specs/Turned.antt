@@ -20,16 +20,16 @@ use Rattle.script_turns.specs.Sending.{IsUnnamed}
 use Rattle.script_turns.specs.Stage.{device, has_power, shown_on}
 use Rattle.script_turns.specs.Turning.{IsOnAfter, ShowsStarted, Turns, reply_of_end}
 
--- the turn does this call, and asks for no file
+-- the turn does this call whatever the files hold, and no call of theirs fails
 abbrev pub TurnsAlone : (List ℕ → Bool) → Bool → Call → Turn → Moment → Moment → Type 0
 TurnsAlone passes tells c t old new = (files : Option Directory) (faults : ℕ) → Turns passes tells files c t old new faults faults
 
--- so a call of an agent that is there
+-- so the turn of an agent that is there
 abbrev pub IsCallTurn : {D : Type 0} {F : Ghosts D} → (List ℕ → Bool) → Call → AgentTurn → Agent D F → Agent D F → Type 0
 IsCallTurn {F = F} passes c done old new =
     TurnsAlone passes F.tells c (turn done.turn) (moment_where true old) (moment_where done.here new)
 
--- a call of an agent that is there, which may ask for files
+-- the turn of an agent that is there does this call, and may ask for files
 abbrev pub IsTurnWith : {D H : Type 0} {F : Ghosts D} → files.Ghosts H → (List ℕ → Bool) → Call → AgentTurn → Agent D F → Agent D F
     → H → H → Type 0
 IsTurnWith {F = F} g passes c done old new was are =
@@ -37,10 +37,10 @@ IsTurnWith {F = F} g passes c done old new was are =
 
 -- how a turn leaves the device
 pub record LeavesDevice {D : Type 0} (F : Ghosts D) (t : Turn) (here : Bool) (old new : D) : Type 0 where
-  -- where the run goes on, it has power exactly where something that needs power is there
+  -- where the run goes on, it has power exactly where an agent or a flash that is on is there
   pub powered : IsFalse (ends_run t.reply) → F.on new ≡ here
   pub size : F.blocks new ≡ F.blocks old
-  -- a line has room for what the reply got
+  -- the printed line of the turn has room for what a read got
   pub short : IsShort t.reply
 
 -- how it leaves an agent that was there
