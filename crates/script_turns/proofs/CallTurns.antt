@@ -1,6 +1,6 @@
 -- The turn of a call of the agent, from what the agent's call says: the reply, what is kept, a step of a run, and what no loss harms.
 use Rattle.std.proofs.Common.{◌≡◌, ◌≢◌, Contains, ℕ, ◌+◌, ◌≤◌, ◌==◌, Bool, true, false, cond, not, ◌||◌, List, [], ◌∷◌, length, get_or, Option, Some, None, Result, Ok, Err, refl, sym, ap, subst, ◌∙◌, arith, IsTrue, IsFalse}
-use Rattle.std.specs.Prelude.{◌⊎◌, ◌<◌, MatchBool, IsSome, IsNone, OnOk, is_ok, ⊤}
+use Rattle.std.specs.Prelude.{◌⊎◌, ◌<◌, MatchBool, IsSome, IsNone, is_ok, ⊤}
 use Rattle.std.proofs.lemmas.List.{length-map}
 use Rattle.std.specs.List.{list_any}
 use Rattle.std.proofs.lemmas.Option.{same_Some}

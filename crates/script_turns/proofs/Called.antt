@@ -3,7 +3,6 @@ use Rattle.std.proofs.Common.{◌≡◌, ◌⊎◌, inl, inr, ℕ, ◌≤◌, Bo
 use Rattle.std.specs.Prelude.{is_ok, IfOk, OnOk}
 use Rattle.std.proofs.lemmas.List.{length-take-le}
 use Rattle.flash_core.specs.declared.flash.Flash.{Ghosts}
-use Rattle.flash_core.specs.Counts.{Spends, StaysUnarmed}
 use Rattle.host_io.specs.Contents.{Directory}
 use Rattle.fwu_model.specs.declared.kinds.Op.{Op}
 use Rattle.fwu_model.specs.declared.kinds.Op.TheVariants as op
@@ -29,14 +28,17 @@ use Rattle.agent_calls.specs.AnswersCall.{IsPrevious, IsReplyOf}
 use Rattle.agent_calls.specs.Copies.{BeginsPartly}
 use Rattle.agent_calls.specs.GoneBack.{SomePassed}
 use Rattle.fwu_model.specs.Answer.{are_named}
-use Rattle.agent_calls.specs.Shown.{device, fields, gone, moment}
+use Rattle.agent_calls.specs.Shown.{AgentGoes, device, fields, gone, moment}
+use Rattle.fwu_journal.specs.Shown.{IsShort, turn}
 use Rattle.script_text.specs.Shown.{shown}
 use Rattle.script_text.specs.declared.call.Call.TheVariants as variant
 use Rattle.script_turns.specs.Powered.{Moment, SameDevice}
 use Rattle.script_turns.specs.Stage.{on_where}
 use Rattle.script_turns.specs.Takes.{TakesOn}
 use Rattle.script_turns.specs.Calls.{is_there, moment_where, on_by, open_call, reply_by}
+use Rattle.script_turns.specs.Turned.{IsCallTurn, LeavesAgent}
 use Rattle.script_turns.specs.Turning.{Turns, quiet_turn}
+use Rattle.script_turns.specs.declared.turned.AgentTurn.{AgentTurn}
 use Rattle.script_turns.proofs.CallTakes.{done_reply, got, with}
 use Rattle.script_turns.proofs.CallTurns.{Called, GoesBackAs, begin-turns, call-turns, is_single}
 
@@ -132,13 +134,18 @@ shown-open guid op.Write = refl
 
 -- ---- the metadata
 
+meta-of : {T : Type 0} (result : Result T Stop) (old new : MetaRead) (Next : Type 0) → (result ≡ Err stop.Gone → ⊥) → (IsDone result → Next) → (IsRefused result → new ≡ old) → (new ≡ old) ⊎ Next
+meta-of (Ok value) old new Next here done refused = inr (done tt)
+meta-of (Err (stop.Status st)) old new Next here done refused = inl (refused tt)
+meta-of (Err stop.Lost) old new Next here done refused = inr (done tt)
+meta-of (Err stop.Fault) old new Next here done refused = inr (done tt)
+meta-of (Err stop.Gone) old new Next here done refused = absurd (here refl)
+
 -- where a call that is refused leaves it as it was
-pub meta-by : {T : Type 0} (result : Result T Stop) (old new : MetaRead) (Next : Type 0) → (result ≡ Err stop.Gone → ⊥) → (IsDone result → Next) → (IsRefused result → new ≡ old) → (new ≡ old) ⊎ Next
-meta-by (Ok value) old new Next here done refused = inr (done tt)
-meta-by (Err (stop.Status st)) old new Next here done refused = inl (refused tt)
-meta-by (Err stop.Lost) old new Next here done refused = inr (done tt)
-meta-by (Err stop.Fault) old new Next here done refused = inr (done tt)
-meta-by (Err stop.Gone) old new Next here done refused = absurd (here refl)
+pub meta-by : {D T : Type 0} {F : Ghosts D} (a b : Agent D F) (result : Result T Stop) → IsFalse (gone a) → AgentGoes result a b
+    → (Next : Type 0) → (IsDone result → Next) → ((fields b).meta ≡ (fields a).meta) ⊎ Next
+meta-by a b result live goes Next done =
+    meta-of result (fields a).meta (fields b).meta Next (never-gone result _ _ goes.gone live) done (λ refused. ap (λ (f : Fields). f.meta) (goes.refused refused))
 
 pub meta-either : {A B : Type 0} → A ⊎ (A ⊎ B) → A ⊎ B
 meta-either (inl same) = inl same
@@ -176,44 +183,55 @@ not-gone result was true goes live there = either (goes.later.0 refl)
     either (inl gone) = absurd cc
     either (inr stopped) = absurd (ends result stopped there)
 
--- An agent that isn't gone, after its call, and whether its turn left it there.
-module _ {D : Type 0} {F : Ghosts D} (a b : Agent D F) (here : Bool) (live : IsFalse (gone a)) where
-  pub turns-by : {T : Type 0} (says : T → Reply) (result : Result T Stop) (passes : List ℕ → Bool) (files : Option Directory) (faults : ℕ) (c : Call) (t : Turn)
-      → t ≡ quiet_turn c (reply_by says result) → here ≡ is_there result
-      → F.on (device b) ≡ is_ok (flash_result result) → Spends (flash_result result) (F.counts (device a)) (F.counts (device b))
-      → StaysUnarmed (flash_result result) (F.arming (device a)) (F.arming (device b)) (F.counts (device a)) (F.counts (device b))
-      → IsMetaAfter c (fields a) (fields b).meta
-      → Called says result passes c (moment a) (moment b) → TakesOn files c (fields a) (with (Some (fields a)) a) (reply_by says result) (with (on_by result (fields b)) b)
-      → Turns passes F.tells files c t (moment_where true a) (moment_where here b) faults faults
-  turns-by says result passes files faults c t turn_is here_is power costs free after says_it takes =
+-- An agent that isn't gone, its call, and the agent and the turn after it.
+module _ {D T : Type 0} {F : Ghosts D} (a b : Agent D F) (done : AgentTurn) (result : Result T Stop) (live : IsFalse (gone a)) (goes : AgentGoes result a b) where
+  pub leaves-by : done.here ≡ is_there result → IsShort (turn done.turn).reply → LeavesAgent done a b
+  leaves-by here_is short = record {
+    device = record {
+      powered = λ on. goes.power live ∙ on-where-there result (never-gone result _ _ goes.gone live) ∙ sym here_is;
+      size = goes.size;
+      short = short;
+    };
+    here = λ there. not-gone result _ _ goes.gone live (sym here_is ∙ there);
+  }
+
+  turned-by : (passes : List ℕ → Bool) (files : Option Directory) (faults : ℕ) (c : Call) (r : Reply) → turn done.turn ≡ quiet_turn c r → done.here ≡ is_there result
+      → Turns passes F.tells files c (quiet_turn c r) (with (Some (fields a)) a) (with (on_by result (fields b)) b) faults faults
+      → Turns passes F.tells files c (turn done.turn) (moment_where true a) (moment_where done.here b) faults faults
+  turned-by passes files faults c r turn_is here_is turns =
+      subst (λ (on : Option Fields). Turns passes F.tells files c (turn done.turn) (moment_where true a) (with on b) faults faults) (sym (ap (λ (there : Bool). on_where there (fields b)) here_is ∙ kept-where-there result (fields b)))
+      (subst (λ (t : Turn). Turns passes F.tells files c t (moment_where true a) (with (on_by result (fields b)) b) faults faults) (sym turn_is) turns)
+
+  pub turns-by : (says : T → Reply) (passes : List ℕ → Bool) (c : Call) → turn done.turn ≡ quiet_turn c (reply_by says result) → done.here ≡ is_there result
+      → IsMetaAfter c (fields a) (fields b).meta → Called says result passes c (moment a) (moment b)
+      → ((files : Option Directory) → TakesOn files c (fields a) (with (Some (fields a)) a) (reply_by says result) (with (on_by result (fields b)) b))
+      → IsCallTurn passes c done a b
+  turns-by says passes c turn_is here_is after says_it takes files faults =
       let d = device a in
       let e = device b in
-      let old = with (Some (fields a)) a in
-      subst (λ (on : Option Fields). Turns passes F.tells files c t old (with on b) faults faults) (sym (ap (λ (there : Bool). on_where there (fields b)) here_is ∙ kept-where-there result (fields b)))
-      (subst (λ (q : Turn). Turns passes F.tells files c q old (with (on_by result (fields b)) b) faults faults) (sym turn_is)
-      (call-turns says passes F.tells files faults c (fields a) (fields b) (F.told d) (F.told e) (F.counts d) (F.counts e) (F.arming d) (F.arming e) (F.on d) (F.on e) (a.power live) result says_it after power costs free takes))
+      turned-by passes files faults c (reply_by says result) turn_is here_is
+      (call-turns says passes F.tells files faults c (fields a) (fields b) (F.told d) (F.told e) (F.counts d) (F.counts e) (F.arming d) (F.arming e) (F.on d) (F.on e) (a.power live)
+      result says_it after (goes.power live) goes.costs goes.unarmed (takes files))
 
-  -- and a partial begin
-  pub turns-begun : (result : Result (Unit {0}) Stop) (passes : List ℕ → Bool) (files : Option Directory) (faults : ℕ) (types : List (List ℕ)) (t : Turn)
-      → t ≡ quiet_turn (call.BeginPartial types) (done_reply result) → here ≡ is_there result → (result ≡ Err stop.Gone → ⊥)
-      → F.on (device b) ≡ is_ok (flash_result result) → Spends (flash_result result) (F.counts (device a)) (F.counts (device b))
-      → StaysUnarmed (flash_result result) (F.arming (device a)) (F.arming (device b)) (F.counts (device a)) (F.counts (device b))
+module _ {D : Type 0} {F : Ghosts D} (a b : Agent D F) (done : AgentTurn) (result : Result (Unit {0}) Stop) (live : IsFalse (gone a)) (goes : AgentGoes result a b) where
+  -- of what tells nothing but that it was done
+  pub turns-done : (passes : List ℕ → Bool) (c : Call) → turn done.turn ≡ quiet_turn c (done_reply result) → done.here ≡ is_there result
+      → IsMetaAfter c (fields a) (fields b).meta → IsTrue (is_single c) → (IsPrevious c → ⊥) → ((q : Reply) → q ≡ reply.Success → IsReplyOf F.tells c q reply.Success)
+      → Meets (λ value q. q ≡ reply.Success) result passes c (moment a) (moment b)
+      → ((files : Option Directory) → TakesOn files c (fields a) (with (Some (fields a)) a) (done_reply result) (with (on_by result (fields b)) b))
+      → IsCallTurn passes c done a b
+  turns-done passes c turn_is here_is after agents other same meets takes =
+      turns-by a b done result live goes (λ value. reply.Success) passes c turn_is here_is after
+      (called-done result passes c (moment a) (moment b) agents other same (never-gone result _ _ goes.gone live) meets) takes
+
+  -- of a partial begin
+  pub turns-begun : (passes : List ℕ → Bool) (types : List (List ℕ)) → turn done.turn ≡ quiet_turn (call.BeginPartial types) (done_reply result) → done.here ≡ is_there result
       → BeginsPartly types (are_named (fields a).layout.rows types) passes result (moment a) (moment b)
-      → TakesOn files (call.BeginPartial types) (fields a) (with (Some (fields a)) a) (done_reply result) (with (on_by result (fields b)) b)
-      → Turns passes F.tells files (call.BeginPartial types) t (moment_where true a) (moment_where here b) faults faults
-  turns-begun result passes files faults types t turn_is here_is never power costs free begins takes =
+      → ((files : Option Directory) → TakesOn files (call.BeginPartial types) (fields a) (with (Some (fields a)) a) (done_reply result) (with (on_by result (fields b)) b))
+      → IsCallTurn passes (call.BeginPartial types) done a b
+  turns-begun passes types turn_is here_is begins takes files faults =
       let d = device a in
       let e = device b in
-      let old = with (Some (fields a)) a in
-      subst (λ (on : Option Fields). Turns passes F.tells files (call.BeginPartial types) t old (with on b) faults faults) (sym (ap (λ (there : Bool). on_where there (fields b)) here_is ∙ kept-where-there result (fields b)))
-      (subst (λ (q : Turn). Turns passes F.tells files (call.BeginPartial types) q old (with (on_by result (fields b)) b) faults faults) (sym turn_is)
-      (begin-turns passes F.tells files faults types (fields a) (fields b) (F.told d) (F.told e) (F.counts d) (F.counts e) (F.arming d) (F.arming e) (F.on d) (F.on e) (a.power live) result never begins power costs free takes))
-
-  -- the device has power exactly where its agent is there
-  pub powered-by : {T : Type 0} (result : Result T Stop) → GoesBy result (gone a) (gone b) → here ≡ is_there result → F.on (device b) ≡ is_ok (flash_result result)
-      → F.on (device b) ≡ here
-  powered-by result goes here_is power = power ∙ on-where-there result (never-gone result _ _ goes live) ∙ sym here_is
-
-  -- and an agent that is there isn't gone
-  pub there-by : {T : Type 0} (result : Result T Stop) → GoesBy result (gone a) (gone b) → here ≡ is_there result → IsTrue here → IsFalse (gone b)
-  there-by result goes here_is there = not-gone result _ _ goes live (sym here_is ∙ there)
+      turned-by a b done result live goes passes files faults (call.BeginPartial types) (done_reply result) turn_is here_is
+      (begin-turns passes F.tells files faults types (fields a) (fields b) (F.told d) (F.told e) (F.counts d) (F.counts e) (F.arming d) (F.arming e) (F.on d) (F.on e) (a.power live)
+      result (never-gone result _ _ goes.gone live) begins (goes.power live) goes.costs goes.unarmed (takes files))

@@ -1,5 +1,6 @@
 mod Boots
 mod Fitting
+mod Alone
 mod Quiets
 pub mod OffTurns
 pub mod SendTurns

@@ -91,10 +91,6 @@ not-read : (partly : Bool) (files : Option Directory) (name : List ℕ) (request
 not-read false files name request was are cause = cause
 not-read true files name request was are cause = cause
 
-why-not-read : (partly : Bool) (files : Option Directory) (name : List ℕ) (request was are : ℕ) → FileNotRead files was are (send_call partly name request) → Rose was are ⊎ LacksFile files name
-why-not-read false files name request was are cause = cause
-why-not-read true files name request was are cause = cause
-
 lacks-sent : (partly : Bool) (files : Option Directory) (name : List ℕ) (request : ℕ) → LacksSent files (send_call partly name request) → Lacks files name
 lacks-sent false files name request lacks = lacks
 lacks-sent true files name request lacks = lacks
@@ -750,44 +746,6 @@ turns-as {passes = passes} {tells = tells} {files = files} {c = c} {was = was} {
 pub lacks-file : (files : Option Directory) (name : List ℕ) → Lacks files name → LacksFile files name
 lacks-file None name lacks = lacks
 lacks-file (Some all) name lacks = lacks
-
-rose-from : (a b c : ℕ) → a ≤ b → Rose b c → Rose a c
-rose-from a b c le (inl rose) = inl (omega arith)
-rose-from a b c le (inr full) = inr full
-
--- a sending behind a reading of the file
-pub sends-later : (partly : Bool) (name : List ℕ) (request : ℕ) {passes : List ℕ → Bool} {tells : Bool} {files : Option Directory} {t : Turn} {old new : Moment} (was mid are : ℕ) → was ≤ mid → mid ≤ was
-    → Turns passes tells files (send_call partly name request) t old new mid are → Turns passes tells files (send_call partly name request) t old new was are
-sends-later partly name request {files = files} was mid are le none turns = record {
-  call_is = turns.call_is;
-  unnumbered = turns.unnumbered;
-  counts = turns.counts;
-  made = turns.made;
-  armed = turns.armed;
-  free = turns.free;
-  lost = turns.lost;
-  failed = turns.failed;
-  once = turns.once;
-  unread = λ e. not-read partly files name request was are (earlier (why-not-read partly files name request mid are (turns.unread e)));
-  lacking = turns.lacking;
-  later = omega (arith, turns.later);
-  unread_once = omega (arith, none, turns.unread_once);
-  reads_none = λ e. absurd (always-reads partly name request e);
-  replies = turns.replies;
-  takes = record { by_call = turns.takes.by_call; unread = λ e none. turns.takes.unread e (λ rose. none (rose-from was mid are le rose)) };
-  power = turns.power;
-  guard = turns.guard;
-  step = turns.step;
-  keeps = turns.keeps;
-  spares = turns.spares;
-  decides = turns.decides;
-  safe = turns.safe;
-  boots = turns.boots;
-}
-  where
-    earlier : Rose mid are ⊎ LacksFile files name → Rose was are ⊎ LacksFile files name
-    earlier (inl rose) = inl (rose-from was mid are le rose)
-    earlier (inr lacks) = inr lacks
 
 -- an agent that knows its flash shows the machine there
 pub shows-known : (f : Fields) → Fitting f → (t : Told) → (tells : Bool) → Knows f t → agent.Showing (kept_at tells f t)

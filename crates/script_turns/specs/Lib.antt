@@ -9,6 +9,7 @@ pub mod Sending
 pub mod Takes
 pub mod Deciding
 pub mod Turning
+pub mod Turned
 pub mod Calls
 pub mod Needs
 pub mod Runs

@@ -1,8 +1,6 @@
 //! The turn of `boot`.
-ghost use Rattle.std.specs.Prelude.{◌≡◌, ℕ, Bool, List, Option, Some, None, is_some, IsTrue, IsFalse, false};
-ghost use Rattle.host_io.specs.Contents.{Directory};
+ghost use Rattle.std.specs.Prelude.{◌≡◌, None, IsTrue, IsFalse, false};
 ghost use Rattle.fwu_model.specs.Call as call;
-ghost use Rattle.fwu_model.specs.Run.{ends_run};
 ghost use Rattle.early_boot.specs.Numbers.{numbers};
 ghost use Rattle.early_boot.specs.Started.{started, started_reply};
 ghost use Rattle.early_boot.specs.Started.{device as booted_device};
@@ -11,8 +9,8 @@ ghost use Rattle.early_boot.specs.Ends.{booted as booted_to};
 ghost use Rattle.fwu_journal.specs.Shown.{IsShort, reply, turn};
 ghost use Rattle.script_turns.specs.Stage.{device, has_power, shown_on};
 ghost use Rattle.script_turns.specs.Powered.{moment, moment_in};
-ghost use Rattle.script_turns.specs.Replies.{LeavesOn};
-ghost use Rattle.script_turns.specs.Turning.{Turns, GetsPower, IsOnAfter, ShowsStarted, boot_turn, reply_of_end};
+ghost use Rattle.script_turns.specs.Turned.{LeavesBooted, LeavesDevice, TurnsAlone};
+ghost use Rattle.script_turns.specs.Turning.{GetsPower, boot_turn};
 
 use crate::stage::{Live, Stage};
 use agent_calls::Agent;
@@ -71,17 +69,8 @@ fn not_booted<D: Flash>(flash: D, answer: Reply, read: Option<Numbers>) -> Booti
 
 /// The turn of a boot that started a bank: its agent begins there.
 fn was_booted<D: Flash>(booted: Booted<D>, read: Numbers) -> Booting<D>
-    ensures turn { turn result.turn ≡ record {
-      call = call.Boot;
-      reply = started_reply (started booted);
-      numbers = Some (numbers read);
-    } }
-    ensures on { IsOnAfter (booted_to (started booted) (numbers read)) (shown_on result.stage) }
-    ensures leaves { LeavesOn (started_reply (started booted)) (shown_on result.stage) }
-    ensures shows { IsTrue D.tells → ShowsStarted D.tells (booted_to (started booted) (numbers read))
-        (shown_on result.stage) (D.told (device result.stage)) }
-    ensures has { has_power result.stage ≡ is_some (shown_on result.stage) }
-    ensures device { device result.stage ≡ booted_device booted }
+    ensures turn { turn result.turn ≡ boot_turn (booted_to (started booted) (numbers read)) }
+    ensures leaves { LeavesBooted (booted_to (started booted) (numbers read)) (booted_device booted) result.stage }
 {
     let turn = turn_with(booted_reply(&booted), Some(read));
     let agent = Agent::start(booted);
@@ -95,12 +84,7 @@ fn was_booted<D: Flash>(booted: Booted<D>, read: Numbers) -> Booting<D>
 /// The turn of a boot that ended like this.
 fn turned_by<D: Flash>(end: BootEnd<D>) -> Booting<D>
     ensures turn { turn result.turn ≡ boot_turn (ended end) }
-    ensures on { IsOnAfter (ended end) (shown_on result.stage) }
-    ensures leaves { LeavesOn (reply_of_end (ended end)) (shown_on result.stage) }
-    ensures shows { IsTrue D.tells → ShowsStarted D.tells (ended end)
-        (shown_on result.stage) (D.told (device result.stage)) }
-    ensures has { has_power result.stage ≡ is_some (shown_on result.stage) }
-    ensures device { device result.stage ≡ device_of end }
+    ensures leaves { LeavesBooted (ended end) (device_of end) result.stage }
     ensures short { IsShort (turn result.turn).reply }
 {
     match end {
@@ -155,13 +139,9 @@ fn with_power<D: Flash>(stage: Stage<D>) -> D
 /// The turn of `boot`: power comes back where it is off, and the flash boots as it reads now.
 pub(crate) fn boot_turn<D: Flash, V: Verifier>(stage: Stage<D>, verifier: &V) -> Booting<D>
     requires { D.on (device stage) ≡ has_power stage }
-    ensures turns { (files : Option Directory) (faults : ℕ)
-        → Turns (V.passes verifier.now) D.tells files call.Boot (turn result.turn)
-        (moment_in stage) (moment_in result.stage) faults faults }
-    ensures powered { IsFalse (ends_run (turn result.turn).reply)
-        → D.on (device result.stage) ≡ has_power result.stage }
-    ensures short { IsShort (turn result.turn).reply }
-    ensures size { D.blocks (device result.stage) ≡ D.blocks (device stage) }
+    ensures turns { TurnsAlone (V.passes verifier.now) D.tells call.Boot (turn result.turn)
+        (moment_in stage) (moment_in result.stage) }
+    ensures leaves { LeavesDevice D.Flash (turn result.turn) (has_power result.stage) (device stage) (device result.stage) }
 {
     turned_by(boot(with_power(stage), verifier))
 }

@@ -1,15 +1,14 @@
 //! The turns of the agent's calls.
-ghost use Rattle.std.specs.Prelude.{◌≡◌, ◌≤◌, ◌<◌, ℕ, Bool, List, Option, Err, length, IsTrue, IsFalse, true};
+ghost use Rattle.std.specs.Prelude.{◌≡◌, ◌≤◌, ◌<◌, ℕ, Bool, List, Err, length, IsTrue, IsFalse};
 ghost use Rattle.base_core.specs.Block.{block_bytes};
-ghost use Rattle.host_io.specs.Contents.{Directory};
 ghost use Rattle.fwu_model.specs.Call as call;
 ghost use Rattle.fwu_model.specs.Reply as model;
-ghost use Rattle.fwu_model.specs.Run.{ends_run};
-ghost use Rattle.agent_calls.specs.Shown.{device, gone};
+ghost use Rattle.agent_calls.specs.Shown.{gone};
 ghost use Rattle.fwu_journal.specs.Shown.{IsShort, turn};
 ghost use Rattle.script_text.specs.Shown.{HasBuffer, shown};
-ghost use Rattle.script_turns.specs.Calls.{is_agents, is_there, moment_where, open_call, reply_by, stop_reply};
-ghost use Rattle.script_turns.specs.Turning.{Turns, quiet_turn};
+ghost use Rattle.script_turns.specs.Calls.{is_agents, is_there, open_call, reply_by, stop_reply};
+ghost use Rattle.script_turns.specs.Turned.{IsCallTurn, LeavesAgent};
+ghost use Rattle.script_turns.specs.Turning.{quiet_turn};
 
 use crate::turned::{AgentTurn, answered, stopped};
 use agent_calls::{Agent, Stop};
@@ -51,13 +50,8 @@ fn done(call: Call, answer: Result<(), Stop>) -> AgentTurn
 /// The turn of `discover`: what the agent is doing.
 fn discover_turn<D: Flash>(agent: &Agent<D>) -> AgentTurn
     requires alive { IsFalse (gone agent.now) }
-    ensures turns { (passes : List ℕ → Bool) (files : Option Directory) (faults : ℕ)
-        → Turns passes D.tells files call.Discover (turn result.turn)
-        (moment_where true agent.now) (moment_where result.here agent.now) faults faults }
-    ensures powered { IsFalse (ends_run (turn result.turn).reply)
-        → D.on (device agent.now) ≡ result.here }
-    ensures here { IsTrue result.here → IsFalse (gone agent.now) }
-    ensures short { IsShort (turn result.turn).reply }
+    ensures turns { (passes : List ℕ → Bool) → IsCallTurn passes call.Discover result agent.now agent.now }
+    ensures leaves { LeavesAgent result agent.now agent.now }
 {
     match agent.discover() {
         Ok(discovery) => answered(Call::Discover, Reply::Discovered(discovery.state)),
@@ -68,14 +62,8 @@ fn discover_turn<D: Flash>(agent: &Agent<D>) -> AgentTurn
 /// The turn of `begin`: a package of all images is to be staged. A count of some is refused.
 fn begin_turn<D: Flash>(agent: &mut Agent<D>, partial_count: u32) -> AgentTurn
     requires alive { IsFalse (gone agent.old) }
-    ensures turns { (passes : List ℕ → Bool) (files : Option Directory) (faults : ℕ)
-        → Turns passes D.tells files (call.Begin partial_count) (turn result.turn)
-        (moment_where true agent.old) (moment_where result.here agent.new) faults faults }
-    ensures powered { IsFalse (ends_run (turn result.turn).reply)
-        → D.on (device agent.new) ≡ result.here }
-    ensures here { IsTrue result.here → IsFalse (gone agent.new) }
-    ensures size { D.blocks (device agent.new) ≡ D.blocks (device agent.old) }
-    ensures short { IsShort (turn result.turn).reply }
+    ensures turns { (passes : List ℕ → Bool) → IsCallTurn passes (call.Begin partial_count) result agent.old agent.new }
+    ensures leaves { LeavesAgent result agent.old agent.new }
 {
     let result = agent.begin(0, partial_count);
     done(Call::Begin { partial_count }, result)
@@ -85,14 +73,8 @@ fn begin_turn<D: Flash>(agent: &mut Agent<D>, partial_count: u32) -> AgentTurn
 fn begin_partial_turn<D: Flash>(agent: &mut Agent<D>, types: Vec<Guid>) -> AgentTurn
     requires alive { IsFalse (gone agent.old) }
     requires some { 0 < length types.items }
-    ensures turns { (passes : List ℕ → Bool) (files : Option Directory) (faults : ℕ)
-        → Turns passes D.tells files (call.BeginPartial types.items) (turn result.turn)
-        (moment_where true agent.old) (moment_where result.here agent.new) faults faults }
-    ensures powered { IsFalse (ends_run (turn result.turn).reply)
-        → D.on (device agent.new) ≡ result.here }
-    ensures here { IsTrue result.here → IsFalse (gone agent.new) }
-    ensures size { D.blocks (device agent.new) ≡ D.blocks (device agent.old) }
-    ensures short { IsShort (turn result.turn).reply }
+    ensures turns { (passes : List ℕ → Bool) → IsCallTurn passes (call.BeginPartial types.items) result agent.old agent.new }
+    ensures leaves { LeavesAgent result agent.old agent.new }
 {
     let result = agent.begin_partial(0, types.as_slice());
     done(Call::BeginPartial { types }, result)
@@ -101,14 +83,8 @@ fn begin_partial_turn<D: Flash>(agent: &mut Agent<D>, types: Vec<Guid>) -> Agent
 /// The turn of `open`, to read or to write: the number of the handle.
 fn open_turn<D: Flash>(agent: &mut Agent<D>, guid: Guid, op: Op) -> AgentTurn
     requires alive { IsFalse (gone agent.old) }
-    ensures turns { (passes : List ℕ → Bool) (files : Option Directory) (faults : ℕ)
-        → Turns passes D.tells files (open_call guid op) (turn result.turn)
-        (moment_where true agent.old) (moment_where result.here agent.new) faults faults }
-    ensures powered { IsFalse (ends_run (turn result.turn).reply)
-        → D.on (device agent.new) ≡ result.here }
-    ensures here { IsTrue result.here → IsFalse (gone agent.new) }
-    ensures size { D.blocks (device agent.new) ≡ D.blocks (device agent.old) }
-    ensures short { IsShort (turn result.turn).reply }
+    ensures turns { (passes : List ℕ → Bool) → IsCallTurn passes (open_call guid op) result agent.old agent.new }
+    ensures leaves { LeavesAgent result agent.old agent.new }
 {
     let call = Call::Open { guid, op };
     match agent.open(guid, op) {
@@ -120,14 +96,8 @@ fn open_turn<D: Flash>(agent: &mut Agent<D>, guid: Guid, op: Op) -> AgentTurn
 /// The turn of `write`.
 fn write_turn<D: Flash>(agent: &mut Agent<D>, handle: u32, bytes: Vec<u8>) -> AgentTurn
     requires alive { IsFalse (gone agent.old) }
-    ensures turns { (passes : List ℕ → Bool) (files : Option Directory) (faults : ℕ)
-        → Turns passes D.tells files (call.Write handle bytes.items) (turn result.turn)
-        (moment_where true agent.old) (moment_where result.here agent.new) faults faults }
-    ensures powered { IsFalse (ends_run (turn result.turn).reply)
-        → D.on (device agent.new) ≡ result.here }
-    ensures here { IsTrue result.here → IsFalse (gone agent.new) }
-    ensures size { D.blocks (device agent.new) ≡ D.blocks (device agent.old) }
-    ensures short { IsShort (turn result.turn).reply }
+    ensures turns { (passes : List ℕ → Bool) → IsCallTurn passes (call.Write handle bytes.items) result agent.old agent.new }
+    ensures leaves { LeavesAgent result agent.old agent.new }
 {
     let result = agent.write_stream(handle, bytes.as_slice());
     done(Call::Write { handle, bytes }, result)
@@ -144,14 +114,8 @@ fn read_turn<D: Flash>(
     requires alive { IsFalse (gone agent.old) }
     requires room { length out.items ≡ room }
     requires few { room ≤ block_bytes }
-    ensures turns { (passes : List ℕ → Bool) (files : Option Directory) (faults : ℕ)
-        → Turns passes D.tells files (call.Read handle room) (turn result.turn)
-        (moment_where true agent.old) (moment_where result.here agent.new) faults faults }
-    ensures powered { IsFalse (ends_run (turn result.turn).reply)
-        → D.on (device agent.new) ≡ result.here }
-    ensures here { IsTrue result.here → IsFalse (gone agent.new) }
-    ensures size { D.blocks (device agent.new) ≡ D.blocks (device agent.old) }
-    ensures short { IsShort (turn result.turn).reply }
+    ensures turns { (passes : List ℕ → Bool) → IsCallTurn passes (call.Read handle room) result agent.old agent.new }
+    ensures leaves { LeavesAgent result agent.old agent.new }
 {
     let mut bytes = out;
     let call = Call::Read {
@@ -171,14 +135,8 @@ fn read_turn<D: Flash>(
 /// The turn of `commit`: a handle is closed.
 fn commit_turn<D: Flash>(agent: &mut Agent<D>, handle: u32, request: u32) -> AgentTurn
     requires alive { IsFalse (gone agent.old) }
-    ensures turns { (passes : List ℕ → Bool) (files : Option Directory) (faults : ℕ)
-        → Turns passes D.tells files (call.Commit handle request) (turn result.turn)
-        (moment_where true agent.old) (moment_where result.here agent.new) faults faults }
-    ensures powered { IsFalse (ends_run (turn result.turn).reply)
-        → D.on (device agent.new) ≡ result.here }
-    ensures here { IsTrue result.here → IsFalse (gone agent.new) }
-    ensures size { D.blocks (device agent.new) ≡ D.blocks (device agent.old) }
-    ensures short { IsShort (turn result.turn).reply }
+    ensures turns { (passes : List ℕ → Bool) → IsCallTurn passes (call.Commit handle request) result agent.old agent.new }
+    ensures leaves { LeavesAgent result agent.old agent.new }
 {
     let result = agent.commit(handle, request, 0);
     done(Call::Commit { handle, request }, result)
@@ -187,14 +145,8 @@ fn commit_turn<D: Flash>(agent: &mut Agent<D>, handle: u32, request: u32) -> Age
 /// The turn of `end`: what is staged is installed.
 fn end_turn<D: Flash, V: Verifier>(agent: &mut Agent<D>, verifier: &V) -> AgentTurn
     requires alive { IsFalse (gone agent.old) }
-    ensures turns { (files : Option Directory) (faults : ℕ)
-        → Turns (V.passes verifier.now) D.tells files call.End (turn result.turn)
-        (moment_where true agent.old) (moment_where result.here agent.new) faults faults }
-    ensures powered { IsFalse (ends_run (turn result.turn).reply)
-        → D.on (device agent.new) ≡ result.here }
-    ensures here { IsTrue result.here → IsFalse (gone agent.new) }
-    ensures size { D.blocks (device agent.new) ≡ D.blocks (device agent.old) }
-    ensures short { IsShort (turn result.turn).reply }
+    ensures turns { IsCallTurn (V.passes verifier.now) call.End result agent.old agent.new }
+    ensures leaves { LeavesAgent result agent.old agent.new }
 {
     let result = agent.end(verifier);
     done(Call::End, result)
@@ -203,14 +155,8 @@ fn end_turn<D: Flash, V: Verifier>(agent: &mut Agent<D>, verifier: &V) -> AgentT
 /// The turn of `cancel`: what is staged is given up.
 fn cancel_turn<D: Flash>(agent: &mut Agent<D>) -> AgentTurn
     requires alive { IsFalse (gone agent.old) }
-    ensures turns { (passes : List ℕ → Bool) (files : Option Directory) (faults : ℕ)
-        → Turns passes D.tells files call.Cancel (turn result.turn)
-        (moment_where true agent.old) (moment_where result.here agent.new) faults faults }
-    ensures powered { IsFalse (ends_run (turn result.turn).reply)
-        → D.on (device agent.new) ≡ result.here }
-    ensures here { IsTrue result.here → IsFalse (gone agent.new) }
-    ensures size { D.blocks (device agent.new) ≡ D.blocks (device agent.old) }
-    ensures short { IsShort (turn result.turn).reply }
+    ensures turns { (passes : List ℕ → Bool) → IsCallTurn passes call.Cancel result agent.old agent.new }
+    ensures leaves { LeavesAgent result agent.old agent.new }
 {
     let result = agent.cancel();
     done(Call::Cancel, result)
@@ -219,14 +165,8 @@ fn cancel_turn<D: Flash>(agent: &mut Agent<D>) -> AgentTurn
 /// The turn of `accept`: an image of the active bank is accepted.
 fn accept_turn<D: Flash>(agent: &mut Agent<D>, guid: Guid) -> AgentTurn
     requires alive { IsFalse (gone agent.old) }
-    ensures turns { (passes : List ℕ → Bool) (files : Option Directory) (faults : ℕ)
-        → Turns passes D.tells files (call.Accepts guid) (turn result.turn)
-        (moment_where true agent.old) (moment_where result.here agent.new) faults faults }
-    ensures powered { IsFalse (ends_run (turn result.turn).reply)
-        → D.on (device agent.new) ≡ result.here }
-    ensures here { IsTrue result.here → IsFalse (gone agent.new) }
-    ensures size { D.blocks (device agent.new) ≡ D.blocks (device agent.old) }
-    ensures short { IsShort (turn result.turn).reply }
+    ensures turns { (passes : List ℕ → Bool) → IsCallTurn passes (call.Accepts guid) result agent.old agent.new }
+    ensures leaves { LeavesAgent result agent.old agent.new }
 {
     let result = agent.accept(guid);
     done(Call::Accept { guid }, result)
@@ -235,14 +175,8 @@ fn accept_turn<D: Flash>(agent: &mut Agent<D>, guid: Guid) -> AgentTurn
 /// The turn of `previous`: the active and the previous bank change places.
 fn previous_turn<D: Flash, V: Verifier>(agent: &mut Agent<D>, verifier: &V) -> AgentTurn
     requires alive { IsFalse (gone agent.old) }
-    ensures turns { (files : Option Directory) (faults : ℕ)
-        → Turns (V.passes verifier.now) D.tells files call.Previous (turn result.turn)
-        (moment_where true agent.old) (moment_where result.here agent.new) faults faults }
-    ensures powered { IsFalse (ends_run (turn result.turn).reply)
-        → D.on (device agent.new) ≡ result.here }
-    ensures here { IsTrue result.here → IsFalse (gone agent.new) }
-    ensures size { D.blocks (device agent.new) ≡ D.blocks (device agent.old) }
-    ensures short { IsShort (turn result.turn).reply }
+    ensures turns { IsCallTurn (V.passes verifier.now) call.Previous result agent.old agent.new }
+    ensures leaves { LeavesAgent result agent.old agent.new }
 {
     let result = agent.previous(verifier);
     done(Call::Previous, result)
@@ -258,14 +192,8 @@ pub(crate) fn call_turn<D: Flash, V: Verifier>(
     requires alive { IsFalse (gone agent.old) }
     requires asks { IsTrue (is_agents (shown call)) }
     requires buffer { HasBuffer call }
-    ensures turns { (files : Option Directory) (faults : ℕ)
-        → Turns (V.passes verifier.now) D.tells files (shown call) (turn result.turn)
-        (moment_where true agent.old) (moment_where result.here agent.new) faults faults }
-    ensures powered { IsFalse (ends_run (turn result.turn).reply)
-        → D.on (device agent.new) ≡ result.here }
-    ensures here { IsTrue result.here → IsFalse (gone agent.new) }
-    ensures size { D.blocks (device agent.new) ≡ D.blocks (device agent.old) }
-    ensures short { IsShort (turn result.turn).reply }
+    ensures turns { IsCallTurn (V.passes verifier.now) (shown call) result agent.old agent.new }
+    ensures leaves { LeavesAgent result agent.old agent.new }
 {
     match call {
         Call::Discover => discover_turn(agent),

@@ -1,6 +1,5 @@
 //! The turns of `show` and `cut`, and of a request for no call, which leave what the flash holds.
-ghost use Rattle.std.specs.Prelude.{◌≡◌, ◌≤◌, ℕ, Bool, List, Option, min};
-ghost use Rattle.host_io.specs.Contents.{Directory};
+ghost use Rattle.std.specs.Prelude.{◌≡◌, ◌≤◌, ℕ, Bool, List};
 ghost use Rattle.early_boot.specs.Numbers.{numbers};
 ghost use Rattle.agent_calls.specs.Shown.{fields};
 ghost use Rattle.fwu_model.specs.Call as call;
@@ -8,7 +7,8 @@ ghost use Rattle.fwu_journal.specs.Shown.{IsShort, reply, turn};
 ghost use Rattle.script_turns.specs.Stage.{device, has_power, shown_on};
 ghost use Rattle.script_turns.specs.Powered.{moment_in, numbers_kept};
 ghost use Rattle.script_turns.specs.Replies.{no_call_reply, show_reply};
-ghost use Rattle.script_turns.specs.Turning.{Arms, Turns};
+ghost use Rattle.script_turns.specs.Arms.{Arms};
+ghost use Rattle.script_turns.specs.Turned.{TurnsAlone};
 
 use crate::stage::Stage;
 use crate::turned::turn_of;
@@ -47,9 +47,8 @@ fn shown_by<D: Flash>(stage: &Stage<D>) -> Reply
 
 /// The turn of `show`: the flash stays as it is.
 pub(crate) fn show_turn<D: Flash>(stage: &Stage<D>) -> Turn
-    ensures turns { (passes : List ℕ → Bool) (files : Option Directory) (faults : ℕ)
-        → Turns passes D.tells files call.Show (turn result) (moment_in stage.now)
-        (moment_in stage.now) faults faults }
+    ensures turns { (passes : List ℕ → Bool)
+        → TurnsAlone passes D.tells call.Show (turn result) (moment_in stage.now) (moment_in stage.now) }
     ensures short { IsShort (turn result).reply }
 {
     turn_of(Call::Show, shown_by(stage))
@@ -68,9 +67,8 @@ fn not_understood<D: Flash>(stage: &Stage<D>) -> Reply
 
 /// The turn of a request for no call: no agent is asked, and the flash stays as it is.
 pub(crate) fn no_call_turn<D: Flash>(stage: &Stage<D>) -> Turn
-    ensures turns { (passes : List ℕ → Bool) (files : Option Directory) (faults : ℕ)
-        → Turns passes D.tells files call.NoCall (turn result) (moment_in stage.now)
-        (moment_in stage.now) faults faults }
+    ensures turns { (passes : List ℕ → Bool)
+        → TurnsAlone passes D.tells call.NoCall (turn result) (moment_in stage.now) (moment_in stage.now) }
     ensures short { IsShort (turn result).reply }
 {
     turn_of(Call::NoCall, not_understood(stage))
@@ -94,13 +92,12 @@ fn arm<D: Flash>(stage: &mut Stage<D>, n: u32, k: u32)
 /// The turn of `cut`: a loss of power is armed, with the flash on or off.
 pub(crate) fn cut_turn<D: Flash>(stage: &mut Stage<D>, n: u32, k: u32) -> Turn
     requires { 1 ≤ n }
-    ensures turns { (passes : List ℕ → Bool) (files : Option Directory) (faults : ℕ)
-        → Turns passes D.tells files (call.Cut n k) (turn result) (moment_in stage.old)
-        (moment_in stage.new) faults faults }
+    ensures turns { (passes : List ℕ → Bool)
+        → TurnsAlone passes D.tells (call.Cut n k) (turn result) (moment_in stage.old) (moment_in stage.new) }
     ensures has { has_power stage.new ≡ has_power stage.old }
     ensures power { D.on (device stage.new) ≡ D.on (device stage.old) }
-    ensures short { IsShort (turn result).reply }
     ensures size { D.blocks (device stage.new) ≡ D.blocks (device stage.old) }
+    ensures short { IsShort (turn result).reply }
 {
     arm(stage, n, k);
     turn_of(Call::Cut { n, k }, Reply::CutOk)

@@ -1,15 +1,13 @@
 //! The turn of `send`, whole or partial.
-ghost use Rattle.std.specs.Prelude.{◌≡◌, ◌+◌, ◌^◌, ◌<◌, ◌≤◌, All, ℕ, List, Ok, string_bytes, length, IsTrue, IsFalse, true, false};
+ghost use Rattle.std.specs.Prelude.{◌≡◌, Ok, string_bytes, IsFalse, true, false};
 ghost use Rattle.host_io.specs.Reads.{ReadsFile};
-ghost use Rattle.fwu_model.specs.Reply as model;
-ghost use Rattle.fwu_model.specs.Run.{ends_run};
-ghost use Rattle.fip_tables.specs.Files.{Lacks, Tells};
-ghost use Rattle.agent_calls.specs.Shown.{device, gone};
+ghost use Rattle.agent_calls.specs.Shown.{gone};
 ghost use Rattle.fwu_journal.specs.Shown.{IsShort, reply, turn};
 ghost use Rattle.script_text.specs.Shown.{shown};
-ghost use Rattle.script_turns.specs.Calls.{moment_where};
 ghost use Rattle.script_turns.specs.Sending.{IsTableOf, done_reply, is_answered, send_call, sent_reply};
-ghost use Rattle.script_turns.specs.Turning.{Turns, quiet_turn};
+ghost use Rattle.script_turns.specs.Tables.{HoldsPayloads};
+ghost use Rattle.script_turns.specs.Turned.{IsTurnWith, LeavesAgent};
+ghost use Rattle.script_turns.specs.Turning.{quiet_turn};
 
 use crate::tables::{TableStop, read_table};
 use crate::turned::{AgentTurn, answered, stopped};
@@ -110,20 +108,11 @@ fn send_by<D: Flash, H: Files, V: Verifier>(
 ) -> AgentTurn
     requires alive { IsFalse (gone agent.old) }
     requires table { IsTableOf (H.contents files.old) (string_bytes name) (Ok toc.now) }
-    requires stored { (file : List ℕ) → Tells (H.contents files.old) (string_bytes name) file
-        → All (λ e. e.offset + e.size ≤ length file) toc.now.entries }
-    requires ends { All (λ e. e.offset + e.size < 2 ^ 64) toc.now.entries }
-    requires there { Lacks (H.contents files.old) (string_bytes name) → ⊥ }
-    ensures turns { Turns (V.passes verifier.now) D.tells (H.contents files.old)
-        (send_call false (string_bytes name) request) (turn result.turn)
-        (moment_where true agent.old) (moment_where result.here agent.new)
-        (H.faults files.old) (H.faults files.new) }
-    ensures powered { IsFalse (ends_run (turn result.turn).reply)
-        → D.on (device agent.new) ≡ result.here }
-    ensures here { IsTrue result.here → IsFalse (gone agent.new) }
-    ensures size { D.blocks (device agent.new) ≡ D.blocks (device agent.old) }
+    requires payloads { HoldsPayloads (H.contents files.old) (string_bytes name) toc.now }
+    ensures turns { IsTurnWith H.Files (V.passes verifier.now) (send_call false (string_bytes name) request)
+        result agent.old agent.new files.old files.new }
+    ensures leaves { LeavesAgent result agent.old agent.new }
     ensures reads { ReadsFile H.Files (string_bytes name) files.old files.new }
-    ensures short { IsShort (turn result.turn).reply }
 {
     let mut piece = [0u8; PIECE];
     let sent = send(
@@ -149,20 +138,11 @@ fn send_partial_by<D: Flash, H: Files, V: Verifier>(
 ) -> AgentTurn
     requires alive { IsFalse (gone agent.old) }
     requires table { IsTableOf (H.contents files.old) (string_bytes name) (Ok toc.now) }
-    requires stored { (file : List ℕ) → Tells (H.contents files.old) (string_bytes name) file
-        → All (λ e. e.offset + e.size ≤ length file) toc.now.entries }
-    requires ends { All (λ e. e.offset + e.size < 2 ^ 64) toc.now.entries }
-    requires there { Lacks (H.contents files.old) (string_bytes name) → ⊥ }
-    ensures turns { Turns (V.passes verifier.now) D.tells (H.contents files.old)
-        (send_call true (string_bytes name) request) (turn result.turn)
-        (moment_where true agent.old) (moment_where result.here agent.new)
-        (H.faults files.old) (H.faults files.new) }
-    ensures powered { IsFalse (ends_run (turn result.turn).reply)
-        → D.on (device agent.new) ≡ result.here }
-    ensures here { IsTrue result.here → IsFalse (gone agent.new) }
-    ensures size { D.blocks (device agent.new) ≡ D.blocks (device agent.old) }
+    requires payloads { HoldsPayloads (H.contents files.old) (string_bytes name) toc.now }
+    ensures turns { IsTurnWith H.Files (V.passes verifier.now) (send_call true (string_bytes name) request)
+        result agent.old agent.new files.old files.new }
+    ensures leaves { LeavesAgent result agent.old agent.new }
     ensures reads { ReadsFile H.Files (string_bytes name) files.old files.new }
-    ensures short { IsShort (turn result.turn).reply }
 {
     let mut piece = [0u8; PIECE];
     let sent = send_partial(
@@ -188,18 +168,10 @@ pub(crate) fn send_turn<D: Flash, H: Files, V: Verifier>(
     verifier: &V,
 ) -> AgentTurn
     requires alive { IsFalse (gone agent.old) }
-    ensures turns { Turns (V.passes verifier.now) D.tells (H.contents files.old)
-        (send_call partial (string_bytes name) request) (turn result.turn)
-        (moment_where true agent.old) (moment_where result.here agent.new)
-        (H.faults files.old) (H.faults files.new) }
-    ensures powered { IsFalse (ends_run (turn result.turn).reply)
-        → D.on (device agent.new) ≡ result.here }
-    ensures here { IsTrue result.here → IsFalse (gone agent.new) }
-    ensures size { D.blocks (device agent.new) ≡ D.blocks (device agent.old) }
+    ensures turns { IsTurnWith H.Files (V.passes verifier.now) (send_call partial (string_bytes name) request)
+        result agent.old agent.new files.old files.new }
+    ensures leaves { LeavesAgent result agent.old agent.new }
     ensures reads { ReadsFile H.Files (string_bytes name) files.old files.new }
-    ensures missing { Lacks (H.contents files.old) (string_bytes name)
-        → (turn result.turn).reply ≡ model.ReadFault }
-    ensures short { IsShort (turn result.turn).reply }
 {
     match read_table(files, name.as_str()) {
         Ok(toc) if partial => send_partial_by(agent, name, request, &toc, files, verifier),

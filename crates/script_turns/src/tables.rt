@@ -1,12 +1,12 @@
 //! The table of a file that is to be sent.
-ghost use Rattle.std.specs.Prelude.{◌≡◌, ◌+◌, ◌^◌, ◌<◌, ◌≤◌, All, ℕ, List, Err, IfErr, IfOk, length};
+ghost use Rattle.std.specs.Prelude.{◌≡◌, ℕ, List, IfErr, IfOk};
 ghost use Rattle.host_io.specs.Reads.{ReadsFile};
 ghost use Rattle.fwu_formats.specs.Capsule.{capsule_of, is_capsule};
 ghost use Rattle.fwu_formats.specs.Package.{toc_of};
 ghost use Rattle.fwu_model.specs.Answer.{table_in, table_or};
 ghost use Rattle.fwu_model.specs.Reply as reply;
 ghost use Rattle.fip_tables.specs.Files.{Lacks, Tells};
-ghost use Rattle.script_turns.specs.Tables.{HasTableCause, IsAnswer};
+ghost use Rattle.script_turns.specs.Tables.{HasTableCause, ReadsTable};
 ghost use Rattle.script_turns.specs.declared.tables.TableStop.TheVariants as stop;
 
 use capsule_tables::{CapsuleFault, CapsuleStop, FMP_GUID, read_capsule};
@@ -55,16 +55,7 @@ fn is_capsule<H: Files>(files: &mut H, name: &str) -> Result<bool, TableStop>
 
 /// The table of a package.
 fn package_table<H: Files>(files: &mut H, name: &str) -> Result<Toc, TableStop>
-    ensures told { (file : List ℕ) → Tells (H.contents files.old) name.now file
-        → IsAnswer (table_or reply.BadPackage (toc_of file)) result }
-    ensures stored { IfOk result (λ toc. (file : List ℕ) → Tells (H.contents files.old) name.now file
-        → All (λ e. e.offset + e.size ≤ length file) toc.entries) }
-    ensures ends { IfOk result (λ toc. All (λ e. e.offset + e.size < 2 ^ 64) toc.entries) }
-    ensures there { IfOk result (λ toc. Lacks (H.contents files.old) name.now → ⊥) }
-    ensures missing { Lacks (H.contents files.old) name.now → result ≡ Err stop.ReadFailed }
-    ensures reads { ReadsFile H.Files name.now files.old files.new }
-    ensures cause { HasTableCause (H.contents files.old) name.now (H.faults files.old)
-        (H.faults files.new) result }
+    ensures { ReadsTable H.Files (λ file. table_or reply.BadPackage (toc_of file)) name.now result files.old files.new }
 {
     match read_toc(files, name) {
         Ok(toc) => Ok(toc),
@@ -75,16 +66,7 @@ fn package_table<H: Files>(files: &mut H, name: &str) -> Result<Toc, TableStop>
 
 /// The table of a capsule.
 fn capsule_table<H: Files>(files: &mut H, name: &str) -> Result<Toc, TableStop>
-    ensures told { (file : List ℕ) → Tells (H.contents files.old) name.now file
-        → IsAnswer (table_or reply.BadCapsule (capsule_of file)) result }
-    ensures stored { IfOk result (λ toc. (file : List ℕ) → Tells (H.contents files.old) name.now file
-        → All (λ e. e.offset + e.size ≤ length file) toc.entries) }
-    ensures ends { IfOk result (λ toc. All (λ e. e.offset + e.size < 2 ^ 64) toc.entries) }
-    ensures there { IfOk result (λ toc. Lacks (H.contents files.old) name.now → ⊥) }
-    ensures missing { Lacks (H.contents files.old) name.now → result ≡ Err stop.ReadFailed }
-    ensures reads { ReadsFile H.Files name.now files.old files.new }
-    ensures cause { HasTableCause (H.contents files.old) name.now (H.faults files.old)
-        (H.faults files.new) result }
+    ensures { ReadsTable H.Files (λ file. table_or reply.BadCapsule (capsule_of file)) name.now result files.old files.new }
 {
     match read_capsule(files, name) {
         Ok(toc) => Ok(toc),
@@ -96,19 +78,7 @@ fn capsule_table<H: Files>(files: &mut H, name: &str) -> Result<Toc, TableStop>
 /// The table that a file is sent by: what begins with the UUID of capsules is read as one, and any other file as a package. The
 /// error is the file's first fault. Nothing here takes memory.
 pub fn read_table<H: Files>(files: &mut H, name: &str) -> Result<Toc, TableStop>
-    // Where the file's bytes are told, it is their table, or what `send` answers to them.
-    ensures told { (file : List ℕ) → Tells (H.contents files.old) name.now file
-        → IsAnswer (table_in file) result }
-    // Each payload then ends within the file.
-    ensures stored { IfOk result (λ toc. (file : List ℕ) → Tells (H.contents files.old) name.now file
-        → All (λ e. e.offset + e.size ≤ length file) toc.entries) }
-    // Whatever file it is, each payload ends below 2 ^ 64.
-    ensures ends { IfOk result (λ toc. All (λ e. e.offset + e.size < 2 ^ 64) toc.entries) }
-    ensures there { IfOk result (λ toc. Lacks (H.contents files.old) name.now → ⊥) }
-    ensures missing { Lacks (H.contents files.old) name.now → result ≡ Err stop.ReadFailed }
-    ensures reads { ReadsFile H.Files name.now files.old files.new }
-    ensures cause { HasTableCause (H.contents files.old) name.now (H.faults files.old)
-        (H.faults files.new) result }
+    ensures { ReadsTable H.Files table_in name.now result files.old files.new }
 {
     if is_capsule(files, name)? {
         capsule_table(files, name)

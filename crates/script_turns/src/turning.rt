@@ -1,6 +1,5 @@
 //! One turn of a run.
-ghost use Rattle.std.specs.Prelude.{◌≡◌, IsSome, IsTrue, IsFalse, ℕ, None, Option, true};
-ghost use Rattle.host_io.specs.Contents.{Directory};
+ghost use Rattle.std.specs.Prelude.{◌≡◌, IsSome, IsTrue, IsFalse, None};
 ghost use Rattle.host_io.specs.Reads.{ReadsFiles};
 ghost use Rattle.fwu_model.specs.Call as call;
 ghost use Rattle.fwu_model.specs.Reply as reply;
@@ -9,11 +8,11 @@ ghost use Rattle.agent_calls.specs.Shown.{device as agent_device, gone};
 ghost use Rattle.fwu_journal.specs.Shown.{IsShort, turn};
 ghost use Rattle.script_text.specs.Armable.{IsArmable};
 ghost use Rattle.script_text.specs.Shown.{HasBuffer, shown};
-ghost use Rattle.script_turns.specs.Calls.{moment_where};
 ghost use Rattle.script_turns.specs.Needs.{needs_bank};
-ghost use Rattle.script_turns.specs.Powered.{Fits, device, has_power, moment_in, moment_of, shown_on};
+ghost use Rattle.script_turns.specs.Powered.{Fits, device, has_power, moment_of, shown_on};
 ghost use Rattle.script_turns.specs.Sending.{IsUnnamed, LacksSent};
-ghost use Rattle.script_turns.specs.Stage.{device as flash_of, has_power as is_powered, shown_on as kept_by};
+ghost use Rattle.script_turns.specs.Stage.{device as flash_of, has_power as is_powered};
+ghost use Rattle.script_turns.specs.Turned.{IsStageTurn, IsTurnWith, LeavesAgent, LeavesDevice, TurnsAlone};
 ghost use Rattle.script_turns.specs.Turning.{Turns};
 
 use crate::booting::{Booting, boot_turn};
@@ -44,19 +43,10 @@ fn agent_turn<D: Flash, H: Files, V: Verifier>(
     requires asks { IsTrue (needs_bank (shown call)) }
     requires buffer { HasBuffer call }
 
-    ensures turns { Turns (V.passes verifier.now) D.tells (H.contents files.old) (shown call)
-        (turn result.turn) (moment_where true agent.old) (moment_where result.here agent.new)
-        (H.faults files.old) (H.faults files.new) }
-    ensures powered { IsFalse (ends_run (turn result.turn).reply)
-        → D.on (agent_device agent.new) ≡ result.here }
-    ensures here { IsTrue result.here → IsFalse (gone agent.new) }
-    ensures size { D.blocks (agent_device agent.new) ≡ D.blocks (agent_device agent.old) }
+    ensures turns { IsTurnWith H.Files (V.passes verifier.now) (shown call) result agent.old agent.new files.old files.new }
+    ensures leaves { LeavesAgent result agent.old agent.new }
     ensures reads { ReadsFiles H.Files (IsUnnamed (shown call)) files.old files.new }
     ensures files { IsFalse (is_send (shown call)) → files.new ≡ files.old }
-    // A file that is not there.
-    ensures missing { LacksSent (H.contents files.old) (shown call)
-        → (turn result.turn).reply ≡ reply.ReadFault }
-    ensures short { IsShort (turn result.turn).reply }
 {
     match call {
         Call::Send { name, request } => send_turn(agent, name, request, false, files, verifier),
@@ -80,20 +70,8 @@ fn live_turn<D: Flash, H: Files, V: Verifier>(
     requires powered { D.on (agent_device live.old.agent) ≡ live.old.here }
     requires buffer { HasBuffer call }
 
-    ensures turns { Turns (V.passes verifier.now) D.tells (H.contents files.old) (shown call)
-        (turn result) (moment_where live.old.here live.old.agent)
-        (moment_where live.new.here live.new.agent) (H.faults files.old) (H.faults files.new) }
-    ensures powered { IsFalse (ends_run (turn result).reply)
-        → D.on (agent_device live.new.agent) ≡ live.new.here }
-    ensures size { D.blocks (agent_device live.new.agent)
-        ≡ D.blocks (agent_device live.old.agent) }
-    ensures reads { ReadsFiles H.Files (IsUnnamed (shown call)) files.old files.new }
-    ensures files { IsFalse (is_send (shown call)) → files.new ≡ files.old }
-    ensures idle { IsFalse live.old.here → files.new ≡ files.old }
-    // A file that is not there.
-    ensures missing { LacksSent (H.contents files.old) (shown call) → IsTrue live.old.here
-        → (turn result).reply ≡ reply.ReadFault }
-    ensures short { IsShort (turn result).reply }
+    ensures { IsStageTurn H.Files (V.passes verifier.now) (shown call) (turn result)
+        (Stage.On live.old) (Stage.On live.new) files.old files.new }
 {
     if !live.here {
         return turn_of(call, Reply::Off);
@@ -116,19 +94,7 @@ fn bank_turn<D: Flash, H: Files, V: Verifier>(
     requires powered { D.on (flash_of stage.old) ≡ is_powered stage.old }
     requires buffer { HasBuffer call }
 
-    ensures turns { Turns (V.passes verifier.now) D.tells (H.contents files.old) (shown call)
-        (turn result) (moment_in stage.old) (moment_in stage.new)
-        (H.faults files.old) (H.faults files.new) }
-    ensures powered { IsFalse (ends_run (turn result).reply)
-        → D.on (flash_of stage.new) ≡ is_powered stage.new }
-    ensures size { D.blocks (flash_of stage.new) ≡ D.blocks (flash_of stage.old) }
-    ensures reads { ReadsFiles H.Files (IsUnnamed (shown call)) files.old files.new }
-    ensures files { IsFalse (is_send (shown call)) → files.new ≡ files.old }
-    ensures idle { kept_by stage.old ≡ None → files.new ≡ files.old }
-    // A file that is not there.
-    ensures missing { LacksSent (H.contents files.old) (shown call) → IsSome (kept_by stage.old)
-        → (turn result).reply ≡ reply.ReadFault }
-    ensures short { IsShort (turn result).reply }
+    ensures { IsStageTurn H.Files (V.passes verifier.now) (shown call) (turn result) stage.old stage.new files.old files.new }
 {
     match stage {
         Stage::On(live) => live_turn(alloc, live, call, files, verifier),
@@ -149,19 +115,7 @@ fn stage_turn<D: Flash, H: Files, V: Verifier>(
     requires armable { IsArmable (shown call) }
     requires buffer { HasBuffer call }
 
-    ensures turns { Turns (V.passes verifier.now) D.tells (H.contents files.old) (shown call)
-        (turn result) (moment_in stage.old) (moment_in stage.new)
-        (H.faults files.old) (H.faults files.new) }
-    ensures powered { IsFalse (ends_run (turn result).reply)
-        → D.on (flash_of stage.new) ≡ is_powered stage.new }
-    ensures size { D.blocks (flash_of stage.new) ≡ D.blocks (flash_of stage.old) }
-    ensures reads { ReadsFiles H.Files (IsUnnamed (shown call)) files.old files.new }
-    ensures files { IsFalse (is_send (shown call)) → files.new ≡ files.old }
-    ensures idle { kept_by stage.old ≡ None → files.new ≡ files.old }
-    // A file that is not there.
-    ensures missing { LacksSent (H.contents files.old) (shown call) → IsSome (kept_by stage.old)
-        → (turn result).reply ≡ reply.ReadFault }
-    ensures short { IsShort (turn result).reply }
+    ensures { IsStageTurn H.Files (V.passes verifier.now) (shown call) (turn result) stage.old stage.new files.old files.new }
 {
     match call {
         Call::Show => show_turn(stage),
@@ -174,13 +128,9 @@ fn stage_turn<D: Flash, H: Files, V: Verifier>(
 /// The turn of a boot: the stage is out while the flash boots.
 fn boot_in<D: Flash, V: Verifier>(powered: &mut Powered<D>, verifier: &V) -> Turn
     requires { D.on (device powered.old) ≡ has_power powered.old }
-    ensures turns { (files : Option Directory) (faults : ℕ)
-        → Turns (V.passes verifier.now) D.tells files call.Boot (turn result)
-        (moment_of powered.old) (moment_of powered.new) faults faults }
-    ensures powered { IsFalse (ends_run (turn result).reply)
-        → D.on (device powered.new) ≡ has_power powered.new }
-    ensures short { IsShort (turn result).reply }
-    ensures size { D.blocks (device powered.new) ≡ D.blocks (device powered.old) }
+    ensures turns { TurnsAlone (V.passes verifier.now) D.tells call.Boot (turn result)
+        (moment_of powered.old) (moment_of powered.new) }
+    ensures leaves { LeavesDevice D.Flash (turn result) (has_power powered.new) (device powered.old) (device powered.new) }
 {
     let Some(stage) = mem::replace(&mut powered.inside, None) else {
         unreachable!()

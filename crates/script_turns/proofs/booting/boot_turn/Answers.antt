@@ -16,21 +16,22 @@ returns-clause-turns g c files faults =
     let e = ended c.boot.result in
     let flash = c.with_power.result in
     let boots = c.boot.ensures.boots in
+    let left = c.turned_by.ensures.leaves in
     let old = moment_in c.args.stage in
     let mid = moment F.told F.counts F.arming F.on flash in
     let new = moment_in c.turned_by.result.stage in
     subst (λ (t : Turn). Turns passes F.tells files call.Boot t old new faults faults) (sym c.turned_by.ensures.turn)
     (boots-turn passes F.tells files faults e old mid new c.with_power.ensures.power (record {
-      on_is = c.turned_by.ensures.on;
-      leaves = c.turned_by.ensures.leaves;
-      shows = c.turned_by.ensures.shows;
-      power_is = ap F.on c.turned_by.ensures.device ∙ boots.power;
-      costs = subst (λ d. Spends (stop_of e) (F.counts flash) (F.counts d)) (sym c.turned_by.ensures.device) boots.costs;
-      idle = subst (λ d. IdleEnd e (F.arming flash) (F.arming d) (F.counts flash) (F.counts d)) (sym c.turned_by.ensures.device) boots.idle;
-      spent = subst (λ d. TakesBoot e (F.arming flash) (F.arming d)) (sym c.turned_by.ensures.device) boots.spent;
+      on_is = left.on;
+      leaves = left.leaves;
+      shows = left.shows;
+      power_is = ap F.on left.flash_is ∙ boots.power;
+      costs = subst (λ d. Spends (stop_of e) (F.counts flash) (F.counts d)) (sym left.flash_is) boots.costs;
+      idle = subst (λ d. IdleEnd e (F.arming flash) (F.arming d) (F.counts flash) (F.counts d)) (sym left.flash_is) boots.idle;
+      spent = subst (λ d. TakesBoot e (F.arming flash) (F.arming d)) (sym left.flash_is) boots.spent;
       started = boots.started;
       permitted = boots.permitted;
-      once = λ told. subst (λ d. TakesByBytes (F.told flash).now e (F.arming flash) (F.arming d)) (sym c.turned_by.ensures.device) (boots.once told);
-      unarmed = subst (λ d. StaysUnarmed (stop_of e) (F.arming flash) (F.arming d) (F.counts flash) (F.counts d)) (sym c.turned_by.ensures.device) boots.unarmed;
-      ends = λ told. subst (λ d. BootEnds passes (F.told flash) e (F.told d)) (sym c.turned_by.ensures.device) (boots.ends told);
+      once = λ told. subst (λ d. TakesByBytes (F.told flash).now e (F.arming flash) (F.arming d)) (sym left.flash_is) (boots.once told);
+      unarmed = subst (λ d. StaysUnarmed (stop_of e) (F.arming flash) (F.arming d) (F.counts flash) (F.counts d)) (sym left.flash_is) boots.unarmed;
+      ends = λ told. subst (λ d. BootEnds passes (F.told flash) e (F.told d)) (sym left.flash_is) (boots.ends told);
     }) c.with_power.ensures.has)

@@ -1,31 +1,20 @@
-use Rattle.std.proofs.Common.{◌≡◌, refl, ap}
+use Rattle.std.proofs.Common.{◌≡◌, refl}
 use Rattle.fwu_model.specs.Call as call
-use Rattle.fwu_model.specs.Reply as reply
-use Rattle.script_turns.proofs.CallTakes.{takes-switch}
-use Rattle.agent_machine.specs.Fields.{Fields}
 use Rattle.agent_calls.specs.Shown.{fields}
 use Rattle.agent_calls.specs.Metas.{meta_ended}
-use Rattle.script_turns.proofs.Called.{called-done, meta-by, never-gone, powered-by, there-by, turns-by}
+use Rattle.script_turns.proofs.CallTakes.{takes-switch}
+use Rattle.script_turns.proofs.Called.{leaves-by, meta-by, turns-done}
 use Rattle.script_turns.proofs.calling.end_turn.Goals as goal
 
 pub returns-clause-turns : goal.returns-clause-turns
-returns-clause-turns g c files faults =
+returns-clause-turns g c =
     let a = c.args.agent.now in
     let b = c.end-result.new.self in
     let live = c.requires.alive in
-    let result = c.end-result.result in
     let h = c.end-result.ensures in
-    let here = never-gone result _ _ h.goes.gone live in
-    turns-by a b c.done.result.here live (λ value. reply.Success) result (g.V.Verifier.passes c.args.verifier.now) files faults (call.End) _ c.done.ensures.turn c.done.ensures.here (h.goes.power live) h.goes.costs h.goes.unarmed (meta-by result (fields a).meta (fields b).meta ((fields b).meta ≡ meta_ended (fields a)) here h.keeps (λ r. ap (λ (f : Fields). f.meta) (h.goes.refused r)))
-    (called-done result (g.V.Verifier.passes c.args.verifier.now) (call.End) _ _ refl (λ previous. previous) (λ q same. same) here (h.meets live (g.V.Verifier.passes c.args.verifier.now) refl))
-    (takes-switch a b result h.spent h.refused)
+    turns-done a b c.done.result c.end-result.result live h.goes (g.V.Verifier.passes c.args.verifier.now) call.End c.done.ensures.turn c.done.ensures.here
+    (meta-by a b _ live h.goes ((fields b).meta ≡ meta_ended (fields a)) h.keeps) refl (λ previous. previous) (λ q same. same) (h.meets live (g.V.Verifier.passes c.args.verifier.now) refl)
+    (λ files. takes-switch a b _ h.spent h.refused)
 
-pub returns-clause-powered : goal.returns-clause-powered
-returns-clause-powered g c quiet =
-    let h = c.end-result.ensures in
-    powered-by c.args.agent.now c.end-result.new.self c.done.result.here c.requires.alive c.end-result.result h.goes.gone c.done.ensures.here (h.goes.power c.requires.alive)
-
-pub returns-clause-here : goal.returns-clause-here
-returns-clause-here g c there =
-    let h = c.end-result.ensures in
-    there-by c.args.agent.now c.end-result.new.self c.done.result.here c.requires.alive c.end-result.result h.goes.gone c.done.ensures.here there
+pub returns-clause-leaves : goal.returns-clause-leaves
+returns-clause-leaves g c = leaves-by _ _ c.done.result _ c.requires.alive c.end-result.ensures.goes c.done.ensures.here c.done.ensures.short

@@ -13,7 +13,7 @@ front : (count len : ℕ) (items out rest : List ℕ) → items ≡ take count (
 front count len items out rest is long = is ∙ ap (take count) (take_at out rest len long)
 
 pub returns-in-Ok-clause-turns : goal.returns-in-Ok-clause-turns
-returns-in-Ok-clause-turns g c passes files faults =
+returns-in-Ok-clause-turns g c passes =
     let a = c.args.agent.now in
     let b = c.read_stream.new.self in
     let live = c.requires.alive in
@@ -23,13 +23,13 @@ returns-in-Ok-clause-turns g c passes files faults =
     let out = c.read_stream.new.out in
     let room = ap length c.as_mut_slice.ensures.value ∙ c.requires.room in
     let fits : c.in-Ok.count ≤ length out = omega (arith, h.room, h.long) in
-    turns-by a b c.answered.result.here live (got out) result passes files faults (call.Read c.args.handle c.args.room) _
-    (c.answered.ensures.turn ∙ ap (λ (bytes : List ℕ). quiet_turn (call.Read c.args.handle c.args.room) (reply.Got c.in-Ok.total bytes)) (front c.in-Ok.count c.args.out.len c.truncate.new.self.items out _ c.truncate.ensures.items (h.long ∙ c.as_mut_slice.ensures.len))) c.answered.ensures.here (h.goes.power live) h.goes.costs h.goes.unarmed h.metadata
+    turns-by a b c.answered.result result live h.goes (got out) passes (call.Read c.args.handle c.args.room)
+    (c.answered.ensures.turn ∙ ap (λ (bytes : List ℕ). quiet_turn (call.Read c.args.handle c.args.room) (reply.Got c.in-Ok.total bytes)) (front c.in-Ok.count c.args.out.len c.truncate.new.self.items out _ c.truncate.ensures.items (h.long ∙ c.as_mut_slice.ensures.len))) c.answered.ensures.here h.metadata
     (called-read g.D.Flash.tells result passes c.args.handle c.args.room out _ _ refl here fits (rw room at (h.meets live passes)))
-    (record { armed = h.arming; reached = h.reached })
+    (λ files. record { armed = h.arming; reached = h.reached })
 
 pub returns-in-Err-clause-turns : goal.returns-in-Err-clause-turns
-returns-in-Err-clause-turns g c passes files faults =
+returns-in-Err-clause-turns g c passes =
     let a = c.args.agent.now in
     let b = c.read_stream.new.self in
     let live = c.requires.alive in
@@ -38,7 +38,7 @@ returns-in-Err-clause-turns g c passes files faults =
     let here = never-gone result _ _ h.goes.gone live in
     let out = c.read_stream.new.out in
     let room = ap length c.as_mut_slice.ensures.value ∙ c.requires.room in
-    turns-by a b c.refused.result.here live (got out) result passes files faults (call.Read c.args.handle c.args.room) _
-    c.refused.ensures.turn c.refused.ensures.here (h.goes.power live) h.goes.costs h.goes.unarmed h.metadata
+    turns-by a b c.refused.result result live h.goes (got out) passes (call.Read c.args.handle c.args.room)
+    c.refused.ensures.turn c.refused.ensures.here h.metadata
     (called-read g.D.Flash.tells result passes c.args.handle c.args.room out _ _ refl here tt (rw room at (h.meets live passes)))
-    (reads-by result out _ _ h.arming h.reached)
+    (λ files. reads-by result out _ _ h.arming h.reached)

@@ -24,8 +24,8 @@ returns-clause-turns g c =
     (with-power (moment_where true agent) (agent.power here))
     (moment-sent new c.sent_turn.result.here sent.result c.sent_turn.ensures.here)
     (sent-turn true _ _ _ _ _ (fields agent) (fields new) _ _ _ _ _ _ _ _ sent.result _ (sent.ensures.goes here).power
-    (λ e. let gone = sent.ensures.gone.gone.0 e in let was = gone.0 in absurd (cc (was, here))) c.requires.there
-    (sending-over _ _ _ _ sent.result (moment agent) (moment new) c.args.toc.now c.requires.table c.requires.there name)
+    (λ e. let gone = sent.ensures.gone.gone.0 e in let was = gone.0 in absurd (cc (was, here))) c.requires.payloads.there
+    (sending-over _ _ _ _ sent.result (moment agent) (moment new) c.args.toc.now c.requires.table c.requires.payloads.there name)
     (shows-some (fields agent) (agent.fitting here) g.D.Flash.tells (g.D.Flash.told agent.flash) (agent.knows here) (agent.some here))
     (λ test. shows-known (fields agent) (agent.fitting here) (g.D.Flash.told agent.flash) g.D.Flash.tells (agent.knows here test))
     (sent.ensures.goes here).costs sent.ensures.reads

@@ -1,12 +1,19 @@
-use Rattle.std.proofs.Common.{arith}
+use Rattle.std.proofs.Common.{arith, rules}
 use Rattle.fwu_formats.proofs.Tables.{table-of}
 use Rattle.script_turns.proofs.tables.package_table.Goals as goal
 
-pub returns-in-Ok-clause-stored : goal.returns-in-Ok-clause-stored
-returns-in-Ok-clause-stored g c = λ file told. (table-of file c.in-Ok.toc (c.in-Ok.ensures.told file told)).within
-
-pub returns-in-Ok-clause-ends : goal.returns-in-Ok-clause-ends
-returns-in-Ok-clause-ends g c = λ k d lt.
-    let some = c.in-Ok.ensures.some in
-    let inside = (table-of some.bytes c.in-Ok.toc some.answer).within k d lt in
-    omega (arith, inside, some.short)
+pub returns-in-Ok : goal.returns-in-Ok
+returns-in-Ok g c =
+    let read = c.in-Ok.ensures in
+    let some = read.some in
+    record {
+      told = search rules;
+      found = record {
+        stored = λ file told. (table-of file c.in-Ok.toc (read.told file told)).within;
+        ends = λ k d lt. let inside = (table-of some.bytes c.in-Ok.toc some.answer).within k d lt in omega (arith, inside, some.short);
+        there = search rules;
+      };
+      missing = search rules;
+      reads = read.reads;
+      cause = search rules;
+    }

@@ -1,6 +1,5 @@
-use Rattle.std.proofs.Common.{◌≡◌, ◌⊎◌, inl, inr, Option, None, ap}
+use Rattle.std.proofs.Common.{◌≡◌, ◌⊎◌, inl, inr, Option, None, refl, rules, ap}
 use Rattle.flash_core.specs.declared.flash.Flash.{Ghosts}
-use Rattle.host_io.proofs.Reading.{reads-none}
 use Rattle.agent_machine.specs.Fields.{Fields}
 use Rattle.script_text.specs.Shown.{shown}
 use Rattle.script_turns.specs.Powered.{at, moment, moment_in}
@@ -8,6 +7,7 @@ use Rattle.script_turns.specs.Stage.{device, shown_on}
 use Rattle.script_turns.specs.declared.stage.Fresh.{Fresh}
 use Rattle.script_turns.specs.declared.stage.Stage.{Stage}
 use Rattle.script_turns.specs.declared.stage.Stage.TheVariants as stage
+use Rattle.script_turns.proofs.Alone.{turns-alone}
 use Rattle.script_turns.proofs.OffTurns.{off-turn}
 use Rattle.script_turns.proofs.SendTurns.{turns-as}
 use Rattle.script_turns.proofs.turning.bank_turn.Goals as goal
@@ -20,11 +20,10 @@ module _ {D : Type 0} {F : Ghosts D} (s : Stage D F) where
   moment-off : shown_on s ≡ None → moment_in s ≡ moment F.told F.counts F.arming F.on (device s)
   moment-off none = ap (λ (o : Option Fields). at o (F.told (device s)) (F.counts (device s)) (F.arming (device s)) (F.on (device s))) none
 
-pub returns-in-Off-clause-turns : goal.returns-in-Off-clause-turns
-returns-in-Off-clause-turns g c =
+pub returns-in-Off : goal.returns-in-Off
+returns-in-Off g c =
     let s = c.args.stage.now in
     let off = moment-off s (not-booted s c.in-Off.is) in
-    turns-as _ _ _ _ _ _ c.turn_of.ensures off off (off-turn _ _ _ _ _ _ _ _ (shown c.args.call) c.requires.asks)
-
-pub returns-in-Off-clause-reads : goal.returns-in-Off-clause-reads
-returns-in-Off-clause-reads g c = reads-none g.H.Files _ g.met.H.Files.at_rest _
+    turns-alone g.H.Files g.met.H.Files.at_rest _ _ _ _ _ _ _ refl
+    (λ files faults. turns-as _ _ _ _ _ _ c.turn_of.ensures off off (off-turn _ _ _ _ _ _ _ _ (shown c.args.call) c.requires.asks))
+    (record { powered = λ on. c.requires.powered; size = refl; short = search rules })

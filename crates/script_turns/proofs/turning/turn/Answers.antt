@@ -1,11 +1,14 @@
-use Rattle.std.proofs.Common.{sym, ap, subst}
+use Rattle.std.proofs.Common.{◌≡◌, Some, sym, ap, subst}
+use Rattle.std.specs.Prelude.{IsSome}
 use Rattle.host_io.proofs.Reading.{reads-none}
 use Rattle.fwu_model.specs.Call.{Call}
 use Rattle.fwu_journal.specs.Shown.{turn}
 use Rattle.script_text.specs.Shown.{shown}
 use Rattle.script_turns.specs.Powered.{moment_of}
+use Rattle.script_turns.specs.Stage.{shown_on}
 use Rattle.script_turns.specs.Turning.{Turns}
-use Rattle.script_turns.proofs.Fitting.{fits-stage, fitting}
+use Rattle.script_turns.specs.declared.stage.Stage.{Stage}
+use Rattle.script_turns.proofs.Fitting.{fits-stage, fitting, the-is}
 use Rattle.script_turns.proofs.turning.turn.Goals as goal
 
 pub returns-in-Boot-clause-turns : goal.returns-in-Boot-clause-turns
@@ -23,3 +26,9 @@ returns-in-Some-clause-fits g c = fits-stage c.stage_turn.new.stage
 
 pub returns-in-Boot-clause-reads : goal.returns-in-Boot-clause-reads
 returns-in-Boot-clause-reads g c = reads-none g.H.Files _ g.met.H.Files.at_rest _
+
+pub returns-in-Some-clause-missing : goal.returns-in-Some-clause-missing
+returns-in-Some-clause-missing g c lacks some =
+    let is : c.args.powered.now.inside ≡ Some c.in-Some.stage = cc in
+    c.stage_turn.ensures.turns.lacking lacks
+    (subst (λ (s : Stage _ g.D.Flash). IsSome (shown_on s)) (the-is c.args.powered.now.inside c.args.powered.now.there c.in-Some.stage is) some)
