@@ -78,7 +78,8 @@ fn package_of_items<'a>(
     repacked(alloc, align, from, toc, entries, none.as_slice())
 }
 
-/// The package of the capsule in the file `from`. Its serial number is 0x12345678, and all its flags are 0.
+/// The package of the capsule in the file `from`, each payload at a multiple of `align` bytes. Its serial number is 0x12345678,
+/// and all its flags are 0.
 pub fn package_of_capsule<'a, H: Files>(
     alloc: Global,
     files: &mut H,

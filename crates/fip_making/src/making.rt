@@ -25,7 +25,7 @@ use std::alloc::{AllocError, Global};
 
 const NEW_SERIAL: u32 = 0x1234_5678;
 
-/// A new package of named files. It asks for their sizes, and reads none of them.
+/// A new package of named files, each payload at a multiple of `align` bytes. It asks for their sizes, and reads none of them.
 pub fn created<'a, H: Files>(
     alloc: Global,
     files: &mut H,
@@ -117,7 +117,7 @@ fn without<'a>(
     repacked(alloc, align, from, toc, kept.as_slice(), none.as_slice())
 }
 
-/// The package in the file `from` without the named entries.
+/// The package in the file `from` without the named entries, each payload at a multiple of `align` bytes.
 pub fn removed<'a, H: Files>(
     alloc: Global,
     files: &mut H,
@@ -172,8 +172,8 @@ fn replaced<'a, H: Files>(
     }
 }
 
-/// The package in the file `from` with the payloads of named files. These are asked for once the package has an entry of each of
-/// their types.
+/// The package in the file `from` with the payloads of named files, each payload at a multiple of `align` bytes. The named files
+/// are asked for once the package has an entry of each of their types.
 pub fn updated<'a, H: Files>(
     alloc: Global,
     files: &mut H,
