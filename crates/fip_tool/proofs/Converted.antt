@@ -23,11 +23,12 @@ use Rattle.capsule_tables.proofs.ReadAgain.{made-is-read}
 use Rattle.capsule_tables.proofs.Within.{is-read, no-flags, types-sixteen}
 use Rattle.fip_words.specs.Order.{Asked, info, info_of_source, create, update, remove, unpack, manifest, capsule, repackage}
 use Rattle.fip_tool.specs.Converted.{Converts, IsEnclosed, IsPackaged}
-use Rattle.fip_tool.specs.Ends.{status_number}
+use Rattle.fip_making.specs.Stops.{status_number}
 use Rattle.fip_tool.specs.Steps.{Are, Did, Makes, Refuses, Step, outcome_by, with_file, written}
-use Rattle.fip_tool.specs.Tool.{after, capsule_table, capsule_value, enclose_value, encloses, kept_part, outcome_of, pack_value, repackage_value, packs, table_of, there, unless_fault}
-use Rattle.fip_tool.specs.declared.stops.Stop.{Stop}
-use Rattle.fip_tool.specs.declared.stops.Stop.TheVariants as stop
+use Rattle.fip_making.specs.Values.{after, capsule_table, capsule_value, enclose_value, kept_part, pack_value, repackage_value, table_of, there, unless_fault}
+use Rattle.fip_tool.specs.Tool.{encloses, outcome_of, packs}
+use Rattle.fip_making.specs.declared.stops.Stop.{Stop}
+use Rattle.fip_making.specs.declared.stops.Stop.TheVariants as stop
 
 -- ---- the parts of entries
 

@@ -3,10 +3,11 @@ use Rattle.std.proofs.Common.{◌≡◌, ◌⊎◌, inl, inr, ℕ, List, [], ◌
 use Rattle.std.specs.Io.KnownBytes.{Appends}
 use Rattle.std.proofs.KnownBytes.{Appends-nil}
 use Rattle.host_io.specs.Contents.{Directory}
-use Rattle.fip_tool.specs.Steps.{Outcome, Makes, Refuses, Step, Writes, Prints, Are, AreUpTo, StandAfter, Did, Gives, Printed, outcome_by}
+use Rattle.fip_tool.specs.Steps.{Outcome, Makes, Refuses, Step, Writes, Prints, Are, AreUpTo, StandAfter, Did, Printed, outcome_by}
+use Rattle.fip_making.specs.Answers.{Gives}
 use Rattle.fip_tool.specs.Tool.{prints}
-use Rattle.fip_tool.specs.declared.stops.Stop.{Stop}
-use Rattle.fip_tool.specs.declared.stops.Stop.TheVariants as stop
+use Rattle.fip_making.specs.declared.stops.Stop.{Stop}
+use Rattle.fip_making.specs.declared.stops.Stop.TheVariants as stop
 
 pub are-told : (files : Directory) (now : Option Directory) → now ≡ Some files → Are now files
 are-told files None e = cc

@@ -11,18 +11,20 @@ use Rattle.host_io.specs.declared.source.Source as source
 use Rattle.host_io.specs.declared.sink.Sink as sink
 use Rattle.fip_tool.proofs.Did.{are-told}
 use Rattle.fip_tool.proofs.FileFaults.{faults-none}
-use Rattle.fip_tool.proofs.SourceLemmas.{nothing-read}
+use Rattle.fip_making.proofs.SourceLemmas.{nothing-read}
 use Rattle.fip_tool.proofs.WroteLemmas.{wrote-none}
-use Rattle.fip_tool.proofs.Refusing.{if-err-all, memory-may}
+use Rattle.fip_making.proofs.Refusing.{if-err-all}
+use Rattle.fip_tool.proofs.Refusing.{memory-may}
 use Rattle.fip_tool.specs.Done.{Done, DoneWithFiles, RefusesAlone}
-use Rattle.fip_tool.specs.Ends.{status_number}
+use Rattle.fip_making.specs.Stops.{status_number}
 use Rattle.fip_tool.specs.Refusals.{MayRefuse}
 use Rattle.fip_tool.specs.Said.{IsTexts}
 use Rattle.fip_tool.specs.Seen.{ReadSourceIn, SaysIn}
-use Rattle.fip_tool.specs.Steps.{sink_failures, source_failures}
+use Rattle.fip_tool.specs.Steps.{sink_failures}
+use Rattle.fip_making.specs.Answers.{source_failures}
 use Rattle.fip_tool.specs.Tool.{asks_files}
-use Rattle.fip_tool.specs.declared.stops.Stop.{Stop}
-use Rattle.fip_tool.specs.declared.stops.Stop.TheVariants as stop
+use Rattle.fip_making.specs.declared.stops.Stop.{Stop}
+use Rattle.fip_making.specs.declared.stops.Stop.TheVariants as stop
 
 module _ {H I O : Type 0} {h : files.Ghosts H} {i : source.Ghosts I} {o : sink.Ghosts O} where
   -- a command that asks for files does not touch the source

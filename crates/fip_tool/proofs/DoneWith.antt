@@ -10,25 +10,30 @@ use Rattle.host_io.specs.declared.files.Files as files
 use Rattle.host_io.specs.declared.sink.Sink as sink
 use Rattle.host_io.specs.declared.writes.Writes.{Writes}
 use Rattle.fip_tool.specs.Done.{DoneWithFiles, RefusesAlone, WritesTexts}
-use Rattle.fip_tool.specs.Ends.{status_number}
+use Rattle.fip_making.specs.Stops.{status_number}
 use Rattle.fip_tool.specs.Names.{IsUnneeded, IsUnnamed}
-use Rattle.fip_tool.specs.Payloads.{made_by}
+use Rattle.fip_making.specs.Payloads.{made_by}
 use Rattle.fip_tool.specs.Refusals.{MayRefuse}
 use Rattle.fip_tool.specs.Said.{IsMadeLine, IsTexts}
-use Rattle.fip_tool.specs.Seen.{DidIn, DidSince, GivesIn, ReadsOnlyIn, SaysIn, WroteIn, WroteForIn}
-use Rattle.fip_tool.specs.Steps.{FaultsOnce, Gives, IsLate, Outcome, outcome_by, sink_failures}
+use Rattle.fip_tool.specs.Seen.{DidIn, DidSince, SaysIn, WroteIn, WroteForIn}
+use Rattle.fip_making.specs.Seen.{GivesIn, ReadsOnlyIn}
+use Rattle.fip_tool.specs.Steps.{FaultsOnce, Outcome, outcome_by, sink_failures}
+use Rattle.fip_making.specs.Answers.{Gives, IsLate}
 use Rattle.fip_tool.specs.Tool.{command_outcome, puts}
 use Rattle.fip_tool.specs.Wrote.{WroteFor}
-use Rattle.fip_tool.specs.declared.made.Format.{Format}
-use Rattle.fip_tool.specs.declared.made.Made.{Made}
-use Rattle.fip_tool.specs.declared.stops.Stop.{Stop}
-use Rattle.fip_tool.specs.declared.stops.Stop.TheVariants as stop
+use Rattle.fip_tool.specs.declared.lines.Format.{Format}
+use Rattle.fip_making.specs.declared.made.Made.{Made}
+use Rattle.fip_making.specs.declared.stops.Stop.{Stop}
+use Rattle.fip_making.specs.declared.stops.Stop.TheVariants as stop
 use Rattle.fip_tool.proofs.Did.{did-later}
 use Rattle.fip_tool.proofs.FileFaults.{faults-as, faults-of}
-use Rattle.fip_tool.proofs.Refusing.{if-err-as, late-alone, made-alone, made-may}
+use Rattle.fip_making.proofs.Refusing.{if-err-as}
+use Rattle.fip_tool.proofs.Refusing.{late-alone, made-alone, made-may}
 use Rattle.fip_tool.proofs.SinkFaults.{still}
-use Rattle.fip_tool.proofs.Tables.{either-rose, tears-since}
-use Rattle.fip_tool.proofs.Texts.{err-same, says-as, says-nothing}
+use Rattle.fip_making.proofs.Tables.{either-rose}
+use Rattle.fip_tool.proofs.Torn.{tears-since}
+use Rattle.fip_making.proofs.Stopped.{err-same}
+use Rattle.fip_tool.proofs.Texts.{says-as, says-nothing}
 use Rattle.fip_tool.proofs.WroteLemmas.{wrote-as, wrote-none}
 
 module _ {H O : Type 0} {h : files.Ghosts H} {o : sink.Ghosts O} {one : Asked} where

@@ -5,8 +5,8 @@ use Rattle.std.proofs.KnownBytes.{Appends-trans}
 use Rattle.host_io.specs.Contents.{Directory}
 use Rattle.fip_tool.specs.Ends.{EndedBy, HasCauseOf, Reported, SinkFailed, Told, stop_line}
 use Rattle.fip_tool.specs.Steps.{Outcome, Refuses, Are, StandAfter, Did, steps_of, printed}
-use Rattle.fip_tool.specs.declared.stops.Stop.{Stop}
-use Rattle.fip_tool.specs.declared.stops.Stop.TheVariants as stop
+use Rattle.fip_making.specs.declared.stops.Stop.{Stop}
+use Rattle.fip_making.specs.declared.stops.Stop.TheVariants as stop
 
 module _ (outcome : Outcome) (files : Directory) (now : Option Directory) (was mid text : Option (List ℕ)) (files-rose spoiled sink-before sink-rose : Type 0) (rises : sink-before → sink-rose) where
   pub done : (u : Unit {0}) → Did outcome files now was mid files-rose spoiled sink-before (Ok u) → EndedBy outcome files now was mid files-rose spoiled sink-rose (Ok u)

@@ -4,30 +4,16 @@ use Rattle.std.proofs.lemmas.Bool.{false≢true}
 use Rattle.std.specs.Prelude.{◌==◌, ◌||◌, IsFalse}
 use Rattle.host_io.specs.Contents.{Directory}
 use Rattle.fip_tool.proofs.SourceFaults.{by-number}
-use Rattle.fip_tool.specs.Ends.{Reported, status_number}
-use Rattle.fip_tool.specs.Steps.{FailsAtMostOnce, FaultsOnce, NoneFailed, ReadsOnly, source_failed}
+use Rattle.fip_tool.specs.Ends.{Reported}
+use Rattle.fip_making.specs.Stops.{status_number}
+use Rattle.fip_tool.specs.Steps.{FailsAtMostOnce, FaultsOnce}
+use Rattle.fip_making.specs.Answers.{NoneFailed, ReadsOnly, source_failed}
 use Rattle.std.proofs.KnownBytes.{Appends-trans}
 use Rattle.fip_words.specs.Order.{Asked}
 use Rattle.fip_tool.specs.Said.{IsTextsOf, Says, SinkAlone}
-use Rattle.fip_tool.specs.declared.stops.Stop.{Stop}
-use Rattle.fip_tool.specs.declared.stops.Stop.TheVariants as stop
-
--- a stop of a part is one of the whole, after parts that failed not once
-pub quiet-as : (X Y : Type 0) (s : Stop) (before between after : ℕ) → between ≡ before → NoneFailed {X = X} (Err s) between after → NoneFailed {X = Y} (Err s) before after
-quiet-as X Y stop.FileFault before between after same h = tt
-quiet-as X Y stop.SinkFault before between after same h = h ∙ same
-quiet-as X Y stop.Usage before between after same h = h ∙ same
-quiet-as X Y (stop.NotFip f) before between after same h = h ∙ same
-quiet-as X Y (stop.NoSuchEntry guid) before between after same h = h ∙ same
-quiet-as X Y (stop.NotPacked f) before between after same h = h ∙ same
-quiet-as X Y (stop.NoManifest f) before between after same h = h ∙ same
-quiet-as X Y stop.TooLong before between after same h = h ∙ same
-quiet-as X Y (stop.NotCapsule f) before between after same h = h ∙ same
-quiet-as X Y stop.NoMemory before between after same h = h ∙ same
-
-pub quiet-then : {X : Type 0} (r : Result X Stop) (before between after : ℕ) → between ≡ before → NoneFailed r between after → NoneFailed r before after
-quiet-then {X = X} (Ok x) before between after same h = h ∙ same
-quiet-then {X = X} (Err s) before between after same h = quiet-as X X s before between after same h
+use Rattle.fip_making.specs.declared.stops.Stop.{Stop}
+use Rattle.fip_making.specs.declared.stops.Stop.TheVariants as stop
+use Rattle.fip_making.proofs.ReadsBy.{quiet-as, quiet-then}
 
 quiet-stop : (X : Type 0) (s : Stop) (before after : ℕ) → after ≡ before → NoneFailed {X = X} (Err s) before after
 quiet-stop X stop.FileFault before after same = tt

@@ -2,10 +2,11 @@
 use Rattle.std.proofs.Common.{◌≡◌, ◌≢◌, ◌∙◌, ℕ, List, Option, ap, refl, subst, sym}
 use Rattle.std.specs.Prelude.{◌==◌, if◌then◌else◌}
 use Rattle.host_io.specs.Calls.{raised}
-use Rattle.fip_tool.specs.Ends.{Reported, status_number}
+use Rattle.fip_tool.specs.Ends.{Reported}
+use Rattle.fip_making.specs.Stops.{status_number}
 use Rattle.fip_tool.specs.Steps.{line_failures, sink_failed}
-use Rattle.fip_tool.specs.declared.stops.Stop.{Stop}
-use Rattle.fip_tool.specs.declared.stops.Stop.TheVariants as stop
+use Rattle.fip_making.specs.declared.stops.Stop.{Stop}
+use Rattle.fip_making.specs.declared.stops.Stop.TheVariants as stop
 
 -- another stop is no failure of the sink
 pub still : (n : ℕ) (s : Stop) → s ≢ stop.SinkFault → n ≡ sink_failed s n

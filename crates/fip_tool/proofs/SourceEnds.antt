@@ -2,11 +2,13 @@
 use Rattle.std.proofs.Common.{◌≡◌, inl, inr, ℕ, List, Option, Some, Result, Ok, Err, refl, sym, ap, subst, ◌∙◌}
 use Rattle.std.specs.Io.KnownBytes.{Consumes, IsAtEnd}
 use Rattle.std.proofs.KnownBytes.{Appends-nil}
-use Rattle.fip_tool.specs.Ends.{Reported, Told, status_number}
+use Rattle.fip_tool.specs.Ends.{Reported, Told}
+use Rattle.fip_making.specs.Stops.{status_number}
 use Rattle.fip_tool.specs.Steps.{Are, Did, Printed, outcome_by}
-use Rattle.fip_tool.specs.Tool.{GivenTo, IsReadFor, given_value, no_files, prints}
-use Rattle.fip_tool.specs.declared.stops.Stop.{Stop}
-use Rattle.fip_tool.specs.declared.stops.Stop.TheVariants as stop
+use Rattle.fip_making.specs.Values.{GivenTo}
+use Rattle.fip_tool.specs.Tool.{IsReadFor, given_value, no_files, prints}
+use Rattle.fip_making.specs.declared.stops.Stop.{Stop}
+use Rattle.fip_making.specs.declared.stops.Stop.TheVariants as stop
 use Rattle.fip_tool.proofs.Did.{printed-text}
 
 none-changed : Are (Some no_files) no_files

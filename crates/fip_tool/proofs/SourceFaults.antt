@@ -3,23 +3,12 @@ use Rattle.std.proofs.Common.{◌≡◌, ◌≢◌, inl, inr, ◌∙◌, ℕ, Li
 use Rattle.std.specs.Prelude.{◌==◌, ◌||◌, IsFalse}
 use Rattle.std.proofs.lemmas.Bool.{false≢true}
 use Rattle.fip_tool.proofs.SourceEnds.{reported-two}
-use Rattle.fip_tool.specs.Ends.{Reported, status_number}
-use Rattle.fip_tool.specs.Steps.{FailsOnce, Printed, source_failed, source_failures}
-use Rattle.fip_tool.specs.declared.stops.Stop.{Stop}
-use Rattle.fip_tool.specs.declared.stops.Stop.TheVariants as stop
-
--- another stop is no failure of the source
-pub quiet : (n : ℕ) (s : Stop) → s ≢ stop.FileFault → n ≡ source_failed s n
-quiet n stop.FileFault other = absurd (other refl)
-quiet n stop.SinkFault other = refl
-quiet n stop.Usage other = refl
-quiet n (stop.NotFip f) other = refl
-quiet n (stop.NoSuchEntry guid) other = refl
-quiet n (stop.NotPacked f) other = refl
-quiet n (stop.NoManifest f) other = refl
-quiet n stop.TooLong other = refl
-quiet n (stop.NotCapsule f) other = refl
-quiet n stop.NoMemory other = refl
+use Rattle.fip_tool.specs.Ends.{Reported}
+use Rattle.fip_making.specs.Stops.{status_number}
+use Rattle.fip_tool.specs.Steps.{FailsOnce, Printed}
+use Rattle.fip_making.specs.Answers.{source_failed, source_failures}
+use Rattle.fip_making.specs.declared.stops.Stop.{Stop}
+use Rattle.fip_making.specs.declared.stops.Stop.TheVariants as stop
 
 -- nor is a text that was printed or not
 pub printed-quiet : (was text : Option (List ℕ)) (rose : Type 0) (piece : List ℕ) (r : Result (Unit {0}) Stop) (n : ℕ) → Printed was text rose piece r → n ≡ source_failures r n
@@ -34,11 +23,6 @@ printed-quiet was text rose piece (Err (stop.NoManifest f)) n p = refl
 printed-quiet was text rose piece (Err stop.TooLong) n p = refl
 printed-quiet was text rose piece (Err (stop.NotCapsule f)) n p = refl
 printed-quiet was text rose piece (Err stop.NoMemory) n p = refl
-
--- nor is the end of what was given
-pub ended-quiet : {X : Type 0} (r : Result X Stop) (n : ℕ) → (◌≡◌ {A = Result X Stop} r (Err stop.FileFault) → ⊥) → n ≡ source_failures r n
-ended-quiet (Ok x) n other = refl
-ended-quiet (Err s) n other = quiet n s (λ e. other (ap (λ (x : Stop). Err x) e))
 
 -- all was read
 pub none-failed : (status before after : ℕ) → status ≡ 0 → after ≡ before → FailsOnce status before after

@@ -4,14 +4,16 @@ use Rattle.std.specs.Prelude.{IfOk}
 use Rattle.std.proofs.Math.Seq.{drop-append_seam, take-append_seam}
 use Rattle.std.specs.Io.KnownBytes.{Appends}
 use Rattle.std.proofs.KnownBytes.{Appends-nil, Appends-trans}
-use Rattle.fip_tool.specs.Ends.{Reported, Told, status_number, stop_line}
+use Rattle.fip_tool.specs.Ends.{Reported, Told, stop_line}
+use Rattle.fip_making.specs.Stops.{status_number}
 use Rattle.fip_tool.specs.Lines.{made_line}
 use Rattle.fip_tool.specs.Said.{IsBefore, IsBegun, IsCut, IsMadeLine, Says, SaysAll, half_of, joined}
-use Rattle.fip_tool.specs.Steps.{IsLate, Printed}
-use Rattle.fip_tool.specs.declared.made.Format.{Format}
-use Rattle.fip_tool.specs.declared.made.Made.{Made}
-use Rattle.fip_tool.specs.declared.stops.Stop.{Stop}
-use Rattle.fip_tool.specs.declared.stops.Stop.TheVariants as stop
+use Rattle.fip_making.specs.Answers.{IsLate}
+use Rattle.fip_tool.specs.Steps.{Printed}
+use Rattle.fip_tool.specs.declared.lines.Format.{Format}
+use Rattle.fip_making.specs.declared.made.Made.{Made}
+use Rattle.fip_making.specs.declared.stops.Stop.{Stop}
+use Rattle.fip_making.specs.declared.stops.Stop.TheVariants as stop
 
 pub appends-same : (was text : Option (List ℕ)) → text ≡ was → Appends was text []
 appends-same was text e = subst (λ (t : Option (List ℕ)). Appends was t []) (sym e) (Appends-nil was)
@@ -47,9 +49,6 @@ says-nothing T was text rose (stop.NotPacked f) other e = e
 says-nothing T was text rose (stop.NoManifest f) other e = e
 says-nothing T was text rose stop.TooLong other e = e
 says-nothing T was text rose (stop.NotCapsule f) other e = e
-
-pub err-same : {X : Type 0} {a b : Stop} → a ≡ b → ◌≡◌ {A = Result X Stop} (Err a) (Err b)
-err-same {X} e = ap (λ (s : Stop). Err s) e
 
 -- ---- texts of another kind
 

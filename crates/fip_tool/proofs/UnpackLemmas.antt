@@ -1,11 +1,10 @@
 -- Steps that are done one after the other, and the steps of `unpack`.
-use Rattle.std.proofs.Common.{◌≡◌, ◌≢◌, ◌⊎◌, inl, inr, ◌≤◌, ◌<◌, ◌+◌, ℕ, zero, suc, Bool, true, false, List, [], ◌∷◌, ◌++◌, Option, Some, None, Result, Ok, Err, length, take, drop, filter, get_or, arith, refl, sym, ap, subst, ◌∙◌, append-nil, append_assoc, take-append-drop}
+use Rattle.std.proofs.Common.{◌≡◌, ◌≢◌, ◌⊎◌, inl, inr, ◌≤◌, ◌<◌, ◌+◌, ℕ, zero, suc, Bool, true, false, List, [], ◌∷◌, ◌++◌, Option, Some, None, Result, Ok, Err, length, take, drop, filter, get_or, arith, refl, sym, ap, subst, ◌∙◌, append-nil, append_assoc, take-append-drop, eq-eqb, true≢false}
 use Rattle.std.specs.Prelude.{cond, codes, decimal, ◌==◌, ◌||◌, IsTrue, if◌then◌else◌}
-use Rattle.std.proofs.Math.Seq.{take-append_seam, drop-append_seam}
+use Rattle.std.proofs.Math.Seq.{take-append_seam, drop-append_seam, take-append-add, drop-append-add}
 use Rattle.std.proofs.lemmas.List.{drop_more, length-append, take_all, take_more}
 use Rattle.std.proofs.lemmas.Bool.{and_from}
 use Rattle.std.proofs.lemmas.Bool.Decides.{nat_tests}
-use Rattle.std.proofs.Common.{eq-eqb, true≢false}
 use Rattle.std.proofs.lemmas.Slice.Eq.{bytes_eq-Decides}
 use Rattle.base_core.specs.Bytes.{same_bytes}
 use Rattle.base_core.specs.Guid.{guid_of, guid_text}
@@ -15,16 +14,17 @@ use Rattle.std.proofs.lemmas.List.Elements.{filter-append}
 use Rattle.std.specs.Str.{bytes_eq}
 use Rattle.std.specs.Io.KnownBytes.{Appends}
 use Rattle.std.proofs.KnownBytes.{Appends-nil, Appends-trans}
-use Rattle.std.proofs.Math.Seq.{take-append-add, drop-append-add}
 use Rattle.host_io.specs.Contents.{Directory}
 use Rattle.fip_tables.specs.Files.{Lacks, Tells}
-use Rattle.fwu_formats.specs.Package.{Entry, payload}
+use Rattle.fwu_formats.specs.Package.{Entry, payload, Toc}
 use Rattle.fip_tool.specs.Lines.{unpacked_line, unpacked_name}
 use Rattle.fip_tool.specs.Steps.{Makes, Refuses, Step, Writes, Prints, Are, AreUpTo, StandAfter, Did, half_printed, printed, with_file, written}
-use Rattle.fip_tool.specs.Tool.{chosen, is_named, there, unpack_steps}
-use Rattle.fip_tool.specs.declared.stops.Stop.{Stop}
-use Rattle.fip_tool.specs.declared.stops.Stop.TheVariants as stop
+use Rattle.fip_tool.specs.Tool.{chosen, unpack_steps, unpack_value}
+use Rattle.fip_making.specs.Values.{is_named, there}
+use Rattle.fip_making.specs.declared.stops.Stop.{Stop}
+use Rattle.fip_making.specs.declared.stops.Stop.TheVariants as stop
 use Rattle.fip_tool.proofs.Did.{are-up-to, did-later}
+use Rattle.fip_making.proofs.Repacking.{IsOpened, going-on, stopped, table_with}
 
 -- ---- steps one after the other
 
@@ -372,3 +372,11 @@ module _ (prefix from bytes : List ℕ) (p : Entry → Bool) (es : List Entry) (
   all-done contents text rose spoiled sink-rose u far s =
       ends prefix from bytes (filter p es) told contents was text rose spoiled sink-rose u
       (subst (λ (l : List Entry). IsUnpacking prefix from bytes (filter p l) told contents was text) (take_all i es far) s)
+
+pub unpack-of : (told : Directory) (name : List ℕ) (guids : List (List ℕ)) (toc : Toc) (o : IsOpened told name guids toc) → unpack_value told name guids ≡ Ok (o.bytes, chosen guids toc.entries)
+unfolding unpack_value
+unpack-of told name guids toc o = going-on told name guids toc (λ p. Ok (p.0, chosen guids p.1.entries)) o
+
+pub unpack-err : (told : Directory) (name : List ℕ) (guids : List (List ℕ)) (s : Stop) → table_with told name guids ≡ Err s → unpack_value told name guids ≡ Err s
+unfolding unpack_value
+unpack-err told name guids s e = stopped told name guids (λ p. Ok (p.0, chosen guids p.1.entries)) s e

@@ -19,8 +19,8 @@ use Rattle.fip_tool.specs.Torn.{MayTear, NoneUnwritten}
 use Rattle.fip_tool.specs.Steps as step
 use Rattle.fip_tool.specs.Tool.{unpack_steps}
 use Rattle.fip_tool.specs.Unpacked.{Unpacked}
-use Rattle.fip_tool.specs.declared.stops.Stop.{Stop}
-use Rattle.fip_tool.specs.declared.stops.Stop.TheVariants as stop
+use Rattle.fip_making.specs.declared.stops.Stop.{Stop}
+use Rattle.fip_making.specs.declared.stops.Stop.TheVariants as stop
 use Rattle.fip_tool.proofs.Did.{refused}
 use Rattle.fip_tool.proofs.FileFaults.{faults-none}
 use Rattle.fip_tool.proofs.UnpackLemmas.{entry-did, line-is}

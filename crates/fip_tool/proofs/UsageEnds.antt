@@ -1,8 +1,9 @@
 -- Usage, by the status.
 use Rattle.std.proofs.Common.{◌≡◌, ◌⊎◌, inl, inr, ℕ, List, Option, Result, Ok, Err, refl, sym, ap, subst, ◌∙◌}
-use Rattle.fip_tool.specs.Ends.{Reported, Told, status_number}
-use Rattle.fip_tool.specs.declared.stops.Stop.{Stop}
-use Rattle.fip_tool.specs.declared.stops.Stop.TheVariants as stop
+use Rattle.fip_tool.specs.Ends.{Reported, Told}
+use Rattle.fip_making.specs.Stops.{status_number}
+use Rattle.fip_making.specs.declared.stops.Stop.{Stop}
+use Rattle.fip_making.specs.declared.stops.Stop.TheVariants as stop
 
 -- what was done isn't usage
 pub no-usage : {X : Type 0} {x : X} → (◌≡◌ {A = Result X Stop} (Ok x) (Err stop.Usage)) ⊎ (◌≡◌ {A = Result X Stop} (Ok x) (Err stop.NoMemory)) → ⊥

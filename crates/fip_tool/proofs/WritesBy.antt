@@ -9,13 +9,15 @@ use Rattle.host_io.specs.declared.sink.Sink as sink
 use Rattle.host_io.specs.declared.writes.Writes.{Writes}
 use Rattle.fip_tool.specs.Done.{WritesTexts}
 use Rattle.fip_tool.specs.Seen.{PrintedIn}
-use Rattle.fip_tool.specs.Steps.{FaultsOnce, IsLate, sink_failures}
-use Rattle.fip_tool.specs.declared.stops.Stop.{Stop}
-use Rattle.fip_tool.specs.declared.stops.Stop.TheVariants as stop
+use Rattle.fip_tool.specs.Steps.{FaultsOnce, sink_failures}
+use Rattle.fip_making.specs.Answers.{IsLate}
+use Rattle.fip_making.specs.declared.stops.Stop.{Stop}
+use Rattle.fip_making.specs.declared.stops.Stop.TheVariants as stop
 use Rattle.fip_tool.proofs.FileFaults.{faults-as, faults-none, faults-then}
 use Rattle.fip_tool.proofs.SinkFaults.{still}
-use Rattle.fip_tool.proofs.Tables.{rose-still}
-use Rattle.fip_tool.proofs.Texts.{err-same, says-as, says-nothing, says-printed}
+use Rattle.fip_making.proofs.Tables.{rose-still}
+use Rattle.fip_making.proofs.Stopped.{err-same}
+use Rattle.fip_tool.proofs.Texts.{says-as, says-nothing, says-printed}
 use Rattle.fip_tool.proofs.WroteLemmas.{wrote-as, wrote-printed}
 
 module _ {H O : Type 0} {h : files.Ghosts H} {o : sink.Ghosts O} {before after : H} where

@@ -5,18 +5,19 @@ use Rattle.base_core.specs.Counts.{Rose}
 use Rattle.host_io.specs.Contents.{Directory}
 use Rattle.host_io.specs.declared.joining.Piece.{Piece}
 use Rattle.host_io.specs.declared.writes.Writes as count
-use Rattle.fip_tool.specs.Lines.{made_line}
-use Rattle.fip_tool.specs.Payloads.{joined_pieces, made_bytes}
-use Rattle.fip_tool.specs.declared.made.Made.{Made}
+use Rattle.fip_tool.specs.Lines.{made_line, manifest_line}
+use Rattle.fip_making.specs.Payloads.{joined_pieces, made_bytes}
+use Rattle.fip_making.specs.declared.made.Made.{Made}
 use Rattle.fip_tool.specs.Steps.{Makes, Step, Writes, Prints, Are, Did, Printed, Written, outcome_by, with_file}
 use Rattle.fip_tool.specs.Torn.{MayTear}
-use Rattle.fip_tool.specs.Tool.{puts}
-use Rattle.fip_tool.specs.declared.made.Format.{Format}
-use Rattle.fip_tool.specs.declared.made.Format.TheVariants as kind
-use Rattle.fip_tool.specs.declared.stops.Stop.{Stop}
-use Rattle.fip_tool.specs.declared.stops.Stop.TheVariants as stop
+use Rattle.fip_tool.specs.Tool.{puts, writes_manifest}
+use Rattle.fip_tool.specs.declared.lines.Format.{Format}
+use Rattle.fip_tool.specs.declared.lines.Format.TheVariants as kind
+use Rattle.fip_making.specs.declared.stops.Stop.{Stop}
+use Rattle.fip_making.specs.declared.stops.Stop.TheVariants as stop
 use Rattle.fip_tool.proofs.Did.{appends-none, made-steps}
-use Rattle.fip_tool.proofs.Tables.{rose-from, tears-since}
+use Rattle.fip_making.proofs.Tables.{rose-from}
+use Rattle.fip_tool.proofs.Torn.{tears-since}
 
 -- what a frame's and pieces' slices make
 pub joined-made : (files : Directory) (m : Made) (frame : List ℕ) (pieces : List Piece) → frame ≡ m.frame.bytes.items → pieces ≡ m.pieces.items → joined_pieces files frame pieces ≡ made_bytes files m
@@ -63,3 +64,14 @@ then-printed files now was text files-rose spoiled sink-rose name bytes line (Er
 then-printed files now was text files-rose spoiled sink-rose name bytes line (Err (stop.NoManifest f)) w p = absurd p
 then-printed files now was text files-rose spoiled sink-rose name bytes line (Err stop.TooLong) w p = absurd p
 then-printed files now was text files-rose spoiled sink-rose name bytes line (Err (stop.NotCapsule f)) w p = absurd p
+
+-- the file and the line of a manifest
+pub manifest-written : (files : Directory) (out : List ℕ) (security : ℕ) (value : Result (ℕ × List ℕ) Stop) (made : ℕ × List ℕ) (bytes line : List ℕ) (now : Option Directory)
+    (was text : Option (List ℕ)) (rose late spoiled spoiled-late sink-rose : Type 0) (r : Result (Unit {0}) Stop) → value ≡ Ok made → bytes ≡ made.1 → line ≡ manifest_line made.0 (length made.1) security
+    → (rose → late) → (spoiled → spoiled-late) → Did (Makes (Writes out bytes ∷ Prints line ∷ [])) files now was text rose spoiled sink-rose r
+    → Did (outcome_by (writes_manifest out security) value) files now was text late spoiled-late sink-rose r
+manifest-written files out security value made bytes line now was text rose late spoiled spoiled-late sink-rose r v same said rises spoils did =
+    let steps : Writes out bytes ∷ Prints line ∷ [] ≡ writes_manifest out security made =
+    ap (λ (l : List ℕ). Writes out l ∷ Prints line ∷ []) same ∙ ap (λ (l : List ℕ). Writes out made.1 ∷ Prints l ∷ []) said in
+    made-steps (writes_manifest out security) value made files now was text rose late spoiled spoiled-late sink-rose r v rises spoils
+    (subst (λ (steps : List Step). Did (Makes steps) files now was text rose spoiled sink-rose r) steps did)

@@ -6,10 +6,11 @@ use Rattle.std.proofs.KnownBytes.{Appends-nil, Appends-trans}
 use Rattle.host_io.specs.Calls.{raised}
 use Rattle.fip_words.specs.Order.{Asked, info, info_of_source, create, update, remove, unpack, manifest, capsule, repackage}
 use Rattle.fip_tool.specs.Said.{IsBegun, Says, half_of, joined}
-use Rattle.fip_tool.specs.Steps.{IsLate, Printed}
+use Rattle.fip_making.specs.Answers.{IsLate}
+use Rattle.fip_tool.specs.Steps.{Printed}
 use Rattle.fip_tool.specs.Wrote.{IsRest, Wrote, WroteAll, WroteFor, WroteNone, WroteSome, files_ahead, raised_by}
-use Rattle.fip_tool.specs.declared.stops.Stop.{Stop}
-use Rattle.fip_tool.specs.declared.stops.Stop.TheVariants as stop
+use Rattle.fip_making.specs.declared.stops.Stop.{Stop}
+use Rattle.fip_making.specs.declared.stops.Stop.TheVariants as stop
 use Rattle.fip_tool.proofs.Texts.{appends-same, joined-one}
 
 -- ---- one file and its text

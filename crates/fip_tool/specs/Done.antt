@@ -7,15 +7,16 @@ use Rattle.host_io.specs.Contents.{Directory}
 use Rattle.host_io.specs.declared.files.Files as files
 use Rattle.host_io.specs.declared.source.Source as source
 use Rattle.host_io.specs.declared.sink.Sink as sink
-use Rattle.fip_tool.specs.Ends.{status_number}
+use Rattle.fip_making.specs.Stops.{status_number}
 use Rattle.fip_tool.specs.Names.{IsRefusal, IsUnneeded, IsUnnamed}
 use Rattle.fip_tool.specs.Refusals.{MayRefuse}
 use Rattle.fip_tool.specs.Said.{IsTexts, IsTextsOf}
 use Rattle.fip_tool.specs.Seen.{DidIn, ReadSourceIn, SaysIn, WroteForIn, WroteIn}
-use Rattle.fip_tool.specs.Steps.{FaultsOnce, IsLate, sink_failures, source_failures}
+use Rattle.fip_tool.specs.Steps.{FaultsOnce, sink_failures}
+use Rattle.fip_making.specs.Answers.{IsLate, source_failures}
 use Rattle.fip_tool.specs.Tool.{asks_files, command_outcome, outcome_of}
-use Rattle.fip_tool.specs.declared.stops.Stop.{Stop}
-use Rattle.fip_tool.specs.declared.stops.Stop.TheVariants as stop
+use Rattle.fip_making.specs.declared.stops.Stop.{Stop}
+use Rattle.fip_making.specs.declared.stops.Stop.TheVariants as stop
 
 -- a refusal with this status has made no file, and asked for none but those that it comes by
 abbrev pub RefusesAlone : {H : Type 0} → files.Ghosts H → Option Asked → H → H → ℕ → Type 0

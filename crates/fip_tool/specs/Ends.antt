@@ -3,15 +3,15 @@ use Rattle.std.specs.Prelude.{◌≡◌, ◌⊎◌, ℕ, List, [], ◌++◌, Opt
 use Rattle.std.specs.Io.KnownBytes.{Appends}
 use Rattle.host_io.specs.Contents.{Directory}
 use Rattle.base_core.specs.Guid.{guid_text}
-use Rattle.fwu_formats.specs.FaultText.{capsule_fault_number}
-use Rattle.fwu_formats.specs.FaultText.{fip_fault_text}
+use Rattle.fwu_formats.specs.FaultText.{capsule_fault_number, fip_fault_text}
 use Rattle.fwu_formats.specs.declared.kinds.ManifestFault.{ManifestFault}
 use Rattle.fwu_formats.specs.declared.kinds.ManifestFault.TheVariants as manifest
 use Rattle.fip_tables.specs.declared.faults.PackFault.{PackFault}
 use Rattle.fip_tables.specs.declared.faults.PackFault.TheVariants as pack
 use Rattle.fip_tool.specs.Steps.{Outcome, Makes, Refuses, Are, StandAfter, half_printed, steps_of, printed, written}
-use Rattle.fip_tool.specs.declared.stops.Stop.{Stop}
-use Rattle.fip_tool.specs.declared.stops.Stop.TheVariants as stop
+use Rattle.fip_making.specs.declared.stops.Stop.{Stop}
+use Rattle.fip_making.specs.declared.stops.Stop.TheVariants as stop
+use Rattle.fip_making.specs.Stops.{status_number}
 
 abbrev pub pack_fault_text : PackFault → List ℕ
 pack_fault_text pack.TooMany = codes "too-many"
@@ -38,18 +38,6 @@ stop_line (stop.NoManifest f) = codes "manifest " ++ manifest_fault_text f ++ co
 stop_line stop.TooLong = codes "too-long\n"
 stop_line (stop.NotCapsule f) = codes "not-capsule " ++ decimal (capsule_fault_number f) ++ codes "\n"
 stop_line stop.NoMemory = []
-
-abbrev pub status_number : Stop → ℕ
-status_number stop.Usage = 1
-status_number stop.FileFault = 2
-status_number stop.SinkFault = 3
-status_number (stop.NotFip f) = 4
-status_number (stop.NoSuchEntry guid) = 5
-status_number (stop.NotPacked f) = 6
-status_number (stop.NoManifest f) = 6
-status_number stop.TooLong = 7
-status_number (stop.NotCapsule f) = 8
-status_number stop.NoMemory = 9
 
 abbrev pub exit_status : Result (Unit {0}) Stop → ℕ
 exit_status (Ok done) = 0

@@ -2,9 +2,7 @@ pub mod Steps
 pub mod Torn
 pub mod Lines
 pub mod Tool
-pub mod Source
 pub mod Ends
-pub mod Payloads
 pub mod Said
 pub mod Wrote
 pub mod Seen

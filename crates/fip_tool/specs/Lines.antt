@@ -5,8 +5,8 @@ use Rattle.base_core.specs.Bytes.{le}
 use Rattle.base_core.specs.Guid.{guid_text}
 use Rattle.fwu_formats.specs.Package.{Entry, Toc}
 use Rattle.fip_words.specs.Values.{bin}
-use Rattle.fip_tool.specs.declared.made.Format.{Format}
-use Rattle.fip_tool.specs.declared.made.Format.TheVariants as format
+use Rattle.fip_tool.specs.declared.lines.Format.{Format}
+use Rattle.fip_tool.specs.declared.lines.Format.TheVariants as format
 
 -- eight hexadecimal digits
 abbrev pub eight_digits : ℕ → List ℕ

@@ -1,19 +1,16 @@
 -- What the tool prints, whatever files there are.
 use Rattle.std.specs.Prelude.{◌≡◌, ◌⊎◌, ◌<◌, ℕ, List, [], ◌∷◌, ◌++◌, Option, Some, None, Result, Ok, Err, filter, length, map, take, drop, not}
 use Rattle.std.specs.Io.KnownBytes.{Appends}
-use Rattle.fwu_formats.specs.Package.{Toc, toc_of}
+use Rattle.fwu_formats.specs.Package.{Toc}
 use Rattle.fip_words.specs.Order.{Asked, info, info_of_source, create, update, remove, unpack, manifest, capsule, repackage}
 use Rattle.fip_tool.specs.Lines.{capsule_line, info_text, made_line, manifest_line, packed_line, unpacked_line}
 use Rattle.fip_tool.specs.Ends.{exit_status, stop_line}
-use Rattle.fip_tool.specs.Tool.{chosen, first_missing, is_named}
-use Rattle.fip_tool.specs.declared.made.Format.{Format}
-use Rattle.fip_tool.specs.declared.made.Made.{Made}
-use Rattle.fip_tool.specs.declared.stops.Stop.{Stop}
-use Rattle.fip_tool.specs.declared.stops.Stop.TheVariants.{FileFault, SinkFault, NoMemory}
-
--- some bytes are a package with this table
-abbrev pub IsTable : Toc → Type 0
-IsTable t = (bytes : List ℕ) × (toc_of bytes ≡ Ok t)
+use Rattle.fip_tool.specs.Tool.{chosen}
+use Rattle.fip_making.specs.Values.{first_missing, is_named, IsTable}
+use Rattle.fip_tool.specs.declared.lines.Format.{Format}
+use Rattle.fip_making.specs.declared.made.Made.{Made}
+use Rattle.fip_making.specs.declared.stops.Stop.{Stop}
+use Rattle.fip_making.specs.declared.stops.Stop.TheVariants.{FileFault, SinkFault, NoMemory}
 
 -- the listing of some package, with some size
 abbrev pub IsListing : List ℕ → Type 0

@@ -3,44 +3,25 @@
 use Rattle.std.specs.Prelude.{ℕ, List, Option, Result}
 use Rattle.base_core.specs.Counts.{Rose}
 use Rattle.fip_words.specs.Order.{Asked}
-use Rattle.fip_tables.specs.Stream.{Stream}
 use Rattle.host_io.specs.Contents.{Directory}
 use Rattle.host_io.specs.declared.files.Files as files
 use Rattle.host_io.specs.declared.source.Source as source
 use Rattle.host_io.specs.declared.sink.Sink as sink
 use Rattle.fip_tool.specs.Ends.{Ended, Reported, Told}
 use Rattle.fip_tool.specs.Said.{SaidWith, Says, SinkAlone}
-use Rattle.fip_tool.specs.Source.{FedSome}
-use Rattle.fip_tool.specs.Steps.{Did, Gives, Outcome, Printed, ReadsOnly, Written}
+use Rattle.fip_tool.specs.Steps.{Did, Outcome, Printed, Written}
 use Rattle.fip_tool.specs.Torn.{MayTear}
-use Rattle.fip_tool.specs.Tool.{EndedSource, GivenTo, ReadSource}
+use Rattle.fip_tool.specs.Tool.{EndedSource, ReadSource}
 use Rattle.fip_tool.specs.Wrote.{Wrote, WroteFor, WroteWith}
-use Rattle.fip_tool.specs.declared.stops.Stop.{Stop}
+use Rattle.fip_making.specs.declared.stops.Stop.{Stop}
 
 -- ---- in files
-
-abbrev pub ReadsOnlyIn : {H X : Type 0} → files.Ghosts H → H → H → Result X Stop → Type 0
-ReadsOnlyIn h old new result = ReadsOnly (h.contents old) (h.contents new) (h.faults old) (h.faults new) result
-
-abbrev pub GivesIn : {H X Y : Type 0} → files.Ghosts H → (X → Y) → Result Y Stop → H → H → Result X Stop → Type 0
-GivesIn h view value old new result = Gives view (Rose (h.faults old) (h.faults new)) value result
 
 -- of told files, of which one with this name is to have these bytes
 abbrev pub WrittenIn : {H : Type 0} → files.Ghosts H → Directory → List ℕ → List ℕ → H → H → Result (Unit {0}) Stop → Type 0
 WrittenIn h told name bytes old new result =
     Written told (h.contents new) (Rose (h.faults old) (h.faults new)) (MayTear (h.writes old) (h.writes new))
     name bytes result
-
--- ---- in a source
-
-abbrev pub FedSomeIn : {I : Type 0} → source.Ghosts I → Stream → List ℕ → List ℕ → I → I → Result ℕ Stop → Type 0
-FedSomeIn i stream given piece old new result =
-    FedSome stream given piece (i.left old) (i.left new) (Rose (i.faults old) (i.faults new)) result
-
-abbrev pub GivenToIn : {I X Y : Type 0} → source.Ghosts I → (X → Y) → (List ℕ → Result Y Stop) → I → I → Result X Stop → List ℕ
-    → Type 0
-GivenToIn i view value old new result given =
-    GivenTo view value (i.left old) (i.left new) (Rose (i.faults old) (i.faults new)) result given
 
 -- ---- in a sink
 

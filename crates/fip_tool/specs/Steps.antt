@@ -1,12 +1,12 @@
 -- What a command does, and what is there after it.
-use Rattle.std.specs.Prelude.{◌≡◌, ◌≢◌, ◌⊎◌, ◌+◌, ◌≤◌, ◌==◌, ◌||◌, ⊤, IsFalse, ℕ, List, [], ◌∷◌, ◌++◌, Option, Some, None, Result, Ok, Err, if◌then◌else◌, take, drop}
+use Rattle.std.specs.Prelude.{◌≡◌, ◌≢◌, ◌⊎◌, ◌+◌, ◌≤◌, ◌==◌, ◌||◌, IsFalse, ℕ, List, [], ◌∷◌, ◌++◌, Option, Some, None, Result, Ok, Err, if◌then◌else◌, take, drop}
 use Rattle.std.specs.Str.{bytes_eq}
 use Rattle.std.specs.Io.KnownBytes.{Appends}
-use Rattle.base_core.specs.Counts.{Rose}
 use Rattle.host_io.specs.Calls.{raised}
 use Rattle.host_io.specs.Contents.{Directory}
-use Rattle.fip_tool.specs.declared.stops.Stop.{Stop}
-use Rattle.fip_tool.specs.declared.stops.Stop.TheVariants.{FileFault, SinkFault, NoMemory, Usage}
+use Rattle.fip_making.specs.declared.stops.Stop.{Stop}
+use Rattle.fip_making.specs.declared.stops.Stop.TheVariants.{FileFault, SinkFault, NoMemory}
+use Rattle.fip_making.specs.Answers.{NoneFailed}
 
 -- a file is written whole, or a text is printed
 pub data Step : Type 0 where
@@ -89,27 +89,6 @@ abbrev pub outcome_by : {X : Type 0} → (X → List Step) → Result X Stop →
 outcome_by steps (Ok x) = Makes (steps x)
 outcome_by steps (Err s) = Refuses s
 
--- What a part of a command answers, of a value that the files determine.
-abbrev pub Gives : {X Y : Type 0} → (X → Y) → Type 0 → Result Y Stop → Result X Stop → Type 0
-Gives view files-rose value (Ok x) = value ≡ Ok (view x)
-Gives view files-rose value (Err NoMemory) = ⊤
-Gives view files-rose value (Err SinkFault) = ⊥
-Gives view files-rose value (Err FileFault) = (value ≡ Err FileFault) ⊎ files-rose
-Gives view files-rose value (Err stop) = value ≡ Err stop
-
--- a stop that may come when some steps are done
-abbrev pub IsLate : Stop → Type 0
-IsLate FileFault = ⊤
-IsLate SinkFault = ⊤
-IsLate NoMemory = ⊤
-IsLate s = ⊥
-
--- no call of the files failed in a part of a command that ended so, unless it ended for a file's fault
-abbrev pub NoneFailed : {X : Type 0} → Result X Stop → ℕ → ℕ → Type 0
-NoneFailed (Ok x) before after = after ≡ before
-NoneFailed (Err FileFault) before after = ⊤
-NoneFailed (Err s) before after = after ≡ before
-
 -- At most one call of the files failed, and none but where a file's fault ended it.
 pub record FaultsOnce {X : Type 0} (before after : ℕ) (result : Result X Stop) : Type 0 where
   pub once : after ≤ before + 1
@@ -119,23 +98,6 @@ pub record FaultsOnce {X : Type 0} (before after : ℕ) (result : Result X Stop)
 pub record FailsAtMostOnce (status before after : ℕ) : Type 0 where
   pub once : after ≤ before + 1
   pub none : IsFalse ((status == 2) || ((status == 3) || (status == 9))) → after ≡ before
-
--- A part that reads alone answers that a file failed only where faults rose, or told files lack one. It answers neither usage
--- nor that the sink failed. At most one call of the files fails, and ends it.
-pub record ReadsOnly {X : Type 0} (told now : Option Directory) (before after : ℕ) (result : Result X Stop) : Type 0 where
-  pub same : now ≡ told
-  pub later : before ≤ after
-  pub once : after ≤ before + 1
-  pub quiet : NoneFailed result before after
-  pub cause : result ≡ Err FileFault → told ≡ None → Rose before after
-  pub usage : result ≡ Err Usage → ⊥
-  pub sink : result ≡ Err SinkFault → ⊥
-
--- a part that asks for nothing outside answers neither that a file failed, nor that the sink did, nor usage
-pub record AsksNothing {X : Type 0} (result : Result X Stop) : Type 0 where
-  pub file : result ≡ Err FileFault → ⊥
-  pub usage : result ≡ Err Usage → ⊥
-  pub sink : result ≡ Err SinkFault → ⊥
 
 -- what the sink took of a text
 abbrev pub Printed : Option (List ℕ) → Option (List ℕ) → Type 0 → List ℕ → Result (Unit {0}) Stop → Type 0
@@ -158,16 +120,6 @@ sink_failures (Err s) before = sink_failed s before
 abbrev pub line_failures : Stop → Stop → ℕ → ℕ
 line_failures SinkFault now before = before
 line_failures s now before = sink_failed now before
-
--- how many calls of the source have failed after a listing of it that ended so: one more where it could not be read, and else as
--- many as before
-abbrev pub source_failed : Stop → ℕ → ℕ
-source_failed FileFault before = raised before
-source_failed s before = before
-
-abbrev pub source_failures : {X : Type 0} → Result X Stop → ℕ → ℕ
-source_failures (Ok x) before = before
-source_failures (Err s) before = source_failed s before
 
 -- And by the exit status. The first call that fails ends the listing; the line of that may be cut by the sink, or find no memory.
 pub record FailsOnce (status before after : ℕ) : Type 0 where

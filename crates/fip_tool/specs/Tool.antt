@@ -1,105 +1,18 @@
 -- What each command of `fip` does, by the bytes of its files: the written files and the printed text.
-use Rattle.std.specs.Prelude.{◌≡◌, ◌≤◌, ◌⊎◌, ℕ, Bool, true, false, not, ◌||◌, ◌==◌, List, [], ◌∷◌, ◌++◌, Option, Some, None, Result, Ok, Err, if◌then◌else◌, length, map, filter, find, nat_lt, option_map}
-use Rattle.std.specs.List.{list_any}
+use Rattle.std.specs.Prelude.{◌≡◌, ◌⊎◌, ℕ, Bool, true, false, List, [], ◌∷◌, Option, Some, None, Result, Ok, Err, length, filter}
 use Rattle.std.specs.Io.KnownBytes.{Consumes, IsAtEnd}
-use Rattle.base_core.specs.Bytes.{same_bytes}
-use Rattle.sha2.specs.Sha256.{sha256}
 use Rattle.host_io.specs.Contents.{Directory}
-use Rattle.host_io.specs.declared.stops.JoinStop.{JoinStop}
-use Rattle.host_io.specs.declared.stops.JoinStop.TheVariants as join_stop
-use Rattle.host_io.specs.declared.stops.ReadStop.{ReadStop}
-use Rattle.host_io.specs.declared.stops.ReadStop.TheVariants as read_stop
-use Rattle.fwu_formats.specs.Package.{Entry, Part, Toc, has_guid, packed, payload, toc_of}
-use Rattle.fwu_formats.specs.Manifest.{Row, manifest_bytes}
-use Rattle.fwu_formats.specs.declared.kinds.FipFault.{FipFault}
-use Rattle.fwu_formats.specs.declared.kinds.ManifestFault.TheVariants as fault
-use Rattle.fwu_formats.specs.Capsule.{capsule_of}
-use Rattle.capsule_tables.specs.Making.{capsule_bytes, make_fault}
-use Rattle.fwu_formats.specs.declared.kinds.CapsuleFault.{CapsuleFault}
-use Rattle.capsule_tables.specs.declared.faults.CapsuleStop.{CapsuleStop}
-use Rattle.capsule_tables.specs.declared.faults.CapsuleStop.TheVariants as capsule_stop
+use Rattle.fwu_formats.specs.Package.{Entry, payload, toc_of}
 use Rattle.fip_tables.specs.Answers.{decided}
-use Rattle.fip_tables.specs.Packing.{pack_fault}
-use Rattle.fip_tables.specs.declared.faults.PackFault.{PackFault}
-use Rattle.fip_tables.specs.declared.toc.TocStop.{TocStop}
-use Rattle.fip_tables.specs.declared.toc.TocStop.TheVariants as toc
 use Rattle.fip_words.specs.Order.{Asked, info, info_of_source, create, update, remove, unpack, manifest, capsule, repackage}
-use Rattle.fip_words.specs.Values.{NamedFile, NamedImage, each}
 use Rattle.fip_tool.specs.Lines.{capsule_line, info_text, manifest_line, packed_line, unpacked_line, unpacked_name}
 use Rattle.fip_tool.specs.Ends.{EndedBy, exit_status}
 use Rattle.fip_tool.specs.Steps.{Did, Outcome, Refuses, Step, Writes, Prints, outcome_by}
-use Rattle.fip_tool.specs.declared.made.Format.{Format}
-use Rattle.fip_tool.specs.declared.made.Format.TheVariants as format
-use Rattle.fip_tool.specs.declared.stops.Stop.{Stop}
-use Rattle.fip_tool.specs.declared.stops.Stop.TheVariants as stop
-
--- a value, and then what is made of it
-abbrev pub after : {X Y : Type 0} → Result X Stop → (X → Result Y Stop) → Result Y Stop
-after (Ok x) f = f x
-after (Err s) f = Err s
-
-abbrev pub there : {X : Type 0} → Option X → Result X Stop
-there None = Err stop.FileFault
-there (Some x) = Ok x
-
--- the table of a package
-abbrev pub table_of : Result Toc FipFault → Result Toc Stop
-table_of (Ok t) = Ok t
-table_of (Err f) = Err (stop.NotFip f)
-
--- the table of a capsule
-abbrev pub capsule_table : Result Toc CapsuleFault → Result Toc Stop
-capsule_table (Ok t) = Ok t
-capsule_table (Err f) = Err (stop.NotCapsule f)
-
--- the stop of a table that was not read
-abbrev pub stopped_by : TocStop → Stop
-stopped_by (toc.Fault f) = stop.NotFip f
-stopped_by toc.ReadFailed = stop.FileFault
-
-abbrev pub capsule_stopped_by : CapsuleStop → Stop
-capsule_stopped_by (capsule_stop.Fault f) = stop.NotCapsule f
-capsule_stopped_by capsule_stop.ReadFailed = stop.FileFault
-
--- the stop of a file that was not read whole
-abbrev pub unread_by : ReadStop → Stop
-unread_by read_stop.Failed = stop.FileFault
-unread_by read_stop.NoMemory = stop.NoMemory
-
--- the stop of a file that was not made
-abbrev pub unmade_by : JoinStop → Stop
-unmade_by join_stop.Unread = stop.FileFault
-unmade_by join_stop.Failed = stop.FileFault
-unmade_by join_stop.NoMemory = stop.NoMemory
-
--- ---- what files give
-
--- a package's bytes, and its table
-abbrev pub package_in : Directory → List ℕ → Result (List ℕ × Toc) Stop
-package_in files name = after (there (files name)) (λ bytes. after (table_of (toc_of bytes)) (λ t. Ok (bytes, t)))
-
--- a capsule's bytes, and its table
-abbrev pub capsule_in : Directory → List ℕ → Result (List ℕ × Toc) Stop
-capsule_in files name = after (there (files name)) (λ bytes. after (capsule_table (capsule_of bytes)) (λ t. Ok (bytes, t)))
-
-abbrev pub part_in : Directory → NamedFile → Option Part
-part_in files p = option_map (λ bytes. record { guid = p.guid; flags = 0; bytes = bytes }) (files p.file)
-
--- the parts of named files
-abbrev pub parts_in : Directory → List NamedFile → Result (List Part) Stop
-parts_in files parts = there (each (part_in files) parts)
-
--- a package's table, and how many bytes it has
-unfoldable pub sized_table : Directory → List ℕ → Result (Toc × ℕ) Stop
-sized_table files name = after (package_in files name) (λ p. Ok (p.1, length p.0))
-
--- how many bytes a file has
-unfoldable pub size_in : Directory → List ℕ → Result ℕ Stop
-size_in files name = after (there (files name)) (λ bytes. Ok (length bytes))
-
--- the bytes of a file
-unfoldable pub file_value : Directory → List ℕ → Result (List ℕ) Stop
-file_value files name = there (files name)
+use Rattle.fip_tool.specs.declared.lines.Format.{Format}
+use Rattle.fip_tool.specs.declared.lines.Format.TheVariants as format
+use Rattle.fip_making.specs.declared.stops.Stop.{Stop}
+use Rattle.fip_making.specs.declared.stops.Stop.TheVariants as stop
+use Rattle.fip_making.specs.Values.{StopsInTime, after, capsule_value, create_value, first_missing, given_table, is_named, manifest_value, package_in, remove_value, repackage_value, sized_table, unless_missing, update_value}
 
 -- ---- info
 
@@ -109,123 +22,10 @@ info_value files name = after (sized_table files name) (λ t. Ok (info_text t.0 
 abbrev pub prints : List ℕ → List Step
 prints text = Prints text ∷ []
 
--- the most bytes that are read of the source
-abbrev pub source_limit : ℕ
-source_limit = 4294967296
-
-abbrev pub unless_decided : {X : Type 0} → Result (Unit {0}) FipFault → Result X Stop → Result X Stop
-unless_decided (Ok none) value = value
-unless_decided (Err f) value = Err (stop.NotFip f)
-
--- of the bytes that the source gave: a fault that no further bytes mend comes first, and then too many bytes
-unfoldable pub given_table : List ℕ → Result (Toc × ℕ) Stop
-given_table given =
-    unless_decided (decided (toc_of given))
-    (if nat_lt source_limit (length given) then Err stop.TooLong
-    else after (table_of (toc_of given)) (λ t. Ok (t, length given)))
-
--- But for the last read, of at most 4096 bytes, the bytes that were read were not too many,
--- and had no fault that no further bytes mend.
-pub record StopsInTime (given : List ℕ) : Type 0 where
-  pub before : List ℕ
-  pub last : List ℕ
-  pub all : given ≡ before ++ last
-  pub short : length last ≤ 4096
-  pub few : length before ≤ source_limit
-  pub undecided : decided (toc_of before) ≡ Ok tt
-
 unfoldable pub given_value : List ℕ → Result (List ℕ) Stop
 given_value given = after (given_table given) (λ t. Ok (info_text t.0 t.1))
 
--- What a part of a command answers of what the source gave. The source was read to its end but where a fault was decided, or
--- too many bytes came.
-abbrev pub GivenTo : {X Y : Type 0} → (X → Y) → (List ℕ → Result Y Stop) → Option (List ℕ) → Option (List ℕ) → Type 0
-    → Result X Stop → List ℕ → Type 0
-GivenTo view value was left source-rose (Ok x) given = Consumes was left given × IsAtEnd left × (value given ≡ Ok (view x))
-GivenTo view value was left source-rose (Err stop.FileFault) given = Consumes was left given × source-rose
-GivenTo view value was left source-rose (Err stop.NoMemory) given = Consumes was left given
-GivenTo view value was left source-rose (Err stop.SinkFault) given = ⊥
-GivenTo view value was left source-rose (Err (stop.NotFip f)) given =
-    Consumes was left given × (IsAtEnd left ⊎ (decided (toc_of given) ≡ Err f)) × (value given ≡ Err (stop.NotFip f))
-GivenTo view value was left source-rose (Err s) given = Consumes was left given × (value given ≡ Err s)
-
--- ---- packages that are made
-
-abbrev pub unless_fault : {X : Type 0} → Option PackFault → X → Result X Stop
-unless_fault None made = Ok made
-unless_fault (Some f) made = Err (stop.NotPacked f)
-
--- whether parts fit a package
-abbrev pub fit_value : List Part → ℕ → Result (Unit {0}) Stop
-fit_value parts align = unless_fault (pack_fault parts align) tt
-
--- what is seen of a value of which this says no more
-abbrev pub nothing : {X : Type 0} → X → Unit {0}
-nothing x = tt
-
--- what is packed: how many entries, and the bytes; or the first fault
-unfoldable pub pack_value : ℕ → ℕ → List Part → ℕ → Result (ℕ × List ℕ) Stop
-pack_value serial flags parts align = unless_fault (pack_fault parts align) (length parts, packed serial flags parts align)
-
--- the serial number of a package that is new
-abbrev pub new_serial : ℕ
-new_serial = 0x12345678
-
-unfoldable pub create_value : Directory → ℕ → List NamedFile → Result (ℕ × List ℕ) Stop
-create_value files align parts = after (parts_in files parts) (λ ps. pack_value new_serial 0 ps align)
-
--- the first type that the package hasn't
-abbrev pub first_missing : Toc → List (List ℕ) → Option (List ℕ)
-first_missing t guids = find (λ guid. not (list_any (has_guid guid) t.entries)) guids
-
-abbrev pub unless_missing : {X : Type 0} → Option (List ℕ) → Result X Stop → Result X Stop
-unless_missing None value = value
-unless_missing (Some guid) value = Err (stop.NoSuchEntry guid)
-
--- an entry's part, with the new payload where there is one
-abbrev pub new_bytes : Option Part → List ℕ → List ℕ
-new_bytes None old = old
-new_bytes (Some p) old = p.bytes
-
-abbrev pub updated_part : List ℕ → List Part → Entry → Part
-updated_part bytes new e =
-    record { guid = e.guid; flags = e.flags; bytes = new_bytes (find (λ p. same_bytes p.guid e.guid) new) (payload bytes e) }
-
--- serial number, flags and order stay
-unfoldable pub update_value : Directory → ℕ → List ℕ → List NamedFile → Result (ℕ × List ℕ) Stop
-update_value files align from parts =
-    after (package_in files from) (λ p. unless_missing (first_missing p.1 (map (λ q. q.guid) parts))
-    (after (parts_in files parts) (λ new. pack_value p.1.serial p.1.flags (map (updated_part p.0 new) p.1.entries) align)))
-
-abbrev pub kept_part : List ℕ → Entry → Part
-kept_part bytes e = record { guid = e.guid; flags = e.flags; bytes = payload bytes e }
-
-abbrev pub is_named : List (List ℕ) → Entry → Bool
-is_named guids e = list_any (λ guid. same_bytes guid e.guid) guids
-
-unfoldable pub remove_value : Directory → ℕ → List ℕ → List (List ℕ) → Result (ℕ × List ℕ) Stop
-remove_value files align from guids =
-    after (package_in files from) (λ p. unless_missing (first_missing p.1 guids)
-    (pack_value p.1.serial p.1.flags (map (kept_part p.0) (filter (λ e. not (is_named guids e)) p.1.entries)) align))
-
--- ---- from packages to capsules, and back
-
--- whether parts fit a capsule
-abbrev pub enclose_fit : List Part → Result (Unit {0}) Stop
-enclose_fit parts = unless_fault (make_fault parts) tt
-
--- the capsule of parts: how many items, and the bytes; or the first fault
-unfoldable pub enclose_value : List Part → Result (ℕ × List ℕ) Stop
-enclose_value parts = unless_fault (make_fault parts) (length parts, capsule_bytes parts)
-
--- of all entries, in their order
-unfoldable pub capsule_value : Directory → List ℕ → Result (ℕ × List ℕ) Stop
-capsule_value files from = after (package_in files from) (λ p. enclose_value (map (kept_part p.0) p.1.entries))
-
--- of all items, in their order
-unfoldable pub repackage_value : Directory → ℕ → List ℕ → Result (ℕ × List ℕ) Stop
-repackage_value files align from =
-    after (capsule_in files from) (λ p. pack_value p.1.serial p.1.flags (map (kept_part p.0) p.1.entries) align)
+-- ---- packages and capsules that are made
 
 abbrev pub encloses : List ℕ → ℕ × List ℕ → List Step
 encloses out made = Writes out made.1 ∷ Prints (capsule_line made.0 (length made.1)) ∷ []
@@ -255,50 +55,6 @@ unpack_value files from guids =
     after (package_in files from) (λ p. unless_missing (first_missing p.1 guids) (Ok (p.0, chosen guids p.1.entries)))
 
 -- ---- manifests
-
--- an image that a manifest is made of
-pub record Image : Type 0 where
-  pub guid : List ℕ
-  pub version : ℕ
-  pub bytes : List ℕ
-
-abbrev pub image_in : Directory → NamedImage → Option Image
-image_in files i = option_map (λ bytes. record { guid = i.guid; version = i.version; bytes = bytes }) (files i.file)
-
--- the longest image that a manifest may have, 1 MiB
-abbrev pub image_limit : ℕ
-image_limit = 1048576
-
--- what a manifest says of an image that is short enough
-unfoldable pub image_row : Image → Option Row
-image_row i =
-    if nat_lt image_limit (length i.bytes) then None
-    else Some (record { guid = i.guid; size = length i.bytes; version = i.version; digest = sha256 i.bytes })
-
-abbrev pub is_long : Image → Bool
-is_long i = nat_lt image_limit (length i.bytes)
-
--- why there is no manifest of so many images, or of one that is too long
-abbrev pub unless_long : ℕ → Bool → Result (Unit {0}) Stop
-unless_long count long =
-    if (count == 0) || nat_lt 15 count then Err (stop.NoManifest fault.BadCount)
-    else if long then Err (stop.NoManifest fault.TooLarge)
-    else Ok tt
-
--- whether there is a manifest of named images, by how many they are and how long
-unfoldable pub sizes_value : Directory → List NamedImage → Result (Unit {0}) Stop
-sizes_value files named =
-    after (there (each (image_in files) named)) (λ images. unless_long (length images) (list_any is_long images))
-
-abbrev pub of_rows : ℕ → Option (List Row) → Result (ℕ × List ℕ) Stop
-of_rows security None = Err (stop.NoManifest fault.TooLarge)
-of_rows security (Some rows) = Ok (length rows, manifest_bytes (record { security = security; rows = rows }))
-
-unfoldable pub manifest_value : Directory → ℕ → List NamedImage → Result (ℕ × List ℕ) Stop
-manifest_value files security named =
-    after (there (each (image_in files) named)) (λ images.
-    if (length images == 0) || nat_lt 15 (length images) then Err (stop.NoManifest fault.BadCount)
-    else of_rows security (each image_row images))
 
 abbrev pub writes_manifest : List ℕ → ℕ → ℕ × List ℕ → List Step
 writes_manifest out security made = Writes out made.1 ∷ Prints (manifest_line made.0 (length made.1) security) ∷ []

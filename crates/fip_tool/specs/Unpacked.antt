@@ -12,7 +12,7 @@ use Rattle.fip_tool.specs.Seen.{DidIn}
 use Rattle.fip_tool.specs.Steps.{Makes}
 use Rattle.fip_tool.specs.Torn.{NoneUnwritten}
 use Rattle.fip_tool.specs.Tool.{unpack_steps}
-use Rattle.fip_tool.specs.declared.stops.Stop.{Stop}
+use Rattle.fip_making.specs.declared.stops.Stop.{Stop}
 
 -- What was done for one entry of the package in the file `from`, by its result.
 pub record Unpacked {H O : Type 0} (h : files.Ghosts H) (o : sink.Ghosts O) (from prefix : List ℕ) (entry : Entry)

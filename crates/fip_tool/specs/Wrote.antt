@@ -3,11 +3,12 @@ use Rattle.std.specs.Prelude.{◌≡◌, ◌⊎◌, ◌+◌, ◌<◌, ◌≤◌,
 use Rattle.std.specs.Io.KnownBytes.{Appends}
 use Rattle.host_io.specs.Calls.{raised}
 use Rattle.fip_words.specs.Order.{Asked, info, info_of_source, create, update, remove, unpack, manifest, capsule, repackage}
-use Rattle.fip_tool.specs.Ends.{Reported, status_number}
+use Rattle.fip_tool.specs.Ends.{Reported}
+use Rattle.fip_making.specs.Stops.{status_number}
 use Rattle.fip_tool.specs.Said.{IsTexts, half_of, joined}
-use Rattle.fip_tool.specs.Steps.{IsLate}
-use Rattle.fip_tool.specs.declared.stops.Stop.{Stop}
-use Rattle.fip_tool.specs.declared.stops.Stop.TheVariants.{FileFault, SinkFault}
+use Rattle.fip_making.specs.Answers.{IsLate}
+use Rattle.fip_making.specs.declared.stops.Stop.{Stop}
+use Rattle.fip_making.specs.declared.stops.Stop.TheVariants.{FileFault, SinkFault}
 
 -- how many files were written after one writing with this result
 abbrev pub written_once : Result (Unit {0}) Stop → ℕ → ℕ

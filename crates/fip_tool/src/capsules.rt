@@ -1,106 +1,12 @@
 //! The commands that turn a package into a capsule, and back: `capsule` and `package`.
-ghost use Rattle.std.specs.Prelude.{◌≡◌, All, IfErr, IfOk, List, Option, Some, Err, ℕ, length, map};
-ghost use Rattle.fwu_formats.specs.Package.{Toc};
-ghost use Rattle.host_io.specs.Contents.{Directory};
-ghost use Rattle.host_io.specs.Reads.{ReadsFile};
 ghost use Rattle.fip_words.specs.Order.{Asked};
-ghost use Rattle.fip_tool.specs.Payloads.{HasEntry, IsWhole, made_by};
-ghost use Rattle.fip_tool.specs.Said.{IsTable};
-ghost use Rattle.fip_tool.specs.Refusals.{IsOfEnclosing, IsOfPackaging, IsOfPacking};
 ghost use Rattle.fip_tool.specs.Done.{DoneWithFiles};
-ghost use Rattle.fip_tool.specs.Seen.{GivesIn, ReadsOnlyIn};
-ghost use Rattle.fip_tool.specs.Steps.{AsksNothing, Gives};
-ghost use Rattle.fip_tool.specs.Tool.{capsule_value, enclose_value, kept_part, pack_value, repackage_value};
 
-use crate::enclosing::enclosed;
-use crate::made::{Format, Made};
-use crate::making::repacked;
-use crate::named::table_with;
-use crate::payloads::payloads_of_entries;
-use crate::stops::Stop;
-use crate::table::read_enclosed;
+use crate::lines::Format;
 use crate::writing::put_made;
-use fip_tables::{Entry, Toc};
+use fip_making::{Stop, capsule_of_package, package_of_capsule};
 use host_io::{Files, Sink};
 use std::alloc::Global;
-
-// The capsule of a package's entries.
-fn capsule_of_entries<'a>(alloc: Global, from: &'a str, entries: &[Entry]) -> Result<Made<'a>, Stop>
-    ensures told { (told : Directory) (bytes : List ℕ) → told from.now ≡ Some bytes
-        → All (HasEntry (Some told) from.now) entries.now
-        → Gives (made_by told) ⊥ (enclose_value (map (kept_part bytes) entries.now)) result }
-    ensures whole { (told : Option Directory) → All (HasEntry told from.now) entries.now
-        → IfOk result (IsWhole told) }
-    ensures count { IfOk result (λ m. m.count ≡ length entries.now) }
-    ensures asks { AsksNothing result }
-    ensures refusals { IfErr result IsOfPacking }
-{
-    let none = Vec::new(alloc);
-    let Ok(payloads) = payloads_of_entries(alloc, from, entries, none.as_slice()) else {
-        return Err(Stop::NoMemory);
-    };
-    enclosed(alloc, payloads.as_slice())
-}
-
-// The capsule of a package.
-fn capsule_of_package<'a, H: Files>(
-    alloc: Global,
-    files: &mut H,
-    from: &'a str,
-) -> Result<Made<'a>, Stop>
-    ensures told { (told : Directory) → H.contents files.old ≡ Some told
-        → GivesIn H.Files (made_by told) (capsule_value told from.now) files.old files.new result }
-    ensures whole { IfOk result (IsWhole (H.contents files.new)) }
-    ensures count { IfOk result (λ m. (t : Toc) × IsTable t × (m.count ≡ length t.entries)) }
-    ensures reads { ReadsOnlyIn H.Files files.old files.new result }
-    ensures files { ReadsFile H.Files from.now files.old files.new }
-    ensures refusals { IfErr result IsOfEnclosing }
-{
-    let toc = table_with(files, from, &[])?;
-    capsule_of_entries(alloc, from, toc.entries.as_slice())
-}
-
-// The package of a capsule's table.
-fn package_of_items<'a>(
-    alloc: Global,
-    align: u32,
-    from: &'a str,
-    toc: &Toc,
-) -> Result<Made<'a>, Stop>
-    ensures told { (told : Directory) (bytes : List ℕ) → told from.now ≡ Some bytes
-        → All (HasEntry (Some told) from.now) toc.now.entries
-        → Gives (made_by told) ⊥ (pack_value toc.now.serial toc.now.flags
-        (map (kept_part bytes) toc.now.entries) align) result }
-    ensures whole { (told : Option Directory) → All (HasEntry told from.now) toc.now.entries
-        → IfOk result (IsWhole told) }
-    ensures count { IfOk result (λ m. m.count ≡ length toc.now.entries) }
-    ensures asks { AsksNothing result }
-    ensures refusals { IfErr result IsOfPacking }
-{
-    let none = Vec::new(alloc);
-    let entries = toc.entries.as_slice();
-    repacked(alloc, align, from, toc, entries, none.as_slice())
-}
-
-// The package of a capsule.
-fn package_of_capsule<'a, H: Files>(
-    alloc: Global,
-    files: &mut H,
-    align: u32,
-    from: &'a str,
-) -> Result<Made<'a>, Stop>
-    ensures told { (told : Directory) → H.contents files.old ≡ Some told
-        → GivesIn H.Files (made_by told) (repackage_value told align from.now)
-        files.old files.new result }
-    ensures whole { IfOk result (IsWhole (H.contents files.new)) }
-    ensures count { IfOk result (λ m. (t : Toc) × (m.count ≡ length t.entries)) }
-    ensures reads { ReadsOnlyIn H.Files files.old files.new result }
-    ensures files { ReadsFile H.Files from.now files.old files.new }
-    ensures refusals { IfErr result IsOfPackaging }
-{
-    let toc = read_enclosed(files, from)?;
-    package_of_items(alloc, align, from, &toc)
-}
 
 /// Writes the capsule of the package in the file `from` to the file `out`, and prints its line.
 pub fn run_capsule<H: Files, O: Sink>(

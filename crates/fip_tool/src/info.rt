@@ -2,16 +2,16 @@
 ghost use Rattle.std.specs.Prelude.{◌≡◌, ◌≤◌, IfOk, List, Some, Err, ℕ, IfErr};
 ghost use Rattle.host_io.specs.Contents.{Directory};
 ghost use Rattle.host_io.specs.Reads.{ReadsFile};
-ghost use Rattle.fip_tool.specs.Refusals.{IsOfPackage, IsOfSource};
+ghost use Rattle.fip_making.specs.Refusals.{IsOfPackage, IsOfSource};
 ghost use Rattle.fip_tool.specs.Said.{IsListing};
-ghost use Rattle.fip_tool.specs.Seen.{GivenToIn, GivesIn, ReadsOnlyIn};
-ghost use Rattle.fip_tool.specs.Steps.{source_failures};
-ghost use Rattle.fip_tool.specs.Tool.{StopsInTime, given_value, info_value};
-ghost use Rattle.fip_tool.specs.declared.stops.Stop.TheVariants as stop;
+ghost use Rattle.fip_making.specs.Seen.{GivenToIn, GivesIn, ReadsOnlyIn};
+ghost use Rattle.fip_making.specs.Answers.{source_failures};
+ghost use Rattle.fip_making.specs.Values.{StopsInTime};
+ghost use Rattle.fip_tool.specs.Tool.{given_value, info_value};
+ghost use Rattle.fip_making.specs.declared.stops.Stop.TheVariants as stop;
 
 use crate::lines::info_text;
-use crate::stops::Stop;
-use crate::table::{read_given, read_package};
+use fip_making::{Stop, read_given, read_package};
 use host_io::{Files, Source};
 use std::alloc::Global;
 

@@ -2,25 +2,17 @@
 #![tactic(auto)]
 
 mod capsules;
-mod enclosing;
 mod info;
 mod laws;
 mod lines;
-mod made;
 mod making;
 mod manifest;
-mod named;
-mod packing;
-mod payloads;
 mod printing;
-mod reading;
 mod stop_lines;
-mod stops;
-mod table;
 mod top;
 mod unpack;
 mod writing;
 
+pub use fip_making::Stop;
 pub use laws::commands_are_complete;
-pub use stops::Stop;
 pub use top::fip_top;

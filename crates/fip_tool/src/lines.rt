@@ -8,6 +8,13 @@ use fip_tables::{Entry, Toc};
 use itoa::Buffer;
 use std::alloc::Global;
 
+/// What a command makes.
+#[derive(Clone, Copy, Debug)]
+pub enum Format {
+    Package,
+    Capsule,
+}
+
 pub fn add(line: &mut Vec<u8>, piece: &[u8]) -> Result<(), NoMemory>
     ensures { OnOk result (line.new.items ≡ line.old.items ++ piece.now) }
 {
@@ -127,4 +134,14 @@ pub fn capsule_line(alloc: Global, items: u64, size: u64) -> Result<Vec<u8>, NoM
     add_named(&mut line, b" size=", size)?;
     add(&mut line, b"\n")?;
     Ok(line)
+}
+
+/// The line of what was made: of so many payloads, in a file of so many bytes.
+pub fn made_line(alloc: Global, format: Format, count: u64, size: u64) -> Result<Vec<u8>, NoMemory>
+    ensures { IfOk result (λ line. line.items ≡ said.made_line format count size) }
+{
+    match format {
+        Format::Package => packed_line(alloc, count, size),
+        Format::Capsule => capsule_line(alloc, count, size),
+    }
 }

@@ -1,10 +1,11 @@
 //! Texts for the sink.
 ghost use Rattle.std.specs.Prelude.{◌≡◌, ◌≤◌, Err, IfErr};
 ghost use Rattle.fip_tool.specs.Seen.{PrintedIn};
-ghost use Rattle.fip_tool.specs.Steps.{IsLate, sink_failures};
-ghost use Rattle.fip_tool.specs.declared.stops.Stop.TheVariants as stop;
+ghost use Rattle.fip_making.specs.Answers.{IsLate};
+ghost use Rattle.fip_tool.specs.Steps.{sink_failures};
+ghost use Rattle.fip_making.specs.declared.stops.Stop.TheVariants as stop;
 
-use crate::stops::Stop;
+use fip_making::Stop;
 use host_io::{Sink, WriteStop};
 
 /// Prints a text.

@@ -6,9 +6,9 @@ ghost use Rattle.fwu_formats.specs.FaultText as text;
 ghost use Rattle.fip_tool.specs.Ends as said;
 
 use crate::lines::{add, add_guid, add_named};
-use crate::stops::Stop;
 use base_core::{Guid, NoMemory};
 use capsule_tables::CapsuleFault;
+use fip_making::Stop;
 use fip_tables::PackFault;
 use fwu_formats::{FipFault, ManifestFault};
 use std::alloc::Global;

@@ -10,14 +10,14 @@ ghost use Rattle.fip_tool.specs.Lines.{unpacked_line, unpacked_name};
 ghost use Rattle.fip_tool.specs.Done.{DoneWithFiles, WritesTexts};
 ghost use Rattle.fip_tool.specs.Seen.{DidIn};
 ghost use Rattle.fip_tool.specs.Steps.{Makes};
-ghost use Rattle.fip_tool.specs.Tool.{is_named, unpack_steps};
+ghost use Rattle.fip_making.specs.Values.{is_named};
+ghost use Rattle.fip_tool.specs.Tool.{unpack_steps};
 ghost use Rattle.fip_tool.specs.Unpacked.{Unpacked};
 
 use crate::lines::{add, add_guid, add_named};
-use crate::named::{is_named, table_with};
-use crate::stops::Stop;
 use crate::writing::join_and_print;
 use base_core::{Guid, NoMemory};
+use fip_making::{Stop, is_named, table_with};
 use fip_tables::Entry;
 use host_io::{Files, Piece, Sink};
 use std::alloc::Global;

@@ -7,17 +7,18 @@ ghost use Rattle.host_io.specs.Joined.{HasPiece};
 ghost use Rattle.fip_tool.specs.Done.{WritesTexts};
 ghost use Rattle.fip_tool.specs.Said.{IsMadeLine};
 ghost use Rattle.fip_tool.specs.Seen.{DidIn, DidSince, SaysIn, WrittenIn, WroteIn};
-ghost use Rattle.fip_tool.specs.Steps.{FaultsOnce, Gives, IsLate, Makes, Prints, Writes, outcome_by, sink_failures};
+ghost use Rattle.fip_tool.specs.Steps.{FaultsOnce, Makes, Prints, Writes, outcome_by, sink_failures};
+ghost use Rattle.fip_making.specs.Answers.{Gives, IsLate};
 ghost use Rattle.fip_tool.specs.Torn.{NoneUnwritten};
-ghost use Rattle.fip_tool.specs.Payloads.{IsWhole, joined_pieces, made_by};
+ghost use Rattle.fip_making.specs.Payloads.{IsWhole, joined_pieces, made_by};
 ghost use Rattle.fip_tool.specs.Tool.{puts};
 ghost use Rattle.fip_tool.specs.Wrote.{written_once};
-ghost use Rattle.fip_tool.specs.declared.stops.Stop.{Stop};
-ghost use Rattle.fip_tool.specs.declared.stops.Stop.TheVariants as stop;
+ghost use Rattle.fip_making.specs.declared.stops.Stop.{Stop};
+ghost use Rattle.fip_making.specs.declared.stops.Stop.TheVariants as stop;
 
-use crate::made::{Format, Made, made_line};
+use crate::lines::{Format, made_line};
 use crate::printing::print;
-use crate::stops::Stop;
+use fip_making::{Made, Stop};
 use host_io::{Files, Piece, Sink};
 use std::alloc::Global;
 

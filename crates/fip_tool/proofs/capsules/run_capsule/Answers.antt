@@ -3,16 +3,16 @@ use Rattle.fwu_formats.specs.Package.{Toc}
 use Rattle.std.specs.Prelude.{IfOk}
 use Rattle.fip_words.specs.Order.{capsule}
 use Rattle.fip_tool.specs.Done.{RefusesAlone}
-use Rattle.fip_tool.specs.Ends.{status_number}
+use Rattle.fip_making.specs.Stops.{status_number}
 use Rattle.fip_tool.specs.Lines.{capsule_line}
-use Rattle.fip_tool.specs.Said.{IsMadeLine, IsTable, IsTexts}
-use Rattle.fip_tool.specs.Tool.{capsule_value}
-use Rattle.fip_tool.specs.declared.made.Format.TheVariants as format
-use Rattle.fip_tool.specs.declared.made.Made.{Made}
-use Rattle.fip_tool.specs.declared.stops.Stop.{Stop}
+use Rattle.fip_tool.specs.Said.{IsMadeLine, IsTexts}
+use Rattle.fip_making.specs.Values.{IsTable, capsule_value}
+use Rattle.fip_tool.specs.declared.lines.Format.TheVariants as format
+use Rattle.fip_making.specs.declared.made.Made.{Made}
+use Rattle.fip_making.specs.declared.stops.Stop.{Stop}
 use Rattle.fip_tool.proofs.DoneWith.{done-made}
 use Rattle.fip_tool.proofs.Texts.{made-texts}
-use Rattle.fip_tool.proofs.Refusing.{if-err-all, late-of-enclosing}
+use Rattle.fip_making.proofs.Refusing.{if-err-all, late-of-enclosing}
 use Rattle.fip_tool.proofs.capsules.run_capsule.Goals as goal
 
 -- the line is of a package that was read, with some size

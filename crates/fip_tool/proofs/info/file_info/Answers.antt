@@ -1,8 +1,9 @@
 use Rattle.std.proofs.Common.{Vec, ℕ, refl}
 use Rattle.std.specs.Global.{Global}
-use Rattle.fip_tool.proofs.Tables.{gives-err, info-err, info-made}
-use Rattle.fip_tool.proofs.ReadsBy.{reads-stopped}
-use Rattle.fip_tool.proofs.Stopped.{handed-on}
+use Rattle.fip_making.proofs.Tables.{gives-err}
+use Rattle.fip_tool.proofs.Listings.{info-err, info-made}
+use Rattle.fip_making.proofs.ReadsBy.{reads-stopped}
+use Rattle.fip_making.proofs.Stopped.{handed-on}
 use Rattle.fip_tool.proofs.info.file_info.Goals as goal
 
 pub returns-clause-told : goal.returns-clause-told

@@ -3,8 +3,8 @@ use Rattle.base_core.specs.Counts.{Rose}
 use Rattle.host_io.specs.Contents.{Directory}
 use Rattle.fip_tool.specs.Ends.{EndedBy, exit_status}
 use Rattle.fip_tool.specs.Steps.{Makes, Step}
-use Rattle.fip_tool.specs.declared.stops.Stop.{Stop}
-use Rattle.fip_tool.specs.declared.stops.Stop.TheVariants as stop
+use Rattle.fip_making.specs.declared.stops.Stop.{Stop}
+use Rattle.fip_making.specs.declared.stops.Stop.TheVariants as stop
 use Rattle.fip_tool.proofs.laws.commands_are_complete.Goals as goal
 
 by : (steps : List Step) (files : Directory) (now : Option Directory) (was text : Option (List ℕ)) (f g w x s t : ℕ) (result : Result (Unit {0}) Stop)

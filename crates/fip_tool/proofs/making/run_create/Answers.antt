@@ -1,5 +1,4 @@
-use Rattle.std.proofs.Common.{◌≡◌, ◌∙◌, ◌∷◌, [], ℕ, List, Result, Some, ap, length, map, sym, refl}
-use Rattle.std.proofs.Common.{◌≢◌}
+use Rattle.std.proofs.Common.{◌≡◌, ◌∙◌, ◌∷◌, [], ℕ, List, Result, Some, ap, length, map, sym, refl, ◌≢◌}
 use Rattle.fip_words.specs.Values.{NamedFile}
 use Rattle.fip_tool.proofs.NamedFiles.{of-map}
 use Rattle.host_io.specs.Access.{Asks}
@@ -8,16 +7,16 @@ use Rattle.fip_words.specs.Order.{create, part_view}
 use Rattle.std.specs.Prelude.{IfOk}
 use Rattle.fip_words.specs.declared.values.FileWord.{FileWord}
 use Rattle.fip_tool.specs.Done.{RefusesAlone}
-use Rattle.fip_tool.specs.Ends.{status_number}
+use Rattle.fip_making.specs.Stops.{status_number}
 use Rattle.fip_tool.specs.Lines.{packed_line}
 use Rattle.fip_tool.specs.Said.{IsMadeLine, IsTexts}
-use Rattle.fip_tool.specs.Tool.{create_value}
-use Rattle.fip_tool.specs.declared.made.Format.TheVariants as format
-use Rattle.fip_tool.specs.declared.made.Made.{Made}
-use Rattle.fip_tool.specs.declared.stops.Stop.{Stop}
+use Rattle.fip_making.specs.Values.{create_value}
+use Rattle.fip_tool.specs.declared.lines.Format.TheVariants as format
+use Rattle.fip_making.specs.declared.made.Made.{Made}
+use Rattle.fip_making.specs.declared.stops.Stop.{Stop}
 use Rattle.fip_tool.proofs.DoneWith.{done-made}
 use Rattle.fip_tool.proofs.Texts.{made-texts}
-use Rattle.fip_tool.proofs.Refusing.{if-err-all, late-of-packing}
+use Rattle.fip_making.proofs.Refusing.{if-err-all, late-of-packing}
 use Rattle.fip_tool.proofs.making.run_create.Goals as goal
 
 -- the line is of all named files, with some size

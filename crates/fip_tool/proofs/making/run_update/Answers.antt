@@ -1,25 +1,25 @@
-use Rattle.std.proofs.Common.{◌≡◌, ◌⊎◌, inl, inr, ◌∙◌, ◌∷◌, [], ℕ, List, Result, None, Some, ap, length, map, refl}
-use Rattle.std.proofs.Common.{◌≢◌}
+use Rattle.std.proofs.Common.{◌≡◌, ◌⊎◌, inl, inr, ◌∙◌, ◌∷◌, [], ℕ, List, Result, None, Some, ap, length, map, refl, ◌≢◌}
 use Rattle.fip_words.specs.Values.{NamedFile}
 use Rattle.fip_tool.proofs.NamedFiles.{of-map}
 use Rattle.host_io.specs.Access.{Asks}
 use Rattle.host_io.specs.Reads.{ReadsFile}
-use Rattle.fip_tool.specs.Refusals.{IsOfPacking}
+use Rattle.fip_making.specs.Refusals.{IsOfPacking}
 use Rattle.fwu_formats.specs.Package.{Toc}
 use Rattle.fip_words.specs.Order.{update, part_view}
 use Rattle.std.specs.Prelude.{IfOk}
 use Rattle.fip_words.specs.declared.values.FileWord.{FileWord}
 use Rattle.fip_tool.specs.Done.{RefusesAlone}
-use Rattle.fip_tool.specs.Ends.{status_number}
+use Rattle.fip_making.specs.Stops.{status_number}
 use Rattle.fip_tool.specs.Lines.{packed_line}
-use Rattle.fip_tool.specs.Said.{IsMadeLine, IsTable, IsTexts}
-use Rattle.fip_tool.specs.Tool.{update_value, first_missing}
-use Rattle.fip_tool.specs.declared.made.Format.TheVariants as format
-use Rattle.fip_tool.specs.declared.made.Made.{Made}
-use Rattle.fip_tool.specs.declared.stops.Stop.{Stop}
+use Rattle.fip_tool.specs.Said.{IsMadeLine, IsTexts}
+use Rattle.fip_making.specs.Values.{IsTable, update_value, first_missing}
+use Rattle.fip_tool.specs.declared.lines.Format.TheVariants as format
+use Rattle.fip_making.specs.declared.made.Made.{Made}
+use Rattle.fip_making.specs.declared.stops.Stop.{Stop}
 use Rattle.fip_tool.proofs.DoneWith.{done-made}
 use Rattle.fip_tool.proofs.Texts.{made-texts}
-use Rattle.fip_tool.proofs.Refusing.{if-err-as, packing-six, late-of-repacking}
+use Rattle.fip_making.proofs.Refusing.{if-err-as, late-of-repacking}
+use Rattle.fip_tool.proofs.Refusing.{packing-six}
 use Rattle.fip_tool.proofs.making.run_update.Goals as goal
 
 -- the line is of a package that was read, with some size

@@ -1,5 +1,4 @@
-use Rattle.std.proofs.Common.{◌≡◌, ◌∙◌, ◌∷◌, [], ℕ, List, Vec, ap, length, map, refl, rules, sym}
-use Rattle.std.proofs.Common.{◌≢◌}
+use Rattle.std.proofs.Common.{◌≡◌, ◌∙◌, ◌∷◌, [], ℕ, List, Vec, ap, length, map, refl, rules, sym, ◌≢◌}
 use Rattle.std.proofs.lemmas.List.{length-map}
 use Rattle.std.specs.Global.{Global}
 use Rattle.base_core.specs.Counts.{Rose}
@@ -11,16 +10,18 @@ use Rattle.fip_tool.specs.Lines.{manifest_line}
 use Rattle.fip_tool.specs.Said.{IsTexts}
 use Rattle.fip_tool.specs.Steps.{outcome_by}
 use Rattle.fip_tool.specs.Torn.{MayTear}
-use Rattle.fip_tool.specs.Tool.{manifest_value, writes_manifest}
-use Rattle.fip_tool.specs.declared.stops.Stop.TheVariants as stop
+use Rattle.fip_making.specs.Values.{manifest_value}
+use Rattle.fip_tool.specs.Tool.{writes_manifest}
+use Rattle.fip_making.specs.declared.stops.Stop.TheVariants as stop
 use Rattle.fip_tool.proofs.Did.{no-memory-yet, refused}
 use Rattle.fip_tool.proofs.DoneWith.{done-texts, done-unread}
-use Rattle.fip_tool.proofs.ManifestLemmas.{manifest-written}
+use Rattle.fip_tool.proofs.WritingLemmas.{manifest-written}
 use Rattle.fip_tool.proofs.NamedFiles.{of-map}
-use Rattle.fip_tool.proofs.ReadsBy.{reads-starved}
-use Rattle.fip_tool.proofs.Refusing.{late-of-manifest}
-use Rattle.fip_tool.proofs.Stopped.{handed-on}
-use Rattle.fip_tool.proofs.Tables.{rose-from, tears-since}
+use Rattle.fip_making.proofs.ReadsBy.{reads-starved}
+use Rattle.fip_making.proofs.Refusing.{late-of-manifest}
+use Rattle.fip_making.proofs.Stopped.{handed-on}
+use Rattle.fip_making.proofs.Tables.{rose-from}
+use Rattle.fip_tool.proofs.Torn.{tears-since}
 use Rattle.fip_tool.proofs.WritesBy.{texts-behind}
 use Rattle.fip_tool.proofs.manifest.run_manifest.Goals as goal
 

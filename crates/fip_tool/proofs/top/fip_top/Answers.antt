@@ -4,7 +4,7 @@ use Rattle.fip_tool.proofs.Converted.{converted, no-zero}
 use Rattle.fip_tool.proofs.Ending.{ends, reported-later}
 use Rattle.fip_tool.proofs.Refusing.{reported-alone, reported-may}
 use Rattle.fip_tool.proofs.SourceEnds.{reported-read, reported-two}
-use Rattle.fip_tool.proofs.Tables.{rose-from, rose-until}
+use Rattle.fip_making.proofs.Tables.{rose-from, rose-until}
 use Rattle.fip_tool.proofs.UsageEnds.{no-usage, reported-one, usage-status}
 use Rattle.fip_words.specs.Order.{asked}
 use Rattle.host_io.specs.Access.{Access}
@@ -14,7 +14,7 @@ use Rattle.fip_tool.specs.Said.{IsTextsOf}
 use Rattle.fip_tool.proofs.Texts.{says-ends, sink-rose}
 use Rattle.fip_tool.specs.Torn.{MayTear}
 use Rattle.fip_tool.specs.Tool.{no_files}
-use Rattle.fip_tool.specs.declared.stops.Stop.{Stop}
+use Rattle.fip_making.specs.declared.stops.Stop.{Stop}
 use Rattle.fip_tool.proofs.SinkFaults.{counted, reported-sink}
 use Rattle.fip_tool.proofs.SourceFaults.{fails-once, none-failed}
 use Rattle.fip_tool.proofs.FileFaults.{fails-done, fails-told, sink-alone, source-alone}

@@ -4,14 +4,14 @@ use Rattle.base_core.specs.Counts.{Rose}
 use Rattle.fip_tool.proofs.SourceEnds.{source-printed, source-refused}
 use Rattle.fip_words.specs.Order as asks
 use Rattle.fip_tool.specs.Said.{IsListing, IsTexts}
-use Rattle.fip_tool.proofs.Texts.{err-same, says-nothing, says-printed}
+use Rattle.fip_making.proofs.Stopped.{err-same, handed-on}
+use Rattle.fip_tool.proofs.Texts.{says-nothing, says-printed}
 use Rattle.fip_tool.specs.Steps.{Printed}
 use Rattle.fip_tool.proofs.SinkFaults.{still}
 use Rattle.fip_tool.proofs.SourceFaults.{printed-quiet}
-use Rattle.fip_tool.proofs.Stopped.{handed-on}
-use Rattle.fip_tool.specs.Steps.{IsLate}
-use Rattle.fip_tool.specs.Refusals.{IsOfSource}
-use Rattle.fip_tool.proofs.Refusing.{if-err-as, late-of-source}
+use Rattle.fip_making.specs.Answers.{IsLate}
+use Rattle.fip_making.specs.Refusals.{IsOfSource}
+use Rattle.fip_making.proofs.Refusing.{if-err-as, late-of-source}
 use Rattle.fip_tool.proofs.top.info_of_source.Goals as goal
 
 pub returns-clause-listed : goal.returns-clause-listed

@@ -6,14 +6,16 @@ use Rattle.fip_tool.specs.Lines.{unpacked_line}
 use Rattle.fip_tool.specs.Said.{IsTexts}
 use Rattle.fip_tool.specs.Seen.{DidIn}
 use Rattle.fip_tool.specs.Steps.{Makes}
-use Rattle.fip_tool.specs.Tool.{chosen, is_named, unpack_steps, unpack_value}
+use Rattle.fip_tool.specs.Tool.{chosen, unpack_steps, unpack_value}
+use Rattle.fip_making.specs.Values.{is_named}
 use Rattle.fip_tool.proofs.Did.{made-steps, refused}
 use Rattle.fip_tool.proofs.DoneWith.{done-texts, done-unread}
-use Rattle.fip_tool.proofs.Refusing.{late-of-entries}
-use Rattle.fip_tool.proofs.Repacking.{opened, stored-of, there-of, unpack-err, unpack-of}
-use Rattle.fip_tool.proofs.Stopped.{handed-on}
-use Rattle.fip_tool.proofs.Tables.{gives-err, rose-still, tears-since}
-use Rattle.fip_tool.proofs.UnpackLemmas.{chosen-filter}
+use Rattle.fip_making.proofs.Refusing.{late-of-entries}
+use Rattle.fip_making.proofs.Repacking.{opened, stored-of, there-of}
+use Rattle.fip_tool.proofs.UnpackLemmas.{unpack-err, unpack-of, chosen-filter}
+use Rattle.fip_making.proofs.Stopped.{handed-on}
+use Rattle.fip_making.proofs.Tables.{gives-err, rose-still}
+use Rattle.fip_tool.proofs.Torn.{tears-since}
 use Rattle.fip_tool.proofs.WritesBy.{texts-behind}
 use Rattle.fip_tool.proofs.unpack.run_unpack.Goals as goal
 

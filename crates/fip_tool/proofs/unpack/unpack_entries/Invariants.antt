@@ -6,7 +6,7 @@ use Rattle.host_io.specs.Contents.{Directory}
 use Rattle.fip_tool.specs.Lines.{unpacked_line, unpacked_name}
 use Rattle.fip_tool.specs.Said.{joined}
 use Rattle.fip_tool.specs.Torn.{NoneUnwritten}
-use Rattle.fip_tool.specs.Tool.{is_named}
+use Rattle.fip_making.specs.Values.{is_named}
 use Rattle.fip_tool.specs.Wrote.{raised_by}
 use Rattle.fip_tool.proofs.UnpackLemmas.{IsUnpacking}
 use Rattle.fip_tool.proofs.unpack.unpack_entries.Given as goal

@@ -2,10 +2,10 @@ use Rattle.std.proofs.Common.{◌≡◌, ◌∙◌, All, Ok, ap, refl, subst, sy
 use Rattle.base_core.specs.Counts.{Rose}
 use Rattle.host_io.specs.Joined.{HasPiece}
 use Rattle.fip_tool.specs.Lines.{made_line}
-use Rattle.fip_tool.specs.Payloads.{IsWhole, made_by, made_bytes}
+use Rattle.fip_making.specs.Payloads.{IsWhole, made_by, made_bytes}
 use Rattle.fip_tool.specs.Said.{IsMadeLine}
-use Rattle.fip_tool.specs.declared.stops.Stop.TheVariants as stop
-use Rattle.fip_tool.proofs.Stopped.{handed-on}
+use Rattle.fip_making.specs.declared.stops.Stop.TheVariants as stop
+use Rattle.fip_making.proofs.Stopped.{handed-on}
 use Rattle.fip_tool.proofs.Texts.{says-nothing}
 use Rattle.fip_tool.proofs.WritingLemmas.{joined-made, made-put}
 use Rattle.fip_tool.proofs.writing.put_made.Goals as goal

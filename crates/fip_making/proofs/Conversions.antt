@@ -1,0 +1,148 @@
+-- What a capsule in a file gives, and what is made of it.
+use Rattle.std.proofs.Common.{◌≡◌, ◌⊎◌, inl, inr, ◌≤◌, ◌+◌, ℕ, List, [], Option, Some, None, Result, Ok, Err, length, map, refl, sym, ap, subst, ◌∙◌}
+use Rattle.std.specs.List.{All}
+use Rattle.host_io.specs.Contents.{Directory}
+use Rattle.fwu_formats.specs.Package.{Toc}
+use Rattle.fip_tables.specs.Files.{Lacks, Tells}
+use Rattle.capsule_tables.specs.Answers.{IsAnswer}
+use Rattle.fwu_formats.specs.Capsule.{capsule_of}
+use Rattle.fwu_formats.specs.declared.kinds.CapsuleFault.{CapsuleFault}
+use Rattle.capsule_tables.specs.declared.faults.CapsuleStop.{CapsuleStop}
+use Rattle.capsule_tables.specs.declared.faults.CapsuleStop.TheVariants as read_stop
+use Rattle.capsule_tables.proofs.Within.{ends-within}
+use Rattle.fip_making.specs.Payloads.{HasEntry}
+use Rattle.fip_making.specs.Answers.{Gives}
+use Rattle.fip_making.specs.Values.{after, capsule_in, capsule_table, capsule_value, enclose_value, kept_part, pack_value, repackage_value, there}
+use Rattle.fip_making.specs.Stops.{capsule_stopped_by}
+use Rattle.fip_making.specs.declared.stops.Stop.{Stop}
+use Rattle.fip_making.specs.declared.stops.Stop.TheVariants as stop
+use Rattle.fip_making.proofs.Packings.{entries-there}
+use Rattle.fip_making.proofs.Repacking.{IsOpened, going-on, stopped, table_with}
+
+-- ---- the table of a capsule in a file
+
+abbrev pub table_in : Directory → List ℕ → Result Toc Stop
+table_in told name = after (capsule_in told name) (λ p. Ok p.1)
+
+abbrev capsule_by : Option (List ℕ) → Result (List ℕ × Toc) Stop
+capsule_by o = after (there o) (λ bytes. after (capsule_table (capsule_of bytes)) (λ t. Ok (bytes, t)))
+
+abbrev table_by : Result (List ℕ × Toc) Stop → Result Toc Stop
+table_by r = after r (λ p. Ok p.1)
+
+-- the capsule that such a table is of
+pub record IsEnclosed (told : Directory) (name : List ℕ) (toc : Toc) : Type 0 where
+  pub bytes : List ℕ
+  pub is : told name ≡ Some bytes
+  pub table : capsule_of bytes ≡ Ok toc
+
+pub opened-capsule : (told : Directory) (name : List ℕ) (toc : Toc) → table_in told name ≡ Ok toc → IsEnclosed told name toc
+opened-capsule told name toc e = by-file (told name) refl e
+  where
+    by-table : (bytes : List ℕ) (r : Result Toc CapsuleFault) → told name ≡ Some bytes → capsule_of bytes ≡ r → table_by (after (capsule_table r) (λ t. Ok (bytes, t))) ≡ Ok toc → IsEnclosed told name toc
+    by-table bytes (Err f) is t h = cc
+    by-table bytes (Ok found) is t h =
+        let same : found ≡ toc = cc in
+        record { bytes = bytes; is = is; table = t ∙ ap (λ (x : Toc). Ok x) same }
+
+    by-file : (o : Option (List ℕ)) → told name ≡ o → table_by (capsule_by o) ≡ Ok toc → IsEnclosed told name toc
+    by-file None is h = cc
+    by-file (Some bytes) is h = by-table bytes (capsule_of bytes) is refl h
+
+pub capsule-ok : (told : Directory) (name bytes : List ℕ) (toc : Toc) → told name ≡ Some bytes → capsule_of bytes ≡ Ok toc → table_in told name ≡ Ok toc
+capsule-ok told name bytes toc is table =
+    ap (λ (o : Option (List ℕ)). table_by (capsule_by o)) is ∙ ap (λ (r : Result Toc CapsuleFault). table_by (after (capsule_table r) (λ t. Ok (bytes, t)))) table
+
+pub capsule-fault : (told : Directory) (name bytes : List ℕ) (f : CapsuleFault) → told name ≡ Some bytes → capsule_of bytes ≡ Err f → table_in told name ≡ Err (stop.NotCapsule f)
+capsule-fault told name bytes f is table =
+    ap (λ (o : Option (List ℕ)). table_by (capsule_by o)) is ∙ ap (λ (r : Result Toc CapsuleFault). table_by (after (capsule_table r) (λ t. Ok (bytes, t)))) table
+
+pub capsule-none : (told : Directory) (name : List ℕ) → told name ≡ None → table_in told name ≡ Err stop.FileFault
+capsule-none told name is = ap (λ (o : Option (List ℕ)). table_by (capsule_by o)) is
+
+-- ---- what a reading gives
+
+tells-of : (o : Option Directory) (told : Directory) (name bytes : List ℕ) → o ≡ Some told → told name ≡ Some bytes → Tells o name bytes
+tells-of None told name bytes e h = cc
+tells-of (Some d) told name bytes e h = let same : d ≡ told = cc in ap (λ (f : Directory). f name) same ∙ h
+
+lacks-of : (o : Option Directory) (told : Directory) (name : List ℕ) → o ≡ Some told → told name ≡ None → Lacks o name
+lacks-of None told name e h = cc
+lacks-of (Some d) told name e h = let same : d ≡ told = cc in ap (λ (f : Directory). f name) same ∙ h
+
+told-lacks : (o : Option Directory) (told : Directory) (name : List ℕ) → o ≡ Some told → Lacks o name → told name ≡ None
+told-lacks None told name e h = absurd h
+told-lacks (Some d) told name e h = let same : d ≡ told = cc in sym (ap (λ (f : Directory). f name) same) ∙ h
+
+module _ (o : Option Directory) (told : Directory) (name : List ℕ) (e : o ≡ Some told) where
+  pub table-read : (toc : Toc) → ((bytes : List ℕ) → Tells o name bytes → IsAnswer (Ok toc) (capsule_of bytes)) → (Lacks o name → ◌≡◌ {A = Result Toc CapsuleStop} (Ok toc) (Err read_stop.ReadFailed)) → table_in told name ≡ Ok toc
+  table-read toc tells missing = go (told name) refl
+    where
+      go : (b : Option (List ℕ)) → told name ≡ b → table_in told name ≡ Ok toc
+      go None is = let no = missing (lacks-of o told name e is) in absurd cc
+      go (Some bytes) is = capsule-ok told name bytes toc is (tells bytes (tells-of o told name bytes e is))
+
+  pub table-stopped : (s : CapsuleStop) (rose : Type 0) → ((bytes : List ℕ) → Tells o name bytes → IsAnswer (Err s) (capsule_of bytes)) → (Lacks o name → ◌≡◌ {A = Result Toc CapsuleStop} (Err s) (Err read_stop.ReadFailed))
+      → (◌≡◌ {A = Result Toc CapsuleStop} (Err s) (Err read_stop.ReadFailed) → rose ⊎ Lacks o name) → Gives (λ (t : Toc). t) rose (table_in told name) (Err (capsule_stopped_by s))
+  table-stopped (read_stop.Fault f) rose tells missing cause = go (told name) refl
+    where
+      go : (b : Option (List ℕ)) → told name ≡ b → table_in told name ≡ Err (stop.NotCapsule f)
+      go None is = let no = missing (lacks-of o told name e is) in absurd cc
+      go (Some bytes) is = capsule-fault told name bytes f is (tells bytes (tells-of o told name bytes e is))
+  table-stopped read_stop.ReadFailed rose tells missing cause = by (cause refl)
+    where
+      by : rose ⊎ Lacks o name → (table_in told name ≡ Err stop.FileFault) ⊎ rose
+      by (inl r) = inr r
+      by (inr none) = inl (capsule-none told name (told-lacks o told name e none))
+
+-- ---- what its file holds
+
+pub capsule-stored : (o p : Option Directory) (name : List ℕ) (toc : Toc) → p ≡ o → ((told : Directory) → o ≡ Some told → table_in told name ≡ Ok toc)
+    → (bytes : List ℕ) → Tells p name bytes → All (λ e. e.offset + e.size ≤ length bytes) toc.entries
+capsule-stored o None name toc same knows bytes tells = absurd tells
+capsule-stored o (Some d) name toc same knows bytes tells =
+    let s = opened-capsule d name toc (knows d (sym same)) in
+    let both : ◌≡◌ {A = Option (List ℕ)} (Some s.bytes) (Some bytes) = sym s.is ∙ tells in
+    let is : s.bytes ≡ bytes = cc in
+    ends-within bytes toc (subst (λ (l : List ℕ). capsule_of l ≡ Ok toc) is s.table)
+
+pub capsule-there : (o p : Option Directory) (name : List ℕ) (toc : Toc) → p ≡ o → ((told : Directory) → o ≡ Some told → table_in told name ≡ Ok toc) → Lacks p name → ⊥
+capsule-there o None name toc same knows lacks = lacks
+capsule-there o (Some d) name toc same knows lacks =
+    let s = opened-capsule d name toc (knows d (sym same)) in
+    let both : ◌≡◌ {A = Option (List ℕ)} (Some s.bytes) None = sym s.is ∙ lacks in
+    cc
+
+-- each item's payload is there
+pub has-items : (o p : Option Directory) (name : List ℕ) (toc : Toc) → p ≡ o → ((told : Directory) → o ≡ Some told → table_in told name ≡ Ok toc) → All (HasEntry p name) toc.entries
+has-items o p name toc same knows = entries-there p name toc.entries (capsule-there o p name toc same knows) (capsule-stored o p name toc same knows)
+
+-- ---- what is made of it
+
+-- a stop of the table is one of what is made
+stopped-capsule : {Y : Type 0} (told : Directory) (name : List ℕ) (k : List ℕ × Toc → Result Y Stop) (s : Stop) → table_in told name ≡ Err s → after (capsule_in told name) k ≡ Err s
+stopped-capsule {Y} told name k s e = go (capsule_in told name) e
+  where
+    go : (r : Result (List ℕ × Toc) Stop) → table_by r ≡ Err s → after r k ≡ Err s
+    go (Ok p) h = cc
+    go (Err t) h = let same : t ≡ s = cc in ap (λ (x : Stop). Err x) same
+
+pub package-of : (told : Directory) (a : ℕ) (name : List ℕ) (toc : Toc) (o : IsEnclosed told name toc)
+    → repackage_value told a name ≡ pack_value toc.serial toc.flags (map (kept_part o.bytes) toc.entries) a
+unfolding repackage_value
+package-of told a name toc o =
+    let k : List ℕ × Toc → Result (ℕ × List ℕ) Stop = λ p. pack_value p.1.serial p.1.flags (map (kept_part p.0) p.1.entries) a in
+    ap (λ (b : Option (List ℕ)). after (capsule_by b) k) o.is
+    ∙ ap (λ (r : Result Toc CapsuleFault). after (after (capsule_table r) (λ t. Ok (o.bytes, t))) k) o.table
+
+pub package-err : (told : Directory) (a : ℕ) (name : List ℕ) (s : Stop) → table_in told name ≡ Err s → repackage_value told a name ≡ Err s
+unfolding repackage_value
+package-err told a name s e = stopped-capsule told name (λ p. pack_value p.1.serial p.1.flags (map (kept_part p.0) p.1.entries) a) s e
+
+pub capsule-of : (told : Directory) (name : List ℕ) (toc : Toc) (o : IsOpened told name [] toc) → capsule_value told name ≡ enclose_value (map (kept_part o.bytes) toc.entries)
+unfolding capsule_value
+capsule-of told name toc o = going-on told name [] toc (λ p. enclose_value (map (kept_part p.0) p.1.entries)) o
+
+pub capsule-err : (told : Directory) (name : List ℕ) (s : Stop) → table_with told name [] ≡ Err s → capsule_value told name ≡ Err s
+unfolding capsule_value
+capsule-err told name s e = stopped told name [] (λ p. enclose_value (map (kept_part p.0) p.1.entries)) s e

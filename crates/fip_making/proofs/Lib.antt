@@ -1,0 +1,14 @@
+pub mod Conversions
+pub mod Enclosings
+pub mod Makings
+pub mod ManifestLemmas
+pub mod Packings
+pub mod PartLemmas
+pub mod ReadsBy
+pub mod Refusing
+pub mod Repacking
+pub mod SourceFaults
+pub mod SourceLemmas
+pub mod Stopped
+pub mod Tables
+pub mod Whole

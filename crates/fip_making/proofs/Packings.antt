@@ -1,0 +1,189 @@
+-- Payloads of packages that are made.
+use Rattle.std.proofs.Common.{◌≡◌, ◌<◌, ◌≤◌, ◌+◌, ℕ, zero, suc, List, [], ◌∷◌, ◌++◌, Bool, true, false, Option, Some, None, Ok, Err, get_or, length, map, take, drop, replicate, cond, option_map, unwrap_or, arith, refl, sym, ap, subst, ◌∙◌}
+use Rattle.std.specs.Prelude.{find}
+use Rattle.std.specs.List.{All}
+use Rattle.std.proofs.lemmas.List.{length-drop, length-map, length-take-le, map-append, take_all}
+use Rattle.std.proofs.lemmas.List.Elements.{All-append}
+use Rattle.base_core.specs.Bytes.{same_bytes}
+use Rattle.host_io.specs.Contents.{Directory, HasRange}
+use Rattle.fwu_formats.specs.Package.{Entry, Part, packed, payload}
+use Rattle.fip_tables.specs.Files.{Lacks, Tells}
+use Rattle.fip_tables.specs.Packing.{pack_fault, zeroed}
+use Rattle.fip_tables.specs.declared.faults.PackFault.{PackFault}
+use Rattle.fip_tables.proofs.Zeros.{zeros-decide}
+use Rattle.fip_words.specs.Order.{part_view}
+use Rattle.fip_words.specs.declared.values.FileWord.{FileWord}
+use Rattle.fip_making.specs.Payloads.{HasEntry, IsThere, outline_of, part_told}
+use Rattle.fip_making.specs.Answers.{Gives}
+use Rattle.fip_making.specs.Values.{after, fit_value, nothing, pack_value, part_in, parts_in, size_in, there, unless_fault, new_bytes, updated_part}
+use Rattle.fip_making.specs.declared.payloads.Payload.{Payload}
+use Rattle.fip_making.specs.declared.stops.Stop.{Stop}
+use Rattle.fip_making.specs.declared.stops.Stop.TheVariants as stop
+use Rattle.fip_making.proofs.PartLemmas.{more-at, packs-fault, packs-ok}
+use Rattle.fip_making.proofs.Tables.{gives-err, sized}
+
+-- ---- a named file
+
+-- the payload that a file of so many bytes is
+pub payload-made : (told : Directory) (x : FileWord) (p : Payload) (n : ℕ) → size_in told x.file.now ≡ Ok n → p.guid ≡ x.guid → p.flags ≡ 0 → p.size ≡ n → p.file.now ≡ x.file.now → p.at ≡ 0
+    → there (part_in told (part_view x)) ≡ Ok (part_told told p)
+payload-made told x p n e guid flags size file at =
+    let s = sized told x.file.now n e in
+    let whole : take p.size (drop p.at (unwrap_or (told p.file.now) [])) ≡ s.0 =
+    ap (λ (f : List ℕ). take p.size (drop p.at (unwrap_or (told f) []))) file ∙ ap (λ (o : Option (List ℕ)). take p.size (drop p.at (unwrap_or o []))) s.1
+    ∙ ap (λ (k : ℕ). take p.size (drop k s.0)) at ∙ take_all p.size s.0 (omega (arith, size, s.2)) in
+    let part : List ℕ → ℕ → List ℕ → Part = λ g k b. record { guid = g; flags = k; bytes = b } in
+    ap (λ (o : Option (List ℕ)). there (option_map (part x.guid 0) o)) s.1
+    ∙ ap (λ (b : List ℕ). Ok (part x.guid 0 b)) (sym whole)
+    ∙ ap (λ (g : List ℕ). Ok (part g 0 (part_told told p).bytes)) (sym guid)
+    ∙ ap (λ (k : ℕ). Ok (part p.guid k (part_told told p).bytes)) (sym flags)
+
+-- a file that is not there
+pub payload-stopped : (told : Directory) (x : FileWord) (s : Stop) → size_in told x.file.now ≡ Err s → there (part_in told (part_view x)) ≡ Err s
+unfolding size_in
+payload-stopped told x s e = go (told x.file.now) refl e
+  where
+    part : List ℕ → Part
+    part b = record { guid = x.guid; flags = 0; bytes = b }
+
+    go : (o : Option (List ℕ)) → told x.file.now ≡ o → after (there o) (λ bytes. Ok (length bytes)) ≡ Err s → there (option_map (λ (b : List ℕ). let q : Part = record { guid = x.guid; flags = 0; bytes = b } in q) (told x.file.now)) ≡ Err s
+    go None is h = let same : ◌≡◌ {A = Stop} stop.FileFault s = cc in rw is (ap (λ (t : Stop). Err t) same)
+    go (Some b) is h = cc
+
+-- ---- several of them
+
+pub one-more-there : (P : Payload → Type 0) (ps : List Payload) (p : Payload) → All P ps → P p → All P (ps ++ (p ∷ []))
+one-more-there P ps p all here = All-append P ps (p ∷ []) all (λ k d lt. at k d lt)
+  where
+    at : (k : ℕ) (d : Payload) → k < length (p ∷ []) → P (get_or (p ∷ []) k d)
+    at zero d lt = here
+    at (suc k) d lt = absurd (omega (arith, lt))
+
+pub more-payloads : (told : Directory) (all : List FileWord) (i : ℕ) (x : FileWord) → i < length all → x ≡ get_or all i x → (ps : List Payload) (p : Payload)
+    → parts_in told (map part_view (take i all)) ≡ Ok (map (part_told told) ps) → there (part_in told (part_view x)) ≡ Ok (part_told told p)
+    → parts_in told (map part_view (take (i + 1) all)) ≡ Ok (map (part_told told) (ps ++ (p ∷ [])))
+more-payloads told all i x lt is ps p e h =
+    more-at told all i x lt is (map (part_told told) ps) (part_told told p) e h ∙ ap (λ (l : List Part). Ok l) (sym (map-append (part_told told) ps (p ∷ [])))
+
+-- in a slice, and for files that stayed as they were
+pub there-of-files : (start now : Option Directory) (ps slice : List Payload) → now ≡ start → slice ≡ ps → All (IsThere start) ps → All (IsThere now) slice
+there-of-files start now ps slice same is all =
+    subst (All (IsThere now)) (sym is) (subst (λ (o : Option Directory). All (IsThere o) ps) (sym same) all)
+
+pub none-there : (P : Payload → Type 0) (ps : List Payload) → ps ≡ [] → All P ps
+none-there P ps e = subst (All P) (sym e) (λ k d lt. absurd (omega (arith, lt)))
+
+-- ---- the payload of an entry
+
+pub find-map : {X Y : Type 0} (f : X → Y) (test : Y → Bool) (xs : List X) → find test (map f xs) ≡ option_map f (find (λ x. test (f x)) xs)
+find-map f test [] = refl
+find-map {X} {Y} f test (x ∷ xs) = go (test (f x)) (find-map f test xs)
+  where
+    go : (b : Bool) → find test (map f xs) ≡ option_map f (find (λ x. test (f x)) xs) → cond b (Some (f x)) (find test (map f xs)) ≡ option_map f (cond b (Some x) (find (λ x. test (f x)) xs))
+    go true e = refl
+    go false e = e
+
+pub found-has : {X : Type 0} (P : X → Type 0) (test : X → Bool) (xs : List X) (x : X) → All P xs → find test xs ≡ Some x → P x
+found-has P test [] x all e = cc
+found-has {X} P test (y ∷ ys) x all e = go (test y) (λ h. found-has P test ys x (λ k d lt. all (suc k) d (omega (arith, lt))) h) e
+  where
+    go : (b : Bool) → (find test ys ≡ Some x → P x) → cond b (Some y) (find test ys) ≡ Some x → P x
+    go true rest h = let same : y ≡ x = cc in subst P same (all 0 y (omega arith))
+    go false rest h = rest h
+
+module _ (told : Directory) (bytes : List ℕ) (new : List Payload) (e : Entry) where
+  abbrev made : List ℕ → ℕ → List ℕ → Part
+  made g k b = record { guid = g; flags = k; bytes = b }
+
+  spelled : (p : Payload) → p.guid ≡ e.guid → p.flags ≡ e.flags → (b : List ℕ) → (part_told told p).bytes ≡ b → part_told told p ≡ made e.guid e.flags b
+  spelled p guid flags b same = ap (made p.guid p.flags) same ∙ ap (λ (g : List ℕ). made g p.flags b) guid ∙ ap (λ (k : ℕ). made e.guid k b) flags
+
+  abbrev by-new : Option Part → Part
+  by-new o = made e.guid e.flags (new_bytes o (payload bytes e))
+
+  abbrev of_its_type : Option Payload
+  of_its_type = find (λ p. same_bytes p.guid e.guid) new
+
+  pub entry-renewed : (q p : Payload) → of_its_type ≡ Some q → p.guid ≡ e.guid → p.flags ≡ e.flags → p.size ≡ q.size → p.file.now ≡ q.file.now → p.at ≡ q.at
+      → part_told told p ≡ updated_part bytes (map (part_told told) new) e
+  entry-renewed q p is guid flags size file at =
+      let same : (part_told told p).bytes ≡ (part_told told q).bytes =
+      ap (λ (n : ℕ). take n (drop p.at (unwrap_or (told p.file.now) []))) size ∙ ap (λ (n : ℕ). take q.size (drop n (unwrap_or (told p.file.now) []))) at
+      ∙ ap (λ (f : List ℕ). take q.size (drop q.at (unwrap_or (told f) []))) file in
+      let found : find (λ (x : Part). same_bytes x.guid e.guid) (map (part_told told) new) ≡ Some (part_told told q) =
+      find-map (part_told told) (λ (x : Part). same_bytes x.guid e.guid) new ∙ ap (option_map (part_told told)) is in
+      spelled p guid flags (part_told told q).bytes same ∙ ap by-new (sym found)
+
+  pub entry-kept : (p : Payload) → of_its_type ≡ None → told p.file.now ≡ Some bytes → p.guid ≡ e.guid → p.flags ≡ e.flags → p.size ≡ e.size → p.at ≡ e.offset
+      → part_told told p ≡ updated_part bytes (map (part_told told) new) e
+  entry-kept p is file guid flags size at =
+      let same : (part_told told p).bytes ≡ payload bytes e =
+      ap (λ (o : Option (List ℕ)). take p.size (drop p.at (unwrap_or o []))) file ∙ ap (λ (n : ℕ). take n (drop p.at bytes)) size ∙ ap (λ (n : ℕ). take e.size (drop n bytes)) at in
+      let found : find (λ (x : Part). same_bytes x.guid e.guid) (map (part_told told) new) ≡ None =
+      find-map (part_told told) (λ (x : Part). same_bytes x.guid e.guid) new ∙ ap (option_map (part_told told)) is in
+      spelled p guid flags (payload bytes e) same ∙ ap by-new (sym found)
+
+-- the range of a payload, by its file
+pub entry-there : (told : Option Directory) (p : Payload) (name : List ℕ) (e : Entry) → p.file.now ≡ name → p.size ≡ e.size → p.at ≡ e.offset → HasEntry told name e → IsThere told p
+entry-there told p name e file size at h =
+    subst (λ (f : List ℕ). HasRange told f p.at p.size) (sym file) (subst (λ (n : ℕ). HasRange told name n p.size) (sym at) (subst (HasRange told name e.offset) (sym size) h))
+
+-- an entry whose payload lies in a file of told bytes
+pub has-entry : (told : Option Directory) (name : List ℕ) (e : Entry) → (Lacks told name → ⊥) → ((bytes : List ℕ) → Tells told name bytes → e.offset + e.size ≤ length bytes) → HasEntry told name e
+has-entry None name e there stored = tt
+has-entry (Some files) name e there stored = go (files name) refl
+  where
+    go : (o : Option (List ℕ)) → files name ≡ o → HasEntry (Some files) name e
+    go None is = absurd (there is)
+    go (Some b) is = let h = stored b is in rw is h
+
+-- entries whose payloads lie in a file of told bytes
+pub entries-there : (told : Option Directory) (name : List ℕ) (es : List Entry) → (Lacks told name → ⊥) → ((bytes : List ℕ) → Tells told name bytes → All (λ e. e.offset + e.size ≤ length bytes) es) → All (HasEntry told name) es
+entries-there told name es there stored = λ k d lt. has-entry told name (get_or es k d) there (λ bytes tells. stored bytes tells k d lt)
+
+-- ---- what is packed
+
+-- so many bytes of the file
+pub told-size : (told : Directory) (p : Payload) → IsThere (Some told) p → length (part_told told p).bytes ≡ p.size
+told-size told p h = go (told p.file.now) refl h
+  where
+    go : (o : Option (List ℕ)) → told p.file.now ≡ o → HasRange (Some told) p.file.now p.at p.size → length (take p.size (drop p.at (unwrap_or o []))) ≡ p.size
+    go None is r = absurd (rw is at r)
+    go (Some b) is r = let room = rw is at r in length-take-le p.size (drop p.at b) (omega (arith, room, length-drop p.at b))
+
+-- zeros in place of the bytes
+zeroed-one : (told : Directory) (p : Payload) → IsThere (Some told) p → zeroed (part_told told p) ≡ outline_of p
+zeroed-one told p h = ap (λ (n : ℕ). let x : Part = record { guid = p.guid; flags = p.flags; bytes = replicate n 0 } in x) (told-size told p h)
+
+pub zeroed-all : (told : Directory) (ps : List Payload) → All (IsThere (Some told)) ps → map zeroed (map (part_told told) ps) ≡ map outline_of ps
+zeroed-all told [] h = refl
+zeroed-all told (p ∷ ps) h =
+    ap (λ (x : Part). x ∷ map zeroed (map (part_told told) ps)) (zeroed-one told p (h 0 p (omega arith)))
+    ∙ ap (λ (xs : List Part). outline_of p ∷ xs) (zeroed-all told ps (λ k d lt. h (suc k) d (omega (arith, lt))))
+
+no-fault : (o : Option PackFault) → unless_fault {X = Unit {0}} o tt ≡ Ok tt → o ≡ None
+no-fault None e = refl
+no-fault (Some f) e = cc
+
+pub parts-fit : (ps os : List Part) (a : ℕ) → map zeroed ps ≡ os → fit_value os a ≡ Ok tt → pack_fault ps a ≡ None
+parts-fit ps os a same fits = sym (zeros-decide ps a) ∙ ap (λ (l : List Part). pack_fault l a) same ∙ no-fault (pack_fault os a) fits
+
+-- sizes that fit no package
+pub packing-refused : (F : Type 0) {X : Type 0} (view : X → ℕ × List ℕ) (late : Type 0) (serial flags a : ℕ) (ps os : List Part) (s : Stop) → map zeroed ps ≡ os
+    → Gives (nothing {X = F}) ⊥ (fit_value os a) (Err s) → Gives view late (pack_value serial flags ps a) (Err s)
+packing-refused F view late serial flags a ps os s same g = gives-err (nothing {X = F}) view ⊥ late (fit_value os a) (pack_value serial flags ps a) s (λ r. absurd r) so g
+  where
+    same-fault : pack_fault os a ≡ pack_fault ps a
+    same-fault = ap (λ (l : List Part). pack_fault l a) (sym same) ∙ zeros-decide ps a
+
+    go : (o : Option PackFault) → pack_fault ps a ≡ o → unless_fault {X = Unit {0}} o tt ≡ Err s → pack_value serial flags ps a ≡ Err s
+    go None is h = cc
+    go (Some f) is h = let e : ◌≡◌ {A = Stop} (stop.NotPacked f) s = cc in packs-fault serial flags ps a f is ∙ ap (λ (t : Stop). Err t) e
+
+    so : fit_value os a ≡ Err s → pack_value serial flags ps a ≡ Err s
+    so h = go (pack_fault ps a) refl (ap (λ (o : Option PackFault). unless_fault {X = Unit {0}} o tt) (sym same-fault) ∙ h)
+
+-- all fit
+pub packing-ends : (told : Directory) (serial flags a n : ℕ) (ps : List Payload) (bytes : List ℕ) → n ≡ length ps → pack_fault (map (part_told told) ps) a ≡ None → bytes ≡ packed serial flags (map (part_told told) ps) a
+    → pack_value serial flags (map (part_told told) ps) a ≡ Ok (n, bytes)
+packing-ends told serial flags a n ps bytes count fits is = packs-ok serial flags (map (part_told told) ps) a n bytes fits (count ∙ sym (length-map ps (part_told told))) is

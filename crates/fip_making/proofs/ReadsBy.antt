@@ -1,0 +1,157 @@
+-- What a part that reads alone answers, from what its own parts answered.
+use Rattle.std.proofs.Common.{◌≡◌, ◌⊎◌, inl, inr, ℕ, List, Option, None, Result, Ok, Err, arith, refl, subst, sym, ◌∙◌}
+use Rattle.base_core.specs.Counts.{Rose}
+use Rattle.host_io.specs.Contents.{Directory}
+use Rattle.fwu_formats.specs.Package.{Toc}
+use Rattle.fip_tables.specs.Files.{Lacks, HasReadCause as PackageCause}
+use Rattle.fip_tables.specs.declared.toc.TocStop.{TocStop}
+use Rattle.fip_tables.specs.declared.toc.TocStop.TheVariants as toc
+use Rattle.capsule_tables.specs.Answers.{HasReadCause as CapsuleCause}
+use Rattle.capsule_tables.specs.declared.faults.CapsuleStop.{CapsuleStop}
+use Rattle.capsule_tables.specs.declared.faults.CapsuleStop.TheVariants as items
+use Rattle.fip_making.specs.Answers.{AsksNothing, NoneFailed, ReadsOnly}
+use Rattle.fip_making.specs.Stops.{capsule_stopped_by, stopped_by}
+use Rattle.fip_making.specs.declared.stops.Stop.{Stop}
+use Rattle.fip_making.specs.declared.stops.Stop.TheVariants as stop
+use Rattle.fip_making.proofs.Tables.{rose-still}
+use Rattle.fip_making.proofs.Stopped.{err-same}
+
+-- a stop of a part is one of the whole, after parts that failed not once
+pub quiet-as : (X Y : Type 0) (s : Stop) (before between after : ℕ) → between ≡ before → NoneFailed {X = X} (Err s) between after → NoneFailed {X = Y} (Err s) before after
+quiet-as X Y stop.FileFault before between after same h = tt
+quiet-as X Y stop.SinkFault before between after same h = h ∙ same
+quiet-as X Y stop.Usage before between after same h = h ∙ same
+quiet-as X Y (stop.NotFip f) before between after same h = h ∙ same
+quiet-as X Y (stop.NoSuchEntry guid) before between after same h = h ∙ same
+quiet-as X Y (stop.NotPacked f) before between after same h = h ∙ same
+quiet-as X Y (stop.NoManifest f) before between after same h = h ∙ same
+quiet-as X Y stop.TooLong before between after same h = h ∙ same
+quiet-as X Y (stop.NotCapsule f) before between after same h = h ∙ same
+quiet-as X Y stop.NoMemory before between after same h = h ∙ same
+
+pub quiet-then : {X : Type 0} (r : Result X Stop) (before between after : ℕ) → between ≡ before → NoneFailed r between after → NoneFailed r before after
+quiet-then {X = X} (Ok x) before between after same h = h ∙ same
+quiet-then {X = X} (Err s) before between after same h = quiet-as X X s before between after same h
+
+-- of files that tell nothing none is known to lack
+failed : (told mid : Option Directory) (name : List ℕ) (before between after : ℕ) → mid ≡ told → between ≡ before → Rose between after ⊎ Lacks mid name → told ≡ None → Rose before after
+failed told mid name before between after same quiet (inl rose) untold = rose-still _ _ _ (sym quiet) rose
+failed told mid name before between after same quiet (inr lacks) untold = absurd (subst (λ (o : Option Directory). Lacks o name) (same ∙ untold) lacks)
+
+module _ {X : Type 0} {told now : Option Directory} {before after : ℕ} where
+  pub reads-done : {x : X} → now ≡ told → after ≡ before → ReadsOnly told now before after (Ok x)
+  reads-done same quiet = record {
+    same = same;
+    later = omega (arith, quiet);
+    once = omega (arith, quiet);
+    quiet = quiet;
+    cause = λ e. absurd cc;
+    usage = λ e. absurd cc;
+    sink = λ e. absurd cc;
+  }
+
+  pub reads-starved : now ≡ told → after ≡ before → ReadsOnly {X = X} told now before after (Err stop.NoMemory)
+  reads-starved same quiet = record {
+    same = same;
+    later = omega (arith, quiet);
+    once = omega (arith, quiet);
+    quiet = quiet;
+    cause = λ e. absurd cc;
+    usage = λ e. absurd cc;
+    sink = λ e. absurd cc;
+  }
+
+  -- the last part, after others that read alone
+  pub reads-then : {mid : Option Directory} {between : ℕ} {result : Result X Stop} → mid ≡ told → between ≡ before → ReadsOnly mid now between after result
+      → ReadsOnly told now before after result
+  reads-then {between = between} {result = result} same quiet reads = record {
+    same = reads.same ∙ same;
+    later = omega (arith, quiet, reads.later);
+    once = omega (arith, quiet, reads.once);
+    quiet = quiet-then result before between after quiet reads.quiet;
+    cause = λ e untold. rose-still _ _ _ (sym quiet) (reads.cause e (same ∙ untold));
+    usage = reads.usage;
+    sink = reads.sink;
+  }
+
+  -- and a stop of a part
+  pub reads-stopped : {Y : Type 0} {mid : Option Directory} {between : ℕ} {s : Stop} → mid ≡ told → between ≡ before → ReadsOnly {X = Y} mid now between after (Err s)
+      → ReadsOnly {X = X} told now before after (Err s)
+  reads-stopped {Y = Y} {between = between} {s = s} same quiet reads = record {
+    same = reads.same ∙ same;
+    later = omega (arith, quiet, reads.later);
+    once = omega (arith, quiet, reads.once);
+    quiet = quiet-as Y X s before between after quiet reads.quiet;
+    cause = λ e untold. let is : s ≡ stop.FileFault = cc in rose-still _ _ _ (sym quiet) (reads.cause (err-same is) (same ∙ untold));
+    usage = λ e. let is : s ≡ stop.Usage = cc in reads.usage (err-same is);
+    sink = λ e. let is : s ≡ stop.SinkFault = cc in reads.sink (err-same is);
+  }
+
+  -- a last part that asks for nothing
+  pub reads-asked : (result : Result X Stop) → now ≡ told → after ≡ before → AsksNothing result → ReadsOnly told now before after result
+  reads-asked result same quiet asks = record {
+    same = same;
+    later = omega (arith, quiet);
+    once = omega (arith, quiet);
+    quiet = none result asks;
+    cause = λ e untold. absurd (asks.file e);
+    usage = asks.usage;
+    sink = asks.sink;
+  }
+    where
+      none : (r : Result X Stop) → AsksNothing r → NoneFailed r before after
+      none (Ok x) h = quiet
+      none (Err stop.FileFault) h = tt
+      none (Err stop.Usage) h = quiet
+      none (Err stop.SinkFault) h = quiet
+      none (Err (stop.NotFip f)) h = quiet
+      none (Err (stop.NoSuchEntry guid)) h = quiet
+      none (Err (stop.NotPacked f)) h = quiet
+      none (Err (stop.NoManifest f)) h = quiet
+      none (Err stop.TooLong) h = quiet
+      none (Err (stop.NotCapsule f)) h = quiet
+      none (Err stop.NoMemory) h = quiet
+
+  -- a table that was not read, of a file that is there where its contents are told
+  module _ {mid : Option Directory} {name : List ℕ} {between : ℕ} where
+    pub reads-no-table : (s : TocStop) → mid ≡ told → now ≡ mid → between ≡ before → PackageCause {T = Toc} mid name between after (Err s)
+        → ReadsOnly {X = X} told now before after (Err (stopped_by s))
+    reads-no-table (toc.Fault f) same still quiet h = record {
+      same = still ∙ same;
+      later = omega (arith, quiet, h.later);
+      once = omega (arith, quiet, h.once);
+      quiet = h.fault f refl ∙ quiet;
+      cause = λ e. absurd cc;
+      usage = λ e. absurd cc;
+      sink = λ e. absurd cc;
+    }
+    reads-no-table toc.ReadFailed same still quiet h = record {
+      same = still ∙ same;
+      later = omega (arith, quiet, h.later);
+      once = omega (arith, quiet, h.once);
+      quiet = tt;
+      cause = λ e untold. failed told mid name before between after same quiet (h.failed refl) untold;
+      usage = λ e. absurd cc;
+      sink = λ e. absurd cc;
+    }
+
+    pub reads-no-items : (s : CapsuleStop) → mid ≡ told → now ≡ mid → between ≡ before → CapsuleCause {T = Toc} mid name between after (Err s)
+        → ReadsOnly {X = X} told now before after (Err (capsule_stopped_by s))
+    reads-no-items (items.Fault f) same still quiet h = record {
+      same = still ∙ same;
+      later = omega (arith, quiet, h.later);
+      once = omega (arith, quiet, h.once);
+      quiet = h.fault f refl ∙ quiet;
+      cause = λ e. absurd cc;
+      usage = λ e. absurd cc;
+      sink = λ e. absurd cc;
+    }
+    reads-no-items items.ReadFailed same still quiet h = record {
+      same = still ∙ same;
+      later = omega (arith, quiet, h.later);
+      once = omega (arith, quiet, h.once);
+      quiet = tt;
+      cause = λ e untold. failed told mid name before between after same quiet (h.failed refl) untold;
+      usage = λ e. absurd cc;
+      sink = λ e. absurd cc;
+    }

@@ -1,0 +1,200 @@
+-- Packages that are made of others.
+use Rattle.std.proofs.Common.{◌≡◌, ◌<◌, ◌≤◌, ◌+◌, ◌^◌, ℕ, List, [], ◌∷◌, Bool, true, false, Option, Some, None, Result, Ok, Err, get_or, length, map, arith, refl, sym, ap, subst, ◌∙◌}
+use Rattle.std.specs.Prelude.{not, ◌==◌, if◌then◌else◌, nat_lt, position, filter}
+use Rattle.std.specs.List.{All, position_or_len}
+use Rattle.std.proofs.lemmas.Bool.{ltb-false}
+use Rattle.std.proofs.lemmas.List.Elements.{All-filter}
+use Rattle.std.proofs.lemmas.List.Sums.{fails_before_first}
+use Rattle.base_core.specs.Bytes.{num_at}
+use Rattle.host_io.specs.Contents.{Directory}
+use Rattle.fwu_formats.specs.Package.{Entry, Part, Toc, entries_from, entry_limit, fip_name, is_beyond, toc_of, with_entries, within}
+use Rattle.fwu_formats.specs.declared.kinds.FipFault.{FipFault}
+use Rattle.fwu_formats.specs.declared.kinds.FipFault.TheVariants as fault
+use Rattle.fip_tables.specs.Files.{Lacks, Tells}
+use Rattle.fip_words.specs.Order.{part_view}
+use Rattle.fip_words.specs.Values.{NamedFile}
+use Rattle.fip_words.specs.declared.values.FileWord.{FileWord}
+use Rattle.fip_making.specs.Payloads.{HasEntry}
+use Rattle.fip_making.specs.Values.{after, first_missing, is_named, kept_part, pack_value, package_in, parts_in, remove_value, sized_table, table_of, there, unless_missing, update_value, updated_part}
+use Rattle.fip_making.specs.Answers.{Gives}
+use Rattle.fip_making.specs.declared.stops.Stop.{Stop}
+use Rattle.fip_making.proofs.Packings.{entries-there}
+
+none-found : {X : Type 0} (p : X → Bool) (xs : List X) → position p xs ≡ None → (k : ℕ) (d : X) → k < length xs → p (get_or xs k d) ≡ false
+none-found p xs e = go (nat_lt (position_or_len p xs) (length xs)) refl e
+  where
+    go : (b : Bool) → nat_lt (position_or_len p xs) (length xs) ≡ b → (if b then Some (position_or_len p xs) else None) ≡ None → (k : ℕ) (d : _) → k < length xs → p (get_or xs k d) ≡ false
+    go true is h = cc
+    go false is h = λ k d lt. fails_before_first p xs k d (let le = ltb-false (position_or_len p xs) (length xs) is in omega (arith, le, lt))
+
+abbrev headed : List ℕ → List Entry → Toc
+headed bytes es = record { serial = num_at 4 bytes 4; flags = num_at 8 bytes 8; entries = es }
+
+-- each payload of a package ends within it
+pub ends-within : (bytes : List ℕ) (toc : Toc) → toc_of bytes ≡ Ok toc → All (λ e. e.offset + e.size ≤ length bytes) toc.entries
+unfolding toc_of
+ends-within bytes toc e = go (nat_lt (length bytes) 16) (not (num_at 4 bytes 0 == fip_name)) (num_at 4 bytes 4 == 0) (entries_from bytes [] 0 entry_limit) e
+  where
+    by : (es : List Entry) (o : Option ℕ) → position (is_beyond bytes) es ≡ o → within bytes (headed bytes es) o ≡ Ok toc → All (λ e. e.offset + e.size ≤ length bytes) toc.entries
+    by es None none h =
+        let same : headed bytes es ≡ toc = cc in
+        subst (λ (t : Toc). All (λ e. e.offset + e.size ≤ length bytes) t.entries) same (λ k d lt. ltb-false (length bytes) _ (none-found (is_beyond bytes) es none k d lt))
+    by es (Some i) some h = cc
+
+    go : (a b c : Bool) (r : Result (List Entry) FipFault)
+        → (if a then Err fault.ShortHeader else if b then Err fault.BadName else if c then Err fault.ZeroSerial else with_entries bytes r) ≡ Ok toc
+        → All (λ e. e.offset + e.size ≤ length bytes) toc.entries
+    go true b c r h = cc
+    go false true c r h = cc
+    go false false true r h = cc
+    go false false false (Err f) h = cc
+    go false false false (Ok es) h = by es (position (is_beyond bytes) es) refl h
+
+pub ends-below : (bytes : List ℕ) (toc : Toc) → length bytes < 2 ^ 64 → toc_of bytes ≡ Ok toc → All (λ e. e.offset + e.size < 2 ^ 64) toc.entries
+ends-below bytes toc short e = λ k d lt. let h = ends-within bytes toc e k d lt in omega (arith, h, short)
+
+-- ---- a table that has all named entries
+
+-- the table in a file, where it has an entry of each of these types
+abbrev pub table_with : Directory → List ℕ → List (List ℕ) → Result Toc Stop
+table_with told name guids = after (sized_table told name) (λ t. unless_missing (first_missing t.0 guids) (Ok t.0))
+
+-- what is made of such a package
+abbrev made_with : {Y : Type 0} → List (List ℕ) → (List ℕ × Toc → Result Y Stop) → Result (List ℕ × Toc) Stop → Result Y Stop
+made_with guids k r = after r (λ p. unless_missing (first_missing p.1 guids) (k p))
+
+abbrev package_of : Option (List ℕ) → Result (List ℕ × Toc) Stop
+package_of o = after (there o) (λ bytes. after (table_of (toc_of bytes)) (λ t. Ok (bytes, t)))
+
+abbrev table_by : List (List ℕ) → Result (List ℕ × Toc) Stop → Result Toc Stop
+table_by guids r = after {X = Toc × ℕ} (after r (λ p. Ok (p.1, length p.0))) (λ t. unless_missing (first_missing t.0 guids) (Ok t.0))
+
+-- the package that such a table is of
+pub record IsOpened (told : Directory) (name : List ℕ) (guids : List (List ℕ)) (toc : Toc) : Type 0 where
+  pub bytes : List ℕ
+  pub is : told name ≡ Some bytes
+  pub table : toc_of bytes ≡ Ok toc
+  pub all : first_missing toc guids ≡ None
+
+pub opened : (told : Directory) (name : List ℕ) (guids : List (List ℕ)) (toc : Toc) → table_with told name guids ≡ Ok toc → IsOpened told name guids toc
+unfolding sized_table
+opened told name guids toc e = by-file (told name) refl e
+  where
+    by-missing : (bytes : List ℕ) (found : Toc) (m : Option (List ℕ)) → told name ≡ Some bytes → toc_of bytes ≡ Ok found → first_missing found guids ≡ m → unless_missing m (Ok found) ≡ Ok toc
+        → IsOpened told name guids toc
+    by-missing bytes found None is t none h =
+        let same : found ≡ toc = cc in
+        record { bytes = bytes; is = is; table = t ∙ ap (λ (x : Toc). Ok x) same; all = subst (λ (x : Toc). first_missing x guids ≡ None) same none }
+    by-missing bytes found (Some guid) is t some h = cc
+
+    by-table : (bytes : List ℕ) (r : Result Toc FipFault) → told name ≡ Some bytes → toc_of bytes ≡ r → table_by guids (after (table_of r) (λ t. Ok (bytes, t))) ≡ Ok toc → IsOpened told name guids toc
+    by-table bytes (Err f) is t h = cc
+    by-table bytes (Ok found) is t h = by-missing bytes found (first_missing found guids) is t refl h
+
+    by-file : (o : Option (List ℕ)) → told name ≡ o → table_by guids (package_of o) ≡ Ok toc → IsOpened told name guids toc
+    by-file None is h = cc
+    by-file (Some bytes) is h = by-table bytes (toc_of bytes) is refl h
+
+-- a stop of the table is one of what is made
+pub stopped : {Y : Type 0} (told : Directory) (name : List ℕ) (guids : List (List ℕ)) (k : List ℕ × Toc → Result Y Stop) (s : Stop) → table_with told name guids ≡ Err s
+    → after (package_in told name) (λ p. unless_missing (first_missing p.1 guids) (k p)) ≡ Err s
+unfolding sized_table
+stopped {Y} told name guids k s e = by-file (told name) e
+  where
+    err-of : {A : Type 0} {a b : Stop} → ◌≡◌ {A = Result A Stop} (Err a) (Err b) → ◌≡◌ {A = Result Y Stop} (Err a) (Err b)
+    err-of {A} {a} {b} h = let same : a ≡ b = cc in ap (λ (x : Stop). Err x) same
+
+    by-missing : (bytes : List ℕ) (found : Toc) (m : Option (List ℕ)) → unless_missing m (Ok found) ≡ Err s → unless_missing m (k (bytes, found)) ≡ Err s
+    by-missing bytes found None h = cc
+    by-missing bytes found (Some guid) h = err-of h
+
+    by-table : (bytes : List ℕ) (r : Result Toc FipFault) → table_by guids (after (table_of r) (λ t. Ok (bytes, t))) ≡ Err s → made_with guids k (after (table_of r) (λ t. Ok (bytes, t))) ≡ Err s
+    by-table bytes (Err f) h = err-of h
+    by-table bytes (Ok found) h = by-missing bytes found (first_missing found guids) h
+
+    by-file : (o : Option (List ℕ)) → table_by guids (package_of o) ≡ Err s → made_with guids k (package_of o) ≡ Err s
+    by-file None h = err-of h
+    by-file (Some bytes) h = by-table bytes (toc_of bytes) h
+
+-- and where there is none
+pub going-on : {Y : Type 0} (told : Directory) (name : List ℕ) (guids : List (List ℕ)) (toc : Toc) (k : List ℕ × Toc → Result Y Stop) → (o : IsOpened told name guids toc)
+    → after (package_in told name) (λ p. unless_missing (first_missing p.1 guids) (k p)) ≡ k (o.bytes, toc)
+going-on told name guids toc k o =
+    ap (λ (f : Option (List ℕ)). made_with guids k (package_of f)) o.is
+    ∙ ap (λ (r : Result Toc FipFault). made_with guids k (after (table_of r) (λ t. Ok (o.bytes, t)))) o.table
+    ∙ ap (λ (m : Option (List ℕ)). unless_missing m (k (o.bytes, toc))) o.all
+
+-- ---- what its file holds
+
+pub stored-of : (o p : Option Directory) (name : List ℕ) (guids : List (List ℕ)) (toc : Toc) → p ≡ o → ((told : Directory) → o ≡ Some told → table_with told name guids ≡ Ok toc)
+    → (bytes : List ℕ) → Tells p name bytes → All (λ e. e.offset + e.size ≤ length bytes) toc.entries
+stored-of o None name guids toc same knows bytes tells = absurd tells
+stored-of o (Some d) name guids toc same knows bytes tells =
+    let s = opened d name guids toc (knows d (sym same)) in
+    let both : ◌≡◌ {A = Option (List ℕ)} (Some s.bytes) (Some bytes) = sym s.is ∙ tells in
+    let is : s.bytes ≡ bytes = cc in
+    ends-within bytes toc (subst (λ (l : List ℕ). toc_of l ≡ Ok toc) is s.table)
+
+pub there-of : (o p : Option Directory) (name : List ℕ) (guids : List (List ℕ)) (toc : Toc) → p ≡ o → ((told : Directory) → o ≡ Some told → table_with told name guids ≡ Ok toc) → Lacks p name → ⊥
+there-of o None name guids toc same knows lacks = lacks
+there-of o (Some d) name guids toc same knows lacks =
+    let s = opened d name guids toc (knows d (sym same)) in
+    let both : ◌≡◌ {A = Option (List ℕ)} (Some s.bytes) None = sym s.is ∙ lacks in
+    cc
+
+-- each entry's payload is there
+pub has-entries : (o p : Option Directory) (name : List ℕ) (guids : List (List ℕ)) (toc : Toc) → p ≡ o → ((told : Directory) → o ≡ Some told → table_with told name guids ≡ Ok toc) → All (HasEntry p name) toc.entries
+has-entries o p name guids toc same knows = entries-there p name toc.entries (there-of o p name guids toc same knows) (stored-of o p name guids toc same knows)
+
+-- ---- what is made of it
+
+pub remove-of : (told : Directory) (a : ℕ) (name : List ℕ) (guids : List (List ℕ)) (toc : Toc) (o : IsOpened told name guids toc)
+    → remove_value told a name guids ≡ pack_value toc.serial toc.flags (map (kept_part o.bytes) (filter (λ e. not (is_named guids e)) toc.entries)) a
+unfolding remove_value
+remove-of told a name guids toc o =
+    going-on told name guids toc (λ p. pack_value p.1.serial p.1.flags (map (kept_part p.0) (filter (λ e. not (is_named guids e)) p.1.entries)) a) o
+
+pub remove-err : (told : Directory) (a : ℕ) (name : List ℕ) (guids : List (List ℕ)) (s : Stop) → table_with told name guids ≡ Err s → remove_value told a name guids ≡ Err s
+unfolding remove_value
+remove-err told a name guids s e =
+    stopped told name guids (λ p. pack_value p.1.serial p.1.flags (map (kept_part p.0) (filter (λ e. not (is_named guids e)) p.1.entries)) a) s e
+
+-- the types of the named files
+pub types-are : (words : List FileWord) → map (λ q. q.guid) (map part_view words) ≡ map (λ (w : FileWord). w.guid) words
+types-are [] = refl
+types-are (w ∷ words) = ap (λ (l : List (List ℕ)). w.guid ∷ l) (types-are words)
+
+abbrev updating : Directory → ℕ → List NamedFile → List ℕ × Toc → Result (ℕ × List ℕ) Stop
+updating told a parts p = after (parts_in told parts) (λ fresh. pack_value p.1.serial p.1.flags (map (updated_part p.0 fresh) p.1.entries) a)
+
+pub update-of : (told : Directory) (a : ℕ) (name : List ℕ) (words : List FileWord) (guids : List (List ℕ)) (toc : Toc) (o : IsOpened told name guids toc) → guids ≡ map (λ (w : FileWord). w.guid) words
+    → update_value told a name (map part_view words) ≡ after (parts_in told (map part_view words)) (λ fresh. pack_value toc.serial toc.flags (map (updated_part o.bytes fresh) toc.entries) a)
+unfolding update_value
+update-of told a name words guids toc o e =
+    ap (λ (g : List (List ℕ)). made_with g (updating told a (map part_view words)) (package_in told name)) (types-are words ∙ sym e)
+    ∙ going-on told name guids toc (updating told a (map part_view words)) o
+
+pub update-err : (told : Directory) (a : ℕ) (name : List ℕ) (words : List FileWord) (guids : List (List ℕ)) (s : Stop) → guids ≡ map (λ (w : FileWord). w.guid) words → table_with told name guids ≡ Err s
+    → update_value told a name (map part_view words) ≡ Err s
+unfolding update_value
+update-err told a name words guids s is e =
+    ap (λ (g : List (List ℕ)). made_with g (updating told a (map part_view words)) (package_in told name)) (types-are words ∙ sym is)
+    ∙ stopped told name guids (updating told a (map part_view words)) s e
+
+-- ---- the parts of a package's entries
+
+pub kept-all : (P : Entry → Type 0) (p : Entry → Bool) (entries kept : List Entry) → kept ≡ filter p entries → All P entries → All P kept
+kept-all P p entries kept e h = subst (λ (l : List Entry). All P l) (sym e) (All-filter p P entries h)
+
+pub without-gives : {X : Type 0} (view : X → ℕ × List ℕ) (rose : Type 0) (serial flags a : ℕ) (bytes : List ℕ) (fresh : List Part) (entries kept : List Entry) (r : Result X Stop) → entries ≡ kept → fresh ≡ []
+    → Gives view rose (pack_value serial flags (map (updated_part bytes fresh) entries) a) r → Gives view rose (pack_value serial flags (map (kept_part bytes) kept) a) r
+without-gives view rose serial flags a bytes fresh entries kept r same none g =
+    subst (λ (ps : List Part). Gives view rose (pack_value serial flags (map (updated_part bytes ps) kept) a) r) none
+    (subst (λ (es : List Entry). Gives view rose (pack_value serial flags (map (updated_part bytes fresh) es) a) r) same g)
+
+pub replaced-value : (parts : Result (List Part) Stop) (serial flags a : ℕ) (bytes : List ℕ) (fresh new : List Part) (es entries : List Entry) → parts ≡ Ok new → fresh ≡ new → es ≡ entries
+    → after parts (λ ps. pack_value serial flags (map (updated_part bytes ps) entries) a) ≡ pack_value serial flags (map (updated_part bytes fresh) es) a
+replaced-value parts serial flags a bytes fresh new es entries e same all =
+    ap (λ (r : Result (List Part) Stop). after r (λ ps. pack_value serial flags (map (updated_part bytes ps) entries) a)) e
+    ∙ ap (λ (ps : List Part). pack_value serial flags (map (updated_part bytes ps) entries) a) (sym same)
+    ∙ ap (λ (l : List Entry). pack_value serial flags (map (updated_part bytes fresh) l) a) (sym all)

@@ -1,0 +1,148 @@
+-- Reading a package from the source.
+use Rattle.std.proofs.Common.{◌≡◌, inl, inr, ◌≤◌, ◌<◌, ◌+◌, ℕ, List, [], ◌++◌, Option, Result, Ok, Err, true, false, length, nat_lt, arith, refl, ◌∙◌, length-append}
+use Rattle.std.specs.Io.KnownBytes.{Consumes, IsAtEnd}
+use Rattle.std.proofs.KnownBytes.{Consumes-nil, Consumes-trans}
+use Rattle.std.proofs.lemmas.Bool.Decides.{nat_tests}
+use Rattle.std.proofs.lemmas.Bool.{lt-ltb}
+use Rattle.fwu_formats.specs.Package.{Toc, toc_of}
+use Rattle.fwu_formats.specs.declared.kinds.FipFault.{FipFault}
+use Rattle.fip_tables.specs.Answers.{decided}
+use Rattle.fip_tables.specs.Stream.{Fed, Stream}
+use Rattle.fip_making.specs.Source.{EndsAs, FedSome}
+use Rattle.fip_making.specs.Values.{GivenTo, StopsInTime, given_table, source_limit}
+use Rattle.fip_making.specs.declared.stops.Stop.{Stop}
+use Rattle.fip_making.specs.declared.stops.Stop.TheVariants as stop
+
+-- what the source gave so far: all of it was fed, and nothing is decided
+pub record HasGiven (was now : Option (List ℕ)) (stream : Stream) (count : ℕ) : Type 0 where
+  pub given : List ℕ
+  pub consumed : Consumes was now given
+  pub fed : Fed stream given
+  pub long : length given ≡ count
+  pub undecided : decided (toc_of given) ≡ Ok tt
+  pub in-time : StopsInTime given
+
+pub record IsReading (was now : Option (List ℕ)) (before faults : ℕ) (stream : Stream) (count : ℕ) : Type 0 where
+  pub later : before ≤ faults
+  pub none : faults ≡ before
+  pub few : count ≤ 4294971392
+  pub so-far : HasGiven was now stream count
+
+-- nothing was read
+pub nothing-read : StopsInTime []
+unfolding toc_of
+nothing-read = record { before = []; last = []; all = refl; short = omega arith; few = omega arith; undecided = refl }
+
+-- a read of a piece, where what came before it was not too long
+pub one-more : (before piece : List ℕ) → length before ≤ 4294967296 → length piece ≤ 4096 → decided (toc_of before) ≡ Ok tt → StopsInTime (before ++ piece)
+one-more before piece few short undecided = record { before = before; last = piece; all = refl; short = short; few = few; undecided = undecided }
+
+pub nothing-yet : (was : Option (List ℕ)) (faults : ℕ) (stream : Stream) → Fed stream [] → IsReading was was faults faults stream 0
+unfolding toc_of
+nothing-yet was faults stream fed = record {
+  later = omega arith;
+  none = refl;
+  few = omega arith;
+  so-far = record { given = []; consumed = Consumes-nil was; fed = fed; long = refl; undecided = refl; in-time = nothing-read };
+}
+
+pub goes-on : (was mid new : Option (List ℕ)) (before then now : ℕ) (stream next : Stream) (count n : ℕ) (source-rose : Type 0) → (r : IsReading was mid before then stream count)
+    → count ≤ 4294967296 → n ≤ 4096 → then ≤ now → now ≡ then → ((piece : List ℕ) × FedSome next r.so-far.given piece mid new source-rose (Ok n)) → IsReading was new before now next (count + n)
+goes-on was mid new before then now stream next count n source-rose r few some later same f =
+    let piece : List ℕ = f.0 in
+    let g : List ℕ = r.so-far.given in
+    let lengths : length (g ++ piece) ≡ length g + length piece = length-append g piece in
+    record {
+      later = (let a = r.later in omega arith);
+      none = same ∙ r.none;
+      few = omega arith;
+      so-far = record {
+        given = g ++ piece;
+        consumed = Consumes-trans was mid new g piece r.so-far.consumed f.1.0;
+        fed = f.1.3;
+        long = (let a = r.so-far.long in let b = f.1.1 in omega arith);
+        undecided = f.1.4;
+        in-time = one-more g piece (let a = r.so-far.long in omega arith) (let b = f.1.1 in omega arith) r.so-far.undecided;
+      };
+    }
+
+table-decided : (given : List ℕ) (f : FipFault) → decided (toc_of given) ≡ Err f → given_table given ≡ Err (stop.NotFip f)
+unfolding given_table
+table-decided given f e = rw e refl
+
+-- a read that stopped
+pub stopped : (was mid new : Option (List ℕ)) (stream next : Stream) (count : ℕ) (before then now : ℕ) (rose-late rose : Type 0) → (rose-late → rose) → count ≤ 4294967296 → (r : IsReading was mid before then stream count)
+    → (s : Stop) → ((piece : List ℕ) × FedSome next r.so-far.given piece mid new rose-late (Err s))
+    → (given : List ℕ) × StopsInTime given × GivenTo (λ (t : Toc × ℕ). t) given_table was new rose (Err s) given
+stopped was mid new stream next count before then now rose-late rose rises few r (stop.NotFip f) p =
+    let given : List ℕ = r.so-far.given ++ p.0 in (
+      given,
+      one-more r.so-far.given p.0 (let a = r.so-far.long in omega arith) p.1.1 r.so-far.undecided,
+      (Consumes-trans was mid new r.so-far.given p.0 r.so-far.consumed p.1.0, inr p.1.2, table-decided given f p.1.2),
+    )
+stopped was mid new stream next count before then now rose-late rose rises few r stop.FileFault p = (
+  r.so-far.given ++ p.0,
+  one-more r.so-far.given p.0 (let a = r.so-far.long in omega arith) p.1.1 r.so-far.undecided,
+  (Consumes-trans was mid new r.so-far.given p.0 r.so-far.consumed p.1.0, rises p.1.2),
+)
+stopped was mid new stream next count before then now rose-late rose rises few r stop.Usage p = absurd p.1
+stopped was mid new stream next count before then now rose-late rose rises few r stop.SinkFault p = absurd p.1
+stopped was mid new stream next count before then now rose-late rose rises few r (stop.NoSuchEntry guid) p = absurd p.1
+stopped was mid new stream next count before then now rose-late rose rises few r (stop.NotPacked f) p = absurd p.1
+stopped was mid new stream next count before then now rose-late rose rises few r (stop.NoManifest f) p = absurd p.1
+stopped was mid new stream next count before then now rose-late rose rises few r stop.TooLong p = absurd p.1
+stopped was mid new stream next count before then now rose-late rose rises few r (stop.NotCapsule f) p = absurd p.1
+stopped was mid new stream next count before then now rose-late rose rises few r stop.NoMemory p = absurd p.1
+
+-- the source is at its end
+pub at-end : (was left : Option (List ℕ)) (rose : Type 0) (given : List ℕ) (result : Result (Toc × ℕ) Stop) → Consumes was left given → IsAtEnd left → EndsAs given result
+    → GivenTo (λ (t : Toc × ℕ). t) given_table was left rose result given
+at-end was left rose given (Ok t) c e h = (c, e, h)
+at-end was left rose given (Err (stop.NotFip f)) c e h = (c, inl e, h)
+at-end was left rose given (Err stop.Usage) c e h = absurd h
+at-end was left rose given (Err stop.FileFault) c e h = absurd h
+at-end was left rose given (Err stop.SinkFault) c e h = absurd h
+at-end was left rose given (Err (stop.NoSuchEntry guid)) c e h = absurd h
+at-end was left rose given (Err (stop.NotPacked f)) c e h = absurd h
+at-end was left rose given (Err (stop.NoManifest f)) c e h = absurd h
+at-end was left rose given (Err stop.TooLong) c e h = absurd h
+at-end was left rose given (Err (stop.NotCapsule f)) c e h = absurd h
+at-end was left rose given (Err stop.NoMemory) c e h = absurd h
+
+is-long : (given : List ℕ) → decided (toc_of given) ≡ Ok tt → 4294967296 < length given → given_table given ≡ Err stop.TooLong
+unfolding given_table
+is-long given undecided many =
+    let past : nat_lt source_limit (length given) ≡ true = lt-ltb source_limit (length given) (omega arith) in
+    rw (undecided, past) refl
+
+pub too-long : (was left : Option (List ℕ)) (before now : ℕ) (stream : Stream) (count : ℕ) (rose : Type 0) → IsReading was left before now stream count → 4294967296 < count
+    → (given : List ℕ) × StopsInTime given × GivenTo (λ (t : Toc × ℕ). t) given_table was left rose (Err stop.TooLong) given
+too-long was left before now stream count rose r many =
+    let g : List ℕ = r.so-far.given in
+    (g, r.so-far.in-time, (r.so-far.consumed, is-long g r.so-far.undecided (let a = r.so-far.long in omega arith)))
+
+pub ended-ok : (given : List ℕ) (count : ℕ) (toc : Toc) → length given ≡ count → count ≤ 4294967296 → decided (toc_of given) ≡ Ok tt → toc_of given ≡ Ok toc → given_table given ≡ Ok (toc, count)
+unfolding given_table
+ended-ok given count toc long few undecided is =
+    let within : nat_lt source_limit (length given) ≡ false = grind (arith, nat_tests) in
+    rw (undecided, within, is, long) refl
+
+pub ended-err : (given : List ℕ) (count : ℕ) (f : FipFault) → length given ≡ count → count ≤ 4294967296 → decided (toc_of given) ≡ Ok tt → toc_of given ≡ Err f → given_table given ≡ Err (stop.NotFip f)
+unfolding given_table
+ended-err given count f long few undecided is =
+    let within : nat_lt source_limit (length given) ≡ false = grind (arith, nat_tests) in
+    rw (undecided, within, is) refl
+
+-- the last read found the end
+pub last : (was mid new : Option (List ℕ)) (before then now : ℕ) (stream next : Stream) (count : ℕ) (rose-late rose : Type 0) (result : Result (Toc × ℕ) Stop) → count ≤ 4294967296 → (r : IsReading was mid before then stream count)
+    → ((piece : List ℕ) × FedSome next r.so-far.given piece mid new rose-late (Ok 0))
+    → ((given : List ℕ) → Fed next given → length given ≡ count → decided (toc_of given) ≡ Ok tt → EndsAs given result)
+    → (given : List ℕ) × StopsInTime given × GivenTo (λ (t : Toc × ℕ). t) given_table was new rose result given
+last was mid new before then now stream next count rose-late rose result few r f ends =
+    let piece : List ℕ = f.0 in
+    let g : List ℕ = r.so-far.given ++ piece in
+    let long : length g ≡ count = (let a = length-append r.so-far.given piece in let b = r.so-far.long in let c = f.1.1 in omega arith) in (
+      g,
+      one-more r.so-far.given piece (let a = r.so-far.long in omega arith) (let c = f.1.1 in omega arith) r.so-far.undecided,
+      at-end was new rose g result (Consumes-trans was mid new r.so-far.given piece r.so-far.consumed f.1.0) (f.1.2 refl) (ends g f.1.3 long f.1.4),
+    )

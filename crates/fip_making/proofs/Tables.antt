@@ -1,0 +1,118 @@
+-- What a package in a file gives.
+use Rattle.std.proofs.Common.{◌≡◌, ◌⊎◌, inl, inr, ◌≤◌, ℕ, List, Option, Some, None, Result, Ok, Err, IfOk, length, arith, refl, sym, ap, ◌∙◌}
+use Rattle.base_core.specs.Counts.{Rose}
+use Rattle.host_io.specs.Contents.{Directory}
+use Rattle.fwu_formats.specs.Package.{Toc, toc_of}
+use Rattle.fwu_formats.specs.declared.kinds.FipFault.{FipFault}
+use Rattle.fip_tables.specs.Files.{IsAnswer, Lacks, Tells}
+use Rattle.fip_tables.specs.declared.toc.TocStop.{TocStop}
+use Rattle.fip_tables.specs.declared.toc.TocStop.TheVariants.{Fault, ReadFailed}
+use Rattle.fip_making.specs.Answers.{Gives}
+use Rattle.fip_making.specs.Values.{size_in, sized_table, there}
+use Rattle.fip_making.specs.Stops.{stopped_by}
+use Rattle.fip_making.specs.declared.stops.Stop.{Stop}
+use Rattle.fip_making.specs.declared.stops.Stop.TheVariants as stop
+
+pub rose-from : (a b c : ℕ) → a ≤ b → Rose b c → Rose a c
+rose-from a b c le (inl rose) = inl (omega arith)
+rose-from a b c le (inr full) = inr full
+
+-- from a count that was the same
+pub rose-still : (a b c : ℕ) → a ≡ b → Rose b c → Rose a c
+rose-still a b c same (inl rose) = inl (omega arith)
+rose-still a b c same (inr full) = inr full
+
+pub rose-until : (a b c : ℕ) → Rose a b → b ≤ c → Rose a c
+rose-until a b c (inl rose) le = inl (omega arith)
+rose-until a b c (inr full) le = inr (omega arith)
+
+pub tells : (o : Option Directory) (files : Directory) (name bytes : List ℕ) → o ≡ Some files → files name ≡ Some bytes → Tells o name bytes
+tells None files name bytes e h = cc
+tells (Some d) files name bytes e h = let same : d ≡ files = cc in ap (λ (f : Directory). f name) same ∙ h
+
+pub lacks : (o : Option Directory) (files : Directory) (name : List ℕ) → o ≡ Some files → Lacks o name → files name ≡ None
+lacks None files name e h = absurd h
+lacks (Some d) files name e h = let same : d ≡ files = cc in sym (ap (λ (f : Directory). f name) same) ∙ h
+
+-- a stop of a part is one of the whole
+pub gives-err : {X Y A B : Type 0} (view : X → Y) (other : A → B) (rose late : Type 0) (v : Result Y Stop) (w : Result B Stop) (s : Stop)
+    → (rose → late) → (v ≡ Err s → w ≡ Err s) → Gives view rose v (Err s) → Gives other late w (Err s)
+gives-err view other rose late v w stop.FileFault rises so (inl e) = inl (so e)
+gives-err view other rose late v w stop.FileFault rises so (inr r) = inr (rises r)
+gives-err view other rose late v w stop.NoMemory rises so g = tt
+gives-err view other rose late v w stop.SinkFault rises so g = g
+gives-err view other rose late v w stop.Usage rises so g = so g
+gives-err view other rose late v w (stop.NotFip f) rises so g = so g
+gives-err view other rose late v w (stop.NoSuchEntry guid) rises so g = so g
+gives-err view other rose late v w (stop.NotPacked f) rises so g = so g
+gives-err view other rose late v w (stop.NoManifest f) rises so g = so g
+gives-err view other rose late v w stop.TooLong rises so g = so g
+gives-err view other rose late v w (stop.NotCapsule f) rises so g = so g
+
+-- a fault of a first part, or of the next
+pub either-rose : {A : Type 0} (a b c : ℕ) → a ≤ b → b ≤ c → (A → Rose a b) → A ⊎ Rose b c → Rose a c
+either-rose a b c le more first (inl x) = rose-until a b c (first x) more
+either-rose a b c le more first (inr r) = rose-from a b c le r
+
+-- what is known of what was made
+pub if-ok-as : {X E : Type 0} (r : Result X E) (P Q : X → Type 0) → ((x : X) → P x → Q x) → IfOk r P → IfOk r Q
+if-ok-as (Ok x) P Q turns h = turns x h
+if-ok-as (Err s) P Q turns h = h
+
+-- a file that has a size has bytes
+pub sized : (files : Directory) (name : List ℕ) (n : ℕ) → size_in files name ≡ Ok n → (bytes : List ℕ) × (files name ≡ Some bytes) × (length bytes ≡ n)
+unfolding size_in
+sized files name n e = go (files name) refl
+  where
+    go : (o : Option (List ℕ)) → files name ≡ o → (bytes : List ℕ) × (files name ≡ Some bytes) × (length bytes ≡ n)
+    go None is = let none : size_in files name ≡ Err stop.FileFault = rw is refl in absurd (ok-is-no-error (sym none ∙ e))
+      where
+        ok-is-no-error : {X : Type 0} {x : X} {s : Stop} → ◌≡◌ {A = Result X Stop} (Err s) (Ok x) → ⊥
+        ok-is-no-error h = cc
+    go (Some bytes) is = let some : size_in files name ≡ Ok (length bytes) = rw is refl in (bytes, is, same (sym some ∙ e))
+      where
+        same : {a b : ℕ} → ◌≡◌ {A = Result ℕ Stop} (Ok a) (Ok b) → a ≡ b
+        same h = cc
+
+pub size-err : (files : Directory) (name : List ℕ) (s : Stop) → size_in files name ≡ Err s → sized_table files name ≡ Err s
+unfolding size_in sized_table
+size-err files name s e = go (files name) refl
+  where
+    go : (o : Option (List ℕ)) → files name ≡ o → sized_table files name ≡ Err s
+    go None is =
+        let none : size_in files name ≡ Err stop.FileFault = rw is refl in
+        let table : sized_table files name ≡ Err stop.FileFault = rw is refl in
+        let same : ◌≡◌ {A = Stop} stop.FileFault s = err-same (sym none ∙ e) in
+        table ∙ ap (λ (x : Stop). Err x) same
+      where
+        err-same : {a b : Stop} → ◌≡◌ {A = Result ℕ Stop} (Err a) (Err b) → a ≡ b
+        err-same h = cc
+    go (Some bytes) is =
+        let some : size_in files name ≡ Ok (length bytes) = rw is refl in absurd (no-error (sym some ∙ e))
+      where
+        no-error : {a : ℕ} {b : Stop} → ◌≡◌ {A = Result ℕ Stop} (Ok a) (Err b) → ⊥
+        no-error h = cc
+
+pub table-ok : (files : Directory) (name bytes : List ℕ) (n : ℕ) (toc : Toc) → files name ≡ Some bytes → length bytes ≡ n → toc_of bytes ≡ Ok toc → sized_table files name ≡ Ok (toc, n)
+unfolding sized_table
+table-ok files name bytes n toc there long is = rw (there, is, long) refl
+
+pub table-fault : (files : Directory) (name bytes : List ℕ) (f : FipFault) → files name ≡ Some bytes → toc_of bytes ≡ Err f → sized_table files name ≡ Err (stop.NotFip f)
+unfolding sized_table
+table-fault files name bytes f there is = rw (there, is) refl
+
+pub table-none : (files : Directory) (name : List ℕ) → files name ≡ None → sized_table files name ≡ Err stop.FileFault
+unfolding sized_table
+table-none files name is = rw is refl
+
+pub read-failed : (files : Directory) (name : List ℕ) (o : Option Directory) (before mid now : ℕ) → before ≤ mid → o ≡ Some files
+    → Rose mid now ⊎ Lacks o name → (sized_table files name ≡ Err stop.FileFault) ⊎ Rose before now
+read-failed files name o before mid now later e (inl rose) = inr (rose-from before mid now later rose)
+read-failed files name o before mid now later e (inr none) = inl (table-none files name (lacks o files name e none))
+
+-- a stop of the table
+pub table-stop : {X : Type 0} (files : Directory) (name bytes : List ℕ) (o : Option Directory) (before mid now : ℕ) (s : TocStop) → before ≤ mid → o ≡ Some files → files name ≡ Some bytes
+    → IsAnswer (Err s) (toc_of bytes) → (◌≡◌ {A = Result X TocStop} (Err s) (Err ReadFailed) → Rose mid now ⊎ Lacks o name)
+    → Gives (λ (t : Toc × ℕ). t) (Rose before now) (sized_table files name) (Err (stopped_by s))
+table-stop files name bytes o before mid now (Fault f) later e is answer failed = table-fault files name bytes f is answer
+table-stop files name bytes o before mid now ReadFailed later e is answer failed = read-failed files name o before mid now later e (failed refl)

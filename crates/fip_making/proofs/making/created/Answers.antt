@@ -1,0 +1,41 @@
+use Rattle.std.proofs.Common.{◌≡◌, ◌∙◌, List, Vec, ℕ, Some, ap, length, map, subst, sym, refl}
+use Rattle.std.specs.Prelude.{IfOk}
+use Rattle.std.specs.Global.{Global}
+use Rattle.fip_words.specs.Order.{part_view}
+use Rattle.fip_making.specs.Payloads.{made_by, part_told}
+use Rattle.fip_making.specs.Values.{new_serial, pack_value}
+use Rattle.fip_making.specs.declared.payloads.Payload.{Payload}
+use Rattle.fip_making.proofs.PartLemmas.{create-err, create-of, gives-same}
+use Rattle.fip_making.proofs.Packings.{there-of-files}
+use Rattle.fip_making.proofs.Tables.{gives-err}
+use Rattle.fip_making.proofs.ReadsBy.{reads-asked, reads-stopped, reads-then}
+use Rattle.fip_making.proofs.Refusing.{late-of-packing}
+use Rattle.fip_making.proofs.making.created.Goals as goal
+
+pub returns-in-Ok-clause-whole : goal.returns-in-Ok-clause-whole
+returns-in-Ok-clause-whole g c =
+    c.packed.ensures.whole _ (there-of-files _ _ c.in-Ok.payloads.items c.as_slice.result.now c.payloads_of_files.ensures.reads.same c.as_slice.ensures.value c.in-Ok.ensures.there)
+
+pub returns-in-Ok-clause-told : goal.returns-in-Ok-clause-told
+returns-in-Ok-clause-told g c = λ told e.
+    gives-same (made_by told) _ _ _ _ c.packed.result (λ r. absurd r)
+    (create-of told c.args.align (map part_view c.args.named.now) (map (part_told told) c.in-Ok.payloads.items) (c.in-Ok.ensures.told told e)
+    ∙ ap (λ (ps : List Payload). pack_value new_serial 0 (map (part_told told) ps) c.args.align) (sym c.as_slice.ensures.value))
+    (c.packed.ensures.told told (there-of-files _ (Some told) c.in-Ok.payloads.items c.as_slice.result.now (sym e) c.as_slice.ensures.value c.in-Ok.ensures.there))
+
+pub returns-in-Err-clause-told : goal.returns-in-Err-clause-told
+returns-in-Err-clause-told g c = λ told e.
+    gives-err (λ (v : Vec Payload Global). map (part_told told) v.items) (made_by told) _ _ _ _ c.in-Err.stop (λ r. r) (create-err told c.args.align (map part_view c.args.named.now) _) (c.in-Err.ensures.told told e)
+
+pub returns-in-Ok-clause-count : goal.returns-in-Ok-clause-count
+returns-in-Ok-clause-count g c =
+    subst (λ (n : ℕ). IfOk c.packed.result (λ m. m.count ≡ n)) (ap length c.as_slice.ensures.value ∙ c.in-Ok.ensures.count) c.packed.ensures.count
+
+pub returns-in-Ok-clause-reads : goal.returns-in-Ok-clause-reads
+returns-in-Ok-clause-reads g c = reads-then c.payloads_of_files.ensures.reads.same c.in-Ok.ensures.reads.quiet (reads-asked c.packed.result refl refl c.packed.ensures.asks)
+
+pub returns-in-Err-clause-reads : goal.returns-in-Err-clause-reads
+returns-in-Err-clause-reads g c = reads-stopped refl refl c.in-Err.ensures.reads
+
+pub returns-in-Err-clause-refusals : goal.returns-in-Err-clause-refusals
+returns-in-Err-clause-refusals g c = late-of-packing c.in-Err.stop c.in-Err.ensures.late

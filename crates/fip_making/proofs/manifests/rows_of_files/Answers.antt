@@ -1,0 +1,65 @@
+use Rattle.std.proofs.Common.{subst, ◌≢◌, ◌≡◌, ◌∙◌, Ok, Option, List, Vec, ap, map, option_map, arith, sym, take}
+use Rattle.host_io.specs.Access.{Asks}
+use Rattle.host_io.proofs.Reading.{reads-then as reads-after, reads-wider}
+use Rattle.std.proofs.lemmas.List.{take_all}
+use Rattle.std.specs.Global.{Global}
+use Rattle.fwu_formats.specs.Manifest.{Row}
+use Rattle.fip_words.specs.Order.{image_view}
+use Rattle.fip_words.specs.declared.values.ImageWord.{ImageWord}
+use Rattle.manifest_core.specs.Shown.{row}
+use Rattle.manifest_core.specs.declared.rows.Row.{Row as CodeRow}
+use Rattle.fip_making.proofs.ManifestLemmas.{count-more, rows-more-at, rows_value, seen-more, stopped-at}
+use Rattle.fip_making.proofs.ReadsBy.{reads-done, reads-starved, reads-stopped}
+use Rattle.fip_making.proofs.Tables.{gives-err, rose-still}
+use Rattle.fip_making.proofs.Stopped.{handed-on}
+use Rattle.fip_making.specs.declared.stops.Stop.TheVariants as stop
+use Rattle.fip_making.proofs.manifests.rows_of_files.Goals as goal
+
+pub returns-in_err-more-clause-told : goal.returns-in_err-more-clause-told
+returns-in_err-more-clause-told g c =
+    rw (handed-on c.from_residual.result c.in_err-more.field-0.0 c.from_residual.ensures.1) (λ told e.
+    gives-err (option_map row) (option_map (λ (v : Vec CodeRow Global). map row v.items)) _ _ _ _ c.in_err-more.field-0.0 (λ r. rose-still _ _ _ (sym c.loop-one.invariant.quiet) r)
+    (stopped-at told c.args.named.now c.loop-one.one-index c.one-item.result c.loop-one-test.true c.one-item.is _)
+    (c.in_err-more.ensures.told told (c.loop-one.invariant.files.same ∙ e)))
+
+pub loop-one-preserved : goal.loop-one-preserved
+loop-one-preserved g c = record {
+  files = reads-after g.H.Files _ g.met.H.Files.joins _ _ _ c.loop-one.invariant.files
+      (reads-wider g.H.Files _ _ (λ access other. subst (λ (w : ImageWord). access ≢ Asks w.file.now) (sym c.one-item.is)
+      (other c.loop-one.one-index c.one-item.result c.loop-one-test.true)) _ _ c.row_of_file.ensures.files);
+  quiet = c.in_ok-more.ensures.reads.quiet ∙ c.loop-one.invariant.quiet;
+  count = count-more (λ v. v.items) c.loop-one.rows c.in_ok-rows.rows c.in_ok-more.more c.loop-one.one-index c.in_ok-rows.ensures c.loop-one.invariant.count;
+  so-far = λ told e.
+      rows-more-at told c.args.named.now c.loop-one.one-index c.one-item.result c.loop-one-test.true c.one-item.is
+      (option_map (λ v. map row v.items) c.loop-one.rows) (option_map row c.in_ok-more.more) (c.loop-one.invariant.so-far told e)
+      (c.in_ok-more.ensures.told told (c.loop-one.invariant.files.same ∙ e))
+      ∙ ap (λ (r : Option (List Row)). Ok r) (sym (seen-more (λ v. v.items) c.loop-one.rows c.in_ok-rows.rows c.in_ok-more.more c.in_ok-rows.ensures));
+}
+
+pub returns-clause-told : goal.returns-clause-told
+returns-clause-told g c = λ told e.
+    let all : take c.loop-one.one-index c.args.named.now ≡ c.args.named.now = take_all c.loop-one.one-index c.args.named.now (omega arith) in
+    ap (λ (l : List ImageWord). rows_value told (map image_view l)) (sym all) ∙ c.loop-one.invariant.so-far told e
+
+pub returns-clause-reads : goal.returns-clause-reads
+returns-clause-reads g c = reads-done c.loop-one.invariant.files.same c.loop-one.invariant.quiet
+
+pub returns-in_err-more-clause-reads : goal.returns-in_err-more-clause-reads
+returns-in_err-more-clause-reads g c =
+    rw (handed-on c.from_residual.result c.in_err-more.field-0.0 c.from_residual.ensures.1) (reads-stopped c.loop-one.invariant.files.same c.loop-one.invariant.quiet c.in_err-more.ensures.reads)
+
+pub returns-in_err-rows-clause-reads : goal.returns-in_err-rows-clause-reads
+returns-in_err-rows-clause-reads g c =
+    rw (handed-on c.from_residual-in_err-rows.result stop.NoMemory c.from_residual-in_err-rows.ensures.1) (reads-starved (c.row_of_file.ensures.reads.same ∙ c.loop-one.invariant.files.same) (c.in_ok-more.ensures.reads.quiet ∙ c.loop-one.invariant.quiet))
+
+pub returns-in_err-more-clause-files : goal.returns-in_err-more-clause-files
+returns-in_err-more-clause-files g c =
+    reads-after g.H.Files _ g.met.H.Files.joins _ _ _ c.loop-one.invariant.files
+    (reads-wider g.H.Files _ _ (λ access other. subst (λ (w : ImageWord). access ≢ Asks w.file.now) (sym c.one-item.is)
+    (other c.loop-one.one-index c.one-item.result c.loop-one-test.true)) _ _ c.row_of_file.ensures.files)
+
+pub returns-in_err-rows-clause-files : goal.returns-in_err-rows-clause-files
+returns-in_err-rows-clause-files g c =
+    reads-after g.H.Files _ g.met.H.Files.joins _ _ _ c.loop-one.invariant.files
+    (reads-wider g.H.Files _ _ (λ access other. subst (λ (w : ImageWord). access ≢ Asks w.file.now) (sym c.one-item.is)
+    (other c.loop-one.one-index c.one-item.result c.loop-one-test.true)) _ _ c.row_of_file.ensures.files)

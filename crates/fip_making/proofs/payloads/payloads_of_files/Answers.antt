@@ -1,0 +1,67 @@
+use Rattle.std.proofs.Common.{◌≢◌, ◌∙◌, All, Ok, Option, List, Vec, [], ◌∷◌, ap, arith, sym, subst, length, map, take, ◌≡◌}
+use Rattle.host_io.specs.Access.{Asks}
+use Rattle.host_io.proofs.Reading.{reads-then as reads-after, reads-wider}
+use Rattle.std.proofs.lemmas.List.{length-append, take_all}
+use Rattle.std.specs.Global.{Global}
+use Rattle.host_io.specs.Contents.{Directory}
+use Rattle.fip_making.specs.Payloads.{IsThere, part_told}
+use Rattle.fip_making.specs.declared.payloads.Payload.{Payload}
+use Rattle.fip_making.proofs.Packings.{more-payloads, one-more-there}
+use Rattle.fip_making.proofs.PartLemmas.{stopped-at}
+use Rattle.fip_making.proofs.ReadsBy.{reads-done, reads-starved, reads-stopped}
+use Rattle.fip_making.proofs.Tables.{gives-err, rose-still}
+use Rattle.fip_making.specs.Values.{parts_in}
+use Rattle.fip_words.specs.Order.{part_view}
+use Rattle.fip_words.specs.declared.values.FileWord.{FileWord}
+use Rattle.fip_making.proofs.payloads.payloads_of_files.Goals as goal
+
+pub returns-in-Err-clause-told : goal.returns-in-Err-clause-told
+returns-in-Err-clause-told g c = λ told e.
+    gives-err (part_told told) (λ (v : Vec Payload Global). map (part_told told) v.items) _ _ _ _ c.in-Err.stop (λ r. rose-still _ _ _ (sym c.loop-one.invariant.quiet) r)
+    (stopped-at told c.args.named.now c.loop-one.one-index c.one-item.result c.loop-one-test.true c.one-item.is _)
+    (c.in-Err.ensures.told told (c.loop-one.invariant.files.same ∙ e))
+
+pub loop-one-preserved : goal.loop-one-preserved
+loop-one-preserved g c =
+    let more = c.in-Ok-push.ensures.items in record {
+      files = reads-after g.H.Files _ g.met.H.Files.joins _ _ _ c.loop-one.invariant.files
+          (reads-wider g.H.Files _ _ (λ access other. subst (λ (w : FileWord). access ≢ Asks w.file.now) (sym c.one-item.is)
+          (other c.loop-one.one-index c.one-item.result c.loop-one-test.true)) _ _ c.payload_of_file.ensures.files);
+      quiet = c.in-Ok.ensures.reads.quiet ∙ c.loop-one.invariant.quiet;
+      count = omega (arith, ap length more, length-append c.loop-one.payloads.items (c.in-Ok.payload ∷ []), c.loop-one.invariant.count);
+      there = subst (All (IsThere (g.H.Files.contents c.args.files.now))) (sym more)
+          (one-more-there (IsThere (g.H.Files.contents c.args.files.now)) c.loop-one.payloads.items c.in-Ok.payload c.loop-one.invariant.there
+          (subst (λ (o : Option Directory). IsThere o c.in-Ok.payload) c.loop-one.invariant.files.same c.in-Ok.ensures.there));
+      so-far = λ told e.
+          more-payloads told c.args.named.now c.loop-one.one-index c.one-item.result c.loop-one-test.true c.one-item.is
+          c.loop-one.payloads.items c.in-Ok.payload (c.loop-one.invariant.so-far told e)
+          (c.in-Ok.ensures.told told (c.loop-one.invariant.files.same ∙ e))
+          ∙ ap (λ (l : List Payload). Ok (map (part_told told) l)) (sym more);
+    }
+
+pub returns-clause-told : goal.returns-clause-told
+returns-clause-told g c = λ told e.
+    let all : take c.loop-one.one-index c.args.named.now ≡ c.args.named.now = take_all c.loop-one.one-index c.args.named.now (omega (arith, c.loop-one-test.false)) in
+    ap (λ (l : List FileWord). parts_in told (map part_view l)) (sym all) ∙ c.loop-one.invariant.so-far told e
+
+pub returns-clause-reads : goal.returns-clause-reads
+returns-clause-reads g c = reads-done c.loop-one.invariant.files.same c.loop-one.invariant.quiet
+
+pub returns-in-Err-clause-reads : goal.returns-in-Err-clause-reads
+returns-in-Err-clause-reads g c = reads-stopped c.loop-one.invariant.files.same c.loop-one.invariant.quiet c.in-Err.ensures.reads
+
+pub returns-in-Err-push-clause-reads : goal.returns-in-Err-push-clause-reads
+returns-in-Err-push-clause-reads g c =
+    reads-starved (c.payload_of_file.ensures.reads.same ∙ c.loop-one.invariant.files.same) (c.in-Ok.ensures.reads.quiet ∙ c.loop-one.invariant.quiet)
+
+pub returns-in-Err-clause-files : goal.returns-in-Err-clause-files
+returns-in-Err-clause-files g c =
+    reads-after g.H.Files _ g.met.H.Files.joins _ _ _ c.loop-one.invariant.files
+    (reads-wider g.H.Files _ _ (λ access other. subst (λ (w : FileWord). access ≢ Asks w.file.now) (sym c.one-item.is)
+    (other c.loop-one.one-index c.one-item.result c.loop-one-test.true)) _ _ c.payload_of_file.ensures.files)
+
+pub returns-in-Err-push-clause-files : goal.returns-in-Err-push-clause-files
+returns-in-Err-push-clause-files g c =
+    reads-after g.H.Files _ g.met.H.Files.joins _ _ _ c.loop-one.invariant.files
+    (reads-wider g.H.Files _ _ (λ access other. subst (λ (w : FileWord). access ≢ Asks w.file.now) (sym c.one-item.is)
+    (other c.loop-one.one-index c.one-item.result c.loop-one-test.true)) _ _ c.payload_of_file.ensures.files)

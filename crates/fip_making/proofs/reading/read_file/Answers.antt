@@ -1,0 +1,25 @@
+use Rattle.fip_making.specs.Stops.{unread_by}
+use Rattle.fip_making.proofs.ReadsBy.{reads-done}
+use Rattle.fip_making.proofs.Whole.{reads-no-file, unread-late, value-read, value-unread}
+use Rattle.fip_making.proofs.Stopped.{handed-on}
+use Rattle.fip_making.proofs.reading.read_file.Goals as goal
+
+pub returns-clause-told : goal.returns-clause-told
+returns-clause-told g c = λ told e. value-read _ told c.args.name.now c.in_ok-read_whole.field-0.items e c.in_ok-read_whole.ensures.whole
+
+pub returns-in_err-read_whole-clause-told : goal.returns-in_err-read_whole-clause-told
+returns-in_err-read_whole-clause-told g c =
+    rw (handed-on c.from_residual.result (unread_by c.in_err-read_whole.field-0.0) c.from_residual.ensures.1) (λ told e.
+    value-unread _ c.args.name.now _ _ told c.in_err-read_whole.field-0.0 e c.in_err-read_whole.ensures.cause)
+
+pub returns-clause-reads : goal.returns-clause-reads
+returns-clause-reads g c = reads-done c.in_ok-read_whole.ensures.reads.same c.in_ok-read_whole.ensures.cause.done
+
+pub returns-in_err-read_whole-clause-reads : goal.returns-in_err-read_whole-clause-reads
+returns-in_err-read_whole-clause-reads g c =
+    rw (handed-on c.from_residual.result (unread_by c.in_err-read_whole.field-0.0) c.from_residual.ensures.1)
+    (reads-no-file _ c.args.name.now _ _ _ c.in_err-read_whole.field-0.0 c.in_err-read_whole.ensures.reads.same c.in_err-read_whole.ensures.cause)
+
+pub returns-in_err-read_whole-clause-late : goal.returns-in_err-read_whole-clause-late
+returns-in_err-read_whole-clause-late g c =
+    rw (handed-on c.from_residual.result (unread_by c.in_err-read_whole.field-0.0) c.from_residual.ensures.1) (unread-late c.in_err-read_whole.field-0.0)

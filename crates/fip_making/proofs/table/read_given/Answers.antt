@@ -1,0 +1,44 @@
+use Rattle.std.proofs.Common.{ℕ, List, Ok, ap, arith, subst, ◌∙◌}
+use Rattle.base_core.specs.Counts.{Rose}
+use Rattle.fip_making.proofs.SourceLemmas.{goes-on, last, nothing-yet, stopped, too-long}
+use Rattle.fip_making.proofs.SourceFaults.{ended-quiet}
+use Rattle.fip_making.proofs.Tables.{rose-from}
+use Rattle.fip_making.specs.Source.{FedSome}
+use Rattle.fip_making.specs.Answers.{source_failed}
+use Rattle.fip_making.proofs.Stopped.{handed-on}
+use Rattle.fip_making.proofs.table.read_given.Goals as goal
+
+pub loop-count-init : goal.loop-count-init
+loop-count-init g c = nothing-yet _ _ _ c.new-stream.ensures
+
+pub loop-count-preserved : goal.loop-count-preserved
+loop-count-preserved g c =
+    let so-far = c.loop-count.invariant.so-far in
+    goes-on _ _ _ _ _ _ c.loop-count.stream c.feed_some.new.stream c.loop-count.count c.in_ok-some.some (Rose (g.I.Source.faults c.loop-count.source) (g.I.Source.faults c.feed_some.new.source)) c.loop-count.invariant (omega (arith, c.loop-count-test.true)) c.in_ok-some.ensures.few c.feed_some.ensures.later
+    c.in_ok-some.ensures.count (c.in_ok-some.ensures.fed so-far.given so-far.fed)
+
+pub returns-in_err-some-clause-given : goal.returns-in_err-some-clause-given
+returns-in_err-some-clause-given g c =
+    rw (handed-on c.from_residual.result c.in_err-some.field-0.0 c.from_residual.ensures.1) (stopped _ _ _ c.loop-count.stream c.feed_some.new.stream c.loop-count.count _ _ 0 _ _ (λ r. rose-from _ _ _ c.loop-count.invariant.later r) (omega (arith, c.loop-count-test.true)) c.loop-count.invariant c.in_err-some.field-0.0
+    (c.in_err-some.ensures.fed c.loop-count.invariant.so-far.given c.loop-count.invariant.so-far.fed))
+
+pub returns-then-some-eq0-clause-given : goal.returns-then-some-eq0-clause-given
+returns-then-some-eq0-clause-given g c =
+    let given = c.loop-count.invariant.so-far.given in
+    last _ _ _ _ _ 0 c.loop-count.stream c.feed_some.new.stream c.loop-count.count (Unit {0}) _ c.ended.result (omega (arith, c.loop-count-test.true)) c.loop-count.invariant
+    (subst (λ (n : ℕ). (piece : List ℕ) × FedSome c.feed_some.new.stream given piece (g.I.Source.left c.loop-count.source) (g.I.Source.left c.feed_some.new.source) (Rose (g.I.Source.faults c.loop-count.source) (g.I.Source.faults c.feed_some.new.source)) (Ok n))
+    c.if-some-eq0.true (c.in_ok-some.ensures.fed given c.loop-count.invariant.so-far.fed))
+    c.ended.ensures.table
+
+pub returns-clause-given : goal.returns-clause-given
+returns-clause-given g c = too-long _ _ _ _ c.loop-count.stream c.loop-count.count (Unit {0}) c.loop-count.invariant (omega (arith, c.loop-count-test.false))
+
+pub returns-in_err-some-clause-count : goal.returns-in_err-some-clause-count
+returns-in_err-some-clause-count g c =
+    rw (handed-on c.from_residual.result c.in_err-some.field-0.0 c.from_residual.ensures.1) (c.in_err-some.ensures.count ∙ ap (source_failed c.in_err-some.field-0.0) c.loop-count.invariant.none)
+
+pub returns-then-some-eq0-clause-count : goal.returns-then-some-eq0-clause-count
+returns-then-some-eq0-clause-count g c = c.in_ok-some.ensures.count ∙ c.loop-count.invariant.none ∙ ended-quiet c.ended.result _ c.ended.ensures.fault
+
+pub returns-clause-count : goal.returns-clause-count
+returns-clause-count g c = c.loop-count.invariant.none

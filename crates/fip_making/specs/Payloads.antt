@@ -1,0 +1,57 @@
+-- The payloads of a package or a capsule to come, and what told files have of them.
+use Rattle.std.specs.Prelude.{◌≡◌, ℕ, List, [], Option, Some, length, map, take, drop, replicate, unwrap_or}
+use Rattle.std.specs.List.{All, zip}
+use Rattle.host_io.specs.Contents.{Directory, HasRange}
+use Rattle.host_io.specs.Joined.{HasPiece, chunk_in, joined}
+use Rattle.host_io.specs.declared.joining.Piece.{Piece}
+use Rattle.fip_tables.specs.declared.frame.Frame.{Frame}
+use Rattle.fwu_formats.specs.Package.{Entry, Part}
+use Rattle.fip_making.specs.declared.made.Made.{Made}
+use Rattle.fip_making.specs.declared.payloads.Payload.{Payload}
+
+-- the part that a payload is, by the files
+abbrev pub part_told : Directory → Payload → Part
+part_told files p = record { guid = p.guid; flags = p.flags; bytes = take p.size (drop p.at (unwrap_or (files p.file.now) [])) }
+
+-- the part with zeros in place of its bytes
+abbrev pub outline_of : Payload → Part
+outline_of p = record { guid = p.guid; flags = p.flags; bytes = replicate p.size 0 }
+
+-- told files have the payload's bytes
+abbrev pub IsThere : Option Directory → Payload → Type 0
+IsThere told p = HasRange told p.file.now p.at p.size
+
+-- told files have the entry's payload
+abbrev pub HasEntry : Option Directory → List ℕ → Entry → Type 0
+HasEntry told name e = HasRange told name e.offset e.size
+
+-- the piece of a file that a payload is, behind a gap
+abbrev pub piece_of : ℕ → Payload → Piece
+piece_of gap p = record { gap = gap; file = p.file; at = p.at; count = p.size }
+
+-- the payloads as pieces, each behind its gap
+abbrev pub pieces_of : List ℕ → List Payload → List Piece
+pieces_of gaps ps = map (λ x. piece_of x.0 x.1) (zip gaps ps)
+
+-- a frame with these payloads between its bytes
+pub record IsMadeOf (frame : Frame) (ps : List Payload) (m : Made) : Type 0 where
+  pub count : m.count ≡ length ps
+  pub frame_is : m.frame ≡ frame
+  pub pieces : m.pieces.items ≡ pieces_of frame.gaps.items ps
+
+-- a frame with the pieces between its bytes that files have
+abbrev pub joined_pieces : Directory → List ℕ → List Piece → List ℕ
+joined_pieces files frame pieces = joined frame (map (chunk_in files) pieces)
+
+-- the bytes of a file that is to be made, by the files that its pieces are of
+abbrev pub made_bytes : Directory → Made → List ℕ
+made_bytes files m = joined_pieces files m.frame.bytes.items m.pieces.items
+
+-- and how many payloads it has
+abbrev pub made_by : Directory → Made → ℕ × List ℕ
+made_by files m = (m.count, made_bytes files m)
+
+-- Told files have all its pieces, and it will be as long as its frame says.
+pub record IsWhole (told : Option Directory) (m : Made) : Type 0 where
+  pub there : All (HasPiece told) m.pieces.items
+  pub sized : (files : Directory) → told ≡ Some files → m.frame.size ≡ length (made_bytes files m)

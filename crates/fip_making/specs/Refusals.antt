@@ -1,0 +1,52 @@
+-- Which stops a part of a command may end with, whatever files there are: what it reads and makes decides which are its own.
+use Rattle.std.specs.Prelude.{⊤}
+use Rattle.fip_making.specs.Answers.{IsLate}
+use Rattle.fip_making.specs.declared.stops.Stop.{Stop}
+use Rattle.fip_making.specs.declared.stops.Stop.TheVariants as stop
+
+-- of a package that is read
+abbrev pub IsOfPackage : Stop → Type 0
+IsOfPackage (stop.NotFip f) = ⊤
+IsOfPackage s = IsLate s
+
+-- of a package that the source gives
+abbrev pub IsOfSource : Stop → Type 0
+IsOfSource (stop.NotFip f) = ⊤
+IsOfSource stop.TooLong = ⊤
+IsOfSource s = IsLate s
+
+-- of entries of a package, which are named
+abbrev pub IsOfEntries : Stop → Type 0
+IsOfEntries (stop.NotFip f) = ⊤
+IsOfEntries (stop.NoSuchEntry guid) = ⊤
+IsOfEntries s = IsLate s
+
+-- of a capsule that is read
+abbrev pub IsOfCapsule : Stop → Type 0
+IsOfCapsule (stop.NotCapsule f) = ⊤
+IsOfCapsule s = IsLate s
+
+-- of a manifest that is made
+abbrev pub IsOfManifest : Stop → Type 0
+IsOfManifest (stop.NoManifest f) = ⊤
+IsOfManifest s = IsLate s
+
+-- of payloads that are packed, into a package or a capsule
+abbrev pub IsOfPacking : Stop → Type 0
+IsOfPacking (stop.NotPacked f) = ⊤
+IsOfPacking s = IsLate s
+
+-- of a package that is made of another one's entries, some of which are named
+abbrev pub IsOfRepacking : Stop → Type 0
+IsOfRepacking (stop.NotPacked f) = ⊤
+IsOfRepacking s = IsOfEntries s
+
+-- of a capsule that is made of a package
+abbrev pub IsOfEnclosing : Stop → Type 0
+IsOfEnclosing (stop.NotPacked f) = ⊤
+IsOfEnclosing s = IsOfPackage s
+
+-- of a package that is made of a capsule
+abbrev pub IsOfPackaging : Stop → Type 0
+IsOfPackaging (stop.NotPacked f) = ⊤
+IsOfPackaging s = IsOfCapsule s

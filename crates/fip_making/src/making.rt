@@ -1,0 +1,201 @@
+//! Packages that are made: new ones, and those of another package's entries.
+ghost use Rattle.std.specs.Prelude.{◌≡◌, ◌≢◌, ◌⊎◌, ◌≤◌, ◌+◌, All, IfErr, IfOk, List, Option, Some, None, Err, ℕ, filter, length, map, not};
+ghost use Rattle.fip_tables.specs.Files.{Lacks, Tells};
+ghost use Rattle.fwu_formats.specs.Package.{Toc};
+ghost use Rattle.host_io.specs.Contents.{Directory};
+ghost use Rattle.host_io.specs.Access.{Asks};
+ghost use Rattle.host_io.specs.Reads.{ReadsFile, ReadsFiles};
+ghost use Rattle.fip_words.specs.Order.{part_view};
+ghost use Rattle.fip_making.specs.Payloads.{HasEntry, IsThere, IsWhole, made_by, part_told};
+ghost use Rattle.fip_making.specs.Values.{IsTable, after, create_value, first_missing, is_named, kept_part, pack_value, parts_in, remove_value, update_value, updated_part};
+ghost use Rattle.fip_making.specs.Refusals.{IsOfPacking, IsOfRepacking};
+ghost use Rattle.fip_making.specs.Seen.{GivesIn, ReadsOnlyIn};
+ghost use Rattle.fip_making.specs.Answers.{AsksNothing, Gives};
+
+use crate::made::Made;
+use crate::named::{is_named, table_with};
+use crate::packing::packed;
+use crate::payloads::{Payload, payloads_of_entries, payloads_of_files};
+use crate::stops::Stop;
+use base_core::Guid;
+use fip_tables::{Entry, Toc};
+use fip_words::FileWord;
+use host_io::Files;
+use std::alloc::{AllocError, Global};
+
+const NEW_SERIAL: u32 = 0x1234_5678;
+
+/// A new package of named files, each payload at a multiple of `align` bytes. It asks for their sizes, and reads none of them.
+pub fn created<'a, H: Files>(
+    alloc: Global,
+    files: &mut H,
+    align: u32,
+    named: &[FileWord<'a>],
+) -> Result<Made<'a>, Stop>
+    ensures told { (told : Directory) → H.contents files.old ≡ Some told
+        → GivesIn H.Files (made_by told) (create_value told align (map part_view named.now))
+        files.old files.new result }
+    ensures whole { IfOk result (IsWhole (H.contents files.new)) }
+    ensures count { IfOk result (λ m. m.count ≡ length named.now) }
+    ensures reads { ReadsOnlyIn H.Files files.old files.new result }
+    ensures files { ReadsFiles H.Files (λ access. All (λ w. access ≢ Asks w.file.now) named.now)
+        files.old files.new }
+    ensures refusals { IfErr result IsOfPacking }
+{
+    match payloads_of_files(alloc, files, named) {
+        Ok(payloads) => packed(alloc, NEW_SERIAL, 0, align, payloads.as_slice()),
+        Err(stop) => Err(stop),
+    }
+}
+
+/// A package of these entries of another file, under the serial number and the flags of its table, with
+/// the new payloads where there are some.
+pub fn repacked<'a>(
+    alloc: Global,
+    align: u32,
+    from: &'a str,
+    toc: &Toc,
+    entries: &[Entry],
+    new: &[Payload<'a>],
+) -> Result<Made<'a>, Stop>
+    ensures told { (told : Directory) (bytes : List ℕ) → told from.now ≡ Some bytes
+        → All (IsThere (Some told)) new.now → All (HasEntry (Some told) from.now) entries.now
+        → Gives (made_by told) ⊥ (pack_value toc.now.serial toc.now.flags
+        (map (updated_part bytes (map (part_told told) new.now)) entries.now) align) result }
+    ensures whole { (told : Option Directory) → All (IsThere told) new.now
+        → All (HasEntry told from.now) entries.now → IfOk result (IsWhole told) }
+    ensures count { IfOk result (λ m. m.count ≡ length entries.now) }
+    ensures asks { AsksNothing result }
+    ensures refusals { IfErr result IsOfPacking }
+{
+    let Ok(payloads) = payloads_of_entries(alloc, from, entries, new) else {
+        return Err(Stop::NoMemory);
+    };
+    packed(alloc, toc.serial, toc.flags, align, payloads.as_slice())
+}
+
+// The entries that are not named.
+fn kept_entries(alloc: Global, entries: &[Entry], guids: &[Guid]) -> Result<Vec<Entry>, AllocError>
+    ensures { IfOk result (λ v. v.items ≡ filter (λ e. not (is_named guids.now e)) entries.now) }
+{
+    entries
+        .iter()
+        .copied()
+        .filter(|entry| !is_named(guids, entry))
+        .collect(alloc)
+}
+
+// The types of named files.
+fn types_of(alloc: Global, named: &[FileWord]) -> Result<Vec<Guid>, AllocError>
+    ensures { IfOk result (λ v. v.items ≡ map (λ p. p.guid) named.now) }
+{
+    named.iter().map(|one| one.guid).collect(alloc)
+}
+
+// The package of another's table without the named entries.
+fn without<'a>(
+    alloc: Global,
+    align: u32,
+    from: &'a str,
+    toc: &Toc,
+    guids: &[Guid],
+) -> Result<Made<'a>, Stop>
+    ensures told { (told : Directory) (bytes : List ℕ) → told from.now ≡ Some bytes
+        → All (HasEntry (Some told) from.now) toc.now.entries
+        → Gives (made_by told) ⊥ (pack_value toc.now.serial toc.now.flags
+        (map (kept_part bytes) (filter (λ e. not (is_named guids.now e)) toc.now.entries)) align)
+        result }
+    ensures whole { (told : Option Directory) → All (HasEntry told from.now) toc.now.entries
+        → IfOk result (IsWhole told) }
+    ensures count { IfOk result (λ m. m.count ≡ length
+        (filter (λ e. not (is_named guids.now e)) toc.now.entries)) }
+    ensures asks { AsksNothing result }
+    ensures refusals { IfErr result IsOfPacking }
+{
+    let kept = kept_entries(alloc, toc.entries.as_slice(), guids)?;
+    let none = Vec::new(alloc);
+    repacked(alloc, align, from, toc, kept.as_slice(), none.as_slice())
+}
+
+/// The package in the file `from` without the named entries, each payload at a multiple of `align` bytes.
+pub fn removed<'a, H: Files>(
+    alloc: Global,
+    files: &mut H,
+    align: u32,
+    from: &'a str,
+    guids: &[Guid],
+) -> Result<Made<'a>, Stop>
+    ensures told { (told : Directory) → H.contents files.old ≡ Some told
+        → GivesIn H.Files (made_by told) (remove_value told align from.now guids.now)
+        files.old files.new result }
+    ensures whole { IfOk result (IsWhole (H.contents files.new)) }
+    ensures count { IfOk result (λ m. (t : Toc) × IsTable t × (first_missing t guids.now ≡ None)
+        × (m.count ≡ length (filter (λ e. not (is_named guids.now e)) t.entries))) }
+    ensures reads { ReadsOnlyIn H.Files files.old files.new result }
+    ensures files { ReadsFile H.Files from.now files.old files.new }
+    ensures refusals { IfErr result IsOfRepacking }
+{
+    let toc = table_with(files, from, guids)?;
+    without(alloc, align, from, &toc, guids)
+}
+
+// The package of another's table with new payloads.
+fn replaced<'a, H: Files>(
+    alloc: Global,
+    files: &mut H,
+    align: u32,
+    from: &'a str,
+    toc: &Toc,
+    named: &[FileWord<'a>],
+) -> Result<Made<'a>, Stop>
+    requires stored { (bytes : List ℕ) → Tells (H.contents files.old) from.now bytes
+        → All (λ e. e.offset + e.size ≤ length bytes) toc.now.entries }
+    requires there { Lacks (H.contents files.old) from.now → ⊥ }
+    ensures told { (told : Directory) (bytes : List ℕ) → H.contents files.old ≡ Some told
+        → told from.now ≡ Some bytes
+        → GivesIn H.Files (made_by told) (after (parts_in told (map part_view named.now))
+        (λ new. pack_value toc.now.serial toc.now.flags
+        (map (updated_part bytes new) toc.now.entries) align)) files.old files.new result }
+    ensures whole { IfOk result (IsWhole (H.contents files.new)) }
+    ensures count { IfOk result (λ m. m.count ≡ length toc.now.entries) }
+    ensures reads { ReadsOnlyIn H.Files files.old files.new result }
+    ensures files { ReadsFiles H.Files (λ access. All (λ w. access ≢ Asks w.file.now) named.now)
+        files.old files.new }
+    ensures refusals { IfErr result IsOfPacking }
+{
+    match payloads_of_files(alloc, files, named) {
+        Ok(new) => {
+            let entries = toc.entries.as_slice();
+            repacked(alloc, align, from, toc, entries, new.as_slice())
+        }
+        Err(stop) => Err(stop),
+    }
+}
+
+/// The package in the file `from` with the payloads of named files, each payload at a multiple of `align` bytes. The named files
+/// are asked for once the package has an entry of each of their types.
+pub fn updated<'a, H: Files>(
+    alloc: Global,
+    files: &mut H,
+    align: u32,
+    from: &'a str,
+    named: &[FileWord<'a>],
+) -> Result<Made<'a>, Stop>
+    ensures told { (told : Directory) → H.contents files.old ≡ Some told
+        → GivesIn H.Files (made_by told)
+        (update_value told align from.now (map part_view named.now)) files.old files.new result }
+    ensures whole { IfOk result (IsWhole (H.contents files.new)) }
+    ensures count { IfOk result (λ m. (t : Toc) × IsTable t
+        × (first_missing t (map (λ p. p.guid) (map part_view named.now)) ≡ None)
+        × (m.count ≡ length t.entries)) }
+    ensures reads { ReadsOnlyIn H.Files files.old files.new result }
+    ensures files { ReadsFiles H.Files (λ access. (access ≢ Asks from.now)
+        × All (λ w. access ≢ Asks w.file.now) named.now) files.old files.new }
+    ensures package { IfErr result (λ s. IsOfPacking s
+        ⊎ ReadsFile H.Files from.now files.old files.new) }
+    ensures refusals { IfErr result IsOfRepacking }
+{
+    let types = types_of(alloc, named)?;
+    let toc = table_with(files, from, types.as_slice())?;
+    replaced(alloc, files, align, from, &toc, named)
+}

@@ -1,0 +1,48 @@
+//! The entries of a package that the words name, each by its type.
+ghost use Rattle.std.specs.Prelude.{◌≡◌, ◌<◌, ◌+◌, ◌^◌, All, IfOk, None, Some, Ok, IfErr, length};
+ghost use Rattle.host_io.specs.Contents.{Directory};
+ghost use Rattle.host_io.specs.Reads.{ReadsFile};
+ghost use Rattle.fip_making.specs.Refusals.{IsOfEntries, IsOfPackage};
+ghost use Rattle.fip_making.specs.Values.{IsTable, after, first_missing, is_named, sized_table, unless_missing};
+ghost use Rattle.fip_making.specs.Seen.{GivesIn, ReadsOnlyIn};
+
+use crate::stops::Stop;
+use crate::table::read_package;
+use base_core::Guid;
+use fip_tables::{Entry, Toc};
+use host_io::Files;
+
+// The first of these types that the package hasn't.
+fn first_missing(toc: &Toc, guids: &[Guid]) -> Option<Guid>
+    ensures { result ≡ first_missing toc.now guids.now }
+{
+    let entries = &toc.entries;
+    guids.iter().copied().find(|guid| !entries.has(guid))
+}
+
+/// Whether the entry's type is one of these.
+pub fn is_named(guids: &[Guid], entry: &Entry) -> bool
+    ensures { result ≡ is_named guids.now entry.now }
+{
+    guids.iter().any(|guid| guid.is(&entry.guid))
+}
+
+/// The table of a package that has an entry of each of these types.
+pub fn table_with<H: Files>(files: &mut H, name: &str, guids: &[Guid]) -> Result<Toc, Stop>
+    ensures told { (told : Directory) → H.contents files.old ≡ Some told
+        → GivesIn H.Files (λ t. t) (after (sized_table told name.now)
+        (λ t. unless_missing (first_missing t.0 guids.now) (Ok t.0))) files.old files.new result }
+    ensures all { IfOk result (λ t. first_missing t guids.now ≡ None) }
+    ensures table { IfOk result IsTable }
+    ensures ends { IfOk result (λ t. All (λ e. e.offset + e.size < 2 ^ 64) t.entries) }
+    ensures reads { ReadsOnlyIn H.Files files.old files.new result }
+    ensures files { ReadsFile H.Files name.now files.old files.new }
+    ensures refusals { IfErr result IsOfEntries }
+    ensures unnamed { length guids.now ≡ 0 → IfErr result IsOfPackage }
+{
+    let (toc, _) = read_package(files, name)?;
+    match first_missing(&toc, guids) {
+        None => Ok(toc),
+        Some(guid) => Err(Stop::NoSuchEntry(guid)),
+    }
+}

@@ -1,0 +1,60 @@
+-- The listing of a table.
+use Rattle.std.proofs.Common.{◌≡◌, ℕ, List, Option, Result, Ok, Err, true, false, length, nat_lt, refl, sym, ap, ◌∙◌, Bool}
+use Rattle.std.specs.Io.KnownBytes.{Consumes, IsAtEnd}
+use Rattle.fwu_formats.specs.Package.{Toc, toc_of}
+use Rattle.fwu_formats.specs.declared.kinds.FipFault.{FipFault}
+use Rattle.fip_tables.specs.Answers.{decided}
+use Rattle.fip_tool.specs.Lines.{info_text}
+use Rattle.fip_making.specs.Values.{GivenTo, after, given_table, source_limit, sized_table, table_of, unless_decided}
+use Rattle.fip_tool.specs.Tool.{given_value, info_value}
+use Rattle.fip_making.specs.declared.stops.Stop.{Stop}
+use Rattle.fip_making.specs.declared.stops.Stop.TheVariants as stop
+use Rattle.host_io.specs.Contents.{Directory}
+use Rattle.std.specs.Prelude.{if◌then◌else◌}
+
+-- the text of a table that was given
+value-of : (given : List ℕ) (r : Result (Toc × ℕ) Stop) → given_table given ≡ r → given_value given ≡ after r (λ t. Ok (info_text t.0 t.1))
+unfolding given_value
+value-of given r e = ap (λ (x : Result (Toc × ℕ) Stop). after x (λ t. Ok (info_text t.0 t.1))) e
+
+-- a stop of the table is one of its text
+pub text-stopped : {A : Type 0} (view : A → List ℕ) (was left : Option (List ℕ)) (rose : Type 0) (given : List ℕ) (s : Stop) → GivenTo (λ (t : Toc × ℕ). t) given_table was left rose (Err s) given
+    → GivenTo view given_value was left rose (Err s) given
+text-stopped view was left rose given (stop.NotFip f) g = (g.0, g.1, value-of given (Err (stop.NotFip f)) g.2)
+text-stopped view was left rose given stop.FileFault g = g
+text-stopped view was left rose given stop.NoMemory g = g
+text-stopped view was left rose given stop.Usage g = (g.0, value-of given (Err stop.Usage) g.1)
+text-stopped view was left rose given stop.SinkFault g = g
+text-stopped view was left rose given (stop.NoSuchEntry guid) g = (g.0, value-of given (Err (stop.NoSuchEntry guid)) g.1)
+text-stopped view was left rose given (stop.NotPacked f) g = (g.0, value-of given (Err (stop.NotPacked f)) g.1)
+text-stopped view was left rose given (stop.NoManifest f) g = (g.0, value-of given (Err (stop.NoManifest f)) g.1)
+text-stopped view was left rose given stop.TooLong g = (g.0, value-of given (Err stop.TooLong) g.1)
+text-stopped view was left rose given (stop.NotCapsule f) g = (g.0, value-of given (Err (stop.NotCapsule f)) g.1)
+
+pub text-made : (was left : Option (List ℕ)) (rose : Type 0) (given : List ℕ) (t : Toc × ℕ) (text : List ℕ) → GivenTo (λ (t : Toc × ℕ). t) given_table was left rose (Ok t) given
+    → text ≡ info_text t.0 t.1 → Consumes was left given × IsAtEnd left × (given_value given ≡ Ok text)
+text-made was left rose given t text g e = (g.0, g.1, value-of given (Ok t) g.2 ∙ ap (λ (l : List ℕ). Ok l) (sym e))
+
+-- the text of a table
+pub info-made : (files : Directory) (name : List ℕ) (t : Toc × ℕ) (text : List ℕ) → sized_table files name ≡ Ok t → text ≡ info_text t.0 t.1 → info_value files name ≡ Ok text
+unfolding info_value
+info-made files name t text is e = rw is (ap (λ (l : List ℕ). Ok l) (sym e))
+
+pub info-err : (files : Directory) (name : List ℕ) (s : Stop) → sized_table files name ≡ Err s → info_value files name ≡ Err s
+unfolding info_value
+info-err files name s is = rw is refl
+
+-- a table that the source gave is one of a package
+pub table-given : (given : List ℕ) (t : Toc) (size : ℕ) → given_table given ≡ Ok (t, size) → toc_of given ≡ Ok t
+unfolding given_table
+table-given given t size e = go (decided (toc_of given)) (nat_lt source_limit (length given)) (toc_of given) e
+  where
+    go : (d : Result (Unit {0}) FipFault) (b : Bool) (r : Result Toc FipFault)
+        → unless_decided {X = Toc × ℕ} d (if b then Err stop.TooLong else after {X = Toc} {Y = Toc × ℕ} (table_of r) (λ t. Ok (t, length given))) ≡ Ok (t, size) → r ≡ Ok t
+    go (Err f) b r e = cc
+    go (Ok u) true r e = cc
+    go (Ok u) false (Err f) e = cc
+    go (Ok u) false (Ok x) e =
+        let first : ◌≡◌ {A = Result Toc Stop} (Ok x) (Ok t) = ap (λ (r : Result (Toc × ℕ) Stop). after {X = Toc × ℕ} {Y = Toc} r (λ p. Ok p.0)) e in
+        let same : x ≡ t = cc in
+        ap (λ (y : Toc). Ok y) same

@@ -1,9 +1,0 @@
-use Rattle.std.proofs.Common.{◌-◌}
-use Rattle.fip_tool.proofs.SourceLemmas.{IsReading}
-use Rattle.fip_tool.proofs.table.read_given.Given as goal
-
-abbrev pub invariant-loop-count : goal.invariant-loop-count
-invariant-loop-count g l = IsReading (g.I.Source.left l.fn.source) (g.I.Source.left l.source) (g.I.Source.faults l.fn.source) (g.I.Source.faults l.source) l.stream l.count
-
-abbrev pub decreases-loop-count : goal.decreases-loop-count
-decreases-loop-count g l = 4294971393 - l.count
