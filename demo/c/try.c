@@ -47,8 +47,8 @@ static const uint8_t *mapped(int from, size_t *bytes) {
     return mmap(NULL, *bytes, PROT_READ, MAP_SHARED, from, 0);
 }
 
-/* Two steps for each block that the images may have, and the bytes of all. The library has both a second time while it runs, in
- * lists that double as they grow. */
+/* Two steps for each block that the images may have, and the bytes of all, though most are copied from the package. The library has
+ * both a second time while it runs, in lists that double as they grow. */
 static bool take_package(const char *name, const char *how) {
     package = mapped(open(name, O_RDONLY), &package_bytes);
     acceptance = strcmp(how, "now") ? 1 : 0;
@@ -92,7 +92,7 @@ static bool do_step(const struct told *told, const struct fwu_step *step, size_t
     static uint8_t erased[FWU_BLOCK_BYTES];
     memset(erased, 0xFF, sizeof erased);
     size_t length = step->length < most ? step->length : most;
-    const uint8_t *bytes = step->kind == FWU_ERASE ? erased : told->room + step->from;
+    const uint8_t *bytes = step->kind == FWU_ERASE ? erased : (step->kind == FWU_COPY ? package : told->room) + step->from;
     return step->kind == FWU_BARRIER || pwrite(file, bytes, length, step->at) == (ssize_t)length;
 }
 

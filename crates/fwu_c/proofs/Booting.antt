@@ -11,16 +11,16 @@ use Rattle.early_boot.specs.EndsBy.{BootEnds, EndsByBytes}
 use Rattle.step_flash.specs.declared.device.StepFlash.{StepFlash}
 use Rattle.step_flash.specs.declared.device.StepParts.{StepParts}
 use Rattle.step_flash.specs.declared.step.Step.{Step}
-use Rattle.step_flash.specs.Device.{NotedBy, block_count, counts_of, told_of, image_of}
-use Rattle.step_flash.specs.Guard.{guard_of, start}
+use Rattle.step_flash.specs.Device.{NotedBy, block_count, counts_of, told_of, image_of, package_of}
+use Rattle.step_flash.specs.Guard.{guard_with, start, start_with}
 use Rattle.step_flash.specs.Stopped.{under_as}
-use Rattle.step_flash.specs.Steps.{run}
+use Rattle.step_flash.specs.Steps.{run_with}
 use Rattle.step_flash.proofs.Causes.{never_lost}
-use Rattle.step_flash.proofs.Guards.{image_is}
+use Rattle.step_flash.proofs.Guards.{told_is}
 use Rattle.fwu_c.specs.declared.report.Report.{Report}
-use Rattle.fwu_c.specs.Boots.{BootsBy, HasFlashSize}
+use Rattle.fwu_c.specs.Boots.{BootsBy}
 use Rattle.fwu_c.specs.Codes.{end_code}
-use Rattle.fwu_c.specs.Handed.{HandsOver, IsStart, IsWithin, SameBut, is_idle}
+use Rattle.fwu_c.specs.Handed.{HandsOver, HasFlashSize, IsDeviceEnd, IsStart, IsWithinWith, SameBut, is_idle}
 use Rattle.fwu_c.specs.Reports.{ReportsEnd, ReportsStart}
 
 kept : (old t : Told) → t ≡ old → t.guard ≡ old.guard
@@ -36,9 +36,9 @@ guard_kept old t (lost (Some n)) ends = ends.others.guard
 guard_kept old t (failed None) ends = kept old t ends
 guard_kept old t (failed (Some n)) ends = ends.others.guard
 
-pub start_guard : (image : List ℕ) → (start image).guard ≡ guard_of image
+pub start_guard : (image file : List ℕ) → (start_with image file).guard ≡ guard_with image file
 unfolding fresh
-start_guard image = refl
+start_guard image file = refl
 
 pub start_same : (b : Started) (old new : Report) → SameBut old new → ReportsStart b old → ReportsStart b new
 start_same b old new same reports = subst (ReportsStart b) (sym same) (record {
@@ -72,10 +72,6 @@ given result number (inr seven) other = absurd (other seven)
 pub below_seven : (result : ℕ) → result ≤ 5 → result ≡ 7 → ⊥
 below_seven result low seven = omega (arith, low, seven)
 
-pub not_six : (result : ℕ) → (result ≤ 5) ⊎ (result ≡ 7) → result ≡ 6 → ⊥
-not_six result (inl low) six = omega (arith, low, six)
-not_six result (inr seven) six = omega (arith, seven, six)
-
 pub code_few : (e : Ended) → end_code e ≤ 5
 code_few (booted b n) = omega arith
 code_few (bad_layout f) = omega arith
@@ -84,7 +80,7 @@ code_few (no_bank active previous) = omega arith
 code_few (lost n) = omega arith
 code_few (failed n) = omega arith
 
-pub code_not_four : (e : Ended) (old new : StepFlash) → Spends (stop_of e) (counts_of old) (counts_of new) → end_code e ≡ 4 → ⊥
+code_not_four : (e : Ended) (old new : StepFlash) → Spends (stop_of e) (counts_of old) (counts_of new) → end_code e ≡ 4 → ⊥
 code_not_four (booted b n) old new spends four = omega (arith, four)
 code_not_four (bad_layout f) old new spends four = omega (arith, four)
 code_not_four no_metadata old new spends four = omega (arith, four)
@@ -92,27 +88,36 @@ code_not_four (no_bank active previous) old new spends four = omega (arith, four
 code_not_four (lost n) old new spends four = never_lost _ old new spends refl
 code_not_four (failed n) old new spends four = omega (arith, four)
 
+pub boot_end_is : (e : Ended) (old new : StepFlash) → Spends (stop_of e) (counts_of old) (counts_of new) → IsDeviceEnd (end_code e)
+boot_end_is e old new spends =
+    let few = code_few e in (λ four. code_not_four e old new spends four, λ six. omega (arith, few, six), λ seven. omega (arith, few, seven))
+
 -- ---- the device that came back
 
 -- what a device lies over has the size of a flash
 pub has_flash_size : (image : List ℕ) (d : StepFlash) → length image ≡ block_bytes * block_count d → HasFlashSize image
 has_flash_size image d size = record { blocks = block_count d; fewest = d.sizes.0; most = d.sizes.1; size = size }
 
--- it is over the image, and its steps lie within it
-pub record IsOver (image : List ℕ) (d : StepFlash) (r : Report) (steps : List Step) (room : List ℕ) : Type 0 where
-  pub left : told_of d ≡ under_as (told_of d).under (run (take r.bytes room) (start image) (take r.steps steps))
-  pub within : IsWithin (length image) r steps room
+-- it is over the image, with the package, and its steps lie within both
+pub record IsOver (image file : List ℕ) (d : StepFlash) (r : Report) (steps : List Step) (room : List ℕ) : Type 0 where
+  pub left : told_of d ≡ under_as (told_of d).under (run_with file (take r.bytes room) (start_with image file) (take r.steps steps))
+  pub within : IsWithinWith (length file) (length image) r steps room
 
-pub over : (image : List ℕ) (first d : StepFlash) (told r : Report) (steps : List Step) (room : List ℕ)
-    → told_of first ≡ start image → length image ≡ block_bytes * block_count first → block_count d ≡ block_count first
-    → (told_of d).guard ≡ (told_of first).guard → HandsOver d told r steps room → IsOver image d r steps room
-over image first d told r steps room made size same_size guard hands =
-    let guarded : (told_of d).guard ≡ guard_of image = guard ∙ ap (λ (x : Told). x.guard) made ∙ start_guard image in
-    let same : image_of d ≡ image = image_is image (image_of d) (take r.bytes room) (take r.steps steps) (told_of d) hands.left guarded in
+pub over : (image file : List ℕ) (first d : StepFlash) (told r : Report) (steps : List Step) (room : List ℕ)
+    → told_of first ≡ start_with image file → length image ≡ block_bytes * block_count first → block_count d ≡ block_count first
+    → (told_of d).guard ≡ (told_of first).guard → HandsOver d told r steps room → IsOver image file d r steps room
+over image file first d told r steps room made size same_size guard hands =
+    let guarded : (told_of d).guard ≡ guard_with image file = guard ∙ ap (λ (x : Told). x.guard) made ∙ start_guard image file in
+    let both = told_is image file (image_of d) (package_of d) (take r.bytes room) (take r.steps steps) (told_of d) hands.left guarded in
     let whole : block_bytes * block_count d ≡ length image = ap (λ n. block_bytes * n) same_size ∙ sym size in
     record {
-      left = hands.left ∙ ap (λ (i : List ℕ). under_as (told_of d).under (run (take r.bytes room) (start i) (take r.steps steps))) same;
-      within = subst (λ n. IsWithin n r steps room) whole hands.within;
+      left =
+          hands.left
+          ∙ ap (λ (i : List ℕ). under_as (told_of d).under (run_with (package_of d) (take r.bytes room) (start_with i (package_of d)) (take r.steps steps))) both.0
+          ∙ ap (λ (f : List ℕ). under_as (told_of d).under (run_with f (take r.bytes room) (start_with image f) (take r.steps steps))) both.1;
+      within =
+          subst (λ (f : List ℕ). IsWithinWith (length f) (length image) r steps room) both.1
+          (subst (λ n. IsWithinWith (length (package_of d)) n r steps room) whole hands.within);
     }
 
 pub boots_by : (image : List ℕ) (first d : StepFlash) (e : Ended) (number : ℕ) (told r : Report) (steps : List Step) (room : List ℕ)
@@ -120,7 +125,7 @@ pub boots_by : (image : List ℕ) (first d : StepFlash) (e : Ended) (number : �
     → BootEnds (λ m. passes_any m) (told_of first) e (told_of d) → HandsOver d told r steps room
     → number ≡ end_code e → ReportsEnd e told → BootsBy image number r steps room
 boots_by image first d e number told r steps room made size same_size ends hands is reports =
-    let o = over image first d told r steps room made size same_size (guard_kept (told_of first) (told_of d) e ends.by_bytes) hands in
+    let o = over image [] first d told r steps room made size same_size (guard_kept (told_of first) (told_of d) e ends.by_bytes) hands in
     record {
       end = e;
       number_is = is;
@@ -139,7 +144,7 @@ of_image image other number r steps room same boots = subst (λ (i : List ℕ). 
 -- ---- where nothing was written
 
 pub began_as : (old t : Told) → IsStart old → t ≡ old → IsStart t
-began_as old t began same = (began.0, same ∙ began.1)
+began_as old t began same = (began.0, began.1, same ∙ began.2)
 
 pub boot_idle : (e : Ended) (old t : Told) → IsStart old → EndsByBytes (λ m. passes_any m) old e t → IsTrue (is_idle (end_code e)) → IsStart t
 boot_idle (booted b n) old t began ends idle = absurd (cc)
@@ -151,12 +156,13 @@ boot_idle (failed n) old t began ends idle = absurd (cc)
 
 -- no step makes of the device's image what it tells then
 pub none_noted : (d : StepFlash) (parts : StepParts) (steps : List Step) (room : List ℕ) → NotedBy d parts → IsStart (told_of d) → steps ≡ []
-    → told_of d ≡ under_as (told_of d).under (run room (start (image_of d)) steps)
-unfolding run fresh
-none_noted d parts steps room noted (image, made) empty =
-    let guarded : (told_of d).guard ≡ guard_of image = ap (λ (x : Told). x.guard) made ∙ start_guard image in
-    let same : image_of d ≡ image = image_is image (image_of d) parts.room.items parts.steps.items (told_of d) noted guarded in
-    let now : told_of d ≡ start (image_of d) = made ∙ sym (ap (λ (i : List ℕ). start i) same) in
-    let whole : told_of d ≡ under_as (told_of d).under (start (image_of d)) =
-    subst (λ (t : Told). t ≡ under_as t.under (start (image_of d))) (sym now) refl in
-    subst (λ (ss : List Step). told_of d ≡ under_as (told_of d).under (run room (start (image_of d)) ss)) (sym empty) whole
+    → told_of d ≡ under_as (told_of d).under (run_with (package_of d) room (start_with (image_of d) (package_of d)) steps)
+unfolding run_with fresh
+none_noted d parts steps room noted (image, file, made) empty =
+    let guarded : (told_of d).guard ≡ guard_with image file = ap (λ (x : Told). x.guard) made ∙ start_guard image file in
+    let both = told_is image file (image_of d) (package_of d) parts.room.items parts.steps.items (told_of d) noted guarded in
+    let begun = start_with (image_of d) (package_of d) in
+    let now : told_of d ≡ begun =
+    made ∙ sym (ap (λ (i : List ℕ). start_with i file) both.0) ∙ sym (ap (λ (f : List ℕ). start_with (image_of d) f) both.1) in
+    let whole : told_of d ≡ under_as (told_of d).under begun = subst (λ (t : Told). t ≡ under_as t.under begun) (sym now) refl in
+    subst (λ (ss : List Step). told_of d ≡ under_as (told_of d).under (run_with (package_of d) room begun ss)) (sym empty) whole

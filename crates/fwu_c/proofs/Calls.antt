@@ -1,5 +1,5 @@
 -- A call behind a boot of a bank, by what the device tells before it and after it, and by its steps.
-use Rattle.std.proofs.Common.{◌≡◌, ◌∙◌, ◌⊎◌, ◌≤◌, inl, inr, refl, sym, ap, subst, ℕ, ◌*◌, ◌++◌, Bool, true, false, List, length, None, Result, Ok, Err, arith, IsFalse, IsTrue}
+use Rattle.std.proofs.Common.{[], ◌≡◌, ◌∙◌, ◌⊎◌, ◌≤◌, inl, inr, refl, sym, ap, subst, ℕ, ◌*◌, ◌++◌, Bool, true, false, List, length, None, Result, Ok, Err, arith, IsFalse, IsTrue}
 use Rattle.std.specs.Prelude.{OnOk, is_ok}
 use Rattle.base_core.specs.Block.{block_bytes}
 use Rattle.base_core.proofs.Results.{same-Ok}
@@ -40,7 +40,7 @@ use Rattle.flash_core.specs.Counts.{Spends}
 use Rattle.step_flash.specs.Guard.{start}
 use Rattle.fwu_c.specs.declared.report.Report.{Report}
 use Rattle.fwu_c.specs.Calls.{AnswersBy, CallEnds, Called, CallsBy, CallsFrom, IsCalled, IsNotTaken, MakesCall, Refuses, RepliesAs, ReportsCall, ReportsTakeUp, Takes, call_code, called, called_code, not_taken, status_code, stop_code, take_up_code}
-use Rattle.fwu_c.specs.Handed.{HandsOver, IsStart, SameBut, is_idle}
+use Rattle.fwu_c.specs.Handed.{HandsOver, IsDeviceEnd, IsStart, SameBut, is_idle}
 use Rattle.fwu_c.proofs.Booting.{began_as, over, start_same}
 
 -- ---- numbers
@@ -53,26 +53,29 @@ status_large status.Busy = omega arith
 status_large status.OutOfBounds = omega arith
 status_large status.NotAvailable = omega arith
 
-pub call_not_four : (result : Result (Unit {0}) Stop) → IsCalled result → call_code result ≡ 4 → ⊥
+call_not_four : (result : Result (Unit {0}) Stop) → IsCalled result → call_code result ≡ 4 → ⊥
 call_not_four (Ok x) is e = omega (arith, e)
 call_not_four (Err (stop.Status st)) is e = omega (arith, e, status_large st)
 call_not_four (Err stop.Lost) is e = is
 call_not_four (Err stop.Fault) is e = omega (arith, e)
 call_not_four (Err stop.Gone) is e = is
 
-pub call_not_six : (result : Result (Unit {0}) Stop) → call_code result ≡ 6 → ⊥
+call_not_six : (result : Result (Unit {0}) Stop) → call_code result ≡ 6 → ⊥
 call_not_six (Ok x) e = omega (arith, e)
 call_not_six (Err (stop.Status st)) e = omega (arith, e, status_large st)
 call_not_six (Err stop.Lost) e = omega (arith, e)
 call_not_six (Err stop.Fault) e = omega (arith, e)
 call_not_six (Err stop.Gone) e = omega (arith, e)
 
-pub call_not_seven : (result : Result (Unit {0}) Stop) → IsCalled result → call_code result ≡ 7 → ⊥
+call_not_seven : (result : Result (Unit {0}) Stop) → IsCalled result → call_code result ≡ 7 → ⊥
 call_not_seven (Ok x) is e = omega (arith, e)
 call_not_seven (Err (stop.Status st)) is e = omega (arith, e, status_large st)
 call_not_seven (Err stop.Lost) is e = is
 call_not_seven (Err stop.Fault) is e = omega (arith, e)
 call_not_seven (Err stop.Gone) is e = is
+
+pub call_end_is : (result : Result (Unit {0}) Stop) → IsCalled result → IsDeviceEnd (call_code result)
+call_end_is result is = (call_not_four result is, call_not_six result, call_not_seven result is)
 
 -- a bank that is not taken up has neither 6 nor 7
 few_codes : (e : TakenUp) → (take_up_code e ≤ 5) ⊎ (take_up_code e ≡ 21)
@@ -83,7 +86,7 @@ few_codes not_started = inr refl
 few_codes (stopped flash_stop.Lost) = inl (omega arith)
 few_codes (stopped flash_stop.Failed) = inl (omega arith)
 
-pub take_up_not : (e : TakenUp) (number : ℕ) → take_up_code e ≡ number → (number ≡ 6) ⊎ (number ≡ 7) → ⊥
+take_up_not : (e : TakenUp) (number : ℕ) → take_up_code e ≡ number → (number ≡ 6) ⊎ (number ≡ 7) → ⊥
 take_up_not e number is (inl six) = elim (few_codes e) [
   | inl few ↦ omega (arith, few, is, six)
   | inr other ↦ omega (arith, other, is, six)
@@ -93,15 +96,15 @@ take_up_not e number is (inr seven) = elim (few_codes e) [
   | inr other ↦ omega (arith, other, is, seven)
 ]
 
+pub take_up_end_is : (bank number : ℕ) (told : Report) (old t : Told) → Refuses bank number told old t → IsDeviceEnd number
+take_up_end_is bank number told old t refuses =
+    let is = sym refuses.number_is in
+    (refuses.unlost, λ six. take_up_not refuses.end number is (inl six), λ seven. take_up_not refuses.end number is (inr seven))
+
 -- a device of steps loses no power
 pub stop_unlost : (why : FlashStop) (old new : StepFlash) → Spends {T = Unit {0}} (Err why) (counts_of old) (counts_of new) → stop_code why ≡ 4 → ⊥
 stop_unlost flash_stop.Lost old new spends four = never_lost _ old new spends refl
 stop_unlost flash_stop.Failed old new spends four = omega (arith, four)
-
--- what is handed over is the number that was given, or 7
-pub handed_not : (k result number : ℕ) → (result ≡ number) ⊎ (result ≡ 7) → (number ≡ k → ⊥) → (k ≡ 7 → ⊥) → result ≡ k → ⊥
-handed_not k result number (inl is) other small e = other (sym is ∙ e)
-handed_not k result number (inr seven) other small e = small (sym e ∙ seven)
 
 -- ---- the guard stays
 
@@ -227,7 +230,7 @@ calls_by : (image : List ℕ) (bank : ℕ) (c : Call) (first d : StepFlash) (e :
     → (told_of d).guard ≡ (told_of first).guard → CallEnds image bank c e (told_of d) → HandsOver d told r steps room
     → number ≡ called_code e → ReportsCall e r → CallsBy image bank c number r steps room
 calls_by image bank c first d e number told r steps room made size same_size guard ends hands is reports =
-    let o = over image first d told r steps room made size same_size guard hands in
+    let o = over image [] first d told r steps room made size same_size guard hands in
     record {
       end = e;
       number_is = is;

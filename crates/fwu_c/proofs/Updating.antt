@@ -1,5 +1,5 @@
 -- An update, by what its device tells and by its steps.
-use Rattle.std.proofs.Common.{◌≡◌, ◌∙◌, ◌⊎◌, inl, inr, refl, ℕ, ◌*◌, List, [], length, Option, Some, None, Ok, Err, ap, sym, subst, take, arith, get_or}
+use Rattle.std.proofs.Common.{◌≡◌, ◌∙◌, inl, refl, ℕ, ◌*◌, List, [], length, Option, Some, None, Ok, Err, ap, sym, subst, take, arith, get_or}
 use Rattle.std.proofs.Math.ListN.{get_or-map}
 use Rattle.std.specs.Prelude.{All, IsTrue, IsFalse}
 use Rattle.base_core.specs.Block.{block_bytes}
@@ -21,18 +21,19 @@ use Rattle.early_boot.specs.EndsBy.{BootEnds}
 use Rattle.step_flash.specs.declared.step.Step.{Step}
 use Rattle.step_flash.specs.declared.device.StepFlash.{StepFlash}
 use Rattle.step_flash.specs.Device.{block_count, told_of}
-use Rattle.step_flash.specs.Guard.{start}
+use Rattle.step_flash.specs.Guard.{start, start_with}
 use Rattle.step_flash.specs.Stopped.{under_as}
-use Rattle.step_flash.specs.Steps.{IsInside, run}
+use Rattle.step_flash.specs.Steps.{IsInsideWith, run_with}
 use Rattle.fwu_c.specs.declared.report.Report.{Report}
 use Rattle.fwu_c.specs.Codes.{end_code}
-use Rattle.fwu_c.specs.Handed.{HandsOver, is_idle}
+use Rattle.fwu_c.specs.Handed.{HandsOver, HasFlashSize, IsDeviceEnd, TellsSteps, is_idle}
 use Rattle.fwu_c.specs.Reports.{ReportsEnd, ReportsStart}
 use Rattle.update_client.specs.declared.stops.SendStop.TheVariants.{MissingImage, ImageTooLarge, Begin, End, ReadFailed, Lost, Fault, Gone}
 use Rattle.fwu_c.specs.Sendings.{InstallsBy, IsOutcome, Outcome, outcome_code}
-use Rattle.fwu_c.specs.Updates.{IsNotBooted, IsOnTrial, UpdateEnds, Updated, UpdatesBy, on_trial, not_booted, tried, update_code, ReportsUpdate}
+use Rattle.fwu_c.specs.Updates.{IsNotBooted, IsOnTrial, StartsNone, UpdateEnds, Updated, UpdatesBy, on_trial, not_booted, tried, update_code, ReportsUpdate}
 use Rattle.fwu_c.proofs.SentPackage.{setting_of}
-use Rattle.fwu_c.proofs.Booting.{end_same, guard_kept, over, start_same}
+use Rattle.fwu_c.proofs.Telling.{told_handed}
+use Rattle.fwu_c.proofs.Booting.{code_few, end_same, guard_kept, over, start_same}
 
 -- ---- trials
 
@@ -79,7 +80,7 @@ start_now image = refl
 -- ---- numbers
 
 -- a known outcome has none of the numbers 4 and 6
-pub outcome_not_four : (outcome : Outcome) → IsOutcome outcome → outcome_code outcome ≡ 4 → ⊥
+outcome_not_four : (outcome : Outcome) → IsOutcome outcome → outcome_code outcome ≡ 4 → ⊥
 outcome_not_four None is e = omega (arith, e)
 outcome_not_four (Some (Ok sent)) is e = omega (arith, e)
 outcome_not_four (Some (Err (MissingImage guid))) is e = omega (arith, e)
@@ -91,7 +92,7 @@ outcome_not_four (Some (Err Lost)) is e = is
 outcome_not_four (Some (Err Fault)) is e = omega (arith, e)
 outcome_not_four (Some (Err Gone)) is e = is
 
-pub outcome_not_six : (outcome : Outcome) → outcome_code outcome ≡ 6 → ⊥
+outcome_not_six : (outcome : Outcome) → outcome_code outcome ≡ 6 → ⊥
 outcome_not_six None e = omega (arith, e)
 outcome_not_six (Some (Ok sent)) e = omega (arith, e)
 outcome_not_six (Some (Err (MissingImage guid))) e = omega (arith, e)
@@ -103,7 +104,7 @@ outcome_not_six (Some (Err Lost)) e = omega (arith, e)
 outcome_not_six (Some (Err Fault)) e = omega (arith, e)
 outcome_not_six (Some (Err Gone)) e = omega (arith, e)
 
-pub outcome_not_seven : (outcome : Outcome) → IsOutcome outcome → outcome_code outcome ≡ 7 → ⊥
+outcome_not_seven : (outcome : Outcome) → IsOutcome outcome → outcome_code outcome ≡ 7 → ⊥
 outcome_not_seven None is e = omega (arith, e)
 outcome_not_seven (Some (Ok sent)) is e = omega (arith, e)
 outcome_not_seven (Some (Err (MissingImage guid))) is e = omega (arith, e)
@@ -127,18 +128,32 @@ outcome_busy (Some (Err Lost)) idle = absurd (cc)
 outcome_busy (Some (Err Fault)) idle = absurd (cc)
 outcome_busy (Some (Err Gone)) idle = absurd (cc)
 
-pub is_answer : (n : ℕ) → n ≡ 16 → (n ≡ 6) ⊎ (n ≡ 7) → ⊥
-is_answer n is (inl six) = omega (arith, is, six)
-is_answer n is (inr seven) = omega (arith, is, seven)
+pub outcome_end_is : (outcome : Outcome) → IsOutcome outcome → IsDeviceEnd (outcome_code outcome)
+outcome_end_is outcome is = (outcome_not_four outcome is, outcome_not_six outcome, outcome_not_seven outcome is)
+
+-- a boot that started none has none of these either
+none_not_six : (e : Ended) → IsNotBooted e → (end_code e ≡ 6 → ⊥) × (end_code e ≡ 7 → ⊥)
+none_not_six e is = let few = code_few e in (λ six. omega (arith, few, six), λ seven. omega (arith, few, seven))
+
+pub none_end_is : (number : ℕ) (r : Report) (old t : Told) → StartsNone number r old t → IsDeviceEnd number
+none_end_is number r old t none =
+    let not = none_not_six none.end none.is in (none.unlost, λ six. not.0 (sym none.number_is ∙ six), λ seven. not.1 (sym none.number_is ∙ seven))
+
+-- an update is refused before it boots
+pub told_denied : (image : List ℕ) (old : Report) (old_steps : List Step) (old_room : List ℕ) (new : Report) (steps : List Step) (room : List ℕ)
+    → HasFlashSize image → new.steps ≡ 0 → TellsSteps image 16 old old_steps old_room new steps room
+told_denied image old old_steps old_room new steps room is none =
+    told_handed image 16 16 old old_steps old_room new steps room is (λ four. omega (arith, four), λ six. omega (arith, six), λ seven. omega (arith, seven))
+    (inl refl) (λ idle. none) (λ five. absurd (omega (arith, five))) (λ seven. absurd (omega (arith, seven)))
 
 -- ---- the record
 
 updates_by : (image file : List ℕ) (request : ℕ) (first d : StepFlash) (e : Updated) (number : ℕ) (told r : Report) (steps : List Step) (room : List ℕ)
-    → told_of first ≡ start image → length image ≡ block_bytes * block_count first → block_count d ≡ block_count first
+    → told_of first ≡ start_with image file → length image ≡ block_bytes * block_count first → block_count d ≡ block_count first
     → (told_of d).guard ≡ (told_of first).guard → UpdateEnds image file request e (told_of d) → HandsOver d told r steps room
     → number ≡ update_code e → ReportsUpdate e r → UpdatesBy image file request number r steps room
 updates_by image file request first d e number told r steps room made size same_size kept ends hands is reports =
-    let o = over image first d told r steps room made size same_size kept hands in
+    let o = over image file first d told r steps room made size same_size kept hands in
     record {
       end = e;
       number_is = is;
@@ -151,7 +166,7 @@ updates_by image file request first d e number told r steps room made size same_
 
 -- the boot started no bank
 pub unbooted_by : (image file : List ℕ) (request : ℕ) (first d : StepFlash) (e : Ended) (number : ℕ) (told r : Report) (steps : List Step) (room : List ℕ)
-    → told_of first ≡ start image → length image ≡ block_bytes * block_count first → block_count d ≡ block_count first
+    → told_of first ≡ start_with image file → length image ≡ block_bytes * block_count first → block_count d ≡ block_count first
     → IsNotBooted e → BootEnds (λ m. passes_any m) (told_of first) e (told_of d) → HandsOver d told r steps room
     → number ≡ end_code e → ReportsEnd e told → UpdatesBy image file request number r steps room
 unbooted_by image file request first d e number told r steps room made size same_size not ends hands is reports =
@@ -168,7 +183,7 @@ guard_by file request b (Some result) old t s shown by = (by.answers (setting_of
 -- a bank was started, and the package tried
 pub tried_by : (image file : List ℕ) (request : ℕ) (first mid d : StepFlash) (b : Started) (n : Numbers) (outcome : Outcome) (number : ℕ) (told r : Report)
     (steps : List Step) (room : List ℕ)
-    → told_of first ≡ start image → length image ≡ block_bytes * block_count first → block_count d ≡ block_count first
+    → told_of first ≡ start_with image file → length image ≡ block_bytes * block_count first → block_count d ≡ block_count first
     → BootEnds (λ m. passes_any m) (told_of first) (booted b n) (told_of mid) → layout_seen (told_of mid).now ≡ Ok b.layout
     → InstallsBy file request b outcome (told_of mid) (told_of d) → HandsOver d told r steps room
     → number ≡ outcome_code outcome → ReportsStart b told → UpdatesBy image file request number r steps room
@@ -186,19 +201,19 @@ tried_by image file request first mid d b n outcome number told r steps room mad
 -- nothing was tried
 pub denied_by : (image file : List ℕ) (request : ℕ) (r : Report) (steps : List Step) (room : List ℕ) → IsOnTrial image
     → r.steps ≡ 0 → r.bytes ≡ 0 → UpdatesBy image file request 16 r steps room
-unfolding run fresh
+unfolding run_with fresh
 denied_by image file request r steps room trial none empty =
     let no_steps : take r.steps steps ≡ [] = ap (λ (n : ℕ). take n steps) none in
     record {
       end = on_trial;
       number_is = refl;
-      t = start image;
+      t = start_with image file;
       ends = (trial, refl);
-      left = ap (λ (ss : List Step). under_as (start image).under (run (take r.bytes room) (start image) ss)) (sym no_steps);
+      left = ap (λ (ss : List Step). under_as (start_with image file).under (run_with file (take r.bytes room) (start_with image file) ss)) (sym no_steps);
       within = record {
         steps_fit = omega (arith, none);
         bytes_fit = omega (arith, empty);
-        inside = subst (λ (ss : List Step). All (IsInside r.bytes (length image)) ss) (sym no_steps) (λ k d lt. absurd (omega (arith, lt)));
+        inside = subst (λ (ss : List Step). All (IsInsideWith (length file) r.bytes (length image)) ss) (sym no_steps) (λ k d lt. absurd (omega (arith, lt)));
       };
       reports = (none, empty);
     }

@@ -1,6 +1,5 @@
 -- What C is told of a boot.
-use Rattle.std.specs.Prelude.{◌≡◌, ◌≤◌, ◌*◌, ℕ, List, length, take}
-use Rattle.base_core.specs.Block.{block_bytes, fewest_blocks, most_blocks}
+use Rattle.std.specs.Prelude.{◌≡◌, ℕ, List, length, take}
 use Rattle.flash_core.specs.Told.{Told}
 use Rattle.fwu_formats.specs.Digests.{passes_any}
 use Rattle.early_boot.specs.Ends.{Ended}
@@ -24,10 +23,3 @@ pub record BootsBy (image : List ℕ) (number : ℕ) (r : Report) (steps : List 
   -- each step lies within the flash, and its bytes within those of the room
   pub within : IsWithin (length image) r steps room
   pub reports : ReportsEnd end r
-
--- the bytes are those of 8 to 65,536 blocks
-pub record HasFlashSize (image : List ℕ) : Type 0 where
-  pub blocks : ℕ
-  pub fewest : fewest_blocks ≤ blocks
-  pub most : blocks ≤ most_blocks
-  pub size : length image ≡ block_bytes * blocks

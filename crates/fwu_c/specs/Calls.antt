@@ -1,5 +1,5 @@
 -- What C is told of one call of the agent, in the session behind a boot of a bank.
-use Rattle.std.specs.Prelude.{◌≡◌, ◌≢◌, ℕ, ◌++◌, List, length, take, None, Result, Ok, Err, OnOk, ⊤}
+use Rattle.std.specs.Prelude.{◌≡◌, ◌≢◌, ℕ, ◌++◌, Bool, List, length, take, None, Result, Ok, Err, OnOk, ⊤}
 use Rattle.flash_core.specs.Told.{Told}
 use Rattle.flash_core.specs.May.{Guards}
 use Rattle.flash_core.specs.declared.flash.FlashStop.{FlashStop}
@@ -18,6 +18,7 @@ use Rattle.fwu_model.specs.Calm.{IsCalm, IsAtRest}
 use Rattle.moves.specs.Moved.{Does, GuardedBy, IsReady, IsShown}
 use Rattle.early_boot.specs.Started.{Started, started_session}
 use Rattle.early_boot.specs.TakenUp.{TakenUp, TakeUpEnds, taken, bad_layout, no_metadata, not_started, stopped}
+use Rattle.agent_machine.specs.Moment.{Moment}
 use Rattle.agent_machine.specs.Beside.{IsSparedByAll, KeepsWhere}
 use Rattle.agent_machine.specs.declared.stop.Stop.{Stop}
 use Rattle.agent_machine.specs.declared.stop.Stop.TheVariants as stop
@@ -25,6 +26,7 @@ use Rattle.agent_machine.specs.Meets.{flash_result}
 use Rattle.step_flash.specs.declared.step.Step.{Step}
 use Rattle.step_flash.specs.Guard.{start}
 use Rattle.step_flash.specs.Steps.{run}
+use Rattle.fwu_c.specs.Agents.{BeginsWith}
 use Rattle.fwu_c.specs.Codes.{fault_code}
 use Rattle.fwu_c.specs.Handed.{IsWithin}
 use Rattle.fwu_c.specs.Reports.{ReportsStart}
@@ -78,6 +80,12 @@ ReportsTakeUp other r = ⊤
 pub record Takes (bank : ℕ) (b : Started) (r : Report) (old t : Told) : Type 0 where
   pub ends : TakeUpEnds (λ m. passes_any m) bank old (taken b) t
   pub reports : ReportsStart b r
+
+-- for an agent
+pub record TakesUp (bank : ℕ) (r : Report) (old : Told) (m : Moment) (gone : Bool) : Type 0 where
+  pub began : Started
+  pub takes : Takes bank began r old m.told
+  pub begins : BeginsWith began m gone
 
 -- or it was not
 pub record Refuses (bank number : ℕ) (r : Report) (old t : Told) : Type 0 where

@@ -1,40 +1,46 @@
 -- The steps of a device, as they were handed over.
-use Rattle.std.specs.Prelude.{◌≡◌, ◌≤◌, ◌*◌, ◌==◌, ◌||◌, All, Bool, ℕ, List, length, take}
-use Rattle.base_core.specs.Block.{block_bytes}
+use Rattle.std.specs.Prelude.{◌≡◌, ◌≢◌, ◌↔◌, ◌⊎◌, ◌≤◌, ◌*◌, ◌==◌, ◌||◌, All, Bool, ℕ, List, IsTrue, length, take}
+use Rattle.base_core.specs.Block.{block_bytes, fewest_blocks, most_blocks}
 use Rattle.flash_core.specs.Told.{Told}
 use Rattle.step_flash.specs.declared.step.Step.{Step}
 use Rattle.step_flash.specs.declared.device.StepFlash.{StepFlash}
-use Rattle.step_flash.specs.Device.{block_count, image_of, told_of}
-use Rattle.step_flash.specs.Guard.{start}
+use Rattle.step_flash.specs.Device.{block_count, image_of, package_of, told_of}
+use Rattle.step_flash.specs.Guard.{start_with}
 use Rattle.step_flash.specs.Stopped.{under_as}
-use Rattle.step_flash.specs.Steps.{IsInside, run}
+use Rattle.step_flash.specs.Steps.{IsInsideWith, run_with}
 use Rattle.fwu_c.specs.declared.report.Report.{Report}
 
 -- nothing but the numbers of steps and of bytes changed
 abbrev pub SameBut : Report → Report → Type 0
 SameBut old new = new ≡ record old { steps = new.steps; bytes = new.bytes }
 
--- The report counts steps and bytes that there are, and each of these steps lies within a flash of so many bytes, and its bytes
--- within those that are counted.
-pub record IsWithin (size : ℕ) (r : Report) (steps : List Step) (room : List ℕ) : Type 0 where
+-- The report counts steps and bytes that there are, and each of these steps lies within a flash of so many bytes. Its bytes lie
+-- within those that are counted, or those of a copy within a package of so many.
+pub record IsWithinWith (file size : ℕ) (r : Report) (steps : List Step) (room : List ℕ) : Type 0 where
   pub steps_fit : r.steps ≤ length steps
   pub bytes_fit : r.bytes ≤ length room
-  pub inside : All (IsInside r.bytes size) (take r.steps steps)
+  pub inside : All (IsInsideWith file r.bytes size) (take r.steps steps)
+
+-- where there is no package
+abbrev pub IsWithin : ℕ → Report → List Step → List ℕ → Type 0
+IsWithin size r steps room = IsWithinWith 0 size r steps room
 
 -- The steps that are reported make of the device's image what it tells, beside an operation under way; and the rest of the report
 -- is what was to be told.
 pub record HandsOver (d : StepFlash) (told r : Report) (steps : List Step) (room : List ℕ) : Type 0 where
-  pub left : told_of d ≡ under_as (told_of d).under (run (take r.bytes room) (start (image_of d)) (take r.steps steps))
-  pub within : IsWithin (block_bytes * block_count d) r steps room
+  pub left : told_of d
+      ≡ under_as (told_of d).under
+      (run_with (package_of d) (take r.bytes room) (start_with (image_of d) (package_of d)) (take r.steps steps))
+  pub within : IsWithinWith (length (package_of d)) (block_bytes * block_count d) r steps room
   pub same : SameBut told r
 
 -- there is no layout or no metadata, or no boot started the bank
 abbrev pub is_idle : ℕ → Bool
 is_idle number = number == 1 || number == 2 || number == 21
 
--- what a device over some image tells before its first step
+-- what a device over some image and some package tells before its first step
 abbrev pub IsStart : Told → Type 0
-IsStart t = (image : List ℕ) × (t ≡ start image)
+IsStart t = (image : List ℕ) × (file : List ℕ) × (t ≡ start_with image file)
 
 -- nothing was written
 pub record IsUntouched (old : Report) (old_steps : List Step) (old_room : List ℕ) (new : Report) (steps : List Step)
@@ -42,3 +48,28 @@ pub record IsUntouched (old : Report) (old_steps : List Step) (old_room : List �
   pub report_stays : new ≡ old
   pub steps_stay : steps ≡ old_steps
   pub room_stays : room ≡ old_room
+
+-- the bytes are those of 8 to 65,536 blocks
+pub record HasFlashSize (image : List ℕ) : Type 0 where
+  pub blocks : ℕ
+  pub fewest : fewest_blocks ≤ blocks
+  pub most : blocks ≤ most_blocks
+  pub size : length image ≡ block_bytes * blocks
+
+-- What each call that tells steps promises, whatever it is asked for: of what C handed in, and has then.
+pub record TellsSteps (image : List ℕ) (number : ℕ) (old : Report) (old_steps : List Step) (old_room : List ℕ) (new : Report)
+    (steps : List Step) (room : List ℕ) : Type 0 where
+  -- steps are told and not done, so no power is lost
+  pub unlost : number ≢ 4
+  -- where there is no layout or no metadata, or no boot started the bank, no step is told
+  pub idle : IsTrue (is_idle number) → new.steps ≡ 0
+  -- at 5 as many steps are told as there is room for
+  pub full : number ≡ 5 → new.steps ≡ length old_steps
+  -- 6 comes of all bytes that are no flash, and of no others
+  pub no_flash : (number ≡ 6) ↔ (HasFlashSize image → ⊥)
+  -- and nothing is written then, or where there is no room
+  pub untouched : (number ≡ 6) ⊎ (number ≡ 7) → IsUntouched old old_steps old_room new steps room
+
+-- A device ends a call with this number: no power was lost, and 6 and 7 come without one.
+abbrev pub IsDeviceEnd : ℕ → Type 0
+IsDeviceEnd number = (number ≢ 4) × (number ≢ 6) × (number ≢ 7)

@@ -1,3 +1,4 @@
+pub mod Agents
 pub mod Boots
 pub mod Calls
 pub mod Codes

@@ -1,17 +1,20 @@
 -- What C is told of an update.
-use Rattle.std.specs.Prelude.{◌≡◌, ◌≢◌, ℕ, List, length, take, Some, IsTrue, ⊤}
+use Rattle.std.specs.Prelude.{◌≡◌, ◌≢◌, ℕ, Bool, List, length, take, Some, Ok, IsTrue, ⊤}
 use Rattle.flash_core.specs.Told.{Told}
 use Rattle.fwu_formats.specs.Digests.{passes_any}
+use Rattle.fwu_formats.specs.Image.{layout_seen}
 use Rattle.fwu_model.specs.State.{State, Numbers, bank, is_valid}
 use Rattle.fwu_model.specs.Seen.{seen}
 use Rattle.early_boot.specs.Started.{Started}
 use Rattle.early_boot.specs.Ends.{Ended, booted}
 use Rattle.early_boot.specs.EndsBy.{BootEnds}
+use Rattle.agent_machine.specs.Moment.{Moment}
 use Rattle.step_flash.specs.declared.step.Step.{Step}
-use Rattle.step_flash.specs.Guard.{start}
-use Rattle.step_flash.specs.Steps.{run}
+use Rattle.step_flash.specs.Guard.{start_with}
+use Rattle.step_flash.specs.Steps.{run_with}
+use Rattle.fwu_c.specs.Agents.{BeginsWith}
 use Rattle.fwu_c.specs.Codes.{end_code}
-use Rattle.fwu_c.specs.Handed.{IsWithin}
+use Rattle.fwu_c.specs.Handed.{IsWithinWith}
 use Rattle.fwu_c.specs.Reports.{ReportsEnd, ReportsStart}
 use Rattle.fwu_c.specs.Sendings.{Outcome, InstallsBy, outcome_code}
 use Rattle.fwu_c.specs.declared.report.Report.{Report}
@@ -42,16 +45,35 @@ abbrev pub IsNotBooted : Ended → Type 0
 IsNotBooted (booted b n) = ⊥
 IsNotBooted other = ⊤
 
+-- a bank was started, for an agent, and is reported as a boot reports it
+pub record BootsUp (r : Report) (old : Told) (m : Moment) (gone : Bool) : Type 0 where
+  pub began : Started
+  pub numbers : Numbers
+  pub boots : BootEnds (λ m. passes_any m) old (booted began numbers) m.told
+  pub layout : layout_seen m.told.now ≡ Ok began.layout
+  pub begins : BeginsWith began m gone
+  pub reports : ReportsStart began r
+
+-- or none was
+pub record StartsNone (number : ℕ) (r : Report) (old t : Told) : Type 0 where
+  pub end : Ended
+  pub is : IsNotBooted end
+  pub number_is : number ≡ end_code end
+  pub boots : BootEnds (λ m. passes_any m) old end t
+  pub reports : ReportsEnd end r
+  -- steps are told and not done, so no power is lost
+  pub unlost : number ≢ 4
+
 -- the boot as the definitions say, and from what it leaves the sending
 pub record TriesPackage (image file : List ℕ) (request : ℕ) (b : Started) (n : Numbers) (outcome : Outcome)
     (t : Told) : Type 0 where
   pub mid : Told
-  pub boots : BootEnds (λ m. passes_any m) (start image) (booted b n) mid
+  pub boots : BootEnds (λ m. passes_any m) (start_with image file) (booted b n) mid
   pub installs : InstallsBy file request b outcome mid t
 
 abbrev pub UpdateEnds : List ℕ → List ℕ → ℕ → Updated → Told → Type 0
-UpdateEnds image file request on_trial t = IsOnTrial image × (t ≡ start image)
-UpdateEnds image file request (not_booted e) t = IsNotBooted e × BootEnds (λ m. passes_any m) (start image) e t
+UpdateEnds image file request on_trial t = IsOnTrial image × (t ≡ start_with image file)
+UpdateEnds image file request (not_booted e) t = IsNotBooted e × BootEnds (λ m. passes_any m) (start_with image file) e t
 UpdateEnds image file request (tried b n outcome) t = TriesPackage image file request b n outcome t
 
 -- each end has its own fields; the bank that the boot started is told as a boot tells it
@@ -60,14 +82,14 @@ ReportsUpdate on_trial r = (r.steps ≡ 0) × (r.bytes ≡ 0)
 ReportsUpdate (not_booted e) r = ReportsEnd e r
 ReportsUpdate (tried b n outcome) r = ReportsStart b r
 
--- From the image it updates as the definitions say, and what the flash then tells is what the steps make of the image; at 5 an
--- erase or a program beyond them may be under way.
+-- From the image it updates as the definitions say, and what the flash then tells is what the steps make of the image, with the
+-- bytes of copies from the package; at 5 an erase or a program beyond them may be under way.
 pub record UpdatesBy (image file : List ℕ) (request number : ℕ) (r : Report) (steps : List Step) (room : List ℕ) : Type 0 where
   pub end : Updated
   pub number_is : number ≡ update_code end
   pub t : Told
   pub ends : UpdateEnds image file request end t
-  pub left : t ≡ record (run (take r.bytes room) (start image) (take r.steps steps)) { under = t.under }
-  -- each step lies within the flash, and its bytes within those of the room
-  pub within : IsWithin (length image) r steps room
+  pub left : t ≡ record (run_with file (take r.bytes room) (start_with image file) (take r.steps steps)) { under = t.under }
+  -- each step lies within the flash, and its bytes within those of the room, or at a copy within the package
+  pub within : IsWithinWith (length file) (length image) r steps room
   pub reports : ReportsUpdate end r

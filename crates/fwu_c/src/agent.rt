@@ -1,9 +1,7 @@
 //! The calls of the agent on a flash that lies in memory.
-ghost use Rattle.std.specs.Prelude.{◌≡◌, ◌≢◌, ◌⊎◌, ◌↔◌, length, IsTrue};
 ghost use Rattle.fwu_model.specs.Call.{Accepts, Previous};
-ghost use Rattle.fwu_c.specs.Boots.{HasFlashSize};
 ghost use Rattle.fwu_c.specs.Calls.{CallsBy, TellsCall};
-ghost use Rattle.fwu_c.specs.Handed.{IsUntouched, is_idle};
+ghost use Rattle.fwu_c.specs.Handed.{TellsSteps};
 
 use crate::calling::{AgentCall, call_on};
 use crate::report::Report;
@@ -11,13 +9,13 @@ use base_core::Guid;
 use std::alloc::Global;
 use step_flash::Step;
 
-/// Accepts the image of a type in the active bank of a flash that lies in memory (DEN0118, fwu_accept_image), and tells the steps by
-/// which the flash becomes what that makes of it. The call is that of the firmware which `fwu_boot` started: `bank` is the bank that
-/// it told. No start is counted.
+/// Accepts the image of a type in the active bank of a flash that lies in memory (DEN0118, fwu_accept_image). It tells the steps by
+/// which the flash becomes what that makes of it. The call is that of the firmware which `fwu_boot` started: `bank` is the bank
+/// that it told. No start is counted.
 ///
-/// 0: accepted, once the steps are done in their order. 1: block 0 is no layout. 2: neither replica is metadata. 5: there was no room
-/// for one more step. 6: these bytes are no flash. 7: memory, or room for the steps' bytes, is wanting. 16: the bank is not the active
-/// one. 20: no image has the type. 21: by what the flash shows no boot started the bank.
+/// 0: accepted, once the steps are done in their order. 1: block 0 is no layout. 2: neither replica is metadata. 5: there was no
+/// room for one more step. 6: these bytes are no flash. 7: memory, or room for the steps' bytes, is wanting. 16: the bank is not the
+/// active one. 20: no image has the type. 21: by what the flash shows no boot started the bank.
 #[unsafe(no_mangle)]
 pub extern "C" fn fwu_accept(
     alloc: Global,
@@ -29,29 +27,20 @@ pub extern "C" fn fwu_accept(
     report: &mut Report,
 ) -> u32
     ensures accepts { TellsCall result → CallsBy image.now bank (Accepts guid.now) result report.new steps.new room.new }
-    // Steps are told and not done, so no power is lost.
-    ensures unlost { result ≢ 4 }
-    // Where nothing was to be written no step is told.
-    ensures idle { IsTrue (is_idle result) → report.new.steps ≡ 0 }
-    // At 5 as many steps are told as there is room for.
-    ensures full { result ≡ 5 → report.new.steps ≡ length steps.old }
-    // 6 comes of all bytes that are no flash, and of no others.
-    ensures no_flash { (result ≡ 6) ↔ (HasFlashSize image.now → ⊥) }
-    // Nothing is told without an answer.
-    ensures untouched { (result ≡ 6) ⊎ (result ≡ 7)
-        → IsUntouched report.old steps.old room.old report.new steps.new room.new }
+    // Whatever it answers: no loss of power, and at 1, 2, 5 to 7 and 21 what that number says.
+    ensures tells { TellsSteps image.now result report.old steps.old room.old report.new steps.new room.new }
 {
     let call = AgentCall::Accept(Guid::of(*guid));
     call_on(alloc, image, bank, call, steps, room, report)
 }
 
-/// Selects the bank before on a flash that lies in memory (DEN0118, fwu_select_previous), and tells the steps by which the flash
-/// becomes what that makes of it: the active and the previous bank change places. The call is that of the firmware which `fwu_boot`
+/// Selects the bank before on a flash that lies in memory (DEN0118, fwu_select_previous): the active and the previous bank change
+/// places. It tells the steps by which the flash becomes what that makes of it. The call is that of the firmware which `fwu_boot`
 /// started: `bank` is the bank that it told. No start is counted.
 ///
-/// 0: selected, once the steps are done in their order. 1: block 0 is no layout. 2: neither replica is metadata. 5: there was no room
-/// for one more step. 6: these bytes are no flash. 7: memory, or room for the steps' bytes, is wanting. 16: there is nothing to go
-/// back from, or no bank that may be gone back to. 21: by what the flash shows no boot started the bank.
+/// 0: selected, once the steps are done in their order. 1: block 0 is no layout. 2: neither replica is metadata. 5: there was no
+/// room for one more step. 6: these bytes are no flash. 7: memory, or room for the steps' bytes, is wanting. 16: there is nothing to
+/// go back from, or no bank that may be gone back to. 21: by what the flash shows no boot started the bank.
 #[unsafe(no_mangle)]
 pub extern "C" fn fwu_previous(
     alloc: Global,
@@ -62,17 +51,8 @@ pub extern "C" fn fwu_previous(
     report: &mut Report,
 ) -> u32
     ensures selects { TellsCall result → CallsBy image.now bank Previous result report.new steps.new room.new }
-    // Steps are told and not done, so no power is lost.
-    ensures unlost { result ≢ 4 }
-    // Where nothing was to be written no step is told.
-    ensures idle { IsTrue (is_idle result) → report.new.steps ≡ 0 }
-    // At 5 as many steps are told as there is room for.
-    ensures full { result ≡ 5 → report.new.steps ≡ length steps.old }
-    // 6 comes of all bytes that are no flash, and of no others.
-    ensures no_flash { (result ≡ 6) ↔ (HasFlashSize image.now → ⊥) }
-    // Nothing is told without an answer.
-    ensures untouched { (result ≡ 6) ⊎ (result ≡ 7)
-        → IsUntouched report.old steps.old room.old report.new steps.new room.new }
+    // Whatever it answers: no loss of power, and at 1, 2, 5 to 7 and 21 what that number says.
+    ensures tells { TellsSteps image.now result report.old steps.old room.old report.new steps.new room.new }
 {
     call_on(alloc, image, bank, AgentCall::Previous, steps, room, report)
 }

@@ -1,10 +1,10 @@
 //! The boot of a flash that lies in memory.
-ghost use Rattle.std.specs.Prelude.{◌≡◌, ◌≢◌, ◌⊎◌, ◌↔◌, ◌*◌, ◌≤◌, length, true, IsTrue};
+ghost use Rattle.std.specs.Prelude.{◌≡◌, ◌⊎◌, ◌*◌, ◌≤◌, length, true};
 ghost use Rattle.base_core.specs.Block.{block_bytes};
 ghost use Rattle.step_flash.specs.Device.{block_count, image_of, is_on, told_of};
 ghost use Rattle.step_flash.specs.Guard.{start};
-ghost use Rattle.fwu_c.specs.Boots.{BootsBy, HasFlashSize};
-ghost use Rattle.fwu_c.specs.Handed.{IsUntouched, is_idle};
+ghost use Rattle.fwu_c.specs.Boots.{BootsBy};
+ghost use Rattle.fwu_c.specs.Handed.{TellsSteps};
 
 use crate::handing::hand_over;
 use crate::report::{Report, into_flash, report_end};
@@ -27,16 +27,8 @@ pub extern "C" fn fwu_boot(
 ) -> u32
     ensures answers { result ≤ 7 }
     ensures boots { result ≤ 5 → BootsBy image.now result report.new steps.new room.new }
-    // Steps are told and not done, so no power is lost.
-    ensures unlost { result ≢ 4 }
-    // Where nothing was to be written no step is told.
-    ensures idle { IsTrue (is_idle result) → report.new.steps ≡ 0 }
-    // At 5 as many steps are told as there is room for.
-    ensures full { result ≡ 5 → report.new.steps ≡ length steps.old }
-    // 6 comes of all bytes that are no flash, and of no others.
-    ensures no_flash { (result ≡ 6) ↔ (HasFlashSize image.now → ⊥) }
-    // Nothing is told without an answer.
-    ensures untouched { 6 ≤ result → IsUntouched report.old steps.old room.old report.new steps.new room.new }
+    // Whatever it answers: no loss of power, and at 1, 2 and 5 to 7 what that number says.
+    ensures tells { TellsSteps image.now result report.old steps.old room.old report.new steps.new room.new }
 {
     let Some(flash) = StepFlash::new(alloc, image, steps.len()) else {
         return 6;
@@ -61,10 +53,7 @@ fn boot_over(
     requires size { length (image_of flash) ≡ block_bytes * block_count flash }
     ensures answers { (result ≤ 5) ⊎ (result ≡ 7) }
     ensures boots { result ≤ 5 → BootsBy (image_of flash.entry) result report.new steps.new room.new }
-    ensures unlost { result ≢ 4 }
-    ensures idle { IsTrue (is_idle result) → report.new.steps ≡ 0 }
-    ensures full { result ≡ 5 → report.new.steps ≡ length steps.old }
-    ensures untouched { result ≡ 7 → IsUntouched report.old steps.old room.old report.new steps.new room.new }
+    ensures tells { TellsSteps (image_of flash.entry) result report.old steps.old room.old report.new steps.new room.new }
 {
     let end = boot_in(flash, &AnyManifest, &mut block[..BLOCK_BYTES as usize]);
     let mut told = *report;

@@ -1,24 +1,25 @@
 //! A call of the agent in the session behind a boot of a bank.
-ghost use Rattle.std.specs.Prelude.{◌≡◌, ◌≢◌, ◌⊎◌, ◌↔◌, ◌*◌, ◌≤◌, length, true, IfErr, IfOk, IsFalse, IsTrue};
+ghost use Rattle.std.specs.Prelude.{◌≡◌, ◌*◌, ◌≤◌, length, true, IfErr, IfOk, IfSome, IsFalse};
 ghost use Rattle.base_core.specs.Block.{block_bytes};
 ghost use Rattle.fwu_formats.specs.Digests.{passes_any};
 ghost use Rattle.fwu_model.specs.Reply.{Success};
-ghost use Rattle.early_boot.specs.Started.{device, started};
+ghost use Rattle.early_boot.specs.Started.{Started};
 ghost use Rattle.agent_machine.specs.Meets.{Meets};
-ghost use Rattle.agent_calls.specs.Shown.{AgentGoes, gone, moment};
+ghost use Rattle.agent_calls.specs.Shown.{AgentGoes, device, gone, moment};
 ghost use Rattle.step_flash.specs.Device.{block_count, image_of, is_on, told_of};
 ghost use Rattle.step_flash.specs.Guard.{start};
-ghost use Rattle.fwu_c.specs.Boots.{HasFlashSize};
-ghost use Rattle.fwu_c.specs.Calls.{CallsBy, CallsFrom, IsCalled, Refuses, Takes, TellsCall};
+ghost use Rattle.fwu_c.specs.Agents.{BeginsWith};
+ghost use Rattle.fwu_c.specs.Calls.{CallsBy, CallsFrom, IsCalled, Refuses, TakesUp, TellsCall};
 ghost use Rattle.fwu_c.specs.Calls.{call_code, call_of, status_code, stop_code};
-ghost use Rattle.fwu_c.specs.Handed.{IsUntouched, is_idle};
+ghost use Rattle.fwu_c.specs.Handed.{TellsSteps};
 
+use crate::agents::{agent_of, device_of};
 use crate::handing::hand_over;
 use crate::layouts::fault_number;
 use crate::report::{Report, report_start};
 use agent_calls::{Agent, Stop};
 use base_core::{BLOCK_BYTES, Guid};
-use early_boot::{Booted, TakeUpEnd, take_up};
+use early_boot::{TakeUpEnd, take_up};
 use flash_core::FlashStop;
 use fwu_model::Status;
 use std::alloc::Global;
@@ -71,20 +72,24 @@ fn stop_number(stop: FlashStop) -> u32
     }
 }
 
-/// Takes up the bank that a boot started, and reports it. Where it is refused, or the flash stops it, the number of that comes with
-/// the device.
+/// Takes up the bank that a boot started, for an agent, and reports it. Where it is refused, or the flash stops it, the number of
+/// that comes with the device. None where there is no memory for an agent.
+// its frame is gone before the call: that keeps the stack small
+#[inline(never)]
 fn taken_up<'a>(
+    alloc: Global,
     flash: StepFlash<'a>,
     bank: u32,
     block: &mut [u8],
     told: &mut Report,
-) -> Result<Booted<StepFlash<'a>>, (StepFlash<'a>, u32)>
+) -> Option<Result<Box<Agent<StepFlash<'a>>>, (StepFlash<'a>, u32)>>
     requires on { is_on flash ≡ true }
     requires room { block_bytes ≤ length block.old }
-    ensures takes { IfOk result (λ b. Takes bank (started b) told.new (told_of flash.entry) (told_of (device b))) }
-    ensures taken_size { IfOk result (λ b. block_count (device b) ≡ block_count flash.entry) }
-    ensures refuses { IfErr result (λ e. Refuses bank e.1 told.new (told_of flash.entry) (told_of e.0)) }
-    ensures left_size { IfErr result (λ e. block_count e.0 ≡ block_count flash.entry) }
+    ensures takes { IfSome result (λ end. IfOk end (λ a.
+        TakesUp bank told.new (told_of flash.entry) (moment a.value) (gone a.value))) }
+    ensures taken_size { IfSome result (λ end. IfOk end (λ a. block_count (device a.value) ≡ block_count flash.entry)) }
+    ensures refuses { IfSome result (λ end. IfErr end (λ e. Refuses bank e.1 told.new (told_of flash.entry) (told_of e.0))) }
+    ensures left_size { IfSome result (λ end. IfErr end (λ e. block_count e.0 ≡ block_count flash.entry)) }
 {
     match take_up(
         flash,
@@ -94,15 +99,18 @@ fn taken_up<'a>(
     ) {
         TakeUpEnd::Taken(booted) => {
             report_start(&booted, told);
-            Ok(booted)
+            match agent_of(alloc, booted) {
+                Some(agent) => Some(Ok(agent)),
+                None => None,
+            }
         }
         TakeUpEnd::BadLayout(flash, fault) => {
             told.layout_fault = fault_number(fault);
-            Err((flash, 1))
+            Some(Err((flash, 1)))
         }
-        TakeUpEnd::NoMetadata(flash) => Err((flash, 2)),
-        TakeUpEnd::NotStarted(flash) => Err((flash, 21)),
-        TakeUpEnd::Stopped(flash, stop) => Err((flash, stop_number(stop))),
+        TakeUpEnd::NoMetadata(flash) => Some(Err((flash, 2))),
+        TakeUpEnd::NotStarted(flash) => Some(Err((flash, 21))),
+        TakeUpEnd::Stopped(flash, stop) => Some(Err((flash, stop_number(stop)))),
     }
 }
 
@@ -118,17 +126,21 @@ fn ask(agent: &mut Agent<StepFlash<'_>>, call: AgentCall) -> Result<(), Stop>
     }
 }
 
-/// Makes the call in the session behind a boot of the bank.
-fn called<'a>(booted: Booted<StepFlash<'a>>, call: AgentCall) -> (StepFlash<'a>, Result<(), Stop>)
-    ensures calls { CallsFrom (call_of call) (started booted.entry) result.1
-        (told_of (device booted.entry)) (told_of result.0) }
+/// Makes the call by an agent that begins with a bank.
+fn called<'a>(
+    agent: Box<Agent<StepFlash<'a>>>,
+    call: AgentCall,
+) -> (StepFlash<'a>, Result<(), Stop>)
+    requires here { IsFalse (gone agent.value) }
+    ensures calls { (b : Started) → let m = moment agent.entry.value in BeginsWith b m (gone agent.entry.value)
+        → CallsFrom (call_of call) b result.1 m.told (told_of result.0) }
     ensures ends { IsCalled result.1 }
-    ensures size { block_count result.0 ≡ block_count (device booted.entry) }
+    ensures size { block_count result.0 ≡ block_count (device agent.entry.value) }
 {
-    let mut agent = Agent::start(booted);
+    let mut agent = agent;
     let done = ask(&mut agent, call);
     agent.showing();
-    (agent.into_flash(), done)
+    (device_of(agent), done)
 }
 
 /// Makes the call on a flash that lies in memory.
@@ -142,12 +154,7 @@ pub fn call_on(
     report: &mut Report,
 ) -> u32
     ensures calls { TellsCall result → CallsBy image.now bank (call_of call) result report.new steps.new room.new }
-    ensures unlost { result ≢ 4 }
-    ensures idle { IsTrue (is_idle result) → report.new.steps ≡ 0 }
-    ensures full { result ≡ 5 → report.new.steps ≡ length steps.old }
-    ensures no_flash { (result ≡ 6) ↔ (HasFlashSize image.now → ⊥) }
-    ensures untouched { (result ≡ 6) ⊎ (result ≡ 7)
-        → IsUntouched report.old steps.old room.old report.new steps.new room.new }
+    ensures tells { TellsSteps image.now result report.old steps.old room.old report.new steps.new room.new }
 {
     let Some(flash) = StepFlash::new(alloc, image, steps.len()) else {
         return 6;
@@ -161,7 +168,7 @@ pub fn call_on(
 /// As `call_on`, on the device over the image, with a buffer of 4096 bytes.
 fn call_over(
     flash: StepFlash<'_>,
-    block: &mut [u8],
+    block: &mut Vec<u8>,
     bank: u32,
     call: AgentCall,
     steps: &mut [Step],
@@ -169,23 +176,21 @@ fn call_over(
     report: &mut Report,
 ) -> u32
     requires on { is_on flash ≡ true }
-    requires block { block_bytes ≤ length block.old }
+    requires block { block_bytes ≤ length block.old.items }
     requires fresh { told_of flash ≡ start (image_of flash) }
     requires size { length (image_of flash) ≡ block_bytes * block_count flash }
     ensures calls { TellsCall result →
         CallsBy (image_of flash.entry) bank (call_of call) result report.new steps.new room.new }
-    ensures unlost { result ≢ 4 }
-    ensures idle { IsTrue (is_idle result) → report.new.steps ≡ 0 }
-    ensures full { result ≡ 5 → report.new.steps ≡ length steps.old }
-    ensures known { result ≢ 6 }
-    ensures untouched { result ≡ 7 → IsUntouched report.old steps.old room.old report.new steps.new room.new }
+    ensures tells { TellsSteps (image_of flash.entry) result report.old steps.old room.old report.new steps.new room.new }
 {
+    let alloc = *block.allocator();
     let mut told = *report;
-    match taken_up(flash, bank, block, &mut told) {
-        Ok(booted) => {
-            let (flash, done) = called(booted, call);
+    match taken_up(alloc, flash, bank, block, &mut told) {
+        Some(Ok(agent)) => {
+            let (flash, done) = called(agent, call);
             hand_over(flash, call_number(&done), told, steps, room, report)
         }
-        Err((flash, number)) => hand_over(flash, number, told, steps, room, report),
+        Some(Err((flash, number))) => hand_over(flash, number, told, steps, room, report),
+        None => 7,
     }
 }

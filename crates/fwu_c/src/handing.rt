@@ -1,9 +1,9 @@
 //! The steps of a device, handed over to C.
 ghost use Rattle.std.specs.Prelude.{◌≡◌, ◌≢◌, ◌⊎◌, ◌*◌, All, length, IfSome, IsTrue};
 ghost use Rattle.base_core.specs.Block.{block_bytes};
-ghost use Rattle.step_flash.specs.Device.{NotedBy, block_count, told_of};
-ghost use Rattle.step_flash.specs.Steps.{IsInside};
-ghost use Rattle.fwu_c.specs.Handed.{HandsOver, IsStart, IsUntouched, is_idle};
+ghost use Rattle.step_flash.specs.Device.{NotedBy, block_count, package_of, told_of};
+ghost use Rattle.step_flash.specs.Steps.{IsInsideWith};
+ghost use Rattle.fwu_c.specs.Handed.{HandsOver, IsDeviceEnd, IsStart, IsUntouched, is_idle};
 
 use crate::report::Report;
 use step_flash::{Step, StepFlash, StepParts};
@@ -17,12 +17,14 @@ fn is_idle(number: u32) -> bool
     number == 1 || number == 2 || number == 21
 }
 
-/// The steps of a device that are handed over: none where nothing was written. None at all where power was on again after a stop.
+/// The steps of a device that are handed over: none where the number says that nothing was written. There are no parts where power
+/// was on again after a stop.
 fn parts_of(flash: StepFlash<'_>, number: u32) -> Option<StepParts>
     requires { IsTrue (is_idle number) → IsStart (told_of flash) }
     ensures noted { IfSome result (λ parts. NotedBy flash.entry parts) }
     ensures inside { IfSome result (λ parts.
-        All (IsInside (length parts.room.items) (block_bytes * block_count flash.entry)) parts.steps.items) }
+        All (IsInsideWith (length (package_of flash.entry)) (length parts.room.items) (block_bytes * block_count flash.entry))
+        parts.steps.items) }
     ensures none { IfSome result (λ parts. IsTrue (is_idle number) → length parts.steps.items ≡ 0) }
 {
     if !flash.is_live() {
@@ -38,8 +40,8 @@ fn parts_of(flash: StepFlash<'_>, number: u32) -> Option<StepParts>
 }
 
 /// Hands the steps of a device over, with what is told beside them, and answers the number that it is given. It answers 7, and
-/// writes nothing, where there is no room for the steps or for their bytes. It does so too at 5, where fewer steps were noted than
-/// there is room for: the device failed for want of memory then.
+/// writes nothing, where there is no room for the steps or for their bytes, or where power was on again after a stop. It does so too
+/// at 5, where fewer steps were noted than there is room for: the device failed for want of memory then.
 pub fn hand_over(
     flash: StepFlash<'_>,
     number: u32,
@@ -48,7 +50,7 @@ pub fn hand_over(
     room: &mut [u8],
     report: &mut Report,
 ) -> u32
-    requires known { number ≢ 7 }
+    requires known { IsDeviceEnd number }
     requires idle { IsTrue (is_idle number) → IsStart (told_of flash) }
     ensures number { (result ≡ number) ⊎ (result ≡ 7) }
     ensures hands { result ≢ 7 → HandsOver flash.entry told report.new steps.new room.new }

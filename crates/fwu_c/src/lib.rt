@@ -1,10 +1,11 @@
-//! What a boot loader or an update agent in C calls; `include/fwu.h` declares it. Nothing here calls back.
+//! What a boot loader or an update agent in C calls; `include/fwu.h` declares it. Only for memory does it call back.
 //!
 //! A slice crosses as a pointer and a length. The caller passes pointers that are valid for the call; what is written overlaps
 //! nothing else that is passed.
 #![tactic(auto)]
 
 mod agent;
+mod agents;
 mod boot;
 mod calling;
 mod checksums;

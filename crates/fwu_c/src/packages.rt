@@ -1,5 +1,5 @@
 //! Packages (the FIP layout of Trusted Firmware-A) and manifests (own format).
-ghost use Rattle.std.specs.Prelude.{◌≡◌, is_some, IfNone, IfSome};
+ghost use Rattle.std.specs.Prelude.{◌≡◌, ◌≤◌, is_some, IfNone, IfSome};
 ghost use Rattle.fwu_formats.specs.Layout.{layout_of};
 ghost use Rattle.fwu_formats.specs.Package.{toc_of};
 ghost use Rattle.fwu_c.specs.Codes.{find_code, found_code};
@@ -8,6 +8,9 @@ ghost use Rattle.fwu_c.specs.Found.{entry_in, security_version};
 use base_core::Guid;
 use fip_tables::{Entry, StreamToc};
 use meta_layout::Layout;
+
+/// As many payloads as a layout may have images, the manifest among them.
+pub const MOST_PLACES: usize = 16;
 
 /// Where a payload stands: bytes from the package's first byte, and how many.
 #[repr(C)]
@@ -44,13 +47,33 @@ pub extern "C" fn fwu_find(bytes: &[u8], guid: &[u8; 16], place: &mut Place) -> 
         (λ e. (place.new.offset ≡ e.offset) × (place.new.size ≡ e.size)) }
     ensures kept { IfNone (entry_in guid.now (toc_of bytes.now)) (place.new ≡ place.old) }
 {
-    // the table is read where it stands: a fault that is told here is told by it again
+    // the table is read where it stands: a fault that `feed` tells is told by `toc` again
     let mut stream = StreamToc::new();
     let _fault = stream.feed(bytes);
     match stream.toc() {
         Ok(toc) => put_place(toc.entries.find(&Guid::of(*guid)), place),
         Err(_) => 2,
     }
+}
+
+/// Writes where the first payloads of a package begin, and answers how many it wrote: none where the bytes are no package.
+// kept apart, so that the table is on the stack only while it is read
+#[inline(never)]
+pub fn read_places(file: &[u8], places: &mut [usize; MOST_PLACES]) -> usize
+    ensures { result ≤ 16 }
+{
+    let mut stream = StreamToc::new();
+    let _fault = stream.feed(file);
+    let Ok(toc) = stream.toc() else {
+        return 0;
+    };
+    let entries = toc.entries.as_slice();
+    let count = entries.len().min(MOST_PLACES);
+    for i in 0..count {
+        let entry = entries[i];
+        places[i] = entry.offset as usize;
+    }
+    count
 }
 
 /// Whether the bytes begin with a manifest of the layout in this block, of a flash of so many blocks. Where they do, `version` is

@@ -1,15 +1,18 @@
 //! A package that lies in memory, sent to the agent of a bank that was booted.
-ghost use Rattle.std.specs.Prelude.{◌≡◌, ◌^◌, ◌<◌, Ok, length};
-ghost use Rattle.early_boot.specs.Started.{device, started};
-ghost use Rattle.fwu_formats.specs.Image.{layout_seen};
+ghost use Rattle.std.specs.Prelude.{◌≡◌, ◌^◌, ◌<◌, [], IfSome, IsFalse, Ok, length};
+ghost use Rattle.agent_calls.specs.Shown.{device, gone, moment};
+ghost use Rattle.early_boot.specs.Started.{Started};
 ghost use Rattle.fwu_formats.specs.Package.{toc_of};
+ghost use Rattle.fip_tables.specs.Stream.{Fed};
 ghost use Rattle.step_flash.specs.Device.{block_count, told_of};
+ghost use Rattle.fwu_c.specs.Agents.{BeginsWith};
 ghost use Rattle.fwu_c.specs.Sendings.{InstallsBy, IsOutcome, IsSent, SendsPackage, outcome_code, sent_code};
 
+use crate::agents::device_of;
 use agent_calls::Agent;
-use early_boot::Booted;
 use fip_tables::{StreamToc, Toc};
 use package_files::PackageFiles;
+use std::alloc::Global;
 use step_flash::StepFlash;
 use update_client::{SendStop, Sent, send};
 use verify_core::AnyManifest;
@@ -45,21 +48,22 @@ pub fn outcome_number(outcome: &Option<Result<Sent, SendStop>>) -> u32
 
 /// Sends a package by its table, in pieces that fill the buffer.
 fn send_package<'a>(
-    booted: Booted<StepFlash<'a>>,
+    agent: Box<Agent<StepFlash<'a>>>,
     toc: &Toc,
     file: &[u8],
     acceptance: u32,
     block: &mut [u8],
 ) -> (StepFlash<'a>, Result<Sent, SendStop>)
+    requires here { IsFalse (gone agent.value) }
     requires table { toc_of file.now ≡ Ok toc.now }
     requires short { length file.now < 2 ^ 64 }
     requires room { 0 < length block.old }
-    ensures sends { SendsPackage file.now acceptance (started booted.entry) result.1
-        (told_of (device booted.entry)) (told_of result.0) }
+    ensures sends { (b : Started) → let m = moment agent.entry.value in BeginsWith b m (gone agent.entry.value)
+        → SendsPackage file.now acceptance b result.1 m.told (told_of result.0) }
     ensures ends { IsSent result.1 }
-    ensures size { block_count result.0 ≡ block_count (device booted.entry) }
+    ensures size { block_count result.0 ≡ block_count (device agent.entry.value) }
 {
-    let mut agent = Agent::start(booted);
+    let mut agent = agent;
     let mut files = PackageFiles::new(NAME, file);
     let sent = send(
         &mut agent,
@@ -71,34 +75,47 @@ fn send_package<'a>(
         &AnyManifest,
     );
     agent.showing();
-    (agent.into_flash(), sent)
+    (device_of(agent), sent)
 }
 
-/// Sends a package, where the bytes are one.
+/// A table that has read nothing, in memory of its own. None where there is no memory for it.
+// kept apart, so that the table is on the stack only while it is made
+#[inline(never)]
+fn new_table(alloc: Global) -> Option<Box<StreamToc>>
+    ensures { IfSome result (λ table. Fed table.value []) }
+{
+    match Box::new(alloc, StreamToc::new()) {
+        Ok(table) => Some(table),
+        Err(_) => None,
+    }
+}
+
+/// Sends a package, where the bytes are one, by an agent that begins with the bank that was started. None where there is no memory
+/// for the package's table.
+// its frame isn't there while the flash is booted: that keeps the stack small
+#[inline(never)]
 pub fn install<'a>(
-    booted: Booted<StepFlash<'a>>,
+    alloc: Global,
+    agent: Box<Agent<StepFlash<'a>>>,
     file: &[u8],
     acceptance: u32,
     block: &mut [u8],
-) -> (StepFlash<'a>, Option<Result<Sent, SendStop>>)
+) -> Option<(StepFlash<'a>, Option<Result<Sent, SendStop>>)>
+    requires here { IsFalse (gone agent.value) }
     requires room { 0 < length block.old }
-    ensures installs { InstallsBy file.now acceptance (started booted.entry) result.1
-        (told_of (device booted.entry)) (told_of result.0) }
-    ensures ends { IsOutcome result.1 }
-    ensures size { block_count result.0 ≡ block_count (device booted.entry) }
-    ensures layout { layout_seen (told_of (device booted.entry)).now ≡ Ok (started booted.entry).layout }
+    ensures installs { (b : Started) → let m = moment agent.entry.value in BeginsWith b m (gone agent.entry.value)
+        → IfSome result (λ end. InstallsBy file.now acceptance b end.1 m.told (told_of end.0)) }
+    ensures ends { IfSome result (λ end. IsOutcome end.1) }
+    ensures size { IfSome result (λ end. block_count end.0 ≡ block_count (device agent.entry.value)) }
 {
-    // the table is read where it stands: a fault that is told here is told by it again
-    let mut stream = StreamToc::new();
-    let _fault = stream.feed(file);
-    match stream.toc() {
+    // the table is read where it stands: a fault that `feed` tells is told by `toc` again
+    let mut table = new_table(alloc)?;
+    let _fault = table.feed(file);
+    match table.toc() {
         Ok(toc) => {
-            let (flash, sent) = send_package(booted, toc, file, acceptance, block);
-            (flash, Some(sent))
+            let (flash, sent) = send_package(agent, toc, file, acceptance, block);
+            Some((flash, Some(sent)))
         }
-        Err(_) => {
-            let (flash, _, _) = booted.into_parts();
-            (flash, None)
-        }
+        Err(_) => Some((device_of(agent), None)),
     }
 }

@@ -4,7 +4,7 @@ ghost use Rattle.fwu_formats.specs.Metadata.{bit_number};
 ghost use Rattle.base_core.specs.Block.{block_bytes};
 ghost use Rattle.fwu_formats.specs.Image.{layout_seen};
 ghost use Rattle.early_boot.specs.Numbers.{AreNumbers, ShowsNumbers, numbers};
-ghost use Rattle.fwu_c.specs.Boots.{HasFlashSize};
+ghost use Rattle.fwu_c.specs.Handed.{HasFlashSize};
 ghost use Rattle.fwu_c.specs.Shows.{ShowsBy, TellsBanks, TellsNumbers, bank_shown, bits_of};
 ghost use Rattle.fwu_c.specs.Shows.{image_told, state_code, verdict_code, version_told};
 

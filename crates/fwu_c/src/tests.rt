@@ -8,7 +8,7 @@ use runs_kit::{LAYOUT, MANIFEST_2, NotMade, blank, on_trial, put, two_banks};
 use std::alloc::Global;
 use std::process::Abort;
 use std::test::Fail;
-use step_flash::{BARRIER, ERASE, PROGRAM, Step};
+use step_flash::{BARRIER, COPY, ERASE, PROGRAM, Step};
 
 /// Of the flash of the tests.
 const BLOCKS: u32 = 22;
@@ -59,8 +59,8 @@ fn board_of(alloc: Global, flash: Vec<u8>) -> Result<Board, Fail> {
 }
 
 /// The driver: what a step does to the flash. Whether it is a step of this flash.
-fn is_done(flash: &mut [u8], room: &[u8], step: &Step) -> bool {
-    let (Some(end), Some(room_end)) = (
+fn is_done(flash: &mut [u8], room: &[u8], file: &[u8], step: &Step) -> bool {
+    let (Some(end), Some(from_end)) = (
         step.at.checked_add(step.length),
         step.from.checked_add(step.length),
     ) else {
@@ -76,8 +76,13 @@ fn is_done(flash: &mut [u8], room: &[u8], step: &Step) -> bool {
     if step.kind == BARRIER {
         return true;
     }
-    match room.get(step.from as usize..room_end as usize) {
-        Some(bytes) if step.kind == PROGRAM && bytes.len() == place.len() => {
+    let source = match step.kind {
+        PROGRAM => room,
+        COPY => file,
+        _ => return false,
+    };
+    match source.get(step.from as usize..from_end as usize) {
+        Some(bytes) if bytes.len() == place.len() => {
             place.copy_from_slice(bytes);
             true
         }
@@ -85,8 +90,8 @@ fn is_done(flash: &mut [u8], room: &[u8], step: &Step) -> bool {
     }
 }
 
-/// Does the steps that were told, in their order.
-fn do_steps(rt: &impl Abort, board: &mut Board) {
+/// Does the steps that were told, in their order; copies are taken from the bytes of a package.
+fn do_steps(rt: &impl Abort, board: &mut Board, file: &[u8]) {
     for step in board
         .steps
         .as_slice()
@@ -94,7 +99,12 @@ fn do_steps(rt: &impl Abort, board: &mut Board) {
         .take(board.report.steps as usize)
     {
         assert!(rt;
-            is_done(board.flash.as_mut_slice(), board.room.as_slice(), step),
+            is_done(
+                board.flash.as_mut_slice(),
+                board.room.as_slice(),
+                file,
+                step
+            ),
             "a step of this flash"
         );
     }
@@ -109,7 +119,7 @@ fn boot(rt: &impl Abort, alloc: Global, board: &mut Board) -> u32 {
         board.room.as_mut_slice(),
         &mut board.report,
     );
-    do_steps(rt, board);
+    do_steps(rt, board, &[]);
     answer
 }
 
@@ -124,7 +134,7 @@ fn accept(rt: &impl Abort, alloc: Global, board: &mut Board, bank: u32, guid: &[
         board.room.as_mut_slice(),
         &mut board.report,
     );
-    do_steps(rt, board);
+    do_steps(rt, board, &[]);
     answer
 }
 
@@ -138,7 +148,7 @@ fn previous(rt: &impl Abort, alloc: Global, board: &mut Board, bank: u32) -> u32
         board.room.as_mut_slice(),
         &mut board.report,
     );
-    do_steps(rt, board);
+    do_steps(rt, board, &[]);
     answer
 }
 
@@ -153,7 +163,7 @@ fn update(rt: &impl Abort, alloc: Global, board: &mut Board, file: &[u8], accept
         board.room.as_mut_slice(),
         &mut board.report,
     );
-    do_steps(rt, board);
+    do_steps(rt, board, file);
     answer
 }
 
@@ -383,6 +393,12 @@ fn an_update_is_tried(rt: HostRuntime) -> Result<(), Fail> {
     assert_eq!(rt; update(&rt, alloc, &mut board, &[], 1), 18);
     assert_eq!(rt; update(&rt, alloc, &mut board, file.as_slice(), 1), 0);
     assert_eq!(rt; (board.report.bank, board.report.version), (0, 1));
+    // the manifest, of 160 bytes, is copied from where it stands in the package
+    let is_copied = |step: &Step| step.kind == COPY && (step.length, step.from) == (160, 176);
+    assert!(rt;
+        board.steps.as_slice().iter().any(is_copied),
+        "a copy of the manifest"
+    );
     starts(&rt, alloc, &mut board, (1, 2, 1, 0));
     assert_eq!(rt; update(&rt, alloc, &mut board, file.as_slice(), 1), 16);
     assert_eq!(rt; board.report.steps, 0);

@@ -1,17 +1,20 @@
 //! An update of a flash that lies in memory.
-ghost use Rattle.std.specs.Prelude.{◌≡◌, ◌≢◌, ◌⊎◌, ◌↔◌, ◌*◌, ◌≤◌, ◌<◌, length, true, IfSome, IsFalse, IsTrue, slice_index_or};
+ghost use Rattle.std.specs.Prelude.{◌≡◌, ◌*◌, ◌≤◌, ◌<◌, length, true, IfErr, IfOk, IfSome, IsFalse, IsTrue, slice_index_or};
 ghost use Rattle.base_core.specs.Block.{block_bytes};
 ghost use Rattle.fwu_formats.specs.declared.kinds.BankState.TheVariants.{Invalid};
 ghost use Rattle.fwu_model.specs.State.{is_valid};
+ghost use Rattle.agent_calls.specs.Shown.{device, gone, moment};
 ghost use Rattle.step_flash.specs.Device.{block_count, image_of, is_on, told_of};
-ghost use Rattle.step_flash.specs.Guard.{start};
-ghost use Rattle.fwu_c.specs.Boots.{HasFlashSize};
-ghost use Rattle.fwu_c.specs.Handed.{IsUntouched, is_idle};
-ghost use Rattle.fwu_c.specs.Updates.{IsAnswered, IsOnTrial, UpdatesBy};
+ghost use Rattle.step_flash.specs.Guard.{start, start_with};
+ghost use Rattle.fwu_c.specs.Handed.{TellsSteps};
+ghost use Rattle.fwu_c.specs.Updates.{BootsUp, IsAnswered, IsOnTrial, StartsNone, UpdatesBy};
 
+use crate::agents::agent_of;
 use crate::handing::hand_over;
+use crate::packages::{MOST_PLACES, read_places};
 use crate::report::{Report, into_flash, report_end, report_start};
 use crate::sending::{install, outcome_number};
+use agent_calls::Agent;
 use base_core::BLOCK_BYTES;
 use early_boot::{BootEnd, Numbers, Unshown, boot_in, read_numbers_in};
 use std::alloc::Global;
@@ -40,17 +43,8 @@ pub extern "C" fn fwu_update(
         UpdatesBy image.now file.now acceptance result report.new steps.new room.new }
     // A boot would count one more start of a bank on trial.
     ensures trial { IsOnTrial image.now → IsAnswered result → (result ≡ 16) × (report.new.steps ≡ 0) }
-    // Steps are told and not done, so no power is lost.
-    ensures unlost { result ≢ 4 }
-    // Where nothing was to be written no step is told.
-    ensures idle { IsTrue (is_idle result) → report.new.steps ≡ 0 }
-    // At 5 as many steps are told as there is room for.
-    ensures full { result ≡ 5 → report.new.steps ≡ length steps.old }
-    // 6 comes of all bytes that are no flash, and of no others.
-    ensures no_flash { (result ≡ 6) ↔ (HasFlashSize image.now → ⊥) }
-    // Nothing is told without an answer.
-    ensures untouched { (result ≡ 6) ⊎ (result ≡ 7)
-        → IsUntouched report.old steps.old room.old report.new steps.new room.new }
+    // Whatever it answers: no loss of power, and at 1, 2 and 5 to 7 what that number says.
+    ensures tells { TellsSteps image.now result report.old steps.old room.old report.new steps.new room.new }
 {
     let Some(first) = StepFlash::new(alloc, image, 0) else {
         return 6;
@@ -64,9 +58,7 @@ pub extern "C" fn fwu_update(
             report.bytes = 0;
             16
         }
-        Some(false) => update(
-            alloc, image, &mut block, file, acceptance, steps, room, report,
-        ),
+        Some(false) => update(image, &mut block, file, acceptance, steps, room, report),
         // no read of this device fails
         None => 7,
     }
@@ -81,6 +73,8 @@ fn is_on_trial(shown: &Numbers) -> bool
 }
 
 /// Whether a device over an image shows an active bank that is on trial. None where a read failed.
+// its frame is gone before the boot: that keeps the stack small
+#[inline(never)]
 fn shows_trial(flash: StepFlash<'_>, block: &mut [u8]) -> Option<bool>
     requires on { is_on flash ≡ true }
     requires block { block_bytes ≤ length block.old }
@@ -99,35 +93,66 @@ fn shows_trial(flash: StepFlash<'_>, block: &mut [u8]) -> Option<bool>
 
 /// As `fwu_update`, of an image whose active bank is not on trial, with a buffer of 4096 bytes.
 fn update(
-    alloc: Global,
     image: &[u8],
-    block: &mut [u8],
+    block: &mut Vec<u8>,
     file: &[u8],
     acceptance: u32,
     steps: &mut [Step],
     room: &mut [u8],
     report: &mut Report,
 ) -> u32
-    requires { block_bytes ≤ length block.old }
+    requires { block_bytes ≤ length block.old.items }
     ensures updates { IsAnswered result →
         UpdatesBy image.now file.now acceptance result report.new steps.new room.new }
-    ensures unlost { result ≢ 4 }
-    ensures idle { IsTrue (is_idle result) → report.new.steps ≡ 0 }
-    ensures full { result ≡ 5 → report.new.steps ≡ length steps.old }
-    ensures no_flash { result ≡ 6 → HasFlashSize image.now → ⊥ }
-    ensures untouched { (result ≡ 6) ⊎ (result ≡ 7)
-        → IsUntouched report.old steps.old room.old report.new steps.new room.new }
+    ensures tells { TellsSteps image.now result report.old steps.old room.old report.new steps.new room.new }
 {
-    let Some(flash) = StepFlash::new(alloc, image, steps.len()) else {
+    let mut places = [0; MOST_PLACES];
+    let count = read_places(file, &mut places);
+    let tried = &places[..count];
+    let most = steps.len();
+    let Some(flash) = StepFlash::with_package(*block.allocator(), image, most, file, tried) else {
         return 6;
     };
     update_over(flash, block, file, acceptance, steps, room, report)
 }
 
-/// As `update`, on the device over the image, with a buffer of 4096 bytes.
+/// Boots, for an agent of the bank that is started, and reports the end. Where none is started the number of the end comes with the
+/// device. None where there is no memory for an agent.
+// its frame is gone before the package is sent: that keeps the stack small
+#[inline(never)]
+fn boot_agent<'a>(
+    alloc: Global,
+    flash: StepFlash<'a>,
+    block: &mut [u8],
+    told: &mut Report,
+) -> Option<Result<Box<Agent<StepFlash<'a>>>, (StepFlash<'a>, u32)>>
+    requires on { is_on flash ≡ true }
+    requires room { block_bytes ≤ length block.old }
+    ensures boots { IfSome result (λ end. IfOk end (λ a.
+        BootsUp told.new (told_of flash.entry) (moment a.value) (gone a.value))) }
+    ensures booted_size { IfSome result (λ end. IfOk end (λ a. block_count (device a.value) ≡ block_count flash.entry)) }
+    ensures stays { IfSome result (λ end. IfErr end (λ e. StartsNone e.1 told.new (told_of flash.entry) (told_of e.0))) }
+    ensures left_size { IfSome result (λ end. IfErr end (λ e. block_count e.0 ≡ block_count flash.entry)) }
+{
+    match boot_in(flash, &AnyManifest, &mut block[..BLOCK_BYTES as usize]) {
+        BootEnd::Booted(booted, _) => {
+            report_start(&booted, told);
+            match agent_of(alloc, booted) {
+                Some(agent) => Some(Ok(agent)),
+                None => None,
+            }
+        }
+        end => {
+            let number = report_end(&end, told);
+            Some(Err((into_flash(end), number)))
+        }
+    }
+}
+
+/// As `update`, on the device over the image and the package, with a buffer of 4096 bytes.
 fn update_over(
     flash: StepFlash<'_>,
-    block: &mut [u8],
+    block: &mut Vec<u8>,
     file: &[u8],
     acceptance: u32,
     steps: &mut [Step],
@@ -135,27 +160,23 @@ fn update_over(
     report: &mut Report,
 ) -> u32
     requires on { is_on flash ≡ true }
-    requires block { block_bytes ≤ length block.old }
-    requires fresh { told_of flash ≡ start (image_of flash) }
+    requires block { block_bytes ≤ length block.old.items }
+    requires fresh { told_of flash ≡ start_with (image_of flash) file.now }
     requires size { length (image_of flash) ≡ block_bytes * block_count flash }
     ensures updates { IsAnswered result →
         UpdatesBy (image_of flash.entry) file.now acceptance result report.new steps.new room.new }
-    ensures unlost { result ≢ 4 }
-    ensures idle { IsTrue (is_idle result) → report.new.steps ≡ 0 }
-    ensures full { result ≡ 5 → report.new.steps ≡ length steps.old }
-    ensures known { result ≢ 6 }
-    ensures untouched { result ≡ 7 → IsUntouched report.old steps.old room.old report.new steps.new room.new }
+    ensures tells { TellsSteps (image_of flash.entry) result report.old steps.old room.old report.new steps.new room.new }
 {
+    let alloc = *block.allocator();
     let mut told = *report;
-    match boot_in(flash, &AnyManifest, &mut block[..BLOCK_BYTES as usize]) {
-        BootEnd::Booted(booted, _) => {
-            report_start(&booted, &mut told);
-            let (flash, outcome) = install(booted, file, acceptance, block);
+    match boot_agent(alloc, flash, block, &mut told) {
+        Some(Ok(agent)) => {
+            let Some((flash, outcome)) = install(alloc, agent, file, acceptance, block) else {
+                return 7;
+            };
             hand_over(flash, outcome_number(&outcome), told, steps, room, report)
         }
-        end => {
-            let number = report_end(&end, &mut told);
-            hand_over(into_flash(end), number, told, steps, room, report)
-        }
+        Some(Err((flash, number))) => hand_over(flash, number, told, steps, room, report),
+        None => 7,
     }
 }

@@ -8,7 +8,7 @@ use Rattle.flash_core.specs.Told.{Told, Operation, fresh, put, halt, settle}
 use Rattle.flash_core.specs.May.{Leaves, NoChance}
 use Rattle.flash_core.proofs.Calls.{may_now}
 use Rattle.step_flash.specs.Device.{back_on}
-use Rattle.step_flash.specs.Guard.{start}
+use Rattle.step_flash.specs.Guard.{start_with}
 use Rattle.step_flash.specs.Stopped.{under_as}
 
 module _ (u : Option Operation) (live : Bool) (r : Told) where
@@ -50,9 +50,9 @@ put_noted None false at bytes r next idle is e = absurd (cc)
 put_noted (Some op) live at bytes r next idle is e = absurd (cc)
 
 -- before the first step
-pub start_idle : (image : List ℕ) → under_as None (start image) ≡ start image
+pub start_idle : (image file : List ℕ) → under_as None (start_with image file) ≡ start_with image file
 unfolding fresh
-start_idle image = refl
+start_idle image file = refl
 
 -- an armed loss that was not due lies ahead still, once it is lowered
 pub lowered_ahead : (a : Option Arming) → ForSome a (λ armed. 1 ≤ armed.n) → (IsDue a → ⊥) → ForSome (lowered a) (λ armed. 1 ≤ armed.n)

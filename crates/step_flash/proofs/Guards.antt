@@ -1,59 +1,89 @@
--- What is told tells whose image it was, and guards the usual blocks.
-use Rattle.std.proofs.Common.{◌≡◌, ℕ, ◌+◌, ◌==◌, Bool, true, false, if◌then◌else◌, List, [], ◌∷◌, map, sym, ◌∙◌, ap, arith, refl}
+-- What is told tells whose image and whose package it was, and guards the usual blocks.
+use Rattle.std.proofs.Common.{◌≡◌, ℕ, ◌+◌, ◌==◌, Bool, true, false, if◌then◌else◌, List, [], ◌∷◌, ◌++◌, sym, ◌∙◌, ap, arith, refl}
 use Rattle.std.proofs.lemmas.List.{append_cancel_left}
 use Rattle.base_core.specs.Block.{most_blocks}
 use Rattle.flash_core.specs.Told.{Told, fresh, put, settle}
 use Rattle.flash_core.specs.May.{usual_guard}
 use Rattle.step_flash.specs.declared.step.Step.{Step}
 use Rattle.step_flash.specs.declared.device.StepFlash.{StepFlash}
-use Rattle.step_flash.specs.Device.{after_steps, back_on, image_of, told_of}
-use Rattle.step_flash.specs.Guard.{guard_of, start}
+use Rattle.step_flash.specs.Device.{after_steps, back_on, image_of, package_of, told_of}
+use Rattle.step_flash.specs.Guard.{beyond, guard_with, start_with}
 use Rattle.step_flash.specs.Stopped.{under_as}
-use Rattle.step_flash.specs.Steps.{run, run_step, bytes_of}
+use Rattle.step_flash.specs.Steps.{run_with, run_step, bytes_of}
 
-step_guard : (room : List ℕ) (t : Told) (s : Step) → (run_step room t s).guard ≡ t.guard
+step_guard : (file room : List ℕ) (t : Told) (s : Step) → (run_step file room t s).guard ≡ t.guard
 unfolding put settle fresh
-step_guard room t s = at_kind (s.kind == 3)
+step_guard file room t s = at_kind (s.kind == 3)
   where
-    at_kind : (b : Bool) → (if b then settle t else put s.at (bytes_of room s) t).guard ≡ t.guard
+    at_kind : (b : Bool) → (if b then settle t else put s.at (bytes_of file room s) t).guard ≡ t.guard
     at_kind true = refl
     at_kind false = refl
 
-run_guard : (room : List ℕ) (t : Told) (ss : List Step) → (run room t ss).guard ≡ t.guard
-unfolding run
-run_guard room t [] = refl
-run_guard room t (s ∷ ss) = run_guard room (run_step room t s) ss ∙ step_guard room t s
+run_guard : (file room : List ℕ) (t : Told) (ss : List Step) → (run_with file room t ss).guard ≡ t.guard
+unfolding run_with
+run_guard file room t [] = refl
+run_guard file room t (s ∷ ss) = run_guard file room (run_step file room t s) ss ∙ step_guard file room t s
 
 fresh_guard : (guard image : List ℕ) → (fresh guard image).guard ≡ guard
 unfolding fresh
 fresh_guard guard image = refl
 
-moved_back : (xs ys : List ℕ) → map (λ b. b + most_blocks) xs ≡ map (λ b. b + most_blocks) ys → xs ≡ ys
+moved_back : (xs ys : List ℕ) → beyond xs ≡ beyond ys → xs ≡ ys
 moved_back [] [] e = refl
 moved_back [] (y ∷ ys) e = absurd (cc)
 moved_back (x ∷ xs) [] e = absurd (cc)
 moved_back (x ∷ xs) (y ∷ ys) e =
-    let head : x + most_blocks ≡ y + most_blocks = cc in
-    let tail : map (λ b. b + most_blocks) xs ≡ map (λ b. b + most_blocks) ys = cc in
+    let head : x + (most_blocks + 1) ≡ y + (most_blocks + 1) = cc in
+    let tail : beyond xs ≡ beyond ys = cc in
     let h : x ≡ y = omega (arith, head) in
     let t : xs ≡ ys = moved_back xs ys tail in
     cc
 
-same_image : (a b : List ℕ) → guard_of a ≡ guard_of b → a ≡ b
-unfolding guard_of
-same_image a b e = moved_back a b (append_cancel_left usual_guard (map (λ x. x + most_blocks) a) (map (λ x. x + most_blocks) b) e)
+-- both have the same package and the same image
+record IsSame (p q a b : List ℕ) : Type 0 where
+  file : p ≡ q
+  image : a ≡ b
 
--- the image of a device, by what it tells
-pub image_is : (image was room : List ℕ) (ss : List Step) (t : Told) → t ≡ under_as t.under (run room (fresh (guard_of was) was) ss) → t.guard ≡ guard_of image → was ≡ image
-image_is image was room ss t left guarded =
-    same_image was image (sym (ap (λ (x : Told). x.guard) left ∙ run_guard room (fresh (guard_of was) was) ss ∙ fresh_guard (guard_of was) was) ∙ guarded)
+parted : (p q a b : List ℕ) → beyond p ++ (most_blocks ∷ beyond a) ≡ beyond q ++ (most_blocks ∷ beyond b) → IsSame p q a b
+parted [] [] a b e =
+    let tail : beyond a ≡ beyond b = cc in
+    record { file = refl; image = moved_back a b tail }
+parted [] (y ∷ q) a b e =
+    let head : most_blocks ≡ y + (most_blocks + 1) = cc in
+    absurd (omega (arith, head))
+parted (x ∷ p) [] a b e =
+    let head : x + (most_blocks + 1) ≡ most_blocks = cc in
+    absurd (omega (arith, head))
+parted (x ∷ p) (y ∷ q) a b e =
+    let head : x + (most_blocks + 1) ≡ y + (most_blocks + 1) = cc in
+    let tail : beyond p ++ (most_blocks ∷ beyond a) ≡ beyond q ++ (most_blocks ∷ beyond b) = cc in
+    let h : x ≡ y = omega (arith, head) in
+    let rest = parted p q a b tail in
+    let same : p ≡ q = rest.file in
+    record { file = cc (h, same); image = rest.image }
+
+same_guard : (p q a b : List ℕ) → guard_with a p ≡ guard_with b q → IsSame p q a b
+unfolding guard_with
+same_guard p q a b e = parted p q a b (append_cancel_left usual_guard (beyond p ++ (most_blocks ∷ beyond a)) (beyond q ++ (most_blocks ∷ beyond b)) e)
+
+-- the image and the package of a device, by what it tells
+pub told_is : (image file was had room : List ℕ) (ss : List Step) (t : Told)
+    → t ≡ under_as t.under (run_with had room (start_with was had) ss) → t.guard ≡ guard_with image file → (was ≡ image) × (had ≡ file)
+told_is image file was had room ss t left guarded =
+    let same = same_guard had file was image
+    (sym (ap (λ (x : Told). x.guard) left ∙ run_guard had room (start_with was had) ss ∙ fresh_guard (guard_with was had) was) ∙ guarded) in
+    (same.image, same.file)
 
 back_guard : (live : Bool) (t : Told) → (back_on live t).guard ≡ t.guard
 unfolding settle fresh
 back_guard true t = refl
 back_guard false t = refl
 
-pub image_by_guard : (d : StepFlash) (image : List ℕ) → (told_of d).guard ≡ guard_of image → image_of d ≡ image
-image_by_guard d image is =
+pub by_guard : (d : StepFlash) (image file : List ℕ) → (told_of d).guard ≡ guard_with image file
+    → (image_of d ≡ image) × (package_of d ≡ file)
+by_guard d image file is =
     let was = image_of d in
-    same_image was image (sym (back_guard d.live (after_steps d) ∙ run_guard d.room.items (start was) d.steps.items ∙ fresh_guard (guard_of was) was) ∙ is)
+    let had = package_of d in
+    let same = same_guard had file was image
+    (sym (back_guard d.live (after_steps d) ∙ run_guard had d.room.items (start_with was had) d.steps.items ∙ fresh_guard (guard_with was had) was) ∙ is) in
+    (same.image, same.file)

@@ -7,8 +7,8 @@ use Rattle.flash_core.specs.declared.flash.Counts.{Counts}
 use Rattle.step_flash.specs.declared.device.StepFlash.{StepFlash}
 use Rattle.step_flash.specs.declared.device.StepParts.{StepParts}
 use Rattle.step_flash.specs.declared.stopped.Stopped.{Stopped}
-use Rattle.step_flash.specs.Guard.{start}
-use Rattle.step_flash.specs.Steps.{run}
+use Rattle.step_flash.specs.Guard.{start_with}
+use Rattle.step_flash.specs.Steps.{run_with}
 use Rattle.step_flash.specs.Stopped.{under_as, under_of}
 
 abbrev pub is_on : StepFlash → Bool
@@ -24,9 +24,13 @@ block_count d = d.blocks
 abbrev pub image_of : StepFlash → List ℕ
 image_of d = d.image.now
 
+-- the bytes in which the bytes of programs were looked for
+abbrev pub package_of : StepFlash → List ℕ
+package_of d = d.file.bytes.now
+
 -- the image with the steps done
 abbrev pub after_steps : StepFlash → Told
-after_steps d = run d.room.items (start d.image.now) d.steps.items
+after_steps d = run_with d.file.bytes.now d.room.items (start_with d.image.now d.file.bytes.now) d.steps.items
 
 -- Power that comes back after a stop leaves the bytes as they are, with nothing dirty.
 abbrev pub back_on : Bool → Told → Told
@@ -45,7 +49,10 @@ counts_of d = record { faults = d.faults; cuts = 0; chances = 0; made = d.made; 
 
 -- What is told is what these steps leave, beside an operation that is under way.
 abbrev pub NotedBy : StepFlash → StepParts → Type 0
-NotedBy d parts = told_of d ≡ under_as (told_of d).under (run parts.room.items (start (image_of d)) parts.steps.items)
+NotedBy d parts =
+    told_of d
+    ≡ under_as (told_of d).under
+    (run_with (package_of d) parts.room.items (start_with (image_of d) (package_of d)) parts.steps.items)
 
 -- ---- what is told fits the device
 

@@ -1,30 +1,51 @@
 -- What steps do to a flash.
-use Rattle.std.specs.Prelude.{◌≡◌, ℕ, Bool, ◌+◌, ◌≤◌, ◌==◌, if◌then◌else◌, List, fold, slice_range}
+use Rattle.std.specs.Prelude.{◌≡◌, ℕ, Bool, ◌+◌, ◌<◌, ◌≤◌, ◌==◌, if◌then◌else◌, List, [], fold, slice_range, length}
 use Rattle.base_core.specs.Block.{blank, block_bytes}
 use Rattle.flash_core.specs.Told.{Told, put, settle}
 use Rattle.step_flash.specs.declared.step.Step.{Step}
 
--- Kind 1 is an erase, kind 2 a program, kind 3 a barrier.
+-- Kind 1 is an erase, kind 2 a program, kind 3 a barrier, kind 4 a copy: a program whose bytes stand in the package.
 abbrev pub is_erase : Step → Bool
 is_erase s = s.kind == 1
 
 abbrev pub is_barrier : Step → Bool
 is_barrier s = s.kind == 3
 
--- the bytes of an erase, or of a program, which stand in the room
-abbrev pub bytes_of : List ℕ → Step → List ℕ
-bytes_of room s = if is_erase s then blank block_bytes else slice_range room s.from (s.from + s.length)
+abbrev pub is_copy : Step → Bool
+is_copy s = s.kind == 4
+
+-- where the bytes of a program stand: in the package at a copy, else in the room
+abbrev pub source_of : List ℕ → List ℕ → Step → List ℕ
+source_of file room s = if is_copy s then file else room
+
+-- the bytes of an erase, or those that stand in the package or the room
+abbrev pub bytes_of : List ℕ → List ℕ → Step → List ℕ
+bytes_of file room s = if is_erase s then blank block_bytes else slice_range (source_of file room s) s.from (s.from + s.length)
 
 -- what a flash tells after one step
-abbrev pub run_step : List ℕ → Told → Step → Told
-run_step room t s = if is_barrier s then settle t else put s.at (bytes_of room s) t
+abbrev pub run_step : List ℕ → List ℕ → Told → Step → Told
+run_step file room t s = if is_barrier s then settle t else put s.at (bytes_of file room s) t
 
 -- what a flash tells after the steps, in their order
-unfoldable pub run : List ℕ → Told → List Step → Told
-run room t steps = fold (run_step room) t steps
+unfoldable pub run_with : List ℕ → List ℕ → Told → List Step → Told
+run_with file room t steps = fold (run_step file room) t steps
 
--- The step lies in a flash of so many bytes, and its bytes in a room of so many.
-pub record IsInside (room size : ℕ) (s : Step) : Type 0 where
+-- where there is no package
+abbrev pub run : List ℕ → Told → List Step → Told
+run room t steps = run_with [] room t steps
+
+-- The step lies in a flash of so many bytes, and its bytes in a package, or else in a room, of so many.
+pub record IsInsideWith (file room size : ℕ) (s : Step) : Type 0 where
   pub block : s.kind ≡ 1 → s.length ≡ block_bytes
-  pub bytes : (s.kind ≡ 1 → ⊥) → s.from + s.length ≤ room
+  pub copied : s.kind ≡ 4 → (0 < s.length) × (s.from + s.length ≤ file)
+  pub bytes : (s.kind ≡ 1 → ⊥) → (s.kind ≡ 4 → ⊥) → s.from + s.length ≤ room
   pub place : s.at + s.length ≤ size
+
+-- where there is no package, and so no copy
+abbrev pub IsInside : ℕ → ℕ → Step → Type 0
+IsInside room size s = IsInsideWith 0 room size s
+
+-- These bytes stand in the package from a place on.
+pub record StandsAt (file : List ℕ) (from : ℕ) (bytes : List ℕ) : Type 0 where
+  pub fits : from + length bytes ≤ length file
+  pub is : slice_range file from (from + length bytes) ≡ bytes

@@ -4,11 +4,12 @@ ghost use Rattle.std.specs.Option.{ForSome};
 ghost use Rattle.base_core.specs.Block.{blank, block_bytes, fewest_blocks, most_blocks};
 ghost use Rattle.flash_core.specs.Told.{Told, IsSound};
 ghost use Rattle.flash_core.specs.Counts.{lowered};
-ghost use Rattle.step_flash.specs.Guard.{start};
-ghost use Rattle.step_flash.specs.Steps.{IsInside, run, run_step};
+ghost use Rattle.step_flash.specs.Guard.{start_with};
+ghost use Rattle.step_flash.specs.Steps.{IsInsideWith, run_step, run_with, source_of};
 
+use crate::lent_file::LentFile;
 use crate::overlay::overlay;
-use crate::step::{BARRIER, ERASE, Step, note_barrier, note_erase, note_program};
+use crate::step::{BARRIER, COPY, ERASE, Step, note_barrier, note_erase, note_program};
 use crate::stopped::Stopped;
 use base_core::{BLOCK_BYTES, FEWEST_BLOCKS, MOST_BLOCKS};
 use flash_core::{Arming, Flash, FlashStop};
@@ -17,6 +18,7 @@ use std::alloc::Global;
 static BLANK: [u8; 4096] = [0xFF; 4096];
 
 /// A flash over an image in memory, which is never written. Its erases, programs and barriers are noted as steps, at most so many.
+/// A program whose bytes are found in a package beside the image is noted as a copy.
 ///
 /// An erase, a program or a barrier fails where there is no room for one more step, or no memory for it. An erase or a program
 /// fails too where an armed loss of power is due, since a list of steps has no loss. Power goes then. Once it is on again, each
@@ -24,13 +26,14 @@ static BLANK: [u8; 4096] = [0xFF; 4096];
 #[derive(Drop)]
 pub struct StepFlash<'a> {
     image: &'a [u8],
+    file: LentFile<'a>,
     blocks: u32,
     on: bool,
     // power was not on again after a stop
     live: bool,
     steps: Vec<Step>,
     most: usize,
-    // the bytes of the programs, one after the other
+    // the bytes of the programs that are no copies, one after the other
     room: Vec<u8>,
     stopped: Option<Stopped>,
     arming: Option<Arming>,
@@ -38,10 +41,11 @@ pub struct StepFlash<'a> {
     made: u64,
     ghost sizes: { (fewest_blocks ≤ blocks) × (blocks ≤ most_blocks) },
     ghost size: { length image.now ≡ block_bytes * blocks },
-    ghost inside: { All (IsInside (length room.items) (block_bytes * blocks)) steps.items },
+    ghost inside: { All (IsInsideWith (length file.bytes.now) (length room.items) (block_bytes * blocks)) steps.items },
     ghost idle: { IsTrue on → IsTrue (is_none stopped) },
     ghost ahead: { ForSome arming (λ armed. 1 ≤ armed.n) },
-    ghost sound: { IsSound blocks true (run room.items (start image.now) steps.items) },
+    ghost sound: { IsSound blocks true
+        (run_with file.bytes.now room.items (start_with image.now file.bytes.now) steps.items) },
 }
 
 /// What was noted: the steps, in their order, and the room in which the bytes of programs stand.
@@ -49,7 +53,7 @@ pub struct StepFlash<'a> {
 pub struct StepParts {
     /// What is to be done to the flash, in this order.
     pub steps: Vec<Step>,
-    /// The bytes of the programs, one after the other.
+    /// The bytes of the programs that are no copies, one after the other.
     pub room: Vec<u8>,
 }
 
@@ -80,14 +84,24 @@ fn blocks_of(bytes: usize) -> Option<u32>
     Some(blocks as u32)
 }
 
+/// Where the bytes of a program stand.
+fn source_of<'b>(step: &Step, file: &'b [u8], room: &'b [u8]) -> &'b [u8]
+    ensures { result.now ≡ source_of file.now room.now step.now }
+{
+    if step.kind == COPY {
+        return file;
+    }
+    room
+}
+
 /// Makes of bytes that were read from a place on what a step makes of them.
-fn lay(step: &Step, room: &[u8], blocks: u32, at: usize, out: &mut [u8])
-    requires inside { IsInside (length room.now) (block_bytes * blocks) step.now }
+fn lay(step: &Step, file: &[u8], room: &[u8], blocks: u32, at: usize, out: &mut [u8])
+    requires inside { IsInsideWith (length file.now) (length room.now) (block_bytes * blocks) step.now }
     requires few { blocks ≤ most_blocks }
     requires place { at + length out.old ≤ block_bytes * blocks }
     ensures laid { (t : Told) → length t.now ≡ block_bytes * blocks
         → out.old ≡ slice_range t.now at (at + length out.old)
-        → out.new ≡ slice_range (run_step room.now t step.now).now at (at + length out.old) }
+        → out.new ≡ slice_range (run_step file.now room.now t step.now).now at (at + length out.old) }
     ensures size { length out.new ≡ length out.old }
 {
     if step.kind == ERASE {
@@ -98,7 +112,7 @@ fn lay(step: &Step, room: &[u8], blocks: u32, at: usize, out: &mut [u8])
         return;
     }
     let from = step.from as usize;
-    let bytes = &room[from..from + step.length as usize];
+    let bytes = &source_of(step, file, room)[from..from + step.length as usize];
     overlay(out, at, step.at as usize, bytes);
 }
 
@@ -106,13 +120,14 @@ impl<'a> StepFlash<'a> {
     ghost use Rattle.std.specs.Prelude.{◌≡◌, true, None, ◌+◌, ◌*◌, ◌≤◌, All, length, is_ok, slice_range};
     ghost use Rattle.std.specs.Prelude.{ℕ, IfSome, IfNone, IsTrue, IsErrOf};
     ghost use Rattle.flash_core.specs.Told.{halt};
+    ghost use Rattle.step_flash.specs.Guard.{start};
     ghost use Rattle.flash_core.specs.Counts.{Spends, IsDue};
     ghost use Rattle.flash_core.specs.declared.flash.FlashStop.TheVariants.{Failed};
-    ghost use Rattle.step_flash.specs.Device.{is_on, is_live, block_count, image_of, after_steps, told_of};
+    ghost use Rattle.step_flash.specs.Device.{is_on, is_live, block_count, image_of, package_of, after_steps, told_of};
     ghost use Rattle.step_flash.specs.Device.{arming_of, counts_of, NotedBy};
 
-    /// The device over an image, which is on, with nothing dirty, and notes so many steps at most. None where the image has not the
-    /// bytes of 8 to 65,536 blocks of 4096 bytes.
+    /// The device over an image, with no package, which is on, with nothing dirty, and notes so many steps at most. None where the
+    /// image has not the bytes of 8 to 65,536 blocks of 4096 bytes.
     pub fn new(alloc: Global, image: &'a [u8], most: usize) -> Option<StepFlash<'a>>
         ensures content { IfSome result (λ d. told_of d ≡ start image.now) }
         ensures power { IfSome result (λ d. is_on d ≡ true) }
@@ -122,9 +137,31 @@ impl<'a> StepFlash<'a> {
         ensures size { IfSome result (λ d. length image.now ≡ block_bytes * block_count d) }
         ensures none { IfNone result ((b : ℕ) → fewest_blocks ≤ b → b ≤ most_blocks → length image.now ≡ block_bytes * b → ⊥) }
     {
+        StepFlash::with_package(alloc, image, most, &[], &[])
+    }
+
+    /// As `new`, with a package. A program's bytes are looked for in it behind those that were found last, and at each of the
+    /// places.
+    pub fn with_package(
+        alloc: Global,
+        image: &'a [u8],
+        most: usize,
+        file: &'a [u8],
+        places: &'a [usize],
+    ) -> Option<StepFlash<'a>>
+        ensures content { IfSome result (λ d. told_of d ≡ start_with image.now file.now) }
+        ensures power { IfSome result (λ d. is_on d ≡ true) }
+        ensures unarmed { IfSome result (λ d. arming_of d ≡ None) }
+        ensures image { IfSome result (λ d. image_of d ≡ image.now) }
+        ensures file { IfSome result (λ d. package_of d ≡ file.now) }
+        ensures live { IfSome result (λ d. is_live d ≡ true) }
+        ensures size { IfSome result (λ d. length image.now ≡ block_bytes * block_count d) }
+        ensures none { IfNone result ((b : ℕ) → fewest_blocks ≤ b → b ≤ most_blocks → length image.now ≡ block_bytes * b → ⊥) }
+    {
         let blocks = blocks_of(image.len())?;
         Some(StepFlash {
             image,
+            file: LentFile::new(file, places),
             blocks,
             on: true,
             live: true,
@@ -148,7 +185,8 @@ impl<'a> StepFlash<'a> {
     /// The steps that were noted, in their order.
     pub fn into_parts(self) -> StepParts
         ensures noted { IsTrue (is_live self.entry) → NotedBy self.entry result }
-        ensures inside { All (IsInside (length result.room.items) (block_bytes * block_count self.entry)) result.steps.items }
+        ensures inside { All (IsInsideWith (length (package_of self.entry)) (length result.room.items)
+            (block_bytes * block_count self.entry)) result.steps.items }
     {
         StepParts {
             steps: self.steps,
@@ -163,7 +201,7 @@ impl<'a> StepFlash<'a> {
     {
         out.copy_from_slice(&self.image[at..at + out.len()]);
         for step in &self.steps {
-            lay(step, &self.room, self.blocks, at, out);
+            lay(step, self.file.bytes, &self.room, self.blocks, at, out);
         }
     }
 
@@ -267,7 +305,14 @@ impl<'a> Flash for StepFlash<'a> {
 
     fn program(&mut self, at: u32, bytes: &[u8]) -> Result<(), FlashStop> {
         if !self.is_ready()
-            || !note_program(&mut self.steps, &mut self.room, self.most, at, bytes)
+            || !note_program(
+                &mut self.steps,
+                &mut self.room,
+                &mut self.file,
+                self.most,
+                at,
+                bytes,
+            )
         {
             return self.stop(at, bytes);
         }

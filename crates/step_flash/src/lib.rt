@@ -5,6 +5,7 @@
 mod device;
 mod ghost_bytes;
 mod laws;
+mod lent_file;
 mod overlay;
 mod step;
 mod stopped;
@@ -13,4 +14,4 @@ mod tests;
 
 pub use device::{StepFlash, StepParts};
 pub use laws::{a_guard_tells_its_image, no_power_is_lost};
-pub use step::{BARRIER, ERASE, PROGRAM, Step};
+pub use step::{BARRIER, COPY, ERASE, PROGRAM, Step};

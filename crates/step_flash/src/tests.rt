@@ -1,7 +1,7 @@
 //! The steps of blocks that are written over, in a flash of eight blocks of 0x5A.
 ghost use Rattle.std.specs.Prelude.{◌≤◌, length, IfOk, ◌≡◌, IsTrue};
 
-use crate::{BARRIER, ERASE, PROGRAM, Step, StepFlash, StepParts};
+use crate::{BARRIER, COPY, ERASE, PROGRAM, Step, StepFlash, StepParts};
 use flash_core::{Flash, FlashStop, read_block, replace};
 use std::alloc::{AllocError, Global};
 use std::fmt::Debug;
@@ -81,5 +81,49 @@ fn a_fifth_step_fails(rt: HostRuntime) -> Result<(), Fail> {
     let parts = flash.into_parts();
     is_step(&rt, &parts, 3, (ERASE, 24576, 4096, 0));
     same(&rt, (parts.steps.len(), parts.room.len()), (4, 16));
+    Ok(())
+}
+
+// Bytes of two kinds, with those of block 5 from 16 on and those of block 6 from 40 on.
+fn packed(alloc: Global) -> Result<Vec<u8>, AllocError> {
+    let mut file = filled(alloc, 0x11, 16)?;
+    file.extend_from_slice(&[0xA5; 16])?;
+    file.extend_from_slice(&[0x22; 8])?;
+    file.extend_from_slice(&[0xA6; 32])?;
+    Ok(file)
+}
+
+#[test]
+fn what_stands_in_the_package_is_copied(rt: HostRuntime) -> Result<(), Fail> {
+    let image = filled(rt.alloc(), 0x5A, 32768)?;
+    let file = packed(rt.alloc())?;
+    let Some(mut flash) = StepFlash::with_package(rt.alloc(), &image, 6, &file, &[16, 40]) else {
+        return Err(Fail::from("a flash of eight blocks"));
+    };
+    assert!(&rt; flash.is_on() && flash.blocks() == 8, "it is on");
+    same(&rt, write_two(&mut flash), Ok(()));
+    reads_six(&rt, rt.alloc(), &mut flash)?;
+    let parts = flash.into_parts();
+    is_step(&rt, &parts, 1, (COPY, 20480, 16, 16));
+    is_step(&rt, &parts, 2, (BARRIER, 0, 0, 0));
+    is_step(&rt, &parts, 4, (COPY, 24576, 32, 40));
+    same(&rt, (parts.steps.len(), parts.room.len()), (6, 0));
+    Ok(())
+}
+
+#[test]
+fn what_stands_at_no_place_is_programmed(rt: HostRuntime) -> Result<(), Fail> {
+    let image = filled(rt.alloc(), 0x5A, 32768)?;
+    let file = packed(rt.alloc())?;
+    let Some(mut flash) = StepFlash::with_package(rt.alloc(), &image, 6, &file, &[16]) else {
+        return Err(Fail::from("a flash of eight blocks"));
+    };
+    assert!(&rt; flash.is_on() && flash.blocks() == 8, "it is on");
+    same(&rt, write_two(&mut flash), Ok(()));
+    reads_six(&rt, rt.alloc(), &mut flash)?;
+    let parts = flash.into_parts();
+    is_step(&rt, &parts, 1, (COPY, 20480, 16, 16));
+    is_step(&rt, &parts, 4, (PROGRAM, 24576, 32, 0));
+    same(&rt, (parts.steps.len(), parts.room.len()), (6, 32));
     Ok(())
 }

@@ -1,54 +1,61 @@
-use Rattle.std.proofs.Common.{◌∙◌, inl, inr, sym, subst, arith}
+use Rattle.std.proofs.Common.{[], ◌∙◌, sym, subst}
 use Rattle.std.specs.Prelude.{IsTrue}
-use Rattle.early_boot.specs.Started.{device, started}
+use Rattle.agent_calls.specs.Shown.{device}
 use Rattle.step_flash.specs.Device.{image_of, told_of}
 use Rattle.fwu_c.specs.Calls.{call_of}
-use Rattle.fwu_c.specs.Handed.{is_idle}
-use Rattle.fwu_c.proofs.Booting.{given}
-use Rattle.fwu_c.proofs.Calls.{call_busy, call_not_four, call_not_seven, call_not_six, called_by, handed_not, refused_by, take_up_idle, take_up_not}
+use Rattle.fwu_c.specs.Handed.{IsDeviceEnd, is_idle}
+use Rattle.fwu_c.proofs.Booting.{given, has_flash_size}
+use Rattle.fwu_c.proofs.Calls.{call_busy, call_end_is, called_by, refused_by, take_up_end_is, take_up_idle}
+use Rattle.fwu_c.proofs.Telling.{told_handed, told_no_room}
 use Rattle.fwu_c.proofs.calling.call_over.Goals as goal
 
-pub hand_over-requires : goal.hand_over-requires
-hand_over-requires c = record {
-  known = λ seven. call_not_seven c.called-flash.result.1 c.called-flash.ensures.ends (sym c.call_number.ensures ∙ seven);
-  idle = λ idle. absurd (call_busy c.called-flash.result.1 (subst (λ n. IsTrue (is_idle n)) c.call_number.ensures idle));
-}
+pub called-flash-requires : goal.called-flash-requires
+called-flash-requires c = record { here = (rw c.in-Some-Ok.field-0-is at c.in-Some-Ok.ensures.takes).begins.here }
 
-pub returns-in-Ok-clause-calls : goal.returns-in-Ok-clause-calls
-returns-in-Ok-clause-calls c = λ tells.
+pub hand_over-requires : goal.hand_over-requires
+hand_over-requires c =
+    let a = c.called-flash in
+    record {
+      known = subst (λ n. IsDeviceEnd n) (sym c.call_number.ensures) (call_end_is a.result.1 a.ensures.ends);
+      idle = λ idle. absurd (call_busy a.result.1 (subst (λ n. IsTrue (is_idle n)) c.call_number.ensures idle));
+    }
+
+pub returns-in-Some-Ok-clause-calls : goal.returns-in-Some-Ok-clause-calls
+returns-in-Some-Ok-clause-calls c = λ tells.
     let h = c.hand_over in
     let a = c.called-flash in
-    called_by (image_of c.args.flash) c.args.bank (call_of c.args.call) c.args.flash (device c.in-Ok.booted) a.result.0 (started c.in-Ok.booted) a.result.1 h.result _ _ _ _ c.requires.fresh c.requires.size
-    (a.ensures.size ∙ c.in-Ok.ensures.taken_size) c.in-Ok.ensures.takes a.ensures.calls (h.ensures.hands tells.1) (given _ _ h.ensures.number tells.1 ∙ c.call_number.ensures)
+    let up = rw c.in-Some-Ok.field-0-is at c.in-Some-Ok.ensures.takes in
+    called_by (image_of c.args.flash) c.args.bank (call_of c.args.call) c.args.flash (device c.in-Some-Ok.agent.value) a.result.0 up.began a.result.1 h.result _ _ _ _
+    c.requires.fresh c.requires.size (a.ensures.size ∙ (rw c.in-Some-Ok.field-0-is at c.in-Some-Ok.ensures.taken_size)) up.takes (a.ensures.calls up.began up.begins)
+    (h.ensures.hands tells.1) (given _ _ h.ensures.number tells.1 ∙ c.call_number.ensures)
 
-pub returns-in-Ok-clause-unlost : goal.returns-in-Ok-clause-unlost
-returns-in-Ok-clause-unlost c =
+pub returns-in-Some-Ok-clause-tells : goal.returns-in-Some-Ok-clause-tells
+returns-in-Some-Ok-clause-tells c =
+    let h = c.hand_over.ensures in
     let a = c.called-flash in
-    handed_not 4 _ _ c.hand_over.ensures.number (λ four. call_not_four a.result.1 a.ensures.ends (sym c.call_number.ensures ∙ four)) (λ e. omega (arith, e))
+    told_handed (image_of c.args.flash) c.hand_over.result c.call_number.result _ _ _ _ _ _ (has_flash_size (image_of c.args.flash) c.args.flash c.requires.size)
+    (subst (λ n. IsDeviceEnd n) (sym c.call_number.ensures) (call_end_is a.result.1 a.ensures.ends)) h.number h.idle h.full h.untouched
 
-pub returns-in-Ok-clause-known : goal.returns-in-Ok-clause-known
-returns-in-Ok-clause-known c =
-    handed_not 6 _ _ c.hand_over.ensures.number (λ six. call_not_six c.called-flash.result.1 (sym c.call_number.ensures ∙ six)) (λ e. omega (arith, e))
-
-pub hand_over-requires-in-Err : goal.hand_over-requires-in-Err
-hand_over-requires-in-Err c =
-    let refuses = c.in-Err.ensures.refuses in
+pub hand_over-requires-in-Some-Err : goal.hand_over-requires-in-Some-Err
+hand_over-requires-in-Some-Err c =
+    let refuses = rw c.in-Some-Err.field-0-is at c.in-Some-Err.ensures.refuses in
     record {
-      known = λ seven. take_up_not refuses.end _ (sym refuses.number_is) (inr seven);
-      idle = λ idle. take_up_idle c.args.bank refuses.end (told_of c.args.flash) (told_of c.in-Err.flash) (image_of c.args.flash, c.requires.fresh)
+      known = take_up_end_is _ _ _ _ _ refuses;
+      idle = λ idle. take_up_idle c.args.bank refuses.end (told_of c.args.flash) (told_of c.in-Some-Err.flash) (image_of c.args.flash, [], c.requires.fresh)
           refuses.ends.by_bytes (subst (λ n. IsTrue (is_idle n)) refuses.number_is idle);
     }
 
-pub returns-in-Err-clause-calls : goal.returns-in-Err-clause-calls
-returns-in-Err-clause-calls c = λ tells.
-    let h = c.hand_over-in-Err in
-    refused_by (image_of c.args.flash) c.args.bank (call_of c.args.call) c.args.flash c.in-Err.flash h.result c.in-Err.number _ _ _ _ c.requires.fresh c.requires.size c.in-Err.ensures.left_size
-    c.in-Err.ensures.refuses (h.ensures.hands tells.1) (given _ _ h.ensures.number tells.1)
+pub returns-in-Some-Err-clause-calls : goal.returns-in-Some-Err-clause-calls
+returns-in-Some-Err-clause-calls c = λ tells.
+    let h = c.hand_over-in-Some-Err in
+    refused_by (image_of c.args.flash) c.args.bank (call_of c.args.call) c.args.flash c.in-Some-Err.flash h.result c.in-Some-Err.number _ _ _ _
+    c.requires.fresh c.requires.size (rw c.in-Some-Err.field-0-is at c.in-Some-Err.ensures.left_size) (rw c.in-Some-Err.field-0-is at c.in-Some-Err.ensures.refuses) (h.ensures.hands tells.1) (given _ _ h.ensures.number tells.1)
 
-pub returns-in-Err-clause-unlost : goal.returns-in-Err-clause-unlost
-returns-in-Err-clause-unlost c = handed_not 4 _ _ c.hand_over-in-Err.ensures.number c.in-Err.ensures.refuses.unlost (λ e. omega (arith, e))
+pub returns-in-Some-Err-clause-tells : goal.returns-in-Some-Err-clause-tells
+returns-in-Some-Err-clause-tells c =
+    let h = c.hand_over-in-Some-Err.ensures in
+    told_handed (image_of c.args.flash) c.hand_over-in-Some-Err.result c.in-Some-Err.number _ _ _ _ _ _ (has_flash_size (image_of c.args.flash) c.args.flash c.requires.size)
+    (take_up_end_is _ _ _ _ _ (rw c.in-Some-Err.field-0-is at c.in-Some-Err.ensures.refuses)) h.number h.idle h.full h.untouched
 
-pub returns-in-Err-clause-known : goal.returns-in-Err-clause-known
-returns-in-Err-clause-known c =
-    let refuses = c.in-Err.ensures.refuses in
-    handed_not 6 _ _ c.hand_over-in-Err.ensures.number (λ six. take_up_not refuses.end _ (sym refuses.number_is) (inl six)) (λ e. omega (arith, e))
+pub returns-in-None-clause-tells : goal.returns-in-None-clause-tells
+returns-in-None-clause-tells c = told_no_room _ _ _ _ (has_flash_size (image_of c.args.flash) c.args.flash c.requires.size)

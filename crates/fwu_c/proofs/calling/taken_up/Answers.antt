@@ -1,5 +1,9 @@
-use Rattle.std.proofs.Common.{◌∙◌, refl, arith, sym}
-use Rattle.early_boot.specs.TakenUp.{bad_layout, no_metadata, not_started, stopped}
+use Rattle.std.proofs.Common.{◌∙◌, ap, refl, arith, subst, sym}
+use Rattle.flash_core.specs.Told.{Told}
+use Rattle.fwu_formats.specs.Digests.{passes_any}
+use Rattle.early_boot.specs.Started.{started}
+use Rattle.early_boot.specs.TakenUp.{TakeUpEnds, bad_layout, no_metadata, not_started, stopped, taken}
+use Rattle.step_flash.specs.Device.{block_count, told_of}
 use Rattle.fwu_c.proofs.Calls.{stop_unlost}
 use Rattle.fwu_c.proofs.calling.taken_up.Goals as goal
 
@@ -43,5 +47,18 @@ returns-in-Stopped-clause-refuses c = record {
   unlost = λ e. stop_unlost c.in-Stopped.stop c.args.flash c.in-Stopped.flash c.in-Stopped.ensures.takes.costs (sym c.stop_number.ensures ∙ e);
 }
 
-pub returns-in-Taken-clause-takes : goal.returns-in-Taken-clause-takes
-returns-in-Taken-clause-takes c = record { ends = c.in-Taken.ensures.takes.ends refl; reports = c.report_start.ensures }
+pub returns-in-Some-clause-takes : goal.returns-in-Some-clause-takes
+returns-in-Some-clause-takes c =
+    let b = started c.in-Taken.booted in
+    record {
+      began = b;
+      takes = record {
+        ends = subst (λ (t : Told). TakeUpEnds (λ m. passes_any m) c.args.bank (told_of c.args.flash) (taken b) t)
+            (sym (ap (λ d. told_of d) c.in-Some.ensures.device)) (c.in-Taken.ensures.takes.ends refl);
+        reports = c.report_start.ensures;
+      };
+      begins = c.in-Some.ensures.begins;
+    }
+
+pub returns-in-Some-clause-taken_size : goal.returns-in-Some-clause-taken_size
+returns-in-Some-clause-taken_size c = ap (λ d. block_count d) c.in-Some.ensures.device ∙ c.in-Taken.ensures.takes.size

@@ -1,7 +1,8 @@
-use Rattle.std.proofs.Common.{◌≡◌, ap, refl, true, Bor, List, [], ℕ, Result, Ok, Err}
+use Rattle.std.proofs.Common.{◌≡◌, ap, true, Bor, List, [], ℕ, Result, Ok, Err}
 use Rattle.std.specs.Prelude.{IsErr, MatchResult, is_err}
 use Rattle.fwu_formats.specs.Package.{Toc, toc_of}
 use Rattle.fwu_formats.specs.declared.kinds.FipFault.{FipFault}
+use Rattle.fip_tables.specs.Stream.{Fed}
 use Rattle.step_flash.specs.Device.{block_count, told_of}
 use Rattle.fwu_c.proofs.sending.install.Goals as goal
 
@@ -11,17 +12,13 @@ is-no-package : (bytes : List ℕ) (answer : Result (Bor Toc) FipFault) → Matc
 is-no-package bytes (Ok toc) answers fault = absurd (cc)
 is-no-package bytes (Err f) answers fault = ap (λ (r : Result Toc FipFault). is_err r) answers
 
-pub returns-in-Ok-clause-layout : goal.returns-in-Ok-clause-layout
-returns-in-Ok-clause-layout c = (c.args.booted.knows refl).layout_is
+pub returns-clause-size : goal.returns-clause-size
+returns-clause-size c = ap (λ d. block_count d) c.device_of.ensures
 
-pub returns-in-Err-clause-layout : goal.returns-in-Err-clause-layout
-returns-in-Err-clause-layout c = (c.args.booted.knows refl).layout_is
-
-pub returns-in-Err-clause-size : goal.returns-in-Err-clause-size
-returns-in-Err-clause-size c = ap (λ d. block_count d) c.into_parts-flash.ensures.device
-
-pub returns-in-Err-clause-installs : goal.returns-in-Err-clause-installs
-returns-in-Err-clause-installs c = (
-  is-no-package c.args.file.now c.toc.result (c.toc.ensures c.args.file.now (c.feed-fault.ensures.fed [] c.new-stream.ensures)) (ap (λ (r : Result (Bor Toc) FipFault). is_err r) c.in-Err.is),
-  ap (λ d. told_of d) c.into_parts-flash.ensures.device,
-)
+pub returns-clause-installs : goal.returns-clause-installs
+returns-clause-installs c = λ b begins.
+    let fed : Fed c.deref_mut.result.now [] = rw c.deref_mut.ensures.value c.in_ok-table.ensures in
+    let read = rw c.deref.ensures at c.toc.ensures in (
+      is-no-package c.args.file.now c.toc.result (read c.args.file.now (c.feed-fault.ensures.fed [] fed)) (ap (λ (r : Result (Bor Toc) FipFault). is_err r) c.in-Err.is),
+      ap (λ d. told_of d) c.device_of.ensures,
+    )

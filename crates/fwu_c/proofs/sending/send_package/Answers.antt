@@ -1,15 +1,15 @@
 use Rattle.std.proofs.Common.{◌≡◌, ◌+◌, ◌≤◌, refl, sym, ap, subst, ◌∙◌, List, ℕ, length, Option, Some, None, Result, arith}
-use Rattle.std.specs.Prelude.{All, IsErrOf}
+use Rattle.std.specs.Prelude.{All, IsErrOf, IsFalse}
 use Rattle.flash_core.specs.Told.{Told}
 use Rattle.flash_core.specs.declared.flash.FlashStop.TheVariants as flash_stop
 use Rattle.host_io.specs.Contents.{Directory}
-use Rattle.early_boot.specs.Started.{device, started}
 use Rattle.agent_calls.specs.Shown as agent
 use Rattle.update_client.specs.declared.stops.Sent.{Sent}
 use Rattle.update_client.specs.declared.stops.SendStop.{SendStop}
 use Rattle.update_client.specs.Halts.{flash_of}
 use Rattle.step_flash.specs.Device.{block_count, told_of}
 use Rattle.step_flash.proofs.Causes.{never_lost}
+use Rattle.fwu_c.specs.Agents.{BeginsWith}
 use Rattle.fwu_c.specs.Sendings.{SendsPackage}
 use Rattle.fwu_c.proofs.SentPackage.{held_there, here_after, is_sent, never_rose, package_sent}
 use Rattle.fwu_formats.proofs.Tables.{table-of}
@@ -41,34 +41,36 @@ send-sent-requires-clause-there c = λ lacks. is_there _ _ c.args.file.now c.new
 
 pub returns-clause-ends : goal.returns-clause-ends
 returns-clause-ends c =
+    let first = c.deref_mut.result.now in
     let sent = c.send-sent in
-    let here = c.start-agent.ensures.here in
+    let here : IsFalse (agent.gone first) = rw c.deref_mut.ensures.value c.requires.here in
     is_sent sent.result
     (λ read. never_rose (sent.ensures.reads.failed read))
-    (λ lost. never_lost (flash_of sent.result) (agent.device c.start-agent.result) (agent.device sent.new.agent) (sent.ensures.goes here).costs
+    (λ lost. never_lost (flash_of sent.result) (agent.device first) (agent.device sent.new.agent) (sent.ensures.goes here).costs
     (subst (λ (r : Result Sent SendStop). IsErrOf (flash_of r) flash_stop.Lost) (sym lost) refl))
     (λ gone. let was = (sent.ensures.gone.gone.0 gone).0 in absurd (cc (was, here)))
 
 pub returns-clause-size : goal.returns-clause-size
 returns-clause-size c =
-    ap (λ d. block_count d) c.into_flash.ensures ∙ (c.send-sent.ensures.goes c.start-agent.ensures.here).size
-    ∙ ap (λ d. block_count d) c.start-agent.ensures.device
+    let here : IsFalse (agent.gone c.deref_mut.result.now) = rw c.deref_mut.ensures.value c.requires.here in
+    ap (λ d. block_count d) c.device_of.ensures ∙ (c.send-sent.ensures.goes here).size ∙ ap (λ a. block_count (agent.device a)) c.deref_mut.ensures.value
 
 pub returns-clause-sends : goal.returns-clause-sends
-returns-clause-sends c =
-    let first = c.start-agent in
+returns-clause-sends c = λ b begins.
+    let first = c.deref_mut.result.now in
     let sent = c.send-sent in
-    let here = first.ensures.here in
     let file = c.args.file.now in
     let request = c.args.acceptance in
-    let old = agent.moment first.result in
+    let old = agent.moment first in
     let new = agent.moment sent.new.agent in
-    let by = package_sent _ file _ request (started c.args.booted) c.args.toc.now sent.result old new
-    (held_there _ _ _ c.new-files.ensures) c.requires.table (returns-clause-ends c) refl first.ensures.fields (sent.ensures.sends here)
-    (λ s shown. first.ensures.shows refl s shown)
-    (λ ok s x shows. c.showing.ensures.seen (here_after _ sent.result _ _ here sent.ensures.gone ok) refl s x shows)
+    let begun : BeginsWith b old (agent.gone first) = rw c.deref_mut.ensures.value begins in
+    let here = begun.here in
+    let by = package_sent _ file _ request b c.args.toc.now sent.result old new
+    (held_there _ _ _ c.new-files.ensures) c.requires.table (returns-clause-ends c) refl begun.from (sent.ensures.sends here)
+    begun.shows
+    (λ ok s x shows. (rw c.deref.ensures at c.showing.ensures.seen) (here_after _ sent.result _ _ here sent.ensures.gone ok) refl s x shows)
     (λ s x shows. sent.ensures.installs here s x shows) sent.ensures.faults in
-    subst (λ (t : Told). SendsPackage file request (started c.args.booted) sent.result (told_of (device c.args.booted)) t)
-    (sym (ap (λ d. told_of d) c.into_flash.ensures))
-    (subst (λ (t : Told). SendsPackage file request (started c.args.booted) sent.result t (told_of (agent.device sent.new.agent)))
-    (ap (λ d. told_of d) first.ensures.device) by)
+    subst (λ (t : Told). SendsPackage file request b sent.result (told_of (agent.device c.args.agent.value)) t)
+    (sym (ap (λ d. told_of d) c.device_of.ensures))
+    (subst (λ (t : Told). SendsPackage file request b sent.result t (told_of (agent.device sent.new.agent)))
+    (ap (λ a. told_of (agent.device a)) c.deref_mut.ensures.value) by)

@@ -1,53 +1,65 @@
-use Rattle.std.proofs.Common.{◌≡◌, ap, refl, subst, sym, ◌∙◌}
+use Rattle.std.proofs.Common.{◌∙◌, sym, subst}
 use Rattle.std.specs.Prelude.{IsTrue}
-use Rattle.fwu_formats.specs.Digests.{passes_any}
-use Rattle.early_boot.specs.Ends.{device_of, ended}
-use Rattle.early_boot.specs.EndsBy.{BootEnds}
-use Rattle.early_boot.specs.Started.{device}
-use Rattle.step_flash.specs.declared.device.StepFlash.{StepFlash}
-use Rattle.step_flash.specs.Device.{block_count, image_of, told_of}
-use Rattle.fwu_c.specs.Codes.{end_code}
-use Rattle.fwu_c.proofs.Unbooted.{not_started}
-use Rattle.fwu_c.specs.Handed.{IsStart, is_idle}
-use Rattle.fwu_c.proofs.Booting.{boot_idle, given}
-use Rattle.fwu_c.proofs.Updating.{outcome_busy, tried_by, unbooted_by}
+use Rattle.agent_calls.specs.Shown.{device}
+use Rattle.step_flash.specs.Device.{image_of, told_of}
+use Rattle.fwu_c.specs.Handed.{IsDeviceEnd, is_idle}
+use Rattle.fwu_c.proofs.Booting.{boot_idle, given, has_flash_size}
+use Rattle.fwu_c.proofs.Telling.{told_handed, told_no_room}
+use Rattle.fwu_c.proofs.Updating.{none_end_is, outcome_busy, outcome_end_is, tried_by, unbooted_by}
 use Rattle.fwu_c.proofs.update.update_over.Goals as goal
 
-pub hand_over-requires-clause-idle : goal.hand_over-requires-clause-idle
-hand_over-requires-clause-idle c = λ idle.
-    absurd (outcome_busy c.install-flash.result.1 (subst (λ n. IsTrue (is_idle n)) c.outcome_number.ensures idle))
+pub install-requires-clause-here : goal.install-requires-clause-here
+install-requires-clause-here c = (rw c.in-Some-Ok.field-0-is at c.in-Some-Ok.ensures.boots).begins.here
 
-pub hand_over-requires-in_default-clause-idle : goal.hand_over-requires-in_default-clause-idle
-hand_over-requires-in_default-clause-idle c = λ idle.
-    let same = c.in_default.end-is in
-    let numbered = c.report_end-number.ensures.number in
-    let given_back = c.into_flash.ensures in
-    let back : c.into_flash.result ≡ device_of c.boot_in.result = cc in
-    let code : c.report_end-number.result ≡ end_code (ended c.boot_in.result) = cc in
-    subst (λ (d : StepFlash). IsStart (told_of d)) (sym back)
-    (boot_idle (ended c.boot_in.result) (told_of c.args.flash) (told_of (device_of c.boot_in.result)) (image_of c.args.flash, c.requires.fresh)
-    (c.boot_in.ensures.boots.ends refl).by_bytes (subst (λ n. IsTrue (is_idle n)) code idle))
+pub hand_over-requires : goal.hand_over-requires
+hand_over-requires c =
+    let i = c.in-Some in
+    record {
+      known = subst (λ n. IsDeviceEnd n) (sym c.outcome_number.ensures) (outcome_end_is i.outcome i.ensures.ends);
+      idle = λ idle. absurd (outcome_busy i.outcome (subst (λ n. IsTrue (is_idle n)) c.outcome_number.ensures idle));
+    }
 
-pub returns-in-Booted-clause-updates : goal.returns-in-Booted-clause-updates
-returns-in-Booted-clause-updates c = λ told.
+pub hand_over-requires-in-Some-Err : goal.hand_over-requires-in-Some-Err
+hand_over-requires-in-Some-Err c =
+    let none = rw c.in-Some-Err.field-0-is at c.in-Some-Err.ensures.stays in
+    record {
+      known = none_end_is _ _ _ _ none;
+      idle = λ idle. boot_idle none.end (told_of c.args.flash) (told_of c.in-Some-Err.flash) (image_of c.args.flash, c.args.file.now, c.requires.fresh) none.boots.by_bytes
+          (subst (λ n. IsTrue (is_idle n)) none.number_is idle);
+    }
+
+pub returns-in-Some-clause-updates : goal.returns-in-Some-clause-updates
+returns-in-Some-clause-updates c = λ told.
     let h = c.hand_over in
-    let i = c.install-flash in
-    tried_by (image_of c.args.flash) _ _ c.args.flash (device c.in-Booted.booted) i.result.0 _ _ i.result.1 h.result _ _ _ _ c.requires.fresh c.requires.size
-    (i.ensures.size ∙ c.in-Booted.ensures.boots.size) (c.in-Booted.ensures.boots.ends refl) i.ensures.layout i.ensures.installs
-    (h.ensures.hands told.1) (given _ _ h.ensures.number told.1 ∙ c.outcome_number.ensures) c.report_start.ensures
+    let i = c.in-Some in
+    let up = rw c.in-Some-Ok.field-0-is at c.in-Some-Ok.ensures.boots in
+    tried_by (image_of c.args.flash) _ _ c.args.flash (device c.in-Some-Ok.agent.value) i.flash up.began up.numbers i.outcome h.result _ _ _ _
+    c.requires.fresh c.requires.size (i.ensures.size ∙ (rw c.in-Some-Ok.field-0-is at c.in-Some-Ok.ensures.booted_size)) up.boots up.layout (i.ensures.installs up.began up.begins)
+    (h.ensures.hands told.1) (given _ _ h.ensures.number told.1 ∙ c.outcome_number.ensures) up.reports
 
-pub returns-in_default-clause-updates : goal.returns-in_default-clause-updates
-returns-in_default-clause-updates c = λ told.
-    let h = c.hand_over-in_default in
-    let ended_as = c.report_end-number.ensures in
-    let boots = c.boot_in.ensures.boots in
-    let same = c.in_default.end-is in
-    let given_back = c.into_flash.ensures in
-    let back : c.into_flash.result ≡ device_of c.boot_in.result = cc in
-    let numbered = ended_as.number in
-    let code : c.report_end-number.result ≡ end_code (ended c.boot_in.result) = cc in
-    unbooted_by (image_of c.args.flash) c.args.file.now c.args.acceptance c.args.flash c.into_flash.result (ended c.boot_in.result) h.result _ _ _ _
-    c.requires.fresh c.requires.size (ap (λ (d : StepFlash). block_count d) back ∙ boots.size)
-    (not_started c.boot_in.result (λ b n is. c.in_default.not-Booted b n (cc)))
-    (subst (λ (d : StepFlash). BootEnds (λ m. passes_any m) (told_of c.args.flash) (ended c.boot_in.result) (told_of d)) (sym back) (boots.ends refl))
-    (h.ensures.hands told.1) (given _ _ h.ensures.number told.1 ∙ code) ended_as.reports
+pub returns-in-Some-clause-tells : goal.returns-in-Some-clause-tells
+returns-in-Some-clause-tells c =
+    let h = c.hand_over.ensures in
+    let i = c.in-Some in
+    told_handed (image_of c.args.flash) c.hand_over.result c.outcome_number.result _ _ _ _ _ _ (has_flash_size (image_of c.args.flash) c.args.flash c.requires.size)
+    (subst (λ n. IsDeviceEnd n) (sym c.outcome_number.ensures) (outcome_end_is i.outcome i.ensures.ends)) h.number h.idle h.full h.untouched
+
+pub returns-in-Some-Err-clause-updates : goal.returns-in-Some-Err-clause-updates
+returns-in-Some-Err-clause-updates c = λ told.
+    let h = c.hand_over-in-Some-Err in
+    let none = rw c.in-Some-Err.field-0-is at c.in-Some-Err.ensures.stays in
+    unbooted_by (image_of c.args.flash) c.args.file.now c.args.acceptance c.args.flash c.in-Some-Err.flash none.end h.result _ _ _ _
+    c.requires.fresh c.requires.size (rw c.in-Some-Err.field-0-is at c.in-Some-Err.ensures.left_size) none.is none.boots (h.ensures.hands told.1)
+    (given _ _ h.ensures.number told.1 ∙ none.number_is) none.reports
+
+pub returns-in-Some-Err-clause-tells : goal.returns-in-Some-Err-clause-tells
+returns-in-Some-Err-clause-tells c =
+    let h = c.hand_over-in-Some-Err.ensures in
+    told_handed (image_of c.args.flash) c.hand_over-in-Some-Err.result c.in-Some-Err.number _ _ _ _ _ _
+    (has_flash_size (image_of c.args.flash) c.args.flash c.requires.size) (none_end_is _ _ _ _ (rw c.in-Some-Err.field-0-is at c.in-Some-Err.ensures.stays)) h.number h.idle h.full h.untouched
+
+pub returns-in-None-clause-tells : goal.returns-in-None-clause-tells
+returns-in-None-clause-tells c = told_no_room _ _ _ _ (has_flash_size (image_of c.args.flash) c.args.flash c.requires.size)
+
+pub returns-in_default-clause-tells : goal.returns-in_default-clause-tells
+returns-in_default-clause-tells c = told_no_room _ _ _ _ (has_flash_size (image_of c.args.flash) c.args.flash c.requires.size)

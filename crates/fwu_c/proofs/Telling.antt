@@ -1,0 +1,60 @@
+-- What a call promises that tells steps, whatever it is asked for.
+use Rattle.std.proofs.Common.{◌≡◌, ◌∙◌, ◌⊎◌, inl, inr, refl, sym, subst, ℕ, List, length, arith}
+use Rattle.std.specs.Prelude.{IsTrue}
+use Rattle.step_flash.specs.declared.step.Step.{Step}
+use Rattle.fwu_c.specs.declared.report.Report.{Report}
+use Rattle.fwu_c.specs.Handed.{HasFlashSize, IsDeviceEnd, IsUntouched, TellsSteps, is_idle}
+
+stays : (r : Report) (steps : List Step) (room : List ℕ) → IsUntouched r steps room r steps room
+stays r steps room = record { report_stays = refl; steps_stay = refl; room_stays = refl }
+
+-- at 6 and 7 all stays as it was
+pub told_no_flash : (image : List ℕ) (r : Report) (steps : List Step) (room : List ℕ) → (HasFlashSize image → ⊥)
+    → TellsSteps image 6 r steps room r steps room
+told_no_flash image r steps room none = record {
+  unlost = λ four. omega (arith, four);
+  idle = λ idle. absurd (cc);
+  full = λ five. absurd (omega (arith, five));
+  no_flash = (λ six. none, λ not. refl);
+  untouched = λ either. stays r steps room;
+}
+
+pub told_no_room : (image : List ℕ) (r : Report) (steps : List Step) (room : List ℕ) → HasFlashSize image
+    → TellsSteps image 7 r steps room r steps room
+told_no_room image r steps room is = record {
+  unlost = λ four. omega (arith, four);
+  idle = λ idle. absurd (cc);
+  full = λ five. absurd (omega (arith, five));
+  no_flash = (λ six. absurd (omega (arith, six)), λ not. absurd (not is));
+  untouched = λ either. stays r steps room;
+}
+
+-- what a device handed over
+pub told_handed : (image : List ℕ) (result number : ℕ) (old : Report) (old_steps : List Step) (old_room : List ℕ) (new : Report) (steps : List Step)
+    (room : List ℕ) → HasFlashSize image → IsDeviceEnd number → (result ≡ number) ⊎ (result ≡ 7) → (IsTrue (is_idle result) → new.steps ≡ 0)
+    → (result ≡ 5 → new.steps ≡ length old_steps) → (result ≡ 7 → IsUntouched old old_steps old_room new steps room)
+    → TellsSteps image result old old_steps old_room new steps room
+told_handed image result number old old_steps old_room new steps room is end (inl same) idle full untouched = record {
+  unlost = λ four. end.0 (sym same ∙ four);
+  idle = idle;
+  full = full;
+  no_flash = (λ six. absurd (end.1 (sym same ∙ six)), λ not. absurd (not is));
+  untouched = λ either. elim either [
+    | inl six ↦ absurd (end.1 (sym same ∙ six))
+    | inr seven ↦ untouched seven
+  ];
+}
+told_handed image result number old old_steps old_room new steps room is end (inr seven) idle full untouched = record {
+  unlost = λ four. omega (arith, four, seven);
+  idle = idle;
+  full = full;
+  no_flash = (λ six. absurd (omega (arith, six, seven)), λ not. absurd (not is));
+  untouched = λ either. untouched seven;
+}
+
+-- of the same image
+pub tells_of_image : (image other : List ℕ) (number : ℕ) (old : Report) (old_steps : List Step) (old_room : List ℕ) (new : Report) (steps : List Step)
+    (room : List ℕ) → other ≡ image → TellsSteps other number old old_steps old_room new steps room
+    → TellsSteps image number old old_steps old_room new steps room
+tells_of_image image other number old old_steps old_room new steps room same tells =
+    subst (λ (i : List ℕ). TellsSteps i number old old_steps old_room new steps room) same tells
