@@ -122,7 +122,7 @@ enum fwu_kind {
     FWU_ERASE = 1,   /* the block at `at` becomes 0xFF: `length` is 4096, `from` is 0 */
     FWU_PROGRAM = 2, /* the bytes at `at` become the `length` bytes of the room from `from` on */
     FWU_BARRIER = 3, /* what came before outlives a loss of power before what follows is begun: the other fields are 0 */
-    FWU_COPY = 4     /* a program whose bytes are the `length` bytes of the package from `from` on; fwu_update alone tells it */
+    FWU_COPY = 4     /* a program of the `length` bytes of the package from `from` on; fwu_update alone tells it */
 };
 
 /* What is to be done to the flash. `at` and `length` are bytes of the flash, `from` is bytes from the room's first one, or at a copy
@@ -168,9 +168,9 @@ FWU_ASSERT(sizeof(struct fwu_report) == 108 && offsetof(struct fwu_report, lengt
  * and is started three times at most until its images are accepted. The other arguments are those of fwu_boot.
  *
  * It boots first, which writes nothing more where the loader's boot has been. The steps are one list: those of the boot, and behind
- * them those that make the update bank invalid, write its images, and make it active. Bytes of the package that are written as they
- * stand there are told as copies (FWU_COPY), and need no room: a driver that does an update's steps has to know these, and `package`
- * stays as it is until they are done. A copy lies within the package.
+ * them those that make the update bank invalid, write its images, and make it active. Bytes that are found in the package are told as
+ * copies (FWU_COPY), and need no room. It looks behind the last copy, and where the first 16 payloads begin. A copy lies within the
+ * package. A driver that does an update's steps has to know copies. `package` stays as it is until the steps are done.
  *
  * 0: once all steps are done, in their order, the next boot tries the package first. 1 to 3: no bank may be started, as fwu_boot
  * says. 5, 16 to 19: nothing is installed. The steps that are told then needn't be done; to do the first ones of them harms no bank

@@ -47,8 +47,8 @@ static const uint8_t *mapped(int from, size_t *bytes) {
     return mmap(NULL, *bytes, PROT_READ, MAP_SHARED, from, 0);
 }
 
-/* Two steps for each block that the images may have, and the bytes of all, though most are copied from the package. The library has
- * both a second time while it runs, in lists that double as they grow. */
+/* Two steps for each block that the images may have. The room would hold all bytes, though most are copied from the package. The work
+ * buffer has a block, the agent, the package's table, and what is told a second time, in lists that double as they grow. */
 static bool take_package(const char *name, const char *how) {
     package = mapped(open(name, O_RDONLY), &package_bytes);
     acceptance = strcmp(how, "now") ? 1 : 0;

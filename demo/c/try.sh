@@ -5,8 +5,9 @@
 #   - the bare aarch64 program under QEMU prints what `fwu` prints on the same flash, of two, three, five and fifteen images;
 #   - the library has at most 61,440 bytes of code and constants on aarch64 and 82,000 on x86-64;
 #   - it calls no C function but memcpy, memmove, memset and the three of work.c;
-#   - by its code no call of a loader takes more than 8,192 bytes of stack on aarch64 (STACK sets another bound), and no call of
-#     firmware that runs more than 12,544; a boot of each of these flashes doesn't take more either, as it is measured.
+#   - by its code no call of a loader takes more than 8,192 bytes of stack on aarch64 (STACK sets another bound);
+#   - by its code no call of firmware that runs takes more than 12,544;
+#   - a boot that the bare program makes takes at most STACK too, as it is measured.
 # It wants gcc, gcc-aarch64-linux-gnu, qemu-system-arm and python3 of Debian, and ends with 1 where one of these doesn't hold.
 set -eu
 cd "$(dirname "$0")/../.."
