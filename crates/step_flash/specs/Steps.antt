@@ -34,8 +34,10 @@ run_with file room t steps = fold (run_step file room) t steps
 abbrev pub run : List ℕ → Told → List Step → Told
 run room t steps = run_with [] room t steps
 
--- The step lies in a flash of so many bytes, and its bytes in a package, or else in a room, of so many.
+-- The step is of one of the four kinds. It lies in a flash of so many bytes, and its bytes in a package, or else in a room, of so
+-- many.
 pub record IsInsideWith (file room size : ℕ) (s : Step) : Type 0 where
+  pub known : (1 ≤ s.kind) × (s.kind ≤ 4)
   pub block : s.kind ≡ 1 → s.length ≡ block_bytes
   pub copied : s.kind ≡ 4 → (0 < s.length) × (s.from + s.length ≤ file)
   pub bytes : (s.kind ≡ 1 → ⊥) → (s.kind ≡ 4 → ⊥) → s.from + s.length ≤ room
