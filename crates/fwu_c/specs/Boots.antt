@@ -12,14 +12,14 @@ use Rattle.fwu_c.specs.Handed.{IsWithin}
 use Rattle.fwu_c.specs.Reports.{ReportsEnd}
 use Rattle.fwu_c.specs.declared.report.Report.{Report}
 
--- From the image it boots as the definitions say, and what the flash then tells is what the steps make of the image; at 5 an erase
--- or a program beyond them may be under way.
+-- From the image it boots as the definitions say. What the flash then tells is what the steps make of the image. At 5 an erase or a
+-- program beyond them may be under way.
 pub record BootsBy (image : List ℕ) (number : ℕ) (r : Report) (steps : List Step) (room : List ℕ) : Type 0 where
   pub end : Ended
   pub number_is : number ≡ end_code end
   pub t : Told
   pub ends : BootEnds (λ m. passes_any m) (start image) end t
   pub left : t ≡ record (run (take r.bytes room) (start image) (take r.steps steps)) { under = t.under }
-  -- each step lies within the flash, and its bytes within those of the room
+  -- each step lies within the flash, and its bytes within those of the room; none is a copy
   pub within : IsWithin (length image) r steps room
   pub reports : ReportsEnd end r

@@ -166,15 +166,15 @@ abbrev pub ReportsCall : Called → Report → Type 0
 ReportsCall (not_taken e) r = ReportsTakeUp e r
 ReportsCall (called b result) r = ReportsStart b r
 
--- From the image it makes the call as the definitions say, and what the flash then tells is what the steps make of the image; at 5
--- an erase or a program beyond them may be under way.
+-- From the image it makes the call as the definitions say. What the flash then tells is what the steps make of the image. At 5 an
+-- erase or a program beyond them may be under way.
 pub record CallsBy (image : List ℕ) (bank : ℕ) (c : Call) (number : ℕ) (r : Report) (steps : List Step) (room : List ℕ) : Type 0 where
   pub end : Called
   pub number_is : number ≡ called_code end
   pub t : Told
   pub ends : CallEnds image bank c end t
   pub left : t ≡ record (run (take r.bytes room) (start image) (take r.steps steps)) { under = t.under }
-  -- each step lies within the flash, and its bytes within those of the room
+  -- each step lies within the flash, and its bytes within those of the room; none is a copy
   pub within : IsWithin (length image) r steps room
   pub reports : ReportsCall end r
 

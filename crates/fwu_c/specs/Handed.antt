@@ -67,9 +67,9 @@ pub record TellsSteps (image : List ℕ) (number : ℕ) (old : Report) (old_step
   pub full : number ≡ 5 → new.steps ≡ length old_steps
   -- 6 comes of all bytes that are no flash, and of no others
   pub no_flash : (number ≡ 6) ↔ (HasFlashSize image → ⊥)
-  -- and nothing is written then, or where there is no room
+  -- and nothing is written then, or where room or memory is wanting
   pub untouched : (number ≡ 6) ⊎ (number ≡ 7) → IsUntouched old old_steps old_room new steps room
 
--- A device ends a call with this number: no power was lost, and 6 and 7 come without one.
+-- With this number a call over a device comes to the handing over: no power was lost, and 6 and 7 aren't known yet.
 abbrev pub IsDeviceEnd : ℕ → Type 0
 IsDeviceEnd number = (number ≢ 4) × (number ≢ 6) × (number ≢ 7)

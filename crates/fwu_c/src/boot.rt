@@ -14,9 +14,11 @@ use std::alloc::Global;
 use step_flash::{Step, StepFlash};
 use verify_core::AnyManifest;
 
-/// Boots a flash that lies in memory, and tells the steps by which the flash becomes what the boot makes of it. 0: a bank is to be
-/// started, once the steps are done in their order. 1: block 0 is no layout. 2: neither replica is metadata. 3: neither bank may be
-/// started. 5: there was no room for one more step. 6: these bytes are no flash. 7: memory, or room for the steps' bytes, is wanting.
+/// Boots a flash that lies in memory, and tells the steps by which the flash becomes what the boot makes of it.
+///
+/// 0: a bank is to be started, once the steps are done in their order. 1: block 0 is no layout. 2: neither replica is metadata. 3:
+/// neither bank may be started. 5: there was no room for one more step. 6: these bytes are no flash. 7: memory, or room for the
+/// steps' bytes, is wanting.
 #[unsafe(no_mangle)]
 pub extern "C" fn fwu_boot(
     alloc: Global,

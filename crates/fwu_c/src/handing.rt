@@ -10,15 +10,15 @@ use step_flash::{Step, StepFlash, StepParts};
 
 const _: () = prove!(size_of::<Step>() == 16);
 
-/// Whether a call that ends with this number has written nothing.
+/// Whether the number says that no step is told.
 fn is_idle(number: u32) -> bool
     ensures { result ≡ is_idle number }
 {
     number == 1 || number == 2 || number == 21
 }
 
-/// The steps of a device that are handed over: none where the number says that nothing was written. There are no parts where power
-/// was on again after a stop.
+/// The steps of a device that are handed over: none where the number says so. There are no parts where power was on again after a
+/// stop.
 fn parts_of(flash: StepFlash<'_>, number: u32) -> Option<StepParts>
     requires { IsTrue (is_idle number) → IsStart (told_of flash) }
     ensures noted { IfSome result (λ parts. NotedBy flash.entry parts) }

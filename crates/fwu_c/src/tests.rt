@@ -90,7 +90,7 @@ fn is_done(flash: &mut [u8], room: &[u8], file: &[u8], step: &Step) -> bool {
     }
 }
 
-/// Does the steps that were told, in their order; copies are taken from the bytes of a package.
+/// Does the steps that were told, in their order. Copies are taken from the bytes of a package.
 fn do_steps(rt: &impl Abort, board: &mut Board, file: &[u8]) {
     for step in board
         .steps
@@ -167,8 +167,8 @@ fn update(rt: &impl Abort, alloc: Global, board: &mut Board, file: &[u8], accept
     answer
 }
 
-/// A package of version 2 with the images `abc` and `hello`: its header, an entry each for the manifest, `abc` and `hello`, and the
-/// end marker, behind which the three stand.
+/// A package of version 2 with the images `abc` and `hello`. It has its header, an entry each for the manifest, `abc` and `hello`,
+/// and the end marker. Behind that the three stand.
 fn package(alloc: Global) -> Result<Vec<u8>, NotMade> {
     let mut file = vec![in alloc; 0; 344]?;
     put(alloc, &mut file, 0, "010064aa78563412")?;

@@ -48,7 +48,7 @@ pub struct StepFlash<'a> {
         (run_with file.bytes.now room.items (start_with image.now file.bytes.now) steps.items) },
 }
 
-/// What was noted: the steps, in their order, and the room in which the bytes of programs stand.
+/// What was noted: the steps, in their order, and the room in which bytes of programs stand.
 #[derive(Drop)]
 pub struct StepParts {
     /// What is to be done to the flash, in this order.
