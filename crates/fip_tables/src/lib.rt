@@ -17,7 +17,7 @@ mod toc;
 pub use entries::{Entries, Entry};
 pub use faults::{PackFault, PackStop};
 pub use frame::{Frame, package_frame};
-pub use images::{ImageFault, images_of, present_images_of};
+pub use images::{ImageEntries, ImageFault, images_of, present_images_of};
 pub use laws::{fronts_decide, passed_is_read};
 pub use outline::{Outline, check_parts};
 pub use payloads::{Part, Parts, outlines, pack};
