@@ -5,8 +5,9 @@ use Rattle.base_core.specs.Block.{most_blocks}
 use Rattle.flash_core.specs.Told.{Told, fresh, put, settle}
 use Rattle.flash_core.specs.May.{usual_guard}
 use Rattle.step_flash.specs.declared.step.Step.{Step}
-use Rattle.step_flash.specs.declared.device.StepFlash.{StepFlash}
-use Rattle.step_flash.specs.Device.{after_steps, back_on, image_of, package_of, told_of}
+use Rattle.step_flash.specs.declared.flash.StepFlash.{StepFlash}
+use Rattle.step_flash.specs.Device.{after_steps, back_on}
+use Rattle.step_flash.specs.Flash.{image_of, package_of, told_of}
 use Rattle.step_flash.specs.Guard.{beyond, guard_with, start_with}
 use Rattle.step_flash.specs.Stopped.{under_as}
 use Rattle.step_flash.specs.Steps.{run_with, run_step, bytes_of}
@@ -82,8 +83,9 @@ back_guard false t = refl
 pub by_guard : (d : StepFlash) (image file : List ℕ) → (told_of d).guard ≡ guard_with image file
     → (image_of d ≡ image) × (package_of d ≡ file)
 by_guard d image file is =
+    let s = d.device.value in
     let was = image_of d in
     let had = package_of d in
     let same = same_guard had file was image
-    (sym (back_guard d.live (after_steps d) ∙ run_guard had d.room.items (start_with was had) d.steps.items ∙ fresh_guard (guard_with was had) was) ∙ is) in
+    (sym (back_guard s.live (after_steps s) ∙ run_guard had s.room.items (start_with was had) s.steps.items ∙ fresh_guard (guard_with was had) was) ∙ is) in
     (same.image, same.file)

@@ -4,32 +4,32 @@ use Rattle.std.proofs.Common.{refl}
 use Rattle.flash_core.specs.Told.{Told, IsSound, fresh, settle}
 use Rattle.flash_core.specs.declared.flash.Arming.{Arming}
 use Rattle.flash_core.specs.declared.flash.Counts.{Counts}
-use Rattle.step_flash.specs.declared.device.StepFlash.{StepFlash}
+use Rattle.step_flash.specs.declared.device.StepDevice.{StepDevice}
 use Rattle.step_flash.specs.declared.device.StepParts.{StepParts}
 use Rattle.step_flash.specs.declared.stopped.Stopped.{Stopped}
 use Rattle.step_flash.specs.Guard.{start_with}
 use Rattle.step_flash.specs.Steps.{run_with}
 use Rattle.step_flash.specs.Stopped.{under_as, under_of}
 
-abbrev pub is_on : StepFlash → Bool
+abbrev pub is_on : StepDevice → Bool
 is_on d = d.on
 
 -- power was not on again after a stop
-abbrev pub is_live : StepFlash → Bool
+abbrev pub is_live : StepDevice → Bool
 is_live d = d.live
 
-abbrev pub block_count : StepFlash → ℕ
+abbrev pub block_count : StepDevice → ℕ
 block_count d = d.blocks
 
-abbrev pub image_of : StepFlash → List ℕ
+abbrev pub image_of : StepDevice → List ℕ
 image_of d = d.image.now
 
 -- the bytes in which the bytes of programs were looked for
-abbrev pub package_of : StepFlash → List ℕ
+abbrev pub package_of : StepDevice → List ℕ
 package_of d = d.file.bytes.now
 
 -- the image with the steps done
-abbrev pub after_steps : StepFlash → Told
+abbrev pub after_steps : StepDevice → Told
 after_steps d = run_with d.file.bytes.now d.room.items (start_with d.image.now d.file.bytes.now) d.steps.items
 
 -- Power that comes back after a stop leaves the bytes as they are, with nothing dirty.
@@ -37,18 +37,18 @@ abbrev pub back_on : Bool → Told → Told
 back_on live t = if live then t else settle t
 
 -- the image with the steps done, beside the operation that was stopped
-abbrev pub told_of : StepFlash → Told
+abbrev pub told_of : StepDevice → Told
 told_of d = under_as (under_of d.stopped) (back_on d.live (after_steps d))
 
-abbrev pub arming_of : StepFlash → Option Arming
+abbrev pub arming_of : StepDevice → Option Arming
 arming_of d = d.arming
 
 -- it may fail, and loses no power
-abbrev pub counts_of : StepFlash → Counts
+abbrev pub counts_of : StepDevice → Counts
 counts_of d = record { faults = d.faults; cuts = 0; chances = 0; made = d.made; reached = 0 }
 
 -- What is told is what these steps leave, beside an operation that is under way.
-abbrev pub NotedBy : StepFlash → StepParts → Type 0
+abbrev pub NotedBy : StepDevice → StepParts → Type 0
 NotedBy d parts =
     told_of d
     ≡ under_as (told_of d).under
@@ -65,7 +65,7 @@ unfolding settle fresh
 sound_back blocks true t sound = sound
 sound_back blocks false t sound = record { size = sound.size; stable_size = sound.size; kept = λ i clean. refl; idle = λ on. refl }
 
-pub device_sound : (d : StepFlash) → IsSound d.blocks d.on (told_of d)
+pub device_sound : (d : StepDevice) → IsSound d.blocks d.on (told_of d)
 device_sound d =
     let sound = sound_back d.blocks d.live (after_steps d) d.sound in
     record { size = sound.size; stable_size = sound.stable_size; kept = sound.kept; idle = λ on. none_under d.stopped (d.idle on) }

@@ -2,3 +2,5 @@ pub mod Steps
 pub mod Stopped
 pub mod Guard
 pub mod Device
+pub mod Flash
+pub mod Unmade

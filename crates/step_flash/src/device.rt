@@ -17,14 +17,9 @@ use std::alloc::Global;
 
 static BLANK: [u8; 4096] = [0xFF; 4096];
 
-/// A flash over an image in memory, which is never written. Its erases, programs and barriers are noted as steps, at most so many.
-/// A program whose bytes are found in a package beside the image is noted as a copy.
-///
-/// An erase, a program or a barrier fails where there is no room for one more step, or no memory for it. An erase or a program
-/// fails too where an armed loss of power is due, since a list of steps has no loss. Power goes then. Once it is on again, each
-/// read, erase, program and barrier fails.
+/// The device of a `StepFlash`: the image, the package beside it, and what was noted.
 #[derive(Drop)]
-pub struct StepFlash<'a> {
+pub(crate) struct StepDevice<'a> {
     image: &'a [u8],
     file: LentFile<'a>,
     blocks: u32,
@@ -116,39 +111,23 @@ fn lay(step: &Step, file: &[u8], room: &[u8], blocks: u32, at: usize, out: &mut 
     overlay(out, at, step.at as usize, bytes);
 }
 
-impl<'a> StepFlash<'a> {
+impl<'a> StepDevice<'a> {
     ghost use Rattle.std.specs.Prelude.{◌≡◌, true, None, ◌+◌, ◌*◌, ◌≤◌, All, length, is_ok, slice_range};
     ghost use Rattle.std.specs.Prelude.{ℕ, IfSome, IfNone, IsTrue, IsErrOf};
     ghost use Rattle.flash_core.specs.Told.{halt};
-    ghost use Rattle.step_flash.specs.Guard.{start};
     ghost use Rattle.flash_core.specs.Counts.{Spends, IsDue};
     ghost use Rattle.flash_core.specs.declared.flash.FlashStop.TheVariants.{Failed};
     ghost use Rattle.step_flash.specs.Device.{is_on, is_live, block_count, image_of, package_of, after_steps, told_of};
     ghost use Rattle.step_flash.specs.Device.{arming_of, counts_of, NotedBy};
 
-    /// The device over an image, with no package, which is on, with nothing dirty, and notes so many steps at most. None where the
-    /// image has not the bytes of 8 to 65,536 blocks of 4096 bytes.
-    pub fn new(alloc: Global, image: &'a [u8], most: usize) -> Option<StepFlash<'a>>
-        ensures content { IfSome result (λ d. told_of d ≡ start image.now) }
-        ensures power { IfSome result (λ d. is_on d ≡ true) }
-        ensures unarmed { IfSome result (λ d. arming_of d ≡ None) }
-        ensures image { IfSome result (λ d. image_of d ≡ image.now) }
-        ensures live { IfSome result (λ d. is_live d ≡ true) }
-        ensures size { IfSome result (λ d. length image.now ≡ block_bytes * block_count d) }
-        ensures none { IfNone result ((b : ℕ) → fewest_blocks ≤ b → b ≤ most_blocks → length image.now ≡ block_bytes * b → ⊥) }
-    {
-        StepFlash::with_package(alloc, image, most, &[], &[])
-    }
-
-    /// As `new`, with a package. A program's bytes are looked for in it behind those that were found last, and at each of the
-    /// places.
-    pub fn with_package(
+    /// The device over an image, with a package and the places that are tried in it.
+    pub(crate) fn new(
         alloc: Global,
         image: &'a [u8],
         most: usize,
         file: &'a [u8],
         places: &'a [usize],
-    ) -> Option<StepFlash<'a>>
+    ) -> Option<StepDevice<'a>>
         ensures content { IfSome result (λ d. told_of d ≡ start_with image.now file.now) }
         ensures power { IfSome result (λ d. is_on d ≡ true) }
         ensures unarmed { IfSome result (λ d. arming_of d ≡ None) }
@@ -159,7 +138,7 @@ impl<'a> StepFlash<'a> {
         ensures none { IfNone result ((b : ℕ) → fewest_blocks ≤ b → b ≤ most_blocks → length image.now ≡ block_bytes * b → ⊥) }
     {
         let blocks = blocks_of(image.len())?;
-        Some(StepFlash {
+        Some(StepDevice {
             image,
             file: LentFile::new(file, places),
             blocks,
@@ -176,14 +155,14 @@ impl<'a> StepFlash<'a> {
     }
 
     /// Whether power was not on again after a stop. Then what is told is what the steps leave.
-    pub fn is_live(&self) -> bool
+    pub(crate) fn is_live(&self) -> bool
         ensures { result ≡ is_live self.now }
     {
         self.live
     }
 
     /// The steps that were noted, in their order.
-    pub fn into_parts(self) -> StepParts
+    pub(crate) fn into_parts(self) -> StepParts
         ensures noted { IsTrue (is_live self.entry) → NotedBy self.entry result }
         ensures inside { All (IsInsideWith (length (package_of self.entry)) (length result.room.items)
             (block_bytes * block_count self.entry)) result.steps.items }
@@ -254,7 +233,7 @@ fn lowered(arming: Option<Arming>) -> Option<Arming>
     })
 }
 
-impl<'a> Flash for StepFlash<'a> {
+impl<'a> Flash for StepDevice<'a> {
     ghost use Rattle.std.specs.Prelude.{true};
     ghost use Rattle.step_flash.specs.Device.{is_on, block_count, told_of, arming_of, counts_of, device_sound};
 

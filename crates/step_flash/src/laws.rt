@@ -3,9 +3,9 @@ ghost use Rattle.std.specs.Prelude.{◌≡◌, List, ℕ, Result, IsErrOf};
 ghost use Rattle.flash_core.specs.Counts.{Spends};
 ghost use Rattle.flash_core.specs.declared.flash.FlashStop.{FlashStop};
 ghost use Rattle.flash_core.specs.declared.flash.FlashStop.TheVariants.{Lost};
-ghost use Rattle.step_flash.specs.Device.{counts_of, image_of, package_of, told_of};
+ghost use Rattle.step_flash.specs.Flash.{counts_of, image_of, package_of, told_of};
 ghost use Rattle.step_flash.specs.Guard.{guard_of, guard_with};
-ghost use Rattle.step_flash.specs.declared.device.StepFlash.{StepFlash};
+ghost use Rattle.step_flash.specs.declared.flash.StepFlash.{StepFlash};
 
 /// A device that tells the guard of an image and a package lies over that image, and has that package. No call changes the guard,
 /// so a device that a generic call gives back has the image and the package that it was handed in with.

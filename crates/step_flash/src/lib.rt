@@ -3,6 +3,7 @@
 #![tactic(auto)]
 
 mod device;
+mod flash;
 mod ghost_bytes;
 mod laws;
 mod lent_file;
@@ -12,6 +13,7 @@ mod stopped;
 #[cfg(test)]
 mod tests;
 
-pub use device::{StepFlash, StepParts};
+pub use device::StepParts;
+pub use flash::{StepFlash, Unmade};
 pub use laws::{a_guard_tells_its_image, no_power_is_lost};
 pub use step::{BARRIER, COPY, ERASE, PROGRAM, Step};

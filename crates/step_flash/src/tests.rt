@@ -52,7 +52,7 @@ fn reads_six(rt: &impl Abort, alloc: Global, flash: &mut StepFlash<'_>) -> Resul
 #[test]
 fn two_blocks_are_written_over(rt: HostRuntime) -> Result<(), Fail> {
     let image = filled(rt.alloc(), 0x5A, 32768)?;
-    let Some(mut flash) = StepFlash::new(rt.alloc(), &image, 6) else {
+    let Ok(mut flash) = StepFlash::new(rt.alloc(), &image, 6) else {
         return Err(Fail::from("a flash of eight blocks"));
     };
     assert!(&rt; flash.is_on() && flash.blocks() == 8, "it is on");
@@ -72,7 +72,7 @@ fn two_blocks_are_written_over(rt: HostRuntime) -> Result<(), Fail> {
 #[test]
 fn a_fifth_step_fails(rt: HostRuntime) -> Result<(), Fail> {
     let image = filled(rt.alloc(), 0x5A, 32768)?;
-    let Some(mut flash) = StepFlash::new(rt.alloc(), &image, 4) else {
+    let Ok(mut flash) = StepFlash::new(rt.alloc(), &image, 4) else {
         return Err(Fail::from("a flash of eight blocks"));
     };
     assert!(&rt; flash.is_on() && flash.blocks() == 8, "it is on");
@@ -97,7 +97,7 @@ fn packed(alloc: Global) -> Result<Vec<u8>, AllocError> {
 fn what_stands_in_the_package_is_copied(rt: HostRuntime) -> Result<(), Fail> {
     let image = filled(rt.alloc(), 0x5A, 32768)?;
     let file = packed(rt.alloc())?;
-    let Some(mut flash) = StepFlash::with_package(rt.alloc(), &image, 6, &file, &[16, 40]) else {
+    let Ok(mut flash) = StepFlash::with_package(rt.alloc(), &image, 6, &file, &[16, 40]) else {
         return Err(Fail::from("a flash of eight blocks"));
     };
     assert!(&rt; flash.is_on() && flash.blocks() == 8, "it is on");
@@ -115,7 +115,7 @@ fn what_stands_in_the_package_is_copied(rt: HostRuntime) -> Result<(), Fail> {
 fn what_stands_at_no_place_is_programmed(rt: HostRuntime) -> Result<(), Fail> {
     let image = filled(rt.alloc(), 0x5A, 32768)?;
     let file = packed(rt.alloc())?;
-    let Some(mut flash) = StepFlash::with_package(rt.alloc(), &image, 6, &file, &[16]) else {
+    let Ok(mut flash) = StepFlash::with_package(rt.alloc(), &image, 6, &file, &[16]) else {
         return Err(Fail::from("a flash of eight blocks"));
     };
     assert!(&rt; flash.is_on() && flash.blocks() == 8, "it is on");

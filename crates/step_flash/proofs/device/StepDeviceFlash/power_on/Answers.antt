@@ -2,7 +2,7 @@ use Rattle.std.proofs.Common.{inr}
 use Rattle.step_flash.specs.Device.{after_steps}
 use Rattle.step_flash.specs.Stopped.{under_of}
 use Rattle.step_flash.proofs.Calls.{fresh_back, leaves_back, no_chance_back}
-use Rattle.step_flash.proofs.device.StepFlashFlash.power_on.Goals as goal
+use Rattle.step_flash.proofs.device.StepDeviceFlash.power_on.Goals as goal
 
 pub returns-clause-fresh : goal.returns-clause-fresh
 returns-clause-fresh c = λ _. let s = c.args.self.now in fresh_back (under_of s.stopped) s.live (after_steps s)

@@ -8,7 +8,7 @@ use Rattle.step_flash.specs.Stopped.{under_of}
 use Rattle.step_flash.specs.Steps.{IsInsideWith, run_with}
 use Rattle.step_flash.proofs.Calls.{lowered_ahead, put_noted}
 use Rattle.step_flash.proofs.Sounds.{sound_put}
-use Rattle.step_flash.proofs.device.StepFlashFlash.program.Goals as goal
+use Rattle.step_flash.proofs.device.StepDeviceFlash.program.Goals as goal
 
 pub invariant_of-self-2 : goal.invariant_of-self-2
 invariant_of-self-2 c =

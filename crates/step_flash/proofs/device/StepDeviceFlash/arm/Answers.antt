@@ -1,5 +1,5 @@
 use Rattle.std.proofs.Common.{arith}
-use Rattle.step_flash.proofs.device.StepFlashFlash.arm.Goals as goal
+use Rattle.step_flash.proofs.device.StepDeviceFlash.arm.Goals as goal
 
 pub invariant_of-self : goal.invariant_of-self
 invariant_of-self c =

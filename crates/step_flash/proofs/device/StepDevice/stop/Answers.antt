@@ -2,7 +2,7 @@ use Rattle.std.proofs.Common.{◌∙◌}
 use Rattle.step_flash.specs.Device.{after_steps}
 use Rattle.step_flash.specs.Stopped.{under_of}
 use Rattle.step_flash.proofs.Calls.{halted}
-use Rattle.step_flash.proofs.device.StepFlash.stop.Goals as goal
+use Rattle.step_flash.proofs.device.StepDevice.stop.Goals as goal
 
 pub returns-clause-content : goal.returns-clause-content
 returns-clause-content c =

@@ -6,7 +6,7 @@ use Rattle.flash_core.proofs.Calls.{now-fresh}
 use Rattle.step_flash.specs.Guard.{guard_with, start_with}
 use Rattle.step_flash.specs.Steps.{IsInsideWith, run_step, run_with}
 use Rattle.step_flash.proofs.ReadBack.{run_none, run_more, run_size}
-use Rattle.step_flash.proofs.device.StepFlash.fill.Goals as goal
+use Rattle.step_flash.proofs.device.StepDevice.fill.Goals as goal
 
 pub loop-step-init : goal.loop-step-init
 loop-step-init c =

@@ -5,7 +5,7 @@ use Rattle.flash_core.specs.Told.{IsSound}
 use Rattle.step_flash.specs.Guard.{start_with}
 use Rattle.step_flash.specs.Steps.{IsInsideWith, run_with}
 use Rattle.step_flash.proofs.Sounds.{sound_settle}
-use Rattle.step_flash.proofs.device.StepFlashFlash.barrier.Goals as goal
+use Rattle.step_flash.proofs.device.StepDeviceFlash.barrier.Goals as goal
 
 pub invariant_of-self : goal.invariant_of-self
 invariant_of-self c = elim (cases_Bool c.note_barrier.result) [

@@ -1,6 +1,6 @@
 use Rattle.std.proofs.Common.{◌+◌, ◌∙◌, ap, sym, Bool, length, slice_range}
 use Rattle.step_flash.specs.Device.{after_steps, back_on}
-use Rattle.step_flash.proofs.device.StepFlashFlash.read.Goals as goal
+use Rattle.step_flash.proofs.device.StepDeviceFlash.read.Goals as goal
 
 pub returns-clause-bytes : goal.returns-clause-bytes
 returns-clause-bytes c = λ _.

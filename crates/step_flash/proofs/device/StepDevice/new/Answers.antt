@@ -8,7 +8,7 @@ use Rattle.step_flash.specs.declared.step.Step.{Step}
 use Rattle.step_flash.proofs.Calls.{start_idle}
 use Rattle.step_flash.proofs.ReadBack.{run_none}
 use Rattle.step_flash.proofs.Sounds.{sound_fresh}
-use Rattle.step_flash.proofs.device.StepFlash.with_package.Goals as goal
+use Rattle.step_flash.proofs.device.StepDevice.new.Goals as goal
 
 pub invariant_of-result : goal.invariant_of-result
 invariant_of-result c =

@@ -6,7 +6,7 @@ use Rattle.step_flash.specs.Guard.{start_with}
 use Rattle.step_flash.proofs.Calls.{lowered_ahead}
 use Rattle.step_flash.proofs.ReadBack.{length-blank}
 use Rattle.step_flash.proofs.Sounds.{sound_put}
-use Rattle.step_flash.proofs.device.StepFlashFlash.erase.Goals as goal
+use Rattle.step_flash.proofs.device.StepDeviceFlash.erase.Goals as goal
 
 pub invariant_of-self-2 : goal.invariant_of-self-2
 invariant_of-self-2 c =
