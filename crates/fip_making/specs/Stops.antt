@@ -1,4 +1,4 @@
--- The stops of what is read and made, and the exit status of each.
+-- The stops of commands, and the exit status of each.
 use Rattle.std.specs.Prelude.{ℕ}
 use Rattle.host_io.specs.declared.stops.JoinStop.{JoinStop}
 use Rattle.host_io.specs.declared.stops.JoinStop.TheVariants as join_stop

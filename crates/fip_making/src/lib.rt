@@ -1,4 +1,4 @@
-//! What `fip` reads of files, and what it makes of it: tables, packages, capsules and manifests. Nothing is
+//! What `fip` reads of files and of the source, and what it makes of it: tables, packages, capsules and manifests. Nothing is
 //! written here, and nothing is printed.
 #![tactic(auto)]
 

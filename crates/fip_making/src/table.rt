@@ -36,7 +36,7 @@ pub fn size_of<H: Files>(files: &mut H, name: &str) -> Result<u64, Stop>
     }
 }
 
-/// The table of a package in a file, and how many bytes the file has. Each payload ends below 2 ^ 64, whatever file it is.
+/// The table of a package in a file, and how many bytes the file has.
 pub fn read_package<H: Files>(files: &mut H, name: &str) -> Result<(Toc, u64), Stop>
     ensures told { (told : Directory) → H.contents files.old ≡ Some told
         → GivesIn H.Files (λ t. t) (sized_table told name.now) files.old files.new result }
@@ -101,7 +101,7 @@ fn ended(stream: StreamToc, count: u64) -> Result<(Toc, u64), Stop>
 }
 
 /// The table of a package that the source gives, and how many bytes it gave. It is read to its end, to a fault that no further
-/// bytes mend, or past the most bytes.
+/// bytes mend, past the most bytes, or to a read that fails.
 pub fn read_given<I: Source>(source: &mut I) -> Result<(Toc, u64), Stop>
     ensures given { (given : List ℕ) × StopsInTime given × GivenToIn I.Source (λ t. t) given_table
         source.old source.new result given }

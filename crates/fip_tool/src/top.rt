@@ -169,7 +169,8 @@ pub fn fip_top<H: Files, I: Source, O: Sink>(
     source: &mut I,
     sink: &mut O,
 ) -> u8
-    // What was done is the first ones of the command's steps. Only where a writing failed is a file other than they leave it.
+    // What was done is the first ones of the command's steps. Only where a writing may have torn its file is that other than they
+    // leave it.
     ensures told { (told : Directory) → H.contents files.old ≡ Some told
         → asked (map string_bytes words.now) ≢ Some info_of_source
         → EndedIn H.Files O.Sink (outcome_of (asked (map string_bytes words.now)) told) told

@@ -64,9 +64,9 @@ TellsBegun (reply.SentPartial images skipped copied) = ⊤
 TellsBegun (reply.EndRefused st) = ⊤
 TellsBegun other = ⊥
 
--- Some table and images were sent over some bytes of the images that the table lacks, which are the active bank's where the device
--- tells, and behind a begin that was done as many on any device. The images are those of the file over these bytes where it is told. The answer is that of each machine that the agent
--- shows, and it shows the machine after it.
+-- Some table and images were sent over some bytes of the images that the table lacks. These are the active bank's where the device
+-- tells, and behind a begin that was done as many on any device. The images are those of the file over these bytes where it is told.
+-- The answer is that of each machine that the agent shows, and it shows the machine after it.
 pub record SendsOverBy (passes : List ℕ → Bool) (files : Option Directory) (name : List ℕ) (request : ℕ) (r : Reply)
     (old new : agent.Moment) : Type 0 where
   pub toc : Toc

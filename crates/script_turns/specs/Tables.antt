@@ -31,15 +31,16 @@ pub record HasTableCause {T : Type 0} (files : Option Directory) (name : List �
   pub once : now ≤ before + unread_in result
   pub failed : result ≡ Err ReadFailed → Rose before now ⊎ Lacks files name
 
--- each payload of a table ends within the file where its bytes are told, and below 2 ^ 64 whatever file it is, and the file is there
+-- each payload of a table ends within the file where its bytes are told, and below 2 ^ 64 whatever file it is, and told files have
+-- the file
 pub record HoldsPayloads (files : Option Directory) (name : List ℕ) (toc : Toc) : Type 0 where
   pub stored : (file : List ℕ) → Tells files name file → All (λ e. e.offset + e.size ≤ length file) toc.entries
   pub ends : All (λ e. e.offset + e.size < 2 ^ 64) toc.entries
   pub there : Lacks files name → ⊥
 
 -- what a reading of the table of a file leaves
-pub record ReadsTable {H : Type 0} (g : Ghosts H) (answer : List ℕ → Result Toc Reply) (name : List ℕ) (result : Result Toc TableStop)
-    (old new : H) : Type 0 where
+pub record ReadsTable {H : Type 0} (g : Ghosts H) (answer : List ℕ → Result Toc Reply) (name : List ℕ)
+    (result : Result Toc TableStop) (old new : H) : Type 0 where
   -- where the file's bytes are told, it is their table, or what `send` answers to them
   pub told : (file : List ℕ) → Tells (g.contents old) name file → IsAnswer (answer file) result
   pub found : IfOk result (HoldsPayloads (g.contents old) name)

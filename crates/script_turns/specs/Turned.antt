@@ -33,9 +33,10 @@ IsCallTurn {F = F} passes c done old new =
 abbrev pub IsTurnWith : {D H : Type 0} {F : Ghosts D} → files.Ghosts H → (List ℕ → Bool) → Call → AgentTurn → Agent D F → Agent D F
     → H → H → Type 0
 IsTurnWith {F = F} g passes c done old new was are =
-    Turns passes F.tells (g.contents was) c (turn done.turn) (moment_where true old) (moment_where done.here new) (g.faults was) (g.faults are)
+    Turns passes F.tells (g.contents was) c (turn done.turn) (moment_where true old) (moment_where done.here new)
+    (g.faults was) (g.faults are)
 
--- how a turn leaves the device
+-- how a turn leaves the device, and that its reply fits a line
 pub record LeavesDevice {D : Type 0} (F : Ghosts D) (t : Turn) (here : Bool) (old new : D) : Type 0 where
   -- where the run goes on, it has power exactly where an agent or a flash that is on is there
   pub powered : IsFalse (ends_run t.reply) → F.on new ≡ here
