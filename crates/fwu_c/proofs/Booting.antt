@@ -8,10 +8,10 @@ use Rattle.fwu_formats.specs.Digests.{passes_any}
 use Rattle.early_boot.specs.Started.{Started}
 use Rattle.early_boot.specs.Ends.{Ended, booted, bad_layout, no_metadata, no_bank, lost, failed, stop_of}
 use Rattle.early_boot.specs.EndsBy.{BootEnds, EndsByBytes}
-use Rattle.step_flash.specs.declared.device.StepFlash.{StepFlash}
+use Rattle.step_flash.specs.declared.flash.StepFlash.{StepFlash}
 use Rattle.step_flash.specs.declared.device.StepParts.{StepParts}
 use Rattle.step_flash.specs.declared.step.Step.{Step}
-use Rattle.step_flash.specs.Device.{NotedBy, block_count, counts_of, told_of, image_of, package_of}
+use Rattle.step_flash.specs.Flash.{NotedBy, block_count, counts_of, flash_sizes, told_of, image_of, package_of}
 use Rattle.step_flash.specs.Guard.{guard_with, start, start_with}
 use Rattle.step_flash.specs.Stopped.{under_as}
 use Rattle.step_flash.specs.Steps.{run_with}
@@ -96,7 +96,7 @@ boot_end_is e old new spends =
 
 -- what a device lies over has the size of a flash
 pub has_flash_size : (image : List ℕ) (d : StepFlash) → length image ≡ block_bytes * block_count d → HasFlashSize image
-has_flash_size image d size = record { blocks = block_count d; fewest = d.sizes.0; most = d.sizes.1; size = size }
+has_flash_size image d size = record { blocks = block_count d; fewest = (flash_sizes d).0; most = (flash_sizes d).1; size = size }
 
 -- it is over the image, with the package, and its steps lie within both
 pub record IsOver (image file : List ℕ) (d : StepFlash) (r : Report) (steps : List Step) (room : List ℕ) : Type 0 where

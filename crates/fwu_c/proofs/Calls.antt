@@ -33,8 +33,8 @@ use Rattle.agent_machine.specs.Beside.{IsSparedByAll, KeepsSparedByAll, KeepsWhe
 use Rattle.agent_machine.proofs.Beside.{spared-once}
 use Rattle.agent_calls.specs.Started.{StartsFrom}
 use Rattle.step_flash.specs.declared.step.Step.{Step}
-use Rattle.step_flash.specs.declared.device.StepFlash.{StepFlash}
-use Rattle.step_flash.specs.Device.{block_count, counts_of, told_of}
+use Rattle.step_flash.specs.declared.flash.StepFlash.{StepFlash}
+use Rattle.step_flash.specs.Flash.{block_count, counts_of, told_of}
 use Rattle.step_flash.proofs.Causes.{never_lost}
 use Rattle.flash_core.specs.Counts.{Spends}
 use Rattle.step_flash.specs.Guard.{start}

@@ -1,9 +1,12 @@
 -- What a call promises that tells steps, whatever it is asked for.
 use Rattle.std.proofs.Common.{◌≡◌, ◌∙◌, ◌⊎◌, inl, inr, refl, sym, subst, ℕ, List, length, arith}
-use Rattle.std.specs.Prelude.{IsTrue}
+use Rattle.std.specs.Prelude.{◌↔◌, IsTrue}
 use Rattle.step_flash.specs.declared.step.Step.{Step}
 use Rattle.fwu_c.specs.declared.report.Report.{Report}
-use Rattle.fwu_c.specs.Handed.{HasFlashSize, IsDeviceEnd, IsUntouched, TellsSteps, is_idle}
+use Rattle.step_flash.specs.declared.flash.Unmade.{Unmade}
+use Rattle.step_flash.specs.declared.flash.Unmade.TheVariants.{NoFlash, NoMemory}
+use Rattle.step_flash.specs.Unmade.{IsUnmade}
+use Rattle.fwu_c.specs.Handed.{HasFlashSize, IsDeviceEnd, IsUntouched, TellsSteps, is_idle, unmade_code}
 
 stays : (r : Report) (steps : List Step) (room : List ℕ) → IsUntouched r steps room r steps room
 stays r steps room = record { report_stays = refl; steps_stay = refl; room_stays = refl }
@@ -28,6 +31,20 @@ told_no_room image r steps room is = record {
   no_flash = (λ six. absurd (omega (arith, six)), λ not. absurd (not is));
   untouched = λ either. stays r steps room;
 }
+
+-- there is no device over the image
+pub told_unmade : (image : List ℕ) (why : Unmade) (number : ℕ) (r : Report) (steps : List Step) (room : List ℕ) → IsUnmade (length image) why
+    → number ≡ unmade_code why → TellsSteps image number r steps room r steps room
+told_unmade image NoFlash number r steps room unmade is = subst (λ (n : ℕ). TellsSteps image n r steps room r steps room) (sym is)
+    (told_no_flash image r steps room (λ flash. unmade flash.blocks flash.fewest flash.most flash.size))
+told_unmade image NoMemory number r steps room unmade is = subst (λ (n : ℕ). TellsSteps image n r steps room r steps room) (sym is)
+    (told_no_room image r steps room (record { blocks = unmade.0; fewest = unmade.1; most = unmade.2; size = unmade.3 }))
+
+-- 6 comes of all bytes that are no flash, and of no others
+pub unmade_by : (image : List ℕ) (why : Unmade) → IsUnmade (length image) why → (unmade_code why ≡ 6) ↔ (HasFlashSize image → ⊥)
+unmade_by image NoFlash unmade = (λ six flash. unmade flash.blocks flash.fewest flash.most flash.size, λ none. refl)
+unmade_by image NoMemory unmade =
+    (λ six. absurd (omega (arith, six)), λ none. absurd (none (record { blocks = unmade.0; fewest = unmade.1; most = unmade.2; size = unmade.3 })))
 
 -- what a device handed over
 pub told_handed : (image : List ℕ) (result number : ℕ) (old : Report) (old_steps : List Step) (old_room : List ℕ) (new : Report) (steps : List Step)

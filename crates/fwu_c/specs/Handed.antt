@@ -3,8 +3,10 @@ use Rattle.std.specs.Prelude.{◌≡◌, ◌≢◌, ◌↔◌, ◌⊎◌, ◌≤
 use Rattle.base_core.specs.Block.{block_bytes, fewest_blocks, most_blocks}
 use Rattle.flash_core.specs.Told.{Told}
 use Rattle.step_flash.specs.declared.step.Step.{Step}
-use Rattle.step_flash.specs.declared.device.StepFlash.{StepFlash}
-use Rattle.step_flash.specs.Device.{block_count, image_of, package_of, told_of}
+use Rattle.step_flash.specs.declared.flash.StepFlash.{StepFlash}
+use Rattle.step_flash.specs.declared.flash.Unmade.{Unmade}
+use Rattle.step_flash.specs.declared.flash.Unmade.TheVariants.{NoFlash, NoMemory}
+use Rattle.step_flash.specs.Flash.{block_count, image_of, package_of, told_of}
 use Rattle.step_flash.specs.Guard.{start_with}
 use Rattle.step_flash.specs.Stopped.{under_as}
 use Rattle.step_flash.specs.Steps.{IsInsideWith, run_with}
@@ -41,6 +43,11 @@ is_idle number = number == 1 || number == 2 || number == 21
 -- what a device over some image and some package tells before its first step
 abbrev pub IsStart : Told → Type 0
 IsStart t = (image : List ℕ) × (file : List ℕ) × (t ≡ start_with image file)
+
+-- there is no device over the image: it is no flash, or memory is wanting
+abbrev pub unmade_code : Unmade → ℕ
+unmade_code NoFlash = 6
+unmade_code NoMemory = 7
 
 -- nothing was written
 pub record IsUntouched (old : Report) (old_steps : List Step) (old_room : List ℕ) (new : Report) (steps : List Step)

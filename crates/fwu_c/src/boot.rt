@@ -1,12 +1,12 @@
 //! The boot of a flash that lies in memory.
 ghost use Rattle.std.specs.Prelude.{◌≡◌, ◌⊎◌, ◌*◌, ◌≤◌, length, true};
 ghost use Rattle.base_core.specs.Block.{block_bytes};
-ghost use Rattle.step_flash.specs.Device.{block_count, image_of, is_on, told_of};
+ghost use Rattle.step_flash.specs.Flash.{block_count, image_of, is_on, told_of};
 ghost use Rattle.step_flash.specs.Guard.{start};
 ghost use Rattle.fwu_c.specs.Boots.{BootsBy};
 ghost use Rattle.fwu_c.specs.Handed.{TellsSteps};
 
-use crate::handing::hand_over;
+use crate::handing::{hand_over, unmade_number};
 use crate::report::{Report, into_flash, report_end};
 use base_core::BLOCK_BYTES;
 use early_boot::boot_in;
@@ -32,8 +32,9 @@ pub extern "C" fn fwu_boot(
     // Whatever it answers: no loss of power, and at 1, 2 and 5 to 7 what that number says.
     ensures tells { TellsSteps image.now result report.old steps.old room.old report.new steps.new room.new }
 {
-    let Some(flash) = StepFlash::new(alloc, image, steps.len()) else {
-        return 6;
+    let flash = match StepFlash::new(alloc, image, steps.len()) {
+        Ok(flash) => flash,
+        Err(why) => return unmade_number(why),
     };
     let Ok(mut block) = Vec::from_elem(alloc, 0u8, BLOCK_BYTES as usize) else {
         return 7;

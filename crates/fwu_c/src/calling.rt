@@ -4,22 +4,23 @@ ghost use Rattle.base_core.specs.Block.{block_bytes};
 ghost use Rattle.fwu_formats.specs.Digests.{passes_any};
 ghost use Rattle.fwu_model.specs.Reply.{Success};
 ghost use Rattle.early_boot.specs.Started.{Started};
+ghost use Rattle.early_boot.specs.TakenUp.{device_left, taken_as};
 ghost use Rattle.agent_machine.specs.Meets.{Meets};
 ghost use Rattle.agent_calls.specs.Shown.{AgentGoes, device, gone, moment};
-ghost use Rattle.step_flash.specs.Device.{block_count, image_of, is_on, told_of};
+ghost use Rattle.step_flash.specs.Flash.{block_count, image_of, is_on, told_of};
 ghost use Rattle.step_flash.specs.Guard.{start};
-ghost use Rattle.fwu_c.specs.Agents.{BeginsWith};
+ghost use Rattle.fwu_c.specs.Agents.{BeginsWith, OverTakeUp};
 ghost use Rattle.fwu_c.specs.Calls.{CallsBy, CallsFrom, IsCalled, Refuses, TakesUp, TellsCall};
 ghost use Rattle.fwu_c.specs.Calls.{call_code, call_of, status_code, stop_code};
 ghost use Rattle.fwu_c.specs.Handed.{TellsSteps};
 
-use crate::agents::{agent_of, device_of};
-use crate::handing::hand_over;
+use crate::handing::{hand_over, unmade_number};
 use crate::layouts::fault_number;
 use crate::report::{Report, report_start};
+use crate::work_buffer::{agent_of, flash_from, kept_take_up};
 use agent_calls::{Agent, Stop};
 use base_core::{BLOCK_BYTES, Guid};
-use early_boot::{TakeUpEnd, take_up};
+use early_boot::TakeUpEnd;
 use flash_core::FlashStop;
 use fwu_model::Status;
 use std::alloc::Global;
@@ -72,31 +73,25 @@ fn stop_number(stop: FlashStop) -> u32
     }
 }
 
-/// Takes up the bank that a boot started, for an agent, and reports it. Where it is refused, or the flash stops it, the number of
-/// that comes with the device. None where there is no memory for an agent.
-// its frame is gone before the call: that keeps the stack small
+/// An agent of a bank that was taken up, which is reported. Where it was refused, or the flash stopped it, the number of that
+/// comes with the device. None where there is no memory for an agent.
+// kept apart, so that the end's frame is gone before the call
 #[inline(never)]
-fn taken_up<'a>(
+fn agent_taken_up<'a>(
     alloc: Global,
-    flash: StepFlash<'a>,
-    bank: u32,
-    block: &mut [u8],
+    end: Box<TakeUpEnd<StepFlash<'a>>>,
     told: &mut Report,
 ) -> Option<Result<Box<Agent<StepFlash<'a>>>, (StepFlash<'a>, u32)>>
-    requires on { is_on flash ≡ true }
-    requires room { block_bytes ≤ length block.old }
-    ensures takes { IfSome result (λ end. IfOk end (λ a.
-        TakesUp bank told.new (told_of flash.entry) (moment a.value) (gone a.value))) }
-    ensures taken_size { IfSome result (λ end. IfOk end (λ a. block_count (device a.value) ≡ block_count flash.entry)) }
-    ensures refuses { IfSome result (λ end. IfErr end (λ e. Refuses bank e.1 told.new (told_of flash.entry) (told_of e.0))) }
-    ensures left_size { IfSome result (λ end. IfErr end (λ e. block_count e.0 ≡ block_count flash.entry)) }
+    ensures takes { OverTakeUp (taken_as end.entry.value) (device_left end.entry.value) (λ bank old. IfSome result (λ r.
+        IfOk r (λ a. TakesUp bank told.new (told_of old) (moment a.value) (gone a.value)))) }
+    ensures taken_size { OverTakeUp (taken_as end.entry.value) (device_left end.entry.value) (λ bank old. IfSome result (λ r.
+        IfOk r (λ a. block_count (device a.value) ≡ block_count old))) }
+    ensures refuses { OverTakeUp (taken_as end.entry.value) (device_left end.entry.value) (λ bank old. IfSome result (λ r.
+        IfErr r (λ e. Refuses bank e.1 told.new (told_of old) (told_of e.0)))) }
+    ensures left_size { OverTakeUp (taken_as end.entry.value) (device_left end.entry.value) (λ bank old. IfSome result (λ r.
+        IfErr r (λ e. block_count e.0 ≡ block_count old))) }
 {
-    match take_up(
-        flash,
-        bank,
-        &AnyManifest,
-        &mut block[..BLOCK_BYTES as usize],
-    ) {
+    match Box::into_inner(end) {
         TakeUpEnd::Taken(booted) => {
             report_start(&booted, told);
             match agent_of(alloc, booted) {
@@ -112,6 +107,27 @@ fn taken_up<'a>(
         TakeUpEnd::NotStarted(flash) => Some(Err((flash, 21))),
         TakeUpEnd::Stopped(flash, stop) => Some(Err((flash, stop_number(stop)))),
     }
+}
+
+/// Takes up the bank that a boot started, for an agent, and reports it. Where it is refused, or the flash stops it, the number of
+/// that comes with the device. None where there is no memory for the end or for an agent.
+fn taken_up<'a>(
+    alloc: Global,
+    flash: StepFlash<'a>,
+    bank: u32,
+    block: &mut [u8],
+    told: &mut Report,
+) -> Option<Result<Box<Agent<StepFlash<'a>>>, (StepFlash<'a>, u32)>>
+    requires on { is_on flash ≡ true }
+    requires room { block_bytes ≤ length block.old }
+    ensures takes { IfSome result (λ end. IfOk end (λ a.
+        TakesUp bank told.new (told_of flash.entry) (moment a.value) (gone a.value))) }
+    ensures taken_size { IfSome result (λ end. IfOk end (λ a. block_count (device a.value) ≡ block_count flash.entry)) }
+    ensures refuses { IfSome result (λ end. IfErr end (λ e. Refuses bank e.1 told.new (told_of flash.entry) (told_of e.0))) }
+    ensures left_size { IfSome result (λ end. IfErr end (λ e. block_count e.0 ≡ block_count flash.entry)) }
+{
+    let end = kept_take_up(alloc, flash, bank, block)?;
+    agent_taken_up(alloc, end, told)
 }
 
 /// Makes the call.
@@ -140,7 +156,7 @@ fn called<'a>(
     let mut agent = agent;
     let done = ask(&mut agent, call);
     agent.showing();
-    (device_of(agent), done)
+    (flash_from(agent), done)
 }
 
 /// Makes the call on a flash that lies in memory.
@@ -156,8 +172,9 @@ pub fn call_on(
     ensures calls { TellsCall result → CallsBy image.now bank (call_of call) result report.new steps.new room.new }
     ensures tells { TellsSteps image.now result report.old steps.old room.old report.new steps.new room.new }
 {
-    let Some(flash) = StepFlash::new(alloc, image, steps.len()) else {
-        return 6;
+    let flash = match StepFlash::new(alloc, image, steps.len()) {
+        Ok(flash) => flash,
+        Err(why) => return unmade_number(why),
     };
     let Ok(mut block) = Vec::from_elem(alloc, 0u8, BLOCK_BYTES as usize) else {
         return 7;

@@ -1,14 +1,24 @@
 //! The steps of a device, handed over to C.
 ghost use Rattle.std.specs.Prelude.{◌≡◌, ◌≢◌, ◌⊎◌, ◌*◌, All, length, IfSome, IsTrue};
 ghost use Rattle.base_core.specs.Block.{block_bytes};
-ghost use Rattle.step_flash.specs.Device.{NotedBy, block_count, package_of, told_of};
+ghost use Rattle.step_flash.specs.Flash.{NotedBy, block_count, package_of, told_of};
 ghost use Rattle.step_flash.specs.Steps.{IsInsideWith};
-ghost use Rattle.fwu_c.specs.Handed.{HandsOver, IsDeviceEnd, IsStart, IsUntouched, is_idle};
+ghost use Rattle.fwu_c.specs.Handed.{HandsOver, IsDeviceEnd, IsStart, IsUntouched, is_idle, unmade_code};
 
 use crate::report::Report;
-use step_flash::{Step, StepFlash, StepParts};
+use step_flash::{Step, StepFlash, StepParts, Unmade};
 
 const _: () = prove!(size_of::<Step>() == 16);
+
+/// The number where there is no device over an image.
+pub fn unmade_number(why: Unmade) -> u32
+    ensures { result ≡ unmade_code why }
+{
+    match why {
+        Unmade::NoFlash => 6,
+        Unmade::NoMemory => 7,
+    }
+}
 
 /// Whether the number says that no step is told.
 fn is_idle(number: u32) -> bool

@@ -5,7 +5,6 @@
 #![tactic(auto)]
 
 mod agent;
-mod agents;
 mod boot;
 mod calling;
 mod checksums;
@@ -19,6 +18,7 @@ mod slots;
 #[cfg(test)]
 mod tests;
 mod update;
+mod work_buffer;
 
 pub use agent::{fwu_accept, fwu_previous};
 pub use boot::fwu_boot;

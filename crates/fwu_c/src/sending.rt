@@ -4,11 +4,11 @@ ghost use Rattle.agent_calls.specs.Shown.{device, gone, moment};
 ghost use Rattle.early_boot.specs.Started.{Started};
 ghost use Rattle.fwu_formats.specs.Package.{toc_of};
 ghost use Rattle.fip_tables.specs.Stream.{Fed};
-ghost use Rattle.step_flash.specs.Device.{block_count, told_of};
+ghost use Rattle.step_flash.specs.Flash.{block_count, told_of};
 ghost use Rattle.fwu_c.specs.Agents.{BeginsWith};
 ghost use Rattle.fwu_c.specs.Sendings.{InstallsBy, IsOutcome, IsSent, SendsPackage, outcome_code, sent_code};
 
-use crate::agents::device_of;
+use crate::work_buffer::flash_from;
 use agent_calls::Agent;
 use fip_tables::{StreamToc, Toc};
 use package_files::PackageFiles;
@@ -75,7 +75,7 @@ fn send_package<'a>(
         &AnyManifest,
     );
     agent.showing();
-    (device_of(agent), sent)
+    (flash_from(agent), sent)
 }
 
 /// A table that has read nothing, in memory of its own. None where there is no memory for it.
@@ -116,6 +116,6 @@ pub fn install<'a>(
             let (flash, sent) = send_package(agent, toc, file, acceptance, block);
             Some((flash, Some(sent)))
         }
-        Err(_) => Some((device_of(agent), None)),
+        Err(_) => Some((flash_from(agent), None)),
     }
 }

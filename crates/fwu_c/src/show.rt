@@ -8,6 +8,7 @@ ghost use Rattle.fwu_c.specs.Handed.{HasFlashSize};
 ghost use Rattle.fwu_c.specs.Shows.{ShowsBy, TellsBanks, TellsNumbers, bank_shown, bits_of};
 ghost use Rattle.fwu_c.specs.Shows.{image_told, state_code, verdict_code, version_told};
 
+use crate::handing::unmade_number;
 use crate::layouts::fault_number;
 use base_core::BLOCK_BYTES;
 use early_boot::{Numbers, Unshown, read_numbers_in};
@@ -78,8 +79,9 @@ pub extern "C" fn fwu_show(alloc: Global, image: &[u8], shown: &mut FlashShown) 
     ensures no_flash { (result ≡ 6) ↔ (HasFlashSize image.now → ⊥) }
     ensures untouched { 2 ≤ result → shown.new ≡ shown.old }
 {
-    let Some(mut flash) = StepFlash::new(alloc, image, 0) else {
-        return 6;
+    let mut flash = match StepFlash::new(alloc, image, 0) {
+        Ok(flash) => flash,
+        Err(why) => return unmade_number(why),
     };
     let Ok(mut block) = Vec::from_elem(alloc, 0u8, BLOCK_BYTES as usize) else {
         return 7;
@@ -194,7 +196,7 @@ fn find_bank(
     ensures found { IfSome result (λ found. found ≡ bank_shown image.now layout.now (numbers read.now) bank) }
     ensures room { length block.new ≡ length block.old }
 {
-    let Some(mut flash) = StepFlash::new(alloc, image, 0) else {
+    let Ok(mut flash) = StepFlash::new(alloc, image, 0) else {
         return None;
     };
     let block = &mut block[..BLOCK_BYTES as usize];

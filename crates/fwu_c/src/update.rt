@@ -4,22 +4,23 @@ ghost use Rattle.base_core.specs.Block.{block_bytes};
 ghost use Rattle.fwu_formats.specs.declared.kinds.BankState.TheVariants.{Invalid};
 ghost use Rattle.fwu_model.specs.State.{is_valid};
 ghost use Rattle.agent_calls.specs.Shown.{device, gone, moment};
-ghost use Rattle.step_flash.specs.Device.{block_count, image_of, is_on, told_of};
+ghost use Rattle.step_flash.specs.Flash.{block_count, image_of, is_on, told_of};
 ghost use Rattle.step_flash.specs.Guard.{start, start_with};
+ghost use Rattle.early_boot.specs.Ends.{device_of, ended};
+ghost use Rattle.fwu_c.specs.Agents.{OverBoot};
 ghost use Rattle.fwu_c.specs.Handed.{TellsSteps};
 ghost use Rattle.fwu_c.specs.Updates.{BootsUp, IsAnswered, IsOnTrial, StartsNone, UpdatesBy};
 
-use crate::agents::agent_of;
-use crate::handing::hand_over;
+use crate::handing::{hand_over, unmade_number};
 use crate::packages::{MOST_PLACES, read_places};
 use crate::report::{Report, into_flash, report_end, report_start};
 use crate::sending::{install, outcome_number};
+use crate::work_buffer::{agent_of, kept_boot};
 use agent_calls::Agent;
 use base_core::BLOCK_BYTES;
-use early_boot::{BootEnd, Numbers, Unshown, boot_in, read_numbers_in};
+use early_boot::{BootEnd, Numbers, Unshown, read_numbers_in};
 use std::alloc::Global;
 use step_flash::{Step, StepFlash};
-use verify_core::AnyManifest;
 
 /// Installs a package, whose bytes lie in memory, on a flash that lies in memory. It tells the steps by which the flash becomes what
 /// the update makes of it: those of a boot, and behind them those of begin, of the images and of end (DEN0118). A copy has its bytes
@@ -46,8 +47,9 @@ pub extern "C" fn fwu_update(
     // Whatever it answers: no loss of power, and at 1, 2 and 5 to 7 what that number says.
     ensures tells { TellsSteps image.now result report.old steps.old room.old report.new steps.new room.new }
 {
-    let Some(first) = StepFlash::new(alloc, image, 0) else {
-        return 6;
+    let first = match StepFlash::new(alloc, image, 0) {
+        Ok(first) => first,
+        Err(why) => return unmade_number(why),
     };
     let Ok(mut block) = Vec::from_elem(alloc, 0u8, BLOCK_BYTES as usize) else {
         return 7;
@@ -110,16 +112,48 @@ fn update(
     let count = read_places(file, &mut places);
     let tried = &places[..count];
     let most = steps.len();
-    let Some(flash) = StepFlash::with_package(*block.allocator(), image, most, file, tried) else {
-        return 6;
+    let flash = match StepFlash::with_package(*block.allocator(), image, most, file, tried) {
+        Ok(flash) => flash,
+        Err(why) => return unmade_number(why),
     };
     update_over(flash, block, file, acceptance, steps, room, report)
 }
 
-/// Boots, for an agent of the bank that is started, and reports the end. Where none is started the number of the end comes with the
+/// An agent of the bank that a boot started, and the end is reported. Where none was started the number of the end comes with the
 /// device. None where there is no memory for an agent.
-// its frame is gone before the package is sent: that keeps the stack small
+// kept apart, so that the end's frame is gone before the package is sent
 #[inline(never)]
+fn agent_booted<'a>(
+    alloc: Global,
+    end: Box<BootEnd<StepFlash<'a>>>,
+    told: &mut Report,
+) -> Option<Result<Box<Agent<StepFlash<'a>>>, (StepFlash<'a>, u32)>>
+    ensures boots { OverBoot (ended end.entry.value) (device_of end.entry.value) (λ old. IfSome result (λ r.
+        IfOk r (λ a. BootsUp told.new (told_of old) (moment a.value) (gone a.value)))) }
+    ensures booted_size { OverBoot (ended end.entry.value) (device_of end.entry.value) (λ old. IfSome result (λ r.
+        IfOk r (λ a. block_count (device a.value) ≡ block_count old))) }
+    ensures stays { OverBoot (ended end.entry.value) (device_of end.entry.value) (λ old. IfSome result (λ r.
+        IfErr r (λ e. StartsNone e.1 told.new (told_of old) (told_of e.0)))) }
+    ensures left_size { OverBoot (ended end.entry.value) (device_of end.entry.value) (λ old. IfSome result (λ r.
+        IfErr r (λ e. block_count e.0 ≡ block_count old))) }
+{
+    match Box::into_inner(end) {
+        BootEnd::Booted(booted, _) => {
+            report_start(&booted, told);
+            match agent_of(alloc, booted) {
+                Some(agent) => Some(Ok(agent)),
+                None => None,
+            }
+        }
+        end => {
+            let number = report_end(&end, told);
+            Some(Err((into_flash(end), number)))
+        }
+    }
+}
+
+/// Boots, for an agent of the bank that is started, and reports the end. Where none is started the number of the end comes with the
+/// device. None where there is no memory for the end or for an agent.
 fn boot_agent<'a>(
     alloc: Global,
     flash: StepFlash<'a>,
@@ -134,19 +168,8 @@ fn boot_agent<'a>(
     ensures stays { IfSome result (λ end. IfErr end (λ e. StartsNone e.1 told.new (told_of flash.entry) (told_of e.0))) }
     ensures left_size { IfSome result (λ end. IfErr end (λ e. block_count e.0 ≡ block_count flash.entry)) }
 {
-    match boot_in(flash, &AnyManifest, &mut block[..BLOCK_BYTES as usize]) {
-        BootEnd::Booted(booted, _) => {
-            report_start(&booted, told);
-            match agent_of(alloc, booted) {
-                Some(agent) => Some(Ok(agent)),
-                None => None,
-            }
-        }
-        end => {
-            let number = report_end(&end, told);
-            Some(Err((into_flash(end), number)))
-        }
-    }
+    let end = kept_boot(alloc, flash, block)?;
+    agent_booted(alloc, end, told)
 }
 
 /// As `update`, on the device over the image and the package, with a buffer of 4096 bytes.

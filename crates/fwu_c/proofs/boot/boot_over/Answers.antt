@@ -3,8 +3,8 @@ use Rattle.std.specs.Prelude.{IsTrue}
 use Rattle.fwu_formats.specs.Digests.{passes_any}
 use Rattle.early_boot.specs.Ends.{device_of, ended}
 use Rattle.early_boot.specs.EndsBy.{BootEnds}
-use Rattle.step_flash.specs.declared.device.StepFlash.{StepFlash}
-use Rattle.step_flash.specs.Device.{block_count, image_of, told_of}
+use Rattle.step_flash.specs.declared.flash.StepFlash.{StepFlash}
+use Rattle.step_flash.specs.Flash.{block_count, image_of, told_of}
 use Rattle.fwu_c.specs.Handed.{IsDeviceEnd, IsStart, is_idle}
 use Rattle.fwu_c.proofs.Booting.{below_seven, boot_end_is, boot_idle, boots_by, given, has_flash_size}
 use Rattle.fwu_c.proofs.Telling.{told_handed}

@@ -1,15 +1,15 @@
 use Rattle.fwu_c.proofs.Booting.{has_flash_size, of_image}
-use Rattle.fwu_c.proofs.Telling.{tells_of_image, told_no_flash, told_no_room}
+use Rattle.fwu_c.proofs.Telling.{tells_of_image, told_no_room, told_unmade}
 use Rattle.fwu_c.proofs.boot.fwu_boot.Goals as goal
 
-pub returns-in_default-clause-tells : goal.returns-in_default-clause-tells
-returns-in_default-clause-tells c = told_no_flash _ _ _ _ (λ flash. c.in_default.ensures.none flash.blocks flash.fewest flash.most flash.size)
+pub returns-in-Err-clause-tells : goal.returns-in-Err-clause-tells
+returns-in-Err-clause-tells c = told_unmade _ c.in-Err.why _ _ _ _ c.in-Err.ensures.unmade c.unmade_number.ensures
 
-pub returns-in_default-from_elem-clause-tells : goal.returns-in_default-from_elem-clause-tells
-returns-in_default-from_elem-clause-tells c = told_no_room _ _ _ _ (has_flash_size _ c.in-Some.flash c.in-Some.ensures.size)
+pub returns-in_default-clause-tells : goal.returns-in_default-clause-tells
+returns-in_default-clause-tells c = told_no_room _ _ _ _ (has_flash_size _ c.in-Ok.flash c.in-Ok.ensures.size)
 
 pub returns-clause-tells : goal.returns-clause-tells
-returns-clause-tells c = tells_of_image _ _ _ _ _ _ _ _ _ c.in-Some.ensures.image c.boot_over.ensures.tells
+returns-clause-tells c = tells_of_image _ _ _ _ _ _ _ _ _ c.in-Ok.ensures.image c.boot_over.ensures.tells
 
 pub returns-clause-boots : goal.returns-clause-boots
-returns-clause-boots c = λ low. of_image _ _ _ _ _ _ c.in-Some.ensures.image (c.boot_over.ensures.boots low)
+returns-clause-boots c = λ low. of_image _ _ _ _ _ _ c.in-Ok.ensures.image (c.boot_over.ensures.boots low)

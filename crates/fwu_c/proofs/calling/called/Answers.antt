@@ -5,7 +5,7 @@ use Rattle.flash_core.specs.declared.flash.FlashStop.TheVariants as flash_stop
 use Rattle.agent_machine.specs.declared.stop.Stop.{Stop}
 use Rattle.agent_machine.specs.Meets.{flash_result}
 use Rattle.agent_calls.specs.Shown as agent
-use Rattle.step_flash.specs.Device.{block_count, told_of}
+use Rattle.step_flash.specs.Flash.{block_count, told_of}
 use Rattle.step_flash.proofs.Causes.{never_lost}
 use Rattle.fwu_c.specs.Agents.{BeginsWith}
 use Rattle.fwu_c.specs.Calls.{CallsFrom, call_of}
@@ -24,7 +24,7 @@ returns-clause-ends c =
 
 pub returns-clause-size : goal.returns-clause-size
 returns-clause-size c =
-    ap (λ d. block_count d) c.device_of.ensures ∙ c.ask-done.ensures.goes.size ∙ ap (λ a. block_count (agent.device a)) c.deref_mut.ensures.value
+    ap (λ d. block_count d) c.flash_from.ensures ∙ c.ask-done.ensures.goes.size ∙ ap (λ a. block_count (agent.device a)) c.deref_mut.ensures.value
 
 pub returns-clause-calls : goal.returns-clause-calls
 returns-clause-calls c = λ b begins.
@@ -36,6 +36,6 @@ returns-clause-calls c = λ b begins.
     let meets = done.ensures.meets begun.here in
     let by = calls_from (call_of c.args.call) b done.result old new (returns-clause-ends c) refl begun.from meets.exact meets.leaves begun.shows
     (λ ok s x shows. (rw c.deref.ensures at c.showing.ensures.seen) (here_after done.result _ _ begun.here done.ensures.goes.gone ok) refl s x shows) in
-    subst (λ (t : Told). CallsFrom (call_of c.args.call) b done.result (told_of (agent.device c.args.agent.value)) t) (sym (ap (λ d. told_of d) c.device_of.ensures))
+    subst (λ (t : Told). CallsFrom (call_of c.args.call) b done.result (told_of (agent.device c.args.agent.value)) t) (sym (ap (λ d. told_of d) c.flash_from.ensures))
     (subst (λ (t : Told). CallsFrom (call_of c.args.call) b done.result t (told_of (agent.device done.new.agent)))
     (ap (λ a. told_of (agent.device a)) c.deref_mut.ensures.value) by)

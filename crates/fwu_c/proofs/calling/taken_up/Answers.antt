@@ -1,64 +1,13 @@
-use Rattle.std.proofs.Common.{◌∙◌, ap, refl, arith, subst, sym}
-use Rattle.flash_core.specs.Told.{Told}
-use Rattle.fwu_formats.specs.Digests.{passes_any}
-use Rattle.early_boot.specs.Started.{started}
-use Rattle.early_boot.specs.TakenUp.{TakeUpEnds, bad_layout, no_metadata, not_started, stopped, taken}
-use Rattle.step_flash.specs.Device.{block_count, told_of}
-use Rattle.fwu_c.proofs.Calls.{stop_unlost}
 use Rattle.fwu_c.proofs.calling.taken_up.Goals as goal
 
-pub returns-in-BadLayout-clause-refuses : goal.returns-in-BadLayout-clause-refuses
-returns-in-BadLayout-clause-refuses c = record {
-  end = bad_layout c.in-BadLayout.fault;
-  is = tt;
-  number_is = refl;
-  ends = c.in-BadLayout.ensures.takes.ends refl;
-  reports = c.fault_number-told.ensures;
-  unlost = λ e. omega (arith, e);
-}
+pub returns-clause-takes : goal.returns-clause-takes
+returns-clause-takes c = c.agent_taken_up.ensures.takes c.args.bank c.args.flash c.in_ok-end.ensures
 
-pub returns-in-NoMetadata-clause-refuses : goal.returns-in-NoMetadata-clause-refuses
-returns-in-NoMetadata-clause-refuses c = record {
-  end = no_metadata;
-  is = tt;
-  number_is = refl;
-  ends = c.in-NoMetadata.ensures.takes.ends refl;
-  reports = tt;
-  unlost = λ e. omega (arith, e);
-}
+pub returns-clause-taken_size : goal.returns-clause-taken_size
+returns-clause-taken_size c = c.agent_taken_up.ensures.taken_size c.args.bank c.args.flash c.in_ok-end.ensures
 
-pub returns-in-NotStarted-clause-refuses : goal.returns-in-NotStarted-clause-refuses
-returns-in-NotStarted-clause-refuses c = record {
-  end = not_started;
-  is = tt;
-  number_is = refl;
-  ends = c.in-NotStarted.ensures.takes.ends refl;
-  reports = tt;
-  unlost = λ e. omega (arith, e);
-}
+pub returns-clause-refuses : goal.returns-clause-refuses
+returns-clause-refuses c = c.agent_taken_up.ensures.refuses c.args.bank c.args.flash c.in_ok-end.ensures
 
-pub returns-in-Stopped-clause-refuses : goal.returns-in-Stopped-clause-refuses
-returns-in-Stopped-clause-refuses c = record {
-  end = stopped c.in-Stopped.stop;
-  is = tt;
-  number_is = c.stop_number.ensures;
-  ends = c.in-Stopped.ensures.takes.ends refl;
-  reports = tt;
-  unlost = λ e. stop_unlost c.in-Stopped.stop c.args.flash c.in-Stopped.flash c.in-Stopped.ensures.takes.costs (sym c.stop_number.ensures ∙ e);
-}
-
-pub returns-in-Some-clause-takes : goal.returns-in-Some-clause-takes
-returns-in-Some-clause-takes c =
-    let b = started c.in-Taken.booted in
-    record {
-      began = b;
-      takes = record {
-        ends = subst (λ (t : Told). TakeUpEnds (λ m. passes_any m) c.args.bank (told_of c.args.flash) (taken b) t)
-            (sym (ap (λ d. told_of d) c.in-Some.ensures.device)) (c.in-Taken.ensures.takes.ends refl);
-        reports = c.report_start.ensures;
-      };
-      begins = c.in-Some.ensures.begins;
-    }
-
-pub returns-in-Some-clause-taken_size : goal.returns-in-Some-clause-taken_size
-returns-in-Some-clause-taken_size c = ap (λ d. block_count d) c.in-Some.ensures.device ∙ c.in-Taken.ensures.takes.size
+pub returns-clause-left_size : goal.returns-clause-left_size
+returns-clause-left_size c = c.agent_taken_up.ensures.left_size c.args.bank c.args.flash c.in_ok-end.ensures

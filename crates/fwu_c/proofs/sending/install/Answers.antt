@@ -3,7 +3,7 @@ use Rattle.std.specs.Prelude.{IsErr, MatchResult, is_err}
 use Rattle.fwu_formats.specs.Package.{Toc, toc_of}
 use Rattle.fwu_formats.specs.declared.kinds.FipFault.{FipFault}
 use Rattle.fip_tables.specs.Stream.{Fed}
-use Rattle.step_flash.specs.Device.{block_count, told_of}
+use Rattle.step_flash.specs.Flash.{block_count, told_of}
 use Rattle.fwu_c.proofs.sending.install.Goals as goal
 
 -- where a table's answer is a fault, the bytes are no package
@@ -13,12 +13,12 @@ is-no-package bytes (Ok toc) answers fault = absurd (cc)
 is-no-package bytes (Err f) answers fault = ap (λ (r : Result Toc FipFault). is_err r) answers
 
 pub returns-clause-size : goal.returns-clause-size
-returns-clause-size c = ap (λ d. block_count d) c.device_of.ensures
+returns-clause-size c = ap (λ d. block_count d) c.flash_from.ensures
 
 pub returns-clause-installs : goal.returns-clause-installs
 returns-clause-installs c = λ b begins.
     let fed : Fed c.deref_mut.result.now [] = rw c.deref_mut.ensures.value c.in_ok-table.ensures in
     let read = rw c.deref.ensures at c.toc.ensures in (
       is-no-package c.args.file.now c.toc.result (read c.args.file.now (c.feed-fault.ensures.fed [] fed)) (ap (λ (r : Result (Bor Toc) FipFault). is_err r) c.in-Err.is),
-      ap (λ d. told_of d) c.device_of.ensures,
+      ap (λ d. told_of d) c.flash_from.ensures,
     )

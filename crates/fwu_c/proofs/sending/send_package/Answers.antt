@@ -7,7 +7,7 @@ use Rattle.agent_calls.specs.Shown as agent
 use Rattle.update_client.specs.declared.stops.Sent.{Sent}
 use Rattle.update_client.specs.declared.stops.SendStop.{SendStop}
 use Rattle.update_client.specs.Halts.{flash_of}
-use Rattle.step_flash.specs.Device.{block_count, told_of}
+use Rattle.step_flash.specs.Flash.{block_count, told_of}
 use Rattle.step_flash.proofs.Causes.{never_lost}
 use Rattle.fwu_c.specs.Agents.{BeginsWith}
 use Rattle.fwu_c.specs.Sendings.{SendsPackage}
@@ -53,7 +53,7 @@ returns-clause-ends c =
 pub returns-clause-size : goal.returns-clause-size
 returns-clause-size c =
     let here : IsFalse (agent.gone c.deref_mut.result.now) = rw c.deref_mut.ensures.value c.requires.here in
-    ap (λ d. block_count d) c.device_of.ensures ∙ (c.send-sent.ensures.goes here).size ∙ ap (λ a. block_count (agent.device a)) c.deref_mut.ensures.value
+    ap (λ d. block_count d) c.flash_from.ensures ∙ (c.send-sent.ensures.goes here).size ∙ ap (λ a. block_count (agent.device a)) c.deref_mut.ensures.value
 
 pub returns-clause-sends : goal.returns-clause-sends
 returns-clause-sends c = λ b begins.
@@ -71,6 +71,6 @@ returns-clause-sends c = λ b begins.
     (λ ok s x shows. (rw c.deref.ensures at c.showing.ensures.seen) (here_after _ sent.result _ _ here sent.ensures.gone ok) refl s x shows)
     (λ s x shows. sent.ensures.installs here s x shows) sent.ensures.faults in
     subst (λ (t : Told). SendsPackage file request b sent.result (told_of (agent.device c.args.agent.value)) t)
-    (sym (ap (λ d. told_of d) c.device_of.ensures))
+    (sym (ap (λ d. told_of d) c.flash_from.ensures))
     (subst (λ (t : Told). SendsPackage file request b sent.result t (told_of (agent.device sent.new.agent)))
     (ap (λ a. told_of (agent.device a)) c.deref_mut.ensures.value) by)

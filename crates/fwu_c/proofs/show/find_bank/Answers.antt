@@ -9,13 +9,13 @@ use Rattle.fwu_c.proofs.Updating.{start_now}
 use Rattle.fwu_c.proofs.show.find_bank.Goals as goal
 
 pub check-requires-clause-fits : goal.check-requires-clause-fits
-check-requires-clause-fits c = inside c.args.image.now c.args.layout.now _ c.requires.layout c.in-Some.ensures.size
+check-requires-clause-fits c = inside c.args.image.now c.args.layout.now _ c.requires.layout c.in-Ok.ensures.size
 
 pub returns-clause-found : goal.returns-clause-found
 returns-clause-found c =
-    let now = ap (λ t. t.now) c.in-Some.ensures.content ∙ start_now c.args.image.now in
-    let found : c.in-Ok.verdict ≡ verdict_on (λ m. passes_any m) c.args.read.now.counter c.args.layout.now c.args.image.now c.args.bank =
-    c.in-Ok.ensures.verdict refl ∙ ap (λ i. verdict_on (λ m. passes_any m) c.args.read.now.counter c.args.layout.now i c.args.bank) now in
+    let now = ap (λ t. t.now) c.in-Ok.ensures.content ∙ start_now c.args.image.now in
+    let found : c.in-Ok-check.verdict ≡ verdict_on (λ m. passes_any m) c.args.read.now.counter c.args.layout.now c.args.image.now c.args.bank =
+    c.in-Ok-check.ensures.verdict refl ∙ ap (λ i. verdict_on (λ m. passes_any m) c.args.read.now.counter c.args.layout.now i c.args.bank) now in
     same_bank _ _ _ _ _ _ _ _ _ _ (c.state_number.ensures ∙ ap (λ (s : BankState). state_code s) c.get.ensures)
     (c.verdict_number.ensures ∙ ap (λ (v : Verdict). verdict_code v) found) (c.version_in.ensures ∙ ap (λ (v : Verdict). version_told v) found)
     (c.image_in.ensures ∙ ap (λ (v : Verdict). image_told v) found) (c.accepted_in.ensures ∙ ap (λ b. bits_of b) c.get-2.ensures)

@@ -2,7 +2,7 @@ use Rattle.std.proofs.Common.{refl, sym, ap, subst, ◌∙◌, ℕ, List}
 use Rattle.early_boot.specs.Numbers.{ShowsNumbers, numbers}
 use Rattle.early_boot.specs.Showing.{ShowsNothing}
 use Rattle.early_boot.specs.declared.showing.Unshown.{Unshown}
-use Rattle.step_flash.specs.Device.{image_of}
+use Rattle.step_flash.specs.Flash.{image_of}
 use Rattle.fwu_c.proofs.Updating.{no_trial, no_trial_by, none_by_layout, none_by_metadata, start_now, trial_by}
 use Rattle.fwu_c.proofs.update.shows_trial.Goals as goal
 

@@ -1,7 +1,7 @@
 use Rattle.std.proofs.Common.{◌∙◌, sym, subst}
 use Rattle.std.specs.Prelude.{IsTrue}
 use Rattle.agent_calls.specs.Shown.{device}
-use Rattle.step_flash.specs.Device.{image_of, told_of}
+use Rattle.step_flash.specs.Flash.{image_of, told_of}
 use Rattle.fwu_c.specs.Handed.{IsDeviceEnd, is_idle}
 use Rattle.fwu_c.proofs.Booting.{boot_idle, given, has_flash_size}
 use Rattle.fwu_c.proofs.Telling.{told_handed, told_no_room}

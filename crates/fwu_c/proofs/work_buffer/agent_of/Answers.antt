@@ -1,5 +1,5 @@
 use Rattle.std.proofs.Common.{refl}
-use Rattle.fwu_c.proofs.agents.agent_of.Goals as goal
+use Rattle.fwu_c.proofs.work_buffer.agent_of.Goals as goal
 
 pub returns-in-Ok-clause-begins : goal.returns-in-Ok-clause-begins
 returns-in-Ok-clause-begins c =
