@@ -61,5 +61,5 @@ fn boot_over(
     let end = boot_in(flash, &AnyManifest, &mut block[..BLOCK_BYTES as usize]);
     let mut told = *report;
     let number = report_end(&end, &mut told);
-    hand_over(into_flash(end), number, told, steps, room, report)
+    hand_over(into_flash(end), number, &told, steps, room, report)
 }

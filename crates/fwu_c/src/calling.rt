@@ -205,9 +205,9 @@ fn call_over(
     match taken_up(alloc, flash, bank, block, &mut told) {
         Some(Ok(agent)) => {
             let (flash, done) = called(agent, call);
-            hand_over(flash, call_number(&done), told, steps, room, report)
+            hand_over(flash, call_number(&done), &told, steps, room, report)
         }
-        Some(Err((flash, number))) => hand_over(flash, number, told, steps, room, report),
+        Some(Err((flash, number))) => hand_over(flash, number, &told, steps, room, report),
         None => 7,
     }
 }

@@ -55,7 +55,7 @@ fn parts_of(flash: StepFlash<'_>, number: u32) -> Option<StepParts>
 pub fn hand_over(
     flash: StepFlash<'_>,
     number: u32,
-    told: Report,
+    told: &Report,
     steps: &mut [Step],
     room: &mut [u8],
     report: &mut Report,
@@ -63,7 +63,7 @@ pub fn hand_over(
     requires known { IsDeviceEnd number }
     requires idle { IsTrue (is_idle number) → IsStart (told_of flash) }
     ensures number { (result ≡ number) ⊎ (result ≡ 7) }
-    ensures hands { result ≢ 7 → HandsOver flash.entry told report.new steps.new room.new }
+    ensures hands { result ≢ 7 → HandsOver flash.entry told.now report.new steps.new room.new }
     ensures idle { IsTrue (is_idle result) → report.new.steps ≡ 0 }
     ensures full { result ≡ 5 → report.new.steps ≡ length steps.old }
     ensures untouched { result ≡ 7 → IsUntouched report.old steps.old room.old report.new steps.new room.new }
@@ -84,7 +84,7 @@ pub fn hand_over(
     }
     steps[..count].copy_from_slice(&parts.steps);
     room[..used].copy_from_slice(&parts.room);
-    *report = told;
+    *report = *told;
     report.steps = count_told;
     report.bytes = used_told;
     number

@@ -197,9 +197,9 @@ fn update_over(
             let Some((flash, outcome)) = install(alloc, agent, file, acceptance, block) else {
                 return 7;
             };
-            hand_over(flash, outcome_number(&outcome), told, steps, room, report)
+            hand_over(flash, outcome_number(&outcome), &told, steps, room, report)
         }
-        Some(Err((flash, number))) => hand_over(flash, number, told, steps, room, report),
+        Some(Err((flash, number))) => hand_over(flash, number, &told, steps, room, report),
         None => 7,
     }
 }
