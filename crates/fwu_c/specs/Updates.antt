@@ -45,14 +45,18 @@ abbrev pub IsNotBooted : Ended → Type 0
 IsNotBooted (booted b n) = ⊥
 IsNotBooted other = ⊤
 
--- a bank was started, for an agent, and is reported as a boot reports it
+-- a bank was started, and is reported as a boot reports it
+pub record Boots (b : Started) (r : Report) (old t : Told) : Type 0 where
+  pub numbers : Numbers
+  pub ends : BootEnds (λ m. passes_any m) old (booted b numbers) t
+  pub layout : layout_seen t.now ≡ Ok b.layout
+  pub reports : ReportsStart b r
+
+-- for an agent
 pub record BootsUp (r : Report) (old : Told) (m : Moment) (gone : Bool) : Type 0 where
   pub began : Started
-  pub numbers : Numbers
-  pub boots : BootEnds (λ m. passes_any m) old (booted began numbers) m.told
-  pub layout : layout_seen m.told.now ≡ Ok began.layout
+  pub boots : Boots began r old m.told
   pub begins : BeginsWith began m gone
-  pub reports : ReportsStart began r
 
 -- or none was
 pub record StartsNone (number : ℕ) (r : Report) (old t : Told) : Type 0 where

@@ -3,24 +3,24 @@ ghost use Rattle.std.specs.Prelude.{◌≡◌, ◌*◌, ◌≤◌, length, true,
 ghost use Rattle.base_core.specs.Block.{block_bytes};
 ghost use Rattle.fwu_formats.specs.Digests.{passes_any};
 ghost use Rattle.fwu_model.specs.Reply.{Success};
-ghost use Rattle.early_boot.specs.Started.{Started};
-ghost use Rattle.early_boot.specs.TakenUp.{device_left, taken_as};
+ghost use Rattle.early_boot.specs.Started.{Started, started};
+ghost use Rattle.early_boot.specs.Started as boot;
 ghost use Rattle.agent_machine.specs.Meets.{Meets};
 ghost use Rattle.agent_calls.specs.Shown.{AgentGoes, device, gone, moment};
 ghost use Rattle.step_flash.specs.Flash.{block_count, image_of, is_on, told_of};
 ghost use Rattle.step_flash.specs.Guard.{start};
-ghost use Rattle.fwu_c.specs.Agents.{BeginsWith, OverTakeUp};
-ghost use Rattle.fwu_c.specs.Calls.{CallsBy, CallsFrom, IsCalled, Refuses, TakesUp, TellsCall};
+ghost use Rattle.fwu_c.specs.Agents.{BeginsWith};
+ghost use Rattle.fwu_c.specs.Calls.{CallsBy, CallsFrom, IsCalled, Refuses, Takes, TakesUp, TellsCall};
 ghost use Rattle.fwu_c.specs.Calls.{call_code, call_of, status_code, stop_code};
 ghost use Rattle.fwu_c.specs.Handed.{TellsSteps};
 
 use crate::handing::{hand_over, unmade_number};
+use crate::kept_agent::{agent_of, flash_from};
 use crate::layouts::fault_number;
 use crate::report::{Report, report_start};
-use crate::work_buffer::{agent_of, flash_from, kept_take_up};
 use agent_calls::{Agent, Stop};
 use base_core::{BLOCK_BYTES, Guid};
-use early_boot::TakeUpEnd;
+use early_boot::{Booted, TakeUpEnd, take_up};
 use flash_core::FlashStop;
 use fwu_model::Status;
 use std::alloc::Global;
@@ -73,30 +73,36 @@ fn stop_number(stop: FlashStop) -> u32
     }
 }
 
-/// An agent of a bank that was taken up, which is reported. Where it was refused, or the flash stopped it, the number of that
-/// comes with the device. None where there is no memory for an agent.
-// kept apart, so that the end's frame is gone before the call
+/// Takes up the bank that a boot started, keeps it in memory of its own, and reports it. Where it is refused, or the flash stops it,
+/// the number of that comes with the device. None where there is no memory for it.
+// kept apart, so that its frame is gone before the agent is made
 #[inline(never)]
-fn agent_taken_up<'a>(
+fn taken_up<'a>(
     alloc: Global,
-    end: Box<TakeUpEnd<StepFlash<'a>>>,
+    flash: StepFlash<'a>,
+    bank: u32,
+    block: &mut [u8],
     told: &mut Report,
-) -> Option<Result<Box<Agent<StepFlash<'a>>>, (StepFlash<'a>, u32)>>
-    ensures takes { OverTakeUp (taken_as end.entry.value) (device_left end.entry.value) (λ bank old. IfSome result (λ r.
-        IfOk r (λ a. TakesUp bank told.new (told_of old) (moment a.value) (gone a.value)))) }
-    ensures taken_size { OverTakeUp (taken_as end.entry.value) (device_left end.entry.value) (λ bank old. IfSome result (λ r.
-        IfOk r (λ a. block_count (device a.value) ≡ block_count old))) }
-    ensures refuses { OverTakeUp (taken_as end.entry.value) (device_left end.entry.value) (λ bank old. IfSome result (λ r.
-        IfErr r (λ e. Refuses bank e.1 told.new (told_of old) (told_of e.0)))) }
-    ensures left_size { OverTakeUp (taken_as end.entry.value) (device_left end.entry.value) (λ bank old. IfSome result (λ r.
-        IfErr r (λ e. block_count e.0 ≡ block_count old))) }
+) -> Option<Result<Box<Booted<StepFlash<'a>>>, (StepFlash<'a>, u32)>>
+    requires on { is_on flash ≡ true }
+    requires room { block_bytes ≤ length block.old }
+    ensures takes { IfSome result (λ end. IfOk end (λ b.
+        Takes bank (started b.value) told.new (told_of flash.entry) (told_of (boot.device b.value)))) }
+    ensures taken_size { IfSome result (λ end. IfOk end (λ b. block_count (boot.device b.value) ≡ block_count flash.entry)) }
+    ensures refuses { IfSome result (λ end. IfErr end (λ e. Refuses bank e.1 told.new (told_of flash.entry) (told_of e.0))) }
+    ensures left_size { IfSome result (λ end. IfErr end (λ e. block_count e.0 ≡ block_count flash.entry)) }
 {
-    match Box::into_inner(end) {
+    match take_up(
+        flash,
+        bank,
+        &AnyManifest,
+        &mut block[..BLOCK_BYTES as usize],
+    ) {
         TakeUpEnd::Taken(booted) => {
             report_start(&booted, told);
-            match agent_of(alloc, booted) {
-                Some(agent) => Some(Ok(agent)),
-                None => None,
+            match Box::new(alloc, booted) {
+                Ok(kept) => Some(Ok(kept)),
+                Err(_) => None,
             }
         }
         TakeUpEnd::BadLayout(flash, fault) => {
@@ -110,8 +116,8 @@ fn agent_taken_up<'a>(
 }
 
 /// Takes up the bank that a boot started, for an agent, and reports it. Where it is refused, or the flash stops it, the number of
-/// that comes with the device. None where there is no memory for the end or for an agent.
-fn taken_up<'a>(
+/// that comes with the device. None where there is no memory for the bank or for an agent.
+fn agent_taken_up<'a>(
     alloc: Global,
     flash: StepFlash<'a>,
     bank: u32,
@@ -126,8 +132,14 @@ fn taken_up<'a>(
     ensures refuses { IfSome result (λ end. IfErr end (λ e. Refuses bank e.1 told.new (told_of flash.entry) (told_of e.0))) }
     ensures left_size { IfSome result (λ end. IfErr end (λ e. block_count e.0 ≡ block_count flash.entry)) }
 {
-    let end = kept_take_up(alloc, flash, bank, block)?;
-    agent_taken_up(alloc, end, told)
+    match taken_up(alloc, flash, bank, block, told) {
+        Some(Ok(booted)) => match agent_of(alloc, booted) {
+            Some(agent) => Some(Ok(agent)),
+            None => None,
+        },
+        Some(Err(left)) => Some(Err(left)),
+        None => None,
+    }
 }
 
 /// Makes the call.
@@ -202,7 +214,7 @@ fn call_over(
 {
     let alloc = *block.allocator();
     let mut told = *report;
-    match taken_up(alloc, flash, bank, block, &mut told) {
+    match agent_taken_up(alloc, flash, bank, block, &mut told) {
         Some(Ok(agent)) => {
             let (flash, done) = called(agent, call);
             hand_over(flash, call_number(&done), &told, steps, room, report)

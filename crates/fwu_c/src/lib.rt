@@ -9,6 +9,7 @@ mod boot;
 mod calling;
 mod checksums;
 mod handing;
+mod kept_agent;
 mod layouts;
 mod packages;
 mod report;
@@ -18,7 +19,6 @@ mod slots;
 #[cfg(test)]
 mod tests;
 mod update;
-mod work_buffer;
 
 pub use agent::{fwu_accept, fwu_previous};
 pub use boot::fwu_boot;

@@ -8,7 +8,7 @@ ghost use Rattle.step_flash.specs.Flash.{block_count, told_of};
 ghost use Rattle.fwu_c.specs.Agents.{BeginsWith};
 ghost use Rattle.fwu_c.specs.Sendings.{InstallsBy, IsOutcome, IsSent, SendsPackage, outcome_code, sent_code};
 
-use crate::work_buffer::flash_from;
+use crate::kept_agent::flash_from;
 use agent_calls::Agent;
 use fip_tables::{StreamToc, Toc};
 use package_files::PackageFiles;

@@ -6,21 +6,22 @@ ghost use Rattle.fwu_model.specs.State.{is_valid};
 ghost use Rattle.agent_calls.specs.Shown.{device, gone, moment};
 ghost use Rattle.step_flash.specs.Flash.{block_count, image_of, is_on, told_of};
 ghost use Rattle.step_flash.specs.Guard.{start, start_with};
-ghost use Rattle.early_boot.specs.Ends.{device_of, ended};
-ghost use Rattle.fwu_c.specs.Agents.{OverBoot};
+ghost use Rattle.early_boot.specs.Started.{started};
+ghost use Rattle.early_boot.specs.Started as boot;
 ghost use Rattle.fwu_c.specs.Handed.{TellsSteps};
-ghost use Rattle.fwu_c.specs.Updates.{BootsUp, IsAnswered, IsOnTrial, StartsNone, UpdatesBy};
+ghost use Rattle.fwu_c.specs.Updates.{Boots, BootsUp, IsAnswered, IsOnTrial, StartsNone, UpdatesBy};
 
 use crate::handing::{hand_over, unmade_number};
+use crate::kept_agent::agent_of;
 use crate::packages::{MOST_PLACES, read_places};
 use crate::report::{Report, into_flash, report_end, report_start};
 use crate::sending::{install, outcome_number};
-use crate::work_buffer::{agent_of, kept_boot};
 use agent_calls::Agent;
 use base_core::BLOCK_BYTES;
-use early_boot::{BootEnd, Numbers, Unshown, read_numbers_in};
+use early_boot::{BootEnd, Booted, Numbers, Unshown, boot_in, read_numbers_in};
 use std::alloc::Global;
 use step_flash::{Step, StepFlash};
+use verify_core::AnyManifest;
 
 /// Installs a package, whose bytes lie in memory, on a flash that lies in memory. It tells the steps by which the flash becomes what
 /// the update makes of it: those of a boot, and behind them those of begin, of the images and of end (DEN0118). A copy has its bytes
@@ -119,30 +120,30 @@ fn update(
     update_over(flash, block, file, acceptance, steps, room, report)
 }
 
-/// An agent of the bank that a boot started, and the end is reported. Where none was started the number of the end comes with the
-/// device. None where there is no memory for an agent.
-// kept apart, so that the end's frame is gone before the package is sent
+/// Boots, keeps the bank that is started in memory of its own, and reports the end. Where none is started the number of the end comes
+/// with the device. None where there is no memory for it.
+// kept apart, so that its frame is gone before the agent is made
 #[inline(never)]
-fn agent_booted<'a>(
+fn booted_up<'a>(
     alloc: Global,
-    end: Box<BootEnd<StepFlash<'a>>>,
+    flash: StepFlash<'a>,
+    block: &mut [u8],
     told: &mut Report,
-) -> Option<Result<Box<Agent<StepFlash<'a>>>, (StepFlash<'a>, u32)>>
-    ensures boots { OverBoot (ended end.entry.value) (device_of end.entry.value) (λ old. IfSome result (λ r.
-        IfOk r (λ a. BootsUp told.new (told_of old) (moment a.value) (gone a.value)))) }
-    ensures booted_size { OverBoot (ended end.entry.value) (device_of end.entry.value) (λ old. IfSome result (λ r.
-        IfOk r (λ a. block_count (device a.value) ≡ block_count old))) }
-    ensures stays { OverBoot (ended end.entry.value) (device_of end.entry.value) (λ old. IfSome result (λ r.
-        IfErr r (λ e. StartsNone e.1 told.new (told_of old) (told_of e.0)))) }
-    ensures left_size { OverBoot (ended end.entry.value) (device_of end.entry.value) (λ old. IfSome result (λ r.
-        IfErr r (λ e. block_count e.0 ≡ block_count old))) }
+) -> Option<Result<Box<Booted<StepFlash<'a>>>, (StepFlash<'a>, u32)>>
+    requires on { is_on flash ≡ true }
+    requires room { block_bytes ≤ length block.old }
+    ensures boots { IfSome result (λ end. IfOk end (λ b.
+        Boots (started b.value) told.new (told_of flash.entry) (told_of (boot.device b.value)))) }
+    ensures booted_size { IfSome result (λ end. IfOk end (λ b. block_count (boot.device b.value) ≡ block_count flash.entry)) }
+    ensures stays { IfSome result (λ end. IfErr end (λ e. StartsNone e.1 told.new (told_of flash.entry) (told_of e.0))) }
+    ensures left_size { IfSome result (λ end. IfErr end (λ e. block_count e.0 ≡ block_count flash.entry)) }
 {
-    match Box::into_inner(end) {
+    match boot_in(flash, &AnyManifest, &mut block[..BLOCK_BYTES as usize]) {
         BootEnd::Booted(booted, _) => {
             report_start(&booted, told);
-            match agent_of(alloc, booted) {
-                Some(agent) => Some(Ok(agent)),
-                None => None,
+            match Box::new(alloc, booted) {
+                Ok(kept) => Some(Ok(kept)),
+                Err(_) => None,
             }
         }
         end => {
@@ -153,7 +154,7 @@ fn agent_booted<'a>(
 }
 
 /// Boots, for an agent of the bank that is started, and reports the end. Where none is started the number of the end comes with the
-/// device. None where there is no memory for the end or for an agent.
+/// device. None where there is no memory for the bank or for an agent.
 fn boot_agent<'a>(
     alloc: Global,
     flash: StepFlash<'a>,
@@ -168,8 +169,14 @@ fn boot_agent<'a>(
     ensures stays { IfSome result (λ end. IfErr end (λ e. StartsNone e.1 told.new (told_of flash.entry) (told_of e.0))) }
     ensures left_size { IfSome result (λ end. IfErr end (λ e. block_count e.0 ≡ block_count flash.entry)) }
 {
-    let end = kept_boot(alloc, flash, block)?;
-    agent_booted(alloc, end, told)
+    match booted_up(alloc, flash, block, told) {
+        Some(Ok(booted)) => match agent_of(alloc, booted) {
+            Some(agent) => Some(Ok(agent)),
+            None => None,
+        },
+        Some(Err(left)) => Some(Err(left)),
+        None => None,
+    }
 }
 
 /// As `update`, on the device over the image and the package, with a buffer of 4096 bytes.

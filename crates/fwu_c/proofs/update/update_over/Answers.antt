@@ -33,9 +33,9 @@ returns-in-Some-clause-updates c = λ told.
     let h = c.hand_over in
     let i = c.in-Some in
     let up = rw c.in-Some-Ok.field-0-is at c.in-Some-Ok.ensures.boots in
-    tried_by (image_of c.args.flash) _ _ c.args.flash (device c.in-Some-Ok.agent.value) i.flash up.began up.numbers i.outcome h.result _ _ _ _
-    c.requires.fresh c.requires.size (i.ensures.size ∙ (rw c.in-Some-Ok.field-0-is at c.in-Some-Ok.ensures.booted_size)) up.boots up.layout (i.ensures.installs up.began up.begins)
-    (h.ensures.hands told.1) (given _ _ h.ensures.number told.1 ∙ c.outcome_number.ensures) up.reports
+    tried_by (image_of c.args.flash) _ _ c.args.flash (device c.in-Some-Ok.agent.value) i.flash up.began up.boots.numbers i.outcome h.result _ _ _ _
+    c.requires.fresh c.requires.size (i.ensures.size ∙ (rw c.in-Some-Ok.field-0-is at c.in-Some-Ok.ensures.booted_size)) up.boots.ends up.boots.layout (i.ensures.installs up.began up.begins)
+    (h.ensures.hands told.1) (given _ _ h.ensures.number told.1 ∙ c.outcome_number.ensures) up.boots.reports
 
 pub returns-in-Some-clause-tells : goal.returns-in-Some-clause-tells
 returns-in-Some-clause-tells c =

@@ -1,0 +1,50 @@
+use Rattle.std.proofs.Common.{◌≡◌, ◌∙◌, Ok, ap, refl, subst, sym}
+use Rattle.flash_core.specs.Told.{Told}
+use Rattle.fwu_formats.specs.Digests.{passes_any}
+use Rattle.early_boot.specs.Ends.{booted, device_of, ended}
+use Rattle.early_boot.specs.EndsBy.{BootEnds}
+use Rattle.early_boot.specs.Numbers.{numbers}
+use Rattle.early_boot.specs.Started.{device, started}
+use Rattle.step_flash.specs.declared.flash.StepFlash.{StepFlash}
+use Rattle.step_flash.specs.Flash.{block_count, told_of}
+use Rattle.fwu_c.specs.Codes.{end_code}
+use Rattle.fwu_c.proofs.Booting.{boot_end_is}
+use Rattle.fwu_c.proofs.Unbooted.{not_started}
+use Rattle.fwu_c.proofs.update.booted_up.Goals as goal
+
+pub returns-in-Ok-clause-boots : goal.returns-in-Ok-clause-boots
+returns-in-Ok-clause-boots c = rw c.in-Ok.ensures.ok (record {
+  numbers = numbers c.in-Booted.field-1;
+  ends = c.in-Booted.ensures.boots.ends refl;
+  layout = (c.in-Booted.booted.knows refl).layout_is;
+  reports = c.report_start.ensures;
+})
+
+pub returns-in-Ok-clause-booted_size : goal.returns-in-Ok-clause-booted_size
+returns-in-Ok-clause-booted_size c = ap (λ b. block_count (device b)) c.in-Ok.ensures.ok ∙ c.in-Booted.ensures.boots.size
+
+pub returns-clause-stays : goal.returns-clause-stays
+returns-clause-stays c =
+    let ended_as = c.report_end-number.ensures in
+    let numbered = ended_as.number in
+    let same = c.in_default.end-is in
+    let given_back = c.into_flash.ensures in
+    let back : c.into_flash.result ≡ device_of c.boot_in.result = cc in
+    let code : c.report_end-number.result ≡ end_code (ended c.boot_in.result) = cc in
+    let boots = c.boot_in.ensures.boots in
+    let end = boot_end_is (ended c.boot_in.result) c.args.flash (device_of c.boot_in.result) boots.costs in
+    record {
+      end = ended c.boot_in.result;
+      is = not_started c.boot_in.result (λ b n is. c.in_default.not-Booted b n (cc));
+      number_is = code;
+      boots = subst (λ (d : StepFlash). BootEnds (λ m. passes_any m) (told_of c.args.flash) (ended c.boot_in.result) (told_of d)) (sym back) (boots.ends refl);
+      reports = ended_as.reports;
+      unlost = λ four. end.0 (sym code ∙ four);
+    }
+
+pub returns-clause-left_size : goal.returns-clause-left_size
+returns-clause-left_size c =
+    let same = c.in_default.end-is in
+    let given_back = c.into_flash.ensures in
+    let back : c.into_flash.result ≡ device_of c.boot_in.result = cc in
+    ap (λ (d : StepFlash). block_count d) back ∙ c.boot_in.ensures.boots.size
